@@ -1,0 +1,50 @@
+//! A list of byte strings.
+
+ghost use Rattle.std.specs.Prelude.{◌≡◌, length, map};
+
+use std::marker::Model;
+
+/// A list of byte strings, as the keys of a command. Contracts see the list of their bytes.
+#[derive(Drop)]
+pub struct Texts {
+    texts: Vec<Vec<u8>>,
+}
+
+impl Model for Texts {
+    ghost use Rattle.std.specs.Prelude.{ℕ, List, map};
+
+    ghost Value = { List (List ℕ) };
+
+    ghost view = { λ l. map (λ t. t.items) l.texts.items };
+}
+
+impl Texts {
+    /// The strings, to be read one after another.
+    pub fn as_slice(&self) -> &[Vec<u8>]
+        ensures { map (λ t. t.items) result.now ≡ self.now }
+    {
+        self.texts.as_slice()
+    }
+
+    /// How many strings there are.
+    pub fn len(&self) -> usize
+        ensures { result ≡ length self.now }
+    {
+        self.texts.len()
+    }
+
+    /// The strings, given back with the memory that they lie in.
+    pub fn into_vec(self) -> Vec<Vec<u8>>
+        ensures { map (λ t. t.items) result.items ≡ self }
+    {
+        self.texts
+    }
+}
+
+impl From<Vec<Vec<u8>>> for Texts {
+    ghost from_gives = { λ texts l. l ≡ map (λ t. t.items) texts.items };
+
+    fn from(texts: Vec<Vec<u8>>) -> Texts {
+        Texts { texts }
+    }
+}
