@@ -1,0 +1,8 @@
+use Rattle.std.proofs.Common.{◌≡◌, ◌++◌, take}
+use Rattle.std.specs.List.{flat_map}
+use Rattle.resp.specs.Text.{reply_text}
+use Rattle.resp.proofs.write.+put.Given as goal
+
+-- the replies written so far have appended their texts
+abbrev pub invariant-loop-reply : goal.invariant-loop-reply
+invariant-loop-reply l = l.out.items ≡ l.initial.out.items ++ flat_map reply_text (take l.reply-index l.reply-items)
