@@ -1,0 +1,11 @@
+pub mod Formats
+pub mod Bytes
+pub mod Lines
+pub mod Numbers
+pub mod Items
+pub mod Streams
+pub mod Resume
+pub mod Steps
+pub mod Answering
+pub mod Known
+pub mod Taking

@@ -1,0 +1,87 @@
+-- How far the held bytes are read, and what reading on does.
+use Rattle.std.specs.Prelude.{◌≡◌, ◌≢◌, ℕ, ◌+◌, ◌<◌, ◌≤◌, List, [], ◌++◌, length, map, drop, Result, Ok, Err, Some}
+use Rattle.std.specs.List.{AllByRecursion}
+use Rattle.resp_decoder.specs.declared.fault.Fault.{Fault}
+use Rattle.resp_decoder.specs.declared.fault.Fault.TheVariants.{Memory}
+use Rattle.resp_decoder.specs.declared.limits.Limits.{Limits}
+use Rattle.resp_decoder.specs.declared.reading.Stop.{Stop}
+use Rattle.resp_decoder.specs.declared.reading.Stop.TheVariants.{Open, Bad}
+use Rattle.resp_decoder.specs.declared.progress.Progress.{Progress}
+use Rattle.resp_decoder.specs.Texts.{item_text, IsShort, IsLawful, Stream, IsOpen, IsFault}
+use Rattle.resp_decoder.specs.Parts.{words_text, part_text}
+use Rattle.resp_decoder.specs.Reading.{head_at, word_at}
+
+-- the words that have come of the open request
+abbrev pub words_of : Progress → List (List ℕ)
+words_of p = map (λ w. w.items) p.words.items
+
+-- the bytes that are held: those of the open request, and those of the buffer that are not read
+abbrev pub held_bytes : Progress → List ℕ → List ℕ
+held_bytes p buffer = part_text (words_of p) p.left ++ drop p.start buffer
+
+-- what is true between two calls
+pub record IsSound (limits : Limits) (p : Progress) (buffer : List ℕ) : Type 0 where
+  pub fits : p.start ≤ length buffer
+  pub count : length (words_of p) + p.left ≤ limits.words
+  pub short : AllByRecursion (IsShort limits) (words_of p)
+  pub idle : p.left ≡ 0 → words_of p ≡ []
+
+-- ---- the head of a request
+
+-- Empty requests were dropped, and then a count that is not 0 was read.
+pub record BeginsRequest (limits : Limits) (buffer : List ℕ) (old new : Progress) : Type 0 where
+  pub sound : IsSound limits new buffer
+  pub lacking : 0 < new.left
+  pub front : Stream limits (drop old.start buffer) [] (held_bytes new buffer)
+
+-- Empty requests were dropped, and what follows gives no count; or there was no memory.
+pub record BeginsNone (limits : Limits) (buffer : List ℕ) (old new : Progress) (stop : Stop) : Type 0 where
+  pub sound : IsSound limits new buffer
+  pub idle : new.left ≡ 0
+  pub front : Stream limits (drop old.start buffer) [] (drop new.start buffer)
+  pub why : stop ≢ Bad Memory → head_at limits.words (drop new.start buffer) ≡ Err stop
+
+abbrev pub Begins : {X : Type 0} → Limits → List ℕ → Progress → Progress → Result X Stop → Type 0
+Begins limits buffer old new (Ok x) = BeginsRequest limits buffer old new
+Begins limits buffer old new (Err stop) = BeginsNone limits buffer old new stop
+
+-- ---- the words of a request
+
+-- words were read, and their text is as it was
+pub record Moves (buffer : List ℕ) (old new : Progress) : Type 0 where
+  pub fits : new.start ≤ length buffer
+  pub total : length (words_of new) + new.left ≡ length (words_of old) + old.left
+  pub text : words_text (words_of new) ++ drop new.start buffer ≡ words_text (words_of old) ++ drop old.start buffer
+
+-- why no more words were read
+abbrev pub Lacks : ℕ → List ℕ → Progress → Stop → Type 0
+Lacks bulk buffer new stop = (0 < new.left) × (stop ≢ Bad Memory → word_at bulk (drop new.start buffer) ≡ Err stop)
+
+abbrev pub Fills : {X : Type 0} → ℕ → List ℕ → Progress → Result X Stop → Type 0
+Fills bulk buffer new (Ok x) = new.left ≡ 0
+Fills bulk buffer new (Err stop) = Lacks bulk buffer new stop
+
+-- ---- a request
+
+-- Empty requests were dropped, and then all words of a request were read.
+pub record Completes (limits : Limits) (buffer : List ℕ) (old new : Progress) : Type 0 where
+  pub fits : new.start ≤ length buffer
+  pub done : new.left ≡ 0
+  pub has_name : 0 < length (words_of new)
+  pub lawful : IsLawful limits (Some (words_of new))
+  pub front : Stream limits (held_bytes old buffer) [] (item_text (Some (words_of new)) ++ drop new.start buffer)
+
+-- Empty requests were dropped, and an open rest is held.
+pub record StaysOpen (limits : Limits) (buffer : List ℕ) (old new : Progress) : Type 0 where
+  pub sound : IsSound limits new buffer
+  pub front : Stream limits (held_bytes old buffer) [] (held_bytes new buffer)
+  pub rest_open : IsOpen limits (held_bytes new buffer)
+
+-- Empty requests are followed by a fault.
+abbrev pub HasFault : Limits → List ℕ → Fault → Type 0
+HasFault limits bytes fault = (rest : List ℕ) × Stream limits bytes [] rest × IsFault limits rest fault
+
+abbrev pub Advances : {X : Type 0} → Limits → List ℕ → Progress → Progress → Result X Stop → Type 0
+Advances limits buffer old new (Ok x) = Completes limits buffer old new
+Advances limits buffer old new (Err Open) = StaysOpen limits buffer old new
+Advances limits buffer old new (Err (Bad fault)) = fault ≢ Memory → HasFault limits (held_bytes old buffer) fault

@@ -1,0 +1,63 @@
+//! A whole stream that comes in pieces. Its contract is the law that the requests and the fault don't depend on where a
+//! stream is cut; tests and tools read a stream by it.
+
+ghost use Rattle.std.specs.Prelude.{◌≡◌, ℕ, List, ◌++◌, Option, None, IfOk};
+ghost use Rattle.resp_decoder.specs.declared.fault.Fault.{Fault};
+ghost use Rattle.resp_decoder.specs.Texts.{IsReading};
+ghost use Rattle.resp_decoder.specs.Pieces.{whole, TakesAll};
+
+use crate::decoder::Decoder;
+use crate::fault::Fault;
+use crate::limits::Limits;
+use resp::Request;
+use std::alloc::{AllocError, Global};
+
+/// What a stream of requests gives: the requests, and the fault behind them if one stands there.
+#[derive(Drop)]
+pub struct Decoded {
+    pub requests: Vec<Request>,
+    pub fault: Option<Fault>,
+}
+
+/// The requests and the fault of a stream that comes in these pieces. `AllocError` where there is no memory for them.
+pub fn decode_all(alloc: Global, limits: Limits, pieces: &[&[u8]]) -> Result<Decoded, AllocError>
+    // What is answered is a reading of the whole stream ..
+    ensures reading { IfOk result (λ decoded.
+        IsReading limits (whole pieces.now) decoded.requests.items decoded.fault) }
+    // .. and the only one, so it doesn't matter how the stream is cut into pieces.
+    ensures only { IfOk result (λ decoded. (requests : List (List (List ℕ))) (fault : Option Fault)
+        → IsReading limits (whole pieces.now) requests fault
+        → (decoded.requests.items ≡ requests) × (decoded.fault ≡ fault)) }
+{
+    let mut decoder = Decoder::new(alloc, limits);
+    let mut requests = Vec::new(alloc);
+    for piece in pieces {
+        decoder.feed(piece)?;
+        let fault = take_all(&mut decoder, &mut requests)?;
+        if fault.is_some() {
+            return Ok(Decoded { requests, fault });
+        }
+    }
+    Ok(Decoded {
+        requests,
+        fault: None,
+    })
+}
+
+/// Takes the requests that the decoder has, up to its fault if one stands there.
+fn take_all(decoder: &mut Decoder, requests: &mut Vec<Request>) -> Result<Option<Fault>, AllocError>
+    requires { decoder.old.fault ≡ None }
+    ensures { IfOk result (λ fault. (list : List (List (List ℕ))) × (requests.new.items ≡ requests.old.items ++ list)
+        × TakesAll decoder.old list fault decoder.new) }
+{
+    loop {
+        match decoder.next() {
+            Ok(Some(request)) => requests.push(request)?,
+            Ok(None) => return Ok(None),
+            Err(fault) => match fault {
+                Fault::Memory => return Err(AllocError),
+                _ => return Ok(Some(fault)),
+            },
+        }
+    }
+}

@@ -1,0 +1,122 @@
+//! How far the bytes that a decoder holds are read.
+//!
+//! The words of the open request are kept as they come, so that no word is looked at a second time. The grammar is that
+//! of the RESP2 specification; the decoder reads on by `advance`.
+
+ghost use Rattle.std.specs.Prelude.{◌≡◌, ◌<◌, ◌≤◌, ◌+◌, [], length, IsErrOf, OnErr};
+ghost use Rattle.std.specs.List.{AllByRecursion};
+ghost use Rattle.resp_decoder.specs.declared.fault.Fault.TheVariants as faults;
+ghost use Rattle.resp_decoder.specs.declared.reading.Stop.TheVariants as stops;
+ghost use Rattle.resp_decoder.specs.Texts.{IsShort};
+ghost use Rattle.resp_decoder.specs.Advancing.{words_of, held_bytes, IsSound, Begins, Moves, Fills, Advances};
+
+use crate::fault::Fault;
+use crate::limits::Limits;
+use crate::reading::{Stop, head_of, word_of};
+use std::alloc::Global;
+
+/// The room that is taken for a request's words before they come. A count alone takes no more.
+const FIRST_WORDS: u64 = 16;
+
+/// How far a buffer is read. The bytes before `start` are done with; `words` have come of a request that lacks `left`
+/// more, and none is under way where `left` is 0.
+#[derive(Drop)]
+pub struct Progress {
+    pub start: usize,
+    pub words: Vec<Vec<u8>>,
+    pub left: u64,
+}
+
+impl Progress {
+    pub fn new(alloc: Global) -> Self
+        ensures start { result.start ≡ 0 }
+        ensures words { words_of result ≡ [] }
+        ensures left { result.left ≡ 0 }
+    {
+        Progress {
+            start: 0,
+            words: Vec::new(alloc),
+            left: 0,
+        }
+    }
+
+    /// Reads on to the end of a request. It is whole at `Ok`; at `Err` its words have come as far as the buffer has
+    /// them. Want of memory leaves the held bytes as they were.
+    pub fn advance(&mut self, buffer: &[u8], limits: Limits) -> Result<(), Stop>
+        requires { IsSound limits self.old buffer.now }
+        ensures reads { Advances limits buffer.now self.old self.new result }
+        ensures sound { OnErr result (IsSound limits self.new buffer.now) }
+        ensures memory { IsErrOf result (stops.Bad faults.Memory)
+            → held_bytes self.new buffer.now ≡ held_bytes self.old buffer.now }
+    {
+        if self.left > 0 {
+            return self.fill(buffer, limits.bulk);
+        }
+        let start = self.start;
+        match self.begin_and_fill(buffer, limits) {
+            Ok(()) => Ok(()),
+            Err(Stop::Open) => Err(Stop::Open),
+            Err(Stop::Bad(fault)) => {
+                self.go_back(start);
+                Err(Stop::Bad(fault))
+            }
+        }
+    }
+
+    fn begin_and_fill(&mut self, buffer: &[u8], limits: Limits) -> Result<(), Stop>
+        requires sound { IsSound limits self.old buffer.now }
+        requires idle { self.old.left ≡ 0 }
+        ensures { Advances limits buffer.now self.old self.new result }
+    {
+        self.begin(buffer, limits)?;
+        self.fill(buffer, limits.bulk)
+    }
+
+    /// Drops empty requests, and reads the count of the first that has words.
+    fn begin(&mut self, buffer: &[u8], limits: Limits) -> Result<(), Stop>
+        requires sound { IsSound limits self.old buffer.now }
+        requires idle { self.old.left ≡ 0 }
+        ensures { Begins limits buffer.now self.old self.new result }
+    {
+        loop {
+            let (count, rest) = head_of(&buffer[self.start..], limits.words)?;
+            let count = count.unwrap_or(0);
+            if count > 0 {
+                self.words.reserve(count.min(FIRST_WORDS) as usize)?;
+                self.start = buffer.len() - rest.len();
+                self.left = count;
+                return Ok(());
+            }
+            self.start = buffer.len() - rest.len();
+        }
+    }
+
+    /// Copies the words that are lacking, as far as the buffer has them.
+    fn fill(&mut self, buffer: &[u8], bulk: u32) -> Result<(), Stop>
+        requires fits { self.old.start ≤ length buffer.now }
+        requires short { AllByRecursion (λ w. length w ≤ bulk) (words_of self.old) }
+        ensures moved { Moves buffer.now self.old self.new }
+        ensures short { AllByRecursion (λ w. length w ≤ bulk) (words_of self.new) }
+        ensures ended { Fills bulk buffer.now self.new result }
+    {
+        let alloc = *self.words.allocator();
+        while self.left > 0 {
+            let (word, rest) = word_of(&buffer[self.start..], bulk)?;
+            self.words.push(Vec::from_slice(alloc, word)?)?;
+            self.start = buffer.len() - rest.len();
+            self.left -= 1;
+        }
+        Ok(())
+    }
+
+    /// Forgets what was read since the buffer was read as far as `start`, where no request was under way.
+    fn go_back(&mut self, start: usize)
+        ensures start { self.new.start ≡ start }
+        ensures words { words_of self.new ≡ [] }
+        ensures left { self.new.left ≡ 0 }
+    {
+        self.words.clear();
+        self.left = 0;
+        self.start = start;
+    }
+}

@@ -1,0 +1,159 @@
+use super::*;
+use resp::Request;
+use std::alloc::{AllocError, Global};
+use std::test::Fail;
+
+/// The bytes of a row, in which `|` stands for CR LF.
+fn bytes(alloc: Global, row: &str) -> Result<Vec<u8>, AllocError> {
+    let mut out = Vec::new(alloc);
+    for b in row.as_bytes() {
+        match *b {
+            b'|' => out.extend_from_slice(b"\r\n")?,
+            b => out.push(b)?,
+        }
+    }
+    Ok(out)
+}
+
+/// The words of each request in brackets, and the fault behind the requests.
+fn shown(alloc: Global, decoded: &Decoded) -> Result<Vec<u8>, AllocError> {
+    let mut out = Vec::new(alloc);
+    for request in &decoded.requests {
+        for i in 0..request.len() {
+            out.push(b'[')?;
+            out.extend_from_slice(request.word(i))?;
+            out.push(b']')?;
+        }
+        out.push(b';')?;
+    }
+    if let Some(fault) = decoded.fault {
+        out.extend_from_slice(format!(in alloc; "{fault}")?.as_bytes())?;
+    }
+    Ok(out)
+}
+
+#[test]
+fn reads_rows_wherever_they_are_cut(rt: HostRuntime) -> Result<(), Fail> {
+    for (row, want) in [
+        ("*1|$4|PiNG|", "[PiNG];"),
+        ("*3|$3|SET|$0||$0||", "[SET][][];"),
+        ("*0|*-1|*1|$4|PING|", "[PING];"),
+        ("*3|$3|SET|$1|a|$1|1|", "[SET][a][1];"),
+        ("*1|$4|PING|*1|$4|PI", "[PING];"),
+        ("*1048576|$1|a|", ""),
+        ("*1|$536870912|a", ""),
+        ("*1|$03|GET|", "invalid length"),
+        ("*1|$536870913", "invalid length"),
+        ("*1048577", "invalid length"),
+        ("*-2", "invalid length"),
+        ("*01", "invalid length"),
+        ("*+1", "invalid length"),
+        ("PING|", "expected '*'"),
+        ("*1|+PING|", "expected '$'"),
+        ("*1|$4|PING|*1|$4|PINGxx", "[PING];expected CRLF"),
+    ] {
+        let stream = bytes(rt.alloc(), row)?;
+        for cut in 0..stream.len() {
+            let pieces: &[&[u8]] = &[&stream[..cut], &stream[cut..]];
+            let decoded = decode_all(rt.alloc(), Limits::DEFAULT, pieces)?;
+            assert_eq!(rt;
+                shown(rt.alloc(), &decoded)?.as_slice(),
+                want.as_bytes(),
+                "{row} cut at {cut}"
+            );
+        }
+    }
+    Ok(())
+}
+
+#[test]
+fn keeps_to_small_limits(rt: HostRuntime) -> Result<(), Fail> {
+    let limits = Limits { words: 4, bulk: 8 };
+    for (row, want) in [
+        ("*4|", ""),
+        ("*5", "invalid length"),
+        ("*1|$8|", ""),
+        ("*1|$9", "invalid length"),
+        ("*1|$08", "invalid length"),
+    ] {
+        let stream = bytes(rt.alloc(), row)?;
+        let pieces: &[&[u8]] = &[stream.as_slice()];
+        let decoded = decode_all(rt.alloc(), limits, pieces)?;
+        assert_eq!(rt;
+            shown(rt.alloc(), &decoded)?.as_slice(),
+            want.as_bytes(),
+            "{row}"
+        );
+    }
+    Ok(())
+}
+
+#[test]
+fn waits_until_the_last_byte(rt: HostRuntime) -> Result<(), Fail> {
+    let stream = bytes(rt.alloc(), "*3|$3|SET|$1|a|$1|1|")?;
+    let mut decoder = Decoder::new(rt.alloc(), Limits::DEFAULT);
+    assert!(rt; !decoder.pending());
+    for (i, b) in stream.iter().enumerate() {
+        assert_eq!(rt; decoder.pending(), i > 0);
+        decoder.feed(&[*b])?;
+        assert!(rt; decoder.pending());
+        assert_eq!(rt; decoder.next()?.is_some(), i == 26, "after byte {i}");
+    }
+    assert!(rt; !decoder.pending());
+    Ok(())
+}
+
+#[test]
+fn answers_a_fault_for_good(rt: HostRuntime) -> Result<(), Fail> {
+    let mut decoder = Decoder::new(rt.alloc(), Limits::DEFAULT);
+    decoder.feed(b"PING\r\n")?;
+    for _ in 0..3 {
+        assert_eq!(rt; decoder.next().err(), Some(Fault::ExpectedStar));
+        assert!(rt; !decoder.pending());
+        decoder.feed(b"*1\r\n$4\r\nPING\r\n")?;
+    }
+    let mut out = Vec::from_slice(rt.alloc(), b"+OK\r\n")?;
+    fault_line(Fault::ExpectedStar, &mut out)?;
+    assert_eq!(rt;
+        out.as_slice(),
+        b"+OK\r\n-ERR Protocol error: expected '*'\r\n".as_slice()
+    );
+    Ok(())
+}
+
+/// What a decoder answers, asked once more where there was no memory.
+fn retried(decoder: &mut Decoder) -> Result<Option<Request>, Fault> {
+    match decoder.next() {
+        Err(fault) => match fault {
+            Fault::Memory => decoder.next(),
+            _ => Err(fault),
+        },
+        answer => answer,
+    }
+}
+
+/// It passes as well where any one allocation fails: nothing that was held is lost.
+#[test]
+fn goes_on_where_memory_was_refused(rt: HostRuntime) -> Result<(), Fail> {
+    let mut decoder = Decoder::new(rt.alloc(), Limits::DEFAULT);
+    let pieces: [&[u8]; 2] = [
+        b"*0\r\n*2\r\n$4\r\nECHO\r\n$2\r\nh",
+        b"i\r\n*0\r\n*1\r\n$4\r\nPING\r\n",
+    ];
+    for (i, piece) in pieces.iter().enumerate() {
+        if decoder.feed(piece).is_err() {
+            decoder.feed(piece)?;
+        }
+        let answer = retried(&mut decoder)?;
+        assert_eq!(rt; answer.is_some(), i == 1);
+        if let Some(request) = answer {
+            assert_eq!(rt; request.len(), 2);
+            assert_eq!(rt; request.word(0), b"ECHO".as_slice());
+            assert_eq!(rt; request.word(1), b"hi".as_slice());
+        }
+    }
+    let last = retried(&mut decoder)?;
+    assert_eq!(rt; last.map(|request| request.len()), Some(1));
+    assert!(rt; !decoder.pending());
+    Ok(())
+}
