@@ -1,0 +1,5 @@
+pub mod Gets
+pub mod Entries
+pub mod Changes
+pub mod Parts
+pub mod Counts

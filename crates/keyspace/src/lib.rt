@@ -1,0 +1,72 @@
+//! Keys and their values.
+//!
+//! A keyspace is a finite map from byte strings to values. `Keyspace` is what the bodies of commands use of it, so that a body is
+//! written and proved once for one table and for the shards of several. `Plain` is the one table.
+#![tactic(auto)]
+
+mod plain;
+#[cfg(test)]
+mod tests;
+
+ghost use Rattle.std.specs.Prelude.{◌≡◌, ℕ, List, Bool, IsTrue, IsSome, OnOk, OnErr, IfOk, IfErr, pos, min};
+ghost use Rattle.std.specs.FinMap as map;
+ghost use Rattle.std.specs.Option.{option_copied};
+ghost use Rattle.keyspace.specs.Map.{Map};
+
+pub use plain::Plain;
+use values::Value;
+
+/// The keys that a command may touch, with their values.
+///
+/// Contracts see the `contents`, a finite map, and the keys that are `covered`: a keyspace may stand for a part of all keys, and
+/// a key that is handed to one of these calls has to be covered. What is covered never changes. Only `put` takes memory.
+pub trait Keyspace {
+    ghost contents: { Self → Map };
+
+    ghost covered: { Self → List ℕ → Bool };
+
+    /// Whether this keyspace is responsible for the key, whether the key is there or not.
+    fn covers(&self, key: &[u8]) -> bool
+        ensures { result ≡ covered self.now key.now };
+
+    /// The value at the key, to be read.
+    fn look(&self, key: &[u8]) -> Option<&Value>
+        requires { IsTrue (covered self.now key.now) }
+        ensures { option_copied result ≡ map.get (contents self.now) key.now };
+
+    /// Removes the key and gives its value.
+    fn take(&mut self, key: &[u8]) -> Option<Value>
+        requires { IsTrue (covered self.old key.now) }
+        ensures before { result ≡ map.get (contents self.old) key.now }
+        ensures removed { contents self.new ≡ map.remove (contents self.old) key.now }
+        ensures covers { covered self.new ≡ covered self.old };
+
+    /// Sets the key and gives the value that it had.
+    ///
+    /// It is refused only for want of memory at a key that isn't there. Then nothing has changed, and key and value come back.
+    fn put(&mut self, key: Vec<u8>, value: Value) -> Result<Option<Value>, (Vec<u8>, Value)>
+        requires { IsTrue (covered self.old key.items) }
+        ensures before { IfOk result (λ before. before ≡ map.get (contents self.old) key.items) }
+        ensures ok { OnOk result (contents self.new ≡ map.insert (contents self.old) key.items value) }
+        ensures absent { OnErr result (map.get (contents self.old) key.items ≡ None) }
+        ensures err { OnErr result (contents self.new ≡ contents self.old) }
+        ensures returned { IfErr result (λ back. back ≡ (key, value)) }
+        ensures covers { covered self.new ≡ covered self.old };
+
+    /// Sets a key that is there and gives the value that it had.
+    fn replace(&mut self, key: &[u8], value: Value) -> Value
+        requires covered { IsTrue (covered self.old key.now) }
+        requires there { IsSome (map.get (contents self.old) key.now) }
+        ensures before { map.get (contents self.old) key.now ≡ Some result }
+        ensures replaced { contents self.new ≡ map.insert (contents self.old) key.now value }
+        ensures covers { covered self.new ≡ covered self.old };
+
+    /// The number of keys, or 9223372036854775807 where there are more.
+    fn size(&self) -> i64
+        ensures { result ≡ pos (min (map.len (contents self.now)) 9223372036854775807) };
+
+    /// Removes all keys.
+    fn clear(&mut self)
+        ensures cleared { contents self.new ≡ map.empty }
+        ensures covers { covered self.new ≡ covered self.old };
+}

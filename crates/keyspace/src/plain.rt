@@ -1,0 +1,70 @@
+//! A keyspace in one hashed table.
+
+ghost use Rattle.std.specs.Prelude.{◌≡◌};
+ghost use Rattle.std.specs.FinMap as map;
+
+use crate::Keyspace;
+use indexmap::IndexMap;
+use std::alloc::Global;
+use std::hash::BuildHasher;
+use values::Value;
+
+/// A keyspace that covers every key, in one table whose keys are hashed by `S`.
+///
+/// Each call takes constant time on average, wherever the hasher spreads the keys.
+#[derive(Drop)]
+pub struct Plain<S: BuildHasher> {
+    entries: IndexMap<Vec<u8>, Value, S>,
+}
+
+impl<S: BuildHasher> Plain<S> {
+    /// No keys. It takes no memory.
+    pub fn new(alloc: Global, hasher: S) -> Self
+        ensures { ⟦<Plain<S> as Keyspace>⟧.contents result ≡ map.empty }
+    {
+        Plain {
+            entries: IndexMap::with_hasher(alloc, hasher),
+        }
+    }
+}
+
+impl<S: BuildHasher> Keyspace for Plain<S> {
+    ghost use Rattle.std.specs.Prelude.{true};
+    ghost use Rattle.keyspace.specs.Plain.{map_of};
+
+    ghost contents = { λ p. map_of p.entries.entries };
+
+    ghost covered = { λ _ _. true };
+
+    fn covers(&self, _key: &[u8]) -> bool {
+        true
+    }
+
+    fn look(&self, key: &[u8]) -> Option<&Value> {
+        self.entries.get(key)
+    }
+
+    fn take(&mut self, key: &[u8]) -> Option<Value> {
+        self.entries.swap_remove(key)
+    }
+
+    fn put(&mut self, key: Vec<u8>, value: Value) -> Result<Option<Value>, (Vec<u8>, Value)> {
+        match self.entries.insert(key, value) {
+            Ok(before) => Ok(before),
+            Err(refused) => Err(refused.value),
+        }
+    }
+
+    fn replace(&mut self, key: &[u8], value: Value) -> Value {
+        let there = self.entries.get_mut(key).unwrap();
+        std::mem::replace(there, value)
+    }
+
+    fn size(&self) -> i64 {
+        self.entries.len() as i64
+    }
+
+    fn clear(&mut self) {
+        self.entries.clear();
+    }
+}

@@ -1,0 +1,17 @@
+//! What a key holds.
+//!
+//! The kinds of value are Redis' (<https://redis.io/docs/latest/develop/data-types/>). Each kind is a small type that contracts
+//! see as its meaning, so values are compared by `≡`, wherever they lie in memory. `keyspace` maps keys to values, and the
+//! bodies of the commands read and change them.
+#![tactic(auto)]
+
+use texts::Text;
+
+/// The value of a key.
+///
+/// Contracts see a string as its bytes: `Str (List ℕ)`.
+#[derive(Drop)]
+pub enum Value {
+    /// A string of any bytes, the empty one included.
+    Str(Text),
+}
