@@ -1,0 +1,10 @@
+pub mod Arity
+pub mod Command
+pub mod KeySpan
+pub mod KeyTable
+pub mod LocalTable
+pub mod Reading
+pub mod Refusal
+pub mod Row
+pub mod StringTable
+pub mod Words

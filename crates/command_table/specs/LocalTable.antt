@@ -1,0 +1,27 @@
+-- The rows of the commands that look at no key.
+use Rattle.std.specs.Prelude.{List, [], ◌∷◌, Ok, Err, Some, None, codes}
+use Rattle.command_table.specs.declared.arity.Arity.TheVariants.{Exactly, AtLeast}
+use Rattle.command_table.specs.declared.command.Command.TheVariants.{Local}
+use Rattle.command_table.specs.declared.local_commands.LocalCommand.TheVariants.{Ping, Echo}
+use Rattle.command_table.specs.declared.refusal.Refusal.TheVariants.{Arity}
+use Rattle.command_table.specs.KeySpan.{NoKeys}
+use Rattle.command_table.specs.Row.{Row, Reading}
+use Rattle.command_table.specs.Words.{Word, word}
+
+-- PING takes one word at most
+abbrev pub ping_reading : List Word → Reading
+ping_reading [] = Ok (Local (Ping None))
+ping_reading (w ∷ []) = Ok (Local (Ping (Some w)))
+ping_reading (w ∷ v ∷ ws) = Err (Arity (codes "ping"))
+
+abbrev pub echo_reading : List Word → Reading
+echo_reading words = Ok (Local (Echo (word words 0)))
+
+abbrev pub ping_row : Row
+ping_row = record { name = codes "ping"; arity = AtLeast 1; keys = NoKeys; reading = ping_reading }
+
+abbrev pub echo_row : Row
+echo_row = record { name = codes "echo"; arity = Exactly 2; keys = NoKeys; reading = echo_reading }
+
+abbrev pub local_rows : List Row
+local_rows = ping_row ∷ echo_row ∷ []

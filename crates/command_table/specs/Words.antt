@@ -1,0 +1,25 @@
+-- The words of a request.
+use Rattle.std.specs.Prelude.{ℕ, Bool, List, [], map, slice_index_or}
+use Rattle.std.specs.Char.{to_ascii_lowercase}
+use Rattle.std.specs.Global.{Vec}
+use Rattle.std.specs.Str.{bytes_eq}
+
+-- a word: any bytes
+abbrev pub Word : Type 0
+Word = List ℕ
+
+-- the bytes of these words
+abbrev pub texts_of : List (Vec ℕ) → List Word
+texts_of words = map (λ w. w.items) words
+
+-- the word in lower case: ASCII letters alone have a case
+abbrev pub lower : Word → Word
+lower w = map to_ascii_lowercase w
+
+-- the word is this text, which is in lower case, without regard to case
+abbrev pub is_word : Word → Word → Bool
+is_word text w = bytes_eq (lower w) text
+
+-- the word at a place; the empty one where there is none
+abbrev pub word : List Word → ℕ → Word
+word words i = slice_index_or words i []

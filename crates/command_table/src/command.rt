@@ -1,0 +1,79 @@
+//! A command that was read, and what is told of it: its name, its keys, and whether it is for all keys.
+
+ghost use Rattle.std.specs.Prelude.{◌≡◌, ◌<◌, length, map, slice_get, IfOk, Some};
+ghost use Rattle.command_table.specs.Command.{name_of, keys_of, is_whole};
+
+use crate::key_commands::KeyCommand;
+use crate::local_commands::LocalCommand;
+use crate::string_commands::StringCommand;
+use std::alloc::{AllocError, Global};
+
+/// A command with the words that it was given, as `read` makes it. Contracts compare commands by the bytes of their words.
+#[derive(Drop)]
+pub enum Command {
+    /// On keys of any type.
+    Key(KeyCommand),
+
+    /// On strings.
+    Str(StringCommand),
+
+    /// On no key.
+    Local(LocalCommand),
+}
+
+/// The command's name, in lower case.
+pub fn name(command: &Command) -> &'static str
+    ensures { result.now ≡ name_of command.now }
+{
+    match command {
+        Command::Key(command) => command.name(),
+        Command::Str(command) => command.name(),
+        Command::Local(command) => command.name(),
+    }
+}
+
+/// Whether the command is for all keys there are, and so names none. None of these commands is.
+pub fn is_whole(command: &Command) -> bool
+    ensures { result ≡ is_whole command.now }
+{
+    match command {
+        Command::Key(command) => command.is_whole(),
+        Command::Str(command) => command.is_whole(),
+        Command::Local(command) => command.is_whole(),
+    }
+}
+
+/// The number of the command's keys, as they stand among its words: one that stands twice counts twice.
+pub fn key_count(command: &Command) -> usize
+    ensures { result ≡ length (keys_of command.now) }
+{
+    match command {
+        Command::Key(command) => command.key_count(),
+        Command::Str(command) => command.key_count(),
+        Command::Local(command) => command.key_count(),
+    }
+}
+
+/// The command's key at a place, from 0, in order of its words. It takes no memory.
+pub fn key_at(command: &Command, place: usize) -> &[u8]
+    requires { place < length (keys_of command.now) }
+    ensures { slice_get (keys_of command.now) place ≡ Some result.now }
+{
+    match command {
+        Command::Key(command) => command.key_at(place),
+        Command::Str(command) => command.key_at(place),
+        Command::Local(_) => unreachable!(),
+    }
+}
+
+/// The command's keys, in order of its words, repeats kept; `AllocError` where there is no memory for the list.
+pub fn keys(alloc: Global, command: &Command) -> Result<Vec<&[u8]>, AllocError>
+    ensures listed { IfOk result (λ keys. map (λ k. k.now) keys.items ≡ keys_of command.now) }
+{
+    let count = key_count(command);
+    let mut keys = Vec::with_capacity(alloc, count)?;
+    for place in 0..count {
+        keys.push(key_at(command, place))?;
+    }
+    Ok(keys)
+}

@@ -1,0 +1,25 @@
+//! The table of commands: which commands there are, how a request is read as one of them, and which of its words are keys.
+//!
+//! The rows stand once, in `command_rows!`, by the Redis command reference: a command's name, how many words it takes, and where
+//! its keys stand among them. `read` makes a command of a request; the bodies of the commands are in the crates above, which
+//! dispatch by the same rows.
+#![tactic(auto)]
+
+mod arity;
+mod command;
+mod key_commands;
+mod local_commands;
+mod reading;
+mod refusal;
+mod rows;
+mod string_commands;
+#[cfg(test)]
+mod tests;
+mod words;
+
+pub use command::{Command, is_whole, key_at, key_count, keys, name};
+pub use key_commands::KeyCommand;
+pub use local_commands::LocalCommand;
+pub use reading::read;
+pub use refusal::{CommandName, Refusal};
+pub use string_commands::{Condition, StringCommand};

@@ -1,0 +1,67 @@
+//! How a request is read as a command.
+//!
+//! The name is looked for first, then the words are counted, then the words behind the name are read from left to right; no key
+//! is looked at. The rows are the Redis command reference's; that order is this project's own, since releases of Redis differ.
+//! Whoever has a request from the decoder, or from words of its own, calls `read`.
+
+ghost use Rattle.std.specs.Prelude.{◌≡◌, Err, IfOk, unwrap_or};
+ghost use Rattle.command_table.specs.declared.refusal.Refusal.TheVariants.{Unknown};
+ghost use Rattle.command_table.specs.Reading.{reading, rows, IsTold};
+ghost use Rattle.command_table.specs.Row.{reading_among};
+ghost use Rattle.command_table.specs.Words.{lower, texts_of};
+
+use crate::command::Command;
+use crate::key_commands::read_key_command;
+use crate::local_commands::read_local_command;
+use crate::refusal::Refusal;
+use crate::string_commands::read_string_command;
+use resp::Request;
+
+/// The command that the request's words say, the first of which is its name in any mix of upper and lower case.
+///
+/// Errors, in the order in which they are looked for: `Unknown`, no command has the name; `Arity`, it takes another number of
+/// words; `Syntax` and `NotInteger`, a word behind the name is none that may stand there. The words are moved into the command
+/// with the memory that they lie in. No memory is taken, so `Memory` is never answered.
+pub fn read(request: Request) -> Result<Command, Refusal>
+    ensures reading { result ≡ reading request }
+    ensures told { IfOk result (λ command. IsTold request command) }
+{
+    let mut words = request.into_words();
+    let name = in_lower_case(words.remove(0));
+    read_named(&name, words)
+}
+
+fn in_lower_case(mut name: Vec<u8>) -> Vec<u8>
+    ensures { result.items ≡ lower name.items }
+{
+    name.make_ascii_lowercase();
+    name
+}
+
+/// Reads the words behind a name in lower case by the table's row. The names of the table are text, so other bytes name no row.
+fn read_named(name: &[u8], words: Vec<Vec<u8>>) -> Result<Command, Refusal>
+    ensures { result ≡ unwrap_or (reading_among rows name.now (texts_of words.items)) (Err Unknown) }
+{
+    match std::str::from_utf8(name) {
+        Ok(name) => read_by_row(name, words),
+        Err(_) => Err(Refusal::Unknown),
+    }
+}
+
+/// Reads the words behind a name by the row of the first family that has it.
+fn read_by_row(name: &str, words: Vec<Vec<u8>>) -> Result<Command, Refusal>
+    ensures { result ≡ unwrap_or (reading_among rows name.now (texts_of words.items)) (Err Unknown) }
+{
+    let words = match read_local_command(name, words) {
+        Ok(read) => return read,
+        Err(words) => words,
+    };
+    let words = match read_key_command(name, words) {
+        Ok(read) => return read,
+        Err(words) => words,
+    };
+    match read_string_command(name, words) {
+        Ok(read) => read,
+        Err(_) => Err(Refusal::Unknown),
+    }
+}

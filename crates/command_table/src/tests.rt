@@ -1,0 +1,149 @@
+//! Requests as a user writes them, read against the rows of the Redis command reference.
+
+use crate::{
+    Command, Condition, KeyCommand, LocalCommand, Refusal, StringCommand, is_whole, key_at,
+    key_count, keys, name, read,
+};
+use resp::{Reply, Request, write_reply};
+use std::alloc::{AllocError, Global};
+use std::test::Fail;
+
+/// Reads the words that stand in the line, one space apart.
+fn read_line(alloc: Global, line: &str) -> Result<Result<Command, Refusal>, AllocError> {
+    let mut words = Vec::new(alloc);
+    for word in line.split(' ') {
+        words.push(Vec::from_slice(alloc, word.as_bytes())?)?;
+    }
+    if words.is_empty() {
+        return Ok(Err(Refusal::Unknown));
+    }
+    Ok(read(Request::from_words(words)))
+}
+
+#[test]
+fn refuses_what_the_table_refuses(rt: HostRuntime) -> Result<(), Fail> {
+    let alloc = rt.alloc();
+    for (line, want) in [
+        ("FOO", "ERR unknown command"),
+        ("", "ERR unknown command"),
+        ("g\u{e9}t a", "ERR unknown command"),
+        (
+            "PING x y",
+            "ERR wrong number of arguments for 'ping' command",
+        ),
+        ("EchO", "ERR wrong number of arguments for 'echo' command"),
+        (
+            "ECHO x y",
+            "ERR wrong number of arguments for 'echo' command",
+        ),
+        ("GET", "ERR wrong number of arguments for 'get' command"),
+        ("get a b", "ERR wrong number of arguments for 'get' command"),
+        ("SET a", "ERR wrong number of arguments for 'set' command"),
+        ("DEL", "ERR wrong number of arguments for 'del' command"),
+        ("SET a 1 NX XX", "ERR syntax error"),
+        ("SET a 1 NX NX XX", "ERR syntax error"),
+        ("SET a 1 EX 10", "ERR syntax error"),
+        ("SET a 1 NX x", "ERR syntax error"),
+    ] {
+        let refusal = read_line(alloc, line)?.err().ok_or("it was read")?;
+        assert_eq!(rt; refusal.to_string(alloc)?.as_str(), want, "`{line}`");
+        let mut reply = Vec::new(alloc);
+        write_reply(&Reply::Error(refusal.text()), &mut reply)?;
+        let mut wanted = Vec::from_slice(alloc, b"-")?;
+        wanted.extend_from_slice(want.as_bytes())?;
+        wanted.extend_from_slice(b"\r\n")?;
+        assert_eq!(rt; reply.as_slice(), wanted.as_slice(), "`{line}`");
+    }
+    for (refusal, want) in [
+        (
+            Refusal::NotInteger,
+            "ERR value is not an integer or out of range",
+        ),
+        (Refusal::Memory, "ERR out of memory"),
+    ] {
+        assert_eq!(rt; refusal.to_string(alloc)?.as_str(), want);
+    }
+    Ok(())
+}
+
+#[test]
+fn takes_no_name_that_is_no_text(rt: HostRuntime) -> Result<(), Fail> {
+    let words: &[&[u8]] = &[b"\xffget", b"a"];
+    let read = read(Request::copy_of(rt.alloc(), words)?);
+    assert!(rt; matches!(&read, Err(Refusal::Unknown)));
+    Ok(())
+}
+
+#[test]
+fn reads_the_words_of_each_command(rt: HostRuntime) -> Result<(), Fail> {
+    let alloc = rt.alloc();
+    for (line, want) in [
+        ("PiNG", "ping:"),
+        ("ping hi", "ping: word hi"),
+        ("ECHO ", "echo: word "),
+        ("gEt a", "get a: key a"),
+        ("SET a 1", "set a: key a value 1 always"),
+        ("SET a 1 nx NX", "set a: key a value 1 if absent"),
+        ("set a 1 Xx", "set a: key a value 1 if present"),
+        ("DEL a b a", "del a b a: keys 3"),
+    ] {
+        let command = match read_line(alloc, line)? {
+            Ok(command) => command,
+            Err(refusal) => return Err(refusal.into()),
+        };
+        assert_eq!(rt; is_whole(&command), false);
+        let mut told = String::from_str(alloc, name(&command))?;
+        let listed = keys(alloc, &command)?;
+        assert_eq!(rt; listed.len(), key_count(&command));
+        for key in &listed {
+            write!(told, " {}", text(key))?;
+        }
+        if key_count(&command) > 0 {
+            assert_eq!(rt; Some(key_at(&command, 0)), listed.first().copied());
+        }
+        match &command {
+            Command::Local(LocalCommand::Ping { word: None }) => write!(told, ":")?,
+            Command::Local(LocalCommand::Ping { word: Some(word) }) => write!(
+                told,
+                ": word {}",
+                text(word.as_slice())
+            )?,
+            Command::Local(LocalCommand::Echo { word }) => write!(
+                told,
+                ": word {}",
+                text(word.as_slice())
+            )?,
+            Command::Str(StringCommand::Get { key }) => write!(
+                told,
+                ": key {}",
+                text(key.as_slice())
+            )?,
+            Command::Str(
+                StringCommand::Set {
+                    key,
+                    value,
+                    condition,
+                },
+            ) => {
+                let when = match condition {
+                    Condition::Always => "always",
+                    Condition::IfAbsent => "if absent",
+                    Condition::IfPresent => "if present",
+                };
+                write!(
+                    told,
+                    ": key {} value {} {when}",
+                    text(key.as_slice()),
+                    text(value.as_slice())
+                )?;
+            }
+            Command::Key(KeyCommand::Del { keys }) => write!(told, ": keys {}", keys.len())?,
+        }
+        assert_eq!(rt; told.as_str(), want);
+    }
+    Ok(())
+}
+
+fn text(word: &[u8]) -> &str {
+    std::str::from_utf8(word).unwrap_or("?")
+}

@@ -1,0 +1,42 @@
+//! The words of a request behind the command's name, taken apart. No word is copied.
+
+ghost use Rattle.std.specs.List.{list_any};
+ghost use Rattle.std.specs.Char.{to_ascii_lowercase};
+ghost use Rattle.std.specs.Prelude.{◌≡◌, [], ◌∷◌, length, map};
+ghost use Rattle.command_table.specs.Words.{is_word, texts_of};
+
+use texts::Text;
+
+/// Whether the word is this one, which is in lower case, without regard to the case of ASCII letters.
+pub(crate) fn is_word(word: &[u8], text: &[u8]) -> bool
+    requires { map to_ascii_lowercase text.now ≡ text.now }
+    ensures { result ≡ is_word text.now word.now }
+{
+    word.eq_ignore_ascii_case(text)
+}
+
+/// Whether one of the words is this one, which is in lower case, without regard to the case of ASCII letters.
+pub(crate) fn has_word(words: &[Vec<u8>], text: &[u8]) -> bool
+    requires { map to_ascii_lowercase text.now ≡ text.now }
+    ensures { result ≡ list_any (is_word text.now) (texts_of words.now) }
+{
+    words.iter().any(|w| is_word(w, text))
+}
+
+/// The only word.
+pub(crate) fn only_word(mut words: Vec<Vec<u8>>) -> Text
+    requires { length words.items ≡ 1 }
+    ensures { texts_of words.items ≡ result ∷ [] }
+{
+    Text::from(words.pop().unwrap())
+}
+
+/// The two words.
+pub(crate) fn two_words(mut words: Vec<Vec<u8>>) -> (Text, Text)
+    requires { length words.items ≡ 2 }
+    ensures { texts_of words.items ≡ result.0 ∷ result.1 ∷ [] }
+{
+    let second = words.pop().unwrap();
+    let first = words.pop().unwrap();
+    (Text::from(first), Text::from(second))
+}
