@@ -1,0 +1,34 @@
+//! The bodies of the commands on keys of any type.
+//!
+//! What each does is the Redis command reference's: <https://redis.io/docs/latest/commands/?group=generic>. `command_bodies` runs
+//! them.
+#![tactic(auto)]
+
+mod bodies;
+
+ghost use Rattle.std.specs.Prelude.{◌≡◌, All, IsTrue, OnErr};
+ghost use Rattle.command_cases.specs.Case.{Does};
+ghost use Rattle.command_table.specs.Command.{key_command_keys};
+ghost use Rattle.key_commands.specs.KeyCommand.{key_command_case, KeyCommandTakesMemory};
+
+use bodies::del;
+use command_cases::{Starved, body_rows};
+use command_table::{KeyCommand, command_rows};
+use keyspace::Keyspace;
+use resp::Reply;
+use std::alloc::Global;
+
+/// Runs a command on keys, by the body that its row names.
+pub fn run_key_command<K: Keyspace>(
+    alloc: Global,
+    keyspace: &mut K,
+    command: KeyCommand,
+) -> Result<Reply, Starved>
+    requires { All (λ key. IsTrue (K.covered keyspace.old key)) (key_command_keys command) }
+    ensures done { Does (key_command_case command)
+        (K.contents keyspace.old) (K.contents keyspace.new) result }
+    ensures starves { OnErr result (KeyCommandTakesMemory command (K.contents keyspace.old)) }
+    ensures covers { K.covered keyspace.new ≡ K.covered keyspace.old }
+{
+    command_rows!(keys, body_rows, KeyCommand, alloc, keyspace, command)
+}
