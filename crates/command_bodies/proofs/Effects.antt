@@ -1,0 +1,40 @@
+-- A command's effect is its case, since a case looks at the command's own keys alone; and what follows for two commands.
+use Rattle.std.proofs.Common.{◌≡◌, [], false, cond, ap, sym, ◌∙◌}
+use Rattle.command_bodies.specs.Command.{case_of, effect_of, AnswersCommute, ContentsCommute}
+use Rattle.command_bodies.specs.LocalCommand.{local_reply}
+use Rattle.command_cases.proofs.Apart.{answers_commute, contents_commute}
+use Rattle.command_cases.proofs.Local.{local-constant}
+use Rattle.command_cases.specs.Case.{one}
+use Rattle.command_table.specs.Command.{keys_of, is_whole}
+use Rattle.command_table.specs.declared.command.Command.{Command}
+use Rattle.command_table.specs.declared.command.Command.TheVariants.{Key, Str, Local}
+use Rattle.key_commands.proofs.Local.{local-key_command}
+use Rattle.keyspace.specs.Map.{Map}
+use Rattle.string_commands.proofs.Local.{local-string_command}
+
+pub effect-case : (command : Command) (m : Map) → effect_of command m ≡ case_of command m
+effect-case (Key c) m = local-key_command c m
+effect-case (Str c) m = local-string_command c m
+effect-case (Local c) m = local-constant [] (local_reply c) m
+
+-- a command that is not for all keys takes its part
+effect_part : (command : Command) (m : Map) → is_whole command ≡ false → effect_of command m ≡ one (keys_of command) (case_of command) m
+effect_part command m h = ap (λ b. cond b (case_of command m) (one (keys_of command) (case_of command) m)) h
+
+pub commands_answer : AnswersCommute
+commands_answer a b m not_a not_b apart =
+    let part_b = one (keys_of b) (case_of b) in
+    ap (λ r. r.1) (effect_part b (effect_of a m).0 not_b)
+    ∙ ap (λ r. (part_b r.0).1) (effect_part a m not_a)
+    ∙ answers_commute (keys_of a) (keys_of b) (case_of a) (case_of b) m apart
+    ∙ ap (λ r. r.1) (sym (effect_part b m not_b))
+
+pub commands_leave : ContentsCommute
+commands_leave a b m not_a not_b apart =
+    let part_a = one (keys_of a) (case_of a) in
+    let part_b = one (keys_of b) (case_of b) in
+    ap (λ r. r.0) (effect_part b (effect_of a m).0 not_b)
+    ∙ ap (λ r. (part_b r.0).0) (effect_part a m not_a)
+    ∙ contents_commute (keys_of a) (keys_of b) (case_of a) (case_of b) m apart
+    ∙ ap (λ r. (part_a r.0).0) (sym (effect_part b m not_b))
+    ∙ ap (λ r. r.0) (sym (effect_part a (effect_of b m).0 not_a))

@@ -1,0 +1,48 @@
+//! That each command answers where there is memory for it, over the one table.
+
+use crate::execute;
+use command_table::read;
+use keyspace::Plain;
+use resp::{Request, write_reply};
+use std::alloc::Global;
+use std::hash::{BuildHasherDefault, FoldHasher};
+use std::process::Abort;
+use std::test::Fail;
+
+/// The RESP2 text of the reply to these words.
+fn answer(
+    rt: &impl Abort,
+    alloc: Global,
+    keyspace: &mut Plain<BuildHasherDefault<FoldHasher>>,
+    words: &[&str],
+) -> Result<Vec<u8>, Fail> {
+    let mut request = Vec::new(alloc);
+    for word in words {
+        request.push(word.as_bytes().to_vec(alloc)?)?;
+    }
+    assert!(rt; request.len() > 0);
+    let command = read(Request::from_words(request)).ok().ok_or("refused")?;
+    let reply = execute(alloc, keyspace, command)?;
+    let mut text = Vec::new(alloc);
+    write_reply(&reply, &mut text)?;
+    Ok(text)
+}
+
+#[test]
+fn commands_answer_in_turn(rt: HostRuntime) -> Result<(), Fail> {
+    let mut keyspace = Plain::new(rt.alloc(), BuildHasherDefault::<FoldHasher>::new());
+    let rows: [(&[&str], &str); 7] = [
+        (&["SET", "a", "1"], "+OK\r\n"),
+        (&["GET", "a"], "$1\r\n1\r\n"),
+        (&["SET", "a", "2", "NX"], "$-1\r\n"),
+        (&["DEL", "a", "b", "a"], ":1\r\n"),
+        (&["GET", "a"], "$-1\r\n"),
+        (&["PING"], "+PONG\r\n"),
+        (&["ECHO", "hi"], "$2\r\nhi\r\n"),
+    ];
+    for (words, reply) in rows {
+        let text = answer(&rt, rt.alloc(), &mut keyspace, words)?;
+        assert_eq!(rt; text.as_slice(), reply.as_bytes(), "{words:?}");
+    }
+    Ok(())
+}
