@@ -1,0 +1,4 @@
+pub mod Answers
+pub mod Serves
+pub mod Sent
+pub mod Gathers

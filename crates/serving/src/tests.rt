@@ -1,0 +1,349 @@
+//! Serving over memory, with a door of the tests' own. The requests, replies and error lines are those of the RESP2
+//! specification and of this project's texts for faults; `|` stands for CR LF.
+
+use crate::{Door, DoorFault, ServeFault, Served, serve};
+use resp::{Reply, Request};
+use resp_decoder::{Fault, Limits};
+use std::alloc::{AllocError, Global};
+use std::io;
+use std::io::{ErrorKind, Read, Write};
+use std::test::Fail;
+
+type Outcome = Result<Served, ServeFault<&'static str>>;
+
+/// Answers a request by its last word. There is no memory for the word `big`, and the word `end` ends the connection.
+#[derive(Drop)]
+struct Echo {
+    alloc: Global,
+}
+
+impl Door for Echo {
+    type Reason = &'static str;
+
+    ghost asks = { λ _ _ _ _. Unit {0} };
+
+    fn ask(&mut self, request: Request) -> Result<Reply, DoorFault<&'static str>> {
+        let last = request.word(request.len() - 1);
+        match last {
+            b"big" => Err(DoorFault::Memory),
+            b"end" => Err(DoorFault::Ended("enough")),
+            _ => match Vec::from_slice(self.alloc, last) {
+                Ok(bytes) => Ok(Reply::Bulk(bytes)),
+                Err(_) => Err(DoorFault::Memory),
+            },
+        }
+    }
+}
+
+/// Gives its bytes in pieces of at most `piece`; the read of number `fails_at`, from 0, fails.
+#[derive(Drop)]
+struct Source<'a> {
+    bytes: &'a [u8],
+    piece: usize,
+    reads: usize,
+    fails_at: usize,
+    kind: ErrorKind,
+}
+
+impl Read for Source<'_> {
+    fn read(&mut self, buf: &mut [u8]) -> io::Result<usize> {
+        let number = self.reads;
+        self.reads = number.saturating_add(1);
+        if number == self.fails_at {
+            return Err(self.kind.into());
+        }
+        let n = self.piece.min(self.bytes.len()).min(buf.len());
+        let bytes = self.bytes;
+        buf[..n].copy_from_slice(&bytes[..n]);
+        self.bytes = &bytes[n..];
+        Ok(n)
+    }
+}
+
+/// Takes at most `most` bytes at once; the write of number `fails_at`, from 0, fails.
+#[derive(Drop)]
+struct Sink {
+    held: Vec<u8>,
+    most: usize,
+    writes: usize,
+    fails_at: usize,
+    kind: ErrorKind,
+}
+
+impl Write for Sink {
+    fn write(&mut self, buf: &[u8]) -> io::Result<usize> {
+        let number = self.writes;
+        self.writes = number.saturating_add(1);
+        if number == self.fails_at {
+            return Err(self.kind.into());
+        }
+        let n = self.most.min(buf.len());
+        self.held.extend_from_slice(&buf[..n])?;
+        Ok(n)
+    }
+
+    fn flush(&mut self) -> io::Result<()> {
+        Ok(())
+    }
+}
+
+const NEVER: usize = usize::MAX;
+
+fn source_of(bytes: &[u8], piece: usize) -> Source<'_> {
+    Source {
+        bytes,
+        piece,
+        reads: 0,
+        fails_at: NEVER,
+        kind: ErrorKind::ConnectionReset,
+    }
+}
+
+fn sink_to(alloc: Global, most: usize) -> Sink {
+    Sink {
+        held: Vec::new(alloc),
+        most,
+        writes: 0,
+        fails_at: NEVER,
+        kind: ErrorKind::BrokenPipe,
+    }
+}
+
+fn served(alloc: Global, reader: &mut Source<'_>, writer: &mut Sink) -> Outcome {
+    serve(alloc, Limits::DEFAULT, reader, writer, &mut Echo { alloc })
+}
+
+/// The bytes of a row, in which `|` stands for CR LF.
+fn bytes_of(alloc: Global, row: &str) -> Result<Vec<u8>, AllocError> {
+    let mut bytes = Vec::new(alloc);
+    for b in row.as_bytes() {
+        if *b == b'|' {
+            bytes.extend_from_slice(b"\r\n")?;
+        } else {
+            bytes.push(*b)?;
+        }
+    }
+    Ok(bytes)
+}
+
+#[test]
+fn answers_rows_however_they_are_cut(rt: HostRuntime) -> Result<(), Fail> {
+    let rows: [(&str, &str, Outcome); 14] = [
+        ("", "", Ok(Served::End)),
+        ("*1|$4|PiNG|", "$4|PiNG|", Ok(Served::End)),
+        ("*0|*-1|*1|$4|PING|", "$4|PING|", Ok(Served::End)),
+        ("*2|$4|ECHO|$0||*1|$1|a|", "$0||$1|a|", Ok(Served::End)),
+        ("*1|$4|PING|*0|", "$4|PING|", Ok(Served::End)),
+        ("*1|$4|PING|*1|$4|PI", "$4|PING|", Ok(Served::Inside)),
+        ("*1", "", Ok(Served::Inside)),
+        (
+            "PING|",
+            "-ERR Protocol error: expected '*'|",
+            Ok(Served::Protocol(Fault::ExpectedStar)),
+        ),
+        (
+            "*1|+PING|",
+            "-ERR Protocol error: expected '$'|",
+            Ok(Served::Protocol(Fault::ExpectedDollar)),
+        ),
+        (
+            "*1|$03|GET|",
+            "-ERR Protocol error: invalid length|",
+            Ok(Served::Protocol(Fault::BadLength)),
+        ),
+        (
+            "*1|$4|PINGxx",
+            "-ERR Protocol error: expected CRLF|",
+            Ok(Served::Protocol(Fault::ExpectedCrlf)),
+        ),
+        (
+            "*1|$1|a|+*1|$1|b|",
+            "$1|a|-ERR Protocol error: expected '*'|",
+            Ok(Served::Protocol(Fault::ExpectedStar)),
+        ),
+        (
+            "*1|$3|big|*1|$1|a|",
+            "-ERR out of memory|$1|a|",
+            Ok(Served::End),
+        ),
+        (
+            "*1|$1|a|*1|$3|end|*1|$1|b|",
+            "$1|a|",
+            Err(ServeFault::Door("enough")),
+        ),
+    ];
+    for (input, output, outcome) in rows {
+        let input = bytes_of(rt.alloc(), input)?;
+        let output = bytes_of(rt.alloc(), output)?;
+        for (piece, most) in [(1, 1), (5, 3), (NEVER, NEVER)] {
+            let mut reader = source_of(&input, piece);
+            let mut writer = sink_to(rt.alloc(), most);
+            assert_eq!(rt;
+                served(rt.alloc(), &mut reader, &mut writer),
+                outcome,
+                "at {input:?}"
+            );
+            assert_eq!(rt; writer.held.as_slice(), output.as_slice(), "at {input:?}");
+        }
+    }
+    Ok(())
+}
+
+#[test]
+fn writes_once_before_each_read(rt: HostRuntime) -> Result<(), Fail> {
+    let input = bytes_of(rt.alloc(), "*1|$1|a|*1|$1|b|*1|$1|c|*1|$1|d|")?;
+    let mut reader = source_of(&input, 33);
+    let mut writer = sink_to(rt.alloc(), NEVER);
+    assert_eq!(rt;
+        served(rt.alloc(), &mut reader, &mut writer),
+        Ok(Served::End)
+    );
+    assert_eq!(rt; (reader.reads, writer.writes), (3, 2));
+    Ok(())
+}
+
+#[test]
+fn writes_when_enough_is_gathered(rt: HostRuntime) -> Result<(), Fail> {
+    // One piece of 52,000 bytes, with 80,000 bytes of replies.
+    let mut input = Vec::new(rt.alloc());
+    for _ in 0..4000 {
+        input.extend_from_slice(b"*1\r\n$3\r\nbig\r\n")?;
+    }
+    let mut reader = source_of(&input, NEVER);
+    let mut writer = sink_to(rt.alloc(), NEVER);
+    assert_eq!(rt;
+        served(rt.alloc(), &mut reader, &mut writer),
+        Ok(Served::End)
+    );
+    assert_eq!(rt; writer.held.len(), 4000 * 20);
+    assert_eq!(rt; (reader.reads, writer.writes), (2, 2));
+    Ok(())
+}
+
+#[test]
+fn tells_a_failed_read_behind_all_replies(rt: HostRuntime) -> Result<(), Fail> {
+    let input = bytes_of(rt.alloc(), "*1|$4|PING|*1|$")?;
+    let output = bytes_of(rt.alloc(), "$4|PING|")?;
+    for (piece, fails_at, written) in [
+        (19, 0, 0),
+        (19, 1, 10),
+        (14, 1, 10),
+        (14, 2, 10),
+        (7, 1, 0),
+        (7, 2, 10),
+    ] {
+        let mut reader = source_of(&input, piece);
+        reader.fails_at = fails_at;
+        let mut writer = sink_to(rt.alloc(), NEVER);
+        assert_eq!(rt;
+            served(rt.alloc(), &mut reader, &mut writer),
+            Err(ServeFault::Read)
+        );
+        assert_eq!(rt;
+            writer.held.len(),
+            written,
+            "at read {fails_at} of {piece} bytes"
+        );
+        assert!(rt; output.starts_with(&writer.held));
+    }
+    Ok(())
+}
+
+#[test]
+fn tells_a_failed_write_behind_a_beginning(rt: HostRuntime) -> Result<(), Fail> {
+    let input = bytes_of(rt.alloc(), "*1|$4|PING|+")?;
+    let output = bytes_of(rt.alloc(), "$4|PING|-ERR Protocol error: expected '*'|")?;
+    for fails_at in 0..15 {
+        let mut reader = source_of(&input, NEVER);
+        let mut writer = sink_to(rt.alloc(), 3);
+        writer.fails_at = fails_at;
+        assert_eq!(rt;
+            served(rt.alloc(), &mut reader, &mut writer),
+            Err(ServeFault::Write)
+        );
+        assert_eq!(rt; writer.held.len(), 3 * fails_at);
+        assert!(rt; output.starts_with(&writer.held));
+    }
+    let mut writer = sink_to(rt.alloc(), 0);
+    assert_eq!(rt;
+        served(rt.alloc(), &mut source_of(&input, NEVER), &mut writer),
+        Err(ServeFault::Write)
+    );
+    assert_eq!(rt; writer.held.len(), 0);
+    Ok(())
+}
+
+#[test]
+fn tries_again_what_was_interrupted(rt: HostRuntime) -> Result<(), Fail> {
+    let input = bytes_of(rt.alloc(), "*1|$4|PING|*1|$1|a|")?;
+    let output = bytes_of(rt.alloc(), "$4|PING|$1|a|")?;
+    for number in 0..8 {
+        let mut reader = source_of(&input, 4);
+        (reader.fails_at, reader.kind) = (number, ErrorKind::Interrupted);
+        let mut writer = sink_to(rt.alloc(), 3);
+        (writer.fails_at, writer.kind) = (number, ErrorKind::Interrupted);
+        assert_eq!(rt;
+            served(rt.alloc(), &mut reader, &mut writer),
+            Ok(Served::End)
+        );
+        assert_eq!(rt; writer.held.as_slice(), output.as_slice());
+    }
+    Ok(())
+}
+
+/// How many replies these bytes are: `a`, or that there was no memory. `None` where they are not whole replies.
+fn count_replies(bytes: &[u8]) -> Option<usize> {
+    let mut rest = bytes;
+    for count in 0..bytes.len() + 1 {
+        if rest.is_empty() {
+            return Some(count);
+        }
+        let reply: &[u8] = if rest.starts_with(b"$") {
+            b"$1\r\na\r\n"
+        } else {
+            b"-ERR out of memory\r\n"
+        };
+        if !rest.starts_with(reply) {
+            return None;
+        }
+        rest = &rest[reply.len()..];
+    }
+    None
+}
+
+// With ample memory this is three replies. Run with the Nth allocation failing, for each N, it says what is left to promise.
+#[test]
+fn keeps_replies_whole_where_memory_fails(rt: HostRuntime) -> Result<(), Fail> {
+    let input = b"*1\r\n$1\r\na\r\n*1\r\n$1\r\na\r\n*1\r\n$1\r\na\r\n";
+    let Ok(held) = Vec::with_capacity(rt.alloc(), 100) else {
+        return Ok(());
+    };
+    let mut writer = sink_to(rt.alloc(), NEVER);
+    writer.held = held;
+    let outcome = served(rt.alloc(), &mut source_of(input, 11), &mut writer);
+    match count_replies(&writer.held) {
+        Some(count) => {
+            let all = count == 3 && outcome == Ok(Served::End);
+            assert!(rt;
+                all || count < 3 && outcome == Err(ServeFault::Memory),
+                "{count}: {outcome:?}"
+            );
+        }
+        None => assert!(rt; false, "a reply in part"),
+    }
+    Ok(())
+}
+
+#[test]
+fn prints_why_serving_failed(rt: HostRuntime) -> Result<(), Fail> {
+    let rows = [
+        (ServeFault::Read, "a read failed"),
+        (ServeFault::Write, "a write failed"),
+        (ServeFault::Memory, "out of memory"),
+        (ServeFault::Door("enough"), "enough"),
+    ];
+    for (fault, text) in rows {
+        assert_eq!(rt; format!(in rt.alloc(); "{fault}")?.as_str(), text);
+    }
+    Ok(())
+}
