@@ -1,0 +1,89 @@
+//! The store: a map, and commands run on it in turn.
+
+ghost use Rattle.std.specs.Prelude.{◌≡◌, map, OnErr, IfOk};
+ghost use Rattle.std.specs.FinMap as finite;
+ghost use Rattle.resp.specs.Content.{content};
+ghost use Rattle.command_bodies.specs.Command.{effect_of};
+ghost use Rattle.command_cases.specs.Case.{Does};
+ghost use Rattle.solo.specs.Solo.{solo_from, IsStepOrStarves, RunsBeginning};
+
+use command_bodies::execute;
+use command_cases::Starved;
+use command_table::Command;
+use keyspace::Plain;
+use resp::Reply;
+use std::alloc::{AllocError, Global};
+use std::hash::BuildHasher;
+use std::marker::Model;
+
+/// Keys and values in one table, on which commands are run one after another. Contracts see the map.
+#[derive(Drop)]
+pub struct Solo<S: BuildHasher> {
+    alloc: Global,
+    keys: Plain<S>,
+}
+
+impl<S: BuildHasher> Model for Solo<S> {
+    ghost use Rattle.std.specs.Coded.{coded_list, coded_ℕ};
+    ghost use Rattle.std.specs.FinMap.{code};
+    ghost use Rattle.keyspace.specs.Map.{Map};
+    ghost use Rattle.keyspace.specs.Plain.{map_of};
+    ghost use Rattle.values.specs.contracts.Value as value;
+
+    ghost Value = { Map };
+
+    ghost coded = { code (coded_list coded_ℕ) value.the_row.coded };
+
+    ghost view = { λ s. map_of s.keys.entries.entries };
+}
+
+impl<S: BuildHasher> Solo<S> {
+    /// No keys. It takes no memory; keys are hashed by `hasher`.
+    pub fn new(alloc: Global, hasher: S) -> Self
+        ensures { result ≡ finite.empty }
+    {
+        Solo {
+            alloc,
+            keys: Plain::new(alloc, hasher),
+        }
+    }
+
+    /// Runs the command and gives its reply, or `ERR out of memory`, which leaves every key as it was.
+    pub fn run(&mut self, command: Command) -> Reply
+        ensures { IsStepOrStarves command self.old (content result) self.new }
+    {
+        match self.try_run(command) {
+            Ok(reply) => reply,
+            Err(_) => Reply::out_of_memory(),
+        }
+    }
+
+    /// Runs the commands one after another and gives their replies.
+    ///
+    /// With `AllocError` there was no memory for one of them or for its reply; those before it have been run.
+    pub fn run_all(&mut self, commands: Vec<Command>) -> Result<Vec<Reply>, AllocError>
+        ensures ok { IfOk result (λ replies. (self.new, map content replies.items) ≡ solo_from self.old commands.items) }
+        ensures err { OnErr result (RunsBeginning commands.items self.old self.new) }
+    {
+        let mut replies = Vec::with_capacity(self.alloc, commands.len())?;
+        for command in commands {
+            let Ok(reply) = self.try_run(command) else {
+                return Err(AllocError);
+            };
+            replies.push(reply)?;
+        }
+        Ok(replies)
+    }
+
+    /// Runs the command, unless there is no memory for it.
+    pub(crate) fn try_run(&mut self, command: Command) -> Result<Reply, Starved>
+        ensures { Does (effect_of command) self.old self.new result }
+    {
+        execute(self.alloc, &mut self.keys, command)
+    }
+
+    /// The allocator that the keys lie in.
+    pub(crate) fn alloc(&self) -> Global {
+        self.alloc
+    }
+}

@@ -1,0 +1,11 @@
+//! The store as its users meet it: requests go in through `Solo::serve`, and replies come out.
+//!
+//! The expected replies are those that the Redis command reference gives, with this project's own error lines.
+#![tactic(auto)]
+
+#[cfg(test)]
+mod faults;
+#[cfg(test)]
+mod rows;
+#[cfg(test)]
+mod text;

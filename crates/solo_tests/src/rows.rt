@@ -1,0 +1,132 @@
+//! What the store answers, row by row.
+
+use crate::text::{BAD_LENGTH, END, Ending, INSIDE, bytes_of, empty_store, requests_of};
+use command_table::read;
+use resp::{Request, write_reply};
+use resp_decoder::Fault;
+use serving::Served;
+use std::io::Read;
+use std::test::Fail;
+
+#[test]
+fn commands_answer(rt: HostRuntime) -> Result<(), Fail> {
+    for (requests, replies) in [
+        ("SET a 1; GET a; DEL a a; GET a", "+OK|$1|1|:1|$-1|"),
+        (
+            "PING hi; PING x y",
+            "$2|hi|-ERR wrong number of arguments for 'ping' command|",
+        ),
+        ("ECHO ''; FOO", "$0||-ERR unknown command|"),
+        (
+            "SET a 1 XX; SET a 1 nx NX; SET a 2 NX; GET a",
+            "$-1|+OK|$-1|$1|1|",
+        ),
+        (
+            "SET b 1 NX XX; SET b 1 EX 10; GET b",
+            "-ERR syntax error|-ERR syntax error|$-1|",
+        ),
+        (
+            "GET; DEL; SET a",
+            "-ERR wrong number of arguments for 'get' command|-ERR wrong number of arguments for 'del' command|-ERR wrong number of arguments for 'set' command|",
+        ),
+        ("SET a 1; SET b 2; DEL a c b a; del b", "+OK|+OK|:2|:0|"),
+    ] {
+        let input = requests_of(rt.alloc(), requests)?;
+        let mut output = Vec::new(rt.alloc());
+        let ending = empty_store(rt.alloc()).serve(&mut input.as_slice(), &mut output);
+        assert_eq!(rt; ending, END, "{requests}");
+        assert_eq!(rt;
+            output.as_slice(),
+            bytes_of(rt.alloc(), replies)?.as_slice(),
+            "{requests}"
+        );
+    }
+    Ok(())
+}
+
+#[test]
+fn bytes_are_read_as_requests(rt: HostRuntime) -> Result<(), Fail> {
+    let star: Ending = Ok(Served::Protocol(Fault::ExpectedStar));
+    let dollar: Ending = Ok(Served::Protocol(Fault::ExpectedDollar));
+    let line: Ending = Ok(Served::Protocol(Fault::ExpectedCrlf));
+    for (input, replies, ending) in [
+        ("*1|$4|PiNG|", "+PONG|", END),
+        (
+            "*3|$3|SET|$0||$0||*2|$3|GET|$0||*2|$3|GET|$1|a|",
+            "+OK|$0||$-1|",
+            END,
+        ),
+        ("*0|*-1|*1|$4|PING|", "+PONG|", END),
+        ("", "", END),
+        ("*1|$4|PI", "", INSIDE),
+        ("*1|$4|PING|*", "+PONG|", INSIDE),
+        (
+            "*1|$03|GET|",
+            "-ERR Protocol error: invalid length|",
+            BAD_LENGTH,
+        ),
+        (
+            "*1|$536870913",
+            "-ERR Protocol error: invalid length|",
+            BAD_LENGTH,
+        ),
+        ("PING|", "-ERR Protocol error: expected '*'|", star),
+        (
+            "*1|$4|PING|PING|*1|$4|PING|",
+            "+PONG|-ERR Protocol error: expected '*'|",
+            star,
+        ),
+        ("*1|+PING|", "-ERR Protocol error: expected '$'|", dollar),
+        ("*1|$4|PINGxx", "-ERR Protocol error: expected CRLF|", line),
+    ] {
+        let bytes = bytes_of(rt.alloc(), input)?;
+        let mut output = Vec::new(rt.alloc());
+        let ended = empty_store(rt.alloc()).serve(&mut bytes.as_slice(), &mut output);
+        assert_eq!(rt; ended, ending, "{input}");
+        assert_eq!(rt;
+            output.as_slice(),
+            bytes_of(rt.alloc(), replies)?.as_slice(),
+            "{input}"
+        );
+    }
+    Ok(())
+}
+
+#[test]
+fn a_request_may_be_cut_anywhere(rt: HostRuntime) -> Result<(), Fail> {
+    let input = bytes_of(rt.alloc(), "*3|$3|SET|$1|a|$1|1|")?;
+    for cut in 0..=input.len() {
+        let (first, second) = input.split_at(cut);
+        let mut output = Vec::new(rt.alloc());
+        let ended = empty_store(rt.alloc()).serve(&mut first.chain(second), &mut output);
+        assert_eq!(rt; ended, END, "cut after {cut}");
+        assert_eq!(rt; output.as_slice(), b"+OK\r\n".as_slice(), "cut after {cut}");
+    }
+    Ok(())
+}
+
+#[test]
+fn a_run_gives_a_reply_for_each_command(rt: HostRuntime) -> Result<(), Fail> {
+    let mut store = empty_store(rt.alloc());
+    let mut commands = Vec::new(rt.alloc());
+    let rows: [&[&[u8]]; 5] = [
+        &[b"SET", b"a", b"1"],
+        &[b"GET", b"a"],
+        &[b"DEL", b"a", b"a"],
+        &[b"GET", b"a"],
+        &[b"PING"],
+    ];
+    for words in rows {
+        let read = read(Request::copy_of(rt.alloc(), words)?);
+        commands.push(read.map_err(|_| "a refusal")?)?;
+    }
+    let mut output = Vec::new(rt.alloc());
+    for reply in &store.run_all(commands)? {
+        write_reply(reply, &mut output)?;
+    }
+    let last = read(Request::copy_of(rt.alloc(), &[b"ECHO", b"hi"])?);
+    write_reply(&store.run(last.map_err(|_| "a refusal")?), &mut output)?;
+    let replies = bytes_of(rt.alloc(), "+OK|$1|1|:1|$-1|+PONG|$2|hi|")?;
+    assert_eq!(rt; output.as_slice(), replies.as_slice());
+    Ok(())
+}
