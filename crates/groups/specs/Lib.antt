@@ -1,0 +1,4 @@
+pub mod Row
+pub mod Bits
+pub mod RowLaws
+pub mod BitLaws
