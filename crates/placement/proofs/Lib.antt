@@ -1,0 +1,4 @@
+pub mod DocumentLemmas
+pub mod Claiming
+pub mod Owning
+pub mod Addressed

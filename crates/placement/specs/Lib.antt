@@ -1,0 +1,5 @@
+pub mod Document
+pub mod Groups
+pub mod Layout
+pub mod Owners
+pub mod Slot
