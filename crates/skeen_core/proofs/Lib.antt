@@ -1,0 +1,11 @@
+pub mod Stamps
+pub mod Ids
+pub mod Finite
+pub mod Lawful
+pub mod Lists
+pub mod LeastPlace
+pub mod Representation
+pub mod Steps
+pub mod Counts
+pub mod MayCome
+pub mod Ahead

@@ -1,0 +1,10 @@
+pub mod Order
+pub mod Stamp
+pub mod Request
+pub mod Group
+pub mod Lawful
+pub mod Kept
+pub mod Due
+pub mod Coming
+pub mod Links
+pub mod Runs

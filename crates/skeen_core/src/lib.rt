@@ -1,0 +1,29 @@
+//! Skeen's atomic multicast as a pure machine: what one group does with a packet, and the packets under way.
+//!
+//! The rule is Skeen's, as Guerraoui and Schiper tell it ("Genuine atomic multicast in asynchronous distributed
+//! systems", Theoretical Computer Science 254, 2001), with one addition of this project's own: a request carries a
+//! floor, above which each of its proposals stands. Packets come in and go out; threads, sockets and storage stand
+//! outside. The system hands each packet to its group, and the queues take what a group delivers.
+#![tactic(auto)]
+
+mod coming;
+mod due;
+mod group;
+mod kept;
+mod laws;
+mod links;
+mod packet;
+mod request;
+mod stamp;
+mod tell;
+
+pub use coming::GREATEST_CLOCK;
+pub use group::Group;
+pub use laws::laws_of_one_group;
+pub use links::Links;
+pub use packet::{Body, Delivered, Packet};
+pub use request::{ConnId, RequestId};
+pub use stamp::Stamp;
+
+#[cfg(test)]
+mod tests;
