@@ -1,7 +1,7 @@
--- A row of groups in 64 bits: the group g is there where bit g is 1.
+-- A set of groups in 64 bits: the group g is there where bit g is 1.
 use Rattle.std.specs.Prelude.{ℕ, ◌+◌, ◌^◌, ◌==◌, List, [], ◌∷◌}
 use Rattle.std.specs.Int.{bit_at}
-use Rattle.groups.specs.Row.{chosen}
+use Rattle.groups.specs.GroupSet.{chosen}
 
 -- the places of the ones among the lowest 64 bits
 abbrev pub ones_of : ℕ → List ℕ

@@ -1,4 +1,4 @@
-pub mod Row
+pub mod GroupSet
 pub mod Bits
-pub mod RowLaws
+pub mod GroupSetLaws
 pub mod BitLaws

@@ -1,12 +1,12 @@
-//! The walk over a row of groups, from the least on.
+//! The walk over a set of groups, from the least on.
 ghost use Rattle.std.specs.Prelude.{◌≡◌};
 ghost use Rattle.std.specs.Iterator.{YieldsFirst, item_count};
 
 use super::group_id::GroupId;
-use super::row::Groups;
+use super::group_set::Groups;
 use std::marker::Model;
 
-/// The groups of a row that are still to come, ascending. A contract sees their numbers.
+/// The groups of a set that are still to come, ascending. A contract sees their numbers.
 #[derive(Clone, Copy)]
 pub struct Iter {
     rest: Groups,

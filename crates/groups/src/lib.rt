@@ -1,16 +1,16 @@
-//! The groups of the store, by number, and rows of them.
+//! The groups of the store, by number, and sets of them.
 //!
 //! A request addresses the groups on which its keys lie. The router, placement and the groups
-//! themselves hand such rows about by copy, so a row is 64 bits and no call takes memory.
+//! themselves hand such sets about by copy, so a set is 64 bits and no call takes memory.
 #![tactic(auto)]
 
 mod group_id;
 mod iter;
-mod row;
+mod group_set;
 
 pub use group_id::GroupId;
 pub use iter::Iter;
-pub use row::Groups;
+pub use group_set::Groups;
 
 #[cfg(test)]
 mod tests;

@@ -1,7 +1,7 @@
 use super::{GroupId, Groups};
 use std::test::Fail;
 
-fn row(numbers: &[u8]) -> Groups {
+fn set(numbers: &[u8]) -> Groups {
     let mut groups = Groups::empty();
     for number in numbers {
         if *number < 64 {
@@ -12,15 +12,15 @@ fn row(numbers: &[u8]) -> Groups {
 }
 
 #[test]
-fn rows_come_ascending_and_once(rt: HostRuntime) -> Result<(), Fail> {
-    let rows: [(&[u8], &[u8]); 4] = [
+fn sets_come_ascending_and_once(rt: HostRuntime) -> Result<(), Fail> {
+    let cases: [(&[u8], &[u8]); 4] = [
         (&[], &[]),
         (&[63], &[63]),
         (&[5, 0, 63, 5, 1], &[0, 1, 5, 63]),
         (&[31, 32, 33, 32], &[31, 32, 33]),
     ];
-    for (put_in, want) in rows {
-        let groups = row(put_in);
+    for (put_in, want) in cases {
+        let groups = set(put_in);
         let mut got = Vec::new(rt.alloc());
         for group in groups.iter() {
             got.push(group.number())?;
@@ -28,7 +28,7 @@ fn rows_come_ascending_and_once(rt: HostRuntime) -> Result<(), Fail> {
         assert_eq!(rt; got.as_slice(), want);
         assert_eq!(rt; groups.len(), want.len());
         assert_eq!(rt; groups.is_empty(), want.is_empty());
-        assert_eq!(rt; groups, row(want));
+        assert_eq!(rt; groups, set(want));
     }
     Ok(())
 }

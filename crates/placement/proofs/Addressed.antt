@@ -1,4 +1,4 @@
--- The groups that a command addresses, one key after another, and which stand in the row.
+-- The groups that a command addresses, one key after another, and which stand in the set.
 use Rattle.std.proofs.Common.{◌≡◌, ℕ, zero, suc, ◌+◌, ◌<◌, ◌≤◌, ◌==◌, ◌||◌, ◌&&◌, Bool, true, false, List, [], length, take, Some, slice_get, Any, Contains, nat_lt, refl, sym, ap, ◌∙◌, subst, arith, eq-eqb, eqb-true, lt-ltb}
 use Rattle.std.proofs.lemmas.List.Folds.{list_any_more, list_any_at, Any-from_list_any}
 use Rattle.std.proofs.lemmas.List.{take_all}
@@ -6,8 +6,8 @@ use Rattle.std.proofs.lemmas.Option.{get_or_from_slice_get}
 use Rattle.std.proofs.lemmas.Bool.{and_parts}
 use Rattle.command_table.specs.Command.{keys_of, is_whole}
 use Rattle.command_table.specs.declared.command.Command.{Command}
-use Rattle.groups.specs.Row.{has, with_group, chosen}
-use Rattle.groups.specs.RowLaws.{has-chosen, with-chosen, chosen_same}
+use Rattle.groups.specs.GroupSet.{has, with_group, chosen}
+use Rattle.groups.specs.GroupSetLaws.{has-chosen, with-chosen, chosen_same}
 use Rattle.placement.specs.Groups.{has_key_on, groups_of}
 use Rattle.placement.specs.Layout.{Layout, IsTable, place}
 use Rattle.placement.specs.Slot.{slot}

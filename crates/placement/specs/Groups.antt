@@ -3,7 +3,7 @@ use Rattle.std.specs.Prelude.{ℕ, ◌==◌, ◌||◌, Bool, List}
 use Rattle.std.specs.List.{list_any}
 use Rattle.command_table.specs.Command.{keys_of, is_whole}
 use Rattle.command_table.specs.declared.command.Command.{Command}
-use Rattle.groups.specs.Row.{chosen}
+use Rattle.groups.specs.GroupSet.{chosen}
 use Rattle.placement.specs.Layout.{Layout, place}
 
 -- one of the keys lies on the shard

@@ -3,7 +3,7 @@
 
 ghost use Rattle.std.specs.Prelude.{◌≡◌, ℕ, ◌<◌, List, Any, Contains, true, false, IfOk, IfErr};
 ghost use Rattle.command_table.specs.Command.{keys_of, is_whole};
-ghost use Rattle.groups.specs.Row.{has};
+ghost use Rattle.groups.specs.GroupSet.{has};
 ghost use Rattle.placement.specs.Groups.{groups_of};
 ghost use Rattle.placement.specs.Layout.{IsTable, IsTableOf, IsRefused, IsWrong, Gives, place};
 

@@ -2,7 +2,7 @@
 use Rattle.std.proofs.Common.{◌≡◌, ◌≢◌, ℕ, ◌≤◌, ◌==◌, ◌&&◌, true, false, cond, List, [], ◌∷◌, ◌++◌, inl, inr, Option, Some, None, IsSome, refl, sym, ap, ◌∙◌, subst, arith, eqb-true, eq-eqb, append-nil, append_assoc}
 use Rattle.std.proofs.lemmas.Bool.{both_ways, cases_Bool, and_parts}
 use Rattle.std.specs.FinMap.{get}
-use Rattle.groups.specs.Row.{has}
+use Rattle.groups.specs.GroupSet.{has}
 use Rattle.skeen_core.specs.declared.stamp.Stamp.{Stamp}
 use Rattle.skeen_core.specs.declared.request.RequestId.{RequestId}
 use Rattle.skeen_core.specs.declared.packet.Packet.{Packet}

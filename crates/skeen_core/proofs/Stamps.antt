@@ -2,7 +2,7 @@
 use Rattle.std.proofs.Common.{◌≡◌, ℕ, ◌<◌, ◌≤◌, ◌==◌, true, false, cond, List, [], ◌∷◌, Option, Some, None, option_map, refl, sym, ap, ◌∙◌, subst, arith, ◌⊎◌, inl, inr, eqb-true}
 use Rattle.std.proofs.lemmas.Bool.{or_cases, both_ways}
 use Rattle.std.proofs.lemmas.Bool.Decides.{nat_tests}
-use Rattle.groups.specs.Row.{has}
+use Rattle.groups.specs.GroupSet.{has}
 use Rattle.skeen_core.specs.declared.stamp.Stamp.{Stamp}
 use Rattle.skeen_core.specs.Stamp.{stamp_lt, later, later_of, final}
 

@@ -2,7 +2,7 @@
 use Rattle.std.proofs.Common.{◌≡◌, ◌≢◌, ℕ, zero, suc, ◌<◌, max, true, false, List, [], ◌∷◌, ◌++◌, Option, Some, None, length, MatchOption, is_some, get_or, set, take, length-append, ◌-◌, refl, sym, ap, ◌∙◌, subst, arith}
 use Rattle.std.proofs.lemmas.Bool.{both_ways}
 use Rattle.std.specs.FinMap.{get}
-use Rattle.groups.specs.Row.{has}
+use Rattle.groups.specs.GroupSet.{has}
 use Rattle.skeen_core.specs.declared.stamp.Stamp.{Stamp}
 use Rattle.skeen_core.specs.declared.request.RequestId.{RequestId}
 use Rattle.skeen_core.specs.declared.packet.Packet.{Packet}

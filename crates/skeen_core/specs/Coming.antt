@@ -1,6 +1,6 @@
 -- The test of what may come.
 use Rattle.std.specs.Prelude.{ℕ, ◌^◌, Bool, true, false, not, nat_le, ◌==◌, ◌&&◌, ◌||◌, List, [], ◌∷◌, Option, Some, None}
-use Rattle.groups.specs.Row.{has}
+use Rattle.groups.specs.GroupSet.{has}
 use Rattle.skeen_core.specs.Request.{same_id}
 use Rattle.skeen_core.specs.Kept.{clock_in}
 use Rattle.skeen_core.specs.declared.request.RequestId.{RequestId}

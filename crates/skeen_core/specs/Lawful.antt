@@ -1,7 +1,7 @@
 -- What each state of a group is like, whatever packets have come by the rule.
 use Rattle.std.specs.Prelude.{◌≡◌, ℕ, ◌≤◌, true, List, Some, IsSome}
 use Rattle.std.specs.FinMap.{get}
-use Rattle.groups.specs.Row.{has}
+use Rattle.groups.specs.GroupSet.{has}
 use Rattle.skeen_core.specs.Stamp.{final}
 use Rattle.skeen_core.specs.Group.{GroupState, heard, MayGo}
 use Rattle.skeen_core.specs.declared.stamp.Stamp.{Stamp}

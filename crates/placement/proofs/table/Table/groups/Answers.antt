@@ -1,7 +1,7 @@
 use Rattle.std.proofs.Common.{◌≡◌, ◌<◌, ◌≤◌, true, false, length, arith, sym, ap, ◌∙◌}
 use Rattle.command_table.specs.Command.{keys_of, is_whole}
 use Rattle.std.proofs.lemmas.Bool.{false≢true}
-use Rattle.groups.specs.Row.{chosen}
+use Rattle.groups.specs.GroupSet.{chosen}
 use Rattle.placement.specs.Groups.{groups_of}
 use Rattle.placement.proofs.Addressed.{chosen-none, with-key, groups_of-keys, groups_of-whole, has-groups_of-key, Any-groups_of}
 use Rattle.placement.proofs.table.Table.groups.Goals as goal

@@ -1,6 +1,6 @@
 use Rattle.std.proofs.Common.{◌≡◌, take}
 use Rattle.command_table.specs.Command.{keys_of}
-use Rattle.groups.specs.Row.{chosen}
+use Rattle.groups.specs.GroupSet.{chosen}
 use Rattle.placement.specs.Groups.{has_key_on}
 use Rattle.placement.proofs.table.Table.groups.Given as goal
 

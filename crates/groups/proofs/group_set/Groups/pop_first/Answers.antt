@@ -1,7 +1,7 @@
 use Rattle.std.proofs.Common.{sym, ap, ◌∙◌}
 use Rattle.groups.specs.BitLaws.{ones_of-lowest, ones_of-zero}
 use Rattle.groups.specs.Bits.{ones_of}
-use Rattle.groups.proofs.row.Groups.pop_first.Goals as goal
+use Rattle.groups.proofs.group_set.Groups.pop_first.Goals as goal
 
 pub returns-then-self-eq0 : goal.returns-then-self-eq0
 returns-then-self-eq0 c =

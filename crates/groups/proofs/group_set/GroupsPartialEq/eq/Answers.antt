@@ -1,7 +1,7 @@
 use Rattle.std.proofs.lemmas.Bool.Decides.{same_from_decides}
 use Rattle.std.proofs.lemmas.Slice.Eq.{bytes_eq-Decides}
 use Rattle.groups.specs.BitLaws.{Decides-words}
-use Rattle.groups.proofs.row.GroupsPartialEq.eq.Goals as goal
+use Rattle.groups.proofs.group_set.GroupsPartialEq.eq.Goals as goal
 
 pub returns-clause-same : goal.returns-clause-same
 returns-clause-same c =

@@ -2,7 +2,7 @@ use Rattle.std.proofs.Common.{◌-◌, ℕ, ap, ◌∙◌, arith}
 use Rattle.std.proofs.lemmas.Nat.{one_shl}
 use Rattle.groups.specs.Bits.{ones_of}
 use Rattle.groups.specs.BitLaws.{ones_of-first}
-use Rattle.groups.proofs.row.Groups.all.Goals as goal
+use Rattle.groups.proofs.group_set.Groups.all.Goals as goal
 
 pub returns-then-count-eq64 : goal.returns-then-count-eq64
 returns-then-count-eq64 c = rw c.if-count-eq64.true (ones_of-first 64 (omega arith))

@@ -1,6 +1,6 @@
-//! A row of groups in one word. The bit of a group's number is 1 where the group is in the row.
+//! A set of groups in one word. The bit of a group's number is 1 where the group is in the set.
 ghost use Rattle.std.specs.Prelude.{◌≡◌, ℕ, ◌+◌, ◌<◌, ◌≤◌, ◌^◌, List, [], ◌∷◌, ◌==◌, length, true, MatchOption, IsTrue, ◌↔◌};
-ghost use Rattle.groups.specs.Row.{has, with_group, chosen, IsRow};
+ghost use Rattle.groups.specs.GroupSet.{has, with_group, chosen, IsGroupSet};
 
 use super::group_id::GroupId;
 use super::iter::Iter;
@@ -71,7 +71,7 @@ impl Groups {
     pub fn len(&self) -> usize
         ensures count { result ≡ length self.now }
         ensures at_most_64 { result ≤ 64 }
-        ensures row { IsRow self.now }
+        ensures set { IsGroupSet self.now }
     {
         self.bits.count_ones() as usize
     }

@@ -1,7 +1,7 @@
--- Rows of groups: ascending lists of numbers, each number once.
+-- Sets of groups: ascending lists of numbers, each number once.
 use Rattle.std.specs.Prelude.{◌≡◌, ℕ, suc, zero, ◌<◌, ◌==◌, ◌||◌, nat_lt, Bool, true, false, cond, List, [], ◌∷◌}
 
--- the group stands in the row
+-- the group is in the set
 abbrev pub has : List ℕ → ℕ → Bool
 has [] g = false
 has (h ∷ hs) g = h == g || has hs g
@@ -11,12 +11,12 @@ abbrev pub IsAscending : List ℕ → Type 0
 IsAscending [] = Unit {0}
 IsAscending (g ∷ gs) = ((h : ℕ) → has gs h ≡ true → g < h) × IsAscending gs
 
--- what each row of groups is
-pub record IsRow (gs : List ℕ) : Type 0 where
+-- what each set of groups is
+pub record IsGroupSet (gs : List ℕ) : Type 0 where
   pub ascending : IsAscending gs
   pub below_64 : (g : ℕ) → has gs g ≡ true → g < 64
 
--- the row with the group put in its place, if it isn't there yet
+-- the set with the group put in its place, if it isn't there yet
 abbrev pub with_group : List ℕ → ℕ → List ℕ
 with_group [] g = g ∷ []
 with_group (h ∷ hs) g = cond (nat_lt h g) (h ∷ with_group hs g) (cond (h == g) (h ∷ hs) (g ∷ h ∷ hs))

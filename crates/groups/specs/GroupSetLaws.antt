@@ -1,7 +1,7 @@
--- Rows of groups: what stands in a row, and that its members say which row it is.
+-- Sets of groups: what is in a set, and that its members say which set it is.
 use Rattle.std.proofs.Common.{◌≡◌, ℕ, zero, suc, ◌+◌, ◌<◌, ◌≤◌, ◌==◌, ◌||◌, ◌&&◌, nat_lt, Bool, true, false, cond, List, [], ◌∷◌, inl, inr, refl, sym, ap, ◌∙◌, subst, arith, eqb-true, eq-eqb, ltb-true, lt-ltb, ltb-false, le-ltb, ne_eqb, lt_irrefl}
 use Rattle.std.proofs.lemmas.Bool.{cases_order, cases_lt, or_cases, both_ways, cases_Bool}
-use Rattle.groups.specs.Row.{has, IsAscending, with_group, chosen}
+use Rattle.groups.specs.GroupSet.{has, IsAscending, with_group, chosen}
 
 -- ---- a group put in
 
@@ -24,7 +24,7 @@ has-with (x ∷ xs) g h = elim (nat_lt x g) as (λ t. nat_lt x g ≡ t → has (
   ] refl
 ] refl
 
--- ---- the members of a chosen row
+-- ---- the members of a chosen set
 
 has-cond : (b : Bool) (a g : ℕ) (gs : List ℕ) → has (cond b (a ∷ gs) gs) g ≡ ((b && a == g) || has gs g)
 has-cond true a g gs = refl
@@ -74,7 +74,7 @@ has-chosen_in test a (suc m) g h l =
       | inr (inr more) ↦ absurd (omega arith)
     ]
 
--- a group stands in the row chosen from the first m where it is one of these and passes the test
+-- a group stands in the set chosen from the first m where it is one of these and passes the test
 pub has-chosen : (test : ℕ → Bool) (m g : ℕ) → has (chosen test 0 m) g ≡ (nat_lt g m && test g)
 has-chosen test m g = elim (cases_lt g m) [
   | inl less ↦ has-chosen_in test 0 m g (omega arith) (omega arith) ∙ ap (λ b. b && test g) (sym (lt-ltb g m less))
@@ -95,19 +95,19 @@ IsAscending-chosen test a (suc m) = elim (test a) as (λ t. IsAscending (cond t 
   | false ↦ IsAscending-chosen test (suc a) m
 ]
 
--- ---- a row is known by its members
+-- ---- a set is known by its members
 
 has_first : (x : ℕ) (xs : List ℕ) → has (x ∷ xs) x ≡ true
 has_first x xs = ap (λ b. b || has xs x) (eq-eqb x x refl)
 
--- the least of the one row isn't below the least of the other
+-- the least of the one set isn't below the least of the other
 least_within : (x y : ℕ) (ys : List ℕ) → IsAscending (y ∷ ys) → has (y ∷ ys) x ≡ true → y ≤ x
 least_within x y ys up h = elim (or_cases (y == x) (has ys x) h) [
   | inl e ↦ let same = eqb-true y x e in omega arith
   | inr there ↦ let less = up.0 x there in omega arith
 ]
 
--- the first of an ascending row doesn't stand again in it
+-- the first of an ascending set doesn't stand again in it
 not_again : (x : ℕ) (xs : List ℕ) → IsAscending (x ∷ xs) → has xs x ≡ false
 not_again x xs up = elim (cases_Bool (has xs x)) [ inl e ↦ absurd (lt_irrefl x (up.0 x e)) | inr e ↦ e ]
 
@@ -117,23 +117,23 @@ rest_same x xs ys up up' same g = elim (x == g) as (λ t. (x == g) ≡ t → has
   | false ↦ λ e. sym (ap (λ b. b || has xs g) e) ∙ same g ∙ ap (λ b. b || has ys g) e
 ] refl
 
-pub same_rows : (xs ys : List ℕ) → IsAscending xs → IsAscending ys → ((g : ℕ) → has xs g ≡ has ys g) → xs ≡ ys
-same_rows [] [] up up' same = refl
-same_rows [] (y ∷ ys) up up' same = absurd (both_ways _ (sym (same y)) (has_first y ys))
-same_rows (x ∷ xs) [] up up' same = absurd (both_ways _ (same x) (has_first x xs))
-same_rows (x ∷ xs) (y ∷ ys) up up' same =
+pub same_sets : (xs ys : List ℕ) → IsAscending xs → IsAscending ys → ((g : ℕ) → has xs g ≡ has ys g) → xs ≡ ys
+same_sets [] [] up up' same = refl
+same_sets [] (y ∷ ys) up up' same = absurd (both_ways _ (sym (same y)) (has_first y ys))
+same_sets (x ∷ xs) [] up up' same = absurd (both_ways _ (same x) (has_first x xs))
+same_sets (x ∷ xs) (y ∷ ys) up up' same =
     let low : y ≤ x = least_within x y ys up' (sym (same x) ∙ has_first x xs) in
     let high : x ≤ y = least_within y x xs up (same y ∙ has_first y ys) in
     let e : x ≡ y = omega arith in
     let up'' : IsAscending (x ∷ ys) = subst (λ (z : ℕ). IsAscending (z ∷ ys)) (sym e) up' in
     let same' : (g : ℕ) → has (x ∷ xs) g ≡ has (x ∷ ys) g = subst (λ (z : ℕ). (g : ℕ) → has (x ∷ xs) g ≡ has (z ∷ ys) g) (sym e) same in
-    ap (λ t. x ∷ t) (same_rows xs ys up.1 up''.1 (rest_same x xs ys up up'' same')) ∙ ap (λ z. z ∷ ys) e
+    ap (λ t. x ∷ t) (same_sets xs ys up.1 up''.1 (rest_same x xs ys up up'' same')) ∙ ap (λ z. z ∷ ys) e
 
--- ---- rows made by choosing
+-- ---- sets made by choosing
 
--- tests that agree on the first m choose the same row
+-- tests that agree on the first m choose the same set
 pub chosen_same : (s t : ℕ → Bool) (m : ℕ) → ((g : ℕ) → g < m → s g ≡ t g) → chosen s 0 m ≡ chosen t 0 m
-chosen_same s t m same = same_rows _ _ (IsAscending-chosen s 0 m) (IsAscending-chosen t 0 m) (λ g. has-chosen s m g ∙ alike g ∙ sym (has-chosen t m g))
+chosen_same s t m same = same_sets _ _ (IsAscending-chosen s 0 m) (IsAscending-chosen t 0 m) (λ g. has-chosen s m g ∙ alike g ∙ sym (has-chosen t m g))
   where
     alike : (g : ℕ) → (nat_lt g m && s g) ≡ (nat_lt g m && t g)
     alike g = elim (nat_lt g m) as (λ b. nat_lt g m ≡ b → (b && s g) ≡ (b && t g)) [ true ↦ λ e. same g (ltb-true g m e) | false ↦ λ e. refl ] refl
@@ -154,9 +154,9 @@ IsAscending-with (x ∷ xs) g up = elim (nat_lt x g) as (λ t. nat_lt x g ≡ t 
   ] refl
 ] refl
 
--- to put a group into a chosen row is to choose it too
+-- to put a group into a chosen set is to choose it too
 pub with-chosen : (test : ℕ → Bool) (m g : ℕ) → g < m → with_group (chosen test 0 m) g ≡ chosen (λ h. g == h || test h) 0 m
-with-chosen test m g less = same_rows _ _ (IsAscending-with _ g (IsAscending-chosen test 0 m)) (IsAscending-chosen _ 0 m)
+with-chosen test m g less = same_sets _ _ (IsAscending-with _ g (IsAscending-chosen test 0 m)) (IsAscending-chosen _ 0 m)
     (λ h. has-with (chosen test 0 m) g h ∙ ap (λ b. g == h || b) (has-chosen test m h) ∙ alike h ∙ sym (has-chosen (λ h. g == h || test h) m h))
   where
     alike : (h : ℕ) → (g == h || (nat_lt h m && test h)) ≡ (nat_lt h m && (g == h || test h))

@@ -1,5 +1,5 @@
 use Rattle.groups.specs.BitLaws.{none_of-zero}
-use Rattle.groups.proofs.row.Groups.is_empty.Goals as goal
+use Rattle.groups.proofs.group_set.Groups.is_empty.Goals as goal
 
 pub returns : goal.returns
 returns c = rw (← c.self.view_is) (none_of-zero c.self.inside.bits c.self.invariant)
