@@ -1,5 +1,6 @@
 //! What can be read of a group.
 ghost use Rattle.std.specs.Prelude.{◌≡◌, ◌↔◌, IsTrue};
+ghost use Rattle.std.specs.FinMap.{len};
 ghost use Rattle.skeen_core.specs.Group.{MayCome, CountsKept};
 
 use super::Group;
@@ -13,6 +14,13 @@ impl Group {
         ensures { result ≡ self.now.state.clock }
     {
         self.clock
+    }
+
+    /// How many requests have started and are not yet delivered.
+    pub fn started(&self) -> usize
+        ensures { result ≡ len self.now.state.started }
+    {
+        self.started.len()
     }
 
     /// How many requests the group keeps: those that have started, and those that haven't but of which a proposal came.
