@@ -1,0 +1,5 @@
+//! The shards' maps as one map.
+#![tactic(auto)]
+
+/// Nothing.
+pub fn joined_laws() {}
