@@ -1,3 +1,4 @@
 pub mod Joins
 pub mod Spans
 pub mod Steps
+pub mod Unions
