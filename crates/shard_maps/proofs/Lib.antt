@@ -2,3 +2,4 @@ pub mod Joins
 pub mod Spans
 pub mod Steps
 pub mod Unions
+pub mod Layers
