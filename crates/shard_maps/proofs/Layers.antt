@@ -1,6 +1,5 @@
 -- A layer's commands, each run over its own shards, are run one after another on the joined map.
-use Rattle.std.proofs.Common.{◌≡◌, ℕ, zero, suc, List, [], ◌∷◌, map, Bool, true, false, cond, Option, Some, None, inl, inr, refl, sym, ap, ◌∙◌, subst, eqb}
-use Rattle.std.proofs.lemmas.Bool.{or_left, or_right, eq-eqb}
+use Rattle.std.proofs.Common.{◌≡◌, ℕ, zero, suc, List, [], ◌∷◌, map, Bool, true, false, cond, Option, Some, None, inl, inr, refl, sym, ap, ◌∙◌, subst}
 use Rattle.std.specs.FinMap.{get, empty}
 use Rattle.std.specs.List.{AllZip}
 use Rattle.command_bodies.proofs.Turns.{pair}
@@ -15,6 +14,7 @@ use Rattle.placement.specs.Layout.{Layout, IsTable, place}
 use Rattle.resp.specs.Content.{Content}
 use Rattle.skeen_core.specs.Order.{In}
 use Rattle.shard_maps.proofs.Joins.{get-joined}
+use Rattle.shard_maps.proofs.Rows.{picked-alike}
 use Rattle.shard_maps.proofs.Steps.{at_member, span_is_joined}
 use Rattle.shard_maps.specs.Joined.{joined, map_of_shard, HasKeysOf, HasOwnKeys, Span, span_at, SpanRan}
 use Rattle.shard_maps.specs.Layer.{AreApart, ShareNoGroup, LayerRan, AnsweredInTurn, executed_of, replies_of}
@@ -39,16 +39,6 @@ map_of_shard-mixed (m ∷ ms) [] test zero = refl
 map_of_shard-mixed (m ∷ ms) [] test (suc g) = map_of_shard-mixed ms [] (λ h. test (suc h)) g
 map_of_shard-mixed (m ∷ ms) (n ∷ ns) test zero = refl
 map_of_shard-mixed (m ∷ ms) (n ∷ ns) test (suc g) = map_of_shard-mixed ms ns (λ h. test (suc h)) g
-
--- shards that are the same each are the same span
-pub span_at-alike : (ms ns : List Map) (gs : List ℕ) → ((g : ℕ) → has gs g ≡ true → map_of_shard ms g ≡ map_of_shard ns g) → span_at ms gs ≡ span_at ns gs
-span_at-alike ms ns [] alike = refl
-span_at-alike ms ns (g ∷ gs) alike =
-    ap (λ m. (g, m) ∷ span_at ms gs) (alike g (or_left _ (has gs g) (here g)))
-    ∙ ap (λ l. (g, map_of_shard ns g) ∷ l) (span_at-alike ms ns gs (λ h there. alike h (or_right _ (has gs h) there)))
-  where
-    here : (g : ℕ) → eqb g g ≡ true
-    here g = eq-eqb g g refl
 
 -- shards that are all the same are the same together
 pub joined-alike : (table : Layout) (ms ns : List Map) → HasOwnKeys table ms → HasOwnKeys table ns → ((g : ℕ) → map_of_shard ns g ≡ map_of_shard ms g) → joined ns ≡ joined ms
@@ -106,7 +96,7 @@ layer_in_turn table old new (c ∷ cs) (Some reply ∷ os) is_table own apart ra
     mid_away g away = map_of_shard-mixed old new (has gs) g ∙ ap (λ b. cond b (map_of_shard new g) (map_of_shard old g)) away
 
     mid-new : span_at mid gs ≡ span_at new gs
-    mid-new = span_at-alike mid new gs mid_there
+    mid-new = picked-alike empty mid new gs mid_there
 
     apart_other : (d : Command) → In d cs → (g : ℕ) → has (groups_of table d) g ≡ true → has gs g ≡ false
     apart_other d i g there = elim (has gs g) as (λ b. has gs g ≡ b → b ≡ false) [
@@ -115,7 +105,7 @@ layer_in_turn table old new (c ∷ cs) (Some reply ∷ os) is_table own apart ra
     ] refl
 
     mid-old : (d : Command) → In d cs → span_at mid (groups_of table d) ≡ span_at old (groups_of table d)
-    mid-old d i = span_at-alike mid old (groups_of table d) (λ g there. mid_away g (apart_other d i g there))
+    mid-old d i = picked-alike empty mid old (groups_of table d) (λ g there. mid_away g (apart_other d i g there))
 
     others : (shard : ℕ) → ((d : Command) → In d cs → has (groups_of table d) shard ≡ false) → map_of_shard new shard ≡ map_of_shard mid shard
     others shard away = elim (has gs shard) as (λ b. has gs shard ≡ b → map_of_shard new shard ≡ map_of_shard mid shard) [

@@ -3,4 +3,7 @@ pub mod Spans
 pub mod Steps
 pub mod Unions
 pub mod Lengths
+pub mod Rows
 pub mod Layers
+pub mod Runs
+pub mod PutBack

@@ -1,5 +1,5 @@
 -- A layer: commands of which no two address one group. Each is run over the shards of its groups, in whatever order and by whomever.
-use Rattle.std.specs.Prelude.{◌≡◌, ℕ, true, false, List, [], ◌∷◌, Option, Some, None}
+use Rattle.std.specs.Prelude.{◌≡◌, ℕ, true, false, List, [], ◌∷◌, Option, Some, None, Result, Ok, Err}
 use Rattle.std.specs.List.{AllZip}
 use Rattle.command_bodies.specs.Command.{effect_of}
 use Rattle.command_bodies.specs.InTurn.{solo_from}
@@ -8,7 +8,8 @@ use Rattle.groups.specs.GroupSet.{has}
 use Rattle.keyspace.specs.Map.{Map}
 use Rattle.placement.specs.Groups.{groups_of}
 use Rattle.placement.specs.Layout.{Layout, IsTable}
-use Rattle.resp.specs.Content.{Content}
+use Rattle.resp.specs.Content.{Content, content}
+use Rattle.resp.specs.declared.reply.Reply.{Reply}
 use Rattle.skeen_core.specs.Order.{In}
 use Rattle.shard_maps.specs.Joined.{joined, map_of_shard, HasOwnKeys, span_at, SpanRan}
 
@@ -47,3 +48,8 @@ abbrev pub replies_of : List (Option Content) → List Content
 replies_of [] = []
 replies_of (None ∷ os) = replies_of os
 replies_of (Some reply ∷ os) = reply ∷ replies_of os
+
+-- what is told of a command that a body has run: its reply, or that it starved
+abbrev pub outcome_of : {E : Type 0} → Result Reply E → Option Content
+outcome_of (Ok reply) = Some (content reply)
+outcome_of (Err fault) = None
