@@ -56,6 +56,30 @@ each_moved table old mid new (c ∷ cs) (o ∷ os) alike each =
     (subst (λ s. SpanRan table c s o (span_at new (groups_of table c))) (sym (alike c (inl refl))) each.0,
      each_moved table old mid new cs os (λ d i. alike d (inr i)) each.1)
 
+-- ---- a layer of things that have a command each
+
+in_map : {X : Type 0} (command : X → Command) (xs : List X) (d : Command) → In d (map command xs) → (x : X) × In x xs × (d ≡ command x)
+in_map command [] d i = absurd i
+in_map command (x ∷ xs) d (inl e) = (x, inl refl, e)
+in_map command (x ∷ xs) d (inr i) = let rest = in_map command xs d i in (rest.0, inr rest.1, rest.2)
+
+-- no group is in the sets of two of them
+abbrev pub PairsApart : {X : Type 0} → (X → List ℕ) → List X → Type 0
+PairsApart groups [] = Unit {0}
+PairsApart {X} groups (x ∷ xs) = ((y : X) → In y xs → AreApart (groups x) (groups y)) × PairsApart groups xs
+
+-- where each has the groups of its command, their commands share no group
+pub ShareNoGroup-map : {X : Type 0} (table : Layout) (groups : X → List ℕ) (command : X → Command) (xs : List X)
+    → ((x : X) → In x xs → groups x ≡ groups_of table (command x)) → PairsApart groups xs → ShareNoGroup table (map command xs)
+ShareNoGroup-map table groups command [] same apart = tt
+ShareNoGroup-map table groups command (x ∷ xs) same apart =
+    ((λ d i g there. let y = in_map command xs d i in
+        ap (λ c. has (groups_of table c) g) y.2 ∙ ap (λ gs. has gs g) (sym (same y.0 (inr y.1)))
+        ∙ apart.0 y.0 y.1 g (ap (λ gs. has gs g) (same x (inl refl)) ∙ there)),
+     ShareNoGroup-map table groups command xs (λ y i. same y (inr i)) apart.1)
+
+-- ---- one command after another
+
 -- a shard that one of the first addresses, and none of the others
 others_after : (P : Command → Type 0) (c : Command) (cs : List Command) → P c → ((d : Command) → In d cs → P d) → (d : Command) → In d (c ∷ cs) → P d
 others_after P c cs here later d (inl e) = subst P (sym e) here

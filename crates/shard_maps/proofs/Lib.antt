@@ -7,3 +7,4 @@ pub mod Rows
 pub mod Layers
 pub mod Runs
 pub mod PutBack
+pub mod Parts
