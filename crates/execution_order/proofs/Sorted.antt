@@ -10,32 +10,10 @@ use Rattle.placement.specs.Layout.{Layout, IsTable}
 use Rattle.resp.specs.Content.{Content}
 use Rattle.skeen_core.specs.Order.{In}
 use Rattle.skeen_core.specs.Stamp.{stamp_lt}
+use Rattle.execution_order.proofs.Sorting.{In-sort, entries-rows_by_stamp}
 use Rattle.execution_order.proofs.Untouched.{untouched_commute, Touch-swap}
 use Rattle.execution_order.specs.Entries.{Entry, Row, commands_of, entries_of, replies_of, rows_from, insert_by, sort_by, by_stamp, rows_by_stamp, Touch, InOrder, IsAddressed, AreAddressed}
 use Rattle.execution_order.specs.Laws.{SameInStampOrder, RepliesInStampOrder, RowsAreSolo}
-
--- an element of a list with the same first element
-in_rest : {X : Type 0} (x z : X) (xs ys : List X) → (In z xs → In z ys) → In z (x ∷ xs) → In z (x ∷ ys)
-in_rest x z xs ys within (inl e) = inl e
-in_rest x z xs ys within (inr i) = inr (within i)
-
-in_swapped : {X : Type 0} (x y z : X) (ys : List X) → In z (y ∷ x ∷ ys) → In z (x ∷ y ∷ ys)
-in_swapped x y z ys (inl e) = inr (inl e)
-in_swapped x y z ys (inr (inl e)) = inl e
-in_swapped x y z ys (inr (inr i)) = inr (inr i)
-
--- what stands in a sorted list stood in the list
-pub in_insert : {X : Type 0} (below : X → X → Bool) (x : X) (ys : List X) (z : X) → In z (insert_by below x ys) → In z (x ∷ ys)
-in_insert below x [] z i = i
-in_insert below x (y ∷ ys) z i =
-    elim (below y x) as (λ b. In z (cond b (y ∷ insert_by below x ys) (x ∷ y ∷ ys)) → In z (x ∷ y ∷ ys)) [
-      | true ↦ λ j. in_swapped x y z ys (in_rest y z (insert_by below x ys) (x ∷ ys) (in_insert below x ys z) j)
-      | false ↦ λ j. j
-    ] i
-
-pub in_sort : {X : Type 0} (below : X → X → Bool) (xs : List X) (z : X) → In z (sort_by below xs) → In z xs
-in_sort below [] z i = i
-in_sort below (x ∷ xs) z i = in_rest x z (sort_by below xs) xs (in_sort below xs z) (in_insert below x (sort_by below xs) z i)
 
 abbrev earlier : Entry → Entry → Bool
 earlier e f = stamp_lt e.stamp f.stamp
@@ -102,13 +80,13 @@ module _ (table : Layout) (is_table : IsTable table) where
   pub left-by_stamp : (m : Map) (es : List Entry) → AreAddressed table es → InOrder es → left_by m (by_stamp es) ≡ left_by m es
   left-by_stamp m [] at order = refl
   left-by_stamp m (e ∷ es) at order =
-      left-insert m e (by_stamp es) (at e (inl refl)) (λ f i. at f (inr (in_sort earlier es f i))) (λ f i. order.0 f (in_sort earlier es f i))
+      left-insert m e (by_stamp es) (at e (inl refl)) (λ f i. at f (inr (In-sort earlier es f i))) (λ f i. order.0 f (In-sort earlier es f i))
       ∙ left-by_stamp (after e m) es (λ f i. at f (inr i)) order.1
 
   pub rows-by_stamp : (m : Map) (es : List Entry) → AreAddressed table es → InOrder es → rows_from m (by_stamp es) ≡ rows_by_stamp (rows_from m es)
   rows-by_stamp m [] at order = refl
   rows-by_stamp m (e ∷ es) at order =
-      rows-insert m e (by_stamp es) (at e (inl refl)) (λ f i. at f (inr (in_sort earlier es f i))) (λ f i. order.0 f (in_sort earlier es f i))
+      rows-insert m e (by_stamp es) (at e (inl refl)) (λ f i. at f (inr (In-sort earlier es f i))) (λ f i. order.0 f (In-sort earlier es f i))
       ∙ ap (insert_by row_earlier (row e m)) (rows-by_stamp (after e m) es (λ f i. at f (inr i)) order.1)
 
 pub same_in_stamp_order : SameInStampOrder
@@ -146,7 +124,7 @@ replies_in_stamp_order table old new rows is_table at order solo =
     let es = entries_of rows in
     let same_rows : rows ≡ rows_from old es = rows-from_replies old rows (ap (λ v. v.1) solo) in
     let sorted : rows_by_stamp rows ≡ rows_from old (by_stamp es) = ap rows_by_stamp same_rows ∙ sym (rows-by_stamp table is_table old es at order) in
-    let sorted_entries : entries_of (rows_by_stamp rows) ≡ by_stamp es = ap entries_of sorted ∙ entries-rows_from old (by_stamp es) in
+    let sorted_entries = entries-rows_by_stamp rows in
     pair _ _ _ _
     (ap (λ v. v.0) solo ∙ sym (left-by_stamp table is_table old es at order) ∙ ap (left_by old) (sym sorted_entries))
     (ap replies_of sorted ∙ replies-rows_from old (by_stamp es) ∙ ap (λ fs. (solo_from old (commands_of fs)).1) (sym sorted_entries))

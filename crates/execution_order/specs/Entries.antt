@@ -56,6 +56,11 @@ by_stamp = sort_by (λ e f. stamp_lt e.stamp f.stamp)
 abbrev pub rows_by_stamp : List Row → List Row
 rows_by_stamp = sort_by (λ r s. stamp_lt r.entry.stamp s.entry.stamp)
 
+-- no later one has a smaller stamp
+abbrev pub AscendsByStamp : List Entry → Type 0
+AscendsByStamp [] = Unit {0}
+AscendsByStamp (e ∷ es) = ((f : Entry) → In f es → stamp_lt f.stamp e.stamp ≡ false) × AscendsByStamp es
+
 -- ---- the order of execution
 
 -- two requests touch where a group is addressed by both

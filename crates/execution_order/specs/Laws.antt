@@ -1,11 +1,12 @@
 -- The order of execution comes to the same as the order of stamps.
 use Rattle.std.specs.Prelude.{◌≡◌, ℕ, List, map}
+use Rattle.std.specs.List.Sorted.{IsPermutation}
 use Rattle.command_bodies.specs.Command.{effect_of}
 use Rattle.command_bodies.specs.InTurn.{solo_from}
 use Rattle.keyspace.specs.Map.{Map}
 use Rattle.placement.specs.Layout.{Layout, IsTable}
 use Rattle.resp.specs.Content.{Content}
-use Rattle.execution_order.specs.Entries.{Entry, Row, commands_of, entries_of, replies_of, rows_from, by_stamp, rows_by_stamp, Touch, InOrder, IsAddressed, AreAddressed}
+use Rattle.execution_order.specs.Entries.{Entry, Row, commands_of, entries_of, replies_of, rows_from, by_stamp, rows_by_stamp, Touch, AscendsByStamp, InOrder, IsAddressed, AreAddressed}
 
 -- requests that don't touch can change places: the second one answers the same whether the first has run before it or not, and both
 -- leave the same map in either order
@@ -35,3 +36,9 @@ RepliesInStampOrder =
 abbrev pub RowsAreSolo : Type 0
 RowsAreSolo =
     (m : Map) (es : List Entry) → (entries_of (rows_from m es) ≡ es) × (replies_of (rows_from m es) ≡ (solo_from m (commands_of es)).1)
+
+-- the sorted list has the same requests, and they ascend by their stamps; rows are sorted as their requests are
+abbrev pub SortingAscends : Type 0
+SortingAscends =
+    (rows : List Row) → IsPermutation rows (rows_by_stamp rows) × (entries_of (rows_by_stamp rows) ≡ by_stamp (entries_of rows))
+    × AscendsByStamp (by_stamp (entries_of rows))

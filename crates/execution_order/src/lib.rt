@@ -5,17 +5,19 @@
 //! thread that runs all of them in stamp order. What the system promises stands on this law.
 #![tactic(auto)]
 
-ghost use Rattle.execution_order.specs.Laws.{UntouchedCommute, SameInStampOrder, RepliesInStampOrder, RowsAreSolo};
+ghost use Rattle.execution_order.specs.Laws.{UntouchedCommute, SameInStampOrder, RepliesInStampOrder, RowsAreSolo, SortingAscends};
 
 /// What holds of requests of which touching ones were executed in stamp order. It does nothing: its contract states the laws.
 ///
 /// - Requests that share no group can change places.
 /// - To run them in stamp order leaves the same map, and gives each the same reply, as to run them in the order of execution.
 /// - So rows with the replies of the order of execution have, once sorted, the replies of one thread in stamp order.
-/// - What rows are made of requests is what one thread does with their commands.
+/// - The rows of requests are what one thread does with their commands.
+/// - What is sorted has the same rows, ascending by stamp.
 pub fn laws_of_execution_order()
     ensures untouched_commute { UntouchedCommute }
     ensures same_in_stamp_order { SameInStampOrder }
     ensures replies_in_stamp_order { RepliesInStampOrder }
     ensures rows_are_solo { RowsAreSolo }
+    ensures sorting_ascends { SortingAscends }
 {}

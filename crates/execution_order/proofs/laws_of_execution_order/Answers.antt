@@ -1,4 +1,5 @@
 use Rattle.execution_order.proofs.Sorted.{same_in_stamp_order, replies_in_stamp_order, rows_are_solo}
+use Rattle.execution_order.proofs.Sorting.{sorting_ascends}
 use Rattle.execution_order.proofs.Untouched.{untouched_commute}
 use Rattle.execution_order.proofs.laws_of_execution_order.Goals as goal
 
@@ -13,3 +14,6 @@ returns-clause-replies_in_stamp_order c = replies_in_stamp_order
 
 pub returns-clause-rows_are_solo : goal.returns-clause-rows_are_solo
 returns-clause-rows_are_solo c = rows_are_solo
+
+pub returns-clause-sorting_ascends : goal.returns-clause-sorting_ascends
+returns-clause-sorting_ascends c = sorting_ascends
