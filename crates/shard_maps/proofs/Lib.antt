@@ -6,5 +6,5 @@ pub mod Lengths
 pub mod Rows
 pub mod Layers
 pub mod Runs
-pub mod PutBack
 pub mod Parts
+pub mod PutBack

@@ -1,5 +1,6 @@
 -- A layer: commands of which no two address one group. Each is run over the shards of its groups, in whatever order and by whomever.
-use Rattle.std.specs.Prelude.{◌≡◌, ℕ, true, false, List, [], ◌∷◌, Option, Some, None, Result, Ok, Err}
+use Rattle.std.specs.Prelude.{◌≡◌, ℕ, true, false, List, [], ◌∷◌, map, Option, Some, None, Result, Ok, Err}
+use Rattle.std.specs.FinMap.{empty}
 use Rattle.std.specs.List.{AllZip}
 use Rattle.command_bodies.specs.Command.{effect_of}
 use Rattle.command_bodies.specs.InTurn.{solo_from}
@@ -11,7 +12,8 @@ use Rattle.placement.specs.Layout.{Layout, IsTable}
 use Rattle.resp.specs.Content.{Content, content}
 use Rattle.resp.specs.declared.reply.Reply.{Reply}
 use Rattle.skeen_core.specs.Order.{In}
-use Rattle.shard_maps.specs.Joined.{joined, map_of_shard, HasOwnKeys, span_at, SpanRan}
+use Rattle.shard_maps.specs.Joined.{map_of_shard, Span, numbers, span_at, SpanRan}
+use Rattle.shard_maps.specs.Rows.{put_spans, emptied_each}
 
 -- no group is in both sets
 abbrev pub AreApart : List ℕ → List ℕ → Type 0
@@ -27,6 +29,39 @@ ShareNoGroup table (c ∷ cs) = ((d : Command) → In d cs → AreApart (groups_
 pub record LayerRan (table : Layout) (old : List Map) (layer : List Command) (outcomes : List (Option Content)) (new : List Map) : Type 0 where
   pub each : AllZip (λ c o. SpanRan table c (span_at old (groups_of table c)) o (span_at new (groups_of table c))) layer outcomes
   pub others : (shard : ℕ) → ((c : Command) → In c layer → has (groups_of table c) shard ≡ false) → map_of_shard new shard ≡ map_of_shard old shard
+
+-- ---- a layer run in parts
+
+-- a command with the shards that were taken out for it
+pub record Work : Type 0 where
+  pub command : Command
+  pub span : Span
+
+-- what became of it, and of these shards
+pub record Ran : Type 0 where
+  pub outcome : Option Content
+  pub span : Span
+
+-- the command was run over its shards, or starved; they are the same shards
+abbrev pub IsRunOf : Layout → Work → Ran → Type 0
+IsRunOf table work ran = (numbers ran.span ≡ numbers work.span) × SpanRan table work.command work.span ran.outcome ran.span
+
+abbrev pub outcomes_of : List Ran → List (Option Content)
+outcomes_of rans = map (λ r. r.outcome) rans
+
+-- each command of a layer with the shards of its groups
+abbrev pub works_of : Layout → List Map → List Command → List Work
+works_of table maps layer = map (λ c. record { command = c; span = span_at maps (groups_of table c) }) layer
+
+-- what is left of the shards when those of each command were taken out, empty ones in their places
+abbrev pub left_of : Layout → List Map → List Command → List Map
+left_of table maps layer = emptied_each empty maps (map (groups_of table) layer)
+
+-- the shards with those that were run over in their places
+abbrev pub with_rans : List Map → List Ran → List Map
+with_rans maps rans = put_spans maps (map (λ r. r.span) rans)
+
+-- ---- one map
 
 -- Commands on one map, one after another, each on the map that those before it left. One that starved has no reply, and leaves the
 -- map as it met it
