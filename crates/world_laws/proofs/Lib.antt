@@ -1,0 +1,5 @@
+pub mod Lists
+pub mod Groups
+pub mod Packets
+pub mod Receipts
+pub mod Requests
