@@ -154,9 +154,9 @@ pub record TakenGood (asked : Asked) (proposed : Proposals) (gone : ℕ → List
 abbrev pub Named : List Ended → RequestId → Type 0
 Named es i = (e : Ended) × In e es × (e.id ≡ i)
 
--- its connection waits for it, or was closed
-abbrev pub Pending : (ℕ → Standing) → (ℕ → Option RequestId) → RequestId → Type 0
-Pending standing last i = (standing i.conn.0 ≡ Closed) ⊎ ((standing i.conn.0 ≡ Waiting) × (last i.conn.0 ≡ Some i))
+-- its connection waits for it, and has submitted no other since; or it was closed
+abbrev pub Pending : (ℕ → Standing) → (ℕ → ℕ) → RequestId → Type 0
+Pending standing seq i = (standing i.conn.0 ≡ Closed) ⊎ ((standing i.conn.0 ≡ Waiting) × (i.seq ≡ seq i.conn.0))
 
 -- an outcome that waits is that of the connection's last request; with a stamp it is what came of a request that was run
 pub record OutcomeGood (seq : ℕ → ℕ) (ended : List Ended) (c : ℕ) (o : Outcome) : Type 0 where
@@ -169,7 +169,7 @@ pub record ConnectionsGood (opened : ℕ) (standing : ℕ → Standing) (seq : �
   -- what was settled, and what was run since
   pub settled : List Ended
   pub split : ended ≡ settled ++ run_in layer
-  pub pending : (i : RequestId) (q : Request) → asked i ≡ Some q → Named settled i ⊎ Pending standing last i
+  pub pending : (i : RequestId) (q : Request) → asked i ≡ Some q → Named settled i ⊎ Pending standing seq i
   pub outcomes : (c : ℕ) (o : Outcome) → standing c ≡ Answered o → OutcomeGood seq ended c o
 
 -- ---- what was run
