@@ -6,3 +6,4 @@ pub mod Requests
 pub mod Connections
 pub mod Layers
 pub mod Worlds
+pub mod Bounds
