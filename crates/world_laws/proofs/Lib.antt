@@ -7,3 +7,4 @@ pub mod Connections
 pub mod Layers
 pub mod Worlds
 pub mod Bounds
+pub mod OrderLaws
