@@ -8,3 +8,4 @@ pub mod Layers
 pub mod Worlds
 pub mod Bounds
 pub mod OrderLaws
+pub mod ConditionLaws
