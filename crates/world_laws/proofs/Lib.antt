@@ -9,3 +9,4 @@ pub mod Worlds
 pub mod Bounds
 pub mod OrderLaws
 pub mod ConditionLaws
+pub mod HeadlineLaws
