@@ -1,13 +1,11 @@
 -- More requests executed behind others: their rows stand behind the others' rows, and the whole is in order where the new ones touch
 -- none of the others with a greater stamp.
-use Rattle.std.proofs.Common.{◌≡◌, ℕ, List, [], ◌∷◌, ◌++◌, map, Bool, true, false, ◌⊎◌, inl, inr, refl, sym, ap, ◌∙◌, subst}
+use Rattle.std.proofs.Common.{◌≡◌, List, [], ◌∷◌, ◌++◌, false, ◌⊎◌, inl, inr, refl, sym, ap, ◌∙◌}
 use Rattle.command_bodies.proofs.Turns.{in_turn-append}
 use Rattle.command_bodies.specs.Command.{effect_of}
 use Rattle.command_bodies.specs.InTurn.{solo_from}
-use Rattle.command_table.specs.declared.command.Command.{Command}
 use Rattle.keyspace.specs.Map.{Map}
 use Rattle.placement.specs.Layout.{Layout}
-use Rattle.resp.specs.Content.{Content}
 use Rattle.skeen_core.proofs.Lists.{In-append}
 use Rattle.skeen_core.specs.Order.{In}
 use Rattle.skeen_core.specs.Stamp.{stamp_lt}
@@ -51,9 +49,10 @@ solo-push old mid new rows r before here = solo-append old mid new rows (r ∷ [
 pub InOrder-append : (es fs : List Entry) → InOrder es → InOrder fs
     → ((e f : Entry) → In e es → In f fs → Touch e f → stamp_lt f.stamp e.stamp ≡ false) → InOrder (es ++ fs)
 InOrder-append [] fs before behind across = behind
-InOrder-append (e ∷ es) fs before behind across =
-    ((λ f i. either (In-append f es fs i) (before.0 f) (across e f (inl refl))),
-     InOrder-append es fs before.1 behind (λ d f i. across d f (inr i)))
+InOrder-append (e ∷ es) fs before behind across = (
+  (λ f i. either (In-append f es fs i) (before.0 f) (across e f (inl refl))),
+  InOrder-append es fs before.1 behind (λ d f i. across d f (inr i)),
+)
   where
     either : {A B C : Type 0} → A ⊎ B → (A → C) → (B → C) → C
     either (inl a) f g = f a

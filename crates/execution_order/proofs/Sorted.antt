@@ -1,10 +1,9 @@
 -- Sorting the requests by their stamps, the first one after the others: each moves right past requests that it doesn't touch.
-use Rattle.std.proofs.Common.{◌≡◌, ℕ, List, [], ◌∷◌, ◌++◌, map, Bool, true, false, cond, inl, inr, refl, sym, ap, ◌∙◌, subst}
+use Rattle.std.proofs.Common.{◌≡◌, List, [], ◌∷◌, Bool, true, false, cond, inl, inr, refl, sym, ap, ◌∙◌}
 use Rattle.std.proofs.lemmas.Bool.{both_ways}
 use Rattle.command_bodies.proofs.Turns.{pair}
 use Rattle.command_bodies.specs.Command.{effect_of}
-use Rattle.command_bodies.specs.InTurn.{in_turn, solo_from}
-use Rattle.command_table.specs.declared.command.Command.{Command}
+use Rattle.command_bodies.specs.InTurn.{solo_from}
 use Rattle.keyspace.specs.Map.{Map}
 use Rattle.placement.specs.Layout.{Layout, IsTable}
 use Rattle.resp.specs.Content.{Content}
@@ -12,7 +11,7 @@ use Rattle.skeen_core.specs.Order.{In}
 use Rattle.skeen_core.specs.Stamp.{stamp_lt}
 use Rattle.execution_order.proofs.Sorting.{In-sort, entries-rows_by_stamp}
 use Rattle.execution_order.proofs.Untouched.{untouched_commute, Touch-swap}
-use Rattle.execution_order.specs.Entries.{Entry, Row, commands_of, entries_of, replies_of, rows_from, insert_by, sort_by, by_stamp, rows_by_stamp, Touch, InOrder, IsAddressed, AreAddressed}
+use Rattle.execution_order.specs.Entries.{Entry, Row, commands_of, entries_of, replies_of, rows_from, insert_by, by_stamp, rows_by_stamp, Touch, InOrder, IsAddressed, AreAddressed}
 use Rattle.execution_order.specs.Laws.{SameInStampOrder, RepliesInStampOrder, RowsAreSolo}
 
 abbrev earlier : Entry → Entry → Bool
@@ -69,11 +68,11 @@ module _ (table : Layout) (is_table : IsTable table) where
   rows-insert m e [] at_e at_fs order = refl
   rows-insert m e (f ∷ fs) at_e at_fs order =
       elim (earlier f e) as (λ b. earlier f e ≡ b →
-          rows_from m (cond b (f ∷ insert_by earlier e fs) (e ∷ f ∷ fs))
-          ≡ cond b (row f (after e m) ∷ insert_by row_earlier (row e m) (rows_from (after f (after e m)) fs)) (row e m ∷ rows_from (after e m) (f ∷ fs))) [
+      rows_from m (cond b (f ∷ insert_by earlier e fs) (e ∷ f ∷ fs))
+      ≡ cond b (row f (after e m) ∷ insert_by row_earlier (row e m) (rows_from (after f (after e m)) fs)) (row e m ∷ rows_from (after e m) (f ∷ fs))) [
         | true ↦ λ is.
             moved m e f fs at_e (at_fs f (inl refl)) (λ t. both_ways _ (order f (inl refl) t) is)
-              (rows-insert (after f m) e fs at_e (λ g i. at_fs g (inr i)) (λ g i. order g (inr i)))
+            (rows-insert (after f m) e fs at_e (λ g i. at_fs g (inr i)) (λ g i. order g (inr i)))
         | false ↦ λ _. refl
       ] refl
 

@@ -1,11 +1,10 @@
 -- The order of execution comes to the same as the order of stamps.
-use Rattle.std.specs.Prelude.{◌≡◌, ℕ, List, map}
+use Rattle.std.specs.Prelude.{◌≡◌, List}
 use Rattle.std.specs.List.Sorted.{IsPermutation}
 use Rattle.command_bodies.specs.Command.{effect_of}
 use Rattle.command_bodies.specs.InTurn.{solo_from}
 use Rattle.keyspace.specs.Map.{Map}
 use Rattle.placement.specs.Layout.{Layout, IsTable}
-use Rattle.resp.specs.Content.{Content}
 use Rattle.execution_order.specs.Entries.{Entry, Row, commands_of, entries_of, replies_of, rows_from, by_stamp, rows_by_stamp, Touch, AscendsByStamp, InOrder, IsAddressed, AreAddressed}
 
 -- requests that don't touch can change places: the second one answers the same whether the first has run before it or not, and both

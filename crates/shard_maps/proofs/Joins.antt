@@ -1,17 +1,14 @@
 -- What a joined map has at a key: what its shard has there.
-use Rattle.std.proofs.Common.{◌≡◌, ℕ, zero, suc, ◌==◌, List, [], ◌∷◌, map, Bool, true, false, cond, Option, Some, None, is_some, slice_index_or, refl, sym, ap, ◌∙◌, subst, eqb-true, eq-eqb}
-use Rattle.std.proofs.lemmas.Bool.{false≢true, eqb-false}
+use Rattle.std.proofs.Common.{◌≡◌, ℕ, zero, suc, List, [], ◌∷◌, Bool, true, false, cond, Option, Some, None, is_some, refl, sym, ap, ◌∙◌}
 use Rattle.std.proofs.lemmas.Cmp.{nat_list_cmp_total}
 use Rattle.std.specs.Cmp.Lexicographic.{slice_cmp}
 use Rattle.std.specs.FinMap as finite
-use Rattle.std.specs.FinMap.{get, empty, entries, find, get-entries, get-empty}
-use Rattle.std.specs.Option.{option_or, IsSome}
+use Rattle.std.specs.FinMap.{get, entries, find, get-entries, get-empty}
+use Rattle.std.specs.Option.{option_or}
 use Rattle.std.specs.Ordering.{nat_cmp, eq_by_cmp}
-use Rattle.groups.specs.GroupSet.{has}
-use Rattle.keyspace.proofs.Gets.{same, get-retain_keys}
 use Rattle.keyspace.specs.Map.{Map, with_entries}
 use Rattle.placement.specs.Layout.{Layout, place}
-use Rattle.shard_maps.specs.Joined.{joined, map_of_shard, HasKeysOf, HasOwnKeys, Span, numbers, union, span_at, part_of, divided}
+use Rattle.shard_maps.specs.Joined.{joined, map_of_shard, HasKeysOf, HasOwnKeys}
 use Rattle.values.specs.declared.Value.{Value}
 
 or_cond : (b : Bool) (v : Value) (o d : Option Value) → cond b (Some v) (option_or o d) ≡ option_or (cond b (Some v) o) d

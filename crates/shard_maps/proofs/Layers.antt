@@ -16,7 +16,7 @@ use Rattle.skeen_core.specs.Order.{In}
 use Rattle.shard_maps.proofs.Joins.{get-joined}
 use Rattle.shard_maps.proofs.Rows.{picked-alike}
 use Rattle.shard_maps.proofs.Steps.{at_member, span_is_joined}
-use Rattle.shard_maps.specs.Joined.{joined, map_of_shard, HasKeysOf, HasOwnKeys, Span, span_at, SpanRan}
+use Rattle.shard_maps.specs.Joined.{joined, map_of_shard, HasKeysOf, HasOwnKeys, span_at, SpanRan}
 use Rattle.shard_maps.specs.Layer.{AreApart, ShareNoGroup, LayerRan, AnsweredInTurn, executed_of, replies_of}
 
 -- the shards that pass the test as in the second list, the others as in the first
@@ -52,9 +52,10 @@ each_moved : (table : Layout) (old mid new : List Map) (cs : List Command) (os :
 each_moved table old mid new [] [] alike each = each
 each_moved table old mid new [] (o ∷ os) alike each = absurd each
 each_moved table old mid new (c ∷ cs) [] alike each = absurd each
-each_moved table old mid new (c ∷ cs) (o ∷ os) alike each =
-    (subst (λ s. SpanRan table c s o (span_at new (groups_of table c))) (sym (alike c (inl refl))) each.0,
-     each_moved table old mid new cs os (λ d i. alike d (inr i)) each.1)
+each_moved table old mid new (c ∷ cs) (o ∷ os) alike each = (
+  subst (λ s. SpanRan table c s o (span_at new (groups_of table c))) (sym (alike c (inl refl))) each.0,
+  each_moved table old mid new cs os (λ d i. alike d (inr i)) each.1,
+)
 
 -- ---- a layer of things that have a command each
 
@@ -72,11 +73,12 @@ PairsApart {X} groups (x ∷ xs) = ((y : X) → In y xs → AreApart (groups x) 
 pub ShareNoGroup-map : {X : Type 0} (table : Layout) (groups : X → List ℕ) (command : X → Command) (xs : List X)
     → ((x : X) → In x xs → groups x ≡ groups_of table (command x)) → PairsApart groups xs → ShareNoGroup table (map command xs)
 ShareNoGroup-map table groups command [] same apart = tt
-ShareNoGroup-map table groups command (x ∷ xs) same apart =
-    ((λ d i g there. let y = in_map command xs d i in
-        ap (λ c. has (groups_of table c) g) y.2 ∙ ap (λ gs. has gs g) (sym (same y.0 (inr y.1)))
-        ∙ apart.0 y.0 y.1 g (ap (λ gs. has gs g) (same x (inl refl)) ∙ there)),
-     ShareNoGroup-map table groups command xs (λ y i. same y (inr i)) apart.1)
+ShareNoGroup-map table groups command (x ∷ xs) same apart = (
+  (λ d i g there. let y = in_map command xs d i in
+      ap (λ c. has (groups_of table c) g) y.2 ∙ ap (λ gs. has gs g) (sym (same y.0 (inr y.1)))
+      ∙ apart.0 y.0 y.1 g (ap (λ gs. has gs g) (same x (inl refl)) ∙ there)),
+  ShareNoGroup-map table groups command xs (λ y i. same y (inr i)) apart.1,
+)
 
 -- ---- one command after another
 

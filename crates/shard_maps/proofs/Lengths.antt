@@ -1,5 +1,5 @@
 -- How many keys a union has, and a union of shards that have none.
-use Rattle.std.proofs.Common.{◌≡◌, ℕ, suc, ◌+◌, ◌==◌, ◌&&◌, List, [], ◌∷◌, map, length, Bool, true, false, cond, Option, Some, None, is_some, T, arith, refl, sym, ap, ◌∙◌, subst, eq-eqb}
+use Rattle.std.proofs.Common.{◌≡◌, ℕ, ◌+◌, ◌&&◌, List, [], ◌∷◌, map, length, Bool, true, false, cond, Option, Some, None, is_some, T, arith, refl, sym, ap, ◌∙◌, subst}
 use Rattle.std.proofs.lemmas.Cmp.{nat_list_cmp_total}
 use Rattle.std.proofs.lemmas.Map.Text.{is_eq-slice_cmp}
 use Rattle.std.specs.Cmp.Lexicographic.{slice_cmp}
@@ -13,10 +13,10 @@ use Rattle.std.specs.Ordering.{nat_cmp, is_lt, is_eq, eq_by_cmp}
 use Rattle.groups.specs.GroupSet.{has, IsAscending}
 use Rattle.keyspace.proofs.Gets.{same, bytes_eq-refl}
 use Rattle.keyspace.specs.Map.{Map, with_entries}
-use Rattle.placement.specs.Layout.{Layout, place}
+use Rattle.placement.specs.Layout.{Layout}
 use Rattle.shard_maps.proofs.Joins.{get-with_entries, get-joined-cons}
 use Rattle.shard_maps.proofs.Unions.{get-union-none, not_again}
-use Rattle.shard_maps.specs.Joined.{joined, Span, numbers, union, SpanHasOwnKeys}
+use Rattle.shard_maps.specs.Joined.{Span, numbers, union, SpanHasOwnKeys}
 use Rattle.values.specs.declared.Value.{Value}
 
 less_isnt_equal : (r : Ordering) → T (is_lt r) → is_eq r ≡ false
@@ -43,9 +43,9 @@ len-with_entries m (e ∷ es) sorted new =
     let tied : eq_by_cmp (slice_cmp nat_cmp) e.0 e.0 ≡ true = is_eq-slice_cmp e.0 e.0 ∙ bytes_eq-refl e.0 in
     let here : get m e.0 ≡ None = new e.0 (ap (λ b. is_some (cond b (Some e.1) (find (slice_cmp nat_cmp) e.0 es))) tied) in
     let absent : get (with_entries m es) e.0 ≡ None =
-      get-with_entries m es e.0 ∙ ap (λ o. option_or o (get m e.0)) (find-below e.0 es parts.0) ∙ here in
+    get-with_entries m es e.0 ∙ ap (λ o. option_or o (get m e.0)) (find-below e.0 es parts.0) ∙ here in
     let one_more : len (with_entries m (e ∷ es)) ≡ len (with_entries m es) + 1 =
-      len-insert nat_list_cmp_total (with_entries m es) e.0 e.1 ∙ ap (λ o. cond (is_some o) (len (with_entries m es)) (len (with_entries m es) + 1)) absent in
+    len-insert nat_list_cmp_total (with_entries m es) e.0 e.1 ∙ ap (λ o. cond (is_some o) (len (with_entries m es)) (len (with_entries m es) + 1)) absent in
     let rest = len-with_entries m es parts.1 (λ q there. new q (later (eq_by_cmp (slice_cmp nat_cmp) q e.0) (Some e.1) (find (slice_cmp nat_cmp) q es) refl there)) in
     omega (arith, one_more, rest)
   where

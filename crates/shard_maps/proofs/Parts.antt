@@ -1,9 +1,9 @@
 -- What is run in parts, each part a list, and read again in the order that it had: in whatever way it was dealt to the parts, each
 -- has the result that belongs to it.
-use Rattle.std.proofs.Common.{◌≡◌, ℕ, zero, suc, ◌+◌, ◌<◌, List, [], ◌∷◌, map, length, Option, Some, None, slice_get, slice_index_or, arith, refl, sym, ap, ◌∙◌, subst}
+use Rattle.std.proofs.Common.{◌≡◌, ℕ, zero, suc, List, [], ◌∷◌, length, Option, Some, slice_get, slice_index_or, arith, refl, ◌∙◌, subst}
 use Rattle.std.proofs.lemmas.Option.{slice_get_within}
 use Rattle.std.specs.List.{AllZip}
-use Rattle.shard_maps.specs.Rows.{in_part, IsGathered}
+use Rattle.shard_maps.specs.Rows.{IsGathered}
 
 module _ {X Y : Type 0} (R : X → Y → Type 0) where
   at-nil : (P : Type 0) (x : X) (i : ℕ) → ◌≡◌ {A = Option X} (slice_get [] i) (Some x) → P

@@ -1,25 +1,24 @@
 -- The shards of a layer's commands, taken out, run over and put back: the layer has run, as `LayerRan` says.
-use Rattle.std.proofs.Common.{◌≡◌, ℕ, ◌<◌, ◌==◌, ◌||◌, ◌&&◌, nat_lt, List, [], ◌∷◌, map, length, Bool, true, false, Option, inl, inr, refl, sym, ap, ◌∙◌, subst, ltb-true}
-use Rattle.std.proofs.lemmas.Bool.{and_parts, both_ways}
+use Rattle.std.proofs.Common.{◌≡◌, ℕ, ◌<◌, ◌||◌, nat_lt, List, [], ◌∷◌, map, length, true, false, inl, inr, refl, sym, ap, ◌∙◌, subst, ltb-true}
+use Rattle.std.proofs.lemmas.Bool.{and_parts}
 use Rattle.std.specs.FinMap.{empty}
 use Rattle.std.specs.List.{AllZip, AllByRecursion}
 use Rattle.command_table.specs.Command.{keys_of, is_whole}
 use Rattle.command_table.specs.declared.command.Command.{Command}
-use Rattle.groups.specs.GroupSet.{has, IsAscending, chosen}
+use Rattle.groups.specs.GroupSet.{has, IsAscending}
 use Rattle.groups.specs.GroupSetLaws.{has-chosen, IsAscending-chosen}
 use Rattle.keyspace.specs.Map.{Map}
 use Rattle.placement.specs.Groups.{groups_of, has_key_on}
 use Rattle.placement.specs.Layout.{Layout}
-use Rattle.resp.specs.Content.{Content}
 use Rattle.skeen_core.specs.Order.{In}
 use Rattle.shard_maps.proofs.Layers.{layer_in_turn}
 use Rattle.shard_maps.proofs.Parts.{AllZip-gathered}
-use Rattle.shard_maps.proofs.Rows.{length-put_span, at-put_span, at-put_spans, picked-alike, picked-put_span, at-emptied, length-emptied, taken_out-picked, at-emptied_each, length-emptied_each}
+use Rattle.shard_maps.proofs.Rows.{length-put_span, at-put_spans, picked-alike, picked-put_span, at-emptied, taken_out-picked, at-emptied_each, length-emptied_each}
 use Rattle.shard_maps.proofs.Spans.{numbers-span_at}
 use Rattle.shard_maps.specs.Joined.{map_of_shard, Span, numbers, span_at, SpanRan}
-use Rattle.shard_maps.specs.Layer.{ShareNoGroup, LayerRan, Work, Ran, IsRunOf, outcomes_of, works_of, left_of, with_rans, AnsweredInTurn}
+use Rattle.shard_maps.specs.Layer.{ShareNoGroup, LayerRan, Ran, IsRunOf, outcomes_of, works_of, left_of, with_rans}
 use Rattle.shard_maps.specs.Laws.{PartsAreInTurn}
-use Rattle.shard_maps.specs.Rows.{Numbered, put_span, put_spans, taken_out, emptied, taken_out_each, emptied_each}
+use Rattle.shard_maps.specs.Rows.{put_span, put_spans, emptied, taken_out_each, emptied_each}
 
 pub IsAscending-groups_of : (table : Layout) (command : Command) → IsAscending (groups_of table command)
 IsAscending-groups_of table command = IsAscending-chosen (λ s. is_whole command || has_key_on table s (keys_of command)) 0 table.shards
@@ -51,9 +50,10 @@ module _ (table : Layout) (old : List Map) where
   each_put left [] [] long apart ran = tt
   each_put left [] (r ∷ rs) long apart ran = absurd ran
   each_put left (c ∷ cs) [] long apart ran = absurd ran
-  each_put left (c ∷ cs) (r ∷ rs) long apart ran =
-      (subst (SpanRan table c (span_at old gs) r.outcome) (sym stands) ran.0.1,
-       each_put (put_span left r.span) cs rs (length-put_span left r.span ∙ long) apart.1 ran.1)
+  each_put left (c ∷ cs) (r ∷ rs) long apart ran = (
+    subst (SpanRan table c (span_at old gs) r.outcome) (sym stands) ran.0.1,
+    each_put (put_span left r.span) cs rs (length-put_span left r.span ∙ long) apart.1 ran.1,
+  )
     where
       gs : List ℕ
       gs = groups_of table c
@@ -62,12 +62,12 @@ module _ (table : Layout) (old : List Map) where
       here =
           ap (span_at (put_span left r.span)) (sym ran.0.0)
           ∙ picked-put_span empty left r.span (subst IsAscending (sym ran.0.0) (IsAscending-groups_of table c))
-            (λ g there. subst (λ n. g < n) (sym long) (groups_of-below table c g (ap (λ ns. has ns g) (sym ran.0.0) ∙ there)))
+          (λ g there. subst (λ n. g < n) (sym long) (groups_of-below table c g (ap (λ ns. has ns g) (sym ran.0.0) ∙ there)))
 
       stands : span_at (put_spans (put_span left r.span) (spans_of rs)) gs ≡ r.span
       stands =
           picked-alike empty (put_spans (put_span left r.span) (spans_of rs)) (put_span left r.span) gs
-            (λ g there. at-put_spans empty (put_span left r.span) (spans_of rs) g (away_from cs rs g ran.1 (λ d i. apart.0 d i g there)))
+          (λ g there. at-put_spans empty (put_span left r.span) (spans_of rs) g (away_from cs rs g ran.1 (λ d i. apart.0 d i g there)))
           ∙ here
 
   -- what was left of the shards is that of the shards that no command addresses; the spans are put back over it
@@ -75,9 +75,9 @@ module _ (table : Layout) (old : List Map) where
       → ((shard : ℕ) → ((c : Command) → In c cs → has (groups_of table c) shard ≡ false) → map_of_shard left shard ≡ map_of_shard old shard)
       → ShareNoGroup table cs → AllZip (RanOver table old) cs rs → LayerRan table old cs (outcomes_of rs) (with_rans left rs)
   layer_put_back left cs rs long others apart ran = record {
-      each = each_put left cs rs long apart ran;
-      others = λ shard away. at-put_spans empty left (spans_of rs) shard (away_from cs rs shard ran away) ∙ others shard away;
-    }
+    each = each_put left cs rs long apart ran;
+    others = λ shard away. at-put_spans empty left (spans_of rs) shard (away_from cs rs shard ran away) ∙ others shard away;
+  }
 
 -- ---- taken out
 

@@ -1,11 +1,10 @@
 -- Things taken out of a row and put back: what stands at each number then.
-use Rattle.std.proofs.Common.{◌≡◌, ℕ, zero, suc, ◌<◌, ◌==◌, ◌||◌, List, [], ◌∷◌, map, length, Bool, true, false, slice_set, slice_index_or, inl, inr, arith, refl, sym, ap, ◌∙◌, subst, eqb-true, eq-eqb}
-use Rattle.std.proofs.lemmas.Bool.{both_ways, or_cases, or_left, or_right, or_parts}
+use Rattle.std.proofs.Common.{◌≡◌, ℕ, zero, suc, ◌<◌, ◌==◌, List, [], ◌∷◌, length, true, false, slice_set, slice_index_or, arith, refl, sym, ap, ◌∙◌, subst, eq-eqb}
+use Rattle.std.proofs.lemmas.Bool.{both_ways, or_left, or_right, or_parts}
 use Rattle.std.specs.List.{AllByRecursion}
 use Rattle.groups.specs.GroupSet.{has, IsAscending}
 use Rattle.shard_maps.proofs.Unions.{not_again}
-use Rattle.shard_maps.specs.Layer.{AreApart}
-use Rattle.shard_maps.specs.Rows.{Numbered, numbers_of, picked, put_span, put_spans, taken_out, emptied, taken_out_each, emptied_each}
+use Rattle.shard_maps.specs.Rows.{Numbered, numbers_of, picked, put_span, put_spans, taken_out, emptied, emptied_each}
 
 length-set : {X : Type 0} (row : List X) (n : ℕ) (x : X) → length (slice_set row n x) ≡ length row
 length-set [] n x = refl
@@ -58,9 +57,9 @@ module _ {X : Type 0} (absent : X) where
   picked-put_span row [] up inside = refl
   picked-put_span row (s ∷ ss) up inside =
       ap (λ x. (s.0, x) ∷ picked absent (put_span (slice_set row s.0 s.1) ss) (numbers_of ss))
-        (at-put_span (slice_set row s.0 s.1) ss s.0 (not_again s.0 (numbers_of ss) up) ∙ at-set row s.0 s.1 (inside s.0 (or_left (s.0 == s.0) (has (numbers_of ss) s.0) (eq-eqb s.0 s.0 refl))))
+      (at-put_span (slice_set row s.0 s.1) ss s.0 (not_again s.0 (numbers_of ss) up) ∙ at-set row s.0 s.1 (inside s.0 (or_left (s.0 == s.0) (has (numbers_of ss) s.0) (eq-eqb s.0 s.0 refl))))
       ∙ ap (λ l. s ∷ l) (picked-put_span (slice_set row s.0 s.1) ss up.1
-        (λ g there. subst (λ n. g < n) (sym (length-set row s.0 s.1)) (inside g (or_right (s.0 == g) (has (numbers_of ss) g) there))))
+      (λ g there. subst (λ n. g < n) (sym (length-set row s.0 s.1)) (inside g (or_right (s.0 == g) (has (numbers_of ss) g) there))))
 
   -- ---- taken out one after another
 

@@ -1,5 +1,5 @@
 -- A command that was run over a span by its contract: the span is as `SpanRan` says.
-use Rattle.std.proofs.Common.{◌≡◌, ℕ, List, Option, Some, None, Result, Ok, Err, sym, ap, ◌∙◌, subst}
+use Rattle.std.proofs.Common.{◌≡◌, Some, None, Result, Ok, Err, sym, ap, ◌∙◌, subst}
 use Rattle.command_bodies.proofs.Turns.{pair}
 use Rattle.command_bodies.specs.Command.{effect_of}
 use Rattle.command_cases.specs.Case.{Does}

@@ -1,6 +1,6 @@
 -- The union of a span whose shards have only their own keys, each shard once: what it has at a key, one key changed in its shard, and
 -- that the parts that the shards have are the union divided among them.
-use Rattle.std.proofs.Common.{◌≡◌, ℕ, zero, suc, ◌<◌, ◌==◌, ◌||◌, List, [], ◌∷◌, map, Bool, true, false, cond, Option, Some, None, is_some, slice_get, slice_set, inl, inr, refl, sym, ap, ◌∙◌, subst, eqb-true, eq-eqb, ne_eqb, lt_irrefl}
+use Rattle.std.proofs.Common.{◌≡◌, ℕ, zero, suc, ◌==◌, List, [], ◌∷◌, map, Bool, true, false, cond, Option, Some, None, slice_get, slice_set, inl, inr, refl, sym, ap, ◌∙◌, subst, eqb-true, eq-eqb, ne_eqb, lt_irrefl}
 use Rattle.std.proofs.lemmas.Bool.{cases_eq, cases_Bool, or_parts, or_left, or_right, both_ways}
 use Rattle.std.specs.Cmp.Lexicographic.{slice_cmp}
 use Rattle.std.specs.FinMap.{get, get-empty}

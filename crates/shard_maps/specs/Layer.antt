@@ -3,12 +3,11 @@ use Rattle.std.specs.Prelude.{◌≡◌, ℕ, true, false, List, [], ◌∷◌, 
 use Rattle.std.specs.FinMap.{empty}
 use Rattle.std.specs.List.{AllZip}
 use Rattle.command_bodies.specs.Command.{effect_of}
-use Rattle.command_bodies.specs.InTurn.{solo_from}
 use Rattle.command_table.specs.declared.command.Command.{Command}
 use Rattle.groups.specs.GroupSet.{has}
 use Rattle.keyspace.specs.Map.{Map}
 use Rattle.placement.specs.Groups.{groups_of}
-use Rattle.placement.specs.Layout.{Layout, IsTable}
+use Rattle.placement.specs.Layout.{Layout}
 use Rattle.resp.specs.Content.{Content, content}
 use Rattle.resp.specs.declared.reply.Reply.{Reply}
 use Rattle.skeen_core.specs.Order.{In}

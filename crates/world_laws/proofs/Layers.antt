@@ -53,7 +53,7 @@ rising_layer [] up = tt
 rising_layer (d ∷ ds) up = (λ e there g a b. up.0 e there, rising_layer ds up.1)
 
 -- what a group delivered earlier has the smaller stamp
-ascending_cross : (xs ys : List Delivered) → Ascending (xs ++ ys) → (x y : Delivered) → In x xs → In y ys → stamp_lt x.stamp y.stamp ≡ true
+pub ascending_cross : (xs ys : List Delivered) → Ascending (xs ++ ys) → (x y : Delivered) → In x xs → In y ys → stamp_lt x.stamp y.stamp ≡ true
 ascending_cross [] ys up x y there here = absurd there
 ascending_cross (z ∷ xs) ys up x y (inl same) here = subst (λ (u : Delivered). stamp_lt u.stamp y.stamp ≡ true) (sym same) (up.0 y (In-right y xs ys here))
 ascending_cross (z ∷ xs) ys up x y (inr there) here = ascending_cross xs ys up.1 x y there here

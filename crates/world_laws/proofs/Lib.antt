@@ -6,3 +6,7 @@ pub mod Requests
 pub mod Connections
 pub mod Layers
 pub mod Worlds
+pub mod Bounds
+pub mod OrderLaws
+pub mod ConditionLaws
+pub mod HeadlineLaws

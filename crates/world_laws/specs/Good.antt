@@ -196,3 +196,10 @@ pub record WorldGood (t : Layout) (w : World) : Type 0 where
   pub taken : TakenGood w.asked w.proposed w.gone (all_taken w.ended w.layer)
   pub connections : ConnectionsGood w.opened w.standing w.seq w.last w.asked w.ended w.layer
   pub run : RunGood w.asked w.ended w.contents
+
+-- after n steps no number is above n
+pub record Bounded (w : World) (n : ℕ) : Type 0 where
+  pub clocks : (g : ℕ) → (w.group g).clock ≤ n
+  pub floors : (i : RequestId) (q : Request) → w.asked i ≡ Some q → q.floor ≤ n
+  pub connections : w.opened ≤ n
+  pub requests : (c : ℕ) → w.seq c ≤ n

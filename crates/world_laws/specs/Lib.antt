@@ -1,1 +1,4 @@
 pub mod Good
+pub mod Order
+pub mod Conditions
+pub mod Headline

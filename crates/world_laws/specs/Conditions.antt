@@ -1,0 +1,62 @@
+-- What the calls of a group, of its queue, of the shards and of the router ask of whoever calls them in these steps, as far as the world
+-- says it.
+use Rattle.std.specs.Prelude.{◌≡◌, ℕ, ◌^◌, ◌≤◌, true, List, [], ◌∷◌, ◌++◌, length}
+use Rattle.delivery.specs.Ready.{QueueOf}
+use Rattle.groups.specs.GroupSet.{has}
+use Rattle.journal.specs.declared.step.Step.{Step}
+use Rattle.placement.specs.Groups.{groups_of}
+use Rattle.placement.specs.Layout.{Layout}
+use Rattle.skeen_core.specs.Group.{Ascending, MayCome}
+use Rattle.skeen_core.specs.Order.{In}
+use Rattle.skeen_core.specs.Stamp.{stamp_lt}
+use Rattle.skeen_core.specs.declared.packet.Delivered.{Delivered}
+use Rattle.skeen_core.specs.declared.packet.Packet.{Packet}
+use Rattle.world.specs.Steps.{at, opening, Effect, Comes, Leads}
+use Rattle.world.specs.World.{World, Request, Ended, Taken, HasRun}
+use Rattle.world_laws.specs.Good.{Pending, Bounded}
+use Rattle.world_laws.specs.Order.{OfEveryWorld, HasFinal}
+
+-- ---- a group receives
+
+-- each packet under way may come to its group
+abbrev pub PacketsMayCome : Type 0
+PacketsMayCome = (t : Layout) (steps : List Step) (w : World) → Leads t opening steps w → length steps ≤ 2 ^ 62 → (p : Packet) → In p w.packets →
+    MayCome (record { me = p.to; state = w.group p.to }) p
+
+-- ---- a queue
+
+-- the request may be put behind the group's queue: the group is one of its groups, its stamp is above those there, and in all queues its id
+-- and its stamp are those of no other request
+pub record MayJoin (queue : QueueOf) (g : ℕ) (d : Delivered) : Type 0 where
+  pub member : has d.groups g ≡ true
+  pub above : (e : Delivered) → In e (queue g) → stamp_lt e.stamp d.stamp ≡ true
+  pub same : (h : ℕ) (e : Delivered) → In e (queue h) → e.id ≡ d.id → e ≡ d
+  pub single : (h : ℕ) (e : Delivered) → In e (queue h) → e.stamp ≡ d.stamp → e ≡ d
+
+-- what a group delivers may be put behind its queue, one after another
+abbrev pub DeliveriesMayJoin : Type 0
+DeliveriesMayJoin = (t : Layout) (steps : List Step) (old new : World) (k : ℕ) (effect : Effect) → Leads t opening steps old → (comes : Comes old k effect new) →
+    (front : List Delivered) (d : Delivered) (back : List Delivered) → comes.delivered ≡ front ++ d ∷ back →
+    MayJoin (at old.queue comes.packet.to (old.queue comes.packet.to ++ front)) comes.packet.to d
+
+-- ---- the shards
+
+-- a layer's requests were submitted, to the groups of their commands, and stand at their final stamps
+abbrev pub LayersAreSubmitted : Type 0
+LayersAreSubmitted = OfEveryWorld (λ t w. (layer : List Delivered) → w.layer ≡ Taken layer → (d : Delivered) → In d layer →
+    (q : Request) × HasFinal w d.id q d.stamp × (d.groups ≡ groups_of t q.command))
+
+-- and their stamps are above those of all that has ended at one of their groups
+abbrev pub LayersAreAbove : Type 0
+LayersAreAbove = OfEveryWorld (λ t w. (layer : List Delivered) → w.layer ≡ Taken layer → (d : Delivered) → In d layer →
+    (e : Ended) → In e w.ended → (g : ℕ) → has e.groups g ≡ true → has d.groups g ≡ true → stamp_lt e.stamp d.stamp ≡ true)
+
+-- ---- the router
+
+-- the connection of each request that is settled waits for it, or was closed
+abbrev pub SettledIsWaitedFor : Type 0
+SettledIsWaitedFor = OfEveryWorld (λ t w. (outcomes : List Ended) → w.layer ≡ HasRun outcomes → (e : Ended) → In e outcomes → Pending w.standing w.seq e.id)
+
+-- no number is above the number of steps
+abbrev pub NumbersAreBounded : Type 0
+NumbersAreBounded = (t : Layout) (steps : List Step) (w : World) → Leads t opening steps w → Bounded w (length steps)
