@@ -70,6 +70,104 @@ impl Multicast {
             queues,
         })
     }
+
+    /// How many groups there are.
+    pub fn count(&self) -> u8
+        ensures count { result ≡ length self.now.groups }
+        ensures whole { IsWhole self.now.groups self.now.queues }
+    {
+        self.groups.len() as u8
+    }
+
+    /// The packet at this place of those under way, counted from 0 in order of sending.
+    pub fn packet(&self, place: usize) -> Option<&Packet>
+        ensures { option_copied result ≡ slice_get self.now.packets place }
+    {
+        self.links.packet(place)
+    }
+
+    /// How many packets are under way.
+    pub fn packets(&self) -> usize
+        ensures { result ≡ length self.now.packets }
+    {
+        self.links.len()
+    }
+
+    /// Takes the room for `count` more packets. The only error is want of memory; nothing but the room changes.
+    pub fn reserve(&mut self, count: usize) -> Result<(), AllocError>
+        ensures same { IsSame self.old self.new }
+        ensures room { OnOk result (count ≤ self.new.room) }
+    {
+        self.links.reserve(count)
+    }
+
+    /// A request begins: each of its groups is sent a Start, in ascending order. There is room for them.
+    pub fn start(&mut self, id: RequestId, floor: u64, groups: Groups)
+        requires { length groups ≤ self.old.room }
+        ensures { Begins self.old id floor groups self.new }
+    {
+        for group in groups.iter() {
+            let start = Packet {
+                to: group,
+                id,
+                body: Body::Start { floor, groups },
+            };
+            let Ok(()) = self.links.send(start) else {
+                unreachable!()
+            };
+        }
+    }
+
+    /// The packet at this place comes to its group: what the group sends goes behind all packets, and what it delivers behind its
+    /// queue. A refusal changes nothing but the room.
+    ///
+    /// The packet may come to its group, and what that group delivers then may be appended to its queue.
+    pub fn deliver(&mut self, place: usize) -> Result<(), DeliverFault>
+        requires { (p : Packet) → slice_get self.old.packets place ≡ Some p → MayBeDelivered self.old p }
+        ensures delivers { OnOk result (Delivers self.old place self.new) }
+        ensures no_packet { IfErr result (λ e. e ≡ DeliverFault.NoPacket → length self.old.packets ≤ place) }
+        ensures there { IfErr result (λ e. e ≡ DeliverFault.Memory → place < length self.old.packets) }
+        ensures unchanged { OnErr result (IsSame self.old self.new) }
+    {
+        let Some(packet) = self.links.packet(place) else {
+            return Err(DeliverFault::NoPacket);
+        };
+        let packet = Packet { ..*packet };
+        let to = packet.to;
+        let Ok((sent, delivered)) = self.receive(packet) else {
+            return Err(DeliverFault::Memory);
+        };
+        let _ = self.links.take(place);
+        self.send_all(sent);
+        self.append_all(to, delivered);
+        Ok(())
+    }
+
+    /// All requests that are ready, ascending by their stamps. The only error is want of memory; where none is ready none is wanted.
+    pub fn ready(&self) -> Result<Vec<Delivered>, AllocError>
+        ensures layer { IfOk result (λ layer. IsLayer (queue_of self.now.queues) layer.items) }
+        ensures succeeds { ((d : Delivered) → ¬ IsReady (queue_of self.now.queues) d) → IsOk result }
+        ensures sound { IsSound (queue_of self.now.queues) }
+    {
+        self.queues.ready(self.alloc)
+    }
+
+    /// Whether some request is ready. It takes no memory.
+    pub fn has_ready(&self) -> bool
+        ensures { IsTrue result ↔ ((d : Delivered) × IsReady (queue_of self.now.queues) d) }
+    {
+        self.queues.has_ready()
+    }
+
+    /// Takes a layer out of the queues. It takes no memory.
+    pub fn lose_layer(&mut self, layer: &[Delivered])
+        requires { IsLayer (queue_of self.old.queues) layer.now }
+        ensures { LosesLayer self.old layer.now self.new }
+    {
+        for request in layer {
+            self.queues.pop(request);
+        }
+    }
 }
 
 /// The first groups, each new.
