@@ -21,16 +21,19 @@ pub not_again : (n : ℕ) (ns : List ℕ) → IsAscending (n ∷ ns) → has ns 
 not_again n ns up = elim (cases_Bool (has ns n)) [ inl e ↦ absurd (lt_irrefl n (up.0 n e)) | inr e ↦ e ]
 
 -- at a key that lies on none of a span's shards there is nothing
-pub get-union-none : (table : Layout) (span : Span) (q : List ℕ) → SpanHasOwnKeys table span → has (numbers span) (place table q) ≡ false → get (union span) q ≡ None
+pub get-union-none : (table : Layout) (span : Span) (q : List ℕ) → SpanHasOwnKeys table span → has (numbers span) (place table q) ≡ false
+    → get (union span) q ≡ None
 get-union-none table [] q own away = get-empty (slice_cmp nat_cmp) q
 get-union-none table (s ∷ ss) q own away =
     let apart = or_parts (s.0 == place table q) (has (numbers ss) (place table q)) away in
     get-joined-cons s.1 (map (λ t. t.1) ss) q
-    ∙ ap (λ o. option_or o (get (union ss) q)) (none_elsewhere table s.0 s.1 q own.0 (λ e. both_ways _ apart.0 (eq-eqb s.0 (place table q) (sym e))))
+    ∙ ap (λ o. option_or o (get (union ss) q))
+    (none_elsewhere table s.0 s.1 q own.0 (λ e. both_ways _ apart.0 (eq-eqb s.0 (place table q) (sym e))))
     ∙ get-union-none table ss q own.1 apart.1
 
 -- a span's first shard has what the union has at the keys that lie there, and the others have the rest
-pub get-union-first : (table : Layout) (s : ℕ × Map) (ss : Span) (q : List ℕ) → SpanHasOwnKeys table (s ∷ ss) → IsAscending (numbers (s ∷ ss))
+pub get-union-first : (table : Layout) (s : ℕ × Map) (ss : Span) (q : List ℕ) → SpanHasOwnKeys table (s ∷ ss)
+    → IsAscending (numbers (s ∷ ss))
     → place table q ≡ s.0 → get (union (s ∷ ss)) q ≡ get s.1 q
 get-union-first table s ss q own up here =
     get-joined-cons s.1 (map (λ t. t.1) ss) q
@@ -56,7 +59,8 @@ later_apart : (t : ℕ × Map) (ts : Span) (i : ℕ) (s : ℕ × Map) → IsAsce
 later_apart t ts i s up at e = lt_irrefl t.0 (up.0 t.0 (subst (λ n. has (numbers ts) n ≡ true) e (has-numbers ts i s at)))
 
 -- the shard at which a key lies has there what the union has
-pub get-union-at : (table : Layout) (span : Span) (i : ℕ) (s : ℕ × Map) (q : List ℕ) → SpanHasOwnKeys table span → IsAscending (numbers span)
+pub get-union-at : (table : Layout) (span : Span) (i : ℕ) (s : ℕ × Map) (q : List ℕ) → SpanHasOwnKeys table span
+    → IsAscending (numbers span)
     → slice_get span i ≡ Some s → place table q ≡ s.0 → get (union span) q ≡ get s.1 q
 get-union-at table [] i s q own up at here = absurd (cc)
 get-union-at table (t ∷ ts) zero s q own up at here =
@@ -67,12 +71,14 @@ get-union-at table (t ∷ ts) (suc i) s q own up at here =
 
 -- ---- one key changed in its shard
 
-pub numbers-set : (span : Span) (i : ℕ) (s : ℕ × Map) (m : Map) → slice_get span i ≡ Some s → numbers (slice_set span i (s.0, m)) ≡ numbers span
+pub numbers-set : (span : Span) (i : ℕ) (s : ℕ × Map) (m : Map) → slice_get span i ≡ Some s
+    → numbers (slice_set span i (s.0, m)) ≡ numbers span
 numbers-set [] i s m at = refl
 numbers-set (t ∷ ts) zero s m at = ap (λ n. n ∷ numbers ts) (ap (λ v. v.0) (sym (some_same t s at)))
 numbers-set (t ∷ ts) (suc i) s m at = ap (λ l. t.0 ∷ l) (numbers-set ts i s m at)
 
-HasKeysOf-set : (table : Layout) (shard : ℕ) (m : Map) (k : List ℕ) (o : Option Value) → HasKeysOf table shard m → place table k ≡ shard → HasKeysOf table shard (set m k o)
+HasKeysOf-set : (table : Layout) (shard : ℕ) (m : Map) (k : List ℕ) (o : Option Value) → HasKeysOf table shard m → place table k ≡ shard
+    → HasKeysOf table shard (set m k o)
 HasKeysOf-set table shard m k o own here q there =
     elim (bytes_eq k q) as (λ b. bytes_eq k q ≡ b → IsSome (cond b o (get m q)) → place table q ≡ shard) [
       | true ↦ λ e _. ap (place table) (sym (same_bytes k q e)) ∙ here
@@ -95,14 +101,16 @@ set_later true o p r h = ap (λ v. option_or v o) (h refl)
 set_later false o p r h = refl
 
 -- to change a key in its shard is to change it in the union
-pub union-set : (table : Layout) (span : Span) (i : ℕ) (s : ℕ × Map) (k : List ℕ) (o : Option Value) → SpanHasOwnKeys table span → IsAscending (numbers span)
+pub union-set : (table : Layout) (span : Span) (i : ℕ) (s : ℕ × Map) (k : List ℕ) (o : Option Value) → SpanHasOwnKeys table span
+    → IsAscending (numbers span)
     → slice_get span i ≡ Some s → place table k ≡ s.0 → union (slice_set span i (s.0, set s.1 k o)) ≡ set (union span) k o
 union-set table [] i s k o own up at here = absurd (cc)
 union-set table (t ∷ ts) zero s k o own up at here =
     same (union ((s.0, set s.1 k o) ∷ ts)) (set (union (t ∷ ts)) k o) (λ q.
     get-joined-cons (set s.1 k o) (map (λ v. v.1) ts) q
     ∙ ap (λ v. option_or v (get (union ts) q)) (get-set s.1 k o q)
-    ∙ set_first (bytes_eq k q) o (get s.1 q) (get (union ts) q) (λ e. get-union-none table ts q own.1 (ap (has (numbers ts)) (lies q e) ∙ not_again t.0 (numbers ts) up))
+    ∙ set_first (bytes_eq k q) o (get s.1 q) (get (union ts) q)
+    (λ e. get-union-none table ts q own.1 (ap (has (numbers ts)) (lies q e) ∙ not_again t.0 (numbers ts) up))
     ∙ ap (λ v. cond (bytes_eq k q) o (option_or (get v.1 q) (get (union ts) q))) (sym (some_same t s at))
     ∙ ap (cond (bytes_eq k q) o) (sym (get-joined-cons t.1 (map (λ v. v.1) ts) q))
     ∙ sym (get-set (union (t ∷ ts)) k o q))
@@ -123,28 +131,36 @@ union-set table (t ∷ ts) (suc i) s k o own up at here =
 
 -- ---- the union divided
 
-divided_alike : (table : Layout) (gs : List ℕ) (m n : Map) → ((q : List ℕ) → has gs (place table q) ≡ true → get m q ≡ get n q) → divided table gs m ≡ divided table gs n
+divided_alike : (table : Layout) (gs : List ℕ) (m n : Map) → ((q : List ℕ) → has gs (place table q) ≡ true → get m q ≡ get n q)
+    → divided table gs m ≡ divided table gs n
 divided_alike table [] m n alike = refl
 divided_alike table (g ∷ gs) m n alike =
-    ap (λ p. (g, p) ∷ divided table gs m) (same (part_of table m g) (part_of table n g) (λ q. get-part_of table m g q ∙ at_key q ∙ sym (get-part_of table n g q)))
-    ∙ ap (λ l. (g, part_of table n g) ∷ l) (divided_alike table gs m n (λ q there. alike q (or_right (g == place table q) (has gs (place table q)) there)))
+    ap (λ p. (g, p) ∷ divided table gs m)
+        (same (part_of table m g) (part_of table n g) (λ q. get-part_of table m g q ∙ at_key q ∙ sym (get-part_of table n g q)))
+    ∙ ap (λ l. (g, part_of table n g) ∷ l)
+    (divided_alike table gs m n (λ q there. alike q (or_right (g == place table q) (has gs (place table q)) there)))
   where
     at_key : (q : List ℕ) → cond (place table q == g) (get m q) None ≡ cond (place table q == g) (get n q) None
     at_key q = elim (place table q == g) as (λ b. (place table q == g) ≡ b → cond b (get m q) None ≡ cond b (get n q) None) [
-      | true ↦ λ e. alike q (or_left (g == place table q) (has gs (place table q)) (eq-eqb g (place table q) (sym (eqb-true (place table q) g e))))
+      | true ↦ λ e. alike q (or_left (g == place table q) (has gs (place table q))
+          (eq-eqb g (place table q) (sym (eqb-true (place table q) g e))))
       | false ↦ λ _. refl
     ] refl
 
 -- the shards of a span have the union, divided among them
-pub divided-union : (table : Layout) (span : Span) → SpanHasOwnKeys table span → IsAscending (numbers span) → divided table (numbers span) (union span) ≡ span
+pub divided-union : (table : Layout) (span : Span) → SpanHasOwnKeys table span → IsAscending (numbers span)
+    → divided table (numbers span) (union span) ≡ span
 divided-union table [] own up = refl
 divided-union table (s ∷ ss) own up =
-    ap (λ p. (s.0, p) ∷ divided table (numbers ss) (union (s ∷ ss))) (same (part_of table (union (s ∷ ss)) s.0) s.1 (λ q. get-part_of table (union (s ∷ ss)) s.0 q ∙ at_key q))
-    ∙ ap (λ l. s ∷ l) (divided_alike table (numbers ss) (union (s ∷ ss)) (union ss) (λ q there. get-union-rest table s ss q own (λ e. lt_irrefl s.0 (up.0 s.0 (subst (λ n. has (numbers ss) n ≡ true) e there))))
+    ap (λ p. (s.0, p) ∷ divided table (numbers ss) (union (s ∷ ss)))
+        (same (part_of table (union (s ∷ ss)) s.0) s.1 (λ q. get-part_of table (union (s ∷ ss)) s.0 q ∙ at_key q))
+    ∙ ap (λ l. s ∷ l) (divided_alike table (numbers ss) (union (s ∷ ss)) (union ss)
+    (λ q there. get-union-rest table s ss q own (λ e. lt_irrefl s.0 (up.0 s.0 (subst (λ n. has (numbers ss) n ≡ true) e there))))
     ∙ divided-union table ss own.1 up.1)
   where
     at_key : (q : List ℕ) → cond (place table q == s.0) (get (union (s ∷ ss)) q) None ≡ get s.1 q
     at_key q = elim (cases_eq (place table q) s.0) [
       | inl e ↦ ap (λ b. cond b (get (union (s ∷ ss)) q) None) (eq-eqb (place table q) s.0 e) ∙ get-union-first table s ss q own up e
-      | inr apart ↦ ap (λ b. cond b (get (union (s ∷ ss)) q) None) (ne_eqb (place table q) s.0 apart) ∙ sym (none_elsewhere table s.0 s.1 q own.0 apart)
+      | inr apart ↦ ap (λ b. cond b (get (union (s ∷ ss)) q) None) (ne_eqb (place table q) s.0 apart)
+          ∙ sym (none_elsewhere table s.0 s.1 q own.0 apart)
     ]
