@@ -47,7 +47,7 @@ module _ (table : Layout) (is_table : IsTable table) where
   left-insert m e [] at_e at_fs order = refl
   left-insert m e (f ∷ fs) at_e at_fs order =
       elim (earlier f e) as (λ b. earlier f e ≡ b
-          → left_by m (cond b (f ∷ insert_by earlier e fs) (e ∷ f ∷ fs)) ≡ left_by (after e m) (f ∷ fs)) [
+      → left_by m (cond b (f ∷ insert_by earlier e fs) (e ∷ f ∷ fs)) ≡ left_by (after e m) (f ∷ fs)) [
         | true ↦ λ is.
             left-insert (after f m) e fs at_e (λ g i. at_fs g (inr i)) (λ g i. order g (inr i))
             ∙ ap (λ n. left_by n fs) (sym (commute_leave e f m at_e (at_fs f (inl refl)) (λ t. both_ways _ (order f (inl refl) t) is)))
@@ -74,7 +74,7 @@ module _ (table : Layout) (is_table : IsTable table) where
       elim (earlier f e) as (λ b. earlier f e ≡ b →
       rows_from m (cond b (f ∷ insert_by earlier e fs) (e ∷ f ∷ fs))
       ≡ cond b (row f (after e m) ∷ insert_by row_earlier (row e m) (rows_from (after f (after e m)) fs))
-          (row e m ∷ rows_from (after e m) (f ∷ fs))) [
+      (row e m ∷ rows_from (after e m) (f ∷ fs))) [
         | true ↦ λ is.
             moved m e f fs at_e (at_fs f (inl refl)) (λ t. both_ways _ (order f (inl refl) t) is)
             (rows-insert (after f m) e fs at_e (λ g i. at_fs g (inr i)) (λ g i. order g (inr i)))
@@ -85,7 +85,7 @@ module _ (table : Layout) (is_table : IsTable table) where
   left-by_stamp m [] at order = refl
   left-by_stamp m (e ∷ es) at order =
       left-insert m e (by_stamp es) (at e (inl refl)) (λ f i. at f (inr (In-sort earlier es f i)))
-          (λ f i. order.0 f (In-sort earlier es f i))
+      (λ f i. order.0 f (In-sort earlier es f i))
       ∙ left-by_stamp (after e m) es (λ f i. at f (inr i)) order.1
 
   pub rows-by_stamp : (m : Map) (es : List Entry) → AreAddressed table es → InOrder es
@@ -93,7 +93,7 @@ module _ (table : Layout) (is_table : IsTable table) where
   rows-by_stamp m [] at order = refl
   rows-by_stamp m (e ∷ es) at order =
       rows-insert m e (by_stamp es) (at e (inl refl)) (λ f i. at f (inr (In-sort earlier es f i)))
-          (λ f i. order.0 f (In-sort earlier es f i))
+      (λ f i. order.0 f (In-sort earlier es f i))
       ∙ ap (insert_by row_earlier (row e m)) (rows-by_stamp (after e m) es (λ f i. at f (inr i)) order.1)
 
 pub same_in_stamp_order : SameInStampOrder
@@ -133,7 +133,7 @@ replies_in_stamp_order table old new rows is_table at order solo =
     let es = entries_of rows in
     let same_rows : rows ≡ rows_from old es = rows-from_replies old rows (ap (λ v. v.1) solo) in
     let sorted : rows_by_stamp rows ≡ rows_from old (by_stamp es) = ap rows_by_stamp same_rows
-        ∙ sym (rows-by_stamp table is_table old es at order) in
+    ∙ sym (rows-by_stamp table is_table old es at order) in
     let sorted_entries = entries-rows_by_stamp rows in
     pair _ _ _ _
     (ap (λ v. v.0) solo ∙ sym (left-by_stamp table is_table old es at order) ∙ ap (left_by old) (sym sorted_entries))

@@ -54,7 +54,7 @@ pub IsPermutation-sort_by : {X : Type 0} (below : X → X → Bool) (xs : List X
 IsPermutation-sort_by below [] = IsPermutation-refl []
 IsPermutation-sort_by below (x ∷ xs) =
     IsPermutation-trans _ _ _ (IsPermutation-first x xs (sort_by below xs) (IsPermutation-sort_by below xs))
-        (IsPermutation-insert_by below x (sort_by below xs))
+    (IsPermutation-insert_by below x (sort_by below xs))
 
 -- ---- ascending
 
@@ -65,8 +65,10 @@ AscendsByStamp-insert : (e : Entry) (fs : List Entry) → AscendsByStamp fs → 
 AscendsByStamp-insert e [] up = ((λ f i. absurd i), tt)
 AscendsByStamp-insert e (f ∷ fs) up =
     elim (earlier f e) as (λ b. earlier f e ≡ b → AscendsByStamp (cond b (f ∷ insert_by earlier e fs) (e ∷ f ∷ fs))) [
-      | true ↦ λ less. ((λ g i. behind f e fs (lt_asym f.stamp e.stamp less) up.0 g (In-insert earlier e fs g i)),
-          AscendsByStamp-insert e fs up.1)
+      | true ↦ λ less. (
+        (λ g i. behind f e fs (lt_asym f.stamp e.stamp less) up.0 g (In-insert earlier e fs g i)),
+        AscendsByStamp-insert e fs up.1,
+      )
       | false ↦ λ more. ((λ g i. behind e f fs more (λ h j. le_trans e.stamp f.stamp h.stamp more (up.0 h j)) g i), up)
     ] refl
   where
@@ -89,7 +91,7 @@ entries-insert : (r : Row) (rows : List Row) → entries_of (insert_by row_earli
 entries-insert r [] = refl
 entries-insert r (s ∷ rows) =
     elim (row_earlier s r) as (λ b. entries_of (cond b (s ∷ insert_by row_earlier r rows) (r ∷ s ∷ rows))
-        ≡ cond b (s.entry ∷ insert_by earlier r.entry (entries_of rows)) (r.entry ∷ s.entry ∷ entries_of rows)) [
+    ≡ cond b (s.entry ∷ insert_by earlier r.entry (entries_of rows)) (r.entry ∷ s.entry ∷ entries_of rows)) [
       | true ↦ ap (λ l. s.entry ∷ l) (entries-insert r rows)
       | false ↦ refl
     ]

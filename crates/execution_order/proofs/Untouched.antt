@@ -34,7 +34,7 @@ has_among table command key is_table h =
     let found = Any-from_list_any (bytes_eq key) (keys_of command) h in
     let is : key ≡ found.1 = same_bytes key found.1 found.4 in
     has-groups_of-key table command key is_table
-        (found.0, found.2, subst (λ k. slice_index_or (keys_of command) found.0 k ≡ k) (sym is) found.3)
+    (found.0, found.2, subst (λ k. slice_index_or (keys_of command) found.0 k ≡ k) (sym is) found.3)
 
 module _ (table : Layout) (e f : Entry) (is_table : IsTable table) (at_e : IsAddressed table e) (at_f : IsAddressed table f)
     (untouched : Touch e f → ⊥) where

@@ -7,8 +7,8 @@ use Rattle.keyspace.specs.Map.{Map}
 use Rattle.placement.specs.Layout.{Layout, IsTable}
 use Rattle.execution_order.specs.Entries.{Entry, Row, commands_of, entries_of, replies_of, rows_from, by_stamp, rows_by_stamp, Touch, AscendsByStamp, InOrder, IsAddressed, AreAddressed}
 
--- requests that don't touch can change places: the second one answers the same whether the first has run before it or not,
--- and both leave the same map in either order
+-- requests that don't touch can change places: the second one answers the same whether the first has run before it or
+-- not, and both leave the same map in either order
 abbrev pub UntouchedCommute : Type 0
 UntouchedCommute =
     (table : Layout) (e f : Entry) (m : Map)
@@ -16,8 +16,8 @@ UntouchedCommute =
     → ((effect_of f.command (effect_of e.command m).0).1 ≡ (effect_of f.command m).1)
     × ((effect_of f.command (effect_of e.command m).0).0 ≡ (effect_of e.command (effect_of f.command m).0).0)
 
--- one thread that runs the requests in the order of their stamps leaves the same map as one that runs them in the order of
--- execution, and each request gets the same reply
+-- one thread that runs the requests in the order of their stamps leaves the same map as one that runs them in the
+-- order of execution, and each request gets the same reply
 abbrev pub SameInStampOrder : Type 0
 SameInStampOrder =
     (table : Layout) (m : Map) (es : List Entry)
@@ -25,8 +25,8 @@ SameInStampOrder =
     → ((solo_from m (commands_of (by_stamp es))).0 ≡ (solo_from m (commands_of es)).0)
     × (rows_from m (by_stamp es) ≡ rows_by_stamp (rows_from m es))
 
--- so where rows have the replies of one thread in the order of execution, the sorted rows have those of one thread in stamp
--- order, and it leaves the same map
+-- so where rows have the replies of one thread in the order of execution, the sorted rows have those of one thread in
+-- stamp order, and it leaves the same map
 abbrev pub RepliesInStampOrder : Type 0
 RepliesInStampOrder =
     (table : Layout) (old new : Map) (rows : List Row)

@@ -46,7 +46,7 @@ pub joined-alike : (table : Layout) (ms ns : List Map) → HasOwnKeys table ms �
     → ((g : ℕ) → map_of_shard ns g ≡ map_of_shard ms g) → joined ns ≡ joined ms
 joined-alike table ms ns own own' alike =
     same (joined ns) (joined ms)
-        (λ q. get-joined table ns q own' ∙ ap (λ m. get m q) (alike (place table q)) ∙ sym (get-joined table ms q own))
+    (λ q. get-joined table ns q own' ∙ ap (λ m. get m q) (alike (place table q)) ∙ sym (get-joined table ms q own))
 
 each_moved : (table : Layout) (old mid new : List Map) (cs : List Command) (os : List (Option Content))
     → ((d : Command) → In d cs → span_at mid (groups_of table d) ≡ span_at old (groups_of table d))
@@ -108,14 +108,14 @@ layer_in_turn table old new (c ∷ cs) (None ∷ os) is_table own apart ran =
         → map_of_shard new shard ≡ map_of_shard old shard
     others shard away = elim (has (groups_of table c) shard)
         as (λ b. has (groups_of table c) shard ≡ b → map_of_shard new shard ≡ map_of_shard old shard) [
-      | true ↦ λ there. at_member (map_of_shard new) (map_of_shard old) (groups_of table c) shard ran.each.0 there
-      | false ↦ λ here. ran.others shard (others_after (λ d. has (groups_of table d) shard ≡ false) c cs here away)
-    ] refl
+          | true ↦ λ there. at_member (map_of_shard new) (map_of_shard old) (groups_of table c) shard ran.each.0 there
+          | false ↦ λ here. ran.others shard (others_after (λ d. has (groups_of table d) shard ≡ false) c cs here away)
+        ] refl
 layer_in_turn table old new (c ∷ cs) (Some reply ∷ os) is_table own apart ran =
     let step = span_is_joined table old mid c reply is_table own
-        (subst (λ s. SpanRan table c (span_at old gs) (Some reply) s) (sym mid-new) ran.each.0) mid_away in
+    (subst (λ s. SpanRan table c (span_at old gs) (Some reply) s) (sym mid-new) ran.each.0) mid_away in
     let rest = layer_in_turn table mid new cs os is_table step.1 apart.1
-        (record { each = each_moved table old mid new cs os mid-old ran.each.1; others = others }) in
+    (record { each = each_moved table old mid new cs os mid-old ran.each.1; others = others }) in
     ((ap (λ r. r.1) step.0, subst (λ m. AnsweredInTurn m cs os (joined new)) (ap (λ r. r.0) step.0) rest.0), rest.1)
   where
     gs : List ℕ

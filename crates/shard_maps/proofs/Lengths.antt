@@ -33,7 +33,7 @@ find-below k [] h = refl
 find-below k (e ∷ es) h =
     let parts = both_hold _ _ h in
     ap (λ b. cond b (Some e.1) (find (slice_cmp nat_cmp) k es)) (less_isnt_equal (slice_cmp nat_cmp k e.0) parts.0)
-        ∙ find-below k es parts.1
+    ∙ find-below k es parts.1
 
 -- entries of other keys are counted each
 len-with_entries : (m : Map) (es : List (List ℕ × Value)) → T (is_sorted (slice_cmp nat_cmp) es)
@@ -47,9 +47,9 @@ len-with_entries m (e ∷ es) sorted new =
     get-with_entries m es e.0 ∙ ap (λ o. option_or o (get m e.0)) (find-below e.0 es parts.0) ∙ here in
     let one_more : len (with_entries m (e ∷ es)) ≡ len (with_entries m es) + 1 =
     len-insert nat_list_cmp_total (with_entries m es) e.0 e.1
-        ∙ ap (λ o. cond (is_some o) (len (with_entries m es)) (len (with_entries m es) + 1)) absent in
+    ∙ ap (λ o. cond (is_some o) (len (with_entries m es)) (len (with_entries m es) + 1)) absent in
     let rest = len-with_entries m es parts.1
-        (λ q there. new q (later (eq_by_cmp (slice_cmp nat_cmp) q e.0) (Some e.1) (find (slice_cmp nat_cmp) q es) refl there)) in
+    (λ q there. new q (later (eq_by_cmp (slice_cmp nat_cmp) q e.0) (Some e.1) (find (slice_cmp nat_cmp) q es) refl there)) in
     omega (arith, one_more, rest)
   where
     later : (b : Bool) (v o : Option Value) → IsSome v → IsSome o → IsSome (cond b v o)
@@ -62,7 +62,7 @@ pub len-union-cons : (table : Layout) (s : ℕ × Map) (ss : Span) → SpanHasOw
 len-union-cons table s ss own up =
     len-with_entries (union ss) (entries s.1) (entries_sorted s.1) (λ q there.
     get-union-none table ss q own.1
-        (ap (has (numbers ss)) (own.0 q (subst IsSome (sym (get-entries s.1 q)) there)) ∙ not_again s.0 (numbers ss) up))
+    (ap (has (numbers ss)) (own.0 q (subst IsSome (sym (get-entries s.1 q)) there)) ∙ not_again s.0 (numbers ss) up))
     ∙ ap (λ n. n + len (union ss)) (sym (len-entries s.1))
 
 -- shards with no key have no key together

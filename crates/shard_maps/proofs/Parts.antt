@@ -44,4 +44,4 @@ module _ {X Y : Type 0} (R : X → Y → Type 0) where
       AllZip-from_places xs ys gathered.as_many (λ i x y e f.
       let spot = gathered.each i (slice_get_within xs i x e) in
       AllZip-at (slice_index_or parts spot.0 []) (slice_index_or results spot.0 []) spot.1 x y (AllZip-part parts results spot.0 ran)
-          (spot.2 ∙ e) (spot.3 ∙ f))
+      (spot.2 ∙ e) (spot.3 ∙ f))

@@ -28,7 +28,7 @@ IsAscending-groups_of table command = IsAscending-chosen (λ s. is_whole command
 pub groups_of-below : (table : Layout) (command : Command) (g : ℕ) → has (groups_of table command) g ≡ true → g < table.shards
 groups_of-below table command g there =
     ltb-true g table.shards (and_parts (nat_lt g table.shards) _
-        (sym (has-chosen (λ s. is_whole command || has_key_on table s (keys_of command)) table.shards g) ∙ there)).0
+    (sym (has-chosen (λ s. is_whole command || has_key_on table s (keys_of command)) table.shards g) ∙ there)).0
 
 -- what became of a command over the shards of its groups, which it got as they were
 abbrev pub RanOver : Layout → List Map → Command → Ran → Type 0
@@ -110,7 +110,7 @@ pub layer_taken_out : (table : Layout) (row : List Map) (cs : List Command) → 
 layer_taken_out table row [] apart = refl
 layer_taken_out table row (c ∷ cs) apart =
     ap (λ (s : Span). s ∷ taken_out_each empty (emptied empty row (groups_of table c)) (map (groups_of table) cs))
-        (taken_out-picked empty row (groups_of table c) (IsAscending-groups_of table c))
+    (taken_out-picked empty row (groups_of table c) (IsAscending-groups_of table c))
     ∙ ap (λ (l : List Span). span_at row (groups_of table c) ∷ l) (layer_taken_out table (emptied empty row (groups_of table c)) cs apart.1
     ∙ spans_alike table (emptied empty row (groups_of table c)) row cs
     (λ d i. picked-alike empty _ _ (groups_of table d) (λ g there. at-emptied empty row (groups_of table c) g (apart_other d i g there))))
@@ -154,7 +154,7 @@ pub layer_ran : (table : Layout) (old : List Map) (layer : List Command) (rans :
     → LayerRan table old layer (outcomes_of rans) (with_rans (left_of table old layer) rans)
 layer_ran table old layer rans long apart ran =
     layer_put_back table old (left_of table old layer) layer rans (length-left_of table old layer ∙ long)
-        (others_stay table old layer) apart
+    (others_stay table old layer) apart
     (over_groups table old layer rans ran)
 
 pub parts_in_turn : PartsAreInTurn

@@ -63,7 +63,7 @@ module _ {X : Type 0} (absent : X) where
   picked-put_span row (s ∷ ss) up inside =
       ap (λ x. (s.0, x) ∷ picked absent (put_span (slice_set row s.0 s.1) ss) (numbers_of ss))
       (at-put_span (slice_set row s.0 s.1) ss s.0 (not_again s.0 (numbers_of ss) up)
-          ∙ at-set row s.0 s.1 (inside s.0 (or_left (s.0 == s.0) (has (numbers_of ss) s.0) (eq-eqb s.0 s.0 refl))))
+      ∙ at-set row s.0 s.1 (inside s.0 (or_left (s.0 == s.0) (has (numbers_of ss) s.0) (eq-eqb s.0 s.0 refl))))
       ∙ ap (λ l. s ∷ l) (picked-put_span (slice_set row s.0 s.1) ss up.1
       (λ g there. subst (λ n. g < n) (sym (length-set row s.0 s.1)) (inside g (or_right (s.0 == g) (has (numbers_of ss) g) there))))
 

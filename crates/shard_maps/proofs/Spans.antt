@@ -69,7 +69,7 @@ has-groups_of-among table command q is_table h =
     let found = Any-from_list_any (bytes_eq q) (keys_of command) h in
     let is : q ≡ found.1 = same_bytes q found.1 found.4 in
     has-groups_of-key table command q is_table
-        (found.0, found.2, subst (λ k. slice_index_or (keys_of command) found.0 k ≡ k) (sym is) found.3)
+    (found.0, found.2, subst (λ k. slice_index_or (keys_of command) found.0 k ≡ k) (sym is) found.3)
 
 -- and every key lies on a group of a whole command
 pub has-groups_of-whole : (table : Layout) (command : Command) (q : List ℕ) → IsTable table → is_whole command ≡ true
@@ -127,13 +127,13 @@ module _ (table : Layout) (command : Command) (m u : Map) (is_table : IsTable ta
       → get (effect_of command u).0 q ≡ get (effect_of command m).0 q
   same_there q there = elim (is_whole command)
       as (λ b. is_whole command ≡ b → get (effect_of command u).0 q ≡ get (effect_of command m).0 q) [
-    | true ↦ λ whole. ap (λ n. get (effect_of command n).0 q) (all_of whole)
-    | false ↦ λ part.
-        get-effect-part u q part
-        ∙ ap (λ n. cond (among (keys_of command) q) (get (case_of command n).0 q) (get u q)) own_part
-        ∙ ap (cond (among (keys_of command) q) (get part_case.0 q)) (is q ∙ ap (λ b. cond b (get m q) None) there)
-        ∙ sym (get-effect-part m q part)
-  ] refl
+        | true ↦ λ whole. ap (λ n. get (effect_of command n).0 q) (all_of whole)
+        | false ↦ λ part.
+            get-effect-part u q part
+            ∙ ap (λ n. cond (among (keys_of command) q) (get (case_of command n).0 q) (get u q)) own_part
+            ∙ ap (cond (among (keys_of command) q) (get part_case.0 q)) (is q ∙ ap (λ b. cond b (get m q) None) there)
+            ∙ sym (get-effect-part m q part)
+      ] refl
 
   -- and elsewhere nothing changes
   pub same_elsewhere : (q : List ℕ) → has (groups_of table command) (place table q) ≡ false → get (effect_of command m).0 q ≡ get m q

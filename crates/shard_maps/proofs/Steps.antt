@@ -64,16 +64,16 @@ module _ (table : Layout) (old new : List Map) (command : Command) (is_table : I
         at_key : (q : List ℕ) → get (map_of_shard new (place table q)) q ≡ get (effect_of command (joined old)).0 q
         at_key q = elim (has groups (place table q))
             as (λ b. has groups (place table q) ≡ b → get (map_of_shard new (place table q)) q ≡ get (effect_of command (joined old)).0 q) [
-          | true ↦ λ there.
-              ap (λ m. get m q) (given (place table q) there)
-              ∙ get-part_of table (effect_of command part).0 (place table q) q
-              ∙ ap (λ b. cond b (get (effect_of command part).0 q) None) (eq-eqb (place table q) (place table q) refl)
-              ∙ same_there table command (joined old) part is_table is_part q there
-          | false ↦ λ away.
-              ap (λ m. get m q) (others (place table q) away)
-              ∙ sym (get-joined table old q own)
-              ∙ sym (same_elsewhere table command (joined old) part is_table is_part q away)
-        ] refl
+              | true ↦ λ there.
+                  ap (λ m. get m q) (given (place table q) there)
+                  ∙ get-part_of table (effect_of command part).0 (place table q) q
+                  ∙ ap (λ b. cond b (get (effect_of command part).0 q) None) (eq-eqb (place table q) (place table q) refl)
+                  ∙ same_there table command (joined old) part is_table is_part q there
+              | false ↦ λ away.
+                  ap (λ m. get m q) (others (place table q) away)
+                  ∙ sym (get-joined table old q own)
+                  ∙ sym (same_elsewhere table command (joined old) part is_table is_part q away)
+            ] refl
 
     pub reply_same : (effect_of command part).1 ≡ (effect_of command (joined old)).1
     reply_same = same_reply table command (joined old) part is_table is_part

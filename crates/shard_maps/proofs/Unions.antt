@@ -136,7 +136,7 @@ divided_alike : (table : Layout) (gs : List ℕ) (m n : Map) → ((q : List ℕ)
 divided_alike table [] m n alike = refl
 divided_alike table (g ∷ gs) m n alike =
     ap (λ p. (g, p) ∷ divided table gs m)
-        (same (part_of table m g) (part_of table n g) (λ q. get-part_of table m g q ∙ at_key q ∙ sym (get-part_of table n g q)))
+    (same (part_of table m g) (part_of table n g) (λ q. get-part_of table m g q ∙ at_key q ∙ sym (get-part_of table n g q)))
     ∙ ap (λ l. (g, part_of table n g) ∷ l)
     (divided_alike table gs m n (λ q there. alike q (or_right (g == place table q) (has gs (place table q)) there)))
   where
@@ -153,7 +153,7 @@ pub divided-union : (table : Layout) (span : Span) → SpanHasOwnKeys table span
 divided-union table [] own up = refl
 divided-union table (s ∷ ss) own up =
     ap (λ p. (s.0, p) ∷ divided table (numbers ss) (union (s ∷ ss)))
-        (same (part_of table (union (s ∷ ss)) s.0) s.1 (λ q. get-part_of table (union (s ∷ ss)) s.0 q ∙ at_key q))
+    (same (part_of table (union (s ∷ ss)) s.0) s.1 (λ q. get-part_of table (union (s ∷ ss)) s.0 q ∙ at_key q))
     ∙ ap (λ l. s ∷ l) (divided_alike table (numbers ss) (union (s ∷ ss)) (union ss)
     (λ q there. get-union-rest table s ss q own (λ e. lt_irrefl s.0 (up.0 s.0 (subst (λ n. has (numbers ss) n ≡ true) e there))))
     ∙ divided-union table ss own.1 up.1)

@@ -41,9 +41,9 @@ TakenOutAsTheyWere =
     (table : Layout) (maps : List Map) (layer : List Command) → ShareNoGroup table layer
     → taken_out_each empty maps (map (groups_of table) layer) ≡ map (λ w. w.span) (works_of table maps layer)
 
--- The shards of each command are taken out, the commands are dealt to parts in any way, each part is run by itself, what it
--- gives is gathered in the layer's order, and the shards are put back in their places: so the commands of the layer are run
--- one after another on the joined map
+-- The shards of each command are taken out, the commands are dealt to parts in any way, each part is run by itself,
+-- what it gives is gathered in the layer's order, and the shards are put back in their places: so the commands of the
+-- layer are run one after another on the joined map
 abbrev pub PartsAreInTurn : Type 0
 PartsAreInTurn =
     (table : Layout) (old : List Map) (layer : List Command)

@@ -1,4 +1,5 @@
--- A layer: commands of which no two address one group. Each is run over the shards of its groups, in any order and by anyone.
+-- A layer: commands of which no two address one group. Each is run over the shards of its groups, in any order and by
+-- anyone.
 use Rattle.std.specs.Prelude.{◌≡◌, ℕ, true, false, List, [], ◌∷◌, map, Option, Some, None, Result, Ok, Err}
 use Rattle.std.specs.FinMap.{empty}
 use Rattle.std.specs.List.{AllZip}
