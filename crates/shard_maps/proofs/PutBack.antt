@@ -159,8 +159,10 @@ layer_ran table old layer rans long apart ran =
 
 pub parts_in_turn : PartsAreInTurn
 parts_in_turn table old layer parts results rans is_table own long apart ran gathered =
-    layer_in_turn table old (with_rans (left_of table old layer) rans) layer (outcomes_of rans) is_table own apart
-    (layer_ran table old layer rans long apart (AllZip-gathered (IsRunOf table) parts results (works_of table old layer) rans ran gathered))
+    let each = AllZip-gathered (IsRunOf table) parts results (works_of table old layer) rans ran gathered in
+    let has_run = layer_ran table old layer rans long apart each in
+    let turn = layer_in_turn table old (with_rans (left_of table old layer) rans) layer (outcomes_of rans) is_table own apart has_run in
+    (has_run, turn.0, turn.1)
 
 spans_of_works : (table : Layout) (maps : List Map) (cs : List Command)
     → ◌≡◌ {A = List Span} (map (λ c. span_at maps (groups_of table c)) cs) (map (λ w. w.span) (works_of table maps cs))

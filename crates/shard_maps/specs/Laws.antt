@@ -50,7 +50,8 @@ PartsAreInTurn =
     (parts : List (List Work)) (results : List (List Ran)) (rans : List Ran)
     → IsTable table → HasOwnKeys table old → length old ≡ table.shards → ShareNoGroup table layer
     → AllZip (AllZip (IsRunOf table)) parts results → IsGathered parts results (works_of table old layer) rans
-    → AnsweredInTurn (joined old) layer (outcomes_of rans) (joined (with_rans (left_of table old layer) rans))
+    → LayerRan table old layer (outcomes_of rans) (with_rans (left_of table old layer) rans)
+    × AnsweredInTurn (joined old) layer (outcomes_of rans) (joined (with_rans (left_of table old layer) rans))
     × HasOwnKeys table (with_rans (left_of table old layer) rans)
 
 -- what is answered in turn is what one thread does with the commands that didn't starve
