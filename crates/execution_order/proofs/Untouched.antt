@@ -21,19 +21,23 @@ has-groups_of : (table : Layout) (command : Command) (g : ℕ)
 has-groups_of table command g = has-chosen (λ s. is_whole command || has_key_on table s (keys_of command)) table.shards g
 
 -- a whole command addresses each group of the other
-whole_has : (table : Layout) (whole other : Command) (g : ℕ) → is_whole whole ≡ true → has (groups_of table other) g ≡ true → has (groups_of table whole) g ≡ true
+whole_has : (table : Layout) (whole other : Command) (g : ℕ) → is_whole whole ≡ true → has (groups_of table other) g ≡ true
+    → has (groups_of table whole) g ≡ true
 whole_has table whole other g is there =
     has-groups_of table whole g
     ∙ ap (λ b. nat_lt g table.shards && (b || has_key_on table g (keys_of whole))) is
     ∙ ap (λ b. b && true) (and_parts (nat_lt g table.shards) _ (sym (has-groups_of table other g) ∙ there)).0
 
-has_among : (table : Layout) (command : Command) (key : List ℕ) → IsTable table → among (keys_of command) key ≡ true → has (groups_of table command) (place table key) ≡ true
+has_among : (table : Layout) (command : Command) (key : List ℕ) → IsTable table → among (keys_of command) key ≡ true
+    → has (groups_of table command) (place table key) ≡ true
 has_among table command key is_table h =
     let found = Any-from_list_any (bytes_eq key) (keys_of command) h in
     let is : key ≡ found.1 = same_bytes key found.1 found.4 in
-    has-groups_of-key table command key is_table (found.0, found.2, subst (λ k. slice_index_or (keys_of command) found.0 k ≡ k) (sym is) found.3)
+    has-groups_of-key table command key is_table
+    (found.0, found.2, subst (λ k. slice_index_or (keys_of command) found.0 k ≡ k) (sym is) found.3)
 
-module _ (table : Layout) (e f : Entry) (is_table : IsTable table) (at_e : IsAddressed table e) (at_f : IsAddressed table f) (untouched : Touch e f → ⊥) where
+module _ (table : Layout) (e f : Entry) (is_table : IsTable table) (at_e : IsAddressed table e) (at_f : IsAddressed table f)
+    (untouched : Touch e f → ⊥) where
   in_e : (g : ℕ) → has (groups_of table e.command) g ≡ true → has e.groups g ≡ true
   in_e g there = ap (λ gs. has gs g) at_e.groups ∙ there
 
@@ -44,7 +48,8 @@ module _ (table : Layout) (e f : Entry) (is_table : IsTable table) (at_e : IsAdd
   first_isnt_whole = elim (is_whole e.command) as (λ b. is_whole e.command ≡ b → b ≡ false) [
     | true ↦ λ is. absurd (untouched (
       at_f.some_group.0,
-      in_e at_f.some_group.0 (whole_has table e.command f.command at_f.some_group.0 is (ap (λ gs. has gs at_f.some_group.0) (sym at_f.groups) ∙ at_f.some_group.1)),
+      in_e at_f.some_group.0 (whole_has table e.command f.command at_f.some_group.0 is
+          (ap (λ gs. has gs at_f.some_group.0) (sym at_f.groups) ∙ at_f.some_group.1)),
       at_f.some_group.1,
     ))
     | false ↦ λ _. refl
@@ -55,7 +60,8 @@ module _ (table : Layout) (e f : Entry) (is_table : IsTable table) (at_e : IsAdd
     | true ↦ λ is. absurd (untouched (
       at_e.some_group.0,
       at_e.some_group.1,
-      in_f at_e.some_group.0 (whole_has table f.command e.command at_e.some_group.0 is (ap (λ gs. has gs at_e.some_group.0) (sym at_e.groups) ∙ at_e.some_group.1)),
+      in_f at_e.some_group.0 (whole_has table f.command e.command at_e.some_group.0 is
+          (ap (λ gs. has gs at_e.some_group.0) (sym at_e.groups) ∙ at_e.some_group.1)),
     ))
     | false ↦ λ _. refl
   ] refl

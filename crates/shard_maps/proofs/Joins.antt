@@ -15,7 +15,8 @@ or_cond : (b : Bool) (v : Value) (o d : Option Value) → cond b (Some v) (optio
 or_cond true v o d = refl
 or_cond false v o d = refl
 
-pub get-with_entries : (m : Map) (es : List (List ℕ × Value)) (q : List ℕ) → get (with_entries m es) q ≡ option_or (find (slice_cmp nat_cmp) q es) (get m q)
+pub get-with_entries : (m : Map) (es : List (List ℕ × Value)) (q : List ℕ)
+    → get (with_entries m es) q ≡ option_or (find (slice_cmp nat_cmp) q es) (get m q)
 get-with_entries m [] q = refl
 get-with_entries m (e ∷ es) q =
     finite.get-insert nat_list_cmp_total (with_entries m es) e.0 e.1 q
@@ -40,7 +41,8 @@ get-joined-none (m ∷ ms) q none =
     get-joined-cons m ms q ∙ ap (λ o. option_or o (get (joined ms) q)) (none 0) ∙ get-joined-none ms q (λ i. none (suc i))
 
 -- where all maps but one have nothing at a key, the joined map has there what that one has
-get-joined-at : (ms : List Map) (p : ℕ) (q : List ℕ) → ((i : ℕ) → (i ≡ p → ⊥) → get (map_of_shard ms i) q ≡ None) → get (joined ms) q ≡ get (map_of_shard ms p) q
+get-joined-at : (ms : List Map) (p : ℕ) (q : List ℕ) → ((i : ℕ) → (i ≡ p → ⊥) → get (map_of_shard ms i) q ≡ None)
+    → get (joined ms) q ≡ get (map_of_shard ms p) q
 get-joined-at [] p q none = refl
 get-joined-at (m ∷ ms) zero q none =
     get-joined-cons m ms q ∙ ap (option_or (get m q)) (get-joined-none ms q (λ i. none (suc i) (λ e. suc_not_zero i e))) ∙ or_none (get m q)
@@ -52,7 +54,8 @@ get-joined-at (m ∷ ms) (suc p) q none =
     ∙ get-joined-at ms p q (λ i apart. none (suc i) (λ e. apart (cc)))
 
 -- a shard has nothing at a key that lies elsewhere
-pub none_elsewhere : (table : Layout) (shard : ℕ) (m : Map) (q : List ℕ) → HasKeysOf table shard m → (place table q ≡ shard → ⊥) → get m q ≡ None
+pub none_elsewhere : (table : Layout) (shard : ℕ) (m : Map) (q : List ℕ) → HasKeysOf table shard m → (place table q ≡ shard → ⊥)
+    → get m q ≡ None
 none_elsewhere table shard m q own apart =
     elim (get m q) as (λ o. get m q ≡ o → o ≡ None) [
       | None ↦ λ _. refl
@@ -60,6 +63,7 @@ none_elsewhere table shard m q own apart =
     ] refl
 
 -- the joined map has at a key what the key's shard has there
-pub get-joined : (table : Layout) (maps : List Map) (q : List ℕ) → HasOwnKeys table maps → get (joined maps) q ≡ get (map_of_shard maps (place table q)) q
+pub get-joined : (table : Layout) (maps : List Map) (q : List ℕ) → HasOwnKeys table maps
+    → get (joined maps) q ≡ get (map_of_shard maps (place table q)) q
 get-joined table maps q own =
     get-joined-at maps (place table q) q (λ i apart. none_elsewhere table i (map_of_shard maps i) q (own i) (λ e. apart (sym e)))

@@ -17,14 +17,16 @@ use Rattle.shard_maps.proofs.Spans.{numbers-span_at, get-union-joined, same_repl
 use Rattle.shard_maps.specs.Joined.{joined, map_of_shard, HasKeysOf, HasOwnKeys, Span, union, span_at, part_of, divided, SpanRan}
 
 -- shards that are the same as a span are the same each
-pub at_member : (f h : ℕ → Map) (gs : List ℕ) (g : ℕ) → ◌≡◌ {A = Span} (map (λ n. (n, f n)) gs) (map (λ n. (n, h n)) gs) → has gs g ≡ true → f g ≡ h g
+pub at_member : (f h : ℕ → Map) (gs : List ℕ) (g : ℕ) → ◌≡◌ {A = Span} (map (λ n. (n, f n)) gs) (map (λ n. (n, h n)) gs) → has gs g ≡ true
+    → f g ≡ h g
 at_member f h [] g e there = absurd (cc)
 at_member f h (x ∷ gs) g e there = elim (or_cases (x == g) (has gs g) there) [
   | inl here ↦ subst (λ n. f n ≡ h n) (eqb-true x g here) (ap (λ (l : Span). (slice_index_or l 0 (0, empty)).1) e)
   | inr later ↦ at_member f h gs g (ap (λ (l : Span). drop 1 l) e) later
 ]
 
-pub get-part_of : (table : Layout) (m : Map) (shard : ℕ) (q : List ℕ) → get (part_of table m shard) q ≡ cond (place table q == shard) (get m q) None
+pub get-part_of : (table : Layout) (m : Map) (shard : ℕ) (q : List ℕ)
+    → get (part_of table m shard) q ≡ cond (place table q == shard) (get m q) None
 get-part_of table m shard q = get-retain_keys m (λ key. place table key == shard) q
 
 pub HasKeysOf-part_of : (table : Layout) (m : Map) (shard : ℕ) → HasKeysOf table shard (part_of table m shard)
@@ -60,17 +62,18 @@ module _ (table : Layout) (old new : List Map) (command : Command) (is_table : I
     joined_after = same (joined new) (effect_of command (joined old)).0 (λ q. get-joined table new q own_after ∙ at_key q)
       where
         at_key : (q : List ℕ) → get (map_of_shard new (place table q)) q ≡ get (effect_of command (joined old)).0 q
-        at_key q = elim (has groups (place table q)) as (λ b. has groups (place table q) ≡ b → get (map_of_shard new (place table q)) q ≡ get (effect_of command (joined old)).0 q) [
-          | true ↦ λ there.
-              ap (λ m. get m q) (given (place table q) there)
-              ∙ get-part_of table (effect_of command part).0 (place table q) q
-              ∙ ap (λ b. cond b (get (effect_of command part).0 q) None) (eq-eqb (place table q) (place table q) refl)
-              ∙ same_there table command (joined old) part is_table is_part q there
-          | false ↦ λ away.
-              ap (λ m. get m q) (others (place table q) away)
-              ∙ sym (get-joined table old q own)
-              ∙ sym (same_elsewhere table command (joined old) part is_table is_part q away)
-        ] refl
+        at_key q = elim (has groups (place table q))
+            as (λ b. has groups (place table q) ≡ b → get (map_of_shard new (place table q)) q ≡ get (effect_of command (joined old)).0 q) [
+              | true ↦ λ there.
+                  ap (λ m. get m q) (given (place table q) there)
+                  ∙ get-part_of table (effect_of command part).0 (place table q) q
+                  ∙ ap (λ b. cond b (get (effect_of command part).0 q) None) (eq-eqb (place table q) (place table q) refl)
+                  ∙ same_there table command (joined old) part is_table is_part q there
+              | false ↦ λ away.
+                  ap (λ m. get m q) (others (place table q) away)
+                  ∙ sym (get-joined table old q own)
+                  ∙ sym (same_elsewhere table command (joined old) part is_table is_part q away)
+            ] refl
 
     pub reply_same : (effect_of command part).1 ≡ (effect_of command (joined old)).1
     reply_same = same_reply table command (joined old) part is_table is_part
@@ -81,9 +84,13 @@ pub span_is_joined : (table : Layout) (old new : List Map) (command : Command) (
     → ((shard : ℕ) → has (groups_of table command) shard ≡ false → map_of_shard new shard ≡ map_of_shard old shard)
     → ((joined new, reply) ≡ effect_of command (joined old)) × HasOwnKeys table new
 span_is_joined table old new command reply is_table own ran others = (
-  pair _ _ _ _ (joined_after table old new command is_table own parts others) (ap (λ r. r.1) ran ∙ reply_same table old new command is_table own parts others),
+  pair _ _ _ _ (joined_after table old new command is_table own parts others)
+      (ap (λ r. r.1) ran ∙ reply_same table old new command is_table own parts others),
   own_after table old new command is_table own parts others,
 )
   where
-    parts : span_at new (groups_of table command) ≡ divided table (groups_of table command) (effect_of command (union (span_at old (groups_of table command)))).0
-    parts = ap (λ r. r.0) ran ∙ ap (λ gs. divided table gs (effect_of command (union (span_at old (groups_of table command)))).0) (numbers-span_at old (groups_of table command))
+    parts : span_at new (groups_of table command)
+        ≡ divided table (groups_of table command) (effect_of command (union (span_at old (groups_of table command)))).0
+    parts = ap (λ r. r.0) ran
+        ∙ ap (λ gs. divided table gs (effect_of command (union (span_at old (groups_of table command)))).0)
+        (numbers-span_at old (groups_of table command))
