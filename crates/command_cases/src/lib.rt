@@ -32,11 +32,11 @@ pub fn count_reply(number: usize) -> Reply
 
 /// Runs a command of a family by the body that its row names, with the allocator, the keyspace and the command's fields.
 ///
-/// It is for `command_table::command_rows`: behind the family it takes the type of the family's commands, the allocator, the
+/// It is for `command_table::command_rows`: after the family it takes the type of the family's commands, the allocator, the
 /// keyspace and the command.
 #[macro_export]
 macro_rules! body_rows {
-    ([$family:ident, $alloc:expr, $keyspace:expr, $command:expr] $(($name:literal, $arity:ident($number:literal), $span:tt, $variant:ident { $($field:ident),* }, $body:ident),)*) => {
+    ([$family:ident, $alloc:expr, $keyspace:expr, $command:expr] $(($name:literal, $arity:ident($number:literal), $span:tt, $variant:ident { $($field:ident),* }, $read:ident, $body:ident),)*) => {
         match $command {
             $($family::$variant { $($field),* } => $body($alloc, $keyspace, $($field),*),)*
         }

@@ -1,4 +1,4 @@
-//! The words of a request behind the command's name, taken apart. No word is copied.
+//! The words of a request after the command's name, taken apart. No word is copied.
 
 ghost use Rattle.std.specs.List.{list_any};
 ghost use Rattle.std.specs.Char.{to_ascii_lowercase};

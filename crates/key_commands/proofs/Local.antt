@@ -3,7 +3,8 @@ use Rattle.std.proofs.Common.{◌≡◌, ℕ, List, Bool, true, false, cond, not
 use Rattle.std.specs.FinMap.{get, len}
 use Rattle.command_cases.specs.Case.{IsLocal}
 use Rattle.command_cases.specs.Replies.{count}
-use Rattle.command_table.specs.Command.{key_command_keys}
+use Rattle.command_table.specs.KeyCommands.{key_command_told, key_command_keys}
+use Rattle.command_table.specs.Telling.{is_all}
 use Rattle.command_table.specs.declared.key_commands.KeyCommand.{KeyCommand}
 use Rattle.command_table.specs.declared.key_commands.KeyCommand.TheVariants.{Del}
 use Rattle.key_commands.specs.KeyCommand.{del_case, key_command_case}
@@ -39,5 +40,6 @@ local-del keys m =
     ap (λ n. (n, count (len (restrict (restrict m keys) keys)))) (put_back-without m keys)
     ∙ ap (λ part. (without m keys, count (len part))) (restrict-restrict m keys)
 
-pub local-key_command : (c : KeyCommand) → IsLocal (key_command_keys c) (key_command_case c)
-local-key_command (Del keys) = local-del keys
+-- of the commands that name their keys; those for all keys have no part of the map
+pub local-key_command : (c : KeyCommand) → is_all (key_command_told c).keys ≡ false → IsLocal (key_command_keys c) (key_command_case c)
+local-key_command (Del keys) named = local-del keys

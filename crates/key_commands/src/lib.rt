@@ -8,7 +8,7 @@ mod bodies;
 
 ghost use Rattle.std.specs.Prelude.{◌≡◌, All, IsTrue, OnErr};
 ghost use Rattle.command_cases.specs.Case.{Does};
-ghost use Rattle.command_table.specs.Command.{key_command_keys};
+ghost use Rattle.command_table.specs.KeyCommands.{key_command_keys};
 ghost use Rattle.key_commands.specs.KeyCommand.{key_command_case, KeyCommandTakesMemory};
 
 use bodies::del;

@@ -1,7 +1,7 @@
 -- That each command on strings looks at its own keys alone.
 use Rattle.command_cases.proofs.Local.{local-at_key}
 use Rattle.command_cases.specs.Case.{IsLocal}
-use Rattle.command_table.specs.Command.{string_command_keys}
+use Rattle.command_table.specs.StringCommands.{string_command_keys}
 use Rattle.command_table.specs.declared.string_commands.StringCommand.{StringCommand}
 use Rattle.command_table.specs.declared.string_commands.StringCommand.TheVariants.{Get, Set}
 use Rattle.string_commands.specs.StringCommand.{get_step, set_step, string_command_case}

@@ -8,7 +8,7 @@ mod bodies;
 
 ghost use Rattle.std.specs.Prelude.{◌≡◌, All, IsTrue, OnErr};
 ghost use Rattle.command_cases.specs.Case.{Does};
-ghost use Rattle.command_table.specs.Command.{string_command_keys};
+ghost use Rattle.command_table.specs.StringCommands.{string_command_keys};
 ghost use Rattle.string_commands.specs.StringCommand.{string_command_case, StringCommandTakesMemory};
 
 use bodies::{get, set};
