@@ -5,13 +5,13 @@
 //! The crates of the families and `command_bodies` cite these words.
 #![tactic(auto)]
 
-ghost use Rattle.std.specs.Prelude.{◌≡◌};
-ghost use Rattle.command_cases.specs.Commute.{AnswersCommute, ContentsCommute};
-ghost use Rattle.command_cases.specs.Replies.{count};
-ghost use Rattle.resp.specs.Content.{content};
+mod replies;
 
-use resp::Reply;
+ghost use Rattle.command_cases.specs.Commute.{AnswersCommute, ContentsCommute};
+
 use std::alloc::AllocError;
+
+pub use replies::{count_reply, no_such_key_reply, ok_reply, truth_reply, wrong_type_reply};
 
 /// A body found no memory. The keyspace has the contents that it had before.
 #[derive(Debug, Drop)]
@@ -21,13 +21,6 @@ impl From<AllocError> for Starved {
     fn from(_: AllocError) -> Starved {
         Starved
     }
-}
-
-/// The number of something as a reply: an integer reply goes up to 9223372036854775807, and stands for all above too.
-pub fn count_reply(number: usize) -> Reply
-    ensures { content result ≡ count number }
-{
-    Reply::Int(i64::try_from(number).unwrap_or(i64::MAX))
 }
 
 /// Runs a command of a family by the body that its row names, with the allocator, the keyspace and the command's fields.

@@ -6,12 +6,12 @@ use Rattle.command_table.specs.declared.refusal.Refusal.TheVariants as refusal
 use Rattle.command_table.specs.declared.command.Command.{Command}
 use Rattle.command_table.specs.Arity.{admits}
 use Rattle.command_table.specs.Command.{told_of}
-use Rattle.command_table.specs.KeyCommands.{key_rows, del_row}
+use Rattle.command_table.specs.KeyCommands.{key_rows, del_row, rename_row}
 use Rattle.command_table.specs.KeySpan.{stepped}
 use Rattle.command_table.specs.LocalCommands.{local_rows, ping_row}
 use Rattle.command_table.specs.Reading.{rows, reading, IsTold}
 use Rattle.command_table.specs.Row.{Row, Reading, row_of, row_reading, row_told, reading_among}
-use Rattle.command_table.specs.StringCommands.{string_rows, get_row, set_row, set_with, options_condition}
+use Rattle.command_table.specs.StringCommands.{string_rows, get_row, set_row, setnx_row, set_with, options_condition}
 use Rattle.command_table.specs.Telling.{Telling, These}
 use Rattle.command_table.specs.Words.{Word, word, lower, pairs_of}
 
@@ -52,6 +52,12 @@ with_word : (r : Row) → admits r.arity 1 ≡ false →
 with_word r few tell name [] a = absurd cc
 with_word r few tell name (w ∷ ws) a = tell name w ws
 
+with_words : (r : Row) → admits r.arity 1 ≡ false → admits r.arity 2 ≡ false →
+    ((name w v : Word) (ws : List Word) → IsToldIn r (name ∷ w ∷ v ∷ ws) (r.reading (w ∷ v ∷ ws))) → Tells r
+with_words r none one tell name [] a = absurd cc
+with_words r none one tell name (w ∷ []) a = absurd cc
+with_words r none one tell name (w ∷ v ∷ ws) a = tell name w v ws
+
 tells_ping : Tells ping_row
 tells_ping name [] a = refl
 tells_ping name (w ∷ []) a = refl
@@ -66,10 +72,10 @@ local_tell : AllTell local_rows
 local_tell = (tells_ping, (λ name ws a. refl, tt))
 
 key_tell : AllTell key_rows
-key_tell = (λ name ws a. with_keys del_row.name _ _ (stepped-one ws), tt)
+key_tell = (λ name ws a. with_keys del_row.name _ _ (stepped-one ws), (with_words rename_row refl refl (λ name w v ws. refl), tt))
 
 string_tell : AllTell string_rows
-string_tell = (with_word get_row refl (λ name w ws. refl), (tells_set, tt))
+string_tell = (with_word get_row refl (λ name w ws. refl), (tells_set, (with_word setnx_row refl (λ name w ws. refl), tt)))
 
 AllTell-append : (rs qs : List Row) → AllTell rs → AllTell qs → AllTell (rs ++ qs)
 AllTell-append [] qs a b = b

@@ -1,8 +1,8 @@
-//! Commands on keys of any type: DEL.
+//! Commands on keys of any type.
 
-ghost use Rattle.std.specs.Prelude.{◌≡◌, MatchResult, Some, None};
+ghost use Rattle.std.specs.Prelude.{◌≡◌, length, MatchResult, Some, None};
 ghost use Rattle.command_table.specs.Held.{told_held};
-ghost use Rattle.command_table.specs.KeyCommands.{key_command_told, key_rows, del_row};
+ghost use Rattle.command_table.specs.KeyCommands.{key_command_told, key_rows, del_row, rename_row};
 ghost use Rattle.command_table.specs.Row.{row_of, reading_among};
 ghost use Rattle.command_table.specs.Words.{texts_of};
 
@@ -12,13 +12,17 @@ use crate::command_rows;
 use crate::refusal::{CommandName, Refusal};
 use crate::rows::{keys_of_span, read_rows, told_rows};
 use crate::told::{Keys, Told};
-use texts::Texts;
+use crate::words::two_words;
+use texts::{Text, Texts};
 
 /// A command on keys of any type.
 #[derive(Drop)]
 pub enum KeyCommand {
     /// `DEL key [key ..]`: removes the keys.
     Del { keys: Texts },
+
+    /// `RENAME key newkey`: moves the value of the key to the new one.
+    Rename { from: Text, to: Text },
 }
 
 impl KeyCommand {
@@ -49,4 +53,13 @@ fn read_del(words: Vec<Vec<u8>>) -> Result<Command, Refusal>
 {
     let keys = Texts::from(words);
     Ok(Command::Key(KeyCommand::Del { keys }))
+}
+
+/// `RENAME key newkey`.
+fn read_rename(words: Vec<Vec<u8>>) -> Result<Command, Refusal>
+    requires { length words.items ≡ 2 }
+    ensures { result ≡ rename_row.reading (texts_of words.items) }
+{
+    let (from, to) = two_words(words);
+    Ok(Command::Key(KeyCommand::Rename { from, to }))
 }

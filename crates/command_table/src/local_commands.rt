@@ -1,4 +1,4 @@
-//! Commands that look at no key: PING and ECHO.
+//! Commands that look at no key.
 
 ghost use Rattle.std.specs.Prelude.{◌≡◌, length, MatchResult, Some, None};
 ghost use Rattle.command_table.specs.Held.{told_held};

@@ -20,12 +20,14 @@ macro_rules! command_rows {
     (keys, $emit:ident, $($argument:tt)*) => {
         $emit! { [$($argument)*]
             ("del", AtLeast(2), (1, -1, 1), Del { keys }, read_del, del),
+            ("rename", Exactly(3), (1, 2, 1), Rename { from, to }, read_rename, rename),
         }
     };
     (strings, $emit:ident, $($argument:tt)*) => {
         $emit! { [$($argument)*]
             ("get", Exactly(2), (1, 1, 1), Get { key }, read_get, get),
             ("set", AtLeast(3), (1, 1, 1), Set { key, value, condition }, read_set, set),
+            ("setnx", Exactly(3), (1, 1, 1), Setnx { key, value }, read_setnx, setnx),
         }
     };
 }

@@ -1,8 +1,8 @@
-//! Commands on strings: GET and SET.
+//! Commands on strings.
 
 ghost use Rattle.std.specs.Prelude.{◌≡◌, ◌<◌, ◌≤◌, length, slice_get, MatchResult, Some, None};
 ghost use Rattle.command_table.specs.Held.{told_held};
-ghost use Rattle.command_table.specs.StringCommands.{string_command_told, string_rows, get_row, set_row, options_condition, is_option};
+ghost use Rattle.command_table.specs.StringCommands.{string_command_told, string_rows, get_row, set_row, setnx_row, options_condition, is_option};
 ghost use Rattle.command_table.specs.Row.{row_of, reading_among};
 ghost use Rattle.command_table.specs.Words.{texts_of};
 ghost use Rattle.std.specs.List.{list_all};
@@ -29,6 +29,12 @@ pub enum StringCommand {
         key: Text,
         value: Text,
         condition: Condition,
+    },
+
+    /// `SETNX key value`: puts the value at the key where it isn't there.
+    Setnx {
+        key: Text,
+        value: Text,
     },
 }
 
@@ -88,6 +94,15 @@ fn read_set(mut words: Vec<Vec<u8>>) -> Result<Command, Refusal>
         value,
         condition,
     }))
+}
+
+/// `SETNX key value`.
+fn read_setnx(words: Vec<Vec<u8>>) -> Result<Command, Refusal>
+    requires { length words.items ≡ 2 }
+    ensures { result ≡ setnx_row.reading (texts_of words.items) }
+{
+    let (key, value) = two_words(words);
+    Ok(Command::Str(StringCommand::Setnx { key, value }))
 }
 
 /// The condition that the options of SET state.

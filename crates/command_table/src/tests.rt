@@ -39,6 +39,8 @@ fn refuses_what_the_table_refuses(rt: HostRuntime) -> Result<(), Fail> {
         ("get a b", "ERR wrong number of arguments for 'get' command"),
         ("SET a", "ERR wrong number of arguments for 'set' command"),
         ("DEL", "ERR wrong number of arguments for 'del' command"),
+        ("rename a", "ERR wrong number of arguments for 'rename' command"),
+        ("SETNX a 1 NX", "ERR wrong number of arguments for 'setnx' command"),
         ("SET a 1 NX XX", "ERR syntax error"),
         ("SET a 1 NX NX XX", "ERR syntax error"),
         ("SET a 1 EX 10", "ERR syntax error"),
@@ -84,6 +86,8 @@ fn tells_name_and_keys(rt: HostRuntime) -> Result<(), Fail> {
         ("SET a 1", "set a"),
         ("SET a 1 nx NX", "set a"),
         ("DEL a b a", "del a b a"),
+        ("Rename a b", "rename a b"),
+        ("SETNX a 1", "setnx a"),
     ] {
         let command = match read_line(alloc, line)? {
             Ok(command) => command,
