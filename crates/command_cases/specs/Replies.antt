@@ -1,5 +1,6 @@
 -- Replies that many commands give.
 use Rattle.std.specs.Prelude.{ℕ, Bool, true, false, min, pos, codes}
+use Rattle.command_cases.specs.declared.replies.TheConstants.{GREATEST_COUNT}
 use Rattle.resp.specs.Content.{Content, SimpleText, ErrorLine, Number}
 
 -- done, and nothing more to say
@@ -8,7 +9,7 @@ ok = SimpleText (codes "OK")
 
 -- a number of things. An integer reply has 64 bits with a sign; its greatest number stands for all above too
 abbrev pub count : ℕ → Content
-count n = Number (pos (min n 9223372036854775807))
+count n = Number (pos (min n GREATEST_COUNT))
 
 -- whether something is so, as an integer
 abbrev pub truth : Bool → Content

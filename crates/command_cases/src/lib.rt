@@ -11,7 +11,7 @@ ghost use Rattle.command_cases.specs.Commute.{AnswersCommute, ContentsCommute};
 
 use std::alloc::AllocError;
 
-pub use replies::{count_reply, no_such_key_reply, ok_reply, truth_reply, wrong_type_reply};
+pub use replies::{GREATEST_COUNT, count_reply, no_such_key_reply, ok_reply, truth_reply, wrong_type_reply};
 
 /// A body found no memory. The keyspace has the contents that it had before.
 #[derive(Debug, Drop)]

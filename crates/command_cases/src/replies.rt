@@ -6,6 +6,9 @@ ghost use Rattle.resp.specs.Content.{content};
 
 use resp::{ErrorText, Reply};
 
+/// The greatest number that an integer reply says; it stands for all above too.
+pub const GREATEST_COUNT: usize = 9223372036854775807;
+
 /// `OK`: done, and nothing more to say.
 pub fn ok_reply() -> Reply
     ensures { content result ≡ ok }

@@ -1,5 +1,5 @@
 -- A row of the table of commands, in the terms of the Redis command reference, and how rows are used.
-use Rattle.std.specs.Prelude.{◌+◌, List, [], ◌∷◌, Option, Some, None, Result, Err, if◌then◌else◌, length, option_map}
+use Rattle.std.specs.Prelude.{◌+◌, List, [], ◌∷◌, Option, Some, None, Result, Ok, Err, ◌%◌, ◌==◌, if◌then◌else◌, length, option_map}
 use Rattle.std.specs.Str.{bytes_eq}
 use Rattle.command_table.specs.declared.arity.Arity.{Arity}
 use Rattle.command_table.specs.declared.command.Command.{Command}
@@ -8,7 +8,7 @@ use Rattle.command_table.specs.declared.refusal.Refusal.TheVariants as refusal
 use Rattle.command_table.specs.Arity.{admits}
 use Rattle.command_table.specs.KeySpan.{KeySpan, keys_in}
 use Rattle.command_table.specs.Telling.{Telling}
-use Rattle.command_table.specs.Words.{Word}
+use Rattle.command_table.specs.Words.{Word, pairs_of}
 
 -- what comes of reading words
 abbrev pub Reading : Type 0
@@ -37,3 +37,7 @@ row_reading r words = if admits r.arity (length words + 1) then r.reading words 
 -- what these rows say of a name and the words after it; None where no row has the name
 abbrev pub reading_among : List Row → Word → List Word → Option Reading
 reading_among rows name words = option_map (λ r. row_reading r words) (row_of rows name)
+
+-- what the words say where they are pairs; an odd number of words is a wrong one
+abbrev pub pairs_reading : Word → (List (Word × Word) → Command) → List Word → Reading
+pairs_reading name make words = if length words % 2 == 0 then Ok (make (pairs_of words)) else Err (refusal.Arity name)
