@@ -1,5 +1,5 @@
 -- A loop over a command's keys, of which contracts see the bytes: the key of one turn, and what is left after it.
-use Rattle.std.proofs.Common.{◌≡◌, ℕ, suc, ◌+◌, ◌<◌, List, ◌∷◌, map, length, drop, get_or, All, Bool, IsTrue, add-one, arith, sym, ap, subst, ◌∙◌}
+use Rattle.std.proofs.Common.{◌≡◌, ℕ, suc, ◌+◌, ◌<◌, List, [], ◌∷◌, map, length, drop, get_or, All, Bool, IsTrue, add-one, arith, sym, ap, subst, ◌∙◌}
 use Rattle.std.proofs.Math.ListN.{get_or-map}
 use Rattle.std.proofs.Math.Seq.{drop-cons}
 use Rattle.std.proofs.lemmas.List.{length-map}
@@ -21,3 +21,10 @@ rest_item xs i x within is =
     ap texts_of (drop-cons xs i x within)
     ∙ ap (λ y. y.items ∷ texts_of (drop (suc i) xs)) (sym is)
     ∙ ap (λ n. x.items ∷ texts_of (drop n xs)) (sym (add-one i))
+
+-- where all keys of a command are covered, so are those after the first
+pub covered_after_first : (covered : Bytes → Bool) (keys others : List Bytes) (i : ℕ) (d : Bytes) → All (λ key. IsTrue (covered key)) keys
+    → drop 1 keys ≡ others → i < length others → IsTrue (covered (get_or others i d))
+covered_after_first covered [] others i d all rest within = absurd (omega (arith, ap length rest, within))
+covered_after_first covered (key ∷ keys) others i d all rest within =
+    subst (λ ks. IsTrue (covered (get_or ks i d))) rest (all (suc i) d (omega (arith, ap length rest, within)))

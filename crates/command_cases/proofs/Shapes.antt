@@ -7,7 +7,7 @@ use Rattle.command_cases.specs.Shapes.{values_at, at_each, StepOfTwo, set_two, a
 use Rattle.keyspace.proofs.Parts.{among-first, get-restrict_here, put_back-set, put_back-insert, put_back-restrict}
 use Rattle.keyspace.specs.Map.{Map, among, restrict, put_back, set}
 use Rattle.resp.specs.Content.{Content}
-use Rattle.texts.specs.Texts.{Bytes}
+use Rattle.texts.specs.Texts.{Bytes, firsts}
 use Rattle.values.specs.declared.Value.{Value}
 use Rattle.values.specs.declared.Value.TheVariants.{Str}
 
@@ -62,25 +62,25 @@ local-at_target target sources step m =
     (put_back-set m keys (restrict m keys) target left.0 (among-first target sources) ∙ ap (λ n. set n target left.0) (put_back-restrict m keys))
 
 -- pairs whose keys are among some may be written in the part or in the whole
-put_back-with_pairs : (m : Map) (keys : List Bytes) (part : Map) (pairs : List (Bytes × Bytes)) → Within (map (λ p. p.0) pairs) keys
+put_back-with_pairs : (m : Map) (keys : List Bytes) (part : Map) (pairs : List (Bytes × Bytes)) → Within (firsts pairs) keys
     → put_back m keys (with_pairs part pairs) ≡ with_pairs (put_back m keys part) pairs
 put_back-with_pairs m keys part [] within = refl
 put_back-with_pairs m keys part (pair ∷ pairs) within =
-    let others = map (λ p. p.0) pairs in
+    let others = firsts pairs in
     put_back-with_pairs m keys (insert part pair.0 (Str pair.1)) pairs (within-tail pair.0 others keys within)
     ∙ ap (λ n. with_pairs n pairs) (put_back-insert m keys part pair.0 (Str pair.1) (within pair.0 (among-first pair.0 others)))
 
 -- whether they are written or not
-put_back-written : (m : Map) (pairs : List (Bytes × Bytes)) (written : Bool) → let keys = map (λ p. p.0) pairs in
+put_back-written : (m : Map) (pairs : List (Bytes × Bytes)) (written : Bool) → let keys = firsts pairs in
     put_back m keys (if written then with_pairs (restrict m keys) pairs else restrict m keys) ≡ (if written then with_pairs m pairs else m)
 put_back-written m pairs true =
-    let keys = map (λ p. p.0) pairs in
+    let keys = firsts pairs in
     put_back-with_pairs m keys (restrict m keys) pairs (λ key h. h) ∙ ap (λ n. with_pairs n pairs) (put_back-restrict m keys)
-put_back-written m pairs false = put_back-restrict m (map (λ p. p.0) pairs)
+put_back-written m pairs false = put_back-restrict m (firsts pairs)
 
-pub local-at_pairs : (pairs : List (Bytes × Bytes)) (step : List (Option Value) → Bool × Content) → IsLocal (map (λ p. p.0) pairs) (at_pairs pairs step)
+pub local-at_pairs : (pairs : List (Bytes × Bytes)) (step : List (Option Value) → Bool × Content) → IsLocal (firsts pairs) (at_pairs pairs step)
 local-at_pairs pairs step m =
-    let keys = map (λ p. p.0) pairs in
+    let keys = firsts pairs in
     let done = step (values_at m keys) in
     ap (λ os. (put_back m keys (if (step os).0 then with_pairs (restrict m keys) pairs else restrict m keys), (step os).1))
     (values_at-restrict m keys keys (λ key h. h))

@@ -5,7 +5,7 @@ use Rattle.std.specs.FinMap.{get, insert}
 use Rattle.command_cases.specs.Case.{Case}
 use Rattle.keyspace.specs.Map.{Map, set}
 use Rattle.resp.specs.Content.{Content}
-use Rattle.texts.specs.Texts.{Bytes}
+use Rattle.texts.specs.Texts.{Bytes, firsts}
 use Rattle.values.specs.declared.Value.{Value}
 use Rattle.values.specs.declared.Value.TheVariants.{Str}
 
@@ -40,4 +40,4 @@ with_pairs m (pair ∷ pairs) = with_pairs (insert m pair.0 (Str pair.1)) pairs
 -- whether the pairs are written, and the answer, are by what stands at their keys
 abbrev pub at_pairs : List (Bytes × Bytes) → (List (Option Value) → Bool × Content) → Case
 at_pairs pairs step m =
-    ((if (step (values_at m (map (λ p. p.0) pairs))).0 then with_pairs m pairs else m), (step (values_at m (map (λ p. p.0) pairs))).1)
+    ((if (step (values_at m (firsts pairs))).0 then with_pairs m pairs else m), (step (values_at m (firsts pairs))).1)

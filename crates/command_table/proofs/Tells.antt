@@ -16,6 +16,7 @@ use Rattle.command_table.specs.Reading.{rows, reading, IsTold}
 use Rattle.command_table.specs.Row.{Row, Reading, pairs_reading, row_of, row_reading, row_told, reading_among}
 use Rattle.command_table.specs.StringCommands.{string_rows, get_row, set_row, setnx_row, set_with, options_condition}
 use Rattle.command_table.specs.Telling.{Telling, KeysTold, All, These}
+use Rattle.texts.specs.Texts.{firsts}
 use Rattle.command_table.specs.Words.{Word, word, lower, pairs_of}
 
 -- every word, one by one
@@ -24,7 +25,7 @@ stepped-one [] = refl
 stepped-one (w ∷ ws) = ap (λ t. w ∷ t) (stepped-one ws)
 
 -- every second word
-pub stepped-two : (ws : List Word) → (length ws % 2 == 0) ≡ true → stepped 2 0 ws ≡ map (λ p. p.0) (pairs_of ws)
+pub stepped-two : (ws : List Word) → (length ws % 2 == 0) ≡ true → stepped 2 0 ws ≡ firsts (pairs_of ws)
 stepped-two [] h = refl
 stepped-two (w ∷ []) h = absurd cc
 stepped-two (w ∷ v ∷ ws) h = ap (λ t. w ∷ t) (stepped-two ws (grind (arith, nat_tests)))
@@ -92,12 +93,12 @@ tells-target r span few made name (target ∷ sources) a =
 
 -- every second word, of pairs
 pub tells-pairs : (r : Row) (make : List (Word × Word) → Command) → r.keys ≡ ToLastWord 1 2 → ((ws : List Word) → r.reading ws ≡ pairs_reading r.name make ws)
-    → ((pairs : List (Word × Word)) → told_of (make pairs) ≡ record { name = r.name; keys = These (map (λ p. p.0) pairs) }) → Tells r
+    → ((pairs : List (Word × Word)) → told_of (make pairs) ≡ record { name = r.name; keys = These (firsts pairs) }) → Tells r
 tells-pairs r make span reads made name ws a =
     subst (λ read. IsToldIn r (name ∷ ws) read) (sym (reads ws))
     (elim (length ws % 2 == 0)
     as (λ b. (length ws % 2 == 0) ≡ b → IsToldIn r (name ∷ ws) (if b then Ok (make (pairs_of ws)) else Err (refusal.Arity r.name))) [
-      | true ↦ λ h. with_keys r (These (map (λ p. p.0) (pairs_of ws))) name ws (Ok (make (pairs_of ws)))
+      | true ↦ λ h. with_keys r (These (firsts (pairs_of ws))) name ws (Ok (make (pairs_of ws)))
       (ap (λ s. keys_in s (name ∷ ws)) span ∙ ap These (stepped-two ws h)) (made (pairs_of ws))
       | false ↦ λ h. tt
     ] refl)

@@ -3,6 +3,7 @@ use Rattle.std.specs.Prelude.{[], ◌∷◌, map}
 use Rattle.command_table.specs.declared.told.Keys.{Keys}
 use Rattle.command_table.specs.declared.told.Keys.TheVariants as keys
 use Rattle.command_table.specs.declared.told.Told.{Told}
+use Rattle.texts.specs.Texts.{firsts}
 use Rattle.command_table.specs.Telling.{Telling, KeysTold, All, These}
 
 abbrev pub keys_held : Keys → KeysTold
@@ -12,7 +13,7 @@ keys_held (keys.One key) = These (key.now ∷ [])
 keys_held (keys.Two first second) = These (first.now ∷ second.now ∷ [])
 keys_held (keys.Each each) = These each.now
 keys_held (keys.OneAnd first rest) = These (first.now ∷ rest.now)
-keys_held (keys.Firsts pairs) = These (map (λ p. p.0) pairs.now)
+keys_held (keys.Firsts pairs) = These (firsts pairs.now)
 
 abbrev pub told_held : Told → Telling
 told_held t = record { name = t.name.now; keys = keys_held t.keys }
