@@ -1,5 +1,5 @@
 -- What a change at one key leaves at another. `beside` is the set that bodies of two keys name.
-use Rattle.std.proofs.Common.{◌≡◌, ℕ, List, false, cond, Option, Some, None, ap, ◌∙◌}
+use Rattle.std.proofs.Common.{◌≡◌, ℕ, List, false, cond, Some, None, ap, ◌∙◌}
 use Rattle.std.specs.FinMap.{get, insert, remove}
 use Rattle.std.specs.Str.{bytes_eq}
 use Rattle.keyspace.proofs.Gets.{get-insert, get-remove}

@@ -9,9 +9,10 @@ mod replies;
 
 ghost use Rattle.command_cases.specs.Commute.{AnswersCommute, ContentsCommute};
 
+pub use replies::{
+    GREATEST_COUNT, count_reply, no_such_key_reply, ok_reply, truth_reply, wrong_type_reply,
+};
 use std::alloc::AllocError;
-
-pub use replies::{GREATEST_COUNT, count_reply, no_such_key_reply, ok_reply, truth_reply, wrong_type_reply};
 
 /// A body found no memory. The keyspace has the contents that it had before.
 #[derive(Debug, Drop)]

@@ -1,5 +1,5 @@
 -- Rows, found by their names.
-use Rattle.std.proofs.Common.{◌≡◌, ℕ, zero, suc, ◌<◌, Bool, true, false, ◌&&◌, List, [], ◌∷◌, Some, None, refl, sym, subst, nat_lt, if◌then◌else◌, arith}
+use Rattle.std.proofs.Common.{◌≡◌, ℕ, zero, suc, ◌<◌, Bool, true, false, List, [], ◌∷◌, Some, None, refl, sym, subst, nat_lt, if◌then◌else◌, arith}
 use Rattle.std.specs.List.{list_all}
 use Rattle.std.specs.Str.{bytes_eq, IsUtf8, IsAscii}
 use Rattle.std.proofs.lemmas.Bool.{and_parts}

@@ -1,10 +1,9 @@
 -- What a row says of the words is what is told of the command.
-use Rattle.std.proofs.Common.{◌≡◌, ◌+◌, ◌++◌, IfOk, true, false, codes, Result, ◌∙◌, List, [], ◌∷◌, length, Some, Ok, Err, refl, sym, ap, if◌then◌else◌, unwrap_or, option_map, map, drop, subst, ◌%◌, ◌==◌, arith}
+use Rattle.std.proofs.Common.{◌≡◌, ◌+◌, ◌++◌, IfOk, true, false, Result, ◌∙◌, List, [], ◌∷◌, length, Some, Ok, Err, refl, sym, ap, if◌then◌else◌, unwrap_or, option_map, drop, subst, ◌%◌, ◌==◌, arith}
 use Rattle.std.proofs.lemmas.Bool.Decides.{nat_tests}
 use Rattle.std.specs.Str.{bytes_eq}
 use Rattle.command_table.specs.declared.refusal.Refusal.TheVariants as refusal
 use Rattle.command_table.specs.declared.command.Command.{Command}
-use Rattle.command_table.specs.declared.arity.Arity.{Arity}
 use Rattle.command_table.specs.declared.refusal.Refusal.{Refusal}
 use Rattle.command_table.specs.declared.string_commands.Condition.{Condition}
 use Rattle.command_table.specs.Arity.{admits}
@@ -15,7 +14,7 @@ use Rattle.command_table.specs.LocalCommands.{local_rows, ping_row, echo_row}
 use Rattle.command_table.specs.Reading.{rows, reading, IsTold}
 use Rattle.command_table.specs.Row.{Row, Reading, pairs_reading, row_of, row_reading, row_told, reading_among}
 use Rattle.command_table.specs.StringCommands.{string_rows, get_row, set_row, setnx_row, set_with, options_condition}
-use Rattle.command_table.specs.Telling.{Telling, KeysTold, All, These}
+use Rattle.command_table.specs.Telling.{KeysTold, All, These}
 use Rattle.texts.specs.Texts.{firsts}
 use Rattle.command_table.specs.Words.{Word, word, lower, pairs_of}
 
@@ -99,7 +98,7 @@ tells-pairs r make span reads made name ws a =
     (elim (length ws % 2 == 0)
     as (λ b. (length ws % 2 == 0) ≡ b → IsToldIn r (name ∷ ws) (if b then Ok (make (pairs_of ws)) else Err (refusal.Arity r.name))) [
       | true ↦ λ h. with_keys r (These (firsts (pairs_of ws))) name ws (Ok (make (pairs_of ws)))
-      (ap (λ s. keys_in s (name ∷ ws)) span ∙ ap These (stepped-two ws h)) (made (pairs_of ws))
+          (ap (λ s. keys_in s (name ∷ ws)) span ∙ ap These (stepped-two ws h)) (made (pairs_of ws))
       | false ↦ λ h. tt
     ] refl)
 

@@ -1,5 +1,5 @@
 -- What is told of a command, where the command holds it.
-use Rattle.std.specs.Prelude.{[], ◌∷◌, map}
+use Rattle.std.specs.Prelude.{[], ◌∷◌}
 use Rattle.command_table.specs.declared.told.Keys.{Keys}
 use Rattle.command_table.specs.declared.told.Keys.TheVariants as keys
 use Rattle.command_table.specs.declared.told.Told.{Told}

@@ -3,7 +3,6 @@ use Rattle.std.specs.Prelude.{ℕ, Bool, List, [], map, slice_index_or}
 use Rattle.std.specs.Char.{to_ascii_lowercase}
 use Rattle.std.specs.Str.{bytes_eq}
 use Rattle.texts.specs.Texts.{Bytes}
-
 pub use Rattle.texts.specs.Texts.{texts_of, pairs_of}
 
 -- a word: any bytes

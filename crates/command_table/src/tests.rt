@@ -39,8 +39,14 @@ fn refuses_what_the_table_refuses(rt: HostRuntime) -> Result<(), Fail> {
         ("get a b", "ERR wrong number of arguments for 'get' command"),
         ("SET a", "ERR wrong number of arguments for 'set' command"),
         ("DEL", "ERR wrong number of arguments for 'del' command"),
-        ("rename a", "ERR wrong number of arguments for 'rename' command"),
-        ("SETNX a 1 NX", "ERR wrong number of arguments for 'setnx' command"),
+        (
+            "rename a",
+            "ERR wrong number of arguments for 'rename' command",
+        ),
+        (
+            "SETNX a 1 NX",
+            "ERR wrong number of arguments for 'setnx' command",
+        ),
         ("SET a 1 NX XX", "ERR syntax error"),
         ("SET a 1 NX NX XX", "ERR syntax error"),
         ("SET a 1 EX 10", "ERR syntax error"),

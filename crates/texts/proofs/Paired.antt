@@ -1,5 +1,5 @@
 -- Byte strings, two by two.
-use Rattle.std.proofs.Common.{◌≡◌, ℕ, zero, suc, ◌+◌, ◌*◌, ◌≤◌, ◌<◌, ◌%◌, List, [], ◌∷◌, length, map, Some, slice_get, slice_index_or, refl, ap, arith}
+use Rattle.std.proofs.Common.{◌≡◌, ℕ, zero, suc, ◌+◌, ◌*◌, ◌≤◌, ◌<◌, ◌%◌, List, [], ◌∷◌, length, Some, slice_get, slice_index_or, refl, ap, arith}
 use native.Mathlib.Numerals.{unary_clauses}
 use Rattle.std.specs.Global.{Vec}
 use Rattle.texts.specs.Texts.{texts_of, pairs_of, firsts, by_turns}

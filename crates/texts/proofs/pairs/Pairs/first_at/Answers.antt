@@ -1,4 +1,4 @@
-use Rattle.std.proofs.Common.{◌≡◌, ◌∙◌, ap, sym, subst, map, length, arith, ℕ, ◌<◌, ◌*◌, List, slice_get, Some}
+use Rattle.std.proofs.Common.{◌≡◌, ◌∙◌, ap, sym, subst, length, arith, ℕ, ◌<◌, ◌*◌, List, slice_get, Some}
 use Rattle.texts.proofs.Paired.{length-pairs_of, first-pairs_of}
 use Rattle.std.specs.Global.{Vec}
 use Rattle.texts.specs.Texts.{Bytes, texts_of, pairs_of, firsts}
