@@ -1,4 +1,4 @@
--- The rows of the commands on strings.
+-- The commands on strings: what is told of each, what their words say, and their rows.
 use Rattle.std.specs.Prelude.{Bool, true, false, ◌||◌, List, [], ◌∷◌, drop, Result, Ok, Err, if◌then◌else◌, codes}
 use Rattle.std.specs.List.{list_any, list_all}
 use Rattle.command_table.specs.declared.arity.Arity.TheVariants.{Exactly, AtLeast}
@@ -7,13 +7,20 @@ use Rattle.command_table.specs.declared.refusal.Refusal.{Refusal}
 use Rattle.command_table.specs.declared.refusal.Refusal.TheVariants.{Syntax}
 use Rattle.command_table.specs.declared.string_commands.Condition.{Condition}
 use Rattle.command_table.specs.declared.string_commands.Condition.TheVariants.{Always, IfAbsent, IfPresent}
-use Rattle.command_table.specs.declared.string_commands.StringCommand.TheVariants.{Get, Set}
+use Rattle.command_table.specs.declared.string_commands.StringCommand.{StringCommand}
+use Rattle.command_table.specs.declared.string_commands.StringCommand.TheVariants.{Get, Set, Setnx}
 use Rattle.command_table.specs.KeySpan.{Between}
 use Rattle.command_table.specs.Row.{Row, Reading}
+use Rattle.command_table.specs.Telling.{Telling, These, named}
 use Rattle.command_table.specs.Words.{Word, word, is_word}
 
-abbrev pub get_reading : List Word → Reading
-get_reading words = Ok (Str (Get (word words 0)))
+abbrev pub string_command_told : StringCommand → Telling
+string_command_told (Get key) = record { name = codes "get"; keys = These (key ∷ []) }
+string_command_told (Set key value condition) = record { name = codes "set"; keys = These (key ∷ []) }
+string_command_told (Setnx key value) = record { name = codes "setnx"; keys = These (key ∷ []) }
+
+abbrev pub string_command_keys : StringCommand → List Word
+string_command_keys c = named (string_command_told c).keys
 
 -- the two options of SET
 abbrev pub is_nx : Word → Bool
@@ -45,10 +52,13 @@ abbrev pub set_reading : List Word → Reading
 set_reading words = set_with (word words 0) (word words 1) (options_condition (drop 2 words))
 
 abbrev pub get_row : Row
-get_row = record { name = codes "get"; arity = Exactly 2; keys = Between 1 1; reading = get_reading }
+get_row = record { name = codes "get"; arity = Exactly 2; keys = Between 1 1; reading = λ words. Ok (Str (Get (word words 0))) }
 
 abbrev pub set_row : Row
 set_row = record { name = codes "set"; arity = AtLeast 3; keys = Between 1 1; reading = set_reading }
 
+abbrev pub setnx_row : Row
+setnx_row = record { name = codes "setnx"; arity = Exactly 3; keys = Between 1 1; reading = λ words. Ok (Str (Setnx (word words 0) (word words 1))) }
+
 abbrev pub string_rows : List Row
-string_rows = get_row ∷ set_row ∷ []
+string_rows = get_row ∷ set_row ∷ setnx_row ∷ []
