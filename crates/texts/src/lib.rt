@@ -8,4 +8,4 @@ mod text;
 mod text_list;
 
 pub use text::Text;
-pub use text_list::Texts;
+pub use text_list::{End, Texts};

@@ -4,6 +4,16 @@ ghost use Rattle.std.specs.Prelude.{◌≡◌, length, map};
 
 use std::marker::Model;
 
+/// One of the two ends of a list.
+#[derive(Clone, Copy, Debug, PartialEq, Eq)]
+pub enum End {
+    /// Before the first item.
+    Head,
+
+    /// Behind the last item.
+    Tail,
+}
+
 /// A list of byte strings, as the keys of a command. Contracts see the list of their bytes.
 #[derive(Drop)]
 pub struct Texts {
