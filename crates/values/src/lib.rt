@@ -5,6 +5,9 @@
 //! bodies of the commands read and change them.
 #![tactic(auto)]
 
+mod list_value;
+
+pub use list_value::ListValue;
 use texts::Text;
 
 /// The value of a key.
@@ -14,4 +17,7 @@ use texts::Text;
 pub enum Value {
     /// A string of any bytes, the empty one included.
     Str(Text),
+
+    /// A list of at least one byte string.
+    List(ListValue),
 }
