@@ -1,6 +1,8 @@
 -- What the calls of a list leave.
-use Rattle.std.specs.Prelude.{ℕ, zero, suc, ◌+◌, ◌-◌, Bool, cond, List, [], ◌∷◌, ◌++◌, length, take, drop, reverse, Option, Some, None}
+use Rattle.std.specs.Prelude.{ℕ, zero, suc, ◌-◌, Bool, cond, List, [], ◌∷◌, ◌++◌, length, take, drop, reverse}
+use Rattle.std.specs.Prelude.{Option, Some, None}
 use Rattle.std.specs.Str.{bytes_eq}
+use Rattle.texts.specs.Texts.{Bytes}
 use Rattle.texts.specs.declared.text_list.End.{End}
 use Rattle.texts.specs.declared.text_list.End.TheVariants.{Head, Tail}
 
@@ -41,6 +43,6 @@ without_first test (suc most) [] = []
 without_first test (suc most) (x ∷ xs) = cond (test x) (without_first test most xs) (x ∷ without_first test (suc most) xs)
 
 -- the list without the items that are equal to this one, at most so many of them, counted from this end
-abbrev pub without_equal : End → List ℕ → ℕ → List (List ℕ) → List (List ℕ)
+abbrev pub without_equal : End → Bytes → ℕ → List Bytes → List Bytes
 without_equal Head item most xs = without_first (bytes_eq item) most xs
 without_equal Tail item most xs = reverse (without_first (bytes_eq item) most (reverse xs))

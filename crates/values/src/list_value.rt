@@ -1,9 +1,11 @@
 //! The value of a key that is a list.
 
-ghost use Rattle.std.specs.Prelude.{◌≡◌, ◌+◌, ◌-◌, ◌<◌, ◌≤◌, [], ◌∷◌, ◌++◌, length, map, insert, position, slice_get, slice_set, slice_range, None, OnOk, OnErr, IfOk, IfErr};
+ghost use Rattle.std.specs.Prelude.{◌≡◌, ◌+◌, ◌<◌, ◌≤◌, [], ◌∷◌, length, insert, position, slice_get, slice_set, slice_range};
+ghost use Rattle.std.specs.Prelude.{IsOk, OnOk, OnErr, IfOk, IfErr};
 ghost use Rattle.std.specs.Option.{option_map};
 ghost use Rattle.std.specs.Str.{bytes_eq};
 ghost use Rattle.texts.specs.declared.text_list.End.TheVariants.{Head, Tail};
+ghost use Rattle.texts.specs.Texts.{texts_of};
 ghost use Rattle.values.specs.ListValue.{nonempty, items_of, pushed, end_item, popped, joined, without_equal};
 
 use std::alloc::{AllocError, Global};
@@ -21,11 +23,12 @@ pub struct ListValue {
 }
 
 impl Model for ListValue {
-    ghost use Rattle.std.specs.Prelude.{ℕ, List, ◌<◌, length, map};
+    ghost use Rattle.std.specs.Prelude.{List, ◌<◌, length};
+    ghost use Rattle.texts.specs.Texts.{Bytes, texts_of};
 
-    ghost Value = { List (List ℕ) };
+    ghost Value = { List Bytes };
 
-    ghost view = { λ l. map (λ t. t.items) l.texts.items };
+    ghost view = { λ l. texts_of l.texts.items };
 
     ghost invariant = { λ l. 0 < length l.texts.items };
 }
@@ -75,6 +78,7 @@ impl ListValue {
     pub fn push_all(&mut self, end: End, items: Texts) -> Result<(), AllocError>
         ensures ok { OnOk result (self.new ≡ pushed end self.old items) }
         ensures err { OnErr result (self.new ≡ self.old) }
+        ensures succeeds { items ≡ [] → IsOk result }
     {
         match end {
             End::Head => push_head(&mut self.texts, items.into_vec()),
@@ -192,7 +196,7 @@ impl ListValue {
 
 /// These texts as a list, if there are any.
 fn at_least_one(texts: VecDeque<Vec<u8>>) -> Option<ListValue>
-    ensures { result ≡ nonempty (map (λ t. t.items) texts.items) }
+    ensures { result ≡ nonempty (texts_of texts.items) }
 {
     if texts.is_empty() {
         None
@@ -204,8 +208,9 @@ fn at_least_one(texts: VecDeque<Vec<u8>>) -> Option<ListValue>
 /// Pushes the items at the head one after another: all of them, or none.
 fn push_head(texts: &mut VecDeque<Vec<u8>>, mut items: Vec<Vec<u8>>) -> Result<(), AllocError>
     ensures ok { OnOk result
-        (map (λ t. t.items) texts.new.items ≡ pushed Head (map (λ t. t.items) texts.old.items) (map (λ t. t.items) items.items)) }
+        (texts_of texts.new.items ≡ pushed Head (texts_of texts.old.items) (texts_of items.items)) }
     ensures err { OnErr result (texts.new.items ≡ texts.old.items) }
+    ensures succeeds { texts_of items.items ≡ [] → IsOk result }
 {
     texts.reserve(items.len())?;
     items.reverse();
@@ -217,7 +222,7 @@ fn push_head(texts: &mut VecDeque<Vec<u8>>, mut items: Vec<Vec<u8>>) -> Result<(
 
 /// Takes out the first items that are equal to this one, at most so many, by turning the list once round.
 fn remove_from_head(texts: &mut VecDeque<Vec<u8>>, item: &[u8], most: usize)
-    ensures left { map (λ t. t.items) texts.new.items ≡ without_equal Head item.now most (map (λ t. t.items) texts.old.items) }
+    ensures left { texts_of texts.new.items ≡ without_equal Head item.now most (texts_of texts.old.items) }
     ensures bound { length texts.new.items ≤ length texts.old.items }
 {
     let mut left = most;
@@ -235,7 +240,7 @@ fn remove_from_head(texts: &mut VecDeque<Vec<u8>>, item: &[u8], most: usize)
 
 /// Takes out the last items that are equal to this one, at most so many, by turning the list once round.
 fn remove_from_tail(texts: &mut VecDeque<Vec<u8>>, item: &[u8], most: usize)
-    ensures left { map (λ t. t.items) texts.new.items ≡ without_equal Tail item.now most (map (λ t. t.items) texts.old.items) }
+    ensures left { texts_of texts.new.items ≡ without_equal Tail item.now most (texts_of texts.old.items) }
     ensures bound { length texts.new.items ≤ length texts.old.items }
 {
     let mut left = most;
