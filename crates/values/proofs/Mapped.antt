@@ -1,5 +1,5 @@
 -- Lists of byte strings seen through their bytes.
-use Rattle.std.proofs.Common.{◌≡◌, ℕ, ◌+◌, ◌-◌, ◌<◌, ◌≤◌, Bool, List, [], ◌∷◌, ◌++◌, length, map, take, drop, reverse, refl, sym, ap, ◌∙◌, arith}
+use Rattle.std.proofs.Common.{◌≡◌, ℕ, ◌+◌, ◌-◌, ◌<◌, ◌≤◌, Bool, List, [], ◌∷◌, ◌++◌, length, map, take, drop, reverse, get_or, refl, sym, ap, ◌∙◌, arith, add-one, suc, drop-cons}
 use Rattle.std.proofs.lemmas.List.{map-append, take-map, drop-map, reverse-append}
 use Rattle.std.specs.Prelude.{insert, slice_range}
 
@@ -28,3 +28,10 @@ reverse-map_pushed f xs x = ap reverse (map-append f xs (x ∷ [])) ∙ reverse-
 
 pub reverse-map_cons : {A B : Type 0} (f : A → B) (x : A) (xs : List A) → reverse (map f (x ∷ xs)) ≡ reverse (map f xs) ++ f x ∷ []
 reverse-map_cons f x xs = reverse-append (f x ∷ []) (map f xs)
+
+-- what a loop over a list has still to see begins with this turn's item
+pub map-drop_turn : {A B : Type 0} (f : A → B) (xs : List A) (i : ℕ) (x : A) → i < length xs → x ≡ get_or xs i x
+    → map f (drop i xs) ≡ f x ∷ map f (drop (i + 1) xs)
+map-drop_turn f xs i x within is =
+    ap (map f) (drop-cons xs i x within) ∙ ap (λ y. f y ∷ map f (drop (suc i) xs)) (sym is)
+    ∙ ap (λ n. f x ∷ map f (drop n xs)) (sym (add-one i))

@@ -1,1 +1,2 @@
+pub mod HashValue
 pub mod ListValue

@@ -5,8 +5,10 @@
 //! bodies of the commands read and change them.
 #![tactic(auto)]
 
+mod hash_value;
 mod list_value;
 
+pub use hash_value::HashValue;
 pub use list_value::ListValue;
 use texts::Text;
 
@@ -20,4 +22,7 @@ pub enum Value {
 
     /// A list of at least one byte string.
     List(ListValue),
+
+    /// A hash of at least one field.
+    Hash(HashValue),
 }
