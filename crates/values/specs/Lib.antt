@@ -1,2 +1,3 @@
 pub mod HashValue
 pub mod ListValue
+pub mod SetValue

@@ -7,9 +7,11 @@
 
 mod hash_value;
 mod list_value;
+mod set_value;
 
 pub use hash_value::HashValue;
 pub use list_value::ListValue;
+pub use set_value::SetValue;
 use texts::Text;
 
 /// The value of a key.
@@ -25,4 +27,7 @@ pub enum Value {
 
     /// A hash of at least one field.
     Hash(HashValue),
+
+    /// A set of at least one member.
+    Set(SetValue),
 }
