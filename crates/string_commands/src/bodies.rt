@@ -8,12 +8,12 @@ ghost use Rattle.string_commands.specs.StringCommand.{get_step, set_step, is_adm
 use command_cases::Starved;
 use command_table::Condition;
 use keyspace::Keyspace;
-use resp::Reply;
+use resp::{ErrorText, Reply};
 use std::alloc::Global;
 use texts::Text;
 use values::Value;
 
-/// `GET key`: the string at the key, or null.
+/// `GET key`: the string at the key, or null; an error where the key holds a value of another type.
 ///
 /// The string is copied once, into the reply. <https://redis.io/docs/latest/commands/get/>
 #[tactic(auto, using(keyspace::proofs::Changes::changes, resp::proofs::Contents::content_of))]
@@ -29,6 +29,9 @@ pub(crate) fn get<K: Keyspace>(alloc: Global, keyspace: &K, key: Text) -> Result
             let copy = Text::copy_of(alloc, text.as_slice())?;
             Ok(Reply::Bulk(copy.into_vec()))
         }
+        Some(_) => Ok(Reply::Error(ErrorText::Fixed(
+            "WRONGTYPE Operation against a key holding the wrong kind of value",
+        ))),
     }
 }
 
