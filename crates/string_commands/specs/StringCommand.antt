@@ -2,7 +2,7 @@
 use Rattle.std.specs.Prelude.{◌≡◌, Bool, true, false, not, Option, Some, None, IsSome, IsTrue, is_some, if◌then◌else◌}
 use Rattle.std.specs.FinMap.{get}
 use Rattle.command_cases.specs.Case.{Case, Step, at_key}
-use Rattle.command_cases.specs.Replies.{ok, truth}
+use Rattle.command_cases.specs.Replies.{ok, truth, wrong_type}
 use Rattle.command_table.specs.declared.string_commands.Condition.{Condition}
 use Rattle.command_table.specs.declared.string_commands.Condition.TheVariants.{Always, IfAbsent, IfPresent}
 use Rattle.command_table.specs.declared.string_commands.StringCommand.{StringCommand}
@@ -11,13 +11,17 @@ use Rattle.keyspace.specs.Map.{Map}
 use Rattle.resp.specs.Content.{Content, BulkText, Nothing}
 use Rattle.texts.specs.Texts.{Bytes}
 use Rattle.values.specs.declared.Value.{Value}
+use Rattle.values.specs.declared.Value.TheVariants as kind
 use Rattle.values.specs.declared.Value.TheVariants.{Str}
 
 -- a command that wants a string: what it does is by the string at the key, if there is one. A value of another kind stays, and
 -- the answer is that it is of the wrong kind
 abbrev pub at_string : (Option Bytes → Option Value × Content) → Step
 at_string step None = step None
-at_string step (Some (Str text)) = step (Some text)
+at_string step (Some (kind.Str text)) = step (Some text)
+at_string step (Some (kind.List items)) = (Some (kind.List items), wrong_type)
+at_string step (Some (kind.Hash pairs)) = (Some (kind.Hash pairs), wrong_type)
+at_string step (Some (kind.Set members)) = (Some (kind.Set members), wrong_type)
 
 -- GET: the string, or null; the key keeps what it has
 abbrev pub get_string : Option Bytes → Option Value × Content

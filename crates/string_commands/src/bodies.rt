@@ -5,7 +5,7 @@ ghost use Rattle.std.specs.FinMap as map;
 ghost use Rattle.command_cases.specs.Case.{Does, at_key};
 ghost use Rattle.string_commands.specs.StringCommand.{get_step, set_step, setnx_step, is_admitted};
 
-use command_cases::{Starved, ok_reply, truth_reply};
+use command_cases::{Starved, ok_reply, truth_reply, wrong_type_reply};
 use command_table::Condition;
 use keyspace::Keyspace;
 use resp::Reply;
@@ -13,7 +13,7 @@ use std::alloc::Global;
 use texts::Text;
 use values::Value;
 
-/// `GET key`: the string at the key, or null.
+/// `GET key`: the string at the key, or null; an error where the key holds a value of another type.
 ///
 /// The string is copied once, into the reply. <https://redis.io/docs/latest/commands/get/>
 #[tactic(auto, using(keyspace::proofs::Changes::changes, resp::proofs::Contents::content_of))]
@@ -29,6 +29,7 @@ pub(crate) fn get<K: Keyspace>(alloc: Global, keyspace: &K, key: Text) -> Result
             let copy = Text::copy_of(alloc, text.as_slice())?;
             Ok(Reply::Bulk(copy.into_vec()))
         }
+        Some(_) => Ok(wrong_type_reply()),
     }
 }
 

@@ -10,4 +10,4 @@ mod text_list;
 
 pub use pairs::Pairs;
 pub use text::Text;
-pub use text_list::Texts;
+pub use text_list::{End, Texts};

@@ -5,6 +5,16 @@ ghost use Rattle.texts.specs.Texts.{texts_of};
 
 use std::marker::Model;
 
+/// One of the two ends of a list.
+#[derive(Clone, Copy, Debug, PartialEq, Eq)]
+pub enum End {
+    /// Before the first item.
+    Head,
+
+    /// Behind the last item.
+    Tail,
+}
+
 /// A list of byte strings, as the keys of a command. Contracts see the list of their bytes.
 #[derive(Drop)]
 pub struct Texts {

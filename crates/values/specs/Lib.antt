@@ -1,0 +1,4 @@
+pub mod HashValue
+pub mod ListValue
+pub mod SetValue
+pub mod Value

@@ -1,0 +1,177 @@
+//! The value of a key that is a hash.
+
+ghost use Rattle.std.specs.Prelude.{◌≡◌, ◌+◌, ◌<◌, ◌≤◌, [], length, map, slice_get, is_some, None};
+ghost use Rattle.std.specs.Prelude.{OnOk, OnErr, IfOk};
+ghost use Rattle.std.specs.List.{IsDistinct};
+ghost use Rattle.std.specs.Option.{option_map};
+ghost use Rattle.std.specs.Str.{bytes_eq};
+ghost use Rattle.indexmap.specs.IndexMap.{index_map_len, spare};
+ghost use Rattle.texts.specs.Texts.{texts_of, pairs_of};
+ghost use Rattle.values.specs.HashValue.{pairs_seen, field_value, with_field, with_fields, without_fields};
+ghost use Rattle.values.specs.ListValue.{nonempty};
+
+use hashed_texts::{HashedSlice, HashedText};
+use indexmap::IndexMap;
+use std::alloc::{AllocError, Global};
+use std::hash::{BuildHasherDefault, FoldHasher};
+use std::marker::Model;
+use texts::{Pairs, Text, Texts};
+
+/// Fields and their values in one hashed table, in order of insertion. Its seed is fixed.
+type PairTable = IndexMap<HashedText, Vec<u8>, BuildHasherDefault<FoldHasher>>;
+
+/// A hash: at least one pair of a field and its value, no field twice. Contracts see the list of pairs in order of insertion.
+///
+/// A field is looked up in constant time on average; a removal takes time for the whole hash, since the others keep their order.
+#[derive(Drop)]
+pub struct HashValue {
+    pairs: Box<PairTable>,
+}
+
+impl Model for HashValue {
+    ghost use Rattle.std.specs.Prelude.{List, ◌<◌, length};
+    ghost use Rattle.texts.specs.Texts.{Bytes};
+    ghost use Rattle.values.specs.HashValue.{pairs_seen};
+
+    ghost Value = { List (Bytes × Bytes) };
+
+    ghost view = { λ h. pairs_seen h.pairs.value.entries };
+
+    ghost invariant = { λ h. 0 < length h.pairs.value.entries };
+}
+
+impl HashValue {
+    /// The hash that these pairs make, one after another, of no hash; `None` where there are none.
+    ///
+    /// `AllocError` where there is no memory for it.
+    pub fn from_pairs(alloc: Global, pairs: Pairs) -> Result<Option<Self>, AllocError>
+        ensures { IfOk result (λ hash. hash ≡ nonempty (with_fields [] pairs)) }
+    {
+        let turns = pairs.into_turns();
+        let mut table: PairTable = IndexMap::with_capacity(alloc, turns.len() / 2)?;
+        insert_each(&mut table, turns);
+        let Ok(pairs) = Box::new(alloc, table) else {
+            return Err(AllocError);
+        };
+        Ok(at_least_one(pairs))
+    }
+
+    /// The number of fields.
+    #[tactic(auto, using(crate::proofs::PairsSeen::seen))]
+    pub fn len(&self) -> usize
+        ensures len { result ≡ length self.now }
+        ensures some { 0 < result }
+        ensures distinct { IsDistinct bytes_eq (map (λ p. p.0) self.now) }
+    {
+        self.pairs.len()
+    }
+
+    /// The value of a field.
+    #[tactic(auto, using(crate::proofs::PairsSeen::seen))]
+    pub fn get(&self, field: &[u8]) -> Option<&[u8]>
+        ensures { option_map (λ value. value.now) result ≡ field_value self.now field.now }
+    {
+        match self.pairs.get(HashedSlice { bytes: field }) {
+            Some(value) => Some(value.as_slice()),
+            None => None,
+        }
+    }
+
+    /// Whether the field is there.
+    pub fn has(&self, field: &[u8]) -> bool
+        ensures { result ≡ is_some (field_value self.now field.now) }
+    {
+        self.get(field).is_some()
+    }
+
+    /// The pair at a place in order of insertion, counted from 0. It takes constant time.
+    pub fn pair(&self, place: usize) -> Option<(&[u8], &[u8])>
+        ensures { option_map (λ pair. (pair.0.now, pair.1.now)) result ≡ slice_get self.now place }
+    {
+        match self.pairs.get_index(place) {
+            Some((field, value)) => Some((field.bytes.as_slice(), value.as_slice())),
+            None => None,
+        }
+    }
+
+    /// Sets a field and gives the value that it had. A field that is there keeps its place, a new one goes last.
+    ///
+    /// `AllocError`, and no change, where there is no memory for a new field.
+    #[tactic(auto, using(crate::proofs::PairsSeen::seen))]
+    pub fn insert(&mut self, field: Text, value: Text) -> Result<Option<Text>, AllocError>
+        ensures before { IfOk result (λ before. before ≡ field_value self.old field) }
+        ensures ok { OnOk result (self.new ≡ with_field self.old field value) }
+        ensures absent { OnErr result (field_value self.old field ≡ None) }
+        ensures err { OnErr result (self.new ≡ self.old) }
+    {
+        let field = HashedText {
+            bytes: field.into_vec(),
+        };
+        match self.pairs.insert(field, value.into_vec()) {
+            Ok(Some(before)) => Ok(Some(Text::from(before))),
+            Ok(None) => Ok(None),
+            Err(_) => Err(AllocError),
+        }
+    }
+
+    /// Sets the fields one after another, all of them, and gives how many were new; or sets none, and `AllocError`.
+    pub fn insert_all(&mut self, pairs: Pairs) -> Result<usize, AllocError>
+        ensures ok { OnOk result (self.new ≡ with_fields self.old pairs) }
+        ensures added { IfOk result (λ added. length self.new ≡ length self.old + added) }
+        ensures err { OnErr result (self.new ≡ self.old) }
+    {
+        let turns = pairs.into_turns();
+        let before = self.pairs.len();
+        self.pairs.reserve(turns.len() / 2)?;
+        insert_each(&mut self.pairs, turns);
+        Ok(self.pairs.len() - before)
+    }
+
+    /// Removes these fields, and gives how many were there and what is left. It takes no memory.
+    pub fn remove_all(self, fields: &Texts) -> (usize, Option<Self>)
+        ensures left { result.1 ≡ nonempty (without_fields self fields.now) }
+        ensures removed { result.0 + length (without_fields self fields.now) ≡ length self }
+    {
+        let HashValue { mut pairs } = self;
+        let before = pairs.len();
+        remove_each(&mut pairs, fields.as_slice());
+        (before - pairs.len(), at_least_one(pairs))
+    }
+}
+
+/// These pairs as a hash, if there are any.
+fn at_least_one(pairs: Box<PairTable>) -> Option<HashValue>
+    ensures { result ≡ nonempty (pairs_seen pairs.value.entries) }
+{
+    if pairs.is_empty() {
+        None
+    } else {
+        Some(HashValue { pairs })
+    }
+}
+
+/// Sets the fields of these pairs, the first and the second of each by turns, for which there is room.
+fn insert_each(pairs: &mut PairTable, mut turns: Vec<Vec<u8>>)
+    requires { length turns.items ≤ spare pairs.old + spare pairs.old + 1 }
+    ensures set { pairs_seen pairs.new.entries ≡ with_fields (pairs_seen pairs.old.entries) (pairs_of (texts_of turns.items)) }
+    ensures bound { index_map_len pairs.old ≤ index_map_len pairs.new }
+{
+    turns.reverse();
+    while let (Some(field), Some(value)) = (turns.pop(), turns.pop()) {
+        let Ok(_) = pairs.insert(HashedText { bytes: field }, value) else {
+            return;
+        };
+    }
+}
+
+/// Removes these fields, where they are there.
+fn remove_each(pairs: &mut PairTable, fields: &[Vec<u8>])
+    ensures left { pairs_seen pairs.new.entries ≡ without_fields (pairs_seen pairs.old.entries) (texts_of fields.now) }
+    ensures bound { index_map_len pairs.new ≤ index_map_len pairs.old }
+{
+    for field in fields {
+        pairs.shift_remove(HashedSlice {
+            bytes: field.as_slice(),
+        });
+    }
+}
