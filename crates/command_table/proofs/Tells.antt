@@ -10,6 +10,10 @@ use Rattle.command_table.specs.Arity.{admits}
 use Rattle.command_table.specs.Command.{told_of}
 use Rattle.command_table.specs.KeyCommands.{key_rows, del_row, rename_row}
 use Rattle.command_table.specs.KeySpan.{NoKeys, AllThereAre, Between, ToLastWord, stepped, keys_in}
+use Rattle.command_table.specs.ListCommands.{list_rows, llen_row, lpop_row, rpop_row, lpush_row, rpush_row, lpushx_row, rpushx_row}
+use Rattle.command_table.specs.ListCommands.{linsert_row, lmove_row, rpoplpush_row, linsert_with, lmove_with, side_of, end_of}
+use Rattle.command_table.specs.declared.list_commands.Side.{Side}
+use Rattle.texts.specs.declared.text_list.End.{End}
 use Rattle.command_table.specs.LocalCommands.{local_rows, ping_row, echo_row}
 use Rattle.command_table.specs.Reading.{rows, reading, IsTold}
 use Rattle.command_table.specs.Row.{Row, Reading, pairs_reading, row_of, row_reading, row_told, reading_among}
@@ -126,12 +130,54 @@ string_tell = (
   ),
 )
 
+linsert_tells : (key pivot item : Word) (o : Result Side Refusal) → IsToldAs linsert_row (These (key ∷ [])) (linsert_with key pivot item o)
+linsert_tells key pivot item (Ok side) = refl
+linsert_tells key pivot item (Err refused) = tt
+
+lmove_tells : (from to : Word) (a b : Result End Refusal) → IsToldAs lmove_row (These (from ∷ to ∷ [])) (lmove_with from to a b)
+lmove_tells from to (Ok taken) (Ok put) = refl
+lmove_tells from to (Ok taken) (Err refused) = tt
+lmove_tells from to (Err refused) b = tt
+
+list_tell : AllTell list_rows
+list_tell = (
+  tells-one llen_row refl refl (λ key ws. refl),
+  (
+    tells-one lpop_row refl refl (λ key ws. refl),
+    (
+      tells-one rpop_row refl refl (λ key ws. refl),
+      (
+        tells-one lpush_row refl refl (λ key ws. refl),
+        (
+          tells-one rpush_row refl refl (λ key ws. refl),
+          (
+            tells-one lpushx_row refl refl (λ key ws. refl),
+            (
+              tells-one rpushx_row refl refl (λ key ws. refl),
+              (
+                tells-one linsert_row refl refl (λ key ws. linsert_tells key (word ws 1) (word ws 2) (side_of (word ws 0))),
+                (
+                  tells-two lmove_row refl refl refl (λ from to ws. lmove_tells from to (end_of (word ws 0)) (end_of (word ws 1))),
+                  (tells-two rpoplpush_row refl refl refl (λ from to ws. refl), tt),
+                ),
+              ),
+            ),
+          ),
+        ),
+      ),
+    ),
+  ),
+)
+
 AllTell-append : (rs qs : List Row) → AllTell rs → AllTell qs → AllTell (rs ++ qs)
 AllTell-append [] qs a b = b
 AllTell-append (r ∷ rs) qs a b = (a.0, AllTell-append rs qs a.1 b)
 
 all_tell : AllTell rows
-all_tell = AllTell-append (local_rows ++ key_rows) string_rows (AllTell-append local_rows key_rows local_tell key_tell) string_tell
+all_tell =
+    AllTell-append local_rows (key_rows ++ string_rows ++ list_rows) local_tell
+    (AllTell-append key_rows (string_rows ++ list_rows) key_tell
+    (AllTell-append string_rows list_rows string_tell list_tell))
 
 told_by_row : (r : Row) → Tells r → (name : Word) (ws : List Word) → IsToldIn r (name ∷ ws) (row_reading r ws)
 told_by_row r tells name ws =

@@ -3,6 +3,7 @@ pub mod Command
 pub mod Held
 pub mod KeyCommands
 pub mod KeySpan
+pub mod ListCommands
 pub mod LocalCommands
 pub mod Reading
 pub mod Refusal

@@ -5,6 +5,7 @@ ghost use Rattle.command_table.specs.Command.{told_of, name_of, keys_of, is_whol
 ghost use Rattle.command_table.specs.Held.{told_held};
 
 use crate::key_commands::KeyCommand;
+use crate::list_commands::ListCommand;
 use crate::local_commands::LocalCommand;
 use crate::string_commands::StringCommand;
 use crate::told::Told;
@@ -19,6 +20,9 @@ pub enum Command {
     /// On strings.
     Str(StringCommand),
 
+    /// On lists.
+    List(ListCommand),
+
     /// On no key.
     Local(LocalCommand),
 }
@@ -30,6 +34,7 @@ fn told(command: &Command) -> Told<'_>
     match command {
         Command::Key(command) => command.told(),
         Command::Str(command) => command.told(),
+        Command::List(command) => command.told(),
         Command::Local(command) => command.told(),
     }
 }

@@ -8,6 +8,7 @@
 mod arity;
 mod command;
 mod key_commands;
+mod list_commands;
 mod local_commands;
 mod reading;
 mod refusal;
@@ -20,6 +21,7 @@ mod words;
 
 pub use command::{Command, is_whole, key_at, key_count, keys, name};
 pub use key_commands::KeyCommand;
+pub use list_commands::{ListCommand, Side};
 pub use local_commands::LocalCommand;
 pub use reading::read;
 pub use refusal::{CommandName, Refusal};

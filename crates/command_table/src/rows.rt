@@ -3,7 +3,7 @@
 //! A row stands once, here. `command_rows!` hands the rows of a family to a macro of the caller's, which writes an arm for each:
 //! the crate of a family's bodies dispatches by them too.
 
-/// Hands the rows of a family, `local`, `keys` or `strings`, to the macro named after it, with the words after that in brackets.
+/// Hands the rows of a family, `local`, `keys`, `strings` or `lists`, to the macro named after it, with the words after that in brackets.
 ///
 /// A row has the command's name in lower case; how many words it takes, its name included; its key span, which is the first key,
 /// the last one and the step between them by word, the name being word 0 and -1 the last word, or `none`, or `whole` where it is
@@ -28,6 +28,20 @@ macro_rules! command_rows {
             ("get", Exactly(2), (1, 1, 1), Get { key }, read_get, get),
             ("set", AtLeast(3), (1, 1, 1), Set { key, value, condition }, read_set, set),
             ("setnx", Exactly(3), (1, 1, 1), Setnx { key, value }, read_setnx, setnx),
+        }
+    };
+    (lists, $emit:ident, $($argument:tt)*) => {
+        $emit! { [$($argument)*]
+            ("llen", Exactly(2), (1, 1, 1), Llen { key }, read_llen, llen),
+            ("lpop", Exactly(2), (1, 1, 1), Lpop { key }, read_lpop, lpop),
+            ("rpop", Exactly(2), (1, 1, 1), Rpop { key }, read_rpop, rpop),
+            ("lpush", AtLeast(3), (1, 1, 1), Lpush { key, items }, read_lpush, lpush),
+            ("rpush", AtLeast(3), (1, 1, 1), Rpush { key, items }, read_rpush, rpush),
+            ("lpushx", AtLeast(3), (1, 1, 1), Lpushx { key, items }, read_lpushx, lpushx),
+            ("rpushx", AtLeast(3), (1, 1, 1), Rpushx { key, items }, read_rpushx, rpushx),
+            ("linsert", Exactly(5), (1, 1, 1), Linsert { key, side, pivot, item }, read_linsert, linsert),
+            ("lmove", Exactly(5), (1, 2, 1), Lmove { from, to, taken, put }, read_lmove, lmove),
+            ("rpoplpush", Exactly(3), (1, 2, 1), Rpoplpush { from, to }, read_rpoplpush, rpoplpush),
         }
     };
 }
