@@ -1,5 +1,5 @@
 -- What a row says of the words is what is told of the command.
-use Rattle.std.proofs.Common.{◌≡◌, ◌+◌, ◌++◌, IfOk, true, false, Result, ◌∙◌, List, [], ◌∷◌, length, Some, Ok, Err, refl, sym, ap, if◌then◌else◌, unwrap_or, option_map, drop, subst, ◌%◌, ◌==◌, arith}
+use Rattle.std.proofs.Common.{ℤ, ◌≡◌, ◌+◌, ◌++◌, IfOk, true, false, Result, ◌∙◌, List, [], ◌∷◌, length, Some, Ok, Err, refl, sym, ap, if◌then◌else◌, unwrap_or, option_map, drop, subst, ◌%◌, ◌==◌, arith}
 use Rattle.std.proofs.lemmas.Bool.Decides.{nat_tests}
 use Rattle.std.specs.Str.{bytes_eq}
 use Rattle.command_table.specs.declared.refusal.Refusal.TheVariants as refusal
@@ -11,6 +11,7 @@ use Rattle.command_table.specs.Command.{told_of}
 use Rattle.command_table.specs.KeyCommands.{key_rows, del_row, rename_row}
 use Rattle.command_table.specs.KeySpan.{NoKeys, AllThereAre, Between, ToLastWord, stepped, keys_in}
 use Rattle.command_table.specs.ListCommands.{list_rows, llen_row, lpop_row, rpop_row, lpush_row, rpush_row, lpushx_row, rpushx_row}
+use Rattle.command_table.specs.ListCommands.{lindex_row, lset_row, lrange_row, ltrim_row, lrem_row, lindex_with, lset_with, lrange_with, ltrim_with, lrem_with}
 use Rattle.command_table.specs.ListCommands.{linsert_row, lmove_row, rpoplpush_row, linsert_with, lmove_with, side_of, end_of}
 use Rattle.command_table.specs.declared.list_commands.Side.{Side}
 use Rattle.texts.specs.declared.text_list.End.{End}
@@ -20,7 +21,7 @@ use Rattle.command_table.specs.Row.{Row, Reading, pairs_reading, row_of, row_rea
 use Rattle.command_table.specs.StringCommands.{string_rows, get_row, set_row, setnx_row, set_with, options_condition}
 use Rattle.command_table.specs.Telling.{KeysTold, All, These}
 use Rattle.texts.specs.Texts.{firsts}
-use Rattle.command_table.specs.Words.{Word, word, lower, pairs_of}
+use Rattle.command_table.specs.Words.{Word, word, lower, pairs_of, integer_word}
 
 -- every word, one by one
 pub stepped-one : (ws : List Word) → stepped 1 0 ws ≡ ws
@@ -130,6 +131,28 @@ string_tell = (
   ),
 )
 
+lindex_tells : (key : Word) (n : Result ℤ Refusal) → IsToldAs lindex_row (These (key ∷ [])) (lindex_with key n)
+lindex_tells key (Ok place) = refl
+lindex_tells key (Err refused) = tt
+
+lset_tells : (key item : Word) (n : Result ℤ Refusal) → IsToldAs lset_row (These (key ∷ [])) (lset_with key item n)
+lset_tells key item (Ok place) = refl
+lset_tells key item (Err refused) = tt
+
+lrange_tells : (key : Word) (a b : Result ℤ Refusal) → IsToldAs lrange_row (These (key ∷ [])) (lrange_with key a b)
+lrange_tells key (Ok start) (Ok end) = refl
+lrange_tells key (Ok start) (Err refused) = tt
+lrange_tells key (Err refused) b = tt
+
+ltrim_tells : (key : Word) (a b : Result ℤ Refusal) → IsToldAs ltrim_row (These (key ∷ [])) (ltrim_with key a b)
+ltrim_tells key (Ok start) (Ok end) = refl
+ltrim_tells key (Ok start) (Err refused) = tt
+ltrim_tells key (Err refused) b = tt
+
+lrem_tells : (key item : Word) (n : Result ℤ Refusal) → IsToldAs lrem_row (These (key ∷ [])) (lrem_with key item n)
+lrem_tells key item (Ok count) = refl
+lrem_tells key item (Err refused) = tt
+
 linsert_tells : (key pivot item : Word) (o : Result Side Refusal) → IsToldAs linsert_row (These (key ∷ [])) (linsert_with key pivot item o)
 linsert_tells key pivot item (Ok side) = refl
 linsert_tells key pivot item (Err refused) = tt
@@ -155,10 +178,25 @@ list_tell = (
             (
               tells-one rpushx_row refl refl (λ key ws. refl),
               (
-                tells-one linsert_row refl refl (λ key ws. linsert_tells key (word ws 1) (word ws 2) (side_of (word ws 0))),
+                tells-one lindex_row refl refl (λ key ws. lindex_tells key (integer_word (word ws 0))),
                 (
-                  tells-two lmove_row refl refl refl (λ from to ws. lmove_tells from to (end_of (word ws 0)) (end_of (word ws 1))),
-                  (tells-two rpoplpush_row refl refl refl (λ from to ws. refl), tt),
+                  tells-one lset_row refl refl (λ key ws. lset_tells key (word ws 1) (integer_word (word ws 0))),
+                  (
+                    tells-one lrange_row refl refl (λ key ws. lrange_tells key (integer_word (word ws 0)) (integer_word (word ws 1))),
+                    (
+                      tells-one ltrim_row refl refl (λ key ws. ltrim_tells key (integer_word (word ws 0)) (integer_word (word ws 1))),
+                      (
+                        tells-one lrem_row refl refl (λ key ws. lrem_tells key (word ws 1) (integer_word (word ws 0))),
+                        (
+                          tells-one linsert_row refl refl (λ key ws. linsert_tells key (word ws 1) (word ws 2) (side_of (word ws 0))),
+                          (
+                            tells-two lmove_row refl refl refl (λ from to ws. lmove_tells from to (end_of (word ws 0)) (end_of (word ws 1))),
+                            (tells-two rpoplpush_row refl refl refl (λ from to ws. refl), tt),
+                          ),
+                        ),
+                      ),
+                    ),
+                  ),
                 ),
               ),
             ),

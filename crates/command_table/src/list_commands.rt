@@ -4,6 +4,7 @@ ghost use Rattle.std.specs.Prelude.{◌≡◌, ◌≤◌, length, MatchResult, S
 ghost use Rattle.command_table.specs.Held.{told_held};
 ghost use Rattle.command_table.specs.ListCommands.{list_command_told, list_rows, side_of, end_of};
 ghost use Rattle.command_table.specs.ListCommands.{llen_row, lpop_row, rpop_row, lpush_row, rpush_row, lpushx_row, rpushx_row};
+ghost use Rattle.command_table.specs.ListCommands.{lindex_row, lset_row, lrange_row, ltrim_row, lrem_row};
 ghost use Rattle.command_table.specs.ListCommands.{linsert_row, lmove_row, rpoplpush_row};
 ghost use Rattle.command_table.specs.Row.{row_of, reading_among};
 ghost use Rattle.command_table.specs.Words.{texts_of};
@@ -14,7 +15,7 @@ use crate::command_rows;
 use crate::refusal::{CommandName, Refusal};
 use crate::rows::{keys_of_span, read_rows, told_rows};
 use crate::told::{Keys, Told};
-use crate::words::{first_and_rest, is_word, only_word, two_words};
+use crate::words::{first_and_rest, integer_word, is_word, only_word, two_words};
 use texts::{End, Text, Texts};
 
 /// A command on lists.
@@ -40,6 +41,21 @@ pub enum ListCommand {
 
     /// `RPUSHX key item [item ..]`: as RPUSH where the key is there.
     Rpushx { key: Text, items: Texts },
+
+    /// `LINDEX key place`: the item at the place.
+    Lindex { key: Text, place: i64 },
+
+    /// `LSET key place item`: puts the item in the place of the one that is there.
+    Lset { key: Text, place: i64, item: Text },
+
+    /// `LRANGE key start end`: the items from the start to the end.
+    Lrange { key: Text, start: i64, end: i64 },
+
+    /// `LTRIM key start end`: keeps the items from the start to the end.
+    Ltrim { key: Text, start: i64, end: i64 },
+
+    /// `LREM key count item`: removes items that are equal to this one.
+    Lrem { key: Text, count: i64, item: Text },
 
     /// `LINSERT key BEFORE|AFTER pivot item`: inserts the item beside the first one that is equal to the pivot.
     Linsert {
@@ -154,6 +170,62 @@ fn read_rpushx(words: Vec<Vec<u8>>) -> Result<Command, Refusal>
 {
     let (key, items) = first_and_rest(words);
     Ok(Command::List(ListCommand::Rpushx { key, items }))
+}
+
+/// `LINDEX key place`.
+fn read_lindex(words: Vec<Vec<u8>>) -> Result<Command, Refusal>
+    requires { length words.items ≡ 2 }
+    ensures { result ≡ lindex_row.reading (texts_of words.items) }
+{
+    let place = integer_word(words[1].as_slice())?;
+    let (key, _) = two_words(words);
+    Ok(Command::List(ListCommand::Lindex { key, place }))
+}
+
+/// `LSET key place item`.
+fn read_lset(mut words: Vec<Vec<u8>>) -> Result<Command, Refusal>
+    requires { length words.items ≡ 3 }
+    ensures { result ≡ lset_row.reading (texts_of words.items) }
+{
+    let place = integer_word(words[1].as_slice())?;
+    let item = Text::from(words.pop().unwrap());
+    let (key, _) = two_words(words);
+    Ok(Command::List(ListCommand::Lset { key, place, item }))
+}
+
+/// `LRANGE key start end`.
+fn read_lrange(mut words: Vec<Vec<u8>>) -> Result<Command, Refusal>
+    requires { length words.items ≡ 3 }
+    ensures { result ≡ lrange_row.reading (texts_of words.items) }
+{
+    let start = integer_word(words[1].as_slice())?;
+    let end = integer_word(words[2].as_slice())?;
+    words.truncate(1);
+    let key = only_word(words);
+    Ok(Command::List(ListCommand::Lrange { key, start, end }))
+}
+
+/// `LTRIM key start end`.
+fn read_ltrim(mut words: Vec<Vec<u8>>) -> Result<Command, Refusal>
+    requires { length words.items ≡ 3 }
+    ensures { result ≡ ltrim_row.reading (texts_of words.items) }
+{
+    let start = integer_word(words[1].as_slice())?;
+    let end = integer_word(words[2].as_slice())?;
+    words.truncate(1);
+    let key = only_word(words);
+    Ok(Command::List(ListCommand::Ltrim { key, start, end }))
+}
+
+/// `LREM key count item`.
+fn read_lrem(mut words: Vec<Vec<u8>>) -> Result<Command, Refusal>
+    requires { length words.items ≡ 3 }
+    ensures { result ≡ lrem_row.reading (texts_of words.items) }
+{
+    let count = integer_word(words[1].as_slice())?;
+    let item = Text::from(words.pop().unwrap());
+    let (key, _) = two_words(words);
+    Ok(Command::List(ListCommand::Lrem { key, count, item }))
 }
 
 /// `LINSERT key BEFORE|AFTER pivot item`.

@@ -3,8 +3,10 @@
 ghost use Rattle.std.specs.List.{list_any};
 ghost use Rattle.std.specs.Char.{to_ascii_lowercase};
 ghost use Rattle.std.specs.Prelude.{◌≡◌, ◌<◌, [], ◌∷◌, length, map};
-ghost use Rattle.command_table.specs.Words.{is_word, texts_of};
+ghost use Rattle.command_table.specs.Words.{integer_word, is_word, texts_of};
 
+use crate::refusal::Refusal;
+use integers::read_integer;
 use texts::{Text, Texts};
 
 /// Whether the word is this one, which is in lower case, without regard to the case of ASCII letters.
@@ -48,4 +50,14 @@ pub(crate) fn first_and_rest(mut words: Vec<Vec<u8>>) -> (Text, Texts)
 {
     let first = words.remove(0);
     (Text::from(first), Texts::from(words))
+}
+
+/// The integer that the word should be.
+pub(crate) fn integer_word(word: &[u8]) -> Result<i64, Refusal>
+    ensures { result ≡ integer_word word.now }
+{
+    match read_integer(word) {
+        Some(number) => Ok(number),
+        None => Err(Refusal::NotInteger),
+    }
 }
