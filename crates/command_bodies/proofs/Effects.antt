@@ -8,8 +8,10 @@ use Rattle.command_cases.specs.Case.{Case, IsLocal, one}
 use Rattle.command_table.specs.Command.{keys_of, is_whole}
 use Rattle.command_table.specs.declared.command.Command.{Command}
 use Rattle.command_table.specs.declared.command.Command.TheVariants.{Key, Str, Local}
+use Rattle.command_table.specs.declared.command.Command.TheVariants as variant
 use Rattle.key_commands.proofs.Local.{local-key_command}
 use Rattle.keyspace.specs.Map.{Map}
+use Rattle.list_commands.proofs.Local.{local-list_command}
 use Rattle.string_commands.proofs.Local.{local-string_command}
 
 -- a case is taken on the whole map, or on the keys that it alone looks at
@@ -21,6 +23,8 @@ effect_of-local false keys case m local = local refl m
 pub effect-case : (command : Command) (m : Map) → effect_of command m ≡ case_of command m
 effect-case (Key c) m = effect_of-local (is_whole (Key c)) (keys_of (Key c)) (case_of (Key c)) m (local-key_command c)
 effect-case (Str c) m = effect_of-local (is_whole (Str c)) (keys_of (Str c)) (case_of (Str c)) m (λ _. local-string_command c)
+effect-case (variant.List c) m =
+    effect_of-local (is_whole (variant.List c)) (keys_of (variant.List c)) (case_of (variant.List c)) m (λ _. local-list_command c)
 effect-case (Local c) m = effect_of-local (is_whole (Local c)) (keys_of (Local c)) (case_of (Local c)) m (λ _. local-constant (keys_of (Local c)) (local_reply c))
 
 -- a command that is not for all keys takes its part

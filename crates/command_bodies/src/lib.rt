@@ -18,6 +18,7 @@ use command_cases::Starved;
 use command_table::Command;
 use key_commands::run_key_command;
 use keyspace::Keyspace;
+use list_commands::run_list_command;
 pub use local_commands::local;
 use resp::Reply;
 use std::alloc::Global;
@@ -55,6 +56,7 @@ fn run<K: Keyspace>(alloc: Global, keyspace: &mut K, command: Command) -> Result
     match command {
         Command::Key(command) => run_key_command(alloc, keyspace, command),
         Command::Str(command) => run_string_command(alloc, keyspace, command),
+        Command::List(command) => run_list_command(alloc, keyspace, command),
         Command::Local(command) => Ok(local(command)),
     }
 }
