@@ -4,7 +4,7 @@ ghost use Rattle.groups.specs.GroupSet.{has};
 ghost use Rattle.skeen_core.specs.declared.packet.Delivered.{Delivered};
 ghost use Rattle.delivery.specs.Ready.{IsReady, IsLayer};
 ghost use Rattle.delivery.specs.Queues.{queue_of, room_of, requests_of, rooms_of, MayAppend, IsSound};
-ghost use Rattle.delivery.specs.Taking.{popped};
+ghost use Rattle.delivery.specs.Taking.{popped, popped_all, Poppable};
 ghost use Rattle.delivery.specs.Search.{head_of};
 
 use super::queue::Queue;
@@ -122,6 +122,19 @@ impl Queues {
         ensures rooms_kept { (g : ℕ) → room_of self.old.rooms g ≤ room_of self.new.rooms g }
     {
         pop_heads(&mut self.queues, request.groups);
+    }
+
+    /// Takes these requests out of all their queues, one after another. Each is ready when its turn comes, as those of a
+    /// layer are. It takes no memory.
+    pub fn pop_all(&mut self, requests: &[Delivered])
+        requires { Poppable (queue_of self.old.queues) requests.now }
+        ensures popped { queue_of self.new.queues ≡ popped_all requests.now (queue_of self.old.queues) }
+        ensures groups { length self.new.queues ≡ length self.old.queues }
+        ensures rooms_kept { (g : ℕ) → room_of self.old.rooms g ≤ room_of self.new.rooms g }
+    {
+        for request in requests {
+            self.pop(request);
+        }
     }
 }
 
