@@ -102,6 +102,7 @@ impl Queues {
     }
 
     /// Whether some request is ready. It takes no memory.
+    #[tactic(auto, using(crate::proofs::Found::searching))]
     pub fn has_ready(&self) -> bool
         ensures { IsTrue result ↔ ((d : Delivered) × IsReady (queue_of self.now.queues) d) }
     {
@@ -139,6 +140,7 @@ impl Queues {
 }
 
 /// Takes the head out of the queue of each of these groups.
+#[tactic(auto, using(crate::proofs::Heads::gone_place))]
 fn pop_heads(queues: &mut [Queue], groups: Groups)
     requires { (g : ℕ) → has groups g ≡ true → g < length queues.old }
     ensures popped { (g : ℕ) → queue_of (requests_of queues.new) g ≡ cond (has groups g) (drop 1 (queue_of (requests_of queues.old) g)) (queue_of (requests_of queues.old) g) }
