@@ -12,7 +12,11 @@ use std::test::Fail;
 
 /// The only request of a connection, delivered at the stamp (`conn`, 0).
 fn request(conn: u64, groups: Groups) -> Delivered
-    ensures { result ≡ record { id = record { conn = record { 0 = conn }; seq = 1 }; stamp = record { clock = conn; group = 0 }; groups = groups } }
+    ensures { result ≡ record {
+      id = record { conn = record { 0 = conn }; seq = 1 };
+      stamp = record { clock = conn; group = 0 };
+      groups = groups;
+    } }
 {
     Delivered {
         id: RequestId {
