@@ -1,10 +1,9 @@
 -- The groups by their numbers.
-use Rattle.std.proofs.Common.{◌≡◌, ℕ, zero, suc, ◌+◌, ◌<◌, ◌≤◌, ◌==◌, Bool, true, false, cond, List, [], ◌∷◌, length, slice_get, slice_set, slice_index_or, Option, Some, None, inl, inr, refl, sym, ap, ◌∙◌, subst, arith, eq-eqb, eqb-true, ne_eqb}
+use Rattle.std.proofs.Common.{◌≡◌, ℕ, zero, suc, ◌<◌, ◌≤◌, ◌==◌, Bool, true, false, cond, List, [], ◌∷◌, length, slice_get, slice_set, slice_index_or, Option, Some, None, inl, inr, refl, sym, ap, ◌∙◌, arith, eq-eqb, eqb-true, ne_eqb}
 use Rattle.std.proofs.lemmas.Bool.{cases_lt, cases_Bool, both_ways}
-
 use Rattle.skeen_core.proofs.Lawful.{some_same}
 use Rattle.std.specs.FinMap.{get}
-use Rattle.multicast.specs.Multicast.{at, group_of, sends_at_most}
+use Rattle.multicast.specs.Multicast.{at, group_of, starts_to, sends_at_most}
 use Rattle.skeen_core.specs.Group.{GroupState, GroupView, fresh, next_clock, tell, ReceivesStart, Receives}
 use Rattle.skeen_core.specs.declared.packet.Body.{Body}
 use Rattle.skeen_core.specs.declared.packet.Body.TheVariants.{Start, Proposal}
@@ -100,3 +99,8 @@ sent_few me grp id (Start floor groups) sent ds new r = by_started (get grp.star
     by_started : (o : Option (List ℕ)) → ReceivesStart o me grp id floor groups sent ds new → length sent ≤ length groups
     by_started (Some gs) r = let e = ap (λ (ps : List Packet). length ps) r.0 in omega arith
     by_started None r = let e = ap (λ (ps : List Packet). length ps) r.0 in let few = told_few me id (next_clock grp floor) groups in omega arith
+
+-- as many Starts as groups
+pub starts_many : (id : RequestId) (floor : ℕ) (all gs : List ℕ) → length (starts_to id floor all gs) ≡ length gs
+starts_many id floor all [] = refl
+starts_many id floor all (g ∷ gs) = ap suc (starts_many id floor all gs)

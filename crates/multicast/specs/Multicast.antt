@@ -39,9 +39,9 @@ starts_to id floor all [] = []
 starts_to id floor all (g ∷ gs) = record { to = g; id = id; body = Start floor all } ∷ starts_to id floor all gs
 
 -- its Starts go behind all packets
-pub record Begins (old : MulticastView) (id : RequestId) (floor : ℕ) (groups : List ℕ) (new : MulticastView) : Type 0 where
+pub record Begins (old : MulticastView) (id : RequestId) (floor : ℕ) (addressed : List ℕ) (new : MulticastView) : Type 0 where
   pub groups : new.groups ≡ old.groups
-  pub packets : new.packets ≡ old.packets ++ starts_to id floor groups groups
+  pub packets : new.packets ≡ old.packets ++ starts_to id floor addressed addressed
   pub queues : new.queues ≡ old.queues
 
 -- ---- a packet comes

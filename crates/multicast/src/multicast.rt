@@ -170,9 +170,7 @@ impl Multicast {
         requires layer { IsLayer (queue_of self.old.queues) layer.now }
         ensures { LosesLayer self.old layer.now self.new }
     {
-        for request in layer {
-            self.queues.pop(request);
-        }
+        self.queues.pop_all(layer);
     }
 }
 

@@ -1,4 +1,4 @@
-use Rattle.std.proofs.Common.{rules, ◌≡◌, ℕ, ◌<◌, ◌∷◌, length, sym, ap, ◌∙◌, subst, arith}
+use Rattle.std.proofs.Common.{rules, ◌<◌, length, sym, ap, ◌∙◌, subst, arith}
 use Rattle.delivery.specs.Queues.{queue_of}
 use Rattle.multicast.specs.Multicast.{MayAppendAll}
 use Rattle.multicast.proofs.Queues.{with_rest, rest_next, rest_none, may_append_next}

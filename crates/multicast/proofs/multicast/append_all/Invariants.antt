@@ -1,6 +1,6 @@
-use Rattle.std.proofs.Common.{◌≡◌, ℕ, ◌≤◌, ◌<◌, ◌++◌, length}
+use Rattle.std.proofs.Common.{◌≡◌, ℕ, ◌≤◌, length}
 use Rattle.delivery.specs.Queues.{queue_of, room_of}
-use Rattle.multicast.specs.Multicast.{at, MayAppendAll}
+use Rattle.multicast.specs.Multicast.{MayAppendAll}
 use Rattle.multicast.proofs.Queues.{with_rest}
 use Rattle.multicast.proofs.multicast.append_all.Given as goal
 

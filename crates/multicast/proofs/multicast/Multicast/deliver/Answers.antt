@@ -1,6 +1,6 @@
-use Rattle.std.proofs.Common.{rules, ◌≡◌, ◌<◌, ◌≤◌, ◌++◌, length, remove, slice_get, slice_set, slice_index_or, Some, sym, ap, ◌∙◌, subst, arith}
+use Rattle.std.proofs.Common.{rules, ◌≡◌, ◌<◌, ◌++◌, length, remove, slice_get, slice_set, slice_index_or, Some, sym, ap, ◌∙◌, subst, arith}
 use Rattle.delivery.specs.Queues.{queue_of}
-use Rattle.multicast.specs.Multicast.{MulticastView, at, group_of, sends_at_most, MayBeDelivered, Delivers}
+use Rattle.multicast.specs.Multicast.{MulticastView, at, group_of, Delivers}
 use Rattle.multicast.proofs.Groups.{within, state_at, sent_few, group_of-set, count-set}
 use Rattle.skeen_core.specs.Group.{GroupView, Receives}
 use Rattle.multicast.proofs.multicast.Multicast.deliver.Goals as goal
@@ -40,7 +40,7 @@ returns-clause-delivers c =
     let is : grp ≡ slice_index_or gs p.to grp = c.index_mut-group.ensures.value ∙ ap (λ n. slice_index_or gs n grp) number in
     let me : grp.me ≡ p.to = ap (λ (v : GroupView). v.me) is ∙ c.self.invariant.numbered p.to grp low in
     let state = state_at gs p.to grp low is in
-    subst (λ (v : MulticastView). Delivers v c.args.place _) c.self.view_is (record {
+    subst (λ (v : MulticastView). Delivers v c.args.place (record { groups = slice_set gs c.from.result c.receive.new.self; packets = c.send_all.new.links.packets; queues = c.append_all.new.queues.queues; room = c.send_all.new.links.room })) c.self.view_is (record {
       packet = p;
       sent = c.in-Ok.sent.items;
       delivered = c.in-Ok.delivered.items;
