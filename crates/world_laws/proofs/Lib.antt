@@ -10,3 +10,6 @@ pub mod Bounds
 pub mod OrderLaws
 pub mod ConditionLaws
 pub mod HeadlineLaws
+pub mod Owing
+pub mod Owed
+pub mod QuietLaws

@@ -2,3 +2,4 @@ pub mod Good
 pub mod Order
 pub mod Conditions
 pub mod Headline
+pub mod Quiet
