@@ -13,3 +13,4 @@ pub mod HeadlineLaws
 pub mod Owing
 pub mod Owed
 pub mod QuietLaws
+pub mod BoundLaws

@@ -3,3 +3,4 @@ pub mod Order
 pub mod Conditions
 pub mod Headline
 pub mod Quiet
+pub mod Bound
