@@ -14,3 +14,4 @@ pub mod Owing
 pub mod Owed
 pub mod QuietLaws
 pub mod BoundLaws
+pub mod CollectingLaws

@@ -4,3 +4,4 @@ pub mod Conditions
 pub mod Headline
 pub mod Quiet
 pub mod Bound
+pub mod Collecting
