@@ -15,3 +15,4 @@ pub mod Owed
 pub mod QuietLaws
 pub mod BoundLaws
 pub mod CollectingLaws
+pub mod Telling
