@@ -1,6 +1,7 @@
 -- What callees ask follows from what every world is like.
 use Rattle.std.proofs.Common.{◌≡◌, ◌≢◌, ℕ, ◌^◌, ◌+◌, ◌≤◌, ◌<◌, ◌==◌, Bool, true, false, cond, List, [], ◌∷◌, ◌++◌, inl, inr, Option, Some, None, length, refl, sym, ap, ◌∙◌, subst, arith, eqb-true, eq-eqb, append_assoc}
 use Rattle.std.proofs.lemmas.Bool.{cases_Bool}
+use Rattle.delivery.specs.Queues.{is_above_last, MayAppend, IsSound}
 use Rattle.groups.specs.GroupSet.{has}
 use Rattle.placement.specs.Groups.{groups_of}
 use Rattle.placement.specs.Layout.{Layout}
@@ -18,10 +19,10 @@ use Rattle.world.specs.Steps.{at, Effect, Comes}
 use Rattle.world.specs.World.{World, Request, Ended, Taken, HasRun}
 use Rattle.world_laws.specs.Good.{BodyGood, Known, GroupGood, log_of, delivered_of, all_delivered, all_taken, Touching, TakenGood, Pending, WorldGood, Bounded}
 use Rattle.world_laws.specs.Order.{HasFinal}
-use Rattle.world_laws.specs.Conditions.{PacketsMayCome, MayJoin, DeliveriesMayJoin, LayersAreSubmitted, LayersAreAbove, SettledIsWaitedFor, NumbersAreBounded}
+use Rattle.world_laws.specs.Conditions.{PacketsMayCome, QueuesAreSound, DeliveriesMayAppend, LayersAreSubmitted, LayersAreAbove, SettledIsWaitedFor, NumbersAreBounded}
 use Rattle.world_laws.proofs.Bounds.{bounded_world}
 use Rattle.world_laws.proofs.Groups.{at_true, at_false}
-use Rattle.world_laws.proofs.Layers.{in_delivered, known_same, ascending_cross}
+use Rattle.world_laws.proofs.Layers.{in_delivered, known_same, ascending_cross, ascending_right}
 use Rattle.world_laws.proofs.Lists.{rising_cross}
 use Rattle.world_laws.proofs.OrderLaws.{known_final, differ_good}
 use Rattle.world_laws.proofs.Worlds.{keeps_deliver, run_is_pending, good_world}
@@ -67,14 +68,30 @@ stamps_same t w good g h d e there here stamps =
     let b = known_final w h e (other.known e here) (other.member e here) in
     delivered_same t w good g h d e there here (differ_good t w good d.id e.id a.0 b.0 d.stamp a.2 (subst (λ s. HasFinal w e.id b.0 s) (sym stamps) b.2))
 
-pub delivery_may_join : (t : Layout) (old new : World) (k : ℕ) (effect : Effect) → WorldGood t old → (comes : Comes old k effect new) → (front : List Delivered) (d : Delivered) (back : List Delivered) →
-    comes.delivered ≡ front ++ d ∷ back → MayJoin (at old.queue comes.packet.to (old.queue comes.packet.to ++ front)) comes.packet.to d
-delivery_may_join t old new k effect before comes front d back split = record {
+above_last : (q : List Delivered) (s : Stamp) → ((e : Delivered) → In e q → stamp_lt e.stamp s ≡ true) → is_above_last q s ≡ true
+above_last [] s above = refl
+above_last (d ∷ []) s above = above d (inl refl)
+above_last (d ∷ e ∷ es) s above = above_last (e ∷ es) s (λ f there. above f (inr there))
+
+pub queues_sound : (t : Layout) (w : World) → WorldGood t w → IsSound w.queue
+queues_sound t w good = record {
+  member = λ g d there. (good.skeen.groups g).member d (In-right d (w.gone g) (w.queue g) there);
+  ascending = λ g. ascending_right (w.gone g) (w.queue g) (good.skeen.groups g).going.ascending;
+  one_id = λ g h d e there here ids. delivered_same t w good g h d e (In-right d (w.gone g) (w.queue g) there) (In-right e (w.gone h) (w.queue h) here) ids;
+  one_stamp = λ g h d e there here stamps. stamps_same t w good g h d e (In-right d (w.gone g) (w.queue g) there) (In-right e (w.gone h) (w.queue h) here) stamps;
+}
+
+pub queues_are_sound : QueuesAreSound
+queues_are_sound t steps w leads = queues_sound t w (good_world t steps w leads)
+
+pub delivery_may_append : (t : Layout) (old new : World) (k : ℕ) (effect : Effect) → WorldGood t old → (comes : Comes old k effect new) → (front : List Delivered) (d : Delivered) (back : List Delivered) →
+    comes.delivered ≡ front ++ d ∷ back → MayAppend (at old.queue comes.packet.to (old.queue comes.packet.to ++ front)) comes.packet.to d
+delivery_may_append t old new k effect before comes front d back split = record {
   member = (good.skeen.groups to).member d there;
-  above = λ e here. ascending_cross (old.gone to ++ (old.queue to ++ front)) (d ∷ back) (subst (λ l. Ascending l) whole (good.skeen.groups to).going.ascending) e d
-      (In-right e (old.gone to) (old.queue to ++ front) (subst (λ l. In e l) (at_true (to == to) (old.queue to ++ front) (old.queue to) (eq-eqb to to refl)) here)) (inl refl);
-  same = λ h e here ids. delivered_same t new good h to e d (earlier h e here) there ids;
-  single = λ h e here stamps. stamps_same t new good h to e d (earlier h e here) there stamps;
+  above = above_last (at old.queue to (old.queue to ++ front) to) d.stamp (λ e here. ascending_cross (old.gone to ++ (old.queue to ++ front)) (d ∷ back) (subst (λ l. Ascending l) whole (good.skeen.groups to).going.ascending) e d
+      (In-right e (old.gone to) (old.queue to ++ front) (subst (λ l. In e l) (at_true (to == to) (old.queue to ++ front) (old.queue to) (eq-eqb to to refl)) here)) (inl refl));
+  same = λ h e here ids. let same = delivered_same t new good h to e d (earlier h e here) there ids in (ap (λ (x : Delivered). x.stamp) same, ap (λ (x : Delivered). x.groups) same);
+  single = λ h e here stamps. ap (λ (x : Delivered). x.id) (stamps_same t new good h to e d (earlier h e here) there stamps);
 }
   where
     to : ℕ
@@ -109,8 +126,8 @@ delivery_may_join t old new k effect before comes front d back split = record {
           subst (λ l. In e l) (sym same) (In-right e (old.gone h) (old.queue h) in_queue)
     ]
 
-pub deliveries_may_join : DeliveriesMayJoin
-deliveries_may_join t steps old new k effect leads comes front d back split = delivery_may_join t old new k effect (good_world t steps old leads) comes front d back split
+pub deliveries_may_append : DeliveriesMayAppend
+deliveries_may_append t steps old new k effect leads comes front d back split = delivery_may_append t old new k effect (good_world t steps old leads) comes front d back split
 
 -- ---- the shards
 

@@ -58,6 +58,10 @@ ascending_cross [] ys up x y there here = absurd there
 ascending_cross (z ∷ xs) ys up x y (inl same) here = subst (λ (u : Delivered). stamp_lt u.stamp y.stamp ≡ true) (sym same) (up.0 y (In-right y xs ys here))
 ascending_cross (z ∷ xs) ys up x y (inr there) here = ascending_cross xs ys up.1 x y there here
 
+pub ascending_right : (xs ys : List Delivered) → Ascending (xs ++ ys) → Ascending ys
+ascending_right [] ys up = up
+ascending_right (x ∷ xs) ys up = ascending_right xs ys up.1
+
 pub taken_layer : (asked : Asked) (proposed : Proposals) (packets : List Packet) (group : ℕ → GroupState) (gone queue : ℕ → List Delivered) (ended : List Ended) (ds : List Delivered) →
     SkeenGood asked proposed packets group (λ g. gone g ++ queue g) → IsLayer queue ds → TakenGood asked proposed gone (all_taken ended NoneTaken) →
     TakenGood asked proposed (λ g. gone g ++ taken_from ds (queue g)) (all_taken ended (Taken ds))

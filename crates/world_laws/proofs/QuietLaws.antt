@@ -23,7 +23,7 @@ use Rattle.world.specs.World.{World, Request, Ended, NoneTaken}
 use Rattle.world_laws.specs.Good.{Known, GroupGood, bit, starts_of, addresses, log_of, Named, delivered_of, all_delivered, all_taken, WorldGood}
 use Rattle.world_laws.specs.Quiet.{IsQuiet, QuietMeansEnded, IsOut, told_by}
 use Rattle.world_laws.proofs.ConditionLaws.{delivered_same}
-use Rattle.world_laws.proofs.Layers.{ascending_cross, known_some}
+use Rattle.world_laws.proofs.Layers.{ascending_cross, ascending_right, known_some}
 use Rattle.world_laws.proofs.Owed.{Owes, owes_world}
 use Rattle.world_laws.proofs.Worlds.{good_world}
 
@@ -132,10 +132,6 @@ all_out t w good owes none i q g named member =
 -- what isn't below one stamp isn't below a smaller one
 not_below : (s t u : Stamp) → stamp_lt s u ≡ false → stamp_lt t u ≡ true → stamp_lt s t ≡ false
 not_below s t u h l = elim (cases_Bool (stamp_lt s t)) [ inl less ↦ absurd (both_ways _ h (lt_trans s t u less l)) | inr e ↦ e ]
-
-ascending_right : (xs ys : List Delivered) → Ascending (xs ++ ys) → Ascending ys
-ascending_right [] ys up = up
-ascending_right (x ∷ xs) ys up = ascending_right xs ys up.1
 
 pub record LeastHead (queue : ℕ → List Delivered) (m : ℕ) : Type 0 where
   pub group : ℕ

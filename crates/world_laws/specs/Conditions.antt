@@ -1,7 +1,7 @@
 -- What the calls of a group, of its queue, of the shards and of the router ask of whoever calls them in these steps, as far as the world
 -- says it.
 use Rattle.std.specs.Prelude.{◌≡◌, ℕ, ◌^◌, ◌≤◌, true, List, [], ◌∷◌, ◌++◌, length}
-use Rattle.delivery.specs.Ready.{QueueOf}
+use Rattle.delivery.specs.Queues.{MayAppend, IsSound}
 use Rattle.groups.specs.GroupSet.{has}
 use Rattle.journal.specs.declared.step.Step.{Step}
 use Rattle.placement.specs.Groups.{groups_of}
@@ -25,19 +25,15 @@ PacketsMayCome = (t : Layout) (steps : List Step) (w : World) → Leads t openin
 
 -- ---- a queue
 
--- the request may be put behind the group's queue: the group is one of its groups, its stamp is above those there, and in all queues its id
--- and its stamp are those of no other request
-pub record MayJoin (queue : QueueOf) (g : ℕ) (d : Delivered) : Type 0 where
-  pub member : has d.groups g ≡ true
-  pub above : (e : Delivered) → In e (queue g) → stamp_lt e.stamp d.stamp ≡ true
-  pub same : (h : ℕ) (e : Delivered) → In e (queue h) → e.id ≡ d.id → e ≡ d
-  pub single : (h : ℕ) (e : Delivered) → In e (queue h) → e.stamp ≡ d.stamp → e ≡ d
+-- the queues are as any queues are
+abbrev pub QueuesAreSound : Type 0
+QueuesAreSound = OfEveryWorld (λ t w. IsSound w.queue)
 
 -- what a group delivers may be put behind its queue, one after another
-abbrev pub DeliveriesMayJoin : Type 0
-DeliveriesMayJoin = (t : Layout) (steps : List Step) (old new : World) (k : ℕ) (effect : Effect) → Leads t opening steps old → (comes : Comes old k effect new) →
+abbrev pub DeliveriesMayAppend : Type 0
+DeliveriesMayAppend = (t : Layout) (steps : List Step) (old new : World) (k : ℕ) (effect : Effect) → Leads t opening steps old → (comes : Comes old k effect new) →
     (front : List Delivered) (d : Delivered) (back : List Delivered) → comes.delivered ≡ front ++ d ∷ back →
-    MayJoin (at old.queue comes.packet.to (old.queue comes.packet.to ++ front)) comes.packet.to d
+    MayAppend (at old.queue comes.packet.to (old.queue comes.packet.to ++ front)) comes.packet.to d
 
 -- ---- the shards
 
