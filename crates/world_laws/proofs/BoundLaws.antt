@@ -1,7 +1,7 @@
 -- Each such step uses up what a submitted request allowed: a Start weighs as much as its request has groups, a Proposal 1, and a request
 -- that no layer has taken 3.
-use Rattle.std.proofs.Common.{◌≡◌, ◌≢◌, ℕ, zero, suc, ◌+◌, ◌*◌, ◌≤◌, ◌<◌, ◌==◌, Bool, true, false, cond, List, [], ◌∷◌, ◌++◌, inl, inr, Option, Some, None, Result, Ok, Err, length, map, refl, sym, ap, ◌∙◌, subst, arith, eqb-true, append_assoc, length-append}
-use Rattle.std.proofs.lemmas.Bool.{both_ways, cases_Bool, or_cases}
+use Rattle.std.proofs.Common.{◌≡◌, ◌≢◌, ℕ, suc, ◌+◌, ◌*◌, ◌≤◌, ◌==◌, true, false, cond, List, [], ◌∷◌, ◌++◌, inl, inr, Option, Some, None, Result, Ok, Err, length, map, refl, sym, ap, ◌∙◌, subst, arith, append_assoc, length-append}
+use Rattle.std.proofs.lemmas.Bool.{both_ways, or_cases}
 use Rattle.std.proofs.Math.Nat.{suc-mul}
 use Rattle.std.specs.FinMap.{get}
 use Rattle.std.specs.List.{remove}
@@ -24,8 +24,8 @@ use Rattle.skeen_core.specs.declared.packet.Body.TheVariants.{Start, Proposal}
 use Rattle.skeen_core.specs.declared.packet.Delivered.{Delivered}
 use Rattle.skeen_core.specs.declared.packet.Packet.{Packet}
 use Rattle.skeen_core.specs.declared.request.RequestId.{RequestId}
-use Rattle.world.specs.Steps.{starts, opening, Effect, next_id, floor_of, multicast, submitted_to, submitted, Comes, Takes, RunsLayer, Settles, Collects, Steps, Makes, Leads}
-use Rattle.world.specs.World.{World, Request, Standing, Closed, Idle, Waiting, Answered, Ended, Layer, NoneTaken, Taken, HasRun, Proposals}
+use Rattle.world.specs.Steps.{starts, opening, Effect, next_id, floor_of, multicast, submitted_to, submitted, Comes, Takes, RunsLayer, Settles, Collects, Steps, Makes}
+use Rattle.world.specs.World.{World, Request, Standing, Closed, Idle, Waiting, Answered, Layer, NoneTaken, Taken, HasRun, Proposals}
 use Rattle.world_laws.specs.Bound.{turn, turns, allowed_to, allowed_by, allowance, allowances, TurnsAreBounded}
 use Rattle.world_laws.specs.Good.{Asked, BodyGood, all_delivered, all_taken, TakenGood, WorldGood}
 use Rattle.world_laws.proofs.Groups.{by_test}
@@ -227,13 +227,13 @@ length-ids (d ∷ ds) = ap suc (length-ids ds)
 taken_at_most : (t : Layout) (w : World) (ids : List RequestId) → WorldGood t w → ((i : RequestId) (q : Request) → w.asked i ≡ Some q → In i ids) → length (all_taken w.ended w.layer) ≤ length ids
 taken_at_most t w ids good asked =
     let once = once_map (all_taken w.ended w.layer) (λ d e before after split there same.
-      let whole = split ∙ sym (append_assoc before (d ∷ []) after) in
-      taken_once t w.asked w.proposed w.gone w.seq w.last (before ++ d ∷ []) after good.requests (subst (λ l. TakenGood w.asked w.proposed w.gone l) whole good.taken) d e
-      (In-right d before (d ∷ []) (inl refl)) there same) in
+    let whole = split ∙ sym (append_assoc before (d ∷ []) after) in
+    taken_once t w.asked w.proposed w.gone w.seq w.last (before ++ d ∷ []) after good.requests (subst (λ l. TakenGood w.asked w.proposed w.gone l) whole good.taken) d e
+    (In-right d before (d ∷ []) (inl refl)) there same) in
     let fits = once_fits (map (λ d. d.id) (all_taken w.ended w.layer)) ids once (λ i there.
-      let d = in_map (all_taken w.ended w.layer) i there in
-      let known = good.taken.known d.0 d.1 in
-      subst (λ j. In j ids) (sym d.2) (asked d.0.id known.named.0 known.named.1)) in
+    let d = in_map (all_taken w.ended w.layer) i there in
+    let known = good.taken.known d.0 d.1 in
+    subst (λ j. In j ids) (sym d.2) (asked d.0.id known.named.0 known.named.1)) in
     omega (arith, length-ids (all_taken w.ended w.layer))
 
 pub turns_are_bounded : TurnsAreBounded

@@ -1,5 +1,5 @@
 -- No number of a world is above the number of steps that led to it.
-use Rattle.std.proofs.Common.{◌≡◌, ℕ, zero, suc, ◌+◌, ◌≤◌, ◌<◌, ◌==◌, ◌&&◌, max, Bool, true, false, cond, List, [], ◌∷◌, ◌++◌, length, inl, inr, Option, Some, None, Result, Ok, Err, slice_get, refl, sym, ap, ◌∙◌, subst, arith, eqb-true}
+use Rattle.std.proofs.Common.{◌≡◌, ℕ, suc, ◌+◌, ◌≤◌, ◌==◌, ◌&&◌, true, false, cond, List, [], ◌∷◌, ◌++◌, length, inl, inr, Option, Some, None, Result, Ok, Err, refl, sym, ap, subst, arith}
 use Rattle.std.proofs.lemmas.Bool.{cases_Bool}
 use Rattle.std.specs.FinMap.{get}
 use Rattle.std.specs.Option.{is_some}
@@ -13,7 +13,7 @@ use Rattle.placement.specs.Groups.{groups_of}
 use Rattle.placement.specs.Layout.{Layout}
 use Rattle.resp.specs.Content.{Content}
 use Rattle.skeen_core.proofs.Lawful.{None≢Some}
-use Rattle.skeen_core.specs.Group.{GroupState, heard, next_clock, with_start, with_proposal, final_of, lift, lifted, Delivering, ReceivesStart, Receives}
+use Rattle.skeen_core.specs.Group.{GroupState, heard, next_clock, with_start, with_proposal, final_of, lift, lifted, ReceivesStart, Receives}
 use Rattle.skeen_core.specs.Order.{In}
 use Rattle.skeen_core.specs.Request.{same_id}
 use Rattle.skeen_core.specs.Stamp.{final}
@@ -23,12 +23,12 @@ use Rattle.skeen_core.specs.declared.packet.Delivered.{Delivered}
 use Rattle.skeen_core.specs.declared.packet.Packet.{Packet}
 use Rattle.skeen_core.specs.declared.request.RequestId.{RequestId}
 use Rattle.skeen_core.specs.declared.stamp.Stamp.{Stamp}
-use Rattle.world.specs.Steps.{at, opening, Effect, Opens, next_id, clock_of, final_clock, final_clock_of, floor_of, multicast, answered, submitted_to, submitted, Submits, hears, Comes, Takes, RunsLayer, Settles, Collects, Closes, Steps, Makes, Leads}
-use Rattle.world.specs.World.{World, Request, Outcome, Standing, Closed, Idle, Waiting, Answered, Proposals}
-use Rattle.world_laws.specs.Good.{Asked, Addressed, Among, BodyGood, PacketGood, bit, starts_of, addresses, log_of, SkeenGood, AskedGood, WorldGood, Bounded}
-use Rattle.world_laws.proofs.Groups.{MidGood, mid_start, mid_proposal, by_test, at_true, at_false}
+use Rattle.world.specs.Steps.{at, opening, Effect, next_id, clock_of, final_clock, final_clock_of, floor_of, multicast, answered, submitted_to, submitted, hears, Comes, Collects, Steps, Makes, Leads}
+use Rattle.world.specs.World.{World, Request, Standing, Closed, Idle, Waiting, Answered, Proposals}
+use Rattle.world_laws.specs.Good.{Asked, Addressed, Among, bit, starts_of, addresses, log_of, WorldGood, Bounded}
+use Rattle.world_laws.proofs.Groups.{mid_start, mid_proposal, by_test, at_true, at_false}
 use Rattle.world_laws.proofs.Lists.{split_at}
-use Rattle.world_laws.proofs.Receipts.{was_under_way, not_proposed, not_started}
+use Rattle.world_laws.proofs.Receipts.{was_under_way, not_proposed}
 use Rattle.world_laws.proofs.Requests.{final_is_proposed}
 use Rattle.world_laws.proofs.Worlds.{keeps, good_opening}
 
@@ -71,8 +71,8 @@ start_clock t w n to id floor groups front back sent ds state whole good bounded
     let new : next_clock (w.group to) floor ≤ suc n = omega arith in
     let same = ap (λ (s : GroupState). s.clock) r.1.after in
     let bound = lifted_at_most w.asked (hears w.proposed id to (next_clock (w.group to) floor)) (with_start to (w.group to) id floor groups) id (suc n) new mid.heard
-        (λ i g m e. by_test (same_id i id && g == to) (next_clock (w.group to) floor) (w.proposed i g) m (m ≤ suc n) e (λ p at_new. omega arith) (λ p old. let before = proposed_at_most t w n good bounded i g m old in omega arith))
-        (λ gs e. some_group t w id gs good (mid.started id gs e)) in
+    (λ i g m e. by_test (same_id i id && g == to) (next_clock (w.group to) floor) (w.proposed i g) m (m ≤ suc n) e (λ p at_new. omega arith) (λ p old. let before = proposed_at_most t w n good bounded i g m old in omega arith))
+    (λ gs e. some_group t w id gs good (mid.started id gs e)) in
     omega arith
 
 body_clock : (t : Layout) (w : World) (n to : ℕ) (id : RequestId) (body : Body) (front back sent : List Packet) (ds : List Delivered) (state : GroupState) →
@@ -85,7 +85,7 @@ body_clock t w n to id (Proposal from m) front back sent ds state whole good bou
     let low = bounded.clocks to in
     let same = ap (λ (s : GroupState). s.clock) r.1.after in
     let bound = lifted_at_most w.asked w.proposed (with_proposal (w.group to) id from m) id n low mid.heard
-        (proposed_at_most t w n good bounded) (λ gs e. some_group t w id gs good (mid.started id gs e)) in
+    (proposed_at_most t w n good bounded) (λ gs e. some_group t w id gs good (mid.started id gs e)) in
     omega arith
 
 -- ---- each step

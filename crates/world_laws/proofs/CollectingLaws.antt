@@ -1,8 +1,6 @@
 -- What connections are told, over histories.
-use Rattle.std.proofs.Common.{◌≡◌, ℕ, suc, ◌+◌, ◌≤◌, ◌<◌, ◌==◌, Bool, true, false, cond, List, [], ◌∷◌, ◌⊎◌, inl, inr, Option, Some, None, Result, Ok, Err, refl, sym, ap, ◌∙◌, subst, arith, eqb-true, eq-eqb}
-use Rattle.std.proofs.lemmas.Bool.{both_ways, cases_Bool}
-use Rattle.std.specs.FinMap.{empty}
-use Rattle.command_bodies.specs.Command.{effect_of}
+use Rattle.std.proofs.Common.{◌≡◌, ℕ, suc, ◌<◌, ◌==◌, true, false, cond, List, [], ◌∷◌, ◌⊎◌, inl, inr, Some, None, Result, Ok, Err, refl, sym, ap, ◌∙◌, subst, arith, eqb-true, eq-eqb}
+use Rattle.std.proofs.lemmas.Bool.{cases_Bool}
 use Rattle.command_table.specs.Reading.{reading}
 use Rattle.command_table.specs.Refusal.{refusal_text}
 use Rattle.command_table.specs.declared.command.Command.{Command}
@@ -11,21 +9,16 @@ use Rattle.journal.specs.declared.step.Step.{Step}
 use Rattle.journal.specs.declared.step.Step.TheVariants.{Open, Submit, Deliver, Take, Run, Settle, Collect, Close}
 use Rattle.placement.specs.Groups.{groups_of}
 use Rattle.placement.specs.Layout.{Layout}
-use Rattle.resp.specs.Content.{Content, ErrorLine}
-use Rattle.skeen_core.proofs.Ids.{same_id-true}
-use Rattle.skeen_core.proofs.Lawful.{None≢Some}
+use Rattle.resp.specs.Content.{ErrorLine}
 use Rattle.skeen_core.specs.Group.{EachOnce}
 use Rattle.skeen_core.specs.Order.{In}
-use Rattle.skeen_core.specs.Request.{same_id}
-use Rattle.skeen_core.specs.declared.request.ConnId.{ConnId}
 use Rattle.skeen_core.specs.declared.request.RequestId.{RequestId}
-use Rattle.skeen_core.specs.declared.stamp.Stamp.{Stamp}
-use Rattle.world.specs.Steps.{at, opening, Effect, Opened, Submitted, Ran, Collected, Made, next_id, floor_of, multicast, answered, submitted_to, submitted, settled, outcome_of, Collects, Steps, Makes}
-use Rattle.world.specs.World.{World, Request, Outcome, Standing, Closed, Idle, Waiting, Answered, Ended}
-use Rattle.world_laws.specs.Collecting.{Submits, WasSubmitted, reply_at_none, reply_at_once, AskedAsSubmitted, CollectsItsOwn, with_collected, collected_in, CollectedOnce}
+use Rattle.world.specs.Steps.{at, opening, Effect, Opened, Submitted, Ran, Collected, Made, answered, submitted_to, submitted, settled, Collects, Steps, Makes}
+use Rattle.world.specs.World.{World, Outcome, Standing, Closed, Idle, Waiting, Answered, Ended}
+use Rattle.world_laws.specs.Collecting.{with_collected, collected_in, CollectedOnce}
 use Rattle.world_laws.specs.Good.{Pending, WorldGood}
 use Rattle.world_laws.proofs.Connections.{not_pending, idle_open, idle_not_waiting, settled_closed, settled_result}
-use Rattle.world_laws.proofs.Groups.{by_test, at_true, at_false}
+use Rattle.world_laws.proofs.Groups.{at_true, at_false}
 use Rattle.world_laws.proofs.Worlds.{keeps, run_is_pending, good_opening}
 
 -- ---- a connection's last request once it was collected

@@ -1,12 +1,12 @@
 -- What callees ask follows from what every world is like.
-use Rattle.std.proofs.Common.{◌≡◌, ◌≢◌, ℕ, ◌^◌, ◌+◌, ◌≤◌, ◌<◌, ◌==◌, Bool, true, false, cond, List, [], ◌∷◌, ◌++◌, inl, inr, Option, Some, None, length, refl, sym, ap, ◌∙◌, subst, arith, eqb-true, eq-eqb, append_assoc}
+use Rattle.std.proofs.Common.{◌≡◌, ℕ, ◌^◌, ◌≤◌, ◌==◌, true, List, [], ◌∷◌, ◌++◌, inl, inr, Some, length, refl, sym, ap, ◌∙◌, subst, arith, eqb-true, eq-eqb, append_assoc}
 use Rattle.std.proofs.lemmas.Bool.{cases_Bool}
 use Rattle.delivery.specs.Queues.{is_above_last, MayAppend, IsSound}
 use Rattle.groups.specs.GroupSet.{has}
 use Rattle.placement.specs.Groups.{groups_of}
 use Rattle.placement.specs.Layout.{Layout}
-use Rattle.skeen_core.proofs.Lists.{In-left, In-right, In-append}
-use Rattle.skeen_core.specs.Group.{GroupState, heard, Ascending, BodyMayCome, MayCome}
+use Rattle.skeen_core.proofs.Lists.{In-left, In-right}
+use Rattle.skeen_core.specs.Group.{Ascending, BodyMayCome, MayCome}
 use Rattle.skeen_core.specs.Order.{In}
 use Rattle.skeen_core.specs.Stamp.{stamp_lt, final}
 use Rattle.skeen_core.specs.declared.packet.Body.{Body}
@@ -16,8 +16,8 @@ use Rattle.skeen_core.specs.declared.packet.Packet.{Packet}
 use Rattle.skeen_core.specs.declared.request.RequestId.{RequestId}
 use Rattle.skeen_core.specs.declared.stamp.Stamp.{Stamp}
 use Rattle.world.specs.Steps.{at, Effect, Comes}
-use Rattle.world.specs.World.{World, Request, Ended, Taken, HasRun}
-use Rattle.world_laws.specs.Good.{BodyGood, Known, GroupGood, log_of, delivered_of, all_delivered, all_taken, Touching, TakenGood, Pending, WorldGood, Bounded}
+use Rattle.world.specs.World.{World, Request, Ended, Taken}
+use Rattle.world_laws.specs.Good.{BodyGood, log_of, delivered_of, all_delivered, all_taken, Touching, TakenGood, WorldGood, Bounded}
 use Rattle.world_laws.specs.Order.{HasFinal}
 use Rattle.world_laws.specs.Conditions.{PacketsMayCome, QueuesAreSound, DeliveriesMayAppend, LayersAreSubmitted, LayersAreAbove, SettledIsWaitedFor, NumbersAreBounded}
 use Rattle.world_laws.proofs.Bounds.{bounded_world}
@@ -34,8 +34,7 @@ body_may_come t w n to id (Start floor groups) good bounded few body =
     let low = bounded.floors id body.0.0 body.0.1 in let same = body.0.2 in
     (body.1, omega arith)
 body_may_come t w n to id (Proposal from m) good bounded few body =
-    let low = (good.skeen.groups from).clock id m body.0 in let high = bounded.clocks from in
-    (
+    let low = (good.skeen.groups from).clock id m body.0 in let high = bounded.clocks from in (
       body.1,
       omega arith,
       λ i e. (good.skeen.groups from).apart i id m ((good.skeen.groups to).heard i from m e) body.0,
@@ -134,9 +133,11 @@ deliveries_may_append t steps old new k effect leads comes front d back split = 
 pub layer_is_submitted : (t : Layout) (w : World) → WorldGood t w → (layer : List Delivered) → w.layer ≡ Taken layer → (d : Delivered) → In d layer → (q : Request) × HasFinal w d.id q d.stamp × (d.groups ≡ groups_of t q.command)
 layer_is_submitted t w good layer is d there =
     let taken = subst (λ l. TakenGood w.asked w.proposed w.gone (all_taken w.ended l)) is good.taken in
-    let known = taken.known d (In-right d (all_delivered w.ended) layer there) in
-    (known.named.0, record { submitted = known.named.1; stamp = ap (λ gs. final (w.proposed d.id) gs) known.named.2 ∙ known.stamp },
-    sym known.named.2 ∙ sym (good.requests.shaped d.id known.named.0 known.named.1).groups)
+    let known = taken.known d (In-right d (all_delivered w.ended) layer there) in (
+      known.named.0,
+      record { submitted = known.named.1; stamp = ap (λ gs. final (w.proposed d.id) gs) known.named.2 ∙ known.stamp },
+      sym known.named.2 ∙ sym (good.requests.shaped d.id known.named.0 known.named.1).groups,
+    )
 
 pub layers_are_submitted : LayersAreSubmitted
 layers_are_submitted t steps w leads layer is d there = layer_is_submitted t w (good_world t steps w leads) layer is d there

@@ -1,15 +1,15 @@
 -- Connections, at each step that touches them.
-use Rattle.std.proofs.Common.{◌≡◌, ℕ, suc, ◌+◌, ◌≤◌, ◌<◌, ◌==◌, Bool, true, false, cond, List, [], ◌∷◌, ◌++◌, ◌⊎◌, inl, inr, Option, Some, None, refl, sym, ap, ◌∙◌, subst, arith, eqb-true, eq-eqb, append-nil}
+use Rattle.std.proofs.Common.{◌≡◌, ℕ, suc, ◌≤◌, ◌<◌, ◌==◌, false, List, [], ◌∷◌, ◌++◌, ◌⊎◌, inl, inr, Option, Some, None, refl, sym, ap, ◌∙◌, subst, arith, eqb-true, eq-eqb, append-nil}
 use Rattle.std.proofs.lemmas.Bool.{both_ways, cases_Bool}
 use Rattle.skeen_core.proofs.Ids.{same_id-true, eq-same_id}
-use Rattle.skeen_core.proofs.Lists.{In-left, In-right, In-append}
+use Rattle.skeen_core.proofs.Lists.{In-left, In-right}
 use Rattle.skeen_core.specs.Order.{In}
 use Rattle.skeen_core.specs.Request.{same_id}
 use Rattle.skeen_core.specs.declared.packet.Delivered.{Delivered}
 use Rattle.skeen_core.specs.declared.request.RequestId.{RequestId}
 use Rattle.world.specs.Steps.{at, asks, outcome_of, given, settled}
 use Rattle.world.specs.World.{Request, Outcome, Standing, Closed, Idle, Waiting, Answered, Ended, Layer, NoneTaken, Taken, HasRun}
-use Rattle.world_laws.specs.Good.{Asked, Named, Pending, OutcomeGood, ConnectionsGood, run_in}
+use Rattle.world_laws.specs.Good.{Asked, Named, Pending, OutcomeGood, ConnectionsGood}
 use Rattle.world_laws.proofs.Groups.{by_test, at_true, at_false}
 
 -- ---- standings
@@ -138,7 +138,7 @@ connections_multicast opened standing seq last asked ended layer c q idle good =
   split = good.split;
   pending = λ i r e. by_test (same_id i id) q (asked i) r (Named good.settled i ⊎ Pending (at standing c Waiting) (at seq c (suc (seq c))) i) e
       (λ p same. inr (subst (λ j. Pending (at standing c Waiting) (at seq c (suc (seq c))) j) (sym (same_id-true i id p))
-        (inr (at_true (c == c) Waiting (standing c) (eq-eqb c c refl), sym (at_true (c == c) (suc (seq c)) (seq c) (eq-eqb c c refl))))))
+      (inr (at_true (c == c) Waiting (standing c) (eq-eqb c c refl), sym (at_true (c == c) (suc (seq c)) (seq c) (eq-eqb c c refl))))))
       (λ p old. elim (good.pending i r old) [
         | inl done ↦ inl done
         | inr pend ↦ inr (pending_kept standing seq c Idle Waiting (suc (seq c)) i idle idle_open idle_not_waiting pend)
@@ -185,10 +185,14 @@ closed_not_answered o e = cc
 pub connections_close : (opened : ℕ) (standing : ℕ → Standing) (seq : ℕ → ℕ) (last : ℕ → Option RequestId) (asked : Asked) (ended : List Ended) (layer : Layer) (c : ℕ) →
     ConnectionsGood opened standing seq last asked ended layer → ConnectionsGood opened (at standing c Closed) seq last asked ended layer
 connections_close opened standing seq last asked ended layer c good = record {
-  unopened = λ d less. let before = good.unopened d less in (elim (cases_Bool (d == c)) [
-    | inl e ↦ at_true (d == c) Closed (standing d) e
-    | inr e ↦ at_false (d == c) Closed (standing d) e ∙ before.0
-  ], before.1, before.2);
+  unopened = λ d less. let before = good.unopened d less in (
+    elim (cases_Bool (d == c)) [
+      | inl e ↦ at_true (d == c) Closed (standing d) e
+      | inr e ↦ at_false (d == c) Closed (standing d) e ∙ before.0
+    ],
+    before.1,
+    before.2,
+  );
   settled = good.settled;
   split = good.split;
   pending = λ i q named. elim (good.pending i q named) [
@@ -290,13 +294,16 @@ connections_settle opened standing seq last asked ended es waits good = record {
       | inl now ↦ inl (subst (λ l. Named l i) (sym good.split) (now.0, In-right now.0 good.settled es now.1, now.2))
       | inr none ↦ inr (elim p [
         | inl closed ↦ inl (settled_closed es standing i.conn.0 closed)
-        | inr waiting ↦ inr (elim (settled_result es standing i.conn.0) [
-          | inl same ↦ same ∙ waiting.0
-          | inr e ↦ absurd (elim (waits e.0 e.1) [
-            | inl closed ↦ closed_not_waiting (standing e.0.id.conn.0) closed (ap standing e.2 ∙ waiting.0)
-            | inr also ↦ none (e.0, e.1, same_request e.0.id i e.2 (also.1 ∙ ap seq e.2 ∙ sym waiting.1))
-          ])
-        ], waiting.1)
+        | inr waiting ↦ inr (
+          elim (settled_result es standing i.conn.0) [
+            | inl same ↦ same ∙ waiting.0
+            | inr e ↦ absurd (elim (waits e.0 e.1) [
+              | inl closed ↦ closed_not_waiting (standing e.0.id.conn.0) closed (ap standing e.2 ∙ waiting.0)
+              | inr also ↦ none (e.0, e.1, same_request e.0.id i e.2 (also.1 ∙ ap seq e.2 ∙ sym waiting.1))
+            ])
+          ],
+          waiting.1,
+        )
       ])
     ]
   ];

@@ -1,19 +1,18 @@
 -- One group: what is known of it survives what the others do, and each packet that comes to it.
-use Rattle.std.proofs.Common.{◌≡◌, ◌≢◌, ℕ, ◌≤◌, ◌<◌, ◌==◌, ◌&&◌, Bool, true, false, cond, List, [], ◌∷◌, ◌++◌, inl, inr, Option, Some, None, IsSome, refl, sym, ap, ◌∙◌, subst, arith, eqb-true, eq-eqb}
-use Rattle.std.proofs.lemmas.Bool.{both_ways, cases_Bool, and_parts}
+use Rattle.std.proofs.Common.{◌≡◌, ℕ, ◌≤◌, ◌==◌, ◌&&◌, Bool, true, false, cond, List, ◌++◌, inl, inr, Option, Some, None, refl, sym, ap, ◌∙◌, subst, arith, eqb-true}
+use Rattle.std.proofs.lemmas.Bool.{cases_Bool, and_parts}
 use Rattle.std.specs.FinMap.{get}
 use Rattle.groups.specs.GroupSet.{has}
-use Rattle.skeen_core.proofs.Ahead.{Ahead, Going, ahead_start, ahead_proposal, ahead_delivers, ascending_append, below_now}
-use Rattle.skeen_core.proofs.Finite.{started-with_start, heard-with_start, heard-with_proposal, started-without, heard-without}
-use Rattle.skeen_core.proofs.Ids.{same_id-true, same_id-refl}
+use Rattle.skeen_core.proofs.Ahead.{Ahead, ahead_start, ahead_proposal, ahead_delivers, ascending_append, below_now}
+use Rattle.skeen_core.proofs.Finite.{started-with_start, heard-with_start, heard-with_proposal}
+use Rattle.skeen_core.proofs.Ids.{same_id-true}
 use Rattle.skeen_core.proofs.Lawful.{lift_grows, sound_start, sound_proposal, lawful_without, kept_heard, kept_started}
 use Rattle.skeen_core.proofs.Lists.{In-append}
 use Rattle.skeen_core.proofs.Stamps.{final_within}
-use Rattle.skeen_core.specs.Group.{GroupState, heard, next_clock, with_start, with_proposal, final_of, lifted, MayGo, Ascending, Delivers, has_id, without}
-use Rattle.skeen_core.specs.Lawful.{Sound, Lawful}
+use Rattle.skeen_core.specs.Group.{GroupState, heard, next_clock, with_start, with_proposal, final_of, lifted, Ascending, Delivers, without}
+use Rattle.skeen_core.specs.Lawful.{Sound}
 use Rattle.skeen_core.specs.Order.{In}
 use Rattle.skeen_core.specs.Request.{same_id}
-use Rattle.skeen_core.specs.Stamp.{stamp_lt, final}
 use Rattle.skeen_core.specs.declared.packet.Delivered.{Delivered}
 use Rattle.skeen_core.specs.declared.request.RequestId.{RequestId}
 use Rattle.world.specs.Steps.{hears}
@@ -104,11 +103,11 @@ mid_start asked proposed me grp log id floor groups good named member none = rec
       (λ p old. let before = good.clock i n old in omega (arith, lifts));
   apart = λ i j n e d. by_test (same_id i id && me == me) new (proposed i me) n (i ≡ j) e
       (λ p same. by_test (same_id j id && me == me) new (proposed j me) n (i ≡ j) d
-        (λ q again. same_id-true i id (and_parts _ _ p).0 ∙ sym (same_id-true j id (and_parts _ _ q).0))
-        (λ q old. let before = good.clock j n old in absurd (omega arith)))
+      (λ q again. same_id-true i id (and_parts _ _ p).0 ∙ sym (same_id-true j id (and_parts _ _ q).0))
+      (λ q old. let before = good.clock j n old in absurd (omega arith)))
       (λ p old. by_test (same_id j id && me == me) new (proposed j me) n (i ≡ j) d
-        (λ q same. let before = good.clock i n old in absurd (omega arith))
-        (λ q old'. good.apart i j n old old'));
+      (λ q same. let before = good.clock i n old in absurd (omega arith))
+      (λ q old'. good.apart i j n old old'));
   started = λ i gs e. by_test (same_id i id) groups (get grp.started i) gs (Addressed asked i gs) (sym (started-with_start me grp id floor groups i) ∙ e)
       (λ p same. subst (λ hs. Addressed asked i hs) same (subst (λ j. Addressed asked j groups) (sym (same_id-true i id p)) named))
       (λ p old. good.started i gs old);
@@ -131,7 +130,7 @@ mid_proposal asked proposed me grp log id from n good other told single = record
   ascending = good.going.ascending;
   heard = λ i h m e. by_test (same_id i id && h == from) n (heard grp i h) m (proposed i h ≡ Some m) (sym (heard-with_proposal grp id from n i h) ∙ e)
       (λ p same. let parts = and_parts (same_id i id) (h == from) p in
-        subst (λ k. proposed i h ≡ Some k) same (subst (λ g. proposed i g ≡ Some n) (sym (eqb-true h from parts.1)) (subst (λ j. proposed j from ≡ Some n) (sym (same_id-true i id parts.0)) told)))
+      subst (λ k. proposed i h ≡ Some k) same (subst (λ g. proposed i g ≡ Some n) (sym (eqb-true h from parts.1)) (subst (λ j. proposed j from ≡ Some n) (sym (same_id-true i id parts.0)) told)))
       (λ p old. good.heard i h m old);
   clock = λ i m e. let before = good.clock i m e in omega (arith, lift_grows grp.clock (final_of (with_proposal grp id from n) id (get grp.started id)));
   apart = good.apart;

@@ -1,6 +1,6 @@
 -- A layer: taken from the queues, run, settled.
-use Rattle.std.proofs.Common.{◌≡◌, ℕ, ◌==◌, Bool, true, false, cond, List, [], ◌∷◌, ◌++◌, ◌⊎◌, inl, inr, Option, Some, None, refl, sym, ap, ◌∙◌, subst, arith, append-nil, append_assoc}
-use Rattle.std.proofs.lemmas.Bool.{both_ways, cases_Bool}
+use Rattle.std.proofs.Common.{◌≡◌, ℕ, Bool, true, false, cond, List, [], ◌∷◌, ◌++◌, ◌⊎◌, inl, inr, Option, Some, None, refl, sym, ap, ◌∙◌, subst, append-nil, append_assoc}
+use Rattle.std.proofs.lemmas.Bool.{both_ways}
 use Rattle.std.specs.FinMap.{empty}
 use Rattle.command_bodies.specs.Command.{effect_of}
 use Rattle.delivery.specs.Ready.{IsReady, IsLayer, taken_from, left_in}
@@ -16,10 +16,10 @@ use Rattle.skeen_core.specs.Stamp.{stamp_lt, final}
 use Rattle.skeen_core.specs.declared.packet.Delivered.{Delivered}
 use Rattle.skeen_core.specs.declared.packet.Packet.{Packet}
 use Rattle.skeen_core.specs.declared.request.RequestId.{RequestId}
-use Rattle.world.specs.Steps.{names, map_after, after_all, ended_as, RunInTurn}
-use Rattle.world.specs.World.{Request, Ended, Layer, NoneTaken, Taken, HasRun, Proposals}
-use Rattle.world_laws.specs.Good.{Rising, Asked, Known, GroupGood, SkeenGood, ShapedFor, AskedGood, delivered_of, all_delivered, all_taken, Touching, TakenGood, RepliesOn, RepliesInTurn, RunGood}
-use Rattle.world_laws.proofs.Groups.{AskedMore, at_true, at_false}
+use Rattle.world.specs.Steps.{names, map_after, after_all, RunInTurn}
+use Rattle.world.specs.World.{Request, Ended, NoneTaken, Taken, HasRun, Proposals}
+use Rattle.world_laws.specs.Good.{Rising, Asked, Known, SkeenGood, AskedGood, delivered_of, all_delivered, all_taken, Touching, TakenGood, RepliesOn, RepliesInTurn, RunGood}
+use Rattle.world_laws.proofs.Groups.{AskedMore}
 use Rattle.world_laws.proofs.Lists.{rising_append, rising_cross, rising_left}
 
 -- ---- Take
@@ -79,8 +79,8 @@ taken_layer asked proposed packets group gone queue ended ds skeen layer good = 
   ];
   order = rising_append Touching (all_delivered ended) ds (rising_left Touching (all_delivered ended) [] good.order) (rising_layer ds layer.ascending)
       (λ x y before now g a b.
-        let head = (layer.only y now).heads g b in
-        ascending_cross (gone g) (queue g) (skeen.groups g).going.ascending x y (good.passed x (earlier x before) g a) (subst (λ l. In y l) (sym head.1) (inl refl)));
+      let head = (layer.only y now).heads g b in
+      ascending_cross (gone g) (queue g) (skeen.groups g).going.ascending x y (good.passed x (earlier x before) g a) (subst (λ l. In y l) (sym head.1) (inl refl)));
 }
   where
     earlier : (d : Delivered) → In d (all_delivered ended) → In d (all_delivered ended ++ [])

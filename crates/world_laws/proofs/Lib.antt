@@ -16,3 +16,5 @@ pub mod QuietLaws
 pub mod BoundLaws
 pub mod CollectingLaws
 pub mod Telling
+pub mod Floors
+pub mod DeterminedLaws

@@ -1,5 +1,5 @@
 -- Lists: rising ones, and one without one of its elements.
-use Rattle.std.proofs.Common.{◌≡◌, ℕ, zero, suc, ◌+◌, Bool, true, false, cond, List, [], ◌∷◌, ◌++◌, ◌⊎◌, inl, inr, Option, Some, None, slice_get, refl, sym, ap, ◌∙◌, subst, arith}
+use Rattle.std.proofs.Common.{◌≡◌, ℕ, zero, suc, List, [], ◌∷◌, ◌++◌, inl, inr, Some, slice_get, refl, sym, ap, subst}
 use Rattle.std.specs.List.{remove}
 use Rattle.skeen_core.specs.Order.{In}
 use Rattle.skeen_core.proofs.Lists.{In-left, In-right, In-append}

@@ -1,33 +1,30 @@
 -- The laws of order, read off what every world is like.
-use Rattle.std.proofs.Common.{◌≡◌, ℕ, ◌+◌, ◌≤◌, ◌<◌, ◌==◌, Bool, true, false, cond, List, [], ◌∷◌, ◌++◌, ◌⊎◌, inl, inr, Option, Some, None, IsSome, slice_get, map, length, Result, Ok, Err, refl, sym, ap, ◌∙◌, subst, arith, eqb-true, append-nil, append_assoc}
-use Rattle.std.proofs.lemmas.Bool.{both_ways, cases_Bool}
-use Rattle.std.specs.FinMap.{get}
+use Rattle.std.proofs.Common.{◌≡◌, ℕ, ◌+◌, ◌≤◌, ◌<◌, ◌==◌, Bool, true, false, List, [], ◌∷◌, ◌++◌, inl, inr, Option, Some, Result, Ok, Err, refl, sym, ap, ◌∙◌, subst, arith, eqb-true, append-nil, append_assoc}
+use Rattle.std.proofs.lemmas.Bool.{cases_Bool}
 use Rattle.std.specs.Option.{is_some}
 use Rattle.command_table.specs.Reading.{reading}
 use Rattle.command_table.specs.declared.command.Command.{Command}
 use Rattle.command_table.specs.declared.refusal.Refusal.{Refusal}
 use Rattle.groups.specs.GroupSet.{has}
-use Rattle.journal.specs.declared.step.Step.{Step}
 use Rattle.journal.specs.declared.step.Step.TheVariants.{Open, Submit, Deliver, Take, Run, Settle, Collect, Close}
 use Rattle.placement.specs.Groups.{groups_of}
 use Rattle.placement.specs.Layout.{Layout}
 use Rattle.skeen_core.proofs.Lists.{In-left, In-right}
 use Rattle.skeen_core.proofs.Stamps.{final_above, final_within, lt_from_clocks}
-use Rattle.skeen_core.specs.Group.{heard, Ascending, EachOnce}
+use Rattle.skeen_core.specs.Group.{heard, EachOnce}
 use Rattle.skeen_core.specs.Order.{In}
-use Rattle.skeen_core.specs.Stamp.{stamp_lt, final}
+use Rattle.skeen_core.specs.Stamp.{final}
 use Rattle.skeen_core.specs.declared.packet.Body.{Body}
 use Rattle.skeen_core.specs.declared.packet.Body.TheVariants.{Start, Proposal}
 use Rattle.skeen_core.specs.declared.packet.Delivered.{Delivered}
-use Rattle.skeen_core.specs.declared.packet.Packet.{Packet}
 use Rattle.skeen_core.specs.declared.request.RequestId.{RequestId}
 use Rattle.skeen_core.specs.declared.stamp.Stamp.{Stamp}
-use Rattle.world.specs.Steps.{opening, Effect, submitted_to, submitted, Comes, Collects, Steps, Leads}
-use Rattle.world.specs.World.{World, Request, Standing, Closed, Idle, Waiting, Answered, Ended, Layer, Proposals}
+use Rattle.world.specs.Steps.{Effect, submitted_to, submitted, Comes, Collects}
+use Rattle.world.specs.World.{World, Request, Standing, Closed, Idle, Waiting, Answered, Ended, Proposals}
 use Rattle.world_laws.specs.Good.{Rising, Asked, Known, BodyGood, bit, starts_of, addresses, log_of, delivered_of, all_delivered, taken_in, all_taken, Touching, TakenGood, WorldGood}
-use Rattle.world_laws.specs.Order.{HasFinal, Settled, DeliveredAs, KnowsFinal, GroupsAgree, FinalIsGreatest, FinalIsProposed, FinalStampsDiffer, StampsOfConnectionRise, ClockIsAboveProposals, ClockIsAboveDeliveries, ClocksAreBounded, DeliveriesAscend, PacketsGoToAddressed, DeliveriesAreAddressed, Brings, OthersKeepStill, ids_of, EndsOnce, EndsAsSubmitted, TouchingByStamp, TouchingEndInStampOrder, EndedIsKept}
+use Rattle.world_laws.specs.Order.{HasFinal, GroupsAgree, FinalIsGreatest, FinalIsProposed, FinalStampsDiffer, StampsOfConnectionRise, ClockIsAboveProposals, ClockIsAboveDeliveries, ClocksAreBounded, DeliveriesAscend, PacketsGoToAddressed, DeliveriesAreAddressed, Brings, OthersKeepStill, ids_of, EndsOnce, EndsAsSubmitted, TouchingByStamp, TouchingEndInStampOrder, EndedIsKept}
 use Rattle.world_laws.proofs.Bounds.{bounded_world}
-use Rattle.world_laws.proofs.Groups.{at_true, at_false}
+use Rattle.world_laws.proofs.Groups.{at_false}
 use Rattle.world_laws.proofs.Layers.{log_taken, all_delivered-append, in_delivered, taken_once}
 use Rattle.world_laws.proofs.Lists.{rising_left}
 use Rattle.world_laws.proofs.Requests.{final_is_proposed}
@@ -199,15 +196,15 @@ split_delivered before after e = all_delivered-append before (e ∷ after)
 
 pub ends_once : EndsOnce
 ends_once t steps w leads = once_from w.ended (λ e f before after split there same.
-  let whole : all_taken w.ended w.layer ≡ all_delivered (before ++ e ∷ []) ++ (all_delivered after ++ taken_in w.layer) =
+    let whole : all_taken w.ended w.layer ≡ all_delivered (before ++ e ∷ []) ++ (all_delivered after ++ taken_in w.layer) =
     ap (λ es. all_delivered es ++ taken_in w.layer) (split ∙ sym (append_assoc before (e ∷ []) after))
     ∙ ap (λ ds. ds ++ taken_in w.layer) (all_delivered-append (before ++ e ∷ []) after)
     ∙ append_assoc (all_delivered (before ++ e ∷ [])) (all_delivered after) (taken_in w.layer) in
-  taken_once t w.asked w.proposed w.gone w.seq w.last (all_delivered (before ++ e ∷ [])) (all_delivered after ++ taken_in w.layer) good.requests
-  (subst (λ ds. TakenGood w.asked w.proposed w.gone ds) whole good.taken)
-  (delivered_of e) (delivered_of f)
-  (in_delivered (before ++ e ∷ []) e (In-right e before (e ∷ []) (inl refl)))
-  (In-left (delivered_of f) (all_delivered after) (taken_in w.layer) (in_delivered after f there)) same)
+    taken_once t w.asked w.proposed w.gone w.seq w.last (all_delivered (before ++ e ∷ [])) (all_delivered after ++ taken_in w.layer) good.requests
+    (subst (λ ds. TakenGood w.asked w.proposed w.gone ds) whole good.taken)
+    (delivered_of e) (delivered_of f)
+    (in_delivered (before ++ e ∷ []) e (In-right e before (e ∷ []) (inl refl)))
+    (In-left (delivered_of f) (all_delivered after) (taken_in w.layer) (in_delivered after f there)) same)
   where
     good : WorldGood t w
     good = good_world t steps w leads
@@ -216,9 +213,12 @@ pub ended_as_submitted : (t : Layout) (w : World) → WorldGood t w → (e : End
 ended_as_submitted t w good e there =
     let known = ended_known t w good e there in
     let command = good.run.commands e there in
-    let same : command.0 ≡ known.named.0 = some_request command.0 known.named.0 (sym command.1 ∙ known.named.1) in
-    (known.named.0, record { submitted = known.named.1; stamp = ap (λ gs. final (w.proposed e.id) gs) known.named.2 ∙ known.stamp },
-    command.2 ∙ ap (λ (q : Request). q.command) same, sym known.named.2)
+    let same : command.0 ≡ known.named.0 = some_request command.0 known.named.0 (sym command.1 ∙ known.named.1) in (
+      known.named.0,
+      record { submitted = known.named.1; stamp = ap (λ gs. final (w.proposed e.id) gs) known.named.2 ∙ known.stamp },
+      command.2 ∙ ap (λ (q : Request). q.command) same,
+      sym known.named.2,
+    )
 
 pub ends_as_submitted : EndsAsSubmitted
 ends_as_submitted t steps w leads e there = ended_as_submitted t w (good_world t steps w leads) e there

@@ -1,14 +1,11 @@
 -- Every world owes what a good one may owe.
-use Rattle.std.proofs.Common.{◌≡◌, ℕ, suc, ◌+◌, ◌==◌, ◌&&◌, Bool, true, false, cond, List, [], ◌∷◌, ◌++◌, ◌⊎◌, inl, inr, Option, Some, None, IsSome, Result, Ok, Err, slice_get, refl, sym, ap, ◌∙◌, subst, eqb-true, eq-eqb, append_assoc}
-use Rattle.std.proofs.lemmas.Bool.{both_ways, cases_Bool}
+use Rattle.std.proofs.Common.{◌≡◌, ℕ, ◌+◌, ◌==◌, true, false, cond, List, [], ◌∷◌, ◌++◌, ◌⊎◌, inl, inr, Option, Some, None, Result, Ok, Err, refl, sym, ap, ◌∙◌, subst, eqb-true, append_assoc}
 use Rattle.std.specs.FinMap.{get}
-use Rattle.std.specs.List.{remove}
 use Rattle.std.specs.Option.{is_some}
 use Rattle.command_table.specs.Reading.{reading}
 use Rattle.command_table.specs.declared.command.Command.{Command}
 use Rattle.command_table.specs.declared.refusal.Refusal.{Refusal}
-use Rattle.delivery.specs.Ready.{IsReady, IsLayer, taken_from, left_in}
-use Rattle.groups.specs.GroupSet.{has}
+use Rattle.delivery.specs.Ready.{taken_from}
 use Rattle.journal.specs.declared.step.Step.{Step}
 use Rattle.journal.specs.declared.step.Step.TheVariants.{Open, Submit, Deliver, Take, Run, Settle, Collect, Close}
 use Rattle.placement.specs.Groups.{groups_of}
@@ -16,7 +13,7 @@ use Rattle.placement.specs.Layout.{Layout}
 use Rattle.skeen_core.proofs.Lawful.{None≢Some, named}
 use Rattle.skeen_core.proofs.Ids.{same_id-true}
 use Rattle.skeen_core.proofs.Lists.{In-left, In-right, In-append}
-use Rattle.skeen_core.specs.Group.{GroupState, heard, next_clock, with_start, with_proposal, lifted, has_id, tell, ReceivesStart, Receives}
+use Rattle.skeen_core.specs.Group.{GroupState, heard, next_clock, with_start, with_proposal, lifted, has_id, ReceivesStart, Receives}
 use Rattle.skeen_core.specs.Order.{In}
 use Rattle.skeen_core.specs.Request.{same_id}
 use Rattle.skeen_core.specs.declared.packet.Body.{Body}
@@ -24,9 +21,9 @@ use Rattle.skeen_core.specs.declared.packet.Body.TheVariants.{Start, Proposal}
 use Rattle.skeen_core.specs.declared.packet.Delivered.{Delivered}
 use Rattle.skeen_core.specs.declared.packet.Packet.{Packet}
 use Rattle.skeen_core.specs.declared.request.RequestId.{RequestId}
-use Rattle.world.specs.Steps.{at, asks, starts, opening, Effect, next_id, floor_of, multicast, submitted_to, submitted, Submits, hears, with_own, now_proposed, Comes, Takes, RunsLayer, Settles, Collects, Steps, Makes, Leads}
-use Rattle.world.specs.World.{World, Request, Standing, Closed, Idle, Waiting, Answered, Ended, Layer, NoneTaken, Taken, HasRun, Proposals}
-use Rattle.world_laws.specs.Good.{Asked, BodyGood, bit, starts_of, addresses, log_of, SkeenGood, AskedGood, all_delivered, all_taken, WorldGood}
+use Rattle.world.specs.Steps.{at, starts, opening, Effect, next_id, floor_of, multicast, submitted_to, submitted, hears, with_own, now_proposed, Comes, Takes, RunsLayer, Settles, Collects, Steps, Makes, Leads}
+use Rattle.world.specs.World.{World, Request, Standing, Closed, Idle, Waiting, Answered, Proposals}
+use Rattle.world_laws.specs.Good.{Asked, BodyGood, bit, starts_of, addresses, log_of, SkeenGood, all_delivered, all_taken, WorldGood}
 use Rattle.world_laws.specs.Quiet.{IsOut, told_by, GroupOwes, OwesGood}
 use Rattle.world_laws.proofs.ConditionLaws.{delivered_same}
 use Rattle.world_laws.proofs.Groups.{by_test}
@@ -72,9 +69,9 @@ start_comes_owing w to id floor groups front back sent ds state whole skeen o is
     by_started (Some gs) e r = absurd (None≢Some gs (sym absent ∙ e))
     by_started None e r = owes_at w.asked (hears w.proposed id to (next_clock (w.group to) floor)) ((front ++ back) ++ sent) w.group w.gone w.queue to state ds
         (λ g other. subst (λ l. GroupOwes w.asked (hears w.proposed id to (next_clock (w.group to) floor)) ((front ++ back) ++ l) g (w.group g) (log_of w g)) (sym r.0)
-          (start_owes w.asked w.proposed w.packets w.group (log_of w) to id floor groups front back body.0.0 whole body.0.1 body.0.3 none (skeen.groups to).heard owes.groups g other))
+        (start_owes w.asked w.proposed w.packets w.group (log_of w) to id floor groups front back body.0.0 whole body.0.1 body.0.3 none (skeen.groups to).heard owes.groups g other))
         (owes_delivers w.asked (hears w.proposed id to (next_clock (w.group to) floor)) ((front ++ back) ++ sent) to (lifted (with_start to (w.group to) id floor groups) id) state (log_of w to) ds
-          (start_mid_owes w.asked w.proposed w.packets (w.group to) (log_of w to) to id floor groups front back sent whole none (skeen.groups to).heard (owes.groups to)) r.1)
+        (start_mid_owes w.asked w.proposed w.packets (w.group to) (log_of w to) to id floor groups front back sent whole none (skeen.groups to).heard (owes.groups to)) r.1)
 
 comes_owing : (w : World) (to : ℕ) (id : RequestId) (body : Body) (front back sent : List Packet) (ds : List Delivered) (state : GroupState) →
     w.packets ≡ front ++ record { to = to; id = id; body = body } ∷ back → SkeenGood w.asked w.proposed w.packets w.group (log_of w) → Receives to (w.group to) id body sent ds state → Owes w →
@@ -86,7 +83,7 @@ comes_owing w to id (Proposal from n) front back sent ds state whole skeen r owe
     owes_at w.asked w.proposed ((front ++ back) ++ sent) w.group w.gone w.queue to state ds
     (λ g other. proposal_owes w.asked w.proposed w.packets (w.group g) (log_of w g) to id from n front back sent g whole other (owes.groups g))
     (owes_delivers w.asked w.proposed ((front ++ back) ++ sent) to (lifted (with_proposal (w.group to) id from n) id) state (log_of w to) ds
-      (proposal_mid_owes w.asked w.proposed w.packets (w.group to) (log_of w to) to id from n front back sent whole body.0 (owes.groups to)) r.1)
+    (proposal_mid_owes w.asked w.proposed w.packets (w.group to) (log_of w to) to id from n front back sent whole body.0 (owes.groups to)) r.1)
 
 owes_deliver : (t : Layout) (old new : World) (k : ℕ) (effect : Effect) → Comes old k effect new → WorldGood t old → Owes old → Owes new
 owes_deliver t old new k effect step good owes =
@@ -106,9 +103,9 @@ owes_multicast t w c q good owes = record {
     begun = (owes.groups g).begun;
     told = λ i r h n named_ member e. by_test (same_id i (next_id w c)) q (w.asked i) r ((heard (w.group g) i h ≡ Some n) ⊎ (In (told_by g i h n) (w.packets ++ starts (next_id w c) q q.groups) ⊎ IsOut (log_of w g) i)) named_
         (λ p new.
-          let made = good.skeen.made i h n e in
-          let none = next_is_new t w.asked w.proposed w.seq w.last c good.requests in
-          absurd (None≢Some made.0 (sym none ∙ ap w.asked (sym (same_id-true i (next_id w c) p)) ∙ made.1)))
+        let made = good.skeen.made i h n e in
+        let none = next_is_new t w.asked w.proposed w.seq w.last c good.requests in
+        absurd (None≢Some made.0 (sym none ∙ ap w.asked (sym (same_id-true i (next_id w c) p)) ∙ made.1)))
         (λ p old. elim ((owes.groups g).told i r h n old member e) [
           | inl there ↦ inl there
           | inr (inr out) ↦ inr (inr out)

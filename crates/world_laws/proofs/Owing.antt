@@ -1,29 +1,24 @@
 -- What is owed is kept by each step.
-use Rattle.std.proofs.Common.{◌≡◌, ℕ, suc, ◌+◌, ◌==◌, ◌&&◌, ◌||◌, Bool, true, false, cond, List, [], ◌∷◌, ◌++◌, ◌⊎◌, inl, inr, Option, Some, None, IsSome, Result, Ok, Err, slice_get, refl, sym, ap, ◌∙◌, subst, eqb-true, eq-eqb, append_assoc}
-use Rattle.std.proofs.lemmas.Bool.{both_ways, cases_Bool, or_cases, and_parts, and_from, and_right}
+use Rattle.std.proofs.Common.{◌≡◌, ℕ, ◌==◌, ◌&&◌, true, false, cond, List, [], ◌∷◌, ◌++◌, ◌⊎◌, inl, inr, Some, None, IsSome, refl, sym, ap, ◌∙◌, subst, eqb-true, eq-eqb}
+use Rattle.std.proofs.lemmas.Bool.{both_ways, cases_Bool, or_cases, and_parts, and_from}
 use Rattle.std.specs.FinMap.{get}
-use Rattle.std.specs.List.{remove}
-use Rattle.std.specs.Option.{is_some}
 use Rattle.groups.specs.GroupSet.{has}
 use Rattle.skeen_core.proofs.Finite.{started-with_start, heard-with_start, heard-with_proposal}
 use Rattle.skeen_core.proofs.Ids.{same_id-true, same_id-refl}
-use Rattle.skeen_core.proofs.Lawful.{None≢Some, some_is, Named, named, still_started, still_heard, stays_started}
+use Rattle.skeen_core.proofs.Lawful.{some_is, named, still_started, still_heard, stays_started}
 use Rattle.skeen_core.proofs.Lists.{In-left, In-right, In-append}
-use Rattle.skeen_core.specs.Group.{GroupState, heard, next_clock, with_start, with_proposal, lifted, Delivering, has_id, without, tell, ReceivesStart, Receives}
+use Rattle.skeen_core.specs.Group.{GroupState, heard, next_clock, with_start, with_proposal, lifted, Delivering, has_id, tell}
 use Rattle.skeen_core.specs.Order.{In}
 use Rattle.skeen_core.specs.Request.{same_id}
-use Rattle.skeen_core.specs.declared.packet.Body.{Body}
 use Rattle.skeen_core.specs.declared.packet.Body.TheVariants.{Start, Proposal}
 use Rattle.skeen_core.specs.declared.packet.Delivered.{Delivered}
 use Rattle.skeen_core.specs.declared.packet.Packet.{Packet}
 use Rattle.skeen_core.specs.declared.request.RequestId.{RequestId}
-use Rattle.world.specs.Steps.{at, hears, with_own, now_proposed}
+use Rattle.world.specs.Steps.{hears}
 use Rattle.world.specs.World.{Request, Proposals}
-use Rattle.world_laws.specs.Good.{Asked, Addressed, BodyGood, PacketGood, bit, starts_of, addresses, SkeenGood}
+use Rattle.world_laws.specs.Good.{Asked}
 use Rattle.world_laws.specs.Quiet.{IsOut, told_by, GroupOwes}
 use Rattle.world_laws.proofs.Groups.{by_test, at_true, at_false}
-use Rattle.world_laws.proofs.Lists.{split_at}
-use Rattle.world_laws.proofs.Receipts.{was_under_way, not_proposed, not_started}
 
 -- ---- delivered ones
 
@@ -104,14 +99,14 @@ start_owes asked proposed packets group log to id floor groups front back q whol
   told = λ i r h n asked_ member e. by_test (same_id i id && h == to) (next_clock (group to) floor) (proposed i h) n
       ((heard (group g) i h ≡ Some n) ⊎ (In (told_by g i h n) ((front ++ back) ++ tell to id (next_clock (group to) floor) groups) ⊎ IsOut (log g) i)) e
       (λ p new.
-        let parts = and_parts (same_id i id) (h == to) p in
-        let at_id = same_id-true i id parts.0 in
-        let again : r ≡ q = some_request r q (sym asked_ ∙ ap asked at_id ∙ named_) in
-        let addressed : has groups g ≡ true = subst (λ gs. has gs g ≡ true) (ap (λ (x : Request). x.groups) again ∙ same) member in
-        inr (inl (subst (λ j. In (told_by g j h n) ((front ++ back) ++ tell to id (next_clock (group to) floor) groups)) (sym at_id)
-        (subst (λ k. In (told_by g id k n) ((front ++ back) ++ tell to id (next_clock (group to) floor) groups)) (sym (eqb-true h to parts.1))
-        (subst (λ m. In (told_by g id to m) ((front ++ back) ++ tell to id (next_clock (group to) floor) groups)) new
-        (In-right _ (front ++ back) (tell to id (next_clock (group to) floor) groups) (in_tell to id (next_clock (group to) floor) groups g addressed other)))))))
+      let parts = and_parts (same_id i id) (h == to) p in
+      let at_id = same_id-true i id parts.0 in
+      let again : r ≡ q = some_request r q (sym asked_ ∙ ap asked at_id ∙ named_) in
+      let addressed : has groups g ≡ true = subst (λ gs. has gs g ≡ true) (ap (λ (x : Request). x.groups) again ∙ same) member in
+      inr (inl (subst (λ j. In (told_by g j h n) ((front ++ back) ++ tell to id (next_clock (group to) floor) groups)) (sym at_id)
+      (subst (λ k. In (told_by g id k n) ((front ++ back) ++ tell to id (next_clock (group to) floor) groups)) (sym (eqb-true h to parts.1))
+      (subst (λ m. In (told_by g id to m) ((front ++ back) ++ tell to id (next_clock (group to) floor) groups)) new
+      (In-right _ (front ++ back) (tell to id (next_clock (group to) floor) groups) (in_tell to id (next_clock (group to) floor) groups g addressed other)))))))
       (λ p old. elim ((owes g).told i r h n asked_ member old) [
         | inl there ↦ inl there
         | inr (inr out) ↦ inr (inr out)

@@ -1,9 +1,7 @@
 -- Packets under way: how many Starts there are, and what is sent.
-use Rattle.std.proofs.Common.{◌≡◌, ℕ, suc, ◌+◌, ◌≤◌, ◌<◌, ◌==◌, ◌&&◌, ◌||◌, Bool, true, false, cond, List, [], ◌∷◌, ◌++◌, inl, inr, Option, Some, None, refl, sym, ap, ◌∙◌, subst, arith, eqb-true, eq-eqb}
+use Rattle.std.proofs.Common.{◌≡◌, ℕ, ◌+◌, ◌==◌, ◌&&◌, ◌||◌, true, false, cond, List, [], ◌∷◌, ◌++◌, inl, inr, Some, refl, sym, ap, subst, arith, eqb-true, eq-eqb}
 use Rattle.std.proofs.lemmas.Bool.{both_ways, cases_Bool, and_right, or_parts, or_left, or_right}
-use Rattle.std.specs.Option.{is_some}
 use Rattle.groups.specs.GroupSet.{has, IsAscending}
-use Rattle.skeen_core.proofs.Ids.{same_id-true, same_id-refl, same_id-sym}
 use Rattle.skeen_core.specs.Group.{tell}
 use Rattle.skeen_core.specs.Order.{In}
 use Rattle.skeen_core.specs.Request.{same_id}
@@ -11,9 +9,9 @@ use Rattle.skeen_core.specs.declared.packet.Body.{Body}
 use Rattle.skeen_core.specs.declared.packet.Body.TheVariants.{Start, Proposal}
 use Rattle.skeen_core.specs.declared.packet.Packet.{Packet}
 use Rattle.skeen_core.specs.declared.request.RequestId.{RequestId}
-use Rattle.world.specs.Steps.{hears, asks, starts}
+use Rattle.world.specs.Steps.{starts}
 use Rattle.world.specs.World.{Request, Proposals}
-use Rattle.world_laws.specs.Good.{Asked, Among, BodyGood, PacketGood, bit, starts_it, starts_of, addresses}
+use Rattle.world_laws.specs.Good.{Asked, Among, BodyGood, PacketGood, bit, starts_it, starts_of}
 use Rattle.world_laws.proofs.Groups.{AskedMore}
 
 -- ---- what is good stays good

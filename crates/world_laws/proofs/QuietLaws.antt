@@ -1,26 +1,24 @@
 -- In a quiet world each request has ended: the one with the least stamp of all that haven't would be ready.
-use Rattle.std.proofs.Common.{◌≡◌, ℕ, zero, suc, ◌+◌, ◌≤◌, ◌<◌, ◌==◌, ◌&&◌, ◌||◌, nat_lt, Bool, true, false, cond, List, [], ◌∷◌, ◌++◌, ◌⊎◌, inl, inr, Option, Some, None, IsSome, refl, sym, ap, ◌∙◌, subst, arith, eqb-true, eq-eqb, ltb-true}
-use Rattle.std.proofs.lemmas.Bool.{both_ways, cases_Bool, cases_order, or_cases, or_left, or_right, and_parts}
+use Rattle.std.proofs.Common.{◌≡◌, ℕ, zero, suc, ◌<◌, ◌==◌, nat_lt, Bool, true, false, List, [], ◌∷◌, ◌⊎◌, inl, inr, Option, Some, None, IsSome, refl, sym, ap, ◌∙◌, subst, arith, eq-eqb, ltb-true}
+use Rattle.std.proofs.lemmas.Bool.{both_ways, cases_Bool, cases_order, or_left, or_right, and_parts}
 use Rattle.std.specs.FinMap.{get}
 use Rattle.std.specs.Option.{is_some}
 use Rattle.delivery.specs.Ready.{IsReady}
 use Rattle.groups.specs.GroupSet.{has}
 use Rattle.groups.specs.GroupSetLaws.{has-chosen}
-use Rattle.placement.specs.Groups.{groups_of}
 use Rattle.placement.specs.Layout.{Layout}
 use Rattle.skeen_core.proofs.Lawful.{None≢Some}
 use Rattle.skeen_core.proofs.Lists.{In-right, In-append}
-use Rattle.skeen_core.proofs.Stamps.{final_above, final_within, lt_irrefl, lt_trans, lt_asym}
+use Rattle.skeen_core.proofs.Stamps.{final_above, final_within, lt_irrefl, lt_trans}
 use Rattle.skeen_core.specs.Due.{place_by}
-use Rattle.skeen_core.specs.Group.{GroupState, heard, or_zero, own_at, MayGo, Ascending}
+use Rattle.skeen_core.specs.Group.{heard, or_zero, own_at, Ascending}
 use Rattle.skeen_core.specs.Order.{In}
 use Rattle.skeen_core.specs.Stamp.{stamp_lt, later_of, final}
 use Rattle.skeen_core.specs.declared.packet.Delivered.{Delivered}
-use Rattle.skeen_core.specs.declared.packet.Packet.{Packet}
 use Rattle.skeen_core.specs.declared.request.RequestId.{RequestId}
 use Rattle.skeen_core.specs.declared.stamp.Stamp.{Stamp}
-use Rattle.world.specs.World.{World, Request, Ended, NoneTaken}
-use Rattle.world_laws.specs.Good.{Known, GroupGood, bit, starts_of, addresses, log_of, Named, delivered_of, all_delivered, all_taken, WorldGood}
+use Rattle.world.specs.World.{World, Request, Ended}
+use Rattle.world_laws.specs.Good.{Known, GroupGood, bit, starts_of, addresses, log_of, Named, all_delivered, all_taken, WorldGood}
 use Rattle.world_laws.specs.Quiet.{IsQuiet, QuietMeansEnded, IsOut, told_by}
 use Rattle.world_laws.proofs.ConditionLaws.{delivered_same}
 use Rattle.world_laws.proofs.Layers.{ascending_cross, ascending_right, known_some}
@@ -95,15 +93,17 @@ all_proposed t w good none i q g named member =
 
 all_settled : (t : Layout) (w : World) → WorldGood t w → Owes w → w.packets ≡ [] → (g : ℕ) (u : RequestId) (hs : List ℕ) → get (w.group g).started u ≡ Some hs → (s : Stamp) × (final (heard (w.group g) u) hs ≡ Some s)
 all_settled t w good owes none g u hs started = final_some (heard (w.group g) u) hs (λ h member.
-  let named = (good.skeen.groups g).started u hs started in
-  let of_request : has named.0.groups h ≡ true = subst (λ gs. has gs h ≡ true) (sym named.2) member in
-  let me : has named.0.groups g ≡ true = subst (λ gs. has gs g ≡ true) (sym named.2) ((good.skeen.groups g).going.lawful.sound.started u hs started).1 in
-  let told = all_proposed t w good none u named.0 h named.1 of_request in
-  (told.0, elim ((owes.groups g).told u named.0 h told.0 named.1 me told.1) [
-    | inl there ↦ there
-    | inr (inl sent) ↦ absurd (subst (λ l. In (told_by g u h told.0) l) none sent)
-    | inr (inr out) ↦ absurd (delivered_not_started t w good g out.0 hs out.1 (ap (get (w.group g).started) out.2 ∙ started))
-  ]))
+    let named = (good.skeen.groups g).started u hs started in
+    let of_request : has named.0.groups h ≡ true = subst (λ gs. has gs h ≡ true) (sym named.2) member in
+    let me : has named.0.groups g ≡ true = subst (λ gs. has gs g ≡ true) (sym named.2) ((good.skeen.groups g).going.lawful.sound.started u hs started).1 in
+    let told = all_proposed t w good none u named.0 h named.1 of_request in (
+      told.0,
+      elim ((owes.groups g).told u named.0 h told.0 named.1 me told.1) [
+        | inl there ↦ there
+        | inr (inl sent) ↦ absurd (subst (λ l. In (told_by g u h told.0) l) none sent)
+        | inr (inr out) ↦ absurd (delivered_not_started t w good g out.0 hs out.1 (ap (get (w.group g).started) out.2 ∙ started))
+      ],
+    ))
 
 none_started : (t : Layout) (w : World) → WorldGood t w → Owes w → w.packets ≡ [] → (g : ℕ) (i : RequestId) (gs : List ℕ) → get (w.group g).started i ≡ Some gs → ⊥
 none_started t w good owes none g i gs started =

@@ -1,5 +1,5 @@
 -- A packet comes to its group: what is known of packets, proposals and groups is kept.
-use Rattle.std.proofs.Common.{◌≡◌, ℕ, suc, ◌+◌, ◌≤◌, ◌<◌, ◌==◌, ◌&&◌, Bool, true, false, cond, List, [], ◌∷◌, ◌++◌, inl, inr, Option, Some, None, IsSome, slice_get, refl, sym, ap, ◌∙◌, subst, arith, eqb-true, eq-eqb, append_assoc, append-nil}
+use Rattle.std.proofs.Common.{◌≡◌, ℕ, ◌+◌, ◌≤◌, ◌<◌, ◌==◌, ◌&&◌, Bool, true, false, cond, List, [], ◌∷◌, ◌++◌, inl, inr, Option, Some, None, IsSome, slice_get, refl, sym, ap, ◌∙◌, subst, arith, eqb-true, eq-eqb, append_assoc, append-nil}
 use Rattle.std.proofs.lemmas.Bool.{both_ways, cases_Bool, and_parts, and_from, and_right}
 use Rattle.std.specs.FinMap.{get}
 use Rattle.std.specs.List.{remove}
@@ -8,7 +8,7 @@ use Rattle.groups.specs.GroupSet.{has}
 use Rattle.skeen_core.proofs.Ids.{same_id-true, same_id-refl}
 use Rattle.skeen_core.proofs.Lawful.{None≢Some}
 use Rattle.skeen_core.proofs.Lists.{In-left, In-right, In-append}
-use Rattle.skeen_core.specs.Group.{GroupState, heard, next_clock, with_start, with_proposal, lifted, Delivers, Delivering, without, tell, ReceivesStart, Receives}
+use Rattle.skeen_core.specs.Group.{GroupState, heard, next_clock, with_start, with_proposal, lifted, Delivering, tell, ReceivesStart, Receives}
 use Rattle.skeen_core.specs.Order.{In}
 use Rattle.skeen_core.specs.Request.{same_id}
 use Rattle.skeen_core.specs.declared.packet.Body.{Body}
@@ -18,9 +18,9 @@ use Rattle.skeen_core.specs.declared.packet.Packet.{Packet}
 use Rattle.skeen_core.specs.declared.request.RequestId.{RequestId}
 use Rattle.world.specs.Steps.{at, hears, with_own, now_proposed}
 use Rattle.world.specs.World.{Request, Proposals}
-use Rattle.world_laws.specs.Good.{Asked, Addressed, Among, GroupGood, BodyGood, PacketGood, bit, starts_it, starts_of, addresses, SkeenGood}
-use Rattle.world_laws.proofs.Groups.{AskedMore, group_grows, MidGood, mid_start, mid_proposal, delivers_good, by_test, at_true, at_false, among_hears}
-use Rattle.world_laws.proofs.Lists.{SplitAt, split_at}
+use Rattle.world_laws.specs.Good.{Asked, Among, GroupGood, BodyGood, bit, starts_of, addresses, SkeenGood}
+use Rattle.world_laws.proofs.Groups.{group_grows, mid_start, mid_proposal, delivers_good, by_test, at_true, at_false, among_hears}
+use Rattle.world_laws.proofs.Lists.{split_at}
 use Rattle.world_laws.proofs.Packets.{body_more, starts_of-append, starts_of-without, starts_of-tell, told_good}
 
 -- ---- one packet leaves
@@ -124,13 +124,13 @@ start_good asked proposed packets group gone queue to id floor groups front back
       ];
   made = λ i g n e. by_test (same_id i id && g == to) new (proposed i g) n ((q : Request) × (asked i ≡ Some q) × (q.floor < n)) e
       (λ p same.
-        let at_floor = it.floors in
-        (it.request, ap asked (same_id-true i id (and_parts _ _ p).0) ∙ it.named, omega arith))
+      let at_floor = it.floors in
+      (it.request, ap asked (same_id-true i id (and_parts _ _ p).0) ∙ it.named, omega arith))
       (λ p old. good.made i g n old);
   groups = groups_at asked proposed proposed' group gone queue to state ds among others good.groups
       (subst (λ s. GroupGood asked proposed' to s ((gone to ++ queue to) ++ ds)) (sym delivering.after)
       (delivers_good asked proposed' to (lifted (with_start to (group to) id floor groups) id) (gone to ++ queue to) ds
-        (mid_start asked proposed to (group to) (gone to ++ queue to) id floor groups (good.groups to) (it.request, it.named, it.same) it.member none) delivering.delivers));
+      (mid_start asked proposed to (group to) (gone to ++ queue to) id floor groups (good.groups to) (it.request, it.named, it.same) it.member none) delivering.delivers));
 }
   where
     new : ℕ
@@ -169,7 +169,7 @@ proposal_good asked proposed packets group gone queue to id from n front back ds
   groups = groups_at asked proposed proposed group gone queue to state ds (λ i h m e. e) (λ i g m e d. d) good.groups
       (subst (λ s. GroupGood asked proposed to s ((gone to ++ queue to) ++ ds)) (sym delivering.after)
       (delivers_good asked proposed to (lifted (with_proposal (group to) id from n) id) (gone to ++ queue to) ds
-        (mid_proposal asked proposed to (group to) (gone to ++ queue to) id from n (good.groups to) other told (λ i e. (good.groups from).apart i id n e told)) delivering.delivers));
+      (mid_proposal asked proposed to (group to) (gone to ++ queue to) id from n (good.groups to) other told (λ i e. (good.groups from).apart i id n e told)) delivering.delivers));
 }
 
 -- ---- any packet
@@ -193,7 +193,7 @@ start_comes asked proposed packets group gone queue to id floor groups front bac
     by_started None e r =
         subst (λ l. SkeenGood asked (hears proposed id to (next_clock (group to) floor)) ((front ++ back) ++ l) (at group to state) (λ g. gone g ++ at queue to (queue to ++ ds) g)) (sym r.0)
         (start_good asked proposed packets group gone queue to id floor groups front back ds state whole good
-          (record { request = body.0.0; named = body.0.1; floors = body.0.2; same = body.0.3; member = body.1 }) none r.1)
+        (record { request = body.0.0; named = body.0.1; floors = body.0.2; same = body.0.3; member = body.1 }) none r.1)
 
 comes : (asked : Asked) (proposed : Proposals) (packets : List Packet) (group : ℕ → GroupState) (gone queue : ℕ → List Delivered) (to : ℕ) (id : RequestId) (body : Body)
     (front back sent : List Packet) (ds : List Delivered) (state : GroupState) → packets ≡ front ++ record { to = to; id = id; body = body } ∷ back →

@@ -1,15 +1,13 @@
 -- Submitted requests: a new one is submitted, and more is proposed.
-use Rattle.std.proofs.Common.{◌≡◌, ℕ, suc, ◌+◌, ◌≤◌, ◌<◌, ◌==◌, ◌&&◌, Bool, true, false, cond, List, [], ◌∷◌, ◌++◌, inl, inr, Option, Some, None, refl, sym, ap, ◌∙◌, subst, arith, eqb-true, eq-eqb}
-use Rattle.std.proofs.lemmas.Bool.{both_ways, cases_Bool, cases_order, cases_eq, and_parts, and_from}
-use Rattle.std.specs.Option.{is_some}
+use Rattle.std.proofs.Common.{◌≡◌, ℕ, suc, ◌≤◌, ◌<◌, ◌==◌, ◌&&◌, true, false, List, [], ◌∷◌, ◌++◌, inl, inr, Option, Some, None, refl, sym, ap, ◌∙◌, subst, arith, eqb-true, eq-eqb}
+use Rattle.std.proofs.lemmas.Bool.{both_ways, cases_Bool, cases_eq, and_parts}
 use Rattle.groups.specs.GroupSet.{has, IsAscending}
 use Rattle.placement.specs.Layout.{Layout}
 use Rattle.skeen_core.proofs.Ids.{same_id-true, same_id-refl}
 use Rattle.skeen_core.proofs.Lawful.{None≢Some}
-use Rattle.skeen_core.proofs.Lists.{In-left, In-right, In-append}
+use Rattle.skeen_core.proofs.Lists.{In-append}
 use Rattle.skeen_core.proofs.Stamps.{final_within, final_proposed}
 use Rattle.skeen_core.specs.Group.{GroupState}
-use Rattle.skeen_core.specs.Order.{In}
 use Rattle.skeen_core.specs.Request.{same_id}
 use Rattle.skeen_core.specs.Stamp.{final}
 use Rattle.skeen_core.specs.declared.packet.Delivered.{Delivered}
@@ -18,7 +16,7 @@ use Rattle.skeen_core.specs.declared.request.RequestId.{RequestId}
 use Rattle.skeen_core.specs.declared.stamp.Stamp.{Stamp}
 use Rattle.world.specs.Steps.{at, asks, starts}
 use Rattle.world.specs.World.{Request, Proposals}
-use Rattle.world_laws.specs.Good.{Asked, Among, bit, starts_of, addresses, SkeenGood, ShapedFor, Under, AskedGood, TakenGood, RunGood}
+use Rattle.world_laws.specs.Good.{Asked, Among, bit, addresses, SkeenGood, ShapedFor, Under, AskedGood, TakenGood}
 use Rattle.world_laws.proofs.Groups.{AskedMore, known_more, group_grows, by_test, at_true, at_false}
 use Rattle.world_laws.proofs.Packets.{body_more, starts_of-append, starts_of-new, starts_good}
 
@@ -134,35 +132,39 @@ requests_multicast t asked proposed packets group log seq last c q skeen good re
       (λ p old. good.shaped i r old);
   fresh = λ i r e. by_test (same_id i id) q (asked i) r ((0 < i.seq) × (i.seq ≤ at seq c (suc (seq c)) i.conn.0)) e
       (λ p same. subst (λ j. (0 < j.seq) × (j.seq ≤ at seq c (suc (seq c)) j.conn.0)) (sym (same_id-true i id p))
-        (let now = at_here seq c (suc (seq c)) in (omega arith, omega arith)))
+      (let now = at_here seq c (suc (seq c)) in (omega arith, omega arith)))
       (λ p old. let before = good.fresh i r old in let more = at_more seq c i.conn.0 in (before.0, omega arith));
   lasts = λ d i e. by_test (d == c) id (last d) i ((i.conn.0 ≡ d) × ((r : Request) × (asks asked id q i ≡ Some r))) e
       (λ p same. subst (λ j. (j.conn.0 ≡ d) × ((r : Request) × (asks asked id q j ≡ Some r))) same (sym (eqb-true d c p), (q, asks_new asked id q)))
       (λ p old. let before = good.lasts d i old in (before.0, (before.1.0, asks_more asked id q none i before.1.0 before.1.1)));
   latest = λ i r e. elim (cases_Bool (i.conn.0 == c)) [
-    | inl p ↦ (id, at_true (i.conn.0 == c) (Some id) (last i.conn.0) p, by_test (same_id i id) q (asked i) r (i.seq ≤ suc (seq c)) e
-        (λ p' same. let at_id = ap (λ j. j.seq) (same_id-true i id p') in omega arith)
-        (λ p' old. let low = (good.fresh i r old).1 in let at_c = ap seq (eqb-true i.conn.0 c p) in omega arith))
+    | inl p ↦ (
+      id,
+      at_true (i.conn.0 == c) (Some id) (last i.conn.0) p,
+      by_test (same_id i id) q (asked i) r (i.seq ≤ suc (seq c)) e
+          (λ p' same. let at_id = ap (λ j. j.seq) (same_id-true i id p') in omega arith)
+          (λ p' old. let low = (good.fresh i r old).1 in let at_c = ap seq (eqb-true i.conn.0 c p) in omega arith),
+    )
     | inr p ↦ by_test (same_id i id) q (asked i) r ((l : RequestId) × (at last c (Some id) i.conn.0 ≡ Some l) × (i.seq ≤ l.seq)) e
         (λ p' same. absurd (both_ways _ p (and_parts (i.conn.0 == c) (i.seq == suc (seq c)) p').0))
         (λ p' old. let before = good.latest i r old in (before.0, at_false (i.conn.0 == c) (Some id) (last i.conn.0) p ∙ before.1, before.2))
   ];
   floors = λ i j r r' conns less e d. by_test (same_id i id) q (asked i) r (Under proposed i r.groups r'.floor) e
       (λ p same.
-        let at_id = same_id-true i id p in
-        let seq_i = ap (λ k. k.seq) at_id in let conn_i = ap (λ k. k.conn.0) at_id in
-        by_test (same_id j id) q (asked j) r' (Under proposed i r.groups r'.floor) d
-        (λ p' same'. let seq_j = ap (λ k. k.seq) (same_id-true j id p') in absurd (omega arith))
-        (λ p' old'.
-          let low = (good.fresh j r' old').1 in
-          let at_c : seq j.conn.0 ≡ seq c = ap seq (sym conns ∙ conn_i) in
-          absurd (omega arith)))
+      let at_id = same_id-true i id p in
+      let seq_i = ap (λ k. k.seq) at_id in let conn_i = ap (λ k. k.conn.0) at_id in
+      by_test (same_id j id) q (asked j) r' (Under proposed i r.groups r'.floor) d
+      (λ p' same'. let seq_j = ap (λ k. k.seq) (same_id-true j id p') in absurd (omega arith))
+      (λ p' old'.
+      let low = (good.fresh j r' old').1 in
+      let at_c : seq j.conn.0 ≡ seq c = ap seq (sym conns ∙ conn_i) in
+      absurd (omega arith)))
       (λ p old. by_test (same_id j id) q (asked j) r' (Under proposed i r.groups r'.floor) d
-        (λ p' same'.
-          let conn_j = ap (λ k. k.conn.0) (same_id-true j id p') in
-          subst (λ (x : Request). Under proposed i r.groups x.floor) same'
-          (floor_above t asked proposed packets group log seq last c q.floor skeen good rested i r (conns ∙ conn_j) old))
-        (λ p' old'. good.floors i j r r' conns less old old'));
+      (λ p' same'.
+      let conn_j = ap (λ k. k.conn.0) (same_id-true j id p') in
+      subst (λ (x : Request). Under proposed i r.groups x.floor) same'
+      (floor_above t asked proposed packets group log seq last c q.floor skeen good rested i r (conns ∙ conn_j) old))
+      (λ p' old'. good.floors i j r r' conns less old old'));
 }
   where
     id : RequestId

@@ -1,5 +1,5 @@
 -- What is asked and answered comes from what was submitted.
-use Rattle.std.proofs.Common.{◌≡◌, ℕ, suc, ◌==◌, Bool, true, false, List, [], ◌∷◌, ◌⊎◌, inl, inr, Option, Some, None, Result, Ok, Err, refl, sym, ap, ◌∙◌, subst, eqb-true, eq-eqb}
+use Rattle.std.proofs.Common.{◌≡◌, ℕ, suc, ◌==◌, List, [], ◌∷◌, ◌⊎◌, inl, inr, Option, Some, None, Result, Ok, Err, refl, sym, ap, ◌∙◌, subst}
 use Rattle.std.proofs.lemmas.Bool.{cases_Bool}
 use Rattle.std.specs.FinMap.{empty}
 use Rattle.command_bodies.specs.Command.{effect_of}
@@ -14,14 +14,12 @@ use Rattle.placement.specs.Layout.{Layout}
 use Rattle.resp.specs.Content.{Content, ErrorLine}
 use Rattle.skeen_core.proofs.Ids.{same_id-true}
 use Rattle.skeen_core.proofs.Lawful.{None≢Some}
-use Rattle.skeen_core.specs.Order.{In}
 use Rattle.skeen_core.specs.Request.{same_id}
 use Rattle.skeen_core.specs.declared.request.ConnId.{ConnId}
 use Rattle.skeen_core.specs.declared.request.RequestId.{RequestId}
-use Rattle.world.specs.Steps.{at, opening, Effect, Opened, Submitted, Ran, Collected, Made, next_id, floor_of, multicast, answered, submitted_to, submitted, settled, outcome_of, Collects, Steps, Makes}
+use Rattle.world.specs.Steps.{at, opening, Effect, Submitted, Collected, next_id, floor_of, multicast, answered, submitted_to, submitted, outcome_of, Collects, Steps, Makes}
 use Rattle.world.specs.World.{World, Request, Outcome, Standing, Closed, Idle, Waiting, Answered, Ended}
 use Rattle.world_laws.specs.Collecting.{Submits, WasSubmitted, reply_at_none, reply_at_once, AskedAsSubmitted, CollectsItsOwn}
-use Rattle.world_laws.specs.Good.{WorldGood}
 use Rattle.world_laws.proofs.Connections.{settled_result}
 use Rattle.world_laws.proofs.Groups.{by_test, at_true, at_false}
 use Rattle.world_laws.proofs.Worlds.{keeps_all, good_opening}
@@ -127,9 +125,9 @@ said_step t old new H K Open e step said = said_now t old new H K Open e (ap (λ
 said_step t old new H K (Submit conn words) e step said =
     subst (λ f. Said new (More H (Submit conn words) f) (MoreReplies t K (Submit conn words) f)) (sym step.answers)
     (subst (λ w. Said w (More H (Submit conn words) (Submitted (next_id old conn.0))) (MoreReplies t K (Submit conn words) (Submitted (next_id old conn.0)))) (sym step.after)
-      (said_submitted t old (More H (Submit conn words) (Submitted (next_id old conn.0))) (MoreReplies t K (Submit conn words) (Submitted (next_id old conn.0))) conn.0 (reading words)
-        (λ command is. inr (refl, refl, is)) (λ reply is. inr (refl, refl, is))
-        (said_more old H _ K _ (λ i c h. inl h) (λ i r k. inl k) said)))
+    (said_submitted t old (More H (Submit conn words) (Submitted (next_id old conn.0))) (MoreReplies t K (Submit conn words) (Submitted (next_id old conn.0))) conn.0 (reading words)
+    (λ command is. inr (refl, refl, is)) (λ reply is. inr (refl, refl, is))
+    (said_more old H _ K _ (λ i c h. inl h) (λ i r k. inl k) said)))
 said_step t old new H K (Deliver k) e step said = said_now t old new H K (Deliver k) e (ap (λ (w : World). w.asked) step.after) (λ c o is none. (c, sym (ap (λ (w : World). w.standing c) step.after) ∙ is)) said
 said_step t old new H K Take e step said = said_now t old new H K Take e (ap (λ (w : World). w.asked) step.after) (λ c o is none. (c, sym (ap (λ (w : World). w.standing c) step.after) ∙ is)) said
 said_step t old new H K (Run starved) e step said = said_now t old new H K (Run starved) e (ap (λ (w : World). w.asked) step.after) (λ c o is none. (c, sym (ap (λ (w : World). w.standing c) step.after) ∙ is)) said
@@ -191,8 +189,7 @@ pub collects_its_own : CollectsItsOwn
 collects_its_own t steps effects old new made conn o step =
     let good = keeps_all t opening old steps effects made (good_opening t) in
     let there = stood old new conn.0 (old.standing conn.0) o refl step in
-    let it = good.connections.outcomes conn.0 o there in
-    (
+    let it = good.connections.outcomes conn.0 o there in (
       λ k. record { conn = record { 0 = it.conn k }; seq = it.latest k },
       elim it.from [
         | inl none ↦ inr (none, (said_world t steps effects old made).answers conn.0 o there none)

@@ -1,12 +1,11 @@
 -- Each kind of step leads from a good world to a good one.
-use Rattle.std.proofs.Common.{◌≡◌, ℕ, suc, ◌≤◌, Bool, true, false, List, [], ◌∷◌, ◌++◌, inl, inr, Option, Some, None, Result, Ok, Err, slice_get, ◌==◌, refl, sym, ap, ◌∙◌, subst, arith, append-nil, eq-eqb}
+use Rattle.std.proofs.Common.{◌≡◌, ℕ, List, [], ◌∷◌, ◌++◌, inl, inr, Some, None, Result, Ok, Err, slice_get, ◌==◌, refl, sym, ap, ◌∙◌, subst, append-nil, eq-eqb}
 use Rattle.std.proofs.lemmas.Bool.{or_left}
 use Rattle.std.specs.FinMap.{empty}
 use Rattle.command_bodies.specs.Command.{effect_of}
 use Rattle.command_table.specs.Reading.{reading}
 use Rattle.command_table.specs.declared.command.Command.{Command}
 use Rattle.command_table.specs.declared.refusal.Refusal.{Refusal}
-use Rattle.delivery.specs.Ready.{taken_from, left_in}
 use Rattle.groups.specs.GroupSet.{has, IsAscending}
 use Rattle.groups.specs.GroupSetLaws.{IsAscending-chosen}
 use Rattle.journal.specs.declared.step.Step.{Step}
@@ -25,11 +24,10 @@ use Rattle.skeen_core.specs.declared.packet.Delivered.{Delivered}
 use Rattle.skeen_core.specs.declared.packet.Packet.{Packet}
 use Rattle.skeen_core.specs.declared.request.RequestId.{RequestId}
 use Rattle.skeen_core.specs.declared.stamp.Stamp.{Stamp}
-use Rattle.world.specs.Steps.{opening, Effect, Opens, next_id, clock_of, final_clock, final_clock_of, floor_of, multicast, answered, submitted_to, submitted, Submits, now_proposed, received, Comes, taken, Takes, after_all, RunInTurn, RunsLayer, settled, Settles, Collects, Closes, Steps, Makes, Leads}
-use Rattle.world.specs.World.{World, Request, Outcome, Standing, Closed, Idle, Waiting, Answered, Ended, Layer, NoneTaken, Taken, HasRun, Proposals}
-use Rattle.world_laws.specs.Good.{Asked, Among, Known, GroupGood, log_of, SkeenGood, ShapedFor, AskedGood, delivered_of, all_delivered, all_taken, TakenGood, Named, Pending, ConnectionsGood, RunGood, WorldGood}
+use Rattle.world.specs.Steps.{opening, Effect, Opens, next_id, clock_of, final_clock, final_clock_of, floor_of, multicast, answered, submitted_to, submitted, Submits, received, Comes, Takes, RunsLayer, Settles, Collects, Closes, Steps, Makes, Leads}
+use Rattle.world.specs.World.{World, Request, Outcome, Standing, Closed, Idle, Waiting, Answered, Ended, HasRun}
+use Rattle.world_laws.specs.Good.{Among, GroupGood, log_of, SkeenGood, ShapedFor, delivered_of, all_delivered, all_taken, TakenGood, Pending, ConnectionsGood, WorldGood}
 use Rattle.world_laws.proofs.Connections.{not_pending, idle_open, idle_not_waiting, connections_open, connections_answered, connections_multicast, connections_collect, connections_close, connections_run, connections_settle}
-use Rattle.world_laws.proofs.Groups.{AskedMore}
 use Rattle.world_laws.proofs.Layers.{log_taken, taken_layer, taken_run, run_layer_good, run_more, all_delivered-append, in_delivered, taken_once}
 use Rattle.world_laws.proofs.Lists.{split_at}
 use Rattle.world_laws.proofs.Receipts.{packet_comes, among_comes}
@@ -100,21 +98,22 @@ good_answered t old c reply idle good = record {
   run = good.run;
 }
 
--- the last request of an idle connection has its final stamp
-rested : (t : Layout) (w : World) (c : ℕ) → w.standing c ≡ Idle → WorldGood t w → Rested w.asked w.proposed w.last c (floor_of w c)
-rested t w c idle good = record { stamp = λ l q is named.
-    let at_c = (good.requests.lasts c l is).0 in
-    elim (good.connections.pending l q named) [
-      | inl done ↦
-          let there : In (delivered_of done.0) (all_taken w.ended w.layer) = In-left _ (all_delivered w.ended) _
-          (in_delivered w.ended done.0 (subst (λ es. In done.0 es) (sym good.connections.split) (In-left done.0 good.connections.settled _ done.1))) in
-          let known = good.taken.known (delivered_of done.0) there in
-          let same : known.named.0 ≡ q = some_request known.named.0 q (sym known.named.1 ∙ ap w.asked done.2 ∙ named) in
-          let stamp : final (w.proposed l) q.groups ≡ Some done.0.stamp =
-          ap (λ (x : Request). final (w.proposed l) x.groups) (sym same) ∙ ap (λ gs. final (w.proposed l) gs) known.named.2 ∙ ap (λ i. final (w.proposed i) done.0.groups) (sym done.2) ∙ known.stamp in
-          (done.0.stamp, stamp, sym (floor_is l q done.0.stamp is named stamp))
-      | inr pending ↦ absurd (not_pending w.standing w.seq l Idle (ap w.standing at_c ∙ idle) idle_open idle_not_waiting pending)
-    ]
+-- the last request of a connection that waits for none has its final stamp
+pub rested : (t : Layout) (w : World) (c : ℕ) (s : Standing) → w.standing c ≡ s → (s ≡ Closed → ⊥) → (s ≡ Waiting → ⊥) → WorldGood t w → Rested w.asked w.proposed w.last c (floor_of w c)
+rested t w c s is_at lively not_waiting good = record {
+  stamp = λ l q is named.
+      let at_c = (good.requests.lasts c l is).0 in
+      elim (good.connections.pending l q named) [
+        | inl done ↦
+            let there : In (delivered_of done.0) (all_taken w.ended w.layer) = In-left _ (all_delivered w.ended) _
+            (in_delivered w.ended done.0 (subst (λ es. In done.0 es) (sym good.connections.split) (In-left done.0 good.connections.settled _ done.1))) in
+            let known = good.taken.known (delivered_of done.0) there in
+            let same : known.named.0 ≡ q = some_request known.named.0 q (sym known.named.1 ∙ ap w.asked done.2 ∙ named) in
+            let stamp : final (w.proposed l) q.groups ≡ Some done.0.stamp =
+            ap (λ (x : Request). final (w.proposed l) x.groups) (sym same) ∙ ap (λ gs. final (w.proposed l) gs) known.named.2 ∙ ap (λ i. final (w.proposed i) done.0.groups) (sym done.2) ∙ known.stamp in
+            (done.0.stamp, stamp, sym (floor_is l q done.0.stamp is named stamp))
+        | inr pending ↦ absurd (not_pending w.standing w.seq l s (ap w.standing at_c ∙ is_at) lively not_waiting pending)
+      ];
 }
   where
     some_request : (a b : Request) → Some a ≡ Some b → a ≡ b
@@ -130,7 +129,7 @@ good_multicast t old c q idle floor shaped up good =
     record {
       skeen = skeen_multicast old.asked old.proposed old.packets old.group (log_of old) (next_id old c) q good.skeen none up;
       requests = requests_multicast t old.asked old.proposed old.packets old.group (log_of old) old.seq old.last c q good.skeen good.requests
-          (subst (λ n. Rested old.asked old.proposed old.last c n) (sym floor) (rested t old c idle good)) shaped;
+          (subst (λ n. Rested old.asked old.proposed old.last c n) (sym floor) (rested t old c Idle idle idle_open idle_not_waiting good)) shaped;
       taken = taken_more old.asked _ old.proposed old.proposed old.gone (all_taken old.ended old.layer) more (λ i h n e. e) good.taken;
       connections = connections_multicast old.opened old.standing old.seq old.last old.asked old.ended old.layer c q idle good.connections;
       run = run_more old.asked _ old.ended old.contents more good.run;

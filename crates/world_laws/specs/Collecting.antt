@@ -15,8 +15,8 @@ use Rattle.skeen_core.specs.Group.{EachOnce}
 use Rattle.skeen_core.specs.Order.{In}
 use Rattle.skeen_core.specs.declared.request.ConnId.{ConnId}
 use Rattle.skeen_core.specs.declared.request.RequestId.{RequestId}
-use Rattle.world.specs.Steps.{opening, Effect, Submitted, Collected, outcome_of, Steps, Makes, Leads}
-use Rattle.world.specs.World.{World, Request, Outcome, Standing, Answered, Ended}
+use Rattle.world.specs.Steps.{opening, Effect, Submitted, Collected, outcome_of, Steps, Makes}
+use Rattle.world.specs.World.{World, Request, Outcome, Ended}
 
 -- ---- what was submitted
 
@@ -54,7 +54,7 @@ CollectsItsOwn = (t : Layout) (steps : List Step) (effects : List Effect) (old n
     (conn : ConnId) (o : Outcome) → Steps t old (Collect conn) (Collected (Some o)) new →
     (o.id ≡ record { conn = conn; seq = old.seq conn.0 })
     × (((e : Ended) × In e old.ended × (o ≡ outcome_of e))
-      ⊎ ((o.stamp ≡ None) × WasSubmitted (λ words. reply_at_once t (reading words) ≡ Some o.reply) o.id steps effects))
+    ⊎ ((o.stamp ≡ None) × WasSubmitted (λ words. reply_at_once t (reading words) ≡ Some o.reply) o.id steps effects))
 
 abbrev pub with_collected : Effect → List RequestId → List RequestId
 with_collected (Collected (Some o)) ids = o.id ∷ ids

@@ -5,3 +5,4 @@ pub mod Headline
 pub mod Quiet
 pub mod Bound
 pub mod Collecting
+pub mod Determined

@@ -1,6 +1,6 @@
 -- The laws of order, for every history of steps.
 use Rattle.std.specs.FinMap.{get}
-use Rattle.std.specs.Prelude.{◌≡◌, ℕ, ◌<◌, ◌≤◌, true, false, List, [], ◌∷◌, ◌++◌, length, slice_get, map, ◌⊎◌, Option, Some, None}
+use Rattle.std.specs.Prelude.{◌≡◌, ℕ, ◌<◌, ◌≤◌, true, false, List, ◌++◌, length, slice_get, map, ◌⊎◌, Some}
 use Rattle.groups.specs.GroupSet.{has}
 use Rattle.journal.specs.declared.step.Step.{Step}
 use Rattle.journal.specs.declared.step.Step.TheVariants.{Deliver}

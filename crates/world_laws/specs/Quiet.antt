@@ -3,7 +3,6 @@ use Rattle.std.specs.FinMap.{get}
 use Rattle.std.specs.Prelude.{◌≡◌, ℕ, true, List, [], ◌⊎◌, Some, IsSome}
 use Rattle.delivery.specs.Ready.{IsReady}
 use Rattle.groups.specs.GroupSet.{has}
-use Rattle.placement.specs.Layout.{Layout}
 use Rattle.skeen_core.specs.Group.{GroupState, heard}
 use Rattle.skeen_core.specs.Order.{In}
 use Rattle.skeen_core.specs.declared.packet.Body.TheVariants.{Proposal}

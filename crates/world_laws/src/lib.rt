@@ -8,12 +8,14 @@
 
 mod collecting;
 mod conditions;
+mod determined;
 mod ending;
 mod one_thread;
 mod order;
 
 pub use collecting::collecting_of_outcomes;
 pub use conditions::callers_conditions;
+pub use determined::choice_of_steps;
 pub use ending::ending_of_requests;
 pub use one_thread::headline;
 pub use order::order_of_requests;
