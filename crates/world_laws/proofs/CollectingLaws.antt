@@ -31,12 +31,14 @@ abbrev Resting : Standing → Type 0
 Resting s = (s ≡ Idle) ⊎ (s ≡ Closed)
 
 -- another standing for a connection, where the old one or the new one rests
-spent_standing : (old new : World) (i : RequestId) → new.seq i.conn.0 ≡ old.seq i.conn.0 → (Resting (old.standing i.conn.0) → Resting (new.standing i.conn.0)) → Spent old i → Spent new i
+spent_standing : (old new : World) (i : RequestId) → new.seq i.conn.0 ≡ old.seq i.conn.0 →
+    (Resting (old.standing i.conn.0) → Resting (new.standing i.conn.0)) → Spent old i → Spent new i
 spent_standing old new i seqs rest (inl less) = inl (omega arith)
 spent_standing old new i seqs rest (inr r) = inr (r.0 ∙ sym seqs, rest r.1)
 
 -- one more request of its connection, or of another
-spent_submit : (old new : World) (i : RequestId) (c : ℕ) (s : Standing) → ((d : ℕ) → new.seq d ≡ at old.seq c (suc (old.seq c)) d) → ((d : ℕ) → new.standing d ≡ at old.standing c s d) → Spent old i → Spent new i
+spent_submit : (old new : World) (i : RequestId) (c : ℕ) (s : Standing) → ((d : ℕ) → new.seq d ≡ at old.seq c (suc (old.seq c)) d) →
+    ((d : ℕ) → new.standing d ≡ at old.standing c s d) → Spent old i → Spent new i
 spent_submit old new i c s seqs standings spent = elim (cases_Bool (i.conn.0 == c)) [
   | inl e ↦
       let now = seqs i.conn.0 ∙ at_true (i.conn.0 == c) (suc (old.seq c)) (old.seq i.conn.0) e in
@@ -48,36 +50,46 @@ spent_submit old new i c s seqs standings spent = elim (cases_Bool (i.conn.0 == 
       spent_standing old new i now (λ r. subst (λ x. Resting x) (sym same) r) spent
 ]
 
-spent_submitted_to : (old : World) (i : RequestId) (c : ℕ) (command : Command) (gs : List ℕ) → Spent old i → Spent (submitted_to old c command gs) i
+spent_submitted_to : (old : World) (i : RequestId) (c : ℕ) (command : Command) (gs : List ℕ) → Spent old i →
+    Spent (submitted_to old c command gs) i
 spent_submitted_to old i c command [] spent = spent_submit old (submitted_to old c command []) i c _ (λ d. refl) (λ d. refl) spent
-spent_submitted_to old i c command (g ∷ gs) spent = spent_submit old (submitted_to old c command (g ∷ gs)) i c Waiting (λ d. refl) (λ d. refl) spent
+spent_submitted_to old i c command (g ∷ gs) spent = spent_submit old (submitted_to old c command (g ∷ gs)) i c Waiting (λ d. refl)
+    (λ d. refl) spent
 
-spent_submitted : (t : Layout) (old : World) (i : RequestId) (c : ℕ) (r : Result Command Refusal) → Spent old i → Spent (submitted t old c r) i
+spent_submitted : (t : Layout) (old : World) (i : RequestId) (c : ℕ) (r : Result Command Refusal) → Spent old i →
+    Spent (submitted t old c r) i
 spent_submitted t old i c (Ok command) spent = spent_submitted_to old i c command (groups_of t command) spent
-spent_submitted t old i c (Err refusal) spent = spent_submit old (answered old c (ErrorLine (refusal_text refusal))) i c _ (λ d. refl) (λ d. refl) spent
+spent_submitted t old i c (Err refusal) spent = spent_submit old (answered old c (ErrorLine (refusal_text refusal))) i c _ (λ d. refl)
+    (λ d. refl) spent
 
 -- a connection that becomes idle or closed
 rests_at : (standing : ℕ → Standing) (c d : ℕ) (s : Standing) → Resting s → Resting (standing d) → Resting (at standing c s d)
 rests_at standing c d s rest before = elim (d == c) as (λ b. Resting (cond b s (standing d))) [ true ↦ rest | false ↦ before ]
 
 -- a connection at rest gets no outcome
-settled_rests : (es : List Ended) (standing : ℕ → Standing) (seq : ℕ → ℕ) (c : ℕ) → ((e : Ended) → In e es → Pending standing seq e.id) → Resting (standing c) → Resting (settled es standing c)
+settled_rests : (es : List Ended) (standing : ℕ → Standing) (seq : ℕ → ℕ) (c : ℕ) → ((e : Ended) → In e es → Pending standing seq e.id) →
+    Resting (standing c) → Resting (settled es standing c)
 settled_rests es standing seq c waits (inr closed) = inr (settled_closed es standing c closed)
 settled_rests es standing seq c waits (inl idle) = elim (settled_result es standing c) [
   | inl same ↦ inl (same ∙ idle)
   | inr e ↦ absurd (not_pending standing seq e.0.id Idle (ap standing e.2 ∙ idle) idle_open idle_not_waiting (waits e.0 e.1))
 ]
 
-spent_collects : (old new : World) (i : RequestId) (c : ℕ) (s : Standing) (effect : Effect) → Collects s old c effect new → Spent old i → Spent new i
+spent_collects : (old new : World) (i : RequestId) (c : ℕ) (s : Standing) (effect : Effect) → Collects s old c effect new → Spent old i →
+    Spent new i
 spent_collects old new i c Closed effect step spent = absurd step
 spent_collects old new i c Idle effect step spent = subst (λ w. Spent w i) (sym step.1) spent
 spent_collects old new i c Waiting effect step spent = subst (λ w. Spent w i) (sym step.1) spent
-spent_collects old new i c (Answered o) effect step spent = subst (λ w. Spent w i) (sym step.1) (spent_standing old (record old { standing = at old.standing c Idle }) i refl (rests_at old.standing c i.conn.0 Idle (inl refl)) spent)
+spent_collects old new i c (Answered o) effect step spent = subst (λ w. Spent w i) (sym step.1)
+    (spent_standing old (record old { standing = at old.standing c Idle }) i refl (rests_at old.standing c i.conn.0 Idle (inl refl)) spent)
 
-spent_step : (t : Layout) (old new : World) (step : Step) (effect : Effect) (i : RequestId) → Steps t old step effect new → WorldGood t old → Spent old i → Spent new i
+spent_step : (t : Layout) (old new : World) (step : Step) (effect : Effect) (i : RequestId) → Steps t old step effect new →
+    WorldGood t old → Spent old i → Spent new i
 spent_step t old new Open effect i s good spent = subst (λ w. Spent w i) (sym s.after)
-    (spent_standing old (record old { opened = suc old.opened; standing = at old.standing (suc old.opened) Idle }) i refl (rests_at old.standing (suc old.opened) i.conn.0 Idle (inl refl)) spent)
-spent_step t old new (Submit conn words) effect i s good spent = subst (λ w. Spent w i) (sym s.after) (spent_submitted t old i conn.0 (reading words) spent)
+    (spent_standing old (record old { opened = suc old.opened; standing = at old.standing (suc old.opened) Idle }) i refl
+    (rests_at old.standing (suc old.opened) i.conn.0 Idle (inl refl)) spent)
+spent_step t old new (Submit conn words) effect i s good spent = subst (λ w. Spent w i) (sym s.after)
+    (spent_submitted t old i conn.0 (reading words) spent)
 spent_step t old new (Deliver k) effect i s good spent = subst (λ w. Spent w i) (sym s.after) spent
 spent_step t old new Take effect i s good spent = subst (λ w. Spent w i) (sym s.after) spent
 spent_step t old new (Run starved) effect i s good spent = subst (λ w. Spent w i) (sym s.after) spent
@@ -89,7 +101,8 @@ spent_step t old new Settle effect i s good spent =
     ])
 spent_step t old new (Collect conn) effect i s good spent = spent_collects old new i conn.0 (old.standing conn.0) effect s spent
 spent_step t old new (Close conn) effect i s good spent = subst (λ w. Spent w i) (sym s.after)
-    (spent_standing old (record old { standing = at old.standing conn.0 Closed }) i refl (rests_at old.standing conn.0 i.conn.0 Closed (inr refl)) spent)
+    (spent_standing old (record old { standing = at old.standing conn.0 Closed }) i refl
+    (rests_at old.standing conn.0 i.conn.0 Closed (inr refl)) spent)
 
 -- ---- who collects
 
@@ -103,7 +116,8 @@ pub record TakesOutcome (old new : World) (o : Outcome) : Type 0 where
 same_collected : (o p : Outcome) → Collected (Some o) ≡ Collected (Some p) → o ≡ p
 same_collected o p e = cc
 
-outcome_collects : (old new : World) (c : ℕ) (s : Standing) (o : Outcome) → old.standing c ≡ s → Collects s old c (Collected (Some o)) new → TakesOutcome old new o
+outcome_collects : (old new : World) (c : ℕ) (s : Standing) (o : Outcome) → old.standing c ≡ s →
+    Collects s old c (Collected (Some o)) new → TakesOutcome old new o
 outcome_collects old new c Closed o is step = absurd step
 outcome_collects old new c Idle o is step = absurd (cc step.0)
 outcome_collects old new c Waiting o is step = absurd (cc step.0)
@@ -114,7 +128,8 @@ outcome_collects old new c (Answered p) o is step = record {
   seqs = ap (λ (w : World). w.seq c) step.1;
 }
 
-takes_outcome : (t : Layout) (old new : World) (step : Step) (o : Outcome) → Steps t old step (Collected (Some o)) new → TakesOutcome old new o
+takes_outcome : (t : Layout) (old new : World) (step : Step) (o : Outcome) → Steps t old step (Collected (Some o)) new →
+    TakesOutcome old new o
 takes_outcome t old new Open o s = absurd (cc s.answers)
 takes_outcome t old new (Submit conn words) o s = absurd (cc s.answers)
 takes_outcome t old new (Deliver k) o s = absurd (cc s.answers)
@@ -159,15 +174,19 @@ collected_one (Submitted j) ids i there = inr there
 collected_one (Ran is) ids i there = inr there
 collected_one Made ids i there = inr there
 
-never_again : (t : Layout) (old new : World) (steps : List Step) (effects : List Effect) (i : RequestId) → Makes t old steps effects new → WorldGood t old → Spent old i → In i (collected_in effects) → ⊥
+never_again : (t : Layout) (old new : World) (steps : List Step) (effects : List Effect) (i : RequestId) → Makes t old steps effects new →
+    WorldGood t old → Spent old i → In i (collected_in effects) → ⊥
 never_again t old new [] effects i made good spent there = subst (λ es. In i (collected_in es)) made.0 there
 never_again t old new (s ∷ ss) [] i made good spent there = absurd made
 never_again t old new (s ∷ ss) (e ∷ es) i made good spent there = elim (collected_one e (collected_in es) i there) [
-  | inl now ↦ not_again t old made.0 now.0 good (takes_outcome t old made.0 s now.0 (subst (λ f. Steps t old s f made.0) now.1 made.1)) (subst (λ j. Spent old j) (sym now.2) spent)
-  | inr later ↦ never_again t made.0 new ss es i made.2 (keeps t old made.0 s e made.1 good) (spent_step t old made.0 s e i made.1 good spent) later
+  | inl now ↦ not_again t old made.0 now.0 good (takes_outcome t old made.0 s now.0 (subst (λ f. Steps t old s f made.0) now.1 made.1))
+      (subst (λ j. Spent old j) (sym now.2) spent)
+  | inr later ↦ never_again t made.0 new ss es i made.2 (keeps t old made.0 s e made.1 good)
+      (spent_step t old made.0 s e i made.1 good spent) later
 ]
 
-once_with : (e : Effect) (ids : List RequestId) → ((o : Outcome) → e ≡ Collected (Some o) → In o.id ids → ⊥) → EachOnce ids → EachOnce (with_collected e ids)
+once_with : (e : Effect) (ids : List RequestId) → ((o : Outcome) → e ≡ Collected (Some o) → In o.id ids → ⊥) → EachOnce ids →
+    EachOnce (with_collected e ids)
 once_with (Collected (Some o)) ids none once = (none o refl, once)
 once_with (Collected None) ids none once = once
 once_with (Opened c) ids none once = once
@@ -175,13 +194,15 @@ once_with (Submitted j) ids none once = once
 once_with (Ran is) ids none once = once
 once_with Made ids none once = once
 
-collected_once_from : (t : Layout) (old new : World) (steps : List Step) (effects : List Effect) → Makes t old steps effects new → WorldGood t old → EachOnce (collected_in effects)
+collected_once_from : (t : Layout) (old new : World) (steps : List Step) (effects : List Effect) → Makes t old steps effects new →
+    WorldGood t old → EachOnce (collected_in effects)
 collected_once_from t old new [] effects made good = subst (λ es. EachOnce (collected_in es)) (sym made.0) tt
 collected_once_from t old new (s ∷ ss) [] made good = absurd made
 collected_once_from t old new (s ∷ ss) (e ∷ es) made good =
     let next = keeps t old made.0 s e made.1 good in
     once_with e (collected_in es)
-    (λ o is there. never_again t made.0 new ss es o.id made.2 next (spent_now t old made.0 o good (takes_outcome t old made.0 s o (subst (λ f. Steps t old s f made.0) is made.1))) there)
+    (λ o is there. never_again t made.0 new ss es o.id made.2 next
+    (spent_now t old made.0 o good (takes_outcome t old made.0 s o (subst (λ f. Steps t old s f made.0) is made.1))) there)
     (collected_once_from t made.0 new ss es made.2 next)
 
 pub collected_once : CollectedOnce

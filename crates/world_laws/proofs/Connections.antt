@@ -18,7 +18,8 @@ free_not_closed : (s : Standing) → s ≡ Idle → s ≡ Closed → ⊥
 free_not_closed s e d = absurd (cc)
 
 -- a connection that is idle, or has an outcome, waits for nothing
-pub not_pending : (standing : ℕ → Standing) (seq : ℕ → ℕ) (i : RequestId) (s : Standing) → standing i.conn.0 ≡ s → (s ≡ Closed → ⊥) → (s ≡ Waiting → ⊥) → Pending standing seq i → ⊥
+pub not_pending : (standing : ℕ → Standing) (seq : ℕ → ℕ) (i : RequestId) (s : Standing) → standing i.conn.0 ≡ s → (s ≡ Closed → ⊥) →
+    (s ≡ Waiting → ⊥) → Pending standing seq i → ⊥
 not_pending standing seq i s is lively not_waiting (inl e) = lively (sym is ∙ e)
 not_pending standing seq i s is lively not_waiting (inr e) = not_waiting (sym is ∙ e.0)
 
@@ -38,16 +39,23 @@ same_outcome : (o p : Outcome) → Answered o ≡ Answered p → o ≡ p
 same_outcome o p e = cc
 
 -- another connection than the one that changes
-pending_else : (standing : ℕ → Standing) (seq : ℕ → ℕ) (c : ℕ) (s : Standing) (n : ℕ) (i : RequestId) → (i.conn.0 == c) ≡ false → Pending standing seq i → Pending (at standing c s) (at seq c n) i
+pending_else : (standing : ℕ → Standing) (seq : ℕ → ℕ) (c : ℕ) (s : Standing) (n : ℕ) (i : RequestId) → (i.conn.0 == c) ≡ false →
+    Pending standing seq i → Pending (at standing c s) (at seq c n) i
 pending_else standing seq c s n i other (inl e) = inl (at_false (i.conn.0 == c) s (standing i.conn.0) other ∙ e)
-pending_else standing seq c s n i other (inr e) = inr (at_false (i.conn.0 == c) s (standing i.conn.0) other ∙ e.0, e.1 ∙ sym (at_false (i.conn.0 == c) n (seq i.conn.0) other))
+pending_else standing seq c s n i other (inr e) = inr (
+  at_false (i.conn.0 == c) s (standing i.conn.0) other ∙ e.0,
+  e.1
+      ∙ sym (at_false (i.conn.0 == c) n (seq i.conn.0) other),
+)
 
-pending_else' : (standing : ℕ → Standing) (seq : ℕ → ℕ) (c : ℕ) (s : Standing) (i : RequestId) → (i.conn.0 == c) ≡ false → Pending standing seq i → Pending (at standing c s) seq i
+pending_else' : (standing : ℕ → Standing) (seq : ℕ → ℕ) (c : ℕ) (s : Standing) (i : RequestId) → (i.conn.0 == c) ≡ false →
+    Pending standing seq i → Pending (at standing c s) seq i
 pending_else' standing seq c s i other (inl e) = inl (at_false (i.conn.0 == c) s (standing i.conn.0) other ∙ e)
 pending_else' standing seq c s i other (inr e) = inr (at_false (i.conn.0 == c) s (standing i.conn.0) other ∙ e.0, e.1)
 
 -- where the connection that changes had nothing under way, what is pending stays so
-pending_kept : (standing : ℕ → Standing) (seq : ℕ → ℕ) (c : ℕ) (s s' : Standing) (n : ℕ) (i : RequestId) → standing c ≡ s → (s ≡ Closed → ⊥) → (s ≡ Waiting → ⊥) →
+pending_kept : (standing : ℕ → Standing) (seq : ℕ → ℕ) (c : ℕ) (s s' : Standing) (n : ℕ) (i : RequestId) → standing c ≡ s →
+    (s ≡ Closed → ⊥) → (s ≡ Waiting → ⊥) →
     Pending standing seq i → Pending (at standing c s') (at seq c n) i
 pending_kept standing seq c s s' n i is lively not_waiting p = elim (cases_Bool (i.conn.0 == c)) [
   | inl e ↦ absurd (not_pending standing seq i s (ap standing (eqb-true i.conn.0 c e) ∙ is) lively not_waiting p)
@@ -56,9 +64,11 @@ pending_kept standing seq c s s' n i is lively not_waiting p = elim (cases_Bool 
 
 -- ---- the steps
 
-pub connections_open : (opened : ℕ) (standing : ℕ → Standing) (seq : ℕ → ℕ) (last : ℕ → Option RequestId) (asked : Asked) (ended : List Ended) (layer : Layer) →
+pub connections_open : (opened : ℕ) (standing : ℕ → Standing) (seq : ℕ → ℕ) (last : ℕ → Option RequestId) (asked : Asked)
+    (ended : List Ended) (layer : Layer) →
     ((i : RequestId) (q : Request) → asked i ≡ Some q → (0 < i.seq) × (i.seq ≤ seq i.conn.0)) →
-    ConnectionsGood opened standing seq last asked ended layer → ConnectionsGood (suc opened) (at standing (suc opened) Idle) seq last asked ended layer
+    ConnectionsGood opened standing seq last asked ended layer → ConnectionsGood (suc opened)
+    (at standing (suc opened) Idle) seq last asked ended layer
 connections_open opened standing seq last asked ended layer fresh good = record {
   unopened = λ c less. let before = good.unopened c (omega arith) in
       (at_false (c == suc opened) Idle (standing c) (not_at c less) ∙ before.0, before.1, before.2);
@@ -88,15 +98,18 @@ connections_open opened standing seq last asked ended layer fresh good = record 
     idle_not_answered o e = cc
 
 -- a connection that was never opened isn't the one that changes
-still_unopened : (opened : ℕ) (standing : ℕ → Standing) (c d : ℕ) (s : Standing) → (opened < d → standing d ≡ Closed) → standing c ≡ s → (s ≡ Closed → ⊥) → opened < d → (d == c) ≡ false
+still_unopened : (opened : ℕ) (standing : ℕ → Standing) (c d : ℕ) (s : Standing) → (opened < d → standing d ≡ Closed) → standing c ≡ s →
+    (s ≡ Closed → ⊥) → opened < d → (d == c) ≡ false
 still_unopened opened standing c d s closed is lively less = elim (cases_Bool (d == c)) [
   | inl e ↦ absurd (lively (sym is ∙ ap standing (sym (eqb-true d c e)) ∙ closed less))
   | inr e ↦ e
 ]
 
-pub connections_answered : (opened : ℕ) (standing : ℕ → Standing) (seq : ℕ → ℕ) (last : ℕ → Option RequestId) (asked : Asked) (ended : List Ended) (layer : Layer) (c : ℕ) (o : Outcome) →
+pub connections_answered : (opened : ℕ) (standing : ℕ → Standing) (seq : ℕ → ℕ) (last : ℕ → Option RequestId) (asked : Asked)
+    (ended : List Ended) (layer : Layer) (c : ℕ) (o : Outcome) →
     standing c ≡ Idle → o.id ≡ record { conn = record { 0 = c }; seq = suc (seq c) } → o.stamp ≡ None →
-    ConnectionsGood opened standing seq last asked ended layer → ConnectionsGood opened (at standing c (Answered o)) (at seq c (suc (seq c))) last asked ended layer
+    ConnectionsGood opened standing seq last asked ended layer → ConnectionsGood opened (at standing c (Answered o))
+    (at seq c (suc (seq c))) last asked ended layer
 connections_answered opened standing seq last asked ended layer c o idle id none good = record {
   unopened = λ d less.
       let before = good.unopened d less in
@@ -125,18 +138,25 @@ connections_answered opened standing seq last asked ended layer c o idle id none
 waiting_not_answered : (o : Outcome) → Waiting ≡ Answered o → ⊥
 waiting_not_answered o e = cc
 
-pub connections_multicast : (opened : ℕ) (standing : ℕ → Standing) (seq : ℕ → ℕ) (last : ℕ → Option RequestId) (asked : Asked) (ended : List Ended) (layer : Layer) (c : ℕ) (q : Request) →
+pub connections_multicast : (opened : ℕ) (standing : ℕ → Standing) (seq : ℕ → ℕ) (last : ℕ → Option RequestId) (asked : Asked)
+    (ended : List Ended) (layer : Layer) (c : ℕ) (q : Request) →
     standing c ≡ Idle → ConnectionsGood opened standing seq last asked ended layer →
-    ConnectionsGood opened (at standing c Waiting) (at seq c (suc (seq c))) (at last c (Some (record { conn = record { 0 = c }; seq = suc (seq c) })))
+    ConnectionsGood opened (at standing c Waiting) (at seq c (suc (seq c)))
+    (at last c (Some (record { conn = record { 0 = c }; seq = suc (seq c) })))
     (asks asked (record { conn = record { 0 = c }; seq = suc (seq c) }) q) ended layer
 connections_multicast opened standing seq last asked ended layer c q idle good = record {
   unopened = λ d less.
       let before = good.unopened d less in
-      let other = still_unopened opened standing c d Idle (λ l. (good.unopened d l).0) idle idle_open less in
-      (at_false (d == c) Waiting (standing d) other ∙ before.0, at_false (d == c) (suc (seq c)) (seq d) other ∙ before.1, at_false (d == c) (Some id) (last d) other ∙ before.2);
+      let other = still_unopened opened standing c d Idle (λ l. (good.unopened d l).0) idle idle_open less in (
+        at_false (d == c) Waiting (standing d) other ∙ before.0,
+        at_false (d == c) (suc (seq c)) (seq d) other
+            ∙ before.1,
+        at_false (d == c) (Some id) (last d) other ∙ before.2,
+      );
   settled = good.settled;
   split = good.split;
-  pending = λ i r e. by_test (same_id i id) q (asked i) r (Named good.settled i ⊎ Pending (at standing c Waiting) (at seq c (suc (seq c))) i) e
+  pending = λ i r e. by_test (same_id i id) q (asked i) r (Named good.settled i
+      ⊎ Pending (at standing c Waiting) (at seq c (suc (seq c))) i) e
       (λ p same. inr (subst (λ j. Pending (at standing c Waiting) (at seq c (suc (seq c))) j) (sym (same_id-true i id p))
       (inr (at_true (c == c) Waiting (standing c) (eq-eqb c c refl), sym (at_true (c == c) (suc (seq c)) (seq c) (eq-eqb c c refl))))))
       (λ p old. elim (good.pending i r old) [
@@ -157,8 +177,10 @@ connections_multicast opened standing seq last asked ended layer c q idle good =
 idle_not_answered : (o : Outcome) → Idle ≡ Answered o → ⊥
 idle_not_answered o e = cc
 
-pub connections_collect : (opened : ℕ) (standing : ℕ → Standing) (seq : ℕ → ℕ) (last : ℕ → Option RequestId) (asked : Asked) (ended : List Ended) (layer : Layer) (c : ℕ) (o : Outcome) →
-    standing c ≡ Answered o → ConnectionsGood opened standing seq last asked ended layer → ConnectionsGood opened (at standing c Idle) seq last asked ended layer
+pub connections_collect : (opened : ℕ) (standing : ℕ → Standing) (seq : ℕ → ℕ) (last : ℕ → Option RequestId) (asked : Asked)
+    (ended : List Ended) (layer : Layer) (c : ℕ) (o : Outcome) →
+    standing c ≡ Answered o → ConnectionsGood opened standing seq last asked ended layer →
+    ConnectionsGood opened (at standing c Idle) seq last asked ended layer
 connections_collect opened standing seq last asked ended layer c o is_answered good = record {
   unopened = λ d less.
       let before = good.unopened d less in
@@ -169,7 +191,8 @@ connections_collect opened standing seq last asked ended layer c o is_answered g
   pending = λ i q named. elim (good.pending i q named) [
     | inl done ↦ inl done
     | inr p ↦ elim (cases_Bool (i.conn.0 == c)) [
-      | inl e ↦ absurd (not_pending standing seq i (Answered o) (ap standing (eqb-true i.conn.0 c e) ∙ is_answered) (answered_open o) (answered_not_waiting o) p)
+      | inl e ↦ absurd (not_pending standing seq i (Answered o) (ap standing (eqb-true i.conn.0 c e) ∙ is_answered) (answered_open o)
+          (answered_not_waiting o) p)
       | inr e ↦ inr (pending_else' standing seq c Idle i e p)
     ]
   ];
@@ -182,7 +205,8 @@ connections_collect opened standing seq last asked ended layer c o is_answered g
 closed_not_answered : (o : Outcome) → Closed ≡ Answered o → ⊥
 closed_not_answered o e = cc
 
-pub connections_close : (opened : ℕ) (standing : ℕ → Standing) (seq : ℕ → ℕ) (last : ℕ → Option RequestId) (asked : Asked) (ended : List Ended) (layer : Layer) (c : ℕ) →
+pub connections_close : (opened : ℕ) (standing : ℕ → Standing) (seq : ℕ → ℕ) (last : ℕ → Option RequestId) (asked : Asked)
+    (ended : List Ended) (layer : Layer) (c : ℕ) →
     ConnectionsGood opened standing seq last asked ended layer → ConnectionsGood opened (at standing c Closed) seq last asked ended layer
 connections_close opened standing seq last asked ended layer c good = record {
   unopened = λ d less. let before = good.unopened d less in (
@@ -220,8 +244,10 @@ outcome_more seq xs ys c o good = record {
   from = elim good.from [ inl local ↦ inl local | inr e ↦ inr (e.0, In-left e.0 xs ys e.1, e.2) ];
 }
 
-pub connections_run : (opened : ℕ) (standing : ℕ → Standing) (seq : ℕ → ℕ) (last : ℕ → Option RequestId) (asked : Asked) (ended es : List Ended) (ds : List Delivered) →
-    ConnectionsGood opened standing seq last asked ended (Taken ds) → ConnectionsGood opened standing seq last asked (ended ++ es) (HasRun es)
+pub connections_run : (opened : ℕ) (standing : ℕ → Standing) (seq : ℕ → ℕ) (last : ℕ → Option RequestId) (asked : Asked)
+    (ended es : List Ended) (ds : List Delivered) →
+    ConnectionsGood opened standing seq last asked ended (Taken ds) → ConnectionsGood opened standing seq last asked (ended ++ es)
+    (HasRun es)
 connections_run opened standing seq last asked ended es ds good = record {
   unopened = good.unopened;
   settled = ended;
@@ -238,7 +264,8 @@ pub settled_closed : (es : List Ended) (standing : ℕ → Standing) (c : ℕ) �
 settled_closed [] standing c e = e
 settled_closed (x ∷ es) standing c e = settled_closed es (at standing x.id.conn.0 (given (outcome_of x) (standing x.id.conn.0))) c
     (elim (cases_Bool (c == x.id.conn.0)) [
-      | inl here ↦ at_true (c == x.id.conn.0) (given (outcome_of x) (standing x.id.conn.0)) (standing c) here ∙ ap (given (outcome_of x)) (ap standing (sym (eqb-true c x.id.conn.0 here)) ∙ e)
+      | inl here ↦ at_true (c == x.id.conn.0) (given (outcome_of x) (standing x.id.conn.0)) (standing c) here
+          ∙ ap (given (outcome_of x)) (ap standing (sym (eqb-true c x.id.conn.0 here)) ∙ e)
       | inr else' ↦ at_false (c == x.id.conn.0) (given (outcome_of x) (standing x.id.conn.0)) (standing c) else' ∙ e
     ])
 
@@ -258,7 +285,8 @@ settled_result (x ∷ es) standing c = elim (settled_result es (at standing x.id
 ]
   where
     by_standing : (s : Standing) → s ≡ standing c → settled (x ∷ es) standing c ≡ given (outcome_of x) s → x.id.conn.0 ≡ c →
-        (settled (x ∷ es) standing c ≡ standing c) ⊎ ((e : Ended) × In e (x ∷ es) × (e.id.conn.0 ≡ c) × (settled (x ∷ es) standing c ≡ Answered (outcome_of e)))
+        (settled (x ∷ es) standing c ≡ standing c)
+        ⊎ ((e : Ended) × In e (x ∷ es) × (e.id.conn.0 ≡ c) × (settled (x ∷ es) standing c ≡ Answered (outcome_of e)))
     by_standing Closed is now conn = inl (now ∙ is)
     by_standing Idle is now conn = inr (x, inl refl, conn, now)
     by_standing Waiting is now conn = inr (x, inl refl, conn, now)
@@ -281,9 +309,11 @@ named_or_not (e ∷ es) i = elim (cases_Bool (same_id e.id i)) [
 closed_not_waiting : (s : Standing) → s ≡ Closed → s ≡ Waiting → ⊥
 closed_not_waiting s e d = absurd (cc)
 
-pub connections_settle : (opened : ℕ) (standing : ℕ → Standing) (seq : ℕ → ℕ) (last : ℕ → Option RequestId) (asked : Asked) (ended es : List Ended) →
+pub connections_settle : (opened : ℕ) (standing : ℕ → Standing) (seq : ℕ → ℕ) (last : ℕ → Option RequestId) (asked : Asked)
+    (ended es : List Ended) →
     ((e : Ended) → In e es → Pending standing seq e.id) →
-    ConnectionsGood opened standing seq last asked ended (HasRun es) → ConnectionsGood opened (settled es standing) seq last asked ended NoneTaken
+    ConnectionsGood opened standing seq last asked ended (HasRun es) →
+    ConnectionsGood opened (settled es standing) seq last asked ended NoneTaken
 connections_settle opened standing seq last asked ended es waits good = record {
   unopened = λ c less. let before = good.unopened c less in (settled_closed es standing c before.0, before.1, before.2);
   settled = ended;

@@ -25,18 +25,22 @@ use Rattle.world_laws.specs.Good.{Asked, Addressed, Known, Among, GroupGood}
 abbrev pub AskedMore : Asked → Asked → Type 0
 AskedMore asked asked' = (i : RequestId) (q : Request) → asked i ≡ Some q → asked' i ≡ Some q
 
-pub addressed_more : (asked asked' : Asked) (i : RequestId) (gs : List ℕ) → AskedMore asked asked' → Addressed asked i gs → Addressed asked' i gs
+pub addressed_more : (asked asked' : Asked) (i : RequestId) (gs : List ℕ) → AskedMore asked asked' → Addressed asked i gs →
+    Addressed asked' i gs
 addressed_more asked asked' i gs more a = (a.0, more i a.0 a.1, a.2)
 
-pub known_more : (asked asked' : Asked) (proposed proposed' : Proposals) (d : Delivered) → AskedMore asked asked' → Among proposed proposed' → Known asked proposed d → Known asked' proposed' d
+pub known_more : (asked asked' : Asked) (proposed proposed' : Proposals) (d : Delivered) → AskedMore asked asked' →
+    Among proposed proposed' → Known asked proposed d → Known asked' proposed' d
 known_more asked asked' proposed proposed' d more among known = record {
   stamp = final_within (proposed d.id) (proposed' d.id) d.groups d.stamp (λ g n e. among d.id g n e) known.stamp;
   named = addressed_more asked asked' d.id d.groups more known.named;
 }
 
 -- a group that doesn't move, while others propose
-pub group_grows : (asked asked' : Asked) (proposed proposed' : Proposals) (me : ℕ) (grp : GroupState) (log : List Delivered) → AskedMore asked asked' → Among proposed proposed' →
-    ((i : RequestId) (n : ℕ) → proposed' i me ≡ Some n → proposed i me ≡ Some n) → GroupGood asked proposed me grp log → GroupGood asked' proposed' me grp log
+pub group_grows : (asked asked' : Asked) (proposed proposed' : Proposals) (me : ℕ) (grp : GroupState) (log : List Delivered) →
+    AskedMore asked asked' → Among proposed proposed' →
+    ((i : RequestId) (n : ℕ) → proposed' i me ≡ Some n → proposed i me ≡ Some n) → GroupGood asked proposed me grp log →
+    GroupGood asked' proposed' me grp log
 group_grows asked asked' proposed proposed' me grp log more among mine good = record {
   going = good.going;
   heard = λ i h n e. among i h n (good.heard i h n e);
@@ -64,7 +68,8 @@ pub some_same : {X : Type 0} (x y : X) → Some x ≡ Some y → x ≡ y
 some_same x y e = cc
 
 -- the new value or an old one
-pub by_test : {X : Type 0} (b : Bool) (x : X) (o : Option X) (y : X) (P : Type 0) → cond b (Some x) o ≡ Some y → (b ≡ true → x ≡ y → P) → (b ≡ false → o ≡ Some y → P) → P
+pub by_test : {X : Type 0} (b : Bool) (x : X) (o : Option X) (y : X) (P : Type 0) → cond b (Some x) o ≡ Some y → (b ≡ true → x ≡ y → P) →
+    (b ≡ false → o ≡ Some y → P) → P
 by_test true x o y P e new old = new refl (some_same x y e)
 by_test false x o y P e new old = old refl e
 
@@ -83,19 +88,22 @@ pub among_hears : (proposed : Proposals) (id : RequestId) (from n : ℕ) → pro
 among_hears proposed id from n none i h m e = elim (cases_Bool (same_id i id && h == from)) [
   | inl p ↦
       let parts = and_parts (same_id i id) (h == from) p in
-      let it : proposed id from ≡ Some m = subst (λ j. proposed j from ≡ Some m) (same_id-true i id parts.0) (subst (λ g. proposed i g ≡ Some m) (eqb-true h from parts.1) e) in
+      let it : proposed id from ≡ Some m = subst (λ j. proposed j from ≡ Some m) (same_id-true i id parts.0)
+      (subst (λ g. proposed i g ≡ Some m) (eqb-true h from parts.1) e) in
       absurd (cc)
   | inr p ↦ at_false _ (Some n) (proposed i h) p ∙ e
 ]
 
-pub mid_start : (asked : Asked) (proposed : Proposals) (me : ℕ) (grp : GroupState) (log : List Delivered) (id : RequestId) (floor : ℕ) (groups : List ℕ) → GroupGood asked proposed me grp log →
+pub mid_start : (asked : Asked) (proposed : Proposals) (me : ℕ) (grp : GroupState) (log : List Delivered) (id : RequestId) (floor : ℕ)
+    (groups : List ℕ) → GroupGood asked proposed me grp log →
     Addressed asked id groups → has groups me ≡ true → proposed id me ≡ None →
     MidGood asked (hears proposed id me (next_clock grp floor)) me (lifted (with_start me grp id floor groups) id) log
 mid_start asked proposed me grp log id floor groups good named member none = record {
   sound = sound_start me grp id floor groups good.going.lawful.sound member;
   ahead = ahead_start me grp id floor groups log good.going.lawful.sound member good.going.ahead;
   ascending = good.going.ascending;
-  heard = λ i h n e. by_test (same_id i id && h == me) new (heard grp i h) n (hears proposed id me new i h ≡ Some n) (sym (heard-with_start me grp id floor groups i h) ∙ e)
+  heard = λ i h n e. by_test (same_id i id && h == me) new (heard grp i h) n (hears proposed id me new i h ≡ Some n)
+      (sym (heard-with_start me grp id floor groups i h) ∙ e)
       (λ p same. at_true _ (Some new) (proposed i h) p ∙ ap Some same)
       (λ p old. at_false _ (Some new) (proposed i h) p ∙ good.heard i h n old);
   clock = λ i n e. by_test (same_id i id && me == me) new (proposed i me) n (n ≤ (lifted (with_start me grp id floor groups) id).clock) e
@@ -108,10 +116,12 @@ mid_start asked proposed me grp log id floor groups good named member none = rec
       (λ p old. by_test (same_id j id && me == me) new (proposed j me) n (i ≡ j) d
       (λ q same. let before = good.clock i n old in absurd (omega arith))
       (λ q old'. good.apart i j n old old'));
-  started = λ i gs e. by_test (same_id i id) groups (get grp.started i) gs (Addressed asked i gs) (sym (started-with_start me grp id floor groups i) ∙ e)
+  started = λ i gs e. by_test (same_id i id) groups (get grp.started i) gs (Addressed asked i gs)
+      (sym (started-with_start me grp id floor groups i) ∙ e)
       (λ p same. subst (λ hs. Addressed asked i hs) same (subst (λ j. Addressed asked j groups) (sym (same_id-true i id p)) named))
       (λ p old. good.started i gs old);
-  known = λ d there. known_more asked asked proposed (hears proposed id me new) d (λ i q e. e) (among_hears proposed id me new none) (good.known d there);
+  known = λ d there. known_more asked asked proposed (hears proposed id me new) d (λ i q e. e) (among_hears proposed id me new none)
+      (good.known d there);
   member = good.member;
 }
   where
@@ -119,20 +129,25 @@ mid_start asked proposed me grp log id floor groups good named member none = rec
     new = next_clock grp floor
 
     lifts : next_clock grp floor ≤ (lifted (with_start me grp id floor groups) id).clock
-    lifts = lift_grows (next_clock grp floor) (final_of (with_start me grp id floor groups) id (get (with_start me grp id floor groups).started id))
+    lifts = lift_grows (next_clock grp floor)
+        (final_of (with_start me grp id floor groups) id (get (with_start me grp id floor groups).started id))
 
-pub mid_proposal : (asked : Asked) (proposed : Proposals) (me : ℕ) (grp : GroupState) (log : List Delivered) (id : RequestId) (from n : ℕ) → GroupGood asked proposed me grp log →
+pub mid_proposal : (asked : Asked) (proposed : Proposals) (me : ℕ) (grp : GroupState) (log : List Delivered) (id : RequestId)
+    (from n : ℕ) → GroupGood asked proposed me grp log →
     (from ≡ me → ⊥) → proposed id from ≡ Some n → ((i : RequestId) → proposed i from ≡ Some n → i ≡ id) →
     MidGood asked proposed me (lifted (with_proposal grp id from n) id) log
 mid_proposal asked proposed me grp log id from n good other told single = record {
   sound = sound_proposal me grp id from n good.going.lawful.sound other one;
   ahead = ahead_proposal me grp id from n log good.going.lawful.sound other one agrees good.going.ahead;
   ascending = good.going.ascending;
-  heard = λ i h m e. by_test (same_id i id && h == from) n (heard grp i h) m (proposed i h ≡ Some m) (sym (heard-with_proposal grp id from n i h) ∙ e)
+  heard = λ i h m e. by_test (same_id i id && h == from) n (heard grp i h) m (proposed i h ≡ Some m)
+      (sym (heard-with_proposal grp id from n i h) ∙ e)
       (λ p same. let parts = and_parts (same_id i id) (h == from) p in
-      subst (λ k. proposed i h ≡ Some k) same (subst (λ g. proposed i g ≡ Some n) (sym (eqb-true h from parts.1)) (subst (λ j. proposed j from ≡ Some n) (sym (same_id-true i id parts.0)) told)))
+      subst (λ k. proposed i h ≡ Some k) same (subst (λ g. proposed i g ≡ Some n) (sym (eqb-true h from parts.1))
+      (subst (λ j. proposed j from ≡ Some n) (sym (same_id-true i id parts.0)) told)))
       (λ p old. good.heard i h m old);
-  clock = λ i m e. let before = good.clock i m e in omega (arith, lift_grows grp.clock (final_of (with_proposal grp id from n) id (get grp.started id)));
+  clock = λ i m e. let before = good.clock i m e in
+      omega (arith, lift_grows grp.clock (final_of (with_proposal grp id from n) id (get grp.started id)));
   apart = good.apart;
   started = good.started;
   known = good.known;
@@ -147,7 +162,8 @@ mid_proposal asked proposed me grp log id from n good other told single = record
 
 -- ---- what is delivered
 
-pub delivers_good : (asked : Asked) (proposed : Proposals) (me : ℕ) (grp : GroupState) (log ds : List Delivered) → MidGood asked proposed me grp log → Delivers me grp ds →
+pub delivers_good : (asked : Asked) (proposed : Proposals) (me : ℕ) (grp : GroupState) (log ds : List Delivered) →
+    MidGood asked proposed me grp log → Delivers me grp ds →
     GroupGood asked proposed me (without grp ds) (log ++ ds)
 delivers_good asked proposed me grp log ds mid delivers = record {
   going = record {

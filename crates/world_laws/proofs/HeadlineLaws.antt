@@ -36,12 +36,19 @@ one_thread_from m [] replies = refl
 one_thread_from m (e ∷ es) replies = by_reply e.reply refl replies.0 (one_thread_from (map_after e.reply e.command m) es replies.1)
   where
     by_reply : (r : Option Content) → e.reply ≡ r → RepliesOn m e → OneThreadFrom (map_after e.reply e.command m) es →
-        (after_all (map_after e.reply e.command m) es, replies_of (with_row e e.reply (rows_of es))) ≡ solo_from m (commands_of (entries_of (with_row e e.reply (rows_of es))))
+        (after_all (map_after e.reply e.command m) es, replies_of (with_row e e.reply (rows_of es))) ≡ solo_from m
+        (commands_of (entries_of (with_row e e.reply (rows_of es))))
     by_reply None is answers rest = subst (λ r. OneThreadFrom (map_after r e.command m) es →
-        (after_all (map_after r e.command m) es, replies_of (with_row e r (rows_of es))) ≡ solo_from m (commands_of (entries_of (with_row e r (rows_of es))))) (sym is) (λ rest. rest) rest
+        (after_all (map_after r e.command m) es, replies_of (with_row e r (rows_of es))) ≡ solo_from m
+        (commands_of (entries_of (with_row e r (rows_of es))))) (sym is) (λ rest. rest) rest
     by_reply (Some reply) is answers rest = subst (λ r. OneThreadFrom (map_after r e.command m) es →
-        (after_all (map_after r e.command m) es, replies_of (with_row e r (rows_of es))) ≡ solo_from m (commands_of (entries_of (with_row e r (rows_of es))))) (sym is)
-        (λ rest. ap (λ v. (v.0, reply ∷ v.1)) rest ∙ ap (λ c. ((solo_from (effect_of e.command m).0 (commands_of (entries_of (rows_of es)))).0, c ∷ (solo_from (effect_of e.command m).0 (commands_of (entries_of (rows_of es)))).1)) same) rest
+        (after_all (map_after r e.command m) es, replies_of (with_row e r (rows_of es))) ≡ solo_from m
+        (commands_of (entries_of (with_row e r (rows_of es))))) (sym is)
+        (λ rest. ap (λ v. (v.0, reply ∷ v.1)) rest
+        ∙ ap (λ c. (
+          (solo_from (effect_of e.command m).0 (commands_of (entries_of (rows_of es)))).0,
+          c ∷ (solo_from (effect_of e.command m).0 (commands_of (entries_of (rows_of es)))).1,
+        )) same) rest
       where
         same : reply ≡ (effect_of e.command m).1
         same = elim answers [
@@ -65,7 +72,8 @@ in_rows : (es : List Ended) (x : Entry) → In x (entries_of (rows_of es)) → (
 in_rows [] x there = absurd there
 in_rows (e ∷ es) x there = by_reply e.reply there (in_rows es x)
   where
-    by_reply : (r : Option Content) → In x (entries_of (with_row e r (rows_of es))) → (In x (entries_of (rows_of es)) → (f : Ended) × In f es × (x ≡ entry_of f)) → (f : Ended) × In f (e ∷ es) × (x ≡ entry_of f)
+    by_reply : (r : Option Content) → In x (entries_of (with_row e r (rows_of es))) → (In x (entries_of (rows_of es)) → (f : Ended)
+        × In f es × (x ≡ entry_of f)) → (f : Ended) × In f (e ∷ es) × (x ≡ entry_of f)
     by_reply None there rest = let f = rest there in (f.0, inr f.1, f.2)
     by_reply (Some reply) (inl same) rest = (e, inl refl, same)
     by_reply (Some reply) (inr there) rest = let f = rest there in (f.0, inr f.1, f.2)
@@ -101,4 +109,5 @@ rows_addressed t w good x there =
 pub headline_holds : Headline
 headline_holds t steps w is_table leads =
     let good = good_world t steps w leads in
-    replies_in_stamp_order t empty w.contents (rows_of w.ended) is_table (rows_addressed t w good) (rows_in_order w.ended (touching_good t w good)) (good_is_one_thread t w good)
+    replies_in_stamp_order t empty w.contents (rows_of w.ended) is_table (rows_addressed t w good)
+    (rows_in_order w.ended (touching_good t w good)) (good_is_one_thread t w good)

@@ -32,7 +32,8 @@ use Rattle.world_laws.proofs.Worlds.{good_world}
 
 -- ---- final stamps
 
-pub known_final : (w : World) (g : ℕ) (d : Delivered) → Known w.asked w.proposed d → has d.groups g ≡ true → (q : Request) × (has q.groups g ≡ true) × HasFinal w d.id q d.stamp
+pub known_final : (w : World) (g : ℕ) (d : Delivered) → Known w.asked w.proposed d → has d.groups g ≡ true → (q : Request)
+    × (has q.groups g ≡ true) × HasFinal w d.id q d.stamp
 known_final w g d known member = (
   known.named.0,
   subst (λ gs. has gs g ≡ true) (sym known.named.2) member,
@@ -48,7 +49,8 @@ groups_agree t steps w leads g i s knows = elim knows [
         subst (λ gs. has gs g ≡ true) (sym named.2) (group.going.lawful.sound.started i settled.groups settled.started).1,
         record {
           submitted = named.1;
-          stamp = ap (λ gs. final (w.proposed i) gs) named.2 ∙ final_within (heard (w.group g) i) (w.proposed i) settled.groups s (λ h n e. group.heard i h n e) settled.stamp;
+          stamp = ap (λ gs. final (w.proposed i) gs) named.2
+              ∙ final_within (heard (w.group g) i) (w.proposed i) settled.groups s (λ h n e. group.heard i h n e) settled.stamp;
         },
       )
   | inr delivered ↦
@@ -73,13 +75,15 @@ has_of : (asked : Option Request) (q : Request) (g : ℕ) → asked ≡ Some q �
 has_of asked q g is there = subst (λ o. addresses o g ≡ true) is there
 
 -- who has proposed is addressed
-pub proposed_addressed : (t : Layout) (w : World) → WorldGood t w → (i : RequestId) (q : Request) (g n : ℕ) → w.asked i ≡ Some q → w.proposed i g ≡ Some n → has q.groups g ≡ true
+pub proposed_addressed : (t : Layout) (w : World) → WorldGood t w → (i : RequestId) (q : Request) (g n : ℕ) → w.asked i ≡ Some q →
+    w.proposed i g ≡ Some n → has q.groups g ≡ true
 proposed_addressed t w good i q g n named told =
     let count = good.skeen.counted i g in
     let one : bit (is_some (w.proposed i g)) ≡ 1 = ap (λ o. bit (is_some o)) told in
     has_of (w.asked i) q g named (bit_one (addresses (w.asked i) g) (starts_of i g w.packets) (omega arith))
 
-pub final_told : (t : Layout) (w : World) → WorldGood t w → (i : RequestId) (q : Request) (s : Stamp) → HasFinal w i q s → w.proposed i s.group ≡ Some s.clock
+pub final_told : (t : Layout) (w : World) → WorldGood t w → (i : RequestId) (q : Request) (s : Stamp) → HasFinal w i q s →
+    w.proposed i s.group ≡ Some s.clock
 final_told t w good i q s it =
     let some = (good.requests.shaped i q it.submitted).some in
     final_is_proposed (w.proposed i) q.groups some.0 s some.1 it.stamp
@@ -90,8 +94,10 @@ final_is_told t steps w leads i q s it =
     let told = final_told t w good i q s it in
     (proposed_addressed t w good i q s.group s.clock it.submitted told, told)
 
-pub differ_good : (t : Layout) (w : World) → WorldGood t w → (i j : RequestId) (q r : Request) (s : Stamp) → HasFinal w i q s → HasFinal w j r s → i ≡ j
-differ_good t w good i j q r s a b = (good.skeen.groups s.group).apart i j s.clock (final_told t w good i q s a) (final_told t w good j r s b)
+pub differ_good : (t : Layout) (w : World) → WorldGood t w → (i j : RequestId) (q r : Request) (s : Stamp) → HasFinal w i q s →
+    HasFinal w j r s → i ≡ j
+differ_good t w good i j q r s a b = (good.skeen.groups s.group).apart i j s.clock (final_told t w good i q s a)
+    (final_told t w good j r s b)
 
 pub final_stamps_differ : FinalStampsDiffer
 final_stamps_differ t steps w leads i j q r s a b = differ_good t w (good_world t steps w leads) i j q r s a b
@@ -129,12 +135,14 @@ deliveries_ascend t steps w leads g = ((good_world t steps w leads).skeen.groups
 
 -- ---- only addressed groups
 
-body_addressed : (asked : Asked) (proposed : Proposals) (to : ℕ) (id : RequestId) (body : Body) → BodyGood asked proposed to id body → (q : Request) × (asked id ≡ Some q) × (has q.groups to ≡ true)
+body_addressed : (asked : Asked) (proposed : Proposals) (to : ℕ) (id : RequestId) (body : Body) → BodyGood asked proposed to id body →
+    (q : Request) × (asked id ≡ Some q) × (has q.groups to ≡ true)
 body_addressed asked proposed to id (Start floor groups) good = (good.0.0, good.0.1, subst (λ gs. has gs to ≡ true) (sym good.0.3) good.1)
 body_addressed asked proposed to id (Proposal from n) good = good.2
 
 pub packets_go_to_addressed : PacketsGoToAddressed
-packets_go_to_addressed t steps w leads p there = body_addressed w.asked w.proposed p.to p.id p.body ((good_world t steps w leads).skeen.sent p there)
+packets_go_to_addressed t steps w leads p there =
+    body_addressed w.asked w.proposed p.to p.id p.body ((good_world t steps w leads).skeen.sent p there)
 
 pub deliveries_are_addressed : DeliveriesAreAddressed
 deliveries_are_addressed t steps w leads g d there = ((good_world t steps w leads).skeen.groups g).member d there
@@ -153,9 +161,16 @@ submitted_still t old c (Err refusal) g = (refl, refl)
 
 deliver_still : (old new : World) (k : ℕ) (effect : Effect) (g : ℕ) → Comes old k effect new → ¬ Brings old (Deliver k) g → Still old new g
 deliver_still old new k effect g step none =
-    let other : (g == step.packet.to) ≡ false = elim (cases_Bool (g == step.packet.to)) [ inl e ↦ absurd (none (step.packet, step.there, sym (eqb-true g step.packet.to e))) | inr e ↦ e ] in
-    subst (λ w. Still old w g) (sym step.after)
-    (at_false (g == step.packet.to) step.state (old.group g) other, ap (λ l. old.gone g ++ l) (at_false (g == step.packet.to) (old.queue step.packet.to ++ step.delivered) (old.queue g) other))
+    let other : (g == step.packet.to) ≡ false = elim (cases_Bool (g == step.packet.to)) [
+      | inl e ↦
+          absurd (none (step.packet, step.there, sym (eqb-true g step.packet.to e)))
+      | inr e ↦ e
+    ] in
+    subst (λ w. Still old w g) (sym step.after) (
+      at_false (g == step.packet.to) step.state (old.group g) other,
+      ap (λ l. old.gone g ++ l)
+          (at_false (g == step.packet.to) (old.queue step.packet.to ++ step.delivered) (old.queue g) other),
+    )
 
 collect_still : (old new : World) (c : ℕ) (s : Standing) (effect : Effect) (g : ℕ) → Collects s old c effect new → Still old new g
 collect_still old new c Closed effect g step = absurd step
@@ -165,9 +180,11 @@ collect_still old new c (Answered o) effect g step = subst (λ w. Still old w g)
 
 pub others_keep_still : OthersKeepStill
 others_keep_still t old new Open effect g s none = subst (λ w. Still old w g) (sym s.after) (refl, refl)
-others_keep_still t old new (Submit conn words) effect g s none = subst (λ w. Still old w g) (sym s.after) (submitted_still t old conn.0 (reading words) g)
+others_keep_still t old new (Submit conn words) effect g s none = subst (λ w. Still old w g) (sym s.after)
+    (submitted_still t old conn.0 (reading words) g)
 others_keep_still t old new (Deliver k) effect g s none = deliver_still old new k effect g s none
-others_keep_still t old new Take effect g s none = subst (λ w. Still old w g) (sym s.after) (refl, sym (ap (λ (f : ℕ → List Delivered). f g) (log_taken old.gone old.queue s.layer)))
+others_keep_still t old new Take effect g s none = subst (λ w. Still old w g) (sym s.after)
+    (refl, sym (ap (λ (f : ℕ → List Delivered). f g) (log_taken old.gone old.queue s.layer)))
 others_keep_still t old new (Run starved) effect g s none = subst (λ w. Still old w g) (sym s.after) (refl, refl)
 others_keep_still t old new Settle effect g s none = subst (λ w. Still old w g) (sym s.after) (refl, refl)
 others_keep_still t old new (Collect conn) effect g s none = collect_still old new conn.0 (old.standing conn.0) effect g s
@@ -176,7 +193,8 @@ others_keep_still t old new (Close conn) effect g s none = subst (λ w. Still ol
 -- ---- what was run
 
 ended_known : (t : Layout) (w : World) → WorldGood t w → (e : Ended) → In e w.ended → Known w.asked w.proposed (delivered_of e)
-ended_known t w good e there = good.taken.known (delivered_of e) (In-left (delivered_of e) (all_delivered w.ended) (taken_in w.layer) (in_delivered w.ended e there))
+ended_known t w good e there = good.taken.known (delivered_of e)
+    (In-left (delivered_of e) (all_delivered w.ended) (taken_in w.layer) (in_delivered w.ended e there))
 
 in_ids : (es : List Ended) (i : RequestId) → In i (ids_of es) → (e : Ended) × In e es × (i ≡ e.id)
 in_ids [] i there = absurd there
@@ -184,14 +202,16 @@ in_ids (e ∷ es) i (inl same) = (e, inl refl, same)
 in_ids (e ∷ es) i (inr there) = let rest = in_ids es i there in (rest.0, inr rest.1, rest.2)
 
 -- the ids differ where no two of the requests have one
-once_from : (es : List Ended) → ((e f : Ended) (before after : List Ended) → es ≡ before ++ e ∷ after → In f after → e.id ≡ f.id → ⊥) → EachOnce (ids_of es)
+once_from : (es : List Ended) → ((e f : Ended) (before after : List Ended) → es ≡ before ++ e ∷ after → In f after → e.id ≡ f.id → ⊥) →
+    EachOnce (ids_of es)
 once_from [] apart = tt
 once_from (e ∷ es) apart = (
   λ there. let f = in_ids es e.id there in apart e f.0 [] es refl f.1 f.2,
   once_from es (λ d f before after split there same. apart d f (e ∷ before) after (ap (λ l. e ∷ l) split) there same),
 )
 
-split_delivered : (before after : List Ended) (e : Ended) → all_delivered (before ++ e ∷ after) ≡ all_delivered before ++ delivered_of e ∷ all_delivered after
+split_delivered : (before after : List Ended) (e : Ended) →
+    all_delivered (before ++ e ∷ after) ≡ all_delivered before ++ delivered_of e ∷ all_delivered after
 split_delivered before after e = all_delivered-append before (e ∷ after)
 
 pub ends_once : EndsOnce
@@ -200,7 +220,8 @@ ends_once t steps w leads = once_from w.ended (λ e f before after split there s
     ap (λ es. all_delivered es ++ taken_in w.layer) (split ∙ sym (append_assoc before (e ∷ []) after))
     ∙ ap (λ ds. ds ++ taken_in w.layer) (all_delivered-append (before ++ e ∷ []) after)
     ∙ append_assoc (all_delivered (before ++ e ∷ [])) (all_delivered after) (taken_in w.layer) in
-    taken_once t w.asked w.proposed w.gone w.seq w.last (all_delivered (before ++ e ∷ [])) (all_delivered after ++ taken_in w.layer) good.requests
+    taken_once t w.asked w.proposed w.gone w.seq w.last (all_delivered (before ++ e ∷ []))
+    (all_delivered after ++ taken_in w.layer) good.requests
     (subst (λ ds. TakenGood w.asked w.proposed w.gone ds) whole good.taken)
     (delivered_of e) (delivered_of f)
     (in_delivered (before ++ e ∷ []) e (In-right e before (e ∷ []) (inl refl)))
@@ -209,7 +230,8 @@ ends_once t steps w leads = once_from w.ended (λ e f before after split there s
     good : WorldGood t w
     good = good_world t steps w leads
 
-pub ended_as_submitted : (t : Layout) (w : World) → WorldGood t w → (e : Ended) → In e w.ended → (q : Request) × HasFinal w e.id q e.stamp × (e.command ≡ q.command) × (e.groups ≡ q.groups)
+pub ended_as_submitted : (t : Layout) (w : World) → WorldGood t w → (e : Ended) → In e w.ended → (q : Request) × HasFinal w e.id q e.stamp
+    × (e.command ≡ q.command) × (e.groups ≡ q.groups)
 ended_as_submitted t w good e there =
     let known = ended_known t w good e there in
     let command = good.run.commands e there in
@@ -257,7 +279,8 @@ collect_kept old new c (Answered o) effect step = none_more old new (ap (λ (w :
 
 pub ended_is_kept : EndedIsKept
 ended_is_kept t old new Open effect s = none_more old new (ap (λ (w : World). w.ended) s.after)
-ended_is_kept t old new (Submit conn words) effect s = none_more old new (ap (λ (w : World). w.ended) s.after ∙ submitted_kept t old conn.0 (reading words))
+ended_is_kept t old new (Submit conn words) effect s = none_more old new (ap (λ (w : World). w.ended) s.after
+    ∙ submitted_kept t old conn.0 (reading words))
 ended_is_kept t old new (Deliver k) effect s = none_more old new (ap (λ (w : World). w.ended) s.after)
 ended_is_kept t old new Take effect s = none_more old new (ap (λ (w : World). w.ended) s.after)
 ended_is_kept t old new (Run starved) effect s = (s.outcomes, ap (λ (w : World). w.ended) s.after)

@@ -37,17 +37,23 @@ RepliesAtOnce t reply words = reply_at_once t (reading words) ≡ Some reply
 
 -- the same world but for its standings
 said_same : (old new : World) (H : RequestId → Command → Type 0) (K : RequestId → Content → Type 0) → new.asked ≡ old.asked →
-    ((c : ℕ) (o : Outcome) → new.standing c ≡ Answered o → o.stamp ≡ None → (d : ℕ) × (old.standing d ≡ Answered o)) → Said old H K → Said new H K
+    ((c : ℕ) (o : Outcome) → new.standing c ≡ Answered o → o.stamp ≡ None → (d : ℕ) × (old.standing d ≡ Answered o)) → Said old H K →
+    Said new H K
 said_same old new H K same from said = record {
   asked = λ i q e. said.asked i q (sym (ap (λ (f : RequestId → Option Request). f i) same) ∙ e);
   answers = λ c o is none. let before = from c o is none in said.answers before.0 o before.1 none;
 }
 
-said_more : (w : World) (H H' : RequestId → Command → Type 0) (K K' : RequestId → Content → Type 0) → ((i : RequestId) (c : Command) → H i c → H' i c) → ((i : RequestId) (r : Content) → K i r → K' i r) → Said w H K → Said w H' K'
-said_more w H H' K K' h k said = record { asked = λ i q e. h i q.command (said.asked i q e); answers = λ c o is none. k o.id o.reply (said.answers c o is none) }
+said_more : (w : World) (H H' : RequestId → Command → Type 0) (K K' : RequestId → Content → Type 0) →
+    ((i : RequestId) (c : Command) → H i c → H' i c) → ((i : RequestId) (r : Content) → K i r → K' i r) → Said w H K → Said w H' K'
+said_more w H H' K K' h k said = record {
+  asked = λ i q e. h i q.command (said.asked i q e);
+  answers = λ c o is none. k o.id o.reply (said.answers c o is none);
+}
 
 -- a connection's standing changes to one without an outcome
-kept_answer : (standing : ℕ → Standing) (c : ℕ) (s : Standing) → ((o : Outcome) → s ≡ Answered o → ⊥) → (d : ℕ) (o : Outcome) → at standing c s d ≡ Answered o → (e : ℕ) × (standing e ≡ Answered o)
+kept_answer : (standing : ℕ → Standing) (c : ℕ) (s : Standing) → ((o : Outcome) → s ≡ Answered o → ⊥) → (d : ℕ) (o : Outcome) →
+    at standing c s d ≡ Answered o → (e : ℕ) × (standing e ≡ Answered o)
 kept_answer standing c s none d o is = elim (cases_Bool (d == c)) [
   | inl e ↦ absurd (none o (sym (at_true (d == c) s (standing d) e) ∙ is))
   | inr e ↦ (d, sym (at_false (d == c) s (standing d) e) ∙ is)
@@ -67,18 +73,22 @@ same_answer o p e = cc
 
 -- ---- Submit
 
-said_answered : (old : World) (H : RequestId → Command → Type 0) (K : RequestId → Content → Type 0) (c : ℕ) (reply : Content) → K (next_id old c) reply → Said old H K → Said (answered old c reply) H K
+said_answered : (old : World) (H : RequestId → Command → Type 0) (K : RequestId → Content → Type 0) (c : ℕ) (reply : Content) →
+    K (next_id old c) reply → Said old H K → Said (answered old c reply) H K
 said_answered old H K c reply k said = record {
   asked = said.asked;
   answers = λ d o is none. elim (cases_Bool (d == c)) [
     | inl e ↦
-        let same = same_answer (record { id = next_id old c; reply = reply; stamp = None }) o (sym (at_true (d == c) (Answered (record { id = next_id old c; reply = reply; stamp = None })) (old.standing d) e) ∙ is) in
+        let same = same_answer (record { id = next_id old c; reply = reply; stamp = None }) o
+        (sym (at_true (d == c) (Answered (record { id = next_id old c; reply = reply; stamp = None })) (old.standing d) e) ∙ is) in
         subst (λ (p : Outcome). K p.id p.reply) same k
-    | inr e ↦ said.answers d o (sym (at_false (d == c) (Answered (record { id = next_id old c; reply = reply; stamp = None })) (old.standing d) e) ∙ is) none
+    | inr e ↦ said.answers d o (sym (at_false (d == c) (Answered (record { id = next_id old c; reply = reply; stamp = None }))
+        (old.standing d) e) ∙ is) none
   ];
 }
 
-said_multicast : (old : World) (H : RequestId → Command → Type 0) (K : RequestId → Content → Type 0) (c : ℕ) (q : Request) → H (next_id old c) q.command → Said old H K → Said (multicast old c q) H K
+said_multicast : (old : World) (H : RequestId → Command → Type 0) (K : RequestId → Content → Type 0) (c : ℕ) (q : Request) →
+    H (next_id old c) q.command → Said old H K → Said (multicast old c q) H K
 said_multicast old H K c q h said = record {
   asked = λ i r e. by_test (same_id i (next_id old c)) q (old.asked i) r (H i r.command) e
       (λ s new. subst (λ (x : Request). H i x.command) new (subst (λ j. H j q.command) (sym (same_id-true i (next_id old c) s)) h))
@@ -86,15 +96,20 @@ said_multicast old H K c q h said = record {
   answers = λ d o is none. let before = kept_answer old.standing c Waiting waiting_none d o is in said.answers before.0 o before.1 none;
 }
 
-said_submitted_to : (t : Layout) (old : World) (H : RequestId → Command → Type 0) (K : RequestId → Content → Type 0) (c : ℕ) (command : Command) (gs : List ℕ) → H (next_id old c) command →
+said_submitted_to : (t : Layout) (old : World) (H : RequestId → Command → Type 0) (K : RequestId → Content → Type 0) (c : ℕ)
+    (command : Command) (gs : List ℕ) → H (next_id old c) command →
     ((r : Content) → reply_at_none command gs ≡ Some r → K (next_id old c) r) → Said old H K → Said (submitted_to old c command gs) H K
-said_submitted_to t old H K c command [] h k said = said_answered old H K c (effect_of command empty).1 (k (effect_of command empty).1 refl) said
-said_submitted_to t old H K c command (g ∷ gs) h k said = said_multicast old H K c (record { floor = floor_of old c; groups = g ∷ gs; command = command }) h said
+said_submitted_to t old H K c command [] h k said =
+    said_answered old H K c (effect_of command empty).1 (k (effect_of command empty).1 refl) said
+said_submitted_to t old H K c command (g ∷ gs) h k said =
+    said_multicast old H K c (record { floor = floor_of old c; groups = g ∷ gs; command = command }) h said
 
-said_submitted : (t : Layout) (old : World) (H : RequestId → Command → Type 0) (K : RequestId → Content → Type 0) (c : ℕ) (r : Result Command Refusal) → ((command : Command) → r ≡ Ok command → H (next_id old c) command) →
+said_submitted : (t : Layout) (old : World) (H : RequestId → Command → Type 0) (K : RequestId → Content → Type 0) (c : ℕ)
+    (r : Result Command Refusal) → ((command : Command) → r ≡ Ok command → H (next_id old c) command) →
     ((reply : Content) → reply_at_once t r ≡ Some reply → K (next_id old c) reply) → Said old H K → Said (submitted t old c r) H K
 said_submitted t old H K c (Ok command) h k said = said_submitted_to t old H K c command (groups_of t command) (h command refl) k said
-said_submitted t old H K c (Err refusal) h k said = said_answered old H K c (ErrorLine (refusal_text refusal)) (k (ErrorLine (refusal_text refusal)) refl) said
+said_submitted t old H K c (Err refusal) h k said = said_answered old H K c (ErrorLine (refusal_text refusal))
+    (k (ErrorLine (refusal_text refusal)) refl) said
 
 -- ---- all steps
 
@@ -104,33 +119,46 @@ More H s e i command = H i command ⊎ Submits (Reads command) i s e
 abbrev MoreReplies : Layout → (RequestId → Content → Type 0) → Step → Effect → RequestId → Content → Type 0
 MoreReplies t K s e i reply = K i reply ⊎ Submits (RepliesAtOnce t reply) i s e
 
-said_now : (t : Layout) (old new : World) (H : RequestId → Command → Type 0) (K : RequestId → Content → Type 0) (s : Step) (e : Effect) → new.asked ≡ old.asked →
-    ((c : ℕ) (o : Outcome) → new.standing c ≡ Answered o → o.stamp ≡ None → (d : ℕ) × (old.standing d ≡ Answered o)) → Said old H K → Said new (More H s e) (MoreReplies t K s e)
-said_now t old new H K s e same from said = said_more new H (More H s e) K (MoreReplies t K s e) (λ i c h. inl h) (λ i r k. inl k) (said_same old new H K same from said)
+said_now : (t : Layout) (old new : World) (H : RequestId → Command → Type 0) (K : RequestId → Content → Type 0) (s : Step) (e : Effect) →
+    new.asked ≡ old.asked →
+    ((c : ℕ) (o : Outcome) → new.standing c ≡ Answered o → o.stamp ≡ None → (d : ℕ) × (old.standing d ≡ Answered o)) → Said old H K →
+    Said new (More H s e) (MoreReplies t K s e)
+said_now t old new H K s e same from said = said_more new H (More H s e) K (MoreReplies t K s e) (λ i c h. inl h) (λ i r k. inl k)
+    (said_same old new H K same from said)
 
-said_collects : (t : Layout) (old new : World) (H : RequestId → Command → Type 0) (K : RequestId → Content → Type 0) (conn : ConnId) (s : Standing) (e : Effect) → Collects s old conn.0 e new → Said old H K →
+said_collects : (t : Layout) (old new : World) (H : RequestId → Command → Type 0) (K : RequestId → Content → Type 0) (conn : ConnId)
+    (s : Standing) (e : Effect) → Collects s old conn.0 e new → Said old H K →
     Said new (More H (Collect conn) e) (MoreReplies t K (Collect conn) e)
 said_collects t old new H K conn Closed e step said = absurd step
-said_collects t old new H K conn Idle e step said = said_now t old new H K (Collect conn) e (ap (λ (w : World). w.asked) step.1) (λ c o is none. (c, sym (ap (λ (w : World). w.standing c) step.1) ∙ is)) said
-said_collects t old new H K conn Waiting e step said = said_now t old new H K (Collect conn) e (ap (λ (w : World). w.asked) step.1) (λ c o is none. (c, sym (ap (λ (w : World). w.standing c) step.1) ∙ is)) said
+said_collects t old new H K conn Idle e step said = said_now t old new H K (Collect conn) e (ap (λ (w : World). w.asked) step.1)
+    (λ c o is none. (c, sym (ap (λ (w : World). w.standing c) step.1) ∙ is)) said
+said_collects t old new H K conn Waiting e step said = said_now t old new H K (Collect conn) e (ap (λ (w : World). w.asked) step.1)
+    (λ c o is none. (c, sym (ap (λ (w : World). w.standing c) step.1) ∙ is)) said
 said_collects t old new H K conn (Answered p) e step said = said_now t old new H K (Collect conn) e (ap (λ (w : World). w.asked) step.1)
     (λ c o is none. kept_answer old.standing conn.0 Idle idle_none c o (sym (ap (λ (w : World). w.standing c) step.1) ∙ is)) said
 
 some_not_none : (e : Ended) (o : Outcome) → Answered (outcome_of e) ≡ Answered o → o.stamp ≡ None → ⊥
 some_not_none e o is none = None≢Some e.stamp (sym none ∙ ap (λ (p : Outcome). p.stamp) (sym (same_answer (outcome_of e) o is)))
 
-said_step : (t : Layout) (old new : World) (H : RequestId → Command → Type 0) (K : RequestId → Content → Type 0) (s : Step) (e : Effect) → Steps t old s e new → Said old H K → Said new (More H s e) (MoreReplies t K s e)
+said_step : (t : Layout) (old new : World) (H : RequestId → Command → Type 0) (K : RequestId → Content → Type 0) (s : Step) (e : Effect) →
+    Steps t old s e new → Said old H K → Said new (More H s e) (MoreReplies t K s e)
 said_step t old new H K Open e step said = said_now t old new H K Open e (ap (λ (w : World). w.asked) step.after)
-    (λ c o is none. kept_answer old.standing (suc old.opened) Idle idle_none c o (sym (ap (λ (w : World). w.standing c) step.after) ∙ is)) said
+    (λ c o is none. kept_answer old.standing (suc old.opened) Idle idle_none c o (sym (ap (λ (w : World). w.standing c) step.after)
+    ∙ is)) said
 said_step t old new H K (Submit conn words) e step said =
     subst (λ f. Said new (More H (Submit conn words) f) (MoreReplies t K (Submit conn words) f)) (sym step.answers)
-    (subst (λ w. Said w (More H (Submit conn words) (Submitted (next_id old conn.0))) (MoreReplies t K (Submit conn words) (Submitted (next_id old conn.0)))) (sym step.after)
-    (said_submitted t old (More H (Submit conn words) (Submitted (next_id old conn.0))) (MoreReplies t K (Submit conn words) (Submitted (next_id old conn.0))) conn.0 (reading words)
+    (subst (λ w. Said w (More H (Submit conn words) (Submitted (next_id old conn.0)))
+    (MoreReplies t K (Submit conn words) (Submitted (next_id old conn.0)))) (sym step.after)
+    (said_submitted t old (More H (Submit conn words) (Submitted (next_id old conn.0)))
+    (MoreReplies t K (Submit conn words) (Submitted (next_id old conn.0))) conn.0 (reading words)
     (λ command is. inr (refl, refl, is)) (λ reply is. inr (refl, refl, is))
     (said_more old H _ K _ (λ i c h. inl h) (λ i r k. inl k) said)))
-said_step t old new H K (Deliver k) e step said = said_now t old new H K (Deliver k) e (ap (λ (w : World). w.asked) step.after) (λ c o is none. (c, sym (ap (λ (w : World). w.standing c) step.after) ∙ is)) said
-said_step t old new H K Take e step said = said_now t old new H K Take e (ap (λ (w : World). w.asked) step.after) (λ c o is none. (c, sym (ap (λ (w : World). w.standing c) step.after) ∙ is)) said
-said_step t old new H K (Run starved) e step said = said_now t old new H K (Run starved) e (ap (λ (w : World). w.asked) step.after) (λ c o is none. (c, sym (ap (λ (w : World). w.standing c) step.after) ∙ is)) said
+said_step t old new H K (Deliver k) e step said = said_now t old new H K (Deliver k) e (ap (λ (w : World). w.asked) step.after)
+    (λ c o is none. (c, sym (ap (λ (w : World). w.standing c) step.after) ∙ is)) said
+said_step t old new H K Take e step said = said_now t old new H K Take e (ap (λ (w : World). w.asked) step.after)
+    (λ c o is none. (c, sym (ap (λ (w : World). w.standing c) step.after) ∙ is)) said
+said_step t old new H K (Run starved) e step said = said_now t old new H K (Run starved) e (ap (λ (w : World). w.asked) step.after)
+    (λ c o is none. (c, sym (ap (λ (w : World). w.standing c) step.after) ∙ is)) said
 said_step t old new H K Settle e step said = said_now t old new H K Settle e (ap (λ (w : World). w.asked) step.after)
     (λ c o is none. let now = sym (ap (λ (w : World). w.standing c) step.after) ∙ is in elim (settled_result step.outcomes old.standing c) [
       | inl same ↦ (c, sym same ∙ now)
@@ -153,20 +181,25 @@ regroup (inl (inl a)) = inl a
 regroup (inl (inr b)) = inr (inl b)
 regroup (inr c) = inr (inr c)
 
-said_steps : (t : Layout) (old new : World) (H : RequestId → Command → Type 0) (K : RequestId → Content → Type 0) (ss : List Step) (es : List Effect) → Makes t old ss es new → Said old H K → Said new (WasAsked H ss es) (WasReplied t K ss es)
-said_steps t old new H K [] es made said = subst (λ w. Said w (WasAsked H [] es) (WasReplied t K [] es)) (sym made.1) (said_more old H _ K _ (λ i c h. inl h) (λ i r k. inl k) said)
+said_steps : (t : Layout) (old new : World) (H : RequestId → Command → Type 0) (K : RequestId → Content → Type 0) (ss : List Step)
+    (es : List Effect) → Makes t old ss es new → Said old H K → Said new (WasAsked H ss es) (WasReplied t K ss es)
+said_steps t old new H K [] es made said = subst (λ w. Said w (WasAsked H [] es) (WasReplied t K [] es)) (sym made.1)
+    (said_more old H _ K _ (λ i c h. inl h) (λ i r k. inl k) said)
 said_steps t old new H K (s ∷ ss) [] made said = absurd made
 said_steps t old new H K (s ∷ ss) (e ∷ es) made said =
-    said_more new (WasAsked (More H s e) ss es) (WasAsked H (s ∷ ss) (e ∷ es)) (WasReplied t (MoreReplies t K s e) ss es) (WasReplied t K (s ∷ ss) (e ∷ es))
+    said_more new (WasAsked (More H s e) ss es) (WasAsked H (s ∷ ss) (e ∷ es)) (WasReplied t (MoreReplies t K s e) ss es)
+    (WasReplied t K (s ∷ ss) (e ∷ es))
     (λ i c h. regroup h) (λ i r k. regroup k)
     (said_steps t made.0 new (More H s e) (MoreReplies t K s e) ss es made.2 (said_step t old made.0 H K s e made.1 said))
 
 said_opening : Said opening (λ i c. ⊥) (λ i r. ⊥)
 said_opening = record { asked = λ i q e. None≢Some q e; answers = λ c o is none. closed_none o is }
 
-said_world : (t : Layout) (steps : List Step) (effects : List Effect) (w : World) → Makes t opening steps effects w → Said w (λ i c. WasSubmitted (Reads c) i steps effects) (λ i r. WasSubmitted (RepliesAtOnce t r) i steps effects)
+said_world : (t : Layout) (steps : List Step) (effects : List Effect) (w : World) → Makes t opening steps effects w →
+    Said w (λ i c. WasSubmitted (Reads c) i steps effects) (λ i r. WasSubmitted (RepliesAtOnce t r) i steps effects)
 said_world t steps effects w made =
-    said_more w _ (λ i c. WasSubmitted (Reads c) i steps effects) _ (λ i r. WasSubmitted (RepliesAtOnce t r) i steps effects) (λ i c h. second h) (λ i r k. second k)
+    said_more w _ (λ i c. WasSubmitted (Reads c) i steps effects) _ (λ i r. WasSubmitted (RepliesAtOnce t r) i steps effects)
+    (λ i c h. second h) (λ i r k. second k)
     (said_steps t opening w (λ i c. ⊥) (λ i r. ⊥) steps effects made said_opening)
   where
     second : {A : Type 0} → ⊥ ⊎ A → A
@@ -179,7 +212,8 @@ asked_as_submitted t steps effects w made i q named = (said_world t steps effect
 same_collected : (o p : Outcome) → Collected (Some o) ≡ Collected (Some p) → o ≡ p
 same_collected o p e = cc
 
-stood : (old new : World) (c : ℕ) (s : Standing) (o : Outcome) → old.standing c ≡ s → Collects s old c (Collected (Some o)) new → old.standing c ≡ Answered o
+stood : (old new : World) (c : ℕ) (s : Standing) (o : Outcome) → old.standing c ≡ s → Collects s old c (Collected (Some o)) new →
+    old.standing c ≡ Answered o
 stood old new c Closed o is step = absurd step
 stood old new c Idle o is step = absurd (cc step.0)
 stood old new c Waiting o is step = absurd (cc step.0)

@@ -46,4 +46,5 @@ allowances t (s ∷ ss) = allowance t s + allowances t ss
 
 -- there are never more such steps than the submitted requests allow
 abbrev pub TurnsAreBounded : Type 0
-TurnsAreBounded = (t : Layout) (steps : List Step) (w : World) → Leads t opening steps w → turns steps ≤ allowances t steps
+TurnsAreBounded = (t : Layout) (steps : List Step) (w : World) → Leads t opening steps w →
+    turns steps ≤ allowances t steps

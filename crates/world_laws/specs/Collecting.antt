@@ -42,15 +42,19 @@ reply_at_once t (Ok command) = reply_at_none command (groups_of t command)
 
 -- what is asked of groups is the command that a connection's words say
 abbrev pub AskedAsSubmitted : Type 0
-AskedAsSubmitted = (t : Layout) (steps : List Step) (effects : List Effect) (w : World) → Makes t opening steps effects w →
-    (i : RequestId) (q : Request) → w.asked i ≡ Some q → WasSubmitted (λ words. reading words ≡ Ok q.command) i steps effects
+AskedAsSubmitted = (t : Layout) (steps : List Step) (effects : List Effect) (w : World) →
+    Makes t opening steps effects w →
+    (i : RequestId) (q : Request) → w.asked i ≡ Some q →
+    WasSubmitted (λ words. reading words ≡ Ok q.command) i steps effects
 
 -- ---- what is collected
 
--- A connection collects the outcome of its own last request. Where that was run it is what came of it: its reply, or that there was no
--- memory, with its final stamp. Else its words were asked of no group, and it is their reply, with no stamp.
+-- A connection collects the outcome of its own last request. Where that was run it is what came of it: its reply, or
+-- that there was no memory, with its final stamp. Else its words were asked of no group, and it is their reply, with
+-- no stamp.
 abbrev pub CollectsItsOwn : Type 0
-CollectsItsOwn = (t : Layout) (steps : List Step) (effects : List Effect) (old new : World) → Makes t opening steps effects old →
+CollectsItsOwn = (t : Layout) (steps : List Step) (effects : List Effect) (old new : World) →
+    Makes t opening steps effects old →
     (conn : ConnId) (o : Outcome) → Steps t old (Collect conn) (Collected (Some o)) new →
     (o.id ≡ record { conn = conn; seq = old.seq conn.0 })
     × (((e : Ended) × In e old.ended × (o ≡ outcome_of e))
@@ -67,4 +71,5 @@ collected_in (e ∷ es) = with_collected e (collected_in es)
 
 -- each is collected at most once
 abbrev pub CollectedOnce : Type 0
-CollectedOnce = (t : Layout) (steps : List Step) (effects : List Effect) (w : World) → Makes t opening steps effects w → EachOnce (collected_in effects)
+CollectedOnce = (t : Layout) (steps : List Step) (effects : List Effect) (w : World) →
+    Makes t opening steps effects w → EachOnce (collected_in effects)

@@ -32,14 +32,17 @@ IsOut ds i = (d : Delivered) × In d ds × (d.id ≡ i)
 abbrev pub told_by : ℕ → RequestId → ℕ → ℕ → Packet
 told_by g i h n = record { to = g; id = i; body = Proposal h n }
 
-pub record GroupOwes (asked : Asked) (proposed : Proposals) (packets : List Packet) (g : ℕ) (grp : GroupState) (log : List Delivered) : Type 0 where
+pub record GroupOwes (asked : Asked) (proposed : Proposals) (packets : List Packet) (g : ℕ) (grp : GroupState)
+    (log : List Delivered) : Type 0 where
   -- a request for which the group has proposed is started there, or was delivered
   pub begun : (i : RequestId) (n : ℕ) → proposed i g ≡ Some n → IsSome (get grp.started i) ⊎ IsOut log i
   -- a proposal for a request of the group was heard there, is under way to it, or the request was delivered
-  pub told : (i : RequestId) (q : Request) (h n : ℕ) → asked i ≡ Some q → has q.groups g ≡ true → proposed i h ≡ Some n →
+  pub told : (i : RequestId) (q : Request) (h n : ℕ) → asked i ≡ Some q → has q.groups g ≡ true →
+      proposed i h ≡ Some n →
       (heard grp i h ≡ Some n) ⊎ (In (told_by g i h n) packets ⊎ IsOut log i)
 
-pub record OwesGood (asked : Asked) (proposed : Proposals) (packets : List Packet) (group : ℕ → GroupState) (log gone : ℕ → List Delivered) (all : List Delivered) : Type 0 where
+pub record OwesGood (asked : Asked) (proposed : Proposals) (packets : List Packet) (group : ℕ → GroupState)
+    (log gone : ℕ → List Delivered) (all : List Delivered) : Type 0 where
   pub groups : (g : ℕ) → GroupOwes asked proposed packets g (group g) (log g)
   -- what left a queue was taken
   pub taken : (g : ℕ) (d : Delivered) → In d (gone g) → In d all

@@ -2,7 +2,8 @@
 ghost use Rattle.world_laws.specs.Conditions.{PacketsMayCome, QueuesAreSound, DeliveriesMayAppend, LayersAreSubmitted, LayersAreAbove};
 ghost use Rattle.world_laws.specs.Conditions.{SettledIsWaitedFor, SettledIsLast, FloorsAreFinal, FloorsStay, NumbersAreBounded};
 
-/// What a group, its queue, the shards and the router ask of their caller holds in every world. It does nothing: its contract states the laws.
+/// What a group, its queue, the shards and the router ask of their caller holds in every world. It does nothing: its
+/// contract states the laws.
 pub fn callers_conditions()
     ensures packets_may_come { PacketsMayCome }
     ensures queues_are_sound { QueuesAreSound }

@@ -1,9 +1,9 @@
-//! What holds of every world that a history of steps gives: the order in which requests are delivered and run, that the replies and the
-//! contents are those of one thread on one map, what connections collect, that nothing is left behind, and what the system owes to what it
-//! calls.
+//! What holds of every world that a history of steps gives: the order in which requests are delivered and run, that
+//! the replies and the contents are those of one thread on one map, what connections collect, that nothing is left
+//! behind, and what the system owes to what it calls.
 //!
-//! Each function does nothing; its contract states laws over the definitions of `world`. That every world is good (`specs/Good.antt`) carries
-//! all of them: the system's own proofs cite it too.
+//! Each function does nothing; its contract states laws over the definitions of `world`. That every world is good
+//! (`specs/Good.antt`) carries all of them: the system's own proofs cite it too.
 #![tactic(auto)]
 
 mod collecting;
