@@ -26,11 +26,12 @@ use Rattle.skeen_core.specs.declared.stamp.Stamp.{Stamp}
 use Rattle.world.specs.Steps.{at, opening, Effect, next_id, clock_of, final_clock, final_clock_of, floor_of, multicast, answered, submitted_to, submitted, hears, Comes, Collects, Steps, Makes, Leads}
 use Rattle.world.specs.World.{World, Request, Standing, Closed, Idle, Waiting, Answered, Proposals}
 use Rattle.world_laws.specs.Good.{Asked, Addressed, Among, bit, starts_of, addresses, log_of, WorldGood, Bounded}
-use Rattle.world_laws.proofs.Groups.{mid_start, mid_proposal, by_test, at_true, at_false}
+use Rattle.world_laws.proofs.Groups.{mid_start, mid_proposal, by_test}
 use Rattle.world_laws.proofs.Lists.{split_at}
 use Rattle.world_laws.proofs.Receipts.{was_under_way, not_proposed}
 use Rattle.world_laws.proofs.Requests.{final_is_proposed}
 use Rattle.world_laws.proofs.Worlds.{keeps, good_opening}
+use Rattle.std.proofs.lemmas.Bool.{cond-true, cond-false}
 
 -- ---- clocks
 
@@ -119,8 +120,8 @@ same_grown old n b = record {
 
 counts_one : (seq : ℕ → ℕ) (c d n : ℕ) → seq c ≤ n → seq d ≤ n → at seq c (suc (seq c)) d ≤ suc n
 counts_one seq c d n a b = elim (cases_Bool (d == c)) [
-  | inl e ↦ let now = at_true (d == c) (suc (seq c)) (seq d) e in omega arith
-  | inr e ↦ let now = at_false (d == c) (suc (seq c)) (seq d) e in omega arith
+  | inl e ↦ let now = cond-true (d == c) (suc (seq c)) (seq d) e in omega arith
+  | inr e ↦ let now = cond-false (d == c) (suc (seq c)) (seq d) e in omega arith
 ]
 
 answered_grown : (old : World) (c : ℕ) (reply : Content) → Grown old (answered old c reply)

@@ -17,9 +17,11 @@ use Rattle.world.specs.Steps.{at, opening, Effect, Opened, Submitted, Ran, Colle
 use Rattle.world.specs.World.{World, Outcome, Standing, Closed, Idle, Waiting, Answered, Ended}
 use Rattle.world_laws.specs.Collecting.{with_collected, collected_in, CollectedOnce}
 use Rattle.world_laws.specs.Good.{Pending, WorldGood}
-use Rattle.world_laws.proofs.Connections.{not_pending, idle_open, idle_not_waiting, settled_closed, settled_result}
-use Rattle.world_laws.proofs.Groups.{at_true, at_false}
+use Rattle.world_laws.proofs.Connections.{not_pending, settled_closed, settled_result}
+use Rattle.world_laws.proofs.Groups.{}
 use Rattle.world_laws.proofs.Worlds.{keeps, run_is_pending, good_opening}
+use Rattle.std.proofs.lemmas.Bool.{cond-true, cond-false}
+use Rattle.world_laws.proofs.Values.{idle_open, idle_not_waiting, idle_not_answered, closed_not_answered, same_collected}
 
 -- ---- a connection's last request once it was collected
 
@@ -41,12 +43,12 @@ spent_submit : (old new : World) (i : RequestId) (c : ℕ) (s : Standing) → ((
     ((d : ℕ) → new.standing d ≡ at old.standing c s d) → Spent old i → Spent new i
 spent_submit old new i c s seqs standings spent = elim (cases_Bool (i.conn.0 == c)) [
   | inl e ↦
-      let now = seqs i.conn.0 ∙ at_true (i.conn.0 == c) (suc (old.seq c)) (old.seq i.conn.0) e in
+      let now = seqs i.conn.0 ∙ cond-true (i.conn.0 == c) (suc (old.seq c)) (old.seq i.conn.0) e in
       let same = ap old.seq (eqb-true i.conn.0 c e) in
       elim spent [ inl less ↦ inl (omega arith) | inr r ↦ let at_seq = r.0 in inl (omega arith) ]
   | inr e ↦
-      let now = seqs i.conn.0 ∙ at_false (i.conn.0 == c) (suc (old.seq c)) (old.seq i.conn.0) e in
-      let same = standings i.conn.0 ∙ at_false (i.conn.0 == c) s (old.standing i.conn.0) e in
+      let now = seqs i.conn.0 ∙ cond-false (i.conn.0 == c) (suc (old.seq c)) (old.seq i.conn.0) e in
+      let same = standings i.conn.0 ∙ cond-false (i.conn.0 == c) s (old.standing i.conn.0) e in
       spent_standing old new i now (λ r. subst (λ x. Resting x) (sym same) r) spent
 ]
 
@@ -113,9 +115,6 @@ pub record TakesOutcome (old new : World) (o : Outcome) : Type 0 where
   pub idle : new.standing conn ≡ Idle
   pub seqs : new.seq conn ≡ old.seq conn
 
-same_collected : (o p : Outcome) → Collected (Some o) ≡ Collected (Some p) → o ≡ p
-same_collected o p e = cc
-
 outcome_collects : (old new : World) (c : ℕ) (s : Standing) (o : Outcome) → old.standing c ≡ s →
     Collects s old c (Collected (Some o)) new → TakesOutcome old new o
 outcome_collects old new c Closed o is step = absurd step
@@ -124,7 +123,7 @@ outcome_collects old new c Waiting o is step = absurd (cc step.0)
 outcome_collects old new c (Answered p) o is step = record {
   conn = c;
   stood = is ∙ ap Answered (sym (same_collected o p step.0));
-  idle = ap (λ (w : World). w.standing c) step.1 ∙ at_true (c == c) Idle (old.standing c) (eq-eqb c c refl);
+  idle = ap (λ (w : World). w.standing c) step.1 ∙ cond-true (c == c) Idle (old.standing c) (eq-eqb c c refl);
   seqs = ap (λ (w : World). w.seq c) step.1;
 }
 
@@ -153,14 +152,8 @@ not_again t old new o good takes spent =
     let latest = it.latest in
     elim spent [
       | inl less ↦ omega arith
-      | inr r ↦ elim r.1 [ inl idle ↦ idle_not_answered (sym idle ∙ stood) | inr closed ↦ closed_not_answered (sym closed ∙ stood) ]
+      | inr r ↦ elim r.1 [ inl idle ↦ idle_not_answered o (sym idle ∙ stood) | inr closed ↦ closed_not_answered o (sym closed ∙ stood) ]
     ]
-  where
-    idle_not_answered : Idle ≡ Answered o → ⊥
-    idle_not_answered e = cc
-
-    closed_not_answered : Closed ≡ Answered o → ⊥
-    closed_not_answered e = cc
 
 abbrev Collecting : Effect → RequestId → Type 0
 Collecting effect i = (o : Outcome) × (effect ≡ Collected (Some o)) × (o.id ≡ i)

@@ -1,5 +1,5 @@
 -- What callees ask follows from what every world is like.
-use Rattle.std.proofs.Common.{◌≡◌, ℕ, ◌^◌, ◌≤◌, ◌==◌, true, List, [], ◌∷◌, ◌++◌, inl, inr, Some, length, refl, sym, ap, ◌∙◌, subst, arith, eqb-true, eq-eqb, append_assoc}
+use Rattle.std.proofs.Common.{◌≡◌, ℕ, ◌^◌, ◌≤◌, ◌==◌, true, List, [], ◌∷◌, ◌++◌, inl, inr, length, refl, sym, ap, ◌∙◌, subst, arith, eqb-true, eq-eqb, append_assoc}
 use Rattle.std.proofs.lemmas.Bool.{cases_Bool}
 use Rattle.delivery.specs.Queues.{is_above_last, MayAppend, IsSound}
 use Rattle.groups.specs.GroupSet.{has}
@@ -21,11 +21,13 @@ use Rattle.world_laws.specs.Good.{BodyGood, log_of, delivered_of, all_delivered,
 use Rattle.world_laws.specs.Order.{HasFinal}
 use Rattle.world_laws.specs.Conditions.{PacketsMayCome, QueuesAreSound, DeliveriesMayAppend, LayersAreSubmitted, LayersAreAbove, SettledIsWaitedFor, NumbersAreBounded}
 use Rattle.world_laws.proofs.Bounds.{bounded_world}
-use Rattle.world_laws.proofs.Groups.{at_true, at_false}
+use Rattle.world_laws.proofs.Groups.{}
 use Rattle.world_laws.proofs.Layers.{in_delivered, known_same, ascending_cross, ascending_right}
 use Rattle.world_laws.proofs.Lists.{rising_cross}
 use Rattle.world_laws.proofs.OrderLaws.{known_final, differ_good}
 use Rattle.world_laws.proofs.Worlds.{keeps_deliver, run_is_pending, good_world}
+use Rattle.std.proofs.lemmas.Bool.{cond-true, cond-false}
+use Rattle.skeen_core.proofs.Lawful.{some_same}
 
 -- ---- a group receives
 
@@ -41,9 +43,6 @@ body_may_come t w n to id (Proposal from m) good bounded few body =
       λ i e. (good.skeen.groups from).apart i id m ((good.skeen.groups to).heard i from m e) body.0,
       λ k e. some_same k m (sym ((good.skeen.groups to).heard id from k e) ∙ body.0),
     )
-  where
-    some_same : (a b : ℕ) → Some a ≡ Some b → a ≡ b
-    some_same a b e = cc
 
 pub packet_may_come : (t : Layout) (w : World) (n : ℕ) (p : Packet) → WorldGood t w → Bounded w n → n ≤ 2 ^ 62 → In p w.packets →
     MayCome (record { me = p.to; state = w.group p.to }) p
@@ -101,7 +100,7 @@ delivery_may_append t old new k effect before comes front d back split = record 
       (λ e here. ascending_cross (old.gone to ++ (old.queue to ++ front)) (d ∷ back)
       (subst (λ l. Ascending l) whole (good.skeen.groups to).going.ascending) e d
       (In-right e (old.gone to) (old.queue to ++ front)
-      (subst (λ l. In e l) (at_true (to == to) (old.queue to ++ front) (old.queue to) (eq-eqb to to refl)) here)) (inl refl));
+      (subst (λ l. In e l) (cond-true (to == to) (old.queue to ++ front) (old.queue to) (eq-eqb to to refl)) here)) (inl refl));
   same = λ h e here ids. let same = delivered_same t new good h to e d (earlier h e here) there ids in
       (ap (λ (x : Delivered). x.stamp) same, ap (λ (x : Delivered). x.groups) same);
   single = λ h e here stamps. ap (λ (x : Delivered). x.id) (stamps_same t new good h to e d (earlier h e here) there stamps);
@@ -118,7 +117,7 @@ delivery_may_append t old new k effect before comes front d back split = record 
     whole =
         ap (λ (w : World). log_of w comes.packet.to) comes.after
         ∙ ap (λ l. old.gone comes.packet.to ++ l)
-        (at_true (comes.packet.to == comes.packet.to) (old.queue comes.packet.to ++ comes.delivered) (old.queue comes.packet.to)
+        (cond-true (comes.packet.to == comes.packet.to) (old.queue comes.packet.to ++ comes.delivered) (old.queue comes.packet.to)
         (eq-eqb comes.packet.to comes.packet.to refl))
         ∙ ap (λ l. old.gone comes.packet.to ++ (old.queue comes.packet.to ++ l)) split
         ∙ ap (λ l. old.gone comes.packet.to ++ l) (sym (append_assoc (old.queue comes.packet.to) front (d ∷ back)))
@@ -133,17 +132,17 @@ delivery_may_append t old new k effect before comes front d back split = record 
     earlier h e here = elim (cases_Bool (h == comes.packet.to)) [
       | inl at_to ↦
           let in_front = subst (λ l. In e l)
-          (at_true (h == comes.packet.to) (old.queue comes.packet.to ++ front) (old.queue h) at_to) here in
+          (cond-true (h == comes.packet.to) (old.queue comes.packet.to ++ front) (old.queue h) at_to) here in
           subst (λ g. In e (log_of new g)) (sym (eqb-true h comes.packet.to at_to))
           (subst (λ l. In e l) (sym whole)
           (In-left e (old.gone comes.packet.to ++ (old.queue comes.packet.to ++ front)) (d ∷ back)
           (In-right e (old.gone comes.packet.to) (old.queue comes.packet.to ++ front) in_front)))
       | inr other ↦
           let in_queue = subst (λ l. In e l)
-          (at_false (h == comes.packet.to) (old.queue comes.packet.to ++ front) (old.queue h) other) here in
+          (cond-false (h == comes.packet.to) (old.queue comes.packet.to ++ front) (old.queue h) other) here in
           let same : log_of new h ≡ old.gone h ++ old.queue h =
           ap (λ (w : World). log_of w h) comes.after
-          ∙ ap (λ l. old.gone h ++ l) (at_false (h == comes.packet.to) (old.queue comes.packet.to ++ comes.delivered)
+          ∙ ap (λ l. old.gone h ++ l) (cond-false (h == comes.packet.to) (old.queue comes.packet.to ++ comes.delivered)
           (old.queue h) other) in
           subst (λ l. In e l) (sym same) (In-right e (old.gone h) (old.queue h) in_queue)
     ]

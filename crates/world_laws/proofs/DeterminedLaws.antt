@@ -1,5 +1,5 @@
 -- A step leaves no choice.
-use Rattle.std.proofs.Common.{◌≡◌, ◌≢◌, ℕ, List, [], ◌∷◌, ◌++◌, inl, Some, refl, sym, ap, ◌∙◌, subst, arith}
+use Rattle.std.proofs.Common.{◌≡◌, ◌≢◌, ℕ, List, [], ◌∷◌, ◌++◌, inl, refl, sym, ap, ◌∙◌, subst, arith}
 use Rattle.std.proofs.lemmas.Option.{slice_get_within}
 use Rattle.journal.specs.declared.step.Step.TheVariants.{Open, Submit, Deliver, Take, Run, Settle, Collect, Close}
 use Rattle.keyspace.specs.Map.{Map}
@@ -13,22 +13,17 @@ use Rattle.world.specs.Steps.{Effect, Ran, starved_among, after_all, map_after, 
 use Rattle.world.specs.World.{World, Request, Standing, Closed, Idle, Waiting, Answered, Ended, Layer, NoneTaken, Taken, HasRun}
 use Rattle.world_laws.specs.Determined.{StepsDetermine, HistoriesDetermine, RefusedIsNotAccepted}
 use Rattle.world_laws.specs.Good.{Asked}
+use Rattle.skeen_core.proofs.Lawful.{some_same}
 
 -- ---- one world
 
 abbrev Same : Effect → Effect → World → World → Type 0
 Same effect effect' new new' = (effect ≡ effect') × (new ≡ new')
 
-some_packet : (p q : Packet) → Some p ≡ Some q → p ≡ q
-some_packet p q e = cc
-
-some_request : (a b : Request) → Some a ≡ Some b → a ≡ b
-some_request a b e = cc
-
 comes_same : (old new new' : World) (k : ℕ) (effect effect' : Effect) → Comes old k effect new → Comes old k effect' new' →
     Same effect effect' new new'
 comes_same old new new' k effect effect' a b =
-    let packets : a.packet ≡ b.packet = some_packet a.packet b.packet (sym a.there ∙ b.there) in
+    let packets : a.packet ≡ b.packet = some_same a.packet b.packet (sym a.there ∙ b.there) in
     let receives = subst (λ (p : Packet). Receives p.to (old.group p.to) p.id p.body b.sent b.delivered b.state) (sym packets) b.receives in
     let same = rule_determines a.packet.to
     (old.group a.packet.to) a.state b.state a.packet.id a.packet.body a.sent b.sent a.delivered b.delivered a.receives receives in (
@@ -57,7 +52,7 @@ run_same asked starved m [] es es' a b = a ∙ sym b
 run_same asked starved m (d ∷ ds) [] es' a b = absurd a
 run_same asked starved m (d ∷ ds) (e ∷ es) [] a b = absurd b
 run_same asked starved m (d ∷ ds) (e ∷ es) (e' ∷ es') a b =
-    let requests : a.0.0 ≡ b.0.0 = some_request a.0.0 b.0.0 (sym a.0.1 ∙ b.0.1) in
+    let requests : a.0.0 ≡ b.0.0 = some_same a.0.0 b.0.0 (sym a.0.1 ∙ b.0.1) in
     let heads : e ≡ e' = a.0.2 ∙ ap (λ (q : Request). ended_as starved m d q.command) requests ∙ sym b.0.2 in
     let rest = run_same asked starved (map_after e.reply e.command m) ds es es' a.1
     (subst (λ (x : Ended). RunInTurn asked starved (map_after x.reply x.command m) ds es') (sym heads) b.1) in

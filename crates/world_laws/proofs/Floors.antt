@@ -17,11 +17,11 @@ use Rattle.world.specs.Steps.{Effect, next_id, clock_of, final_clock, final_cloc
 use Rattle.world.specs.World.{World, Request, Standing, Closed, Idle, Waiting, Answered, Ended, HasRun}
 use Rattle.world_laws.specs.Conditions.{SettledIsLast, FloorsAreFinal, IsFree, FloorsStay}
 use Rattle.world_laws.specs.Good.{Among, ConnectionsGood, WorldGood}
-use Rattle.world_laws.proofs.Connections.{idle_open, idle_not_waiting, answered_open, answered_not_waiting}
 use Rattle.world_laws.proofs.Groups.{AskedMore}
 use Rattle.world_laws.proofs.OrderLaws.{ended_as_submitted}
 use Rattle.world_laws.proofs.Requests.{asks_more, next_is_new, Rested}
 use Rattle.world_laws.proofs.Worlds.{rested, among_received, run_is_pending, good_world}
+use Rattle.world_laws.proofs.Values.{same_request, idle_open, idle_not_waiting, answered_open, answered_not_waiting}
 
 -- the floor, where the last request and its final stamp are known
 pub floor_is : (w : World) (c : ℕ) (l : RequestId) (q : Request) (s : Stamp) → w.last c ≡ Some l → w.asked l ≡ Some q →
@@ -53,9 +53,6 @@ run_is_last t w es is good e there = elim (run_is_pending t w es is good e there
       let seqs : latest.0.seq ≡ e.id.seq = omega arith in
       inr (latest.1 ∙ ap Some (same_request latest.0 e.id of_last.0 seqs))
 ]
-  where
-    same_request : (i j : RequestId) → i.conn.0 ≡ j.conn.0 → i.seq ≡ j.seq → i ≡ j
-    same_request i j conns seqs = λ k. record { conn = record { 0 = conns k }; seq = seqs k }
 
 pub settled_is_last : SettledIsLast
 settled_is_last t steps w leads outcomes is e there = run_is_last t w outcomes is (good_world t steps w leads) e there

@@ -18,6 +18,8 @@ use Rattle.skeen_core.specs.declared.request.RequestId.{RequestId}
 use Rattle.world.specs.Steps.{hears}
 use Rattle.world.specs.World.{Request, Proposals}
 use Rattle.world_laws.specs.Good.{Asked, Addressed, Known, Among, GroupGood}
+use Rattle.std.proofs.lemmas.Bool.{cond-true, cond-false}
+use Rattle.skeen_core.proofs.Lawful.{some_same}
 
 -- ---- more is submitted and proposed
 
@@ -64,9 +66,6 @@ pub record MidGood (asked : Asked) (proposed : Proposals) (me : ℕ) (grp : Grou
   pub known : (d : Delivered) → In d log → Known asked proposed d
   pub member : (d : Delivered) → In d log → has d.groups me ≡ true
 
-pub some_same : {X : Type 0} (x y : X) → Some x ≡ Some y → x ≡ y
-some_same x y e = cc
-
 -- the new value or an old one
 pub by_test : {X : Type 0} (b : Bool) (x : X) (o : Option X) (y : X) (P : Type 0) → cond b (Some x) o ≡ Some y → (b ≡ true → x ≡ y → P) →
     (b ≡ false → o ≡ Some y → P) → P
@@ -77,12 +76,6 @@ pub under_cond : {X : Type 0} (b : Bool) (o : Option X) (x : X) → cond b None 
 under_cond true o x e = absurd (cc)
 under_cond false o x e = e
 
-pub at_true : {X : Type 0} (b : Bool) (x y : X) → b ≡ true → cond b x y ≡ x
-at_true b x y e = ap (λ c. cond c x y) e
-
-pub at_false : {X : Type 0} (b : Bool) (x y : X) → b ≡ false → cond b x y ≡ y
-at_false b x y e = ap (λ c. cond c x y) e
-
 -- what is proposed now is proposed with one more, which was not there
 pub among_hears : (proposed : Proposals) (id : RequestId) (from n : ℕ) → proposed id from ≡ None → Among proposed (hears proposed id from n)
 among_hears proposed id from n none i h m e = elim (cases_Bool (same_id i id && h == from)) [
@@ -91,7 +84,7 @@ among_hears proposed id from n none i h m e = elim (cases_Bool (same_id i id && 
       let it : proposed id from ≡ Some m = subst (λ j. proposed j from ≡ Some m) (same_id-true i id parts.0)
       (subst (λ g. proposed i g ≡ Some m) (eqb-true h from parts.1) e) in
       absurd (cc)
-  | inr p ↦ at_false _ (Some n) (proposed i h) p ∙ e
+  | inr p ↦ cond-false _ (Some n) (proposed i h) p ∙ e
 ]
 
 pub mid_start : (asked : Asked) (proposed : Proposals) (me : ℕ) (grp : GroupState) (log : List Delivered) (id : RequestId) (floor : ℕ)
@@ -104,8 +97,8 @@ mid_start asked proposed me grp log id floor groups good named member none = rec
   ascending = good.going.ascending;
   heard = λ i h n e. by_test (same_id i id && h == me) new (heard grp i h) n (hears proposed id me new i h ≡ Some n)
       (sym (heard-with_start me grp id floor groups i h) ∙ e)
-      (λ p same. at_true _ (Some new) (proposed i h) p ∙ ap Some same)
-      (λ p old. at_false _ (Some new) (proposed i h) p ∙ good.heard i h n old);
+      (λ p same. cond-true _ (Some new) (proposed i h) p ∙ ap Some same)
+      (λ p old. cond-false _ (Some new) (proposed i h) p ∙ good.heard i h n old);
   clock = λ i n e. by_test (same_id i id && me == me) new (proposed i me) n (n ≤ (lifted (with_start me grp id floor groups) id).clock) e
       (λ p same. omega (arith, lifts))
       (λ p old. let before = good.clock i n old in omega (arith, lifts));

@@ -21,11 +21,9 @@ use Rattle.world_laws.specs.Headline.{with_row, rows_of, IsOneThread, Headline, 
 use Rattle.world_laws.specs.Order.{TouchingByStamp}
 use Rattle.world_laws.proofs.OrderLaws.{ended_as_submitted, touching_good}
 use Rattle.world_laws.proofs.Worlds.{good_world}
+use Rattle.skeen_core.proofs.Lawful.{some_same}
 
 -- ---- in the order of execution
-
-some_content : (a b : Content) → Some a ≡ Some b → a ≡ b
-some_content a b e = cc
 
 -- what the rows' commands do from a map
 abbrev OneThreadFrom : Map → List Ended → Type 0
@@ -53,7 +51,7 @@ one_thread_from m (e ∷ es) replies = by_reply e.reply refl replies.0 (one_thre
         same : reply ≡ (effect_of e.command m).1
         same = elim answers [
           | inl starved ↦ absurd (None≢Some reply (sym starved ∙ is))
-          | inr answer ↦ some_content reply (effect_of e.command m).1 (sym is ∙ answer)
+          | inr answer ↦ some_same reply (effect_of e.command m).1 (sym is ∙ answer)
         ]
 
 pub good_is_one_thread : (t : Layout) (w : World) → WorldGood t w → IsOneThread w.contents (rows_of w.ended)

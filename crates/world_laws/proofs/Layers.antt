@@ -21,6 +21,7 @@ use Rattle.world.specs.World.{Request, Ended, NoneTaken, Taken, HasRun, Proposal
 use Rattle.world_laws.specs.Good.{Rising, Asked, Known, SkeenGood, AskedGood, delivered_of, all_delivered, all_taken, Touching, TakenGood, RepliesOn, RepliesInTurn, RunGood}
 use Rattle.world_laws.proofs.Groups.{AskedMore}
 use Rattle.world_laws.proofs.Lists.{rising_append, rising_cross, rising_left}
+use Rattle.skeen_core.proofs.Lawful.{some_same}
 
 -- ---- Take
 
@@ -183,21 +184,16 @@ run_more asked asked' ended contents more good = record {
 -- ---- each once
 
 -- what was taken stands once
-some_request : (a b : Request) → Some a ≡ Some b → a ≡ b
-some_request a b e = cc
 
 pub known_same : (asked : Asked) (proposed : Proposals) (d e : Delivered) → Known asked proposed d → Known asked proposed e → d.id ≡ e.id →
     d ≡ e
 known_same asked proposed d e known known' ids =
     let groups : d.groups ≡ e.groups =
     sym known.named.2 ∙ ap (λ (q : Request). q.groups)
-    (some_request known.named.0 known'.named.0 (sym known.named.1 ∙ ap asked ids ∙ known'.named.1)) ∙ known'.named.2 in
-    let stamps : d.stamp ≡ e.stamp = some_stamp (sym known.stamp ∙ ap (λ i. final (proposed i) d.groups) ids
+    (some_same known.named.0 known'.named.0 (sym known.named.1 ∙ ap asked ids ∙ known'.named.1)) ∙ known'.named.2 in
+    let stamps : d.stamp ≡ e.stamp = some_same d.stamp e.stamp (sym known.stamp ∙ ap (λ i. final (proposed i) d.groups) ids
     ∙ ap (λ gs. final (proposed e.id) gs) groups ∙ known'.stamp) in
     λ i. record { id = ids i; stamp = stamps i; groups = groups i }
-  where
-    some_stamp : Some d.stamp ≡ Some e.stamp → d.stamp ≡ e.stamp
-    some_stamp h = cc
 
 pub known_some : (t : Layout) (asked : Asked) (proposed : Proposals) (seq : ℕ → ℕ) (last : ℕ → Option RequestId) (d : Delivered) →
     AskedGood t asked proposed seq last → Known asked proposed d → (g : ℕ) × (has d.groups g ≡ true)

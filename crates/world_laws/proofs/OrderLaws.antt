@@ -24,11 +24,13 @@ use Rattle.world.specs.World.{World, Request, Standing, Closed, Idle, Waiting, A
 use Rattle.world_laws.specs.Good.{Rising, Asked, Known, BodyGood, bit, starts_of, addresses, log_of, delivered_of, all_delivered, taken_in, all_taken, Touching, TakenGood, WorldGood}
 use Rattle.world_laws.specs.Order.{HasFinal, GroupsAgree, FinalIsGreatest, FinalIsProposed, FinalStampsDiffer, StampsOfConnectionRise, ClockIsAboveProposals, ClockIsAboveDeliveries, ClocksAreBounded, DeliveriesAscend, PacketsGoToAddressed, DeliveriesAreAddressed, Brings, OthersKeepStill, ids_of, EndsOnce, EndsAsSubmitted, TouchingByStamp, TouchingEndInStampOrder, EndedIsKept}
 use Rattle.world_laws.proofs.Bounds.{bounded_world}
-use Rattle.world_laws.proofs.Groups.{at_false}
+use Rattle.world_laws.proofs.Groups.{}
 use Rattle.world_laws.proofs.Layers.{log_taken, all_delivered-append, in_delivered, taken_once}
 use Rattle.world_laws.proofs.Lists.{rising_left}
 use Rattle.world_laws.proofs.Requests.{final_is_proposed}
 use Rattle.world_laws.proofs.Worlds.{good_world}
+use Rattle.std.proofs.lemmas.Bool.{cond-false}
+use Rattle.skeen_core.proofs.Lawful.{some_same}
 
 -- ---- final stamps
 
@@ -102,19 +104,13 @@ differ_good t w good i j q r s a b = (good.skeen.groups s.group).apart i j s.clo
 pub final_stamps_differ : FinalStampsDiffer
 final_stamps_differ t steps w leads i j q r s a b = differ_good t w (good_world t steps w leads) i j q r s a b
 
-some_stamp : (s u : Stamp) → Some s ≡ Some u → s ≡ u
-some_stamp s u e = cc
-
-some_request : (a b : Request) → Some a ≡ Some b → a ≡ b
-some_request a b e = cc
-
 pub stamps_of_connection_rise : StampsOfConnectionRise
 stamps_of_connection_rise t steps w leads i j q r s u conns less a b =
     let good = good_world t steps w leads in
     let under = good.requests.floors i j q r conns less a.submitted b.submitted in
-    let same : under.0 ≡ s = some_stamp under.0 s (sym under.1 ∙ a.stamp) in
+    let same : under.0 ≡ s = some_same under.0 s (sym under.1 ∙ a.stamp) in
     let made = good.skeen.made j u.group u.clock (final_told t w good j r u b) in
-    let again : made.0 ≡ r = some_request made.0 r (sym made.1 ∙ b.submitted) in
+    let again : made.0 ≡ r = some_same made.0 r (sym made.1 ∙ b.submitted) in
     let above : r.floor < u.clock = subst (λ (x : Request). x.floor < u.clock) again made.2 in
     let low : s.clock ≤ r.floor = subst (λ (x : Stamp). x.clock ≤ r.floor) same under.2 in
     lt_from_clocks s u (omega arith)
@@ -167,9 +163,9 @@ deliver_still old new k effect g step none =
       | inr e ↦ e
     ] in
     subst (λ w. Still old w g) (sym step.after) (
-      at_false (g == step.packet.to) step.state (old.group g) other,
+      cond-false (g == step.packet.to) step.state (old.group g) other,
       ap (λ l. old.gone g ++ l)
-          (at_false (g == step.packet.to) (old.queue step.packet.to ++ step.delivered) (old.queue g) other),
+          (cond-false (g == step.packet.to) (old.queue step.packet.to ++ step.delivered) (old.queue g) other),
     )
 
 collect_still : (old new : World) (c : ℕ) (s : Standing) (effect : Effect) (g : ℕ) → Collects s old c effect new → Still old new g
@@ -235,7 +231,7 @@ pub ended_as_submitted : (t : Layout) (w : World) → WorldGood t w → (e : End
 ended_as_submitted t w good e there =
     let known = ended_known t w good e there in
     let command = good.run.commands e there in
-    let same : command.0 ≡ known.named.0 = some_request command.0 known.named.0 (sym command.1 ∙ known.named.1) in (
+    let same : command.0 ≡ known.named.0 = some_same command.0 known.named.0 (sym command.1 ∙ known.named.1) in (
       known.named.0,
       record { submitted = known.named.1; stamp = ap (λ gs. final (w.proposed e.id) gs) known.named.2 ∙ known.stamp },
       command.2 ∙ ap (λ (q : Request). q.command) same,

@@ -18,7 +18,9 @@ use Rattle.world.specs.Steps.{hears}
 use Rattle.world.specs.World.{Request, Proposals}
 use Rattle.world_laws.specs.Good.{Asked}
 use Rattle.world_laws.specs.Quiet.{IsOut, told_by, GroupOwes}
-use Rattle.world_laws.proofs.Groups.{by_test, at_true, at_false}
+use Rattle.world_laws.proofs.Groups.{by_test}
+use Rattle.std.proofs.lemmas.Bool.{cond-true, cond-false}
+use Rattle.skeen_core.proofs.Lawful.{some_same}
 
 -- ---- delivered ones
 
@@ -115,7 +117,7 @@ start_owes asked proposed packets group log to id floor groups front back q whol
       (λ p new.
       let parts = and_parts (same_id i id) (h == to) p in
       let at_id = same_id-true i id parts.0 in
-      let again : r ≡ q = some_request r q (sym asked_ ∙ ap asked at_id ∙ named_) in
+      let again : r ≡ q = some_same r q (sym asked_ ∙ ap asked at_id ∙ named_) in
       let addressed : has groups g ≡ true = subst (λ gs. has gs g ≡ true) (ap (λ (x : Request). x.groups) again ∙ same) member in
       inr (inl (subst (λ j. In (told_by g j h n) ((front ++ back) ++ tell to id (next_clock (group to) floor) groups)) (sym at_id)
       (subst (λ k. In (told_by g id k n) ((front ++ back) ++ tell to id (next_clock (group to) floor) groups)) (sym (eqb-true h to parts.1))
@@ -133,9 +135,6 @@ start_owes asked proposed packets group log to id floor groups front back q whol
             ]
       ]);
 }
-  where
-    some_request : (a b : Request) → Some a ≡ Some b → a ≡ b
-    some_request a b e = cc
 
 pub start_mid_owes : (asked : Asked) (proposed : Proposals) (packets : List Packet) (grp : GroupState) (log : List Delivered) (to : ℕ)
     (id : RequestId) (floor : ℕ) (groups : List ℕ) (front back sent : List Packet) →
@@ -148,17 +147,17 @@ start_mid_owes asked proposed packets grp log to id floor groups front back sent
   begun = λ i n e. by_test (same_id i id && to == to) (next_clock grp floor)
       (proposed i to) n (IsSome (get (with_start to grp id floor groups).started i) ⊎ IsOut log i) e
       (λ p new. inl (some_is _ groups (started-with_start to grp id floor groups i
-      ∙ at_true (same_id i id) (Some groups) (get grp.started i) (and_parts (same_id i id) (to == to) p).0)))
+      ∙ cond-true (same_id i id) (Some groups) (get grp.started i) (and_parts (same_id i id) (to == to) p).0)))
       (λ p old. elim (owes.begun i n old) [
         | inl there ↦ inl (stays_started to grp id floor groups i there)
         | inr out ↦ inr out
       ]);
   told = λ i r h n asked_ member e. by_test (same_id i id && h == to) (next_clock grp floor) (proposed i h) n
       ((heard (with_start to grp id floor groups) i h ≡ Some n) ⊎ (In (told_by to i h n) ((front ++ back) ++ sent) ⊎ IsOut log i)) e
-      (λ p new. inl (heard-with_start to grp id floor groups i h ∙ at_true (same_id i id && h == to) (Some (next_clock grp floor))
+      (λ p new. inl (heard-with_start to grp id floor groups i h ∙ cond-true (same_id i id && h == to) (Some (next_clock grp floor))
       (heard grp i h) p ∙ ap Some new))
       (λ p old. elim (owes.told i r h n asked_ member old) [
-        | inl there ↦ inl (heard-with_start to grp id floor groups i h ∙ at_false (same_id i id && h == to) (Some (next_clock grp floor))
+        | inl there ↦ inl (heard-with_start to grp id floor groups i h ∙ cond-false (same_id i id && h == to) (Some (next_clock grp floor))
             (heard grp i h) p ∙ there)
         | inr (inr out) ↦ inr (inr out)
         | inr (inl is_sent) ↦ elim (still_sent (told_by to i h n)
@@ -200,9 +199,9 @@ proposal_mid_owes asked proposed packets grp log to id from n front back sent wh
         let parts = and_parts (same_id i id) (h == from) p in
         let it : proposed id from ≡ Some m = subst (λ j. proposed j from ≡ Some m) (same_id-true i id parts.0)
         (subst (λ g. proposed i g ≡ Some m) (eqb-true h from parts.1) e) in
-        inl (heard-with_proposal grp id from n i h ∙ at_true (same_id i id && h == from) (Some n) (heard grp i h) p ∙ sym told_ ∙ it)
+        inl (heard-with_proposal grp id from n i h ∙ cond-true (same_id i id && h == from) (Some n) (heard grp i h) p ∙ sym told_ ∙ it)
     | inr p ↦ elim (owes.told i r h m asked_ member e) [
-      | inl there ↦ inl (heard-with_proposal grp id from n i h ∙ at_false (same_id i id && h == from) (Some n) (heard grp i h) p ∙ there)
+      | inl there ↦ inl (heard-with_proposal grp id from n i h ∙ cond-false (same_id i id && h == from) (Some n) (heard grp i h) p ∙ there)
       | inr (inr out) ↦ inr (inr out)
       | inr (inl is_sent) ↦ elim (still_sent (told_by to i h m)
           (told_by to id from n) front back sent (subst (λ l. In (told_by to i h m) l) whole is_sent)) [

@@ -24,15 +24,7 @@ use Rattle.world_laws.proofs.ConditionLaws.{delivered_same}
 use Rattle.world_laws.proofs.Layers.{ascending_cross, ascending_right, known_some}
 use Rattle.world_laws.proofs.Owed.{Owes, owes_world}
 use Rattle.world_laws.proofs.Worlds.{good_world}
-
-some_stamp : (s u : Stamp) → Some s ≡ Some u → s ≡ u
-some_stamp s u e = cc
-
-some_request : (a b : Request) → Some a ≡ Some b → a ≡ b
-some_request a b e = cc
-
-some_number : (a b : ℕ) → Some a ≡ Some b → a ≡ b
-some_number a b e = cc
+use Rattle.skeen_core.proofs.Lawful.{some_same}
 
 -- ---- what was delivered isn't started
 
@@ -52,7 +44,7 @@ delivered_not_started t w good g d gs there started =
     same =
         let named = (good.skeen.groups g).started d.id gs started in
         let it = ((good.skeen.groups g).known d there).named in
-        sym named.2 ∙ ap (λ (q : Request). q.groups) (some_request named.0 it.0 (sym named.1 ∙ it.1)) ∙ it.2
+        sym named.2 ∙ ap (λ (q : Request). q.groups) (some_same named.0 it.0 (sym named.1 ∙ it.1)) ∙ it.2
 
     by_own : (o : Option ℕ) → heard (w.group g) d.id g ≡ o → IsSome o → stamp_lt d.stamp (record { clock = or_zero o; group = g }) ≡ true →
         ⊥
@@ -60,14 +52,14 @@ delivered_not_started t w good g d gs there started =
     by_own (Some n) e some less =
         let above = final_above (w.proposed d.id) d.groups d.stamp g ((good.skeen.groups g).known d there).stamp
         ((good.skeen.groups g).member d there) in
-        let at_n : above.clock ≡ n = some_number above.clock n (sym above.heard ∙ (good.skeen.groups g).heard d.id g n e) in
+        let at_n : above.clock ≡ n = some_same above.clock n (sym above.heard ∙ (good.skeen.groups g).heard d.id g n e) in
         both_ways _ above.within (ap (λ k. stamp_lt d.stamp (record { clock = k; group = g })) at_n ∙ less)
 
     by_final : (o : Option Stamp) → final (heard (w.group g) d.id) gs ≡ o →
         stamp_lt d.stamp (place_by o (own_at g (w.group g) d.id)) ≡ true → ⊥
     by_final (Some s) e less =
         let settled = final_within (heard (w.group g) d.id) (w.proposed d.id) gs s (λ h n f. (good.skeen.groups g).heard d.id h n f) e in
-        let at_s : s ≡ d.stamp = some_stamp s d.stamp (sym settled ∙ ap (λ hs. final (w.proposed d.id) hs) same
+        let at_s : s ≡ d.stamp = some_same s d.stamp (sym settled ∙ ap (λ hs. final (w.proposed d.id) hs) same
         ∙ ((good.skeen.groups g).known d there).stamp) in
         both_ways _ (lt_irrefl d.stamp) (ap (stamp_lt d.stamp) (sym at_s) ∙ less)
     by_final None e less = by_own (heard (w.group g) d.id g) refl ((good.skeen.groups g).going.lawful.sound.started d.id gs started).0 less

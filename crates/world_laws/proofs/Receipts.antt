@@ -19,9 +19,10 @@ use Rattle.skeen_core.specs.declared.request.RequestId.{RequestId}
 use Rattle.world.specs.Steps.{at, hears, with_own, now_proposed}
 use Rattle.world.specs.World.{Request, Proposals}
 use Rattle.world_laws.specs.Good.{Asked, Among, GroupGood, BodyGood, bit, starts_of, addresses, SkeenGood}
-use Rattle.world_laws.proofs.Groups.{group_grows, mid_start, mid_proposal, delivers_good, by_test, at_true, at_false, among_hears}
+use Rattle.world_laws.proofs.Groups.{group_grows, mid_start, mid_proposal, delivers_good, by_test, among_hears}
 use Rattle.world_laws.proofs.Lists.{split_at}
 use Rattle.world_laws.proofs.Packets.{body_more, starts_of-append, starts_of-without, starts_of-tell, told_good}
+use Rattle.std.proofs.lemmas.Bool.{cond-true, cond-false}
 
 -- ---- one packet leaves
 
@@ -161,12 +162,12 @@ start_good asked proposed packets group gone queue to id floor groups front back
     among = among_hears proposed id to (next_clock (group to) floor) none
 
     told : hears proposed id to (next_clock (group to) floor) id to ≡ Some (next_clock (group to) floor)
-    told = at_true _ (Some (next_clock (group to) floor)) (proposed id to)
+    told = cond-true _ (Some (next_clock (group to) floor)) (proposed id to)
         (and_from (same_id id id) (to == to) (same_id-refl id) (eq-eqb to to refl))
 
     others : (i : RequestId) (g n : ℕ) → (g == to) ≡ false → hears proposed id to (next_clock (group to) floor) i g ≡ Some n →
         proposed i g ≡ Some n
-    others i g n e d = sym (at_false _ (Some (next_clock (group to) floor)) (proposed i g) (and_right (same_id i id) (g == to) e)) ∙ d
+    others i g n e d = sym (cond-false _ (Some (next_clock (group to) floor)) (proposed i g) (and_right (same_id i id) (g == to) e)) ∙ d
 
 -- ---- a Proposal
 

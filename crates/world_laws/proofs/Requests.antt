@@ -1,5 +1,5 @@
 -- Submitted requests: a new one is submitted, and more is proposed.
-use Rattle.std.proofs.Common.{◌≡◌, ℕ, suc, ◌≤◌, ◌<◌, ◌==◌, ◌&&◌, true, false, List, [], ◌∷◌, ◌++◌, inl, inr, Option, Some, None, refl, sym, ap, ◌∙◌, subst, arith, eqb-true, eq-eqb}
+use Rattle.std.proofs.Common.{◌≡◌, ℕ, suc, ◌≤◌, ◌<◌, ◌==◌, ◌&&◌, true, false, List, [], ◌∷◌, ◌++◌, inl, inr, Option, Some, None, refl, sym, ap, ◌∙◌, subst, arith, eqb-true}
 use Rattle.std.proofs.lemmas.Bool.{both_ways, cases_Bool, cases_eq, and_parts}
 use Rattle.groups.specs.GroupSet.{has, IsAscending}
 use Rattle.placement.specs.Layout.{Layout}
@@ -17,19 +17,22 @@ use Rattle.skeen_core.specs.declared.stamp.Stamp.{Stamp}
 use Rattle.world.specs.Steps.{at, asks, starts}
 use Rattle.world.specs.World.{Request, Proposals}
 use Rattle.world_laws.specs.Good.{Asked, Among, bit, addresses, SkeenGood, ShapedFor, Under, AskedGood, TakenGood}
-use Rattle.world_laws.proofs.Groups.{AskedMore, known_more, group_grows, by_test, at_true, at_false}
+use Rattle.world_laws.proofs.Groups.{AskedMore, known_more, group_grows, by_test}
 use Rattle.world_laws.proofs.Packets.{body_more, starts_of-append, starts_of-new, starts_good}
+use Rattle.std.proofs.lemmas.Bool.{cond-true, cond-false}
+use Rattle.skeen_core.proofs.Lawful.{some_same}
+use Rattle.world_laws.proofs.Values.{same_request, at_here}
 
 -- ---- small facts
 
 pub asks_more : (asked : Asked) (id : RequestId) (q : Request) → asked id ≡ None → AskedMore asked (asks asked id q)
 asks_more asked id q none i r e = elim (cases_Bool (same_id i id)) [
   | inl p ↦ absurd (None≢Some r (sym none ∙ subst (λ j. asked j ≡ Some r) (same_id-true i id p) e))
-  | inr p ↦ at_false _ (Some q) (asked i) p ∙ e
+  | inr p ↦ cond-false _ (Some q) (asked i) p ∙ e
 ]
 
 pub asks_new : (asked : Asked) (id : RequestId) (q : Request) → asks asked id q id ≡ Some q
-asks_new asked id q = at_true _ (Some q) (asked id) (same_id-refl id)
+asks_new asked id q = cond-true _ (Some q) (asked id) (same_id-refl id)
 
 -- the final stamp of some groups is one of their proposals
 pub final_is_proposed : (f : ℕ → Option ℕ) (gs : List ℕ) (g : ℕ) (s : Stamp) → has gs g ≡ true → final f gs ≡ Some s →
@@ -62,12 +65,12 @@ skeen_multicast asked proposed packets group log id q good none up = record {
             let one : bit (same_id i id && has q.groups g) ≡ bit (has q.groups g) = ap (λ b. bit (b && has q.groups g)) p in
             let was : bit (addresses (asked i) g) ≡ 0 = ap (λ o. bit (addresses o g)) (ap asked (same_id-true i id p) ∙ none) in
             let is : bit (addresses (asks asked id q i) g) ≡ bit (has q.groups g) = ap (λ o. bit (addresses o g))
-            (at_true _ (Some q) (asked i) p) in
+            (cond-true _ (Some q) (asked i) p) in
             omega arith
         | inr p ↦
             let one : bit (same_id i id && has q.groups g) ≡ 0 = ap (λ b. bit (b && has q.groups g)) p in
             let is : bit (addresses (asks asked id q i) g) ≡ bit (addresses (asked i) g) = ap (λ o. bit (addresses o g))
-            (at_false _ (Some q) (asked i) p) in
+            (cond-false _ (Some q) (asked i) p) in
             omega arith
       ];
   made = λ i g n e. let m = good.made i g n e in (m.0, asks_more asked id q none i m.0 m.1, m.2);
@@ -79,12 +82,9 @@ skeen_multicast asked proposed packets group log id q good none up = record {
 
 at_more : (seq : ℕ → ℕ) (c x : ℕ) → seq x ≤ at seq c (suc (seq c)) x
 at_more seq c x = elim (cases_Bool (x == c)) [
-  | inl e ↦ let now = at_true (x == c) (suc (seq c)) (seq x) e in let same = ap seq (eqb-true x c e) in omega arith
-  | inr e ↦ let now = at_false (x == c) (suc (seq c)) (seq x) e in omega arith
+  | inl e ↦ let now = cond-true (x == c) (suc (seq c)) (seq x) e in let same = ap seq (eqb-true x c e) in omega arith
+  | inr e ↦ let now = cond-false (x == c) (suc (seq c)) (seq x) e in omega arith
 ]
-
-at_here : {X : Type 0} (f : ℕ → X) (c : ℕ) (x : X) → at f c x c ≡ x
-at_here f c x = at_true (c == c) x (f c) (eq-eqb c c refl)
 
 pub next_is_new : (t : Layout) (asked : Asked) (proposed : Proposals) (seq : ℕ → ℕ) (last : ℕ → Option RequestId) (c : ℕ) →
     AskedGood t asked proposed seq last →
@@ -94,12 +94,6 @@ next_is_new t asked proposed seq last c good = by_asked (asked (record { conn = 
     by_asked : (o : Option Request) → asked (record { conn = record { 0 = c }; seq = suc (seq c) }) ≡ o → o ≡ None
     by_asked None e = refl
     by_asked (Some q) e = let low = (good.fresh (record { conn = record { 0 = c }; seq = suc (seq c) }) q e).1 in absurd (omega arith)
-
-same_request : (i j : RequestId) → i.conn.0 ≡ j.conn.0 → i.seq ≡ j.seq → i ≡ j
-same_request i j conns seqs = λ k. record { conn = record { 0 = conns k }; seq = seqs k }
-
-some_request : (a b : Request) → Some a ≡ Some b → a ≡ b
-some_request a b e = cc
 
 -- what the last request of a connection has come to, before its next one is submitted
 pub record Rested (asked : Asked) (proposed : Proposals) (last : ℕ → Option RequestId) (c floor : ℕ) : Type 0 where
@@ -119,7 +113,7 @@ floor_above t asked proposed packets group log seq last c floor skeen good reste
     elim (cases_eq i.seq l.0.seq) [
       | inl e ↦
           let same : l.0 ≡ i = same_request l.0 i (r.0 ∙ sym conn) (sym e) in
-          let again : r.1.0 ≡ q = some_request r.1.0 q (sym r.1.1 ∙ ap asked same ∙ named) in
+          let again : r.1.0 ≡ q = some_same r.1.0 q (sym r.1.1 ∙ ap asked same ∙ named) in
           let clock = s.2 in (
             s.0,
             subst (λ j. final (proposed j) q.groups ≡ Some s.0) same
@@ -131,7 +125,7 @@ floor_above t asked proposed packets group log seq last c floor skeen good reste
           let under = good.floors i l.0 q r.1.0 (conn ∙ sym r.0) less named r.1.1 in
           let some = (good.shaped l.0 r.1.0 r.1.1).some in
           let made = skeen.made l.0 s.0.group s.0.clock (final_is_proposed (proposed l.0) r.1.0.groups some.0 s.0 some.1 s.1) in
-          let again : made.0 ≡ r.1.0 = some_request made.0 r.1.0 (sym made.1 ∙ r.1.1) in
+          let again : made.0 ≡ r.1.0 = some_same made.0 r.1.0 (sym made.1 ∙ r.1.1) in
           let above : r.1.0.floor < s.0.clock = subst (λ (x : Request). x.floor < s.0.clock) again made.2 in
           let clock = s.2 in let low = under.2 in
           (under.0, under.1, omega arith)
@@ -160,7 +154,7 @@ requests_multicast t asked proposed packets group log seq last c q skeen good re
   latest = λ i r e. elim (cases_Bool (i.conn.0 == c)) [
     | inl p ↦ (
       id,
-      at_true (i.conn.0 == c) (Some id) (last i.conn.0) p,
+      cond-true (i.conn.0 == c) (Some id) (last i.conn.0) p,
       by_test (same_id i id) q (asked i) r (i.seq ≤ suc (seq c)) e
           (λ p' same. let at_id = ap (λ j. j.seq) (same_id-true i id p') in omega arith)
           (λ p' old. let low = (good.fresh i r old).1 in let at_c = ap seq (eqb-true i.conn.0 c p) in omega arith),
@@ -168,7 +162,7 @@ requests_multicast t asked proposed packets group log seq last c q skeen good re
     | inr p ↦ by_test (same_id i id) q (asked i) r ((l : RequestId) × (at last c (Some id) i.conn.0 ≡ Some l) × (i.seq ≤ l.seq)) e
         (λ p' same. absurd (both_ways _ p (and_parts (i.conn.0 == c) (i.seq == suc (seq c)) p').0))
         (λ p' old. let before = good.latest i r old in
-        (before.0, at_false (i.conn.0 == c) (Some id) (last i.conn.0) p ∙ before.1, before.2))
+        (before.0, cond-false (i.conn.0 == c) (Some id) (last i.conn.0) p ∙ before.1, before.2))
   ];
   floors = λ i j r r' conns less e d. by_test (same_id i id) q (asked i) r (Under proposed i r.groups r'.floor) e
       (λ p same.

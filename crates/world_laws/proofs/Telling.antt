@@ -21,8 +21,10 @@ use Rattle.world.specs.Steps.{at, opening, Effect, Submitted, Collected, next_id
 use Rattle.world.specs.World.{World, Request, Outcome, Standing, Closed, Idle, Waiting, Answered, Ended}
 use Rattle.world_laws.specs.Collecting.{Submits, WasSubmitted, reply_at_none, reply_at_once, AskedAsSubmitted, CollectsItsOwn}
 use Rattle.world_laws.proofs.Connections.{settled_result}
-use Rattle.world_laws.proofs.Groups.{by_test, at_true, at_false}
+use Rattle.world_laws.proofs.Groups.{by_test}
 use Rattle.world_laws.proofs.Worlds.{keeps_all, good_opening}
+use Rattle.std.proofs.lemmas.Bool.{cond-true, cond-false}
+use Rattle.world_laws.proofs.Values.{idle_not_answered, waiting_not_answered, closed_not_answered, same_outcome, same_collected}
 
 -- what is asked has property H, and what is answered at once has property K
 record Said (w : World) (H : RequestId → Command → Type 0) (K : RequestId → Content → Type 0) : Type 0 where
@@ -55,21 +57,9 @@ said_more w H H' K K' h k said = record {
 kept_answer : (standing : ℕ → Standing) (c : ℕ) (s : Standing) → ((o : Outcome) → s ≡ Answered o → ⊥) → (d : ℕ) (o : Outcome) →
     at standing c s d ≡ Answered o → (e : ℕ) × (standing e ≡ Answered o)
 kept_answer standing c s none d o is = elim (cases_Bool (d == c)) [
-  | inl e ↦ absurd (none o (sym (at_true (d == c) s (standing d) e) ∙ is))
-  | inr e ↦ (d, sym (at_false (d == c) s (standing d) e) ∙ is)
+  | inl e ↦ absurd (none o (sym (cond-true (d == c) s (standing d) e) ∙ is))
+  | inr e ↦ (d, sym (cond-false (d == c) s (standing d) e) ∙ is)
 ]
-
-idle_none : (o : Outcome) → Idle ≡ Answered o → ⊥
-idle_none o e = cc
-
-closed_none : (o : Outcome) → Closed ≡ Answered o → ⊥
-closed_none o e = cc
-
-waiting_none : (o : Outcome) → Waiting ≡ Answered o → ⊥
-waiting_none o e = cc
-
-same_answer : (o p : Outcome) → Answered o ≡ Answered p → o ≡ p
-same_answer o p e = cc
 
 -- ---- Submit
 
@@ -79,10 +69,10 @@ said_answered old H K c reply k said = record {
   asked = said.asked;
   answers = λ d o is none. elim (cases_Bool (d == c)) [
     | inl e ↦
-        let same = same_answer (record { id = next_id old c; reply = reply; stamp = None }) o
-        (sym (at_true (d == c) (Answered (record { id = next_id old c; reply = reply; stamp = None })) (old.standing d) e) ∙ is) in
+        let same = same_outcome (record { id = next_id old c; reply = reply; stamp = None }) o
+        (sym (cond-true (d == c) (Answered (record { id = next_id old c; reply = reply; stamp = None })) (old.standing d) e) ∙ is) in
         subst (λ (p : Outcome). K p.id p.reply) same k
-    | inr e ↦ said.answers d o (sym (at_false (d == c) (Answered (record { id = next_id old c; reply = reply; stamp = None }))
+    | inr e ↦ said.answers d o (sym (cond-false (d == c) (Answered (record { id = next_id old c; reply = reply; stamp = None }))
         (old.standing d) e) ∙ is) none
   ];
 }
@@ -93,7 +83,7 @@ said_multicast old H K c q h said = record {
   asked = λ i r e. by_test (same_id i (next_id old c)) q (old.asked i) r (H i r.command) e
       (λ s new. subst (λ (x : Request). H i x.command) new (subst (λ j. H j q.command) (sym (same_id-true i (next_id old c) s)) h))
       (λ s before. said.asked i r before);
-  answers = λ d o is none. let before = kept_answer old.standing c Waiting waiting_none d o is in said.answers before.0 o before.1 none;
+  answers = λ d o is none. let before = kept_answer old.standing c Waiting waiting_not_answered d o is in said.answers before.0 o before.1 none;
 }
 
 said_submitted_to : (t : Layout) (old : World) (H : RequestId → Command → Type 0) (K : RequestId → Content → Type 0) (c : ℕ)
@@ -135,15 +125,15 @@ said_collects t old new H K conn Idle e step said = said_now t old new H K (Coll
 said_collects t old new H K conn Waiting e step said = said_now t old new H K (Collect conn) e (ap (λ (w : World). w.asked) step.1)
     (λ c o is none. (c, sym (ap (λ (w : World). w.standing c) step.1) ∙ is)) said
 said_collects t old new H K conn (Answered p) e step said = said_now t old new H K (Collect conn) e (ap (λ (w : World). w.asked) step.1)
-    (λ c o is none. kept_answer old.standing conn.0 Idle idle_none c o (sym (ap (λ (w : World). w.standing c) step.1) ∙ is)) said
+    (λ c o is none. kept_answer old.standing conn.0 Idle idle_not_answered c o (sym (ap (λ (w : World). w.standing c) step.1) ∙ is)) said
 
 some_not_none : (e : Ended) (o : Outcome) → Answered (outcome_of e) ≡ Answered o → o.stamp ≡ None → ⊥
-some_not_none e o is none = None≢Some e.stamp (sym none ∙ ap (λ (p : Outcome). p.stamp) (sym (same_answer (outcome_of e) o is)))
+some_not_none e o is none = None≢Some e.stamp (sym none ∙ ap (λ (p : Outcome). p.stamp) (sym (same_outcome (outcome_of e) o is)))
 
 said_step : (t : Layout) (old new : World) (H : RequestId → Command → Type 0) (K : RequestId → Content → Type 0) (s : Step) (e : Effect) →
     Steps t old s e new → Said old H K → Said new (More H s e) (MoreReplies t K s e)
 said_step t old new H K Open e step said = said_now t old new H K Open e (ap (λ (w : World). w.asked) step.after)
-    (λ c o is none. kept_answer old.standing (suc old.opened) Idle idle_none c o (sym (ap (λ (w : World). w.standing c) step.after)
+    (λ c o is none. kept_answer old.standing (suc old.opened) Idle idle_not_answered c o (sym (ap (λ (w : World). w.standing c) step.after)
     ∙ is)) said
 said_step t old new H K (Submit conn words) e step said =
     subst (λ f. Said new (More H (Submit conn words) f) (MoreReplies t K (Submit conn words) f)) (sym step.answers)
@@ -166,7 +156,7 @@ said_step t old new H K Settle e step said = said_now t old new H K Settle e (ap
     ]) said
 said_step t old new H K (Collect conn) e step said = said_collects t old new H K conn (old.standing conn.0) e step said
 said_step t old new H K (Close conn) e step said = said_now t old new H K (Close conn) e (ap (λ (w : World). w.asked) step.after)
-    (λ c o is none. kept_answer old.standing conn.0 Closed closed_none c o (sym (ap (λ (w : World). w.standing c) step.after) ∙ is)) said
+    (λ c o is none. kept_answer old.standing conn.0 Closed closed_not_answered c o (sym (ap (λ (w : World). w.standing c) step.after) ∙ is)) said
 
 -- ---- histories
 
@@ -193,7 +183,7 @@ said_steps t old new H K (s ∷ ss) (e ∷ es) made said =
     (said_steps t made.0 new (More H s e) (MoreReplies t K s e) ss es made.2 (said_step t old made.0 H K s e made.1 said))
 
 said_opening : Said opening (λ i c. ⊥) (λ i r. ⊥)
-said_opening = record { asked = λ i q e. None≢Some q e; answers = λ c o is none. closed_none o is }
+said_opening = record { asked = λ i q e. None≢Some q e; answers = λ c o is none. closed_not_answered o is }
 
 said_world : (t : Layout) (steps : List Step) (effects : List Effect) (w : World) → Makes t opening steps effects w →
     Said w (λ i c. WasSubmitted (Reads c) i steps effects) (λ i r. WasSubmitted (RepliesAtOnce t r) i steps effects)
@@ -208,9 +198,6 @@ said_world t steps effects w made =
 
 pub asked_as_submitted : AskedAsSubmitted
 asked_as_submitted t steps effects w made i q named = (said_world t steps effects w made).asked i q named
-
-same_collected : (o p : Outcome) → Collected (Some o) ≡ Collected (Some p) → o ≡ p
-same_collected o p e = cc
 
 stood : (old new : World) (c : ℕ) (s : Standing) (o : Outcome) → old.standing c ≡ s → Collects s old c (Collected (Some o)) new →
     old.standing c ≡ Answered o

@@ -25,13 +25,15 @@ use Rattle.skeen_core.specs.declared.packet.Packet.{Packet}
 use Rattle.skeen_core.specs.declared.request.RequestId.{RequestId}
 use Rattle.skeen_core.specs.declared.stamp.Stamp.{Stamp}
 use Rattle.world.specs.Steps.{opening, Effect, Opens, next_id, clock_of, final_clock, final_clock_of, floor_of, multicast, answered, submitted_to, submitted, Submits, received, Comes, Takes, RunsLayer, Settles, Collects, Closes, Steps, Makes, Leads}
-use Rattle.world.specs.World.{World, Request, Outcome, Standing, Closed, Idle, Waiting, Answered, Ended, HasRun}
+use Rattle.world.specs.World.{World, Request, Standing, Closed, Idle, Waiting, Answered, Ended, HasRun}
 use Rattle.world_laws.specs.Good.{Among, GroupGood, log_of, SkeenGood, ShapedFor, delivered_of, all_delivered, all_taken, TakenGood, Pending, ConnectionsGood, WorldGood}
-use Rattle.world_laws.proofs.Connections.{not_pending, idle_open, idle_not_waiting, connections_open, connections_answered, connections_multicast, connections_collect, connections_close, connections_run, connections_settle}
+use Rattle.world_laws.proofs.Connections.{not_pending, connections_open, connections_answered, connections_multicast, connections_collect, connections_close, connections_run, connections_settle}
 use Rattle.world_laws.proofs.Layers.{log_taken, taken_layer, taken_run, run_layer_good, run_more, all_delivered-append, in_delivered, taken_once}
 use Rattle.world_laws.proofs.Lists.{split_at}
 use Rattle.world_laws.proofs.Receipts.{packet_comes, among_comes}
 use Rattle.world_laws.proofs.Requests.{asks_more, skeen_multicast, next_is_new, Rested, requests_multicast, requests_counted, requests_proposed, taken_more}
+use Rattle.skeen_core.proofs.Lawful.{some_same}
+use Rattle.world_laws.proofs.Values.{idle_open, idle_not_waiting, closed_not_answered}
 
 -- ---- the opening
 
@@ -71,9 +73,6 @@ good_opening t = record {
   };
   run = record { commands = λ e there. absurd there; replies = tt; map = refl };
 }
-  where
-    closed_not_answered : (o : Outcome) → Closed ≡ Answered o → ⊥
-    closed_not_answered o e = cc
 
 -- ---- Open
 
@@ -112,7 +111,7 @@ rested t w c s is_at lively not_waiting good = record {
             (in_delivered w.ended done.0 (subst (λ es. In done.0 es) (sym good.connections.split)
             (In-left done.0 good.connections.settled _ done.1))) in
             let known = good.taken.known (delivered_of done.0) there in
-            let same : known.named.0 ≡ q = some_request known.named.0 q (sym known.named.1 ∙ ap w.asked done.2 ∙ named) in
+            let same : known.named.0 ≡ q = some_same known.named.0 q (sym known.named.1 ∙ ap w.asked done.2 ∙ named) in
             let stamp : final (w.proposed l) q.groups ≡ Some done.0.stamp =
             ap (λ (x : Request). final (w.proposed l) x.groups) (sym same) ∙ ap (λ gs. final (w.proposed l) gs) known.named.2
             ∙ ap (λ i. final (w.proposed i) done.0.groups) (sym done.2) ∙ known.stamp in
@@ -121,9 +120,6 @@ rested t w c s is_at lively not_waiting good = record {
       ];
 }
   where
-    some_request : (a b : Request) → Some a ≡ Some b → a ≡ b
-    some_request a b e = cc
-
     floor_is : (l : RequestId) (q : Request) (s : Stamp) → w.last c ≡ Some l → w.asked l ≡ Some q →
         final (w.proposed l) q.groups ≡ Some s → floor_of w c ≡ s.clock
     floor_is l q s is named stamp = ap (final_clock_of w) is ∙ ap (final_clock w.proposed l) named ∙ ap clock_of stamp
