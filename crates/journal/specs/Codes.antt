@@ -1,7 +1,6 @@
 -- How steps and rows lie in bytes.
-use Rattle.std.specs.Prelude.{◌≡◌, ℕ, zero, suc, ◌+◌, ◌-◌, ◌<◌, ◌≤◌, ◌^◌, List, [], ◌∷◌, ◌++◌, length, take, drop, map, ◌==◌, if◌then◌else◌}
+use Rattle.std.specs.Prelude.{◌≡◌, ℕ, ◌+◌, ◌-◌, ◌<◌, ◌≤◌, ◌^◌, List, [], ◌∷◌, ◌++◌, length, take, drop, map, ◌==◌, slice_index, if◌then◌else◌}
 use Rattle.std.specs.List.{flat_map, AllByRecursion}
-use Rattle.skeen_core.specs.declared.request.ConnId.{ConnId}
 use Rattle.skeen_core.specs.declared.request.RequestId.{RequestId}
 use Rattle.skeen_core.specs.declared.stamp.Stamp.{Stamp}
 use Rattle.packing.specs.Codes.{number_code, number_at, words_code, words_at, many, WordsFit}
@@ -116,10 +115,6 @@ row_of bytes =
       reply = drop size.0 size.1;
     }
 
--- how many bytes a row takes
-abbrev pub row_size : RowView → ℕ
-row_size row = length (row_code row)
-
 pub record HeadFits (id : RequestId) (stamp : Stamp) : Type 0 where
   pub request : IdFits id
   pub clock : stamp.clock < 2 ^ 64
@@ -139,6 +134,10 @@ cut bytes start (stop ∷ stops) = take (stop - start) (drop start bytes) ∷ cu
 abbrev pub ends_from : {A : Type 0} → (A → List ℕ) → ℕ → List A → List ℕ
 ends_from code start [] = []
 ends_from code start (x ∷ xs) = (start + length (code x)) ∷ ends_from code (start + length (code x)) xs
+
+-- where the first ones end
+abbrev pub end_before : List ℕ → ℕ → ℕ
+end_before ends count = if count == 0 then 0 else slice_index ends (count - 1)
 
 -- the rows that the bytes are, cut at these ends
 abbrev pub rows_in : List ℕ → List ℕ → List RowView

@@ -11,11 +11,8 @@ pub record RowView : Type 0 where
   pub words : List (List ℕ)
   pub reply : List ℕ
 
--- the rows in the order in which they were added, and how many more bytes and rows fit without memory
-pub record RowsView : Type 0 where
-  pub rows : List RowView
-  pub byte_room : ℕ
-  pub row_room : ℕ
+abbrev pub row_view : RequestId → Stamp → List (List ℕ) → List ℕ → RowView
+row_view id stamp words reply = record { id = id; stamp = stamp; words = words; reply = reply }
 
 -- at most how many steps may be made, the steps that were made, in order, and how many more bytes fit without memory
 pub record TraceView : Type 0 where

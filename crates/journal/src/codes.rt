@@ -1,6 +1,6 @@
 //! Steps and the heads of rows in bytes: how many they take, and how they are put and taken.
 
-ghost use Rattle.std.specs.Prelude.{◌≡◌, ℕ, ◌+◌, ◌≤◌, ◌<◌, ◌^◌, ◌++◌, List, length, vec_len, vec_capacity, MatchOption, IfOk};
+ghost use Rattle.std.specs.Prelude.{◌≡◌, ℕ, ◌+◌, ◌≤◌, ◌<◌, ◌^◌, ◌++◌, List, length, vec_len, vec_capacity, MatchOption, IfOk, IsOk, OnOk, OnErr};
 ghost use Rattle.journal.specs.Codes.{id_at, ids_code, ids_at, submit_at, step_code, step_at, IdsFit, StepFits, head_code, HeadFits};
 
 use super::request_ids::RequestIds;
@@ -12,12 +12,19 @@ use std::alloc::{AllocError, Global};
 
 /// The byte that begins a step of each kind.
 const OPEN: u8 = 0;
+
 const SUBMIT: u8 = 1;
+
 const DELIVER: u8 = 2;
+
 const TAKE: u8 = 3;
+
 const RUN: u8 = 4;
+
 const SETTLE: u8 = 5;
+
 const COLLECT: u8 = 6;
+
 const CLOSE: u8 = 7;
 
 /// How many bytes the ids take; `None` where that is 2^64 or more.
@@ -58,6 +65,7 @@ pub fn take_id(bytes: &[u8]) -> (RequestId, &[u8])
 }
 
 /// The ids at the front of the bytes, and the bytes behind them; `AllocError` where there is no memory for them.
+#[tactic(auto, unfolding(crate::specs::Codes::ids_at))]
 fn take_ids(alloc: Global, bytes: &[u8]) -> Result<(Vec<RequestId>, &[u8]), AllocError>
     ensures ids { IfOk result (λ r. r.0.items ≡ (ids_at bytes.now).0) }
     ensures rest { IfOk result (λ r. r.1.now ≡ (ids_at bytes.now).1) }
@@ -73,7 +81,8 @@ fn take_ids(alloc: Global, bytes: &[u8]) -> Result<(Vec<RequestId>, &[u8]), Allo
 }
 
 /// How many bytes a step takes; `None` where that is 2^64 or more.
-pub fn size_of_step(step: &Step) -> Option<usize>
+#[tactic(auto, unfolding(crate::specs::Codes::step_code))]
+fn size_of_step(step: &Step) -> Option<usize>
     ensures { MatchOption result (2 ^ 64 ≤ length (step_code step.now))
         (λ size. (size ≡ length (step_code step.now)) × StepFits step.now) }
 {
@@ -86,7 +95,24 @@ pub fn size_of_step(step: &Step) -> Option<usize>
     }
 }
 
+/// Takes the room for a step. The only error is want of memory, which changes nothing.
+pub fn reserve_step(step: &Step, out: &mut Vec<u8>) -> Result<(), AllocError>
+    ensures items { out.new.items ≡ out.old.items }
+    ensures len { vec_len out.new ≡ vec_len out.old }
+    ensures room { OnOk result (vec_len out.new + length (step_code step.now) ≤ vec_capacity out.new) }
+    ensures fits { OnOk result (StepFits step.now) }
+    ensures capacity { vec_capacity out.old ≤ vec_capacity out.new }
+    ensures succeeds { vec_len out.old + length (step_code step.now) ≤ vec_capacity out.old → IsOk result }
+    ensures err { OnErr result (vec_capacity out.new ≡ vec_capacity out.old) }
+{
+    match size_of_step(step) {
+        Some(size) => out.reserve(size),
+        None => Err(AllocError),
+    }
+}
+
 /// Appends a step, for which there is room.
+#[tactic(auto, unfolding(crate::specs::Codes::step_code))]
 pub fn put_step(step: &Step, out: &mut Vec<u8>)
     requires { vec_len out.old + length (step_code step.now) ≤ vec_capacity out.old }
     ensures items { out.new.items ≡ out.old.items ++ step_code step.now }
@@ -122,6 +148,7 @@ pub fn put_step(step: &Step, out: &mut Vec<u8>)
 }
 
 /// The step at the front of the bytes, and the bytes behind it; `AllocError` where there is no memory for it.
+#[tactic(auto, unfolding(crate::specs::Codes::step_at, crate::specs::Codes::step_of, crate::specs::Codes::deliver_at, crate::specs::Codes::run_at, crate::specs::Codes::collect_at, crate::specs::Codes::close_at))]
 pub fn take_step(alloc: Global, bytes: &[u8]) -> Result<(Step, &[u8]), AllocError>
     ensures step { IfOk result (λ r. r.0 ≡ (step_at bytes.now).0) }
     ensures rest { IfOk result (λ r. r.1.now ≡ (step_at bytes.now).1) }
@@ -152,6 +179,7 @@ pub fn take_step(alloc: Global, bytes: &[u8]) -> Result<(Step, &[u8]), AllocErro
     }
 }
 
+#[tactic(auto, unfolding(crate::specs::Codes::submit_at))]
 fn take_submit(alloc: Global, bytes: &[u8]) -> Result<(Step, &[u8]), AllocError>
     ensures step { IfOk result (λ r. r.0 ≡ (submit_at bytes.now).0) }
     ensures rest { IfOk result (λ r. r.1.now ≡ (submit_at bytes.now).1) }
@@ -162,21 +190,30 @@ fn take_submit(alloc: Global, bytes: &[u8]) -> Result<(Step, &[u8]), AllocError>
         return Ok((Step::Open, rest));
     }
     let words = Request::from_words(words);
-    Ok((Step::Submit { conn: ConnId(conn), words }, rest))
+    Ok((
+        Step::Submit {
+            conn: ConnId(conn),
+            words,
+        },
+        rest,
+    ))
 }
 
 /// How many bytes the numbers of a row take, which stand before its words. The words take so many bytes.
+#[tactic(auto, using(crate::proofs::Laws::heads))]
 pub fn size_of_head(id: RequestId, stamp: &Stamp, words_size: usize) -> usize
     ensures size { result ≡ length (head_code id stamp.now words_size) }
     ensures few { result ≤ 45 }
     ensures fits { HeadFits id stamp.now }
 {
+    let clock = stamp.clock;
     let id_size = number_size(id.conn.0) + number_size(id.seq);
-    let stamp_size = number_size(stamp.clock) + number_size(stamp.group.number() as u64);
+    let stamp_size = number_size(clock) + number_size(stamp.group.number() as u64);
     id_size + stamp_size + number_size(words_size as u64)
 }
 
 /// Appends the numbers of a row, for which there is room.
+#[tactic(auto, using(crate::proofs::Laws::heads))]
 pub fn put_head(id: RequestId, stamp: &Stamp, words_size: usize, out: &mut Vec<u8>)
     requires { vec_len out.old + length (head_code id stamp.now words_size) ≤ vec_capacity out.old }
     ensures items { out.new.items ≡ out.old.items ++ head_code id stamp.now words_size }

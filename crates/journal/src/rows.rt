@@ -3,8 +3,8 @@
 ghost use Rattle.std.specs.Prelude.{◌≡◌, ◌+◌, ◌≤◌, ◌<◌, ◌++◌, [], ◌∷◌, length, take, slice_get, OnOk, OnErr, IsOk};
 ghost use Rattle.resp.specs.Content.{content};
 ghost use Rattle.resp.specs.Text.{text};
-ghost use Rattle.journal.specs.Views.{RowView};
-ghost use Rattle.journal.specs.Codes.{row_size};
+ghost use Rattle.journal.specs.Views.{row_view};
+ghost use Rattle.journal.specs.Codes.{end_before};
 
 use super::codes::{put_head, size_of_head};
 use super::row::{Row, row_of};
@@ -14,8 +14,7 @@ use skeen_core::{RequestId, Stamp};
 use std::alloc::{AllocError, Global};
 use std::marker::Model;
 
-/// The rows of what was executed, in the order in which they were added. Contracts see beside them how many more bytes and rows
-/// fit without memory.
+/// The rows of what was executed, in the order in which they were added. Contracts see the list of them.
 #[derive(Drop)]
 pub struct Rows {
     bytes: Vec<u8>,
@@ -23,14 +22,14 @@ pub struct Rows {
 }
 
 impl Model for Rows {
-    ghost use Rattle.std.specs.Prelude.{◌-◌, vec_len, vec_capacity};
-    ghost use Rattle.journal.specs.Views.{RowsView};
+    ghost use Rattle.std.specs.Prelude.{List};
+    ghost use Rattle.journal.specs.Views.{RowView};
 
-    ghost Value = { RowsView };
+    ghost Value = { List RowView };
 
     ghost use Rattle.journal.specs.Codes.{rows_in, AreRows};
 
-    ghost view = { λ r. record { rows = rows_in r.bytes.items r.ends.items; byte_room = vec_capacity r.bytes - vec_len r.bytes; row_room = vec_capacity r.ends - vec_len r.ends } };
+    ghost view = { λ r. rows_in r.bytes.items r.ends.items };
 
     ghost invariant = { λ r. AreRows (rows_in r.bytes.items r.ends.items) r.bytes.items r.ends.items };
 }
@@ -38,7 +37,7 @@ impl Model for Rows {
 impl Rows {
     /// No row. It takes no memory.
     pub fn new(alloc: Global) -> Self
-        ensures { result.rows ≡ [] }
+        ensures { result ≡ [] }
     {
         Rows {
             bytes: Vec::new(alloc),
@@ -49,13 +48,13 @@ impl Rows {
     /// How many rows there are.
     #[allow(clippy::len_without_is_empty)]
     pub fn len(&self) -> usize
-        ensures { result ≡ length self.now.rows }
+        ensures { result ≡ length self.now }
     {
         self.ends.len()
     }
 
-    /// Adds a row behind the others: a copy of the words, and the reply's text. It can't fail where there is room. The only
-    /// error is want of memory, and then the rows are as they were.
+    /// Adds a row behind the others: a copy of the words, and the reply's text. The only error is want of memory, and then the
+    /// rows are as they were.
     pub fn push(
         &mut self,
         id: RequestId,
@@ -63,37 +62,39 @@ impl Rows {
         words: &Request,
         reply: &Reply,
     ) -> Result<(), AllocError>
-        ensures pushed { let row : RowView = record { id = id; stamp = stamp.now; words = words.now; reply = text (content reply.now) }
-            in OnOk result (self.new.rows ≡ self.old.rows ++ row ∷ []) }
-        ensures succeeds { let row : RowView = record { id = id; stamp = stamp.now; words = words.now; reply = text (content reply.now) }
-            in row_size row ≤ self.old.byte_room → 0 < self.old.row_room → IsOk result }
-        ensures unchanged { OnErr result (self.new.rows ≡ self.old.rows) }
+        ensures pushed { OnOk result (self.new ≡ self.old ++ row_view id stamp.now words.now (text (content reply.now)) ∷ []) }
+        ensures unchanged { OnErr result (self.new ≡ self.old) }
     {
-        let words_size = words_size(words).ok_or(AllocError)?;
+        let Some(words_size) = words_size(words) else {
+            return Err(AllocError);
+        };
         let head_size = size_of_head(id, stamp, words_size);
-        let size = words_size.checked_add(head_size).ok_or(AllocError)?;
+        let Some(size) = words_size.checked_add(head_size) else {
+            return Err(AllocError);
+        };
         self.ends.reserve(1)?;
         self.bytes.reserve(size)?;
         let start = self.bytes.len();
         put_head(id, stamp, words_size, &mut self.bytes);
         put_words(words, &mut self.bytes);
-        let written = write_reply(reply, &mut self.bytes);
-        if written.is_err() {
-            self.bytes.truncate(start);
-            return written;
+        match write_reply(reply, &mut self.bytes) {
+            Ok(()) => {
+                self.ends.push_reserved(self.bytes.len());
+                Ok(())
+            }
+            Err(error) => {
+                self.bytes.truncate(start);
+                Err(error)
+            }
         }
-        self.ends.push_reserved(self.bytes.len());
-        Ok(())
     }
 
     /// Takes back all rows from place `len` on, counted from 0. It takes no memory, and gives none back.
     pub fn truncate(&mut self, len: usize)
-        ensures rows { self.new.rows ≡ take len self.old.rows }
-        ensures byte_room { self.old.byte_room ≤ self.new.byte_room }
-        ensures row_room { self.old.row_room ≤ self.new.row_room }
+        ensures { self.new ≡ take len self.old }
     {
         if len < self.ends.len() {
-            let end = if len == 0 { 0 } else { self.ends[len - 1] };
+            let end = end_of(self.ends.as_slice(), len);
             self.bytes.truncate(end);
             self.ends.truncate(len);
         }
@@ -101,12 +102,24 @@ impl Rows {
 
     /// The row at this place, counted from 0.
     pub fn row(&self, place: usize) -> Option<Row<'_>>
-        ensures { result ≡ slice_get self.now.rows place }
+        ensures { result ≡ slice_get self.now place }
     {
         if place >= self.ends.len() {
             return None;
         }
-        let start = if place == 0 { 0 } else { self.ends[place - 1] };
-        Some(row_of(&self.bytes[start..self.ends[place]]))
+        let start = end_of(self.ends.as_slice(), place);
+        let end = end_of(self.ends.as_slice(), place + 1);
+        let (_, rest) = self.bytes.as_slice().split_at(start);
+        let size = end - start;
+        let (bytes, _) = rest.split_at(size);
+        Some(row_of(bytes))
     }
+}
+
+/// Where the first `count` rows end.
+fn end_of(ends: &[usize], count: usize) -> usize
+    requires { count ≤ length ends.now }
+    ensures { result ≡ end_before ends.now count }
+{
+    if count == 0 { 0 } else { ends[count - 1] }
 }

@@ -3,7 +3,7 @@
 ghost use Rattle.std.specs.Prelude.{◌≡◌, ◌≤◌, ◌^◌, ◌++◌, [], ◌∷◌, length, OnOk, OnErr, IfOk, IsOk, MatchOption};
 ghost use Rattle.journal.specs.Codes.{step_size};
 
-use super::codes::{put_step, size_of_step, take_step};
+use super::codes::{put_step, reserve_step, take_step};
 use super::step::Step;
 use std::alloc::{AllocError, Global};
 use std::marker::Model;
@@ -71,8 +71,7 @@ impl Trace {
         ensures succeeds { step_size step.now ≤ self.old.room → IsOk result }
         ensures unchanged { OnErr result (self.new ≡ self.old) }
     {
-        let size = size_of_step(step).ok_or(AllocError)?;
-        self.bytes.reserve(size)
+        reserve_step(step, &mut self.bytes)
     }
 
     /// Adds a step behind the others. It can't fail where there is room, and want of memory changes nothing.
@@ -82,8 +81,7 @@ impl Trace {
         ensures succeeds { step_size step.now ≤ self.old.room → IsOk result }
         ensures unchanged { OnErr result (self.new ≡ self.old) }
     {
-        let size = size_of_step(step).ok_or(AllocError)?;
-        self.bytes.reserve(size)?;
+        reserve_step(step, &mut self.bytes)?;
         put_step(step, &mut self.bytes);
         self.count += 1;
         Ok(())

@@ -1,8 +1,8 @@
 -- What was put is read back, and how long it is.
-use Rattle.std.specs.Prelude.{◌≡◌, ℕ, suc, ◌+◌, ◌-◌, ◌≤◌, ◌<◌, ◌^◌, List, [], ◌∷◌, ◌++◌, length, take, drop, nat_le, ◌==◌, true, false, refl, Some, slice_get}
+use Rattle.std.specs.Prelude.{◌≡◌, ℕ, zero, suc, ◌+◌, ◌-◌, ◌≤◌, ◌<◌, ◌^◌, List, [], ◌∷◌, ◌++◌, length, take, drop, nat_le, ◌==◌, true, false, refl, Some, slice_get}
 use Rattle.std.specs.List.{flat_map, AllByRecursion}
 use Rattle.std.specs.Int.{w32, w64, to_le_bytes}
-use Rattle.std.proofs.Common.{sym, ap, ◌∙◌, arith, ⊎_elim, length-append}
+use Rattle.std.proofs.Common.{add-one, sym, ap, ◌∙◌, arith, ⊎_elim, length-append}
 use Rattle.std.proofs.lemmas.Bool.Decides.{nat_tests}
 use Rattle.std.proofs.lemmas.Bool.{cases_lt, lt-ltb, le-ltb, le-leb}
 use Rattle.std.proofs.lemmas.List.{append_assoc, append-nil, take-append-drop, take_at, drop_at, take_more, drop_more}
@@ -19,6 +19,12 @@ take_one xs i x at = take_more xs i x (slice_get_within xs i x at) ∙ ap (λ y.
 pub drop_one : {A : Type 0} (xs : List A) (i : ℕ) (x : A) → slice_get xs i ≡ Some x → drop i xs ≡ x ∷ drop (i + 1) xs
 drop_one xs i x at = drop_more xs i x (slice_get_within xs i x at) ∙ ap (λ y. y ∷ drop (i + 1) xs) (get_or_from_slice_get xs i x x at)
 
+pub at_drop : {A : Type 0} (xs : List A) (i : ℕ) (y : A) (ys : List A) → y ∷ ys ≡ drop i xs → (slice_get xs i ≡ Some y) × (ys ≡ drop (i + 1) xs)
+at_drop [] zero y ys e = cc
+at_drop [] (suc i) y ys e = cc
+at_drop (x ∷ xs) zero y ys e = (cc, cc)
+at_drop (x ∷ xs) (suc i) y ys e = let r = at_drop xs i y ys e in (r.0, r.1 ∙ rw (add-one, add-one) refl)
+
 pub take_codes : {A : Type 0} (code : A → List ℕ) (xs : List A) (i : ℕ) (x : A) → slice_get xs i ≡ Some x
     → flat_map code (take (i + 1) xs) ≡ flat_map code (take i xs) ++ code x
 take_codes code xs i x at =
@@ -27,6 +33,12 @@ take_codes code xs i x at =
 pub drop_codes : {A : Type 0} (code : A → List ℕ) (xs : List A) (i : ℕ) (x : A) → slice_get xs i ≡ Some x
     → flat_map code (drop i xs) ≡ code x ++ flat_map code (drop (i + 1) xs)
 drop_codes code xs i x at = ap (flat_map code) (drop_one xs i x at)
+
+-- the first ones take no more than all of them
+pub size_rest : {A : Type 0} (code : A → List ℕ) (xs : List A) (i : ℕ) → length (flat_map code (take i xs)) ≤ length (flat_map code xs)
+size_rest code xs i =
+    let e = ap length (sym (flat_map-append code (take i xs) (drop i xs)) ∙ ap (flat_map code) (take-append-drop i xs)) in
+    omega (arith, e, length-append (flat_map code (take i xs)) (flat_map code (drop i xs)))
 
 pub all_more : {A : Type 0} (P : A → Type 0) (xs : List A) (x : A) → AllByRecursion P xs → P x → AllByRecursion P (xs ++ x ∷ [])
 all_more P [] x all p = (p, tt)
@@ -116,12 +128,6 @@ size_one words i word at =
     ap length (take_codes word_code words i word at) ∙ length-append (flat_map word_code (take i words)) (word_code word)
     ∙ ap (λ n. length (flat_map word_code (take i words)) + n) (length-word_code word)
 
--- the words so far take no more than all of them
-pub size_part : (words : List (List ℕ)) (i : ℕ) → length (flat_map word_code (take i words)) ≤ length (flat_map word_code words)
-size_part words i =
-    let e = ap length (sym (flat_map-append word_code (take i words) (drop i words)) ∙ ap (flat_map word_code) (take-append-drop i words)) in
-    omega (arith, e, length-append (flat_map word_code (take i words)) (flat_map word_code (drop i words)))
-
 -- ---- many of anything
 
 pub many_one : {A : Type 0} (at : List ℕ → A × List ℕ) (n i : ℕ) (bytes : List ℕ) → i < n
@@ -135,6 +141,18 @@ pub many-codes : {A : Type 0} (code : A → List ℕ) (at : List ℕ → A × Li
 many-codes code at Fits reads [] rest fit = refl
 many-codes code at Fits reads (x ∷ xs) rest fit =
     rw (append_assoc, reads x (flat_map code xs ++ rest) fit.0, many-codes code at Fits reads xs rest fit.1) refl
+
+pub length-many : {A : Type 0} (at : List ℕ → A × List ℕ) (n : ℕ) (bytes : List ℕ) → length (many at n bytes).0 ≡ n
+length-many at zero bytes = refl
+length-many at (suc n) bytes = ap suc (length-many at n (at bytes).1)
+
+pub length-words_at : (bytes : List ℕ) → length (words_at bytes).0 ≡ (number_at bytes).0
+unfolding words_at
+length-words_at bytes = length-many word_at (number_at bytes).0 (number_at bytes).1
+
+pub words_at-is : (bytes : List ℕ) → words_at bytes ≡ many word_at (number_at bytes).0 (number_at bytes).1
+unfolding words_at
+words_at-is bytes = refl
 
 pub words_at-code : (words : List (List ℕ)) (rest : List ℕ) → WordsFit words → words_at (words_code words ++ rest) ≡ (words, rest)
 unfolding words_at words_code
