@@ -1,3 +1,4 @@
 pub mod Laws
 pub mod Cuts
 pub mod Kept
+pub mod TextLaws

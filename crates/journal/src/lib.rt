@@ -5,12 +5,16 @@
 #![tactic(auto)]
 
 mod codes;
+mod fault;
+mod lines;
+mod parts;
 mod request_ids;
 mod row;
 mod rows;
 mod step;
 mod trace;
 
+pub use fault::TraceFault;
 pub use request_ids::RequestIds;
 pub use row::Row;
 pub use rows::Rows;
