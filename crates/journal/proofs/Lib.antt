@@ -2,3 +2,4 @@ pub mod Laws
 pub mod Cuts
 pub mod Kept
 pub mod TextLaws
+pub mod ReadLaws

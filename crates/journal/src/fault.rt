@@ -1,5 +1,9 @@
 //! Why a text is no trace.
 
+ghost use Rattle.std.specs.Prelude.{◌≡◌};
+ghost use Rattle.journal.specs.declared.fault.TraceFault.TheVariants.{Memory};
+
+use std::alloc::AllocError;
 use thiserror::Error;
 
 /// Why no trace was read of a text. The text is at fault at a line, or there was no memory; the numbers are 1 and 2.
@@ -13,4 +17,12 @@ pub enum TraceFault {
     /// 2: no memory was left.
     #[error("out of memory")]
     Memory,
+}
+
+impl From<AllocError> for TraceFault {
+    ghost from_gives = { λ _ fault. fault ≡ Memory };
+
+    fn from(_e: AllocError) -> TraceFault {
+        TraceFault::Memory
+    }
 }

@@ -8,6 +8,7 @@ mod codes;
 mod fault;
 mod lines;
 mod parts;
+mod reader;
 mod request_ids;
 mod row;
 mod rows;
@@ -15,6 +16,7 @@ mod step;
 mod trace;
 
 pub use fault::TraceFault;
+pub use reader::read_trace;
 pub use request_ids::RequestIds;
 pub use row::Row;
 pub use rows::Rows;

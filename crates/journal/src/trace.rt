@@ -1,6 +1,6 @@
 //! The steps that were made, in order, to be made again by whoever has them.
 
-ghost use Rattle.std.specs.Prelude.{◌≡◌, ◌≤◌, ◌^◌, ◌++◌, [], ◌∷◌, length, OnOk, OnErr, IfOk, IsOk, MatchOption};
+ghost use Rattle.std.specs.Prelude.{◌≡◌, ◌≤◌, ◌<◌, ◌^◌, ◌++◌, [], ◌∷◌, length, OnOk, OnErr, IfOk, IsOk, MatchOption};
 ghost use Rattle.journal.specs.Codes.{step_size};
 
 use super::codes::{put_step, reserve_step, take_step};
@@ -57,7 +57,8 @@ impl Trace {
     /// How many steps were made.
     #[allow(clippy::len_without_is_empty)]
     pub fn len(&self) -> usize
-        ensures { result ≡ length self.now.steps }
+        ensures number { result ≡ length self.now.steps }
+        ensures small { result < 2 ^ 63 }
     {
         self.count
     }
