@@ -3,3 +3,4 @@ pub mod Cuts
 pub mod Kept
 pub mod TextLaws
 pub mod ReadLaws
+pub mod Written

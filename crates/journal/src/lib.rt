@@ -14,6 +14,7 @@ mod row;
 mod rows;
 mod step;
 mod trace;
+mod writer;
 
 pub use fault::TraceFault;
 pub use reader::read_trace;
@@ -22,3 +23,4 @@ pub use row::Row;
 pub use rows::Rows;
 pub use step::Step;
 pub use trace::{Steps, Trace};
+pub use writer::write_trace;
