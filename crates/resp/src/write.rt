@@ -1,10 +1,11 @@
 //! The bytes of a reply, appended to what is to be sent.
 //!
-//! Lines end with CR LF; a bulk string and an array begin with their length, as the RESP2 specification says. Whoever serves a
-//! connection gathers replies in one buffer by `write_reply`.
+//! Lines end with CR LF; a bulk string and an array begin with their length, as the RESP2 specification says. Whoever
+//! serves a connection gathers replies in one buffer by `write_reply`.
 
 ghost use Rattle.std.specs.Prelude.{◌≡◌, ◌∷◌, ◌++◌, ℕ, List, length, OnOk, OnErr};
 ghost use Rattle.std.specs.Fmt.{decimal};
+ghost use Rattle.resp.specs.Ascii.{minus};
 ghost use Rattle.resp.specs.Content.{content, error_text};
 ghost use Rattle.resp.specs.Text.{crlf, text};
 
@@ -52,7 +53,7 @@ fn put(reply: &Reply, out: &mut Vec<u8>) -> Result<(), AllocError>
 }
 
 fn put_error(line: &ErrorText, out: &mut Vec<u8>) -> Result<(), AllocError>
-    ensures ok { OnOk result (out.new.items ≡ out.old.items ++ 45 ∷ error_text line.now ++ crlf) }
+    ensures ok { OnOk result (out.new.items ≡ out.old.items ++ minus ∷ error_text line.now ++ crlf) }
     ensures err { OnErr result ((more : List ℕ) × (out.new.items ≡ out.old.items ++ more)) }
 {
     match line {

@@ -5,12 +5,12 @@ use Rattle.std.specs.Result.{IsErrAnd}
 use Rattle.std.specs.List.{AllByRecursion}
 use Rattle.std.proofs.lemmas.List.{length-append, length-drop, append-nil}
 use Rattle.resp_decoder.specs.declared.limits.Limits.{Limits}
-use Rattle.resp_decoder.specs.declared.reading.Stop.{Stop}
-use Rattle.resp_decoder.specs.declared.reading.Stop.TheVariants.{Open, Bad}
+use Rattle.resp_decoder.specs.declared.parsing.Stop.{Stop}
+use Rattle.resp_decoder.specs.declared.parsing.Stop.TheVariants.{Open, Bad}
 use Rattle.resp_decoder.specs.declared.progress.Progress.{Progress}
 use Rattle.resp_decoder.specs.Texts.{item_text, IsShort, Stream, IsOpen, IsFault}
 use Rattle.resp_decoder.specs.Parts.{head_text, words_text, part_text}
-use Rattle.resp_decoder.specs.Reading.{word_at, head_at}
+use Rattle.resp_decoder.specs.Parsing.{word_at, head_at}
 use Rattle.resp_decoder.specs.Advancing.{words_of, held_bytes, IsSound, BeginsRequest, BeginsNone, Moves, Fills, Advances}
 use Rattle.resp_decoder.proofs.Resume.{behind, word_moves, all_push, head_of_some, item_from_parts, item_stops, head_stops, empty_front, part_is}
 use Rattle.resp_decoder.proofs.Streams.{stream_none, stream_then}

@@ -4,12 +4,12 @@ use Rattle.std.specs.List.{AllByRecursion}
 use Rattle.resp_decoder.specs.declared.fault.Fault.{Fault}
 use Rattle.resp_decoder.specs.declared.fault.Fault.TheVariants.{Memory}
 use Rattle.resp_decoder.specs.declared.limits.Limits.{Limits}
-use Rattle.resp_decoder.specs.declared.reading.Stop.{Stop}
-use Rattle.resp_decoder.specs.declared.reading.Stop.TheVariants.{Open, Bad}
+use Rattle.resp_decoder.specs.declared.parsing.Stop.{Stop}
+use Rattle.resp_decoder.specs.declared.parsing.Stop.TheVariants.{Open, Bad}
 use Rattle.resp_decoder.specs.declared.progress.Progress.{Progress}
 use Rattle.resp_decoder.specs.Texts.{item_text, IsShort, IsLawful, Stream, IsOpen, IsFault}
 use Rattle.resp_decoder.specs.Parts.{words_text, part_text}
-use Rattle.resp_decoder.specs.Reading.{head_at, word_at}
+use Rattle.resp_decoder.specs.Parsing.{head_at, word_at}
 
 -- the words that have come of the open request
 abbrev pub words_of : Progress → List (List ℕ)

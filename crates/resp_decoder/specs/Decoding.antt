@@ -36,7 +36,8 @@ pub record TakesRequest (old : Held) (words : List (List ℕ)) (new : Held) : Ty
   pub front : Stream old.limits old.bytes [] (item_text (Some words) ++ new.bytes)
   pub unchanged : new ≡ with_bytes old new.bytes
 
--- The held bytes were empty requests and then an open rest, perhaps empty. The rest alone stays, and nothing else changes.
+-- The held bytes were empty requests and then an open rest, perhaps empty. The rest alone stays, and nothing else
+-- changes.
 pub record WaitsForMore (old new : Held) : Type 0 where
   pub no_fault : old.fault ≡ None
   pub front : Stream old.limits old.bytes [] new.bytes
@@ -63,7 +64,7 @@ pub record KeepsAll (old new : Held) : Type 0 where
 
 -- ---- what the fields of a decoder keep
 
-pub record IsKept (limits : Limits) (progress : Progress) (buffer : List ℕ) (fault : Option Fault) : Type 0 where
+pub record DecoderInvariant (limits : Limits) (progress : Progress) (buffer : List ℕ) (fault : Option Fault) : Type 0 where
   pub sound : IsSound limits progress buffer
   pub lasting : fault ≢ Some Memory
   pub spent : IsSome fault → held_bytes progress buffer ≡ []

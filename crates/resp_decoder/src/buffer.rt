@@ -1,11 +1,13 @@
-//! Giving up the bytes of a buffer that are done with. The decoder does so before it takes a piece; the rule is its own.
+//! Giving up the bytes of a buffer that are done with. The decoder does so before it takes a piece; the rule is its
+//! own.
 
 ghost use Rattle.std.specs.Prelude.{◌≡◌, ◌≤◌, ◌*◌, ◌-◌, length, drop, vec_capacity};
 
 /// The room that a buffer keeps for the next piece; more is given back where a quarter of it would do.
 const KEPT_ROOM: usize = 1 << 20;
 
-/// Gives up the bytes before `start` where they are at least as many as the others, so that each byte is moved for one that goes.
+/// Gives up the bytes before `start` where they are at least as many as the others, so that each byte is moved for one
+/// that goes.
 pub fn give_up_front(buffer: &mut Vec<u8>, start: &mut usize)
     requires { start.old ≤ length buffer.old.items }
     ensures fits { start.new ≤ length buffer.new.items }

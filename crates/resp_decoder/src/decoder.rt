@@ -8,8 +8,8 @@ ghost use Rattle.std.specs.Prelude.{IsTrue, IsSome, IsOk, OnOk, OnErr, IfOk, IfE
 use crate::buffer::give_up_front;
 use crate::fault::Fault;
 use crate::limits::Limits;
+use crate::parsing::Stop;
 use crate::progress::Progress;
-use crate::reading::Stop;
 use resp::Request;
 use std::alloc::{AllocError, Global};
 use std::marker::Model;
@@ -29,14 +29,14 @@ pub struct Decoder {
 }
 
 impl Model for Decoder {
-    ghost use Rattle.resp_decoder.specs.Decoding.{Held, IsKept};
+    ghost use Rattle.resp_decoder.specs.Decoding.{Held, DecoderInvariant};
     ghost use Rattle.resp_decoder.specs.Advancing.{held_bytes};
 
     ghost Value = { Held };
 
     ghost view = { λ d. record { limits = d.limits; bytes = held_bytes d.progress d.buffer.items; fault = d.fault } };
 
-    ghost invariant = { λ d. IsKept d.limits d.progress d.buffer.items d.fault };
+    ghost invariant = { λ d. DecoderInvariant d.limits d.progress d.buffer.items d.fault };
 }
 
 impl Decoder {

@@ -6,13 +6,13 @@
 ghost use Rattle.std.specs.Prelude.{◌≡◌, ◌<◌, ◌≤◌, ◌+◌, [], length, IsErrOf, OnErr};
 ghost use Rattle.std.specs.List.{AllByRecursion};
 ghost use Rattle.resp_decoder.specs.declared.fault.Fault.TheVariants as faults;
-ghost use Rattle.resp_decoder.specs.declared.reading.Stop.TheVariants as stops;
+ghost use Rattle.resp_decoder.specs.declared.parsing.Stop.TheVariants as stops;
 ghost use Rattle.resp_decoder.specs.Texts.{IsShort};
 ghost use Rattle.resp_decoder.specs.Advancing.{words_of, held_bytes, IsSound, Begins, Moves, Fills, Advances};
 
 use crate::fault::Fault;
 use crate::limits::Limits;
-use crate::reading::{Stop, head_of, word_of};
+use crate::parsing::{Stop, head_of, word_of};
 use std::alloc::Global;
 
 /// The room that is taken for a request's words before they come. A count alone takes no more.

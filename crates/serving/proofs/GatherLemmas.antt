@@ -7,25 +7,25 @@ use Rattle.resp_decoder.specs.Texts.{Stream, IsOpen, IsFault, IsLawful, item_tex
 use Rattle.serving.specs.declared.door.DoorFault.TheVariants.{Ended}
 use Rattle.serving.specs.declared.gather.Pause.{Pause}
 use Rattle.serving.specs.declared.gather.Pause.TheVariants.{Full, Waits, Faulty, Starved, Closed}
-use Rattle.serving.specs.Answers.{Answer, answer_text, texts, EndsBy, Answered}
+use Rattle.serving.specs.Answers.{Answer, answer_text, answers_text, EndsBy, Answered}
 use Rattle.serving.specs.Gathers.{AddsReply, AddsLine, Gathers}
 use Rattle.resp_decoder.proofs.Taking.{taking_shorter}
 use Rattle.serving.proofs.StreamLemmas.{length-rest-le}
-use Rattle.serving.proofs.AnswerLemmas.{answered_start, answered_past, answered_more, texts-append}
+use Rattle.serving.proofs.AnswerLemmas.{answered_start, answered_past, answered_more, answers_text-append}
 
 -- The requests before the bytes that are held now were answered, and what is gathered are the texts of the answers.
 pub record Gathering {S Reason : Type 0} (asks : S → List (List ℕ) → Answer Reason → S → Type 0) (old new : Held) (s t : S) (gathered : List ℕ) : Type 0 where
   pub answers : List (Answer Reason)
   pub answered : Answered asks old.limits old.bytes new.bytes s t None answers
   pub held : new ≡ with_bytes old new.bytes
-  pub all_texts : gathered ≡ texts answers
+  pub all_texts : gathered ≡ answers_text answers
   pub fewer : 0 < length gathered → length new.bytes < length old.bytes
 
 -- a text behind others
-texts-one : {Reason : Type 0} (gathered after : List ℕ) (answers : List (Answer Reason)) (answer : Answer Reason)
-    → gathered ≡ texts answers → after ≡ gathered ++ answer_text answer → after ≡ texts (answers ++ answer ∷ [])
-texts-one gathered after answers answer p e =
-    e ∙ ap (λ l. l ++ answer_text answer) p ∙ ap (λ l. texts answers ++ l) (sym (append-nil (answer_text answer))) ∙ sym (texts-append answers (answer ∷ []))
+answers_text-one : {Reason : Type 0} (gathered after : List ℕ) (answers : List (Answer Reason)) (answer : Answer Reason)
+    → gathered ≡ answers_text answers → after ≡ gathered ++ answer_text answer → after ≡ answers_text (answers ++ answer ∷ [])
+answers_text-one gathered after answers answer p e =
+    e ∙ ap (λ l. l ++ answer_text answer) p ∙ ap (λ l. answers_text answers ++ l) (sym (append-nil (answer_text answer))) ∙ sym (answers_text-append answers (answer ∷ []))
 
 same_limits : (old now : Held) → now ≡ with_bytes old now.bytes → now.limits ≡ old.limits
 same_limits old now p = ap (λ (h : Held). h.limits) p
@@ -59,7 +59,7 @@ module _ {S Reason : Type 0} (asks : S → List (List ℕ) → Answer Reason →
     answers = p.answers ++ adds.0 ∷ [];
     answered = asked now new u t gathered words adds.0 None p takes adds.1 (adds.2, tt);
     held = held_after now new u gathered p takes.unchanged;
-    all_texts = texts-one gathered after p.answers adds.0 p.all_texts adds.3;
+    all_texts = answers_text-one gathered after p.answers adds.0 p.all_texts adds.3;
     fewer = λ some. omega (arith, taking_shorter now new words takes, length-rest-le old.limits old.bytes now.bytes p.answered.requests p.answered.taken);
   }
 
@@ -94,7 +94,7 @@ module _ {S Reason : Type 0} (asks : S → List (List ℕ) → Answer Reason →
         answered = answered_past asks old.limits old.bytes now.bytes cause.0 s t None p.answers p.answered (subst (λ l. Stream l now.bytes [] cause.0) same cause.1);
         pauses = (
           subst (IsFault old.limits cause.0) (sym adds.0) (subst (λ l. IsFault l cause.0 fault) same cause.2),
-          adds.2 ∙ ap (λ l. l ++ fault_text fault) p.all_texts ∙ ap (λ f. texts p.answers ++ fault_text f) (sym adds.0),
+          adds.2 ∙ ap (λ l. l ++ fault_text fault) p.all_texts ∙ ap (λ f. answers_text p.answers ++ fault_text f) (sym adds.0),
         );
       }
 
@@ -115,5 +115,5 @@ module _ {S Reason : Type 0} (asks : S → List (List ℕ) → Answer Reason →
         rest = new.bytes;
         answers = p.answers ++ last ∷ [];
         answered = asked now new u t gathered words last (Some reason) p takes adds.0 ([], refl, tt);
-        pauses = texts-one gathered after p.answers last p.all_texts (adds.1 ∙ sym (append-nil gathered));
+        pauses = answers_text-one gathered after p.answers last p.all_texts (adds.1 ∙ sym (append-nil gathered));
       }

@@ -54,7 +54,8 @@ pub(crate) fn gather<D: Door>(
     Pause::Full
 }
 
-/// Has the door answer a request, and adds the reply: the door's own, or that there was no memory. The pause where there is none.
+/// Has the door answer a request, and adds the reply: the door's own, or that there was no memory. The pause where
+/// there is none.
 fn gather_reply<D: Door>(
     door: &mut D,
     request: Request,

@@ -311,7 +311,8 @@ fn count_replies(bytes: &[u8]) -> Option<usize> {
     None
 }
 
-// With ample memory this is three replies. Run with the Nth allocation failing, for each N, it says what is left to promise.
+// With ample memory this is three replies. Run with the Nth allocation failing, for each N, it says what is left to
+// promise.
 #[test]
 fn keeps_replies_whole_where_memory_fails(rt: HostRuntime) -> Result<(), Fail> {
     let input = b"*1\r\n$1\r\na\r\n*1\r\n$1\r\na\r\n*1\r\n$1\r\na\r\n";

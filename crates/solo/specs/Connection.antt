@@ -26,8 +26,8 @@ answer_by (Err refusal) m = (m, ErrorLine (refusal_text refusal))
 abbrev pub answer_to : List (List ℕ) → Case
 answer_to words = answer_by (reading words)
 
--- The request got its answer; or there was no memory for the command that it is, and the map is as before: to refuse words
--- takes no memory. The store ends no connection.
+-- The request got its answer; or there was no memory for the command that it is, and the map is as before: to refuse
+-- words takes no memory. The store ends no connection.
 abbrev pub Asks : Map → List (List ℕ) → Answer Infallible → Map → Type 0
 Asks old words (Ok reply) new = (new, reply) ≡ answer_to words old
 Asks old words (Err Memory) new = IsOk (reading words) × (new ≡ old)
@@ -49,8 +49,8 @@ replies_of (Err fault ∷ answers) = replies_of answers
 abbrev pub limits : Limits
 limits = record { words = 1048576; bulk = 536870912; few_words = lit< tt; short_bulk = lit< tt }
 
--- The connection was served as `Serves` says, and the requests for which there was memory were answered one after another on the
--- one map, whose last state is t: the others have left no trace.
+-- The connection was served as `Serves` says, and the requests for which there was memory were answered one after
+-- another on the one map, whose last state is t: the others have left no trace.
 pub record ServesInTurn (before after old new : Option (List ℕ)) (s t : Map) (result : Result Served (ServeFault Infallible)) : Type 0 where
   pub connection : Serves Asks limits before after old new s t result
   pub replies : (t, replies_of connection.answers) ≡ in_turn answer_to s (answered_of connection.answered.requests connection.answers)
