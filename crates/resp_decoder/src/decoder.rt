@@ -56,12 +56,12 @@ impl Decoder {
         }
     }
 
-    /// Appends a piece to the held bytes, or nothing where there is no memory. Behind a fault it answers `Ok` and
+    /// Appends a piece to the held bytes, or nothing where there is no memory. After a fault it answers `Ok` and
     /// keeps nothing.
     pub fn feed(&mut self, piece: &[u8]) -> Result<(), AllocError>
         ensures ok { OnOk result (self.new ≡ fed self.old piece.now) }
         ensures err { OnErr result (self.new ≡ self.old) }
-        ensures behind_fault { IsSome self.old.fault → IsOk result }
+        ensures after_fault { IsSome self.old.fault → IsOk result }
     {
         if self.fault.is_some() {
             return Ok(());
@@ -101,7 +101,7 @@ impl Decoder {
         }
     }
 
-    /// Whether bytes are held. Behind a `next` that answered `None` these are the beginning of a request.
+    /// Whether bytes are held. After a `next` that answered `None` these are the beginning of a request.
     pub fn pending(&self) -> bool
         ensures { IsTrue result ↔ (0 < length self.now.bytes) }
     {
