@@ -15,6 +15,14 @@ dollar = 36
 abbrev pub asterisk : ℕ
 asterisk = 42
 
+-- `+`, which begins a simple string
+abbrev pub plus : ℕ
+plus = 43
+
+-- `:`, which begins an integer
+abbrev pub colon : ℕ
+colon = 58
+
 -- `-`, which begins an error and a number below 0
 abbrev pub minus : ℕ
 minus = 45
