@@ -46,6 +46,14 @@ impl Request {
         Ok(Request { words: copies })
     }
 
+    /// A copy of the request; `AllocError` where there is no memory for it.
+    pub fn try_clone(&self, alloc: Global) -> Result<Self, AllocError>
+        ensures copied { IfOk result (λ r. r ≡ self.now) }
+    {
+        let words = copies_of(alloc, self.words.as_slice())?;
+        Ok(Request { words })
+    }
+
     /// The number of words, which is at least one.
     #[allow(clippy::len_without_is_empty)]
     pub fn len(&self) -> usize
@@ -70,4 +78,15 @@ impl Request {
     {
         self.words
     }
+}
+
+/// Copies of these words, in their order.
+fn copies_of(alloc: Global, words: &[Vec<u8>]) -> Result<Vec<Vec<u8>>, AllocError>
+    ensures { IfOk result (λ copies. map (λ w. w.items) copies.items ≡ map (λ w. w.items) words.now) }
+{
+    let mut copies = Vec::with_capacity(alloc, words.len())?;
+    for word in words {
+        copies.push(Vec::from_slice(alloc, word.as_slice())?)?;
+    }
+    Ok(copies)
 }

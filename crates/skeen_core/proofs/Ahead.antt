@@ -29,12 +29,12 @@ pub data Step (me : ℕ) (old : GroupState) (id : RequestId) (body : Body) (sent
   Begins : (floor : ℕ) (groups : List ℕ) → get old.started id ≡ None → Delivering me (lifted (with_start me old id floor groups) id) ds new → (body ≡ Start floor groups) → sent ≡ tell me id (next_clock old floor) groups → Step me old id body sent ds new
   Hears : (from n : ℕ) → Delivering me (lifted (with_proposal old id from n) id) ds new → (body ≡ Proposal from n) → sent ≡ [] → Step me old id body sent ds new
 
-step_start : (me : ℕ) (old : GroupState) (id : RequestId) (floor : ℕ) (groups : List ℕ) (sent : List Packet) (ds : List Delivered) (new : GroupState) (o : Option (List ℕ)) → get old.started id ≡ o →
+pub step_start : (me : ℕ) (old : GroupState) (id : RequestId) (floor : ℕ) (groups : List ℕ) (sent : List Packet) (ds : List Delivered) (new : GroupState) (o : Option (List ℕ)) → get old.started id ≡ o →
     ReceivesStart o me old id floor groups sent ds new → Step me old id (Start floor groups) sent ds new
 step_start me old id floor groups sent ds new (Some gs) e r = Again r.0 r.1 r.2
 step_start me old id floor groups sent ds new None e r = Begins floor groups e r.1 refl r.0
 
-step : (me : ℕ) (old : GroupState) (id : RequestId) (body : Body) (sent : List Packet) (ds : List Delivered) (new : GroupState) → Receives me old id body sent ds new → Step me old id body sent ds new
+pub step : (me : ℕ) (old : GroupState) (id : RequestId) (body : Body) (sent : List Packet) (ds : List Delivered) (new : GroupState) → Receives me old id body sent ds new → Step me old id body sent ds new
 step me old id (Start floor groups) sent ds new r = step_start me old id floor groups sent ds new (get old.started id) refl r
 step me old id (Proposal from n) sent ds new r = Hears from n r.1 refl r.0
 
@@ -150,7 +150,7 @@ ahead_same me old new id ds ahead but own c more = record {
 }
 
 -- a request that begins stands above all that was delivered
-ahead_start : (me : ℕ) (old : GroupState) (id : RequestId) (floor : ℕ) (groups : List ℕ) (ds : List Delivered) → Sound me old → has groups me ≡ true → Ahead me old ds → Ahead me (lifted (with_start me old id floor groups) id) ds
+pub ahead_start : (me : ℕ) (old : GroupState) (id : RequestId) (floor : ℕ) (groups : List ℕ) (ds : List Delivered) → Sound me old → has groups me ≡ true → Ahead me old ds → Ahead me (lifted (with_start me old id floor groups) id) ds
 ahead_start me old id floor groups ds sound member ahead =
     ahead_same me old (with_start me old id floor groups) id ds ahead (but_start me old id floor groups) own _ (lift_grows (next_clock old floor) (final_of (with_start me old id floor groups) id (get (with_start me old id floor groups).started id)))
   where
@@ -164,7 +164,7 @@ ahead_start me old id floor groups ds sound member ahead =
         (ap (λ o. stamp_lt d.stamp (record { clock = or_zero o; group = me })) heard_own ∙ less)
 
 -- what hears more stands no lower
-ahead_proposal : (me : ℕ) (old : GroupState) (id : RequestId) (from n : ℕ) (ds : List Delivered) → Sound me old → from ≢ me → ((i : RequestId) → heard old i from ≡ Some n → i ≡ id) → ((m : ℕ) → heard old id from ≡ Some m → m ≡ n) → Ahead me old ds →
+pub ahead_proposal : (me : ℕ) (old : GroupState) (id : RequestId) (from n : ℕ) (ds : List Delivered) → Sound me old → from ≢ me → ((i : RequestId) → heard old i from ≡ Some n → i ≡ id) → ((m : ℕ) → heard old id from ≡ Some m → m ≡ n) → Ahead me old ds →
     Ahead me (lifted (with_proposal old id from n) id) ds
 ahead_proposal me old id from n ds sound other single agrees ahead =
     ahead_same me old (with_proposal old id from n) id ds ahead (but_proposal old id from n) own _ (lift_grows old.clock (final_of (with_proposal old id from n) id (get old.started id)))
@@ -190,7 +190,7 @@ kept_place me grp ds i gs e =
     ap (λ o. place_by o (own_at me (without grp ds) i)) (same_final (without grp ds) grp i gs (still_heard grp ds i e))
     ∙ ap (λ o. place_by (final (heard grp i) gs) (record { clock = or_zero o; group = me })) (still_heard grp ds i e me)
 
-left_started : (grp : GroupState) (ds : List Delivered) (i : RequestId) (gs : List ℕ) → get (without grp ds).started i ≡ Some gs → (has_id ds i ≡ false) × (get grp.started i ≡ Some gs)
+pub left_started : (grp : GroupState) (ds : List Delivered) (i : RequestId) (gs : List ℕ) → get (without grp ds).started i ≡ Some gs → (has_id ds i ≡ false) × (get grp.started i ≡ Some gs)
 left_started grp ds i gs e = elim (cases_Bool (has_id ds i)) [
   | inl p ↦ absurd (None≢Some gs (ap (λ b. cond b None (get grp.started i)) (sym p) ∙ sym (started-without grp ds i) ∙ e))
   | inr p ↦ (p, sym (still_started grp ds i p) ∙ e)
@@ -224,7 +224,7 @@ ahead_delivers me grp old ds sound ahead delivers = record {
       ];
 }
 
-ascending_append : (xs ys : List Delivered) → Ascending xs → Ascending ys → ((x y : Delivered) → In x xs → In y ys → stamp_lt x.stamp y.stamp ≡ true) → Ascending (xs ++ ys)
+pub ascending_append : (xs ys : List Delivered) → Ascending xs → Ascending ys → ((x y : Delivered) → In x xs → In y ys → stamp_lt x.stamp y.stamp ≡ true) → Ascending (xs ++ ys)
 ascending_append [] ys up up' less = up'
 ascending_append (x ∷ xs) ys up up' less = (
   λ e there. elim (In-append e xs ys there) [ inl before ↦ up.0 e before | inr after ↦ less x e (inl refl) after ],
@@ -232,7 +232,7 @@ ascending_append (x ∷ xs) ys up up' less = (
 )
 
 -- what goes now stands above what went before
-below_now : (me : ℕ) (grp : GroupState) (old ds : List Delivered) → Ahead me grp old → Delivers me grp ds → (x y : Delivered) → In x old → In y ds → stamp_lt x.stamp y.stamp ≡ true
+pub below_now : (me : ℕ) (grp : GroupState) (old ds : List Delivered) → Ahead me grp old → Delivers me grp ds → (x y : Delivered) → In x old → In y ds → stamp_lt x.stamp y.stamp ≡ true
 below_now me grp old ds ahead delivers x y there here =
     let may = delivers.only y here in
     ap (λ o. stamp_lt x.stamp (place_by o (own_at me grp y.id))) (sym may.stamp) ∙ ahead.below x y.id y.groups there may.started
@@ -275,7 +275,7 @@ going me old new before (r ∷ rs) go receives =
     subst (λ l. Going me new l) (append_assoc before r.delivered (log rs))
     (going me receives.0 new (before ++ r.delivered) rs (going_step me old r.packet r.sent before r.delivered receives.0 go receives.1 receives.2) receives.3)
 
-going_fresh : (me : ℕ) → Going me fresh []
+pub going_fresh : (me : ℕ) → Going me fresh []
 going_fresh me = record {
   lawful = lawful_fresh me;
   ahead = record { clock = λ d there. absurd there; below = λ d i gs there. absurd there };
@@ -312,7 +312,7 @@ delivered_is_forgotten me old new id body sent ds r d there = by_step (step me o
     by_step (Begins floor groups absent delivering is told) = gone _ delivering
     by_step (Hears from n delivering is told) = gone _ delivering
 
-empty_of : (ds : List Delivered) → ((d : Delivered) → In d ds → ⊥) → ds ≡ []
+pub empty_of : (ds : List Delivered) → ((d : Delivered) → In d ds → ⊥) → ds ≡ []
 empty_of [] none = refl
 empty_of (d ∷ ds) none = absurd (none d (inl refl))
 
@@ -331,7 +331,7 @@ repeats_change_nothing me rs old new id (Proposal from n) sent ds receives again
 
 -- ---- the rule leaves no choice
 
-same_ascending : (xs ys : List Delivered) → Ascending xs → Ascending ys → ((d : Delivered) → In d xs → In d ys) → ((d : Delivered) → In d ys → In d xs) → xs ≡ ys
+pub same_ascending : (xs ys : List Delivered) → Ascending xs → Ascending ys → ((d : Delivered) → In d xs → In d ys) → ((d : Delivered) → In d ys → In d xs) → xs ≡ ys
 same_ascending [] [] up up' to from = refl
 same_ascending [] (y ∷ ys) up up' to from = absurd (from y (inl refl))
 same_ascending (x ∷ xs) [] up up' to from = absurd (to x (inl refl))
@@ -346,7 +346,7 @@ same_ascending (x ∷ xs) (y ∷ ys) up up' to from =
     firsts (inr there) (inl same) = sym same
     firsts (inr there) (inr here) = absurd (both_ways _ (lt_asym y.stamp x.stamp (up'.0 x there)) (up.0 y here))
 
-delivering_same : (me : ℕ) (grp : GroupState) (ds ds' : List Delivered) (new new' : GroupState) → Delivering me grp ds new → Delivering me grp ds' new' → (ds ≡ ds') × (new ≡ new')
+pub delivering_same : (me : ℕ) (grp : GroupState) (ds ds' : List Delivered) (new new' : GroupState) → Delivering me grp ds new → Delivering me grp ds' new' → (ds ≡ ds') × (new ≡ new')
 delivering_same me grp ds ds' new new' a b =
     let same = same_ascending ds ds' a.delivers.ascending b.delivers.ascending (λ d there. b.delivers.all d (a.delivers.only d there)) (λ d there. a.delivers.all d (b.delivers.only d there)) in
     (same, a.after ∙ ap (without grp) same ∙ sym b.after)

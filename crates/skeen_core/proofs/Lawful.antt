@@ -288,13 +288,13 @@ named (d ∷ ds) i h = elim (or_cases (same_id d.id i) (has_id ds i) h) [
   | inr e ↦ let rest = named ds i e in record { one = rest.one; there = inr rest.there; id = rest.id }
 ]
 
-kept_started : (grp : GroupState) (ds : List Delivered) (i : RequestId) (gs : List ℕ) → get (without grp ds).started i ≡ Some gs → (has_id ds i ≡ false) × (get grp.started i ≡ Some gs)
+pub kept_started : (grp : GroupState) (ds : List Delivered) (i : RequestId) (gs : List ℕ) → get (without grp ds).started i ≡ Some gs → (has_id ds i ≡ false) × (get grp.started i ≡ Some gs)
 kept_started grp ds i gs e = elim (cases_Bool (has_id ds i)) [
   | inl p ↦ absurd (None≢Some gs (ap (λ b. cond b None (get grp.started i)) (sym p) ∙ sym (started-without grp ds i) ∙ e))
   | inr p ↦ (p, ap (λ b. cond b None (get grp.started i)) (sym p) ∙ sym (started-without grp ds i) ∙ e)
 ]
 
-kept_heard : (grp : GroupState) (ds : List Delivered) (i : RequestId) (g n : ℕ) → heard (without grp ds) i g ≡ Some n → (has_id ds i ≡ false) × (heard grp i g ≡ Some n)
+pub kept_heard : (grp : GroupState) (ds : List Delivered) (i : RequestId) (g n : ℕ) → heard (without grp ds) i g ≡ Some n → (has_id ds i ≡ false) × (heard grp i g ≡ Some n)
 kept_heard grp ds i g n e = elim (cases_Bool (has_id ds i)) [
   | inl p ↦ absurd (None≢Some n (ap (λ b. cond b None (heard grp i g)) (sym p) ∙ sym (heard-without grp ds i g) ∙ e))
   | inr p ↦ (p, ap (λ b. cond b None (heard grp i g)) (sym p) ∙ sym (heard-without grp ds i g) ∙ e)

@@ -1,10 +1,9 @@
 -- Runs of a store, one thing after another.
-use Rattle.std.proofs.Common.{◌≡◌, ℕ, ◌<◌, ◌^◌, lit<, Option, Result, List, [], ◌∷◌, ◌++◌, Ok, Err, refl, ap, sym, ◌∙◌, subst, append_assoc}
+use Rattle.std.proofs.Common.{◌≡◌, ℕ, ◌<◌, ◌^◌, lit<, Option, Result, List, [], ◌∷◌, ◌++◌, Ok, Err, ap, sym, ◌∙◌, subst, append_assoc}
 use Rattle.std.specs.Coded.{le_prop}
 use Rattle.std.specs.declared.convert.Infallible.{Infallible}
-use Rattle.command_cases.specs.Case.{Case}
+use Rattle.command_bodies.proofs.Turns.{pair}
 use Rattle.keyspace.specs.Map.{Map}
-use Rattle.resp.specs.Content.{Content}
 use Rattle.resp_decoder.specs.declared.limits.Limits.{Limits}
 use Rattle.serving.specs.declared.outcome.ServeFault.{ServeFault}
 use Rattle.serving.specs.declared.outcome.Served.{Served}
@@ -13,29 +12,6 @@ use Rattle.serving.specs.declared.door.DoorFault.TheVariants.{Memory, Ended}
 use Rattle.serving.specs.Answers.{Answer, Runs}
 use Rattle.solo.specs.Connection.{Asks, answer_to, answered_of, replies_of, limits, ServesInTurn}
 use Rattle.solo.specs.Solo.{in_turn}
-
-pair : {A B : Type 0} (a b : A) (x y : B) → a ≡ b → x ≡ y → ◌≡◌ {A = A × B} (a, x) (b, y)
-pair {A} {B} a b x y p q = let there : ◌≡◌ {A = A × B} (a, x) (b, x) = ap (λ v. (v, x)) p in there ∙ ap (λ v. (b, v)) q
-
-module _ {A : Type 0} (case : A → Case) where
-  left-push : (m : Map) (done : List A) (a : A) → (in_turn case m (done ++ a ∷ [])).0 ≡ (case a (in_turn case m done).0).0
-  left-push m [] a = refl
-  left-push m (b ∷ done) a = left-push (case b m).0 done a
-
-  replies-push : (m : Map) (done : List A) (a : A)
-      → (in_turn case m (done ++ a ∷ [])).1 ≡ (in_turn case m done).1 ++ (case a (in_turn case m done).0).1 ∷ []
-  replies-push m [] a = refl
-  replies-push m (b ∷ done) a = ap (λ l. (case b m).1 ∷ l) (replies-push (case b m).0 done a)
-
-  -- one more at the end
-  pub in_turn-push : (m n : Map) (done : List A) (a : A) (replies : List Content) (left : Map) (reply : Content)
-      → (n, replies) ≡ in_turn case m done → (left, reply) ≡ case a n → (left, replies ++ reply ∷ []) ≡ in_turn case m (done ++ a ∷ [])
-  in_turn-push m n done a replies left reply before here =
-      pair _ _ _ _
-      (ap (λ v. v.0) here ∙ ap (λ v. (case a v).0) (ap (λ v. v.0) before) ∙ sym (left-push m done a))
-      (ap (λ l. l ++ reply ∷ []) (ap (λ v. v.1) before)
-      ∙ ap (λ c. (in_turn case m done).1 ++ c ∷ []) (ap (λ v. v.1) here ∙ ap (λ v. (case a v).1) (ap (λ v. v.0) before))
-      ∙ sym (replies-push m done a))
 
 -- one of those that are left is taken
 pub taken-push : {A : Type 0} (all done : List A) (a : A) (left others : List A)

@@ -1,20 +1,10 @@
--- One thread on one map: what is asked is done one after another, each on the map that those before it left.
-use Rattle.std.specs.Prelude.{◌≡◌, ◌⊎◌, List, [], ◌∷◌, ◌++◌}
+-- What a store does with a command, and with a list of them. `in_turn` and `solo_from` are handed on from `command_bodies`.
+use Rattle.std.specs.Prelude.{◌≡◌, ◌⊎◌, List, ◌++◌}
 use Rattle.command_bodies.specs.Command.{effect_of}
-use Rattle.command_cases.specs.Case.{Case}
+pub use Rattle.command_bodies.specs.InTurn.{in_turn, solo_from}
 use Rattle.command_table.specs.declared.command.Command.{Command}
 use Rattle.keyspace.specs.Map.{Map}
 use Rattle.resp.specs.Content.{Content, out_of_memory}
-
--- the last map, and the reply at each place
-abbrev pub in_turn : {A : Type 0} → (A → Case) → Map → List A → Map × List Content
-in_turn case m [] = (m, [])
-in_turn case m (a ∷ more) =
-    ((in_turn case (case a m).0 more).0, (case a m).1 ∷ (in_turn case (case a m).0 more).1)
-
--- the commands in turn from this map
-abbrev pub solo_from : Map → List Command → Map × List Content
-solo_from = in_turn effect_of
 
 -- the command was run; or there was no memory for it, which was answered, and the map is as before
 abbrev pub IsStepOrStarves : Command → Map → Content → Map → Type 0

@@ -4,7 +4,8 @@ use Rattle.std.proofs.lemmas.List.{map-append}
 use Rattle.std.proofs.lemmas.Result.{err_from_is_err_and}
 use Rattle.resp.specs.Content.{content}
 use Rattle.command_bodies.specs.Command.{effect_of}
-use Rattle.solo.proofs.Turns.{in_turn-push, taken-push}
+use Rattle.command_bodies.proofs.Turns.{in_turn-push}
+use Rattle.solo.proofs.Turns.{taken-push}
 use Rattle.solo.proofs.store.Solo.run_all.Goals as goal
 
 pub loop-command-preserved : goal.loop-command-preserved
