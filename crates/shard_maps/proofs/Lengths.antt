@@ -13,7 +13,7 @@ use Rattle.std.specs.Ordering.{nat_cmp, is_lt, is_eq, eq_by_cmp}
 use Rattle.groups.specs.GroupSet.{has, IsAscending}
 use Rattle.keyspace.proofs.Gets.{same, bytes_eq-refl}
 use Rattle.keyspace.specs.Map.{Map, with_entries}
-use Rattle.placement.specs.Layout.{Layout, place}
+use Rattle.placement.specs.Layout.{Layout, shard_of}
 use Rattle.shard_maps.proofs.Joins.{get-with_entries, get-joined-cons}
 use Rattle.shard_maps.proofs.Unions.{get-union-none, not_again}
 use Rattle.shard_maps.specs.Joined.{joined, Span, numbers, union, SpanHasOwnKeys}

@@ -10,7 +10,7 @@ use Rattle.std.specs.Str.{bytes_eq}
 use Rattle.groups.specs.GroupSet.{has, IsAscending}
 use Rattle.keyspace.proofs.Gets.{same, same_bytes, get-set}
 use Rattle.keyspace.specs.Map.{Map, set}
-use Rattle.placement.specs.Layout.{Layout, place}
+use Rattle.placement.specs.Layout.{Layout, shard_of}
 use Rattle.shard_maps.proofs.Joins.{get-joined-cons, none_elsewhere, or_none}
 use Rattle.shard_maps.proofs.Steps.{get-part_of}
 use Rattle.shard_maps.specs.Joined.{HasKeysOf, Span, numbers, union, SpanHasOwnKeys, part_of, divided}
@@ -21,24 +21,24 @@ pub not_again : (n : ℕ) (ns : List ℕ) → IsAscending (n ∷ ns) → has ns 
 not_again n ns up = elim (cases_Bool (has ns n)) [ inl e ↦ absurd (lt_irrefl n (up.0 n e)) | inr e ↦ e ]
 
 -- at a key that lies on none of a span's shards there is nothing
-pub get-union-none : (table : Layout) (span : Span) (q : List ℕ) → SpanHasOwnKeys table span → has (numbers span) (place table q) ≡ false → get (union span) q ≡ None
+pub get-union-none : (table : Layout) (span : Span) (q : List ℕ) → SpanHasOwnKeys table span → has (numbers span) (shard_of table q) ≡ false → get (union span) q ≡ None
 get-union-none table [] q own away = get-empty (slice_cmp nat_cmp) q
 get-union-none table (s ∷ ss) q own away =
-    let apart = or_parts (s.0 == place table q) (has (numbers ss) (place table q)) away in
+    let apart = or_parts (s.0 == shard_of table q) (has (numbers ss) (shard_of table q)) away in
     get-joined-cons s.1 (map (λ t. t.1) ss) q
-    ∙ ap (λ o. option_or o (get (union ss) q)) (none_elsewhere table s.0 s.1 q own.0 (λ e. both_ways _ apart.0 (eq-eqb s.0 (place table q) (sym e))))
+    ∙ ap (λ o. option_or o (get (union ss) q)) (none_elsewhere table s.0 s.1 q own.0 (λ e. both_ways _ apart.0 (eq-eqb s.0 (shard_of table q) (sym e))))
     ∙ get-union-none table ss q own.1 apart.1
 
 -- a span's first shard has what the union has at the keys that lie there, and the others have the rest
 pub get-union-first : (table : Layout) (s : ℕ × Map) (ss : Span) (q : List ℕ) → SpanHasOwnKeys table (s ∷ ss) → IsAscending (numbers (s ∷ ss))
-    → place table q ≡ s.0 → get (union (s ∷ ss)) q ≡ get s.1 q
+    → shard_of table q ≡ s.0 → get (union (s ∷ ss)) q ≡ get s.1 q
 get-union-first table s ss q own up here =
     get-joined-cons s.1 (map (λ t. t.1) ss) q
     ∙ ap (option_or (get s.1 q)) (get-union-none table ss q own.1 (ap (has (numbers ss)) here ∙ not_again s.0 (numbers ss) up))
     ∙ or_none (get s.1 q)
 
 pub get-union-rest : (table : Layout) (s : ℕ × Map) (ss : Span) (q : List ℕ) → SpanHasOwnKeys table (s ∷ ss)
-    → (place table q ≡ s.0 → ⊥) → get (union (s ∷ ss)) q ≡ get (union ss) q
+    → (shard_of table q ≡ s.0 → ⊥) → get (union (s ∷ ss)) q ≡ get (union ss) q
 get-union-rest table s ss q own apart =
     get-joined-cons s.1 (map (λ t. t.1) ss) q ∙ ap (λ o. option_or o (get (union ss) q)) (none_elsewhere table s.0 s.1 q own.0 apart)
 
@@ -57,7 +57,7 @@ later_apart t ts i s up at e = lt_irrefl t.0 (up.0 t.0 (subst (λ n. has (number
 
 -- the shard at which a key lies has there what the union has
 pub get-union-at : (table : Layout) (span : Span) (i : ℕ) (s : ℕ × Map) (q : List ℕ) → SpanHasOwnKeys table span → IsAscending (numbers span)
-    → slice_get span i ≡ Some s → place table q ≡ s.0 → get (union span) q ≡ get s.1 q
+    → slice_get span i ≡ Some s → shard_of table q ≡ s.0 → get (union span) q ≡ get s.1 q
 get-union-at table [] i s q own up at here = absurd (cc)
 get-union-at table (t ∷ ts) zero s q own up at here =
     let is = some_same t s at in
@@ -72,15 +72,15 @@ numbers-set [] i s m at = refl
 numbers-set (t ∷ ts) zero s m at = ap (λ n. n ∷ numbers ts) (ap (λ v. v.0) (sym (some_same t s at)))
 numbers-set (t ∷ ts) (suc i) s m at = ap (λ l. t.0 ∷ l) (numbers-set ts i s m at)
 
-HasKeysOf-set : (table : Layout) (shard : ℕ) (m : Map) (k : List ℕ) (o : Option Value) → HasKeysOf table shard m → place table k ≡ shard → HasKeysOf table shard (set m k o)
+HasKeysOf-set : (table : Layout) (shard : ℕ) (m : Map) (k : List ℕ) (o : Option Value) → HasKeysOf table shard m → shard_of table k ≡ shard → HasKeysOf table shard (set m k o)
 HasKeysOf-set table shard m k o own here q there =
-    elim (bytes_eq k q) as (λ b. bytes_eq k q ≡ b → IsSome (cond b o (get m q)) → place table q ≡ shard) [
-      | true ↦ λ e _. ap (place table) (sym (same_bytes k q e)) ∙ here
+    elim (bytes_eq k q) as (λ b. bytes_eq k q ≡ b → IsSome (cond b o (get m q)) → shard_of table q ≡ shard) [
+      | true ↦ λ e _. ap (shard_of table) (sym (same_bytes k q e)) ∙ here
       | false ↦ λ _ h. own q h
     ] refl (subst IsSome (get-set m k o q) there)
 
 pub SpanHasOwnKeys-set : (table : Layout) (span : Span) (i : ℕ) (s : ℕ × Map) (k : List ℕ) (o : Option Value) → SpanHasOwnKeys table span
-    → slice_get span i ≡ Some s → place table k ≡ s.0 → SpanHasOwnKeys table (slice_set span i (s.0, set s.1 k o))
+    → slice_get span i ≡ Some s → shard_of table k ≡ s.0 → SpanHasOwnKeys table (slice_set span i (s.0, set s.1 k o))
 SpanHasOwnKeys-set table [] i s k o own at here = tt
 SpanHasOwnKeys-set table (t ∷ ts) zero s k o own at here =
     (HasKeysOf-set table s.0 s.1 k o (subst (λ v. HasKeysOf table v.0 v.1) (some_same t s at) own.0) here, own.1)
@@ -96,7 +96,7 @@ set_later false o p r h = refl
 
 -- to change a key in its shard is to change it in the union
 pub union-set : (table : Layout) (span : Span) (i : ℕ) (s : ℕ × Map) (k : List ℕ) (o : Option Value) → SpanHasOwnKeys table span → IsAscending (numbers span)
-    → slice_get span i ≡ Some s → place table k ≡ s.0 → union (slice_set span i (s.0, set s.1 k o)) ≡ set (union span) k o
+    → slice_get span i ≡ Some s → shard_of table k ≡ s.0 → union (slice_set span i (s.0, set s.1 k o)) ≡ set (union span) k o
 union-set table [] i s k o own up at here = absurd (cc)
 union-set table (t ∷ ts) zero s k o own up at here =
     same (union ((s.0, set s.1 k o) ∷ ts)) (set (union (t ∷ ts)) k o) (λ q.
@@ -107,8 +107,8 @@ union-set table (t ∷ ts) zero s k o own up at here =
     ∙ ap (cond (bytes_eq k q) o) (sym (get-joined-cons t.1 (map (λ v. v.1) ts) q))
     ∙ sym (get-set (union (t ∷ ts)) k o q))
   where
-    lies : (q : List ℕ) → bytes_eq k q ≡ true → place table q ≡ t.0
-    lies q e = ap (place table) (sym (same_bytes k q e)) ∙ here ∙ ap (λ v. v.0) (sym (some_same t s at))
+    lies : (q : List ℕ) → bytes_eq k q ≡ true → shard_of table q ≡ t.0
+    lies q e = ap (shard_of table) (sym (same_bytes k q e)) ∙ here ∙ ap (λ v. v.0) (sym (some_same t s at))
 union-set table (t ∷ ts) (suc i) s k o own up at here =
     same (union (t ∷ slice_set ts i (s.0, set s.1 k o))) (set (union (t ∷ ts)) k o) (λ q.
     get-joined-cons t.1 (map (λ v. v.1) (slice_set ts i (s.0, set s.1 k o))) q
@@ -118,20 +118,20 @@ union-set table (t ∷ ts) (suc i) s k o own up at here =
     ∙ ap (cond (bytes_eq k q) o) (sym (get-joined-cons t.1 (map (λ v. v.1) ts) q))
     ∙ sym (get-set (union (t ∷ ts)) k o q))
   where
-    elsewhere : (q : List ℕ) → bytes_eq k q ≡ true → place table q ≡ t.0 → ⊥
-    elsewhere q e there = later_apart t ts i s up at (sym (sym (ap (place table) (same_bytes k q e) ∙ there) ∙ here))
+    elsewhere : (q : List ℕ) → bytes_eq k q ≡ true → shard_of table q ≡ t.0 → ⊥
+    elsewhere q e there = later_apart t ts i s up at (sym (sym (ap (shard_of table) (same_bytes k q e) ∙ there) ∙ here))
 
 -- ---- the union divided
 
-divided_alike : (table : Layout) (gs : List ℕ) (m n : Map) → ((q : List ℕ) → has gs (place table q) ≡ true → get m q ≡ get n q) → divided table gs m ≡ divided table gs n
+divided_alike : (table : Layout) (gs : List ℕ) (m n : Map) → ((q : List ℕ) → has gs (shard_of table q) ≡ true → get m q ≡ get n q) → divided table gs m ≡ divided table gs n
 divided_alike table [] m n alike = refl
 divided_alike table (g ∷ gs) m n alike =
     ap (λ p. (g, p) ∷ divided table gs m) (same (part_of table m g) (part_of table n g) (λ q. get-part_of table m g q ∙ at_key q ∙ sym (get-part_of table n g q)))
-    ∙ ap (λ l. (g, part_of table n g) ∷ l) (divided_alike table gs m n (λ q there. alike q (or_right (g == place table q) (has gs (place table q)) there)))
+    ∙ ap (λ l. (g, part_of table n g) ∷ l) (divided_alike table gs m n (λ q there. alike q (or_right (g == shard_of table q) (has gs (shard_of table q)) there)))
   where
-    at_key : (q : List ℕ) → cond (place table q == g) (get m q) None ≡ cond (place table q == g) (get n q) None
-    at_key q = elim (place table q == g) as (λ b. (place table q == g) ≡ b → cond b (get m q) None ≡ cond b (get n q) None) [
-      | true ↦ λ e. alike q (or_left (g == place table q) (has gs (place table q)) (eq-eqb g (place table q) (sym (eqb-true (place table q) g e))))
+    at_key : (q : List ℕ) → cond (shard_of table q == g) (get m q) None ≡ cond (shard_of table q == g) (get n q) None
+    at_key q = elim (shard_of table q == g) as (λ b. (shard_of table q == g) ≡ b → cond b (get m q) None ≡ cond b (get n q) None) [
+      | true ↦ λ e. alike q (or_left (g == shard_of table q) (has gs (shard_of table q)) (eq-eqb g (shard_of table q) (sym (eqb-true (shard_of table q) g e))))
       | false ↦ λ _. refl
     ] refl
 
@@ -143,8 +143,8 @@ divided-union table (s ∷ ss) own up =
     ∙ ap (λ l. s ∷ l) (divided_alike table (numbers ss) (union (s ∷ ss)) (union ss) (λ q there. get-union-rest table s ss q own (λ e. lt_irrefl s.0 (up.0 s.0 (subst (λ n. has (numbers ss) n ≡ true) e there))))
     ∙ divided-union table ss own.1 up.1)
   where
-    at_key : (q : List ℕ) → cond (place table q == s.0) (get (union (s ∷ ss)) q) None ≡ get s.1 q
-    at_key q = elim (cases_eq (place table q) s.0) [
-      | inl e ↦ ap (λ b. cond b (get (union (s ∷ ss)) q) None) (eq-eqb (place table q) s.0 e) ∙ get-union-first table s ss q own up e
-      | inr apart ↦ ap (λ b. cond b (get (union (s ∷ ss)) q) None) (ne_eqb (place table q) s.0 apart) ∙ sym (none_elsewhere table s.0 s.1 q own.0 apart)
+    at_key : (q : List ℕ) → cond (shard_of table q == s.0) (get (union (s ∷ ss)) q) None ≡ get s.1 q
+    at_key q = elim (cases_eq (shard_of table q) s.0) [
+      | inl e ↦ ap (λ b. cond b (get (union (s ∷ ss)) q) None) (eq-eqb (shard_of table q) s.0 e) ∙ get-union-first table s ss q own up e
+      | inr apart ↦ ap (λ b. cond b (get (union (s ∷ ss)) q) None) (ne_eqb (shard_of table q) s.0 apart) ∙ sym (none_elsewhere table s.0 s.1 q own.0 apart)
     ]
