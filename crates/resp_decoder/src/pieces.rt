@@ -46,9 +46,9 @@ pub fn decode_all(alloc: Global, limits: Limits, pieces: &[&[u8]]) -> Result<Dec
 
 /// Takes the requests that the decoder has, up to its fault if one stands there.
 fn take_all(decoder: &mut Decoder, requests: &mut Vec<Request>) -> Result<Option<Fault>, AllocError>
-    requires { decoder.old.fault ≡ None }
+    requires { decoder.old.held.fault ≡ None }
     ensures { IfOk result (λ fault. (list : List (List (List ℕ))) × (requests.new.items ≡ requests.old.items ++ list)
-        × TakesAll decoder.old list fault decoder.new) }
+        × TakesAll decoder.old.held list fault decoder.new.held) }
 {
     loop {
         match decoder.next() {
