@@ -53,9 +53,9 @@ module _ {S Reason : Type 0} (asks : S → List (List ℕ) → Answer Reason →
   held_after : (now new : Held) (u : S) (gathered : List ℕ) → Gathering asks old now s u gathered → new ≡ with_bytes now new.bytes → new ≡ with_bytes old new.bytes
   held_after now new u gathered p e = e ∙ ap (λ (h : Held). with_bytes h new.bytes) p.held
 
-  pub gathering_more : (now new : Held) (u t : S) (gathered after : List ℕ) (words : List (List ℕ))
-      → Gathering asks old now s u gathered → TakesRequest now words new → AddsReply asks u words t gathered after (Ok tt) → Gathering asks old new s t after
-  gathering_more now new u t gathered after words p takes adds = record {
+  pub gathering_more : (now new : Held) (u t : S) (room : ℕ) (gathered after : List ℕ) (words : List (List ℕ))
+      → Gathering asks old now s u gathered → TakesRequest now words new → AddsReply asks u words t room gathered after (Ok tt) → Gathering asks old new s t after
+  gathering_more now new u t room gathered after words p takes adds = record {
     answers = p.answers ++ adds.0 ∷ [];
     answered = asked now new u t gathered words adds.0 None p takes adds.1 (adds.2, tt);
     held = held_after now new u gathered p takes.unchanged;
@@ -76,15 +76,15 @@ module _ {S Reason : Type 0} (asks : S → List (List ℕ) → Answer Reason →
         pauses = (held_after now new t gathered p waits.unchanged, subst (λ l. IsOpen l new.bytes) same waits.rest_open, p.all_texts);
       }
 
-  pub gathers_line : (now new : Held) (t : S) (gathered after : List ℕ) (fault : Fault) (pause : Pause Reason)
+  pub gathers_line : (now new : Held) (t : S) (room : ℕ) (gathered after : List ℕ) (fault : Fault) (pause : Pause Reason)
       → Gathering asks old now s t gathered → old.fault ≡ None → (fault ≢ Fault.Memory → Fails now fault new)
-      → AddsLine fault gathered after pause → Gathers asks old new s t after pause
-  gathers_line now new t gathered after fault Full p clean fails adds = absurd adds
-  gathers_line now new t gathered after fault Waits p clean fails adds = absurd adds
-  gathers_line now new t gathered after fault (Closed reason) p clean fails adds = absurd adds
-  gathers_line now new t gathered after fault Starved p clean fails adds =
-      record { rest = now.bytes; answers = p.answers; answered = p.answered; pauses = inl (adds ∙ p.all_texts) }
-  gathers_line now new t gathered after fault (Faulty shown) p clean fails adds =
+      → AddsLine fault room gathered after pause → Gathers asks old new s t after pause
+  gathers_line now new t room gathered after fault Full p clean fails adds = absurd adds
+  gathers_line now new t room gathered after fault Waits p clean fails adds = absurd adds
+  gathers_line now new t room gathered after fault (Closed reason) p clean fails adds = absurd adds
+  gathers_line now new t room gathered after fault Starved p clean fails adds =
+      record { rest = now.bytes; answers = p.answers; answered = p.answered; pauses = inl (adds.0 ∙ p.all_texts) }
+  gathers_line now new t room gathered after fault (Faulty shown) p clean fails adds =
       let same = same_limits old now p.held in
       let none : now.fault ≡ None = ap (λ (h : Held). h.fault) p.held ∙ clean in
       let cause : IsCause now fault None = subst (IsCause now fault) none (fails adds.1).cause in
@@ -98,18 +98,18 @@ module _ {S Reason : Type 0} (asks : S → List (List ℕ) → Answer Reason →
         );
       }
 
-  pub gathers_reply : (now new : Held) (u t : S) (gathered after : List ℕ) (words : List (List ℕ)) (pause : Pause Reason)
-      → Gathering asks old now s u gathered → TakesRequest now words new → AddsReply asks u words t gathered after (Err pause) → Gathers asks old new s t after pause
-  gathers_reply now new u t gathered after words Full p takes adds = absurd adds
-  gathers_reply now new u t gathered after words Waits p takes adds = absurd adds
-  gathers_reply now new u t gathered after words (Faulty fault) p takes adds = absurd adds
-  gathers_reply now new u t gathered after words Starved p takes adds = record {
+  pub gathers_reply : (now new : Held) (u t : S) (room : ℕ) (gathered after : List ℕ) (words : List (List ℕ)) (pause : Pause Reason)
+      → Gathering asks old now s u gathered → TakesRequest now words new → AddsReply asks u words t room gathered after (Err pause) → Gathers asks old new s t after pause
+  gathers_reply now new u t room gathered after words Full p takes adds = absurd adds
+  gathers_reply now new u t room gathered after words Waits p takes adds = absurd adds
+  gathers_reply now new u t room gathered after words (Faulty fault) p takes adds = absurd adds
+  gathers_reply now new u t room gathered after words Starved p takes adds = record {
     rest = new.bytes;
     answers = p.answers ++ adds.0 ∷ [];
     answered = asked now new u t gathered words adds.0 None p takes adds.1 (adds.2, tt);
     pauses = inr (p.answers, adds.0, refl, adds.3 ∙ p.all_texts);
   }
-  gathers_reply now new u t gathered after words (Closed reason) p takes adds =
+  gathers_reply now new u t room gathered after words (Closed reason) p takes adds =
       let last : Answer Reason = Err (Ended reason) in
       record {
         rest = new.bytes;

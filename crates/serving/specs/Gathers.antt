@@ -1,5 +1,5 @@
 -- What gathering replies takes out of a decoder, asks the door and puts together.
-use Rattle.std.specs.Prelude.{◌≡◌, ◌≢◌, ℕ, ◌<◌, List, ◌++◌, length, Option, Some, None, Result, Ok, Err}
+use Rattle.std.specs.Prelude.{◌≡◌, ◌≢◌, ◌⊎◌, ℕ, ◌+◌, ◌<◌, List, ◌++◌, length, Option, Some, None, Result, Ok, Err}
 use Rattle.std.specs.Io.KnownBytes.{Appends}
 use Rattle.resp_decoder.specs.declared.fault.Fault.{Fault}
 use Rattle.resp_decoder.specs.Decoding.{Held, with_bytes}
@@ -12,22 +12,26 @@ use Rattle.serving.specs.declared.outcome.ServeFault.{ServeFault}
 use Rattle.serving.specs.Answers.{Answer, answer_text, answers_text, GoesOn, Answered}
 use Rattle.serving.specs.Serves.{IsAllOrAllButLast, Breaks, Tells}
 
--- The door was asked a request: the text of its answer was added, or there was no memory for it, or the door ended the
--- connection.
+-- The door was asked a request: the text of its answer was added, or the buffer, with room for so many bytes, had none for
+-- it, or the door ended the connection. So a door's own want of memory is answered as any other request.
 abbrev pub AddsReply : {S Reason : Type 0} → (S → List (List ℕ) → Answer Reason → S → Type 0)
-    → S → List (List ℕ) → S → List ℕ → List ℕ → Result Unit (Pause Reason) → Type 0
-AddsReply {S} {Reason} asks s request t before after (Ok done) =
+    → S → List (List ℕ) → S → ℕ → List ℕ → List ℕ → Result Unit (Pause Reason) → Type 0
+AddsReply {S} {Reason} asks s request t room before after (Ok done) =
     (answer : Answer Reason) × asks s request answer t × GoesOn answer × (after ≡ before ++ answer_text answer)
-AddsReply {S} {Reason} asks s request t before after (Err Starved) =
+AddsReply {S} {Reason} asks s request t room before after (Err Starved) =
     (answer : Answer Reason) × asks s request answer t × GoesOn answer × (after ≡ before)
-AddsReply asks s request t before after (Err (Closed reason)) = asks s request (Err (Ended reason)) t × (after ≡ before)
-AddsReply asks s request t before after (Err _) = ⊥
+    × (room < length before + length (answer_text answer))
+AddsReply asks s request t room before after (Err (Closed reason)) =
+    asks s request (Err (Ended reason)) t × (after ≡ before)
+AddsReply asks s request t room before after (Err _) = ⊥
 
--- the error line of a fault of the bytes was added, or there was no memory
-abbrev pub AddsLine : {Reason : Type 0} → Fault → List ℕ → List ℕ → Pause Reason → Type 0
-AddsLine fault before after Starved = after ≡ before
-AddsLine fault before after (Faulty shown) = (shown ≡ fault) × (fault ≢ Fault.Memory) × (after ≡ before ++ fault_text fault)
-AddsLine fault before after _ = ⊥
+-- the error line of a fault of the bytes was added, or the fault was want of memory, or the buffer had no room for it
+abbrev pub AddsLine : {Reason : Type 0} → Fault → ℕ → List ℕ → List ℕ → Pause Reason → Type 0
+AddsLine fault room before after Starved =
+    (after ≡ before) × ((fault ≡ Fault.Memory) ⊎ (room < length before + length (fault_text fault)))
+AddsLine fault room before after (Faulty shown) =
+    (shown ≡ fault) × (fault ≢ Fault.Memory) × (after ≡ before ++ fault_text fault)
+AddsLine fault room before after _ = ⊥
 
 -- why the door ended the connection, if that is why gathering paused
 abbrev pub closed_by : {Reason : Type 0} → Pause Reason → Option Reason

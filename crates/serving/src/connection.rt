@@ -80,8 +80,8 @@ fn answer_held<W: Write, D: Door>(
     replies: &mut Vec<u8>,
     writer: &mut W,
 ) -> Result<Option<Fault>, ServeFault<D::Reason>>
-    requires { decoder.old.fault ≡ None }
-    ensures { AnswersHeld D.asks decoder.old decoder.new door.old door.new
+    requires { decoder.old.held.fault ≡ None }
+    ensures { AnswersHeld D.asks decoder.old.held decoder.new.held door.old door.new
         (W.contents writer.old) (W.contents writer.new) result }
 {
     loop {
