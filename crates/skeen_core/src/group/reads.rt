@@ -32,8 +32,8 @@ impl Group {
         count_requests(self.proposals.as_slice())
     }
 
-    /// Whether the packet may come: whether `receive` can be called with it. It compares the proposals with one another,
-    /// so it is for callers that can't prove the condition.
+    /// Whether the packet may come: whether `receive` can be called with it. It compares the proposals with one
+    /// another, so it is for callers that can't prove the condition.
     pub fn may_come(&self, packet: &Packet) -> bool
         ensures { IsTrue result ↔ MayCome self.now packet.now }
     {

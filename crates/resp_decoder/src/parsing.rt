@@ -3,9 +3,9 @@
 
 ghost use Rattle.std.specs.Prelude.{◌≡◌, ◌≤◌, ◌<◌, ◌^◌};
 ghost use Rattle.resp_decoder.specs.declared.fault.Fault.TheVariants.{Memory};
-ghost use Rattle.resp_decoder.specs.declared.reading.Stop.TheVariants.{Bad};
-ghost use Rattle.resp_decoder.specs.Reading.{Gives, Nothing, rest_only, byte_at, line_at, some_at, word_at};
-ghost use Rattle.resp_decoder.specs.Reading.{extended, number_on, number_at, minus_one_at, count_at, head_at};
+ghost use Rattle.resp_decoder.specs.declared.parsing.Stop.TheVariants.{Bad};
+ghost use Rattle.resp_decoder.specs.Parsing.{Gives, NoValue, rest_only, byte_at, line_at, some_at, word_at};
+ghost use Rattle.resp_decoder.specs.Parsing.{extended, number_on, number_at, minus_one_at, count_at, head_at};
 
 use crate::fault::Fault;
 use std::alloc::{AllocError, AllocFailed};
@@ -36,7 +36,7 @@ impl<T: Drop> From<AllocFailed<T>> for Stop {
 }
 
 /// The bytes behind this one byte.
-#[tactic(auto, unfolding(crate::specs::Reading::byte_at))]
+#[tactic(auto, unfolding(crate::specs::Parsing::byte_at))]
 fn behind_byte(bytes: &[u8], byte: u8, fault: Fault) -> Result<&[u8], Stop>
     ensures { Gives (λ x. rest_only x.now) result (byte_at byte fault bytes.now) }
 {
@@ -53,7 +53,7 @@ fn behind_byte(bytes: &[u8], byte: u8, fault: Fault) -> Result<&[u8], Stop>
 }
 
 /// The bytes behind a line's end.
-#[tactic(auto, unfolding(crate::specs::Reading::line_at))]
+#[tactic(auto, unfolding(crate::specs::Parsing::line_at))]
 fn behind_line(bytes: &[u8], fault: Fault) -> Result<&[u8], Stop>
     ensures { Gives (λ x. rest_only x.now) result (line_at fault bytes.now) }
 {
@@ -73,7 +73,7 @@ fn extended(n: u64, b: u8, max: u64) -> Option<u64>
 }
 
 /// The number whose digits so far are `first`, up to the line's end.
-#[tactic(auto, unfolding(crate::specs::Reading::number_on))]
+#[tactic(auto, unfolding(crate::specs::Parsing::number_on))]
 fn number_from(bytes: &[u8], max: u64, first: u64) -> Result<(u64, &[u8]), Stop>
     requires within { first ≤ max }
     requires small { max < 2 ^ 32 }
@@ -93,7 +93,7 @@ fn number_from(bytes: &[u8], max: u64, first: u64) -> Result<(u64, &[u8]), Stop>
 }
 
 /// A number in decimal up to the line's end, without leading zeros.
-#[tactic(auto, unfolding(crate::specs::Reading::number_at))]
+#[tactic(auto, unfolding(crate::specs::Parsing::number_at))]
 fn number_of(bytes: &[u8], max: u64) -> Result<(u64, &[u8]), Stop>
     requires { max < 2 ^ 32 }
     ensures { Gives (λ x. (x.0, x.1.now)) result (number_at max bytes.now) }
@@ -111,7 +111,7 @@ fn number_of(bytes: &[u8], max: u64) -> Result<(u64, &[u8]), Stop>
 }
 
 /// So many bytes.
-#[tactic(auto, unfolding(crate::specs::Reading::some_at))]
+#[tactic(auto, unfolding(crate::specs::Parsing::some_at))]
 fn some_of(bytes: &[u8], n: usize) -> Result<(&[u8], &[u8]), Stop>
     ensures { Gives (λ x. (x.0.now, x.1.now)) result (some_at n bytes.now) }
 {
@@ -122,7 +122,7 @@ fn some_of(bytes: &[u8], n: usize) -> Result<(&[u8], &[u8]), Stop>
 }
 
 /// A word: `$`, its length, and its bytes on a line of their own.
-#[tactic(auto, unfolding(crate::specs::Reading::word_at))]
+#[tactic(auto, unfolding(crate::specs::Parsing::word_at))]
 pub fn word_of(bytes: &[u8], bulk: u32) -> Result<(&[u8], &[u8]), Stop>
     ensures { Gives (λ x. (x.0.now, x.1.now)) result (word_at bulk bytes.now) }
 {
@@ -134,7 +134,7 @@ pub fn word_of(bytes: &[u8], bulk: u32) -> Result<(&[u8], &[u8]), Stop>
 }
 
 /// The bytes behind `-1` and the line's end.
-#[tactic(auto, unfolding(crate::specs::Reading::minus_one_at))]
+#[tactic(auto, unfolding(crate::specs::Parsing::minus_one_at))]
 fn behind_minus_one(bytes: &[u8]) -> Result<&[u8], Stop>
     ensures { Gives (λ x. rest_only x.now) result (minus_one_at bytes.now) }
 {
@@ -144,7 +144,7 @@ fn behind_minus_one(bytes: &[u8]) -> Result<&[u8], Stop>
 }
 
 /// A count, or none for `-1`.
-#[tactic(auto, unfolding(crate::specs::Reading::count_at))]
+#[tactic(auto, unfolding(crate::specs::Parsing::count_at))]
 fn count_of(bytes: &[u8], max: u64) -> Result<(Option<u64>, &[u8]), Stop>
     requires { max < 2 ^ 32 }
     ensures { Gives (λ x. (x.0, x.1.now)) result (count_at max bytes.now) }
@@ -163,7 +163,7 @@ fn count_of(bytes: &[u8], max: u64) -> Result<(Option<u64>, &[u8]), Stop>
 }
 
 /// What a request begins with: `*` and its count.
-#[tactic(auto, unfolding(crate::specs::Reading::head_at))]
+#[tactic(auto, unfolding(crate::specs::Parsing::head_at))]
 pub fn head_of(bytes: &[u8], words: u32) -> Result<(Option<u64>, &[u8]), Stop>
     ensures { Gives (λ x. (x.0, x.1.now)) result (head_at words bytes.now) }
 {

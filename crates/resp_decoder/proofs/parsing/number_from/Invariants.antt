@@ -1,6 +1,6 @@
 use Rattle.std.proofs.Common.{◌≡◌, ◌≤◌, drop}
-use Rattle.resp_decoder.specs.Reading.{number_on}
-use Rattle.resp_decoder.proofs.reading.number_from.Given as goal
+use Rattle.resp_decoder.specs.Parsing.{number_on}
+use Rattle.resp_decoder.proofs.parsing.number_from.Given as goal
 
 abbrev pub invariant-loop-i : goal.invariant-loop-i
 invariant-loop-i l =
