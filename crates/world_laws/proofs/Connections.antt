@@ -94,8 +94,12 @@ pub connections_answered : (opened : ℕ) (standing : ℕ → Standing) (seq : �
 connections_answered opened standing seq last asked ended layer c o idle id none good = record {
   unopened = λ d less.
       let before = good.unopened d less in
-      let other = still_unopened opened standing c d Idle (λ l. (good.unopened d l).0) idle idle_open less in
-      (cond-false (d == c) (Answered o) (standing d) other ∙ before.0, cond-false (d == c) (suc (seq c)) (seq d) other ∙ before.1, before.2);
+      let other = still_unopened opened standing c d Idle (λ l. (good.unopened d l).0) idle idle_open less in (
+        cond-false (d == c) (Answered o) (standing d) other ∙ before.0,
+        cond-false (d == c) (suc (seq c)) (seq d) other
+            ∙ before.1,
+        before.2,
+      );
   settled = good.settled;
   split = good.split;
   pending = λ i q named. elim (good.pending i q named) [

@@ -1,11 +1,12 @@
 -- In a quiet world each request has ended: the one with the least stamp of all that haven't would be ready.
-use Rattle.std.proofs.Common.{◌≡◌, ℕ, zero, suc, ◌<◌, ◌==◌, nat_lt, Bool, true, false, List, [], ◌∷◌, ◌⊎◌, inl, inr, Option, Some, None, IsSome, refl, sym, ap, ◌∙◌, subst, arith, eq-eqb, ltb-true}
+use Rattle.std.proofs.Common.{◌≡◌, ℕ, zero, suc, ◌<◌, ◌≤◌, ◌==◌, nat_lt, Bool, true, false, List, [], ◌∷◌, ◌⊎◌, inl, inr, Option, Some, None, IsSome, length, refl, sym, ap, ◌∙◌, subst, arith, eq-eqb, ltb-true}
 use Rattle.std.proofs.lemmas.Bool.{both_ways, cases_Bool, cases_order, or_left, or_right, and_parts}
 use Rattle.std.specs.FinMap.{get}
 use Rattle.std.specs.Option.{is_some}
 use Rattle.delivery.specs.Ready.{IsReady}
 use Rattle.groups.specs.GroupSet.{has}
 use Rattle.groups.specs.GroupSetLaws.{has-chosen}
+use Rattle.journal.specs.declared.step.Step.TheVariants.{Take}
 use Rattle.placement.specs.Layout.{Layout}
 use Rattle.skeen_core.proofs.Lawful.{None≢Some}
 use Rattle.skeen_core.proofs.Lists.{In-right, In-append}
@@ -15,11 +16,13 @@ use Rattle.skeen_core.specs.Group.{heard, or_zero, own_at, Ascending}
 use Rattle.skeen_core.specs.Order.{In}
 use Rattle.skeen_core.specs.Stamp.{stamp_lt, later_of, final}
 use Rattle.skeen_core.specs.declared.packet.Delivered.{Delivered}
+use Rattle.skeen_core.specs.declared.packet.Packet.{Packet}
 use Rattle.skeen_core.specs.declared.request.RequestId.{RequestId}
 use Rattle.skeen_core.specs.declared.stamp.Stamp.{Stamp}
-use Rattle.world.specs.World.{World, Request, Ended}
+use Rattle.world.specs.Steps.{OwnFault, Busy, NoConn, NoPacket, InFlight, NoLayer, IsInFlight, NothingToRun, NothingToSettle, Refused}
+use Rattle.world.specs.World.{World, Request, Ended, Layer, NoneTaken, Taken, HasRun}
 use Rattle.world_laws.specs.Good.{Known, GroupGood, bit, starts_of, addresses, log_of, Named, all_delivered, all_taken, WorldGood}
-use Rattle.world_laws.specs.Quiet.{IsQuiet, QuietMeansEnded, IsOut, told_by}
+use Rattle.world_laws.specs.Quiet.{IsQuiet, QuietMeansEnded, QuietIsRefused, IsOut, told_by}
 use Rattle.world_laws.proofs.ConditionLaws.{delivered_same}
 use Rattle.world_laws.proofs.Layers.{ascending_cross, ascending_right, known_some}
 use Rattle.world_laws.proofs.Owed.{Owes, owes_world}
@@ -287,3 +290,34 @@ quiet_good t w good owes quiet i q named =
 
 pub quiet_means_ended : QuietMeansEnded
 quiet_means_ended t steps w leads quiet i q named = quiet_good t w (good_world t steps w leads) (owes_world t steps w leads) quiet i q named
+
+-- ---- quiet, and what is refused
+
+none_of_length : (ps : List Packet) → length ps ≤ 0 → ps ≡ []
+none_of_length [] few = refl
+none_of_length (p ∷ ps) few = absurd (omega arith)
+
+no_layer : (l : Layer) → NothingToRun l → NothingToSettle l → l ≡ NoneTaken
+no_layer NoneTaken run settle = refl
+no_layer (Taken ds) run settle = absurd run
+no_layer (HasRun es) run settle = absurd settle
+
+none_ready : (w : World) (fault : OwnFault) → w.layer ≡ NoneTaken → Refused w Take fault → (d : Delivered) → ¬ IsReady w.queue d
+none_ready w InFlight free refused d = absurd (subst (λ l. IsInFlight l) free refused)
+none_ready w NoLayer free refused d = refused.1 d
+none_ready w Busy free refused d = absurd refused
+none_ready w NoConn free refused d = absurd refused
+none_ready w NoPacket free refused d = absurd refused
+
+pub quiet_is_refused : QuietIsRefused
+quiet_is_refused w = (
+  λ quiet. record {
+    deliver = let none = ap (λ (ps : List Packet). length ps) quiet.packets in omega arith;
+    take = (NoLayer, (quiet.layer, quiet.none_ready));
+    run = λ starved. subst (λ l. NothingToRun l) (sym quiet.layer) tt;
+    settle = subst (λ l. NothingToSettle l) (sym quiet.layer) tt;
+  },
+  λ turns.
+      let free = no_layer w.layer (turns.run []) turns.settle in
+      record { packets = none_of_length w.packets turns.deliver; layer = free; none_ready = none_ready w turns.take.0 free turns.take.1 },
+)

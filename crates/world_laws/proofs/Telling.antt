@@ -83,7 +83,8 @@ said_multicast old H K c q h said = record {
   asked = λ i r e. by_test (same_id i (next_id old c)) q (old.asked i) r (H i r.command) e
       (λ s new. subst (λ (x : Request). H i x.command) new (subst (λ j. H j q.command) (sym (same_id-true i (next_id old c) s)) h))
       (λ s before. said.asked i r before);
-  answers = λ d o is none. let before = kept_answer old.standing c Waiting waiting_not_answered d o is in said.answers before.0 o before.1 none;
+  answers = λ d o is none. let before = kept_answer old.standing c Waiting waiting_not_answered d o is in
+      said.answers before.0 o before.1 none;
 }
 
 said_submitted_to : (t : Layout) (old : World) (H : RequestId → Command → Type 0) (K : RequestId → Content → Type 0) (c : ℕ)
@@ -156,7 +157,8 @@ said_step t old new H K Settle e step said = said_now t old new H K Settle e (ap
     ]) said
 said_step t old new H K (Collect conn) e step said = said_collects t old new H K conn (old.standing conn.0) e step said
 said_step t old new H K (Close conn) e step said = said_now t old new H K (Close conn) e (ap (λ (w : World). w.asked) step.after)
-    (λ c o is none. kept_answer old.standing conn.0 Closed closed_not_answered c o (sym (ap (λ (w : World). w.standing c) step.after) ∙ is)) said
+    (λ c o is none. kept_answer old.standing conn.0 Closed closed_not_answered c o (sym (ap (λ (w : World). w.standing c) step.after)
+    ∙ is)) said
 
 -- ---- histories
 

@@ -1,14 +1,16 @@
 -- Where nothing is under way and nothing can be taken, nothing is left.
 use Rattle.std.specs.FinMap.{get}
-use Rattle.std.specs.Prelude.{◌≡◌, ℕ, true, List, [], ◌⊎◌, Some, IsSome}
+use Rattle.std.specs.Prelude.{◌≡◌, ℕ, true, List, [], ◌⊎◌, ◌↔◌, Some, IsSome}
 use Rattle.delivery.specs.Ready.{IsReady}
 use Rattle.groups.specs.GroupSet.{has}
+use Rattle.journal.specs.declared.step.Step.TheVariants.{Deliver, Take, Run, Settle}
 use Rattle.skeen_core.specs.Group.{GroupState, heard}
 use Rattle.skeen_core.specs.Order.{In}
 use Rattle.skeen_core.specs.declared.packet.Body.TheVariants.{Proposal}
 use Rattle.skeen_core.specs.declared.packet.Delivered.{Delivered}
 use Rattle.skeen_core.specs.declared.packet.Packet.{Packet}
 use Rattle.skeen_core.specs.declared.request.RequestId.{RequestId}
+use Rattle.world.specs.Steps.{OwnFault, NoPacket, NoLayer, Refused}
 use Rattle.world.specs.World.{World, Request, NoneTaken, Proposals}
 use Rattle.world_laws.specs.Good.{Asked, Named}
 use Rattle.world_laws.specs.Order.{OfEveryWorld}
@@ -22,6 +24,17 @@ pub record IsQuiet (w : World) : Type 0 where
 -- then each request that addressed groups has ended: it was executed, or it starved
 abbrev pub QuietMeansEnded : Type 0
 QuietMeansEnded = OfEveryWorld (λ t w. IsQuiet w → (i : RequestId) (q : Request) → w.asked i ≡ Some q → Named w.ended i)
+
+-- no packet can be brought, and no layer taken, run or settled
+pub record TurnsAreRefused (w : World) : Type 0 where
+  pub deliver : Refused w (Deliver 0) NoPacket
+  pub take : (fault : OwnFault) × Refused w Take fault
+  pub run : (starved : List RequestId) → Refused w (Run starved) NoLayer
+  pub settle : Refused w Settle NoLayer
+
+-- a world is quiet just where these are refused, so where it isn't something can be done
+abbrev pub QuietIsRefused : Type 0
+QuietIsRefused = (w : World) → IsQuiet w ↔ TurnsAreRefused w
 
 -- ---- what is still owed
 
