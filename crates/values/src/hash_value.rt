@@ -6,10 +6,11 @@ ghost use Rattle.std.specs.List.{IsDistinct};
 ghost use Rattle.std.specs.Option.{option_map};
 ghost use Rattle.std.specs.Str.{bytes_eq};
 ghost use Rattle.indexmap.specs.IndexMap.{index_map_len, spare};
-ghost use Rattle.texts.specs.Texts.{texts_of, pairs_of};
+ghost use Rattle.texts.specs.Texts.{texts_of, pairs_of, by_turns};
 ghost use Rattle.values.specs.HashValue.{pairs_seen, field_value, with_field, with_fields, without_fields};
 ghost use Rattle.values.specs.ListValue.{nonempty};
 
+use crate::items::{Items, Rest};
 use hashed_texts::{HashedSlice, HashedText};
 use indexmap::IndexMap;
 use std::alloc::{AllocError, Global};
@@ -91,6 +92,36 @@ impl HashValue {
         match self.pairs.get_index(place) {
             Some((field, value)) => Some((field.bytes.as_slice(), value.as_slice())),
             None => None,
+        }
+    }
+
+    /// The fields in order of insertion, to be read one after another.
+    pub fn fields(&self) -> Items<'_>
+        ensures { result ≡ map (λ pair. pair.0) self.now }
+    {
+        Items {
+            value: None,
+            rest: Rest::Fields(self.pairs.iter()),
+        }
+    }
+
+    /// The values in the order of their fields, to be read one after another.
+    pub fn values(&self) -> Items<'_>
+        ensures { result ≡ map (λ pair. pair.1) self.now }
+    {
+        Items {
+            value: None,
+            rest: Rest::Values(self.pairs.iter()),
+        }
+    }
+
+    /// Each field and its value by turns, in order of insertion, to be read one after another.
+    pub fn fields_and_values(&self) -> Items<'_>
+        ensures { result ≡ by_turns self.now }
+    {
+        Items {
+            value: None,
+            rest: Rest::Both(self.pairs.iter()),
         }
     }
 

@@ -9,10 +9,12 @@ ghost use Rattle.std.specs.Prelude.{◌≡◌};
 ghost use Rattle.values.specs.Value.{type_name};
 
 mod hash_value;
+mod items;
 mod list_value;
 mod set_value;
 
 pub use hash_value::HashValue;
+pub use items::Items;
 pub use list_value::ListValue;
 pub use set_value::SetValue;
 use texts::Text;

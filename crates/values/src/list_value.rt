@@ -8,6 +8,7 @@ ghost use Rattle.texts.specs.declared.text_list.End.TheVariants.{Head, Tail};
 ghost use Rattle.texts.specs.Texts.{texts_of};
 ghost use Rattle.values.specs.ListValue.{nonempty, items_of, pushed, end_item, popped, joined, without_equal};
 
+use crate::items::{Items, Rest};
 use std::alloc::{AllocError, Global};
 use std::collections::VecDeque;
 use std::marker::Model;
@@ -63,6 +64,18 @@ impl ListValue {
         match self.texts.get(place) {
             Some(text) => Some(text.as_slice()),
             None => None,
+        }
+    }
+
+    /// The items from `start` to below `end`, to be read one after another. It takes time for these items alone.
+    pub fn range(&self, start: usize, end: usize) -> Items<'_>
+        requires ordered { start ≤ end }
+        requires within { end ≤ length self.now }
+        ensures { result ≡ slice_range self.now start end }
+    {
+        Items {
+            value: None,
+            rest: Rest::Texts(self.texts.range(start..end)),
         }
     }
 

@@ -7,6 +7,7 @@ ghost use Rattle.texts.specs.Texts.{texts_of};
 ghost use Rattle.values.specs.ListValue.{nonempty};
 ghost use Rattle.values.specs.SetValue.{IsAscending, is_member, with_member, without_member, with_members, without_members};
 
+use crate::items::{Items, Rest};
 use std::alloc::{AllocError, Global};
 use std::collections::BTreeSet;
 use std::marker::Model;
@@ -61,6 +62,16 @@ impl SetValue {
         ensures { result ≡ is_member self.now member.now }
     {
         self.members.contains(member)
+    }
+
+    /// The members in ascending order, to be read one after another.
+    pub fn members(&self) -> Items<'_>
+        ensures { result ≡ self.now }
+    {
+        Items {
+            value: None,
+            rest: Rest::Members(self.members.iter()),
+        }
     }
 
     /// Inserts a member, and says whether it was new.
