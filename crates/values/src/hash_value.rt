@@ -132,6 +132,7 @@ impl HashValue {
     pub fn insert(&mut self, field: Text, value: Text) -> Result<Option<Text>, AllocError>
         ensures before { IfOk result (λ before. before ≡ field_value self.old field) }
         ensures ok { OnOk result (self.new ≡ with_field self.old field value) }
+        ensures some { 0 < length self.new }
         ensures absent { OnErr result (field_value self.old field ≡ None) }
         ensures err { OnErr result (self.new ≡ self.old) }
     {
@@ -148,6 +149,7 @@ impl HashValue {
     /// Sets the fields one after another, all of them, and gives how many were new; or sets none, and `AllocError`.
     pub fn insert_all(&mut self, pairs: Pairs) -> Result<usize, AllocError>
         ensures ok { OnOk result (self.new ≡ with_fields self.old pairs) }
+        ensures some { 0 < length self.new }
         ensures added { IfOk result (λ added. length self.new ≡ length self.old + added) }
         ensures err { OnErr result (self.new ≡ self.old) }
     {

@@ -90,6 +90,7 @@ impl ListValue {
     /// Pushes the items at this end one after another: all of them, or none and `AllocError`.
     pub fn push_all(&mut self, end: End, items: Texts) -> Result<(), AllocError>
         ensures ok { OnOk result (self.new ≡ pushed end self.old items) }
+        ensures some { 0 < length self.new }
         ensures err { OnErr result (self.new ≡ self.old) }
         ensures succeeds { items ≡ [] → IsOk result }
     {

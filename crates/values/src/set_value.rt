@@ -81,6 +81,7 @@ impl SetValue {
     pub fn insert(&mut self, member: Text) -> Result<bool, AllocError>
         ensures added { IfOk result (λ added. added ≡ not (is_member self.old member)) }
         ensures ok { OnOk result (self.new ≡ with_member self.old member) }
+        ensures some { 0 < length self.new }
         ensures absent { OnErr result (is_member self.old member ≡ false) }
         ensures err { OnErr result (self.new ≡ self.old) }
     {
@@ -95,6 +96,7 @@ impl SetValue {
     /// All but the last are copied, so that they can be taken back.
     pub fn insert_all(&mut self, alloc: Global, members: Texts) -> Result<usize, AllocError>
         ensures ok { OnOk result (self.new ≡ with_members self.old members) }
+        ensures some { 0 < length self.new }
         ensures added { IfOk result (λ added. length self.new ≡ length self.old + added) }
         ensures err { OnErr result (self.new ≡ self.old) }
     {
