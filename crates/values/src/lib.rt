@@ -11,6 +11,8 @@ ghost use Rattle.values.specs.Value.{type_name};
 mod hash_value;
 mod items;
 mod list_value;
+mod member_tree;
+mod pair_table;
 mod set_value;
 
 pub use hash_value::HashValue;

@@ -36,6 +36,7 @@ impl Model for ListValue {
 
 impl ListValue {
     /// The list that pushing these items at this end makes of no list; `None` where there are none. It takes no memory.
+    #[tactic(auto, using(crate::proofs::Mapped::mapped))]
     pub fn from_pushes(end: End, items: Texts) -> Option<Self>
         ensures { result ≡ nonempty (pushed end [] items) }
     {
@@ -68,6 +69,7 @@ impl ListValue {
     }
 
     /// The items from `start` to below `end`, to be read one after another. It takes time for these items alone.
+    #[tactic(auto, using(crate::proofs::Mapped::mapped))]
     pub fn range(&self, start: usize, end: usize) -> Items<'_>
         requires ordered { start ≤ end }
         requires within { end ≤ length self.now }
@@ -80,6 +82,7 @@ impl ListValue {
     }
 
     /// Puts an item in the place of the one that is there. It takes constant time and no memory.
+    #[tactic(auto, using(crate::proofs::Mapped::mapped))]
     pub fn set_item(&mut self, place: usize, item: Text)
         requires { place < length self.old }
         ensures { self.new ≡ slice_set self.old place item }
@@ -127,6 +130,7 @@ impl ListValue {
 
     /// Inserts an item before the one at a place, or behind the last; `AllocError`, and no change, where there is no memory.
     /// It moves the items between the place and the nearer end.
+    #[tactic(auto, using(crate::proofs::Mapped::mapped))]
     pub fn insert(&mut self, place: usize, item: Text) -> Result<(), AllocError>
         requires { place ≤ length self.old }
         ensures ok { OnOk result (self.new ≡ insert self.old place item) }
@@ -139,6 +143,7 @@ impl ListValue {
     }
 
     /// Keeps the items from `start` to below `end`; `None` where that is none of them. It takes no memory.
+    #[tactic(auto, using(crate::proofs::Mapped::mapped, crate::proofs::Lists::lists))]
     pub fn keep(self, start: usize, end: usize) -> Option<Self>
         requires ordered { start ≤ end }
         requires within { end ≤ length self }
@@ -197,6 +202,7 @@ impl ListValue {
     }
 
     /// Moves the item at one end of the list to an end of the same list. It takes no memory.
+    #[tactic(auto, using(crate::proofs::Mapped::mapped))]
     pub fn turn(&mut self, from: End, to: End)
         ensures { self.new ≡ joined to (popped from self.old) (end_item from self.old) }
     {
