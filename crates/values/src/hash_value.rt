@@ -16,9 +16,11 @@ use std::alloc::{AllocError, Global};
 use std::marker::Model;
 use texts::{Pairs, Text, Texts};
 
-/// A hash: at least one pair of a field and its value, no field twice. Contracts see the list of pairs in order of insertion.
+/// A hash: at least one pair of a field and its value, no field twice. Contracts see the list of pairs in order of
+/// insertion.
 ///
-/// A field is looked up in constant time on average; a removal takes time for the whole hash, since the others keep their order.
+/// A field is looked up in constant time on average; a removal takes time for the whole hash, since the others keep
+/// their order.
 #[derive(Drop)]
 pub struct HashValue {
     pairs: Box<PairTable>,

@@ -7,7 +7,8 @@ use indexmap::map;
 use std::collections::{btree_set, vec_deque};
 use std::marker::Model;
 
-/// Items of a list, fields or values of a hash, or members of a set, in order. Contracts see the list of those that are left.
+/// Items of a list, fields or values of a hash, or members of a set, in order. Contracts see the list of those that are
+/// left.
 #[derive(Drop)]
 pub struct Items<'a> {
     /// The value of a field that was given, where fields and values come by turns.

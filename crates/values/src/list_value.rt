@@ -16,8 +16,8 @@ use texts::{End, Text, Texts};
 
 /// A list of at least one byte string. Contracts see the list.
 ///
-/// Each call takes time for the items that it adds, removes or looks at, at either end; `insert` and `remove_equal` move others
-/// too. A call that can leave no item gives back what is left, if something is.
+/// Each call takes time for the items that it adds, removes or looks at, at either end; `insert` and `remove_equal`
+/// move others too. A call that can leave no item gives back what is left, if something is.
 #[derive(Drop)]
 pub struct ListValue {
     texts: VecDeque<Vec<u8>>,
@@ -128,8 +128,8 @@ impl ListValue {
         None
     }
 
-    /// Inserts an item before the one at a place, or behind the last; `AllocError`, and no change, where there is no memory.
-    /// It moves the items between the place and the nearer end.
+    /// Inserts an item before the one at a place, or behind the last; `AllocError`, and no change, where there is no
+    /// memory. It moves the items between the place and the nearer end.
     #[tactic(auto, using(crate::proofs::Mapped::mapped))]
     pub fn insert(&mut self, place: usize, item: Text) -> Result<(), AllocError>
         requires { place ≤ length self.old }
@@ -156,8 +156,8 @@ impl ListValue {
         at_least_one(texts)
     }
 
-    /// Takes out the items that are equal to this one: those nearest to this end, at most so many. It gives their number and what
-    /// is left. It takes no memory, and time for the whole list.
+    /// Takes out the items that are equal to this one: those nearest to this end, at most so many. It gives their
+    /// number and what is left. It takes no memory, and time for the whole list.
     pub fn remove_equal(self, end: End, item: &[u8], most: usize) -> (usize, Option<Self>)
         ensures left { result.1 ≡ nonempty (without_equal end item.now most self) }
         ensures removed { result.0 + length (without_equal end item.now most self) ≡ length self }
@@ -171,8 +171,8 @@ impl ListValue {
         (before - texts.len(), at_least_one(texts))
     }
 
-    /// Moves the item at one end of this list to an end of another, or of a new one where there is no other. It gives what is
-    /// left of this list, if anything, and the other.
+    /// Moves the item at one end of this list to an end of another, or of a new one where there is no other. It gives
+    /// what is left of this list, if anything, and the other.
     ///
     /// Where there is no memory both come back as they were.
     pub fn move_item(

@@ -68,7 +68,8 @@ pub(crate) fn insert_each(
     Ok(())
 }
 
-/// Inserts these members one after another, all of them, or none. All but the last are copied, so that they can be taken back.
+/// Inserts these members one after another, all of them, or none. All but the last are copied, so that they can be
+/// taken back.
 #[tactic(auto, using(crate::proofs::MembersSeen::members))]
 pub(crate) fn insert_all_or_none(
     alloc: Global,

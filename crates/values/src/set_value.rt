@@ -36,8 +36,8 @@ impl Model for SetValue {
 }
 
 impl SetValue {
-    /// The set of these members, which may come in any order and more than once; `None` where there are none. No string is
-    /// copied.
+    /// The set of these members, which may come in any order and more than once; `None` where there are none. No string
+    /// is copied.
     ///
     /// `AllocError` where there is no memory for it.
     #[tactic(auto, using(crate::proofs::MembersSeen::members))]
