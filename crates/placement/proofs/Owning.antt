@@ -4,14 +4,15 @@ use Rattle.std.proofs.lemmas.List.{get_or-replicate, take-append-drop}
 use Rattle.std.proofs.lemmas.List.Filters.{length-filter_more}
 use Rattle.std.proofs.lemmas.List.Elements.{filter-append, recursion_from_All}
 use Rattle.std.specs.List.{AllByRecursion}
+use Rattle.placement.specs.declared.slots.TheConstants.{SLOTS}
 use Rattle.placement.specs.Document.{Document}
 use Rattle.placement.specs.Layout.{Layout, IsTable, KnowsShards, Gives, has_slot, shards_at, SomeTwice}
 use Rattle.placement.specs.Owners.{owner, Owns, OwnEach}
 use Rattle.placement.specs.declared.document.Range.{Range}
 
 -- before any range no slot has a shard
-pub Owns-start : Owns [] (replicate 1024 None)
-Owns-start = λ s h. ap (λ o. option_to_list o) (sym (get_or-replicate 1024 s None None h))
+pub Owns-start : Owns [] (replicate SLOTS None)
+Owns-start = λ s h. ap (λ o. option_to_list o) (sym (get_or-replicate SLOTS s None None h))
 
 length-map : {X Y : Type 0} (f : X → Y) (xs : List X) → length (map f xs) ≡ length xs
 length-map f [] = refl
@@ -31,7 +32,7 @@ one_more None h = cc
 one_more (Some g) h = refl
 
 -- a slot that has a shard and is in the next range is in two
-pub SomeTwice-next : (rs : List Range) (i : ℕ) (d : Range) (owners : List (Option ℕ)) (s : ℕ) → i < length rs → Owns (take i rs) owners → s < 1024
+pub SomeTwice-next : (rs : List Range) (i : ℕ) (d : Range) (owners : List (Option ℕ)) (s : ℕ) → i < length rs → Owns (take i rs) owners → s < SLOTS
     → has_slot s (get_or rs i d) ≡ true → IsSome (owner owners s) → SomeTwice rs
 SomeTwice-next rs i d owners s next owns within has some =
     let one : length (filter (has_slot s) (take i rs)) ≡ 1 = sym (length-shards_at s (take i rs)) ∙ ap length (owns s within) ∙ one_more (owner owners s) some in
@@ -57,7 +58,7 @@ Gives-from_owners d n owners slots known same owns each = record {
 }
 
 -- what a document gives is a table
-pub IsTable-from_gives : (d : Document) (t : Layout) → Gives d t → length t.slots ≡ 1024 → IsTable t
+pub IsTable-from_gives : (d : Document) (t : Layout) → Gives d t → length t.slots ≡ SLOTS → IsTable t
 IsTable-from_gives d t gives long =
     let named = recursion_from_All (λ r. r.shard < d.shards) d.ranges gives.known.named in
     record {

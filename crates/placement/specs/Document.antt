@@ -3,11 +3,12 @@ use Rattle.std.specs.Prelude.{ℕ, suc, ◌<◌, ◌≤◌, ℤ, pos, List, [], 
 use Rattle.toml.specs.Data.{Data, Items, no_items, item, Members, no_members, member, get_member, as_integer, as_array, as_table}
 use Rattle.toml.specs.Parse.{parse_document}
 use Rattle.placement.specs.declared.document.Range.{Range}
+use Rattle.placement.specs.declared.slots.TheConstants.{SLOTS}
 
 -- the first slot of the range isn't behind the last, and both are slots
 pub record IsRange (range : Range) : Type 0 where
   pub ordered : range.from ≤ range.to
-  pub slots : range.to < 1024
+  pub slots : range.to < SLOTS
 
 -- the number of shards, and ranges of slots with the shard that each names
 pub record Document : Type 0 where
@@ -35,9 +36,9 @@ number_at key table = get_member key table >>= as_integer >>= number
 abbrev pub array_at : List ℕ → Members → Option Items
 array_at key table = get_member key table >>= as_array
 
--- a range from one slot to another that isn't before it, both below 1024
+-- a range from one slot to another that isn't before it, both slots
 abbrev pub range : ℕ → ℕ → ℕ → Option Range
-range from to shard = if nat_le from to && nat_lt to 1024 then Some (record { from = from; to = to; shard = shard }) else None
+range from to shard = if nat_le from to && nat_lt to SLOTS then Some (record { from = from; to = to; shard = shard }) else None
 
 -- the range that a table says by the numbers `from`, `to` and `shard`, beside which it has no key
 abbrev pub range_in : Members → Option Range

@@ -3,6 +3,7 @@ use Rattle.std.specs.Prelude.{◌≡◌, ℕ, ◌<◌, ◌≤◌, Bool, ◌&&◌
 use Rattle.placement.specs.Document.{Document, document_in}
 use Rattle.placement.specs.Slot.{slot}
 use Rattle.placement.specs.declared.document.Range.{Range}
+use Rattle.placement.specs.declared.slots.TheConstants.{SLOTS}
 use Rattle.placement.specs.declared.fault.TableFault.{TableFault}
 use Rattle.placement.specs.declared.fault.TableFault.TheVariants.{Toml, Missing, Twice, Shard, Memory}
 
@@ -11,16 +12,16 @@ pub record Layout : Type 0 where
   pub shards : ℕ
   pub slots : List ℕ
 
--- what each table is: there are 1 to 64 shards, and each of the 1024 slots has one of them
+-- what each table is: there are 1 to 64 shards, and each of the slots has one of them
 pub record IsTable (t : Layout) : Type 0 where
   pub some_shard : 0 < t.shards
   pub at_most_64 : t.shards ≤ 64
-  pub each_slot : length t.slots ≡ 1024
-  pub in_range : (s : ℕ) → s < 1024 → slice_index t.slots s < t.shards
+  pub each_slot : length t.slots ≡ SLOTS
+  pub in_range : (s : ℕ) → s < SLOTS → slice_index t.slots s < t.shards
 
 -- the shard on which a key lies
-abbrev pub place : Layout → List ℕ → ℕ
-place t key = slice_index t.slots (slot key)
+abbrev pub shard_of : Layout → List ℕ → ℕ
+shard_of t key = slice_index t.slots (slot key)
 
 -- there are 1 to 64 shards, and each range names one of them, counted from 0
 pub record KnowsShards (d : Document) : Type 0 where
@@ -38,16 +39,16 @@ shards_at s ranges = map (λ r. r.shard) (filter (has_slot s) ranges)
 
 -- a slot is in two ranges; a slot is in none
 abbrev pub SomeTwice : List Range → Type 0
-SomeTwice ranges = (s : ℕ) × (s < 1024) × (1 < length (shards_at s ranges))
+SomeTwice ranges = (s : ℕ) × (s < SLOTS) × (1 < length (shards_at s ranges))
 
 abbrev pub SomeMissing : List Range → Type 0
-SomeMissing ranges = (s : ℕ) × (s < 1024) × (shards_at s ranges ≡ [])
+SomeMissing ranges = (s : ℕ) × (s < SLOTS) × (shards_at s ranges ≡ [])
 
 -- the table that a document gives: its number of shards, and for each slot the shard of the one range that has it
 pub record Gives (d : Document) (t : Layout) : Type 0 where
   pub known : KnowsShards d
   pub shards : d.shards ≡ t.shards
-  pub slots : (s : ℕ) → s < 1024 → shards_at s d.ranges ≡ slice_index t.slots s ∷ []
+  pub slots : (s : ℕ) → s < SLOTS → shards_at s d.ranges ≡ slice_index t.slots s ∷ []
 
 -- what is wrong with a document that gives no table; of several faults the first one is told
 abbrev pub IsWrong : TableFault → Document → Type 0

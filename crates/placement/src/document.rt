@@ -1,5 +1,5 @@
-//! What a placement document says, read off the data of its TOML text: the number of shards, and ranges of slots with the shard
-//! that each goes to. The format is this project's own. A table is made of it.
+//! What a placement document says, read off the data of its TOML text: the number of shards, and ranges of slots with
+//! the shard that each goes to. The format is this project's own. A table is made of it.
 
 ghost use Rattle.std.specs.Prelude.{◌≡◌, option_map, IfOk, IfSome, All};
 ghost use Rattle.toml.specs.Data.{get_member};

@@ -1,5 +1,5 @@
-//! The shard of each slot, by the ranges of a placement document: the rules of this project's own format behind its shape.
-//! A table is made of it.
+//! The shard of each slot, by the ranges of a placement document: the rules of this project's own format behind its
+//! shape. A table is made of it.
 
 ghost use Rattle.std.specs.Prelude.{◌≡◌, ◌<◌, All, MatchOption};
 ghost use Rattle.std.specs.Bool.{OnTrue, OnFalse};

@@ -3,7 +3,7 @@
 
 ghost use Rattle.std.specs.Prelude.{◌≡◌, ℕ, List, ◌++◌, Option, None, IfOk};
 ghost use Rattle.resp_decoder.specs.declared.fault.Fault.{Fault};
-ghost use Rattle.resp_decoder.specs.Texts.{IsReading};
+ghost use Rattle.resp_decoder.specs.Texts.{Decodes};
 ghost use Rattle.resp_decoder.specs.Pieces.{whole, TakesAll};
 
 use crate::decoder::Decoder;
@@ -21,12 +21,12 @@ pub struct Decoded {
 
 /// The requests and the fault of a stream that comes in these pieces. `AllocError` where there is no memory for them.
 pub fn decode_all(alloc: Global, limits: Limits, pieces: &[&[u8]]) -> Result<Decoded, AllocError>
-    // What is answered is a reading of the whole stream ..
-    ensures reading { IfOk result (λ decoded.
-        IsReading limits (whole pieces.now) decoded.requests.items decoded.fault) }
+    // What is answered is what the whole stream decodes to ..
+    ensures decodes { IfOk result (λ decoded.
+        Decodes limits (whole pieces.now) decoded.requests.items decoded.fault) }
     // .. and the only one, so it doesn't matter how the stream is cut into pieces.
     ensures only { IfOk result (λ decoded. (requests : List (List (List ℕ))) (fault : Option Fault)
-        → IsReading limits (whole pieces.now) requests fault
+        → Decodes limits (whole pieces.now) requests fault
         → (decoded.requests.items ≡ requests) × (decoded.fault ≡ fault)) }
 {
     let mut decoder = Decoder::new(alloc, limits);
@@ -46,9 +46,9 @@ pub fn decode_all(alloc: Global, limits: Limits, pieces: &[&[u8]]) -> Result<Dec
 
 /// Takes the requests that the decoder has, up to its fault if one stands there.
 fn take_all(decoder: &mut Decoder, requests: &mut Vec<Request>) -> Result<Option<Fault>, AllocError>
-    requires { decoder.old.fault ≡ None }
+    requires { decoder.old.held.fault ≡ None }
     ensures { IfOk result (λ fault. (list : List (List (List ℕ))) × (requests.new.items ≡ requests.old.items ++ list)
-        × TakesAll decoder.old list fault decoder.new) }
+        × TakesAll decoder.old.held list fault decoder.new.held) }
 {
     loop {
         match decoder.next() {

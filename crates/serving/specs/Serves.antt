@@ -9,9 +9,10 @@ use Rattle.serving.specs.declared.outcome.Served.{Served}
 use Rattle.serving.specs.declared.outcome.Served.TheVariants.{End, Inside, Protocol}
 use Rattle.serving.specs.declared.outcome.ServeFault.{ServeFault}
 use Rattle.serving.specs.declared.outcome.ServeFault.TheVariants.{Read, Write, Memory, Door}
-use Rattle.serving.specs.Answers.{Answer, texts, Answered}
+use Rattle.serving.specs.Answers.{Answer, answers_text, Answered}
 
--- Whether the door ended the connection, and why, as far as a fault tells: where a write failed the door may have done so.
+-- Whether the door ended the connection, and why, as far as a fault tells: where a write failed the door may have done
+-- so.
 abbrev pub FaultTells : {Reason : Type 0} → ServeFault Reason → Option Reason → Type 0
 FaultTells Read ended = ended ≡ None
 FaultTells Write ended = Unit {0}
@@ -25,8 +26,8 @@ Tells (Err fault) ended = FaultTells fault ended
 -- the texts of all answers, or of all but the last
 abbrev pub IsAllOrAllButLast : {Reason : Type 0} → List (Answer Reason) → List ℕ → Type 0
 IsAllOrAllButLast {Reason} answers text =
-    (text ≡ texts answers)
-    ⊎ ((before : List (Answer Reason)) × (last : Answer Reason) × (answers ≡ before ++ last ∷ []) × (text ≡ texts before))
+    (text ≡ answers_text answers)
+    ⊎ ((before : List (Answer Reason)) × (last : Answer Reason) × (answers ≡ before ++ last ∷ []) × (text ≡ answers_text before))
 
 -- what is sent behind the replies: nothing, or the error line of the fault that stands in the rest
 abbrev pub IsLastLine : Limits → List ℕ → List ℕ → Type 0
@@ -35,28 +36,29 @@ IsLastLine limits rest line = (line ≡ []) ⊎ ((fault : Fault) × IsFault limi
 -- a beginning of the texts of the answers and of the last line behind them
 abbrev pub IsBeginning : {Reason : Type 0} → Limits → List ℕ → List (Answer Reason) → List ℕ → Type 0
 IsBeginning limits rest answers text =
-    (line : List ℕ) × (unsent : List ℕ) × IsLastLine limits rest line × (texts answers ++ line ≡ text ++ unsent)
+    (line : List ℕ) × (unsent : List ℕ) × IsLastLine limits rest line × (answers_text answers ++ line ≡ text ++ unsent)
 
 -- What a fault leaves: what stands behind the requests that were answered, and what was written.
 abbrev pub Breaks : {Reason : Type 0} → Limits → List ℕ → List (Answer Reason)
     → Option (List ℕ) → Option (List ℕ) → ServeFault Reason → Type 0
-Breaks limits rest answers old new Read = IsOpen limits rest × Appends old new (texts answers)
+Breaks limits rest answers old new Read = IsOpen limits rest × Appends old new (answers_text answers)
 Breaks limits rest answers old new Write = (text : List ℕ) × IsBeginning limits rest answers text × Appends old new text
 Breaks limits rest answers old new Memory = (text : List ℕ) × IsAllOrAllButLast answers text × Appends old new text
-Breaks limits rest answers old new (Door reason) = Appends old new (texts answers)
+Breaks limits rest answers old new (Door reason) = Appends old new (answers_text answers)
 
 -- The same for every outcome; `left` is what the reader has left.
 abbrev pub Leaves : {Reason : Type 0} → Limits → List ℕ → List (Answer Reason)
     → Option (List ℕ) → Option (List ℕ) → Option (List ℕ) → Result Served (ServeFault Reason) → Type 0
-Leaves limits rest answers left old new (Ok End) = (rest ≡ []) × IsAtEnd left × Appends old new (texts answers)
+Leaves limits rest answers left old new (Ok End) = (rest ≡ []) × IsAtEnd left × Appends old new (answers_text answers)
 Leaves limits rest answers left old new (Ok Inside) =
-    (0 < length rest) × IsOpen limits rest × IsAtEnd left × Appends old new (texts answers)
+    (0 < length rest) × IsOpen limits rest × IsAtEnd left × Appends old new (answers_text answers)
 Leaves limits rest answers left old new (Ok (Protocol fault)) =
-    IsFault limits rest fault × Appends old new (texts answers ++ fault_text fault)
+    IsFault limits rest fault × Appends old new (answers_text answers ++ fault_text fault)
 Leaves limits rest answers left old new (Err fault) = Breaks limits rest answers old new fault
 
--- What was read is the texts of requests, which the door was asked, and then a rest; what was written is the texts of its answers.
--- `before` and `after` are the bytes that the reader had and has left, `old` and `new` those that the writer held and holds.
+-- What was read is the texts of requests, which the door was asked, and then a rest; what was written is the texts of
+-- its answers. `before` and `after` are the bytes that the reader had and has left, `old` and `new` those that the
+-- writer held and holds.
 pub record Serves {S Reason : Type 0} (asks : S → List (List ℕ) → Answer Reason → S → Type 0) (limits : Limits)
     (before after old new : Option (List ℕ)) (s t : S) (result : Result Served (ServeFault Reason)) : Type 0 where
   pub read : List ℕ

@@ -1,36 +1,29 @@
 //! What the store answers, row by row.
 
-use crate::text::{BAD_LENGTH, END, Ending, INSIDE, bytes_of, empty_store, requests_of};
+use crate::store::{BAD_LENGTH, END, Ending, INSIDE, empty_store};
 use command_table::read;
 use resp::{Request, write_reply};
 use resp_decoder::Fault;
 use serving::Served;
 use std::io::Read;
 use std::test::Fail;
+use test_support::{bytes_of, requests_of};
+
+/// Requests on an empty store, and their replies.
+#[rattlefmt::skip]
+const COMMANDS: [(&str, &str); 7] = [
+    ("SET a 1; GET a; DEL a a; GET a", "+OK|$1|1|:1|$-1|"),
+    ("PING hi; PING x y", "$2|hi|-ERR wrong number of arguments for 'ping' command|"),
+    ("ECHO ''; FOO", "$0||-ERR unknown command|"),
+    ("SET a 1 XX; SET a 1 nx NX; SET a 2 NX; GET a", "$-1|+OK|$-1|$1|1|"),
+    ("SET b 1 NX XX; SET b 1 EX 10; GET b", "-ERR syntax error|-ERR syntax error|$-1|"),
+    ("GET; DEL; SET a", "-ERR wrong number of arguments for 'get' command|-ERR wrong number of arguments for 'del' command|-ERR wrong number of arguments for 'set' command|"),
+    ("SET a 1; SET b 2; DEL a c b a; del b", "+OK|+OK|:2|:0|"),
+];
 
 #[test]
 fn commands_answer(rt: HostRuntime) -> Result<(), Fail> {
-    for (requests, replies) in [
-        ("SET a 1; GET a; DEL a a; GET a", "+OK|$1|1|:1|$-1|"),
-        (
-            "PING hi; PING x y",
-            "$2|hi|-ERR wrong number of arguments for 'ping' command|",
-        ),
-        ("ECHO ''; FOO", "$0||-ERR unknown command|"),
-        (
-            "SET a 1 XX; SET a 1 nx NX; SET a 2 NX; GET a",
-            "$-1|+OK|$-1|$1|1|",
-        ),
-        (
-            "SET b 1 NX XX; SET b 1 EX 10; GET b",
-            "-ERR syntax error|-ERR syntax error|$-1|",
-        ),
-        (
-            "GET; DEL; SET a",
-            "-ERR wrong number of arguments for 'get' command|-ERR wrong number of arguments for 'del' command|-ERR wrong number of arguments for 'set' command|",
-        ),
-        ("SET a 1; SET b 2; DEL a c b a; del b", "+OK|+OK|:2|:0|"),
-    ] {
+    for (requests, replies) in COMMANDS {
         let input = requests_of(rt.alloc(), requests)?;
         let mut output = Vec::new(rt.alloc());
         let ending = empty_store(rt.alloc()).serve(&mut input.as_slice(), &mut output);
@@ -44,41 +37,32 @@ fn commands_answer(rt: HostRuntime) -> Result<(), Fail> {
     Ok(())
 }
 
+const STAR: Ending = Ok(Served::Protocol(Fault::ExpectedStar));
+
+const DOLLAR: Ending = Ok(Served::Protocol(Fault::ExpectedDollar));
+
+const LINE_END: Ending = Ok(Served::Protocol(Fault::ExpectedCrlf));
+
+/// The bytes that are read, the replies, and how serving ends.
+#[rattlefmt::skip]
+const STREAMS: [(&str, &str, Ending); 12] = [
+    ("*1|$4|PiNG|", "+PONG|", END),
+    ("*3|$3|SET|$0||$0||*2|$3|GET|$0||*2|$3|GET|$1|a|", "+OK|$0||$-1|", END),
+    ("*0|*-1|*1|$4|PING|", "+PONG|", END),
+    ("", "", END),
+    ("*1|$4|PI", "", INSIDE),
+    ("*1|$4|PING|*", "+PONG|", INSIDE),
+    ("*1|$03|GET|", "-ERR Protocol error: invalid length|", BAD_LENGTH),
+    ("*1|$536870913", "-ERR Protocol error: invalid length|", BAD_LENGTH),
+    ("PING|", "-ERR Protocol error: expected '*'|", STAR),
+    ("*1|$4|PING|PING|*1|$4|PING|", "+PONG|-ERR Protocol error: expected '*'|", STAR),
+    ("*1|+PING|", "-ERR Protocol error: expected '$'|", DOLLAR),
+    ("*1|$4|PINGxx", "-ERR Protocol error: expected CRLF|", LINE_END),
+];
+
 #[test]
 fn bytes_are_read_as_requests(rt: HostRuntime) -> Result<(), Fail> {
-    let star: Ending = Ok(Served::Protocol(Fault::ExpectedStar));
-    let dollar: Ending = Ok(Served::Protocol(Fault::ExpectedDollar));
-    let line: Ending = Ok(Served::Protocol(Fault::ExpectedCrlf));
-    for (input, replies, ending) in [
-        ("*1|$4|PiNG|", "+PONG|", END),
-        (
-            "*3|$3|SET|$0||$0||*2|$3|GET|$0||*2|$3|GET|$1|a|",
-            "+OK|$0||$-1|",
-            END,
-        ),
-        ("*0|*-1|*1|$4|PING|", "+PONG|", END),
-        ("", "", END),
-        ("*1|$4|PI", "", INSIDE),
-        ("*1|$4|PING|*", "+PONG|", INSIDE),
-        (
-            "*1|$03|GET|",
-            "-ERR Protocol error: invalid length|",
-            BAD_LENGTH,
-        ),
-        (
-            "*1|$536870913",
-            "-ERR Protocol error: invalid length|",
-            BAD_LENGTH,
-        ),
-        ("PING|", "-ERR Protocol error: expected '*'|", star),
-        (
-            "*1|$4|PING|PING|*1|$4|PING|",
-            "+PONG|-ERR Protocol error: expected '*'|",
-            star,
-        ),
-        ("*1|+PING|", "-ERR Protocol error: expected '$'|", dollar),
-        ("*1|$4|PINGxx", "-ERR Protocol error: expected CRLF|", line),
-    ] {
+    for (input, replies, ending) in STREAMS {
         let bytes = bytes_of(rt.alloc(), input)?;
         let mut output = Vec::new(rt.alloc());
         let ended = empty_store(rt.alloc()).serve(&mut bytes.as_slice(), &mut output);

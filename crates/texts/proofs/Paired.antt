@@ -1,8 +1,8 @@
 -- Byte strings, two by two.
-use Rattle.std.proofs.Common.{◌≡◌, ℕ, zero, suc, ◌+◌, ◌*◌, ◌≤◌, ◌<◌, ◌%◌, List, [], ◌∷◌, length, map, Some, slice_get, slice_index_or, refl, ap, arith}
+use Rattle.std.proofs.Common.{◌≡◌, ℕ, zero, suc, ◌+◌, ◌*◌, ◌≤◌, ◌<◌, ◌%◌, List, [], ◌∷◌, length, Some, slice_get, slice_index_or, refl, ap, arith}
 use native.Mathlib.Numerals.{unary_clauses}
 use Rattle.std.specs.Global.{Vec}
-use Rattle.texts.specs.Texts.{texts_of, pairs_of, by_turns}
+use Rattle.texts.specs.Texts.{texts_of, pairs_of, firsts, by_turns}
 
 -- half as many pairs as strings
 pub length-pairs_of : (ts : List (Vec ℕ)) → (2 * length (pairs_of (texts_of ts)) ≤ length ts) × (length ts ≤ 2 * length (pairs_of (texts_of ts)) + 1)
@@ -12,7 +12,7 @@ length-pairs_of (a ∷ b ∷ ts) = let more = length-pairs_of ts in (omega (arit
 
 -- the first of a pair is the string at twice its place
 pub first-pairs_of : (ts : List (Vec ℕ)) (i : ℕ) (t : Vec ℕ) → i < length (pairs_of (texts_of ts)) → t ≡ slice_index_or ts (2 * i) t
-    → slice_get (map (λ p. p.0) (pairs_of (texts_of ts))) i ≡ Some t.items
+    → slice_get (firsts (pairs_of (texts_of ts))) i ≡ Some t.items
 first-pairs_of [] i t h e = absurd (omega arith)
 first-pairs_of (a ∷ []) i t h e = absurd (omega arith)
 first-pairs_of (a ∷ b ∷ ts) zero t h e = cc

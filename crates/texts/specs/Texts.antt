@@ -16,6 +16,10 @@ pairs_of [] = []
 pairs_of (first ∷ []) = []
 pairs_of (first ∷ second ∷ rest) = (first, second) ∷ pairs_of rest
 
+-- the first of each pair
+abbrev pub firsts : List (Bytes × Bytes) → List Bytes
+firsts pairs = map (λ p. p.0) pairs
+
 -- the strings of these pairs, the first and the second of each by turns
 abbrev pub by_turns : List (Bytes × Bytes) → List Bytes
 by_turns [] = []

@@ -1,7 +1,7 @@
 //! A list of pairs of byte strings.
 
 ghost use Rattle.std.specs.Prelude.{◌≡◌, ◌<◌, ◌%◌, length, map, slice_get, Some};
-ghost use Rattle.texts.specs.Texts.{texts_of, pairs_of, by_turns};
+ghost use Rattle.texts.specs.Texts.{texts_of, pairs_of, firsts, by_turns};
 
 use std::marker::Model;
 
@@ -42,7 +42,7 @@ impl Pairs {
     /// The first of the pair at this place, from 0.
     pub fn first_at(&self, place: usize) -> &[u8]
         requires { place < length self.now }
-        ensures { slice_get (map (λ p. p.0) self.now) place ≡ Some result.now }
+        ensures { slice_get (firsts self.now) place ≡ Some result.now }
     {
         let texts = self.texts.as_slice();
         texts[2 * place].as_slice()

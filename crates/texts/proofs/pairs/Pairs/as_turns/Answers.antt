@@ -1,4 +1,4 @@
-use Rattle.std.proofs.Common.{◌∙◌, ap, sym}
+use Rattle.std.proofs.Common.{◌∙◌, ap}
 use Rattle.texts.proofs.Paired.{by_turns-pairs_of}
 use Rattle.texts.specs.Texts.{texts_of, by_turns}
 use Rattle.texts.proofs.pairs.Pairs.as_turns.Goals as goal

@@ -1,7 +1,7 @@
-use Rattle.std.proofs.Common.{◌≡◌, ◌∙◌, ap, sym, subst, map, length, arith, ℕ, ◌<◌, ◌*◌, List, slice_get, Some}
+use Rattle.std.proofs.Common.{◌≡◌, ◌∙◌, ap, sym, subst, length, arith, ℕ, ◌<◌, ◌*◌, List, slice_get, Some}
 use Rattle.texts.proofs.Paired.{length-pairs_of, first-pairs_of}
 use Rattle.std.specs.Global.{Vec}
-use Rattle.texts.specs.Texts.{Bytes, texts_of, pairs_of}
+use Rattle.texts.specs.Texts.{Bytes, texts_of, pairs_of, firsts}
 use Rattle.texts.proofs.pairs.Pairs.first_at.Goals as goal
 
 -- a place of a pair is twice a place below the number of strings
@@ -28,6 +28,6 @@ returns c =
     let seen : pairs_of (texts_of ts) ≡ c.args.self.now = ap (λ ts. pairs_of (texts_of ts)) c.as_slice-texts.ensures.value ∙ c.self.view_is in
     let t = c.index-texts-place.result in
     let within = subst (λ ps. c.args.place < length ps) (sym seen) c.requires in
-    ap (λ ps. slice_get (map (λ p. p.0) ps) c.args.place) (sym seen)
+    ap (λ ps. slice_get (firsts ps) c.args.place) (sym seen)
     ∙ first-pairs_of ts c.args.place t within c.index-texts-place.is
     ∙ ap Some (sym c.as_slice.ensures.value)

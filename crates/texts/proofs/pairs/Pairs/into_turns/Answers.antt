@@ -1,6 +1,6 @@
-use Rattle.std.proofs.Common.{◌∙◌, ap, sym}
+use Rattle.std.proofs.Common.{◌∙◌, ap}
 use Rattle.texts.proofs.Paired.{by_turns-pairs_of}
-use Rattle.texts.specs.Texts.{texts_of, by_turns}
+use Rattle.texts.specs.Texts.{by_turns}
 use Rattle.texts.proofs.pairs.Pairs.into_turns.Goals as goal
 
 pub returns : goal.returns

@@ -1,4 +1,4 @@
-use Rattle.std.proofs.Common.{◌≡◌, ◌∙◌, ap, sym, length, arith}
+use Rattle.std.proofs.Common.{ap, length, arith}
 use Rattle.texts.proofs.Paired.{length-pairs_of}
 use Rattle.texts.proofs.pairs.Pairs.len.Goals as goal
 

@@ -1,0 +1,6 @@
+pub mod Laws
+pub mod Cuts
+pub mod Kept
+pub mod TextLaws
+pub mod ReadLaws
+pub mod Written

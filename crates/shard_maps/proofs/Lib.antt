@@ -1,0 +1,9 @@
+pub mod Joins
+pub mod Spans
+pub mod Steps
+pub mod Unions
+pub mod Rows
+pub mod Layers
+pub mod Runs
+pub mod Parts
+pub mod PutBack
