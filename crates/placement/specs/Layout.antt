@@ -1,5 +1,5 @@
 -- Which shard has a slot, and the table that a placement document gives.
-use Rattle.std.specs.Prelude.{◌≡◌, ℕ, ◌<◌, ◌≤◌, Bool, ◌&&◌, nat_le, List, [], ◌∷◌, length, slice_index, All, filter, map, Some, None}
+use Rattle.std.specs.Prelude.{ℤ, pos, ◌≤ℤ◌, ◌<ℤ◌, map, ◌≡◌, ℕ, ◌<◌, ◌≤◌, Bool, ◌&&◌, nat_le, List, [], ◌∷◌, length, slice_index, All, filter, Some, None}
 use Rattle.placement.specs.Document.{Document, document_in}
 use Rattle.placement.specs.Slot.{slot}
 use Rattle.placement.specs.declared.document.Range.{Range}
@@ -25,16 +25,16 @@ shard_of t key = slice_index t.slots (slot key)
 
 -- there are 1 to 64 shards, and each range names one of them, counted from 0
 pub record KnowsShards (d : Document) : Type 0 where
-  pub some_shard : 0 < d.shards
-  pub at_most_64 : d.shards ≤ 64
-  pub named : All (λ r. r.shard < d.shards) d.ranges
+  pub some_shard : pos 1 ≤ℤ d.shards
+  pub at_most_64 : d.shards ≤ℤ pos 64
+  pub named : All (λ r. (pos 0 ≤ℤ r.shard) × (r.shard <ℤ d.shards)) d.ranges
 
 -- the range has the slot
 abbrev pub has_slot : ℕ → Range → Bool
 has_slot s range = nat_le range.from s && nat_le s range.to
 
 -- the shards that a slot's ranges name, in the order of the ranges
-abbrev pub shards_at : ℕ → List Range → List ℕ
+abbrev pub shards_at : ℕ → List Range → List ℤ
 shards_at s ranges = map (λ r. r.shard) (filter (has_slot s) ranges)
 
 -- a slot is in two ranges; a slot is in none
@@ -47,8 +47,8 @@ SomeMissing ranges = (s : ℕ) × (s < SLOTS) × (shards_at s ranges ≡ [])
 -- the table that a document gives: its number of shards, and for each slot the shard of the one range that has it
 pub record Gives (d : Document) (t : Layout) : Type 0 where
   pub known : KnowsShards d
-  pub shards : d.shards ≡ t.shards
-  pub slots : (s : ℕ) → s < SLOTS → shards_at s d.ranges ≡ slice_index t.slots s ∷ []
+  pub shards : d.shards ≡ pos t.shards
+  pub slots : (s : ℕ) → s < SLOTS → shards_at s d.ranges ≡ pos (slice_index t.slots s) ∷ []
 
 -- what is wrong with a document that gives no table; of several faults the first one is told
 abbrev pub IsWrong : TableFault → Document → Type 0

@@ -1,5 +1,5 @@
 -- The shards of the slots while the ranges of a document are gone through.
-use Rattle.std.specs.Prelude.{◌≡◌, ℕ, ◌<◌, true, false, List, Option, Some, None, IsSome, option_to_list, length, slice_index, slice_index_or}
+use Rattle.std.specs.Prelude.{pos, map, ◌≡◌, ℕ, ◌<◌, true, false, List, Option, Some, None, IsSome, option_to_list, length, slice_index, slice_index_or}
 use Rattle.placement.specs.declared.document.Range.{Range}
 use Rattle.placement.specs.declared.slots.TheConstants.{SLOTS}
 use Rattle.placement.specs.Layout.{has_slot, shards_at}
@@ -10,7 +10,7 @@ owner owners s = slice_index_or owners s None
 
 -- each slot has the shard that its ranges name, if there is one
 abbrev pub Owns : List Range → List (Option ℕ) → Type 0
-Owns ranges owners = (s : ℕ) → s < SLOTS → shards_at s ranges ≡ option_to_list (owner owners s)
+Owns ranges owners = (s : ℕ) → s < SLOTS → shards_at s ranges ≡ map pos (option_to_list (owner owners s))
 
 -- the slots of the range were free and have the shard, and the others are as they were
 pub record Claims (range : Range) (shard : ℕ) (old new : List (Option ℕ)) : Type 0 where

@@ -128,9 +128,11 @@ mod tests {
 
     #[test]
     fn keeps_the_words_of_a_request(rt: HostRuntime) -> Result<(), Fail> {
-        let words: &[&[u8]] = &[b"SET", b"a", b""];
+        let large = Vec::from_elem(rt.alloc(), b'x', 2_000_000)?;
+        let words: &[&[u8]] = &[b"SET", b"a", b"", &large];
         let request = Request::copy_of(rt.alloc(), words)?;
-        assert_eq!(rt; request.len(), 3);
+        assert_eq!(rt; request.len(), 4);
+        assert_eq!(rt; request.word(3).len(), 2_000_000);
         assert_eq!(rt; request.word(1), b"a".as_slice());
         let again = Request::from_words(request.into_words());
         assert_eq!(rt; again.word(0), b"SET".as_slice());

@@ -119,3 +119,23 @@ fn goes_on_where_memory_was_refused(rt: HostRuntime) -> Result<(), Fail> {
     assert!(rt; !decoder.pending());
     Ok(())
 }
+
+#[test]
+fn reads_two_thousand_pieces_and_large_words(rt: HostRuntime) -> Result<(), Fail> {
+    let mut word = bytes_of(rt.alloc(), "*1|$2000000|")?;
+    for _ in 0..2000 {
+        word.extend_from_slice(&[b'x'; 1000])?;
+    }
+    word.extend_from_slice(b"\r\n")?;
+    let mut pieces: Vec<&[u8]> = Vec::new(rt.alloc());
+    for piece in word.chunks(1000) {
+        pieces.push(piece)?;
+    }
+    let decoded = decode_all(rt.alloc(), Limits::DEFAULT, &pieces)?;
+    assert_eq!(rt; decoded.fault, None);
+    assert_eq!(rt; decoded.requests.len(), 1);
+    for request in &decoded.requests {
+        assert_eq!(rt; request.word(0).len(), 2_000_000);
+    }
+    Ok(())
+}

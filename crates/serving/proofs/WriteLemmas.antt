@@ -12,7 +12,7 @@ use Rattle.serving.specs.declared.gather.Pause.TheVariants.{Full, Waits, Faulty,
 use Rattle.serving.specs.declared.outcome.ServeFault.{ServeFault}
 use Rattle.serving.specs.declared.outcome.ServeFault.TheVariants.{Read, Write, Memory, Door}
 use Rattle.serving.specs.Answers.{Answer, answer_text, answers_text, Answered}
-use Rattle.serving.specs.Serves.{IsAllOrAllButLast, IsBeginning, Breaks}
+use Rattle.serving.specs.Serves.{IsAllOrAllButLast, IsBatch, IsLastLine, IsBeginning, Breaks}
 use Rattle.serving.specs.Sent.{AppendsPart}
 use Rattle.serving.specs.Gathers.{Pauses, Gathers, AnswersHeld, closed_by}
 use Rattle.serving.proofs.AnswerLemmas.{answered_start, answered_join, answers_text-append}
@@ -47,13 +47,19 @@ all_but_last_behind {Reason} answers others text p =
 -- a beginning of the texts, behind earlier ones
 beginning_behind : {Reason : Type 0} (limits : Limits) (rest : List ℕ) (answers others : List (Answer Reason)) (text : List ℕ)
     → IsBeginning limits rest others text → IsBeginning limits rest (answers ++ others) (answers_text answers ++ text)
-beginning_behind limits rest answers others text p = (
-  p.0,
-  p.1,
-  p.2,
-  ap (λ l. l ++ p.0) (answers_text-append answers others) ∙ append_assoc (answers_text answers) (answers_text others) p.0
-      ∙ ap (λ l. answers_text answers ++ l) p.3 ∙ sym (append_assoc (answers_text answers) text p.1),
-)
+beginning_behind limits rest answers others text p = record {
+  before = answers ++ p.before;
+  batch = p.batch;
+  whole = ap (λ l. answers ++ l) p.whole ∙ sym (append_assoc answers p.before p.batch);
+  small = p.small;
+  line = p.line;
+  last = p.last;
+  sent = p.sent;
+  unsent = p.unsent;
+  split = p.split;
+  written = ap (λ l. answers_text answers ++ l) p.written ∙ sym (append_assoc (answers_text answers) (answers_text p.before) p.sent)
+      ∙ ap (λ l. l ++ p.sent) (sym (answers_text-append answers p.before));
+}
 
 -- what a fault leaves, behind answers that were written before
 pub breaks_behind : {Reason : Type 0} (limits : Limits) (rest : List ℕ) (old mid new : Option (List ℕ)) (answers others : List (Answer Reason)) (fault : ServeFault Reason)
@@ -66,14 +72,18 @@ breaks_behind limits rest old mid new answers others Memory p q =
 breaks_behind limits rest old mid new answers others (Door reason) p q = appends_all old mid new answers others p q
 
 -- what is gathered is a beginning of the texts of the answers and of the last line
+abbrev Covers : {Reason : Type 0} → Limits → List ℕ → List (Answer Reason) → List ℕ → Type 0
+Covers limits rest answers gathered =
+    (line : List ℕ) × (more : List ℕ) × IsLastLine limits rest line × (answers_text answers ++ line ≡ gathered ++ more)
+
 gathered_begins : {Reason : Type 0} (old new : Held) (rest : List ℕ) (answers : List (Answer Reason)) (gathered : List ℕ) (pause : Pause Reason)
-    → Pauses old new rest answers gathered pause → IsBeginning old.limits rest answers gathered
+    → Pauses old new rest answers gathered pause → Covers old.limits rest answers gathered
 gathered_begins old new rest answers gathered Full p = ([], [], inl refl, ap (λ l. l ++ []) (sym p.2))
 gathered_begins old new rest answers gathered Waits p = ([], [], inl refl, ap (λ l. l ++ []) (sym p.2))
 gathered_begins old new rest answers gathered (Closed reason) p = ([], [], inl refl, ap (λ l. l ++ []) (sym p))
 gathered_begins old new rest answers gathered (Faulty fault) p = (fault_text fault, [], inr (fault, p.0, refl), sym p.1 ∙ sym (append-nil gathered))
 gathered_begins old new rest answers gathered Starved p =
-    elim p as (λ _. IsBeginning old.limits rest answers gathered) [
+    elim p as (λ _. Covers old.limits rest answers gathered) [
       | inl all ↦ ([], [], inl refl, ap (λ l. l ++ []) (sym all))
       | inr w ↦ (
         [],
@@ -85,9 +95,19 @@ gathered_begins old new rest answers gathered Starved p =
 
 -- of what is gathered a part was sent
 sent_begins : {Reason : Type 0} (limits : Limits) (rest : List ℕ) (answers : List (Answer Reason)) (gathered sent unsent : List ℕ)
-    → IsBeginning limits rest answers gathered → gathered ≡ sent ++ unsent → IsBeginning limits rest answers sent
-sent_begins limits rest answers gathered sent unsent p e =
-    (p.0, unsent ++ p.1, p.2, p.3 ∙ ap (λ l. l ++ p.1) e ∙ append_assoc sent unsent p.1)
+    → Covers limits rest answers gathered → IsBatch answers → gathered ≡ sent ++ unsent → IsBeginning limits rest answers sent
+sent_begins limits rest answers gathered sent unsent p small e = record {
+  before = [];
+  batch = answers;
+  whole = refl;
+  small = small;
+  line = p.0;
+  last = p.2;
+  sent = sent;
+  unsent = unsent ++ p.1;
+  split = p.3 ∙ ap (λ l. l ++ p.1) e ∙ append_assoc sent unsent p.1;
+  written = refl;
+}
 
 -- The requests before the bytes that are held now were answered, and the replies written.
 pub record Writing {S Reason : Type 0} (asks : S → List (List ℕ) → Answer Reason → S → Type 0) (old new : Held) (s t : S) (before after : Option (List ℕ)) : Type 0 where
@@ -188,7 +208,7 @@ module _ {S Reason : Type 0} (asks : S → List (List ℕ) → Answer Reason →
       → Writing asks old now s u before middle → Gathers asks now new u t gathered pause → AppendsPart middle after gathered
       → AnswersHeld asks old new s t before after (Err Write)
   answers_unsent now new u t middle after gathered pause p q part =
-      let begins = sent_begins now.limits q.rest q.answers gathered part.0 part.1 (gathered_begins now new q.rest q.answers gathered pause q.pauses) part.2 in
+      let begins = sent_begins now.limits q.rest q.answers gathered part.0 part.1 (gathered_begins now new q.rest q.answers gathered pause q.pauses) q.small part.2 in
       record {
         rest = q.rest;
         answers = p.answers ++ q.answers;

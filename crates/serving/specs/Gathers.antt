@@ -10,7 +10,7 @@ use Rattle.serving.specs.declared.gather.Pause.{Pause}
 use Rattle.serving.specs.declared.gather.Pause.TheVariants.{Full, Waits, Faulty, Starved, Closed}
 use Rattle.serving.specs.declared.outcome.ServeFault.{ServeFault}
 use Rattle.serving.specs.Answers.{Answer, answer_text, answers_text, GoesOn, Answered}
-use Rattle.serving.specs.Serves.{IsAllOrAllButLast, Breaks, Tells}
+use Rattle.serving.specs.Serves.{IsAllOrAllButLast, IsBatch, Breaks, Tells}
 
 -- The door was asked a request: the text of its answer was added, or the buffer, with room for so many bytes, had none for
 -- it, or the door ended the connection. So a door's own want of memory is answered as any other request.
@@ -59,6 +59,7 @@ pub record Gathers {S Reason : Type 0} (asks : S → List (List ℕ) → Answer 
   pub rest : List ℕ
   pub answers : List (Answer Reason)
   pub answered : Answered asks old.limits old.bytes rest s t (closed_by pause) answers
+  pub small : IsBatch answers
   pub pauses : Pauses old new rest answers gathered pause
 
 -- what stands behind the requests held that were answered, and what was written

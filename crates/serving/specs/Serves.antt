@@ -1,10 +1,11 @@
 -- What serving a connection reads, asks and writes.
-use Rattle.std.specs.Prelude.{◌≡◌, ℕ, ◌<◌, ◌⊎◌, List, [], ◌∷◌, ◌++◌, length, Option, Some, None, Result, Ok, Err}
+use Rattle.std.specs.Prelude.{◌≡◌, ℕ, ◌<◌, ◌≤◌, ◌⊎◌, List, [], ◌∷◌, ◌++◌, length, Option, Some, None, Result, Ok, Err}
 use Rattle.std.specs.Io.KnownBytes.{Consumes, Appends, IsAtEnd}
 use Rattle.resp_decoder.specs.declared.fault.Fault.{Fault}
 use Rattle.resp_decoder.specs.declared.limits.Limits.{Limits}
 use Rattle.resp_decoder.specs.FaultText.{fault_text}
 use Rattle.resp_decoder.specs.Texts.{IsOpen, IsFault}
+use Rattle.serving.specs.declared.gather.TheConstants.{GATHERED}
 use Rattle.serving.specs.declared.outcome.Served.{Served}
 use Rattle.serving.specs.declared.outcome.Served.TheVariants.{End, Inside, Protocol}
 use Rattle.serving.specs.declared.outcome.ServeFault.{ServeFault}
@@ -33,10 +34,27 @@ IsAllOrAllButLast {Reason} answers text =
 abbrev pub IsLastLine : Limits → List ℕ → List ℕ → Type 0
 IsLastLine limits rest line = (line ≡ []) ⊎ ((fault : Fault) × IsFault limits rest fault × (line ≡ fault_text fault))
 
--- a beginning of the texts of the answers and of the last line behind them
-abbrev pub IsBeginning : {Reason : Type 0} → Limits → List ℕ → List (Answer Reason) → List ℕ → Type 0
-IsBeginning limits rest answers text =
-    (line : List ℕ) × (unsent : List ℕ) × IsLastLine limits rest line × (answers_text answers ++ line ≡ text ++ unsent)
+-- What is gathered before it is written: the texts of these answers, but for the last of them, are no more bytes than are
+-- gathered at most.
+abbrev pub IsBatch : {Reason : Type 0} → List (Answer Reason) → Type 0
+IsBatch {Reason} batch =
+    (batch ≡ [])
+    ⊎ ((first : List (Answer Reason)) × (last : Answer Reason) × (batch ≡ first ++ last ∷ [])
+    × (length (answers_text first) ≤ GATHERED))
+
+-- a beginning of the texts of the answers and of the last line after them, which lacks no more than a part of the last batch
+pub record IsBeginning {Reason : Type 0} (limits : Limits) (rest : List ℕ) (answers : List (Answer Reason))
+    (text : List ℕ) : Type 0 where
+  pub before : List (Answer Reason)
+  pub batch : List (Answer Reason)
+  pub whole : answers ≡ before ++ batch
+  pub small : IsBatch batch
+  pub line : List ℕ
+  pub last : IsLastLine limits rest line
+  pub sent : List ℕ
+  pub unsent : List ℕ
+  pub split : answers_text batch ++ line ≡ sent ++ unsent
+  pub written : text ≡ answers_text before ++ sent
 
 -- What a fault leaves: what stands behind the requests that were answered, and what was written.
 abbrev pub Breaks : {Reason : Type 0} → Limits → List ℕ → List (Answer Reason)

@@ -5,7 +5,9 @@ use crate::{Door, DoorFault, ServeFault, Served, serve};
 use resp::{Reply, Request};
 use resp_decoder::{Fault, Limits};
 use std::alloc::Global;
-use std::io::ErrorKind;
+use std::cell::Cell;
+use std::io;
+use std::io::{ErrorKind, Read, Write};
 use std::test::Fail;
 use test_support::{NEVER, Sink, Source, bytes_of};
 
@@ -72,8 +74,102 @@ fn answers_rows_however_they_are_cut(rt: HostRuntime) -> Result<(), Fail> {
                 "at {input:?}"
             );
             assert_eq!(rt; writer.taken.as_slice(), output.as_slice(), "at {input:?}");
+            assert_eq!(rt; writer.flushed, output.len(), "at {input:?}");
         }
     }
+    Ok(())
+}
+
+/// Keeps the bytes that it takes back until it is flushed, and says how many it has passed on.
+#[derive(Drop)]
+struct KeepsBack<'a> {
+    taken: Vec<u8>,
+    passed_on: &'a Cell<usize>,
+}
+
+impl Write for KeepsBack<'_> {
+    fn write(&mut self, buf: &[u8]) -> io::Result<usize> {
+        self.taken.extend_from_slice(buf)?;
+        Ok(buf.len())
+    }
+
+    fn flush(&mut self) -> io::Result<()> {
+        self.passed_on.set(self.taken.len());
+        Ok(())
+    }
+}
+
+/// Gives the same request a few times, each only once the reply to the one before it has come.
+#[derive(Drop)]
+struct WaitsForReply<'a> {
+    request: &'a [u8],
+    reply: usize,
+    asked: usize,
+    passed_on: &'a Cell<usize>,
+}
+
+impl Read for WaitsForReply<'_> {
+    fn read(&mut self, buf: &mut [u8]) -> io::Result<usize> {
+        let len = self.request.len();
+        if self.passed_on.get() != self.asked.saturating_mul(self.reply) || buf.len() < len {
+            return Err(ErrorKind::TimedOut.into());
+        }
+        if self.asked >= 5 {
+            return Ok(0);
+        }
+        self.asked += 1;
+        buf[..len].copy_from_slice(self.request);
+        Ok(len)
+    }
+}
+
+#[test]
+fn passes_each_reply_on_before_it_reads_again(rt: HostRuntime) -> Result<(), Fail> {
+    let request = bytes_of(rt.alloc(), "*1|$1|a|")?;
+    let passed_on = Cell::new(0);
+    let mut reader = WaitsForReply {
+        request: request.as_slice(),
+        reply: 7,
+        asked: 0,
+        passed_on: &passed_on,
+    };
+    let mut writer = KeepsBack {
+        taken: Vec::new(rt.alloc()),
+        passed_on: &passed_on,
+    };
+    let mut door = Echo { alloc: rt.alloc() };
+    assert_eq!(rt;
+        serve(
+            rt.alloc(),
+            Limits::DEFAULT,
+            &mut reader,
+            &mut writer,
+            &mut door
+        ),
+        Ok(Served::End)
+    );
+    assert_eq!(rt; (reader.asked, passed_on.get()), (5, 35));
+    Ok(())
+}
+
+#[test]
+fn serves_two_thousand_pieces_and_two_million_bytes(rt: HostRuntime) -> Result<(), Fail> {
+    let mut word = bytes_of(rt.alloc(), "$1000|")?;
+    word.extend_from_slice(&[b'x'; 1000])?;
+    word.extend_from_slice(b"\r\n")?;
+    let mut input = Vec::new(rt.alloc());
+    for _ in 0..2000 {
+        input.extend_from_slice(b"*1\r\n")?;
+        input.extend_from_slice(&word)?;
+    }
+    let mut reader = Source::new(&input, word.len() + 4);
+    let mut writer = Sink::new(rt.alloc(), NEVER);
+    assert_eq!(rt;
+        served(rt.alloc(), &mut reader, &mut writer),
+        Ok(Served::End)
+    );
+    assert_eq!(rt; reader.reads, 2001);
+    assert_eq!(rt; writer.taken.len(), 2000 * word.len());
     Ok(())
 }
 

@@ -5,7 +5,9 @@ use command_table::read;
 use resp::{Request, write_reply};
 use resp_decoder::Fault;
 use serving::Served;
+use std::alloc::Global;
 use std::io::Read;
+use std::process::Abort;
 use std::test::Fail;
 use test_support::{bytes_of, requests_of};
 
@@ -112,5 +114,49 @@ fn a_run_gives_a_reply_for_each_command(rt: HostRuntime) -> Result<(), Fail> {
     write_reply(&store.run(last.map_err(|_| "a refusal")?), &mut output)?;
     let replies = bytes_of(rt.alloc(), "+OK|$1|1|:1|$-1|+PONG|$2|hi|")?;
     assert_eq!(rt; output.as_slice(), replies.as_slice());
+    Ok(())
+}
+
+/// Has the store answer this input, and looks at its replies.
+fn expect(rt: &impl Abort, alloc: Global, input: &[u8], replies: &[u8]) {
+    let mut output = Vec::new(alloc);
+    let mut input = input;
+    let ending = empty_store(alloc).serve(&mut input, &mut output);
+    assert_eq!(rt; ending, END);
+    assert!(rt; output.as_slice() == replies);
+}
+
+#[test]
+fn two_thousand_keys_are_kept(rt: HostRuntime) -> Result<(), Fail> {
+    let mut input = Vec::new(rt.alloc());
+    let mut replies = Vec::new(rt.alloc());
+    for key in 1000..3000u32 {
+        let row = format!(in rt.alloc(); "SET {key} 1")?;
+        input.extend_from_slice(&requests_of(rt.alloc(), row.as_str())?)?;
+        replies.extend_from_slice(b"+OK\r\n")?;
+    }
+    for key in 1000..3000u32 {
+        let row = format!(in rt.alloc(); "GET {key}; DEL {key} a b c d e f g h; GET {key}")?;
+        input.extend_from_slice(&requests_of(rt.alloc(), row.as_str())?)?;
+        replies.extend_from_slice(b"$1\r\n1\r\n:1\r\n$-1\r\n")?;
+    }
+    expect(&rt, rt.alloc(), &input, &replies);
+    Ok(())
+}
+
+#[test]
+fn a_value_of_two_million_bytes_comes_back(rt: HostRuntime) -> Result<(), Fail> {
+    let mut value = bytes_of(rt.alloc(), "$2000000|")?;
+    for _ in 0..2000 {
+        value.extend_from_slice(&[b'x'; 1000])?;
+    }
+    value.extend_from_slice(b"\r\n")?;
+    let mut input = bytes_of(rt.alloc(), "*3|$3|SET|$1|a|")?;
+    input.extend_from_slice(&value)?;
+    input.extend_from_slice(&requests_of(rt.alloc(), "GET a; GET a")?)?;
+    let mut replies = bytes_of(rt.alloc(), "+OK|")?;
+    replies.extend_from_slice(&value)?;
+    replies.extend_from_slice(&value)?;
+    expect(&rt, rt.alloc(), &input, &replies);
     Ok(())
 }
