@@ -29,7 +29,7 @@ get-with_entries m (e ∷ es) q =
 pub get-joined-cons : (m : Map) (ms : List Map) (q : List ℕ) → get (joined (m ∷ ms)) q ≡ option_or (get m q) (get (joined ms) q)
 get-joined-cons m ms q = get-with_entries (joined ms) (entries m) q ∙ ap (λ o. option_or o (get (joined ms) q)) (sym (get-entries m q))
 
-or_none : (o : Option Value) → option_or o None ≡ o
+pub or_none : (o : Option Value) → option_or o None ≡ o
 or_none None = refl
 or_none (Some v) = refl
 

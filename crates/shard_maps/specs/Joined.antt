@@ -1,5 +1,5 @@
 -- The maps of the shards as one map, and a command that is run over some of the shards.
-use Rattle.std.specs.Prelude.{◌≡◌, ℕ, ◌==◌, List, [], ◌∷◌, map, slice_set, slice_index_or, Option, Some, None, IsSome}
+use Rattle.std.specs.Prelude.{◌≡◌, ℕ, ◌==◌, List, [], ◌∷◌, map, slice_index_or, Option, Some, None, IsSome}
 use Rattle.std.specs.FinMap.{get, empty, entries, retain_keys}
 use Rattle.std.specs.List.{AllByRecursion}
 use Rattle.command_bodies.specs.Command.{effect_of}
@@ -44,11 +44,6 @@ SpanHasOwnKeys table span = AllByRecursion (λ s. HasKeysOf table s.0 s.1) span
 -- the shards of these numbers
 abbrev pub span_at : List Map → List ℕ → Span
 span_at maps groups = map (λ g. (g, map_of_shard maps g)) groups
-
--- the shards' maps with those of a span in their places
-abbrev pub put_span : List Map → Span → List Map
-put_span maps [] = maps
-put_span maps (s ∷ ss) = put_span (slice_set maps s.0 s.1) ss
 
 -- what a map has at the keys that lie on a shard
 abbrev pub part_of : Layout → Map → ℕ → Map

@@ -1,1 +1,4 @@
 pub mod Joined
+pub mod Layer
+pub mod Laws
+pub mod Rows

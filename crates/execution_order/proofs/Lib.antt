@@ -1,0 +1,4 @@
+pub mod Untouched
+pub mod Sorting
+pub mod Sorted
+pub mod Appended

@@ -1,0 +1,16 @@
+use Rattle.shard_maps.proofs.Joins.{get-joined}
+use Rattle.shard_maps.proofs.Layers.{layer_in_turn, starved_leave_no_trace}
+use Rattle.shard_maps.proofs.Steps.{span_is_joined}
+use Rattle.shard_maps.proofs.laws_of_joined_maps.Goals as goal
+
+pub returns-clause-keys_lie_on_their_shards : goal.returns-clause-keys_lie_on_their_shards
+returns-clause-keys_lie_on_their_shards c = get-joined
+
+pub returns-clause-spans_are_joined : goal.returns-clause-spans_are_joined
+returns-clause-spans_are_joined c = span_is_joined
+
+pub returns-clause-layers_are_in_turn : goal.returns-clause-layers_are_in_turn
+returns-clause-layers_are_in_turn c = layer_in_turn
+
+pub returns-clause-starved_leave_no_trace : goal.returns-clause-starved_leave_no_trace
+returns-clause-starved_leave_no_trace c = starved_leave_no_trace

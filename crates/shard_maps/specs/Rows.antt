@@ -1,0 +1,51 @@
+-- A row of things by number, and some of them with their numbers, which are taken out of the row and put back.
+use Rattle.std.specs.Prelude.{◌≡◌, ℕ, ◌<◌, List, [], ◌∷◌, Option, length, map, slice_get, slice_set, slice_index_or}
+
+abbrev pub Numbered : Type 0 → Type 0
+Numbered X = List (ℕ × X)
+
+abbrev pub numbers_of : {X : Type 0} → Numbered X → List ℕ
+numbers_of span = map (λ s. s.0) span
+
+-- those at these numbers; `absent` stands for what isn't there
+abbrev pub picked : {X : Type 0} → X → List X → List ℕ → Numbered X
+picked absent row groups = map (λ g. (g, slice_index_or row g absent)) groups
+
+-- the row with some put in their places
+abbrev pub put_span : {X : Type 0} → List X → Numbered X → List X
+put_span row [] = row
+put_span row (s ∷ ss) = put_span (slice_set row s.0 s.1) ss
+
+-- the row with several spans put in their places, one after another
+abbrev pub put_spans : {X : Type 0} → List X → List (Numbered X) → List X
+put_spans row [] = row
+put_spans row (span ∷ spans) = put_spans (put_span row span) spans
+
+-- taken out one after another, each leaving `absent` in its place: what is taken, and what is left of the row
+abbrev pub taken_out : {X : Type 0} → X → List X → List ℕ → Numbered X
+taken_out absent row [] = []
+taken_out absent row (g ∷ gs) = (g, slice_index_or row g absent) ∷ taken_out absent (slice_set row g absent) gs
+
+abbrev pub emptied : {X : Type 0} → X → List X → List ℕ → List X
+emptied absent row [] = row
+emptied absent row (g ∷ gs) = emptied absent (slice_set row g absent) gs
+
+-- one set of numbers after another
+abbrev pub emptied_each : {X : Type 0} → X → List X → List (List ℕ) → List X
+emptied_each absent row [] = row
+emptied_each absent row (gs ∷ sets) = emptied_each absent (emptied absent row gs) sets
+
+abbrev pub taken_out_each : {X : Type 0} → X → List X → List (List ℕ) → List (Numbered X)
+taken_out_each absent row [] = []
+taken_out_each absent row (gs ∷ sets) = taken_out absent row gs ∷ taken_out_each absent (emptied absent row gs) sets
+
+-- ---- things dealt to parts, and read again in their order
+
+-- what stands at a place of a part
+abbrev pub in_part : {X : Type 0} → List (List X) → ℕ → ℕ → Option X
+in_part parts part place = slice_get (slice_index_or parts part []) place
+
+-- each of `xs` stands somewhere in the parts, and at the same place of the results stands that of `ys` which belongs to it
+pub record IsGathered {X Y : Type 0} (parts : List (List X)) (results : List (List Y)) (xs : List X) (ys : List Y) : Type 0 where
+  pub as_many : length ys ≡ length xs
+  pub each : (i : ℕ) → i < length xs → (part : ℕ) × (place : ℕ) × (in_part parts part place ≡ slice_get xs i) × (in_part results part place ≡ slice_get ys i)
