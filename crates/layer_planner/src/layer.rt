@@ -65,7 +65,8 @@ impl Layer {
         ensures jobs { result.items ≡ self }
         ensures apart { ShareNoGroup self }
     {
-        self.jobs
+        let Layer { jobs } = self;
+        jobs
     }
 }
 

@@ -7,7 +7,9 @@
 mod job;
 mod layer;
 mod part;
+#[cfg(test)]
+mod tests;
 
 pub use job::Job;
 pub use layer::Layer;
-pub use part::{Part, plan};
+pub use part::{Part, law_of_parts, plan};

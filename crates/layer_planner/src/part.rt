@@ -1,7 +1,7 @@
 //! How the work of a layer is divided: its places are dealt to the parts in turn.
-ghost use Rattle.std.specs.Prelude.{◌≡◌, ◌<◌, ◌≤◌, length, min, IfOk};
+ghost use Rattle.std.specs.Prelude.{◌≡◌, ◌<◌, ◌≤◌, length, min, IfOk, IsOk};
 ghost use Rattle.std.specs.Int.NonZero.{non_zero_usize_get};
-ghost use Rattle.layer_planner.specs.Parts.{part, dealt};
+ghost use Rattle.layer_planner.specs.Parts.{part, dealt, EachPlaceOnce};
 
 use super::layer::Layer;
 use std::alloc::{AllocError, Global};
@@ -33,8 +33,10 @@ impl Part {
 
 /// Divides the layer among that many workers: the parts, as many as there are workers, or jobs if these are fewer.
 /// The job at place i is in part i mod that number, and the places of a part ascend. The only error is want of memory.
+#[tactic(auto, using(crate::specs::PartLaws::parts_more))]
 pub fn plan(alloc: Global, layer: &Layer, workers: NonZeroUsize) -> Result<Vec<Part>, AllocError>
-    ensures { IfOk result (λ parts. parts.items ≡ dealt (min (non_zero_usize_get workers) (length layer.now)) (length layer.now)) }
+    ensures dealt { IfOk result (λ parts. parts.items ≡ dealt (min (non_zero_usize_get workers) (length layer.now)) (length layer.now)) }
+    ensures succeeds { length layer.now ≡ 0 → IsOk result }
 {
     let places = layer.len();
     let count = workers.get().min(places);
@@ -46,6 +48,7 @@ pub fn plan(alloc: Global, layer: &Layer, workers: NonZeroUsize) -> Result<Vec<P
 }
 
 /// The part `first` of so many parts: the places `first`, `first + parts`, and so on below `places`.
+#[tactic(auto, using(crate::specs::PartLaws::next_places))]
 fn deal(alloc: Global, first: usize, parts: usize, places: usize) -> Result<Part, AllocError>
     requires first { first < parts }
     requires parts { parts ≤ places }
@@ -60,3 +63,9 @@ fn deal(alloc: Global, first: usize, parts: usize, places: usize) -> Result<Part
     }
     Ok(Part { places: dealt })
 }
+
+/// The law of the parts that `plan` gives: each place of the layer is in one of them, once. It does nothing: its
+/// contract states the law.
+pub fn law_of_parts()
+    ensures { EachPlaceOnce }
+{}
