@@ -2,9 +2,8 @@ pub mod Joins
 pub mod Spans
 pub mod Steps
 pub mod Unions
-pub mod Lengths
 pub mod Rows
 pub mod Layers
 pub mod Runs
-pub mod PutBack
 pub mod Parts
+pub mod PutBack
