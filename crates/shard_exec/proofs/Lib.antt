@@ -1,1 +1,3 @@
 pub mod Zips
+pub mod TakingOut
+pub mod TakenLayer

@@ -1,2 +1,6 @@
 pub mod Runs
 pub mod Parts
+pub mod Dealing
+pub mod Stamps
+pub mod Layers
+pub mod Rooms

@@ -5,12 +5,18 @@
 #![tactic(auto)]
 
 mod crew;
+mod dealing;
+mod done;
 mod gate;
+mod layer_room;
+mod moves;
 mod part;
+mod taking;
 mod work;
 mod workers;
 
 pub use crew::{Child, Crew, RunOfPart};
+pub use done::{Ended, ExecFault};
 pub use gate::{Gate, Open};
 pub use part::Part;
 pub use work::{Ran, Work};

@@ -21,9 +21,10 @@ use skeen_core::{RequestId, Stamp};
 use std::alloc::Global;
 use std::marker::Brand;
 
-/// A request that is to be run, or skipped, with the shards of its groups.
+/// A request that is to be run, or skipped, with its place in the layer and the shards of its groups.
 #[derive(Drop)]
 pub struct Work {
+    pub(crate) place: usize,
     pub(crate) job: Job,
     pub(crate) skipped: bool,
     pub(crate) shards: Vec<(GroupId, Shard)>,
@@ -32,6 +33,7 @@ pub struct Work {
 /// A request that was run, skipped or starved, with its shards. There is a reply where it was run.
 #[derive(Drop)]
 pub struct Ran {
+    pub(crate) place: usize,
     pub(crate) id: RequestId,
     pub(crate) stamp: Stamp,
     pub(crate) reply: Option<Reply>,
@@ -45,6 +47,7 @@ impl Work {
         ensures { HasRun table.now self result }
     {
         let Work {
+            place,
             job,
             skipped,
             shards,
@@ -57,6 +60,7 @@ impl Work {
         } = job;
         if skipped {
             return Ran {
+                place,
                 id,
                 stamp,
                 reply: None,
@@ -67,6 +71,7 @@ impl Work {
         let (outcome, shards) = run_over::<Brand>(alloc, *table, shards, command);
         gate.leave(id);
         Ran {
+            place,
             id,
             stamp,
             reply: outcome.ok(),

@@ -46,6 +46,7 @@ returns g c =
     let span = c.run_over-outcome.ensures.shards in
     let is = outcome-ok c.run_over-outcome.result.0 ∙ ap outcome (sym c.ok.ensures.value) in
     record {
+      place = refl;
       id = refl;
       stamp = refl;
       numbers = span.numbers;
