@@ -4,3 +4,5 @@ pub mod Dealing
 pub mod Stamps
 pub mod Layers
 pub mod Rooms
+pub mod StoreStates
+pub mod Stores

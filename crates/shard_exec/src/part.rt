@@ -1,10 +1,10 @@
 //! Requests that one worker runs in turn.
 
-ghost use Rattle.std.specs.Prelude.{◌≡◌, ◌+◌, ◌≤◌, ◌∷◌, ◌++◌, [], IfOk, OnOk, length, vec_capacity};
+ghost use Rattle.std.specs.Prelude.{◌≡◌, ◌≤◌, [], length, vec_capacity};
 
 use crate::{Gate, Ran, Work};
 use placement::Table;
-use std::alloc::{AllocError, Global};
+use std::alloc::Global;
 
 /// Requests with their shards, which one worker runs in turn, and the room for what they give. No two share a shard.
 #[derive(Drop)]
@@ -17,6 +17,15 @@ pub struct Part {
 
 impl Part {
     ghost use Rattle.shard_exec.specs.Parts.{IsReadyPart, HasRunPart};
+
+    /// The part of these requests, with the room for what they give.
+    pub(crate) fn new(works: Vec<Work>, rans: Vec<Ran>) -> Self
+        requires none { rans.items ≡ [] }
+        requires room { length works.items ≤ vec_capacity rans }
+        ensures { result.works ≡ works }
+    {
+        Part { works, rans }
+    }
 
     /// Runs the requests in their order, and gives their shards back with what they answer. It takes memory only for the replies and
     /// the keys and values that the requests write.
