@@ -4,3 +4,4 @@ pub mod Kept
 pub mod TextLaws
 pub mod ReadLaws
 pub mod Written
+pub mod ReadBack
