@@ -1,22 +1,20 @@
 -- What was written of a trace spells that trace.
-use Rattle.std.proofs.Common.{◌≡◌, ◌≢◌, ℕ, zero, suc, ◌+◌, ◌-◌, ◌*◌, ◌/◌, ◌%◌, ◌^◌, ◌<◌, ◌≤◌, List, [], ◌∷◌, ◌++◌, length, map, get_or, Bool, true, false, ◌&&◌, refl, ap, sym, subst, ◌∙◌, arith, Option, Some, None, Ok, inl, inr, ◌==◌, codes, lit<, option_and_then, option_map}
+use Rattle.std.proofs.Common.{◌≡◌, ◌≢◌, ℕ, zero, suc, ◌+◌, ◌/◌, ◌%◌, ◌^◌, ◌<◌, ◌≤◌, List, [], ◌∷◌, ◌++◌, length, map, get_or, Bool, true, false, ◌&&◌, refl, ap, ◌∙◌, arith, Option, Some, ◌==◌, codes, lit<}
 use Rattle.std.specs.Fmt.{decimal}
 use Rattle.std.specs.List.{flat_map, AllByRecursion, AllZip}
-use Rattle.std.specs.Str.{bytes_eq}
 use Rattle.std.specs.Result.{result_ok}
-use Rattle.std.proofs.lemmas.List.{append_assoc, append-nil}
+use Rattle.std.proofs.lemmas.List.{append_assoc}
 use Rattle.std.proofs.lemmas.Fmt.{decimal_by_steps}
 use Rattle.std.proofs.lemmas.Bool.{ne_eqb}
-use Rattle.hex.specs.Hex.{encode_lower, encode_with, lower_digits, decode_of, IsBytes}
+use Rattle.hex.specs.Hex.{encode_lower, encode_with, lower_digits, IsBytes}
 use Rattle.hex.proofs.HexLemmas.{decode_of-encode_lower}
 use Rattle.skeen_core.specs.declared.request.ConnId.{ConnId}
 use Rattle.skeen_core.specs.declared.request.RequestId.{RequestId}
 use Rattle.packing.specs.Codes.{WordFits, WordsFit}
-use Rattle.packing.specs.CodeLaws.{all_more}
 use Rattle.journal.specs.declared.step.Step.{Step}
 use Rattle.journal.specs.declared.step.Step.TheVariants.{Open, Submit, Deliver, Take, Run, Settle, Collect, Close}
-use Rattle.journal.specs.Codes.{IdFits, IdsFit, StepFits}
-use Rattle.journal.specs.TraceText.{word_text, id_text, step_name, step_args, joined, step_line, first_line, max_line, end_line, ended, trace_text, number_in, word_in, cut_at, id_of, id_in, all_in, parts_in, named, step_in, IsStepLine, AreLines, HasNoLf, Spells}
+use Rattle.journal.specs.Codes.{IdFits, StepFits}
+use Rattle.journal.specs.TraceText.{word_text, id_text, step_name, step_args, joined, step_line, first_line, max_line, end_line, trace_text, word_in, cut_at, id_of, id_in, all_in, parts_in, named, step_in, IsStepLine, HasNoLf, Spells}
 use Rattle.journal.proofs.TextLaws.{number_in-decimal}
 
 -- ---- bytes above a space
@@ -170,7 +168,7 @@ args-high (arg ∷ args) all = (lit< tt, all_append (λ b. 31 < b) arg (flat_map
 line-no-lf : (step : Step) → StepFits step → HasNoLf (step_line step)
 line-no-lf step fit =
     no-lf (step_line step)
-      (all_append (λ b. 31 < b) (step_name step) (flat_map (λ arg. 32 ∷ arg) (step_args step)) (weaker Visible (λ b. 31 < b) (step_name step) (λ b high. omega arith) (names step)) (args-high (step_args step) (args-plain step fit)))
+    (all_append (λ b. 31 < b) (step_name step) (flat_map (λ arg. 32 ∷ arg) (step_args step)) (weaker Visible (λ b. 31 < b) (step_name step) (λ b high. omega arith) (names step)) (args-high (step_args step) (args-plain step fit)))
 
 lines-no-lf : (steps : List Step) (last : List ℕ) → AllByRecursion StepFits steps → HasNoLf last → AllByRecursion HasNoLf (map step_line steps ++ last ∷ [])
 lines-no-lf [] last fit h = (h, tt)

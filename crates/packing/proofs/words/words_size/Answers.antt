@@ -1,4 +1,4 @@
-use Rattle.std.proofs.Common.{◌≡◌, ◌+◌, length, take, arith, ap, subst, ◌∙◌, length-append}
+use Rattle.std.proofs.Common.{◌+◌, length, take, arith, ap, subst, ◌∙◌, length-append}
 use Rattle.std.specs.List.{flat_map, AllByRecursion}
 use Rattle.std.proofs.lemmas.List.{take_all}
 use Rattle.packing.specs.Codes.{word_code, WordFits}
@@ -23,8 +23,7 @@ pub returns : goal.returns
 returns c =
     let words = c.args.words.now in
     let whole = take_all c.loop-place.place words (omega arith) in
-    let size = ap (λ ws. length (flat_map word_code ws)) whole in
-    (
+    let size = ap (λ ws. length (flat_map word_code ws)) whole in (
       omega (arith, size, length-words_code words, c.loop-place.invariant.0),
       record {
         some = omega arith;
