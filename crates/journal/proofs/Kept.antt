@@ -8,7 +8,7 @@ use Rattle.packing.specs.CodeLaws.{all_more, take_codes, drop_codes}
 use Rattle.journal.specs.declared.step.Step.{Step}
 use Rattle.journal.specs.Views.{RowView}
 use Rattle.journal.specs.Codes.{step_code, StepFits, steps_in, AreSteps, row_code, row_of, RowFits, rows_in, ends_from, end_before, AreRows}
-use Rattle.journal.proofs.Laws.{steps_in-codes, steps-few, row_of-code}
+use Rattle.journal.proofs.CodeLaws.{steps_in-codes, steps-few, row_of-code}
 use Rattle.journal.proofs.Cuts.{length-ends_from, ends_from-push, take-ends_from, get_or-ends_from, cut-ends_from}
 
 -- one thing more behind the others

@@ -1,13 +1,12 @@
 -- How a trace's text is read line by line: which lines a trace has, and what a fault's line is.
-use Rattle.std.proofs.Common.{◌≡◌, ◌≢◌, ℕ, zero, suc, ◌+◌, ◌<◌, ◌≤◌, ◌^◌, List, [], ◌∷◌, ◌++◌, length, map, Bool, true, false, refl, ap, sym, subst, ◌∙◌, arith, Option, Some, None, inl, inr, ◌⊎◌, ◌==◌, length-append, MatchOption}
-use Rattle.std.specs.Fmt.{decimal}
-use Rattle.std.specs.List.{flat_map, AllByRecursion, AllZip}
+use Rattle.std.proofs.Common.{◌≡◌, ◌≢◌, ℕ, suc, ◌+◌, ◌≤◌, ◌^◌, List, [], ◌∷◌, ◌++◌, length, Bool, true, false, refl, ap, sym, subst, ◌∙◌, arith, Option, Some, None, inl, inr, ◌⊎◌, ◌==◌, length-append, MatchOption}
+use Rattle.std.specs.List.{flat_map, AllZip}
 use Rattle.std.proofs.lemmas.List.{append_assoc, append-nil}
 use Rattle.std.proofs.lemmas.List.Concat.{flat_map-append}
 use Rattle.std.proofs.lemmas.Bool.{cases_Bool, eqb-true, eqb-false}
 use Rattle.packing.specs.CodeLaws.{all_more}
 use Rattle.journal.specs.declared.step.Step.{Step}
-use Rattle.journal.specs.TraceText.{cut_at, parts_in, named, step_in, first_line, max_line, end_line, ended, IsStepLine, AreLines, HasNoLf, Spells, Begins, IsBad}
+use Rattle.journal.specs.TraceText.{cut_at, step_in, first_line, max_line, end_line, ended, IsStepLine, AreLines, HasNoLf, Spells, Begins, IsBad}
 use Rattle.journal.specs.TraceReading.{IsRead, IsLine}
 
 -- ---- lines and their ends
@@ -34,14 +33,14 @@ cut-some rest line behind f e =
     let is = subst (λ o. MatchOption o (HasNoLf rest) (λ rest'. IsLine rest (cut_at 10 rest).0 rest')) e (cut-line rest) in
     subst (λ l. IsLine rest l behind) (sym f) is
 
-line-same : (a b x y : List ℕ) → HasNoLf a → HasNoLf b → ended a ++ x ≡ ended b ++ y → (a ≡ b) × (x ≡ y)
+pub line-same : (a b x y : List ℕ) → HasNoLf a → HasNoLf b → ended a ++ x ≡ ended b ++ y → (a ≡ b) × (x ≡ y)
 line-same [] [] x y p q e = (refl, cc)
 line-same [] (d ∷ ds) x y p q e = let is : d ≡ 10 = cc in absurd (q.0 is)
 line-same (c ∷ cs) [] x y p q e = let is : c ≡ 10 = cc in absurd (p.0 is)
 line-same (c ∷ cs) (d ∷ ds) x y p q e =
     let tail : ended cs ++ x ≡ ended ds ++ y = cc in let head : c ≡ d = cc in let more = line-same cs ds x y p.1 q.1 tail in (cc, more.1)
 
-line-none : (rest next more : List ℕ) → HasNoLf rest → rest ≡ ended next ++ more → ⊥
+pub line-none : (rest next more : List ℕ) → HasNoLf rest → rest ≡ ended next ++ more → ⊥
 line-none [] [] more p e = cc
 line-none [] (c ∷ cs) more p e = cc
 line-none (b ∷ bs) [] more p e = let is : b ≡ 10 = cc in p.0 is
@@ -154,8 +153,8 @@ read-bad text rest line behind max steps r is none other = record {
   counted = omega (arith, zip-length r.body steps r.each);
   begins = begun max r.body steps r.least r.greatest r.each;
   next_is_none = λ next more p e b.
-    let same = (line-same line next behind more is.no_lf p (sym is.split ∙ e)).0 in
-    next-line max r.body steps line r.each none other (subst (λ l. Begins (first_line ∷ max_line max ∷ (r.body ++ l ∷ []))) (sym same) b);
+      let same = (line-same line next behind more is.no_lf p (sym is.split ∙ e)).0 in
+      next-line max r.body steps line r.each none other (subst (λ l. Begins (first_line ∷ max_line max ∷ (r.body ++ l ∷ []))) (sym same) b);
   not_whole = λ m ss e are. not-whole max r.body steps m ss r.each are;
 }
 
@@ -163,7 +162,7 @@ lines-push : (before : List (List ℕ)) (line behind text rest : List ℕ) → t
     → text ≡ flat_map ended (before ++ line ∷ []) ++ behind
 lines-push before line behind text rest e f =
     e ∙ ap (λ r. flat_map ended before ++ r) f ∙ sym (append_assoc (flat_map ended before) (ended line) behind)
-      ∙ ap (λ c. c ++ behind) (ap (λ c. flat_map ended before ++ c) (sym (append-nil (ended line))) ∙ sym (flat_map-append ended before (line ∷ [])))
+    ∙ ap (λ c. c ++ behind) (ap (λ c. flat_map ended before ++ c) (sym (append-nil (ended line))) ∙ sym (flat_map-append ended before (line ∷ [])))
 
 pub read-behind : (text rest behind : List ℕ) (max : ℕ) (steps : List Step) → IsRead text rest max steps → IsLine rest (end_line (length steps)) behind
     → (behind ≡ [] → ⊥) → IsBad text (length steps + 4)
@@ -241,8 +240,8 @@ head-bad text line behind is other = record {
   counted = refl;
   begins = begun-none;
   next_is_none = λ next more p e b.
-    let same = (line-same line next behind more is.no_lf p (sym is.split ∙ e)).0 in let whole = b.are.whole in
-    let first : next ≡ first_line = cc in other (same ∙ first);
+      let same = (line-same line next behind more is.no_lf p (sym is.split ∙ e)).0 in let whole = b.are.whole in
+      let first : next ≡ first_line = cc in other (same ∙ first);
   not_whole = λ m ss e are. let whole = are.whole in cc;
 }
 
@@ -268,8 +267,8 @@ max-bad text rest line behind is next_is none = record {
   counted = refl;
   begins = begun-first;
   next_is_none = λ next more p e b.
-    let same = (line-same line next behind more next_is.no_lf p (sym next_is.split ∙ e)).0 in let whole = b.are.whole in
-    let second : next ≡ max_line b.max = cc in none b.max b.are.least b.are.greatest (same ∙ second);
+      let same = (line-same line next behind more next_is.no_lf p (sym next_is.split ∙ e)).0 in let whole = b.are.whole in
+      let second : next ≡ max_line b.max = cc in none b.max b.are.least b.are.greatest (same ∙ second);
   not_whole = λ m ss e are. let whole = are.whole in cc;
 }
 

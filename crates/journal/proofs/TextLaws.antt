@@ -1,7 +1,6 @@
 -- The parts of a trace's lines are read as they were written.
-use Rattle.std.proofs.Common.{◌≡◌, ℕ, zero, suc, ◌+◌, ◌-◌, ◌*◌, ◌/◌, ◌%◌, ◌^◌, ◌<◌, ◌≤◌, List, [], ◌∷◌, ◌++◌, length, take, drop, map, Bool, true, false, not, MatchOption, ◌&&◌, refl, ap, sym, subst, ◌∙◌, arith, Option, Some, None, codes, ltb, cond, ◌==◌, inl, inr}
+use Rattle.std.proofs.Common.{◌≡◌, ℕ, ◌+◌, ◌-◌, ◌*◌, ◌%◌, ◌^◌, ◌<◌, List, [], ◌∷◌, ◌++◌, length, take, drop, Bool, true, false, not, MatchOption, ◌&&◌, refl, ap, sym, subst, ◌∙◌, arith, Option, Some, None, ltb, ◌==◌, inl, inr}
 use Rattle.std.specs.Fmt.{decimal}
-use Rattle.std.specs.List.{flat_map, fold, AllByRecursion}
 use Rattle.std.specs.Str.{bytes_eq}
 use Rattle.std.proofs.lemmas.Fmt.{decimal_by_steps, decimal_injective}
 use Rattle.std.proofs.lemmas.Grind.{fold-append}
@@ -16,9 +15,9 @@ worth_push ds d = fold-append (λ n digit. n * 10 + (digit - 48)) 0 ds (d ∷ []
 worth-decimal : (n : ℕ) → n < 2 ^ 64 → digits_worth (decimal n) ≡ n
 worth-decimal n h =
     decimal_by_steps (λ m ds. digits_worth ds ≡ m)
-      (λ m low. omega arith)
-      (λ m ds high e. worth_push ds (48 + m % 10) ∙ ap (λ w. w * 10 + (48 + m % 10 - 48)) e ∙ omega arith)
-      n h
+    (λ m low. omega arith)
+    (λ m ds high e. worth_push ds (48 + m % 10) ∙ ap (λ w. w * 10 + (48 + m % 10 - 48)) e ∙ omega arith)
+    n h
 
 same_bytes : (xs ys : List ℕ) → xs ≡ ys → bytes_eq xs ys ≡ true
 same_bytes xs ys e = (bytes_decides xs ys).1 e
@@ -51,10 +50,10 @@ number_in-some text n e =
     let worth = digits_worth text in
     elim (cases_Bool (ltb worth (2 ^ 64) && bytes_eq (decimal worth) text)) [
       | inl fits ↦
-        let both = and-parts (ltb worth (2 ^ 64)) (bytes_eq (decimal worth) text) fits in
-        let same : Some worth ≡ Some n = rw fits at e in
-        let is : worth ≡ n = cc in
-        (sym ((bytes_decides (decimal worth) text).0 both.1) ∙ ap decimal is, subst (λ m. m < 2 ^ 64) is (ltb-true worth (2 ^ 64) both.0))
+          let both = and-parts (ltb worth (2 ^ 64)) (bytes_eq (decimal worth) text) fits in
+          let same : Some worth ≡ Some n = rw fits at e in
+          let is : worth ≡ n = cc in
+          (sym ((bytes_decides (decimal worth) text).0 both.1) ∙ ap decimal is, subst (λ m. m < 2 ^ 64) is (ltb-true worth (2 ^ 64) both.0))
       | inr no_fit ↦ let gone = rw no_fit at e in cc
     ]
 

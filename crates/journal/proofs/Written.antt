@@ -1,5 +1,5 @@
 -- A trace's text as it is put, piece by piece.
-use Rattle.std.proofs.Common.{◌≡◌, ℕ, List, [], ◌∷◌, ◌++◌, length, map, refl, ap, sym, ◌∙◌, codes}
+use Rattle.std.proofs.Common.{◌≡◌, ℕ, List, [], ◌∷◌, ◌++◌, length, map, refl, ap, ◌∙◌, codes}
 use Rattle.std.specs.Fmt.{decimal}
 use Rattle.std.specs.List.{flat_map}
 use Rattle.std.proofs.lemmas.List.{append_assoc, append-nil}
@@ -26,6 +26,6 @@ pub trace-written : (max : ℕ) (steps : List Step)
     → trace_text max steps ≡ codes "shardkv-trace 1\n" ++ (ended (max_line max) ++ (flat_map (λ step. ended (step_line step)) steps ++ ended (end_line (length steps))))
 trace-written max steps =
     ap (λ c. codes "shardkv-trace 1\n" ++ (ended (max_line max) ++ c))
-      (flat_map-append ended (map step_line steps) (end_line (length steps) ∷ [])
-        ∙ ap (λ c. c ++ (ended (end_line (length steps)) ++ [])) (flat_map-map ended step_line steps)
-        ∙ ap (λ c. flat_map (λ step. ended (step_line step)) steps ++ c) (append-nil (ended (end_line (length steps)))))
+    (flat_map-append ended (map step_line steps) (end_line (length steps) ∷ [])
+    ∙ ap (λ c. c ++ (ended (end_line (length steps)) ++ [])) (flat_map-map ended step_line steps)
+    ∙ ap (λ c. flat_map (λ step. ended (step_line step)) steps ++ c) (append-nil (ended (end_line (length steps)))))

@@ -2,3 +2,4 @@ pub mod Views
 pub mod Codes
 pub mod TraceText
 pub mod TraceReading
+pub mod Laws

@@ -200,7 +200,7 @@ fn take_submit(alloc: Global, bytes: &[u8]) -> Result<(Step, &[u8]), AllocError>
 }
 
 /// How many bytes the numbers of a row take, which stand before its words. The words take so many bytes.
-#[tactic(auto, using(crate::proofs::Laws::heads))]
+#[tactic(auto, using(crate::proofs::CodeLaws::heads))]
 pub fn size_of_head(id: RequestId, stamp: &Stamp, words_size: usize) -> usize
     ensures size { result ≡ length (head_code id stamp.now words_size) }
     ensures few { result ≤ 45 }
@@ -213,7 +213,7 @@ pub fn size_of_head(id: RequestId, stamp: &Stamp, words_size: usize) -> usize
 }
 
 /// Appends the numbers of a row, for which there is room.
-#[tactic(auto, using(crate::proofs::Laws::heads))]
+#[tactic(auto, using(crate::proofs::CodeLaws::heads))]
 pub fn put_head(id: RequestId, stamp: &Stamp, words_size: usize, out: &mut Vec<u8>)
     requires { vec_len out.old + length (head_code id stamp.now words_size) ≤ vec_capacity out.old }
     ensures items { out.new.items ≡ out.old.items ++ head_code id stamp.now words_size }

@@ -6,6 +6,7 @@
 
 mod codes;
 mod fault;
+mod laws;
 mod lines;
 mod parts;
 mod reader;
@@ -17,6 +18,7 @@ mod trace;
 mod writer;
 
 pub use fault::TraceFault;
+pub use laws::{one_reading, read_back};
 pub use reader::read_trace;
 pub use request_ids::RequestIds;
 pub use row::Row;

@@ -162,5 +162,9 @@ pub fn step_in(alloc: Global, line: &[u8]) -> Result<Option<Step>, AllocError>
         return Ok(None);
     };
     let conn = ConnId(conn);
-    Ok(Some(if collect { Step::Collect { conn } } else { Step::Close { conn } }))
+    Ok(Some(if collect {
+        Step::Collect { conn }
+    } else {
+        Step::Close { conn }
+    }))
 }

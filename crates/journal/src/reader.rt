@@ -74,7 +74,7 @@ fn add_step(alloc: Global, line: &[u8], trace: &mut Trace) -> Result<bool, Alloc
     ensures { IfOk result (λ added. MatchOption (step_in line.now)
         ((added ≡ false) × (trace.new ≡ trace.old))
         (λ step. (added ≡ true) × (trace.new.max ≡ trace.old.max)
-            × (trace.new.steps ≡ trace.old.steps ++ step ∷ []))) }
+        × (trace.new.steps ≡ trace.old.steps ++ step ∷ []))) }
 {
     match step_in(alloc, line)? {
         Some(step) => {

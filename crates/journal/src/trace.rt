@@ -1,7 +1,8 @@
 //! The steps that were made, in order, to be made again by whoever has them.
 
 ghost use Rattle.std.specs.Prelude.{◌≡◌, ◌≤◌, ◌<◌, ◌^◌, ◌++◌, [], ◌∷◌, length, OnOk, OnErr, IfOk, IsOk, MatchOption};
-ghost use Rattle.journal.specs.Codes.{step_size};
+ghost use Rattle.std.specs.List.{AllByRecursion};
+ghost use Rattle.journal.specs.Codes.{step_size, StepFits};
 
 use super::codes::{put_step, reserve_step, take_step};
 use super::step::Step;
@@ -88,9 +89,10 @@ impl Trace {
         Ok(())
     }
 
-    /// The steps, to be read one after another from the first.
+    /// The steps, to be read one after another from the first. A caller learns that their numbers, words and ids lie in memory.
     pub fn steps(&self) -> Steps<'_>
-        ensures { result ≡ self.now.steps }
+        ensures steps { result ≡ self.now.steps }
+        ensures fit { AllByRecursion StepFits self.now.steps }
     {
         Steps {
             left: self.count,

@@ -2,18 +2,19 @@
 
 ghost use Rattle.std.specs.Prelude.{◌≡◌, ℕ, ◌∷◌, ◌++◌, [], List, OnOk, OnErr, decimal, map};
 ghost use Rattle.std.specs.List.{flat_map};
-ghost use Rattle.journal.specs.TraceText.{word_text, id_text, step_line, ended, trace_text};
+ghost use Rattle.journal.specs.TraceText.{word_text, id_text, step_line, ended, trace_text, Spells};
 
 use super::step::Step;
-use super::trace::Trace;
+use super::trace::{Steps, Trace};
 use itoa::Buffer;
 use resp::Request;
 use skeen_core::RequestId;
 use std::alloc::{AllocError, Global};
 
-/// Appends the trace's text. With `AllocError`, where there is no memory for all of it, `out` is as it was.
+/// Appends the trace's text, which spells the trace. With `AllocError`, where there is no memory for all of it, `out` is as it was.
 pub fn write_trace(trace: &Trace, out: &mut Vec<u8>) -> Result<(), AllocError>
     ensures ok { OnOk result (out.new.items ≡ out.old.items ++ trace_text trace.now.max trace.now.steps) }
+    ensures spells { OnOk result (Spells (trace_text trace.now.max trace.now.steps) trace.now.max trace.now.steps) }
     ensures err { OnErr result (out.new.items ≡ out.old.items) }
 {
     let start = out.len();
@@ -27,21 +28,21 @@ pub fn write_trace(trace: &Trace, out: &mut Vec<u8>) -> Result<(), AllocError>
 /// Appends the trace's text, or a part of it where there is no memory for all.
 fn put_trace(trace: &Trace, out: &mut Vec<u8>) -> Result<(), AllocError>
     ensures ok { OnOk result (out.new.items ≡ out.old.items ++ trace_text trace.now.max trace.now.steps) }
+    ensures spells { OnOk result (Spells (trace_text trace.now.max trace.now.steps) trace.now.max trace.now.steps) }
     ensures err { OnErr result ((more : List ℕ) × (out.new.items ≡ out.old.items ++ more)) }
 {
     let alloc = *out.allocator();
     out.extend_from_slice(b"shardkv-trace 1\n")?;
     put_numbered(b"max ", trace.max(), out)?;
-    put_steps(alloc, trace, out)?;
+    put_steps(alloc, trace.steps(), out)?;
     put_numbered(b"end ", trace.len() as u64, out)
 }
 
 /// Appends a line for each step.
-fn put_steps(alloc: Global, trace: &Trace, out: &mut Vec<u8>) -> Result<(), AllocError>
-    ensures ok { OnOk result (out.new.items ≡ out.old.items ++ flat_map (λ step. ended (step_line step)) trace.now.steps) }
+fn put_steps(alloc: Global, mut steps: Steps<'_>, out: &mut Vec<u8>) -> Result<(), AllocError>
+    ensures ok { OnOk result (out.new.items ≡ out.old.items ++ flat_map (λ step. ended (step_line step)) steps.entry) }
     ensures err { OnErr result ((more : List ℕ) × (out.new.items ≡ out.old.items ++ more)) }
 {
-    let mut steps = trace.steps();
     while let Some(step) = steps.next(alloc)? {
         put_step(alloc, &step, out)?;
     }

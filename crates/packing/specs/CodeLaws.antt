@@ -103,7 +103,7 @@ pub ruleset number_codes = (number_code-one, number_code-four, number_code-eight
 
 pub word_at-code : (word rest : List ℕ) → WordFits word → word_at (word_code word ++ rest) ≡ (word, rest)
 unfolding word_at word_code
-word_at-code word rest h = rw (append_assoc, number_at-code (length word) (word ++ rest) h, take_at word rest (length word) refl, drop_at word rest (length word) refl) refl
+word_at-code word rest h = rw (append_assoc, number_at-code (length word) (word ++ rest) h.size, take_at word rest (length word) refl, drop_at word rest (length word) refl) refl
 
 pub word_code-is : (word : List ℕ) → word_code word ≡ number_code (length word) ++ word
 unfolding word_code
@@ -121,12 +121,7 @@ pub length-word_code : (word : List ℕ) → length (word_code word) ≡ length 
 unfolding word_code
 length-word_code word = length-append (number_code (length word)) word
 
--- the size of one word more
-pub size_one : (words : List (List ℕ)) (i : ℕ) (word : List ℕ) → slice_get words i ≡ Some word
-    → length (flat_map word_code (take (i + 1) words)) ≡ length (flat_map word_code (take i words)) + (length (number_code (length word)) + length word)
-size_one words i word at =
-    ap length (take_codes word_code words i word at) ∙ length-append (flat_map word_code (take i words)) (word_code word)
-    ∙ ap (λ n. length (flat_map word_code (take i words)) + n) (length-word_code word)
+pub ruleset word_sizes = (length-word_code)
 
 -- ---- many of anything
 

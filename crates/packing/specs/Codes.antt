@@ -1,5 +1,5 @@
 -- How numbers and words lie one behind another in bytes. Each says where it ends, so that what follows can be found.
-use Rattle.std.specs.Prelude.{ℕ, zero, suc, ◌<◌, ◌^◌, List, [], ◌∷◌, ◌++◌, length, take, drop, nat_lt, nat_le, ◌&&◌, ◌==◌, if◌then◌else◌}
+use Rattle.std.specs.Prelude.{ℕ, zero, suc, ◌<◌, ◌^◌, List, [], ◌∷◌, ◌++◌, length, slice_index, take, drop, nat_lt, nat_le, ◌&&◌, ◌==◌, if◌then◌else◌}
 use Rattle.std.specs.List.{flat_map, AllByRecursion}
 use Rattle.std.specs.Int.{w32, w64, to_le_bytes, from_le_bytes}
 
@@ -38,8 +38,10 @@ words_at bytes = let n = number_at bytes in many word_at n.0 n.1
 
 -- ---- what can lie in memory
 
-abbrev pub WordFits : List ℕ → Type 0
-WordFits word = length word < 2 ^ 64
+-- its elements are bytes, and there are fewer than 2^64 of them
+pub record WordFits (word : List ℕ) : Type 0 where
+  pub size : length word < 2 ^ 64
+  pub bytes : (i : ℕ) → slice_index word i < 256
 
 -- there is a word, and there are so many, with so many bytes in each, as a memory of 2^64 bytes may hold
 pub record WordsFit (words : List (List ℕ)) : Type 0 where

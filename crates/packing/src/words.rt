@@ -15,11 +15,18 @@ pub fn words_size(words: &Request) -> Option<usize>
     let mut size = number_size(words.len() as u64);
     for place in 0..words.len() {
         let word = words.word(place);
-        size = size
-            .checked_add(number_size(word.len() as u64))?
-            .checked_add(word.len())?;
+        size = size.checked_add(word_size(word))?;
     }
     Some(size)
+}
+
+/// How many bytes a word takes.
+#[tactic(auto, using(crate::specs::CodeLaws::word_sizes))]
+fn word_size(word: &[u8]) -> usize
+    ensures size { result ≡ length (word_code word.now) }
+    ensures fits { WordFits word.now }
+{
+    number_size(word.len() as u64) + word.len()
 }
 
 /// Appends the words, for which there is room.

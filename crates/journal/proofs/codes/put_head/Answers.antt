@@ -1,6 +1,6 @@
 -- Five numbers, one behind another.
 use Rattle.std.proofs.lemmas.List.{append_assoc}
-use Rattle.journal.proofs.Laws.{head_code-is}
+use Rattle.journal.proofs.CodeLaws.{head_code-is}
 use Rattle.journal.proofs.codes.put_head.Goals as goal
 
 pub returns-clause-items : goal.returns-clause-items

@@ -5,7 +5,7 @@ use Rattle.std.proofs.lemmas.Option.{slice_get-get_or}
 use Rattle.skeen_core.specs.declared.request.RequestId.{RequestId}
 use Rattle.packing.specs.CodeLaws.{take_codes, drop_codes}
 use Rattle.journal.specs.Codes.{id_code}
-use Rattle.journal.proofs.Laws.{length-ids_code, length-id_code, id_code-is, ids_code-is}
+use Rattle.journal.proofs.CodeLaws.{length-ids_code, length-id_code, id_code-is, ids_code-is}
 use Rattle.journal.proofs.codes.put_ids.Goals as goal
 
 none : RequestId

@@ -1,4 +1,4 @@
-use Rattle.std.proofs.Common.{◌≡◌, sym, ap, ◌∙◌}
+use Rattle.std.proofs.Common.{sym, ap, ◌∙◌}
 use Rattle.journal.specs.TraceText.{args_in}
 use Rattle.journal.proofs.TextLaws.{parts_in-cut}
 use Rattle.journal.proofs.lines.parts_in.Goals as goal

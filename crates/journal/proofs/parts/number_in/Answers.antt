@@ -1,6 +1,5 @@
-use Rattle.std.proofs.Common.{◌≡◌, ◌<◌, ◌^◌, sym, ◌∙◌, arith}
+use Rattle.std.proofs.Common.{◌<◌, ◌^◌, sym, ◌∙◌, arith}
 use Rattle.std.specs.Cmp.Lexicographic.{bytes_decides}
-use Rattle.std.specs.Fmt.{decimal}
 use Rattle.journal.proofs.TextLaws.{number_in-decimal}
 use Rattle.journal.proofs.parts.number_in.Goals as goal
 

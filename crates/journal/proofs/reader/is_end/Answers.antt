@@ -1,4 +1,4 @@
-use Rattle.std.proofs.Common.{◌≡◌, sym, ap, ◌∙◌, codes, arith, eq-eqb}
+use Rattle.std.proofs.Common.{sym, ap, ◌∙◌, codes, arith, eq-eqb}
 use Rattle.std.proofs.lemmas.Bool.{eqb-true}
 use Rattle.journal.specs.TraceText.{end_line}
 use Rattle.journal.proofs.TextLaws.{decimal-same}

@@ -1,5 +1,4 @@
-use Rattle.std.proofs.Common.{◌≡◌, ◌<◌, ◌^◌, sym, ap, ◌∙◌, codes, arith}
-use Rattle.std.specs.Fmt.{decimal}
+use Rattle.std.proofs.Common.{sym, ◌∙◌, codes, arith}
 use Rattle.journal.proofs.TextLaws.{decimal-same}
 use Rattle.journal.proofs.reader.max_in.Goals as goal
 

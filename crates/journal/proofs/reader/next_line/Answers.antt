@@ -1,4 +1,4 @@
-use Rattle.std.proofs.Common.{◌≡◌, sym, ap, ◌∙◌, option_map, Bor, List, ℕ, Option}
+use Rattle.std.proofs.Common.{sym, ap, ◌∙◌, option_map, Bor, List, ℕ, Option}
 use Rattle.journal.proofs.ReadLaws.{cut-none, cut-some}
 use Rattle.journal.proofs.reader.next_line.Goals as goal
 

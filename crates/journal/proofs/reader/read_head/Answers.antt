@@ -1,5 +1,5 @@
 use Rattle.std.proofs.Common.{◌≡◌, ◌∙◌, sym, subst}
-use Rattle.journal.specs.TraceText.{first_line, max_line}
+use Rattle.journal.specs.TraceText.{first_line}
 use Rattle.journal.specs.TraceReading.{IsLine}
 use Rattle.journal.proofs.TextLaws.{same-from_ne, other-from_ne}
 use Rattle.journal.proofs.ReadLaws.{head-open, head-bad, max-open, max-bad, head-read}
@@ -11,7 +11,7 @@ returns-in_default c = head-open c.args.text.now c.in_default.ensures
 pub returns-then-ne : goal.returns-then-ne
 returns-then-ne c =
     head-bad c.args.text.now _ _ c.in-Some.ensures
-      (λ e. other-from_ne c.in-Some.line.now c.as_slice.result.now c.ne.result c.ne.ensures c.if-ne.true (e ∙ sym c.as_slice.ensures))
+    (λ e. other-from_ne c.in-Some.line.now c.as_slice.result.now c.ne.result c.ne.ensures c.if-ne.true (e ∙ sym c.as_slice.ensures))
 
 pub returns-in_default-next_line : goal.returns-in_default-next_line
 returns-in_default-next_line c =

@@ -1,6 +1,6 @@
 use Rattle.std.proofs.Common.{length, arith, ap, ◌∙◌, length-append}
 use Rattle.packing.specs.Codes.{words_code}
-use Rattle.journal.proofs.Laws.{row_read, words-left, words-read, RowWords-read, row-same}
+use Rattle.journal.proofs.CodeLaws.{row_read, words-left, words-read, RowWords-read, row-same}
 use Rattle.journal.specs.Codes.{row_of}
 use Rattle.journal.proofs.row.row_of.Goals as goal
 

@@ -5,7 +5,7 @@ use Rattle.resp.specs.Text.{text}
 use Rattle.packing.specs.Codes.{words_code}
 use Rattle.journal.specs.Views.{row_view}
 use Rattle.journal.specs.Codes.{head_code, row_code, rows_in, RowFits}
-use Rattle.journal.proofs.Laws.{row_code-is}
+use Rattle.journal.proofs.CodeLaws.{row_code-is}
 use Rattle.journal.proofs.Kept.{AreRows-put, AreRows-seen}
 use Rattle.journal.proofs.rows.Rows.push.Goals as goal
 

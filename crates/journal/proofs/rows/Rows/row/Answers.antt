@@ -1,7 +1,7 @@
 use Rattle.std.proofs.Common.{◌≡◌, ◌+◌, ◌-◌, take, drop, arith, ap, sym, ◌∙◌, Some, slice_get}
 use Rattle.std.proofs.lemmas.Option.{slice_get_past}
 use Rattle.journal.specs.Codes.{row_code, row_of, rows_in, end_before}
-use Rattle.journal.proofs.Laws.{RowIsIn-read, row_of-code}
+use Rattle.journal.proofs.CodeLaws.{RowIsIn-read, row_of-code}
 use Rattle.journal.proofs.Kept.{length-ends, row-at}
 use Rattle.journal.proofs.rows.Rows.row.Goals as goal
 
