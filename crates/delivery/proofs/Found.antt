@@ -252,3 +252,6 @@ none_more qs k s e = record {
 
 pub none_ready : (qs : List (List Delivered)) (k : ℕ) → length qs ≤ k → NoneSoFar qs k → (d : Delivered) → IsReady (queue_of qs) d → ⊥
 none_ready qs k long s d r = let f = has_first_group qs d r in s.none d f.group r f.first (omega (arith, f.there))
+
+-- what the search for a ready request goes by
+pub ruleset searching = (found, none_at_first, none_more, none_ready)

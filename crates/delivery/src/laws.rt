@@ -2,8 +2,8 @@
 ghost use Rattle.delivery.specs.Taking.{LayersCanBePopped, PoppedIsLeft, LayersShareNoGroup};
 
 /// The laws of layers, by which `ready` and `pop` fit together: a layer's requests can be popped in their order, each
-/// being ready when its turn comes; then each queue is left as the layer leaves it; and no group is in two requests of a
-/// layer. It does nothing: its contract states them.
+/// being ready when its turn comes; then each queue is left as the layer leaves it; and no group is in two requests of
+/// a layer. It does nothing: its contract states them.
 pub fn laws_of_layers()
     ensures can_be_popped { LayersCanBePopped }
     ensures popped_is_left { PoppedIsLeft }

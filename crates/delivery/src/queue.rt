@@ -21,7 +21,11 @@ impl Model for Queue {
 
     ghost Value = { QueueView };
 
-    ghost view = { λ q. record { requests = q.requests.items; room = deque_capacity q.requests - deque_len q.requests } };
+    ghost view = { λ q. record {
+      requests = q.requests.items;
+      room =
+          deque_capacity q.requests - deque_len q.requests;
+    } };
 }
 
 impl Queue {

@@ -4,7 +4,7 @@ ghost use Rattle.groups.specs.GroupSet.{has};
 ghost use Rattle.skeen_core.specs.declared.packet.Delivered.{Delivered};
 ghost use Rattle.delivery.specs.Ready.{IsReady, IsLayer};
 ghost use Rattle.delivery.specs.Queues.{queue_of, room_of, requests_of, rooms_of, MayAppend, IsSound};
-ghost use Rattle.delivery.specs.Taking.{popped};
+ghost use Rattle.delivery.specs.Taking.{popped, popped_all, Poppable};
 ghost use Rattle.delivery.specs.Search.{head_of};
 
 use super::queue::Queue;
@@ -66,15 +66,17 @@ impl Queues {
         queue.reserve(count)
     }
 
-    /// The group delivers the request: it stands behind all others in that queue. It can't fail where there is room, and
-    /// want of memory changes nothing.
+    /// The group delivers the request: it stands behind all others in that queue. It can't fail where there is room,
+    /// and want of memory changes nothing.
     ///
     /// The group is one of the request's. The request's stamp is above that of the last one in that queue, and no other
-    /// request in the queues has it. Where the request stands in a queue already, it has the same stamp and groups there.
+    /// request in the queues has it. Where the request stands in a queue already, it has the same stamp and groups
+    /// there.
     pub fn append(&mut self, group: GroupId, request: Delivered) -> Result<(), AllocError>
         requires group { group < length self.old.queues }
         requires may_append { MayAppend (queue_of self.old.queues) group request }
-        ensures appended { OnOk result (self.new.queues ≡ slice_set self.old.queues group (queue_of self.old.queues group ++ request ∷ [])) }
+        ensures appended { OnOk result (self.new.queues
+            ≡ slice_set self.old.queues group (queue_of self.old.queues group ++ request ∷ [])) }
         ensures room { OnOk result (room_of self.old.rooms group ≤ room_of self.new.rooms group + 1) }
         ensures rooms_kept { (g : ℕ) → g ≢ group → room_of self.old.rooms g ≤ room_of self.new.rooms g }
         ensures succeeds { 0 < room_of self.old.rooms group → IsOk result }
@@ -84,8 +86,8 @@ impl Queues {
         queue.append(request)
     }
 
-    /// The layer: all requests that are ready, ascending by their stamps. The only error is want of memory; where none is
-    /// ready no memory is wanted.
+    /// The layer: all requests that are ready, ascending by their stamps. The only error is want of memory; where none
+    /// is ready no memory is wanted.
     pub fn ready(&self, alloc: Global) -> Result<Vec<Delivered>, AllocError>
         ensures layer { IfOk result (λ layer. IsLayer (queue_of self.now.queues) layer.items) }
         ensures succeeds { ((d : Delivered) → ¬ IsReady (queue_of self.now.queues) d) → IsOk result }
@@ -102,6 +104,7 @@ impl Queues {
     }
 
     /// Whether some request is ready. It takes no memory.
+    #[tactic(auto, using(crate::proofs::Found::searching))]
     pub fn has_ready(&self) -> bool
         ensures { IsTrue result ↔ ((d : Delivered) × IsReady (queue_of self.now.queues) d) }
     {
@@ -123,12 +126,27 @@ impl Queues {
     {
         pop_heads(&mut self.queues, request.groups);
     }
+
+    /// Takes these requests out of all their queues, one after another. Each is ready when its turn comes, as those of
+    /// a layer are. It takes no memory.
+    pub fn pop_all(&mut self, requests: &[Delivered])
+        requires { Poppable (queue_of self.old.queues) requests.now }
+        ensures popped { queue_of self.new.queues ≡ popped_all requests.now (queue_of self.old.queues) }
+        ensures groups { length self.new.queues ≡ length self.old.queues }
+        ensures rooms_kept { (g : ℕ) → room_of self.old.rooms g ≤ room_of self.new.rooms g }
+    {
+        for request in requests {
+            self.pop(request);
+        }
+    }
 }
 
 /// Takes the head out of the queue of each of these groups.
+#[tactic(auto, using(crate::proofs::Heads::gone_place))]
 fn pop_heads(queues: &mut [Queue], groups: Groups)
     requires { (g : ℕ) → has groups g ≡ true → g < length queues.old }
-    ensures popped { (g : ℕ) → queue_of (requests_of queues.new) g ≡ cond (has groups g) (drop 1 (queue_of (requests_of queues.old) g)) (queue_of (requests_of queues.old) g) }
+    ensures popped { (g : ℕ) → queue_of (requests_of queues.new) g
+        ≡ cond (has groups g) (drop 1 (queue_of (requests_of queues.old) g)) (queue_of (requests_of queues.old) g) }
     ensures rooms_kept { (g : ℕ) → room_of (rooms_of queues.old) g ≤ room_of (rooms_of queues.new) g }
 {
     // A set has each group once: its length says so, and no group may lose two requests here.

@@ -73,7 +73,8 @@ fn count_before(requests: &[Delivered], stamp: Stamp) -> usize
 /// Puts the request among these, which ascend by their stamps. The only error is want of memory.
 #[tactic(auto, using(crate::proofs::Found::count_within))]
 pub fn put_in(requests: &mut Vec<Delivered>, request: Delivered) -> Result<(), AllocError>
-    ensures { OnOk result (requests.new.items ≡ insert requests.old.items (count_before request.stamp requests.old.items) request) }
+    ensures { OnOk result (requests.new.items
+        ≡ insert requests.old.items (count_before request.stamp requests.old.items) request) }
 {
     let place = count_before(requests.as_slice(), request.stamp);
     requests.insert(place, request)?;

@@ -1,7 +1,7 @@
 //! Byte strings as the keys of hashed tables, handed to the hasher in one write.
 //!
-//! A `Vec<u8>` is hashed byte by byte, which for long keys costs more than all the rest of a look-up. `keyspace` keeps its keys as
-//! these, and a hash of `values` its fields; both look them up by borrowed bytes.
+//! A `Vec<u8>` is hashed byte by byte, which for long keys costs more than all the rest of a look-up. `keyspace` keeps
+//! its keys as these, and a hash of `values` its fields; both look them up by borrowed bytes.
 #![tactic(auto)]
 
 ghost use Rattle.std.specs.Prelude.{◌≡◌, [], ◌∷◌};

@@ -1,12 +1,13 @@
 //! The groups, their packets and their queues, as one.
 
-ghost use Rattle.std.specs.Prelude.{◌≡◌, ℕ, ◌+◌, ◌<◌, ◌≤◌, [], length, slice_get, Some, None, IfOk, IfErr, OnOk, OnErr, IsOk, IsTrue, ◌↔◌};
-ghost use Rattle.delivery.specs.Queues.{queue_of, IsSound};
+ghost use Rattle.std.specs.Prelude.{◌≡◌, ℕ, ◌+◌, ◌<◌, ◌≤◌, ◌++◌, [], length, slice_get, true, option_copied, Some, None, IfOk, IfErr, OnOk, OnErr, IsOk, IsTrue, ◌↔◌};
+ghost use Rattle.std.specs.FinMap.{len};
+ghost use Rattle.delivery.specs.Queues.{queue_of, room_of, IsSound};
 ghost use Rattle.delivery.specs.Ready.{IsReady, IsLayer};
 ghost use Rattle.skeen_core.specs.Group.{fresh};
 ghost use Rattle.skeen_core.specs.declared.packet.Packet.{Packet};
 ghost use Rattle.skeen_core.specs.declared.packet.Delivered.{Delivered};
-ghost use Rattle.multicast.specs.Multicast.{group_of, IsSame, IsWhole, Begins, MayBeDelivered, Delivers, LosesLayer};
+ghost use Rattle.multicast.specs.Multicast.{at, group_of, sends_at_most, IsSame, IsWhole, Begins, MayAppendAll, MayBeDelivered, Delivers, LosesLayer};
 
 use delivery::Queues;
 use groups::{GroupId, Groups};
@@ -134,12 +135,16 @@ impl Multicast {
         };
         let packet = Packet { ..*packet };
         let to = packet.to;
-        let Ok((sent, delivered)) = self.receive(packet) else {
+        if !make_room(&self.groups, &mut self.links, &mut self.queues, &packet) {
+            return Err(DeliverFault::Memory);
+        }
+        let group = &mut self.groups[usize::from(to.number())];
+        let Ok((sent, delivered)) = group.receive(self.alloc, packet) else {
             return Err(DeliverFault::Memory);
         };
         let _ = self.links.take(place);
-        self.send_all(sent);
-        self.append_all(to, delivered);
+        send_all(&mut self.links, sent);
+        append_all(&mut self.queues, to, delivered);
         Ok(())
     }
 
@@ -159,14 +164,13 @@ impl Multicast {
         self.queues.has_ready()
     }
 
-    /// Takes a layer out of the queues. It takes no memory.
+    /// Takes a layer out of the queues. It takes no memory. What `ready` says of the queues holds of them.
     pub fn lose_layer(&mut self, layer: &[Delivered])
-        requires { IsLayer (queue_of self.old.queues) layer.now }
+        requires sound { IsSound (queue_of self.old.queues) }
+        requires layer { IsLayer (queue_of self.old.queues) layer.now }
         ensures { LosesLayer self.old layer.now self.new }
     {
-        for request in layer {
-            self.queues.pop(request);
-        }
+        self.queues.pop_all(layer);
     }
 }
 
@@ -181,4 +185,48 @@ fn new_groups(alloc: Global, count: u8) -> Result<Vec<Group>, AllocError>
         groups.push(Group::new(alloc, GroupId::new(number)))?;
     }
     Ok(groups)
+}
+
+/// Takes the room for what the packet's group may send and deliver when it comes; whether there was memory for it.
+fn make_room(groups: &Vec<Group>, links: &mut Links, queues: &mut Queues, packet: &Packet) -> bool
+    requires there { packet.now.to < length groups.now.items }
+    requires queue { packet.now.to < length queues.old.queues }
+    ensures packets { links.new.packets ≡ links.old.packets }
+    ensures queues { queues.new.queues ≡ queues.old.queues }
+    ensures sends { result ≡ true → sends_at_most packet.now.body ≤ links.new.room }
+    ensures delivers { result ≡ true → len (group_of groups.now.items packet.now.to).started + 1 ≤ room_of queues.new.rooms packet.now.to }
+{
+    let sends = match &packet.body {
+        Body::Start { floor: _, groups } => groups.len(),
+        Body::Proposal { .. } => 0,
+    };
+    let delivers = groups[usize::from(packet.to.number())].started() + 1;
+    links.reserve(sends).is_ok() && queues.reserve(packet.to, delivers).is_ok()
+}
+
+/// Sends these packets, for which there is room.
+fn send_all(links: &mut Links, sent: Vec<Packet>)
+    requires { length sent.items ≤ links.old.room }
+    ensures { links.new.packets ≡ links.old.packets ++ sent.items }
+{
+    for packet in sent {
+        let Ok(()) = links.send(packet) else {
+            unreachable!()
+        };
+    }
+}
+
+/// Puts these requests behind the group's queue, for which there is room.
+fn append_all(queues: &mut Queues, group: GroupId, delivered: Vec<Delivered>)
+    requires there { group < length queues.old.queues }
+    requires may_append { MayAppendAll (queue_of queues.old.queues) group delivered.items }
+    requires room { length delivered.items ≤ room_of queues.old.rooms group }
+    ensures count { length queues.new.queues ≡ length queues.old.queues }
+    ensures appended { (g : ℕ) → queue_of queues.new.queues g ≡ at (queue_of queues.old.queues) group (queue_of queues.old.queues group ++ delivered.items) g }
+{
+    for request in delivered {
+        let Ok(()) = queues.append(group, request) else {
+            unreachable!()
+        };
+    }
 }

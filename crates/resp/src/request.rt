@@ -7,7 +7,8 @@ ghost use Rattle.std.specs.Prelude.{◌≡◌, ◌<◌, length, map, slice_get, 
 use std::alloc::{AllocError, Global};
 use std::marker::Model;
 
-/// A request: at least one word, each a byte string. Contracts see the list of its words; how they lie in memory is private.
+/// A request: at least one word, each a byte string. Contracts see the list of its words; how they lie in memory is
+/// private.
 #[derive(Drop)]
 pub struct Request {
     words: Vec<Vec<u8>>,
@@ -32,7 +33,8 @@ impl Request {
         Request { words }
     }
 
-    /// The request of a copy of these words, of which there is at least one; `AllocError` where there is no memory for it.
+    /// The request of a copy of these words, of which there is at least one; `AllocError` where there is no memory for
+    /// it.
     pub fn copy_of(alloc: Global, words: &[&[u8]]) -> Result<Self, AllocError>
         requires { 0 < length words.now }
         ensures copied { IfOk result (λ r. r ≡ map (λ w. w.now) words.now) }

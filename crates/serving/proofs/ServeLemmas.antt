@@ -11,7 +11,7 @@ use Rattle.resp_decoder.specs.Texts.{IsOpen}
 use Rattle.serving.specs.declared.outcome.Served.TheVariants.{End, Inside, Protocol}
 use Rattle.serving.specs.declared.outcome.ServeFault.{ServeFault}
 use Rattle.serving.specs.declared.outcome.ServeFault.TheVariants.{Read, Memory}
-use Rattle.serving.specs.Answers.{Answer, texts, Answered}
+use Rattle.serving.specs.Answers.{Answer, answers_text, Answered}
 use Rattle.serving.specs.Serves.{Serves}
 use Rattle.serving.specs.Gathers.{AnswersHeld}
 use Rattle.resp_decoder.proofs.Streams.{open_nothing}
@@ -36,7 +36,7 @@ pub record Serving {S Reason : Type 0} (asks : S → List (List ℕ) → Answer 
   pub answered : Answered asks limits read held.bytes s t None answers
   pub kept : held ≡ with_bytes (nothing_held limits) held.bytes
   pub rest_open : IsOpen limits held.bytes
-  pub written : Appends old now (texts answers)
+  pub written : Appends old now (answers_text answers)
 
 module _ {S Reason : Type 0} (asks : S → List (List ℕ) → Answer Reason → S → Type 0) (limits : Limits) (before old : Option (List ℕ)) (s : S) where
   pub serving_start : (held : Held) → held ≡ nothing_held limits → Serving asks limits before before old old s s held
@@ -139,7 +139,7 @@ module _ {S Reason : Type 0} (asks : S → List (List ℕ) → Answer Reason →
     consumed = Consumes-trans before left after p.read piece p.consumed took;
     answered = answered_fed asks limits p.read held.bytes s t None p.answers piece p.answered;
     tells = refl;
-    leaves = (texts p.answers, inl refl, p.written);
+    leaves = (answers_text p.answers, inl refl, p.written);
   }
 
   -- the answers to a piece, behind those before it

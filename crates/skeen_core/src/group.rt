@@ -56,14 +56,15 @@ impl Group {
         }
     }
 
-    /// Receives a packet: gives the packets that the group sends, in order, and the requests that it delivers, ascending
-    /// by their final stamps. The only error is want of memory, and it changes nothing.
+    /// Receives a packet: gives the packets that the group sends, in order, and the requests that it delivers,
+    /// ascending by their final stamps. The only error is want of memory, and it changes nothing.
     ///
     /// The packet is for this group. A Start names this group. A Proposal comes from another group, and its stamp is
     /// that of no other request's proposal that the group has, and the same as that of the one it has from there for
     /// this request, if it has one. No clock, here or in the packet, is above 2^62.
     ///
-    /// It sends fewer packets than the request of a Start has groups, and delivers at most one request more than `started` says.
+    /// It sends fewer packets than the request of a Start has groups, and delivers at most one request more than
+    /// `started` says.
     pub fn receive(
         &mut self,
         alloc: Global,

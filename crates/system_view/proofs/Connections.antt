@@ -14,7 +14,7 @@ use Rattle.skeen_core.specs.declared.request.RequestId.{RequestId}
 use Rattle.system_view.specs.Connections.{outcome_shown, Waits, InLayer, id_of, ShowsOpen, ShowsClosed, ShowsKept, ShowsConnection, IsKeptFor, ShowsConnections}
 use Rattle.world.specs.Steps.{Collects as WorldCollects, at, final_clock_of, floor_of, Collected}
 use Rattle.world.specs.World.{Standing as Stand, World, Request, Outcome, Closed, Idle, Waiting, Answered, Layer}
-use Rattle.world_laws.proofs.Groups.{at_true, at_false}
+use Rattle.std.proofs.lemmas.Bool.{cond-true, cond-false}
 use Rattle.world_laws.specs.Good.{WorldGood}
 
 -- ---- a connection that a step leaves alone
@@ -23,7 +23,8 @@ use Rattle.world_laws.specs.Good.{WorldGood}
 pub record Alike (old new : World) (c : ℕ) : Type 0 where
   pub standing : new.standing c ≡ old.standing c
   pub seq : new.seq c ≡ old.seq c
-  pub floor : floor_of new c ≡ floor_of old c
+  -- a floor counts only where no request is under way
+  pub floor : (old.standing c ≡ Waiting → ⊥) → floor_of new c ≡ floor_of old c
   pub asked : (seq : ℕ) → new.asked (id_of c seq) ≡ old.asked (id_of c seq)
   pub layer : new.layer ≡ old.layer
 
@@ -34,10 +35,10 @@ layer_alike : (old new : World) (c : ℕ) (i : RequestId) → Alike old new c �
 layer_alike old new c i same there = subst (λ (l : Layer). InLayer l i) (sym same.layer) there
 
 open_alike : (s : Standing) (v : Connection) (old new : World) (c : ℕ) → Alike old new c → ShowsOpen s v old c → ShowsOpen s v new c
-open_alike router.Idle v old new c same shows = (same.standing ∙ shows.0, shows.1 ∙ sym same.floor)
+open_alike router.Idle v old new c same shows = (same.standing ∙ shows.0, shows.1 ∙ sym (same.floor (λ e. let k = sym shows.0 ∙ e in cc)))
 open_alike (router.Waiting p) v old new c same shows = (same.standing ∙ shows.0, waits_alike old new c v.seq p same shows.1)
 open_alike router.Taken v old new c same shows = (same.standing ∙ shows.0, layer_alike old new c (id_of c v.seq) same shows.1)
-open_alike (router.Answered o) v old new c same shows = (same.standing ∙ shows.0, shows.1 ∙ sym same.floor)
+open_alike (router.Answered o) v old new c same shows = (same.standing ∙ shows.0, shows.1 ∙ sym (same.floor (λ e. let k = sym shows.0 ∙ e in cc)))
 
 closed_alike : (s : Standing) (v : Connection) (old new : World) (c : ℕ) → Alike old new c → ShowsClosed s v old c → ShowsClosed s v new c
 closed_alike router.Idle v old new c same shows = absurd shows
@@ -76,9 +77,9 @@ opened_world w = record w { opened = suc w.opened; standing = at w.standing (suc
 
 alike_open : (w : World) (d : ℕ) → (d == suc w.opened) ≡ false → Alike w (opened_world w) d
 alike_open w d other = record {
-  standing = at_false (d == suc w.opened) Idle (w.standing d) other;
+  standing = cond-false (d == suc w.opened) Idle (w.standing d) other;
   seq = refl;
-  floor = refl;
+  floor = λ rested. refl;
   asked = λ seq. refl;
   layer = refl;
 }
@@ -93,7 +94,7 @@ shows_open old new w t good shows count changes =
     record {
       opened = next;
       each = each_of old new w (opened_world w) (suc w.opened) (Some just_opened) changes' (alike_open w) shows.each
-          (sym first.1, inl (refl, (at_true (suc w.opened == suc w.opened) Idle (w.standing (suc w.opened)) (eq-eqb (suc w.opened) (suc w.opened) refl), sym (ap (final_clock_of w) first.2))));
+          (sym first.1, inl (refl, (cond-true (suc w.opened == suc w.opened) Idle (w.standing (suc w.opened)) (eq-eqb (suc w.opened) (suc w.opened) refl), sym (ap (final_clock_of w) first.2))));
       under_way = λ i q asked. elim (shows.under_way i q asked) [
         | inl settled ↦ inl settled
         | inr kept ↦ inr (kept_else old new (suc w.opened) (Some just_opened) i changes' (unlike i q asked first.1) kept)
@@ -117,15 +118,15 @@ standing_world w c s = record w { standing = at w.standing c s }
 
 alike_standing : (w : World) (c : ℕ) (s : Stand) (d : ℕ) → (d == c) ≡ false → Alike w (standing_world w c s) d
 alike_standing w c s d other = record {
-  standing = at_false (d == c) s (w.standing d) other;
+  standing = cond-false (d == c) s (w.standing d) other;
   seq = refl;
-  floor = refl;
+  floor = λ rested. refl;
   asked = λ seq. refl;
   layer = refl;
 }
 
 standing_here : (w : World) (c : ℕ) (s : Stand) → (standing_world w c s).standing c ≡ s
-standing_here w c s = at_true (c == c) s (w.standing c) (eq-eqb c c refl)
+standing_here w c s = cond-true (c == c) s (w.standing c) (eq-eqb c c refl)
 
 -- what is kept for a request of a connection stays so, where the connection has a request under way before and after, or none
 pub kept_here : (old new : RouterView) (c : ℕ) (was : Connection) (now : Option Connection) (i : RequestId) → connection old c ≡ Some was →

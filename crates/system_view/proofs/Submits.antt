@@ -30,7 +30,7 @@ use Rattle.system_view.proofs.Connections.{Alike, each_of, kept_here, kept_open}
 use Rattle.system_view.specs.Connections.{Addresses, outcome_shown, id_of, ShowsOpen, ShowsConnection, ShowsConnections}
 use Rattle.world.specs.Steps.{next_id as world_id, asks, final_clock, final_clock_of, floor_of, answered, multicast, submitted, submitted_to}
 use Rattle.world.specs.World.{World, Request, Outcome, Idle, Waiting, Answered}
-use Rattle.world_laws.proofs.Groups.{at_true, at_false}
+use Rattle.std.proofs.lemmas.Bool.{cond-true, cond-false}
 use Rattle.world_laws.specs.Good.{WorldGood}
 
 -- the submitting connection, as the router has it before and after
@@ -52,9 +52,9 @@ to_outcome a = record { id = a.id; reply = a.reply; stamp = a.stamp }
 
 alike_answered : (w : World) (c : ℕ) (reply : Content) (d : ℕ) → (d == c) ≡ false → Alike w (answered w c reply) d
 alike_answered w c reply d other = record {
-  standing = at_false (d == c) _ (w.standing d) other;
-  seq = at_false (d == c) (suc (w.seq c)) (w.seq d) other;
-  floor = refl;
+  standing = cond-false (d == c) _ (w.standing d) other;
+  seq = cond-false (d == c) (suc (w.seq c)) (w.seq d) other;
+  floor = λ rested. refl;
   asked = λ seq. refl;
   layer = refl;
 }
@@ -64,11 +64,11 @@ shows_answered : (old new : RouterView) (w : World) (c : ℕ) (was now : Connect
 shows_answered old new w c was now o reply shows s is says = record {
   opened = s.changes.opened ∙ shows.opened;
   each = each_of old new w (answered w c reply) c (Some now) s.changes.at (alike_answered w c reply) shows.each (
-    s.seq ∙ sym (at_true (c == c) (suc (w.seq c)) (w.seq c) (eq-eqb c c refl)),
+    s.seq ∙ sym (cond-true (c == c) (suc (w.seq c)) (w.seq c) (eq-eqb c c refl)),
     inl (
       s.live,
       subst (λ t. ShowsOpen t now (answered w c reply) c) (sym is)
-          (at_true (c == c) _ (w.standing c) (eq-eqb c c refl) ∙ ap Answered (sym says), s.floor),
+          (cond-true (c == c) _ (w.standing c) (eq-eqb c c refl) ∙ ap Answered (sym says), s.floor),
     ),
   );
   under_way = λ i q asked. elim (shows.under_way i q asked) [
@@ -87,23 +87,23 @@ module _ (t : Layout) (w : World) (c : ℕ) (r : Request) (good : WorldGood t w)
   ]
 
   floor_else : (d : ℕ) → (d == c) ≡ false → floor_of (multicast w c r) d ≡ floor_of w d
-  floor_else d other = ap (final_clock_of (multicast w c r)) (at_false (d == c) _ (w.last d) other) ∙ by_last (w.last d) refl
+  floor_else d other = ap (final_clock_of (multicast w c r)) (cond-false (d == c) _ (w.last d) other) ∙ by_last (w.last d) refl
     where
       by_last : (o : Option RequestId) → w.last d ≡ o → final_clock_of (multicast w c r) o ≡ final_clock_of w o
       by_last None e = refl
       by_last (Some i) e =
           let conn = (good.requests.lasts d i e).0 in
           let unlike : (i.conn.0 == c) ≡ false = ap (λ n. n == c) conn ∙ other in
-          ap (final_clock w.proposed i) (at_false' i (other_id i.conn.0 i.seq unlike))
+          ap (final_clock w.proposed i) (cond-false' i (other_id i.conn.0 i.seq unlike))
         where
-          at_false' : (i : RequestId) → same_id (id_of i.conn.0 i.seq) (id_of c (suc (w.seq c))) ≡ false → asks w.asked (id_of c (suc (w.seq c))) r i ≡ w.asked i
-          at_false' i e = ap (λ b. cond b (Some r) (w.asked i)) e
+          cond-false' : (i : RequestId) → same_id (id_of i.conn.0 i.seq) (id_of c (suc (w.seq c))) ≡ false → asks w.asked (id_of c (suc (w.seq c))) r i ≡ w.asked i
+          cond-false' i e = ap (λ b. cond b (Some r) (w.asked i)) e
 
   alike_multicast : (d : ℕ) → (d == c) ≡ false → Alike w (multicast w c r) d
   alike_multicast d other = record {
-    standing = at_false (d == c) Waiting (w.standing d) other;
-    seq = at_false (d == c) (suc (w.seq c)) (w.seq d) other;
-    floor = floor_else d other;
+    standing = cond-false (d == c) Waiting (w.standing d) other;
+    seq = cond-false (d == c) (suc (w.seq c)) (w.seq d) other;
+    floor = λ rested. floor_else d other;
     asked = λ seq. ap (λ b. cond b (Some r) (w.asked (id_of d seq))) (other_id d seq other);
     layer = refl;
   }
@@ -113,11 +113,11 @@ module _ (t : Layout) (w : World) (c : ℕ) (r : Request) (good : WorldGood t w)
   shows_multicast old new was now p shows s is command says = record {
     opened = s.changes.opened ∙ shows.opened;
     each = each_of old new w (multicast w c r) c (Some now) s.changes.at alike_multicast shows.each (
-      s.seq ∙ sym (at_true (c == c) (suc (w.seq c)) (w.seq c) (eq-eqb c c refl)),
+      s.seq ∙ sym (cond-true (c == c) (suc (w.seq c)) (w.seq c) (eq-eqb c c refl)),
       inl (
         s.live,
         subst (λ t. ShowsOpen t now (multicast w c r) c) (sym is)
-            (at_true (c == c) Waiting (w.standing c) (eq-eqb c c refl), (r, ap (λ b. cond b (Some r) (w.asked (id_of c now.seq))) (eq-same_id (id_of c now.seq) (id_of c (suc (w.seq c))) (ap (id_of c) s.seq)), command, says)),
+            (cond-true (c == c) Waiting (w.standing c) (eq-eqb c c refl), (r, ap (λ b. cond b (Some r) (w.asked (id_of c now.seq))) (eq-same_id (id_of c now.seq) (id_of c (suc (w.seq c))) (ap (id_of c) s.seq)), command, says)),
       ),
     );
     under_way = λ i q asked. elim (cases_Bool (same_id i (id_of c (suc (w.seq c))))) [

@@ -1,6 +1,6 @@
 -- What the calls of a list do, on lists of anything.
-use Rattle.std.proofs.Common.{◌≡◌, ℕ, suc, zero, ◌+◌, ◌-◌, ◌<◌, ◌≤◌, Bool, true, false, cond, ltb, Option, Some, None, List, [], ◌∷◌, ◌++◌, length, map, take, drop, reverse, get_or, refl, sym, ap, ◌∙◌, arith, append_assoc, drop-cons, add-one}
-use Rattle.std.proofs.lemmas.List.{take-append-le, take_all, drop_all, append-nil, length-take, length-drop, length-map}
+use Rattle.std.proofs.Common.{◌≡◌, ℕ, suc, zero, ◌+◌, ◌-◌, ◌<◌, ◌≤◌, Bool, true, false, cond, ltb, Some, None, List, [], ◌∷◌, ◌++◌, length, take, drop, get_or, refl, sym, ap, ◌∙◌, arith, append_assoc, drop-cons, add-one}
+use Rattle.std.proofs.lemmas.List.{take-append-le, take_all, drop_all, append-nil, length-take, length-drop}
 use Rattle.std.proofs.lemmas.Slice.{between_is}
 use Rattle.std.proofs.lemmas.List.Sums.{position_or_len_is}
 use Rattle.std.proofs.lemmas.Bool.{lt-ltb}
@@ -98,3 +98,5 @@ position-none test xs i d all before =
 pub fails_more : {A : Type 0} (test : A → Bool) (xs : List A) (i : ℕ) (d : A)
     → ((k : ℕ) → k < i → test (get_or xs k d) ≡ false) → test (get_or xs i d) ≡ false → (k : ℕ) → k < i + 1 → test (get_or xs k d) ≡ false
 fails_more test xs i d before here = below_more (λ k. test (get_or xs k d) ≡ false) i before here
+
+pub ruleset lists = (slice_range-turned)

@@ -1,6 +1,6 @@
 -- Lists of byte strings seen through their bytes.
 use Rattle.std.proofs.Common.{◌≡◌, ℕ, ◌+◌, ◌-◌, ◌<◌, ◌≤◌, Bool, List, [], ◌∷◌, ◌++◌, length, map, take, drop, reverse, get_or, refl, sym, ap, ◌∙◌, arith, add-one, suc, drop-cons}
-use Rattle.std.proofs.lemmas.List.{map-append, take-map, drop-map, reverse-append}
+use Rattle.std.proofs.lemmas.List.{map-append, map-set, take-map, drop-map, reverse-append, append-nil, length-map}
 use Rattle.std.specs.Prelude.{insert, slice_range}
 
 pub map-reverse : {A B : Type 0} (f : A → B) (xs : List A) → map f (reverse xs) ≡ reverse (map f xs)
@@ -35,3 +35,5 @@ pub map-drop_turn : {A B : Type 0} (f : A → B) (xs : List A) (i : ℕ) (x : A)
 map-drop_turn f xs i x within is =
     ap (map f) (drop-cons xs i x within) ∙ ap (λ y. f y ∷ map f (drop (suc i) xs)) (sym is)
     ∙ ap (λ n. f x ∷ map f (drop n xs)) (sym (add-one i))
+
+pub ruleset mapped = (map-reverse, map-insert, map-slice_range, map-turned, map-set, append-nil, length-map)

@@ -1,8 +1,8 @@
 -- What a tree of members does, seen as a list of byte strings.
-use Rattle.std.proofs.Common.{◌≡◌, ℕ, Bool, true, false, cond, ◌||◌, List, [], ◌∷◌, ◌++◌, length, map, refl, sym, ap, ◌∙◌, append_assoc}
+use Rattle.std.proofs.Common.{◌≡◌, ℕ, Bool, true, false, cond, not, ◌||◌, List, [], ◌∷◌, ◌++◌, refl, sym, ap, ◌∙◌, append_assoc}
 use Rattle.std.proofs.lemmas.Bool.{true≢false}
 use Rattle.std.proofs.lemmas.Cmp.{nat_list_eq_equiv, nat_list_cmp_total}
-use Rattle.std.proofs.lemmas.List.{append-nil}
+use Rattle.std.proofs.lemmas.List.{append-nil, map-append}
 use Rattle.std.proofs.lemmas.Map.Text.{is_eq-slice_cmp}
 use Rattle.std.specs.BTreeSet as tree
 use Rattle.std.specs.Cmp.Lexicographic.{slice_cmp}
@@ -117,4 +117,18 @@ with_members-ascending members up = in_order [] members (none_there members) up
     none_there [] = tt
     none_there (m ∷ more) = (tt, none_there more)
 
-pub ruleset seen = (member-seen, insert-seen, remove-seen, ascending-seen)
+pub with_members-pushed_seen : (ms : List Bytes) (first : List (Vec ℕ)) (last : Vec ℕ)
+    → with_members ms (texts_of (first ++ last ∷ [])) ≡ with_member (with_members ms (texts_of first)) last.items
+with_members-pushed_seen ms first last = ap (with_members ms) (map-append (λ t. t.items) first (last ∷ [])) ∙ with_members-pushed ms (texts_of first) last.items
+
+-- the same, of one that was new
+pub without-with_new : (ms : List Bytes) (q : Bytes) (new : Bool) → new ≡ not (is_member ms q) → new ≡ true → without_member (with_member ms q) q ≡ ms
+without-with_new ms q new e yet = without-with ms q (absent (is_member ms q) (sym e ∙ yet))
+  where
+    absent : (there : Bool) → not there ≡ true → there ≡ false
+    absent true e = absurd (true≢false (sym e))
+    absent false e = refl
+
+pub ruleset seen = (ascending-seen)
+
+pub ruleset members = (without-with, without-with_new, with_members-pushed_seen, with_members-ascending)

@@ -1,5 +1,5 @@
 -- What a table of fields does, seen as a list of pairs.
-use Rattle.std.proofs.Common.{◌≡◌, ℕ, Bool, true, false, cond, List, [], ◌∷◌, length, map, ◌≤◌, arith, Option, Some, None, refl, sym, ap, ◌∙◌}
+use Rattle.std.proofs.Common.{◌≡◌, ℕ, Bool, true, false, cond, List, [], ◌∷◌, length, map, ◌≤◌, arith, Option, Some, refl, ap, ◌∙◌}
 use Rattle.std.specs.Global.{Vec}
 use Rattle.std.specs.List.{IsDistinct, AllByRecursion}
 use Rattle.std.specs.Map.{lookup, remove_entry, keys_of}
@@ -62,4 +62,4 @@ pairs_of-few [] few = refl
 pairs_of-few (a ∷ []) few = refl
 pairs_of-few (a ∷ b ∷ rest) few = absurd (omega arith)
 
-pub ruleset seen = (lookup-seen, insert-seen, remove-seen, distinct-seen)
+pub ruleset seen = (distinct-seen, pairs_of-by_turns)

@@ -5,24 +5,22 @@ ghost use Rattle.std.specs.Prelude.{OnOk, OnErr, IfOk};
 ghost use Rattle.std.specs.List.{IsDistinct};
 ghost use Rattle.std.specs.Option.{option_map};
 ghost use Rattle.std.specs.Str.{bytes_eq};
-ghost use Rattle.indexmap.specs.IndexMap.{index_map_len, spare};
-ghost use Rattle.texts.specs.Texts.{texts_of, pairs_of};
+ghost use Rattle.texts.specs.Texts.{by_turns};
 ghost use Rattle.values.specs.HashValue.{pairs_seen, field_value, with_field, with_fields, without_fields};
 ghost use Rattle.values.specs.ListValue.{nonempty};
 
-use hashed_texts::{HashedSlice, HashedText};
+use crate::items::{Items, Rest};
+use crate::pair_table::{PairTable, insert, insert_each, look_up, remove_each};
 use indexmap::IndexMap;
 use std::alloc::{AllocError, Global};
-use std::hash::{BuildHasherDefault, FoldHasher};
 use std::marker::Model;
 use texts::{Pairs, Text, Texts};
 
-/// Fields and their values in one hashed table, in order of insertion. Its seed is fixed.
-type PairTable = IndexMap<HashedText, Vec<u8>, BuildHasherDefault<FoldHasher>>;
-
-/// A hash: at least one pair of a field and its value, no field twice. Contracts see the list of pairs in order of insertion.
+/// A hash: at least one pair of a field and its value, no field twice. Contracts see the list of pairs in order of
+/// insertion.
 ///
-/// A field is looked up in constant time on average; a removal takes time for the whole hash, since the others keep their order.
+/// A field is looked up in constant time on average; a removal takes time for the whole hash, since the others keep
+/// their order.
 #[derive(Drop)]
 pub struct HashValue {
     pairs: Box<PairTable>,
@@ -44,6 +42,7 @@ impl HashValue {
     /// The hash that these pairs make, one after another, of no hash; `None` where there are none.
     ///
     /// `AllocError` where there is no memory for it.
+    #[tactic(auto, using(crate::proofs::PairsSeen::seen))]
     pub fn from_pairs(alloc: Global, pairs: Pairs) -> Result<Option<Self>, AllocError>
         ensures { IfOk result (λ hash. hash ≡ nonempty (with_fields [] pairs)) }
     {
@@ -67,14 +66,10 @@ impl HashValue {
     }
 
     /// The value of a field.
-    #[tactic(auto, using(crate::proofs::PairsSeen::seen))]
     pub fn get(&self, field: &[u8]) -> Option<&[u8]>
         ensures { option_map (λ value. value.now) result ≡ field_value self.now field.now }
     {
-        match self.pairs.get(HashedSlice { bytes: field }) {
-            Some(value) => Some(value.as_slice()),
-            None => None,
-        }
+        look_up(&self.pairs, field)
     }
 
     /// Whether the field is there.
@@ -94,29 +89,54 @@ impl HashValue {
         }
     }
 
-    /// Sets a field and gives the value that it had. A field that is there keeps its place, a new one goes last.
-    ///
-    /// `AllocError`, and no change, where there is no memory for a new field.
-    #[tactic(auto, using(crate::proofs::PairsSeen::seen))]
-    pub fn insert(&mut self, field: Text, value: Text) -> Result<Option<Text>, AllocError>
-        ensures before { IfOk result (λ before. before ≡ field_value self.old field) }
-        ensures ok { OnOk result (self.new ≡ with_field self.old field value) }
-        ensures absent { OnErr result (field_value self.old field ≡ None) }
-        ensures err { OnErr result (self.new ≡ self.old) }
+    /// The fields in order of insertion, to be read one after another.
+    pub fn fields(&self) -> Items<'_>
+        ensures { result ≡ map (λ pair. pair.0) self.now }
     {
-        let field = HashedText {
-            bytes: field.into_vec(),
-        };
-        match self.pairs.insert(field, value.into_vec()) {
-            Ok(Some(before)) => Ok(Some(Text::from(before))),
-            Ok(None) => Ok(None),
-            Err(_) => Err(AllocError),
+        Items {
+            value: None,
+            rest: Rest::Fields(self.pairs.iter()),
         }
     }
 
+    /// The values in the order of their fields, to be read one after another.
+    pub fn values(&self) -> Items<'_>
+        ensures { result ≡ map (λ pair. pair.1) self.now }
+    {
+        Items {
+            value: None,
+            rest: Rest::Values(self.pairs.iter()),
+        }
+    }
+
+    /// Each field and its value by turns, in order of insertion, to be read one after another.
+    pub fn fields_and_values(&self) -> Items<'_>
+        ensures { result ≡ by_turns self.now }
+    {
+        Items {
+            value: None,
+            rest: Rest::Both(self.pairs.iter()),
+        }
+    }
+
+    /// Sets a field and gives the value that it had. A field that is there keeps its place, a new one goes last.
+    ///
+    /// `AllocError`, and no change, where there is no memory for a new field.
+    pub fn insert(&mut self, field: Text, value: Text) -> Result<Option<Text>, AllocError>
+        ensures before { IfOk result (λ before. before ≡ field_value self.old field) }
+        ensures ok { OnOk result (self.new ≡ with_field self.old field value) }
+        ensures some { 0 < length self.new }
+        ensures absent { OnErr result (field_value self.old field ≡ None) }
+        ensures err { OnErr result (self.new ≡ self.old) }
+    {
+        insert(&mut self.pairs, field.into_vec(), value.into_vec())
+    }
+
     /// Sets the fields one after another, all of them, and gives how many were new; or sets none, and `AllocError`.
+    #[tactic(auto, using(crate::proofs::PairsSeen::seen))]
     pub fn insert_all(&mut self, pairs: Pairs) -> Result<usize, AllocError>
         ensures ok { OnOk result (self.new ≡ with_fields self.old pairs) }
+        ensures some { 0 < length self.new }
         ensures added { IfOk result (λ added. length self.new ≡ length self.old + added) }
         ensures err { OnErr result (self.new ≡ self.old) }
     {
@@ -147,31 +167,5 @@ fn at_least_one(pairs: Box<PairTable>) -> Option<HashValue>
         None
     } else {
         Some(HashValue { pairs })
-    }
-}
-
-/// Sets the fields of these pairs, the first and the second of each by turns, for which there is room.
-fn insert_each(pairs: &mut PairTable, mut turns: Vec<Vec<u8>>)
-    requires { length turns.items ≤ spare pairs.old + spare pairs.old + 1 }
-    ensures set { pairs_seen pairs.new.entries ≡ with_fields (pairs_seen pairs.old.entries) (pairs_of (texts_of turns.items)) }
-    ensures bound { index_map_len pairs.old ≤ index_map_len pairs.new }
-{
-    turns.reverse();
-    while let (Some(field), Some(value)) = (turns.pop(), turns.pop()) {
-        let Ok(_) = pairs.insert(HashedText { bytes: field }, value) else {
-            return;
-        };
-    }
-}
-
-/// Removes these fields, where they are there.
-fn remove_each(pairs: &mut PairTable, fields: &[Vec<u8>])
-    ensures left { pairs_seen pairs.new.entries ≡ without_fields (pairs_seen pairs.old.entries) (texts_of fields.now) }
-    ensures bound { index_map_len pairs.new ≤ index_map_len pairs.old }
-{
-    for field in fields {
-        pairs.shift_remove(HashedSlice {
-            bytes: field.as_slice(),
-        });
     }
 }

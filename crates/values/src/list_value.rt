@@ -8,6 +8,7 @@ ghost use Rattle.texts.specs.declared.text_list.End.TheVariants.{Head, Tail};
 ghost use Rattle.texts.specs.Texts.{texts_of};
 ghost use Rattle.values.specs.ListValue.{nonempty, items_of, pushed, end_item, popped, joined, without_equal};
 
+use crate::items::{Items, Rest};
 use std::alloc::{AllocError, Global};
 use std::collections::VecDeque;
 use std::marker::Model;
@@ -15,8 +16,8 @@ use texts::{End, Text, Texts};
 
 /// A list of at least one byte string. Contracts see the list.
 ///
-/// Each call takes time for the items that it adds, removes or looks at, at either end; `insert` and `remove_equal` move others
-/// too. A call that can leave no item gives back what is left, if something is.
+/// Each call takes time for the items that it adds, removes or looks at, at either end; `insert` and `remove_equal`
+/// move others too. A call that can leave no item gives back what is left, if something is.
 #[derive(Drop)]
 pub struct ListValue {
     texts: VecDeque<Vec<u8>>,
@@ -35,6 +36,7 @@ impl Model for ListValue {
 
 impl ListValue {
     /// The list that pushing these items at this end makes of no list; `None` where there are none. It takes no memory.
+    #[tactic(auto, using(crate::proofs::Mapped::mapped))]
     pub fn from_pushes(end: End, items: Texts) -> Option<Self>
         ensures { result ≡ nonempty (pushed end [] items) }
     {
@@ -66,7 +68,21 @@ impl ListValue {
         }
     }
 
+    /// The items from `start` to below `end`, to be read one after another. It takes time for these items alone.
+    #[tactic(auto, using(crate::proofs::Mapped::mapped))]
+    pub fn range(&self, start: usize, end: usize) -> Items<'_>
+        requires ordered { start ≤ end }
+        requires within { end ≤ length self.now }
+        ensures { result ≡ slice_range self.now start end }
+    {
+        Items {
+            value: None,
+            rest: Rest::Texts(self.texts.range(start..end)),
+        }
+    }
+
     /// Puts an item in the place of the one that is there. It takes constant time and no memory.
+    #[tactic(auto, using(crate::proofs::Mapped::mapped))]
     pub fn set_item(&mut self, place: usize, item: Text)
         requires { place < length self.old }
         ensures { self.new ≡ slice_set self.old place item }
@@ -77,6 +93,7 @@ impl ListValue {
     /// Pushes the items at this end one after another: all of them, or none and `AllocError`.
     pub fn push_all(&mut self, end: End, items: Texts) -> Result<(), AllocError>
         ensures ok { OnOk result (self.new ≡ pushed end self.old items) }
+        ensures some { 0 < length self.new }
         ensures err { OnErr result (self.new ≡ self.old) }
         ensures succeeds { items ≡ [] → IsOk result }
     {
@@ -111,8 +128,9 @@ impl ListValue {
         None
     }
 
-    /// Inserts an item before the one at a place, or behind the last; `AllocError`, and no change, where there is no memory.
-    /// It moves the items between the place and the nearer end.
+    /// Inserts an item before the one at a place, or behind the last; `AllocError`, and no change, where there is no
+    /// memory. It moves the items between the place and the nearer end.
+    #[tactic(auto, using(crate::proofs::Mapped::mapped))]
     pub fn insert(&mut self, place: usize, item: Text) -> Result<(), AllocError>
         requires { place ≤ length self.old }
         ensures ok { OnOk result (self.new ≡ insert self.old place item) }
@@ -125,6 +143,7 @@ impl ListValue {
     }
 
     /// Keeps the items from `start` to below `end`; `None` where that is none of them. It takes no memory.
+    #[tactic(auto, using(crate::proofs::Mapped::mapped, crate::proofs::Lists::lists))]
     pub fn keep(self, start: usize, end: usize) -> Option<Self>
         requires ordered { start ≤ end }
         requires within { end ≤ length self }
@@ -137,8 +156,8 @@ impl ListValue {
         at_least_one(texts)
     }
 
-    /// Takes out the items that are equal to this one: those nearest to this end, at most so many. It gives their number and what
-    /// is left. It takes no memory, and time for the whole list.
+    /// Takes out the items that are equal to this one: those nearest to this end, at most so many. It gives their
+    /// number and what is left. It takes no memory, and time for the whole list.
     pub fn remove_equal(self, end: End, item: &[u8], most: usize) -> (usize, Option<Self>)
         ensures left { result.1 ≡ nonempty (without_equal end item.now most self) }
         ensures removed { result.0 + length (without_equal end item.now most self) ≡ length self }
@@ -152,8 +171,8 @@ impl ListValue {
         (before - texts.len(), at_least_one(texts))
     }
 
-    /// Moves the item at one end of this list to an end of another, or of a new one where there is no other. It gives what is
-    /// left of this list, if anything, and the other.
+    /// Moves the item at one end of this list to an end of another, or of a new one where there is no other. It gives
+    /// what is left of this list, if anything, and the other.
     ///
     /// Where there is no memory both come back as they were.
     pub fn move_item(
@@ -183,6 +202,7 @@ impl ListValue {
     }
 
     /// Moves the item at one end of the list to an end of the same list. It takes no memory.
+    #[tactic(auto, using(crate::proofs::Mapped::mapped))]
     pub fn turn(&mut self, from: End, to: End)
         ensures { self.new ≡ joined to (popped from self.old) (end_item from self.old) }
     {

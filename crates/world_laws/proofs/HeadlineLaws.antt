@@ -1,10 +1,10 @@
 -- The order of execution is carried to the order of stamps.
-use Rattle.std.proofs.Common.{◌≡◌, Bool, true, false, List, [], ◌∷◌, ◌⊎◌, inl, inr, Option, Some, None, refl, sym, ap, ◌∙◌, subst}
+use Rattle.std.proofs.Common.{◌≡◌, true, List, [], ◌∷◌, inl, inr, Option, Some, None, refl, sym, ap, ◌∙◌, subst}
 use Rattle.std.specs.FinMap.{empty}
 use Rattle.command_bodies.specs.Command.{effect_of}
 use Rattle.command_bodies.specs.InTurn.{solo_from}
 use Rattle.execution_order.proofs.Sorted.{replies_in_stamp_order}
-use Rattle.execution_order.specs.Entries.{Entry, Row, commands_of, entries_of, replies_of, Touch, InOrder, IsAddressed, AreAddressed}
+use Rattle.execution_order.specs.Entries.{Entry, commands_of, entries_of, replies_of, InOrder, IsAddressed, AreAddressed}
 use Rattle.groups.specs.GroupSet.{has}
 use Rattle.keyspace.specs.Map.{Map}
 use Rattle.placement.specs.Groups.{groups_of}
@@ -21,11 +21,9 @@ use Rattle.world_laws.specs.Headline.{with_row, rows_of, IsOneThread, Headline, 
 use Rattle.world_laws.specs.Order.{TouchingByStamp}
 use Rattle.world_laws.proofs.OrderLaws.{ended_as_submitted, touching_good}
 use Rattle.world_laws.proofs.Worlds.{good_world}
+use Rattle.skeen_core.proofs.Lawful.{some_same}
 
 -- ---- in the order of execution
-
-some_content : (a b : Content) → Some a ≡ Some b → a ≡ b
-some_content a b e = cc
 
 -- what the rows' commands do from a map
 abbrev OneThreadFrom : Map → List Ended → Type 0
@@ -36,17 +34,24 @@ one_thread_from m [] replies = refl
 one_thread_from m (e ∷ es) replies = by_reply e.reply refl replies.0 (one_thread_from (map_after e.reply e.command m) es replies.1)
   where
     by_reply : (r : Option Content) → e.reply ≡ r → RepliesOn m e → OneThreadFrom (map_after e.reply e.command m) es →
-        (after_all (map_after e.reply e.command m) es, replies_of (with_row e e.reply (rows_of es))) ≡ solo_from m (commands_of (entries_of (with_row e e.reply (rows_of es))))
+        (after_all (map_after e.reply e.command m) es, replies_of (with_row e e.reply (rows_of es))) ≡ solo_from m
+        (commands_of (entries_of (with_row e e.reply (rows_of es))))
     by_reply None is answers rest = subst (λ r. OneThreadFrom (map_after r e.command m) es →
-        (after_all (map_after r e.command m) es, replies_of (with_row e r (rows_of es))) ≡ solo_from m (commands_of (entries_of (with_row e r (rows_of es))))) (sym is) (λ rest. rest) rest
+        (after_all (map_after r e.command m) es, replies_of (with_row e r (rows_of es))) ≡ solo_from m
+        (commands_of (entries_of (with_row e r (rows_of es))))) (sym is) (λ rest. rest) rest
     by_reply (Some reply) is answers rest = subst (λ r. OneThreadFrom (map_after r e.command m) es →
-        (after_all (map_after r e.command m) es, replies_of (with_row e r (rows_of es))) ≡ solo_from m (commands_of (entries_of (with_row e r (rows_of es))))) (sym is)
-        (λ rest. ap (λ v. (v.0, reply ∷ v.1)) rest ∙ ap (λ c. ((solo_from (effect_of e.command m).0 (commands_of (entries_of (rows_of es)))).0, c ∷ (solo_from (effect_of e.command m).0 (commands_of (entries_of (rows_of es)))).1)) same) rest
+        (after_all (map_after r e.command m) es, replies_of (with_row e r (rows_of es))) ≡ solo_from m
+        (commands_of (entries_of (with_row e r (rows_of es))))) (sym is)
+        (λ rest. ap (λ v. (v.0, reply ∷ v.1)) rest
+        ∙ ap (λ c. (
+          (solo_from (effect_of e.command m).0 (commands_of (entries_of (rows_of es)))).0,
+          c ∷ (solo_from (effect_of e.command m).0 (commands_of (entries_of (rows_of es)))).1,
+        )) same) rest
       where
         same : reply ≡ (effect_of e.command m).1
         same = elim answers [
           | inl starved ↦ absurd (None≢Some reply (sym starved ∙ is))
-          | inr answer ↦ some_content reply (effect_of e.command m).1 (sym is ∙ answer)
+          | inr answer ↦ some_same reply (effect_of e.command m).1 (sym is ∙ answer)
         ]
 
 pub good_is_one_thread : (t : Layout) (w : World) → WorldGood t w → IsOneThread w.contents (rows_of w.ended)
@@ -65,7 +70,8 @@ in_rows : (es : List Ended) (x : Entry) → In x (entries_of (rows_of es)) → (
 in_rows [] x there = absurd there
 in_rows (e ∷ es) x there = by_reply e.reply there (in_rows es x)
   where
-    by_reply : (r : Option Content) → In x (entries_of (with_row e r (rows_of es))) → (In x (entries_of (rows_of es)) → (f : Ended) × In f es × (x ≡ entry_of f)) → (f : Ended) × In f (e ∷ es) × (x ≡ entry_of f)
+    by_reply : (r : Option Content) → In x (entries_of (with_row e r (rows_of es))) → (In x (entries_of (rows_of es)) → (f : Ended)
+        × In f es × (x ≡ entry_of f)) → (f : Ended) × In f (e ∷ es) × (x ≡ entry_of f)
     by_reply None there rest = let f = rest there in (f.0, inr f.1, f.2)
     by_reply (Some reply) (inl same) rest = (e, inl refl, same)
     by_reply (Some reply) (inr there) rest = let f = rest there in (f.0, inr f.1, f.2)
@@ -101,4 +107,5 @@ rows_addressed t w good x there =
 pub headline_holds : Headline
 headline_holds t steps w is_table leads =
     let good = good_world t steps w leads in
-    replies_in_stamp_order t empty w.contents (rows_of w.ended) is_table (rows_addressed t w good) (rows_in_order w.ended (touching_good t w good)) (good_is_one_thread t w good)
+    replies_in_stamp_order t empty w.contents (rows_of w.ended) is_table (rows_addressed t w good)
+    (rows_in_order w.ended (touching_good t w good)) (good_is_one_thread t w good)

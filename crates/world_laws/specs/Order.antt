@@ -1,6 +1,6 @@
 -- The laws of order, for every history of steps.
 use Rattle.std.specs.FinMap.{get}
-use Rattle.std.specs.Prelude.{◌≡◌, ℕ, ◌<◌, ◌≤◌, true, false, List, [], ◌∷◌, ◌++◌, length, slice_get, map, ◌⊎◌, Option, Some, None}
+use Rattle.std.specs.Prelude.{◌≡◌, ℕ, ◌<◌, ◌≤◌, true, false, List, ◌++◌, length, slice_get, map, ◌⊎◌, Some}
 use Rattle.groups.specs.GroupSet.{has}
 use Rattle.journal.specs.declared.step.Step.{Step}
 use Rattle.journal.specs.declared.step.Step.TheVariants.{Deliver}
@@ -27,7 +27,8 @@ pub record HasFinal (w : World) (i : RequestId) (q : Request) (s : Stamp) : Type
   pub submitted : w.asked i ≡ Some q
   pub stamp : final (w.proposed i) q.groups ≡ Some s
 
--- the group knows that stamp as the request's final one: it has delivered the request with it, or has heard all its proposals
+-- the group knows that stamp as the request's final one: it has delivered the request with it, or has heard all its
+-- proposals
 pub record Settled (w : World) (g : ℕ) (i : RequestId) (s : Stamp) : Type 0 where
   pub groups : List ℕ
   pub started : get (w.group g).started i ≡ Some groups
@@ -49,7 +50,8 @@ GroupsAgree = OfEveryWorld (λ t w. (g : ℕ) (i : RequestId) (s : Stamp) → Kn
 
 -- each group of a request with a final stamp has proposed, and not above it
 abbrev pub FinalIsGreatest : Type 0
-FinalIsGreatest = OfEveryWorld (λ t w. (i : RequestId) (q : Request) (s : Stamp) → HasFinal w i q s → (g : ℕ) → has q.groups g ≡ true →
+FinalIsGreatest = OfEveryWorld (λ t w. (i : RequestId) (q : Request) (s : Stamp) → HasFinal w i q s → (g : ℕ) →
+    has q.groups g ≡ true →
     (n : ℕ) × (w.proposed i g ≡ Some n) × (stamp_lt s (record { clock = n; group = g }) ≡ false))
 
 -- the final stamp is the proposal of one of the groups
@@ -59,25 +61,30 @@ FinalIsProposed = OfEveryWorld (λ t w. (i : RequestId) (q : Request) (s : Stamp
 
 -- no two requests have the same final stamp
 abbrev pub FinalStampsDiffer : Type 0
-FinalStampsDiffer = OfEveryWorld (λ t w. (i j : RequestId) (q r : Request) (s : Stamp) → HasFinal w i q s → HasFinal w j r s → i ≡ j)
+FinalStampsDiffer = OfEveryWorld (λ t w. (i j : RequestId) (q r : Request) (s : Stamp) → HasFinal w i q s →
+    HasFinal w j r s → i ≡ j)
 
 -- of two requests of one connection the later one has the larger stamp
 abbrev pub StampsOfConnectionRise : Type 0
-StampsOfConnectionRise = OfEveryWorld (λ t w. (i j : RequestId) (q r : Request) (s u : Stamp) → i.conn.0 ≡ j.conn.0 → i.seq < j.seq →
+StampsOfConnectionRise = OfEveryWorld (λ t w. (i j : RequestId) (q r : Request) (s u : Stamp) → i.conn.0 ≡ j.conn.0 →
+    i.seq < j.seq →
     HasFinal w i q s → HasFinal w j r u → stamp_lt s u ≡ true)
 
 -- ---- groups
 
 -- a group's clock is at least that of each stamp that it has proposed or delivered
 abbrev pub ClockIsAboveProposals : Type 0
-ClockIsAboveProposals = OfEveryWorld (λ t w. (g : ℕ) (i : RequestId) (n : ℕ) → w.proposed i g ≡ Some n → n ≤ (w.group g).clock)
+ClockIsAboveProposals = OfEveryWorld (λ t w. (g : ℕ) (i : RequestId) (n : ℕ) → w.proposed i g ≡ Some n →
+    n ≤ (w.group g).clock)
 
 abbrev pub ClockIsAboveDeliveries : Type 0
-ClockIsAboveDeliveries = OfEveryWorld (λ t w. (g : ℕ) (d : Delivered) → In d (log_of w g) → d.stamp.clock ≤ (w.group g).clock)
+ClockIsAboveDeliveries = OfEveryWorld (λ t w. (g : ℕ) (d : Delivered) → In d (log_of w g) →
+    d.stamp.clock ≤ (w.group g).clock)
 
 -- no clock is above the number of steps
 abbrev pub ClocksAreBounded : Type 0
-ClocksAreBounded = (t : Layout) (steps : List Step) (w : World) → Leads t opening steps w → (g : ℕ) → (w.group g).clock ≤ length steps
+ClocksAreBounded = (t : Layout) (steps : List Step) (w : World) → Leads t opening steps w → (g : ℕ) →
+    (w.group g).clock ≤ length steps
 
 -- each group delivers in ascending order
 abbrev pub DeliveriesAscend : Type 0
@@ -87,7 +94,8 @@ DeliveriesAscend = OfEveryWorld (λ t w. (g : ℕ) → Ascending (log_of w g))
 
 -- a packet goes to a group of its request
 abbrev pub PacketsGoToAddressed : Type 0
-PacketsGoToAddressed = OfEveryWorld (λ t w. (p : Packet) → In p w.packets → (q : Request) × (w.asked p.id ≡ Some q) × (has q.groups p.to ≡ true))
+PacketsGoToAddressed = OfEveryWorld (λ t w. (p : Packet) → In p w.packets → (q : Request) × (w.asked p.id ≡ Some q)
+    × (has q.groups p.to ≡ true))
 
 -- a group has delivered requests of its own alone
 abbrev pub DeliveriesAreAddressed : Type 0
@@ -100,7 +108,8 @@ Brings w step g = ⊥
 
 -- a step changes no group but the one that it brings a packet to
 abbrev pub OthersKeepStill : Type 0
-OthersKeepStill = (t : Layout) (old new : World) (step : Step) (effect : Effect) (g : ℕ) → Steps t old step effect new → ¬ Brings old step g →
+OthersKeepStill = (t : Layout) (old new : World) (step : Step) (effect : Effect) (g : ℕ) →
+    Steps t old step effect new → ¬ Brings old step g →
     (new.group g ≡ old.group g) × (log_of new g ≡ log_of old g)
 
 -- ---- what was run
@@ -126,4 +135,5 @@ TouchingEndInStampOrder = OfEveryWorld (λ t w. Rising TouchingByStamp w.ended)
 
 -- a step adds to what has ended and changes nothing of it
 abbrev pub EndedIsKept : Type 0
-EndedIsKept = (t : Layout) (old new : World) (step : Step) (effect : Effect) → Steps t old step effect new → (more : List Ended) × (new.ended ≡ old.ended ++ more)
+EndedIsKept = (t : Layout) (old new : World) (step : Step) (effect : Effect) → Steps t old step effect new →
+    (more : List Ended) × (new.ended ≡ old.ended ++ more)

@@ -4,7 +4,8 @@ ghost use Rattle.world_laws.specs.Order.{ClockIsAboveProposals, ClockIsAboveDeli
 ghost use Rattle.world_laws.specs.Order.{PacketsGoToAddressed, DeliveriesAreAddressed, OthersKeepStill};
 ghost use Rattle.world_laws.specs.Order.{EndsOnce, EndsAsSubmitted, TouchingEndInStampOrder, EndedIsKept};
 
-/// The order in which requests are delivered and run, for every history of steps. It does nothing: its contract states the laws.
+/// The order in which requests are delivered and run, for every history of steps. It does nothing: its contract
+/// states the laws.
 pub fn order_of_requests()
     ensures groups_agree { GroupsAgree }
     ensures final_is_greatest { FinalIsGreatest }

@@ -2,11 +2,6 @@ use Rattle.std.proofs.Common.{◌<◌, ◌≤◌, length, drop, slice_index_or, 
 use Rattle.delivery.proofs.Heads.{gone_more, gone_place}
 use Rattle.delivery.proofs.queues.pop_heads.Goals as goal
 
-pub bounds-queues-from : goal.bounds-queues-from
-bounds-queues-from c =
-    subst (λ n. n < length c.loop-group.queues) (sym (c.from.ensures ∙ c.number.ensures.same))
-    (gone_place c.args.queues.now c.loop-group.queues c.args.groups c.loop-group.group-iterator c.next.new.self c.in-Some.group c.loop-group.invariant c.in-Some.ensures.steps c.requires)
-
 pub loop-group-preserved : goal.loop-group-preserved
 loop-group-preserved c =
     let at = c.from.ensures ∙ c.number.ensures.same in

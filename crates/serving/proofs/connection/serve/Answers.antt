@@ -7,7 +7,7 @@ pub returns-in_default : goal.returns-in_default
 returns-in_default g c = serves_nothing g.D.Door.asks _ _ _ _
 
 pub loop-init : goal.loop-init
-loop-init g c = (serving_start g.D.Door.asks _ _ _ _ _ c.new-decoder.ensures, omega (arith, c.as_mut_slice-piece.ensures.len, c.in-Ok.ensures.len))
+loop-init g c = (serving_start g.D.Door.asks _ _ _ _ _ c.new-decoder.ensures.held, omega (arith, c.as_mut_slice-piece.ensures.len, c.in-Ok.ensures.len))
 
 pub loop-preserved-then-eq : goal.loop-preserved-then-eq
 loop-preserved-then-eq g c =

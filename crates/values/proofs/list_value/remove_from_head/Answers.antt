@@ -1,8 +1,7 @@
-use Rattle.std.proofs.Common.{◌≡◌, suc, ◌+◌, ◌-◌, ◌<◌, true, false, List, [], ◌∷◌, ◌++◌, length, map, reverse, ap, sym, subst, ◌∙◌, arith}
-use Rattle.std.proofs.lemmas.List.{length-map, length-reverse, map-append, reverse-reverse}
+use Rattle.std.proofs.Common.{◌≡◌, ◌+◌, ◌<◌, false, [], ◌∷◌, ◌++◌, length, map, ap, sym, subst, ◌∙◌, arith}
+use Rattle.std.proofs.lemmas.List.{length-map, map-append}
 use Rattle.std.specs.Str.{bytes_eq}
 use Rattle.values.proofs.Lists.{IsTurned, turned_out, turned_on, turned_all}
-use Rattle.values.proofs.Mapped.{reverse-map_pushed, reverse-map_cons}
 use Rattle.values.proofs.list_value.remove_from_head.Goals as goal
 use Rattle.values.proofs.list_value.remove_from_head.Goals.{then-left-gt0+then-eq, else-left-gt0, else-left-gt0-via-then-left-gt0+else-eq, else-left-gt0-via-else-left-gt0}
 

@@ -1,4 +1,4 @@
-use Rattle.std.proofs.Common.{◌≡◌, ◌+◌, ◌≤◌, map, length}
+use Rattle.std.proofs.Common.{◌≤◌, map}
 use Rattle.std.specs.Str.{bytes_eq}
 use Rattle.values.proofs.Lists.{IsTurned}
 use Rattle.values.proofs.list_value.remove_from_head.Given as goal

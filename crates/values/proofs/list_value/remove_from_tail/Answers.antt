@@ -1,5 +1,5 @@
-use Rattle.std.proofs.Common.{◌≡◌, suc, ◌+◌, ◌-◌, ◌<◌, true, false, List, [], ◌∷◌, ◌++◌, length, map, reverse, ap, sym, subst, ◌∙◌, arith}
-use Rattle.std.proofs.lemmas.List.{length-map, length-reverse, map-append, reverse-reverse}
+use Rattle.std.proofs.Common.{◌≡◌, ◌+◌, ◌<◌, false, [], ◌∷◌, ◌++◌, length, map, reverse, ap, sym, subst, ◌∙◌, arith}
+use Rattle.std.proofs.lemmas.List.{length-map, length-reverse, reverse-reverse}
 use Rattle.std.specs.Str.{bytes_eq}
 use Rattle.values.proofs.Lists.{IsTurned, turned_out, turned_on, turned_all}
 use Rattle.values.proofs.Mapped.{reverse-map_pushed, reverse-map_cons}
