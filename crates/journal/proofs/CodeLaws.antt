@@ -89,16 +89,19 @@ steps-few (s ∷ ss) = omega (arith, step_code-some s, steps-few ss, length-appe
 -- ---- rows
 
 pub length-head_code : (id : RequestId) (stamp : Stamp) (size : ℕ)
-    → length (head_code id stamp size) ≡ length (number_code id.conn.0) + length (number_code id.seq) + (length (number_code stamp.clock) + length (number_code stamp.group)) + length (number_code size)
+    → length (head_code id stamp size) ≡ length (number_code id.conn.0) + length (number_code id.seq) +
+    (length (number_code stamp.clock) + length (number_code stamp.group)) + length (number_code size)
 unfolding head_code id_code
 length-head_code id stamp size = simp length-append (omega arith)
 
 pub head_code-is : (id : RequestId) (stamp : Stamp) (size : ℕ)
-    → head_code id stamp size ≡ number_code id.conn.0 ++ (number_code id.seq ++ (number_code stamp.clock ++ (number_code stamp.group ++ number_code size)))
+    → head_code id stamp size ≡ number_code id.conn.0 ++ (number_code id.seq ++
+    (number_code stamp.clock ++ (number_code stamp.group ++ number_code size)))
 unfolding head_code id_code
 head_code-is id stamp size = append_assoc (number_code id.conn.0) (number_code id.seq) _
 
-pub row_code-is : (row : RowView) → row_code row ≡ head_code row.id row.stamp (length (words_code row.words)) ++ (words_code row.words ++ row.reply)
+pub row_code-is : (row : RowView) → row_code row ≡ head_code row.id row.stamp (length (words_code row.words)) ++
+    (words_code row.words ++ row.reply)
 unfolding row_code
 row_code-is row = refl
 
@@ -106,11 +109,21 @@ pub row_of-code : (row : RowView) → RowFits row → row_of (row_code row) ≡ 
 unfolding row_of row_code head_code
 row_of-code row fit =
     let body = words_code row.words ++ row.reply in let size = length (words_code row.words) in
-    let group = number_code size ++ body in let clock = number_code row.stamp.group ++ group in let id = number_code row.stamp.clock ++ clock in
-    let words : words_at (words_code row.words) ≡ (row.words, []) = ap words_at (sym (append-nil (words_code row.words))) ∙ words_at-code row.words [] fit.words in
+    let group = number_code size ++ body in let clock = number_code row.stamp.group ++ group in
+    let id = number_code row.stamp.clock ++ clock in
+    let words : words_at (words_code row.words) ≡ (row.words, []) = ap words_at (sym (append-nil (words_code row.words)))
+    ∙ words_at-code row.words [] fit.words in
     let low : row.stamp.group < 2 ^ 64 = let h = fit.head.group in omega arith in
     simp append_assoc
-    (rw (id_at-code row.id id fit.head.request, number_at-code row.stamp.clock clock fit.head.clock, number_at-code row.stamp.group group low, number_at-code size body fit.size, take_at (words_code row.words) row.reply size refl, drop_at (words_code row.words) row.reply size refl, words) refl)
+    (rw (
+      id_at-code row.id id fit.head.request,
+      number_at-code row.stamp.clock clock fit.head.clock,
+      number_at-code row.stamp.group group low,
+      number_at-code size body fit.size,
+      take_at (words_code row.words) row.reply size refl,
+      drop_at (words_code row.words) row.reply size refl,
+      words,
+    ) refl)
 
 abbrev pub RowView-of : RequestId → ℕ → ℕ → List (List ℕ) → List ℕ → RowView
 RowView-of id clock group words reply = record { id = id; stamp = record { clock = clock; group = group }; words = words; reply = reply }
@@ -152,10 +165,14 @@ row_read row bytes id clock group size r1 r2 r3 r4 coded fit e0 e1 e2 e3 e4 e5 e
     }
 
 -- the words and the reply of what is left
-pub words-left : (row : RowView) (front back rest : List ℕ) (size : ℕ) → size ≡ length (words_code row.words) → rest ≡ words_code row.words ++ row.reply
+pub words-left : (row : RowView) (front back rest : List ℕ) (size : ℕ) → size ≡ length (words_code row.words)
+    → rest ≡ words_code row.words ++ row.reply
     → front ≡ take size rest → back ≡ drop size rest → (front ≡ words_code row.words) × (back ≡ row.reply)
-words-left row front back rest size long left e f =
-    (e ∙ rw left (take_at (words_code row.words) row.reply size (sym long)), f ∙ rw left (drop_at (words_code row.words) row.reply size (sym long)))
+words-left row front back rest size long left e f = (
+  e ∙ rw left (take_at (words_code row.words) row.reply size (sym long)),
+  f ∙ rw left
+      (drop_at (words_code row.words) row.reply size (sym long)),
+)
 
 pub words-read : (words : List (List ℕ)) (bytes : List ℕ) → bytes ≡ words_code words → WordsFit words → (words_at bytes).0 ≡ words
 words-read words bytes coded fit = ap (λ p. p.0) (ap words_at (coded ∙ sym (append-nil (words_code words))) ∙ words_at-code words [] fit)

@@ -17,7 +17,8 @@ ends_from-push code start (y ∷ ys) x =
     ∙ ap (λ n. ends_from code (start + length (code y)) ys ++ n ∷ [])
     (omega (arith, length-append (code y) (flat_map code ys))))
 
-pub take-ends_from : {A : Type 0} (code : A → List ℕ) (start n : ℕ) (xs : List A) → take n (ends_from code start xs) ≡ ends_from code start (take n xs)
+pub take-ends_from : {A : Type 0} (code : A → List ℕ) (start n : ℕ) (xs : List A) → take n
+    (ends_from code start xs) ≡ ends_from code start (take n xs)
 take-ends_from code start zero xs = refl
 take-ends_from code start (suc n) [] = refl
 take-ends_from code start (suc n) (x ∷ xs) = ap (λ es. (start + length (code x)) ∷ es) (take-ends_from code (start + length (code x)) n xs)
@@ -40,6 +41,7 @@ cut-ends_from code before (x ∷ xs) =
     let long : length before + length piece ≡ length (before ++ piece) = sym (length-append before piece) in
     let here : take (length before + length piece - length before) (drop (length before) (before ++ (piece ++ rest))) ≡ piece
     = rw (drop_at before (piece ++ rest) (length before) refl) (take_at piece rest _ (omega arith)) in
-    let there : cut (before ++ (piece ++ rest)) (length before + length piece) (ends_from code (length before + length piece) xs) ≡ map code xs
+    let there : cut (before ++ (piece ++ rest)) (length before + length piece)
+    (ends_from code (length before + length piece) xs) ≡ map code xs
     = rw (long, ← append_assoc) (cut-ends_from code (before ++ piece) xs) in
     rw (here, there) refl

@@ -20,7 +20,8 @@ codes-push code xs x = flat_map-append code xs (x ∷ []) ∙ ap (λ c. flat_map
 pub steps-push : (steps : List Step) (step : Step) (max count : ℕ) (bytes : List ℕ) → AreSteps steps max count bytes → StepFits step
     → steps_in (count + 1) (bytes ++ step_code step) ≡ steps ++ step ∷ []
 steps-push steps step max count bytes are fits =
-    let coded : bytes ++ step_code step ≡ flat_map step_code (steps ++ step ∷ []) = ap (λ b. b ++ step_code step) are.coded ∙ sym (codes-push step_code steps step) in
+    let coded : bytes ++ step_code step ≡ flat_map step_code (steps ++ step ∷ []) = ap (λ b. b ++ step_code step) are.coded ∙ sym
+    (codes-push step_code steps step) in
     let counted : count + 1 ≡ length (steps ++ step ∷ []) = ap (λ n. n + 1) are.counted ∙ sym (length_push steps step) in
     rw (coded, counted) (steps_in-codes (steps ++ step ∷ []) (all_more StepFits steps step are.fit fits))
 
@@ -44,7 +45,8 @@ rows_of-codes : (rows : List RowView) → AllByRecursion RowFits rows → map ro
 rows_of-codes [] fit = refl
 rows_of-codes (r ∷ rs) fit = rw (row_of-code r fit.0, rows_of-codes rs fit.1) refl
 
-pub rows_in-codes : (rows : List RowView) → AllByRecursion RowFits rows → rows_in (flat_map row_code rows) (ends_from row_code 0 rows) ≡ rows
+pub rows_in-codes : (rows : List RowView) → AllByRecursion RowFits rows → rows_in (flat_map row_code rows)
+    (ends_from row_code 0 rows) ≡ rows
 rows_in-codes rows fit = ap (map row_of) (cut-ends_from row_code [] rows) ∙ rows_of-codes rows fit
 
 pub rows_in-kept : (rows : List RowView) (bytes ends : List ℕ) → AreRows rows bytes ends → rows_in bytes ends ≡ rows
@@ -55,7 +57,8 @@ pub AreRows-push : (rows : List RowView) (row : RowView) (bytes ends : List ℕ)
 AreRows-push rows row bytes ends are fits = record {
   coded = ap (λ b. b ++ row_code row) are.coded ∙ sym (codes-push row_code rows row);
   ended =
-      let long : length (bytes ++ row_code row) ≡ 0 + length (flat_map row_code rows) + length (row_code row) = omega (arith, length-append bytes (row_code row), ap length are.coded) in
+      let long : length (bytes ++ row_code row) ≡ 0 + length (flat_map row_code rows) + length (row_code row) = omega
+      (arith, length-append bytes (row_code row), ap length are.coded) in
       rw (are.ended, long, ends_from-push row_code 0 rows row) refl;
   fit = all_more RowFits rows row are.fit fits;
 }
@@ -76,26 +79,31 @@ all_take P zero xs all = tt
 all_take P (suc n) [] all = tt
 all_take P (suc n) (x ∷ xs) all = (all.0, all_take P n xs all.1)
 
-codes-split : {A : Type 0} (code : A → List ℕ) (n : ℕ) (xs : List A) → flat_map code xs ≡ flat_map code (take n xs) ++ flat_map code (drop n xs)
+codes-split : {A : Type 0} (code : A → List ℕ) (n : ℕ) (xs : List A) → flat_map code xs ≡ flat_map code (take n xs) ++ flat_map code
+    (drop n xs)
 codes-split code n xs = sym (ap (flat_map code) (take-append-drop n xs)) ∙ flat_map-append code (take n xs) (drop n xs)
 
 -- the first n rows, cut where they end
 pub AreRows-take : (rows : List RowView) (bytes ends : List ℕ) (n stop : ℕ) → AreRows rows bytes ends
     → stop ≡ length (flat_map row_code (take n rows)) → AreRows (take n rows) (take stop bytes) (take n ends)
 AreRows-take rows bytes ends n stop are here = record {
-  coded = rw (here, are.coded, codes-split row_code n rows) (take_at (flat_map row_code (take n rows)) (flat_map row_code (drop n rows)) _ refl);
+  coded = rw (here, are.coded, codes-split row_code n rows) (take_at (flat_map row_code (take n rows))
+      (flat_map row_code (drop n rows)) _ refl);
   ended = ap (take n) are.ended ∙ take-ends_from row_code 0 n rows;
   fit = all_take RowFits n rows are.fit;
 }
 
 -- a row whose parts were put one behind another
-pub AreRows-put : (rows : List RowView) (row : RowView) (bytes ends new_bytes new_ends : List ℕ) (stop : ℕ) → AreRows rows bytes ends → RowFits row
+pub AreRows-put : (rows : List RowView) (row : RowView) (bytes ends new_bytes new_ends : List ℕ) (stop : ℕ) → AreRows rows bytes ends
+    → RowFits row
     → new_bytes ≡ bytes ++ row_code row → new_ends ≡ ends ++ stop ∷ [] → stop ≡ length new_bytes
     → AreRows (rows ++ row ∷ []) new_bytes new_ends
-AreRows-put rows row bytes ends new_bytes new_ends stop are fits put ended here = rw (ended, here, put) (AreRows-push rows row bytes ends are fits)
+AreRows-put rows row bytes ends new_bytes new_ends stop are fits put ended here = rw (ended, here, put)
+    (AreRows-push rows row bytes ends are fits)
 
 -- the rows that are seen are those that are kept
-pub AreRows-seen : (rows : List RowView) (bytes ends : List ℕ) → AreRows rows bytes ends → (rows_in bytes ends ≡ rows) × AreRows (rows_in bytes ends) bytes ends
+pub AreRows-seen : (rows : List RowView) (bytes ends : List ℕ) → AreRows rows bytes ends → (rows_in bytes ends ≡ rows) × AreRows
+    (rows_in bytes ends) bytes ends
 AreRows-seen rows bytes ends are = let same = rows_in-kept rows bytes ends are in (same, rw same are)
 
 -- ---- the row at a place
@@ -125,8 +133,10 @@ row-at rows bytes ends start stop place are h from to =
     let front = flat_map row_code (take place rows) in let back = flat_map row_code (drop (place + 1) rows) in
     let s : start ≡ length front = from ∙ rows-end rows bytes ends place are (omega arith) in
     let more : flat_map row_code (take (place + 1) rows) ≡ front ++ row_code row = take_codes row_code rows place row found.1 in
-    let e : stop ≡ length front + length (row_code row) = to ∙ rows-end rows bytes ends (place + 1) are (omega arith) ∙ ap length more ∙ length-append front (row_code row) in
-    let whole : bytes ≡ front ++ (row_code row ++ back) = are.coded ∙ codes-split row_code place rows ∙ ap (λ b. front ++ b) (drop_codes row_code rows place row found.1) in
+    let e : stop ≡ length front + length (row_code row) = to ∙ rows-end rows bytes ends (place + 1) are (omega arith) ∙ ap length more
+    ∙ length-append front (row_code row) in
+    let whole : bytes ≡ front ++ (row_code row ++ back) = are.coded ∙ codes-split row_code place rows ∙ ap (λ b. front ++ b)
+    (drop_codes row_code rows place row found.1) in
     let rest : drop start bytes ≡ row_code row ++ back = rw whole (drop_at front (row_code row ++ back) start (sym s)) in
     record {
       row = row;

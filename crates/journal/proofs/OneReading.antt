@@ -15,11 +15,13 @@ pub record GoesOn (a b : List (List ℕ)) (x y : List ℕ) : Type 0 where
   pub whole : b ≡ a ++ more
   pub left : x ≡ flat_map ended more ++ y
 
-lines-meet : (a b : List (List ℕ)) (x y : List ℕ) → AllByRecursion HasNoLf a → AllByRecursion HasNoLf b → flat_map ended a ++ x ≡ flat_map ended b ++ y → GoesOn a b x y ⊎ GoesOn b a y x
+lines-meet : (a b : List (List ℕ)) (x y : List ℕ) → AllByRecursion HasNoLf a → AllByRecursion HasNoLf b
+    → flat_map ended a ++ x ≡ flat_map ended b ++ y → GoesOn a b x y ⊎ GoesOn b a y x
 lines-meet [] b x y p q e = inl (record { more = b; whole = refl; left = e })
 lines-meet (a ∷ rest) [] x y p q e = inr (record { more = a ∷ rest; whole = refl; left = sym e })
 lines-meet (a ∷ rest) (b ∷ bs) x y p q e =
-    let apart : ended a ++ (flat_map ended rest ++ x) ≡ ended b ++ (flat_map ended bs ++ y) = sym (append_assoc (ended a) (flat_map ended rest) x) ∙ e ∙ append_assoc (ended b) (flat_map ended bs) y in
+    let apart : ended a ++ (flat_map ended rest ++ x) ≡ ended b ++ (flat_map ended bs ++ y) = sym
+    (append_assoc (ended a) (flat_map ended rest) x) ∙ e ∙ append_assoc (ended b) (flat_map ended bs) y in
     let same = line-same a b (flat_map ended rest ++ x) (flat_map ended bs ++ y) p.0 q.0 apart in
     let head = same.0 in
     elim (lines-meet rest bs x y p.1 q.1 same.1) [
@@ -60,12 +62,16 @@ spells-one text max max' steps steps' a b =
     let second : max_line max ≡ max_line max' = cc (whole) in
     let rest : A.body ++ end_line (length steps) ∷ [] ≡ B.body ++ end_line (length steps') ∷ [] = cc (whole) in
     let low = A.greatest in let low' = B.greatest in
-    let bodies = (same_from_push A.body B.body (end_line (length steps)) (end_line (length steps')) rest).0 in
-    (decimal-same (codes "max ") max max' (omega arith) (omega arith) second, same-steps B.body steps steps' (subst (λ ls. AllZip IsStepLine ls steps) bodies A.each) B.each)
+    let bodies = (same_from_push A.body B.body (end_line (length steps)) (end_line (length steps')) rest).0 in (
+      decimal-same (codes "max ") max max' (omega arith) (omega arith) second,
+      same-steps B.body steps steps'
+          (subst (λ ls. AllZip IsStepLine ls steps) bodies A.each) B.each,
+    )
 
 -- ---- one fault
 
-begins-front : (before : List (List ℕ)) (line : List ℕ) (more : List (List ℕ)) → Begins (before ++ line ∷ more) → Begins (before ++ line ∷ [])
+begins-front : (before : List (List ℕ)) (line : List ℕ) (more : List (List ℕ)) → Begins (before ++ line ∷ more) → Begins
+    (before ++ line ∷ [])
 begins-front before line more b = record {
   max = b.max;
   steps = b.steps;
@@ -92,20 +98,24 @@ no-longer text line bad b (l ∷ ls) y e f no_lf begins = absurd (next-bad text 
 pub one-fault : OneFault
 one-fault text line line' a b =
     elim (lines-meet a.before b.before a.rest b.rest a.no_lf b.no_lf (sym a.split ∙ b.split)) [
-      | inl on ↦ let same = ap length (no-longer text line a b.before on.more b.rest on.whole on.left b.no_lf b.begins) in omega (arith, a.counted, b.counted, same)
-      | inr on ↦ let same = ap length (no-longer text line' b a.before on.more a.rest on.whole on.left a.no_lf a.begins) in omega (arith, a.counted, b.counted, same)
+      | inl on ↦ let same = ap length (no-longer text line a b.before on.more b.rest on.whole on.left b.no_lf b.begins) in omega
+          (arith, a.counted, b.counted, same)
+      | inr on ↦ let same = ap length (no-longer text line' b a.before on.more a.rest on.whole on.left a.no_lf a.begins) in omega
+          (arith, a.counted, b.counted, same)
     ]
 
 whole-bad : (text : List ℕ) (line max : ℕ) (steps : List Step) (bad : IsBad text line) (lines more : List (List ℕ))
     → lines ≡ bad.before ++ more → bad.rest ≡ flat_map ended more ++ [] → AllByRecursion HasNoLf lines → AreLines lines max steps → ⊥
-whole-bad text line max steps bad lines [] e f no_lf are = bad.not_whole max steps f (subst (λ ls. AreLines ls max steps) (e ∙ append-nil bad.before) are)
+whole-bad text line max steps bad lines [] e f no_lf are = bad.not_whole max steps f
+    (subst (λ ls. AreLines ls max steps) (e ∙ append-nil bad.before) are)
 whole-bad text line max steps bad lines (l ∷ ls) e f no_lf are =
     next-bad text line bad lines l ls [] e f no_lf
     (record { max = max; steps = steps; more = []; are = subst (λ c. AreLines c max steps) (sym (append-nil lines)) are })
 
 pub no-fault-of-trace : NoFaultOfTrace
 no-fault-of-trace text max line steps a bad =
-    elim (lines-meet bad.before a.lines bad.rest [] bad.no_lf a.no_lf (sym bad.split ∙ a.split ∙ sym (append-nil (flat_map ended a.lines)))) [
+    elim (lines-meet bad.before a.lines bad.rest [] bad.no_lf a.no_lf
+    (sym bad.split ∙ a.split ∙ sym (append-nil (flat_map ended a.lines)))) [
       | inl on ↦ whole-bad text line max steps bad a.lines on.more on.whole on.left a.no_lf a.are
       | inr on ↦
           let none = no-more on.more bad.rest on.left in

@@ -38,7 +38,8 @@ Digits text = AllByRecursion (λ b. 47 < b) text
 
 decimal-digits : (n : ℕ) → n < 2 ^ 64 → Digits (decimal n)
 decimal-digits n h =
-    decimal_by_steps (λ m ds. Digits ds) (λ m low. (omega arith, tt)) (λ m ds high all. all_append (λ b. 47 < b) ds ((48 + m % 10) ∷ []) all (omega arith, tt)) n h
+    decimal_by_steps (λ m ds. Digits ds) (λ m low. (omega arith, tt))
+    (λ m ds high all. all_append (λ b. 47 < b) ds ((48 + m % 10) ∷ []) all (omega arith, tt)) n h
 
 decimal-plain : (n : ℕ) → n < 2 ^ 64 → Plain (decimal n)
 decimal-plain n h = weaker (λ b. 47 < b) Visible (decimal n) (λ b high. omega arith) (decimal-digits n h)
@@ -49,7 +50,22 @@ at_all P (x ∷ xs) zero all h = all.0
 at_all P (x ∷ xs) (suc i) all h = at_all P xs i all.1 (omega arith)
 
 lower-plain : Plain lower_digits
-lower-plain = (lit< tt, (lit< tt, (lit< tt, (lit< tt, (lit< tt, (lit< tt, (lit< tt, (lit< tt, (lit< tt, (lit< tt, (lit< tt, (lit< tt, (lit< tt, (lit< tt, (lit< tt, (lit< tt, tt))))))))))))))))
+lower-plain = (
+  lit< tt,
+  (
+    lit< tt,
+    (
+      lit< tt,
+      (
+        lit< tt,
+        (
+          lit< tt,
+          (lit< tt, (lit< tt, (lit< tt, (lit< tt, (lit< tt, (lit< tt, (lit< tt, (lit< tt, (lit< tt, (lit< tt, (lit< tt, tt))))))))))),
+        ),
+      ),
+    ),
+  ),
+)
 
 digit-plain : (k : ℕ) → k < 16 → Visible (get_or lower_digits k 0)
 digit-plain k h = at_all Visible lower_digits k lower-plain h
@@ -69,7 +85,9 @@ word-plain [] fits = (lit< tt, tt)
 word-plain (b ∷ bs) fits = encode-plain (b ∷ bs) fits.bytes
 
 id-plain : (id : RequestId) → IdFits id → Plain (id_text id)
-id-plain id fits = all_append Visible (decimal id.conn.0 ++ codes ".") (decimal id.seq) (all_append Visible (decimal id.conn.0) (codes ".") (decimal-plain id.conn.0 fits.conn) (lit< tt, tt)) (decimal-plain id.seq fits.seq)
+id-plain id fits = all_append Visible (decimal id.conn.0 ++ codes ".") (decimal id.seq)
+    (all_append Visible (decimal id.conn.0) (codes ".") (decimal-plain id.conn.0 fits.conn) (lit< tt, tt))
+    (decimal-plain id.seq fits.seq)
 
 -- ---- what is read of each part
 
@@ -93,7 +111,9 @@ cut-at-dot (d ∷ ds) rest all =
 id_in-text : (id : RequestId) → IdFits id → id_in (id_text id) ≡ Some id
 unfolding id_in id_of
 id_in-text id fits =
-    let cut : cut_at 46 (id_text id) ≡ (decimal id.conn.0, Some (decimal id.seq)) = ap (cut_at 46) (append_assoc (decimal id.conn.0) (codes ".") (decimal id.seq)) ∙ cut-at-dot (decimal id.conn.0) (decimal id.seq) (decimal-digits id.conn.0 fits.conn) in
+    let cut : cut_at 46 (id_text id) ≡ (decimal id.conn.0, Some (decimal id.seq)) = ap (cut_at 46)
+    (append_assoc (decimal id.conn.0) (codes ".") (decimal id.seq)) ∙ cut-at-dot (decimal id.conn.0) (decimal id.seq)
+    (decimal-digits id.conn.0 fits.conn) in
     rw (cut, number_in-decimal id.conn.0 (decimal id.conn.0) fits.conn refl, number_in-decimal id.seq (decimal id.seq) fits.seq refl) refl
 
 all_in-text : {A : Type 0} (Fits : A → Type 0) (read : List ℕ → Option A) (text : A → List ℕ) → ((x : A) → Fits x → read (text x) ≡ Some x)
@@ -108,7 +128,8 @@ all_in-plain Fits text plain (x ∷ xs) fit = (plain x fit.0, all_in-plain Fits 
 
 -- ---- a line and its parts
 
-parts_in-joined : (name : List ℕ) (args : List (List ℕ)) → Plain name → AllByRecursion Plain args → parts_in (joined name args) ≡ (name, args)
+parts_in-joined : (name : List ℕ) (args : List (List ℕ)) → Plain name → AllByRecursion Plain args → parts_in (joined name args) ≡
+    (name, args)
 parts_in-joined [] [] p q = refl
 parts_in-joined [] (arg ∷ args) p q = rw (parts_in-joined arg args q.0 q.1) refl
 parts_in-joined (b ∷ bs) args p q =
@@ -136,10 +157,15 @@ args-plain Settle fit = tt
 args-plain (Collect conn) fit = (decimal-plain conn.0 fit, tt)
 args-plain (Close conn) fit = (decimal-plain conn.0 fit, tt)
 
-submit-named : (conn : ConnId) (words : List (List ℕ)) → conn.0 < 2 ^ 64 → WordsFit words → named (codes "submit") (decimal conn.0 ∷ map word_text words) ≡ Some (Submit conn words)
+submit-named : (conn : ConnId) (words : List (List ℕ)) → conn.0 < 2 ^ 64 → WordsFit words → named (codes "submit")
+    (decimal conn.0 ∷ map word_text words) ≡ Some (Submit conn words)
 submit-named conn [] low fit = let some = fit.some in absurd (omega arith)
 submit-named conn (word ∷ words) low fit =
-    rw (number_in-decimal conn.0 (decimal conn.0) low refl, all_in-text WordFits word_in word_text word_in-text (word ∷ words) fit.each) refl
+    rw (
+      number_in-decimal conn.0 (decimal conn.0) low refl,
+      all_in-text WordFits word_in word_text word_in-text
+          (word ∷ words) fit.each,
+    ) refl
 
 named-step : (step : Step) → StepFits step → named (step_name step) (step_args step) ≡ Some step
 named-step Open fit = refl
@@ -154,7 +180,8 @@ named-step (Close conn) fit = rw (number_in-decimal conn.0 (decimal conn.0) fit 
 pub step_in-line : (step : Step) → StepFits step → step_in (step_line step) ≡ Some step
 unfolding step_in
 step_in-line step fit =
-    ap (λ (p : List ℕ × List (List ℕ)). named p.0 p.1) (parts_in-joined (step_name step) (step_args step) (names step) (args-plain step fit)) ∙ named-step step fit
+    ap (λ (p : List ℕ × List (List ℕ)). named p.0 p.1) (parts_in-joined (step_name step) (step_args step) (names step)
+    (args-plain step fit)) ∙ named-step step fit
 
 -- ---- the lines of a trace
 
@@ -163,14 +190,21 @@ no-lf text all = weaker (λ b. 31 < b) (λ b. b ≢ 10) text (λ b high e. omega
 
 args-high : (args : List (List ℕ)) → AllByRecursion Plain args → AllByRecursion (λ b. 31 < b) (flat_map (λ arg. 32 ∷ arg) args)
 args-high [] all = tt
-args-high (arg ∷ args) all = (lit< tt, all_append (λ b. 31 < b) arg (flat_map (λ arg. 32 ∷ arg) args) (weaker Visible (λ b. 31 < b) arg (λ b high. omega arith) all.0) (args-high args all.1))
+args-high (arg ∷ args) all = (
+  lit< tt,
+  all_append (λ b. 31 < b) arg (flat_map (λ arg. 32 ∷ arg) args)
+      (weaker Visible (λ b. 31 < b) arg (λ b high. omega arith) all.0) (args-high args all.1),
+)
 
 line-no-lf : (step : Step) → StepFits step → HasNoLf (step_line step)
 line-no-lf step fit =
     no-lf (step_line step)
-    (all_append (λ b. 31 < b) (step_name step) (flat_map (λ arg. 32 ∷ arg) (step_args step)) (weaker Visible (λ b. 31 < b) (step_name step) (λ b high. omega arith) (names step)) (args-high (step_args step) (args-plain step fit)))
+    (all_append (λ b. 31 < b) (step_name step) (flat_map (λ arg. 32 ∷ arg) (step_args step))
+    (weaker Visible (λ b. 31 < b) (step_name step) (λ b high. omega arith) (names step))
+    (args-high (step_args step) (args-plain step fit)))
 
-lines-no-lf : (steps : List Step) (last : List ℕ) → AllByRecursion StepFits steps → HasNoLf last → AllByRecursion HasNoLf (map step_line steps ++ last ∷ [])
+lines-no-lf : (steps : List Step) (last : List ℕ) → AllByRecursion StepFits steps → HasNoLf last → AllByRecursion HasNoLf
+    (map step_line steps ++ last ∷ [])
 lines-no-lf [] last fit h = (h, tt)
 lines-no-lf (s ∷ ss) last fit h = (line-no-lf s fit.0, lines-no-lf ss last fit.1 h)
 
@@ -179,12 +213,33 @@ each-line [] fit = tt
 each-line (s ∷ ss) fit = (step_in-line s fit.0, each-line ss fit.1)
 
 numbered-no-lf : (name : List ℕ) (n : ℕ) → AllByRecursion (λ b. 31 < b) name → n < 2 ^ 64 → HasNoLf (name ++ decimal n)
-numbered-no-lf name n all h = no-lf (name ++ decimal n) (all_append (λ b. 31 < b) name (decimal n) all (weaker (λ b. 47 < b) (λ b. 31 < b) (decimal n) (λ b high. omega arith) (decimal-digits n h)))
+numbered-no-lf name n all h = no-lf (name ++ decimal n) (all_append (λ b. 31 < b) name (decimal n) all
+    (weaker (λ b. 47 < b) (λ b. 31 < b) (decimal n) (λ b high. omega arith) (decimal-digits n h)))
 
-pub written-spells : (max : ℕ) (steps : List Step) → 1 ≤ max → max ≤ 2 ^ 62 → length steps < 2 ^ 64 → AllByRecursion StepFits steps → Spells (trace_text max steps) max steps
+pub written-spells : (max : ℕ) (steps : List Step) → 1 ≤ max → max ≤ 2 ^ 62 → length steps < 2 ^ 64 → AllByRecursion StepFits steps
+    → Spells (trace_text max steps) max steps
 written-spells max steps least greatest few fit = record {
   lines = first_line ∷ max_line max ∷ (map step_line steps ++ end_line (length steps) ∷ []);
-  no_lf = (no-lf first_line (lit< tt, (lit< tt, (lit< tt, (lit< tt, (lit< tt, (lit< tt, (lit< tt, (lit< tt, (lit< tt, (lit< tt, (lit< tt, (lit< tt, (lit< tt, (lit< tt, (lit< tt, tt))))))))))))))), (numbered-no-lf (codes "max ") max (lit< tt, (lit< tt, (lit< tt, (lit< tt, tt)))) (omega arith), lines-no-lf steps (end_line (length steps)) fit (numbered-no-lf (codes "end ") (length steps) (lit< tt, (lit< tt, (lit< tt, (lit< tt, tt)))) few)));
+  no_lf = (
+    no-lf first_line (
+      lit< tt,
+      (
+        lit< tt,
+        (
+          lit< tt,
+          (
+            lit< tt,
+            (lit< tt, (lit< tt, (lit< tt, (lit< tt, (lit< tt, (lit< tt, (lit< tt, (lit< tt, (lit< tt, (lit< tt, (lit< tt, tt))))))))))),
+          ),
+        ),
+      ),
+    ),
+    (
+      numbered-no-lf (codes "max ") max (lit< tt, (lit< tt, (lit< tt, (lit< tt, tt)))) (omega arith),
+      lines-no-lf steps
+          (end_line (length steps)) fit (numbered-no-lf (codes "end ") (length steps) (lit< tt, (lit< tt, (lit< tt, (lit< tt, tt)))) few),
+    ),
+  );
   split = refl;
   are = record { least = least; greatest = greatest; body = map step_line steps; each = each-line steps fit; whole = refl };
 }

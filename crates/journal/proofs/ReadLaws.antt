@@ -83,7 +83,8 @@ end-no-step : (n : ℕ) (s : Step) → IsStepLine (end_line n) s → ⊥
 unfolding step_in
 end-no-step n s is = cc
 
-no-end-in-body : (front body : List (List ℕ)) (steps : List Step) (n : ℕ) → AllZip IsStepLine body steps → body ≡ front ++ end_line n ∷ [] → ⊥
+no-end-in-body : (front body : List (List ℕ)) (steps : List Step) (n : ℕ) → AllZip IsStepLine body steps
+    → body ≡ front ++ end_line n ∷ [] → ⊥
 no-end-in-body [] [] [] n z e = cc
 no-end-in-body (x ∷ xs) [] [] n z e = cc
 no-end-in-body front [] (s ∷ ss) n z e = absurd z
@@ -93,10 +94,12 @@ no-end-in-body (x ∷ xs) (b ∷ bs) (s ∷ ss) n z e = let tail : bs ≡ xs ++ 
 
 -- ---- what is read so far, and the fault of what is left
 
-counted : (body : List (List ℕ)) (steps : List Step) (max k : ℕ) → AllZip IsStepLine body steps → length steps + 2 ≡ k → k + 1 ≡ length (first_line ∷ max_line max ∷ body) + 1
+counted : (body : List (List ℕ)) (steps : List Step) (max k : ℕ) → AllZip IsStepLine body steps → length steps + 2 ≡ k → k + 1 ≡ length
+    (first_line ∷ max_line max ∷ body) + 1
 counted body steps max k z e = omega (arith, zip-length body steps z)
 
-begun : (max : ℕ) (body : List (List ℕ)) (steps : List Step) → 1 ≤ max → max ≤ 2 ^ 62 → AllZip IsStepLine body steps → Begins (first_line ∷ max_line max ∷ body)
+begun : (max : ℕ) (body : List (List ℕ)) (steps : List Step) → 1 ≤ max → max ≤ 2 ^ 62 → AllZip IsStepLine body steps → Begins
+    (first_line ∷ max_line max ∷ body)
 begun max body steps least greatest z = record {
   max = max;
   steps = steps;
@@ -104,13 +107,15 @@ begun max body steps least greatest z = record {
   are = record { least = least; greatest = greatest; body = body; each = z; whole = refl };
 }
 
-not-whole : (max : ℕ) (body : List (List ℕ)) (steps : List Step) (m : ℕ) (ss : List Step) → AllZip IsStepLine body steps → AreLines (first_line ∷ max_line max ∷ body) m ss → ⊥
+not-whole : (max : ℕ) (body : List (List ℕ)) (steps : List Step) (m : ℕ) (ss : List Step) → AllZip IsStepLine body steps → AreLines
+    (first_line ∷ max_line max ∷ body) m ss → ⊥
 not-whole max body steps m ss z are =
     let tail : body ≡ are.body ++ end_line (length ss) ∷ [] = cc (are.whole) in no-end-in-body are.body body steps (length ss) z tail
 
 -- the next line of a trace that begins with these steps is a step or its end
 next-line : (max : ℕ) (body : List (List ℕ)) (steps : List Step) (line : List ℕ) → AllZip IsStepLine body steps
-    → ((s : Step) → IsStepLine line s → ⊥) → (line ≡ end_line (length steps) → ⊥) → Begins (first_line ∷ max_line max ∷ (body ++ line ∷ [])) → ⊥
+    → ((s : Step) → IsStepLine line s → ⊥) → (line ≡ end_line (length steps) → ⊥) → Begins
+    (first_line ∷ max_line max ∷ (body ++ line ∷ [])) → ⊥
 next-line max body steps line z none other b =
     let whole = b.are.whole in
     let tail : (body ++ line ∷ []) ++ b.more ≡ b.are.body ++ end_line (length b.steps) ∷ [] = cc (whole) in
@@ -121,7 +126,8 @@ next-line max body steps line z none other b =
     ]
 
 -- nothing stands behind the end
-behind-end : (max : ℕ) (body : List (List ℕ)) (n : ℕ) (next : List ℕ) → Begins (first_line ∷ max_line max ∷ ((body ++ end_line n ∷ []) ++ next ∷ [])) → ⊥
+behind-end : (max : ℕ) (body : List (List ℕ)) (n : ℕ) (next : List ℕ) → Begins
+    (first_line ∷ max_line max ∷ ((body ++ end_line n ∷ []) ++ next ∷ [])) → ⊥
 behind-end max body n next b =
     let whole = b.are.whole in
     let tail : ((body ++ end_line n ∷ []) ++ next ∷ []) ++ b.more ≡ b.are.body ++ end_line (length b.steps) ∷ [] = cc (whole) in
@@ -131,7 +137,8 @@ behind-end max body n next b =
       | inr last ↦ let gone = last.1 in cc
     ]
 
-pub read-open : (text rest : List ℕ) (max : ℕ) (steps : List Step) → IsRead text rest max steps → HasNoLf rest → IsBad text (length steps + 3)
+pub read-open : (text rest : List ℕ) (max : ℕ) (steps : List Step) → IsRead text rest max steps → HasNoLf rest → IsBad text
+    (length steps + 3)
 read-open text rest max steps r none = record {
   before = first_line ∷ max_line max ∷ r.body;
   no_lf = r.no_lf;
@@ -162,9 +169,11 @@ lines-push : (before : List (List ℕ)) (line behind text rest : List ℕ) → t
     → text ≡ flat_map ended (before ++ line ∷ []) ++ behind
 lines-push before line behind text rest e f =
     e ∙ ap (λ r. flat_map ended before ++ r) f ∙ sym (append_assoc (flat_map ended before) (ended line) behind)
-    ∙ ap (λ c. c ++ behind) (ap (λ c. flat_map ended before ++ c) (sym (append-nil (ended line))) ∙ sym (flat_map-append ended before (line ∷ [])))
+    ∙ ap (λ c. c ++ behind) (ap (λ c. flat_map ended before ++ c) (sym (append-nil (ended line))) ∙ sym
+    (flat_map-append ended before (line ∷ [])))
 
-pub read-behind : (text rest behind : List ℕ) (max : ℕ) (steps : List Step) → IsRead text rest max steps → IsLine rest (end_line (length steps)) behind
+pub read-behind : (text rest behind : List ℕ) (max : ℕ) (steps : List Step) → IsRead text rest max steps → IsLine rest
+    (end_line (length steps)) behind
     → (behind ≡ [] → ⊥) → IsBad text (length steps + 4)
 read-behind text rest behind max steps r is some = record {
   before = first_line ∷ max_line max ∷ (r.body ++ end_line (length steps) ∷ []);
@@ -176,13 +185,21 @@ read-behind text rest behind max steps r is some = record {
     max = max;
     steps = steps;
     more = [];
-    are = record { least = r.least; greatest = r.greatest; body = r.body; each = r.each; whole = append-nil (first_line ∷ max_line max ∷ (r.body ++ end_line (length steps) ∷ [])) };
+    are = record {
+      least = r.least;
+      greatest = r.greatest;
+      body = r.body;
+      each = r.each;
+      whole = append-nil
+          (first_line ∷ max_line max ∷ (r.body ++ end_line (length steps) ∷ []));
+    };
   };
   next_is_none = λ next more p e b. behind-end max r.body (length steps) next b;
   not_whole = λ m ss e are. some e;
 }
 
-pub read-done : (text rest : List ℕ) (max : ℕ) (steps : List Step) → IsRead text rest max steps → IsLine rest (end_line (length steps)) [] → Spells text max steps
+pub read-done : (text rest : List ℕ) (max : ℕ) (steps : List Step) → IsRead text rest max steps → IsLine rest
+    (end_line (length steps)) [] → Spells text max steps
 read-done text rest max steps r is = record {
   lines = first_line ∷ max_line max ∷ (r.body ++ end_line (length steps) ∷ []);
   no_lf = all_more HasNoLf (first_line ∷ max_line max ∷ r.body) (end_line (length steps)) r.no_lf is.no_lf;
@@ -190,7 +207,8 @@ read-done text rest max steps r is = record {
   are = record { least = r.least; greatest = r.greatest; body = r.body; each = r.each; whole = refl };
 }
 
-pub read-more : (text rest line behind : List ℕ) (max : ℕ) (steps : List Step) (step : Step) → IsRead text rest max steps → IsLine rest line behind → IsStepLine line step
+pub read-more : (text rest line behind : List ℕ) (max : ℕ) (steps : List Step) (step : Step) → IsRead text rest max steps
+    → IsLine rest line behind → IsStepLine line step
     → IsRead text behind max (steps ++ step ∷ [])
 read-more text rest line behind max steps step r is here = record {
   least = r.least;
@@ -272,14 +290,16 @@ max-bad text rest line behind is next_is none = record {
   not_whole = λ m ss e are. let whole = are.whole in cc;
 }
 
-pub head-read : (text rest behind : List ℕ) (max : ℕ) → IsLine text first_line rest → IsLine rest (max_line max) behind → 1 ≤ max → max ≤ 2 ^ 62 → IsRead text behind max []
+pub head-read : (text rest behind : List ℕ) (max : ℕ) → IsLine text first_line rest → IsLine rest (max_line max) behind → 1 ≤ max
+    → max ≤ 2 ^ 62 → IsRead text behind max []
 head-read text rest behind max is next_is least greatest = record {
   least = least;
   greatest = greatest;
   body = [];
   each = tt;
   no_lf = (is.no_lf, (next_is.no_lf, tt));
-  split = lines-push (first_line ∷ []) (max_line max) behind text rest (is.split ∙ ap (λ c. c ++ rest) (sym (append-nil (ended first_line)))) next_is.split;
+  split = lines-push (first_line ∷ []) (max_line max) behind text rest
+      (is.split ∙ ap (λ c. c ++ rest) (sym (append-nil (ended first_line)))) next_is.split;
 }
 
 -- ---- whether a step was added

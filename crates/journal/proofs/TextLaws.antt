@@ -60,9 +60,11 @@ number_in-some text n e =
 pub number_in-none : (text : List ℕ) (n : ℕ) → number_in text ≡ None → n < 2 ^ 64 → text ≡ decimal n → ⊥
 number_in-none text n e h is = let some = number_in-decimal n text h (sym is) in cc
 
-pub behind-name : (line name rest : List ℕ) → bytes_eq (take (length name) line) name ≡ true → rest ≡ drop (length name) line → line ≡ name ++ rest
+pub behind-name : (line name rest : List ℕ) → bytes_eq (take (length name) line) name ≡ true → rest ≡ drop (length name) line
+    → line ≡ name ++ rest
 behind-name line name rest same behind =
-    sym (take-append-drop (length name) line) ∙ ap (λ f. f ++ drop (length name) line) ((bytes_decides (take (length name) line) name).0 same) ∙ ap (λ r. name ++ r) (sym behind)
+    sym (take-append-drop (length name) line) ∙ ap (λ f. f ++ drop (length name) line)
+    ((bytes_decides (take (length name) line) name).0 same) ∙ ap (λ r. name ++ r) (sym behind)
 
 pub no-name : (line name rest : List ℕ) → bytes_eq (take (length name) line) name ≡ false → line ≡ name ++ rest → ⊥
 no-name line name rest other is =
@@ -71,7 +73,8 @@ no-name line name rest other is =
 pub decimal-same : (name : List ℕ) (m n : ℕ) → m < 2 ^ 64 → n < 2 ^ 64 → name ++ decimal m ≡ name ++ decimal n → m ≡ n
 decimal-same name m n h k e = decimal_injective m n h k (append_cancel_left name (decimal m) (decimal n) e)
 
-pub cut_name-none : (line name : List ℕ) (n : ℕ) (rest : List ℕ) → line ≡ name ++ rest → number_in rest ≡ None → n < 2 ^ 64 → line ≡ name ++ decimal n → ⊥
+pub cut_name-none : (line name : List ℕ) (n : ℕ) (rest : List ℕ) → line ≡ name ++ rest → number_in rest ≡ None → n < 2 ^ 64
+    → line ≡ name ++ decimal n → ⊥
 cut_name-none line name n rest is none h e = number_in-none rest n none h (append_cancel_left name rest (decimal n) (sym is ∙ e))
 
 pub named-number : (line name rest : List ℕ) (o : Option ℕ) → line ≡ name ++ rest → o ≡ number_in rest

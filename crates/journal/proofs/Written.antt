@@ -15,15 +15,18 @@ flat_map-map f g [] = refl
 flat_map-map f g (x ∷ xs) = ap (λ c. f (g x) ++ c) (flat_map-map f g xs)
 
 pub submit-written : (conn : ConnId) (words : List (List ℕ))
-    → ended (step_line (Submit conn words)) ≡ codes "submit " ++ (decimal conn.0 ++ (flat_map (λ word. 32 ∷ word_text word) words ++ 10 ∷ []))
+    → ended (step_line (Submit conn words)) ≡ codes "submit " ++
+    (decimal conn.0 ++ (flat_map (λ word. 32 ∷ word_text word) words ++ 10 ∷ []))
 submit-written conn words =
     ap (λ c. codes "submit " ++ (decimal conn.0 ++ c) ++ 10 ∷ []) (flat_map-map (λ arg. 32 ∷ arg) word_text words) ∙ simp append_assoc
 
-pub run-written : (starved : List RequestId) → ended (step_line (Run starved)) ≡ codes "run" ++ (flat_map (λ id. 32 ∷ id_text id) starved ++ 10 ∷ [])
+pub run-written : (starved : List RequestId) → ended (step_line (Run starved)) ≡ codes "run" ++
+    (flat_map (λ id. 32 ∷ id_text id) starved ++ 10 ∷ [])
 run-written starved = ap (λ c. codes "run" ++ c ++ 10 ∷ []) (flat_map-map (λ arg. 32 ∷ arg) id_text starved)
 
 pub trace-written : (max : ℕ) (steps : List Step)
-    → trace_text max steps ≡ codes "shardkv-trace 1\n" ++ (ended (max_line max) ++ (flat_map (λ step. ended (step_line step)) steps ++ ended (end_line (length steps))))
+    → trace_text max steps ≡ codes "shardkv-trace 1\n" ++ (ended (max_line max) ++
+    (flat_map (λ step. ended (step_line step)) steps ++ ended (end_line (length steps))))
 trace-written max steps =
     ap (λ c. codes "shardkv-trace 1\n" ++ (ended (max_line max) ++ c))
     (flat_map-append ended (map step_line steps) (end_line (length steps) ∷ [])

@@ -66,7 +66,14 @@ close_at bytes = let conn = number_at bytes in (Close (record { 0 = conn.0 }), c
 -- the step of this kind at the front of the bytes behind it
 unfoldable pub step_of : ℕ → List ℕ → Step × List ℕ
 step_of kind bytes =
-    if kind == 1 then submit_at bytes else (if kind == 2 then deliver_at bytes else (if kind == 3 then (Take, bytes) else (if kind == 4 then run_at bytes else (if kind == 5 then (Settle, bytes) else (if kind == 6 then collect_at bytes else (if kind == 7 then close_at bytes else (Open, bytes)))))))
+    if kind == 1 then submit_at bytes
+    else if kind == 2 then deliver_at bytes
+    else if kind == 3 then (Take, bytes)
+    else if kind == 4 then run_at bytes
+    else if kind == 5 then (Settle, bytes)
+    else if kind == 6 then collect_at bytes
+    else if kind == 7 then close_at bytes
+    else (Open, bytes)
 
 unfoldable pub step_at : List ℕ → Step × List ℕ
 step_at [] = (Open, [])

@@ -5,7 +5,8 @@ use Rattle.journal.specs.TraceText.{Spells, IsBad}
 
 -- a text spells one trace at most
 abbrev pub SpellsOne : Type 0
-SpellsOne = (text : List ℕ) (max max' : ℕ) (steps steps' : List Step) → Spells text max steps → Spells text max' steps' → (max ≡ max') × (steps ≡ steps')
+SpellsOne = (text : List ℕ) (max max' : ℕ) (steps steps' : List Step) → Spells text max steps → Spells text max' steps' → (max ≡ max') ×
+    (steps ≡ steps')
 
 -- one line at most is at fault
 abbrev pub OneFault : Type 0

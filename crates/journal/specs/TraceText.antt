@@ -129,7 +129,15 @@ run_in args = option_map (λ ids. Run ids) (all_in id_in args)
 
 abbrev pub named : List ℕ → List (List ℕ) → Option Step
 named name args =
-    if bytes_eq name (codes "open") then alone Open args else (if bytes_eq name (codes "submit") then submit_in args else (if bytes_eq name (codes "deliver") then with_number (λ n. Deliver n) args else (if bytes_eq name (codes "take") then alone Take args else (if bytes_eq name (codes "run") then run_in args else (if bytes_eq name (codes "settle") then alone Settle args else (if bytes_eq name (codes "collect") then with_number (λ n. Collect (record { 0 = n })) args else (if bytes_eq name (codes "close") then with_number (λ n. Close (record { 0 = n })) args else None)))))))
+    if bytes_eq name (codes "open") then alone Open args
+    else if bytes_eq name (codes "submit") then submit_in args
+    else if bytes_eq name (codes "deliver") then with_number (λ n. Deliver n) args
+    else if bytes_eq name (codes "take") then alone Take args
+    else if bytes_eq name (codes "run") then run_in args
+    else if bytes_eq name (codes "settle") then alone Settle args
+    else if bytes_eq name (codes "collect") then with_number (λ n. Collect (record { 0 = n })) args
+    else if bytes_eq name (codes "close") then with_number (λ n. Close (record { 0 = n })) args
+    else None
 
 -- the step that a line says
 unfoldable pub step_in : List ℕ → Option Step

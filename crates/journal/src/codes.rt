@@ -29,7 +29,8 @@ const CLOSE: u8 = 7;
 
 /// How many bytes the ids take; `None` where that is 2^64 or more.
 fn size_of_ids(ids: &[RequestId]) -> Option<usize>
-    ensures { MatchOption result (2 ^ 64 ≤ length (ids_code ids.now)) (λ size. (size ≡ length (ids_code ids.now)) × IdsFit ids.now) }
+    ensures { MatchOption result (2 ^ 64 ≤ length (ids_code ids.now))
+        (λ size. (size ≡ length (ids_code ids.now)) × IdsFit ids.now) }
 {
     let mut size = number_size(ids.len() as u64);
     for id in ids {

@@ -1,7 +1,8 @@
 //! What happens in the system, as data: the steps that are made, and what each executed request came to.
 //!
-//! A run of the system is a list of steps. Whoever has the list can run it again, and gets the same replies and contents. Both
-//! the list of steps and the rows of what was executed grow with each request and are kept for good, so they lie in few bytes.
+//! A run of the system is a list of steps. Whoever has the list can run it again, and gets the same replies and
+//! contents. Both the list of steps and the rows of what was executed grow with each request and are kept for good,
+//! so they lie in few bytes.
 #![tactic(auto)]
 
 mod codes;
@@ -26,3 +27,6 @@ pub use rows::Rows;
 pub use step::Step;
 pub use trace::{Steps, Trace};
 pub use writer::write_trace;
+
+#[cfg(test)]
+mod tests;

@@ -1,4 +1,5 @@
-//! The parts of a trace's lines: numbers, words and ids. Each is read in whole, and takes as many steps as it has bytes.
+//! The parts of a trace's lines: numbers, words and ids. Each is read in whole, and takes as many steps as it has
+//! bytes.
 
 ghost use Rattle.std.specs.Prelude.{◌≡◌, IfOk, option_map};
 ghost use Rattle.journal.specs.TraceText.{number_in, word_in, cut_at, id_in};

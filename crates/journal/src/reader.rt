@@ -12,8 +12,8 @@ use std::alloc::{AllocError, Global};
 
 const GREATEST_MAX: u64 = 1 << 62;
 
-/// The trace that the text spells. It is `Bad` at the first line that no trace has there: where the end is missing, at the line
-/// behind the last, and where something follows it, at the line behind the end. Any bytes can be read.
+/// The trace that the text spells. It is `Bad` at the first line that no trace has there: where the end is missing,
+/// at the line behind the last, and where something follows it, at the line behind the end. Any bytes can be read.
 pub fn read_trace(alloc: Global, text: &[u8]) -> Result<Trace, TraceFault>
     ensures { MatchResult result (λ trace. Spells text.now trace.max trace.steps) (λ fault. IsFaultOf text.now fault) }
 {

@@ -11,7 +11,8 @@ use skeen_core::{RequestId, Stamp};
 use std::alloc::{AllocError, Global};
 use std::marker::Model;
 
-/// What an executed request came to, lent by the rows: its id, its final stamp, its words, and the bytes that its client got.
+/// What an executed request came to, lent by the rows: its id, its final stamp, its words, and the bytes that its
+/// client got.
 #[derive(Drop)]
 pub struct Row<'a> {
     id: RequestId,

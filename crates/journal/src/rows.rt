@@ -53,8 +53,8 @@ impl Rows {
         self.ends.len()
     }
 
-    /// Adds a row behind the others: a copy of the words, and the reply's text. The only error is want of memory, and then the
-    /// rows are as they were.
+    /// Adds a row behind the others: a copy of the words, and the reply's text. The only error is want of memory, and
+    /// then the rows are as they were.
     pub fn push(
         &mut self,
         id: RequestId,
@@ -62,7 +62,8 @@ impl Rows {
         words: &Request,
         reply: &Reply,
     ) -> Result<(), AllocError>
-        ensures pushed { OnOk result (self.new ≡ self.old ++ row_view id stamp.now words.now (text (content reply.now)) ∷ []) }
+        ensures pushed { let row = row_view id stamp.now words.now (text (content reply.now))
+            in OnOk result (self.new ≡ self.old ++ row ∷ []) }
         ensures unchanged { OnErr result (self.new ≡ self.old) }
     {
         let Some(words_size) = words_size(words) else {

@@ -9,8 +9,8 @@ use super::step::Step;
 use std::alloc::{AllocError, Global};
 use std::marker::Model;
 
-/// The steps that were made, in order, and at most how many may be made, from 1 to 2^62. They are kept for good. Contracts see
-/// beside them how many more bytes fit without memory.
+/// The steps that were made, in order, and at most how many may be made, from 1 to 2^62. They are kept for good.
+/// Contracts see beside them how many more bytes fit without memory.
 #[derive(Drop)]
 pub struct Trace {
     max: u64,
@@ -26,7 +26,11 @@ impl Model for Trace {
 
     ghost use Rattle.journal.specs.Codes.{steps_in, AreSteps};
 
-    ghost view = { λ t. record { max = t.max; steps = steps_in t.count t.bytes.items; room = vec_capacity t.bytes - vec_len t.bytes } };
+    ghost view = { λ t. record {
+      max = t.max;
+      steps = steps_in t.count t.bytes.items;
+      room = vec_capacity t.bytes - vec_len t.bytes;
+    } };
 
     ghost invariant = { λ t. AreSteps (steps_in t.count t.bytes.items) t.max t.count t.bytes.items };
 }
@@ -64,7 +68,8 @@ impl Trace {
         self.count
     }
 
-    /// Takes the room for this step, so that its `push` can't fail. The only error is want of memory, which changes nothing.
+    /// Takes the room for this step, so that its `push` can't fail. The only error is want of memory, which changes
+    /// nothing.
     pub fn reserve(&mut self, step: &Step) -> Result<(), AllocError>
         ensures max { self.new.max ≡ self.old.max }
         ensures steps { self.new.steps ≡ self.old.steps }
@@ -89,7 +94,8 @@ impl Trace {
         Ok(())
     }
 
-    /// The steps, to be read one after another from the first. A caller learns that their numbers, words and ids lie in memory.
+    /// The steps, to be read one after another from the first. A caller learns that their numbers, words and ids lie
+    /// in memory.
     pub fn steps(&self) -> Steps<'_>
         ensures steps { result ≡ self.now.steps }
         ensures fit { AllByRecursion StepFits self.now.steps }
@@ -128,8 +134,8 @@ impl<'a> Steps<'a> {
         self.left
     }
 
-    /// The next step, as one of its own, and `None` behind the last. The only error is want of memory, and then the step is
-    /// still the next.
+    /// The next step, as one of its own, and `None` behind the last. The only error is want of memory, and then the
+    /// step is still the next.
     pub fn next(&mut self, alloc: Global) -> Result<Option<Step>, AllocError>
         ensures next { IfOk result (λ next. MatchOption next ((self.old ≡ []) × (self.new ≡ []))
             (λ step. self.old ≡ step ∷ self.new)) }

@@ -11,7 +11,8 @@ use resp::Request;
 use skeen_core::RequestId;
 use std::alloc::{AllocError, Global};
 
-/// Appends the trace's text, which spells the trace. With `AllocError`, where there is no memory for all of it, `out` is as it was.
+/// Appends the trace's text, which spells the trace. With `AllocError`, where there is no memory for all of it, `out`
+/// is as it was.
 pub fn write_trace(trace: &Trace, out: &mut Vec<u8>) -> Result<(), AllocError>
     ensures ok { OnOk result (out.new.items ≡ out.old.items ++ trace_text trace.now.max trace.now.steps) }
     ensures spells { OnOk result (Spells (trace_text trace.now.max trace.now.steps) trace.now.max trace.now.steps) }

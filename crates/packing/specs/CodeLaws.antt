@@ -19,7 +19,8 @@ take_one xs i x at = take_more xs i x (slice_get_within xs i x at) ∙ ap (λ y.
 pub drop_one : {A : Type 0} (xs : List A) (i : ℕ) (x : A) → slice_get xs i ≡ Some x → drop i xs ≡ x ∷ drop (i + 1) xs
 drop_one xs i x at = drop_more xs i x (slice_get_within xs i x at) ∙ ap (λ y. y ∷ drop (i + 1) xs) (get_or_from_slice_get xs i x x at)
 
-pub at_drop : {A : Type 0} (xs : List A) (i : ℕ) (y : A) (ys : List A) → y ∷ ys ≡ drop i xs → (slice_get xs i ≡ Some y) × (ys ≡ drop (i + 1) xs)
+pub at_drop : {A : Type 0} (xs : List A) (i : ℕ) (y : A) (ys : List A) → y ∷ ys ≡ drop i xs → (slice_get xs i ≡ Some y) ×
+    (ys ≡ drop (i + 1) xs)
 at_drop [] zero y ys e = cc
 at_drop [] (suc i) y ys e = cc
 at_drop (x ∷ xs) zero y ys e = (cc, cc)
@@ -28,7 +29,8 @@ at_drop (x ∷ xs) (suc i) y ys e = let r = at_drop xs i y ys e in (r.0, r.1 ∙
 pub take_codes : {A : Type 0} (code : A → List ℕ) (xs : List A) (i : ℕ) (x : A) → slice_get xs i ≡ Some x
     → flat_map code (take (i + 1) xs) ≡ flat_map code (take i xs) ++ code x
 take_codes code xs i x at =
-    ap (flat_map code) (take_one xs i x at) ∙ flat_map-append code (take i xs) (x ∷ []) ∙ ap (λ c. flat_map code (take i xs) ++ c) (append-nil (code x))
+    ap (flat_map code) (take_one xs i x at) ∙ flat_map-append code (take i xs) (x ∷ []) ∙ ap (λ c. flat_map code (take i xs) ++ c)
+    (append-nil (code x))
 
 pub drop_codes : {A : Type 0} (code : A → List ℕ) (xs : List A) (i : ℕ) (x : A) → slice_get xs i ≡ Some x
     → flat_map code (drop i xs) ≡ code x ++ flat_map code (drop (i + 1) xs)
@@ -103,7 +105,12 @@ pub ruleset number_codes = (number_code-one, number_code-four, number_code-eight
 
 pub word_at-code : (word rest : List ℕ) → WordFits word → word_at (word_code word ++ rest) ≡ (word, rest)
 unfolding word_at word_code
-word_at-code word rest h = rw (append_assoc, number_at-code (length word) (word ++ rest) h.size, take_at word rest (length word) refl, drop_at word rest (length word) refl) refl
+word_at-code word rest h = rw (
+  append_assoc,
+  number_at-code (length word) (word ++ rest) h.size,
+  take_at word rest (length word) refl,
+  drop_at word rest (length word) refl,
+) refl
 
 pub word_code-is : (word : List ℕ) → word_code word ≡ number_code (length word) ++ word
 unfolding word_code
@@ -113,7 +120,8 @@ pub words_code-is : (words : List (List ℕ)) → words_code words ≡ number_co
 unfolding words_code
 words_code-is words = refl
 
-pub length-words_code : (words : List (List ℕ)) → length (words_code words) ≡ length (number_code (length words)) + length (flat_map word_code words)
+pub length-words_code : (words : List (List ℕ)) → length (words_code words) ≡ length (number_code (length words)) + length
+    (flat_map word_code words)
 unfolding words_code
 length-words_code words = length-append (number_code (length words)) (flat_map word_code words)
 

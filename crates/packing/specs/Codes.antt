@@ -7,13 +7,18 @@ use Rattle.std.specs.Int.{w32, w64, to_le_bytes, from_le_bytes}
 
 -- itself where it is below 254; else a mark, and its four or eight bytes, the lowest first
 unfoldable pub number_code : ℕ → List ℕ
-number_code n = if nat_lt n 254 then n ∷ [] else (if nat_lt n (2 ^ 32) then 254 ∷ to_le_bytes w32 n else 255 ∷ to_le_bytes w64 n)
+number_code n =
+    if nat_lt n 254 then n ∷ []
+    else if nat_lt n (2 ^ 32) then 254 ∷ to_le_bytes w32 n
+    else 255 ∷ to_le_bytes w64 n
 
 -- the number at the front of the bytes, and the bytes behind it
 unfoldable pub number_at : List ℕ → ℕ × List ℕ
 number_at [] = (0, [])
 number_at (b ∷ bs) =
-    if b == 255 && nat_le 8 (length bs) then (from_le_bytes w64 bs, drop 8 bs) else (if b == 254 && nat_le 4 (length bs) then (from_le_bytes w32 bs, drop 4 bs) else (b, bs))
+    if b == 255 && nat_le 8 (length bs) then (from_le_bytes w64 bs, drop 8 bs)
+    else if b == 254 && nat_le 4 (length bs) then (from_le_bytes w32 bs, drop 4 bs)
+    else (b, bs)
 
 -- ---- words
 

@@ -1,7 +1,7 @@
 //! Numbers and words in bytes, one behind another, each saying where it ends.
 //!
-//! The journal keeps what happened in few bytes: a small number takes one, and a word its bytes and its length. The sizes are
-//! told first, so that room is taken once and what is put then can't fail.
+//! The journal keeps what happened in few bytes: a small number takes one, and a word its bytes and its length. The
+//! sizes are told first, so that room is taken once and what is put then can't fail.
 #![tactic(auto)]
 
 mod number;

@@ -53,7 +53,8 @@ pub(super) fn put_bytes(bytes: &[u8], out: &mut Vec<u8>)
     let _ = out.extend_from_slice(bytes);
 }
 
-/// The number at the front of the bytes, and the bytes behind it. Bytes that `put_number` didn't write give some number too.
+/// The number at the front of the bytes, and the bytes behind it. Bytes that `put_number` didn't write give some
+/// number too.
 #[tactic(auto, unfolding(crate::specs::Codes::number_at))]
 pub fn take_number(bytes: &[u8]) -> (u64, &[u8])
     ensures number { result.0 ≡ (number_at bytes.now).0 }

@@ -54,8 +54,8 @@ pub fn take_word(bytes: &[u8]) -> (&[u8], &[u8])
     rest.split_at(length.min(rest.len() as u64) as usize)
 }
 
-/// A copy of the words at the front of the bytes, and the bytes behind them; `AllocError` where there is no memory for it.
-/// Bytes that no words begin give some words too.
+/// A copy of the words at the front of the bytes, and the bytes behind them; `AllocError` where there is no memory
+/// for it. Bytes that no words begin give some words too.
 #[tactic(auto, unfolding(crate::specs::Codes::words_at))]
 pub fn take_words(alloc: Global, bytes: &[u8]) -> Result<(Vec<Vec<u8>>, &[u8]), AllocError>
     ensures words { IfOk result (λ r. map (λ w. w.items) r.0.items ≡ (words_at bytes.now).0) }

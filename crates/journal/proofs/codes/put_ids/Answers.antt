@@ -15,8 +15,11 @@ pub put_number-requires : goal.put_number-requires
 put_number-requires c = omega (arith, length-ids_code c.args.ids.now)
 
 pub loop-id-init : goal.loop-id-init
-loop-id-init c =
-    (rw (c.put_number.ensures.items, append-nil) refl, omega (arith, length-ids_code c.args.ids.now, c.put_number.ensures.len), c.put_number.ensures.capacity)
+loop-id-init c = (
+  rw (c.put_number.ensures.items, append-nil) refl,
+  omega (arith, length-ids_code c.args.ids.now, c.put_number.ensures.len),
+  c.put_number.ensures.capacity,
+)
 
 pub put_number-requires-in-loop-id : goal.put_number-requires-in-loop-id
 unfolding none
@@ -38,7 +41,8 @@ loop-id-preserved c =
     let ids = c.args.ids.now in let i = c.loop-id.id-index in let id = get_or ids i none in
     let at = slice_get-get_or ids i none c.loop-id-test.true in
     let left = ap length (drop_codes id_code ids i _ at) in let put = take_codes id_code ids i _ at in (
-      rw (c.put_number-in-loop-id-2.ensures.items, c.put_number-in-loop-id.ensures.items, c.loop-id.invariant.0, put, id_code-is id) (simp append_assoc),
+      rw (c.put_number-in-loop-id-2.ensures.items, c.put_number-in-loop-id.ensures.items, c.loop-id.invariant.0, put, id_code-is id)
+          (simp append_assoc),
       omega (arith, left, length-append (id_code id) (flat_map id_code (drop (i + 1) ids)), length-id_code id),
       omega arith,
     )

@@ -7,4 +7,5 @@ use Rattle.journal.proofs.codes.size_of_ids.Given as goal
 -- the size of the ids so far, each of which fits
 abbrev pub invariant-loop-id : goal.invariant-loop-id
 invariant-loop-id l =
-    (l.size ≡ length (number_code (length l.ids)) + length (flat_map id_code (take l.id-index l.ids))) × AllByRecursion IdFits (take l.id-index l.ids)
+    (l.size ≡ length (number_code (length l.ids)) + length (flat_map id_code (take l.id-index l.ids))) × AllByRecursion IdFits
+    (take l.id-index l.ids)

@@ -16,18 +16,25 @@ returns-then-ne c =
 pub returns-in_default-next_line : goal.returns-in_default-next_line
 returns-in_default-next_line c =
     let text = c.args.text.now in let rest = c.in-Some.rest.now in
-    let first : c.in-Some.line.now ≡ first_line = same-from_ne c.in-Some.line.now c.as_slice.result.now c.ne.result c.ne.ensures c.if-ne.false ∙ c.as_slice.ensures in
+    let first : c.in-Some.line.now ≡ first_line = same-from_ne c.in-Some.line.now c.as_slice.result.now c.ne.result c.ne.ensures
+    c.if-ne.false ∙ c.as_slice.ensures in
     max-open text rest (subst (λ l. IsLine text l rest) first c.in-Some.ensures) c.in_default-next_line.ensures
 
 pub returns-in_default-max_in : goal.returns-in_default-max_in
 returns-in_default-max_in c =
     let text = c.args.text.now in let rest = c.in-Some.rest.now in
-    let first : c.in-Some.line.now ≡ first_line = same-from_ne c.in-Some.line.now c.as_slice.result.now c.ne.result c.ne.ensures c.if-ne.false ∙ c.as_slice.ensures in
+    let first : c.in-Some.line.now ≡ first_line = same-from_ne c.in-Some.line.now c.as_slice.result.now c.ne.result c.ne.ensures
+    c.if-ne.false ∙ c.as_slice.ensures in
     max-bad text rest _ _ (subst (λ l. IsLine text l rest) first c.in-Some.ensures) c.in-Some-next_line.ensures c.in_default-max_in.ensures
 
 pub returns : goal.returns
 returns c =
     let text = c.args.text.now in let rest = c.in-Some.rest.now in let behind = c.in-Some-next_line.rest.now in
-    let first : c.in-Some.line.now ≡ first_line = same-from_ne c.in-Some.line.now c.as_slice.result.now c.ne.result c.ne.ensures c.if-ne.false ∙ c.as_slice.ensures in
-    let max = c.in-Some-max_in.ensures in
-    (max.1, max.2, head-read text rest behind c.in-Some-max_in.max (subst (λ l. IsLine text l rest) first c.in-Some.ensures) (subst (λ l. IsLine rest l behind) max.0 c.in-Some-next_line.ensures) max.1 max.2)
+    let first : c.in-Some.line.now ≡ first_line = same-from_ne c.in-Some.line.now c.as_slice.result.now c.ne.result c.ne.ensures
+    c.if-ne.false ∙ c.as_slice.ensures in
+    let max = c.in-Some-max_in.ensures in (
+      max.1,
+      max.2,
+      head-read text rest behind c.in-Some-max_in.max (subst (λ l. IsLine text l rest) first c.in-Some.ensures)
+          (subst (λ l. IsLine rest l behind) max.0 c.in-Some-next_line.ensures) max.1 max.2,
+    )

@@ -15,7 +15,8 @@ returns-then-is_empty c = λ whole r.
     let last : line ≡ end_line (length steps) = c.is_end.ensures.0 c.if-is_end.true ∙ ap end_line c.len-count.ensures.number in
     let none : behind ≡ [] = nil_from_length behind (eqb-true (length behind) 0 (sym c.is_empty.ensures ∙ c.if-is_empty.true)) in
     read-done whole c.loop-line.rest.now _ steps (c.loop-line.invariant whole r)
-    (subst (λ b. IsLine c.loop-line.rest.now (end_line (length steps)) b) none (subst (λ l. IsLine c.loop-line.rest.now l behind) last c.in-Some.ensures))
+    (subst (λ b. IsLine c.loop-line.rest.now (end_line (length steps)) b) none
+    (subst (λ l. IsLine c.loop-line.rest.now l behind) last c.in-Some.ensures))
 
 pub returns-then-is_end : goal.returns-then-is_end
 returns-then-is_end c = λ whole r.
@@ -23,7 +24,8 @@ returns-then-is_end c = λ whole r.
     let last : line ≡ end_line (length steps) = c.is_end.ensures.0 c.if-is_end.true ∙ ap end_line c.len-count.ensures.number in
     let some : (length behind == 0) ≡ false = sym c.is_empty.ensures ∙ c.if-is_empty.false in
     rw c.len-count.ensures.number
-    (read-behind whole c.loop-line.rest.now behind _ steps (c.loop-line.invariant whole r) (subst (λ l. IsLine c.loop-line.rest.now l behind) last c.in-Some.ensures)
+    (read-behind whole c.loop-line.rest.now behind _ steps (c.loop-line.invariant whole r)
+    (subst (λ l. IsLine c.loop-line.rest.now l behind) last c.in-Some.ensures)
     (λ e. let gone = ap (λ b. length b == 0) e in cc))
 
 pub returns-then-not-branch : goal.returns-then-not-branch
@@ -38,4 +40,5 @@ pub loop-line-preserved : goal.loop-line-preserved
 loop-line-preserved c = λ whole r.
     let line = c.in-Some.line.now in let steps = c.loop-line.trace.steps in
     let added = some-added _ (step_in line) c.in_ok-add_step.field-0 _ _ _ _ c.in_ok-add_step.ensures c.if-not-branch.false in
-    rw (added.2, added.3) (read-more whole c.loop-line.rest.now line _ _ steps added.0 (c.loop-line.invariant whole r) c.in-Some.ensures added.1)
+    rw (added.2, added.3) (read-more whole c.loop-line.rest.now line _ _ steps added.0
+    (c.loop-line.invariant whole r) c.in-Some.ensures added.1)

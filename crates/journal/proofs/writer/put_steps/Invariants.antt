@@ -7,7 +7,8 @@ use Rattle.journal.proofs.writer.put_steps.Given as goal
 abbrev pub invariant-loop-step : goal.invariant-loop-step
 invariant-loop-step l =
     ((more : List ℕ) × (l.out.items ≡ l.fn.out.items ++ more))
-    × (l.out.items ++ flat_map (λ step. ended (step_line step)) l.steps ≡ l.fn.out.items ++ flat_map (λ step. ended (step_line step)) l.fn.steps)
+    × (l.out.items ++ flat_map (λ step. ended (step_line step)) l.steps ≡ l.fn.out.items ++ flat_map
+    (λ step. ended (step_line step)) l.fn.steps)
 
 abbrev pub decreases-loop-step : goal.decreases-loop-step
 decreases-loop-step l = length l.steps

@@ -8,7 +8,8 @@ use Rattle.packing.proofs.words.words_size.Goals as goal
 pub returns-in_err-size : goal.returns-in_err-size
 returns-in_err-size c =
     let words = c.args.words.now in let i = c.loop-place.place in let word = c.word-word.result.now in
-    let one = ap length (take_codes word_code words i word c.word-word.ensures) ∙ length-append (flat_map word_code (take i words)) (word_code word) in
+    let one = ap length (take_codes word_code words i word c.word-word.ensures) ∙ length-append (flat_map word_code (take i words))
+    (word_code word) in
     let part = size_rest word_code words (i + 1) in let all = length-words_code words in
     let over = c.in_err-size.ensures in
     rw c.from_residual.ensures (omega (arith, over, c.word_size.ensures.size, c.loop-place.invariant.0))
@@ -16,8 +17,11 @@ returns-in_err-size c =
 pub loop-place-preserved : goal.loop-place-preserved
 loop-place-preserved c =
     let words = c.args.words.now in let i = c.loop-place.place in let word = c.word-word.result.now in
-    let one = ap length (take_codes word_code words i word c.word-word.ensures) ∙ length-append (flat_map word_code (take i words)) (word_code word) in
-    (omega (arith, c.in_ok-size.ensures.1, c.word_size.ensures.size), all_one WordFits words i word c.word-word.ensures c.loop-place.invariant.1 c.word_size.ensures.fits)
+    let one = ap length (take_codes word_code words i word c.word-word.ensures) ∙ length-append (flat_map word_code (take i words))
+    (word_code word) in (
+      omega (arith, c.in_ok-size.ensures.1, c.word_size.ensures.size),
+      all_one WordFits words i word c.word-word.ensures c.loop-place.invariant.1 c.word_size.ensures.fits,
+    )
 
 pub returns : goal.returns
 returns c =

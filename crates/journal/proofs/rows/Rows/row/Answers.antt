@@ -44,8 +44,10 @@ row_of-requires c =
     let from = c.end_of-start.ensures ∙ ap (λ es. end_before es c.args.place) c.as_slice.ensures.value in
     let to = c.end_of-end.ensures ∙ ap (λ es. end_before es (c.args.place + 1)) c.as_slice-2.ensures.value in
     let at = row-at rows bytes ends _ _ c.args.place c.self.invariant (omega (arith, c.self.inside.ends.ok.0)) from to in
-    let left : c.split_at.result.1.now ≡ drop c.end_of-start.result bytes = c.split_at.ensures.back ∙ ap (drop c.end_of-start.result) c.as_slice-3.ensures.value in
-    let piece : c.split_at-2.result.0.now ≡ row_code at.row = c.split_at-2.ensures.front ∙ ap (take (c.end_of-end.result - c.end_of-start.result)) left ∙ at.piece in
+    let left : c.split_at.result.1.now ≡ drop c.end_of-start.result bytes = c.split_at.ensures.back ∙ ap
+    (drop c.end_of-start.result) c.as_slice-3.ensures.value in
+    let piece : c.split_at-2.result.0.now ≡ row_code at.row = c.split_at-2.ensures.front ∙ ap
+    (take (c.end_of-end.result - c.end_of-start.result)) left ∙ at.piece in
     RowIsIn-read at.row _ piece at.fit
 
 pub returns : goal.returns
@@ -55,6 +57,9 @@ returns c =
     let from = c.end_of-start.ensures ∙ ap (λ es. end_before es c.args.place) c.as_slice.ensures.value in
     let to = c.end_of-end.ensures ∙ ap (λ es. end_before es (c.args.place + 1)) c.as_slice-2.ensures.value in
     let at = row-at rows bytes ends _ _ c.args.place c.self.invariant (omega (arith, c.self.inside.ends.ok.0)) from to in
-    let left : c.split_at.result.1.now ≡ drop c.end_of-start.result bytes = c.split_at.ensures.back ∙ ap (drop c.end_of-start.result) c.as_slice-3.ensures.value in
-    let piece : c.split_at-2.result.0.now ≡ row_code at.row = c.split_at-2.ensures.front ∙ ap (take (c.end_of-end.result - c.end_of-start.result)) left ∙ at.piece in
-    ap Some (c.row_of.ensures ∙ ap row_of piece ∙ row_of-code at.row at.fit) ∙ sym at.here ∙ ap (λ rs. slice_get rs c.args.place) c.self.view_is
+    let left : c.split_at.result.1.now ≡ drop c.end_of-start.result bytes = c.split_at.ensures.back ∙ ap
+    (drop c.end_of-start.result) c.as_slice-3.ensures.value in
+    let piece : c.split_at-2.result.0.now ≡ row_code at.row = c.split_at-2.ensures.front ∙ ap
+    (take (c.end_of-end.result - c.end_of-start.result)) left ∙ at.piece in
+    ap Some (c.row_of.ensures ∙ ap row_of piece ∙ row_of-code at.row at.fit) ∙ sym at.here ∙ ap
+    (λ rs. slice_get rs c.args.place) c.self.view_is
