@@ -27,6 +27,8 @@ use Rattle.skeen_core.specs.Order.{In}
 use Rattle.values.specs.declared.Value.{Value}
 use Rattle.shard_exec.specs.declared.work.Work.{Work}
 use Rattle.shard_exec.specs.declared.work.Ran.{Ran}
+use Rattle.std.specs.Option.{IfSome}
+use Rattle.shard_exec.specs.Dealing.{InPlaces}
 use Rattle.shard_exec.specs.Layers.{commands_of, AddressTheirGroups, is_named, outcomes_of_ended, MayStarve, IsOf, IsDone, IsInside, IsWork, AreWorks, ended_of}
 use Rattle.shard_exec.specs.Runs.{IsReady, outcome, HasRun}
 use Rattle.shard_exec.specs.Stamps.{raise, raised, raised_by}
@@ -250,3 +252,15 @@ works_length skip at [] (s ∷ spans) works w = absurd w
 works_length skip at (j ∷ js) [] works w = absurd w
 works_length skip at (j ∷ js) (s ∷ spans) [] w = absurd w
 works_length skip at (j ∷ js) (s ∷ spans) (x ∷ works) w = ap suc (works_length skip (at + 1) js spans works w.1)
+
+pub in_places : (skip : List RequestId) (at : ℕ) (jobs : List Job) (spans : List Span) (works : List Work) → AreWorks skip at jobs spans works → InPlaces at works
+in_places skip at [] [] [] w = tt
+in_places skip at [] [] (x ∷ works) w = absurd w
+in_places skip at [] (s ∷ spans) works w = absurd w
+in_places skip at (j ∷ js) [] works w = absurd w
+in_places skip at (j ∷ js) (s ∷ spans) [] w = absurd w
+in_places skip at (j ∷ js) (s ∷ spans) (x ∷ works) w = (w.0.place, in_places skip (at + 1) js spans works w.1)
+
+pub fits_still : {X : Type 0} (P : ℕ → X → Type 0) (n m : ℕ) (o : Option X) → n ≡ m → IfSome o (P n) → IfSome o (P m)
+fits_still P n m None e h = tt
+fits_still P n m (Some x) e h = subst (λ k. P k x) e h

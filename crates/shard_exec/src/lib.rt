@@ -6,6 +6,7 @@
 
 mod crew;
 mod dealing;
+mod dealt_room;
 mod done;
 mod gate;
 mod layer_room;

@@ -8,6 +8,7 @@ ghost use Rattle.shard_exec.specs.Stamps.{AreFresh, IsFresh, is_above};
 ghost use Rattle.shard_exec.specs.StoreStates.{IsStore};
 ghost use Rattle.shard_exec.specs.Stores.{empty_store, HasRunLayer, HasFailed};
 
+use crate::dealt_room::DealtRoom;
 use crate::layer_room::LayerRoom;
 use crate::layer_run::run_layer_over;
 use crate::{Ended, ExecFault, Gate, Workers};
@@ -116,6 +117,9 @@ impl Store {
         let Ok(room) = LayerRoom::reserve(alloc, layer.jobs()) else {
             return Err(ExecFault::Memory(layer));
         };
+        let Ok(dealt) = DealtRoom::reserve(alloc, &layer, workers) else {
+            return Err(ExecFault::Memory(layer));
+        };
         let outcome = run_layer_over(
             alloc,
             &self.table,
@@ -127,6 +131,7 @@ impl Store {
             workers,
             gate,
             room,
+            dealt,
         );
         match outcome {
             Ok(done) => Ok(done),
