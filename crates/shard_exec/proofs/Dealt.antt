@@ -96,10 +96,11 @@ get-set_here (x ∷ xs) (suc i) y below = get-set_here xs i y (omega (arith, bel
 module _ {X : Type 0} where
   pub can_take : (slots : List (Option X)) (is : List ℕ) → AtMostOnce is → ((i : ℕ) → In i is → (x : X) × (slice_get slots i ≡ Some (Some x))) → CanTake slots is
   can_take slots [] once held = tt
-  can_take slots (i ∷ is) once held =
-      (held i (inl refl),
-      can_take (slice_set slots i None) is (once_later i is once)
-      (λ j there. let h = held j (inr there) in (h.0, get-set_other slots i j None (not_later i is once j there) ∙ h.1)))
+  can_take slots (i ∷ is) once held = (
+    held i (inl refl),
+    can_take (slice_set slots i None) is (once_later i is once)
+        (λ j there. let h = held j (inr there) in (h.0, get-set_other slots i j None (not_later i is once j there) ∙ h.1)),
+  )
 
   -- in the order of several lists of places
   pub can_take_first : (slots : List (Option X)) (is js : List ℕ) → CanTake slots (is ++ js) → CanTake slots is
@@ -180,9 +181,10 @@ gave_at table works [] [] (r ∷ rs) p z y = absurd y
 gave_at table works [] (w ∷ ws) rs p z y = absurd z
 gave_at table works (i ∷ is) [] rs p z y = absurd z
 gave_at table works (i ∷ is) (w ∷ ws) [] p z y = absurd y
-gave_at table works (i ∷ is) (w ∷ ws) (r ∷ rs) p z y =
-    (record { work = w; at = z.0; ran = y.0; place = y.0.place ∙ place_at 0 i works w p z.0 ∙ (let e : 0 + i ≡ i = omega arith in e) },
-    gave_at table works is ws rs p z.1 y.1)
+gave_at table works (i ∷ is) (w ∷ ws) (r ∷ rs) p z y = (
+  record { work = w; at = z.0; ran = y.0; place = y.0.place ∙ place_at 0 i works w p z.0 ∙ (let e : 0 + i ≡ i = omega arith in e) },
+  gave_at table works is ws rs p z.1 y.1,
+)
 
 pub gave_within : (table : Layout) (works : List Work) (n : ℕ) (is : List ℕ) (rs : List Ran) → n ≡ length works → AllZip (GaveAt table works) is rs
     → AllByRecursion (λ r. r.place < n) rs
@@ -208,10 +210,10 @@ fill table works slots (j ∷ is) (r ∷ rs) z i inside h =
     fill table works (slice_set slots r.place (Some r)) is rs z.1 i (subst (λ n. i < n) (sym (length-set slots r.place (Some r))) inside)
     (elim (cases_eq j i) [
       | inl e ↦ inr (record {
-          ran = r;
-          there = ap (λ k. slice_get (slice_set slots k (Some r)) i) (z.0.place ∙ e) ∙ get-set_here slots i (Some r) inside;
-          gave = subst (λ k. GaveAt table works k r) e z.0;
-        })
+        ran = r;
+        there = ap (λ k. slice_get (slice_set slots k (Some r)) i) (z.0.place ∙ e) ∙ get-set_here slots i (Some r) inside;
+        gave = subst (λ k. GaveAt table works k r) e z.0;
+      })
       | inr ne ↦ other ne h
     ])
   where

@@ -86,14 +86,15 @@ pub all_ready : (table : Layout) (maps : List Map) (skip : List RequestId) (at :
 all_ready table maps skip at [] [] t own a w = tt
 all_ready table maps skip at [] (x ∷ works) t own a w = absurd w
 all_ready table maps skip at (j ∷ js) [] t own a w = absurd w
-all_ready table maps skip at (j ∷ js) (x ∷ works) t own a w =
-    (record {
-      is_table = t;
-      groups = subst (λ (k : Job). k.groups ≡ groups_of table k.command) (sym w.0.job) a.0;
-      numbers = ap numbers w.0.shards ∙ numbers-span_at maps j.groups ∙ ap (λ (k : Job). k.groups) (sym w.0.job);
-      own = subst (SpanHasOwnKeys table) (sym w.0.shards) (own_span table maps j.groups own);
-    },
-    all_ready table maps skip (at + 1) js works t own a.1 w.1)
+all_ready table maps skip at (j ∷ js) (x ∷ works) t own a w = (
+  record {
+    is_table = t;
+    groups = subst (λ (k : Job). k.groups ≡ groups_of table k.command) (sym w.0.job) a.0;
+    numbers = ap numbers w.0.shards ∙ numbers-span_at maps j.groups ∙ ap (λ (k : Job). k.groups) (sym w.0.job);
+    own = subst (SpanHasOwnKeys table) (sym w.0.shards) (own_span table maps j.groups own);
+  },
+  all_ready table maps skip (at + 1) js works t own a.1 w.1,
+)
 
 -- ---- each request and what it gave
 
@@ -169,12 +170,12 @@ layer_done table maps skip jobs rans t long own a s z =
     let cs = commands_of jobs in
     let new = put_spans (emptied_each empty maps (groups_each jobs)) (map (λ r. r.shards.items) rans) in
     let is : layers.with_rans (layers.left_of table maps cs) (map ran_of rans) ≡ new =
-        ap (λ sets. put_spans (emptied_each empty maps sets) (map (λ r. r.span) (map ran_of rans))) (sym (groups_are table jobs a))
-        ∙ ap (put_spans (emptied_each empty maps (groups_each jobs))) (spans_same rans) in
+    ap (λ sets. put_spans (emptied_each empty maps sets) (map (λ r. r.span) (map ran_of rans))) (sym (groups_are table jobs a))
+    ∙ ap (put_spans (emptied_each empty maps (groups_each jobs))) (spans_same rans) in
     let ran : layers.LayerRan table maps cs (outcomes_of_ended (map ended_of rans)) new =
-        subst (λ os. layers.LayerRan table maps cs os new) (outcomes_same rans)
-        (subst (layers.LayerRan table maps cs (layers.outcomes_of (map ran_of rans))) is
-        (layer_ran table maps cs (map ran_of rans) long (share table jobs a s) (runs table maps skip jobs rans a z))) in
+    subst (λ os. layers.LayerRan table maps cs os new) (outcomes_same rans)
+    (subst (layers.LayerRan table maps cs (layers.outcomes_of (map ran_of rans))) is
+    (layer_ran table maps cs (map ran_of rans) long (share table jobs a s) (runs table maps skip jobs rans a z))) in
     let turn = layer_in_turn table maps new cs (outcomes_of_ended (map ended_of rans)) t own (share table jobs a s) ran in
     record {
       told = all_told table maps skip jobs rans z;
@@ -204,9 +205,10 @@ pub all_below : (table : Layout) (maps : List Map) (skip : List RequestId) (n : 
 all_below table maps skip n [] [] e a z = tt
 all_below table maps skip n [] (r ∷ rans) e a z = absurd z
 all_below table maps skip n (j ∷ js) [] e a z = absurd z
-all_below table maps skip n (j ∷ js) (r ∷ rans) e a z =
-    (below n r.shards.items (λ g there. subst (λ m. g < m) (sym e) (groups_of-below table j.command g (ap (λ gs. has gs g) (sym (z.0.numbers ∙ a.0)) ∙ there))),
-    all_below table maps skip n js rans e a.1 z.1)
+all_below table maps skip n (j ∷ js) (r ∷ rans) e a z = (
+  below n r.shards.items (λ g there. subst (λ m. g < m) (sym e) (groups_of-below table j.command g (ap (λ gs. has gs g) (sym (z.0.numbers ∙ a.0)) ∙ there))),
+  all_below table maps skip n js rans e a.1 z.1,
+)
 
 -- ---- shards that were taken out leave empty ones
 

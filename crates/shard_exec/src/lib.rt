@@ -15,6 +15,8 @@ mod moves;
 mod part;
 mod store;
 mod taking;
+#[cfg(test)]
+mod tests;
 mod work;
 mod workers;
 mod works;

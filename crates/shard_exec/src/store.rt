@@ -3,6 +3,7 @@
 ghost use Rattle.std.specs.Prelude.{◌≡◌, length, true, false, IfOk, IfErr};
 ghost use Rattle.std.specs.Bool.{OnTrue, OnFalse};
 ghost use Rattle.std.specs.List.{AllByRecursion};
+ghost use Rattle.placement.specs.Groups.{groups_of};
 ghost use Rattle.shard_exec.specs.Layers.{AddressTheirGroups, IsInside};
 ghost use Rattle.shard_exec.specs.Stamps.{AreFresh, IsFresh, is_above};
 ghost use Rattle.shard_exec.specs.StoreStates.{IsStore};
@@ -88,6 +89,15 @@ impl Store {
         self.failed
     }
 
+    /// Whether each request of the layer addresses the groups that the table gives its command: the condition of `run_layer`, for callers
+    /// that can't prove it.
+    pub fn may_run(&self, layer: &Layer) -> bool
+        ensures may { OnTrue result (AddressTheirGroups self.now.table layer.now) }
+        ensures may_not { OnFalse result (AddressTheirGroups self.now.table layer.now → ⊥) }
+    {
+        address_their_groups(&self.table, layer.jobs())
+    }
+
     /// Runs the requests of a layer, each over the shards of its groups, by these workers, and tells what became of each, in the order of
     /// the layer. The gate is told of each request that is run.
     ///
@@ -141,6 +151,27 @@ impl Store {
             }
         }
     }
+}
+
+/// Whether each request addresses the groups that the table gives its command.
+fn address_their_groups(table: &Table, jobs: &[Job]) -> bool
+    ensures all { OnTrue result (AddressTheirGroups table.now jobs.now) }
+    ensures not_all { OnFalse result (AddressTheirGroups table.now jobs.now → ⊥) }
+{
+    for job in jobs {
+        if !addresses_its_groups(table, job) {
+            return false;
+        }
+    }
+    true
+}
+
+/// Whether the request addresses the groups that the table gives its command.
+fn addresses_its_groups(table: &Table, job: &Job) -> bool
+    ensures its { OnTrue result (job.now.groups ≡ groups_of table.now job.now.command) }
+    ensures others { OnFalse result (job.now.groups ≡ groups_of table.now job.now.command → ⊥) }
+{
+    job.groups == table.groups(&job.command)
 }
 
 /// Whether the stamp of each request is above the last one of each of its shards.

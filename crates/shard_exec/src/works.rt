@@ -149,9 +149,7 @@ fn in_order(slots: Vec<Option<Ran>>, rans: Vec<Ran>) -> Vec<Ran>
 {
     let mut rans = rans;
     for slot in slots {
-        let Some(ran) = slot else {
-            unreachable!()
-        };
+        let Some(ran) = slot else { unreachable!() };
         let Ok(()) = rans.push(ran) else {
             unreachable!()
         };

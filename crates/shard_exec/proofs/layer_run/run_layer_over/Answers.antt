@@ -45,7 +45,7 @@ returns-in-Err-clause-own g c =
 pub put_layer-requires-clause-inside : goal.put_layer-requires-clause-inside
 put_layer-requires-clause-inside g c =
     let same : length c.take_layer-works.new.row.items ≡ length c.args.row.now.items =
-        ap (λ (l : _). length l) c.take_layer-works.ensures.left ∙ length-emptied_each empty c.args.row.now.items (map (λ j. j.groups) c.args.jobs.items) in
+    ap (λ (l : _). length l) c.take_layer-works.ensures.left ∙ length-emptied_each empty c.args.row.now.items (map (λ j. j.groups) c.args.jobs.items) in
     let t = c.args.table.now in let maps = c.args.row.now.items in let jobs = c.args.jobs.items in let skip = c.args.skip.now in
     let w = subst (λ (s : _). AreWorks skip 0 jobs s c.take_layer-works.result.items) (taken_as_they_were t maps jobs c.requires.groups c.requires.apart) c.take_layer-works.ensures.works in
     let z = all_ran t maps skip 0 jobs c.take_layer-works.result.items c.in-Ok.rans.items w c.in-Ok.ensures.each in
@@ -54,7 +54,7 @@ put_layer-requires-clause-inside g c =
 pub put_layer-requires-clause-lasts : goal.put_layer-requires-clause-lasts
 put_layer-requires-clause-lasts g c =
     let same : length c.take_layer-works.new.row.items ≡ length c.args.row.now.items =
-        ap (λ (l : _). length l) c.take_layer-works.ensures.left ∙ length-emptied_each empty c.args.row.now.items (map (λ j. j.groups) c.args.jobs.items) in
+    ap (λ (l : _). length l) c.take_layer-works.ensures.left ∙ length-emptied_each empty c.args.row.now.items (map (λ j. j.groups) c.args.jobs.items) in
     c.requires.lasts ∙ sym (same ∙ c.requires.shards)
 
 pub put_layer-requires-clause-room : goal.put_layer-requires-clause-room
@@ -82,7 +82,7 @@ returns-clause-lasts g c =
 pub returns-clause-shards : goal.returns-clause-shards
 returns-clause-shards g c =
     let same : length c.take_layer-works.new.row.items ≡ length c.args.row.now.items =
-        ap (λ (l : _). length l) c.take_layer-works.ensures.left ∙ length-emptied_each empty c.args.row.now.items (map (λ j. j.groups) c.args.jobs.items) in
+    ap (λ (l : _). length l) c.take_layer-works.ensures.left ∙ length-emptied_each empty c.args.row.now.items (map (λ j. j.groups) c.args.jobs.items) in
     c.put_layer.ensures.len ∙ same
 
 pub returns-clause-own : goal.returns-clause-own

@@ -11,7 +11,7 @@ pub deal_part-requires-clause-there : goal.deal_part-requires-clause-there
 deal_part-requires-clause-there c =
     let at = c.loop-part.part-index in let plan = c.args.plan.now in
     let next : drop at plan ≡ c.part-item.result ∷ drop (at + 1) plan =
-        drop-cons plan at c.part-item.result c.loop-part-test.true ∙ ap (λ p. p ∷ drop (suc at) plan) (sym c.part-item.is) ∙ ap (λ k. c.part-item.result ∷ drop k plan) (sym (add-one at)) in
+    drop-cons plan at c.part-item.result c.loop-part-test.true ∙ ap (λ p. p ∷ drop (suc at) plan) (sym c.part-item.is) ∙ ap (λ k. c.part-item.result ∷ drop k plan) (sym (add-one at)) in
     can_take_first c.loop-part.slots.items c.part-item.result (concat (drop (at + 1) plan)) (subst (λ l. CanTake c.loop-part.slots.items (concat l)) next c.loop-part.invariant.there)
 
 pub loop-part-preserved : goal.loop-part-preserved
@@ -19,7 +19,7 @@ loop-part-preserved c =
     let at = c.loop-part.part-index in let plan = c.args.plan.now in let p = c.part-item.result in let inv = c.loop-part.invariant in
     let slots = c.loop-part.slots.items in let rest = concat (drop (at + 1) plan) in let part = c.deal_part.result in
     let next : drop at plan ≡ p ∷ drop (at + 1) plan =
-        drop-cons plan at p c.loop-part-test.true ∙ ap (λ q. q ∷ drop (suc at) plan) (sym c.part-item.is) ∙ ap (λ k. p ∷ drop k plan) (sym (add-one at)) in
+    drop-cons plan at p c.loop-part-test.true ∙ ap (λ q. q ∷ drop (suc at) plan) (sym c.part-item.is) ∙ ap (λ k. p ∷ drop k plan) (sym (add-one at)) in
     record {
       took = λ ws t.
           subst (Took c.args.slots.items (concat plan)) (sym (ap (λ l. all_works l ++ ws) c.in-Ok.ensures.items ∙ works_snoc c.loop-part.parts.items part ws))

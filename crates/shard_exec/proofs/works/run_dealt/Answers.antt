@@ -27,7 +27,7 @@ place_all-requires g c =
     let plan = c.requires.fits.plan in
     let took = subst (λ s. Took s (concat c.as_slice.result.now) (all_works c.deal-parts.result.items)) c.in_slots-slots.ensures c.deal-parts.ensures.took in
     let whole = dealt_whole c.args.table.now c.args.works.items c.as_slice.result.now c.deal-parts.result.items c.in-Ok.results.items plan.0 plan.1
-        (c.as_slice.ensures.value ∙ plan.2) c.requires.places took c.in-Ok.ensures.each in
+    (c.as_slice.ensures.value ∙ plan.2) c.requires.places took c.in-Ok.ensures.each in
     let long : length c.args.dealt.placed.items ≡ length c.args.works.items = ap (λ (l : _). length l) c.requires.fits.placed ∙ length-replicate _ _ in
     gave_within c.args.table.now c.args.works.items (length c.args.dealt.placed.items) (concat c.as_slice.result.now) (all_rans c.in-Ok.results.items) long whole.gave
 
@@ -36,7 +36,7 @@ in_order-requires-clause-full g c =
     let plan = c.requires.fits.plan in
     let took = subst (λ s. Took s (concat c.as_slice.result.now) (all_works c.deal-parts.result.items)) c.in_slots-slots.ensures c.deal-parts.ensures.took in
     let whole = dealt_whole c.args.table.now c.args.works.items c.as_slice.result.now c.deal-parts.result.items c.in-Ok.results.items plan.0 plan.1
-        (c.as_slice.ensures.value ∙ plan.2) c.requires.places took c.in-Ok.ensures.each in
+    (c.as_slice.ensures.value ∙ plan.2) c.requires.places took c.in-Ok.ensures.each in
     let long : length c.args.dealt.placed.items ≡ length c.args.works.items = ap (λ (l : _). length l) c.requires.fits.placed ∙ length-replicate _ _ in
     let given = all_given c.args.table.now c.args.works.items c.args.dealt.placed.items (concat c.as_slice.result.now) (all_rans c.in-Ok.results.items) long whole.gave whole.all in
     subst (AllByRecursion _) (sym c.place_all.ensures) (given_full c.args.table.now c.args.works.items _ given)
@@ -46,7 +46,7 @@ in_order-requires-clause-room g c =
     let plan = c.requires.fits.plan in
     let took = subst (λ s. Took s (concat c.as_slice.result.now) (all_works c.deal-parts.result.items)) c.in_slots-slots.ensures c.deal-parts.ensures.took in
     let whole = dealt_whole c.args.table.now c.args.works.items c.as_slice.result.now c.deal-parts.result.items c.in-Ok.results.items plan.0 plan.1
-        (c.as_slice.ensures.value ∙ plan.2) c.requires.places took c.in-Ok.ensures.each in
+    (c.as_slice.ensures.value ∙ plan.2) c.requires.places took c.in-Ok.ensures.each in
     let long : length c.args.dealt.placed.items ≡ length c.args.works.items = ap (λ (l : _). length l) c.requires.fits.placed ∙ length-replicate _ _ in
     let given = all_given c.args.table.now c.args.works.items c.args.dealt.placed.items (concat c.as_slice.result.now) (all_rans c.in-Ok.results.items) long whole.gave whole.all in
     let n = zip_length _ _ _ given in let m = ap (λ (l : _). length l) c.place_all.ensures in let r = c.requires.room in omega (arith, n, m, r)
@@ -56,7 +56,7 @@ returns-clause-each g c =
     let plan = c.requires.fits.plan in
     let took = subst (λ s. Took s (concat c.as_slice.result.now) (all_works c.deal-parts.result.items)) c.in_slots-slots.ensures c.deal-parts.ensures.took in
     let whole = dealt_whole c.args.table.now c.args.works.items c.as_slice.result.now c.deal-parts.result.items c.in-Ok.results.items plan.0 plan.1
-        (c.as_slice.ensures.value ∙ plan.2) c.requires.places took c.in-Ok.ensures.each in
+    (c.as_slice.ensures.value ∙ plan.2) c.requires.places took c.in-Ok.ensures.each in
     let long : length c.args.dealt.placed.items ≡ length c.args.works.items = ap (λ (l : _). length l) c.requires.fits.placed ∙ length-replicate _ _ in
     let given = all_given c.args.table.now c.args.works.items c.args.dealt.placed.items (concat c.as_slice.result.now) (all_rans c.in-Ok.results.items) long whole.gave whole.all in
     given_run c.args.table.now c.args.works.items c.in_order.result.items
