@@ -27,6 +27,8 @@ use Rattle.skeen_core.specs.Order.{In}
 use Rattle.values.specs.declared.Value.{Value}
 use Rattle.shard_exec.specs.declared.work.Work.{Work}
 use Rattle.shard_exec.specs.declared.work.Ran.{Ran}
+use Rattle.std.specs.Option.{IfSome}
+use Rattle.shard_exec.specs.Dealing.{InPlaces}
 use Rattle.shard_exec.specs.Layers.{commands_of, AddressTheirGroups, is_named, outcomes_of_ended, MayStarve, IsOf, IsDone, IsInside, IsWork, AreWorks, ended_of}
 use Rattle.shard_exec.specs.Runs.{IsReady, outcome, HasRun}
 use Rattle.shard_exec.specs.Stamps.{raise, raised, raised_by}
@@ -84,14 +86,15 @@ pub all_ready : (table : Layout) (maps : List Map) (skip : List RequestId) (at :
 all_ready table maps skip at [] [] t own a w = tt
 all_ready table maps skip at [] (x ∷ works) t own a w = absurd w
 all_ready table maps skip at (j ∷ js) [] t own a w = absurd w
-all_ready table maps skip at (j ∷ js) (x ∷ works) t own a w =
-    (record {
-      is_table = t;
-      groups = subst (λ (k : Job). k.groups ≡ groups_of table k.command) (sym w.0.job) a.0;
-      numbers = ap numbers w.0.shards ∙ numbers-span_at maps j.groups ∙ ap (λ (k : Job). k.groups) (sym w.0.job);
-      own = subst (SpanHasOwnKeys table) (sym w.0.shards) (own_span table maps j.groups own);
-    },
-    all_ready table maps skip (at + 1) js works t own a.1 w.1)
+all_ready table maps skip at (j ∷ js) (x ∷ works) t own a w = (
+  record {
+    is_table = t;
+    groups = subst (λ (k : Job). k.groups ≡ groups_of table k.command) (sym w.0.job) a.0;
+    numbers = ap numbers w.0.shards ∙ numbers-span_at maps j.groups ∙ ap (λ (k : Job). k.groups) (sym w.0.job);
+    own = subst (SpanHasOwnKeys table) (sym w.0.shards) (own_span table maps j.groups own);
+  },
+  all_ready table maps skip (at + 1) js works t own a.1 w.1,
+)
 
 -- ---- each request and what it gave
 
@@ -167,12 +170,12 @@ layer_done table maps skip jobs rans t long own a s z =
     let cs = commands_of jobs in
     let new = put_spans (emptied_each empty maps (groups_each jobs)) (map (λ r. r.shards.items) rans) in
     let is : layers.with_rans (layers.left_of table maps cs) (map ran_of rans) ≡ new =
-        ap (λ sets. put_spans (emptied_each empty maps sets) (map (λ r. r.span) (map ran_of rans))) (sym (groups_are table jobs a))
-        ∙ ap (put_spans (emptied_each empty maps (groups_each jobs))) (spans_same rans) in
+    ap (λ sets. put_spans (emptied_each empty maps sets) (map (λ r. r.span) (map ran_of rans))) (sym (groups_are table jobs a))
+    ∙ ap (put_spans (emptied_each empty maps (groups_each jobs))) (spans_same rans) in
     let ran : layers.LayerRan table maps cs (outcomes_of_ended (map ended_of rans)) new =
-        subst (λ os. layers.LayerRan table maps cs os new) (outcomes_same rans)
-        (subst (layers.LayerRan table maps cs (layers.outcomes_of (map ran_of rans))) is
-        (layer_ran table maps cs (map ran_of rans) long (share table jobs a s) (runs table maps skip jobs rans a z))) in
+    subst (λ os. layers.LayerRan table maps cs os new) (outcomes_same rans)
+    (subst (layers.LayerRan table maps cs (layers.outcomes_of (map ran_of rans))) is
+    (layer_ran table maps cs (map ran_of rans) long (share table jobs a s) (runs table maps skip jobs rans a z))) in
     let turn = layer_in_turn table maps new cs (outcomes_of_ended (map ended_of rans)) t own (share table jobs a s) ran in
     record {
       told = all_told table maps skip jobs rans z;
@@ -202,9 +205,10 @@ pub all_below : (table : Layout) (maps : List Map) (skip : List RequestId) (n : 
 all_below table maps skip n [] [] e a z = tt
 all_below table maps skip n [] (r ∷ rans) e a z = absurd z
 all_below table maps skip n (j ∷ js) [] e a z = absurd z
-all_below table maps skip n (j ∷ js) (r ∷ rans) e a z =
-    (below n r.shards.items (λ g there. subst (λ m. g < m) (sym e) (groups_of-below table j.command g (ap (λ gs. has gs g) (sym (z.0.numbers ∙ a.0)) ∙ there))),
-    all_below table maps skip n js rans e a.1 z.1)
+all_below table maps skip n (j ∷ js) (r ∷ rans) e a z = (
+  below n r.shards.items (λ g there. subst (λ m. g < m) (sym e) (groups_of-below table j.command g (ap (λ gs. has gs g) (sym (z.0.numbers ∙ a.0)) ∙ there))),
+  all_below table maps skip n js rans e a.1 z.1,
+)
 
 -- ---- shards that were taken out leave empty ones
 
@@ -250,3 +254,15 @@ works_length skip at [] (s ∷ spans) works w = absurd w
 works_length skip at (j ∷ js) [] works w = absurd w
 works_length skip at (j ∷ js) (s ∷ spans) [] w = absurd w
 works_length skip at (j ∷ js) (s ∷ spans) (x ∷ works) w = ap suc (works_length skip (at + 1) js spans works w.1)
+
+pub in_places : (skip : List RequestId) (at : ℕ) (jobs : List Job) (spans : List Span) (works : List Work) → AreWorks skip at jobs spans works → InPlaces at works
+in_places skip at [] [] [] w = tt
+in_places skip at [] [] (x ∷ works) w = absurd w
+in_places skip at [] (s ∷ spans) works w = absurd w
+in_places skip at (j ∷ js) [] works w = absurd w
+in_places skip at (j ∷ js) (s ∷ spans) [] w = absurd w
+in_places skip at (j ∷ js) (s ∷ spans) (x ∷ works) w = (w.0.place, in_places skip (at + 1) js spans works w.1)
+
+pub fits_still : {X : Type 0} (P : ℕ → X → Type 0) (n m : ℕ) (o : Option X) → n ≡ m → IfSome o (P n) → IfSome o (P m)
+fits_still P n m None e h = tt
+fits_still P n m (Some x) e h = subst (λ k. P k x) e h

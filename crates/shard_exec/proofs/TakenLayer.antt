@@ -18,9 +18,11 @@ pub works_more : (skip : List RequestId) (row row' : List Map) (works works' ws 
     → AreWorks skip (length works) jobs (taken_out_each empty row (groups_each jobs)) (w ∷ ws)
 works_more skip row row' works works' ws jobs jobs' j w is pushed left work rest =
     let one_more : length works' ≡ length works + 1 = ap (λ (l : List Work). length l) pushed ∙ length-append works (w ∷ []) in
-    subst (λ js. AreWorks skip (length works) js (taken_out_each empty row (groups_each js)) (w ∷ ws)) (sym is)
-    (work, subst (λ n. AreWorks skip n jobs' (taken_out_each empty (emptied empty row j.groups) (groups_each jobs')) ws) one_more
-    (subst (λ r. AreWorks skip (length works') jobs' (taken_out_each empty r (groups_each jobs')) ws) left rest))
+    subst (λ js. AreWorks skip (length works) js (taken_out_each empty row (groups_each js)) (w ∷ ws)) (sym is) (
+      work,
+      subst (λ n. AreWorks skip n jobs' (taken_out_each empty (emptied empty row j.groups) (groups_each jobs')) ws) one_more
+          (subst (λ r. AreWorks skip (length works') jobs' (taken_out_each empty r (groups_each jobs')) ws) left rest),
+    )
 
 pub left_more : (row row' : List Map) (jobs jobs' : List Job) (j : Job) → jobs ≡ j ∷ jobs' → row' ≡ emptied empty row j.groups
     → emptied_each empty row' (groups_each jobs') ≡ emptied_each empty row (groups_each jobs)

@@ -4,5 +4,6 @@ pub mod Dealing
 pub mod Stamps
 pub mod Layers
 pub mod Rooms
+pub mod DealtRooms
 pub mod StoreStates
 pub mod Stores

@@ -37,13 +37,19 @@ pub struct Crew<'r, R> {
 
 impl<'r, R> Crew<'r, R> {
     /// So many workers, which are started when they are needed.
-    pub fn new(rt: &'r R, number: NonZeroUsize) -> Self {
+    pub fn new(rt: &'r R, number: NonZeroUsize) -> Self
+        ensures { result.number ≡ number }
+    {
         Crew { rt, number }
     }
 }
 
 impl<'r, R: Threads + Wait> Workers for Crew<'r, R> {
     ghost use Rattle.shard_exec.specs.Parts.{HasRoom};
+
+    ghost use Rattle.std.specs.Int.NonZero.{non_zero_usize_get};
+
+    ghost count = { λ c. non_zero_usize_get c.number };
 
     ghost may_refuse = { true };
 

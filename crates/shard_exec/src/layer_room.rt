@@ -38,10 +38,7 @@ impl LayerRoom {
 }
 
 /// Room for the shards of each request.
-fn reserve_spans(
-    alloc: Global,
-    jobs: &[Job],
-) -> Result<Vec<Vec<(GroupId, Shard)>>, AllocError>
+fn reserve_spans(alloc: Global, jobs: &[Job]) -> Result<Vec<Vec<(GroupId, Shard)>>, AllocError>
     ensures { IfOk result (λ spans. AllZip FitsGroups jobs.now spans.items) }
 {
     let mut spans = Vec::with_capacity(alloc, jobs.len())?;

@@ -1,13 +1,15 @@
 //! A layer run over the row of shards, by whatever workers there are.
 
-ghost use Rattle.std.specs.Prelude.{◌≡◌, length, true, IfOk, OnErr};
+ghost use Rattle.std.specs.Prelude.{◌≡◌, length, true, IfOk, IfSome, OnErr};
 ghost use Rattle.layer_planner.specs.Layers.{ShareNoGroup};
 ghost use Rattle.placement.specs.Layout.{IsTable};
 ghost use Rattle.shard_maps.specs.Joined.{HasOwnKeys};
+ghost use Rattle.shard_exec.specs.DealtRooms.{FitsDealt};
 ghost use Rattle.shard_exec.specs.Layers.{AddressTheirGroups, IsDone};
 ghost use Rattle.shard_exec.specs.Rooms.{FitsLayer};
 ghost use Rattle.shard_exec.specs.Stamps.{raised};
 
+use crate::dealt_room::DealtRoom;
 use crate::layer_room::LayerRoom;
 use crate::taking::{put_layer, take_layer};
 use crate::works::run_works;
@@ -31,6 +33,7 @@ pub fn run_layer_over<W: Workers>(
     workers: &W,
     gate: &(dyn Gate + Sync),
     room: LayerRoom,
+    dealt: Option<DealtRoom>,
 ) -> Result<Vec<Ended>, Refused>
     requires is_table { IsTable table.now }
     requires shards { length row.old.items ≡ table.now.shards }
@@ -39,6 +42,8 @@ pub fn run_layer_over<W: Workers>(
     requires groups { AddressTheirGroups table.now jobs.items }
     requires apart { ShareNoGroup jobs.items }
     requires room { FitsLayer jobs.items room }
+    requires fits { IfSome dealt (FitsDealt (length jobs.items)) }
+    requires workers { IfSome dealt (λ d. W.has_room d.room (length d.plan.items)) }
     ensures done { IfOk result (λ done. IsDone table.now row.old.items skip.now jobs.items done.items row.new.items) }
     ensures lasts { IfOk result (λ _. lasts.new.items ≡ raised lasts.old.items jobs.items) }
     ensures refused { OnErr result (W.may_refuse ≡ true) }
@@ -53,7 +58,7 @@ pub fn run_layer_over<W: Workers>(
         done,
     } = room;
     let works = take_layer(alloc, hasher, row, jobs, skip, spans, works);
-    let rans = match run_works(alloc, table, gate, workers, works, rans) {
+    let rans = match run_works(alloc, table, gate, workers, dealt, works, rans) {
         Ok(rans) => rans,
         Err(refused) => return Err(refused),
     };

@@ -6,6 +6,7 @@
 
 mod crew;
 mod dealing;
+mod dealt_room;
 mod done;
 mod gate;
 mod layer_room;
@@ -14,6 +15,8 @@ mod moves;
 mod part;
 mod store;
 mod taking;
+#[cfg(test)]
+mod tests;
 mod work;
 mod workers;
 mod works;

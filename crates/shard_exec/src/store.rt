@@ -3,11 +3,13 @@
 ghost use Rattle.std.specs.Prelude.{◌≡◌, length, true, false, IfOk, IfErr};
 ghost use Rattle.std.specs.Bool.{OnTrue, OnFalse};
 ghost use Rattle.std.specs.List.{AllByRecursion};
+ghost use Rattle.placement.specs.Groups.{groups_of};
 ghost use Rattle.shard_exec.specs.Layers.{AddressTheirGroups, IsInside};
 ghost use Rattle.shard_exec.specs.Stamps.{AreFresh, IsFresh, is_above};
 ghost use Rattle.shard_exec.specs.StoreStates.{IsStore};
 ghost use Rattle.shard_exec.specs.Stores.{empty_store, HasRunLayer, HasFailed};
 
+use crate::dealt_room::DealtRoom;
 use crate::layer_room::LayerRoom;
 use crate::layer_run::run_layer_over;
 use crate::{Ended, ExecFault, Gate, Workers};
@@ -87,6 +89,15 @@ impl Store {
         self.failed
     }
 
+    /// Whether each request of the layer addresses the groups that the table gives its command: the condition of `run_layer`, for callers
+    /// that can't prove it.
+    pub fn may_run(&self, layer: &Layer) -> bool
+        ensures may { OnTrue result (AddressTheirGroups self.now.table layer.now) }
+        ensures may_not { OnFalse result (AddressTheirGroups self.now.table layer.now → ⊥) }
+    {
+        address_their_groups(&self.table, layer.jobs())
+    }
+
     /// Runs the requests of a layer, each over the shards of its groups, by these workers, and tells what became of each, in the order of
     /// the layer. The gate is told of each request that is run.
     ///
@@ -116,6 +127,9 @@ impl Store {
         let Ok(room) = LayerRoom::reserve(alloc, layer.jobs()) else {
             return Err(ExecFault::Memory(layer));
         };
+        let Ok(dealt) = DealtRoom::reserve(alloc, &layer, workers) else {
+            return Err(ExecFault::Memory(layer));
+        };
         let outcome = run_layer_over(
             alloc,
             &self.table,
@@ -127,6 +141,7 @@ impl Store {
             workers,
             gate,
             room,
+            dealt,
         );
         match outcome {
             Ok(done) => Ok(done),
@@ -136,6 +151,27 @@ impl Store {
             }
         }
     }
+}
+
+/// Whether each request addresses the groups that the table gives its command.
+fn address_their_groups(table: &Table, jobs: &[Job]) -> bool
+    ensures all { OnTrue result (AddressTheirGroups table.now jobs.now) }
+    ensures not_all { OnFalse result (AddressTheirGroups table.now jobs.now → ⊥) }
+{
+    for job in jobs {
+        if !addresses_its_groups(table, job) {
+            return false;
+        }
+    }
+    true
+}
+
+/// Whether the request addresses the groups that the table gives its command.
+fn addresses_its_groups(table: &Table, job: &Job) -> bool
+    ensures its { OnTrue result (job.now.groups ≡ groups_of table.now job.now.command) }
+    ensures others { OnFalse result (job.now.groups ≡ groups_of table.now job.now.command → ⊥) }
+{
+    job.groups == table.groups(&job.command)
 }
 
 /// Whether the stamp of each request is above the last one of each of its shards.

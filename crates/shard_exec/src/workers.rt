@@ -1,6 +1,7 @@
 //! The workers that run the parts of a layer, and those that take turns on the caller's thread.
 
 ghost use Rattle.std.specs.Prelude.{◌≡◌, ℕ, Bool, true, false, [], IfOk, OnErr, IsOk, length, ◌≤◌, vec_capacity};
+ghost use Rattle.std.specs.Int.NonZero.{non_zero_usize_get};
 ghost use Rattle.std.specs.List.{AllZip, AllByRecursion};
 ghost use Rattle.shard_exec.specs.Parts.{IsReadyPart, HasRunPart, HasRoom};
 
@@ -29,6 +30,9 @@ pub trait Workers {
     ghost use Rattle.std.specs.Prelude.{ℕ, Bool};
     ghost use Rattle.shard_exec.specs.declared.workers.Room.{Room};
 
+    // How many there are.
+    ghost count: { Self → ℕ };
+
     // Whether a start may be refused.
     ghost may_refuse: { Bool };
 
@@ -36,7 +40,8 @@ pub trait Workers {
     ghost has_room: { Room → ℕ → Type 0 };
 
     /// How many there are. A layer is divided into as many parts, if it has as many requests.
-    fn number(&self) -> NonZeroUsize;
+    fn number(&self) -> NonZeroUsize
+        ensures { non_zero_usize_get result ≡ count self.now };
 
     /// The room that they need for so many parts.
     fn reserve(&self, alloc: Global, parts: usize) -> Result<Room, AllocError>
@@ -64,6 +69,10 @@ pub struct InTurn(pub NonZeroUsize);
 
 impl Workers for InTurn {
     ghost use Rattle.shard_exec.specs.Parts.{HasResults};
+
+    ghost use Rattle.std.specs.Int.NonZero.{non_zero_usize_get};
+
+    ghost count = { λ w. non_zero_usize_get w.0 };
 
     ghost may_refuse = { false };
 

@@ -5,11 +5,12 @@ use Rattle.keyspace.specs.Map.{Map}
 use Rattle.shard_maps.proofs.Rows.{length-emptied_each}
 use Rattle.shard_maps.specs.Joined.{HasOwnKeys, Span}
 use Rattle.shard_maps.specs.Rows.{emptied_each, put_spans}
+use Rattle.shard_exec.specs.DealtRooms.{FitsDealt}
 use Rattle.shard_exec.specs.declared.done.Ended.{Ended}
 use Rattle.shard_exec.specs.Layers.{AreWorks, IsDone, ended_of}
 use Rattle.shard_exec.specs.Stamps.{raised, raised_by}
 use Rattle.shard_exec.proofs.Zips.{zip_length}
-use Rattle.shard_exec.proofs.LayerLaws.{all_inside, taken_as_they_were, all_ready, all_ran, layer_done, raised_same, all_below, own_left, works_length}
+use Rattle.shard_exec.proofs.LayerLaws.{all_inside, taken_as_they_were, all_ready, all_ran, layer_done, raised_same, all_below, own_left, works_length, in_places, fits_still}
 use Rattle.shard_exec.proofs.layer_run.run_layer_over.Goals as goal
 
 pub take_layer-works-requires-clause-inside : goal.take_layer-works-requires-clause-inside
@@ -21,6 +22,13 @@ run_works-requires-clause-ready g c =
     let t = c.args.table.now in let maps = c.args.row.now.items in let jobs = c.args.jobs.items in let skip = c.args.skip.now in
     all_ready t maps skip 0 jobs c.take_layer-works.result.items c.requires.is_table c.requires.own c.requires.groups
     (subst (λ (s : _). AreWorks skip 0 jobs s c.take_layer-works.result.items) (taken_as_they_were t maps jobs c.requires.groups c.requires.apart) c.take_layer-works.ensures.works)
+
+pub run_works-requires-clause-fits : goal.run_works-requires-clause-fits
+run_works-requires-clause-fits g c =
+    fits_still FitsDealt _ _ c.args.dealt (sym (works_length c.args.skip.now 0 c.args.jobs.items _ c.take_layer-works.result.items c.take_layer-works.ensures.works)) c.requires.fits
+
+pub run_works-requires-clause-places : goal.run_works-requires-clause-places
+run_works-requires-clause-places g c = in_places c.args.skip.now 0 c.args.jobs.items _ c.take_layer-works.result.items c.take_layer-works.ensures.works
 
 pub run_works-requires-clause-room : goal.run_works-requires-clause-room
 run_works-requires-clause-room g c =
@@ -37,7 +45,7 @@ returns-in-Err-clause-own g c =
 pub put_layer-requires-clause-inside : goal.put_layer-requires-clause-inside
 put_layer-requires-clause-inside g c =
     let same : length c.take_layer-works.new.row.items ≡ length c.args.row.now.items =
-        ap (λ (l : _). length l) c.take_layer-works.ensures.left ∙ length-emptied_each empty c.args.row.now.items (map (λ j. j.groups) c.args.jobs.items) in
+    ap (λ (l : _). length l) c.take_layer-works.ensures.left ∙ length-emptied_each empty c.args.row.now.items (map (λ j. j.groups) c.args.jobs.items) in
     let t = c.args.table.now in let maps = c.args.row.now.items in let jobs = c.args.jobs.items in let skip = c.args.skip.now in
     let w = subst (λ (s : _). AreWorks skip 0 jobs s c.take_layer-works.result.items) (taken_as_they_were t maps jobs c.requires.groups c.requires.apart) c.take_layer-works.ensures.works in
     let z = all_ran t maps skip 0 jobs c.take_layer-works.result.items c.in-Ok.rans.items w c.in-Ok.ensures.each in
@@ -46,7 +54,7 @@ put_layer-requires-clause-inside g c =
 pub put_layer-requires-clause-lasts : goal.put_layer-requires-clause-lasts
 put_layer-requires-clause-lasts g c =
     let same : length c.take_layer-works.new.row.items ≡ length c.args.row.now.items =
-        ap (λ (l : _). length l) c.take_layer-works.ensures.left ∙ length-emptied_each empty c.args.row.now.items (map (λ j. j.groups) c.args.jobs.items) in
+    ap (λ (l : _). length l) c.take_layer-works.ensures.left ∙ length-emptied_each empty c.args.row.now.items (map (λ j. j.groups) c.args.jobs.items) in
     c.requires.lasts ∙ sym (same ∙ c.requires.shards)
 
 pub put_layer-requires-clause-room : goal.put_layer-requires-clause-room
@@ -74,7 +82,7 @@ returns-clause-lasts g c =
 pub returns-clause-shards : goal.returns-clause-shards
 returns-clause-shards g c =
     let same : length c.take_layer-works.new.row.items ≡ length c.args.row.now.items =
-        ap (λ (l : _). length l) c.take_layer-works.ensures.left ∙ length-emptied_each empty c.args.row.now.items (map (λ j. j.groups) c.args.jobs.items) in
+    ap (λ (l : _). length l) c.take_layer-works.ensures.left ∙ length-emptied_each empty c.args.row.now.items (map (λ j. j.groups) c.args.jobs.items) in
     c.put_layer.ensures.len ∙ same
 
 pub returns-clause-own : goal.returns-clause-own

@@ -14,7 +14,7 @@ pub loop-job-preserved : goal.loop-job-preserved
 loop-job-preserved c =
     let is = c.in-Some.ensures.steps.0 in let inv = c.loop-job.invariant in
     let same_length : length c.take_work.new.row.items ≡ length c.loop-job.row.items =
-        ap (λ (l : _). length l) c.take_work.ensures.left ∙ length-emptied empty c.loop-job.row.items c.in-Some.job.groups in
+    ap (λ (l : _). length l) c.take_work.ensures.left ∙ length-emptied empty c.loop-job.row.items c.in-Some.job.groups in
     let at : c.len-place.result ≡ length c.loop-job.works.items = search rules in
     let inside = subst (AllByRecursion (IsInside (length c.loop-job.row.items))) is inv.inside in
     record {

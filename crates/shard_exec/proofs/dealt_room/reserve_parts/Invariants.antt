@@ -1,0 +1,7 @@
+use Rattle.std.proofs.Common.{take}
+use Rattle.std.specs.List.{AllZip}
+use Rattle.shard_exec.specs.DealtRooms.{FitsPlaces}
+use Rattle.shard_exec.proofs.dealt_room.reserve_parts.Given as goal
+
+abbrev pub invariant-loop-part : goal.invariant-loop-part
+invariant-loop-part l = AllZip FitsPlaces (take l.part-index l.plan) l.rooms.items
