@@ -30,12 +30,14 @@ module _ {A : Type 0} (case : A → Case) where
 
   -- some more at the end
   pub in_turn-append : (m mid new : Map) (done more : List A) (replies others : List Content)
-      → (mid, replies) ≡ in_turn case m done → (new, others) ≡ in_turn case mid more → (new, replies ++ others) ≡ in_turn case m (done ++ more)
+      → (mid, replies) ≡ in_turn case m done → (new, others) ≡ in_turn case mid more
+      → (new, replies ++ others) ≡ in_turn case m (done ++ more)
   in_turn-append m mid new [] more replies others before behind =
       pair _ _ _ _
       (ap (λ v. v.0) behind ∙ ap (λ n. (in_turn case n more).0) (ap (λ v. v.0) before))
       (ap (λ l. l ++ others) (ap (λ v. v.1) before) ∙ ap (λ v. v.1) behind ∙ ap (λ n. (in_turn case n more).1) (ap (λ v. v.0) before))
   in_turn-append m mid new (a ∷ done) more replies others before behind =
-      let rest = in_turn-append (case a m).0 mid new done more (in_turn case (case a m).0 done).1 others (pair _ _ _ _ (ap (λ v. v.0) before) refl) behind in
+      let rest = in_turn-append (case a m).0 mid new done more (in_turn case (case a m).0 done).1 others
+          (pair _ _ _ _ (ap (λ v. v.0) before) refl) behind in
       pair _ _ _ _ (ap (λ v. v.0) rest)
       (ap (λ l. l ++ others) (ap (λ v. v.1) before) ∙ ap (λ l. (case a m).1 ∷ l) (ap (λ v. v.1) rest))

@@ -41,7 +41,10 @@ pub fn execute<K: Keyspace>(
     run(alloc, keyspace, command)
 }
 
-/// Runs a command by its family.
+/// Runs a command by its family, and leaves its case.
+///
+/// Each family's clause speaks of cases. That a command's effect is its case is one fact on top, which holds of every body: so here
+/// the prover works arm by arm with no help, and `execute` has no arm.
 fn run<K: Keyspace>(alloc: Global, keyspace: &mut K, command: Command) -> Result<Reply, Starved>
     requires { All (λ key. IsTrue (K.covered keyspace.old key)) (keys_of command) }
     ensures done { Does (case_of command)

@@ -31,10 +31,18 @@ fn answer(
 #[test]
 fn commands_answer_in_turn(rt: HostRuntime) -> Result<(), Fail> {
     let mut keyspace = Plain::new(rt.alloc(), BuildHasherDefault::<FoldHasher>::new());
-    let rows: [(&[&str], &str); 7] = [
+    let rows: [(&[&str], &str); 15] = [
         (&["SET", "a", "1"], "+OK\r\n"),
         (&["GET", "a"], "$1\r\n1\r\n"),
         (&["SET", "a", "2", "NX"], "$-1\r\n"),
+        (&["SETNX", "a", "3"], ":0\r\n"),
+        (&["SETNX", "b", "3"], ":1\r\n"),
+        (&["RENAME", "a", "b"], "+OK\r\n"),
+        (&["RENAME", "a", "b"], "-ERR no such key\r\n"),
+        (&["RENAME", "b", "b"], "+OK\r\n"),
+        (&["GET", "b"], "$1\r\n1\r\n"),
+        (&["RENAME", "b", "a"], "+OK\r\n"),
+        (&["GET", "b"], "$-1\r\n"),
         (&["DEL", "a", "b", "a"], ":1\r\n"),
         (&["GET", "a"], "$-1\r\n"),
         (&["PING"], "+PONG\r\n"),

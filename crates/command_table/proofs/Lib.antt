@@ -1,3 +1,3 @@
 pub mod Finding
 pub mod Texts
-pub mod Told
+pub mod Tells

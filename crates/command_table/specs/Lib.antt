@@ -1,10 +1,12 @@
 pub mod Arity
 pub mod Command
+pub mod Held
+pub mod KeyCommands
 pub mod KeySpan
-pub mod KeyTable
-pub mod LocalTable
+pub mod LocalCommands
 pub mod Reading
 pub mod Refusal
 pub mod Row
-pub mod StringTable
+pub mod StringCommands
+pub mod Telling
 pub mod Words

@@ -1,16 +1,13 @@
 -- The words of a request.
 use Rattle.std.specs.Prelude.{ℕ, Bool, List, [], map, slice_index_or}
 use Rattle.std.specs.Char.{to_ascii_lowercase}
-use Rattle.std.specs.Global.{Vec}
 use Rattle.std.specs.Str.{bytes_eq}
+use Rattle.texts.specs.Texts.{Bytes}
+pub use Rattle.texts.specs.Texts.{texts_of, pairs_of}
 
 -- a word: any bytes
 abbrev pub Word : Type 0
-Word = List ℕ
-
--- the bytes of these words
-abbrev pub texts_of : List (Vec ℕ) → List Word
-texts_of words = map (λ w. w.items) words
+Word = Bytes
 
 -- the word in lower case: ASCII letters alone have a case
 abbrev pub lower : Word → Word

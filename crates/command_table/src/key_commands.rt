@@ -1,8 +1,8 @@
-//! Commands on keys of any type: DEL.
+//! Commands on keys of any type.
 
-ghost use Rattle.std.specs.Prelude.{◌≡◌, ◌<◌, length, slice_get, MatchResult, Some, None};
-ghost use Rattle.command_table.specs.Command.{key_command_name, key_command_keys, key_command_is_whole};
-ghost use Rattle.command_table.specs.KeyTable.{key_rows, del_reading};
+ghost use Rattle.std.specs.Prelude.{◌≡◌, length, MatchResult, Some, None};
+ghost use Rattle.command_table.specs.Held.{told_held};
+ghost use Rattle.command_table.specs.KeyCommands.{key_command_told, key_rows, del_row, rename_row};
 ghost use Rattle.command_table.specs.Row.{row_of, reading_among};
 ghost use Rattle.command_table.specs.Words.{texts_of};
 
@@ -10,50 +10,31 @@ use crate::arity::Arity;
 use crate::command::Command;
 use crate::command_rows;
 use crate::refusal::{CommandName, Refusal};
-use crate::rows::{
-    at_rows, at_span, count_rows, count_span, is_whole_span, name_rows, read_rows, whole_rows,
-};
-use texts::Texts;
+use crate::rows::{keys_of_span, read_rows, told_rows};
+use crate::told::{Keys, Told};
+use crate::words::two_words;
+use texts::{Text, Texts};
 
 /// A command on keys of any type.
 #[derive(Drop)]
 pub enum KeyCommand {
     /// `DEL key [key ..]`: removes the keys.
     Del { keys: Texts },
+
+    /// `RENAME key newkey`: moves the value of the key to the new one.
+    Rename { from: Text, to: Text },
 }
 
 impl KeyCommand {
-    /// The command's name, in lower case.
-    pub(crate) fn name(&self) -> &'static str
-        ensures { result.now ≡ key_command_name self.now }
+    /// What is told of the command.
+    pub(crate) fn told(&self) -> Told<'_>
+        ensures { told_held result ≡ key_command_told self.now }
     {
-        command_rows!(keys, name_rows, KeyCommand, self)
-    }
-
-    /// Whether the command is for all keys there are.
-    pub(crate) fn is_whole(&self) -> bool
-        ensures { result ≡ key_command_is_whole self.now }
-    {
-        command_rows!(keys, whole_rows, KeyCommand, self)
-    }
-
-    /// The number of the command's keys.
-    pub(crate) fn key_count(&self) -> usize
-        ensures { result ≡ length (key_command_keys self.now) }
-    {
-        command_rows!(keys, count_rows, KeyCommand, self)
-    }
-
-    /// The command's key at this place.
-    pub(crate) fn key_at(&self, place: usize) -> &[u8]
-        requires { place < length (key_command_keys self.now) }
-        ensures { slice_get (key_command_keys self.now) place ≡ Some result.now }
-    {
-        command_rows!(keys, at_rows, KeyCommand, self, place)
+        command_rows!(keys, told_rows, KeyCommand, self)
     }
 }
 
-/// Reads the words behind a name by the row that has it; `Err` gives the words back where none of these rows has it.
+/// Reads the words after a name by the row that has it; `Err` gives the words back where none of these rows has it.
 pub(crate) fn read_key_command(
     name: &str,
     words: Vec<Vec<u8>>,
@@ -66,9 +47,19 @@ pub(crate) fn read_key_command(
     command_rows!(keys, read_rows, name, words)
 }
 
-fn del(words: Vec<Vec<u8>>) -> Result<Command, Refusal>
-    ensures { result ≡ del_reading (texts_of words.items) }
+/// `DEL key [key ..]`.
+fn read_del(words: Vec<Vec<u8>>) -> Result<Command, Refusal>
+    ensures { result ≡ del_row.reading (texts_of words.items) }
 {
     let keys = Texts::from(words);
     Ok(Command::Key(KeyCommand::Del { keys }))
+}
+
+/// `RENAME key newkey`.
+fn read_rename(words: Vec<Vec<u8>>) -> Result<Command, Refusal>
+    requires { length words.items ≡ 2 }
+    ensures { result ≡ rename_row.reading (texts_of words.items) }
+{
+    let (from, to) = two_words(words);
+    Ok(Command::Key(KeyCommand::Rename { from, to }))
 }

@@ -15,6 +15,7 @@ mod rows;
 mod string_commands;
 #[cfg(test)]
 mod tests;
+mod told;
 mod words;
 
 pub use command::{Command, is_whole, key_at, key_count, keys, name};

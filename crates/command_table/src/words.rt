@@ -1,11 +1,11 @@
-//! The words of a request behind the command's name, taken apart. No word is copied.
+//! The words of a request after the command's name, taken apart. No word is copied.
 
 ghost use Rattle.std.specs.List.{list_any};
 ghost use Rattle.std.specs.Char.{to_ascii_lowercase};
-ghost use Rattle.std.specs.Prelude.{◌≡◌, [], ◌∷◌, length, map};
+ghost use Rattle.std.specs.Prelude.{◌≡◌, ◌<◌, [], ◌∷◌, length, map};
 ghost use Rattle.command_table.specs.Words.{is_word, texts_of};
 
-use texts::Text;
+use texts::{Text, Texts};
 
 /// Whether the word is this one, which is in lower case, without regard to the case of ASCII letters.
 pub(crate) fn is_word(word: &[u8], text: &[u8]) -> bool
@@ -39,4 +39,13 @@ pub(crate) fn two_words(mut words: Vec<Vec<u8>>) -> (Text, Text)
     let second = words.pop().unwrap();
     let first = words.pop().unwrap();
     (Text::from(first), Text::from(second))
+}
+
+/// The first word, and the others.
+pub(crate) fn first_and_rest(mut words: Vec<Vec<u8>>) -> (Text, Texts)
+    requires { 0 < length words.items }
+    ensures { texts_of words.items ≡ result.0 ∷ result.1 }
+{
+    let first = words.remove(0);
+    (Text::from(first), Texts::from(words))
 }

@@ -1,25 +1,25 @@
 -- More requests executed behind others: their rows stand behind the others' rows, and the whole is in order where the new ones touch
 -- none of the others with a greater stamp.
-use Rattle.std.proofs.Common.{◌≡◌, ℕ, List, [], ◌∷◌, ◌++◌, map, Bool, true, false, ◌⊎◌, inl, inr, refl, sym, ap, ◌∙◌, subst}
+use Rattle.std.proofs.Common.{◌≡◌, List, [], ◌∷◌, ◌++◌, false, ◌⊎◌, inl, inr, refl, sym, ap, ◌∙◌}
 use Rattle.command_bodies.proofs.Turns.{in_turn-append}
 use Rattle.command_bodies.specs.Command.{effect_of}
 use Rattle.command_bodies.specs.InTurn.{solo_from}
-use Rattle.command_table.specs.declared.command.Command.{Command}
 use Rattle.keyspace.specs.Map.{Map}
 use Rattle.placement.specs.Layout.{Layout}
-use Rattle.resp.specs.Content.{Content}
 use Rattle.skeen_core.proofs.Lists.{In-append}
 use Rattle.skeen_core.specs.Order.{In}
 use Rattle.skeen_core.specs.Stamp.{stamp_lt}
 use Rattle.execution_order.specs.Entries.{Entry, Row, commands_of, entries_of, replies_of, rows_from, Touch, InOrder, AreAddressed}
 
 -- the rows of more requests stand behind
-pub rows_from-append : (m : Map) (es fs : List Entry) → rows_from m (es ++ fs) ≡ rows_from m es ++ rows_from (solo_from m (commands_of es)).0 fs
+pub rows_from-append : (m : Map) (es fs : List Entry)
+    → rows_from m (es ++ fs) ≡ rows_from m es ++ rows_from (solo_from m (commands_of es)).0 fs
 rows_from-append m [] fs = refl
 rows_from-append m (e ∷ es) fs =
     ap (λ l. record { entry = e; reply = (effect_of e.command m).1 } ∷ l) (rows_from-append (effect_of e.command m).0 es fs)
 
-pub commands-append : (rows more : List Row) → commands_of (entries_of (rows ++ more)) ≡ commands_of (entries_of rows) ++ commands_of (entries_of more)
+pub commands-append : (rows more : List Row)
+    → commands_of (entries_of (rows ++ more)) ≡ commands_of (entries_of rows) ++ commands_of (entries_of more)
 commands-append [] more = refl
 commands-append (r ∷ rows) more = ap (λ l. r.entry.command ∷ l) (commands-append rows more)
 
@@ -33,11 +33,13 @@ entries-append (r ∷ rows) more = ap (λ l. r.entry ∷ l) (entries-append rows
 
 -- rows with the replies of one thread, and behind them rows with its replies as it goes on
 pub solo-append : (old mid new : Map) (rows more : List Row)
-    → (mid, replies_of rows) ≡ solo_from old (commands_of (entries_of rows)) → (new, replies_of more) ≡ solo_from mid (commands_of (entries_of more))
+    → (mid, replies_of rows) ≡ solo_from old (commands_of (entries_of rows))
+    → (new, replies_of more) ≡ solo_from mid (commands_of (entries_of more))
     → (new, replies_of (rows ++ more)) ≡ solo_from old (commands_of (entries_of (rows ++ more)))
 solo-append old mid new rows more before behind =
     ap (λ l. (new, l)) (replies-append rows more)
-    ∙ in_turn-append effect_of old mid new (commands_of (entries_of rows)) (commands_of (entries_of more)) (replies_of rows) (replies_of more) before behind
+    ∙ in_turn-append effect_of old mid new (commands_of (entries_of rows)) (commands_of (entries_of more)) (replies_of rows)
+    (replies_of more) before behind
     ∙ ap (solo_from old) (sym (commands-append rows more))
 
 -- and one row more
@@ -51,9 +53,10 @@ solo-push old mid new rows r before here = solo-append old mid new rows (r ∷ [
 pub InOrder-append : (es fs : List Entry) → InOrder es → InOrder fs
     → ((e f : Entry) → In e es → In f fs → Touch e f → stamp_lt f.stamp e.stamp ≡ false) → InOrder (es ++ fs)
 InOrder-append [] fs before behind across = behind
-InOrder-append (e ∷ es) fs before behind across =
-    ((λ f i. either (In-append f es fs i) (before.0 f) (across e f (inl refl))),
-     InOrder-append es fs before.1 behind (λ d f i. across d f (inr i)))
+InOrder-append (e ∷ es) fs before behind across = (
+  (λ f i. either (In-append f es fs i) (before.0 f) (across e f (inl refl))),
+  InOrder-append es fs before.1 behind (λ d f i. across d f (inr i)),
+)
   where
     either : {A B C : Type 0} → A ⊎ B → (A → C) → (B → C) → C
     either (inl a) f g = f a
@@ -68,7 +71,8 @@ pub InOrder-apart : (es : List Entry) → NoneTouch es → InOrder es
 InOrder-apart [] apart = tt
 InOrder-apart (e ∷ es) apart = ((λ f i t. absurd (apart.0 f i t)), InOrder-apart es apart.1)
 
-pub AreAddressed-append : (table : Layout) (es fs : List Entry) → AreAddressed table es → AreAddressed table fs → AreAddressed table (es ++ fs)
+pub AreAddressed-append : (table : Layout) (es fs : List Entry) → AreAddressed table es → AreAddressed table fs
+    → AreAddressed table (es ++ fs)
 AreAddressed-append table es fs before behind e i = elim (In-append e es fs i) [
   | inl j ↦ before e j
   | inr j ↦ behind e j

@@ -1,10 +1,9 @@
 -- Sorting the requests by their stamps, the first one after the others: each moves right past requests that it doesn't touch.
-use Rattle.std.proofs.Common.{◌≡◌, ℕ, List, [], ◌∷◌, ◌++◌, map, Bool, true, false, cond, inl, inr, refl, sym, ap, ◌∙◌, subst}
+use Rattle.std.proofs.Common.{◌≡◌, List, [], ◌∷◌, Bool, true, false, cond, inl, inr, refl, sym, ap, ◌∙◌}
 use Rattle.std.proofs.lemmas.Bool.{both_ways}
 use Rattle.command_bodies.proofs.Turns.{pair}
 use Rattle.command_bodies.specs.Command.{effect_of}
-use Rattle.command_bodies.specs.InTurn.{in_turn, solo_from}
-use Rattle.command_table.specs.declared.command.Command.{Command}
+use Rattle.command_bodies.specs.InTurn.{solo_from}
 use Rattle.keyspace.specs.Map.{Map}
 use Rattle.placement.specs.Layout.{Layout, IsTable}
 use Rattle.resp.specs.Content.{Content}
@@ -12,7 +11,7 @@ use Rattle.skeen_core.specs.Order.{In}
 use Rattle.skeen_core.specs.Stamp.{stamp_lt}
 use Rattle.execution_order.proofs.Sorting.{In-sort, entries-rows_by_stamp}
 use Rattle.execution_order.proofs.Untouched.{untouched_commute, Touch-swap}
-use Rattle.execution_order.specs.Entries.{Entry, Row, commands_of, entries_of, replies_of, rows_from, insert_by, sort_by, by_stamp, rows_by_stamp, Touch, InOrder, IsAddressed, AreAddressed}
+use Rattle.execution_order.specs.Entries.{Entry, Row, commands_of, entries_of, replies_of, rows_from, insert_by, by_stamp, rows_by_stamp, Touch, InOrder, IsAddressed, AreAddressed}
 use Rattle.execution_order.specs.Laws.{SameInStampOrder, RepliesInStampOrder, RowsAreSolo}
 
 abbrev earlier : Entry → Entry → Bool
@@ -36,7 +35,8 @@ row e m = record { entry = e; reply = answer e m }
 
 module _ (table : Layout) (is_table : IsTable table) where
   -- a request that moves right past one that it doesn't touch
-  commute_leave : (e f : Entry) (m : Map) → IsAddressed table e → IsAddressed table f → (Touch e f → ⊥) → after f (after e m) ≡ after e (after f m)
+  commute_leave : (e f : Entry) (m : Map) → IsAddressed table e → IsAddressed table f → (Touch e f → ⊥)
+      → after f (after e m) ≡ after e (after f m)
   commute_leave e f m at_e at_f untouched = (untouched_commute table e f m is_table at_e at_f untouched).1
 
   commute_answer : (e f : Entry) (m : Map) → IsAddressed table e → IsAddressed table f → (Touch e f → ⊥) → answer f (after e m) ≡ answer f m
@@ -46,7 +46,8 @@ module _ (table : Layout) (is_table : IsTable table) where
       → ((f : Entry) → In f fs → Touch e f → earlier f e ≡ false) → left_by m (insert_by earlier e fs) ≡ left_by (after e m) fs
   left-insert m e [] at_e at_fs order = refl
   left-insert m e (f ∷ fs) at_e at_fs order =
-      elim (earlier f e) as (λ b. earlier f e ≡ b → left_by m (cond b (f ∷ insert_by earlier e fs) (e ∷ f ∷ fs)) ≡ left_by (after e m) (f ∷ fs)) [
+      elim (earlier f e) as (λ b. earlier f e ≡ b
+      → left_by m (cond b (f ∷ insert_by earlier e fs) (e ∷ f ∷ fs)) ≡ left_by (after e m) (f ∷ fs)) [
         | true ↦ λ is.
             left-insert (after f m) e fs at_e (λ g i. at_fs g (inr i)) (λ g i. order g (inr i))
             ∙ ap (λ n. left_by n fs) (sym (commute_leave e f m at_e (at_fs f (inl refl)) (λ t. both_ways _ (order f (inl refl) t) is)))
@@ -59,9 +60,11 @@ module _ (table : Layout) (is_table : IsTable table) where
       → rows_from m (f ∷ insert_by earlier e fs) ≡ row f (after e m) ∷ insert_by row_earlier (row e m) (rows_from (after f (after e m)) fs)
   moved m e f fs at_e at_f untouched rest =
       ap (λ l. row f m ∷ l) rest
-      ∙ ap (λ r. row f m ∷ insert_by row_earlier (record { entry = e; reply = r }) (rows_from (after e (after f m)) fs)) (commute_answer f e m at_f at_e (λ t. untouched (Touch-swap f e t)))
+      ∙ ap (λ r. row f m ∷ insert_by row_earlier (record { entry = e; reply = r }) (rows_from (after e (after f m)) fs))
+      (commute_answer f e m at_f at_e (λ t. untouched (Touch-swap f e t)))
       ∙ ap (λ n. row f m ∷ insert_by row_earlier (row e m) (rows_from n fs)) (sym (commute_leave e f m at_e at_f untouched))
-      ∙ ap (λ r. record { entry = f; reply = r } ∷ insert_by row_earlier (row e m) (rows_from (after f (after e m)) fs)) (sym (commute_answer e f m at_e at_f untouched))
+      ∙ ap (λ r. record { entry = f; reply = r } ∷ insert_by row_earlier (row e m) (rows_from (after f (after e m)) fs))
+      (sym (commute_answer e f m at_e at_f untouched))
 
   pub rows-insert : (m : Map) (e : Entry) (fs : List Entry) → IsAddressed table e → AreAddressed table fs
       → ((f : Entry) → In f fs → Touch e f → earlier f e ≡ false)
@@ -69,24 +72,28 @@ module _ (table : Layout) (is_table : IsTable table) where
   rows-insert m e [] at_e at_fs order = refl
   rows-insert m e (f ∷ fs) at_e at_fs order =
       elim (earlier f e) as (λ b. earlier f e ≡ b →
-          rows_from m (cond b (f ∷ insert_by earlier e fs) (e ∷ f ∷ fs))
-          ≡ cond b (row f (after e m) ∷ insert_by row_earlier (row e m) (rows_from (after f (after e m)) fs)) (row e m ∷ rows_from (after e m) (f ∷ fs))) [
+      rows_from m (cond b (f ∷ insert_by earlier e fs) (e ∷ f ∷ fs))
+      ≡ cond b (row f (after e m) ∷ insert_by row_earlier (row e m) (rows_from (after f (after e m)) fs))
+      (row e m ∷ rows_from (after e m) (f ∷ fs))) [
         | true ↦ λ is.
             moved m e f fs at_e (at_fs f (inl refl)) (λ t. both_ways _ (order f (inl refl) t) is)
-              (rows-insert (after f m) e fs at_e (λ g i. at_fs g (inr i)) (λ g i. order g (inr i)))
+            (rows-insert (after f m) e fs at_e (λ g i. at_fs g (inr i)) (λ g i. order g (inr i)))
         | false ↦ λ _. refl
       ] refl
 
   pub left-by_stamp : (m : Map) (es : List Entry) → AreAddressed table es → InOrder es → left_by m (by_stamp es) ≡ left_by m es
   left-by_stamp m [] at order = refl
   left-by_stamp m (e ∷ es) at order =
-      left-insert m e (by_stamp es) (at e (inl refl)) (λ f i. at f (inr (In-sort earlier es f i))) (λ f i. order.0 f (In-sort earlier es f i))
+      left-insert m e (by_stamp es) (at e (inl refl)) (λ f i. at f (inr (In-sort earlier es f i)))
+      (λ f i. order.0 f (In-sort earlier es f i))
       ∙ left-by_stamp (after e m) es (λ f i. at f (inr i)) order.1
 
-  pub rows-by_stamp : (m : Map) (es : List Entry) → AreAddressed table es → InOrder es → rows_from m (by_stamp es) ≡ rows_by_stamp (rows_from m es)
+  pub rows-by_stamp : (m : Map) (es : List Entry) → AreAddressed table es → InOrder es
+      → rows_from m (by_stamp es) ≡ rows_by_stamp (rows_from m es)
   rows-by_stamp m [] at order = refl
   rows-by_stamp m (e ∷ es) at order =
-      rows-insert m e (by_stamp es) (at e (inl refl)) (λ f i. at f (inr (In-sort earlier es f i))) (λ f i. order.0 f (In-sort earlier es f i))
+      rows-insert m e (by_stamp es) (at e (inl refl)) (λ f i. at f (inr (In-sort earlier es f i)))
+      (λ f i. order.0 f (In-sort earlier es f i))
       ∙ ap (insert_by row_earlier (row e m)) (rows-by_stamp (after e m) es (λ f i. at f (inr i)) order.1)
 
 pub same_in_stamp_order : SameInStampOrder
@@ -106,13 +113,15 @@ pub rows_are_solo : RowsAreSolo
 rows_are_solo m es = (entries-rows_from m es, replies-rows_from m es)
 
 -- rows whose replies are those of one thread are the rows of one thread
-pub rows-from_replies : (m : Map) (rows : List Row) → replies_of rows ≡ (solo_from m (commands_of (entries_of rows))).1 → rows ≡ rows_from m (entries_of rows)
+pub rows-from_replies : (m : Map) (rows : List Row) → replies_of rows ≡ (solo_from m (commands_of (entries_of rows))).1
+    → rows ≡ rows_from m (entries_of rows)
 rows-from_replies m [] e = refl
 rows-from_replies m (r ∷ rows) e =
     ap (λ c. record { entry = r.entry; reply = c } ∷ rows) (first_same e)
     ∙ ap (λ l. row r.entry m ∷ l) (rows-from_replies (after r.entry m) rows (rest_same e))
   where
-    first_same : r.reply ∷ replies_of rows ≡ answer r.entry m ∷ (solo_from (after r.entry m) (commands_of (entries_of rows))).1 → r.reply ≡ answer r.entry m
+    first_same : r.reply ∷ replies_of rows ≡ answer r.entry m ∷ (solo_from (after r.entry m) (commands_of (entries_of rows))).1
+        → r.reply ≡ answer r.entry m
     first_same h = cc
 
     rest_same : r.reply ∷ replies_of rows ≡ answer r.entry m ∷ (solo_from (after r.entry m) (commands_of (entries_of rows))).1
@@ -123,7 +132,8 @@ pub replies_in_stamp_order : RepliesInStampOrder
 replies_in_stamp_order table old new rows is_table at order solo =
     let es = entries_of rows in
     let same_rows : rows ≡ rows_from old es = rows-from_replies old rows (ap (λ v. v.1) solo) in
-    let sorted : rows_by_stamp rows ≡ rows_from old (by_stamp es) = ap rows_by_stamp same_rows ∙ sym (rows-by_stamp table is_table old es at order) in
+    let sorted : rows_by_stamp rows ≡ rows_from old (by_stamp es) = ap rows_by_stamp same_rows
+    ∙ sym (rows-by_stamp table is_table old es at order) in
     let sorted_entries = entries-rows_by_stamp rows in
     pair _ _ _ _
     (ap (λ v. v.0) solo ∙ sym (left-by_stamp table is_table old es at order) ∙ ap (left_by old) (sym sorted_entries))

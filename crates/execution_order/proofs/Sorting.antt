@@ -1,5 +1,5 @@
 -- What sorting does to a list: the same elements, ascending.
-use Rattle.std.proofs.Common.{◌≡◌, List, [], ◌∷◌, map, Bool, true, false, cond, inl, inr, refl, sym, ap, ◌∙◌, subst}
+use Rattle.std.proofs.Common.{◌≡◌, List, [], ◌∷◌, Bool, true, false, cond, inl, inr, refl, ap, ◌∙◌}
 use Rattle.std.proofs.lemmas.List.Sorted.{IsPermutation-refl, IsPermutation-trans, IsPermutation-append_comm, IsPermutation-append_left, IsPermutation-append_right}
 use Rattle.std.specs.List.Sorted.{IsPermutation}
 use Rattle.skeen_core.proofs.Stamps.{lt_asym, le_trans}
@@ -45,14 +45,16 @@ pub IsPermutation-insert_by : {X : Type 0} (below : X → X → Bool) (x : X) (y
 IsPermutation-insert_by below x [] = IsPermutation-refl (x ∷ [])
 IsPermutation-insert_by below x (y ∷ ys) =
     elim (below y x) as (λ b. IsPermutation (x ∷ y ∷ ys) (cond b (y ∷ insert_by below x ys) (x ∷ y ∷ ys))) [
-      | true ↦ IsPermutation-trans _ _ _ (IsPermutation-swap x y ys) (IsPermutation-first y (x ∷ ys) (insert_by below x ys) (IsPermutation-insert_by below x ys))
+      | true ↦ IsPermutation-trans _ _ _ (IsPermutation-swap x y ys)
+          (IsPermutation-first y (x ∷ ys) (insert_by below x ys) (IsPermutation-insert_by below x ys))
       | false ↦ IsPermutation-refl (x ∷ y ∷ ys)
     ]
 
 pub IsPermutation-sort_by : {X : Type 0} (below : X → X → Bool) (xs : List X) → IsPermutation xs (sort_by below xs)
 IsPermutation-sort_by below [] = IsPermutation-refl []
 IsPermutation-sort_by below (x ∷ xs) =
-    IsPermutation-trans _ _ _ (IsPermutation-first x xs (sort_by below xs) (IsPermutation-sort_by below xs)) (IsPermutation-insert_by below x (sort_by below xs))
+    IsPermutation-trans _ _ _ (IsPermutation-first x xs (sort_by below xs) (IsPermutation-sort_by below xs))
+    (IsPermutation-insert_by below x (sort_by below xs))
 
 -- ---- ascending
 
@@ -63,12 +65,16 @@ AscendsByStamp-insert : (e : Entry) (fs : List Entry) → AscendsByStamp fs → 
 AscendsByStamp-insert e [] up = ((λ f i. absurd i), tt)
 AscendsByStamp-insert e (f ∷ fs) up =
     elim (earlier f e) as (λ b. earlier f e ≡ b → AscendsByStamp (cond b (f ∷ insert_by earlier e fs) (e ∷ f ∷ fs))) [
-      | true ↦ λ less. ((λ g i. behind f e fs (lt_asym f.stamp e.stamp less) up.0 g (In-insert earlier e fs g i)), AscendsByStamp-insert e fs up.1)
+      | true ↦ λ less. (
+        (λ g i. behind f e fs (lt_asym f.stamp e.stamp less) up.0 g (In-insert earlier e fs g i)),
+        AscendsByStamp-insert e fs up.1,
+      )
       | false ↦ λ more. ((λ g i. behind e f fs more (λ h j. le_trans e.stamp f.stamp h.stamp more (up.0 h j)) g i), up)
     ] refl
   where
     -- none is below e: not the first of them, and none of the others
-    behind : (a b : Entry) (es : List Entry) → earlier b a ≡ false → ((h : Entry) → In h es → earlier h a ≡ false) → (g : Entry) → In g (b ∷ es) → earlier g a ≡ false
+    behind : (a b : Entry) (es : List Entry) → earlier b a ≡ false → ((h : Entry) → In h es → earlier h a ≡ false) → (g : Entry)
+        → In g (b ∷ es) → earlier g a ≡ false
     behind a b es here others g (inl e') = ap (λ h. earlier h a) e' ∙ here
     behind a b es here others g (inr i) = others g i
 
@@ -84,7 +90,8 @@ row_earlier r s = stamp_lt r.entry.stamp s.entry.stamp
 entries-insert : (r : Row) (rows : List Row) → entries_of (insert_by row_earlier r rows) ≡ insert_by earlier r.entry (entries_of rows)
 entries-insert r [] = refl
 entries-insert r (s ∷ rows) =
-    elim (row_earlier s r) as (λ b. entries_of (cond b (s ∷ insert_by row_earlier r rows) (r ∷ s ∷ rows)) ≡ cond b (s.entry ∷ insert_by earlier r.entry (entries_of rows)) (r.entry ∷ s.entry ∷ entries_of rows)) [
+    elim (row_earlier s r) as (λ b. entries_of (cond b (s ∷ insert_by row_earlier r rows) (r ∷ s ∷ rows))
+    ≡ cond b (s.entry ∷ insert_by earlier r.entry (entries_of rows)) (r.entry ∷ s.entry ∷ entries_of rows)) [
       | true ↦ ap (λ l. s.entry ∷ l) (entries-insert r rows)
       | false ↦ refl
     ]

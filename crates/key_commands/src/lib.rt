@@ -8,10 +8,10 @@ mod bodies;
 
 ghost use Rattle.std.specs.Prelude.{◌≡◌, All, IsTrue, OnErr};
 ghost use Rattle.command_cases.specs.Case.{Does};
-ghost use Rattle.command_table.specs.Command.{key_command_keys};
+ghost use Rattle.command_table.specs.KeyCommands.{key_command_keys};
 ghost use Rattle.key_commands.specs.KeyCommand.{key_command_case, KeyCommandTakesMemory};
 
-use bodies::del;
+use bodies::{del, rename};
 use command_cases::{Starved, body_rows};
 use command_table::{KeyCommand, command_rows};
 use keyspace::Keyspace;

@@ -3,7 +3,8 @@ use Rattle.std.specs.Prelude.{◌≡◌, ℕ, ◌==◌, ◌<◌, ◌≤◌, cond
 use Rattle.delivery.specs.Queues.{queue_of, MayAppend}
 use Rattle.delivery.specs.Ready.{QueueOf, left_in}
 use Rattle.skeen_core.specs.Group.{GroupState, GroupView, fresh, MayCome, Receives}
-use Rattle.skeen_core.specs.declared.packet.Body.TheVariants.{Start}
+use Rattle.skeen_core.specs.declared.packet.Body.{Body}
+use Rattle.skeen_core.specs.declared.packet.Body.TheVariants.{Start, Proposal}
 use Rattle.skeen_core.specs.declared.packet.Delivered.{Delivered}
 use Rattle.skeen_core.specs.declared.packet.Packet.{Packet}
 use Rattle.skeen_core.specs.declared.request.RequestId.{RequestId}
@@ -38,9 +39,9 @@ starts_to id floor all [] = []
 starts_to id floor all (g ∷ gs) = record { to = g; id = id; body = Start floor all } ∷ starts_to id floor all gs
 
 -- its Starts go behind all packets
-pub record Begins (old : MulticastView) (id : RequestId) (floor : ℕ) (groups : List ℕ) (new : MulticastView) : Type 0 where
+pub record Begins (old : MulticastView) (id : RequestId) (floor : ℕ) (addressed : List ℕ) (new : MulticastView) : Type 0 where
   pub groups : new.groups ≡ old.groups
-  pub packets : new.packets ≡ old.packets ++ starts_to id floor groups groups
+  pub packets : new.packets ≡ old.packets ++ starts_to id floor addressed addressed
   pub queues : new.queues ≡ old.queues
 
 -- ---- a packet comes
@@ -56,6 +57,11 @@ pub record MayBeDelivered (v : MulticastView) (p : Packet) : Type 0 where
   pub comes : MayCome (record { me = p.to; state = group_of v.groups p.to }) p
   pub appends : (sent : List Packet) (ds : List Delivered) (state : GroupState) →
       Receives p.to (group_of v.groups p.to) p.id p.body sent ds state → MayAppendAll (queue_of v.queues) p.to ds
+
+-- how many packets a group sends at most when this comes
+abbrev pub sends_at_most : Body → ℕ
+sends_at_most (Start floor groups) = length groups
+sends_at_most (Proposal from clock) = 0
 
 -- The packet at a place has come to its group, which has done with it what its rule says. What it sends goes behind all that is under way,
 -- and what it delivers behind its queue.

@@ -2,7 +2,6 @@ pub mod Joins
 pub mod Spans
 pub mod Steps
 pub mod Unions
-pub mod Lengths
 pub mod Rows
 pub mod Layers
 pub mod Runs

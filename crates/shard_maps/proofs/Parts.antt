@@ -1,15 +1,16 @@
 -- What is run in parts, each part a list, and read again in the order that it had: in whatever way it was dealt to the parts, each
 -- has the result that belongs to it.
-use Rattle.std.proofs.Common.{◌≡◌, ℕ, zero, suc, ◌+◌, ◌<◌, List, [], ◌∷◌, map, length, Option, Some, None, slice_get, slice_index_or, arith, refl, sym, ap, ◌∙◌, subst}
+use Rattle.std.proofs.Common.{◌≡◌, ℕ, zero, suc, List, [], ◌∷◌, length, Option, Some, slice_get, slice_index_or, arith, refl, ◌∙◌, subst}
 use Rattle.std.proofs.lemmas.Option.{slice_get_within}
 use Rattle.std.specs.List.{AllZip}
-use Rattle.shard_maps.specs.Rows.{in_part, IsGathered}
+use Rattle.shard_maps.specs.Rows.{IsGathered}
 
 module _ {X Y : Type 0} (R : X → Y → Type 0) where
   at-nil : (P : Type 0) (x : X) (i : ℕ) → ◌≡◌ {A = Option X} (slice_get [] i) (Some x) → P
   at-nil P x i e = absurd (cc)
 
-  pub AllZip-at : (xs : List X) (ys : List Y) (i : ℕ) (x : X) (y : Y) → AllZip R xs ys → slice_get xs i ≡ Some x → slice_get ys i ≡ Some y → R x y
+  pub AllZip-at : (xs : List X) (ys : List Y) (i : ℕ) (x : X) (y : Y) → AllZip R xs ys → slice_get xs i ≡ Some x → slice_get ys i ≡ Some y
+      → R x y
   AllZip-at [] [] i x y z e f = at-nil (R x y) x i e
   AllZip-at [] (w ∷ ys) i x y z e f = absurd z
   AllZip-at (v ∷ xs) [] i x y z e f = absurd z
@@ -28,7 +29,8 @@ module _ {X Y : Type 0} (R : X → Y → Type 0) where
       let shorter : length ys ≡ length xs = omega (arith, e) in
       (each zero x y refl refl, AllZip-from_places xs ys shorter (λ i. each (suc i)))
 
-  AllZip-part : (parts : List (List X)) (results : List (List Y)) (p : ℕ) → AllZip (AllZip R) parts results → AllZip R (slice_index_or parts p []) (slice_index_or results p [])
+  AllZip-part : (parts : List (List X)) (results : List (List Y)) (p : ℕ) → AllZip (AllZip R) parts results
+      → AllZip R (slice_index_or parts p []) (slice_index_or results p [])
   AllZip-part [] [] p z = tt
   AllZip-part [] (r ∷ results) p z = absurd z
   AllZip-part (q ∷ parts) [] p z = absurd z
@@ -41,4 +43,5 @@ module _ {X Y : Type 0} (R : X → Y → Type 0) where
   AllZip-gathered parts results xs ys ran gathered =
       AllZip-from_places xs ys gathered.as_many (λ i x y e f.
       let spot = gathered.each i (slice_get_within xs i x e) in
-      AllZip-at (slice_index_or parts spot.0 []) (slice_index_or results spot.0 []) spot.1 x y (AllZip-part parts results spot.0 ran) (spot.2 ∙ e) (spot.3 ∙ f))
+      AllZip-at (slice_index_or parts spot.0 []) (slice_index_or results spot.0 []) spot.1 x y (AllZip-part parts results spot.0 ran)
+      (spot.2 ∙ e) (spot.3 ∙ f))

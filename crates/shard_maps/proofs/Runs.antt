@@ -1,5 +1,5 @@
 -- A command that was run over a span by its contract: the span is as `SpanRan` says.
-use Rattle.std.proofs.Common.{◌≡◌, ℕ, List, Option, Some, None, Result, Ok, Err, sym, ap, ◌∙◌, subst}
+use Rattle.std.proofs.Common.{◌≡◌, Some, None, Result, Ok, Err, sym, ap, ◌∙◌, subst}
 use Rattle.command_bodies.proofs.Turns.{pair}
 use Rattle.command_bodies.specs.Command.{effect_of}
 use Rattle.command_cases.specs.Case.{Does}
@@ -12,13 +12,15 @@ use Rattle.shard_maps.proofs.Unions.{divided-union}
 use Rattle.shard_maps.specs.Joined.{Span, numbers, union, SpanHasOwnKeys, divided, SpanRan}
 use Rattle.shard_maps.specs.Layer.{outcome_of}
 
-module _ (table : Layout) (command : Command) (before after : Span) (up : IsAscending (numbers before)) (kept : numbers after ≡ numbers before) (own : SpanHasOwnKeys table after) where
+module _ (table : Layout) (command : Command) (before after : Span) (up : IsAscending (numbers before))
+    (kept : numbers after ≡ numbers before) (own : SpanHasOwnKeys table after) where
   -- the span is its union, divided among its shards
   is_divided : after ≡ divided table (numbers before) (union after)
   is_divided =
       sym (divided-union table after own (subst IsAscending (sym kept) up)) ∙ ap (λ ns. divided table ns (union after)) kept
 
-  pub SpanRan-answered : (reply : Content) → (union after, reply) ≡ effect_of command (union before) → SpanRan table command before (Some reply) after
+  pub SpanRan-answered : (reply : Content) → (union after, reply) ≡ effect_of command (union before)
+      → SpanRan table command before (Some reply) after
   SpanRan-answered reply did =
       pair _ _ _ _ (is_divided ∙ ap (divided table (numbers before)) (ap (λ r. r.0) did)) (ap (λ r. r.1) did)
 
@@ -27,7 +29,8 @@ module _ (table : Layout) (command : Command) (before after : Span) (up : IsAsce
       is_divided ∙ ap (divided table (numbers before)) same ∙ divided-union table before own_before up
 
   -- what a body leaves of the union and answers
-  pub SpanRan-done : {E : Type 0} (result : Result Reply E) → SpanHasOwnKeys table before → Does (effect_of command) (union before) (union after) result
+  pub SpanRan-done : {E : Type 0} (result : Result Reply E) → SpanHasOwnKeys table before
+      → Does (effect_of command) (union before) (union after) result
       → SpanRan table command before (outcome_of result) after
   SpanRan-done (Ok reply) own_before did = SpanRan-answered (content reply) did
   SpanRan-done (Err fault) own_before did = SpanRan-starved own_before did

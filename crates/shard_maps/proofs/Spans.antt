@@ -1,28 +1,27 @@
 -- A command over the shards of its groups is that command on the joined map.
-use Rattle.std.proofs.Common.{◌≡◌, ℕ, zero, suc, ◌<◌, ◌==◌, ◌||◌, ◌&&◌, nat_lt, List, [], ◌∷◌, map, length, Bool, true, false, cond, Option, Some, None, is_some, slice_index_or, inl, inr, refl, sym, ap, ◌∙◌, subst, eqb-true, eq-eqb, ne_eqb, lt-ltb}
-use Rattle.std.proofs.lemmas.Bool.{cases_eq, or_cases, or_right, both_ways}
+use Rattle.std.proofs.Common.{◌≡◌, ℕ, ◌||◌, ◌&&◌, List, [], ◌∷◌, map, Bool, true, false, cond, Option, Some, None, slice_index_or, inl, inr, refl, sym, ap, ◌∙◌, subst, eq-eqb, ne_eqb, lt-ltb}
+use Rattle.std.proofs.lemmas.Bool.{cases_eq, both_ways}
 use Rattle.std.proofs.lemmas.List.Folds.{Any-from_list_any}
 use Rattle.std.specs.Cmp.Lexicographic.{slice_cmp}
 use Rattle.std.specs.FinMap.{get, get-empty}
-use Rattle.std.specs.List.{list_any}
-use Rattle.std.specs.Option.{option_or, IsSome}
+use Rattle.std.specs.Option.{option_or}
 use Rattle.std.specs.Ordering.{nat_cmp}
 use Rattle.std.specs.Str.{bytes_eq}
 use Rattle.command_bodies.specs.Command.{case_of, effect_of}
 use Rattle.command_cases.specs.Case.{one}
 use Rattle.command_table.specs.Command.{keys_of, is_whole}
 use Rattle.command_table.specs.declared.command.Command.{Command}
-use Rattle.groups.specs.GroupSet.{has, chosen}
+use Rattle.groups.specs.GroupSet.{has}
 use Rattle.groups.specs.GroupSetLaws.{has-chosen}
-use Rattle.keyspace.proofs.Gets.{same, same_bytes, get-retain_keys}
+use Rattle.keyspace.proofs.Gets.{same, same_bytes}
 use Rattle.keyspace.proofs.Parts.{get-restrict, get-put_back}
-use Rattle.keyspace.specs.Map.{Map, among, restrict, put_back}
+use Rattle.keyspace.specs.Map.{Map, among, restrict}
 use Rattle.placement.proofs.Addressed.{shard_of-below, has-groups_of-key}
 use Rattle.placement.specs.Groups.{groups_of, has_key_on}
 use Rattle.placement.specs.Layout.{Layout, IsTable, shard_of}
 use Rattle.resp.specs.Content.{Content}
 use Rattle.shard_maps.proofs.Joins.{get-joined-cons, get-joined, none_elsewhere, or_same}
-use Rattle.shard_maps.specs.Joined.{joined, map_of_shard, HasKeysOf, HasOwnKeys, Span, numbers, union, span_at, part_of, divided, span_effect}
+use Rattle.shard_maps.specs.Joined.{joined, map_of_shard, HasOwnKeys, numbers, union, span_at}
 use Rattle.values.specs.declared.Value.{Value}
 
 -- ---- the union of some shards
@@ -47,7 +46,8 @@ get-union table maps (g ∷ gs) q own =
       | inl e ↦ ap (λ n. option_or (get (map_of_shard maps n) q) (cond (has gs (shard_of table q)) here None)) e
           ∙ or_cond_same (has gs (shard_of table q)) here
           ∙ ap (λ b. cond (b || has gs (shard_of table q)) here None) (sym (eq-eqb g (shard_of table q) e))
-      | inr apart ↦ ap (λ o. option_or o (cond (has gs (shard_of table q)) here None)) (none_elsewhere table g (map_of_shard maps g) q (own g) (λ e. apart (sym e)))
+      | inr apart ↦ ap (λ o. option_or o (cond (has gs (shard_of table q)) here None))
+          (none_elsewhere table g (map_of_shard maps g) q (own g) (λ e. apart (sym e)))
           ∙ ap (λ b. cond (b || has gs (shard_of table q)) here None) (sym (ne_eqb g (shard_of table q) apart))
     ]
   where
@@ -68,7 +68,8 @@ pub has-groups_of-among : (table : Layout) (command : Command) (q : List ℕ) �
 has-groups_of-among table command q is_table h =
     let found = Any-from_list_any (bytes_eq q) (keys_of command) h in
     let is : q ≡ found.1 = same_bytes q found.1 found.4 in
-    has-groups_of-key table command q is_table (found.0, found.2, subst (λ k. slice_index_or (keys_of command) found.0 k ≡ k) (sym is) found.3)
+    has-groups_of-key table command q is_table
+    (found.0, found.2, subst (λ k. slice_index_or (keys_of command) found.0 k ≡ k) (sym is) found.3)
 
 -- and every key lies on a group of a whole command
 pub has-groups_of-whole : (table : Layout) (command : Command) (q : List ℕ) → IsTable table → is_whole command ≡ true
@@ -98,7 +99,8 @@ module _ (table : Layout) (command : Command) (m u : Map) (is_table : IsTable ta
   own_part : restrict u (keys_of command) ≡ restrict m (keys_of command)
   own_part = same (restrict u (keys_of command)) (restrict m (keys_of command)) (λ q.
       get-restrict u (keys_of command) q ∙ ap (λ o. cond (among (keys_of command) q) o None) (is q)
-      ∙ keys_there (among (keys_of command) q) (has (groups_of table command) (shard_of table q)) (get m q) (has-groups_of-among table command q is_table)
+      ∙ keys_there (among (keys_of command) q) (has (groups_of table command) (shard_of table q)) (get m q)
+      (has-groups_of-among table command q is_table)
       ∙ sym (get-restrict m (keys_of command) q))
 
   abbrev part_case : Map × Content
@@ -106,34 +108,39 @@ module _ (table : Layout) (command : Command) (m u : Map) (is_table : IsTable ta
 
   pub same_reply : (effect_of command u).1 ≡ (effect_of command m).1
   same_reply = elim (is_whole command) as (λ b. is_whole command ≡ b → (effect_of command u).1 ≡ (effect_of command m).1) [
-      | true ↦ λ whole. ap (λ n. (effect_of command n).1) (all_of whole)
-      | false ↦ λ part. ap (λ r. r.1) (effect-part command u part) ∙ ap (λ n. (case_of command n).1) own_part ∙ sym (ap (λ r. r.1) (effect-part command m part))
-    ] refl
+    | true ↦ λ whole. ap (λ n. (effect_of command n).1) (all_of whole)
+    | false ↦ λ part. ap (λ r. r.1) (effect-part command u part) ∙ ap (λ n. (case_of command n).1) own_part
+        ∙ sym (ap (λ r. r.1) (effect-part command m part))
+  ] refl
 
   same_change : (a b : Bool) (o p r : Option Value) → b ≡ true → cond a o (cond b p r) ≡ cond a o p
   same_change a b o p r h = ap (λ t. cond a o (cond t p r)) h
 
   get-effect-part : (n : Map) (q : List ℕ) → is_whole command ≡ false
-      → get (effect_of command n).0 q ≡ cond (among (keys_of command) q) (get (case_of command (restrict n (keys_of command))).0 q) (get n q)
-  get-effect-part n q part = ap (λ r. get r.0 q) (effect-part command n part) ∙ get-put_back n (keys_of command) (case_of command (restrict n (keys_of command))).0 q
+      → get (effect_of command n).0 q
+      ≡ cond (among (keys_of command) q) (get (case_of command (restrict n (keys_of command))).0 q) (get n q)
+  get-effect-part n q part = ap (λ r. get r.0 q) (effect-part command n part)
+      ∙ get-put_back n (keys_of command) (case_of command (restrict n (keys_of command))).0 q
 
   -- at a key of these groups both leave the same
-  pub same_there : (q : List ℕ) → has (groups_of table command) (shard_of table q) ≡ true → get (effect_of command u).0 q ≡ get (effect_of command m).0 q
-  same_there q there = elim (is_whole command) as (λ b. is_whole command ≡ b → get (effect_of command u).0 q ≡ get (effect_of command m).0 q) [
-      | true ↦ λ whole. ap (λ n. get (effect_of command n).0 q) (all_of whole)
-      | false ↦ λ part.
-          get-effect-part u q part
-          ∙ ap (λ n. cond (among (keys_of command) q) (get (case_of command n).0 q) (get u q)) own_part
-          ∙ ap (cond (among (keys_of command) q) (get part_case.0 q)) (is q ∙ ap (λ b. cond b (get m q) None) there)
-          ∙ sym (get-effect-part m q part)
-    ] refl
+  pub same_there : (q : List ℕ) → has (groups_of table command) (shard_of table q) ≡ true
+      → get (effect_of command u).0 q ≡ get (effect_of command m).0 q
+  same_there q there = elim (is_whole command)
+      as (λ b. is_whole command ≡ b → get (effect_of command u).0 q ≡ get (effect_of command m).0 q) [
+        | true ↦ λ whole. ap (λ n. get (effect_of command n).0 q) (all_of whole)
+        | false ↦ λ part.
+            get-effect-part u q part
+            ∙ ap (λ n. cond (among (keys_of command) q) (get (case_of command n).0 q) (get u q)) own_part
+            ∙ ap (cond (among (keys_of command) q) (get part_case.0 q)) (is q ∙ ap (λ b. cond b (get m q) None) there)
+            ∙ sym (get-effect-part m q part)
+      ] refl
 
   -- and elsewhere nothing changes
   pub same_elsewhere : (q : List ℕ) → has (groups_of table command) (shard_of table q) ≡ false → get (effect_of command m).0 q ≡ get m q
   same_elsewhere q away = elim (is_whole command) as (λ b. is_whole command ≡ b → get (effect_of command m).0 q ≡ get m q) [
-      | true ↦ λ whole. absurd (both_ways _ away (has-groups_of-whole table command q is_table whole))
-      | false ↦ λ part. get-effect-part m q part ∙ ap (λ b. cond b (get part_case.0 q) (get m q)) no_key
-    ] refl
+    | true ↦ λ whole. absurd (both_ways _ away (has-groups_of-whole table command q is_table whole))
+    | false ↦ λ part. get-effect-part m q part ∙ ap (λ b. cond b (get part_case.0 q) (get m q)) no_key
+  ] refl
     where
       no_key : among (keys_of command) q ≡ false
       no_key = elim (among (keys_of command) q) as (λ b. among (keys_of command) q ≡ b → b ≡ false) [

@@ -45,7 +45,10 @@ taken_out_each absent row (gs ∷ sets) = taken_out absent row gs ∷ taken_out_
 abbrev pub in_part : {X : Type 0} → List (List X) → ℕ → ℕ → Option X
 in_part parts part place = slice_get (slice_index_or parts part []) place
 
--- each of `xs` stands somewhere in the parts, and at the same place of the results stands that of `ys` which belongs to it
-pub record IsGathered {X Y : Type 0} (parts : List (List X)) (results : List (List Y)) (xs : List X) (ys : List Y) : Type 0 where
+-- each of `xs` stands somewhere in the parts, and where it stands the results have what is in its place of `ys`
+pub record IsGathered {X Y : Type 0}
+    (parts : List (List X)) (results : List (List Y)) (xs : List X) (ys : List Y) : Type 0 where
   pub as_many : length ys ≡ length xs
-  pub each : (i : ℕ) → i < length xs → (part : ℕ) × (place : ℕ) × (in_part parts part place ≡ slice_get xs i) × (in_part results part place ≡ slice_get ys i)
+  pub each : (i : ℕ) → i < length xs
+      → (part : ℕ) × (place : ℕ)
+      × (in_part parts part place ≡ slice_get xs i) × (in_part results part place ≡ slice_get ys i)

@@ -29,12 +29,12 @@ pub data Step (me : ℕ) (old : GroupState) (id : RequestId) (body : Body) (sent
   Begins : (floor : ℕ) (groups : List ℕ) → get old.started id ≡ None → Delivering me (lifted (with_start me old id floor groups) id) ds new → (body ≡ Start floor groups) → sent ≡ tell me id (next_clock old floor) groups → Step me old id body sent ds new
   Hears : (from n : ℕ) → Delivering me (lifted (with_proposal old id from n) id) ds new → (body ≡ Proposal from n) → sent ≡ [] → Step me old id body sent ds new
 
-pub step_start : (me : ℕ) (old : GroupState) (id : RequestId) (floor : ℕ) (groups : List ℕ) (sent : List Packet) (ds : List Delivered) (new : GroupState) (o : Option (List ℕ)) → get old.started id ≡ o →
+step_start : (me : ℕ) (old : GroupState) (id : RequestId) (floor : ℕ) (groups : List ℕ) (sent : List Packet) (ds : List Delivered) (new : GroupState) (o : Option (List ℕ)) → get old.started id ≡ o →
     ReceivesStart o me old id floor groups sent ds new → Step me old id (Start floor groups) sent ds new
 step_start me old id floor groups sent ds new (Some gs) e r = Again r.0 r.1 r.2
 step_start me old id floor groups sent ds new None e r = Begins floor groups e r.1 refl r.0
 
-pub step : (me : ℕ) (old : GroupState) (id : RequestId) (body : Body) (sent : List Packet) (ds : List Delivered) (new : GroupState) → Receives me old id body sent ds new → Step me old id body sent ds new
+step : (me : ℕ) (old : GroupState) (id : RequestId) (body : Body) (sent : List Packet) (ds : List Delivered) (new : GroupState) → Receives me old id body sent ds new → Step me old id body sent ds new
 step me old id (Start floor groups) sent ds new r = step_start me old id floor groups sent ds new (get old.started id) refl r
 step me old id (Proposal from n) sent ds new r = Hears from n r.1 refl r.0
 
@@ -190,7 +190,7 @@ kept_place me grp ds i gs e =
     ap (λ o. place_by o (own_at me (without grp ds) i)) (same_final (without grp ds) grp i gs (still_heard grp ds i e))
     ∙ ap (λ o. place_by (final (heard grp i) gs) (record { clock = or_zero o; group = me })) (still_heard grp ds i e me)
 
-pub left_started : (grp : GroupState) (ds : List Delivered) (i : RequestId) (gs : List ℕ) → get (without grp ds).started i ≡ Some gs → (has_id ds i ≡ false) × (get grp.started i ≡ Some gs)
+left_started : (grp : GroupState) (ds : List Delivered) (i : RequestId) (gs : List ℕ) → get (without grp ds).started i ≡ Some gs → (has_id ds i ≡ false) × (get grp.started i ≡ Some gs)
 left_started grp ds i gs e = elim (cases_Bool (has_id ds i)) [
   | inl p ↦ absurd (None≢Some gs (ap (λ b. cond b None (get grp.started i)) (sym p) ∙ sym (started-without grp ds i) ∙ e))
   | inr p ↦ (p, sym (still_started grp ds i p) ∙ e)
@@ -312,7 +312,7 @@ delivered_is_forgotten me old new id body sent ds r d there = by_step (step me o
     by_step (Begins floor groups absent delivering is told) = gone _ delivering
     by_step (Hears from n delivering is told) = gone _ delivering
 
-pub empty_of : (ds : List Delivered) → ((d : Delivered) → In d ds → ⊥) → ds ≡ []
+empty_of : (ds : List Delivered) → ((d : Delivered) → In d ds → ⊥) → ds ≡ []
 empty_of [] none = refl
 empty_of (d ∷ ds) none = absurd (none d (inl refl))
 
@@ -346,7 +346,7 @@ same_ascending (x ∷ xs) (y ∷ ys) up up' to from =
     firsts (inr there) (inl same) = sym same
     firsts (inr there) (inr here) = absurd (both_ways _ (lt_asym y.stamp x.stamp (up'.0 x there)) (up.0 y here))
 
-pub delivering_same : (me : ℕ) (grp : GroupState) (ds ds' : List Delivered) (new new' : GroupState) → Delivering me grp ds new → Delivering me grp ds' new' → (ds ≡ ds') × (new ≡ new')
+delivering_same : (me : ℕ) (grp : GroupState) (ds ds' : List Delivered) (new new' : GroupState) → Delivering me grp ds new → Delivering me grp ds' new' → (ds ≡ ds') × (new ≡ new')
 delivering_same me grp ds ds' new new' a b =
     let same = same_ascending ds ds' a.delivers.ascending b.delivers.ascending (λ d there. b.delivers.all d (a.delivers.only d there)) (λ d there. a.delivers.all d (b.delivers.only d there)) in
     (same, a.after ∙ ap (without grp) same ∙ sym b.after)

@@ -118,7 +118,8 @@ abbrev pub submitted : Layout → World → ℕ → Result Command Refusal → W
 submitted t w c (Err refusal) = answered w c (ErrorLine (refusal_text refusal))
 submitted t w c (Ok command) = submitted_to w c command (groups_of t command)
 
-pub record Submits (t : Layout) (old : World) (c : ℕ) (words : List (List ℕ)) (effect : Effect) (new : World) : Type 0 where
+pub record Submits (t : Layout) (old : World) (c : ℕ) (words : List (List ℕ)) (effect : Effect)
+    (new : World) : Type 0 where
   pub idle : old.standing c ≡ Idle
   pub answers : effect ≡ Submitted (next_id old c)
   pub after : new ≡ submitted t old c (reading words)
@@ -135,11 +136,12 @@ with_own None proposed id me n = hears proposed id me n
 
 -- the proposals, with the one that the group makes when it gets this
 abbrev pub now_proposed : Proposals → ℕ → GroupState → RequestId → Body → Proposals
-now_proposed proposed me grp id (Start floor groups) = with_own (get grp.started id) proposed id me (next_clock grp floor)
+now_proposed proposed me grp id (Start floor groups) =
+    with_own (get grp.started id) proposed id me (next_clock grp floor)
 now_proposed proposed me grp id (Proposal from n) = proposed
 
--- The packet at a place has come to its group, which does with it what the group's rule says. What it sends goes behind all that is under
--- way, and what it delivers behind its queue.
+-- The packet at a place has come to its group, which does with it what the group's rule says. What it sends goes
+-- behind all that is under way, and what it delivers behind its queue.
 abbrev pub received : World → ℕ → Packet → List Packet → List Delivered → GroupState → World
 received w k p sent ds state = record w {
   packets = remove w.packets k ++ sent;
@@ -223,7 +225,8 @@ pub record RunsLayer (old : World) (starved : List RequestId) (effect : Effect) 
   pub there : old.layer ≡ Taken layer
   pub in_turn : RunInTurn old.asked starved old.contents layer outcomes
   pub answers : effect ≡ Ran (starved_among outcomes)
-  pub after : new ≡ record old { layer = HasRun outcomes; ended = old.ended ++ outcomes; contents = after_all old.contents outcomes }
+  pub after : new ≡ record old { layer = HasRun outcomes; ended = old.ended ++ outcomes;
+      contents = after_all old.contents outcomes }
 
 -- ---- Settle: the layer's outcomes go to their connections
 
@@ -256,7 +259,8 @@ abbrev pub Collects : Standing → World → ℕ → Effect → World → Type 0
 Collects Closed old c effect new = ⊥
 Collects Idle old c effect new = (effect ≡ Collected None) × (new ≡ old)
 Collects Waiting old c effect new = (effect ≡ Collected None) × (new ≡ old)
-Collects (Answered outcome) old c effect new = (effect ≡ Collected (Some outcome)) × (new ≡ record old { standing = at old.standing c Idle })
+Collects (Answered outcome) old c effect new = (effect ≡ Collected (Some outcome))
+    × (new ≡ record old { standing = at old.standing c Idle })
 
 -- ---- Close: a connection is closed, and what it waits for will be dropped
 
@@ -267,8 +271,8 @@ pub record Closes (old : World) (c : ℕ) (effect : Effect) (new : World) : Type
 
 -- ---- all of them
 
--- In the world old the step is accepted; it answers so, and new is the world after it. A Run is told the ids that starve; one that isn't in
--- the layer adds nothing.
+-- In the world old the step is accepted; it answers so, and new is the world after it. A Run is told the ids that
+-- starve; one that isn't in the layer adds nothing.
 abbrev pub Steps : Layout → World → Step → Effect → World → Type 0
 Steps t old Open effect new = Opens old effect new
 Steps t old (Submit conn words) effect new = Submits t old conn.0 words effect new

@@ -1,5 +1,5 @@
--- What a history of steps gives: connections, packets under way, groups, queues, a layer, and one map. It knows no worker, no part of a
--- layer, and no shard's own map.
+-- What a history of steps gives: connections, packets under way, groups, queues, a layer, and one map. It knows no
+-- worker, no part of a layer, and no shard's own map.
 use Rattle.std.specs.Prelude.{ℕ, List, Option}
 use Rattle.command_table.specs.declared.command.Command.{Command}
 use Rattle.keyspace.specs.Map.{Map}

@@ -1,3 +1,4 @@
+pub mod Values
 pub mod Lists
 pub mod Groups
 pub mod Packets
@@ -6,3 +7,15 @@ pub mod Requests
 pub mod Connections
 pub mod Layers
 pub mod Worlds
+pub mod Bounds
+pub mod OrderLaws
+pub mod ConditionLaws
+pub mod HeadlineLaws
+pub mod Owing
+pub mod Owed
+pub mod QuietLaws
+pub mod BoundLaws
+pub mod CollectingLaws
+pub mod Telling
+pub mod Floors
+pub mod DeterminedLaws

@@ -1,5 +1,5 @@
 -- Lists: rising ones, and one without one of its elements.
-use Rattle.std.proofs.Common.{◌≡◌, ℕ, zero, suc, ◌+◌, Bool, true, false, cond, List, [], ◌∷◌, ◌++◌, ◌⊎◌, inl, inr, Option, Some, None, slice_get, refl, sym, ap, ◌∙◌, subst, arith}
+use Rattle.std.proofs.Common.{◌≡◌, ℕ, zero, suc, List, [], ◌∷◌, ◌++◌, inl, inr, Some, slice_get, refl, sym, ap, subst}
 use Rattle.std.specs.List.{remove}
 use Rattle.skeen_core.specs.Order.{In}
 use Rattle.skeen_core.proofs.Lists.{In-left, In-right, In-append}
@@ -7,7 +7,8 @@ use Rattle.world_laws.specs.Good.{Rising}
 
 -- ---- rising lists
 
-pub rising_append : {X : Type 0} (R : X → X → Type 0) (xs ys : List X) → Rising R xs → Rising R ys → ((x y : X) → In x xs → In y ys → R x y) → Rising R (xs ++ ys)
+pub rising_append : {X : Type 0} (R : X → X → Type 0) (xs ys : List X) → Rising R xs → Rising R ys →
+    ((x y : X) → In x xs → In y ys → R x y) → Rising R (xs ++ ys)
 rising_append R [] ys up up' cross = up'
 rising_append R (x ∷ xs) ys up up' cross = (
   λ y there. elim (In-append y xs ys there) [ inl before ↦ up.0 y before | inr after ↦ cross x y (inl refl) after ],

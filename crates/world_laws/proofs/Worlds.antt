@@ -1,12 +1,11 @@
 -- Each kind of step leads from a good world to a good one.
-use Rattle.std.proofs.Common.{◌≡◌, ℕ, suc, ◌≤◌, Bool, true, false, List, [], ◌∷◌, ◌++◌, inl, inr, Option, Some, None, Result, Ok, Err, slice_get, ◌==◌, refl, sym, ap, ◌∙◌, subst, arith, append-nil, eq-eqb}
+use Rattle.std.proofs.Common.{◌≡◌, ℕ, List, [], ◌∷◌, ◌++◌, inl, inr, Some, None, Result, Ok, Err, slice_get, ◌==◌, refl, sym, ap, ◌∙◌, subst, append-nil, eq-eqb}
 use Rattle.std.proofs.lemmas.Bool.{or_left}
 use Rattle.std.specs.FinMap.{empty}
 use Rattle.command_bodies.specs.Command.{effect_of}
 use Rattle.command_table.specs.Reading.{reading}
 use Rattle.command_table.specs.declared.command.Command.{Command}
 use Rattle.command_table.specs.declared.refusal.Refusal.{Refusal}
-use Rattle.delivery.specs.Ready.{taken_from, left_in}
 use Rattle.groups.specs.GroupSet.{has, IsAscending}
 use Rattle.groups.specs.GroupSetLaws.{IsAscending-chosen}
 use Rattle.journal.specs.declared.step.Step.{Step}
@@ -25,15 +24,16 @@ use Rattle.skeen_core.specs.declared.packet.Delivered.{Delivered}
 use Rattle.skeen_core.specs.declared.packet.Packet.{Packet}
 use Rattle.skeen_core.specs.declared.request.RequestId.{RequestId}
 use Rattle.skeen_core.specs.declared.stamp.Stamp.{Stamp}
-use Rattle.world.specs.Steps.{opening, Effect, Opens, next_id, clock_of, final_clock, final_clock_of, floor_of, multicast, answered, submitted_to, submitted, Submits, now_proposed, received, Comes, taken, Takes, after_all, RunInTurn, RunsLayer, settled, Settles, Collects, Closes, Steps, Makes, Leads}
-use Rattle.world.specs.World.{World, Request, Outcome, Standing, Closed, Idle, Waiting, Answered, Ended, Layer, NoneTaken, Taken, HasRun, Proposals}
-use Rattle.world_laws.specs.Good.{Asked, Among, Known, GroupGood, log_of, SkeenGood, ShapedFor, AskedGood, delivered_of, all_delivered, all_taken, TakenGood, Named, Pending, ConnectionsGood, RunGood, WorldGood}
-use Rattle.world_laws.proofs.Connections.{not_pending, idle_open, idle_not_waiting, connections_open, connections_answered, connections_multicast, connections_collect, connections_close, connections_run, connections_settle}
-use Rattle.world_laws.proofs.Groups.{AskedMore}
+use Rattle.world.specs.Steps.{opening, Effect, Opens, next_id, clock_of, final_clock, final_clock_of, floor_of, multicast, answered, submitted_to, submitted, Submits, received, Comes, Takes, RunsLayer, Settles, Collects, Closes, Steps, Makes, Leads}
+use Rattle.world.specs.World.{World, Request, Standing, Closed, Idle, Waiting, Answered, Ended, HasRun}
+use Rattle.world_laws.specs.Good.{Among, GroupGood, log_of, SkeenGood, ShapedFor, delivered_of, all_delivered, all_taken, TakenGood, Pending, ConnectionsGood, WorldGood}
+use Rattle.world_laws.proofs.Connections.{not_pending, connections_open, connections_answered, connections_multicast, connections_collect, connections_close, connections_run, connections_settle}
 use Rattle.world_laws.proofs.Layers.{log_taken, taken_layer, taken_run, run_layer_good, run_more, all_delivered-append, in_delivered, taken_once}
 use Rattle.world_laws.proofs.Lists.{split_at}
 use Rattle.world_laws.proofs.Receipts.{packet_comes, among_comes}
 use Rattle.world_laws.proofs.Requests.{asks_more, skeen_multicast, next_is_new, Rested, requests_multicast, requests_counted, requests_proposed, taken_more}
+use Rattle.skeen_core.proofs.Lawful.{some_same}
+use Rattle.world_laws.proofs.Values.{idle_open, idle_not_waiting, closed_not_answered}
 
 -- ---- the opening
 
@@ -73,9 +73,6 @@ good_opening t = record {
   };
   run = record { commands = λ e there. absurd there; replies = tt; map = refl };
 }
-  where
-    closed_not_answered : (o : Outcome) → Closed ≡ Answered o → ⊥
-    closed_not_answered o e = cc
 
 -- ---- Open
 
@@ -84,13 +81,15 @@ keeps_open t old new effect step good = subst (λ w. WorldGood t w) (sym step.af
   skeen = good.skeen;
   requests = good.requests;
   taken = good.taken;
-  connections = connections_open old.opened old.standing old.seq old.last old.asked old.ended old.layer good.requests.fresh good.connections;
+  connections =
+      connections_open old.opened old.standing old.seq old.last old.asked old.ended old.layer good.requests.fresh good.connections;
   run = good.run;
 })
 
 -- ---- Submit
 
-pub good_answered : (t : Layout) (old : World) (c : ℕ) (reply : Content) → old.standing c ≡ Idle → WorldGood t old → WorldGood t (answered old c reply)
+pub good_answered : (t : Layout) (old : World) (c : ℕ) (reply : Content) → old.standing c ≡ Idle → WorldGood t old →
+    WorldGood t (answered old c reply)
 good_answered t old c reply idle good = record {
   skeen = good.skeen;
   requests = requests_counted t old.asked old.proposed old.seq old.last c good.requests;
@@ -100,58 +99,69 @@ good_answered t old c reply idle good = record {
   run = good.run;
 }
 
--- the last request of an idle connection has its final stamp
-rested : (t : Layout) (w : World) (c : ℕ) → w.standing c ≡ Idle → WorldGood t w → Rested w.asked w.proposed w.last c (floor_of w c)
-rested t w c idle good = record { stamp = λ l q is named.
-    let at_c = (good.requests.lasts c l is).0 in
-    elim (good.connections.pending l q named) [
-      | inl done ↦
-          let there : In (delivered_of done.0) (all_taken w.ended w.layer) = In-left _ (all_delivered w.ended) _
-          (in_delivered w.ended done.0 (subst (λ es. In done.0 es) (sym good.connections.split) (In-left done.0 good.connections.settled _ done.1))) in
-          let known = good.taken.known (delivered_of done.0) there in
-          let same : known.named.0 ≡ q = some_request known.named.0 q (sym known.named.1 ∙ ap w.asked done.2 ∙ named) in
-          let stamp : final (w.proposed l) q.groups ≡ Some done.0.stamp =
-          ap (λ (x : Request). final (w.proposed l) x.groups) (sym same) ∙ ap (λ gs. final (w.proposed l) gs) known.named.2 ∙ ap (λ i. final (w.proposed i) done.0.groups) (sym done.2) ∙ known.stamp in
-          (done.0.stamp, stamp, sym (floor_is l q done.0.stamp is named stamp))
-      | inr pending ↦ absurd (not_pending w.standing w.seq l Idle (ap w.standing at_c ∙ idle) idle_open idle_not_waiting pending)
-    ]
+-- the last request of a connection that waits for none has its final stamp
+pub rested : (t : Layout) (w : World) (c : ℕ) (s : Standing) → w.standing c ≡ s → (s ≡ Closed → ⊥) → (s ≡ Waiting → ⊥) → WorldGood t w →
+    Rested w.asked w.proposed w.last c (floor_of w c)
+rested t w c s is_at lively not_waiting good = record {
+  stamp = λ l q is named.
+      let at_c = (good.requests.lasts c l is).0 in
+      elim (good.connections.pending l q named) [
+        | inl done ↦
+            let there : In (delivered_of done.0) (all_taken w.ended w.layer) = In-left _ (all_delivered w.ended) _
+            (in_delivered w.ended done.0 (subst (λ es. In done.0 es) (sym good.connections.split)
+            (In-left done.0 good.connections.settled _ done.1))) in
+            let known = good.taken.known (delivered_of done.0) there in
+            let same : known.named.0 ≡ q = some_same known.named.0 q (sym known.named.1 ∙ ap w.asked done.2 ∙ named) in
+            let stamp : final (w.proposed l) q.groups ≡ Some done.0.stamp =
+            ap (λ (x : Request). final (w.proposed l) x.groups) (sym same) ∙ ap (λ gs. final (w.proposed l) gs) known.named.2
+            ∙ ap (λ i. final (w.proposed i) done.0.groups) (sym done.2) ∙ known.stamp in
+            (done.0.stamp, stamp, sym (floor_is l q done.0.stamp is named stamp))
+        | inr pending ↦ absurd (not_pending w.standing w.seq l s (ap w.standing at_c ∙ is_at) lively not_waiting pending)
+      ];
 }
   where
-    some_request : (a b : Request) → Some a ≡ Some b → a ≡ b
-    some_request a b e = cc
-
-    floor_is : (l : RequestId) (q : Request) (s : Stamp) → w.last c ≡ Some l → w.asked l ≡ Some q → final (w.proposed l) q.groups ≡ Some s → floor_of w c ≡ s.clock
+    floor_is : (l : RequestId) (q : Request) (s : Stamp) → w.last c ≡ Some l → w.asked l ≡ Some q →
+        final (w.proposed l) q.groups ≡ Some s → floor_of w c ≡ s.clock
     floor_is l q s is named stamp = ap (final_clock_of w) is ∙ ap (final_clock w.proposed l) named ∙ ap clock_of stamp
 
-pub good_multicast : (t : Layout) (old : World) (c : ℕ) (q : Request) → old.standing c ≡ Idle → q.floor ≡ floor_of old c → ShapedFor t q → IsAscending q.groups → WorldGood t old → WorldGood t (multicast old c q)
+pub good_multicast : (t : Layout) (old : World) (c : ℕ) (q : Request) → old.standing c ≡ Idle → q.floor ≡ floor_of old c → ShapedFor t q →
+    IsAscending q.groups → WorldGood t old → WorldGood t (multicast old c q)
 good_multicast t old c q idle floor shaped up good =
     let none = next_is_new t old.asked old.proposed old.seq old.last c good.requests in
     let more = asks_more old.asked (next_id old c) q none in
     record {
       skeen = skeen_multicast old.asked old.proposed old.packets old.group (log_of old) (next_id old c) q good.skeen none up;
-      requests = requests_multicast t old.asked old.proposed old.packets old.group (log_of old) old.seq old.last c q good.skeen good.requests
-          (subst (λ n. Rested old.asked old.proposed old.last c n) (sym floor) (rested t old c idle good)) shaped;
+      requests = requests_multicast t old.asked old.proposed old.packets old.group
+          (log_of old) old.seq old.last c q good.skeen good.requests
+          (subst (λ n. Rested old.asked old.proposed old.last c n) (sym floor)
+          (rested t old c Idle idle idle_open idle_not_waiting good)) shaped;
       taken = taken_more old.asked _ old.proposed old.proposed old.gone (all_taken old.ended old.layer) more (λ i h n e. e) good.taken;
       connections = connections_multicast old.opened old.standing old.seq old.last old.asked old.ended old.layer c q idle good.connections;
       run = run_more old.asked _ old.ended old.contents more good.run;
     }
 
-good_submitted_to : (t : Layout) (old : World) (c : ℕ) (command : Command) (gs : List ℕ) → groups_of t command ≡ gs → old.standing c ≡ Idle → WorldGood t old → WorldGood t (submitted_to old c command gs)
+good_submitted_to : (t : Layout) (old : World) (c : ℕ) (command : Command) (gs : List ℕ) → groups_of t command ≡ gs →
+    old.standing c ≡ Idle → WorldGood t old → WorldGood t (submitted_to old c command gs)
 good_submitted_to t old c command [] is idle good = good_answered t old c (effect_of command empty).1 idle good
 good_submitted_to t old c command (g ∷ gs) is idle good =
     good_multicast t old c (record { floor = floor_of old c; groups = g ∷ gs; command = command }) idle refl
-    (record { groups = is; some = (g, or_left (g == g) (has gs g) (eq-eqb g g refl)) }) (subst (λ l. IsAscending l) is (IsAscending-chosen _ 0 t.shards)) good
+    (record { groups = is; some = (g, or_left (g == g) (has gs g) (eq-eqb g g refl)) })
+    (subst (λ l. IsAscending l) is (IsAscending-chosen _ 0 t.shards)) good
 
-good_submitted : (t : Layout) (old : World) (c : ℕ) (r : Result Command Refusal) → old.standing c ≡ Idle → WorldGood t old → WorldGood t (submitted t old c r)
+good_submitted : (t : Layout) (old : World) (c : ℕ) (r : Result Command Refusal) → old.standing c ≡ Idle → WorldGood t old →
+    WorldGood t (submitted t old c r)
 good_submitted t old c (Ok command) idle good = good_submitted_to t old c command (groups_of t command) refl idle good
 good_submitted t old c (Err refusal) idle good = good_answered t old c _ idle good
 
-pub keeps_submit : (t : Layout) (old new : World) (c : ℕ) (words : List (List ℕ)) (effect : Effect) → Submits t old c words effect new → WorldGood t old → WorldGood t new
-keeps_submit t old new c words effect step good = subst (λ w. WorldGood t w) (sym step.after) (good_submitted t old c (reading words) step.idle good)
+pub keeps_submit : (t : Layout) (old new : World) (c : ℕ) (words : List (List ℕ)) (effect : Effect) → Submits t old c words effect new →
+    WorldGood t old → WorldGood t new
+keeps_submit t old new c words effect step good = subst (λ w. WorldGood t w) (sym step.after)
+    (good_submitted t old c (reading words) step.idle good)
 
 -- ---- Deliver
 
-pub among_received : (t : Layout) (old : World) (k : ℕ) (p : Packet) (sent : List Packet) (ds : List Delivered) (state : GroupState) → slice_get old.packets k ≡ Some p → WorldGood t old →
+pub among_received : (t : Layout) (old : World) (k : ℕ) (p : Packet) (sent : List Packet) (ds : List Delivered) (state : GroupState) →
+    slice_get old.packets k ≡ Some p → WorldGood t old →
     Among old.proposed (received old k p sent ds state).proposed
 among_received t old k p sent ds state there good =
     let parts = split_at old.packets k p there in
@@ -161,7 +171,8 @@ pub keeps_deliver : (t : Layout) (old new : World) (k : ℕ) (effect : Effect) �
 keeps_deliver t old new k effect step good =
     let among = among_received t old k step.packet step.sent step.delivered step.state step.there good in
     subst (λ w. WorldGood t w) (sym step.after) (record {
-      skeen = packet_comes old.asked old.proposed old.packets old.group old.gone old.queue k step.packet step.sent step.delivered step.state step.there good.skeen step.receives;
+      skeen =
+          packet_comes old.asked old.proposed old.packets old.group old.gone old.queue k step.packet step.sent step.delivered step.state step.there good.skeen step.receives;
       requests = requests_proposed t old.asked old.proposed _ old.seq old.last among good.requests;
       taken = taken_more old.asked old.asked old.proposed _ old.gone (all_taken old.ended old.layer) (λ i q e. e) among good.taken;
       connections = good.connections;
@@ -178,15 +189,23 @@ keeps_take t old new effect step good = subst (λ w. WorldGood t w) (sym step.af
       (subst (λ l. TakenGood old.asked old.proposed old.gone (all_taken old.ended l)) step.free good.taken);
   connections =
       let before = subst (λ l. ConnectionsGood old.opened old.standing old.seq old.last old.asked old.ended l) step.free good.connections in
-      record { unopened = before.unopened; settled = before.settled; split = before.split; pending = before.pending; outcomes = before.outcomes };
+      record {
+        unopened = before.unopened;
+        settled = before.settled;
+        split = before.split;
+        pending = before.pending;
+        outcomes = before.outcomes;
+      };
   run = good.run;
 })
 
-pub keeps_run : (t : Layout) (old new : World) (starved : List RequestId) (effect : Effect) → RunsLayer old starved effect new → WorldGood t old → WorldGood t new
+pub keeps_run : (t : Layout) (old new : World) (starved : List RequestId) (effect : Effect) → RunsLayer old starved effect new →
+    WorldGood t old → WorldGood t new
 keeps_run t old new starved effect step good = subst (λ w. WorldGood t w) (sym step.after) (record {
   skeen = good.skeen;
   requests = good.requests;
-  taken = subst (λ ds. TakenGood old.asked old.proposed old.gone ds) (taken_run old.asked starved old.contents old.ended step.outcomes step.layer step.in_turn)
+  taken = subst (λ ds. TakenGood old.asked old.proposed old.gone ds)
+      (taken_run old.asked starved old.contents old.ended step.outcomes step.layer step.in_turn)
       (subst (λ l. TakenGood old.asked old.proposed old.gone (all_taken old.ended l)) step.there good.taken);
   connections = connections_run old.opened old.standing old.seq old.last old.asked old.ended step.outcomes step.layer
       (subst (λ l. ConnectionsGood old.opened old.standing old.seq old.last old.asked old.ended l) step.there good.connections);
@@ -194,7 +213,8 @@ keeps_run t old new starved effect step good = subst (λ w. WorldGood t w) (sym 
 })
 
 -- the requests of a layer that was run are those that their connections wait for
-pub run_is_pending : (t : Layout) (w : World) (es : List Ended) → w.layer ≡ HasRun es → WorldGood t w → (e : Ended) → In e es → Pending w.standing w.seq e.id
+pub run_is_pending : (t : Layout) (w : World) (es : List Ended) → w.layer ≡ HasRun es → WorldGood t w → (e : Ended) → In e es →
+    Pending w.standing w.seq e.id
 run_is_pending t w es is good e there =
     let connections = subst (λ l. ConnectionsGood w.opened w.standing w.seq w.last w.asked w.ended l) is good.connections in
     let at_end : In e w.ended = subst (λ l. In e l) (sym connections.split) (In-right e connections.settled es there) in
@@ -204,8 +224,10 @@ run_is_pending t w es is good e there =
       | inl done ↦
           let split : all_taken w.ended (HasRun es) ≡ all_delivered connections.settled ++ all_delivered es =
           append-nil (all_delivered w.ended) ∙ ap all_delivered connections.split ∙ all_delivered-append connections.settled es in
-          let taken = subst (λ ds. TakenGood w.asked w.proposed w.gone ds) split (subst (λ l. TakenGood w.asked w.proposed w.gone (all_taken w.ended l)) is good.taken) in
-          absurd (taken_once t w.asked w.proposed w.gone w.seq w.last (all_delivered connections.settled) (all_delivered es) good.requests taken (delivered_of done.0) (delivered_of e)
+          let taken = subst (λ ds. TakenGood w.asked w.proposed w.gone ds) split
+          (subst (λ l. TakenGood w.asked w.proposed w.gone (all_taken w.ended l)) is good.taken) in
+          absurd (taken_once t w.asked w.proposed w.gone w.seq w.last (all_delivered connections.settled)
+          (all_delivered es) good.requests taken (delivered_of done.0) (delivered_of e)
           (in_delivered connections.settled done.0 done.1) (in_delivered es e there) done.2)
     ]
 
@@ -214,14 +236,16 @@ keeps_settle t old new effect step good = subst (λ w. WorldGood t w) (sym step.
   skeen = good.skeen;
   requests = good.requests;
   taken = subst (λ l. TakenGood old.asked old.proposed old.gone (all_taken old.ended l)) step.there good.taken;
-  connections = connections_settle old.opened old.standing old.seq old.last old.asked old.ended step.outcomes (run_is_pending t old step.outcomes step.there good)
+  connections = connections_settle old.opened old.standing old.seq old.last old.asked old.ended step.outcomes
+      (run_is_pending t old step.outcomes step.there good)
       (subst (λ l. ConnectionsGood old.opened old.standing old.seq old.last old.asked old.ended l) step.there good.connections);
   run = good.run;
 })
 
 -- ---- Collect, Close
 
-keeps_collects : (t : Layout) (old new : World) (c : ℕ) (s : Standing) (effect : Effect) → old.standing c ≡ s → Collects s old c effect new → WorldGood t old → WorldGood t new
+keeps_collects : (t : Layout) (old new : World) (c : ℕ) (s : Standing) (effect : Effect) → old.standing c ≡ s →
+    Collects s old c effect new → WorldGood t old → WorldGood t new
 keeps_collects t old new c Closed effect is step good = absurd step
 keeps_collects t old new c Idle effect is step good = subst (λ w. WorldGood t w) (sym step.1) good
 keeps_collects t old new c Waiting effect is step good = subst (λ w. WorldGood t w) (sym step.1) good
@@ -233,7 +257,8 @@ keeps_collects t old new c (Answered o) effect is step good = subst (λ w. World
   run = good.run;
 })
 
-pub keeps_collect : (t : Layout) (old new : World) (c : ℕ) (effect : Effect) → Collects (old.standing c) old c effect new → WorldGood t old → WorldGood t new
+pub keeps_collect : (t : Layout) (old new : World) (c : ℕ) (effect : Effect) → Collects (old.standing c) old c effect new →
+    WorldGood t old → WorldGood t new
 keeps_collect t old new c effect step good = keeps_collects t old new c (old.standing c) effect refl step good
 
 pub keeps_close : (t : Layout) (old new : World) (c : ℕ) (effect : Effect) → Closes old c effect new → WorldGood t old → WorldGood t new
@@ -257,7 +282,8 @@ keeps t old new Settle effect s good = keeps_settle t old new effect s good
 keeps t old new (Collect conn) effect s good = keeps_collect t old new conn.0 effect s good
 keeps t old new (Close conn) effect s good = keeps_close t old new conn.0 effect s good
 
-pub keeps_all : (t : Layout) (old new : World) (steps : List Step) (effects : List Effect) → Makes t old steps effects new → WorldGood t old → WorldGood t new
+pub keeps_all : (t : Layout) (old new : World) (steps : List Step) (effects : List Effect) → Makes t old steps effects new →
+    WorldGood t old → WorldGood t new
 keeps_all t old new [] effects made good = subst (λ w. WorldGood t w) (sym made.1) good
 keeps_all t old new (s ∷ ss) [] made good = absurd made
 keeps_all t old new (s ∷ ss) (e ∷ es) made good = keeps_all t made.0 new ss es made.2 (keeps t old made.0 s e made.1 good)

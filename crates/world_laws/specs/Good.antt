@@ -1,5 +1,5 @@
--- What every world is like that a history of steps gives. Each record speaks of the parts of a world that it needs, so that a step which
--- leaves these parts as they are keeps it.
+-- What every world is like that a history of steps gives. Each record speaks of the parts of a world that it needs,
+-- so that a step which leaves these parts as they are keeps it.
 use Rattle.std.specs.FinMap.{get, empty}
 use Rattle.std.specs.Option.{is_some}
 use Rattle.std.specs.Prelude.{◌≡◌, ℕ, ◌+◌, ◌<◌, ◌≤◌, Bool, true, false, cond, ◌&&◌, ◌==◌, List, [], ◌∷◌, ◌++◌, ◌⊎◌, Option, Some, None}
@@ -20,7 +20,7 @@ use Rattle.skeen_core.specs.declared.packet.Packet.{Packet}
 use Rattle.skeen_core.specs.declared.request.RequestId.{RequestId}
 use Rattle.skeen_core.specs.declared.stamp.Stamp.{Stamp}
 use Rattle.world.specs.Steps.{map_after, after_all, outcome_of}
-use Rattle.world.specs.World.{World, Request, Outcome, Standing, Closed, Idle, Waiting, Answered, Ended, Layer, NoneTaken, Taken, HasRun, Proposals}
+use Rattle.world.specs.World.{World, Request, Outcome, Standing, Closed, Waiting, Answered, Ended, Layer, NoneTaken, Taken, HasRun, Proposals}
 
 -- ---- words
 
@@ -51,7 +51,8 @@ Among f g = (i : RequestId) (h n : ℕ) → f i h ≡ Some n → g i h ≡ Some 
 abbrev pub log_of : World → ℕ → List Delivered
 log_of w g = w.gone g ++ w.queue g
 
-pub record GroupGood (asked : Asked) (proposed : Proposals) (me : ℕ) (grp : GroupState) (log : List Delivered) : Type 0 where
+pub record GroupGood (asked : Asked) (proposed : Proposals) (me : ℕ) (grp : GroupState)
+    (log : List Delivered) : Type 0 where
   -- it is as the rule of one group leaves it, and has delivered in ascending order
   pub going : Going me grp log
   pub heard : Among (heard grp) proposed
@@ -61,7 +62,8 @@ pub record GroupGood (asked : Asked) (proposed : Proposals) (me : ℕ) (grp : Gr
   pub known : (d : Delivered) → In d log → Known asked proposed d
   pub member : (d : Delivered) → In d log → has d.groups me ≡ true
 
--- a packet goes to a group of its request; a Start is as the request was submitted, a Proposal as another of its groups has proposed
+-- a packet goes to a group of its request; a Start is as the request was submitted, a Proposal as another of its
+-- groups has proposed
 abbrev pub BodyGood : Asked → Proposals → ℕ → RequestId → Body → Type 0
 BodyGood asked proposed to id (Start floor groups) =
     ((q : Request) × (asked id ≡ Some q) × (q.floor ≡ floor) × (q.groups ≡ groups)) × (has groups to ≡ true)
@@ -87,10 +89,12 @@ abbrev pub addresses : Option Request → ℕ → Bool
 addresses None g = false
 addresses (Some q) g = has q.groups g
 
-pub record SkeenGood (asked : Asked) (proposed : Proposals) (packets : List Packet) (group : ℕ → GroupState) (log : ℕ → List Delivered) : Type 0 where
+pub record SkeenGood (asked : Asked) (proposed : Proposals) (packets : List Packet) (group : ℕ → GroupState)
+    (log : ℕ → List Delivered) : Type 0 where
   pub sent : (p : Packet) → In p packets → PacketGood asked proposed p
   -- each addressed group has a Start of the request coming, or has proposed, and not both
-  pub counted : (i : RequestId) (g : ℕ) → starts_of i g packets + bit (is_some (proposed i g)) ≡ bit (addresses (asked i) g)
+  pub counted : (i : RequestId) (g : ℕ) →
+      starts_of i g packets + bit (is_some (proposed i g)) ≡ bit (addresses (asked i) g)
   pub made : (i : RequestId) (g n : ℕ) → proposed i g ≡ Some n → (q : Request) × (asked i ≡ Some q) × (q.floor < n)
   pub groups : (g : ℕ) → GroupGood asked proposed g (group g) (log g)
 
@@ -105,13 +109,16 @@ pub record ShapedFor (t : Layout) (q : Request) : Type 0 where
 abbrev pub Under : Proposals → RequestId → List ℕ → ℕ → Type 0
 Under proposed id groups n = (s : Stamp) × (final (proposed id) groups ≡ Some s) × (s.clock ≤ n)
 
-pub record AskedGood (t : Layout) (asked : Asked) (proposed : Proposals) (seq : ℕ → ℕ) (last : ℕ → Option RequestId) : Type 0 where
+pub record AskedGood (t : Layout) (asked : Asked) (proposed : Proposals) (seq : ℕ → ℕ)
+    (last : ℕ → Option RequestId) : Type 0 where
   pub shaped : (i : RequestId) (q : Request) → asked i ≡ Some q → ShapedFor t q
   pub fresh : (i : RequestId) (q : Request) → asked i ≡ Some q → (0 < i.seq) × (i.seq ≤ seq i.conn.0)
   pub lasts : (c : ℕ) (i : RequestId) → last c ≡ Some i → (i.conn.0 ≡ c) × ((q : Request) × (asked i ≡ Some q))
-  pub latest : (i : RequestId) (q : Request) → asked i ≡ Some q → (l : RequestId) × (last i.conn.0 ≡ Some l) × (i.seq ≤ l.seq)
+  pub latest : (i : RequestId) (q : Request) → asked i ≡ Some q → (l : RequestId) × (last i.conn.0 ≡ Some l)
+      × (i.seq ≤ l.seq)
   -- a request's floor is at least the final clock of each earlier one of its connection
-  pub floors : (i j : RequestId) (q r : Request) → i.conn.0 ≡ j.conn.0 → i.seq < j.seq → asked i ≡ Some q → asked j ≡ Some r →
+  pub floors : (i j : RequestId) (q r : Request) → i.conn.0 ≡ j.conn.0 → i.seq < j.seq → asked i ≡ Some q →
+      asked j ≡ Some r →
       Under proposed i q.groups r.floor
 
 -- ---- requests that a layer took
@@ -143,7 +150,8 @@ all_taken ended layer = all_delivered ended ++ taken_in layer
 abbrev pub Touching : Delivered → Delivered → Type 0
 Touching d e = (g : ℕ) → has d.groups g ≡ true → has e.groups g ≡ true → stamp_lt d.stamp e.stamp ≡ true
 
-pub record TakenGood (asked : Asked) (proposed : Proposals) (gone : ℕ → List Delivered) (all : List Delivered) : Type 0 where
+pub record TakenGood (asked : Asked) (proposed : Proposals) (gone : ℕ → List Delivered)
+    (all : List Delivered) : Type 0 where
   pub known : (d : Delivered) → In d all → Known asked proposed d
   pub passed : (d : Delivered) → In d all → (g : ℕ) → has d.groups g ≡ true → In d (gone g)
   pub order : Rising Touching all
@@ -158,13 +166,15 @@ Named es i = (e : Ended) × In e es × (e.id ≡ i)
 abbrev pub Pending : (ℕ → Standing) → (ℕ → ℕ) → RequestId → Type 0
 Pending standing seq i = (standing i.conn.0 ≡ Closed) ⊎ ((standing i.conn.0 ≡ Waiting) × (i.seq ≡ seq i.conn.0))
 
--- an outcome that waits is that of the connection's last request; with a stamp it is what came of a request that was run
+-- an outcome that waits is that of the connection's last request; with a stamp it is what came of a request that was
+-- run
 pub record OutcomeGood (seq : ℕ → ℕ) (ended : List Ended) (c : ℕ) (o : Outcome) : Type 0 where
   pub conn : o.id.conn.0 ≡ c
   pub latest : o.id.seq ≡ seq c
   pub from : (o.stamp ≡ None) ⊎ ((e : Ended) × In e ended × (o ≡ outcome_of e))
 
-pub record ConnectionsGood (opened : ℕ) (standing : ℕ → Standing) (seq : ℕ → ℕ) (last : ℕ → Option RequestId) (asked : Asked) (ended : List Ended) (layer : Layer) : Type 0 where
+pub record ConnectionsGood (opened : ℕ) (standing : ℕ → Standing) (seq : ℕ → ℕ) (last : ℕ → Option RequestId)
+    (asked : Asked) (ended : List Ended) (layer : Layer) : Type 0 where
   pub unopened : (c : ℕ) → opened < c → (standing c ≡ Closed) × (seq c ≡ 0) × (last c ≡ None)
   -- what was settled, and what was run since
   pub settled : List Ended
@@ -196,3 +206,10 @@ pub record WorldGood (t : Layout) (w : World) : Type 0 where
   pub taken : TakenGood w.asked w.proposed w.gone (all_taken w.ended w.layer)
   pub connections : ConnectionsGood w.opened w.standing w.seq w.last w.asked w.ended w.layer
   pub run : RunGood w.asked w.ended w.contents
+
+-- after n steps no number is above n
+pub record Bounded (w : World) (n : ℕ) : Type 0 where
+  pub clocks : (g : ℕ) → (w.group g).clock ≤ n
+  pub floors : (i : RequestId) (q : Request) → w.asked i ≡ Some q → q.floor ≤ n
+  pub connections : w.opened ≤ n
+  pub requests : (c : ℕ) → w.seq c ≤ n

@@ -1,5 +1,5 @@
 //! What can be read of a group.
-ghost use Rattle.std.specs.Prelude.{◌≡◌, ◌↔◌, IsTrue};
+ghost use Rattle.std.specs.Prelude.{◌≡◌, ◌<◌, ◌^◌, ◌↔◌, IsTrue};
 ghost use Rattle.std.specs.FinMap.{len};
 ghost use Rattle.skeen_core.specs.Group.{MayCome, CountsKept};
 
@@ -18,7 +18,8 @@ impl Group {
 
     /// How many requests have started and are not yet delivered.
     pub fn started(&self) -> usize
-        ensures { result ≡ len self.now.state.started }
+        ensures count { result ≡ len self.now.state.started }
+        ensures small { result < 2 ^ 63 }
     {
         self.started.len()
     }

@@ -2,7 +2,7 @@ use Rattle.std.proofs.Common.{◌≡◌, ◌∷◌, sym, ◌∙◌}
 use Rattle.std.specs.List.{remove}
 use Rattle.command_table.specs.Words.{texts_of}
 use Rattle.command_table.proofs.Texts.{first_word}
-use Rattle.command_table.proofs.Told.{told_if}
+use Rattle.command_table.proofs.Tells.{told_if}
 use Rattle.command_table.proofs.reading.read.Goals as goal
 
 pub returns-clause-reading : goal.returns-clause-reading

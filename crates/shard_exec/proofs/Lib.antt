@@ -1,0 +1,4 @@
+pub mod Zips
+pub mod TakingOut
+pub mod TakenLayer
+pub mod LayerLaws

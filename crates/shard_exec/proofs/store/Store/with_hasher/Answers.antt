@@ -1,0 +1,16 @@
+use Rattle.std.proofs.Common.{rules, arith, ◌≡◌, None, length, refl, sym, ap, ◌∙◌, subst}
+use Rattle.std.proofs.Math.ListN.{replicate}
+use Rattle.std.proofs.lemmas.List.{length-replicate}
+use Rattle.shard_maps.specs.Joined.{HasOwnKeys}
+use Rattle.shard_exec.specs.StoreStates.{IsStore}
+use Rattle.shard_exec.proofs.LayerLaws.{own_none}
+use Rattle.shard_exec.proofs.store.Store.with_hasher.Goals as goal
+
+pub invariant_of-result : goal.invariant_of-result
+invariant_of-result c =
+    let a = c.loop-number.invariant in let all : c.loop-number.number ≡ c.args.table.shards = omega arith in record {
+  is_table = c.shards.ensures.is_table;
+  shards = ap (λ (l : _). length l) a.0 ∙ length-replicate _ _ ∙ all;
+  stamps = ap (λ (l : _). length l) a.1 ∙ length-replicate _ _ ∙ all;
+  own = subst (HasOwnKeys c.args.table) (sym a.0) (own_none c.args.table c.loop-number.number);
+}

@@ -1,0 +1,40 @@
+-- The store as contracts see it, and what `run_layer` does to it.
+use Rattle.std.specs.Prelude.{◌≡◌, ℕ, Bool, true, false, List, [], length, Option, None, ◌⊎◌}
+use Rattle.std.specs.List.{AllZip}
+use Rattle.std.specs.FinMap.{empty}
+use Rattle.std.proofs.Math.ListN.{replicate}
+use Rattle.keyspace.specs.Map.{Map}
+use Rattle.layer_planner.specs.declared.job.Job.{Job}
+use Rattle.placement.specs.Layout.{Layout, IsTable}
+use Rattle.shard_maps.specs.Joined.{HasOwnKeys}
+use Rattle.skeen_core.specs.declared.request.RequestId.{RequestId}
+use Rattle.skeen_core.specs.declared.stamp.Stamp.{Stamp}
+use Rattle.shard_exec.specs.declared.done.Ended.{Ended}
+use Rattle.shard_exec.specs.declared.done.ExecFault.{ExecFault}
+use Rattle.shard_exec.specs.declared.done.ExecFault.TheVariants.{Stale, Memory, Failed}
+use Rattle.shard_exec.specs.Layers.{IsDone}
+use Rattle.shard_exec.specs.Stamps.{AreFresh, raised}
+use Rattle.shard_exec.specs.StoreStates.{StoreState}
+
+-- no keys, no last stamps
+abbrev pub empty_store : Layout → StoreState
+empty_store table = record { table = table; maps = replicate table.shards empty; lasts = replicate table.shards None; failed = false }
+
+-- the layer was run: its stamps were above the last ones of its shards, and they are the last ones now
+pub record HasRunLayer (old : StoreState) (skip : List RequestId) (layer : List Job) (ended : List Ended) (new : StoreState) : Type 0 where
+  pub lives : old.failed ≡ false
+  pub fresh : AreFresh old.lasts layer
+  pub done : IsDone old.table old.maps skip layer ended new.maps
+  pub lasts : new.lasts ≡ raised old.lasts layer
+  pub table : new.table ≡ old.table
+  pub goes_on : new.failed ≡ false
+
+-- Why it was not: the first that applies. Stale and Memory hand it back with nothing changed, and an empty layer needs no memory. Failed
+-- comes where the store has failed before, and then changes nothing, or where a start was refused.
+abbrev pub HasFailed : Bool → StoreState → List Job → ExecFault → StoreState → Type 0
+HasFailed may_refuse old layer (Stale back) new = (old.failed ≡ false) × (AreFresh old.lasts layer → ⊥) × (back ≡ layer) × (new ≡ old)
+HasFailed may_refuse old layer (Memory back) new =
+    (old.failed ≡ false) × AreFresh old.lasts layer × (layer ≡ [] → ⊥) × (back ≡ layer) × (new ≡ old)
+HasFailed may_refuse old layer Failed new =
+    ((old.failed ≡ true) × (new ≡ old)) ⊎
+    ((may_refuse ≡ true) × (old.failed ≡ false) × AreFresh old.lasts layer × (new.failed ≡ true) × (new.table ≡ old.table))

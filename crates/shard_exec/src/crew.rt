@@ -1,0 +1,195 @@
+//! Workers that are threads of their own.
+
+ghost use Rattle.std.specs.Prelude.{◌≡◌, ℕ, Bool, true, [], IfOk, IfSome, OnErr, IsOk, length, ◌≤◌, vec_capacity, map};
+ghost use Rattle.std.specs.List.{AllZip, AllByRecursion};
+ghost use Rattle.shard_exec.specs.Parts.{IsReadyPart, HasRunPart, HasRoom};
+
+use crate::workers::run_in_turn;
+use crate::{Gate, Part, Ran, Refused, Room, Workers};
+use placement::Table;
+use std::alloc::{AllocError, Global};
+use std::num::NonZeroUsize;
+use std::snapshot::Snapshot;
+use std::sync::Wait;
+use std::thread::{self, Promise, PromisedHandle, Scope, Threads};
+
+/// What a thread promises: that it runs this part, with the keys placed by this table.
+#[derive(Drop)]
+pub struct RunOfPart {
+    table: Snapshot<Table>,
+    part: Snapshot<Part>,
+}
+
+impl Promise<Vec<Ran>> for RunOfPart {
+    ghost use Rattle.shard_exec.specs.Parts.{HasRunPart};
+
+    ghost kept_by = { λ p r. HasRunPart p.table.value p.part.value r };
+}
+
+pub type Child = PromisedHandle<Vec<Ran>, RunOfPart>;
+
+/// So many workers, each on a thread of its own. The last part is run on the caller's thread, so one part starts no thread.
+#[derive(Drop)]
+pub struct Crew<'r, R> {
+    rt: &'r R,
+    number: NonZeroUsize,
+}
+
+impl<'r, R> Crew<'r, R> {
+    /// So many workers, which are started when they are needed.
+    pub fn new(rt: &'r R, number: NonZeroUsize) -> Self {
+        Crew { rt, number }
+    }
+}
+
+impl<'r, R: Threads + Wait> Workers for Crew<'r, R> {
+    ghost use Rattle.shard_exec.specs.Parts.{HasRoom};
+
+    ghost may_refuse = { true };
+
+    ghost has_room = { HasRoom };
+
+    fn number(&self) -> NonZeroUsize {
+        self.number
+    }
+
+    fn reserve(&self, alloc: Global, parts: usize) -> Result<Room, AllocError> {
+        let results = Vec::with_capacity(alloc, parts)?;
+        let children = Vec::with_capacity(alloc, parts)?;
+        Ok(Room { results, children })
+    }
+
+    fn run_parts(
+        &self,
+        alloc: Global,
+        table: &Table,
+        gate: &(dyn Gate + Sync),
+        room: Room,
+        parts: Vec<Part>,
+    ) -> Result<Vec<Vec<Ran>>, Refused> {
+        run_in_threads(self.rt, alloc, table, gate, room, parts)
+    }
+}
+
+fn run_in_threads<R: Threads + Wait>(
+    rt: &R,
+    alloc: Global,
+    table: &Table,
+    gate: &(dyn Gate + Sync),
+    room: Room,
+    parts: Vec<Part>,
+) -> Result<Vec<Vec<Ran>>, Refused>
+    requires room { HasRoom room (length parts.items) }
+    requires ready { AllByRecursion (IsReadyPart table.now) parts.items }
+    ensures { IfOk result (λ r. AllZip (HasRunPart table.now) parts.items r.items) }
+{
+    let Room { results, children } = room;
+    if parts.len() <= 1 {
+        return Ok(run_in_turn(alloc, table, gate, results, parts));
+    }
+    thread::scope(
+        thread::scope_env(),
+        rt,
+        |scope| -> Result<Vec<Vec<Ran>>, Refused>
+            requires { (length parts.items ≤ vec_capacity results) × (length parts.items ≤ vec_capacity children)
+                × (results.items ≡ []) × (children.items ≡ []) × AllByRecursion (IsReadyPart table.now) parts.items }
+            ensures { IfOk result (λ r. AllZip (HasRunPart table.entry.now) parts.items r.items) }
+        { run_apart(rt, scope, alloc, table, gate, parts, children, results) },
+    )
+}
+
+fn run_apart<'s, E, R: Threads>(
+    rt: &R,
+    scope: &Scope<'s, E>,
+    alloc: Global,
+    table: &'s Table,
+    gate: &'s (dyn Gate + Sync),
+    parts: Vec<Part>,
+    children: Vec<Child>,
+    results: Vec<Vec<Ran>>,
+) -> Result<Vec<Vec<Ran>>, Refused>
+    requires handles { length parts.items ≤ vec_capacity children }
+    requires room { length parts.items ≤ vec_capacity results }
+    requires none { children.items ≡ [] }
+    requires empty { results.items ≡ [] }
+    requires ready { AllByRecursion (IsReadyPart table.now) parts.items }
+    ensures { IfOk result (λ r. AllZip (HasRunPart table.now) parts.items r.items) }
+{
+    let mut others = parts;
+    let Some(last) = others.pop() else {
+        return Ok(results);
+    };
+    let Some(children) = start_all(scope, alloc, table, gate, others, children) else {
+        return Err(Refused);
+    };
+    let mine = last.run(alloc, table, gate);
+    let mut all = join_all(rt, children, results);
+    let Ok(()) = all.push(mine) else {
+        unreachable!()
+    };
+    Ok(all)
+}
+
+fn start_all<'s, E>(
+    scope: &Scope<'s, E>,
+    alloc: Global,
+    table: &'s Table,
+    gate: &'s (dyn Gate + Sync),
+    parts: Vec<Part>,
+    children: Vec<Child>,
+) -> Option<Vec<Child>>
+    requires room { length parts.items ≤ vec_capacity children }
+    requires empty { children.items ≡ [] }
+    requires ready { AllByRecursion (IsReadyPart table.now) parts.items }
+    ensures { IfSome result (λ hs. AllZip (λ p h. (h.promise.part.value ≡ p) × (h.promise.table.value ≡ table.now)) parts.items hs.items) }
+{
+    let mut children = children;
+    for part in parts {
+        let child = start(scope, alloc, table, gate, part)?;
+        let Ok(()) = children.push(child) else {
+            unreachable!()
+        };
+    }
+    Some(children)
+}
+
+fn join_all<R: Threads>(rt: &R, children: Vec<Child>, results: Vec<Vec<Ran>>) -> Vec<Vec<Ran>>
+    requires room { length children.items ≤ vec_capacity results }
+    requires empty { results.items ≡ [] }
+    ensures each { AllZip (λ h r. HasRunPart h.promise.table.value h.promise.part.value r) children.items result.items }
+    ensures room { vec_capacity results ≤ vec_capacity result }
+{
+    let mut results = results;
+    for child in children {
+        let Ok(()) = results.push(child.join(rt)) else {
+            unreachable!()
+        };
+    }
+    results
+}
+
+fn start<'s, E>(
+    scope: &Scope<'s, E>,
+    alloc: Global,
+    table: &'s Table,
+    gate: &'s (dyn Gate + Sync),
+    part: Part,
+) -> Option<Child>
+    requires { IsReadyPart table.now part }
+    ensures { IfSome result (λ h. (h.promise.part.value ≡ part) × (h.promise.table.value ≡ table.now)) }
+{
+    let promise = RunOfPart {
+        table: Snapshot::of(table),
+        part: Snapshot::of(&part),
+    };
+    match scope.spawn_with(
+        promise,
+        move || -> Vec<Ran>
+            requires { IsReadyPart table.now part }
+            ensures { HasRunPart table.entry.now part result }
+        { part.run(alloc, table, gate) },
+    ) {
+        Ok(child) => Some(child),
+        Err(_) => None,
+    }
+}

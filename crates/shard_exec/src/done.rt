@@ -1,0 +1,26 @@
+//! What comes of a layer.
+
+ghost use Rattle.std.specs.Prelude.{◌≡◌};
+
+use layer_planner::Layer;
+use resp::Reply;
+use skeen_core::{RequestId, Stamp};
+
+/// A request that was run, with its reply, or that starved: then there is none.
+#[derive(Drop)]
+pub struct Ended {
+    pub id: RequestId,
+    pub stamp: Stamp,
+    pub reply: Option<Reply>,
+}
+
+/// Why a layer was not run.
+#[derive(Drop)]
+pub enum ExecFault {
+    /// 1: the stamp of one of its requests is not above the last one of one of its shards. Nothing has changed.
+    Stale(Layer),
+    /// 2: there is no memory. Nothing has changed.
+    Memory(Layer),
+    /// 3: a worker could not be started, now or earlier. No later layer is run.
+    Failed,
+}

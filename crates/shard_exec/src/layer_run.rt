@@ -1,0 +1,61 @@
+//! A layer run over the row of shards, by whatever workers there are.
+
+ghost use Rattle.std.specs.Prelude.{◌≡◌, length, true, IfOk, OnErr};
+ghost use Rattle.layer_planner.specs.Layers.{ShareNoGroup};
+ghost use Rattle.placement.specs.Layout.{IsTable};
+ghost use Rattle.shard_maps.specs.Joined.{HasOwnKeys};
+ghost use Rattle.shard_exec.specs.Layers.{AddressTheirGroups, IsDone};
+ghost use Rattle.shard_exec.specs.Rooms.{FitsLayer};
+ghost use Rattle.shard_exec.specs.Stamps.{raised};
+
+use crate::layer_room::LayerRoom;
+use crate::taking::{put_layer, take_layer};
+use crate::works::run_works;
+use crate::{Ended, Gate, Refused, Workers};
+use layer_planner::Job;
+use placement::Table;
+use shards::{Shard, ShardHasher};
+use skeen_core::{RequestId, Stamp};
+use std::alloc::Global;
+
+/// Runs the requests of a layer, each over the shards of its groups, and tells what became of each. With `Refused` the shards that were
+/// taken out are lost, and empty ones stand in their places.
+pub fn run_layer_over<W: Workers>(
+    alloc: Global,
+    table: &Table,
+    hasher: ShardHasher,
+    row: &mut Vec<Shard>,
+    lasts: &mut Vec<Option<Stamp>>,
+    jobs: Vec<Job>,
+    skip: &[RequestId],
+    workers: &W,
+    gate: &(dyn Gate + Sync),
+    room: LayerRoom,
+) -> Result<Vec<Ended>, Refused>
+    requires is_table { IsTable table.now }
+    requires shards { length row.old.items ≡ table.now.shards }
+    requires lasts { length lasts.old.items ≡ table.now.shards }
+    requires own { HasOwnKeys table.now row.old.items }
+    requires groups { AddressTheirGroups table.now jobs.items }
+    requires apart { ShareNoGroup jobs.items }
+    requires room { FitsLayer jobs.items room }
+    ensures done { IfOk result (λ done. IsDone table.now row.old.items skip.now jobs.items done.items row.new.items) }
+    ensures lasts { IfOk result (λ _. lasts.new.items ≡ raised lasts.old.items jobs.items) }
+    ensures refused { OnErr result (W.may_refuse ≡ true) }
+    ensures shards { length row.new.items ≡ length row.old.items }
+    ensures stamps { length lasts.new.items ≡ length lasts.old.items }
+    ensures own { HasOwnKeys table.now row.new.items }
+{
+    let LayerRoom {
+        spans,
+        works,
+        rans,
+        done,
+    } = room;
+    let works = take_layer(alloc, hasher, row, jobs, skip, spans, works);
+    let rans = match run_works(alloc, table, gate, workers, works, rans) {
+        Ok(rans) => rans,
+        Err(refused) => return Err(refused),
+    };
+    Ok(put_layer(row, lasts, rans, done))
+}

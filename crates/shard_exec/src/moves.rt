@@ -1,0 +1,70 @@
+//! The row of shards: those of a request's groups are taken out of it and put back.
+
+ghost use Rattle.std.specs.Prelude.{◌≡◌, ℕ, ◌<◌, ◌≤◌, [], length, slice_index_or, slice_set, true, vec_capacity};
+ghost use Rattle.std.specs.FinMap.{empty};
+ghost use Rattle.std.specs.List.{AllByRecursion};
+ghost use Rattle.groups.specs.GroupSet.{has};
+ghost use Rattle.shard_maps.specs.Joined.{numbers};
+ghost use Rattle.shard_maps.specs.Rows.{taken_out, emptied, put_span};
+ghost use Rattle.shard_exec.specs.Stamps.{raise};
+
+use groups::{GroupId, Groups};
+use shards::{Shard, ShardHasher};
+use skeen_core::Stamp;
+use std::alloc::Global;
+use std::mem;
+
+/// Takes the shards of these groups out of the row, each leaving an empty one, into `span`, which has the room. It takes no memory.
+pub fn take_shards(
+    alloc: Global,
+    hasher: ShardHasher,
+    row: &mut Vec<Shard>,
+    groups: Groups,
+    span: Vec<(GroupId, Shard)>,
+) -> Vec<(GroupId, Shard)>
+    requires inside { (g : ℕ) → has groups g ≡ true → g < length row.old.items }
+    requires none { span.items ≡ [] }
+    requires room { length groups ≤ vec_capacity span }
+    ensures taken { result.items ≡ taken_out empty row.old.items groups }
+    ensures left { row.new.items ≡ emptied empty row.old.items groups }
+{
+    let mut span = span;
+    for group in groups.iter() {
+        let shard = take_shard(alloc, hasher, row, group);
+        let Ok(()) = span.push((group, shard)) else {
+            unreachable!()
+        };
+    }
+    span
+}
+
+/// Takes one shard out of the row and leaves an empty one.
+fn take_shard(alloc: Global, hasher: ShardHasher, row: &mut Vec<Shard>, group: GroupId) -> Shard
+    requires { group < length row.old.items }
+    ensures taken { result ≡ slice_index_or row.old.items group empty }
+    ensures left { row.new.items ≡ slice_set row.old.items group empty }
+{
+    let there = &mut row[usize::from(group.number())];
+    mem::replace(there, Shard::new(alloc, hasher))
+}
+
+/// Puts shards back where they were, and makes the stamp the last one of each.
+pub fn put_back(
+    row: &mut Vec<Shard>,
+    lasts: &mut Vec<Option<Stamp>>,
+    span: Vec<(GroupId, Shard)>,
+    stamp: &Stamp,
+)
+    requires shards { AllByRecursion (λ s. s.0 < length row.old.items) span.items }
+    requires lasts { length lasts.old.items ≡ length row.old.items }
+    ensures row { row.new.items ≡ put_span row.old.items span.items }
+    ensures lasts { lasts.new.items ≡ raise lasts.old.items (numbers span.items) stamp.now }
+    ensures len { length row.new.items ≡ length row.old.items }
+    ensures len_lasts { length lasts.new.items ≡ length lasts.old.items }
+{
+    for (number, shard) in span {
+        let index = usize::from(number.number());
+        row[index] = shard;
+        lasts[index] = Some(Stamp { ..*stamp });
+    }
+}
