@@ -5,6 +5,7 @@ use Rattle.resp_decoder.specs.declared.fault.Fault.{Fault}
 use Rattle.resp_decoder.specs.declared.limits.Limits.{Limits}
 use Rattle.resp_decoder.specs.FaultText.{fault_text}
 use Rattle.resp_decoder.specs.Texts.{IsOpen, IsFault}
+use Rattle.serving.specs.declared.connection.TheConstants.{PIECE}
 use Rattle.serving.specs.declared.gather.TheConstants.{GATHERED}
 use Rattle.serving.specs.declared.outcome.Served.{Served}
 use Rattle.serving.specs.declared.outcome.Served.TheVariants.{End, Inside, Protocol}
@@ -64,6 +65,19 @@ Breaks limits rest answers old new Write = (text : List ℕ) × IsBeginning limi
 Breaks limits rest answers old new Memory = (text : List ℕ) × IsAllOrAllButLast answers text × Appends old new text
 Breaks limits rest answers old new (Door reason) = Appends old new (answers_text answers)
 
+-- an open rest, and no more than what is read at once
+pub record IsAtMostPiece (limits : Limits) (rest : List ℕ) : Type 0 where
+  pub held : List ℕ
+  pub piece : List ℕ
+  pub whole : rest ≡ held ++ piece
+  pub held_open : IsOpen limits held
+  pub short : length piece ≤ PIECE
+
+-- Want of memory leaves no more unanswered than that.
+abbrev pub Remains : {Reason : Type 0} → Limits → List ℕ → ServeFault Reason → Type 0
+Remains limits rest Memory = IsAtMostPiece limits rest
+Remains limits rest _ = Unit {0}
+
 -- The same for every outcome; `left` is what the reader has left.
 abbrev pub Leaves : {Reason : Type 0} → Limits → List ℕ → List (Answer Reason)
     → Option (List ℕ) → Option (List ℕ) → Option (List ℕ) → Result Served (ServeFault Reason) → Type 0
@@ -72,7 +86,7 @@ Leaves limits rest answers left old new (Ok Inside) =
     (0 < length rest) × IsOpen limits rest × IsAtEnd left × Appends old new (answers_text answers)
 Leaves limits rest answers left old new (Ok (Protocol fault)) =
     IsFault limits rest fault × Appends old new (answers_text answers ++ fault_text fault)
-Leaves limits rest answers left old new (Err fault) = Breaks limits rest answers old new fault
+Leaves limits rest answers left old new (Err fault) = Remains limits rest fault × Breaks limits rest answers old new fault
 
 -- What was read is the texts of requests, which the door was asked, and then a rest; what was written is the texts of
 -- its answers. `before` and `after` are the bytes that the reader had and has left, `old` and `new` those that the

@@ -1,4 +1,5 @@
-use Rattle.std.proofs.Common.{◌<◌, length}
+use Rattle.std.proofs.Common.{◌≡◌, length}
+use Rattle.serving.specs.declared.connection.TheConstants.{PIECE}
 use Rattle.serving.proofs.ServeLemmas.{Serving}
 use Rattle.serving.proofs.connection.serve.Given as goal
 
@@ -6,4 +7,4 @@ abbrev pub invariant-loop : goal.invariant-loop
 invariant-loop g l =
     Serving g.D.Door.asks l.fn.limits (g.R.Read.remaining l.fn.reader) (g.R.Read.remaining l.reader)
     (g.W.Write.contents l.fn.writer) (g.W.Write.contents l.writer) l.fn.door l.door l.decoder.held
-    × (0 < length l.piece)
+    × (length l.piece ≡ PIECE)
