@@ -7,7 +7,8 @@ use Rattle.command_cases.proofs.Local.{local-constant}
 use Rattle.command_cases.specs.Case.{Case, IsLocal, one}
 use Rattle.command_table.specs.Command.{keys_of, is_whole}
 use Rattle.command_table.specs.declared.command.Command.{Command}
-use Rattle.command_table.specs.declared.command.Command.TheVariants.{Key, Str, Local}
+use Rattle.command_table.specs.declared.command.Command.TheVariants.{Key, Str, Hash, Local}
+use Rattle.hash_commands.proofs.Local.{local-hash_command}
 use Rattle.key_commands.proofs.Local.{local-key_command}
 use Rattle.keyspace.specs.Map.{Map}
 use Rattle.string_commands.proofs.Local.{local-string_command}
@@ -21,6 +22,7 @@ effect_of-local false keys case m local = local refl m
 pub effect-case : (command : Command) (m : Map) → effect_of command m ≡ case_of command m
 effect-case (Key c) m = effect_of-local (is_whole (Key c)) (keys_of (Key c)) (case_of (Key c)) m (local-key_command c)
 effect-case (Str c) m = effect_of-local (is_whole (Str c)) (keys_of (Str c)) (case_of (Str c)) m (λ _. local-string_command c)
+effect-case (Hash c) m = effect_of-local (is_whole (Hash c)) (keys_of (Hash c)) (case_of (Hash c)) m (λ _. local-hash_command c)
 effect-case (Local c) m = effect_of-local (is_whole (Local c)) (keys_of (Local c)) (case_of (Local c)) m (λ _. local-constant (keys_of (Local c)) (local_reply c))
 
 -- a command that is not for all keys takes its part

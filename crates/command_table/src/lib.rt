@@ -7,6 +7,7 @@
 
 mod arity;
 mod command;
+mod hash_commands;
 mod key_commands;
 mod local_commands;
 mod reading;
@@ -19,6 +20,7 @@ mod told;
 mod words;
 
 pub use command::{Command, is_whole, key_at, key_count, keys, name};
+pub use hash_commands::HashCommand;
 pub use key_commands::KeyCommand;
 pub use local_commands::LocalCommand;
 pub use reading::read;

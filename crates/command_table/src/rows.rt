@@ -3,7 +3,7 @@
 //! A row stands once, here. `command_rows!` hands the rows of a family to a macro of the caller's, which writes an arm for each:
 //! the crate of a family's bodies dispatches by them too.
 
-/// Hands the rows of a family, `local`, `keys` or `strings`, to the macro named after it, with the words after that in brackets.
+/// Hands the rows of a family, `local`, `keys`, `strings` or `hashes`, to the macro named after it, with the words after that in brackets.
 ///
 /// A row has the command's name in lower case; how many words it takes, its name included; its key span, which is the first key,
 /// the last one and the step between them by word, the name being word 0 and -1 the last word, or `none`, or `whole` where it is
@@ -28,6 +28,18 @@ macro_rules! command_rows {
             ("get", Exactly(2), (1, 1, 1), Get { key }, read_get, get),
             ("set", AtLeast(3), (1, 1, 1), Set { key, value, condition }, read_set, set),
             ("setnx", Exactly(3), (1, 1, 1), Setnx { key, value }, read_setnx, setnx),
+        }
+    };
+    (hashes, $emit:ident, $($argument:tt)*) => {
+        $emit! { [$($argument)*]
+            ("hlen", Exactly(2), (1, 1, 1), Hlen { key }, read_hlen, hlen),
+            ("hget", Exactly(3), (1, 1, 1), Hget { key, field }, read_hget, hget),
+            ("hexists", Exactly(3), (1, 1, 1), Hexists { key, field }, read_hexists, hexists),
+            ("hstrlen", Exactly(3), (1, 1, 1), Hstrlen { key, field }, read_hstrlen, hstrlen),
+            ("hkeys", Exactly(2), (1, 1, 1), Hkeys { key }, read_hkeys, hkeys),
+            ("hvals", Exactly(2), (1, 1, 1), Hvals { key }, read_hvals, hvals),
+            ("hgetall", Exactly(2), (1, 1, 1), Hgetall { key }, read_hgetall, hgetall),
+            ("hmget", AtLeast(3), (1, 1, 1), Hmget { key, fields }, read_hmget, hmget),
         }
     };
 }
