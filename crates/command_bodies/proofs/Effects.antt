@@ -7,8 +7,9 @@ use Rattle.command_cases.proofs.Local.{local-constant}
 use Rattle.command_cases.specs.Case.{Case, IsLocal, one}
 use Rattle.command_table.specs.Command.{keys_of, is_whole}
 use Rattle.command_table.specs.declared.command.Command.{Command}
-use Rattle.command_table.specs.declared.command.Command.TheVariants.{Key, Str, Local}
+use Rattle.command_table.specs.declared.command.Command.TheVariants.{Key, Str, Hash, Local}
 use Rattle.command_table.specs.declared.command.Command.TheVariants as variant
+use Rattle.hash_commands.proofs.Local.{local-hash_command}
 use Rattle.key_commands.proofs.Local.{local-key_command}
 use Rattle.keyspace.specs.Map.{Map}
 use Rattle.list_commands.proofs.Local.{local-list_command}
@@ -25,6 +26,7 @@ effect-case (Key c) m = effect_of-local (is_whole (Key c)) (keys_of (Key c)) (ca
 effect-case (Str c) m = effect_of-local (is_whole (Str c)) (keys_of (Str c)) (case_of (Str c)) m (λ _. local-string_command c)
 effect-case (variant.List c) m =
     effect_of-local (is_whole (variant.List c)) (keys_of (variant.List c)) (case_of (variant.List c)) m (λ _. local-list_command c)
+effect-case (Hash c) m = effect_of-local (is_whole (Hash c)) (keys_of (Hash c)) (case_of (Hash c)) m (λ _. local-hash_command c)
 effect-case (Local c) m = effect_of-local (is_whole (Local c)) (keys_of (Local c)) (case_of (Local c)) m (λ _. local-constant (keys_of (Local c)) (local_reply c))
 
 -- a command that is not for all keys takes its part

@@ -16,6 +16,7 @@ ghost use Rattle.command_table.specs.Command.{keys_of};
 
 use command_cases::Starved;
 use command_table::Command;
+use hash_commands::run_hash_command;
 use key_commands::run_key_command;
 use keyspace::Keyspace;
 use list_commands::run_list_command;
@@ -57,6 +58,7 @@ fn run<K: Keyspace>(alloc: Global, keyspace: &mut K, command: Command) -> Result
         Command::Key(command) => run_key_command(alloc, keyspace, command),
         Command::Str(command) => run_string_command(alloc, keyspace, command),
         Command::List(command) => run_list_command(alloc, keyspace, command),
+        Command::Hash(command) => run_hash_command(alloc, keyspace, command),
         Command::Local(command) => Ok(local(command)),
     }
 }

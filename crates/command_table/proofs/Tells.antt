@@ -8,6 +8,7 @@ use Rattle.command_table.specs.declared.refusal.Refusal.{Refusal}
 use Rattle.command_table.specs.declared.string_commands.Condition.{Condition}
 use Rattle.command_table.specs.Arity.{admits}
 use Rattle.command_table.specs.Command.{told_of}
+use Rattle.command_table.specs.HashCommands.{hash_rows, hlen_row, hget_row, hexists_row, hstrlen_row, hkeys_row, hvals_row, hgetall_row, hmget_row}
 use Rattle.command_table.specs.KeyCommands.{key_rows, del_row, rename_row}
 use Rattle.command_table.specs.KeySpan.{NoKeys, AllThereAre, Between, ToLastWord, stepped, keys_in}
 use Rattle.command_table.specs.ListCommands.{list_rows, llen_row, lpop_row, rpop_row, lpush_row, rpush_row, lpushx_row, rpushx_row}
@@ -207,15 +208,39 @@ list_tell = (
   ),
 )
 
+hash_tell : AllTell hash_rows
+hash_tell = (
+  tells-one hlen_row refl refl (λ key ws. refl),
+  (
+    tells-one hget_row refl refl (λ key ws. refl),
+    (
+      tells-one hexists_row refl refl (λ key ws. refl),
+      (
+        tells-one hstrlen_row refl refl (λ key ws. refl),
+        (
+          tells-one hkeys_row refl refl (λ key ws. refl),
+          (
+            tells-one hvals_row refl refl (λ key ws. refl),
+            (
+              tells-one hgetall_row refl refl (λ key ws. refl),
+              (tells-one hmget_row refl refl (λ key ws. refl), tt),
+            ),
+          ),
+        ),
+      ),
+    ),
+  ),
+)
+
 AllTell-append : (rs qs : List Row) → AllTell rs → AllTell qs → AllTell (rs ++ qs)
 AllTell-append [] qs a b = b
 AllTell-append (r ∷ rs) qs a b = (a.0, AllTell-append rs qs a.1 b)
 
 all_tell : AllTell rows
 all_tell =
-    AllTell-append local_rows (key_rows ++ string_rows ++ list_rows) local_tell
-    (AllTell-append key_rows (string_rows ++ list_rows) key_tell
-    (AllTell-append string_rows list_rows string_tell list_tell))
+    AllTell-append local_rows (key_rows ++ string_rows ++ list_rows ++ hash_rows) local_tell
+    (AllTell-append key_rows (string_rows ++ list_rows ++ hash_rows) key_tell
+    (AllTell-append string_rows (list_rows ++ hash_rows) string_tell (AllTell-append list_rows hash_rows list_tell hash_tell)))
 
 told_by_row : (r : Row) → Tells r → (name : Word) (ws : List Word) → IsToldIn r (name ∷ ws) (row_reading r ws)
 told_by_row r tells name ws =

@@ -1,8 +1,9 @@
 -- What is told of each command: its name, in lower case, and its keys, in order of its words.
 use Rattle.std.specs.Prelude.{Bool, List}
 use Rattle.command_table.specs.declared.command.Command.{Command}
-use Rattle.command_table.specs.declared.command.Command.TheVariants.{Key, Str, Local}
+use Rattle.command_table.specs.declared.command.Command.TheVariants.{Key, Str, Hash, Local}
 use Rattle.command_table.specs.declared.command.Command.TheVariants as variant
+use Rattle.command_table.specs.HashCommands.{hash_command_told}
 use Rattle.command_table.specs.KeyCommands.{key_command_told}
 use Rattle.command_table.specs.ListCommands.{list_command_told}
 use Rattle.command_table.specs.LocalCommands.{local_command_told}
@@ -15,6 +16,7 @@ told_of (Local c) = local_command_told c
 told_of (Key c) = key_command_told c
 told_of (Str c) = string_command_told c
 told_of (variant.List c) = list_command_told c
+told_of (Hash c) = hash_command_told c
 
 abbrev pub name_of : Command → Word
 name_of c = (told_of c).name

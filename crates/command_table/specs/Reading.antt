@@ -3,6 +3,7 @@ use Rattle.std.specs.Prelude.{List, [], ◌∷◌, ◌++◌, ◌≡◌, Err, unw
 use Rattle.command_table.specs.declared.refusal.Refusal.TheVariants.{Unknown}
 use Rattle.command_table.specs.declared.command.Command.{Command}
 use Rattle.command_table.specs.Command.{told_of}
+use Rattle.command_table.specs.HashCommands.{hash_rows}
 use Rattle.command_table.specs.KeyCommands.{key_rows}
 use Rattle.command_table.specs.ListCommands.{list_rows}
 use Rattle.command_table.specs.LocalCommands.{local_rows}
@@ -12,7 +13,7 @@ use Rattle.command_table.specs.Words.{Word, lower}
 
 -- the table
 abbrev pub rows : List Row
-rows = local_rows ++ key_rows ++ string_rows ++ list_rows
+rows = local_rows ++ key_rows ++ string_rows ++ list_rows ++ hash_rows
 
 -- what these words say, the first of which is a name in any case
 abbrev pub reading : List Word → Reading

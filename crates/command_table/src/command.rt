@@ -4,6 +4,7 @@ ghost use Rattle.std.specs.Prelude.{◌≡◌, ◌<◌, length, map, slice_get, 
 ghost use Rattle.command_table.specs.Command.{told_of, name_of, keys_of, is_whole};
 ghost use Rattle.command_table.specs.Held.{told_held};
 
+use crate::hash_commands::HashCommand;
 use crate::key_commands::KeyCommand;
 use crate::list_commands::ListCommand;
 use crate::local_commands::LocalCommand;
@@ -23,6 +24,9 @@ pub enum Command {
     /// On lists.
     List(ListCommand),
 
+    /// On hashes.
+    Hash(HashCommand),
+
     /// On no key.
     Local(LocalCommand),
 }
@@ -35,6 +39,7 @@ fn told(command: &Command) -> Told<'_>
         Command::Key(command) => command.told(),
         Command::Str(command) => command.told(),
         Command::List(command) => command.told(),
+        Command::Hash(command) => command.told(),
         Command::Local(command) => command.told(),
     }
 }

@@ -7,6 +7,7 @@
 
 mod arity;
 mod command;
+mod hash_commands;
 mod key_commands;
 mod list_commands;
 mod local_commands;
@@ -20,6 +21,7 @@ mod told;
 mod words;
 
 pub use command::{Command, is_whole, key_at, key_count, keys, name};
+pub use hash_commands::HashCommand;
 pub use key_commands::KeyCommand;
 pub use list_commands::{ListCommand, Side};
 pub use local_commands::LocalCommand;

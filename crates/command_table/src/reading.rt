@@ -11,6 +11,7 @@ ghost use Rattle.command_table.specs.Row.{reading_among};
 ghost use Rattle.command_table.specs.Words.{lower, texts_of};
 
 use crate::command::Command;
+use crate::hash_commands::read_hash_command;
 use crate::key_commands::read_key_command;
 use crate::list_commands::read_list_command;
 use crate::local_commands::read_local_command;
@@ -65,7 +66,11 @@ fn read_by_row(name: &str, words: Vec<Vec<u8>>) -> Result<Command, Refusal>
         Ok(read) => return read,
         Err(words) => words,
     };
-    match read_list_command(name, words) {
+    let words = match read_list_command(name, words) {
+        Ok(read) => return read,
+        Err(words) => words,
+    };
+    match read_hash_command(name, words) {
         Ok(read) => read,
         Err(_) => Err(Refusal::Unknown),
     }

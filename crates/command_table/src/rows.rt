@@ -3,7 +3,8 @@
 //! A row stands once, here. `command_rows!` hands the rows of a family to a macro of the caller's, which writes an arm for each:
 //! the crate of a family's bodies dispatches by them too.
 
-/// Hands the rows of a family, `local`, `keys`, `strings` or `lists`, to the macro named after it, with the words after that in brackets.
+/// Hands the rows of a family, `local`, `keys`, `strings`, `lists` or `hashes`, to the macro named after it, with the words after that in
+/// brackets.
 ///
 /// A row has the command's name in lower case; how many words it takes, its name included; its key span, which is the first key,
 /// the last one and the step between them by word, the name being word 0 and -1 the last word, or `none`, or `whole` where it is
@@ -47,6 +48,18 @@ macro_rules! command_rows {
             ("linsert", Exactly(5), (1, 1, 1), Linsert { key, side, pivot, item }, read_linsert, linsert),
             ("lmove", Exactly(5), (1, 2, 1), Lmove { from, to, taken, put }, read_lmove, lmove),
             ("rpoplpush", Exactly(3), (1, 2, 1), Rpoplpush { from, to }, read_rpoplpush, rpoplpush),
+        }
+    };
+    (hashes, $emit:ident, $($argument:tt)*) => {
+        $emit! { [$($argument)*]
+            ("hlen", Exactly(2), (1, 1, 1), Hlen { key }, read_hlen, hlen),
+            ("hget", Exactly(3), (1, 1, 1), Hget { key, field }, read_hget, hget),
+            ("hexists", Exactly(3), (1, 1, 1), Hexists { key, field }, read_hexists, hexists),
+            ("hstrlen", Exactly(3), (1, 1, 1), Hstrlen { key, field }, read_hstrlen, hstrlen),
+            ("hkeys", Exactly(2), (1, 1, 1), Hkeys { key }, read_hkeys, hkeys),
+            ("hvals", Exactly(2), (1, 1, 1), Hvals { key }, read_hvals, hvals),
+            ("hgetall", Exactly(2), (1, 1, 1), Hgetall { key }, read_hgetall, hgetall),
+            ("hmget", AtLeast(3), (1, 1, 1), Hmget { key, fields }, read_hmget, hmget),
         }
     };
 }
