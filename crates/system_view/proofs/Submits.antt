@@ -7,6 +7,7 @@ use Rattle.command_bodies.specs.LocalCommand.{local_reply}
 use Rattle.command_table.specs.Reading.{reading}
 use Rattle.command_table.specs.Refusal.{refusal_text}
 use Rattle.command_table.specs.declared.command.Command.{Command}
+use Rattle.command_table.specs.declared.command.Command.TheVariants as command
 use Rattle.command_table.specs.declared.command.Command.TheVariants.{Key, Str, Local}
 use Rattle.command_table.specs.declared.local_commands.LocalCommand.{LocalCommand}
 use Rattle.command_table.specs.declared.local_commands.LocalCommand.TheVariants.{Ping, Echo}
@@ -172,16 +173,34 @@ module _ (t : Layout) (w : World) (c : ℕ) (good : WorldGood t w) (words : List
           subst (λ reply. ShowsConnections new (answered w c reply)) (sym (local_effect l)) (shows_answered old new w c was now o (local_reply l) shows s e (ap to_outcome says))
   by_reading old new was now (Ok (Key k)) read addresses shows s stands = by_standing now.standing refl stands
     where
-      by_standing : (x : Standing) → now.standing ≡ x → StandsBy (id_of c (suc (w.seq c))) words (Ok (Key k)) x → ShowsConnections new (submitted_to w c (Key k) (groups_of t (Key k)))
+      by_standing : (x : Standing) → now.standing ≡ x → StandsBy (id_of c (suc (w.seq c))) words (Ok (Key k)) x →
+          ShowsConnections new (submitted_to w c (Key k) (groups_of t (Key k)))
       by_standing router.Idle e says = absurd says
       by_standing (router.Waiting p) e says = waits_as old new was now (Key k) p read addresses.0 addresses.1 addresses.2 shows s e says
       by_standing router.Taken e says = absurd says
       by_standing (router.Answered o) e says = absurd says
   by_reading old new was now (Ok (Str k)) read addresses shows s stands = by_standing now.standing refl stands
     where
-      by_standing : (x : Standing) → now.standing ≡ x → StandsBy (id_of c (suc (w.seq c))) words (Ok (Str k)) x → ShowsConnections new (submitted_to w c (Str k) (groups_of t (Str k)))
+      by_standing : (x : Standing) → now.standing ≡ x → StandsBy (id_of c (suc (w.seq c))) words (Ok (Str k)) x →
+          ShowsConnections new (submitted_to w c (Str k) (groups_of t (Str k)))
       by_standing router.Idle e says = absurd says
       by_standing (router.Waiting p) e says = waits_as old new was now (Str k) p read addresses.0 addresses.1 addresses.2 shows s e says
+      by_standing router.Taken e says = absurd says
+      by_standing (router.Answered o) e says = absurd says
+  by_reading old new was now (Ok (command.List k)) read addresses shows s stands = by_standing now.standing refl stands
+    where
+      by_standing : (x : Standing) → now.standing ≡ x → StandsBy (id_of c (suc (w.seq c))) words (Ok (command.List k)) x →
+          ShowsConnections new (submitted_to w c (command.List k) (groups_of t (command.List k)))
+      by_standing router.Idle e says = absurd says
+      by_standing (router.Waiting p) e says = waits_as old new was now (command.List k) p read addresses.0 addresses.1 addresses.2 shows s e says
+      by_standing router.Taken e says = absurd says
+      by_standing (router.Answered o) e says = absurd says
+  by_reading old new was now (Ok (command.Hash k)) read addresses shows s stands = by_standing now.standing refl stands
+    where
+      by_standing : (x : Standing) → now.standing ≡ x → StandsBy (id_of c (suc (w.seq c))) words (Ok (command.Hash k)) x →
+          ShowsConnections new (submitted_to w c (command.Hash k) (groups_of t (command.Hash k)))
+      by_standing router.Idle e says = absurd says
+      by_standing (router.Waiting p) e says = waits_as old new was now (command.Hash k) p read addresses.0 addresses.1 addresses.2 shows s e says
       by_standing router.Taken e says = absurd says
       by_standing (router.Answered o) e says = absurd says
 
