@@ -77,7 +77,7 @@ pub(crate) fn hsetnx<K: Keyspace>(
         (K.contents keyspace.old) (K.contents keyspace.new) result }
     ensures starves { OnErr result
         (IsSome (pairs_there (map.get (K.contents keyspace.old) key))
-            × (field_value (some_pairs (map.get (K.contents keyspace.old) key)) field ≡ None)) }
+        × (field_value (some_pairs (map.get (K.contents keyspace.old) key)) field ≡ None)) }
     ensures covers { K.covered keyspace.new ≡ K.covered keyspace.old }
 {
     match keyspace.look(key.as_slice()) {
@@ -170,7 +170,8 @@ fn set_fields<K: Keyspace>(
         Some(Value::Hash(_)) => {}
         Some(_) => return Ok(wrong_type_reply()),
     }
-    let Value::Hash(mut hash) = keyspace.replace(key.as_slice(), Value::Str(Text::empty(alloc))) else {
+    let Value::Hash(mut hash) = keyspace.replace(key.as_slice(), Value::Str(Text::empty(alloc)))
+    else {
         unreachable!();
     };
     let set = hash.insert_all(pairs);
@@ -223,7 +224,8 @@ fn set_field<K: Keyspace>(
     if keyspace.look(key.as_slice()).is_none() {
         return set_first_field(alloc, keyspace, key, field, value);
     }
-    let Value::Hash(mut hash) = keyspace.replace(key.as_slice(), Value::Str(Text::empty(alloc))) else {
+    let Value::Hash(mut hash) = keyspace.replace(key.as_slice(), Value::Str(Text::empty(alloc)))
+    else {
         unreachable!();
     };
     let set = hash.insert(field, value);
