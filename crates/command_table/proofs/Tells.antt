@@ -1,14 +1,17 @@
 -- What a row says of the words is what is told of the command.
-use Rattle.std.proofs.Common.{ℤ, ◌≡◌, ◌+◌, ◌++◌, IfOk, true, false, Result, ◌∙◌, List, [], ◌∷◌, length, Some, Ok, Err, refl, sym, ap, if◌then◌else◌, unwrap_or, option_map, drop, subst, ◌%◌, ◌==◌, arith}
+use Rattle.std.proofs.Common.{Err, IfOk, List, None, Ok, Option, Result, Some, [], ap, arith, codes, drop, false, if◌then◌else◌, length, option_map, refl, subst, sym, true, unwrap_or, ℤ, ◌%◌, ◌++◌, ◌+◌, ◌==◌, ◌∙◌, ◌∷◌, ◌≡◌}
 use Rattle.std.proofs.lemmas.Bool.Decides.{nat_tests}
 use Rattle.std.specs.Str.{bytes_eq}
 use Rattle.command_table.specs.declared.refusal.Refusal.TheVariants as refusal
 use Rattle.command_table.specs.declared.command.Command.{Command}
+use Rattle.command_table.specs.declared.command.Command.TheVariants.{Hash}
+use Rattle.command_table.specs.declared.hash_commands.HashCommand.{HashCommand}
+use Rattle.command_table.specs.declared.hash_commands.HashCommand.TheVariants.{Hset, Hmset}
 use Rattle.command_table.specs.declared.refusal.Refusal.{Refusal}
 use Rattle.command_table.specs.declared.string_commands.Condition.{Condition}
 use Rattle.command_table.specs.Arity.{admits}
 use Rattle.command_table.specs.Command.{told_of}
-use Rattle.command_table.specs.HashCommands.{hash_rows, hlen_row, hget_row, hexists_row, hstrlen_row, hkeys_row, hvals_row, hgetall_row, hmget_row}
+use Rattle.command_table.specs.HashCommands.{hash_rows, hlen_row, hget_row, hexists_row, hstrlen_row, hkeys_row, hvals_row, hgetall_row, hmget_row, hdel_row, hsetnx_row, hset_row, hmset_row, whole_pairs, with_pairs}
 use Rattle.command_table.specs.KeyCommands.{key_rows, del_row, rename_row}
 use Rattle.command_table.specs.KeySpan.{NoKeys, AllThereAre, Between, ToLastWord, stepped, keys_in}
 use Rattle.command_table.specs.ListCommands.{list_rows, llen_row, lpop_row, rpop_row, lpush_row, rpush_row, lpushx_row, rpushx_row}
@@ -208,6 +211,11 @@ list_tell = (
   ),
 )
 
+pairs_tell : (r : Row) (keys : KeysTold) (name : Word) (make : List (Word × Word) → HashCommand) → ((pairs : List (Word × Word)) → IsToldAs r keys (Ok (Hash (make pairs))))
+    → (pairs : Option (List (Word × Word))) → IsToldAs r keys (with_pairs name make pairs)
+pairs_tell r keys name make made (Some pairs) = made pairs
+pairs_tell r keys name make made None = tt
+
 hash_tell : AllTell hash_rows
 hash_tell = (
   tells-one hlen_row refl refl (λ key ws. refl),
@@ -223,7 +231,22 @@ hash_tell = (
             tells-one hvals_row refl refl (λ key ws. refl),
             (
               tells-one hgetall_row refl refl (λ key ws. refl),
-              (tells-one hmget_row refl refl (λ key ws. refl), tt),
+              (
+                tells-one hmget_row refl refl (λ key ws. refl),
+                (
+                  tells-one hdel_row refl refl (λ key ws. refl),
+                  (
+                    tells-one hsetnx_row refl refl (λ key ws. refl),
+                    (
+                      tells-one hset_row refl refl (λ key ws. pairs_tell hset_row (These (key ∷ [])) (codes "hset") (Hset key) (λ pairs. refl) (whole_pairs ws)),
+                      (
+                        tells-one hmset_row refl refl (λ key ws. pairs_tell hmset_row (These (key ∷ [])) (codes "hmset") (Hmset key) (λ pairs. refl) (whole_pairs ws)),
+                        tt,
+                      ),
+                    ),
+                  ),
+                ),
+              ),
             ),
           ),
         ),

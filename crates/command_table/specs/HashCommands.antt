@@ -1,13 +1,14 @@
 -- The commands on hashes: what is told of each, and their rows, with what their words say.
-use Rattle.std.specs.Prelude.{List, [], ◌∷◌, drop, Ok, codes}
+use Rattle.std.specs.Prelude.{◌%◌, ◌==◌, List, [], ◌∷◌, drop, length, Option, Some, None, Ok, Err, if◌then◌else◌, codes}
 use Rattle.command_table.specs.declared.arity.Arity.TheVariants.{Exactly, AtLeast}
 use Rattle.command_table.specs.declared.command.Command.TheVariants.{Hash}
 use Rattle.command_table.specs.declared.hash_commands.HashCommand.{HashCommand}
-use Rattle.command_table.specs.declared.hash_commands.HashCommand.TheVariants.{Hlen, Hget, Hexists, Hstrlen, Hkeys, Hvals, Hgetall, Hmget}
+use Rattle.command_table.specs.declared.hash_commands.HashCommand.TheVariants.{Hlen, Hget, Hexists, Hstrlen, Hkeys, Hvals, Hgetall, Hmget, Hdel, Hsetnx, Hset, Hmset}
+use Rattle.command_table.specs.declared.refusal.Refusal.TheVariants.{Arity}
 use Rattle.command_table.specs.KeySpan.{Between}
-use Rattle.command_table.specs.Row.{Row}
+use Rattle.command_table.specs.Row.{Row, Reading}
 use Rattle.command_table.specs.Telling.{Telling, These, named}
-use Rattle.command_table.specs.Words.{Word, word}
+use Rattle.command_table.specs.Words.{Word, word, pairs_of}
 
 abbrev pub hash_command_told : HashCommand → Telling
 hash_command_told (Hlen key) = record { name = codes "hlen"; keys = These (key ∷ []) }
@@ -18,6 +19,10 @@ hash_command_told (Hkeys key) = record { name = codes "hkeys"; keys = These (key
 hash_command_told (Hvals key) = record { name = codes "hvals"; keys = These (key ∷ []) }
 hash_command_told (Hgetall key) = record { name = codes "hgetall"; keys = These (key ∷ []) }
 hash_command_told (Hmget key fields) = record { name = codes "hmget"; keys = These (key ∷ []) }
+hash_command_told (Hdel key fields) = record { name = codes "hdel"; keys = These (key ∷ []) }
+hash_command_told (Hsetnx key field value) = record { name = codes "hsetnx"; keys = These (key ∷ []) }
+hash_command_told (Hset key pairs) = record { name = codes "hset"; keys = These (key ∷ []) }
+hash_command_told (Hmset key pairs) = record { name = codes "hmset"; keys = These (key ∷ []) }
 
 abbrev pub hash_command_keys : HashCommand → List Word
 hash_command_keys c = named (hash_command_told c).keys
@@ -47,6 +52,29 @@ hgetall_row = record { name = codes "hgetall"; arity = Exactly 2; keys = Between
 abbrev pub hmget_row : Row
 hmget_row = record { name = codes "hmget"; arity = AtLeast 3; keys = Between 1 1; reading = λ words. Ok (Hash (Hmget (word words 0) (drop 1 words))) }
 
+abbrev pub hdel_row : Row
+hdel_row = record { name = codes "hdel"; arity = AtLeast 3; keys = Between 1 1; reading = λ words. Ok (Hash (Hdel (word words 0) (drop 1 words))) }
+
+abbrev pub hsetnx_row : Row
+hsetnx_row = record { name = codes "hsetnx"; arity = Exactly 4; keys = Between 1 1; reading = λ words. Ok (Hash (Hsetnx (word words 0) (word words 1) (word words 2))) }
+
+-- the words two by two, where none is left over
+abbrev pub whole_pairs : List Word → Option (List (Word × Word))
+whole_pairs words = if length words % 2 == 0 then Some (pairs_of words) else None
+
+-- what a command says of its pairs; an odd number of words is a wrong one
+abbrev pub with_pairs : Word → (List (Word × Word) → HashCommand) → Option (List (Word × Word)) → Reading
+with_pairs name make (Some pairs) = Ok (Hash (make pairs))
+with_pairs name make None = Err (Arity name)
+
+-- the words after the key are fields and their values by turns
+abbrev pub hset_row : Row
+hset_row = record { name = codes "hset"; arity = AtLeast 4; keys = Between 1 1; reading = λ words. with_pairs (codes "hset") (Hset (word words 0)) (whole_pairs (drop 1 words)) }
+
+abbrev pub hmset_row : Row
+hmset_row = record { name = codes "hmset"; arity = AtLeast 4; keys = Between 1 1; reading = λ words. with_pairs (codes "hmset") (Hmset (word words 0)) (whole_pairs (drop 1 words)) }
+
 abbrev pub hash_rows : List Row
 hash_rows =
-    hlen_row ∷ hget_row ∷ hexists_row ∷ hstrlen_row ∷ hkeys_row ∷ hvals_row ∷ hgetall_row ∷ hmget_row ∷ []
+    hlen_row ∷ hget_row ∷ hexists_row ∷ hstrlen_row ∷ hkeys_row ∷ hvals_row ∷ hgetall_row ∷ hmget_row ∷ hdel_row ∷ hsetnx_row
+    ∷ hset_row ∷ hmset_row ∷ []

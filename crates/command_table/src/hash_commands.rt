@@ -1,8 +1,8 @@
 //! Commands on hashes.
 
-ghost use Rattle.std.specs.Prelude.{◌≡◌, ◌≤◌, length, MatchResult, Some, None};
-ghost use Rattle.command_table.specs.HashCommands.{hash_command_told, hash_rows, hlen_row, hget_row, hexists_row, hstrlen_row};
-ghost use Rattle.command_table.specs.HashCommands.{hkeys_row, hvals_row, hgetall_row, hmget_row};
+ghost use Rattle.std.specs.Prelude.{◌≡◌, ◌≤◌, [], ◌∷◌, length, MatchResult, Some, None};
+ghost use Rattle.command_table.specs.HashCommands.{hash_command_told, hash_rows, whole_pairs, hlen_row, hget_row, hexists_row, hstrlen_row};
+ghost use Rattle.command_table.specs.HashCommands.{hkeys_row, hvals_row, hgetall_row, hmget_row, hdel_row, hsetnx_row, hset_row, hmset_row};
 ghost use Rattle.command_table.specs.Held.{told_held};
 ghost use Rattle.command_table.specs.Row.{row_of, reading_among};
 ghost use Rattle.command_table.specs.Words.{texts_of};
@@ -14,7 +14,7 @@ use crate::refusal::{CommandName, Refusal};
 use crate::rows::{keys_of_span, read_rows, told_rows};
 use crate::told::{Keys, Told};
 use crate::words::{first_and_rest, only_word, two_words};
-use texts::{Text, Texts};
+use texts::{Pairs, Text, Texts};
 
 /// A command on hashes.
 #[derive(Drop)]
@@ -42,6 +42,18 @@ pub enum HashCommand {
 
     /// `HMGET key field [field ..]`: the value of each field.
     Hmget { key: Text, fields: Texts },
+
+    /// `HDEL key field [field ..]`: removes the fields.
+    Hdel { key: Text, fields: Texts },
+
+    /// `HSETNX key field value`: sets the field where it isn't there.
+    Hsetnx { key: Text, field: Text, value: Text },
+
+    /// `HSET key field value [field value ..]`: sets the fields.
+    Hset { key: Text, pairs: Pairs },
+
+    /// `HMSET key field value [field value ..]`: sets the fields.
+    Hmset { key: Text, pairs: Pairs },
 }
 
 impl HashCommand {
@@ -136,4 +148,68 @@ fn read_hmget(words: Vec<Vec<u8>>) -> Result<Command, Refusal>
 {
     let (key, fields) = first_and_rest(words);
     Ok(Command::Hash(HashCommand::Hmget { key, fields }))
+}
+
+/// `HDEL key field [field ..]`.
+fn read_hdel(words: Vec<Vec<u8>>) -> Result<Command, Refusal>
+    requires { 2 ≤ length words.items }
+    ensures { result ≡ hdel_row.reading (texts_of words.items) }
+{
+    let (key, fields) = first_and_rest(words);
+    Ok(Command::Hash(HashCommand::Hdel { key, fields }))
+}
+
+/// `HSETNX key field value`.
+fn read_hsetnx(words: Vec<Vec<u8>>) -> Result<Command, Refusal>
+    requires { length words.items ≡ 3 }
+    ensures { result ≡ hsetnx_row.reading (texts_of words.items) }
+{
+    let (key, field, value) = three_words(words);
+    Ok(Command::Hash(HashCommand::Hsetnx { key, field, value }))
+}
+
+/// `HSET key field value [field value ..]`.
+fn read_hset(words: Vec<Vec<u8>>) -> Result<Command, Refusal>
+    requires { 3 ≤ length words.items }
+    ensures { result ≡ hset_row.reading (texts_of words.items) }
+{
+    let (key, rest) = first_and_rest(words);
+    match in_pairs(rest) {
+        Some(pairs) => Ok(Command::Hash(HashCommand::Hset { key, pairs })),
+        None => Err(Refusal::Arity(CommandName::of("hset"))),
+    }
+}
+
+/// `HMSET key field value [field value ..]`.
+fn read_hmset(words: Vec<Vec<u8>>) -> Result<Command, Refusal>
+    requires { 3 ≤ length words.items }
+    ensures { result ≡ hmset_row.reading (texts_of words.items) }
+{
+    let (key, rest) = first_and_rest(words);
+    match in_pairs(rest) {
+        Some(pairs) => Ok(Command::Hash(HashCommand::Hmset { key, pairs })),
+        None => Err(Refusal::Arity(CommandName::of("hmset"))),
+    }
+}
+
+/// The words two by two; `None` where one is left over.
+fn in_pairs(words: Texts) -> Option<Pairs>
+    ensures { result ≡ whole_pairs words }
+{
+    let words = words.into_vec();
+    if words.len() % 2 != 0 {
+        return None;
+    }
+    Some(Pairs::from_turns(words))
+}
+
+/// The three words.
+fn three_words(mut words: Vec<Vec<u8>>) -> (Text, Text, Text)
+    requires { length words.items ≡ 3 }
+    ensures { texts_of words.items ≡ result.0 ∷ result.1 ∷ result.2 ∷ [] }
+{
+    let third = words.pop().unwrap();
+    let second = words.pop().unwrap();
+    let first = words.pop().unwrap();
+    (Text::from(first), Text::from(second), Text::from(third))
 }

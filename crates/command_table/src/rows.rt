@@ -60,6 +60,10 @@ macro_rules! command_rows {
             ("hvals", Exactly(2), (1, 1, 1), Hvals { key }, read_hvals, hvals),
             ("hgetall", Exactly(2), (1, 1, 1), Hgetall { key }, read_hgetall, hgetall),
             ("hmget", AtLeast(3), (1, 1, 1), Hmget { key, fields }, read_hmget, hmget),
+            ("hdel", AtLeast(3), (1, 1, 1), Hdel { key, fields }, read_hdel, hdel),
+            ("hsetnx", Exactly(4), (1, 1, 1), Hsetnx { key, field, value }, read_hsetnx, hsetnx),
+            ("hset", AtLeast(4), (1, 1, 1), Hset { key, pairs }, read_hset, hset),
+            ("hmset", AtLeast(4), (1, 1, 1), Hmset { key, pairs }, read_hmset, hmset),
         }
     };
 }

@@ -1,1 +1,2 @@
 pub mod HashCommand
+pub mod SetAnswer

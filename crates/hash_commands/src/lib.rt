@@ -5,6 +5,7 @@
 #![tactic(auto)]
 
 mod arrays;
+mod changes;
 mod looks;
 
 ghost use Rattle.std.specs.Prelude.{◌≡◌, All, IsTrue, OnErr};
@@ -13,6 +14,7 @@ ghost use Rattle.command_table.specs.HashCommands.{hash_command_keys};
 ghost use Rattle.hash_commands.specs.HashCommand.{hash_command_case, HashCommandTakesMemory};
 
 use arrays::{hgetall, hkeys, hmget, hvals};
+use changes::{hdel, hmset, hset, hsetnx};
 use command_cases::{Starved, body_rows};
 use command_table::{HashCommand, command_rows};
 use keyspace::Keyspace;
