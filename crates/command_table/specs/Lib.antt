@@ -2,6 +2,7 @@ pub mod Arity
 pub mod Command
 pub mod Held
 pub mod KeyCommands
+pub mod Keyed
 pub mod KeySpan
 pub mod LocalCommands
 pub mod Reading

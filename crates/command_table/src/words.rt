@@ -3,8 +3,11 @@
 ghost use Rattle.std.specs.List.{list_any};
 ghost use Rattle.std.specs.Char.{to_ascii_lowercase};
 ghost use Rattle.std.specs.Prelude.{◌≡◌, ◌<◌, [], ◌∷◌, length, map};
+ghost use Rattle.command_table.specs.Row.{integer_word};
 ghost use Rattle.command_table.specs.Words.{is_word, texts_of};
 
+use crate::refusal::Refusal;
+use integers::read_integer;
 use texts::{Text, Texts};
 
 /// Whether the word is this one, which is in lower case, without regard to the case of ASCII letters.
@@ -39,6 +42,24 @@ pub(crate) fn two_words(mut words: Vec<Vec<u8>>) -> (Text, Text)
     let second = words.pop().unwrap();
     let first = words.pop().unwrap();
     (Text::from(first), Text::from(second))
+}
+
+/// The three words.
+pub(crate) fn three_words(mut words: Vec<Vec<u8>>) -> (Text, Text, Text)
+    requires { length words.items ≡ 3 }
+    ensures { texts_of words.items ≡ result.0 ∷ result.1 ∷ result.2 ∷ [] }
+{
+    let third = words.pop().unwrap();
+    let second = words.pop().unwrap();
+    let first = words.pop().unwrap();
+    (Text::from(first), Text::from(second), Text::from(third))
+}
+
+/// The integer that the word is.
+pub(crate) fn integer(word: &[u8]) -> Result<i64, Refusal>
+    ensures { result ≡ integer_word word.now }
+{
+    read_integer(word).ok_or(Refusal::NotInteger)
 }
 
 /// The first word, and the others.
