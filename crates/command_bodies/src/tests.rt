@@ -115,3 +115,42 @@ fn commands_on_lists_answer_in_turn(rt: HostRuntime) -> Result<(), Fail> {
     }
     Ok(())
 }
+
+#[test]
+fn keys_and_strings_answer_in_turn(rt: HostRuntime) -> Result<(), Fail> {
+    let mut keyspace = Plain::new(rt.alloc(), BuildHasherDefault::<FoldHasher>::new());
+    let rows: [(&[&str], &str); 24] = [
+        (&["DBSIZE"], ":0\r\n"),
+        (&["SET", "a", "10"], "+OK\r\n"),
+        (&["SET", "text", "hello"], "+OK\r\n"),
+        (&["STRLEN", "text"], ":5\r\n"),
+        (&["STRLEN", "none"], ":0\r\n"),
+        (&["GETRANGE", "text", "1", "-2"], "$3\r\nell\r\n"),
+        (&["GETRANGE", "text", "-100", "100"], "$5\r\nhello\r\n"),
+        (&["GETRANGE", "text", "3", "1"], "$0\r\n\r\n"),
+        (&["GETRANGE", "none", "0", "-1"], "$0\r\n\r\n"),
+        (&["GETSET", "text", "world"], "$5\r\nhello\r\n"),
+        (&["GETSET", "other", "x"], "$-1\r\n"),
+        (&["GETDEL", "other"], "$1\r\nx\r\n"),
+        (&["GETDEL", "other"], "$-1\r\n"),
+        (
+            &["MGET", "text", "none", "text"],
+            "*3\r\n$5\r\nworld\r\n$-1\r\n$5\r\nworld\r\n",
+        ),
+        (&["EXISTS", "a", "none", "a"], ":2\r\n"),
+        (&["TYPE", "a"], "+string\r\n"),
+        (&["TYPE", "none"], "+none\r\n"),
+        (&["RENAMENX", "a", "text"], ":0\r\n"),
+        (&["RENAMENX", "a", "a"], ":0\r\n"),
+        (&["RENAMENX", "a", "b"], ":1\r\n"),
+        (&["UNLINK", "b", "a", "b"], ":1\r\n"),
+        (&["DBSIZE"], ":1\r\n"),
+        (&["FLUSHALL", "async"], "+OK\r\n"),
+        (&["DBSIZE"], ":0\r\n"),
+    ];
+    for (words, reply) in rows {
+        let text = answer(&rt, rt.alloc(), &mut keyspace, words)?;
+        assert_eq!(rt; text.as_slice(), reply.as_bytes(), "{words:?}");
+    }
+    Ok(())
+}

@@ -1,18 +1,20 @@
 -- What a row says of the words is what is told of the command.
-use Rattle.std.proofs.Common.{Err, IfOk, List, None, Ok, Option, Result, Some, [], ap, arith, codes, drop, false, if◌then◌else◌, length, option_map, refl, subst, sym, true, unwrap_or, ℤ, ◌%◌, ◌++◌, ◌+◌, ◌==◌, ◌∙◌, ◌∷◌, ◌≡◌}
+use Rattle.std.proofs.Common.{Bool, Err, IfOk, List, None, Ok, Option, Result, Some, [], ap, arith, drop, false, if◌then◌else◌, length, option_map, refl, subst, sym, true, unwrap_or, ℤ, ◌%◌, ◌++◌, ◌+◌, ◌==◌, ◌||◌, ◌∙◌, ◌∷◌, ◌≡◌}
 use Rattle.std.proofs.lemmas.Bool.Decides.{nat_tests}
+use Rattle.std.specs.Prelude.{codes}
 use Rattle.std.specs.Str.{bytes_eq}
 use Rattle.command_table.specs.declared.refusal.Refusal.TheVariants as refusal
 use Rattle.command_table.specs.declared.command.Command.{Command}
-use Rattle.command_table.specs.declared.command.Command.TheVariants.{Hash}
+use Rattle.command_table.specs.declared.command.Command.TheVariants.{Key, Str, Hash}
 use Rattle.command_table.specs.declared.hash_commands.HashCommand.{HashCommand}
 use Rattle.command_table.specs.declared.hash_commands.HashCommand.TheVariants.{Hset, Hmset}
 use Rattle.command_table.specs.declared.refusal.Refusal.{Refusal}
+use Rattle.command_table.specs.declared.key_commands.KeyCommand.TheVariants.{Flushall}
 use Rattle.command_table.specs.declared.string_commands.Condition.{Condition}
 use Rattle.command_table.specs.Arity.{admits}
 use Rattle.command_table.specs.Command.{told_of}
 use Rattle.command_table.specs.HashCommands.{hash_rows, hlen_row, hget_row, hexists_row, hstrlen_row, hkeys_row, hvals_row, hgetall_row, hmget_row, hdel_row, hsetnx_row, hset_row, hmset_row, whole_pairs, with_pairs}
-use Rattle.command_table.specs.KeyCommands.{key_rows, del_row, rename_row}
+use Rattle.command_table.specs.KeyCommands.{key_rows, del_row, unlink_row, exists_row, type_row, rename_row, renamenx_row, dbsize_row, flushall_row}
 use Rattle.command_table.specs.KeySpan.{NoKeys, AllThereAre, Between, ToLastWord, stepped, keys_in}
 use Rattle.command_table.specs.ListCommands.{list_rows, llen_row, lpop_row, rpop_row, lpush_row, rpush_row, lpushx_row, rpushx_row}
 use Rattle.command_table.specs.ListCommands.{lindex_row, lset_row, lrange_row, ltrim_row, lrem_row, lindex_with, lset_with, lrange_with, ltrim_with, lrem_with}
@@ -21,11 +23,11 @@ use Rattle.command_table.specs.declared.list_commands.Side.{Side}
 use Rattle.texts.specs.declared.text_list.End.{End}
 use Rattle.command_table.specs.LocalCommands.{local_rows, ping_row, echo_row}
 use Rattle.command_table.specs.Reading.{rows, reading, IsTold}
-use Rattle.command_table.specs.Row.{Row, Reading, pairs_reading, row_of, row_reading, row_told, reading_among}
-use Rattle.command_table.specs.StringCommands.{string_rows, get_row, set_row, setnx_row, set_with, options_condition}
+use Rattle.command_table.specs.Row.{Row, Reading, pairs_reading, then_reading, integer_reading, row_of, row_reading, row_told, reading_among}
+use Rattle.command_table.specs.StringCommands.{string_rows, get_row, set_row, setnx_row, getset_row, getdel_row, mget_row, strlen_row, getrange_row, set_with, options_condition}
 use Rattle.command_table.specs.Telling.{KeysTold, All, These}
 use Rattle.texts.specs.Texts.{firsts}
-use Rattle.command_table.specs.Words.{Word, word, lower, pairs_of, integer_word}
+use Rattle.command_table.specs.Words.{Word, word, is_word, lower, pairs_of, integer_word}
 
 -- every word, one by one
 pub stepped-one : (ws : List Word) → stepped 1 0 ws ≡ ws
@@ -43,7 +45,7 @@ abbrev IsToldIn : Row → List Word → Reading → Type 0
 IsToldIn r words read = IfOk read (λ c. told_of c ≡ row_told r words)
 
 -- a row tells of each command that it reads
-abbrev Tells : Row → Type 0
+abbrev pub Tells : Row → Type 0
 Tells r = (name : Word) (ws : List Word) → admits r.arity (length ws + 1) ≡ true → IsToldIn r (name ∷ ws) (r.reading ws)
 
 with_row : (r : Row) (words : List Word) (read : Reading) → IsToldIn r words read →
@@ -51,7 +53,7 @@ with_row : (r : Row) (words : List Word) (read : Reading) → IsToldIn r words r
 with_row r words (Ok c) e = (r, refl, e)
 with_row r words (Err refused) e = tt
 
-abbrev AllTell : List Row → Type 0
+abbrev pub AllTell : List Row → Type 0
 AllTell [] = Unit {0}
 AllTell (r ∷ rs) = Tells r × AllTell rs
 
@@ -120,18 +122,73 @@ set_tells : (key value : Word) (o : Result Condition Refusal) → IsToldAs set_r
 set_tells key value (Ok condition) = refl
 set_tells key value (Err refused) = tt
 
+-- a word that should be an integer, whatever it is
+integer_tells : (r : Row) (key : Word) (o : Result ℤ Refusal) (make : ℤ → Reading) → ((n : ℤ) → IsToldAs r (These (key ∷ [])) (make n))
+    → IsToldAs r (These (key ∷ [])) (then_reading o make)
+integer_tells r key (Ok n) make made = made n
+integer_tells r key (Err refused) make made = tt
+
+flushall_asked : (asked : Bool) → IsToldAs flushall_row All (if asked then Ok (Key Flushall) else Err refusal.Syntax)
+flushall_asked true = refl
+flushall_asked false = tt
+
+flushall_tells : (ws : List Word) → IsToldAs flushall_row All (flushall_row.reading ws)
+flushall_tells [] = refl
+flushall_tells (w ∷ []) = flushall_asked (is_word (codes "async") w || is_word (codes "sync") w)
+flushall_tells (w ∷ v ∷ ws) = tt
+
 local_tell : AllTell local_rows
 local_tell = (tells-none ping_row refl ping_tells, (tells-none echo_row refl (λ ws. refl), tt))
 
-key_tell : AllTell key_rows
-key_tell = (tells-each del_row refl (λ keys. refl), (tells-two rename_row refl refl refl (λ from to ws. refl), tt))
+pub key_tell : AllTell key_rows
+key_tell = (
+  tells-each del_row refl (λ keys. refl),
+  (
+    tells-each unlink_row refl (λ keys. refl),
+    (
+      tells-each exists_row refl (λ keys. refl),
+      (
+        tells-one type_row refl refl (λ key ws. refl),
+        (
+          tells-two rename_row refl refl refl (λ from to ws. refl),
+          (
+            tells-two renamenx_row refl refl refl (λ from to ws. refl),
+            (
+              tells-whole dbsize_row refl (λ ws. refl),
+              (tells-whole flushall_row refl flushall_tells, tt),
+            ),
+          ),
+        ),
+      ),
+    ),
+  ),
+)
 
-string_tell : AllTell string_rows
+pub string_tell : AllTell string_rows
 string_tell = (
   tells-one get_row refl refl (λ key ws. refl),
   (
     tells-one set_row refl refl (λ key ws. set_tells key (word ws 0) (options_condition (drop 1 ws))),
-    (tells-one setnx_row refl refl (λ key ws. refl), tt),
+    (
+      tells-one setnx_row refl refl (λ key ws. refl),
+      (
+        tells-one getset_row refl refl (λ key ws. refl),
+        (
+          tells-one getdel_row refl refl (λ key ws. refl),
+          (
+            tells-each mget_row refl (λ keys. refl),
+            (
+              tells-one strlen_row refl refl (λ key ws. refl),
+              (
+                tells-one getrange_row refl refl (λ key ws. integer_tells getrange_row key (integer_word (word ws 0)) _ (λ start.
+                    integer_tells getrange_row key (integer_word (word ws 1)) _ (λ end. refl))),
+                tt,
+              ),
+            ),
+          ),
+        ),
+      ),
+    ),
   ),
 )
 
@@ -166,7 +223,7 @@ lmove_tells from to (Ok taken) (Ok put) = refl
 lmove_tells from to (Ok taken) (Err refused) = tt
 lmove_tells from to (Err refused) b = tt
 
-list_tell : AllTell list_rows
+pub list_tell : AllTell list_rows
 list_tell = (
   tells-one llen_row refl refl (λ key ws. refl),
   (
@@ -216,7 +273,7 @@ pairs_tell : (r : Row) (keys : KeysTold) (name : Word) (make : List (Word × Wor
 pairs_tell r keys name make made (Some pairs) = made pairs
 pairs_tell r keys name make made None = tt
 
-hash_tell : AllTell hash_rows
+pub hash_tell : AllTell hash_rows
 hash_tell = (
   tells-one hlen_row refl refl (λ key ws. refl),
   (

@@ -3,6 +3,7 @@ pub mod Command
 pub mod HashCommands
 pub mod Held
 pub mod KeyCommands
+pub mod Keyed
 pub mod KeySpan
 pub mod ListCommands
 pub mod LocalCommands

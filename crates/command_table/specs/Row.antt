@@ -1,5 +1,5 @@
 -- A row of the table of commands, in the terms of the Redis command reference, and how rows are used.
-use Rattle.std.specs.Prelude.{◌+◌, List, [], ◌∷◌, Option, Some, None, Result, Ok, Err, ◌%◌, ◌==◌, if◌then◌else◌, length, option_map}
+use Rattle.std.specs.Prelude.{◌+◌, List, [], ◌∷◌, Option, Some, None, Result, Ok, Err, ℤ, ◌%◌, ◌==◌, if◌then◌else◌, length, option_map}
 use Rattle.std.specs.Str.{bytes_eq}
 use Rattle.command_table.specs.declared.arity.Arity.{Arity}
 use Rattle.command_table.specs.declared.command.Command.{Command}
@@ -8,7 +8,7 @@ use Rattle.command_table.specs.declared.refusal.Refusal.TheVariants as refusal
 use Rattle.command_table.specs.Arity.{admits}
 use Rattle.command_table.specs.KeySpan.{KeySpan, keys_in}
 use Rattle.command_table.specs.Telling.{Telling}
-use Rattle.command_table.specs.Words.{Word, pairs_of}
+use Rattle.command_table.specs.Words.{Word, integer_word, pairs_of}
 
 -- what comes of reading words
 abbrev pub Reading : Type 0
@@ -41,3 +41,11 @@ reading_among rows name words = option_map (λ r. row_reading r words) (row_of r
 -- what the words say where they are pairs; an odd number of words is a wrong one
 abbrev pub pairs_reading : Word → (List (Word × Word) → Command) → List Word → Reading
 pairs_reading name make words = if length words % 2 == 0 then Ok (make (pairs_of words)) else Err (refusal.Arity name)
+
+-- what the words say, by the integer that one of them is; a word that isn't one is refused
+abbrev pub then_reading : Result ℤ Refusal → (ℤ → Reading) → Reading
+then_reading (Ok n) make = make n
+then_reading (Err refused) make = Err refused
+
+abbrev pub integer_reading : Word → (ℤ → Reading) → Reading
+integer_reading w make = then_reading (integer_word w) make

@@ -8,9 +8,9 @@ use Rattle.command_table.specs.declared.refusal.Refusal.TheVariants.{Syntax}
 use Rattle.command_table.specs.declared.string_commands.Condition.{Condition}
 use Rattle.command_table.specs.declared.string_commands.Condition.TheVariants.{Always, IfAbsent, IfPresent}
 use Rattle.command_table.specs.declared.string_commands.StringCommand.{StringCommand}
-use Rattle.command_table.specs.declared.string_commands.StringCommand.TheVariants.{Get, Set, Setnx}
-use Rattle.command_table.specs.KeySpan.{Between}
-use Rattle.command_table.specs.Row.{Row, Reading}
+use Rattle.command_table.specs.declared.string_commands.StringCommand.TheVariants.{Get, Set, Setnx, Getset, Getdel, Mget, Strlen, Getrange}
+use Rattle.command_table.specs.KeySpan.{Between, ToLastWord}
+use Rattle.command_table.specs.Row.{Row, Reading, integer_reading}
 use Rattle.command_table.specs.Telling.{Telling, These, named}
 use Rattle.command_table.specs.Words.{Word, word, is_word}
 
@@ -18,6 +18,11 @@ abbrev pub string_command_told : StringCommand → Telling
 string_command_told (Get key) = record { name = codes "get"; keys = These (key ∷ []) }
 string_command_told (Set key value condition) = record { name = codes "set"; keys = These (key ∷ []) }
 string_command_told (Setnx key value) = record { name = codes "setnx"; keys = These (key ∷ []) }
+string_command_told (Getset key value) = record { name = codes "getset"; keys = These (key ∷ []) }
+string_command_told (Getdel key) = record { name = codes "getdel"; keys = These (key ∷ []) }
+string_command_told (Mget keys) = record { name = codes "mget"; keys = These keys }
+string_command_told (Strlen key) = record { name = codes "strlen"; keys = These (key ∷ []) }
+string_command_told (Getrange key start end) = record { name = codes "getrange"; keys = These (key ∷ []) }
 
 abbrev pub string_command_keys : StringCommand → List Word
 string_command_keys c = named (string_command_told c).keys
@@ -60,5 +65,32 @@ set_row = record { name = codes "set"; arity = AtLeast 3; keys = Between 1 1; re
 abbrev pub setnx_row : Row
 setnx_row = record { name = codes "setnx"; arity = Exactly 3; keys = Between 1 1; reading = λ words. Ok (Str (Setnx (word words 0) (word words 1))) }
 
+abbrev pub getset_row : Row
+getset_row = record {
+  name = codes "getset";
+  arity = Exactly 3;
+  keys = Between 1 1;
+  reading = λ words. Ok (Str (Getset (word words 0) (word words 1)));
+}
+
+abbrev pub getdel_row : Row
+getdel_row = record { name = codes "getdel"; arity = Exactly 2; keys = Between 1 1; reading = λ words. Ok (Str (Getdel (word words 0))) }
+
+abbrev pub mget_row : Row
+mget_row = record { name = codes "mget"; arity = AtLeast 2; keys = ToLastWord 1 1; reading = λ words. Ok (Str (Mget words)) }
+
+abbrev pub strlen_row : Row
+strlen_row = record { name = codes "strlen"; arity = Exactly 2; keys = Between 1 1; reading = λ words. Ok (Str (Strlen (word words 0))) }
+
+-- the start is read before the end
+abbrev pub getrange_reading : List Word → Reading
+getrange_reading words =
+    integer_reading (word words 1) (λ start. integer_reading (word words 2) (λ end. Ok (Str (Getrange (word words 0) start end))))
+
+abbrev pub getrange_row : Row
+getrange_row = record { name = codes "getrange"; arity = Exactly 4; keys = Between 1 1; reading = getrange_reading }
+
 abbrev pub string_rows : List Row
-string_rows = get_row ∷ set_row ∷ setnx_row ∷ []
+string_rows =
+    get_row ∷ set_row ∷ setnx_row ∷ getset_row ∷ getdel_row ∷ mget_row ∷ strlen_row
+    ∷ getrange_row ∷ []

@@ -2,7 +2,7 @@
 
 ghost use Rattle.std.specs.Prelude.{◌≡◌, length, MatchResult, Some, None};
 ghost use Rattle.command_table.specs.Held.{told_held};
-ghost use Rattle.command_table.specs.KeyCommands.{key_command_told, key_rows, del_row, rename_row};
+ghost use Rattle.command_table.specs.KeyCommands.{key_command_told, key_rows, del_row, unlink_row, exists_row, type_row, rename_row, renamenx_row, dbsize_row, flushall_reading};
 ghost use Rattle.command_table.specs.Row.{row_of, reading_among};
 ghost use Rattle.command_table.specs.Words.{texts_of};
 
@@ -12,7 +12,7 @@ use crate::command_rows;
 use crate::refusal::{CommandName, Refusal};
 use crate::rows::{keys_of_span, read_rows, told_rows};
 use crate::told::{Keys, Told};
-use crate::words::two_words;
+use crate::words::{is_word, only_word, two_words};
 use texts::{Text, Texts};
 
 /// A command on keys of any type.
@@ -21,8 +21,26 @@ pub enum KeyCommand {
     /// `DEL key [key ..]`: removes the keys.
     Del { keys: Texts },
 
+    /// `UNLINK key [key ..]`: removes the keys, as DEL does.
+    Unlink { keys: Texts },
+
+    /// `EXISTS key [key ..]`: how many of these words name a key that is there.
+    Exists { keys: Texts },
+
+    /// `TYPE key`: the name of the type of the key's value.
+    TypeOf { key: Text },
+
     /// `RENAME key newkey`: moves the value of the key to the new one.
     Rename { from: Text, to: Text },
+
+    /// `RENAMENX key newkey`: moves the value of the key to the new one, where that isn't there.
+    Renamenx { from: Text, to: Text },
+
+    /// `DBSIZE`: the number of keys.
+    Dbsize,
+
+    /// `FLUSHALL [ASYNC | SYNC]`: removes all keys.
+    Flushall,
 }
 
 impl KeyCommand {
@@ -62,4 +80,59 @@ fn read_rename(words: Vec<Vec<u8>>) -> Result<Command, Refusal>
 {
     let (from, to) = two_words(words);
     Ok(Command::Key(KeyCommand::Rename { from, to }))
+}
+
+/// `UNLINK key [key ..]`.
+fn read_unlink(words: Vec<Vec<u8>>) -> Result<Command, Refusal>
+    ensures { result ≡ unlink_row.reading (texts_of words.items) }
+{
+    let keys = Texts::from(words);
+    Ok(Command::Key(KeyCommand::Unlink { keys }))
+}
+
+/// `EXISTS key [key ..]`.
+fn read_exists(words: Vec<Vec<u8>>) -> Result<Command, Refusal>
+    ensures { result ≡ exists_row.reading (texts_of words.items) }
+{
+    let keys = Texts::from(words);
+    Ok(Command::Key(KeyCommand::Exists { keys }))
+}
+
+/// `TYPE key`.
+fn read_type(words: Vec<Vec<u8>>) -> Result<Command, Refusal>
+    requires { length words.items ≡ 1 }
+    ensures { result ≡ type_row.reading (texts_of words.items) }
+{
+    let key = only_word(words);
+    Ok(Command::Key(KeyCommand::TypeOf { key }))
+}
+
+/// `RENAMENX key newkey`.
+fn read_renamenx(words: Vec<Vec<u8>>) -> Result<Command, Refusal>
+    requires { length words.items ≡ 2 }
+    ensures { result ≡ renamenx_row.reading (texts_of words.items) }
+{
+    let (from, to) = two_words(words);
+    Ok(Command::Key(KeyCommand::Renamenx { from, to }))
+}
+
+/// `DBSIZE`.
+fn read_dbsize(words: Vec<Vec<u8>>) -> Result<Command, Refusal>
+    ensures { result ≡ dbsize_row.reading (texts_of words.items) }
+{
+    let _ = words;
+    Ok(Command::Key(KeyCommand::Dbsize))
+}
+
+/// `FLUSHALL [ASYNC | SYNC]`.
+fn read_flushall(words: Vec<Vec<u8>>) -> Result<Command, Refusal>
+    ensures { result ≡ flushall_reading (texts_of words.items) }
+{
+    match words.as_slice() {
+        [] => Ok(Command::Key(KeyCommand::Flushall)),
+        [word] if is_word(word, b"async") || is_word(word, b"sync") => {
+            Ok(Command::Key(KeyCommand::Flushall))
+        }
+        _ => Err(Refusal::Syntax),
+    }
 }

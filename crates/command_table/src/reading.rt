@@ -6,6 +6,7 @@
 
 ghost use Rattle.std.specs.Prelude.{◌≡◌, Err, IfOk, unwrap_or};
 ghost use Rattle.command_table.specs.declared.refusal.Refusal.TheVariants.{Unknown};
+ghost use Rattle.command_table.specs.Keyed.{IsKeyed};
 ghost use Rattle.command_table.specs.Reading.{reading, rows, IsTold};
 ghost use Rattle.command_table.specs.Row.{reading_among};
 ghost use Rattle.command_table.specs.Words.{lower, texts_of};
@@ -27,6 +28,7 @@ use resp::Request;
 pub fn read(request: Request) -> Result<Command, Refusal>
     ensures reading { result ≡ reading request }
     ensures told { IfOk result (λ command. IsTold request command) }
+    ensures keyed { IfOk result IsKeyed }
 {
     let mut words = request.into_words();
     let name = in_lower_case(words.remove(0));

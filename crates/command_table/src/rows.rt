@@ -21,7 +21,13 @@ macro_rules! command_rows {
     (keys, $emit:ident, $($argument:tt)*) => {
         $emit! { [$($argument)*]
             ("del", AtLeast(2), (1, -1, 1), Del { keys }, read_del, del),
+            ("unlink", AtLeast(2), (1, -1, 1), Unlink { keys }, read_unlink, del),
+            ("exists", AtLeast(2), (1, -1, 1), Exists { keys }, read_exists, exists),
+            ("type", Exactly(2), (1, 1, 1), TypeOf { key }, read_type, type_of),
             ("rename", Exactly(3), (1, 2, 1), Rename { from, to }, read_rename, rename),
+            ("renamenx", Exactly(3), (1, 2, 1), Renamenx { from, to }, read_renamenx, renamenx),
+            ("dbsize", Exactly(1), whole, Dbsize {}, read_dbsize, dbsize),
+            ("flushall", AtLeast(1), whole, Flushall {}, read_flushall, flushall),
         }
     };
     (strings, $emit:ident, $($argument:tt)*) => {
@@ -29,6 +35,11 @@ macro_rules! command_rows {
             ("get", Exactly(2), (1, 1, 1), Get { key }, read_get, get),
             ("set", AtLeast(3), (1, 1, 1), Set { key, value, condition }, read_set, set),
             ("setnx", Exactly(3), (1, 1, 1), Setnx { key, value }, read_setnx, setnx),
+            ("getset", Exactly(3), (1, 1, 1), Getset { key, value }, read_getset, getset),
+            ("getdel", Exactly(2), (1, 1, 1), Getdel { key }, read_getdel, getdel),
+            ("mget", AtLeast(2), (1, -1, 1), Mget { keys }, read_mget, mget),
+            ("strlen", Exactly(2), (1, 1, 1), Strlen { key }, read_strlen, strlen),
+            ("getrange", Exactly(4), (1, 1, 1), Getrange { key, start, end }, read_getrange, getrange),
         }
     };
     (lists, $emit:ident, $($argument:tt)*) => {

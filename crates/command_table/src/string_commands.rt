@@ -2,7 +2,7 @@
 
 ghost use Rattle.std.specs.Prelude.{◌≡◌, ◌<◌, ◌≤◌, length, slice_get, MatchResult, Some, None};
 ghost use Rattle.command_table.specs.Held.{told_held};
-ghost use Rattle.command_table.specs.StringCommands.{string_command_told, string_rows, get_row, set_row, setnx_row, options_condition, is_option};
+ghost use Rattle.command_table.specs.StringCommands.{string_command_told, string_rows, get_row, set_row, setnx_row, getset_row, getdel_row, mget_row, strlen_row, getrange_row, options_condition, is_option};
 ghost use Rattle.command_table.specs.Row.{row_of, reading_among};
 ghost use Rattle.command_table.specs.Words.{texts_of};
 ghost use Rattle.std.specs.List.{list_all};
@@ -13,8 +13,8 @@ use crate::command_rows;
 use crate::refusal::{CommandName, Refusal};
 use crate::rows::{keys_of_span, read_rows, told_rows};
 use crate::told::{Keys, Told};
-use crate::words::{has_word, is_word, only_word, two_words};
-use texts::Text;
+use crate::words::{has_word, integer_word, is_word, only_word, three_words, two_words};
+use texts::{Text, Texts};
 
 /// A command on strings.
 #[derive(Drop)]
@@ -35,6 +35,34 @@ pub enum StringCommand {
     Setnx {
         key: Text,
         value: Text,
+    },
+
+    /// `GETSET key value`: puts the value at the key, and gives the string that was there.
+    Getset {
+        key: Text,
+        value: Text,
+    },
+
+    /// `GETDEL key`: removes the key, and gives the string that was there.
+    Getdel {
+        key: Text,
+    },
+
+    /// `MGET key [key ..]`: the strings at the keys.
+    Mget {
+        keys: Texts,
+    },
+
+    /// `STRLEN key`: the length of the string at the key.
+    Strlen {
+        key: Text,
+    },
+
+    /// `GETRANGE key start end`: the bytes of the string from start to end.
+    Getrange {
+        key: Text,
+        start: i64,
+        end: i64,
     },
 }
 
@@ -103,6 +131,52 @@ fn read_setnx(words: Vec<Vec<u8>>) -> Result<Command, Refusal>
 {
     let (key, value) = two_words(words);
     Ok(Command::Str(StringCommand::Setnx { key, value }))
+}
+
+/// `GETSET key value`.
+fn read_getset(words: Vec<Vec<u8>>) -> Result<Command, Refusal>
+    requires { length words.items ≡ 2 }
+    ensures { result ≡ getset_row.reading (texts_of words.items) }
+{
+    let (key, value) = two_words(words);
+    Ok(Command::Str(StringCommand::Getset { key, value }))
+}
+
+/// `GETDEL key`.
+fn read_getdel(words: Vec<Vec<u8>>) -> Result<Command, Refusal>
+    requires { length words.items ≡ 1 }
+    ensures { result ≡ getdel_row.reading (texts_of words.items) }
+{
+    let key = only_word(words);
+    Ok(Command::Str(StringCommand::Getdel { key }))
+}
+
+/// `MGET key [key ..]`.
+fn read_mget(words: Vec<Vec<u8>>) -> Result<Command, Refusal>
+    ensures { result ≡ mget_row.reading (texts_of words.items) }
+{
+    let keys = Texts::from(words);
+    Ok(Command::Str(StringCommand::Mget { keys }))
+}
+
+/// `STRLEN key`.
+fn read_strlen(words: Vec<Vec<u8>>) -> Result<Command, Refusal>
+    requires { length words.items ≡ 1 }
+    ensures { result ≡ strlen_row.reading (texts_of words.items) }
+{
+    let key = only_word(words);
+    Ok(Command::Str(StringCommand::Strlen { key }))
+}
+
+/// `GETRANGE key start end`.
+fn read_getrange(words: Vec<Vec<u8>>) -> Result<Command, Refusal>
+    requires { length words.items ≡ 3 }
+    ensures { result ≡ getrange_row.reading (texts_of words.items) }
+{
+    let (key, start, end) = three_words(words);
+    let start = integer_word(start.as_slice())?;
+    let end = integer_word(end.as_slice())?;
+    Ok(Command::Str(StringCommand::Getrange { key, start, end }))
 }
 
 /// The condition that the options of SET state.

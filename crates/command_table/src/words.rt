@@ -43,6 +43,17 @@ pub(crate) fn two_words(mut words: Vec<Vec<u8>>) -> (Text, Text)
     (Text::from(first), Text::from(second))
 }
 
+/// The three words.
+pub(crate) fn three_words(mut words: Vec<Vec<u8>>) -> (Text, Text, Text)
+    requires { length words.items ≡ 3 }
+    ensures { texts_of words.items ≡ result.0 ∷ result.1 ∷ result.2 ∷ [] }
+{
+    let third = words.pop().unwrap();
+    let second = words.pop().unwrap();
+    let first = words.pop().unwrap();
+    (Text::from(first), Text::from(second), Text::from(third))
+}
+
 /// The first word, and the others.
 pub(crate) fn first_and_rest(mut words: Vec<Vec<u8>>) -> (Text, Texts)
     requires { 0 < length words.items }

@@ -1,15 +1,17 @@
 -- That each command on keys looks at its own keys alone.
-use Rattle.std.proofs.Common.{◌≡◌, List, Bool, true, false, cond, not, Option, None, refl, sym, ap, ◌∙◌}
+use Rattle.std.proofs.Common.{◌≡◌, List, Bool, true, false, cond, not, Option, None, is_some, refl, sym, ap, ◌∙◌}
 use Rattle.std.specs.FinMap.{get, len}
+use Rattle.std.specs.List.{count_by}
 use Rattle.std.specs.Str.{bytes_eq}
-use Rattle.command_cases.proofs.Shapes.{local-at_two}
+use Rattle.command_cases.proofs.Local.{local-at_key}
+use Rattle.command_cases.proofs.Shapes.{local-at_each, local-at_two}
 use Rattle.command_cases.specs.Case.{IsLocal}
 use Rattle.command_cases.specs.Replies.{count}
 use Rattle.command_table.specs.KeyCommands.{key_command_told, key_command_keys}
 use Rattle.command_table.specs.Telling.{is_all}
 use Rattle.command_table.specs.declared.key_commands.KeyCommand.{KeyCommand}
-use Rattle.command_table.specs.declared.key_commands.KeyCommand.TheVariants.{Del, Rename}
-use Rattle.key_commands.specs.KeyCommand.{del_case, rename_step, key_command_case}
+use Rattle.command_table.specs.declared.key_commands.KeyCommand.TheVariants.{Del, Unlink, Exists, TypeOf, Rename, Renamenx, Dbsize, Flushall}
+use Rattle.key_commands.specs.KeyCommand.{del_case, type_step, rename_step, renamenx_step, key_command_case}
 use Rattle.keyspace.proofs.Gets.{same, get-retain_keys}
 use Rattle.keyspace.proofs.Parts.{get-restrict, get-put_back}
 use Rattle.keyspace.specs.Map.{Map, among, restrict, without, put_back}
@@ -46,4 +48,10 @@ local-del keys m =
 -- of the commands that name their keys; those for all keys have no part of the map
 pub local-key_command : (c : KeyCommand) → is_all (key_command_told c).keys ≡ false → IsLocal (key_command_keys c) (key_command_case c)
 local-key_command (Del keys) named = local-del keys
+local-key_command (Unlink keys) named = local-del keys
+local-key_command (Exists keys) named = local-at_each keys (λ values. count (count_by is_some values))
+local-key_command (TypeOf key) named = local-at_key key type_step
 local-key_command (Rename from to) named = local-at_two from to (rename_step (bytes_eq from to))
+local-key_command (Renamenx from to) named = local-at_two from to (renamenx_step (bytes_eq from to))
+local-key_command Dbsize named = absurd cc
+local-key_command Flushall named = absurd cc

@@ -5,6 +5,9 @@
 #![tactic(auto)]
 
 mod bodies;
+mod looks;
+mod rename_absent;
+mod whole;
 
 ghost use Rattle.std.specs.Prelude.{◌≡◌, All, IsTrue, OnErr};
 ghost use Rattle.command_cases.specs.Case.{Does};
@@ -15,8 +18,11 @@ use bodies::{del, rename};
 use command_cases::{Starved, body_rows};
 use command_table::{KeyCommand, command_rows};
 use keyspace::Keyspace;
+use looks::{exists, type_of};
+use rename_absent::renamenx;
 use resp::Reply;
 use std::alloc::Global;
+use whole::{dbsize, flushall};
 
 /// Runs a command on keys, by the body that its row names.
 pub fn run_key_command<K: Keyspace>(

@@ -5,6 +5,9 @@
 #![tactic(auto)]
 
 mod bodies;
+mod many;
+mod reads;
+mod replaces;
 
 ghost use Rattle.std.specs.Prelude.{◌≡◌, All, IsTrue, OnErr};
 ghost use Rattle.command_cases.specs.Case.{Does};
@@ -15,6 +18,9 @@ use bodies::{get, set, setnx};
 use command_cases::{Starved, body_rows};
 use command_table::{StringCommand, command_rows};
 use keyspace::Keyspace;
+use many::mget;
+use reads::{getrange, strlen};
+use replaces::{getdel, getset};
 use resp::Reply;
 use std::alloc::Global;
 
