@@ -1,21 +1,33 @@
 -- A command's effect is its case, since a case looks at the command's own keys alone; and what follows for two commands.
-use Rattle.std.proofs.Common.{◌≡◌, [], false, cond, ap, sym, ◌∙◌}
+use Rattle.std.proofs.Common.{◌≡◌, ℕ, List, Bool, true, false, cond, refl, ap, sym, ◌∙◌}
 use Rattle.command_bodies.specs.Command.{case_of, effect_of, AnswersCommute, ContentsCommute}
 use Rattle.command_bodies.specs.LocalCommand.{local_reply}
 use Rattle.command_cases.proofs.Apart.{answers_commute, contents_commute}
 use Rattle.command_cases.proofs.Local.{local-constant}
-use Rattle.command_cases.specs.Case.{one}
+use Rattle.command_cases.specs.Case.{Case, IsLocal, one}
 use Rattle.command_table.specs.Command.{keys_of, is_whole}
 use Rattle.command_table.specs.declared.command.Command.{Command}
-use Rattle.command_table.specs.declared.command.Command.TheVariants.{Key, Str, Local}
+use Rattle.command_table.specs.declared.command.Command.TheVariants.{Key, Str, Hash, Local}
+use Rattle.command_table.specs.declared.command.Command.TheVariants as variant
+use Rattle.hash_commands.proofs.Local.{local-hash_command}
 use Rattle.key_commands.proofs.Local.{local-key_command}
 use Rattle.keyspace.specs.Map.{Map}
+use Rattle.list_commands.proofs.Local.{local-list_command}
 use Rattle.string_commands.proofs.Local.{local-string_command}
 
+-- a case is taken on the whole map, or on the keys that it alone looks at
+effect_of-local : (whole : Bool) (keys : List (List ℕ)) (case : Case) (m : Map) → (whole ≡ false → IsLocal keys case)
+    → cond whole (case m) (one keys case m) ≡ case m
+effect_of-local true keys case m local = refl
+effect_of-local false keys case m local = local refl m
+
 pub effect-case : (command : Command) (m : Map) → effect_of command m ≡ case_of command m
-effect-case (Key c) m = local-key_command c m
-effect-case (Str c) m = local-string_command c m
-effect-case (Local c) m = local-constant [] (local_reply c) m
+effect-case (Key c) m = effect_of-local (is_whole (Key c)) (keys_of (Key c)) (case_of (Key c)) m (local-key_command c)
+effect-case (Str c) m = effect_of-local (is_whole (Str c)) (keys_of (Str c)) (case_of (Str c)) m (λ _. local-string_command c)
+effect-case (variant.List c) m =
+    effect_of-local (is_whole (variant.List c)) (keys_of (variant.List c)) (case_of (variant.List c)) m (λ _. local-list_command c)
+effect-case (Hash c) m = effect_of-local (is_whole (Hash c)) (keys_of (Hash c)) (case_of (Hash c)) m (λ _. local-hash_command c)
+effect-case (Local c) m = effect_of-local (is_whole (Local c)) (keys_of (Local c)) (case_of (Local c)) m (λ _. local-constant (keys_of (Local c)) (local_reply c))
 
 -- a command that is not for all keys takes its part
 effect_part : (command : Command) (m : Map) → is_whole command ≡ false → effect_of command m ≡ one (keys_of command) (case_of command) m

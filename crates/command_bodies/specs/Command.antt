@@ -4,15 +4,20 @@ use Rattle.command_bodies.specs.LocalCommand.{local_reply}
 use Rattle.command_cases.specs.Case.{Case, one}
 use Rattle.command_table.specs.Command.{keys_of, is_whole}
 use Rattle.command_table.specs.declared.command.Command.{Command}
-use Rattle.command_table.specs.declared.command.Command.TheVariants.{Key, Str, Local}
+use Rattle.command_table.specs.declared.command.Command.TheVariants.{Key, Str, Hash, Local}
+use Rattle.command_table.specs.declared.command.Command.TheVariants as variant
+use Rattle.hash_commands.specs.HashCommand.{hash_command_case, HashCommandTakesMemory}
 use Rattle.key_commands.specs.KeyCommand.{key_command_case, KeyCommandTakesMemory}
 use Rattle.keyspace.specs.Map.{Map, AreApart}
+use Rattle.list_commands.specs.ListCommand.{list_command_case, ListCommandTakesMemory}
 use Rattle.string_commands.specs.StringCommand.{string_command_case, StringCommandTakesMemory}
 
 -- what a command does to a map that has its keys, and what it answers
 abbrev pub case_of : Command → Case
 case_of (Key c) = key_command_case c
 case_of (Str c) = string_command_case c
+case_of (variant.List c) = list_command_case c
+case_of (Hash c) = hash_command_case c
 case_of (Local c) = λ m. (m, local_reply c)
 
 -- what a command does to the map of all keys: its case on what the map has at its own keys, which is then put back in their place.
@@ -24,6 +29,8 @@ effect_of command m = if is_whole command then case_of command m else one (keys_
 abbrev pub TakesMemory : Command → Map → Type 0
 TakesMemory (Key c) = KeyCommandTakesMemory c
 TakesMemory (Str c) = StringCommandTakesMemory c
+TakesMemory (variant.List c) = ListCommandTakesMemory c
+TakesMemory (Hash c) = HashCommandTakesMemory c
 TakesMemory (Local c) = λ m. ⊥
 
 -- two commands with no key in common: each answers the same whether the other has run before it or not

@@ -16,8 +16,10 @@ ghost use Rattle.command_table.specs.Command.{keys_of};
 
 use command_cases::Starved;
 use command_table::Command;
+use hash_commands::run_hash_command;
 use key_commands::run_key_command;
 use keyspace::Keyspace;
+use list_commands::run_list_command;
 pub use local_commands::local;
 use resp::Reply;
 use std::alloc::Global;
@@ -41,7 +43,10 @@ pub fn execute<K: Keyspace>(
     run(alloc, keyspace, command)
 }
 
-/// Runs a command by its family.
+/// Runs a command by its family, and leaves its case.
+///
+/// Each family's clause speaks of cases. That a command's effect is its case is one fact on top, which holds of every body: so here
+/// the prover works arm by arm with no help, and `execute` has no arm.
 fn run<K: Keyspace>(alloc: Global, keyspace: &mut K, command: Command) -> Result<Reply, Starved>
     requires { All (λ key. IsTrue (K.covered keyspace.old key)) (keys_of command) }
     ensures done { Does (case_of command)
@@ -52,6 +57,8 @@ fn run<K: Keyspace>(alloc: Global, keyspace: &mut K, command: Command) -> Result
     match command {
         Command::Key(command) => run_key_command(alloc, keyspace, command),
         Command::Str(command) => run_string_command(alloc, keyspace, command),
+        Command::List(command) => run_list_command(alloc, keyspace, command),
+        Command::Hash(command) => run_hash_command(alloc, keyspace, command),
         Command::Local(command) => Ok(local(command)),
     }
 }

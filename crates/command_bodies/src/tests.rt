@@ -3,7 +3,7 @@
 use crate::execute;
 use command_table::read;
 use keyspace::Plain;
-use resp::{Request, write_reply};
+use resp::{Reply, Request, write_reply};
 use std::alloc::Global;
 use std::hash::{BuildHasherDefault, FoldHasher};
 use std::process::Abort;
@@ -21,8 +21,10 @@ fn answer(
         request.push(word.as_bytes().to_vec(alloc)?)?;
     }
     assert!(rt; request.len() > 0);
-    let command = read(Request::from_words(request)).ok().ok_or("refused")?;
-    let reply = execute(alloc, keyspace, command)?;
+    let reply = match read(Request::from_words(request)) {
+        Ok(command) => execute(alloc, keyspace, command)?,
+        Err(refusal) => Reply::Error(refusal.text()),
+    };
     let mut text = Vec::new(alloc);
     write_reply(&reply, &mut text)?;
     Ok(text)
@@ -31,14 +33,120 @@ fn answer(
 #[test]
 fn commands_answer_in_turn(rt: HostRuntime) -> Result<(), Fail> {
     let mut keyspace = Plain::new(rt.alloc(), BuildHasherDefault::<FoldHasher>::new());
-    let rows: [(&[&str], &str); 7] = [
+    let rows: [(&[&str], &str); 15] = [
         (&["SET", "a", "1"], "+OK\r\n"),
         (&["GET", "a"], "$1\r\n1\r\n"),
         (&["SET", "a", "2", "NX"], "$-1\r\n"),
+        (&["SETNX", "a", "3"], ":0\r\n"),
+        (&["SETNX", "b", "3"], ":1\r\n"),
+        (&["RENAME", "a", "b"], "+OK\r\n"),
+        (&["RENAME", "a", "b"], "-ERR no such key\r\n"),
+        (&["RENAME", "b", "b"], "+OK\r\n"),
+        (&["GET", "b"], "$1\r\n1\r\n"),
+        (&["RENAME", "b", "a"], "+OK\r\n"),
+        (&["GET", "b"], "$-1\r\n"),
         (&["DEL", "a", "b", "a"], ":1\r\n"),
         (&["GET", "a"], "$-1\r\n"),
         (&["PING"], "+PONG\r\n"),
         (&["ECHO", "hi"], "$2\r\nhi\r\n"),
+    ];
+    for (words, reply) in rows {
+        let text = answer(&rt, rt.alloc(), &mut keyspace, words)?;
+        assert_eq!(rt; text.as_slice(), reply.as_bytes(), "{words:?}");
+    }
+    Ok(())
+}
+
+#[test]
+fn commands_on_lists_answer_in_turn(rt: HostRuntime) -> Result<(), Fail> {
+    let mut keyspace = Plain::new(rt.alloc(), BuildHasherDefault::<FoldHasher>::new());
+    let wrong_type = "-WRONGTYPE Operation against a key holding the wrong kind of value\r\n";
+    let rows: [(&[&str], &str); 46] = [
+        (&["RPUSH", "a", "1", "2", "1", "3", "1"], ":5\r\n"),
+        (&["LREM", "a", "-2", "1"], ":2\r\n"),
+        (&["LMOVE", "a", "a", "LEFT", "RIGHT"], "$1\r\n1\r\n"),
+        (&["LINSERT", "a", "AFTER", "3", "x"], ":4\r\n"),
+        (&["LRANGE", "a", "0", "-1"], "*4\r\n$1\r\n2\r\n$1\r\n3\r\n$1\r\nx\r\n$1\r\n1\r\n"),
+        (&["LINSERT", "a", "BEFORE", "9", "y"], ":-1\r\n"),
+        (&["LTRIM", "a", "5", "9"], "+OK\r\n"),
+        (&["LLEN", "a"], ":0\r\n"),
+        (&["RENAME", "a", "z"], "-ERR no such key\r\n"),
+        (&["LINSERT", "a", "BEFORE", "9", "y"], ":0\r\n"),
+        (&["SET", "b", "v"], "+OK\r\n"),
+        (&["LMOVE", "a", "b", "LEFT", "LEFT"], "$-1\r\n"),
+        (&["LPUSH", "c", "1"], ":1\r\n"),
+        (&["LMOVE", "c", "b", "LEFT", "LEFT"], wrong_type),
+        (&["LPOP", "b"], wrong_type),
+        (&["RPUSHX", "b", "1"], wrong_type),
+        (&["LPUSHX", "a", "1"], ":0\r\n"),
+        (&["LPUSHX", "c", "2", "3"], ":3\r\n"),
+        (&["GET", "c"], wrong_type),
+        (&["LINDEX", "c", "0"], "$1\r\n3\r\n"),
+        (&["LINDEX", "c", "-1"], "$1\r\n1\r\n"),
+        (&["LINDEX", "c", "-3"], "$1\r\n3\r\n"),
+        (&["LINDEX", "c", "-4"], "$-1\r\n"),
+        (&["LINDEX", "c", "3"], "$-1\r\n"),
+        (&["LINDEX", "c", "-9223372036854775808"], "$-1\r\n"),
+        (&["LINDEX", "c", "9223372036854775808"], "-ERR value is not an integer or out of range\r\n"),
+        (&["LSET", "c", "-2", "x"], "+OK\r\n"),
+        (&["LSET", "c", "3", "x"], "-ERR index out of range\r\n"),
+        (&["LSET", "a", "0", "x"], "-ERR no such key\r\n"),
+        (&["LRANGE", "c", "-2", "9"], "*2\r\n$1\r\nx\r\n$1\r\n1\r\n"),
+        (&["LRANGE", "c", "2", "1"], "*0\r\n"),
+        (&["RPOPLPUSH", "c", "d"], "$1\r\n1\r\n"),
+        (&["RPOPLPUSH", "c", "d"], "$1\r\nx\r\n"),
+        (&["LRANGE", "d", "0", "-1"], "*2\r\n$1\r\nx\r\n$1\r\n1\r\n"),
+        (&["RPOP", "c"], "$1\r\n3\r\n"),
+        (&["RPOP", "c"], "$-1\r\n"),
+        (&["RPUSHX", "c", "1"], ":0\r\n"),
+        (&["LMOVE", "d", "d", "UP", "RIGHT"], "-ERR syntax error\r\n"),
+        (&["LINSERT", "d", "behind", "x", "y"], "-ERR syntax error\r\n"),
+        (&["LINSERT", "d", "before", "1", "1"], ":3\r\n"),
+        (&["LREM", "d", "1", "1"], ":1\r\n"),
+        (&["LREM", "d", "-9223372036854775808", "1"], ":1\r\n"),
+        (&["LREM", "d", "0", "x"], ":1\r\n"),
+        (&["LPOP", "d"], "$-1\r\n"),
+        (&["SETNX", "d", "1"], ":1\r\n"),
+        (&["GET", "d"], "$1\r\n1\r\n"),
+    ];
+    for (words, reply) in rows {
+        let text = answer(&rt, rt.alloc(), &mut keyspace, words)?;
+        assert_eq!(rt; text.as_slice(), reply.as_bytes(), "{words:?}");
+    }
+    Ok(())
+}
+
+#[test]
+fn keys_and_strings_answer_in_turn(rt: HostRuntime) -> Result<(), Fail> {
+    let mut keyspace = Plain::new(rt.alloc(), BuildHasherDefault::<FoldHasher>::new());
+    let rows: [(&[&str], &str); 24] = [
+        (&["DBSIZE"], ":0\r\n"),
+        (&["SET", "a", "10"], "+OK\r\n"),
+        (&["SET", "text", "hello"], "+OK\r\n"),
+        (&["STRLEN", "text"], ":5\r\n"),
+        (&["STRLEN", "none"], ":0\r\n"),
+        (&["GETRANGE", "text", "1", "-2"], "$3\r\nell\r\n"),
+        (&["GETRANGE", "text", "-100", "100"], "$5\r\nhello\r\n"),
+        (&["GETRANGE", "text", "3", "1"], "$0\r\n\r\n"),
+        (&["GETRANGE", "none", "0", "-1"], "$0\r\n\r\n"),
+        (&["GETSET", "text", "world"], "$5\r\nhello\r\n"),
+        (&["GETSET", "other", "x"], "$-1\r\n"),
+        (&["GETDEL", "other"], "$1\r\nx\r\n"),
+        (&["GETDEL", "other"], "$-1\r\n"),
+        (
+            &["MGET", "text", "none", "text"],
+            "*3\r\n$5\r\nworld\r\n$-1\r\n$5\r\nworld\r\n",
+        ),
+        (&["EXISTS", "a", "none", "a"], ":2\r\n"),
+        (&["TYPE", "a"], "+string\r\n"),
+        (&["TYPE", "none"], "+none\r\n"),
+        (&["RENAMENX", "a", "text"], ":0\r\n"),
+        (&["RENAMENX", "a", "a"], ":0\r\n"),
+        (&["RENAMENX", "a", "b"], ":1\r\n"),
+        (&["UNLINK", "b", "a", "b"], ":1\r\n"),
+        (&["DBSIZE"], ":1\r\n"),
+        (&["FLUSHALL", "async"], "+OK\r\n"),
+        (&["DBSIZE"], ":0\r\n"),
     ];
     for (words, reply) in rows {
         let text = answer(&rt, rt.alloc(), &mut keyspace, words)?;

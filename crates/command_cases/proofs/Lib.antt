@@ -1,3 +1,5 @@
 pub mod Local
 pub mod Apart
+pub mod Beside
 pub mod Items
+pub mod Shapes

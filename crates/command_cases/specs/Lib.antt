@@ -1,3 +1,4 @@
 pub mod Case
 pub mod Commute
 pub mod Replies
+pub mod Shapes

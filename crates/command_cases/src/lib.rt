@@ -5,12 +5,13 @@
 //! The crates of the families and `command_bodies` cite these words.
 #![tactic(auto)]
 
-ghost use Rattle.std.specs.Prelude.{◌≡◌};
-ghost use Rattle.command_cases.specs.Commute.{AnswersCommute, ContentsCommute};
-ghost use Rattle.command_cases.specs.Replies.{count};
-ghost use Rattle.resp.specs.Content.{content};
+mod replies;
 
-use resp::Reply;
+ghost use Rattle.command_cases.specs.Commute.{AnswersCommute, ContentsCommute};
+
+pub use replies::{
+    GREATEST_COUNT, count_reply, no_such_key_reply, ok_reply, truth_reply, wrong_type_reply,
+};
 use std::alloc::AllocError;
 
 /// A body found no memory. The keyspace has the contents that it had before.
@@ -23,20 +24,13 @@ impl From<AllocError> for Starved {
     }
 }
 
-/// The number of something as a reply: an integer reply goes up to 9223372036854775807, and stands for all above too.
-pub fn count_reply(number: usize) -> Reply
-    ensures { content result ≡ count number }
-{
-    Reply::Int(i64::try_from(number).unwrap_or(i64::MAX))
-}
-
 /// Runs a command of a family by the body that its row names, with the allocator, the keyspace and the command's fields.
 ///
-/// It is for `command_table::command_rows`: behind the family it takes the type of the family's commands, the allocator, the
+/// It is for `command_table::command_rows`: after the family it takes the type of the family's commands, the allocator, the
 /// keyspace and the command.
 #[macro_export]
 macro_rules! body_rows {
-    ([$family:ident, $alloc:expr, $keyspace:expr, $command:expr] $(($name:literal, $arity:ident($number:literal), $span:tt, $variant:ident { $($field:ident),* }, $body:ident),)*) => {
+    ([$family:ident, $alloc:expr, $keyspace:expr, $command:expr] $(($name:literal, $arity:ident($number:literal), $span:tt, $variant:ident { $($field:ident),* }, $read:ident, $body:ident),)*) => {
         match $command {
             $($family::$variant { $($field),* } => $body($alloc, $keyspace, $($field),*),)*
         }

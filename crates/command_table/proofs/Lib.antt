@@ -1,3 +1,4 @@
 pub mod Finding
+pub mod Keyed
 pub mod Texts
-pub mod Told
+pub mod Tells

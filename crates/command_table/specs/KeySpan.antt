@@ -1,5 +1,6 @@
 -- Which words of a request are keys: the key span of the Redis command reference.
-use Rattle.std.specs.Prelude.{ℕ, suc, zero, ◌+◌, ◌-◌, Bool, true, false, List, [], ◌∷◌, take, drop}
+use Rattle.std.specs.Prelude.{ℕ, suc, zero, ◌+◌, ◌-◌, List, [], ◌∷◌, take, drop}
+use Rattle.command_table.specs.Telling.{KeysTold, All, These}
 use Rattle.command_table.specs.Words.{Word}
 
 -- a key span counts words from 0, the name, on
@@ -16,15 +17,8 @@ stepped step zero (w ∷ ws) = w ∷ stepped step (step - 1) ws
 stepped step (suc pass) (w ∷ ws) = stepped step pass ws
 
 -- the keys that a span takes from the words, the name first
-abbrev pub keys_in : KeySpan → List Word → List Word
-keys_in NoKeys words = []
-keys_in AllThereAre words = []
-keys_in (Between first last) words = take (last + 1 - first) (drop first words)
-keys_in (ToLastWord first step) words = stepped step 0 (drop first words)
-
--- the span is that of all keys there are
-abbrev pub is_whole_span : KeySpan → Bool
-is_whole_span NoKeys = false
-is_whole_span AllThereAre = true
-is_whole_span (Between first last) = false
-is_whole_span (ToLastWord first step) = false
+abbrev pub keys_in : KeySpan → List Word → KeysTold
+keys_in NoKeys words = These []
+keys_in AllThereAre words = All
+keys_in (Between first last) words = These (take (last + 1 - first) (drop first words))
+keys_in (ToLastWord first step) words = These (stepped step 0 (drop first words))

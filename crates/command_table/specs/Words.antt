@@ -1,16 +1,16 @@
 -- The words of a request.
-use Rattle.std.specs.Prelude.{ℕ, Bool, List, [], map, slice_index_or}
+use Rattle.std.specs.Prelude.{ℕ, ℤ, Bool, List, [], map, slice_index_or, Option, Some, None, Result, Ok, Err}
 use Rattle.std.specs.Char.{to_ascii_lowercase}
-use Rattle.std.specs.Global.{Vec}
 use Rattle.std.specs.Str.{bytes_eq}
+use Rattle.command_table.specs.declared.refusal.Refusal.{Refusal}
+use Rattle.command_table.specs.declared.refusal.Refusal.TheVariants.{NotInteger}
+use Rattle.integers.specs.Integer.{integer_of}
+use Rattle.texts.specs.Texts.{Bytes}
+pub use Rattle.texts.specs.Texts.{texts_of, pairs_of}
 
 -- a word: any bytes
 abbrev pub Word : Type 0
-Word = List ℕ
-
--- the bytes of these words
-abbrev pub texts_of : List (Vec ℕ) → List Word
-texts_of words = map (λ w. w.items) words
+Word = Bytes
 
 -- the word in lower case: ASCII letters alone have a case
 abbrev pub lower : Word → Word
@@ -23,3 +23,12 @@ is_word text w = bytes_eq (lower w) text
 -- the word at a place; the empty one where there is none
 abbrev pub word : List Word → ℕ → Word
 word words i = slice_index_or words i []
+
+-- a number, where there is one
+abbrev pub number_or_refusal : Option ℤ → Result ℤ Refusal
+number_or_refusal (Some number) = Ok number
+number_or_refusal None = Err NotInteger
+
+-- the integer that the word should be
+abbrev pub integer_word : Word → Result ℤ Refusal
+integer_word w = number_or_refusal (integer_of w)

@@ -1,8 +1,8 @@
-//! Commands on keys of any type: DEL.
+//! Commands on keys of any type.
 
-ghost use Rattle.std.specs.Prelude.{◌≡◌, ◌<◌, length, slice_get, MatchResult, Some, None};
-ghost use Rattle.command_table.specs.Command.{key_command_name, key_command_keys, key_command_is_whole};
-ghost use Rattle.command_table.specs.KeyTable.{key_rows, del_reading};
+ghost use Rattle.std.specs.Prelude.{◌≡◌, length, MatchResult, Some, None};
+ghost use Rattle.command_table.specs.Held.{told_held};
+ghost use Rattle.command_table.specs.KeyCommands.{key_command_told, key_rows, del_row, unlink_row, exists_row, type_row, rename_row, renamenx_row, dbsize_row, flushall_reading};
 ghost use Rattle.command_table.specs.Row.{row_of, reading_among};
 ghost use Rattle.command_table.specs.Words.{texts_of};
 
@@ -10,50 +10,49 @@ use crate::arity::Arity;
 use crate::command::Command;
 use crate::command_rows;
 use crate::refusal::{CommandName, Refusal};
-use crate::rows::{
-    at_rows, at_span, count_rows, count_span, is_whole_span, name_rows, read_rows, whole_rows,
-};
-use texts::Texts;
+use crate::rows::{keys_of_span, read_rows, told_rows};
+use crate::told::{Keys, Told};
+use crate::words::{is_word, only_word, two_words};
+use texts::{Text, Texts};
 
 /// A command on keys of any type.
 #[derive(Drop)]
 pub enum KeyCommand {
     /// `DEL key [key ..]`: removes the keys.
     Del { keys: Texts },
+
+    /// `UNLINK key [key ..]`: removes the keys, as DEL does.
+    Unlink { keys: Texts },
+
+    /// `EXISTS key [key ..]`: how many of these words name a key that is there.
+    Exists { keys: Texts },
+
+    /// `TYPE key`: the name of the type of the key's value.
+    TypeOf { key: Text },
+
+    /// `RENAME key newkey`: moves the value of the key to the new one.
+    Rename { from: Text, to: Text },
+
+    /// `RENAMENX key newkey`: moves the value of the key to the new one, where that isn't there.
+    Renamenx { from: Text, to: Text },
+
+    /// `DBSIZE`: the number of keys.
+    Dbsize,
+
+    /// `FLUSHALL [ASYNC | SYNC]`: removes all keys.
+    Flushall,
 }
 
 impl KeyCommand {
-    /// The command's name, in lower case.
-    pub(crate) fn name(&self) -> &'static str
-        ensures { result.now ≡ key_command_name self.now }
+    /// What is told of the command.
+    pub(crate) fn told(&self) -> Told<'_>
+        ensures { told_held result ≡ key_command_told self.now }
     {
-        command_rows!(keys, name_rows, KeyCommand, self)
-    }
-
-    /// Whether the command is for all keys there are.
-    pub(crate) fn is_whole(&self) -> bool
-        ensures { result ≡ key_command_is_whole self.now }
-    {
-        command_rows!(keys, whole_rows, KeyCommand, self)
-    }
-
-    /// The number of the command's keys.
-    pub(crate) fn key_count(&self) -> usize
-        ensures { result ≡ length (key_command_keys self.now) }
-    {
-        command_rows!(keys, count_rows, KeyCommand, self)
-    }
-
-    /// The command's key at this place.
-    pub(crate) fn key_at(&self, place: usize) -> &[u8]
-        requires { place < length (key_command_keys self.now) }
-        ensures { slice_get (key_command_keys self.now) place ≡ Some result.now }
-    {
-        command_rows!(keys, at_rows, KeyCommand, self, place)
+        command_rows!(keys, told_rows, KeyCommand, self)
     }
 }
 
-/// Reads the words behind a name by the row that has it; `Err` gives the words back where none of these rows has it.
+/// Reads the words after a name by the row that has it; `Err` gives the words back where none of these rows has it.
 pub(crate) fn read_key_command(
     name: &str,
     words: Vec<Vec<u8>>,
@@ -66,9 +65,74 @@ pub(crate) fn read_key_command(
     command_rows!(keys, read_rows, name, words)
 }
 
-fn del(words: Vec<Vec<u8>>) -> Result<Command, Refusal>
-    ensures { result ≡ del_reading (texts_of words.items) }
+/// `DEL key [key ..]`.
+fn read_del(words: Vec<Vec<u8>>) -> Result<Command, Refusal>
+    ensures { result ≡ del_row.reading (texts_of words.items) }
 {
     let keys = Texts::from(words);
     Ok(Command::Key(KeyCommand::Del { keys }))
+}
+
+/// `RENAME key newkey`.
+fn read_rename(words: Vec<Vec<u8>>) -> Result<Command, Refusal>
+    requires { length words.items ≡ 2 }
+    ensures { result ≡ rename_row.reading (texts_of words.items) }
+{
+    let (from, to) = two_words(words);
+    Ok(Command::Key(KeyCommand::Rename { from, to }))
+}
+
+/// `UNLINK key [key ..]`.
+fn read_unlink(words: Vec<Vec<u8>>) -> Result<Command, Refusal>
+    ensures { result ≡ unlink_row.reading (texts_of words.items) }
+{
+    let keys = Texts::from(words);
+    Ok(Command::Key(KeyCommand::Unlink { keys }))
+}
+
+/// `EXISTS key [key ..]`.
+fn read_exists(words: Vec<Vec<u8>>) -> Result<Command, Refusal>
+    ensures { result ≡ exists_row.reading (texts_of words.items) }
+{
+    let keys = Texts::from(words);
+    Ok(Command::Key(KeyCommand::Exists { keys }))
+}
+
+/// `TYPE key`.
+fn read_type(words: Vec<Vec<u8>>) -> Result<Command, Refusal>
+    requires { length words.items ≡ 1 }
+    ensures { result ≡ type_row.reading (texts_of words.items) }
+{
+    let key = only_word(words);
+    Ok(Command::Key(KeyCommand::TypeOf { key }))
+}
+
+/// `RENAMENX key newkey`.
+fn read_renamenx(words: Vec<Vec<u8>>) -> Result<Command, Refusal>
+    requires { length words.items ≡ 2 }
+    ensures { result ≡ renamenx_row.reading (texts_of words.items) }
+{
+    let (from, to) = two_words(words);
+    Ok(Command::Key(KeyCommand::Renamenx { from, to }))
+}
+
+/// `DBSIZE`.
+fn read_dbsize(words: Vec<Vec<u8>>) -> Result<Command, Refusal>
+    ensures { result ≡ dbsize_row.reading (texts_of words.items) }
+{
+    let _ = words;
+    Ok(Command::Key(KeyCommand::Dbsize))
+}
+
+/// `FLUSHALL [ASYNC | SYNC]`.
+fn read_flushall(words: Vec<Vec<u8>>) -> Result<Command, Refusal>
+    ensures { result ≡ flushall_reading (texts_of words.items) }
+{
+    match words.as_slice() {
+        [] => Ok(Command::Key(KeyCommand::Flushall)),
+        [word] if is_word(word, b"async") || is_word(word, b"sync") => {
+            Ok(Command::Key(KeyCommand::Flushall))
+        }
+        _ => Err(Refusal::Syntax),
+    }
 }

@@ -7,7 +7,9 @@
 
 mod arity;
 mod command;
+mod hash_commands;
 mod key_commands;
+mod list_commands;
 mod local_commands;
 mod reading;
 mod refusal;
@@ -15,10 +17,13 @@ mod rows;
 mod string_commands;
 #[cfg(test)]
 mod tests;
+mod told;
 mod words;
 
 pub use command::{Command, is_whole, key_at, key_count, keys, name};
+pub use hash_commands::HashCommand;
 pub use key_commands::KeyCommand;
+pub use list_commands::{ListCommand, Side};
 pub use local_commands::LocalCommand;
 pub use reading::read;
 pub use refusal::{CommandName, Refusal};

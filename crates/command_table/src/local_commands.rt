@@ -1,8 +1,8 @@
-//! Commands that look at no key: PING and ECHO.
+//! Commands that look at no key.
 
 ghost use Rattle.std.specs.Prelude.{◌≡◌, length, MatchResult, Some, None};
-ghost use Rattle.command_table.specs.Command.{local_command_name, local_command_keys, local_command_is_whole};
-ghost use Rattle.command_table.specs.LocalTable.{local_rows, ping_reading, echo_reading};
+ghost use Rattle.command_table.specs.Held.{told_held};
+ghost use Rattle.command_table.specs.LocalCommands.{local_command_told, local_rows, ping_reading, echo_row};
 ghost use Rattle.command_table.specs.Row.{row_of, reading_among};
 ghost use Rattle.command_table.specs.Words.{texts_of};
 
@@ -10,7 +10,8 @@ use crate::arity::Arity;
 use crate::command::Command;
 use crate::command_rows;
 use crate::refusal::{CommandName, Refusal};
-use crate::rows::{count_rows, count_span, is_whole_span, name_rows, read_rows, whole_rows};
+use crate::rows::{keys_of_span, read_rows, told_rows};
+use crate::told::{Keys, Told};
 use crate::words::only_word;
 use texts::Text;
 
@@ -25,29 +26,15 @@ pub enum LocalCommand {
 }
 
 impl LocalCommand {
-    /// The command's name, in lower case.
-    pub(crate) fn name(&self) -> &'static str
-        ensures { result.now ≡ local_command_name self.now }
+    /// What is told of the command.
+    pub(crate) fn told(&self) -> Told<'_>
+        ensures { told_held result ≡ local_command_told self.now }
     {
-        command_rows!(local, name_rows, LocalCommand, self)
-    }
-
-    /// Whether the command is for all keys there are.
-    pub(crate) fn is_whole(&self) -> bool
-        ensures { result ≡ local_command_is_whole self.now }
-    {
-        command_rows!(local, whole_rows, LocalCommand, self)
-    }
-
-    /// The number of the command's keys.
-    pub(crate) fn key_count(&self) -> usize
-        ensures { result ≡ length (local_command_keys self.now) }
-    {
-        command_rows!(local, count_rows, LocalCommand, self)
+        command_rows!(local, told_rows, LocalCommand, self)
     }
 }
 
-/// Reads the words behind a name by the row that has it; `Err` gives the words back where none of these rows has it.
+/// Reads the words after a name by the row that has it; `Err` gives the words back where none of these rows has it.
 pub(crate) fn read_local_command(
     name: &str,
     words: Vec<Vec<u8>>,
@@ -60,7 +47,8 @@ pub(crate) fn read_local_command(
     command_rows!(local, read_rows, name, words)
 }
 
-fn ping(mut words: Vec<Vec<u8>>) -> Result<Command, Refusal>
+/// `PING [word]`.
+fn read_ping(mut words: Vec<Vec<u8>>) -> Result<Command, Refusal>
     ensures { result ≡ ping_reading (texts_of words.items) }
 {
     if words.len() > 1 {
@@ -73,9 +61,10 @@ fn ping(mut words: Vec<Vec<u8>>) -> Result<Command, Refusal>
     Ok(Command::Local(LocalCommand::Ping { word }))
 }
 
-fn echo(words: Vec<Vec<u8>>) -> Result<Command, Refusal>
+/// `ECHO word`.
+fn read_echo(words: Vec<Vec<u8>>) -> Result<Command, Refusal>
     requires { length words.items ≡ 1 }
-    ensures { result ≡ echo_reading (texts_of words.items) }
+    ensures { result ≡ echo_row.reading (texts_of words.items) }
 {
     let word = only_word(words);
     Ok(Command::Local(LocalCommand::Echo { word }))

@@ -6,12 +6,15 @@
 
 ghost use Rattle.std.specs.Prelude.{◌≡◌, Err, IfOk, unwrap_or};
 ghost use Rattle.command_table.specs.declared.refusal.Refusal.TheVariants.{Unknown};
+ghost use Rattle.command_table.specs.Keyed.{IsKeyed};
 ghost use Rattle.command_table.specs.Reading.{reading, rows, IsTold};
 ghost use Rattle.command_table.specs.Row.{reading_among};
 ghost use Rattle.command_table.specs.Words.{lower, texts_of};
 
 use crate::command::Command;
+use crate::hash_commands::read_hash_command;
 use crate::key_commands::read_key_command;
+use crate::list_commands::read_list_command;
 use crate::local_commands::read_local_command;
 use crate::refusal::Refusal;
 use crate::string_commands::read_string_command;
@@ -25,6 +28,7 @@ use resp::Request;
 pub fn read(request: Request) -> Result<Command, Refusal>
     ensures reading { result ≡ reading request }
     ensures told { IfOk result (λ command. IsTold request command) }
+    ensures keyed { IfOk result IsKeyed }
 {
     let mut words = request.into_words();
     let name = in_lower_case(words.remove(0));
@@ -60,7 +64,15 @@ fn read_by_row(name: &str, words: Vec<Vec<u8>>) -> Result<Command, Refusal>
         Ok(read) => return read,
         Err(words) => words,
     };
-    match read_string_command(name, words) {
+    let words = match read_string_command(name, words) {
+        Ok(read) => return read,
+        Err(words) => words,
+    };
+    let words = match read_list_command(name, words) {
+        Ok(read) => return read,
+        Err(words) => words,
+    };
+    match read_hash_command(name, words) {
         Ok(read) => read,
         Err(_) => Err(Refusal::Unknown),
     }

@@ -3,35 +3,85 @@
 //! A row stands once, here. `command_rows!` hands the rows of a family to a macro of the caller's, which writes an arm for each:
 //! the crate of a family's bodies dispatches by them too.
 
-/// Hands the rows of a family, `local`, `keys` or `strings`, to the macro named behind it, with the words behind that in brackets.
+/// Hands the rows of a family, `local`, `keys`, `strings`, `lists` or `hashes`, to the macro named after it, with the words after that in
+/// brackets.
 ///
 /// A row has the command's name in lower case; how many words it takes, its name included; its key span, which is the first key,
 /// the last one and the step between them by word, the name being word 0 and -1 the last word, or `none`, or `whole` where it is
-/// for all keys there are; its variant with its fields, the keys first; and the name of the function for it.
+/// for all keys there are; its variant with its fields, the keys first; the name of the function that reads its words; and the
+/// name of its body.
 #[macro_export]
 macro_rules! command_rows {
     (local, $emit:ident, $($argument:tt)*) => {
         $emit! { [$($argument)*]
-            ("ping", AtLeast(1), none, Ping { word }, ping),
-            ("echo", Exactly(2), none, Echo { word }, echo),
+            ("ping", AtLeast(1), none, Ping { word }, read_ping, ping),
+            ("echo", Exactly(2), none, Echo { word }, read_echo, echo),
         }
     };
     (keys, $emit:ident, $($argument:tt)*) => {
         $emit! { [$($argument)*]
-            ("del", AtLeast(2), (1, -1, 1), Del { keys }, del),
+            ("del", AtLeast(2), (1, -1, 1), Del { keys }, read_del, del),
+            ("unlink", AtLeast(2), (1, -1, 1), Unlink { keys }, read_unlink, del),
+            ("exists", AtLeast(2), (1, -1, 1), Exists { keys }, read_exists, exists),
+            ("type", Exactly(2), (1, 1, 1), TypeOf { key }, read_type, type_of),
+            ("rename", Exactly(3), (1, 2, 1), Rename { from, to }, read_rename, rename),
+            ("renamenx", Exactly(3), (1, 2, 1), Renamenx { from, to }, read_renamenx, renamenx),
+            ("dbsize", Exactly(1), whole, Dbsize {}, read_dbsize, dbsize),
+            ("flushall", AtLeast(1), whole, Flushall {}, read_flushall, flushall),
         }
     };
     (strings, $emit:ident, $($argument:tt)*) => {
         $emit! { [$($argument)*]
-            ("get", Exactly(2), (1, 1, 1), Get { key }, get),
-            ("set", AtLeast(3), (1, 1, 1), Set { key, value, condition }, set),
+            ("get", Exactly(2), (1, 1, 1), Get { key }, read_get, get),
+            ("set", AtLeast(3), (1, 1, 1), Set { key, value, condition }, read_set, set),
+            ("setnx", Exactly(3), (1, 1, 1), Setnx { key, value }, read_setnx, setnx),
+            ("getset", Exactly(3), (1, 1, 1), Getset { key, value }, read_getset, getset),
+            ("getdel", Exactly(2), (1, 1, 1), Getdel { key }, read_getdel, getdel),
+            ("mget", AtLeast(2), (1, -1, 1), Mget { keys }, read_mget, mget),
+            ("strlen", Exactly(2), (1, 1, 1), Strlen { key }, read_strlen, strlen),
+            ("getrange", Exactly(4), (1, 1, 1), Getrange { key, start, end }, read_getrange, getrange),
+        }
+    };
+    (lists, $emit:ident, $($argument:tt)*) => {
+        $emit! { [$($argument)*]
+            ("llen", Exactly(2), (1, 1, 1), Llen { key }, read_llen, llen),
+            ("lpop", Exactly(2), (1, 1, 1), Lpop { key }, read_lpop, lpop),
+            ("rpop", Exactly(2), (1, 1, 1), Rpop { key }, read_rpop, rpop),
+            ("lpush", AtLeast(3), (1, 1, 1), Lpush { key, items }, read_lpush, lpush),
+            ("rpush", AtLeast(3), (1, 1, 1), Rpush { key, items }, read_rpush, rpush),
+            ("lpushx", AtLeast(3), (1, 1, 1), Lpushx { key, items }, read_lpushx, lpushx),
+            ("rpushx", AtLeast(3), (1, 1, 1), Rpushx { key, items }, read_rpushx, rpushx),
+            ("lindex", Exactly(3), (1, 1, 1), Lindex { key, place }, read_lindex, lindex),
+            ("lset", Exactly(4), (1, 1, 1), Lset { key, place, item }, read_lset, lset),
+            ("lrange", Exactly(4), (1, 1, 1), Lrange { key, start, end }, read_lrange, lrange),
+            ("ltrim", Exactly(4), (1, 1, 1), Ltrim { key, start, end }, read_ltrim, ltrim),
+            ("lrem", Exactly(4), (1, 1, 1), Lrem { key, count, item }, read_lrem, lrem),
+            ("linsert", Exactly(5), (1, 1, 1), Linsert { key, side, pivot, item }, read_linsert, linsert),
+            ("lmove", Exactly(5), (1, 2, 1), Lmove { from, to, taken, put }, read_lmove, lmove),
+            ("rpoplpush", Exactly(3), (1, 2, 1), Rpoplpush { from, to }, read_rpoplpush, rpoplpush),
+        }
+    };
+    (hashes, $emit:ident, $($argument:tt)*) => {
+        $emit! { [$($argument)*]
+            ("hlen", Exactly(2), (1, 1, 1), Hlen { key }, read_hlen, hlen),
+            ("hget", Exactly(3), (1, 1, 1), Hget { key, field }, read_hget, hget),
+            ("hexists", Exactly(3), (1, 1, 1), Hexists { key, field }, read_hexists, hexists),
+            ("hstrlen", Exactly(3), (1, 1, 1), Hstrlen { key, field }, read_hstrlen, hstrlen),
+            ("hkeys", Exactly(2), (1, 1, 1), Hkeys { key }, read_hkeys, hkeys),
+            ("hvals", Exactly(2), (1, 1, 1), Hvals { key }, read_hvals, hvals),
+            ("hgetall", Exactly(2), (1, 1, 1), Hgetall { key }, read_hgetall, hgetall),
+            ("hmget", AtLeast(3), (1, 1, 1), Hmget { key, fields }, read_hmget, hmget),
+            ("hdel", AtLeast(3), (1, 1, 1), Hdel { key, fields }, read_hdel, hdel),
+            ("hsetnx", Exactly(4), (1, 1, 1), Hsetnx { key, field, value }, read_hsetnx, hsetnx),
+            ("hset", AtLeast(4), (1, 1, 1), Hset { key, pairs }, read_hset, hset),
+            ("hmset", AtLeast(4), (1, 1, 1), Hmset { key, pairs }, read_hmset, hmset),
         }
     };
 }
 
 /// Reads these words by the row of this name; gives the words back where no row has it.
 macro_rules! read_rows {
-    ([$name:expr, $words:expr] $(($text:literal, $arity:ident($number:literal), $span:tt, $variant:ident { $($field:ident),* }, $read:ident),)*) => {
+    ([$name:expr, $words:expr] $(($text:literal, $arity:ident($number:literal), $span:tt, $variant:ident { $($field:ident),* }, $read:ident, $body:ident),)*) => {
         match $name {
             $($text => Ok(if Arity::$arity($number).admits($words.len() + 1) {
                 $read($words)
@@ -43,69 +93,26 @@ macro_rules! read_rows {
     };
 }
 
-/// The name of the row of this command.
-macro_rules! name_rows {
-    ([$family:ident, $command:expr] $(($text:literal, $arity:ident($number:literal), $span:tt, $variant:ident { $($field:ident),* }, $read:ident),)*) => {
+/// What the row of this command tells of it.
+macro_rules! told_rows {
+    ([$family:ident, $command:expr] $(($text:literal, $arity:ident($number:literal), $span:tt, $variant:ident { $($field:ident),* }, $read:ident, $body:ident),)*) => {
         match $command {
-            $($family::$variant { .. } => $text,)*
+            $($family::$variant { $($field),* } => Told { name: $text, keys: keys_of_span!($span $(, $field)*) },)*
         }
     };
 }
 
-/// Whether the row of this command is for all keys there are.
-macro_rules! whole_rows {
-    ([$family:ident, $command:expr] $(($text:literal, $arity:ident($number:literal), $span:tt, $variant:ident { $($field:ident),* }, $read:ident),)*) => {
-        match $command {
-            $($family::$variant { .. } => is_whole_span!($span),)*
-        }
-    };
+/// The keys that this key span takes of a command's fields, the keys first.
+macro_rules! keys_of_span {
+    (none $(, $field:ident)*) => { Keys::None };
+    (whole $(, $field:ident)*) => { Keys::All };
+    ((1, 1, 1), $key:ident $(, $field:ident)*) => { Keys::One($key) };
+    ((1, 2, 1), $first:ident, $second:ident $(, $field:ident)*) => { Keys::Two($first, $second) };
+    ((1, -1, 1), $keys:ident) => { Keys::Each($keys) };
+    ((1, -1, 1), $first:ident, $rest:ident) => { Keys::OneAnd($first, $rest) };
+    ((1, -1, 2), $pairs:ident) => { Keys::Firsts($pairs) };
 }
 
-/// Whether this key span is that of all keys.
-macro_rules! is_whole_span {
-    (whole) => { true };
-    ($span:tt) => { false };
-}
-
-/// The number of the keys that this command's row names.
-macro_rules! count_rows {
-    ([$family:ident, $command:expr] $(($text:literal, $arity:ident($number:literal), $span:tt, $variant:ident { $($field:ident),* }, $read:ident),)*) => {
-        match $command {
-            $($family::$variant { $($field),* } => count_span!($span, $($field),*),)*
-        }
-    };
-}
-
-/// How many of a command's fields, the keys first, this key span takes.
-macro_rules! count_span {
-    (none, $($field:ident),*) => { 0 };
-    (whole, $($field:ident),*) => { 0 };
-    ((1, 1, 1), $key:ident $(, $field:ident)*) => { 1 };
-    ((1, -1, 1), $keys:ident) => { $keys.len() };
-}
-
-/// The key of this command at a place among those that its row names.
-macro_rules! at_rows {
-    ([$family:ident, $command:expr, $place:expr] $(($text:literal, $arity:ident($number:literal), $span:tt, $variant:ident { $($field:ident),* }, $read:ident),)*) => {
-        match $command {
-            $($family::$variant { $($field),* } => at_span!($span, $place, $($field),*),)*
-        }
-    };
-}
-
-/// The key at a place among those of a command's fields, the keys first, that this key span takes.
-macro_rules! at_span {
-    (none, $place:expr, $($field:ident),*) => { unreachable!() };
-    (whole, $place:expr, $($field:ident),*) => { unreachable!() };
-    ((1, 1, 1), $place:expr, $key:ident $(, $field:ident)*) => { $key.as_slice() };
-    ((1, -1, 1), $place:expr, $keys:ident) => { $keys.as_slice()[$place].as_slice() };
-}
-
-pub(crate) use at_rows;
-pub(crate) use at_span;
-pub(crate) use count_rows;
-pub(crate) use count_span;
-pub(crate) use is_whole_span;
-pub(crate) use name_rows;
+pub(crate) use keys_of_span;
 pub(crate) use read_rows;
-pub(crate) use whole_rows;
+pub(crate) use told_rows;

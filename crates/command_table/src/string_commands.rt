@@ -1,8 +1,8 @@
-//! Commands on strings: GET and SET.
+//! Commands on strings.
 
 ghost use Rattle.std.specs.Prelude.{◌≡◌, ◌<◌, ◌≤◌, length, slice_get, MatchResult, Some, None};
-ghost use Rattle.command_table.specs.Command.{string_command_name, string_command_keys, string_command_is_whole};
-ghost use Rattle.command_table.specs.StringTable.{string_rows, get_reading, set_reading, options_condition, is_option};
+ghost use Rattle.command_table.specs.Held.{told_held};
+ghost use Rattle.command_table.specs.StringCommands.{string_command_told, string_rows, get_row, set_row, setnx_row, getset_row, getdel_row, mget_row, strlen_row, getrange_row, options_condition, is_option};
 ghost use Rattle.command_table.specs.Row.{row_of, reading_among};
 ghost use Rattle.command_table.specs.Words.{texts_of};
 ghost use Rattle.std.specs.List.{list_all};
@@ -11,11 +11,10 @@ use crate::arity::Arity;
 use crate::command::Command;
 use crate::command_rows;
 use crate::refusal::{CommandName, Refusal};
-use crate::rows::{
-    at_rows, at_span, count_rows, count_span, is_whole_span, name_rows, read_rows, whole_rows,
-};
-use crate::words::{has_word, is_word, only_word, two_words};
-use texts::Text;
+use crate::rows::{keys_of_span, read_rows, told_rows};
+use crate::told::{Keys, Told};
+use crate::words::{has_word, integer_word, is_word, only_word, three_words, two_words};
+use texts::{Text, Texts};
 
 /// A command on strings.
 #[derive(Drop)]
@@ -30,6 +29,40 @@ pub enum StringCommand {
         key: Text,
         value: Text,
         condition: Condition,
+    },
+
+    /// `SETNX key value`: puts the value at the key where it isn't there.
+    Setnx {
+        key: Text,
+        value: Text,
+    },
+
+    /// `GETSET key value`: puts the value at the key, and gives the string that was there.
+    Getset {
+        key: Text,
+        value: Text,
+    },
+
+    /// `GETDEL key`: removes the key, and gives the string that was there.
+    Getdel {
+        key: Text,
+    },
+
+    /// `MGET key [key ..]`: the strings at the keys.
+    Mget {
+        keys: Texts,
+    },
+
+    /// `STRLEN key`: the length of the string at the key.
+    Strlen {
+        key: Text,
+    },
+
+    /// `GETRANGE key start end`: the bytes of the string from start to end.
+    Getrange {
+        key: Text,
+        start: i64,
+        end: i64,
     },
 }
 
@@ -46,37 +79,15 @@ pub enum Condition {
 }
 
 impl StringCommand {
-    /// The command's name, in lower case.
-    pub(crate) fn name(&self) -> &'static str
-        ensures { result.now ≡ string_command_name self.now }
+    /// What is told of the command.
+    pub(crate) fn told(&self) -> Told<'_>
+        ensures { told_held result ≡ string_command_told self.now }
     {
-        command_rows!(strings, name_rows, StringCommand, self)
-    }
-
-    /// Whether the command is for all keys there are.
-    pub(crate) fn is_whole(&self) -> bool
-        ensures { result ≡ string_command_is_whole self.now }
-    {
-        command_rows!(strings, whole_rows, StringCommand, self)
-    }
-
-    /// The number of the command's keys.
-    pub(crate) fn key_count(&self) -> usize
-        ensures { result ≡ length (string_command_keys self.now) }
-    {
-        command_rows!(strings, count_rows, StringCommand, self)
-    }
-
-    /// The command's key at this place.
-    pub(crate) fn key_at(&self, place: usize) -> &[u8]
-        requires { place < length (string_command_keys self.now) }
-        ensures { slice_get (string_command_keys self.now) place ≡ Some result.now }
-    {
-        command_rows!(strings, at_rows, StringCommand, self, place)
+        command_rows!(strings, told_rows, StringCommand, self)
     }
 }
 
-/// Reads the words behind a name by the row that has it; `Err` gives the words back where none of these rows has it.
+/// Reads the words after a name by the row that has it; `Err` gives the words back where none of these rows has it.
 pub(crate) fn read_string_command(
     name: &str,
     words: Vec<Vec<u8>>,
@@ -89,17 +100,19 @@ pub(crate) fn read_string_command(
     command_rows!(strings, read_rows, name, words)
 }
 
-fn get(words: Vec<Vec<u8>>) -> Result<Command, Refusal>
+/// `GET key`.
+fn read_get(words: Vec<Vec<u8>>) -> Result<Command, Refusal>
     requires { length words.items ≡ 1 }
-    ensures { result ≡ get_reading (texts_of words.items) }
+    ensures { result ≡ get_row.reading (texts_of words.items) }
 {
     let key = only_word(words);
     Ok(Command::Str(StringCommand::Get { key }))
 }
 
-fn set(mut words: Vec<Vec<u8>>) -> Result<Command, Refusal>
+/// `SET key value [NX | XX]`.
+fn read_set(mut words: Vec<Vec<u8>>) -> Result<Command, Refusal>
     requires { 2 ≤ length words.items }
-    ensures { result ≡ set_reading (texts_of words.items) }
+    ensures { result ≡ set_row.reading (texts_of words.items) }
 {
     let condition = read_condition(&words[2..])?;
     words.truncate(2);
@@ -109,6 +122,61 @@ fn set(mut words: Vec<Vec<u8>>) -> Result<Command, Refusal>
         value,
         condition,
     }))
+}
+
+/// `SETNX key value`.
+fn read_setnx(words: Vec<Vec<u8>>) -> Result<Command, Refusal>
+    requires { length words.items ≡ 2 }
+    ensures { result ≡ setnx_row.reading (texts_of words.items) }
+{
+    let (key, value) = two_words(words);
+    Ok(Command::Str(StringCommand::Setnx { key, value }))
+}
+
+/// `GETSET key value`.
+fn read_getset(words: Vec<Vec<u8>>) -> Result<Command, Refusal>
+    requires { length words.items ≡ 2 }
+    ensures { result ≡ getset_row.reading (texts_of words.items) }
+{
+    let (key, value) = two_words(words);
+    Ok(Command::Str(StringCommand::Getset { key, value }))
+}
+
+/// `GETDEL key`.
+fn read_getdel(words: Vec<Vec<u8>>) -> Result<Command, Refusal>
+    requires { length words.items ≡ 1 }
+    ensures { result ≡ getdel_row.reading (texts_of words.items) }
+{
+    let key = only_word(words);
+    Ok(Command::Str(StringCommand::Getdel { key }))
+}
+
+/// `MGET key [key ..]`.
+fn read_mget(words: Vec<Vec<u8>>) -> Result<Command, Refusal>
+    ensures { result ≡ mget_row.reading (texts_of words.items) }
+{
+    let keys = Texts::from(words);
+    Ok(Command::Str(StringCommand::Mget { keys }))
+}
+
+/// `STRLEN key`.
+fn read_strlen(words: Vec<Vec<u8>>) -> Result<Command, Refusal>
+    requires { length words.items ≡ 1 }
+    ensures { result ≡ strlen_row.reading (texts_of words.items) }
+{
+    let key = only_word(words);
+    Ok(Command::Str(StringCommand::Strlen { key }))
+}
+
+/// `GETRANGE key start end`.
+fn read_getrange(words: Vec<Vec<u8>>) -> Result<Command, Refusal>
+    requires { length words.items ≡ 3 }
+    ensures { result ≡ getrange_row.reading (texts_of words.items) }
+{
+    let (key, start, end) = three_words(words);
+    let start = integer_word(start.as_slice())?;
+    let end = integer_word(end.as_slice())?;
+    Ok(Command::Str(StringCommand::Getrange { key, start, end }))
 }
 
 /// The condition that the options of SET state.

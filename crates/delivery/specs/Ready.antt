@@ -1,6 +1,6 @@
 -- Which delivered requests are ready, and what a layer takes from the queues. `queue g` is what the group g has delivered and
 -- no layer has taken yet, oldest first.
-use Rattle.std.specs.Prelude.{◌≡◌, ℕ, Bool, true, cond, List, [], ◌∷◌}
+use Rattle.std.specs.Prelude.{◌≡◌, ℕ, true, cond, List, [], ◌∷◌}
 use Rattle.groups.specs.GroupSet.{has}
 use Rattle.skeen_core.specs.Order.{In}
 use Rattle.skeen_core.specs.Group.{Ascending, has_id}

@@ -1,5 +1,16 @@
 //! The queues of delivered requests, one a group, and which of the requests are ready.
 //!
-//! A group delivers a request into its queue. A request is ready once it heads the queues of all its groups: then nothing that
-//! touches it can come before it, and it may be run. The system asks for all that are ready, and takes them out as one layer.
+//! A group delivers a request into its queue. A request is ready once it heads the queues of all its groups: then
+//! nothing that touches it can come before it, and it may be run. The system asks for all that are ready, and takes
+//! them out as one layer.
 #![tactic(auto)]
+
+mod laws;
+mod queue;
+mod queues;
+mod search;
+#[cfg(test)]
+mod tests;
+
+pub use laws::laws_of_layers;
+pub use queues::Queues;

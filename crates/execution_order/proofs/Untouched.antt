@@ -12,7 +12,7 @@ use Rattle.keyspace.proofs.Gets.{same_bytes}
 use Rattle.keyspace.specs.Map.{among, AreApart}
 use Rattle.placement.proofs.Addressed.{has-groups_of-key}
 use Rattle.placement.specs.Groups.{groups_of, has_key_on}
-use Rattle.placement.specs.Layout.{Layout, IsTable, place}
+use Rattle.placement.specs.Layout.{Layout, IsTable, shard_of}
 use Rattle.execution_order.specs.Entries.{Entry, Touch, IsAddressed}
 use Rattle.execution_order.specs.Laws.{UntouchedCommute}
 
@@ -29,7 +29,7 @@ whole_has table whole other g is there =
     ∙ ap (λ b. b && true) (and_parts (nat_lt g table.shards) _ (sym (has-groups_of table other g) ∙ there)).0
 
 has_among : (table : Layout) (command : Command) (key : List ℕ) → IsTable table → among (keys_of command) key ≡ true
-    → has (groups_of table command) (place table key) ≡ true
+    → has (groups_of table command) (shard_of table key) ≡ true
 has_among table command key is_table h =
     let found = Any-from_list_any (bytes_eq key) (keys_of command) h in
     let is : key ≡ found.1 = same_bytes key found.1 found.4 in
@@ -69,9 +69,9 @@ module _ (table : Layout) (e f : Entry) (is_table : IsTable table) (at_e : IsAdd
   pub keys_apart : AreApart (keys_of e.command) (keys_of f.command)
   keys_apart key here = elim (among (keys_of f.command) key) as (λ b. among (keys_of f.command) key ≡ b → b ≡ false) [
     | true ↦ λ there. absurd (untouched (
-      place table key,
-      in_e (place table key) (has_among table e.command key is_table here),
-      in_f (place table key) (has_among table f.command key is_table there),
+      shard_of table key,
+      in_e (shard_of table key) (has_among table e.command key is_table here),
+      in_f (shard_of table key) (has_among table f.command key is_table there),
     ))
     | false ↦ λ _. refl
   ] refl

@@ -1,10 +1,32 @@
 //! What happens in the system, as data: the steps that are made, and what each executed request came to.
 //!
-//! A run of the system is a list of steps. Whoever has the list can run it again, and gets the same replies and contents.
+//! A run of the system is a list of steps. Whoever has the list can run it again, and gets the same replies and
+//! contents. Both the list of steps and the rows of what was executed grow with each request and are kept for good,
+//! so they lie in few bytes.
 #![tactic(auto)]
 
+mod codes;
+mod fault;
+mod laws;
+mod lines;
+mod parts;
+mod reader;
 mod request_ids;
+mod row;
+mod rows;
 mod step;
+mod trace;
+mod writer;
 
+pub use fault::TraceFault;
+pub use laws::{one_reading, read_back};
+pub use reader::read_trace;
 pub use request_ids::RequestIds;
+pub use row::Row;
+pub use rows::Rows;
 pub use step::Step;
+pub use trace::{Steps, Trace};
+pub use writer::write_trace;
+
+#[cfg(test)]
+mod tests;

@@ -4,8 +4,8 @@ use super::request_ids::RequestIds;
 use resp::Request;
 use skeen_core::ConnId;
 
-/// One step of the system, which happens whole or not at all. Contracts compare steps by the bytes of their words and the list of
-/// their ids.
+/// One step of the system, which happens whole or not at all. Contracts compare steps by the bytes of their words and
+/// the list of their ids.
 #[derive(Drop)]
 pub enum Step {
     /// The next connection is opened.

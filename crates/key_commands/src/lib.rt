@@ -5,18 +5,24 @@
 #![tactic(auto)]
 
 mod bodies;
+mod looks;
+mod rename_absent;
+mod whole;
 
 ghost use Rattle.std.specs.Prelude.{◌≡◌, All, IsTrue, OnErr};
 ghost use Rattle.command_cases.specs.Case.{Does};
-ghost use Rattle.command_table.specs.Command.{key_command_keys};
+ghost use Rattle.command_table.specs.KeyCommands.{key_command_keys};
 ghost use Rattle.key_commands.specs.KeyCommand.{key_command_case, KeyCommandTakesMemory};
 
-use bodies::del;
+use bodies::{del, rename};
 use command_cases::{Starved, body_rows};
 use command_table::{KeyCommand, command_rows};
 use keyspace::Keyspace;
+use looks::{exists, type_of};
+use rename_absent::renamenx;
 use resp::Reply;
 use std::alloc::Global;
+use whole::{dbsize, flushall};
 
 /// Runs a command on keys, by the body that its row names.
 pub fn run_key_command<K: Keyspace>(

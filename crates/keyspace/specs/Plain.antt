@@ -1,10 +1,10 @@
 -- What a table of entries says as a map.
-use Rattle.std.specs.Prelude.{ℕ, List, map}
+use Rattle.std.specs.Prelude.{List, map}
 use Rattle.std.specs.FinMap.{from_entries}
-use Rattle.std.specs.Global.{Vec}
+use Rattle.hashed_texts.specs.declared.HashedText.{HashedText}
 use Rattle.keyspace.specs.Map.{Map}
 use Rattle.values.specs.declared.Value.{Value}
 
 -- the map of these entries, each key seen as its bytes
-abbrev pub map_of : List (Vec ℕ × Value) → Map
-map_of es = from_entries (map (λ e. (e.0.items, e.1)) es)
+abbrev pub map_of : List (HashedText × Value) → Map
+map_of es = from_entries (map (λ e. (e.0.bytes.items, e.1)) es)

@@ -11,7 +11,7 @@ mod tests;
 ghost use Rattle.std.specs.Prelude.{◌≡◌, ℕ, List, Bool, IsTrue, IsSome, OnOk, OnErr, IfOk, IfErr, pos, min};
 ghost use Rattle.std.specs.FinMap as map;
 ghost use Rattle.std.specs.Option.{option_copied};
-ghost use Rattle.keyspace.specs.Map.{Map};
+ghost use Rattle.keyspace.specs.Map.{Map, set};
 
 pub use plain::Plain;
 use values::Value;
@@ -69,4 +69,23 @@ pub trait Keyspace {
     fn clear(&mut self)
         ensures cleared { contents self.new ≡ map.empty }
         ensures covers { covered self.new ≡ covered self.old };
+}
+
+/// Leaves a value at a key that is there; none removes the key.
+///
+/// It is for bodies that change a value that can become empty. It takes no memory.
+pub fn leave<K: Keyspace>(keyspace: &mut K, key: &[u8], value: Option<Value>)
+    requires covered { IsTrue (K.covered keyspace.old key.now) }
+    requires there { IsSome (map.get (K.contents keyspace.old) key.now) }
+    ensures left { K.contents keyspace.new ≡ set (K.contents keyspace.old) key.now value }
+    ensures covers { K.covered keyspace.new ≡ K.covered keyspace.old }
+{
+    match value {
+        Some(value) => {
+            keyspace.replace(key, value);
+        }
+        None => {
+            keyspace.take(key);
+        }
+    }
 }

@@ -4,6 +4,7 @@ ghost use Rattle.std.specs.Prelude.{◌≡◌};
 ghost use Rattle.std.specs.FinMap as map;
 
 use crate::Keyspace;
+use hashed_texts::{HashedSlice, HashedText};
 use indexmap::IndexMap;
 use std::alloc::Global;
 use std::hash::BuildHasher;
@@ -14,7 +15,7 @@ use values::Value;
 /// Each call takes constant time on average, wherever the hasher spreads the keys.
 #[derive(Drop)]
 pub struct Plain<S: BuildHasher> {
-    entries: IndexMap<Vec<u8>, Value, S>,
+    entries: IndexMap<HashedText, Value, S>,
 }
 
 impl<S: BuildHasher> Plain<S> {
@@ -41,22 +42,25 @@ impl<S: BuildHasher> Keyspace for Plain<S> {
     }
 
     fn look(&self, key: &[u8]) -> Option<&Value> {
-        self.entries.get(key)
+        self.entries.get(HashedSlice { bytes: key })
     }
 
     fn take(&mut self, key: &[u8]) -> Option<Value> {
-        self.entries.swap_remove(key)
+        self.entries.swap_remove(HashedSlice { bytes: key })
     }
 
     fn put(&mut self, key: Vec<u8>, value: Value) -> Result<Option<Value>, (Vec<u8>, Value)> {
-        match self.entries.insert(key, value) {
+        match self.entries.insert(HashedText { bytes: key }, value) {
             Ok(before) => Ok(before),
-            Err(refused) => Err(refused.value),
+            Err(refused) => {
+                let (key, value) = refused.value;
+                Err((key.bytes, value))
+            }
         }
     }
 
     fn replace(&mut self, key: &[u8], value: Value) -> Value {
-        let there = self.entries.get_mut(key).unwrap();
+        let there = self.entries.get_mut(HashedSlice { bytes: key }).unwrap();
         std::mem::replace(there, value)
     }
 

@@ -9,7 +9,7 @@ use values::Value;
 fn text_of(value: Option<&Value>) -> Option<&[u8]> {
     match value {
         Some(Value::Str(text)) => Some(text.as_slice()),
-        None => None,
+        _ => None,
     }
 }
 

@@ -72,7 +72,8 @@ impl Layer {
 
 /// The groups of both sets, if none is in both.
 fn with_others(taken: Groups, others: Groups) -> Option<Groups>
-    ensures { MatchOption result (Meet taken others) (λ all. Apart taken others × ((g : ℕ) → has all g ≡ (has taken g || has others g))) }
+    ensures { MatchOption result (Meet taken others) (λ all. Apart taken others
+        × ((g : ℕ) → has all g ≡ (has taken g || has others g))) }
 {
     let mut all = taken;
     for group in others.iter() {

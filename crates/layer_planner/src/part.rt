@@ -35,7 +35,8 @@ impl Part {
 /// The job at place i is in part i mod that number, and the places of a part ascend. The only error is want of memory.
 #[tactic(auto, using(crate::specs::PartLaws::parts_more))]
 pub fn plan(alloc: Global, layer: &Layer, workers: NonZeroUsize) -> Result<Vec<Part>, AllocError>
-    ensures dealt { IfOk result (λ parts. parts.items ≡ dealt (min (non_zero_usize_get workers) (length layer.now)) (length layer.now)) }
+    ensures dealt { IfOk result (λ parts. parts.items
+        ≡ dealt (min (non_zero_usize_get workers) (length layer.now)) (length layer.now)) }
     ensures succeeds { length layer.now ≡ 0 → IsOk result }
 {
     let places = layer.len();

@@ -1,6 +1,7 @@
 -- The shards of the slots while the ranges of a document are gone through.
-use Rattle.std.specs.Prelude.{◌≡◌, ℕ, ◌<◌, true, false, List, Option, Some, None, IsSome, option_to_list, length, slice_index, slice_index_or}
+use Rattle.std.specs.Prelude.{pos, map, ◌≡◌, ℕ, ◌<◌, true, false, List, Option, Some, None, IsSome, option_to_list, length, slice_index, slice_index_or}
 use Rattle.placement.specs.declared.document.Range.{Range}
+use Rattle.placement.specs.declared.slots.TheConstants.{SLOTS}
 use Rattle.placement.specs.Layout.{has_slot, shards_at}
 
 -- the shard that a slot has so far
@@ -9,7 +10,7 @@ owner owners s = slice_index_or owners s None
 
 -- each slot has the shard that its ranges name, if there is one
 abbrev pub Owns : List Range → List (Option ℕ) → Type 0
-Owns ranges owners = (s : ℕ) → s < 1024 → shards_at s ranges ≡ option_to_list (owner owners s)
+Owns ranges owners = (s : ℕ) → s < SLOTS → shards_at s ranges ≡ map pos (option_to_list (owner owners s))
 
 -- the slots of the range were free and have the shard, and the others are as they were
 pub record Claims (range : Range) (shard : ℕ) (old new : List (Option ℕ)) : Type 0 where
@@ -19,13 +20,13 @@ pub record Claims (range : Range) (shard : ℕ) (old new : List (Option ℕ)) : 
 
 -- a slot of the range has a shard already
 abbrev pub SomeTaken : Range → List (Option ℕ) → Type 0
-SomeTaken range owners = (s : ℕ) × (s < 1024) × (has_slot s range ≡ true) × IsSome (owner owners s)
+SomeTaken range owners = (s : ℕ) × (s < SLOTS) × (has_slot s range ≡ true) × IsSome (owner owners s)
 
 -- a slot has no shard
 abbrev pub SomeUnowned : List (Option ℕ) → Type 0
-SomeUnowned owners = (s : ℕ) × (s < 1024) × (owner owners s ≡ None)
+SomeUnowned owners = (s : ℕ) × (s < SLOTS) × (owner owners s ≡ None)
 
 -- each slot has a shard, and these are the shards
 pub record OwnEach (owners : List (Option ℕ)) (shards : List ℕ) : Type 0 where
-  pub each_slot : length shards ≡ 1024
-  pub same : (s : ℕ) → s < 1024 → owner owners s ≡ Some (slice_index shards s)
+  pub each_slot : length shards ≡ SLOTS
+  pub same : (s : ℕ) → s < SLOTS → owner owners s ≡ Some (slice_index shards s)

@@ -1,10 +1,10 @@
-//! What a placement document says, read off the data of its TOML text: the number of shards, and ranges of slots with the shard
-//! that each goes to. The format is this project's own. A table is made of it.
+//! What a placement document says, read off the data of its TOML text: the number of shards, and ranges of slots with
+//! the shard that each goes to. The format is this project's own. A table is made of it.
 
 ghost use Rattle.std.specs.Prelude.{◌≡◌, option_map, IfOk, IfSome, All};
 ghost use Rattle.toml.specs.Data.{get_member};
 ghost use Rattle.toml.specs.View.{view, items_view, array_view, table_view};
-ghost use Rattle.placement.specs.Document.{IsRange, size, number_at, array_at, range_in, range_of};
+ghost use Rattle.placement.specs.Document.{IsRange, size, integer_at, number_at, array_at, range_in, range_of};
 ghost use Rattle.placement.specs.Document.{ranges_of, document_of};
 
 use crate::slots::SLOTS;
@@ -18,13 +18,13 @@ use toml::value::Array;
 pub struct Range {
     pub from: usize,
     pub to: usize,
-    pub shard: u64,
+    pub shard: i64,
 }
 
 /// What a placement document says, whether or not its shards are there and its ranges fit together.
 #[derive(Drop)]
 pub struct Document {
-    shards: u64,
+    shards: i64,
     ranges: Vec<Range>,
 }
 
@@ -40,8 +40,8 @@ impl Model for Document {
 }
 
 impl Document {
-    /// The number of shards that it says.
-    pub fn shards(&self) -> u64
+    /// The number of shards that it says, which may be any integer.
+    pub fn shards(&self) -> i64
         ensures { result ≡ self.now.shards }
     {
         self.shards
@@ -63,7 +63,7 @@ pub fn document_of(alloc: Global, table: &toml::Table) -> Result<Option<Document
     if size_of_table(table) != 2 {
         return Ok(None);
     }
-    let Some(shards) = number_at(table, "shards") else {
+    let Some(shards) = integer_at(table, "shards") else {
         return Ok(None);
     };
     let Some(items) = array_at(table, "range") else {
@@ -108,7 +108,7 @@ fn range_in(table: &toml::Table) -> Option<Range>
     }
     let from = number_at(table, "from")?;
     let to = number_at(table, "to")?;
-    let shard = number_at(table, "shard")?;
+    let shard = integer_at(table, "shard")?;
     if from <= to && to < SLOTS as u64 {
         Some(Range {
             from: from as usize,
@@ -124,8 +124,14 @@ fn range_in(table: &toml::Table) -> Option<Range>
 fn number_at(table: &toml::Table, key: &str) -> Option<u64>
     ensures { result ≡ number_at key.now (table_view table.now) }
 {
-    let integer = value_at(table, key)?.as_integer()?;
-    u64::try_from(integer).ok()
+    u64::try_from(integer_at(table, key)?).ok()
+}
+
+// The integer that a table has under a key.
+fn integer_at(table: &toml::Table, key: &str) -> Option<i64>
+    ensures { result ≡ integer_at key.now (table_view table.now) }
+{
+    value_at(table, key)?.as_integer()
 }
 
 // The value that a table has under a key.

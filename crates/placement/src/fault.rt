@@ -3,8 +3,8 @@
 use std::alloc::AllocError;
 use thiserror::Error;
 
-/// Why a text is no placement table. Where several of these are true of a text, the answer is the first of `Toml`, `Shard`, `Twice` and
-/// `Missing`. None of them leaves anything behind. Each has its number, from 1.
+/// Why a text is no placement table. Where several of these are true of a text, the answer is the first of `Toml`,
+/// `Shard`, `Twice` and `Missing`. None of them leaves anything behind. Each has its number, from 1.
 #[derive(Clone, Copy, Debug, PartialEq, Eq, Error)]
 pub enum TableFault {
     /// 1: the text is no TOML, or a document of another shape.

@@ -1,7 +1,7 @@
-//! The shard of each slot, by the ranges of a placement document: the rules of this project's own format behind its shape.
-//! A table is made of it.
+//! The shard of each slot, by the ranges of a placement document: the rules of this project's own format behind its
+//! shape. A table is made of it.
 
-ghost use Rattle.std.specs.Prelude.{◌≡◌, ◌<◌, All, MatchOption};
+ghost use Rattle.std.specs.Prelude.{◌≡◌, ◌<◌, pos, ◌≤ℤ◌, ◌<ℤ◌, All, MatchOption};
 ghost use Rattle.std.specs.Bool.{OnTrue, OnFalse};
 ghost use Rattle.placement.specs.Document.{IsRange};
 ghost use Rattle.placement.specs.Layout.{KnowsShards, SomeTwice};
@@ -14,10 +14,16 @@ use groups::GroupId;
 /// The number of shards, where it is 1 to 64 and each range names one of them.
 pub fn known_shards(document: &Document) -> Option<u8>
     ensures { MatchOption result (¬ KnowsShards document.now)
-        (λ n. KnowsShards document.now × (document.now.shards ≡ n)) }
+        (λ n. KnowsShards document.now × (document.now.shards ≡ pos n)) }
 {
     let shards = document.shards();
-    if 1 <= shards && shards <= 64 && document.ranges().iter().all(|range| range.shard < shards) {
+    if 1 <= shards
+        && shards <= 64
+        && document
+            .ranges()
+            .iter()
+            .all(|range| 0 <= range.shard && range.shard < shards)
+    {
         Some(shards as u8)
     } else {
         None
@@ -27,7 +33,7 @@ pub fn known_shards(document: &Document) -> Option<u8>
 /// The shard of each slot that is in a range, where no slot is in two.
 pub fn owners_of(ranges: &[Range]) -> Option<[Option<GroupId>; SLOTS]>
     requires in_range { All IsRange ranges.now }
-    requires at_most_64 { All (λ r. r.shard < 64) ranges.now }
+    requires below_64 { All (λ r. (pos 0 ≤ℤ r.shard) × (r.shard <ℤ pos 64)) ranges.now }
     ensures { MatchOption result (SomeTwice ranges.now) (λ owners. Owns ranges.now owners) }
 {
     let mut owners = [None; SLOTS];

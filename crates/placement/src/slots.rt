@@ -1,5 +1,5 @@
 //! The slot of a key: the hash tag as in Redis Cluster's key names, and FNV-1a of 64 bits as its authors describe it.
-//! A table asks for the slot of each key that it is asked to place.
+//! A table asks for the slot of each key whose shard it is asked for.
 
 ghost use Rattle.std.specs.Prelude.{◌≡◌, ◌<◌, ◌==◌, position};
 ghost use Rattle.placement.specs.Slot.{tag, fnv1a, slot};
@@ -11,23 +11,23 @@ const OFFSET_BASIS: u64 = 14695981039346656037;
 
 const PRIME: u64 = 1099511628211;
 
-/// The hash tag of a key: what stands between its first `{` and the first `}` behind that, where there are both and something stands
-/// between them; else the whole key.
+/// The hash tag of a key: what stands between its first `{` and the first `}` behind that, where there are both and
+/// something stands between them; else the whole key.
 pub fn tag_of(key: &[u8]) -> &[u8]
     ensures { result.now ≡ tag key.now }
 {
-    let Some(opening) = place_of(key, b'{') else {
+    let Some(opening) = index_of(key, b'{') else {
         return key;
     };
     let inside = &key[opening + 1..];
-    match place_of(inside, b'}') {
+    match index_of(inside, b'}') {
         Some(closing) if closing > 0 => &inside[..closing],
         _ => key,
     }
 }
 
-// The place of the first such byte.
-fn place_of(bytes: &[u8], byte: u8) -> Option<usize>
+// The index of the first such byte.
+fn index_of(bytes: &[u8], byte: u8) -> Option<usize>
     ensures { result ≡ position (λ b. b == byte) bytes.now }
 {
     bytes.iter().position(|b| *b == byte)

@@ -1,11 +1,11 @@
-//! The table from slots to shards, which is read from a TOML text of this project's own format. Whoever has a key or a command asks
-//! it for the place.
+//! The table from slots to shards, which is read from a TOML text of this project's own format. Whoever has a key or a
+//! command asks it for the shard.
 
 ghost use Rattle.std.specs.Prelude.{◌≡◌, ℕ, ◌<◌, List, Any, Contains, true, false, IfOk, IfErr};
 ghost use Rattle.command_table.specs.Command.{keys_of, is_whole};
 ghost use Rattle.groups.specs.GroupSet.{has};
 ghost use Rattle.placement.specs.Groups.{groups_of};
-ghost use Rattle.placement.specs.Layout.{IsTable, IsTableOf, IsRefused, IsWrong, Gives, place};
+ghost use Rattle.placement.specs.Layout.{IsTable, IsTableOf, IsRefused, IsWrong, Gives, shard_of};
 
 use crate::document::{Document, document_of};
 use crate::fault::TableFault;
@@ -18,8 +18,8 @@ use std::marker::Model;
 
 /// Which of 1 to 64 shards has each of the 1024 slots.
 ///
-/// Contracts see a `Layout`: the number of shards, and the shard of each slot. A shard may have no slot. The slots lie inline, so a copy
-/// takes no memory.
+/// Contracts see a `Layout`: the number of shards, and the shard of each slot. A shard may have no slot. The slots lie
+/// inline, so a copy takes no memory.
 #[derive(Clone, Copy, Debug, PartialEq, Eq)]
 pub struct Table {
     shards: u8,
@@ -41,9 +41,11 @@ impl Model for Table {
 impl Table {
     /// Reads a table from a TOML document, as a program does with the file that it is started with.
     ///
-    /// The document has the integer `shards`, from 1 to 64, and the array `range` of tables, and no other key. Each table of `range` has the
-    /// integers `from`, `to` and `shard`, with `0 <= from <= to <= 1023` and `0 <= shard < shards`, and no other key. Each slot is in one
-    /// range. A negative number is another shape (`Toml`). [`TableFault`] says what a refused text breaks; `Memory` says nothing of the text.
+    /// The document has the integer `shards`, from 1 to 64, and the array `range` of tables, and no other key. Each
+    /// table of `range` has the integers `from`, `to` and `shard`, with `0 <= from <= to <= 1023` and `0 <= shard <
+    /// shards`, and no other key. Each slot is in one range. A negative `from` or `to` is another shape (`Toml`); a negative `shards` or `shard` has
+    /// the shape and is `Shard`.
+    /// [`TableFault`] says what a refused text breaks; `Memory` says nothing of the text.
     pub fn from_toml(alloc: Global, text: &str) -> Result<Self, TableFault>
         ensures ok { IfOk result (λ table. IsTableOf text.now table) }
         ensures refused { IfErr result (λ fault. IsRefused fault text.now) }
@@ -78,25 +80,25 @@ impl Table {
 
     /// The shard on which a key lies: the one that has the key's slot. It takes no memory.
     ///
-    /// The slot is the FNV-1a hash of 64 bits of the key's hash tag, modulo 1024. Keys that are to lie together share a tag, as
-    /// `{user7}.name` and `{user7}.mail` do; the rule for tags is that of the Redis Cluster specification.
+    /// The slot is the FNV-1a hash of 64 bits of the key's hash tag, modulo 1024. Keys that are to lie together share a
+    /// tag, as `{user7}.name` and `{user7}.mail` do; the rule for tags is that of the Redis Cluster specification.
     pub fn shard_of(&self, key: &[u8]) -> GroupId
-        ensures value { result ≡ place self.now key.now }
+        ensures value { result ≡ shard_of self.now key.now }
         ensures in_range { result < self.now.shards }
     {
         self.slots[slot_of(key)]
     }
 
-    /// The groups that a command addresses: the shards of its keys, every shard for a command that is for all keys, and none for one
-    /// that has no key. They ascend, each once. It takes no memory.
+    /// The groups that a command addresses: the shards of its keys, every shard for a command that is for all keys, and
+    /// none for one that has no key. They ascend, each once. It takes no memory.
     pub fn groups(&self, command: &Command) -> Groups
         ensures exact { result ≡ groups_of self.now command.now }
         ensures each_key { (key : List ℕ) → Contains (keys_of command.now) key
-            → has result (place self.now key) ≡ true }
+            → has result (shard_of self.now key) ≡ true }
 
         // A command that isn't whole addresses no group on which none of its keys lies.
         ensures no_other { is_whole command.now ≡ false → (group : ℕ) → has result group ≡ true
-            → Any (λ key. place self.now key ≡ group) (keys_of command.now) }
+            → Any (λ key. shard_of self.now key ≡ group) (keys_of command.now) }
     {
         let shards = self.shards();
         if is_whole(command) {

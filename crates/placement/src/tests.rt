@@ -90,63 +90,44 @@ fn reads_a_table(rt: HostRuntime) -> Result<(), Fail> {
     Ok(())
 }
 
+/// A line of `TWO_SHARDS`, what it is replaced by, and why the text is then refused.
+#[rattlefmt::skip]
+const REFUSED: [(&str, &str, TableFault); 28] = [
+    ("from = 512", "from = 513", TableFault::Missing),
+    ("from = 512", "from = 511", TableFault::Twice),
+    ("shard = 1", "shard = 2", TableFault::Shard),
+    ("shards = 2", "shards = \"2\"", TableFault::Toml),
+    ("shards = 2", "shards = 0", TableFault::Shard),
+    ("shards = 2", "shards = 65", TableFault::Shard),
+    ("shards = 2", "shards = -1", TableFault::Shard),
+    ("shards = 2", "shards = 9223372036854775807", TableFault::Shard),
+    ("shards = 2", "shards = 9223372036854775808", TableFault::Toml),
+    ("shards = 2", "shards =", TableFault::Toml),
+    ("shards = 2", "shards = 2\nname = \"a\"", TableFault::Toml),
+    ("shards = 2", "", TableFault::Toml),
+    ("to = 1023", "to = 1024", TableFault::Toml),
+    ("to = 1023", "to = 1023.0", TableFault::Toml),
+    ("from = 0", "from = 512", TableFault::Toml),
+    ("from = 0", "from = -1", TableFault::Toml),
+    ("shard = 1", "shard = -9223372036854775809", TableFault::Toml),
+    ("from = 0", "", TableFault::Toml),
+    ("shard = 1", "shard = 1\nname = \"a\"", TableFault::Toml),
+    ("shard = 1", "shard = -1", TableFault::Shard),
+    // The first fault is told: Toml, Shard, Twice, Missing.
+    ("from = 512\nto = 1023\nshard = 1", "from = 511\nto = 1024\nshard = 2", TableFault::Toml),
+    ("from = 512\nto = 1023\nshard = 1", "from = 511\nto = 1023\nshard = 2", TableFault::Shard),
+    ("from = 512\nto = 1023", "from = 511\nto = 1022", TableFault::Twice),
+    (TWO_SHARDS, "", TableFault::Toml),
+    (TWO_SHARDS, "shards = 2\nrange = []", TableFault::Missing),
+    (TWO_SHARDS, "shards = 0\nrange = []", TableFault::Shard),
+    (TWO_SHARDS, "shards = 2\nrange = [1]", TableFault::Toml),
+    (TWO_SHARDS, "shards = 2\nrange = { from = 0, to = 1023, shard = 0 }", TableFault::Toml),
+];
+
 #[test]
 fn refuses_what_is_no_table(rt: HostRuntime) -> Result<(), Fail> {
     let alloc = rt.alloc();
-    for (old, new, want) in [
-        ("from = 512", "from = 513", TableFault::Missing),
-        ("from = 512", "from = 511", TableFault::Twice),
-        ("shard = 1", "shard = 2", TableFault::Shard),
-        ("shards = 2", "shards = \"2\"", TableFault::Toml),
-        ("shards = 2", "shards = 0", TableFault::Shard),
-        ("shards = 2", "shards = 65", TableFault::Shard),
-        ("shards = 2", "shards = -1", TableFault::Toml),
-        (
-            "shards = 2",
-            "shards = 9223372036854775807",
-            TableFault::Shard,
-        ),
-        (
-            "shards = 2",
-            "shards = 9223372036854775808",
-            TableFault::Toml,
-        ),
-        ("shards = 2", "shards =", TableFault::Toml),
-        ("shards = 2", "shards = 2\nname = \"a\"", TableFault::Toml),
-        ("shards = 2", "", TableFault::Toml),
-        ("to = 1023", "to = 1024", TableFault::Toml),
-        ("to = 1023", "to = 1023.0", TableFault::Toml),
-        ("from = 0", "from = 512", TableFault::Toml),
-        ("from = 0", "from = -1", TableFault::Toml),
-        ("from = 0", "", TableFault::Toml),
-        ("shard = 1", "shard = 1\nname = \"a\"", TableFault::Toml),
-        ("shard = 1", "shard = -1", TableFault::Toml),
-        // The first fault is told: Toml, Shard, Twice, Missing.
-        (
-            "from = 512\nto = 1023\nshard = 1",
-            "from = 511\nto = 1024\nshard = 2",
-            TableFault::Toml,
-        ),
-        (
-            "from = 512\nto = 1023\nshard = 1",
-            "from = 511\nto = 1023\nshard = 2",
-            TableFault::Shard,
-        ),
-        (
-            "from = 512\nto = 1023",
-            "from = 511\nto = 1022",
-            TableFault::Twice,
-        ),
-        (TWO_SHARDS, "", TableFault::Toml),
-        (TWO_SHARDS, "shards = 2\nrange = []", TableFault::Missing),
-        (TWO_SHARDS, "shards = 0\nrange = []", TableFault::Shard),
-        (TWO_SHARDS, "shards = 2\nrange = [1]", TableFault::Toml),
-        (
-            TWO_SHARDS,
-            "shards = 2\nrange = { from = 0, to = 1023, shard = 0 }",
-            TableFault::Toml,
-        ),
-    ] {
+    for (old, new, want) in REFUSED {
         let (before, behind) = TWO_SHARDS.split_once(old).ok_or("no such line")?;
         let text = format!(in alloc; "{before}{new}{behind}")?;
         match Table::from_toml(alloc, text.as_str()) {
@@ -158,7 +139,29 @@ fn refuses_what_is_no_table(rt: HostRuntime) -> Result<(), Fail> {
 }
 
 #[test]
-fn addresses_the_places_of_the_keys(rt: HostRuntime) -> Result<(), Fail> {
+fn reads_inline_tables_over_several_lines(rt: HostRuntime) -> Result<(), Fail> {
+    let text = "shards = 1\nrange = [{\n  from = 0,\n  to = 1023,\n  shard = 0,\n}]";
+    assert_eq!(rt; Table::from_toml(rt.alloc(), text)?.shards(), 1);
+    Ok(())
+}
+
+#[test]
+fn reads_forty_thousand_ranges(rt: HostRuntime) -> Result<(), Fail> {
+    let mut text = String::from_str(rt.alloc(), "shards = 1\nrange = [\n")?;
+    for number in 0..40_000u32 {
+        let slot = number % 1024;
+        write!(text, "{{ from = {slot}, to = {slot}, shard = 0 }},\n")?;
+    }
+    text.push(']')?;
+    match Table::from_toml(rt.alloc(), text.as_str()) {
+        Ok(_) => assert!(rt; false, "slots are in many ranges"),
+        Err(fault) => assert_eq!(rt; fault, TableFault::Twice),
+    }
+    Ok(())
+}
+
+#[test]
+fn addresses_the_shards_of_the_keys(rt: HostRuntime) -> Result<(), Fail> {
     let alloc = rt.alloc();
     let mut text = String::from_str(alloc, "shards = 64\n")?;
     for shard in 0..64u16 {

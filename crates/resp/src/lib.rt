@@ -1,8 +1,8 @@
 //! Requests and replies of RESP2, the protocol of Redis, and the bytes of a reply.
 //!
-//! The rules are those of the RESP2 specification. A request is a nonempty array of bulk strings; a reply is a simple string, an
-//! error, an integer, a bulk string, the null bulk string or an array of replies. Every crate above speaks in these types; the
-//! bytes of requests are read by the crate `resp_decoder`.
+//! The rules are those of the RESP2 specification. A request is a nonempty array of bulk strings; a reply is a simple
+//! string, an error, an integer, a bulk string, the null bulk string or an array of replies. Every crate above speaks
+//! in these types; the bytes of requests are read by the crate `resp_decoder`.
 #![tactic(auto)]
 
 mod reply;

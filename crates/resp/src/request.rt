@@ -7,7 +7,8 @@ ghost use Rattle.std.specs.Prelude.{◌≡◌, ◌<◌, length, map, slice_get, 
 use std::alloc::{AllocError, Global};
 use std::marker::Model;
 
-/// A request: at least one word, each a byte string. Contracts see the list of its words; how they lie in memory is private.
+/// A request: at least one word, each a byte string. Contracts see the list of its words; how they lie in memory is
+/// private.
 #[derive(Drop)]
 pub struct Request {
     words: Vec<Vec<u8>>,
@@ -32,7 +33,8 @@ impl Request {
         Request { words }
     }
 
-    /// The request of a copy of these words, of which there is at least one; `AllocError` where there is no memory for it.
+    /// The request of a copy of these words, of which there is at least one; `AllocError` where there is no memory for
+    /// it.
     pub fn copy_of(alloc: Global, words: &[&[u8]]) -> Result<Self, AllocError>
         requires { 0 < length words.now }
         ensures copied { IfOk result (λ r. r ≡ map (λ w. w.now) words.now) }
@@ -42,6 +44,14 @@ impl Request {
             copies.push(Vec::from_slice(alloc, word)?)?;
         }
         Ok(Request { words: copies })
+    }
+
+    /// A copy of the request; `AllocError` where there is no memory for it.
+    pub fn try_clone(&self, alloc: Global) -> Result<Self, AllocError>
+        ensures copied { IfOk result (λ r. r ≡ self.now) }
+    {
+        let words = copies_of(alloc, self.words.as_slice())?;
+        Ok(Request { words })
     }
 
     /// The number of words, which is at least one.
@@ -68,4 +78,15 @@ impl Request {
     {
         self.words
     }
+}
+
+/// Copies of these words, in their order.
+fn copies_of(alloc: Global, words: &[Vec<u8>]) -> Result<Vec<Vec<u8>>, AllocError>
+    ensures { IfOk result (λ copies. map (λ w. w.items) copies.items ≡ map (λ w. w.items) words.now) }
+{
+    let mut copies = Vec::with_capacity(alloc, words.len())?;
+    for word in words {
+        copies.push(Vec::from_slice(alloc, word.as_slice())?)?;
+    }
+    Ok(copies)
 }

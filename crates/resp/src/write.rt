@@ -1,10 +1,11 @@
 //! The bytes of a reply, appended to what is to be sent.
 //!
-//! Lines end with CR LF; a bulk string and an array begin with their length, as the RESP2 specification says. Whoever serves a
-//! connection gathers replies in one buffer by `write_reply`.
+//! Lines end with CR LF; a bulk string and an array begin with their length, as the RESP2 specification says. Whoever
+//! serves a connection gathers replies in one buffer by `write_reply`.
 
-ghost use Rattle.std.specs.Prelude.{◌≡◌, ◌∷◌, ◌++◌, ℕ, List, length, OnOk, OnErr};
+ghost use Rattle.std.specs.Prelude.{◌≡◌, ◌<◌, ◌≤◌, ◌+◌, ◌∷◌, ◌++◌, ℕ, List, length, vec_len, vec_capacity, OnOk, OnErr};
 ghost use Rattle.std.specs.Fmt.{decimal};
+ghost use Rattle.resp.specs.Ascii.{minus};
 ghost use Rattle.resp.specs.Content.{content, error_text};
 ghost use Rattle.resp.specs.Text.{crlf, text};
 
@@ -12,10 +13,12 @@ use crate::reply::{ErrorText, Reply};
 use itoa::Buffer;
 use std::alloc::AllocError;
 
-/// Appends the reply's text. With `AllocError`, where there is no memory for all of it, `out` is as it was.
+/// Appends the reply's text. With `AllocError`, where the room of `out` is less than all of it needs and there is no memory
+/// for more, `out` is as it was.
 pub fn write_reply(reply: &Reply, out: &mut Vec<u8>) -> Result<(), AllocError>
     ensures ok { OnOk result (out.new.items ≡ out.old.items ++ text (content reply.now)) }
     ensures err { OnErr result (out.new.items ≡ out.old.items) }
+    ensures full { OnErr result (vec_capacity out.old < vec_len out.old + length (text (content reply.now))) }
 {
     let start = out.len();
     let written = put(reply, out);
@@ -30,6 +33,8 @@ pub fn write_reply(reply: &Reply, out: &mut Vec<u8>) -> Result<(), AllocError>
 fn put(reply: &Reply, out: &mut Vec<u8>) -> Result<(), AllocError>
     ensures ok { OnOk result (out.new.items ≡ out.old.items ++ text (content reply.now)) }
     ensures err { OnErr result ((more : List ℕ) × (out.new.items ≡ out.old.items ++ more)) }
+    ensures capacity { vec_capacity out.old ≤ vec_capacity out.new }
+    ensures full { OnErr result (vec_capacity out.old < vec_len out.old + length (text (content reply.now))) }
 {
     match reply {
         Reply::Simple(line) => put_line(b'+', line.as_bytes(), out)?,
@@ -52,8 +57,10 @@ fn put(reply: &Reply, out: &mut Vec<u8>) -> Result<(), AllocError>
 }
 
 fn put_error(line: &ErrorText, out: &mut Vec<u8>) -> Result<(), AllocError>
-    ensures ok { OnOk result (out.new.items ≡ out.old.items ++ 45 ∷ error_text line.now ++ crlf) }
+    ensures ok { OnOk result (out.new.items ≡ out.old.items ++ minus ∷ error_text line.now ++ crlf) }
     ensures err { OnErr result ((more : List ℕ) × (out.new.items ≡ out.old.items ++ more)) }
+    ensures capacity { vec_capacity out.old ≤ vec_capacity out.new }
+    ensures full { OnErr result (vec_capacity out.old < vec_len out.old + length (minus ∷ error_text line.now ++ crlf)) }
 {
     match line {
         ErrorText::Fixed(line) => put_line(b'-', line.as_bytes(), out)?,
@@ -70,6 +77,8 @@ fn put_error(line: &ErrorText, out: &mut Vec<u8>) -> Result<(), AllocError>
 fn put_line(kind: u8, line: &[u8], out: &mut Vec<u8>) -> Result<(), AllocError>
     ensures ok { OnOk result (out.new.items ≡ out.old.items ++ kind ∷ line.now ++ crlf) }
     ensures err { OnErr result ((more : List ℕ) × (out.new.items ≡ out.old.items ++ more)) }
+    ensures capacity { vec_capacity out.old ≤ vec_capacity out.new }
+    ensures full { OnErr result (vec_capacity out.old < vec_len out.old + length (kind ∷ line.now ++ crlf)) }
 {
     out.push(kind)?;
     out.extend_from_slice(line)?;
@@ -78,11 +87,13 @@ fn put_line(kind: u8, line: &[u8], out: &mut Vec<u8>) -> Result<(), AllocError>
 }
 
 /// Appends the line that says how long a bulk string or an array is.
-fn put_length(kind: u8, length: usize, out: &mut Vec<u8>) -> Result<(), AllocError>
-    ensures ok { OnOk result (out.new.items ≡ out.old.items ++ kind ∷ decimal length ++ crlf) }
+fn put_length(kind: u8, number: usize, out: &mut Vec<u8>) -> Result<(), AllocError>
+    ensures ok { OnOk result (out.new.items ≡ out.old.items ++ kind ∷ decimal number ++ crlf) }
     ensures err { OnErr result ((more : List ℕ) × (out.new.items ≡ out.old.items ++ more)) }
+    ensures capacity { vec_capacity out.old ≤ vec_capacity out.new }
+    ensures full { OnErr result (vec_capacity out.old < vec_len out.old + length (kind ∷ decimal number ++ crlf)) }
 {
-    put_line(kind, Buffer::new().format(length).as_bytes(), out)
+    put_line(kind, Buffer::new().format(number).as_bytes(), out)
 }
 
 #[cfg(test)]
@@ -117,9 +128,11 @@ mod tests {
 
     #[test]
     fn keeps_the_words_of_a_request(rt: HostRuntime) -> Result<(), Fail> {
-        let words: &[&[u8]] = &[b"SET", b"a", b""];
+        let large = Vec::from_elem(rt.alloc(), b'x', 2_000_000)?;
+        let words: &[&[u8]] = &[b"SET", b"a", b"", &large];
         let request = Request::copy_of(rt.alloc(), words)?;
-        assert_eq!(rt; request.len(), 3);
+        assert_eq!(rt; request.len(), 4);
+        assert_eq!(rt; request.word(3).len(), 2_000_000);
         assert_eq!(rt; request.word(1), b"a".as_slice());
         let again = Request::from_words(request.into_words());
         assert_eq!(rt; again.word(0), b"SET".as_slice());

@@ -5,10 +5,10 @@ use Rattle.std.proofs.lemmas.Bool.Decides.{eqb_tells}
 use Rattle.std.proofs.lemmas.List.{map-append, take_at, drop_at, take-append-drop, length-append, length-take, length-replicate}
 use Rattle.resp.specs.Text.{crlf}
 use Rattle.resp_decoder.specs.declared.fault.Fault.{Fault}
-use Rattle.resp_decoder.specs.declared.reading.Stop.{Stop}
-use Rattle.resp_decoder.specs.declared.reading.Stop.TheVariants.{Open, Bad}
+use Rattle.resp_decoder.specs.declared.parsing.Stop.{Stop}
+use Rattle.resp_decoder.specs.declared.parsing.Stop.TheVariants.{Open, Bad}
 use Rattle.resp_decoder.specs.Texts.{bytes, mark, IsOpenIn, IsFaultIn}
-use Rattle.resp_decoder.specs.Reading.{Nothing, byte_at, line_at, some_at}
+use Rattle.resp_decoder.specs.Parsing.{NoValue, byte_at, line_at, some_at}
 use Rattle.resp_decoder.proofs.Formats.{Reads, Both, both_marks, pair, seen, pair_reads, seen_reads, same_reads, second_seen, done, ok_is, bytes-mark, one_fault_places}
 
 abbrev pub Always : {A : Type 0} → A → Type 0
@@ -19,38 +19,38 @@ Always a = Unit {0}
 abbrev pub stopped : {A : Type 0} → Stop → Result A Stop
 stopped stop = Err stop
 
-byte_got : (byte : ℕ) (fault : Fault) (b : List ℕ) (x : Nothing × List ℕ) → byte_at byte fault b ≡ Ok x → Always x.0 × (b ≡ byte ∷ x.1)
+byte_got : (byte : ℕ) (fault : Fault) (b : List ℕ) (x : NoValue × List ℕ) → byte_at byte fault b ≡ Ok x → Always x.0 × (b ≡ byte ∷ x.1)
 unfolding byte_at
 byte_got byte fault [] x e = absurd cc
 byte_got byte fault (d ∷ ds) x e =
     elim (eqb_tells d byte) [
       | inl p ↦
-          let rest : ds ≡ x.1 = ap (λ (w : Nothing × List ℕ). w.1) (ok_is (tt, ds) x (sym (cond-true (eqb d byte) (Ok (tt, ds)) (Err (Bad fault)) p.0) ∙ e)) in
+          let rest : ds ≡ x.1 = ap (λ (w : NoValue × List ℕ). w.1) (ok_is (tt, ds) x (sym (cond-true (eqb d byte) (Ok (tt, ds)) (Err (Bad fault)) p.0) ∙ e)) in
           (tt, cc)
       | inr p ↦ let wrong : stopped (Bad fault) ≡ Ok x = sym (cond-false (eqb d byte) (Ok (tt, ds)) (Err (Bad fault)) p.0) ∙ e in absurd cc
     ]
 
-byte_again : (byte : ℕ) (fault : Fault) (a : Nothing) → Always a → (rest : List ℕ) → byte_at byte fault (byte ∷ rest) ≡ Ok (a, rest)
+byte_again : (byte : ℕ) (fault : Fault) (a : NoValue) → Always a → (rest : List ℕ) → byte_at byte fault (byte ∷ rest) ≡ Ok (a, rest)
 unfolding byte_at
 byte_again byte fault a h rest = cond-true (eqb byte byte) (Ok (tt, rest)) (Err (Bad fault)) (eq-eqb byte byte refl)
 
-byte_part : (byte : ℕ) (fault : Fault) (b : List ℕ) → byte_at byte fault b ≡ Err Open → IsOpenIn {A = Nothing} Always (λ a. (byte, fault) ∷ []) b
+byte_part : (byte : ℕ) (fault : Fault) (b : List ℕ) → byte_at byte fault b ≡ Err Open → IsOpenIn {A = NoValue} Always (λ a. (byte, fault) ∷ []) b
 unfolding byte_at
 byte_part byte fault [] e = record { value = tt; holds = tt; before = []; next = (byte, fault); after = []; text = refl; split = refl }
 byte_part byte fault (d ∷ ds) e =
     elim (eqb_tells d byte) [
-      | inl p ↦ let wrong : done {A = Nothing × List ℕ} (tt, ds) ≡ Err Open = sym (cond-true (eqb d byte) (Ok (tt, ds)) (Err (Bad fault)) p.0) ∙ e in absurd cc
-      | inr p ↦ let wrong : stopped {A = Nothing × List ℕ} (Bad fault) ≡ Err Open = sym (cond-false (eqb d byte) (Ok (tt, ds)) (Err (Bad fault)) p.0) ∙ e in absurd cc
+      | inl p ↦ let wrong : done {A = NoValue × List ℕ} (tt, ds) ≡ Err Open = sym (cond-true (eqb d byte) (Ok (tt, ds)) (Err (Bad fault)) p.0) ∙ e in absurd cc
+      | inr p ↦ let wrong : stopped {A = NoValue × List ℕ} (Bad fault) ≡ Err Open = sym (cond-false (eqb d byte) (Ok (tt, ds)) (Err (Bad fault)) p.0) ∙ e in absurd cc
     ]
 
-byte_bad : (byte : ℕ) (fault : Fault) (b : List ℕ) (f : Fault) → byte_at byte fault b ≡ Err (Bad f) → IsFaultIn {A = Nothing} Always (λ a. (byte, fault) ∷ []) b f
+byte_bad : (byte : ℕ) (fault : Fault) (b : List ℕ) (f : Fault) → byte_at byte fault b ≡ Err (Bad f) → IsFaultIn {A = NoValue} Always (λ a. (byte, fault) ∷ []) b f
 unfolding byte_at
 byte_bad byte fault [] f e = absurd cc
 byte_bad byte fault (d ∷ ds) f e =
     elim (eqb_tells d byte) [
-      | inl p ↦ let wrong : done {A = Nothing × List ℕ} (tt, ds) ≡ Err (Bad f) = sym (cond-true (eqb d byte) (Ok (tt, ds)) (Err (Bad fault)) p.0) ∙ e in absurd cc
+      | inl p ↦ let wrong : done {A = NoValue × List ℕ} (tt, ds) ≡ Err (Bad f) = sym (cond-true (eqb d byte) (Ok (tt, ds)) (Err (Bad fault)) p.0) ∙ e in absurd cc
       | inr p ↦
-          let same : stopped {A = Nothing × List ℕ} (Bad fault) ≡ Err (Bad f) = sym (cond-false (eqb d byte) (Ok (tt, ds)) (Err (Bad fault)) p.0) ∙ e in
+          let same : stopped {A = NoValue × List ℕ} (Bad fault) ≡ Err (Bad f) = sym (cond-false (eqb d byte) (Ok (tt, ds)) (Err (Bad fault)) p.0) ∙ e in
           let faults : fault ≡ f = cc in
           record {
             value = tt;

@@ -2,10 +2,10 @@
 use Rattle.std.proofs.Common.{◌≡◌, ℕ, List, [], ◌∷◌, ◌++◌, Result, Ok, Err, ◌⊎◌, inl, inr, refl, sym, ap, subst, ◌∙◌, append_assoc}
 use Rattle.std.proofs.lemmas.List.{map-append, append-nil}
 use Rattle.resp_decoder.specs.declared.fault.Fault.{Fault}
-use Rattle.resp_decoder.specs.declared.reading.Stop.{Stop}
-use Rattle.resp_decoder.specs.declared.reading.Stop.TheVariants.{Open, Bad}
+use Rattle.resp_decoder.specs.declared.parsing.Stop.{Stop}
+use Rattle.resp_decoder.specs.declared.parsing.Stop.TheVariants.{Open, Bad}
 use Rattle.resp_decoder.specs.Texts.{Marked, bytes, mark, IsOpenIn, IsFaultIn}
-use Rattle.resp_decoder.specs.Reading.{Reading, ◌>>=◌}
+use Rattle.resp_decoder.specs.Parsing.{Parsed, ◌>>=◌}
 
 -- ---- one list cut in two ways
 
@@ -54,7 +54,7 @@ abbrev pub ArePlaced : {A : Type 0} → (A → Type 0) → (A → Marked) → Ty
 ArePlaced {A} lawful marks = (x y : A) → lawful x → lawful y → (before : Marked) (next : ℕ × Fault) (after before' : Marked) (next' : ℕ × Fault) (after' : Marked)
     → marks x ≡ before ++ next ∷ after → marks y ≡ before' ++ next' ∷ after' → bytes before ≡ bytes before' → next.1 ≡ next'.1
 
-pub record Reads {A : Type 0} (r : List ℕ → Reading A) (lawful : A → Type 0) (marks : A → Marked) : Type 0 where
+pub record Reads {A : Type 0} (r : List ℕ → Parsed A) (lawful : A → Type 0) (marks : A → Marked) : Type 0 where
   pub got : (b : List ℕ) (x : A × List ℕ) → r b ≡ Ok x → lawful x.0 × (b ≡ bytes (marks x.0) ++ x.1)
   pub again : (a : A) → lawful a → (rest : List ℕ) → r (bytes (marks a) ++ rest) ≡ Ok (a, rest)
   pub part : (b : List ℕ) → r b ≡ Err Open → IsOpenIn lawful marks b
@@ -62,7 +62,7 @@ pub record Reads {A : Type 0} (r : List ℕ → Reading A) (lawful : A → Type 
   pub places : ArePlaced lawful marks
 
 -- no text begins another
-pub same_front : {A : Type 0} (r : List ℕ → Reading A) (lawful : A → Type 0) (marks : A → Marked) → Reads r lawful marks
+pub same_front : {A : Type 0} (r : List ℕ → Parsed A) (lawful : A → Type 0) (marks : A → Marked) → Reads r lawful marks
     → (x y : A) → lawful x → lawful y → (u v : List ℕ) → bytes (marks x) ++ u ≡ bytes (marks y) ++ v → (x ≡ y) × (u ≡ v)
 same_front {A} r lawful marks reads x y hx hy u v e =
     let both = ok_is (x, u) (y, v) (sym (reads.again x hx u) ∙ ap r e ∙ reads.again y hy v) in
@@ -70,7 +70,7 @@ same_front {A} r lawful marks reads x y hx hy u v e =
 
 -- ---- one reader after another
 
-abbrev pub pair : {A B : Type 0} → (List ℕ → Reading A) → (A → List ℕ → Reading B) → List ℕ → Reading (A × B)
+abbrev pub pair : {A B : Type 0} → (List ℕ → Parsed A) → (A → List ℕ → Parsed B) → List ℕ → Parsed (A × B)
 pair r s b = r b >>= λ x. s x.0 x.1 >>= λ y. Ok ((x.0, y.0), y.1)
 
 abbrev pub Both : {A B : Type 0} → (A → Type 0) → (A → B → Type 0) → A × B → Type 0
@@ -84,14 +84,14 @@ nothing_before x [] ys e = cc
 nothing_before x (z ∷ xs) ys e = cc
 
 -- a text can't end within another
-pub no_shorter : {A : Type 0} (r : List ℕ → Reading A) (lawful : A → Type 0) (marks : A → Marked) → Reads r lawful marks
+pub no_shorter : {A : Type 0} (r : List ℕ → Parsed A) (lawful : A → Type 0) (marks : A → Marked) → Reads r lawful marks
     → (x y : A) → lawful x → lawful y → (before : Marked) (next : ℕ × Fault) (after : Marked) (mid : List ℕ) → marks x ≡ before ++ next ∷ after → bytes before ≡ bytes (marks y) ++ mid → ⊥
 no_shorter r lawful marks reads x y hx hy before next after mid text e =
     let whole : bytes (marks x) ≡ bytes (marks y) ++ (mid ++ next.0 ∷ bytes after) =
     ap bytes text ∙ bytes-append before (next ∷ after) ∙ ap (λ (t : List ℕ). t ++ next.0 ∷ bytes after) e ∙ append_assoc (bytes (marks y)) mid (next.0 ∷ bytes after) in
     nothing_before next.0 mid (bytes after) (same_front r lawful marks reads x y hx hy [] (mid ++ next.0 ∷ bytes after) (append-nil (bytes (marks x)) ∙ whole)).1
 
-pair_got : {A B : Type 0} (r : List ℕ → Reading A) (P : A → Type 0) (m : A → Marked) (s : A → List ℕ → Reading B) (Q : A → B → Type 0) (n : A → B → Marked)
+pair_got : {A B : Type 0} (r : List ℕ → Parsed A) (P : A → Type 0) (m : A → Marked) (s : A → List ℕ → Parsed B) (Q : A → B → Type 0) (n : A → B → Marked)
     → Reads r P m → ((a : A) → P a → Reads (s a) (Q a) (n a)) → (b : List ℕ) (z : (A × B) × List ℕ) → pair r s b ≡ Ok z → Both P Q z.0 × (b ≡ bytes (both_marks m n z.0) ++ z.1)
 pair_got {A} {B} r P m s Q n reads then_reads b z e =
     let first = bind_ok (r b) (λ x. s x.0 x.1 >>= λ y. Ok ((x.0, y.0), y.1)) z e in
@@ -104,14 +104,14 @@ pair_got {A} {B} r P m s Q n reads then_reads b z e =
     g.1 ∙ ap (λ (t : List ℕ). bytes (m x.0) ++ t) h.1 ∙ sym (append_assoc (bytes (m x.0)) (bytes (n x.0 y.0)) y.1) ∙ ap (λ (t : List ℕ). t ++ y.1) (sym (bytes-append (m x.0) (n x.0 y.0))) in
     subst (λ (w : (A × B) × List ℕ). Both P Q w.0 × (b ≡ bytes (both_marks m n w.0) ++ w.1)) (ok_is ((x.0, y.0), y.1) z second.2) ((g.0, h.0), whole)
 
-pair_again : {A B : Type 0} (r : List ℕ → Reading A) (P : A → Type 0) (m : A → Marked) (s : A → List ℕ → Reading B) (Q : A → B → Type 0) (n : A → B → Marked)
+pair_again : {A B : Type 0} (r : List ℕ → Parsed A) (P : A → Type 0) (m : A → Marked) (s : A → List ℕ → Parsed B) (Q : A → B → Type 0) (n : A → B → Marked)
     → Reads r P m → ((a : A) → P a → Reads (s a) (Q a) (n a)) → (p : A × B) → Both P Q p → (rest : List ℕ) → pair r s (bytes (both_marks m n p) ++ rest) ≡ Ok (p, rest)
 pair_again r P m s Q n reads then_reads p h rest =
     let cut : bytes (m p.0 ++ n p.0 p.1) ++ rest ≡ bytes (m p.0) ++ (bytes (n p.0 p.1) ++ rest) =
     ap (λ (t : List ℕ). t ++ rest) (bytes-append (m p.0) (n p.0 p.1)) ∙ append_assoc (bytes (m p.0)) (bytes (n p.0 p.1)) rest in
     ap (pair r s) cut ∙ rw (reads.again p.0 h.0 (bytes (n p.0 p.1) ++ rest), (then_reads p.0 h.0).again p.1 h.1 rest) refl
 
-pair_part : {A B : Type 0} (r : List ℕ → Reading A) (P : A → Type 0) (m : A → Marked) (s : A → List ℕ → Reading B) (Q : A → B → Type 0) (n : A → B → Marked)
+pair_part : {A B : Type 0} (r : List ℕ → Parsed A) (P : A → Type 0) (m : A → Marked) (s : A → List ℕ → Parsed B) (Q : A → B → Type 0) (n : A → B → Marked)
     → Reads r P m → ((a : A) → P a → Reads (s a) (Q a) (n a)) → ((a : A) → P a → (b : B) × Q a b) → (b : List ℕ) → pair r s b ≡ Err Open → IsOpenIn (Both P Q) (both_marks m n) b
 pair_part r P m s Q n reads then_reads some b e =
     elim (bind_err (r b) (λ x. s x.0 x.1 >>= λ y. Ok ((x.0, y.0), y.1)) Open e) [
@@ -146,7 +146,7 @@ pair_part r P m s Q n reads then_reads some b e =
           ]
     ]
 
-pair_bad : {A B : Type 0} (r : List ℕ → Reading A) (P : A → Type 0) (m : A → Marked) (s : A → List ℕ → Reading B) (Q : A → B → Type 0) (n : A → B → Marked)
+pair_bad : {A B : Type 0} (r : List ℕ → Parsed A) (P : A → Type 0) (m : A → Marked) (s : A → List ℕ → Parsed B) (Q : A → B → Type 0) (n : A → B → Marked)
     → Reads r P m → ((a : A) → P a → Reads (s a) (Q a) (n a)) → ((a : A) → P a → (b : B) × Q a b) → (b : List ℕ) (fault : Fault) → pair r s b ≡ Err (Bad fault) → IsFaultIn (Both P Q) (both_marks m n) b fault
 pair_bad {A} {B} r P m s Q n reads then_reads some b fault e =
     elim (bind_err (r b) (λ x. s x.0 x.1 >>= λ y. Ok ((x.0, y.0), y.1)) (Bad fault) e) [
@@ -196,7 +196,7 @@ pair_bad {A} {B} r P m s Q n reads then_reads some b fault e =
           ]
     ]
 
-pair_places : {A B : Type 0} (r : List ℕ → Reading A) (P : A → Type 0) (m : A → Marked) (s : A → List ℕ → Reading B) (Q : A → B → Type 0) (n : A → B → Marked)
+pair_places : {A B : Type 0} (r : List ℕ → Parsed A) (P : A → Type 0) (m : A → Marked) (s : A → List ℕ → Parsed B) (Q : A → B → Type 0) (n : A → B → Marked)
     → Reads r P m → ((a : A) → P a → Reads (s a) (Q a) (n a)) → ArePlaced (Both P Q) (both_marks m n)
 pair_places {A} {B} r P m s Q n reads then_reads x y hx hy before next after before' next' after' tx ty same =
     elim (split_marked (m x.0) (n x.0 x.1) before next after tx) [
@@ -216,7 +216,7 @@ pair_places {A} {B} r P m s Q n reads then_reads x y hx hy before next after bef
     ]
 
 -- Reading a text and then one that may depend on its value, where some lawful value always follows.
-pub pair_reads : {A B : Type 0} (r : List ℕ → Reading A) (P : A → Type 0) (m : A → Marked) (s : A → List ℕ → Reading B) (Q : A → B → Type 0) (n : A → B → Marked)
+pub pair_reads : {A B : Type 0} (r : List ℕ → Parsed A) (P : A → Type 0) (m : A → Marked) (s : A → List ℕ → Parsed B) (Q : A → B → Type 0) (n : A → B → Marked)
     → Reads r P m → ((a : A) → P a → Reads (s a) (Q a) (n a)) → ((a : A) → P a → (b : B) × Q a b) → Reads (pair r s) (Both P Q) (both_marks m n)
 pair_reads r P m s Q n reads then_reads some = record {
   got = pair_got r P m s Q n reads then_reads;
@@ -228,10 +228,10 @@ pair_reads r P m s Q n reads then_reads some = record {
 
 -- ---- a reader seen otherwise
 
-abbrev pub seen : {A C : Type 0} → (A → C) → (List ℕ → Reading A) → List ℕ → Reading C
+abbrev pub seen : {A C : Type 0} → (A → C) → (List ℕ → Parsed A) → List ℕ → Parsed C
 seen f r b = r b >>= λ x. Ok (f x.0, x.1)
 
-seen_got : {A C : Type 0} (r : List ℕ → Reading A) (P : A → Type 0) (m : A → Marked) (f : A → C) (Q : C → Type 0) (n : C → Marked)
+seen_got : {A C : Type 0} (r : List ℕ → Parsed A) (P : A → Type 0) (m : A → Marked) (f : A → C) (Q : C → Type 0) (n : C → Marked)
     → Reads r P m → ((a : A) → P a → Q (f a) × (n (f a) ≡ m a)) → (b : List ℕ) (z : C × List ℕ) → seen f r b ≡ Ok z → Q z.0 × (b ≡ bytes (n z.0) ++ z.1)
 seen_got {A} {C} r P m f Q n reads to b z e =
     let first = bind_ok (r b) (λ x. Ok (f x.0, x.1)) z e in
@@ -240,7 +240,7 @@ seen_got {A} {C} r P m f Q n reads to b z e =
     let t = to x.0 g.0 in
     subst (λ (w : C × List ℕ). Q w.0 × (b ≡ bytes (n w.0) ++ w.1)) (ok_is (f x.0, x.1) z first.2) (t.0, g.1 ∙ ap (λ (k : Marked). bytes k ++ x.1) (sym t.1))
 
-seen_again : {A C : Type 0} (r : List ℕ → Reading A) (P : A → Type 0) (m : A → Marked) (f : A → C) (Q : C → Type 0) (n : C → Marked)
+seen_again : {A C : Type 0} (r : List ℕ → Parsed A) (P : A → Type 0) (m : A → Marked) (f : A → C) (Q : C → Type 0) (n : C → Marked)
     → Reads r P m → ((a : A) → P a → Q (f a) × (n (f a) ≡ m a)) → ((c : C) → Q c → (a : A) × P a × (f a ≡ c)) → (c : C) → Q c → (rest : List ℕ) → seen f r (bytes (n c) ++ rest) ≡ Ok (c, rest)
 seen_again {A} {C} r P m f Q n reads to from c h rest =
     let a = from c h in
@@ -248,7 +248,7 @@ seen_again {A} {C} r P m f Q n reads to from c h rest =
     ap (λ (k : Marked). seen f r (bytes k ++ rest)) (to a.0 a.1).1 ∙ rw (reads.again a.0 a.1 rest) refl in
     subst (λ (w : C). seen f r (bytes (n w) ++ rest) ≡ Ok (w, rest)) a.2 at
 
-seen_part : {A C : Type 0} (r : List ℕ → Reading A) (P : A → Type 0) (m : A → Marked) (f : A → C) (Q : C → Type 0) (n : C → Marked)
+seen_part : {A C : Type 0} (r : List ℕ → Parsed A) (P : A → Type 0) (m : A → Marked) (f : A → C) (Q : C → Type 0) (n : C → Marked)
     → Reads r P m → ((a : A) → P a → Q (f a) × (n (f a) ≡ m a)) → (b : List ℕ) → seen f r b ≡ Err Open → IsOpenIn Q n b
 seen_part r P m f Q n reads to b e =
     elim (bind_err (r b) (λ x. Ok (f x.0, x.1)) Open e) [
@@ -259,7 +259,7 @@ seen_part r P m f Q n reads to b e =
       | inr first ↦ absurd cc
     ]
 
-seen_bad : {A C : Type 0} (r : List ℕ → Reading A) (P : A → Type 0) (m : A → Marked) (f : A → C) (Q : C → Type 0) (n : C → Marked)
+seen_bad : {A C : Type 0} (r : List ℕ → Parsed A) (P : A → Type 0) (m : A → Marked) (f : A → C) (Q : C → Type 0) (n : C → Marked)
     → Reads r P m → ((a : A) → P a → Q (f a) × (n (f a) ≡ m a)) → ((c : C) → Q c → (a : A) × P a × (f a ≡ c)) → (b : List ℕ) (fault : Fault) → seen f r b ≡ Err (Bad fault) → IsFaultIn Q n b fault
 seen_bad r P m f Q n reads to from b fault e =
     elim (bind_err (r b) (λ x. Ok (f x.0, x.1)) (Bad fault) e) [
@@ -291,7 +291,7 @@ seen_places P m f Q n placed to from x y hx hy before next after before' next' a
     placed a.0 c.0 a.1 c.1 before next after before' next' after' (sym (to a.0 a.1).1 ∙ ap n a.2 ∙ tx) (sym (to c.0 c.1).1 ∙ ap n c.2 ∙ ty) same
 
 -- Reading the same texts, for values that stand for them as well.
-pub seen_reads : {A C : Type 0} (r : List ℕ → Reading A) (P : A → Type 0) (m : A → Marked) (f : A → C) (Q : C → Type 0) (n : C → Marked)
+pub seen_reads : {A C : Type 0} (r : List ℕ → Parsed A) (P : A → Type 0) (m : A → Marked) (f : A → C) (Q : C → Type 0) (n : C → Marked)
     → Reads r P m → ((a : A) → P a → Q (f a) × (n (f a) ≡ m a)) → ((c : C) → Q c → (a : A) × P a × (f a ≡ c)) → Reads (seen f r) Q n
 seen_reads r P m f Q n reads to from = record {
   got = seen_got r P m f Q n reads to;
@@ -302,7 +302,7 @@ seen_reads r P m f Q n reads to from = record {
 }
 
 -- The same reader in other words.
-pub same_reads : {A : Type 0} (r s : List ℕ → Reading A) (P : A → Type 0) (m : A → Marked) → Reads r P m → ((b : List ℕ) → s b ≡ r b) → Reads s P m
+pub same_reads : {A : Type 0} (r s : List ℕ → Parsed A) (P : A → Type 0) (m : A → Marked) → Reads r P m → ((b : List ℕ) → s b ≡ r b) → Reads s P m
 same_reads r s P m reads same = record {
   got = λ b x e. reads.got b x (sym (same b) ∙ e);
   again = λ a h rest. same (bytes (m a) ++ rest) ∙ reads.again a h rest;
@@ -346,13 +346,13 @@ then_seen_one : {A B C : Type 0} (g : A → B → C) (a : A) (q : Result (B × L
 then_seen_one g a (Ok y) = refl
 then_seen_one g a (Err e) = refl
 
-then_seen_all : {A B C : Type 0} (g : A → B → C) (r : Result (A × List ℕ) Stop) (s : A → List ℕ → Reading B)
+then_seen_all : {A B C : Type 0} (g : A → B → C) (r : Result (A × List ℕ) Stop) (s : A → List ℕ → Parsed B)
     → (r >>= λ x. mapped (λ b. g x.0 b) (s x.0 x.1)) ≡ mapped (λ (z : A × B). g z.0 z.1) (r >>= λ x. mapped (λ b. (x.0, b)) (s x.0 x.1))
 then_seen_all g (Ok x) s = then_seen_one g x.0 (s x.0 x.1)
 then_seen_all g (Err e) s = refl
 
 -- a value of both
-pub then_seen : {A B C : Type 0} (g : A → B → C) (r : List ℕ → Reading A) (s : A → List ℕ → Reading B) (b : List ℕ)
+pub then_seen : {A B C : Type 0} (g : A → B → C) (r : List ℕ → Parsed A) (s : A → List ℕ → Parsed B) (b : List ℕ)
     → (r b >>= λ x. mapped (λ y. g x.0 y) (s x.0 x.1)) ≡ seen (λ p. g p.0 p.1) (pair r s) b
 then_seen g r s b = then_seen_all g (r b) s
 
@@ -360,12 +360,12 @@ second_one : {A B : Type 0} (a : A) (q : Result (B × List ℕ) Stop) → q ≡ 
 second_one a (Ok y) = refl
 second_one a (Err e) = refl
 
-second_all : {A B : Type 0} (r : Result (A × List ℕ) Stop) (s : A → List ℕ → Reading B)
+second_all : {A B : Type 0} (r : Result (A × List ℕ) Stop) (s : A → List ℕ → Parsed B)
     → (r >>= λ x. s x.0 x.1) ≡ mapped (λ (z : A × B). z.1) (r >>= λ x. mapped (λ b. (x.0, b)) (s x.0 x.1))
 second_all (Ok x) s = second_one x.0 (s x.0 x.1)
 second_all (Err e) s = refl
 
 -- the value of the second
-pub second_seen : {A B : Type 0} (r : List ℕ → Reading A) (s : A → List ℕ → Reading B) (b : List ℕ)
+pub second_seen : {A B : Type 0} (r : List ℕ → Parsed A) (s : A → List ℕ → Parsed B) (b : List ℕ)
     → (r b >>= λ x. s x.0 x.1) ≡ seen (λ p. p.1) (pair r s) b
 second_seen r s b = second_all (r b) s

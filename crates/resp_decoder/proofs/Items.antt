@@ -6,7 +6,7 @@ use Rattle.resp.specs.Text.{crlf}
 use Rattle.resp_decoder.specs.declared.fault.Fault.TheVariants.{ExpectedStar, ExpectedDollar, ExpectedCrlf}
 use Rattle.resp_decoder.specs.declared.limits.Limits.{Limits}
 use Rattle.resp_decoder.specs.Texts.{Marked, mark, number_marks, word_marks, Item, item_marks, IsLawful}
-use Rattle.resp_decoder.specs.Reading.{Reading, ◌>>=◌, byte_at, line_at, some_at, number_at, word_at, words_at, count_at, head_at, body_at, item_at}
+use Rattle.resp_decoder.specs.Parsing.{Parsed, ◌>>=◌, byte_at, line_at, some_at, number_at, word_at, words_at, count_at, head_at, body_at, item_at}
 use Rattle.resp_decoder.proofs.Formats.{Reads, Both, both_marks, pair, seen, pair_reads, seen_reads, same_reads, then_seen, second_seen, none_reads}
 use Rattle.resp_decoder.proofs.Bytes.{Always, HasLength, byte_reads, line_reads, some_reads}
 use Rattle.resp_decoder.proofs.Numbers.{IsWithin, number_reads, IsCount, count_marks, count_reads}
@@ -14,7 +14,7 @@ use Rattle.resp_decoder.proofs.Numbers.{IsWithin, number_reads, IsCount, count_m
 -- ---- words
 
 -- so many bytes on a line of their own
-abbrev rest_of_word : ℕ → List ℕ → Reading (List ℕ)
+abbrev rest_of_word : ℕ → List ℕ → Parsed (List ℕ)
 rest_of_word n b = some_at n b >>= λ word. line_at ExpectedCrlf word.1 >>= λ end. Ok (word.0, end.1)
 
 abbrev bytes_marks : List ℕ → Marked
@@ -32,7 +32,7 @@ bytes_read n =
     (then_seen (λ word end. word) (some_at n) (λ word. line_at ExpectedCrlf))
 
 -- a length and then so many bytes
-abbrev behind_dollar : ℕ → List ℕ → Reading (List ℕ)
+abbrev behind_dollar : ℕ → List ℕ → Parsed (List ℕ)
 behind_dollar bulk b = number_at bulk b >>= λ n. rest_of_word n.0 n.1
 
 abbrev IsWord : ℕ → List ℕ → Type 0

@@ -5,9 +5,9 @@ use Rattle.std.specs.Fmt.{digits}
 use Rattle.resp_decoder.specs.declared.fault.Fault.{Fault}
 use Rattle.resp_decoder.specs.declared.fault.Fault.TheVariants.{ExpectedStar, ExpectedDollar, BadLength, ExpectedCrlf}
 use Rattle.resp_decoder.specs.declared.limits.Limits.{Limits}
-use Rattle.resp_decoder.specs.declared.reading.Stop.TheVariants.{Bad}
+use Rattle.resp_decoder.specs.declared.parsing.Stop.TheVariants.{Bad}
 use Rattle.resp_decoder.specs.Texts.{Item, IsFault}
-use Rattle.resp_decoder.specs.Reading.{Reading, ◌>>=◌, byte_at, line_at, number_on, number_at, some_at, word_at, words_at, minus_one_at, count_at, head_at, body_at, item_at}
+use Rattle.resp_decoder.specs.Parsing.{Parsed, ◌>>=◌, byte_at, line_at, number_on, number_at, some_at, word_at, words_at, minus_one_at, count_at, head_at, body_at, item_at}
 use Rattle.resp_decoder.specs.Laws.{lines, KnownTexts, KnownFaults}
 use Rattle.resp_decoder.proofs.Items.{item_reads}
 
@@ -16,7 +16,7 @@ unfolding digits
 known_texts = (refl, refl, refl, refl, refl)
 
 -- reading, as it depends on the two limits
-abbrev read : ℕ → ℕ → List ℕ → Reading Item
+abbrev read : ℕ → ℕ → List ℕ → Parsed Item
 read words bulk b = head_at words b >>= λ count. body_at bulk count.0 count.1
 
 read_known : (limits : Limits) (b : List ℕ) → limits.words ≡ 1048576 → limits.bulk ≡ 536870912 → item_at limits b ≡ read 1048576 536870912 b

@@ -9,3 +9,4 @@ pub mod Steps
 pub mod Answering
 pub mod Known
 pub mod Taking
+pub mod Wants

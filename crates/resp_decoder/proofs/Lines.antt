@@ -5,9 +5,9 @@ use Rattle.std.proofs.lemmas.Bool.{le-leb, and_right, cond-false}
 use Rattle.resp.specs.Text.{crlf}
 use Rattle.resp_decoder.specs.declared.fault.Fault.{Fault}
 use Rattle.resp_decoder.specs.declared.fault.Fault.TheVariants.{BadLength}
-use Rattle.resp_decoder.specs.declared.reading.Stop.TheVariants.{Open, Bad}
+use Rattle.resp_decoder.specs.declared.parsing.Stop.TheVariants.{Open, Bad}
 use Rattle.resp_decoder.specs.Texts.{Marked, bytes, mark, IsOpenIn, IsFaultIn}
-use Rattle.resp_decoder.specs.Reading.{Reading, line_at, is_more, is_first}
+use Rattle.resp_decoder.specs.Parsing.{Parsed, line_at, is_more, is_first}
 use Rattle.resp_decoder.proofs.Formats.{Reads, mapped, ok_is, bind_ok, bind_err, one_fault_places}
 use Rattle.resp_decoder.proofs.Bytes.{stopped, line_reads}
 
@@ -38,12 +38,12 @@ final Minus = false
 final MinusOne = true
 final (Digits n) = true
 
-abbrev pub ended : Bool → List ℕ → Reading (List ℕ)
+abbrev pub ended : Bool → List ℕ → Parsed (List ℕ)
 ended true b = mapped (λ e. []) (line_at BadLength b)
 ended false b = Err (Bad BadLength)
 
 -- the bytes of the line, up to its end
-unfoldable pub line_on : ℕ → Place → List ℕ → Reading (List ℕ)
+unfoldable pub line_on : ℕ → Place → List ℕ → Parsed (List ℕ)
 line_on max s [] = Err Open
 line_on max s (b ∷ bs) = elim (step max s b) [ Some t ↦ mapped (λ ds. b ∷ ds) (line_on max t bs) | None ↦ ended (final s) (b ∷ bs) ]
 
@@ -63,11 +63,11 @@ step_cases (Some t) = inr (t, refl)
 
 pub line_some : (max : ℕ) (s : Place) (b : ℕ) (bs : List ℕ) (t : Place) → step max s b ≡ Some t → line_on max s (b ∷ bs) ≡ mapped (λ ds. b ∷ ds) (line_on max t bs)
 unfolding line_on
-line_some max s b bs t e = ap (λ (o : Option Place). elim o as (λ q. Reading (List ℕ)) [ Some u ↦ mapped (λ ds. b ∷ ds) (line_on max u bs) | None ↦ ended (final s) (b ∷ bs) ]) e
+line_some max s b bs t e = ap (λ (o : Option Place). elim o as (λ q. Parsed (List ℕ)) [ Some u ↦ mapped (λ ds. b ∷ ds) (line_on max u bs) | None ↦ ended (final s) (b ∷ bs) ]) e
 
 pub line_none : (max : ℕ) (s : Place) (b : ℕ) (bs : List ℕ) → step max s b ≡ None → line_on max s (b ∷ bs) ≡ ended (final s) (b ∷ bs)
 unfolding line_on
-line_none max s b bs e = ap (λ (o : Option Place). elim o as (λ q. Reading (List ℕ)) [ Some t ↦ mapped (λ ds. b ∷ ds) (line_on max t bs) | None ↦ ended (final s) (b ∷ bs) ]) e
+line_none max s b bs e = ap (λ (o : Option Place). elim o as (λ q. Parsed (List ℕ)) [ Some t ↦ mapped (λ ds. b ∷ ds) (line_on max t bs) | None ↦ ended (final s) (b ∷ bs) ]) e
 
 pub path_some : (max : ℕ) (s : Place) (d : ℕ) (ds : List ℕ) (t : Place) → step max s d ≡ Some t → IsPath max t ds → IsPath max s (d ∷ ds)
 unfolding IsPath

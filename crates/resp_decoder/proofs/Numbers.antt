@@ -5,10 +5,10 @@ use Rattle.std.proofs.lemmas.Fmt.{decimal_step, decimal_digit, decimal_by_steps}
 use Rattle.std.proofs.lemmas.List.{append-nil}
 use Rattle.std.proofs.lemmas.Bool.{cases_Bool, le-leb, lt-ltb, leb-true, ltb-true, and_parts, and_from, cond-true, cond-false, ne_eqb, eqb-true}
 use Rattle.resp_decoder.specs.declared.fault.Fault.TheVariants.{BadLength}
-use Rattle.resp_decoder.specs.declared.reading.Stop.{Stop}
-use Rattle.resp_decoder.specs.declared.reading.Stop.TheVariants.{Bad}
+use Rattle.resp_decoder.specs.declared.parsing.Stop.{Stop}
+use Rattle.resp_decoder.specs.declared.parsing.Stop.TheVariants.{Bad}
 use Rattle.resp_decoder.specs.Texts.{Marked, number_marks}
-use Rattle.resp_decoder.specs.Reading.{◌>>=◌, Nothing, byte_at, line_at, is_more, is_first, number_on, number_at, minus_one_at, count_at}
+use Rattle.resp_decoder.specs.Parsing.{◌>>=◌, NoValue, byte_at, line_at, is_more, is_first, number_on, number_at, minus_one_at, count_at}
 use Rattle.resp_decoder.proofs.Formats.{Reads, mapped, seen, seen_reads, same_reads}
 use Rattle.resp_decoder.proofs.Lines.{Place, AtCount, AtLength, Minus, MinusOne, Digits, step, first_step, final, ended, line_on, IsPath, line_marks, line_some, line_none, path_some, path_back, path_end, end_final, lines_read}
 
@@ -97,7 +97,7 @@ minus_seen : {C : Type 0} (max : ℕ) (f : List ℕ → C) (c : C) (bs : List �
 unfolding byte_at line_on
 minus_seen max f c [] same = refl
 minus_seen {C} max f c (b ∷ bs) same =
-    let rest = λ (read : Result (Nothing × List ℕ) Stop). mapped (λ (e : Nothing). c) (read >>= λ one. line_at BadLength one.1) in
+    let rest = λ (read : Result (NoValue × List ℕ) Stop). mapped (λ (e : NoValue). c) (read >>= λ one. line_at BadLength one.1) in
     elim (cases_Bool (eqb b 49)) [
       | inl is_one ↦
           let stepped : step max Minus b ≡ Some MinusOne = cond-true (eqb b 49) (Some MinusOne) None is_one in
@@ -120,7 +120,7 @@ unfolding count_at minus_one_at byte_at line_on count_value
 count_at_seen max [] = refl
 count_at_seen max (b ∷ bs) =
     let n = b - 48 in
-    let rest = λ (read : Result (Nothing × List ℕ) Stop). mapped {B = Option ℕ} (λ (e : Nothing). None) (read >>= λ minus. byte_at 49 BadLength minus.1 >>= λ one. line_at BadLength one.1) in
+    let rest = λ (read : Result (NoValue × List ℕ) Stop). mapped {B = Option ℕ} (λ (e : NoValue). None) (read >>= λ minus. byte_at 49 BadLength minus.1 >>= λ one. line_at BadLength one.1) in
     let negative = rest (byte_at 45 BadLength (b ∷ bs)) in
     let positive = mapped some_count (number_at max (b ∷ bs)) in
     elim (cases_Bool (eqb b 45)) [
@@ -159,18 +159,18 @@ may_follow max n b f =
     (and_from (leb 48 b) (leb b 57 && leb (n * 10 + (b - 48)) max) (le-leb 48 b f.from_zero)
     (and_from (leb b 57) (leb (n * 10 + (b - 48)) max) (le-leb b 57 f.to_nine) (le-leb (n * 10 + (b - 48)) max f.within)))
 
-record Leads (max b : ℕ) : Type 0 where
+record IsFirst (max b : ℕ) : Type 0 where
   from_zero : 48 ≤ b
   to_nine : b ≤ 57
   within : b - 48 ≤ max
 
-leads : (max b : ℕ) → is_first max b ≡ true → Leads max b
+leads : (max b : ℕ) → is_first max b ≡ true → IsFirst max b
 leads max b e =
     let q = and_parts (leb 48 b) (leb b 57 && leb (b - 48) max) e in
     let r = and_parts (leb b 57) (leb (b - 48) max) q.1 in
     record { from_zero = leb-true 48 b q.0; to_nine = leb-true b 57 r.0; within = leb-true (b - 48) max r.1 }
 
-may_lead : (max b : ℕ) → Leads max b → is_first max b ≡ true
+may_lead : (max b : ℕ) → IsFirst max b → is_first max b ≡ true
 may_lead max b f =
     and_from (leb 48 b) (leb b 57 && leb (b - 48) max) (le-leb 48 b f.from_zero)
     (and_from (leb b 57) (leb (b - 48) max) (le-leb b 57 f.to_nine) (le-leb (b - 48) max f.within))
@@ -246,7 +246,7 @@ one_digit : (max n : ℕ) → n < 10 → IsTextOf max n ((48 + n) ∷ [])
 unfolding length_value value_on
 one_digit max n small within =
     let back : 48 + n - 48 ≡ n = omega arith in
-    let lead : Leads max (48 + n) = record { from_zero = omega arith; to_nine = omega arith; within = omega arith } in
+    let lead : IsFirst max (48 + n) = record { from_zero = omega arith; to_nine = omega arith; within = omega arith } in
     (path_some max AtLength (48 + n) [] (Digits (48 + n - 48)) (cond-true (is_first max (48 + n)) (Some (Digits (48 + n - 48))) None (may_lead max (48 + n) lead)) (path_end max (Digits (48 + n - 48)) refl), back)
 
 more_digits : (max n : ℕ) (ds : List ℕ) → 10 ≤ n → IsTextOf max (n / 10) ds → IsTextOf max n (ds ++ (48 + n % 10) ∷ [])

@@ -7,10 +7,10 @@ use Rattle.std.proofs.lemmas.List.Concat.{flat_map-append}
 use Rattle.resp.specs.Text.{crlf}
 use Rattle.resp_decoder.specs.declared.fault.Fault.TheVariants.{ExpectedStar, BadLength}
 use Rattle.resp_decoder.specs.declared.limits.Limits.{Limits}
-use Rattle.resp_decoder.specs.declared.reading.Stop.{Stop}
+use Rattle.resp_decoder.specs.declared.parsing.Stop.{Stop}
 use Rattle.resp_decoder.specs.Texts.{Marked, bytes, mark, number_marks, word_marks, item_text, IsShort, Stream}
 use Rattle.resp_decoder.specs.Parts.{head_text, words_text, part_text}
-use Rattle.resp_decoder.specs.Reading.{word_at, words_at, head_at, body_at, item_at}
+use Rattle.resp_decoder.specs.Parsing.{word_at, words_at, head_at, body_at, item_at}
 use Rattle.resp_decoder.proofs.Formats.{mapped, bytes-append}
 use Rattle.resp_decoder.proofs.Streams.{stream_one}
 use Rattle.resp_decoder.proofs.Items.{words_marks, word_reads, head_reads}

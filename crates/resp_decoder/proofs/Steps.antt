@@ -5,12 +5,12 @@ use Rattle.std.specs.Result.{IsErrAnd}
 use Rattle.std.specs.List.{AllByRecursion}
 use Rattle.std.proofs.lemmas.List.{length-append, length-drop, append-nil}
 use Rattle.resp_decoder.specs.declared.limits.Limits.{Limits}
-use Rattle.resp_decoder.specs.declared.reading.Stop.{Stop}
-use Rattle.resp_decoder.specs.declared.reading.Stop.TheVariants.{Open, Bad}
+use Rattle.resp_decoder.specs.declared.parsing.Stop.{Stop}
+use Rattle.resp_decoder.specs.declared.parsing.Stop.TheVariants.{Open, Bad}
 use Rattle.resp_decoder.specs.declared.progress.Progress.{Progress}
 use Rattle.resp_decoder.specs.Texts.{item_text, IsShort, Stream, IsOpen, IsFault}
 use Rattle.resp_decoder.specs.Parts.{head_text, words_text, part_text}
-use Rattle.resp_decoder.specs.Reading.{word_at, head_at}
+use Rattle.resp_decoder.specs.Parsing.{word_at, head_at}
 use Rattle.resp_decoder.specs.Advancing.{words_of, held_bytes, IsSound, BeginsRequest, BeginsNone, Moves, Fills, Advances}
 use Rattle.resp_decoder.proofs.Resume.{behind, word_moves, all_push, head_of_some, item_from_parts, item_stops, head_stops, empty_front, part_is}
 use Rattle.resp_decoder.proofs.Streams.{stream_none, stream_then}
@@ -79,7 +79,7 @@ held_at_head words n none some =
     let count : length words + n ≡ n = ap (λ (ws : List (List ℕ)). length ws + n) none ∙ omega arith in
     part_is words n some ∙ ap (λ (k : ℕ). head_text k ++ words_text words) count ∙ ap (λ (ws : List (List ℕ)). head_text n ++ words_text ws) none ∙ append-nil (head_text n)
 
-some_count : (count : Option ℕ) (n : ℕ) → n ≡ unwrap_or count 0 → 0 < n → count ≡ Some n
+pub some_count : (count : Option ℕ) (n : ℕ) → n ≡ unwrap_or count 0 → 0 < n → count ≡ Some n
 some_count None n e positive = absurd (omega (arith, e, positive))
 some_count (Some m) n e positive = ap (λ (k : ℕ). Some k) (sym e)
 
@@ -119,7 +119,7 @@ passes_head limits buffer old now new count n rest at read n_is positive words_i
 pub held_idle : (p : Progress) (buffer : List ℕ) → p.left ≡ 0 → held_bytes p buffer ≡ drop p.start buffer
 held_idle p buffer idle = ap (λ (k : ℕ). part_text (words_of p) k ++ drop p.start buffer) idle
 
-held_is : (p : Progress) (buffer : List ℕ) → 0 < p.left → held_bytes p buffer ≡ head_text (length (words_of p) + p.left) ++ (words_text (words_of p) ++ drop p.start buffer)
+pub held_is : (p : Progress) (buffer : List ℕ) → 0 < p.left → held_bytes p buffer ≡ head_text (length (words_of p) + p.left) ++ (words_text (words_of p) ++ drop p.start buffer)
 held_is p buffer lacking =
     ap (λ (t : List ℕ). t ++ drop p.start buffer) (part_is (words_of p) p.left lacking) ∙ append_assoc (head_text (length (words_of p) + p.left)) (words_text (words_of p)) (drop p.start buffer)
 

@@ -5,10 +5,10 @@ use Rattle.std.proofs.lemmas.List.{append-nil, length-append}
 use Rattle.std.proofs.lemmas.List.Concat.{flat_map-append}
 use Rattle.resp_decoder.specs.declared.fault.Fault.{Fault}
 use Rattle.resp_decoder.specs.declared.limits.Limits.{Limits}
-use Rattle.resp_decoder.specs.declared.reading.Stop.{Stop}
-use Rattle.resp_decoder.specs.declared.reading.Stop.TheVariants.{Open, Bad}
-use Rattle.resp_decoder.specs.Texts.{Marked, bytes, Item, item_marks, item_text, IsLawful, answered, Stream, IsOpenIn, IsFaultIn, IsOpen, IsFault, Ends, IsReading}
-use Rattle.resp_decoder.specs.Reading.{Reading, byte_at, head_at, item_at}
+use Rattle.resp_decoder.specs.declared.parsing.Stop.{Stop}
+use Rattle.resp_decoder.specs.declared.parsing.Stop.TheVariants.{Open, Bad}
+use Rattle.resp_decoder.specs.Texts.{Marked, bytes, Item, item_marks, item_text, IsLawful, requests_of, Stream, IsOpenIn, IsFaultIn, IsOpen, IsFault, Ends, Decodes}
+use Rattle.resp_decoder.specs.Parsing.{Parsed, byte_at, head_at, item_at}
 use Rattle.resp_decoder.proofs.Formats.{Reads, split, same_front, no_shorter, bytes-append}
 use Rattle.resp_decoder.proofs.Bytes.{stopped}
 use Rattle.resp_decoder.proofs.Items.{item_reads}
@@ -32,7 +32,7 @@ no_text lawful marks b fault f value h rest e =
 open_text : {A : Type 0} (lawful : A → Type 0) (marks : A → Marked) (b : List ℕ) → (o : IsOpenIn lawful marks b) → bytes (marks o.value) ≡ b ++ o.next.0 ∷ bytes o.after
 open_text lawful marks b o = ap bytes o.text ∙ bytes-append o.before (o.next ∷ o.after) ∙ ap (λ (t : List ℕ). t ++ o.next.0 ∷ bytes o.after) (sym o.split)
 
-pub open_is : {A : Type 0} (r : List ℕ → Reading A) (lawful : A → Type 0) (marks : A → Marked) → Reads r lawful marks → (b : List ℕ) → IsOpenIn lawful marks b → r b ≡ Err Open
+pub open_is : {A : Type 0} (r : List ℕ → Parsed A) (lawful : A → Type 0) (marks : A → Marked) → Reads r lawful marks → (b : List ℕ) → IsOpenIn lawful marks b → r b ≡ Err Open
 open_is {A} r lawful marks reads b o =
     elim (result_cases (r b)) [
       | inl x ↦
@@ -47,7 +47,7 @@ open_is {A} r lawful marks reads b o =
     ]
 
 -- one place, and so one fault
-same_fault : {A : Type 0} (r : List ℕ → Reading A) (lawful : A → Type 0) (marks : A → Marked) → Reads r lawful marks → (b : List ℕ) (fault fault' : Fault) → IsFaultIn lawful marks b fault → IsFaultIn lawful marks b fault' → fault ≡ fault'
+same_fault : {A : Type 0} (r : List ℕ → Parsed A) (lawful : A → Type 0) (marks : A → Marked) → Reads r lawful marks → (b : List ℕ) (fault fault' : Fault) → IsFaultIn lawful marks b fault → IsFaultIn lawful marks b fault' → fault ≡ fault'
 same_fault {A} r lawful marks reads b fault fault' f g =
     let text_f : bytes (marks f.value) ≡ bytes f.before ++ f.byte ∷ bytes f.after = ap bytes f.text ∙ bytes-append f.before ((f.byte, fault) ∷ f.after) in
     let text_g : bytes (marks g.value) ≡ bytes g.before ++ g.byte ∷ bytes g.after = ap bytes g.text ∙ bytes-append g.before ((g.byte, fault') ∷ g.after) in
@@ -65,7 +65,7 @@ same_fault {A} r lawful marks reads b fault fault' f g =
           ] p.1 p.2
     ]
 
-pub fault_is : {A : Type 0} (r : List ℕ → Reading A) (lawful : A → Type 0) (marks : A → Marked) → Reads r lawful marks → (b : List ℕ) (fault : Fault) → IsFaultIn lawful marks b fault → r b ≡ Err (Bad fault)
+pub fault_is : {A : Type 0} (r : List ℕ → Parsed A) (lawful : A → Type 0) (marks : A → Marked) → Reads r lawful marks → (b : List ℕ) (fault : Fault) → IsFaultIn lawful marks b fault → r b ≡ Err (Bad fault)
 fault_is {A} r lawful marks reads b fault f =
     elim (result_cases (r b)) [
       | inl x ↦
@@ -132,15 +132,15 @@ pub ends_from : (limits : Limits) (rest : List ℕ) (fault : Option Fault) → i
 ends_from limits rest None e = (item_reads limits).part rest e
 ends_from limits rest (Some fault) e = (item_reads limits).bad rest fault e
 
-pub one_reading : (limits : Limits) (stream : List ℕ) (list list' : List (List (List ℕ))) (rest rest' : List ℕ) (fault fault' : Option Fault)
+pub one_decoding : (limits : Limits) (stream : List ℕ) (list list' : List (List (List ℕ))) (rest rest' : List ℕ) (fault fault' : Option Fault)
     → Stream limits stream list rest → Ends limits rest fault → Stream limits stream list' rest' → Ends limits rest' fault' → (list ≡ list') × (rest ≡ rest') × (fault ≡ fault')
-one_reading limits stream list list' rest rest' fault fault' s ends s' ends' =
+one_decoding limits stream list list' rest rest' fault fault' s ends s' ends' =
     let stop = ends_is limits rest fault ends in
     let stop' = ends_is limits rest' fault' ends' in
     let same = same_items limits s.items s'.items rest rest' s.lawful s'.lawful (ending fault, stop) (ending fault', stop') (sym s.whole ∙ s'.whole) in
     let faults : stopped {A = Item × List ℕ} (ending fault) ≡ stopped (ending fault') = sym stop ∙ ap (item_at limits) same.1 ∙ stop' in
     let endings : ending fault ≡ ending fault' = cc in
-    (s.answers ∙ ap (λ (items : List Item). flat_map answered items) same.0 ∙ sym s'.answers, same.1, ending_is fault fault' endings)
+    (s.requests_are ∙ ap (λ (items : List Item). flat_map requests_of items) same.0 ∙ sym s'.requests_are, same.1, ending_is fault fault' endings)
 
 pub one_fault : (limits : Limits) (rest : List ℕ) (fault fault' : Fault) → IsFault limits rest fault → IsFault limits rest fault' → fault ≡ fault'
 one_fault limits rest fault fault' f g = same_fault (item_at limits) (IsLawful limits) item_marks (item_reads limits) rest fault fault' f g
@@ -148,7 +148,7 @@ one_fault limits rest fault fault' f g = same_fault (item_at limits) (IsLawful l
 -- ---- streams join
 
 pub stream_none : (limits : Limits) (b : List ℕ) → Stream limits b [] b
-stream_none limits b = record { items = []; lawful = tt; whole = refl; answers = refl }
+stream_none limits b = record { items = []; lawful = tt; whole = refl; requests_are = refl }
 
 all-append : (limits : Limits) (xs ys : List Item) → AllByRecursion (IsLawful limits) xs → AllByRecursion (IsLawful limits) ys → AllByRecursion (IsLawful limits) (xs ++ ys)
 all-append limits [] ys h k = k
@@ -159,16 +159,16 @@ stream_then limits b list list' mid rest s t = record {
   items = s.items ++ t.items;
   lawful = all-append limits s.items t.items s.lawful t.lawful;
   whole = s.whole ∙ ap (λ (w : List ℕ). flat_map item_text s.items ++ w) t.whole ∙ sym (append_assoc (flat_map item_text s.items) (flat_map item_text t.items) rest) ∙ ap (λ (w : List ℕ). w ++ rest) (sym (flat_map-append item_text s.items t.items));
-  answers = ap (λ (w : List (List (List ℕ))). w ++ list') s.answers ∙ ap (λ (w : List (List (List ℕ))). flat_map answered s.items ++ w) t.answers ∙ sym (flat_map-append answered s.items t.items);
+  requests_are = ap (λ (w : List (List (List ℕ))). w ++ list') s.requests_are ∙ ap (λ (w : List (List (List ℕ))). flat_map requests_of s.items ++ w) t.requests_are ∙ sym (flat_map-append requests_of s.items t.items);
 }
 
 -- one item
-pub stream_one : (limits : Limits) (item : Item) (rest : List ℕ) → IsLawful limits item → Stream limits (item_text item ++ rest) (answered item) rest
+pub stream_one : (limits : Limits) (item : Item) (rest : List ℕ) → IsLawful limits item → Stream limits (item_text item ++ rest) (requests_of item) rest
 stream_one limits item rest h = record {
   items = item ∷ [];
   lawful = (h, tt);
   whole = ap (λ (w : List ℕ). w ++ rest) (sym (append-nil (item_text item)));
-  answers = sym (append-nil (answered item));
+  requests_are = sym (append-nil (requests_of item));
 }
 
 -- what comes behind stays behind
@@ -177,7 +177,7 @@ stream_more limits b list rest more s = record {
   items = s.items;
   lawful = s.lawful;
   whole = ap (λ (w : List ℕ). w ++ more) s.whole ∙ append_assoc (flat_map item_text s.items) rest more;
-  answers = s.answers;
+  requests_are = s.requests_are;
 }
 
 -- the same fault stands in a longer rest
@@ -222,24 +222,24 @@ ending-stop_fault : (stop : Stop) → ending (stop_fault stop) ≡ stop
 ending-stop_fault Open = refl
 ending-stop_fault (Bad fault) = refl
 
-abbrev SomeReading : Limits → List ℕ → Type 0
-SomeReading limits stream = (requests : List (List (List ℕ))) × (fault : Option Fault) × IsReading limits stream requests fault
+abbrev SomeDecoding : Limits → List ℕ → Type 0
+SomeDecoding limits stream = (requests : List (List (List ℕ))) × (fault : Option Fault) × Decodes limits stream requests fault
 
-reading_within : (limits : Limits) (n : ℕ) (stream : List ℕ) → length stream < n → SomeReading limits stream
-reading_within limits zero stream within = absurd (omega arith)
-reading_within limits (suc n) stream within =
+decoding_within : (limits : Limits) (n : ℕ) (stream : List ℕ) → length stream < n → SomeDecoding limits stream
+decoding_within limits zero stream within = absurd (omega arith)
+decoding_within limits (suc n) stream within =
     elim (result_cases (item_at limits stream)) [
       | inl x ↦
           let g = (item_reads limits).got stream x.0 x.1 in
           let shorter = item_shorter limits stream x.0 x.1 in
-          let others = reading_within limits n x.0.1 (omega arith) in
-          let first = subst (λ (w : List ℕ). Stream limits w (answered x.0.0) x.0.1) (sym g.1) (stream_one limits x.0.0 x.0.1 g.0) in
-          (answered x.0.0 ++ others.0, others.1, (others.2.0, stream_then limits stream (answered x.0.0) others.0 x.0.1 others.2.0 first others.2.1, others.2.2))
+          let others = decoding_within limits n x.0.1 (omega arith) in
+          let first = subst (λ (w : List ℕ). Stream limits w (requests_of x.0.0) x.0.1) (sym g.1) (stream_one limits x.0.0 x.0.1 g.0) in
+          (requests_of x.0.0 ++ others.0, others.1, (others.2.0, stream_then limits stream (requests_of x.0.0) others.0 x.0.1 others.2.0 first others.2.1, others.2.2))
       | inr s ↦ ([], stop_fault s.0, (stream, stream_none limits stream, ends_from limits stream (stop_fault s.0) (s.1 ∙ ap (λ (t : Stop). Err t) (sym (ending-stop_fault s.0)))))
     ]
 
-pub some_reading : (limits : Limits) (stream : List ℕ) → (requests : List (List (List ℕ))) × (fault : Option Fault) × IsReading limits stream requests fault
-some_reading limits stream = reading_within limits (suc (length stream)) stream (omega arith)
+pub some_decoding : (limits : Limits) (stream : List ℕ) → (requests : List (List (List ℕ))) × (fault : Option Fault) × Decodes limits stream requests fault
+some_decoding limits stream = decoding_within limits (suc (length stream)) stream (omega arith)
 
 pub open_no_fault : (limits : Limits) (rest : List ℕ) (fault : Fault) → IsOpen limits rest → IsFault limits rest fault → ⊥
 open_no_fault limits rest fault o f =

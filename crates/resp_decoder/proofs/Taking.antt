@@ -6,10 +6,10 @@ use Rattle.std.specs.Option.{is_some}
 use Rattle.std.specs.List.{flat_map}
 use Rattle.resp_decoder.specs.declared.fault.Fault.{Fault}
 use Rattle.resp_decoder.specs.declared.limits.Limits.{Limits}
-use Rattle.resp_decoder.specs.Texts.{item_text, IsLawful, answered, Stream, IsOpen, IsFault, Ends, IsReading}
+use Rattle.resp_decoder.specs.Texts.{item_text, IsLawful, requests_of, Stream, IsOpen, IsFault, Ends, Decodes}
 use Rattle.resp_decoder.specs.Decoding.{Held, with_bytes, nothing_held, fed, IsCause, TakesRequest, WaitsForMore, Fails}
 use Rattle.resp_decoder.specs.Pieces.{whole, TakesAll}
-use Rattle.resp_decoder.proofs.Streams.{stream_none, stream_then, stream_one, stream_more, fault_more, open_nothing, one_reading}
+use Rattle.resp_decoder.proofs.Streams.{stream_none, stream_then, stream_one, stream_more, fault_more, open_nothing, one_decoding}
 
 -- what holds before each request is taken
 pub record Taking (old : Held) (first : List (List (List ℕ))) (now : Held) (requests : List (List (List ℕ))) : Type 0 where
@@ -26,9 +26,9 @@ limits_same : (old now : Held) → now ≡ with_bytes old now.bytes → now.limi
 limits_same old now e = ap (λ (h : Held). h.limits) e
 
 -- a request with a name is one request
-one_answer : (words : List (List ℕ)) → 0 < length words → answered (Some words) ≡ words ∷ []
-one_answer [] positive = absurd (omega arith)
-one_answer (word ∷ words) positive = refl
+one_request : (words : List (List ℕ)) → 0 < length words → requests_of (Some words) ≡ words ∷ []
+one_request [] positive = absurd (omega arith)
+one_request (word ∷ words) positive = refl
 
 pub taking_more : (old : Held) (first : List (List (List ℕ))) (now : Held) (requests : List (List (List ℕ))) (words : List (List ℕ)) (new : Held) → Taking old first now requests → TakesRequest now words new
     → Taking old first new (requests ++ words ∷ [])
@@ -36,7 +36,7 @@ taking_more old first now requests words new t r =
     let limits = limits_same old now t.unchanged in
     let lawful = subst (λ (l : Limits). IsLawful l (Some words)) limits r.lawful in
     let front = subst (λ (l : Limits). Stream l now.bytes [] (item_text (Some words) ++ new.bytes)) limits r.front in
-    let one = subst (λ (list : List (List (List ℕ))). Stream old.limits (item_text (Some words) ++ new.bytes) list new.bytes) (one_answer words r.has_name) (stream_one old.limits (Some words) new.bytes lawful) in
+    let one = subst (λ (list : List (List (List ℕ))). Stream old.limits (item_text (Some words) ++ new.bytes) list new.bytes) (one_request words r.has_name) (stream_one old.limits (Some words) new.bytes lawful) in
     let both = stream_then old.limits now.bytes [] (words ∷ []) (item_text (Some words) ++ new.bytes) new.bytes front one in
     record {
       taken = t.taken ++ words ∷ [];
@@ -100,7 +100,7 @@ fed_without_fault limits so_far now requests piece new g e =
 
 -- what holds behind a piece
 pub record Behind (limits : Limits) (so_far : List ℕ) (requests : List (List (List ℕ))) (fault : Option Fault) (new : Held) : Type 0 where
-  pub reading : IsReading limits so_far requests fault
+  pub decodes : Decodes limits so_far requests fault
   pub goes_on : fault ≡ None → Gathered limits so_far new requests
 
 pub gathered_more : (limits : Limits) (so_far : List ℕ) (now : Held) (requests : List (List (List ℕ))) (piece : List ℕ) (mid new : Held) (list others : List (List (List ℕ))) (fault : Option Fault) → Gathered limits so_far now requests
@@ -115,7 +115,7 @@ gathered_more limits so_far now requests piece mid new list others fault g fed_i
     let stream : Stream limits (so_far ++ piece) others t.rest =
     subst (λ (r : List (List (List ℕ))). Stream limits (so_far ++ piece) r t.rest) (sym others_are) (stream_then limits (so_far ++ piece) requests list (now.bytes ++ piece) t.rest more taken) in
     record {
-      reading = (t.rest, stream, ends);
+      decodes = (t.rest, stream, ends);
       goes_on = λ none.
           let new_is : new ≡ with_bytes (nothing_held limits) t.rest = t.stays none ∙ ap (λ (h : Held). with_bytes h t.rest) mid_is in
           let rest_is : t.rest ≡ new.bytes = sym (ap (λ (h : Held). h.bytes) new_is) in
@@ -127,21 +127,21 @@ gathered_more limits so_far now requests piece mid new list others fault g fed_i
     }
 
 -- behind the last piece
-pub gathered_all : (limits : Limits) (so_far : List ℕ) (now : Held) (requests : List (List (List ℕ))) → Gathered limits so_far now requests → IsReading limits so_far requests None
+pub gathered_all : (limits : Limits) (so_far : List ℕ) (now : Held) (requests : List (List (List ℕ))) → Gathered limits so_far now requests → Decodes limits so_far requests None
 gathered_all limits so_far now requests g = (now.bytes, g.stream, g.rest_open)
 
 -- a fault stays where it is, whatever follows
-pub reading_more : (limits : Limits) (so_far more : List ℕ) (requests : List (List (List ℕ))) (fault : Option Fault) → true ≡ is_some fault → IsReading limits so_far requests fault → IsReading limits (so_far ++ more) requests fault
-reading_more limits so_far more requests None e r = absurd cc
-reading_more limits so_far more requests (Some fault) e r = (r.0 ++ more, stream_more limits so_far requests r.0 more r.1, fault_more limits r.0 more fault r.2)
+pub decoding_more : (limits : Limits) (so_far more : List ℕ) (requests : List (List (List ℕ))) (fault : Option Fault) → true ≡ is_some fault → Decodes limits so_far requests fault → Decodes limits (so_far ++ more) requests fault
+decoding_more limits so_far more requests None e r = absurd cc
+decoding_more limits so_far more requests (Some fault) e r = (r.0 ++ more, stream_more limits so_far requests r.0 more r.1, fault_more limits r.0 more fault r.2)
 
 pub none_from_test : (fault : Option Fault) → false ≡ is_some fault → fault ≡ None
 none_from_test None e = refl
 none_from_test (Some fault) e = absurd cc
 
-pub reading_only : (limits : Limits) (stream : List ℕ) (requests others : List (List (List ℕ))) (fault fault' : Option Fault) → IsReading limits stream requests fault → IsReading limits stream others fault' → (requests ≡ others) × (fault ≡ fault')
-reading_only limits stream requests others fault fault' r s =
-    let same = one_reading limits stream requests others r.0 s.0 fault fault' r.1 r.2 s.1 s.2 in
+pub decoding_only : (limits : Limits) (stream : List ℕ) (requests others : List (List (List ℕ))) (fault fault' : Option Fault) → Decodes limits stream requests fault → Decodes limits stream others fault' → (requests ≡ others) × (fault ≡ fault')
+decoding_only limits stream requests others fault fault' r s =
+    let same = one_decoding limits stream requests others r.0 s.0 fault fault' r.1 r.2 s.1 s.2 in
     (same.0, same.2)
 
 -- ---- the pieces of a stream

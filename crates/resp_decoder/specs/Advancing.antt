@@ -1,15 +1,16 @@
 -- How far the held bytes are read, and what reading on does.
-use Rattle.std.specs.Prelude.{◌≡◌, ◌≢◌, ℕ, ◌+◌, ◌<◌, ◌≤◌, List, [], ◌++◌, length, map, drop, Result, Ok, Err, Some}
+use Rattle.std.specs.Prelude.{◌≡◌, ◌≢◌, ℕ, zero, suc, vec_capacity, ◌+◌, ◌<◌, ◌≤◌, List, [], ◌++◌, length, map, drop, Result, Ok, Err, Some}
 use Rattle.std.specs.List.{AllByRecursion}
 use Rattle.resp_decoder.specs.declared.fault.Fault.{Fault}
 use Rattle.resp_decoder.specs.declared.fault.Fault.TheVariants.{Memory}
 use Rattle.resp_decoder.specs.declared.limits.Limits.{Limits}
-use Rattle.resp_decoder.specs.declared.reading.Stop.{Stop}
-use Rattle.resp_decoder.specs.declared.reading.Stop.TheVariants.{Open, Bad}
+use Rattle.resp_decoder.specs.declared.parsing.Stop.{Stop}
+use Rattle.resp_decoder.specs.declared.parsing.Stop.TheVariants.{Open, Bad}
 use Rattle.resp_decoder.specs.declared.progress.Progress.{Progress}
-use Rattle.resp_decoder.specs.Texts.{item_text, IsShort, IsLawful, Stream, IsOpen, IsFault}
-use Rattle.resp_decoder.specs.Parts.{words_text, part_text}
-use Rattle.resp_decoder.specs.Reading.{head_at, word_at}
+use Rattle.resp_decoder.specs.declared.progress.TheConstants.{FIRST_WORDS}
+use Rattle.resp_decoder.specs.Texts.{bytes, word_marks, item_text, IsShort, IsLawful, Stream, IsOpen, IsFault}
+use Rattle.resp_decoder.specs.Parts.{head_text, words_text, part_text}
+use Rattle.resp_decoder.specs.Parsing.{head_at, word_at}
 
 -- the words that have come of the open request
 abbrev pub words_of : Progress → List (List ℕ)
@@ -26,6 +27,34 @@ pub record IsSound (limits : Limits) (p : Progress) (buffer : List ℕ) : Type 0
   pub short : AllByRecursion (IsShort limits) (words_of p)
   pub idle : p.left ≡ 0 → words_of p ≡ []
 
+-- a count alone takes little room: no more than that for its first words is taken before one of them has come
+abbrev pub TakesLittle : Progress → Type 0
+TakesLittle p = words_of p ≡ [] → vec_capacity p.words ≤ FIRST_WORDS
+
+-- ---- where memory may be wanted
+
+-- empty requests, and then the head of a request that has words
+pub record StandsHead (limits : Limits) (unread : List ℕ) : Type 0 where
+  pub rest : List ℕ
+  pub front : Stream limits unread [] rest
+  pub count : ℕ
+  pub some : 0 < count
+  pub lawful : count ≤ limits.words
+  pub more : List ℕ
+  pub text : rest ≡ head_text count ++ more
+
+-- a whole word
+pub record StandsWord (limits : Limits) (unread : List ℕ) : Type 0 where
+  pub word : List ℕ
+  pub short : IsShort limits word
+  pub more : List ℕ
+  pub text : unread ≡ bytes (word_marks word) ++ more
+
+-- a whole head stands at the place of reading, or, where the open request lacks words, a whole word
+abbrev pub WantsMemory : Limits → List ℕ → ℕ → Type 0
+WantsMemory limits unread zero = StandsHead limits unread
+WantsMemory limits unread (suc left) = StandsWord limits unread
+
 -- ---- the head of a request
 
 -- Empty requests were dropped, and then a count that is not 0 was read.
@@ -40,6 +69,7 @@ pub record BeginsNone (limits : Limits) (buffer : List ℕ) (old new : Progress)
   pub idle : new.left ≡ 0
   pub front : Stream limits (drop old.start buffer) [] (drop new.start buffer)
   pub why : stop ≢ Bad Memory → head_at limits.words (drop new.start buffer) ≡ Err stop
+  pub wants : stop ≡ Bad Memory → StandsHead limits (drop old.start buffer)
 
 abbrev pub Begins : {X : Type 0} → Limits → List ℕ → Progress → Progress → Result X Stop → Type 0
 Begins limits buffer old new (Ok x) = BeginsRequest limits buffer old new
@@ -55,7 +85,9 @@ pub record Moves (buffer : List ℕ) (old new : Progress) : Type 0 where
 
 -- why no more words were read
 abbrev pub Lacks : ℕ → List ℕ → Progress → Stop → Type 0
-Lacks bulk buffer new stop = (0 < new.left) × (stop ≢ Bad Memory → word_at bulk (drop new.start buffer) ≡ Err stop)
+Lacks bulk buffer new stop =
+    (0 < new.left) × (stop ≢ Bad Memory → word_at bulk (drop new.start buffer) ≡ Err stop)
+    × (stop ≡ Bad Memory → (read : List ℕ × List ℕ) × (word_at bulk (drop new.start buffer) ≡ Ok read))
 
 abbrev pub Fills : {X : Type 0} → ℕ → List ℕ → Progress → Result X Stop → Type 0
 Fills bulk buffer new (Ok x) = new.left ≡ 0

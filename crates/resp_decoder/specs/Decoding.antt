@@ -1,17 +1,32 @@
 -- What contracts see of a decoder, and what its calls do to it.
-use Rattle.std.specs.Prelude.{◌≡◌, ◌≢◌, ℕ, ◌<◌, List, [], ◌++◌, length, Option, Some, None, IsSome}
+use Rattle.std.specs.Global.{Vec}
+use Rattle.std.specs.Prelude.{◌≡◌, ◌≢◌, ℕ, ◌<◌, List, [], ◌++◌, length, drop, vec_capacity, Option, Some, None, IsSome}
 use Rattle.resp_decoder.specs.declared.fault.Fault.{Fault}
 use Rattle.resp_decoder.specs.declared.fault.Fault.TheVariants.{Memory}
 use Rattle.resp_decoder.specs.declared.limits.Limits.{Limits}
 use Rattle.resp_decoder.specs.declared.progress.Progress.{Progress}
 use Rattle.resp_decoder.specs.Texts.{item_text, IsLawful, Stream, IsOpen, IsFault}
-use Rattle.resp_decoder.specs.Advancing.{held_bytes, IsSound}
+use Rattle.resp_decoder.specs.Advancing.{words_of, held_bytes, IsSound, TakesLittle}
 
 -- the limits, the bytes that were fed and neither handed out nor dropped, and the fault that was answered
 pub record Held : Type 0 where
   pub limits : Limits
   pub bytes : List ℕ
   pub fault : Option Fault
+
+-- what contracts see of a decoder: what it holds, how far that is read, and what it takes in memory
+pub record DecoderView : Type 0 where
+  pub held : Held
+  -- the last of the held bytes, those that are not read yet
+  pub unread : List ℕ
+  -- how many words have come of the open request, and how many it lacks; none of both where no request is open
+  pub come : ℕ
+  pub lacking : ℕ
+  -- how many bytes the buffer has, those that are done with too, and how many it has room for
+  pub buffered : ℕ
+  pub room : ℕ
+  -- for how many words of the open request there is room
+  pub word_room : ℕ
 
 -- a new decoder
 abbrev pub nothing_held : Limits → Held
@@ -36,7 +51,8 @@ pub record TakesRequest (old : Held) (words : List (List ℕ)) (new : Held) : Ty
   pub front : Stream old.limits old.bytes [] (item_text (Some words) ++ new.bytes)
   pub unchanged : new ≡ with_bytes old new.bytes
 
--- The held bytes were empty requests and then an open rest, perhaps empty. The rest alone stays, and nothing else changes.
+-- The held bytes were empty requests and then an open rest, perhaps empty. The rest alone stays, and nothing else
+-- changes.
 pub record WaitsForMore (old new : Held) : Type 0 where
   pub no_fault : old.fault ≡ None
   pub front : Stream old.limits old.bytes [] new.bytes
@@ -63,7 +79,20 @@ pub record KeepsAll (old new : Held) : Type 0 where
 
 -- ---- what the fields of a decoder keep
 
-pub record IsKept (limits : Limits) (progress : Progress) (buffer : List ℕ) (fault : Option Fault) : Type 0 where
+abbrev pub view_of : Limits → Progress → Vec ℕ → Option Fault → DecoderView
+view_of limits progress buffer fault = record {
+  held = record { limits = limits; bytes = held_bytes progress buffer.items; fault = fault };
+  unread = drop progress.start buffer.items;
+  come = length (words_of progress);
+  lacking = progress.left;
+  buffered = length buffer.items;
+  room = vec_capacity buffer;
+  word_room = vec_capacity progress.words;
+}
+
+pub record DecoderInvariant (limits : Limits) (progress : Progress) (buffer : List ℕ) (fault : Option Fault) : Type 0 where
   pub sound : IsSound limits progress buffer
+  pub little : TakesLittle progress
   pub lasting : fault ≢ Some Memory
   pub spent : IsSome fault → held_bytes progress buffer ≡ []
+  pub freed : IsSome fault → buffer ≡ []

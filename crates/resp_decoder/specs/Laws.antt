@@ -5,11 +5,12 @@ use Rattle.resp.specs.Text.{crlf}
 use Rattle.resp_decoder.specs.declared.fault.Fault.{Fault}
 use Rattle.resp_decoder.specs.declared.fault.Fault.TheVariants.{ExpectedStar, ExpectedDollar, BadLength, ExpectedCrlf}
 use Rattle.resp_decoder.specs.declared.limits.Limits.{Limits}
-use Rattle.resp_decoder.specs.Texts.{item_text, Stream, IsOpen, IsFault, Ends, IsReading}
+use Rattle.resp_decoder.specs.declared.limits.TheConstants.{DEFAULT_WORDS, DEFAULT_BULK}
+use Rattle.resp_decoder.specs.Texts.{item_text, Stream, IsOpen, IsFault, Ends, Decodes}
 
 -- two readings of one stream agree in their requests, their rest and their fault
-abbrev pub ReadingsAgree : Type 0
-ReadingsAgree =
+abbrev pub DecodingsAgree : Type 0
+DecodingsAgree =
     (limits : Limits) (stream : List ℕ) (requests others : List (List (List ℕ))) (rest rest' : List ℕ)
     (fault fault' : Option Fault)
     → Stream limits stream requests rest → Ends limits rest fault
@@ -17,10 +18,10 @@ ReadingsAgree =
     → (requests ≡ others) × (rest ≡ rest') × (fault ≡ fault')
 
 -- any bytes are a stream of requests up to an open rest or one with a fault
-abbrev pub EachStreamIsRead : Type 0
-EachStreamIsRead =
+abbrev pub EachStreamDecodes : Type 0
+EachStreamDecodes =
     (limits : Limits) (stream : List ℕ)
-    → (requests : List (List (List ℕ))) × (fault : Option Fault) × IsReading limits stream requests fault
+    → (requests : List (List (List ℕ))) × (fault : Option Fault) × Decodes limits stream requests fault
 
 -- one fault at most stands in a rest
 abbrev pub FaultsAgree : Type 0
@@ -48,7 +49,7 @@ KnownTexts =
     × (item_text (Some []) ≡ lines (codes "*0" ∷ []))
     × (item_text None ≡ lines (codes "*-1" ∷ []))
 
--- the faults of known bytes, where a request has at most 1,048,576 words of 536,870,912 bytes
+-- the faults of known bytes under the limits that Redis has by default
 abbrev pub KnownFaultsOf : Limits → Type 0
 KnownFaultsOf limits =
     IsFault limits (lines (codes "*1" ∷ codes "$03" ∷ codes "GET" ∷ [])) BadLength
@@ -58,4 +59,4 @@ KnownFaultsOf limits =
     × IsFault limits (lines (codes "*1" ∷ codes "$4" ∷ []) ++ codes "PINGxx") ExpectedCrlf
 
 abbrev pub KnownFaults : Type 0
-KnownFaults = (limits : Limits) → limits.words ≡ 1048576 → limits.bulk ≡ 536870912 → KnownFaultsOf limits
+KnownFaults = (limits : Limits) → limits.words ≡ DEFAULT_WORDS → limits.bulk ≡ DEFAULT_BULK → KnownFaultsOf limits

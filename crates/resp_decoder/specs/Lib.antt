@@ -1,6 +1,6 @@
 pub mod Texts
 pub mod Parts
-pub mod Reading
+pub mod Parsing
 pub mod Advancing
 pub mod Decoding
 pub mod Laws

@@ -3,6 +3,7 @@
 use Rattle.std.specs.Prelude.{◌≡◌, ℕ, ◌≤◌, List, [], ◌∷◌, ◌++◌, length, map, Option, Some, None}
 use Rattle.std.specs.List.{flat_map, AllByRecursion}
 use Rattle.std.specs.Fmt.{decimal}
+use Rattle.resp.specs.Ascii.{dollar, asterisk, minus, digit_one}
 use Rattle.resp.specs.Text.{crlf}
 use Rattle.resp_decoder.specs.declared.fault.Fault.{Fault}
 use Rattle.resp_decoder.specs.declared.fault.Fault.TheVariants.{ExpectedStar, ExpectedDollar, BadLength, ExpectedCrlf}
@@ -23,9 +24,10 @@ bytes marks = map (λ m. m.0) marks
 abbrev pub number_marks : ℕ → Marked
 number_marks n = mark BadLength (decimal n ++ crlf)
 
--- `$`, the length, and the word on a line of its own. Every byte is right within a word: the mark of its bytes says nothing.
+-- `$`, the length, and the word on a line of its own. Every byte is right within a word: the mark of its bytes says
+-- nothing.
 abbrev pub word_marks : List ℕ → Marked
-word_marks word = (36, ExpectedDollar) ∷ (number_marks (length word) ++ mark ExpectedCrlf (word ++ crlf))
+word_marks word = (dollar, ExpectedDollar) ∷ (number_marks (length word) ++ mark ExpectedCrlf (word ++ crlf))
 
 -- what stands between two requests' beginnings: a request's words, or none where its count is written -1
 abbrev pub Item : Type 0
@@ -33,8 +35,8 @@ Item = Option (List (List ℕ))
 
 -- `*`, the count, and the words; or `*-1`
 abbrev pub item_marks : Item → Marked
-item_marks None = (42, ExpectedStar) ∷ mark BadLength (45 ∷ 49 ∷ crlf)
-item_marks (Some words) = (42, ExpectedStar) ∷ (number_marks (length words) ++ flat_map word_marks words)
+item_marks None = (asterisk, ExpectedStar) ∷ mark BadLength (minus ∷ digit_one ∷ crlf)
+item_marks (Some words) = (asterisk, ExpectedStar) ∷ (number_marks (length words) ++ flat_map word_marks words)
 
 abbrev pub item_text : Item → List ℕ
 item_text item = bytes (item_marks item)
@@ -51,17 +53,17 @@ IsLawful limits (Some words) = (length words ≤ limits.words) × AllByRecursion
 -- ---- streams
 
 -- the requests that an item is: none where it has no words
-abbrev pub answered : Item → List (List (List ℕ))
-answered None = []
-answered (Some []) = []
-answered (Some (word ∷ words)) = (word ∷ words) ∷ []
+abbrev pub requests_of : Item → List (List (List ℕ))
+requests_of None = []
+requests_of (Some []) = []
+requests_of (Some (word ∷ words)) = (word ∷ words) ∷ []
 
 -- the stream is lawful texts, whose requests are these, and then the rest
 pub record Stream (limits : Limits) (stream : List ℕ) (requests : List (List (List ℕ))) (rest : List ℕ) : Type 0 where
   pub items : List Item
   pub lawful : AllByRecursion (IsLawful limits) items
   pub whole : stream ≡ flat_map item_text items ++ rest
-  pub answers : requests ≡ flat_map answered items
+  pub requests_are : requests ≡ flat_map requests_of items
 
 -- ---- the open rest and the fault, for any lawful values and their texts
 
@@ -103,5 +105,5 @@ Ends limits rest None = IsOpen limits rest
 Ends limits rest (Some fault) = IsFault limits rest fault
 
 -- the stream is these requests, and ends so
-abbrev pub IsReading : Limits → List ℕ → List (List (List ℕ)) → Option Fault → Type 0
-IsReading limits stream requests fault = (rest : List ℕ) × Stream limits stream requests rest × Ends limits rest fault
+abbrev pub Decodes : Limits → List ℕ → List (List (List ℕ)) → Option Fault → Type 0
+Decodes limits stream requests fault = (rest : List ℕ) × Stream limits stream requests rest × Ends limits rest fault

@@ -2,14 +2,14 @@
 //!
 //! The grammar is that of the RESP2 specification, in `specs/Texts.antt`. The serving loops call it.
 
-ghost use Rattle.std.specs.Prelude.{◌≡◌, ◌≢◌, ◌<◌, ◌↔◌, length};
+ghost use Rattle.std.specs.Prelude.{◌≡◌, ◌≢◌, ◌<◌, ◌≤◌, ◌+◌, ◌*◌, ◌↔◌, length};
 ghost use Rattle.std.specs.Prelude.{IsTrue, IsSome, IsOk, OnOk, OnErr, IfOk, IfErr, IfSome, IfNone};
 
-use crate::buffer::give_up_front;
+use crate::buffer::{KEPT_ROOM, give_up_front};
 use crate::fault::Fault;
 use crate::limits::Limits;
-use crate::progress::Progress;
-use crate::reading::Stop;
+use crate::parsing::Stop;
+use crate::progress::{FIRST_WORDS, Progress};
 use resp::Request;
 use std::alloc::{AllocError, Global};
 use std::marker::Model;
@@ -17,8 +17,8 @@ use std::mem;
 
 /// Takes bytes in pieces of any size and gives the requests that they are.
 ///
-/// Contracts see the limits, the bytes that were fed and neither handed out nor dropped, and the fault that was
-/// answered. However the input is cut, no byte is looked at a second time but those of a count or a length that has
+/// Contracts see the limits, the bytes that were fed and neither handed out nor dropped, the fault that was answered, how
+/// far the bytes are read, and what they take in memory. However the input is cut, no byte is looked at a second time but those of a count or a length that has
 /// come in part. What is held is bounded by the open request and one piece; a count or a length alone takes no room.
 #[derive(Drop)]
 pub struct Decoder {
@@ -29,24 +29,25 @@ pub struct Decoder {
 }
 
 impl Model for Decoder {
-    ghost use Rattle.resp_decoder.specs.Decoding.{Held, IsKept};
-    ghost use Rattle.resp_decoder.specs.Advancing.{held_bytes};
+    ghost use Rattle.resp_decoder.specs.Decoding.{DecoderView, DecoderInvariant, view_of};
 
-    ghost Value = { Held };
+    ghost Value = { DecoderView };
 
-    ghost view = { λ d. record { limits = d.limits; bytes = held_bytes d.progress d.buffer.items; fault = d.fault } };
+    ghost view = { λ d. view_of d.limits d.progress d.buffer d.fault };
 
-    ghost invariant = { λ d. IsKept d.limits d.progress d.buffer.items d.fault };
+    ghost invariant = { λ d. DecoderInvariant d.limits d.progress d.buffer.items d.fault };
 }
 
 impl Decoder {
     ghost use Rattle.resp_decoder.specs.declared.fault.Fault.TheVariants as faults;
     ghost use Rattle.resp_decoder.specs.Decoding.{nothing_held, fed, failed};
     ghost use Rattle.resp_decoder.specs.Decoding.{TakesRequest, WaitsForMore, Fails, KeepsAll};
+    ghost use Rattle.resp_decoder.specs.Advancing.{WantsMemory};
 
     /// A decoder that holds nothing.
     pub fn new(alloc: Global, limits: Limits) -> Self
-        ensures { result ≡ nothing_held limits }
+        ensures held { result.held ≡ nothing_held limits }
+        ensures no_room { result.room ≡ 0 }
     {
         Decoder {
             limits,
@@ -56,17 +57,25 @@ impl Decoder {
         }
     }
 
-    /// Appends a piece to the held bytes, or nothing where there is no memory. Behind a fault it answers `Ok` and
+    /// Appends a piece to the held bytes, or nothing where there is no memory. After a fault it answers `Ok` and
     /// keeps nothing.
     pub fn feed(&mut self, piece: &[u8]) -> Result<(), AllocError>
-        ensures ok { OnOk result (self.new ≡ fed self.old piece.now) }
-        ensures err { OnErr result (self.new ≡ self.old) }
-        ensures behind_fault { IsSome self.old.fault → IsOk result }
+        ensures ok { OnOk result (self.new.held ≡ fed self.old.held piece.now) }
+        ensures err { OnErr result (self.new.held ≡ self.old.held) }
+        ensures full { OnErr result (self.new.room < self.new.buffered + length piece.now) }
+
+        // Room up to `KEPT_ROOM` bytes is never given back, so it isn't given back in order to be refused.
+        ensures room { self.old.room ≤ KEPT_ROOM → self.old.room ≤ self.new.room }
+
+        // What is done with goes: with the piece the buffer has at most twice what was unread.
+        ensures bounded { OnOk result (self.new.buffered ≤ 2 * length self.old.unread + length piece.now) }
+        ensures after_fault { IsSome self.old.held.fault → IsOk result }
     {
         if self.fault.is_some() {
             return Ok(());
         }
         give_up_front(&mut self.buffer, &mut self.progress.start);
+        self.buffer.reserve(piece.len())?;
         self.buffer.extend_from_slice(piece)?;
         Ok(())
     }
@@ -76,10 +85,16 @@ impl Decoder {
     /// the held bytes as they were.
     #[allow(clippy::should_implement_trait)]
     pub fn next(&mut self) -> Result<Option<Request>, Fault>
-        ensures request { IfOk result (λ answer. IfSome answer (λ words. TakesRequest self.old words self.new)) }
-        ensures waits { IfOk result (λ answer. IfNone answer (WaitsForMore self.old self.new)) }
-        ensures fault { IfErr result (λ fault. fault ≢ faults.Memory → Fails self.old fault self.new) }
-        ensures memory { IfErr result (λ fault. fault ≡ faults.Memory → KeepsAll self.old self.new) }
+        ensures request { IfOk result (λ answer. IfSome answer (λ words.
+            TakesRequest self.old.held words self.new.held)) }
+        ensures waits { IfOk result (λ answer. IfNone answer (WaitsForMore self.old.held self.new.held)) }
+        ensures fault { IfErr result (λ fault. fault ≢ faults.Memory → Fails self.old.held fault self.new.held) }
+        ensures memory { IfErr result (λ fault. fault ≡ faults.Memory → KeepsAll self.old.held self.new.held) }
+        ensures wants { IfErr result (λ fault. fault ≡ faults.Memory
+            → WantsMemory self.new.held.limits self.new.unread self.new.lacking) }
+
+        // A count takes room for its first words at most, until one of them has come.
+        ensures count_alone { self.new.come ≡ 0 → self.new.word_room ≤ FIRST_WORDS }
     {
         if let Some(fault) = self.fault {
             return Err(fault);
@@ -101,9 +116,9 @@ impl Decoder {
         }
     }
 
-    /// Whether bytes are held. Behind a `next` that answered `None` these are the beginning of a request.
+    /// Whether bytes are held. After a `next` that answered `None` these are the beginning of a request.
     pub fn pending(&self) -> bool
-        ensures { IsTrue result ↔ (0 < length self.now.bytes) }
+        ensures { IsTrue result ↔ (0 < length self.now.held.bytes) }
     {
         self.progress.left > 0 || self.progress.start < self.buffer.len()
     }
@@ -111,7 +126,8 @@ impl Decoder {
     /// Keeps the fault, and gives all else up.
     fn fail(&mut self, fault: Fault)
         requires { fault ≢ faults.Memory }
-        ensures { self.new ≡ failed self.old fault }
+        ensures held { self.new.held ≡ failed self.old.held fault }
+        ensures count_alone { self.new.come ≡ 0 → self.new.word_room ≤ FIRST_WORDS }
     {
         let alloc = *self.buffer.allocator();
         self.buffer = Vec::new(alloc);

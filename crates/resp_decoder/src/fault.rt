@@ -2,7 +2,7 @@
 //!
 //! The texts are this project's own, in the form that RESP2 gives error replies.
 
-ghost use Rattle.std.specs.Prelude.{◌≡◌, ◌++◌, OnOk, OnErr};
+ghost use Rattle.std.specs.Prelude.{◌≡◌, ◌<◌, ◌+◌, ◌++◌, length, vec_len, vec_capacity, OnOk, OnErr};
 ghost use Rattle.resp_decoder.specs.FaultText.{fault_text};
 
 use std::alloc::AllocError;
@@ -29,10 +29,12 @@ pub enum Fault {
     Memory,
 }
 
-/// Appends the error line of a fault, which ends a connection. With `AllocError` `out` is as it was.
+/// Appends the error line of a fault, which ends a connection. With `AllocError`, where the room of `out` is less than the
+/// line needs and there is no memory for more, `out` is as it was.
 pub fn fault_line(fault: Fault, out: &mut Vec<u8>) -> Result<(), AllocError>
     ensures ok { OnOk result (out.new.items ≡ out.old.items ++ fault_text fault) }
     ensures err { OnErr result (out.new.items ≡ out.old.items) }
+    ensures full { OnErr result (vec_capacity out.old < vec_len out.old + length (fault_text fault)) }
 {
     match fault {
         Fault::ExpectedStar => out.extend_from_slice(b"-ERR Protocol error: expected '*'\r\n")?,

@@ -2,6 +2,12 @@
 
 ghost use Rattle.std.specs.Prelude.{◌<◌, ◌^◌};
 
+/// The greatest count of words that Redis allows by default.
+pub const DEFAULT_WORDS: u32 = 1_048_576;
+
+/// The greatest length of a word, in bytes, that Redis allows by default.
+pub const DEFAULT_BULK: u32 = 536_870_912;
+
 /// The largest count of words of a request, and the largest length of a word in bytes.
 #[derive(Clone, Copy, Debug, PartialEq, Eq)]
 pub struct Limits {
@@ -14,7 +20,7 @@ pub struct Limits {
 impl Limits {
     /// 1,048,576 words of 536,870,912 bytes, as Redis has by default.
     pub const DEFAULT: Limits = Limits {
-        words: 1_048_576,
-        bulk: 536_870_912,
+        words: DEFAULT_WORDS,
+        bulk: DEFAULT_BULK,
     };
 }

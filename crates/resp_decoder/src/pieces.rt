@@ -1,9 +1,8 @@
 //! A whole stream that comes in pieces. Its contract is the law that the requests and the fault don't depend on where a
 //! stream is cut; tests and tools read a stream by it.
 
-ghost use Rattle.std.specs.Prelude.{◌≡◌, ℕ, List, ◌++◌, Option, None, IfOk};
-ghost use Rattle.resp_decoder.specs.declared.fault.Fault.{Fault};
-ghost use Rattle.resp_decoder.specs.Texts.{IsReading};
+ghost use Rattle.std.specs.Prelude.{◌≡◌, ℕ, List, ◌++◌, None, IfOk};
+ghost use Rattle.resp_decoder.specs.Texts.{Decodes};
 ghost use Rattle.resp_decoder.specs.Pieces.{whole, TakesAll};
 
 use crate::decoder::Decoder;
@@ -21,13 +20,8 @@ pub struct Decoded {
 
 /// The requests and the fault of a stream that comes in these pieces. `AllocError` where there is no memory for them.
 pub fn decode_all(alloc: Global, limits: Limits, pieces: &[&[u8]]) -> Result<Decoded, AllocError>
-    // What is answered is a reading of the whole stream ..
-    ensures reading { IfOk result (λ decoded.
-        IsReading limits (whole pieces.now) decoded.requests.items decoded.fault) }
-    // .. and the only one, so it doesn't matter how the stream is cut into pieces.
-    ensures only { IfOk result (λ decoded. (requests : List (List (List ℕ))) (fault : Option Fault)
-        → IsReading limits (whole pieces.now) requests fault
-        → (decoded.requests.items ≡ requests) × (decoded.fault ≡ fault)) }
+    // The stream has no other reading (`one_decoding`), so it doesn't matter how it is cut into pieces.
+    ensures { IfOk result (λ decoded. Decodes limits (whole pieces.now) decoded.requests.items decoded.fault) }
 {
     let mut decoder = Decoder::new(alloc, limits);
     let mut requests = Vec::new(alloc);
@@ -46,9 +40,9 @@ pub fn decode_all(alloc: Global, limits: Limits, pieces: &[&[u8]]) -> Result<Dec
 
 /// Takes the requests that the decoder has, up to its fault if one stands there.
 fn take_all(decoder: &mut Decoder, requests: &mut Vec<Request>) -> Result<Option<Fault>, AllocError>
-    requires { decoder.old.fault ≡ None }
+    requires { decoder.old.held.fault ≡ None }
     ensures { IfOk result (λ fault. (list : List (List (List ℕ))) × (requests.new.items ≡ requests.old.items ++ list)
-        × TakesAll decoder.old list fault decoder.new) }
+        × TakesAll decoder.old.held list fault decoder.new.held) }
 {
     loop {
         match decoder.next() {

@@ -3,20 +3,21 @@
 //! The words of the open request are kept as they come, so that no word is looked at a second time. The grammar is that
 //! of the RESP2 specification; the decoder reads on by `advance`.
 
-ghost use Rattle.std.specs.Prelude.{◌≡◌, ◌<◌, ◌≤◌, ◌+◌, [], length, IsErrOf, OnErr};
+ghost use Rattle.std.specs.Prelude.{◌≡◌, ◌<◌, ◌≤◌, ◌+◌, [], length, drop, IsErrOf, OnErr};
 ghost use Rattle.std.specs.List.{AllByRecursion};
 ghost use Rattle.resp_decoder.specs.declared.fault.Fault.TheVariants as faults;
-ghost use Rattle.resp_decoder.specs.declared.reading.Stop.TheVariants as stops;
+ghost use Rattle.resp_decoder.specs.declared.parsing.Stop.TheVariants as stops;
 ghost use Rattle.resp_decoder.specs.Texts.{IsShort};
-ghost use Rattle.resp_decoder.specs.Advancing.{words_of, held_bytes, IsSound, Begins, Moves, Fills, Advances};
+ghost use Rattle.resp_decoder.specs.Advancing.{words_of, held_bytes, IsSound, TakesLittle, Begins, Moves, Fills};
+ghost use Rattle.resp_decoder.specs.Advancing.{Advances, WantsMemory, StandsHead};
 
 use crate::fault::Fault;
 use crate::limits::Limits;
-use crate::reading::{Stop, head_of, word_of};
+use crate::parsing::{Stop, head_of, word_of};
 use std::alloc::Global;
 
 /// The room that is taken for a request's words before they come. A count alone takes no more.
-const FIRST_WORDS: u64 = 16;
+pub const FIRST_WORDS: u64 = 16;
 
 /// How far a buffer is read. The bytes before `start` are done with; `words` have come of a request that lacks `left`
 /// more, and none is under way where `left` is 0.
@@ -32,6 +33,7 @@ impl Progress {
         ensures start { result.start ≡ 0 }
         ensures words { words_of result ≡ [] }
         ensures left { result.left ≡ 0 }
+        ensures little { TakesLittle result }
     {
         Progress {
             start: 0,
@@ -43,11 +45,15 @@ impl Progress {
     /// Reads on to the end of a request. It is whole at `Ok`; at `Err` its words have come as far as the buffer has
     /// them. Want of memory leaves the held bytes as they were.
     pub fn advance(&mut self, buffer: &[u8], limits: Limits) -> Result<(), Stop>
-        requires { IsSound limits self.old buffer.now }
+        requires sound { IsSound limits self.old buffer.now }
+        requires little { TakesLittle self.old }
         ensures reads { Advances limits buffer.now self.old self.new result }
         ensures sound { OnErr result (IsSound limits self.new buffer.now) }
         ensures memory { IsErrOf result (stops.Bad faults.Memory)
             → held_bytes self.new buffer.now ≡ held_bytes self.old buffer.now }
+        ensures wants { IsErrOf result (stops.Bad faults.Memory)
+            → WantsMemory limits (drop self.new.start buffer.now) self.new.left }
+        ensures little { TakesLittle self.new }
     {
         if self.left > 0 {
             return self.fill(buffer, limits.bulk);
@@ -66,7 +72,10 @@ impl Progress {
     fn begin_and_fill(&mut self, buffer: &[u8], limits: Limits) -> Result<(), Stop>
         requires sound { IsSound limits self.old buffer.now }
         requires idle { self.old.left ≡ 0 }
-        ensures { Advances limits buffer.now self.old self.new result }
+        requires little { TakesLittle self.old }
+        ensures reads { Advances limits buffer.now self.old self.new result }
+        ensures wants { IsErrOf result (stops.Bad faults.Memory) → StandsHead limits (drop self.old.start buffer.now) }
+        ensures little { TakesLittle self.new }
     {
         self.begin(buffer, limits)?;
         self.fill(buffer, limits.bulk)
@@ -76,13 +85,16 @@ impl Progress {
     fn begin(&mut self, buffer: &[u8], limits: Limits) -> Result<(), Stop>
         requires sound { IsSound limits self.old buffer.now }
         requires idle { self.old.left ≡ 0 }
-        ensures { Begins limits buffer.now self.old self.new result }
+        requires little { TakesLittle self.old }
+        ensures begins { Begins limits buffer.now self.old self.new result }
+        ensures little { TakesLittle self.new }
     {
+        let alloc = *self.words.allocator();
         loop {
             let (count, rest) = head_of(&buffer[self.start..], limits.words)?;
             let count = count.unwrap_or(0);
             if count > 0 {
-                self.words.reserve(count.min(FIRST_WORDS) as usize)?;
+                self.words = Vec::with_capacity(alloc, count.min(FIRST_WORDS) as usize)?;
                 self.start = buffer.len() - rest.len();
                 self.left = count;
                 return Ok(());
@@ -95,14 +107,18 @@ impl Progress {
     fn fill(&mut self, buffer: &[u8], bulk: u32) -> Result<(), Stop>
         requires fits { self.old.start ≤ length buffer.now }
         requires short { AllByRecursion (λ w. length w ≤ bulk) (words_of self.old) }
+        requires little { TakesLittle self.old }
         ensures moved { Moves buffer.now self.old self.new }
         ensures short { AllByRecursion (λ w. length w ≤ bulk) (words_of self.new) }
         ensures ended { Fills bulk buffer.now self.new result }
+        ensures little { TakesLittle self.new }
     {
         let alloc = *self.words.allocator();
         while self.left > 0 {
             let (word, rest) = word_of(&buffer[self.start..], bulk)?;
-            self.words.push(Vec::from_slice(alloc, word)?)?;
+            let copy = Vec::from_slice(alloc, word)?;
+            self.words.reserve(1)?;
+            self.words.push_reserved(copy);
             self.start = buffer.len() - rest.len();
             self.left -= 1;
         }
@@ -114,8 +130,9 @@ impl Progress {
         ensures start { self.new.start ≡ start }
         ensures words { words_of self.new ≡ [] }
         ensures left { self.new.left ≡ 0 }
+        ensures little { TakesLittle self.new }
     {
-        self.words.clear();
+        self.words = Vec::new(*self.words.allocator());
         self.left = 0;
         self.start = start;
     }

@@ -2,18 +2,7 @@ use super::*;
 use resp::Request;
 use std::alloc::{AllocError, Global};
 use std::test::Fail;
-
-/// The bytes of a row, in which `|` stands for CR LF.
-fn bytes(alloc: Global, row: &str) -> Result<Vec<u8>, AllocError> {
-    let mut out = Vec::new(alloc);
-    for b in row.as_bytes() {
-        match *b {
-            b'|' => out.extend_from_slice(b"\r\n")?,
-            b => out.push(b)?,
-        }
-    }
-    Ok(out)
-}
+use test_support::bytes_of;
 
 /// The words of each request in brackets, and the fault behind the requests.
 fn shown(alloc: Global, decoded: &Decoded) -> Result<Vec<u8>, AllocError> {
@@ -32,27 +21,31 @@ fn shown(alloc: Global, decoded: &Decoded) -> Result<Vec<u8>, AllocError> {
     Ok(out)
 }
 
+/// The bytes of a stream, its requests and the fault behind them.
+#[rattlefmt::skip]
+const ROWS: [(&str, &str); 16] = [
+    ("*1|$4|PiNG|", "[PiNG];"),
+    ("*3|$3|SET|$0||$0||", "[SET][][];"),
+    ("*0|*-1|*1|$4|PING|", "[PING];"),
+    ("*3|$3|SET|$1|a|$1|1|", "[SET][a][1];"),
+    ("*1|$4|PING|*1|$4|PI", "[PING];"),
+    ("*1048576|$1|a|", ""),
+    ("*1|$536870912|a", ""),
+    ("*1|$03|GET|", "invalid length"),
+    ("*1|$536870913", "invalid length"),
+    ("*1048577", "invalid length"),
+    ("*-2", "invalid length"),
+    ("*01", "invalid length"),
+    ("*+1", "invalid length"),
+    ("PING|", "expected '*'"),
+    ("*1|+PING|", "expected '$'"),
+    ("*1|$4|PING|*1|$4|PINGxx", "[PING];expected CRLF"),
+];
+
 #[test]
 fn reads_rows_wherever_they_are_cut(rt: HostRuntime) -> Result<(), Fail> {
-    for (row, want) in [
-        ("*1|$4|PiNG|", "[PiNG];"),
-        ("*3|$3|SET|$0||$0||", "[SET][][];"),
-        ("*0|*-1|*1|$4|PING|", "[PING];"),
-        ("*3|$3|SET|$1|a|$1|1|", "[SET][a][1];"),
-        ("*1|$4|PING|*1|$4|PI", "[PING];"),
-        ("*1048576|$1|a|", ""),
-        ("*1|$536870912|a", ""),
-        ("*1|$03|GET|", "invalid length"),
-        ("*1|$536870913", "invalid length"),
-        ("*1048577", "invalid length"),
-        ("*-2", "invalid length"),
-        ("*01", "invalid length"),
-        ("*+1", "invalid length"),
-        ("PING|", "expected '*'"),
-        ("*1|+PING|", "expected '$'"),
-        ("*1|$4|PING|*1|$4|PINGxx", "[PING];expected CRLF"),
-    ] {
-        let stream = bytes(rt.alloc(), row)?;
+    for (row, want) in ROWS {
+        let stream = bytes_of(rt.alloc(), row)?;
         for cut in 0..stream.len() {
             let pieces: &[&[u8]] = &[&stream[..cut], &stream[cut..]];
             let decoded = decode_all(rt.alloc(), Limits::DEFAULT, pieces)?;
@@ -67,30 +60,8 @@ fn reads_rows_wherever_they_are_cut(rt: HostRuntime) -> Result<(), Fail> {
 }
 
 #[test]
-fn keeps_to_small_limits(rt: HostRuntime) -> Result<(), Fail> {
-    let limits = Limits { words: 4, bulk: 8 };
-    for (row, want) in [
-        ("*4|", ""),
-        ("*5", "invalid length"),
-        ("*1|$8|", ""),
-        ("*1|$9", "invalid length"),
-        ("*1|$08", "invalid length"),
-    ] {
-        let stream = bytes(rt.alloc(), row)?;
-        let pieces: &[&[u8]] = &[stream.as_slice()];
-        let decoded = decode_all(rt.alloc(), limits, pieces)?;
-        assert_eq!(rt;
-            shown(rt.alloc(), &decoded)?.as_slice(),
-            want.as_bytes(),
-            "{row}"
-        );
-    }
-    Ok(())
-}
-
-#[test]
 fn waits_until_the_last_byte(rt: HostRuntime) -> Result<(), Fail> {
-    let stream = bytes(rt.alloc(), "*3|$3|SET|$1|a|$1|1|")?;
+    let stream = bytes_of(rt.alloc(), "*3|$3|SET|$1|a|$1|1|")?;
     let mut decoder = Decoder::new(rt.alloc(), Limits::DEFAULT);
     assert!(rt; !decoder.pending());
     for (i, b) in stream.iter().enumerate() {
@@ -104,20 +75,11 @@ fn waits_until_the_last_byte(rt: HostRuntime) -> Result<(), Fail> {
 }
 
 #[test]
-fn answers_a_fault_for_good(rt: HostRuntime) -> Result<(), Fail> {
-    let mut decoder = Decoder::new(rt.alloc(), Limits::DEFAULT);
-    decoder.feed(b"PING\r\n")?;
-    for _ in 0..3 {
-        assert_eq!(rt; decoder.next().err(), Some(Fault::ExpectedStar));
-        assert!(rt; !decoder.pending());
-        decoder.feed(b"*1\r\n$4\r\nPING\r\n")?;
-    }
-    let mut out = Vec::from_slice(rt.alloc(), b"+OK\r\n")?;
+fn appends_an_error_line(rt: HostRuntime) -> Result<(), Fail> {
+    let mut out = bytes_of(rt.alloc(), "+OK|")?;
     fault_line(Fault::ExpectedStar, &mut out)?;
-    assert_eq!(rt;
-        out.as_slice(),
-        b"+OK\r\n-ERR Protocol error: expected '*'\r\n".as_slice()
-    );
+    let want = bytes_of(rt.alloc(), "+OK|-ERR Protocol error: expected '*'|")?;
+    assert_eq!(rt; out.as_slice(), want.as_slice());
     Ok(())
 }
 
@@ -155,5 +117,25 @@ fn goes_on_where_memory_was_refused(rt: HostRuntime) -> Result<(), Fail> {
     let last = retried(&mut decoder)?;
     assert_eq!(rt; last.map(|request| request.len()), Some(1));
     assert!(rt; !decoder.pending());
+    Ok(())
+}
+
+#[test]
+fn reads_two_thousand_pieces_and_large_words(rt: HostRuntime) -> Result<(), Fail> {
+    let mut word = bytes_of(rt.alloc(), "*1|$2000000|")?;
+    for _ in 0..2000 {
+        word.extend_from_slice(&[b'x'; 1000])?;
+    }
+    word.extend_from_slice(b"\r\n")?;
+    let mut pieces: Vec<&[u8]> = Vec::new(rt.alloc());
+    for piece in word.chunks(1000) {
+        pieces.push(piece)?;
+    }
+    let decoded = decode_all(rt.alloc(), Limits::DEFAULT, &pieces)?;
+    assert_eq!(rt; decoded.fault, None);
+    assert_eq!(rt; decoded.requests.len(), 1);
+    for request in &decoded.requests {
+        assert_eq!(rt; request.word(0).len(), 2_000_000);
+    }
     Ok(())
 }

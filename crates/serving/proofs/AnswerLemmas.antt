@@ -5,7 +5,7 @@ use Rattle.std.proofs.lemmas.List.Concat.{flat_map-append}
 use Rattle.resp_decoder.specs.declared.limits.Limits.{Limits}
 use Rattle.resp_decoder.specs.Texts.{Stream, IsLawful, item_text}
 use Rattle.serving.specs.declared.door.DoorFault.TheVariants.{Ended}
-use Rattle.serving.specs.Answers.{Answer, answer_text, texts, Runs, GoesOn, EndsBy, Answered}
+use Rattle.serving.specs.Answers.{Answer, answer_text, answers_text, Runs, GoesOn, EndsBy, Answered}
 use Rattle.resp_decoder.proofs.Streams.{stream_none, stream_then, stream_more}
 use Rattle.serving.proofs.StreamLemmas.{stream_request}
 
@@ -30,8 +30,8 @@ EndsBy-append (Some reason) answers others p q = (
   AllByRecursion-append GoesOn answers q.0 p q.2,
 )
 
-pub texts-append : {Reason : Type 0} (answers others : List (Answer Reason)) → texts (answers ++ others) ≡ texts answers ++ texts others
-texts-append answers others = flat_map-append answer_text answers others
+pub answers_text-append : {Reason : Type 0} (answers others : List (Answer Reason)) → answers_text (answers ++ others) ≡ answers_text answers ++ answers_text others
+answers_text-append answers others = flat_map-append answer_text answers others
 
 module _ {S Reason : Type 0} (asks : S → List (List ℕ) → Answer Reason → S → Type 0) (limits : Limits) where
   -- nothing is asked yet

@@ -1,5 +1,5 @@
 -- Serving a connection, read by read.
-use Rattle.std.proofs.Common.{◌≡◌, ℕ, ◌<◌, List, [], ◌∷◌, ◌++◌, length, Option, None, Some, Ok, Err, Bool, true, false, IsTrue, ◌↔◌, take, refl, sym, ap, ◌∙◌, subst, append-nil, inl, arith}
+use Rattle.std.proofs.Common.{◌≡◌, ℕ, ◌<◌, ◌≤◌, List, [], ◌∷◌, ◌++◌, length, Option, None, Some, Ok, Err, Bool, true, false, IsTrue, ◌↔◌, take, refl, sym, ap, ◌∙◌, subst, append-nil, inl, arith}
 use Rattle.std.proofs.lemmas.Bool.{false≢true}
 use Rattle.std.specs.Io.KnownBytes.{Appends, Consumes, Keeps, IsAtEnd}
 use Rattle.std.proofs.KnownBytes.{Appends-nil, Consumes-trans, Consumes-nil, Consumes-kept}
@@ -7,14 +7,16 @@ use Rattle.resp_decoder.specs.declared.fault.Fault.{Fault}
 use Rattle.resp_decoder.specs.declared.limits.Limits.{Limits}
 use Rattle.resp_decoder.specs.Decoding.{Held, with_bytes, nothing_held, fed}
 use Rattle.resp_decoder.specs.FaultText.{fault_text}
-use Rattle.resp_decoder.specs.Texts.{IsOpen}
+use Rattle.resp_decoder.specs.Texts.{Stream, IsOpen}
 use Rattle.serving.specs.declared.outcome.Served.TheVariants.{End, Inside, Protocol}
 use Rattle.serving.specs.declared.outcome.ServeFault.{ServeFault}
-use Rattle.serving.specs.declared.outcome.ServeFault.TheVariants.{Read, Memory}
-use Rattle.serving.specs.Answers.{Answer, texts, Answered}
-use Rattle.serving.specs.Serves.{Serves}
+use Rattle.serving.specs.declared.outcome.ServeFault.TheVariants.{Read, Write, Memory, Door}
+use Rattle.serving.specs.declared.connection.TheConstants.{PIECE}
+use Rattle.serving.specs.Answers.{Answer, answers_text, Answered}
+use Rattle.serving.specs.Serves.{Serves, Remains}
 use Rattle.serving.specs.Gathers.{AnswersHeld}
 use Rattle.resp_decoder.proofs.Streams.{open_nothing}
+use Rattle.serving.proofs.StreamLemmas.{at_most_piece}
 use Rattle.serving.proofs.AnswerLemmas.{answered_start, answered_join, answered_fed}
 use Rattle.serving.proofs.WriteLemmas.{appends_texts, appends_all, breaks_behind}
 
@@ -36,7 +38,7 @@ pub record Serving {S Reason : Type 0} (asks : S → List (List ℕ) → Answer 
   pub answered : Answered asks limits read held.bytes s t None answers
   pub kept : held ≡ with_bytes (nothing_held limits) held.bytes
   pub rest_open : IsOpen limits held.bytes
-  pub written : Appends old now (texts answers)
+  pub written : Appends old now (answers_text answers)
 
 module _ {S Reason : Type 0} (asks : S → List (List ℕ) → Answer Reason → S → Type 0) (limits : Limits) (before old : Option (List ℕ)) (s : S) where
   pub serving_start : (held : Held) → held ≡ nothing_held limits → Serving asks limits before before old old s s held
@@ -74,7 +76,7 @@ module _ {S Reason : Type 0} (asks : S → List (List ℕ) → Answer Reason →
     consumed = p.consumed;
     answered = p.answered;
     tells = refl;
-    leaves = (p.rest_open, p.written);
+    leaves = (tt, (p.rest_open, p.written));
   }
 
   -- no memory before anything was read
@@ -87,8 +89,15 @@ module _ {S Reason : Type 0} (asks : S → List (List ℕ) → Answer Reason →
     consumed = Consumes-nil before;
     answered = answered_start asks limits [] s;
     tells = refl;
-    leaves = ([], inl refl, Appends-nil old);
+    leaves = (record { held = []; piece = []; whole = refl; held_open = open_nothing limits; short = omega arith }, ([], inl refl, Appends-nil old));
   }
+
+  remains : (fault : ServeFault Reason) (bytes piece rest : List ℕ) (requests : List (List (List ℕ)))
+      → Stream limits (bytes ++ piece) requests rest → IsOpen limits bytes → length piece ≤ PIECE → Remains limits rest fault
+  remains Read bytes piece rest requests p opened short = tt
+  remains Write bytes piece rest requests p opened short = tt
+  remains Memory bytes piece rest requests p opened short = at_most_piece limits bytes piece rest requests p opened short
+  remains (Door reason) bytes piece rest requests p opened short = tt
 
   -- the read took no byte
   read_none : (left after : Option (List ℕ)) (read buffer : List ℕ) (n : ℕ) → Consumes before left read → Consumes left after (take n buffer) → n ≡ 0 → Consumes before after read
@@ -130,8 +139,8 @@ module _ {S Reason : Type 0} (asks : S → List (List ℕ) → Answer Reason →
 
   -- a piece was read for which the decoder has no memory
   pub serves_unfed : (left after now : Option (List ℕ)) (t : S) (held : Held) (piece : List ℕ)
-      → Serving asks limits before left old now s t held → Consumes left after piece → Serves asks limits before after old now s t (Err Memory)
-  serves_unfed left after now t held piece p took = record {
+      → Serving asks limits before left old now s t held → Consumes left after piece → length piece ≤ PIECE → Serves asks limits before after old now s t (Err Memory)
+  serves_unfed left after now t held piece p took short = record {
     read = p.read ++ piece;
     rest = held.bytes ++ piece;
     answers = p.answers;
@@ -139,7 +148,10 @@ module _ {S Reason : Type 0} (asks : S → List (List ℕ) → Answer Reason →
     consumed = Consumes-trans before left after p.read piece p.consumed took;
     answered = answered_fed asks limits p.read held.bytes s t None p.answers piece p.answered;
     tells = refl;
-    leaves = (texts p.answers, inl refl, p.written);
+    leaves = (
+      record { held = held.bytes; piece = piece; whole = refl; held_open = p.rest_open; short = short },
+      (answers_text p.answers, inl refl, p.written),
+    );
   }
 
   -- the answers to a piece, behind those before it
@@ -197,8 +209,8 @@ module _ {S Reason : Type 0} (asks : S → List (List ℕ) → Answer Reason →
         }
 
     pub serves_broken : (fault : ServeFault Reason) → Serving asks limits before left old now s t held → Consumes left after piece → given ≡ fed held piece
-        → AnswersHeld asks given next t u now new (Err fault) → Serves asks limits before after old new s u (Err fault)
-    serves_broken fault p took e answers =
+        → AnswersHeld asks given next t u now new (Err fault) → length piece ≤ PIECE → Serves asks limits before after old new s u (Err fault)
+    serves_broken fault p took e answers short =
         let given_is = fed_to left now t held given piece p e in
         let q : AnswersHeld asks (with_bytes (nothing_held limits) (held.bytes ++ piece)) next t u now new (Err fault)
         = subst (λ (h : Held). AnswersHeld asks h next t u now new (Err fault)) given_is answers in
@@ -210,5 +222,8 @@ module _ {S Reason : Type 0} (asks : S → List (List ℕ) → Answer Reason →
           consumed = Consumes-trans before left after p.read piece p.consumed took;
           answered = joined left now t u held piece q.rest q.ended q.answers p q.answered;
           tells = q.tells;
-          leaves = breaks_behind limits q.rest old now new p.answers q.answers fault p.written q.empties;
+          leaves = (
+            remains fault held.bytes piece q.rest q.answered.requests q.answered.taken p.rest_open short,
+            breaks_behind limits q.rest old now new p.answers q.answers fault p.written q.empties,
+          );
         }

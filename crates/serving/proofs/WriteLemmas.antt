@@ -11,90 +11,110 @@ use Rattle.serving.specs.declared.gather.Pause.{Pause}
 use Rattle.serving.specs.declared.gather.Pause.TheVariants.{Full, Waits, Faulty, Starved, Closed}
 use Rattle.serving.specs.declared.outcome.ServeFault.{ServeFault}
 use Rattle.serving.specs.declared.outcome.ServeFault.TheVariants.{Read, Write, Memory, Door}
-use Rattle.serving.specs.Answers.{Answer, answer_text, texts, Answered}
-use Rattle.serving.specs.Serves.{IsAllOrAllButLast, IsBeginning, Breaks}
+use Rattle.serving.specs.Answers.{Answer, answer_text, answers_text, Answered}
+use Rattle.serving.specs.Serves.{IsAllOrAllButLast, IsBatch, IsLastLine, IsBeginning, Breaks}
 use Rattle.serving.specs.Sent.{AppendsPart}
 use Rattle.serving.specs.Gathers.{Pauses, Gathers, AnswersHeld, closed_by}
-use Rattle.serving.proofs.AnswerLemmas.{answered_start, answered_join, texts-append}
+use Rattle.serving.proofs.AnswerLemmas.{answered_start, answered_join, answers_text-append}
 
 -- texts that were written behind those of earlier answers
 pub appends_texts : {Reason : Type 0} (old mid new : Option (List ℕ)) (answers others : List (Answer Reason)) (line : List ℕ)
-    → Appends old mid (texts answers) → Appends mid new (texts others ++ line) → Appends old new (texts (answers ++ others) ++ line)
+    → Appends old mid (answers_text answers) → Appends mid new (answers_text others ++ line) → Appends old new (answers_text (answers ++ others) ++ line)
 appends_texts old mid new answers others line p q =
     subst (Appends old new)
-    (sym (append_assoc (texts answers) (texts others) line) ∙ ap (λ l. l ++ line) (sym (texts-append answers others)))
-    (Appends-trans old mid new (texts answers) (texts others ++ line) p q)
+    (sym (append_assoc (answers_text answers) (answers_text others) line) ∙ ap (λ l. l ++ line) (sym (answers_text-append answers others)))
+    (Appends-trans old mid new (answers_text answers) (answers_text others ++ line) p q)
 
 pub appends_all : {Reason : Type 0} (old mid new : Option (List ℕ)) (answers others : List (Answer Reason))
-    → Appends old mid (texts answers) → Appends mid new (texts others) → Appends old new (texts (answers ++ others))
+    → Appends old mid (answers_text answers) → Appends mid new (answers_text others) → Appends old new (answers_text (answers ++ others))
 appends_all old mid new answers others p q =
-    subst (Appends old new) (sym (texts-append answers others)) (Appends-trans old mid new (texts answers) (texts others) p q)
+    subst (Appends old new) (sym (answers_text-append answers others)) (Appends-trans old mid new (answers_text answers) (answers_text others) p q)
 
 -- all of the texts, or all but the last, behind earlier ones
 all_but_last_behind : {Reason : Type 0} (answers others : List (Answer Reason)) (text : List ℕ)
-    → IsAllOrAllButLast others text → IsAllOrAllButLast (answers ++ others) (texts answers ++ text)
+    → IsAllOrAllButLast others text → IsAllOrAllButLast (answers ++ others) (answers_text answers ++ text)
 all_but_last_behind {Reason} answers others text p =
-    elim p as (λ _. IsAllOrAllButLast (answers ++ others) (texts answers ++ text)) [
-      | inl all ↦ inl (ap (λ l. texts answers ++ l) all ∙ sym (texts-append answers others))
+    elim p as (λ _. IsAllOrAllButLast (answers ++ others) (answers_text answers ++ text)) [
+      | inl all ↦ inl (ap (λ l. answers_text answers ++ l) all ∙ sym (answers_text-append answers others))
       | inr w ↦ inr (
         answers ++ w.0,
         w.1,
         ap (λ l. answers ++ l) w.2 ∙ sym (append_assoc answers w.0 (w.1 ∷ [])),
-        ap (λ l. texts answers ++ l) w.3 ∙ sym (texts-append answers w.0),
+        ap (λ l. answers_text answers ++ l) w.3 ∙ sym (answers_text-append answers w.0),
       )
     ]
 
 -- a beginning of the texts, behind earlier ones
 beginning_behind : {Reason : Type 0} (limits : Limits) (rest : List ℕ) (answers others : List (Answer Reason)) (text : List ℕ)
-    → IsBeginning limits rest others text → IsBeginning limits rest (answers ++ others) (texts answers ++ text)
-beginning_behind limits rest answers others text p = (
-  p.0,
-  p.1,
-  p.2,
-  ap (λ l. l ++ p.0) (texts-append answers others) ∙ append_assoc (texts answers) (texts others) p.0
-      ∙ ap (λ l. texts answers ++ l) p.3 ∙ sym (append_assoc (texts answers) text p.1),
-)
+    → IsBeginning limits rest others text → IsBeginning limits rest (answers ++ others) (answers_text answers ++ text)
+beginning_behind limits rest answers others text p = record {
+  before = answers ++ p.before;
+  batch = p.batch;
+  whole = ap (λ l. answers ++ l) p.whole ∙ sym (append_assoc answers p.before p.batch);
+  small = p.small;
+  line = p.line;
+  last = p.last;
+  sent = p.sent;
+  unsent = p.unsent;
+  split = p.split;
+  written = ap (λ l. answers_text answers ++ l) p.written ∙ sym (append_assoc (answers_text answers) (answers_text p.before) p.sent)
+      ∙ ap (λ l. l ++ p.sent) (sym (answers_text-append answers p.before));
+}
 
 -- what a fault leaves, behind answers that were written before
 pub breaks_behind : {Reason : Type 0} (limits : Limits) (rest : List ℕ) (old mid new : Option (List ℕ)) (answers others : List (Answer Reason)) (fault : ServeFault Reason)
-    → Appends old mid (texts answers) → Breaks limits rest others mid new fault → Breaks limits rest (answers ++ others) old new fault
+    → Appends old mid (answers_text answers) → Breaks limits rest others mid new fault → Breaks limits rest (answers ++ others) old new fault
 breaks_behind limits rest old mid new answers others Read p q = (q.0, appends_all old mid new answers others p q.1)
 breaks_behind limits rest old mid new answers others Write p q =
-    (texts answers ++ q.0, beginning_behind limits rest answers others q.0 q.1, Appends-trans old mid new (texts answers) q.0 p q.2)
+    (answers_text answers ++ q.0, beginning_behind limits rest answers others q.0 q.1, Appends-trans old mid new (answers_text answers) q.0 p q.2)
 breaks_behind limits rest old mid new answers others Memory p q =
-    (texts answers ++ q.0, all_but_last_behind answers others q.0 q.1, Appends-trans old mid new (texts answers) q.0 p q.2)
+    (answers_text answers ++ q.0, all_but_last_behind answers others q.0 q.1, Appends-trans old mid new (answers_text answers) q.0 p q.2)
 breaks_behind limits rest old mid new answers others (Door reason) p q = appends_all old mid new answers others p q
 
 -- what is gathered is a beginning of the texts of the answers and of the last line
+abbrev Covers : {Reason : Type 0} → Limits → List ℕ → List (Answer Reason) → List ℕ → Type 0
+Covers limits rest answers gathered =
+    (line : List ℕ) × (more : List ℕ) × IsLastLine limits rest line × (answers_text answers ++ line ≡ gathered ++ more)
+
 gathered_begins : {Reason : Type 0} (old new : Held) (rest : List ℕ) (answers : List (Answer Reason)) (gathered : List ℕ) (pause : Pause Reason)
-    → Pauses old new rest answers gathered pause → IsBeginning old.limits rest answers gathered
+    → Pauses old new rest answers gathered pause → Covers old.limits rest answers gathered
 gathered_begins old new rest answers gathered Full p = ([], [], inl refl, ap (λ l. l ++ []) (sym p.2))
 gathered_begins old new rest answers gathered Waits p = ([], [], inl refl, ap (λ l. l ++ []) (sym p.2))
 gathered_begins old new rest answers gathered (Closed reason) p = ([], [], inl refl, ap (λ l. l ++ []) (sym p))
 gathered_begins old new rest answers gathered (Faulty fault) p = (fault_text fault, [], inr (fault, p.0, refl), sym p.1 ∙ sym (append-nil gathered))
 gathered_begins old new rest answers gathered Starved p =
-    elim p as (λ _. IsBeginning old.limits rest answers gathered) [
+    elim p as (λ _. Covers old.limits rest answers gathered) [
       | inl all ↦ ([], [], inl refl, ap (λ l. l ++ []) (sym all))
       | inr w ↦ (
         [],
         answer_text w.1 ++ [],
         inl refl,
-        append-nil (texts answers) ∙ ap texts w.2 ∙ texts-append w.0 (w.1 ∷ []) ∙ ap (λ l. l ++ (answer_text w.1 ++ [])) (sym w.3),
+        append-nil (answers_text answers) ∙ ap answers_text w.2 ∙ answers_text-append w.0 (w.1 ∷ []) ∙ ap (λ l. l ++ (answer_text w.1 ++ [])) (sym w.3),
       )
     ]
 
 -- of what is gathered a part was sent
 sent_begins : {Reason : Type 0} (limits : Limits) (rest : List ℕ) (answers : List (Answer Reason)) (gathered sent unsent : List ℕ)
-    → IsBeginning limits rest answers gathered → gathered ≡ sent ++ unsent → IsBeginning limits rest answers sent
-sent_begins limits rest answers gathered sent unsent p e =
-    (p.0, unsent ++ p.1, p.2, p.3 ∙ ap (λ l. l ++ p.1) e ∙ append_assoc sent unsent p.1)
+    → Covers limits rest answers gathered → IsBatch answers → gathered ≡ sent ++ unsent → IsBeginning limits rest answers sent
+sent_begins limits rest answers gathered sent unsent p small e = record {
+  before = [];
+  batch = answers;
+  whole = refl;
+  small = small;
+  line = p.0;
+  last = p.2;
+  sent = sent;
+  unsent = unsent ++ p.1;
+  split = p.3 ∙ ap (λ l. l ++ p.1) e ∙ append_assoc sent unsent p.1;
+  written = refl;
+}
 
 -- The requests before the bytes that are held now were answered, and the replies written.
 pub record Writing {S Reason : Type 0} (asks : S → List (List ℕ) → Answer Reason → S → Type 0) (old new : Held) (s t : S) (before after : Option (List ℕ)) : Type 0 where
   pub answers : List (Answer Reason)
   pub answered : Answered asks old.limits old.bytes new.bytes s t None answers
   pub held : new ≡ with_bytes old new.bytes
-  pub written : Appends before after (texts answers)
+  pub written : Appends before after (answers_text answers)
 
 module _ {S Reason : Type 0} (asks : S → List (List ℕ) → Answer Reason → S → Type 0) (old : Held) (s : S) (before : Option (List ℕ)) where
   pub writing_start : Writing asks old old s s before before
@@ -188,7 +208,7 @@ module _ {S Reason : Type 0} (asks : S → List (List ℕ) → Answer Reason →
       → Writing asks old now s u before middle → Gathers asks now new u t gathered pause → AppendsPart middle after gathered
       → AnswersHeld asks old new s t before after (Err Write)
   answers_unsent now new u t middle after gathered pause p q part =
-      let begins = sent_begins now.limits q.rest q.answers gathered part.0 part.1 (gathered_begins now new q.rest q.answers gathered pause q.pauses) part.2 in
+      let begins = sent_begins now.limits q.rest q.answers gathered part.0 part.1 (gathered_begins now new q.rest q.answers gathered pause q.pauses) q.small part.2 in
       record {
         rest = q.rest;
         answers = p.answers ++ q.answers;

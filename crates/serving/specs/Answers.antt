@@ -23,8 +23,8 @@ answer_text (Ok reply) = text reply
 answer_text (Err Memory) = text out_of_memory
 answer_text (Err (Ended reason)) = []
 
-abbrev pub texts : {Reason : Type 0} → List (Answer Reason) → List ℕ
-texts answers = flat_map answer_text answers
+abbrev pub answers_text : {Reason : Type 0} → List (Answer Reason) → List ℕ
+answers_text answers = flat_map answer_text answers
 
 -- From s, the requests were asked one after another, each once, and these were the answers; they left t.
 abbrev pub Runs : {S Reason : Type 0} → (S → List (List ℕ) → Answer Reason → S → Type 0)
@@ -47,8 +47,8 @@ EndsBy None answers = AllByRecursion GoesOn answers
 EndsBy {Reason} (Some reason) answers =
     (before : List (Answer Reason)) × (answers ≡ before ++ Err (Ended reason) ∷ []) × AllByRecursion GoesOn before
 
--- The stream is the texts of requests, and then a rest. Each of these requests was asked once, in order, and these are the
--- answers, which led the door from s to t.
+-- The stream is the texts of requests, and then a rest. Each of these requests was asked once, in order, and these are
+-- the answers, which led the door from s to t.
 pub record Answered {S Reason : Type 0} (asks : S → List (List ℕ) → Answer Reason → S → Type 0) (limits : Limits)
     (stream rest : List ℕ) (s t : S) (ended : Option Reason) (answers : List (Answer Reason)) : Type 0 where
   pub requests : List (List (List ℕ))

@@ -15,13 +15,15 @@ use std::io::{ErrorKind, Read, Write};
 /// How many bytes are read at most at once.
 const PIECE: usize = 64 * 1024;
 
-/// Serves one connection: reads requests, has the door answer them one after another, and writes the replies in their order.
+/// Serves one connection: reads requests, has the door answer them one after another, and writes the replies in their
+/// order.
 ///
-/// Replies are gathered, and written before each read and when 64 KiB are gathered. A fault of the protocol is answered by its
-/// error line, behind the replies to the requests before it, and ends the connection. What was read and written with each
-/// outcome is said by `Serves`: after `Read` all replies are written, after `Write` a beginning of them, after `Memory` all or
-/// all but the last, each whole, and after `Door` all to the requests before the one that the door ended at. A read or write
-/// that was interrupted is tried again; a write that takes nothing is a failed one. After 2^64 - 1 reads serving gives up by `Read`.
+/// Replies are gathered, and written before each read and when 64 KiB are gathered. A fault of the protocol is answered
+/// by its error line, behind the replies to the requests before it, and ends the connection. What was read and written
+/// with each outcome is said by `Serves`: after `Read` all replies are written, after `Write` a beginning of them,
+/// after `Memory` all or all but the last, each whole, and after `Door` all to the requests before the one that the
+/// door ended at. A read or write that was interrupted is tried again; a write that takes nothing is a failed one.
+/// After 2^64 - 1 reads serving gives up by `Read`.
 pub fn serve<R: Read, W: Write, D: Door>(
     alloc: Global,
     limits: Limits,
@@ -70,15 +72,16 @@ pub fn serve<R: Read, W: Write, D: Door>(
     Err(ServeFault::Read)
 }
 
-/// Answers the requests that the decoder holds, and writes the replies. The fault that was answered last, if there is one.
+/// Answers the requests that the decoder holds, and writes the replies. The fault that was answered last, if there is
+/// one.
 fn answer_held<W: Write, D: Door>(
     decoder: &mut Decoder,
     door: &mut D,
     replies: &mut Vec<u8>,
     writer: &mut W,
 ) -> Result<Option<Fault>, ServeFault<D::Reason>>
-    requires { decoder.old.fault ≡ None }
-    ensures { AnswersHeld D.asks decoder.old decoder.new door.old door.new
+    requires { decoder.old.held.fault ≡ None }
+    ensures { AnswersHeld D.asks decoder.old.held decoder.new.held door.old door.new
         (W.contents writer.old) (W.contents writer.new) result }
 {
     loop {

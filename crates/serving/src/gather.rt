@@ -1,6 +1,6 @@
 //! Answering the requests that a decoder holds, with the replies gathered in one buffer.
 
-ghost use Rattle.std.specs.Prelude.{◌≡◌, None};
+ghost use Rattle.std.specs.Prelude.{◌≡◌, None, vec_capacity};
 ghost use Rattle.serving.specs.Gathers.{Gathers, AddsReply, AddsLine};
 
 use crate::door::{Door, DoorFault};
@@ -35,8 +35,8 @@ pub(crate) fn gather<D: Door>(
     door: &mut D,
     replies: &mut Vec<u8>,
 ) -> Pause<D::Reason>
-    requires { decoder.old.fault ≡ None }
-    ensures { Gathers D.asks decoder.old decoder.new door.old door.new replies.new.items result }
+    requires { decoder.old.held.fault ≡ None }
+    ensures { Gathers D.asks decoder.old.held decoder.new.held door.old door.new replies.new.items result }
 {
     replies.clear();
     while replies.len() <= GATHERED {
@@ -54,13 +54,15 @@ pub(crate) fn gather<D: Door>(
     Pause::Full
 }
 
-/// Has the door answer a request, and adds the reply: the door's own, or that there was no memory. The pause where there is none.
+/// Has the door answer a request, and adds the reply: the door's own, or that there was no memory. The pause where
+/// there is none.
 fn gather_reply<D: Door>(
     door: &mut D,
     request: Request,
     replies: &mut Vec<u8>,
 ) -> Result<(), Pause<D::Reason>>
-    ensures { AddsReply D.asks door.old request door.new replies.old.items replies.new.items result }
+    ensures { AddsReply D.asks door.old request door.new (vec_capacity replies.old)
+        replies.old.items replies.new.items result }
 {
     let reply = match door.ask(request) {
         Ok(reply) => reply,
@@ -77,7 +79,7 @@ fn gather_reply<D: Door>(
 
 /// Adds the error line of a fault. A fault of memory has none.
 fn gather_line<E>(fault: Fault, replies: &mut Vec<u8>) -> Pause<E>
-    ensures { AddsLine fault replies.old.items replies.new.items result }
+    ensures { AddsLine fault (vec_capacity replies.old) replies.old.items replies.new.items result }
 {
     match fault {
         Fault::Memory => Pause::Starved,

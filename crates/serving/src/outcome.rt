@@ -29,7 +29,8 @@ pub enum ServeFault<E> {
     #[error("a write failed")]
     Write,
 
-    /// 3: there was no memory to read a request or to hold a reply. All replies are written, or all but the last, each whole.
+    /// 3: there was no memory to read a request or to hold a reply. All replies are written, or all but the last, each
+    /// whole.
     #[error("out of memory")]
     Memory,
 

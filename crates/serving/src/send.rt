@@ -1,6 +1,6 @@
 //! Writing out what is gathered.
 
-ghost use Rattle.std.specs.Prelude.{OnOk, OnErr};
+ghost use Rattle.std.specs.Prelude.{◌≡◌, ◌≤◌, length, drop, OnOk, OnErr};
 ghost use Rattle.std.specs.Io.KnownBytes.{Appends, Keeps};
 ghost use Rattle.serving.specs.Sent.{AppendsPart};
 
@@ -22,7 +22,7 @@ pub(crate) fn send<W: Write>(writer: &mut W, bytes: &[u8]) -> Result<(), Unsent>
         }
         match writer.write(rest) {
             Ok(0) => return Err(Unsent),
-            Ok(n) => rest = &rest[n..],
+            Ok(n) => rest = unwritten(rest, n),
             Err(e) => {
                 if e.kind() != ErrorKind::Interrupted {
                     return Err(Unsent);
@@ -31,6 +31,14 @@ pub(crate) fn send<W: Write>(writer: &mut W, bytes: &[u8]) -> Result<(), Unsent>
         }
     }
     Err(Unsent)
+}
+
+/// What is left of some bytes once the first `n` of them are written.
+fn unwritten(bytes: &[u8], n: usize) -> &[u8]
+    requires { n ≤ length bytes.now }
+    ensures { result.now ≡ drop n bytes.now }
+{
+    &bytes[n..]
 }
 
 /// Has a writer that keeps bytes back pass them on, since a client may wait for them.

@@ -4,10 +4,12 @@
 use crate::{Door, DoorFault, ServeFault, Served, serve};
 use resp::{Reply, Request};
 use resp_decoder::{Fault, Limits};
-use std::alloc::{AllocError, Global};
+use std::alloc::Global;
+use std::cell::Cell;
 use std::io;
 use std::io::{ErrorKind, Read, Write};
 use std::test::Fail;
+use test_support::{NEVER, Sink, Source, bytes_of};
 
 type Outcome = Result<Served, ServeFault<&'static str>>;
 
@@ -35,165 +37,147 @@ impl Door for Echo {
     }
 }
 
-/// Gives its bytes in pieces of at most `piece`; the read of number `fails_at`, from 0, fails.
-#[derive(Drop)]
-struct Source<'a> {
-    bytes: &'a [u8],
-    piece: usize,
-    reads: usize,
-    fails_at: usize,
-    kind: ErrorKind,
-}
-
-impl Read for Source<'_> {
-    fn read(&mut self, buf: &mut [u8]) -> io::Result<usize> {
-        let number = self.reads;
-        self.reads = number.saturating_add(1);
-        if number == self.fails_at {
-            return Err(self.kind.into());
-        }
-        let n = self.piece.min(self.bytes.len()).min(buf.len());
-        let bytes = self.bytes;
-        buf[..n].copy_from_slice(&bytes[..n]);
-        self.bytes = &bytes[n..];
-        Ok(n)
-    }
-}
-
-/// Takes at most `most` bytes at once; the write of number `fails_at`, from 0, fails.
-#[derive(Drop)]
-struct Sink {
-    held: Vec<u8>,
-    most: usize,
-    writes: usize,
-    fails_at: usize,
-    kind: ErrorKind,
-}
-
-impl Write for Sink {
-    fn write(&mut self, buf: &[u8]) -> io::Result<usize> {
-        let number = self.writes;
-        self.writes = number.saturating_add(1);
-        if number == self.fails_at {
-            return Err(self.kind.into());
-        }
-        let n = self.most.min(buf.len());
-        self.held.extend_from_slice(&buf[..n])?;
-        Ok(n)
-    }
-
-    fn flush(&mut self) -> io::Result<()> {
-        Ok(())
-    }
-}
-
-const NEVER: usize = usize::MAX;
-
-fn source_of(bytes: &[u8], piece: usize) -> Source<'_> {
-    Source {
-        bytes,
-        piece,
-        reads: 0,
-        fails_at: NEVER,
-        kind: ErrorKind::ConnectionReset,
-    }
-}
-
-fn sink_to(alloc: Global, most: usize) -> Sink {
-    Sink {
-        held: Vec::new(alloc),
-        most,
-        writes: 0,
-        fails_at: NEVER,
-        kind: ErrorKind::BrokenPipe,
-    }
-}
-
 fn served(alloc: Global, reader: &mut Source<'_>, writer: &mut Sink) -> Outcome {
     serve(alloc, Limits::DEFAULT, reader, writer, &mut Echo { alloc })
 }
 
-/// The bytes of a row, in which `|` stands for CR LF.
-fn bytes_of(alloc: Global, row: &str) -> Result<Vec<u8>, AllocError> {
-    let mut bytes = Vec::new(alloc);
-    for b in row.as_bytes() {
-        if *b == b'|' {
-            bytes.extend_from_slice(b"\r\n")?;
-        } else {
-            bytes.push(*b)?;
-        }
-    }
-    Ok(bytes)
-}
+/// What is read, what is written, and how serving ends.
+#[rattlefmt::skip]
+const ROWS: [(&str, &str, Outcome); 14] = [
+    ("", "", Ok(Served::End)),
+    ("*1|$4|PiNG|", "$4|PiNG|", Ok(Served::End)),
+    ("*0|*-1|*1|$4|PING|", "$4|PING|", Ok(Served::End)),
+    ("*2|$4|ECHO|$0||*1|$1|a|", "$0||$1|a|", Ok(Served::End)),
+    ("*1|$4|PING|*0|", "$4|PING|", Ok(Served::End)),
+    ("*1|$4|PING|*1|$4|PI", "$4|PING|", Ok(Served::Inside)),
+    ("*1", "", Ok(Served::Inside)),
+    ("PING|", "-ERR Protocol error: expected '*'|", Ok(Served::Protocol(Fault::ExpectedStar))),
+    ("*1|+PING|", "-ERR Protocol error: expected '$'|", Ok(Served::Protocol(Fault::ExpectedDollar))),
+    ("*1|$03|GET|", "-ERR Protocol error: invalid length|", Ok(Served::Protocol(Fault::BadLength))),
+    ("*1|$4|PINGxx", "-ERR Protocol error: expected CRLF|", Ok(Served::Protocol(Fault::ExpectedCrlf))),
+    ("*1|$1|a|+*1|$1|b|", "$1|a|-ERR Protocol error: expected '*'|", Ok(Served::Protocol(Fault::ExpectedStar))),
+    ("*1|$3|big|*1|$1|a|", "-ERR out of memory|$1|a|", Ok(Served::End)),
+    ("*1|$1|a|*1|$3|end|*1|$1|b|", "$1|a|", Err(ServeFault::Door("enough"))),
+];
 
 #[test]
 fn answers_rows_however_they_are_cut(rt: HostRuntime) -> Result<(), Fail> {
-    let rows: [(&str, &str, Outcome); 14] = [
-        ("", "", Ok(Served::End)),
-        ("*1|$4|PiNG|", "$4|PiNG|", Ok(Served::End)),
-        ("*0|*-1|*1|$4|PING|", "$4|PING|", Ok(Served::End)),
-        ("*2|$4|ECHO|$0||*1|$1|a|", "$0||$1|a|", Ok(Served::End)),
-        ("*1|$4|PING|*0|", "$4|PING|", Ok(Served::End)),
-        ("*1|$4|PING|*1|$4|PI", "$4|PING|", Ok(Served::Inside)),
-        ("*1", "", Ok(Served::Inside)),
-        (
-            "PING|",
-            "-ERR Protocol error: expected '*'|",
-            Ok(Served::Protocol(Fault::ExpectedStar)),
-        ),
-        (
-            "*1|+PING|",
-            "-ERR Protocol error: expected '$'|",
-            Ok(Served::Protocol(Fault::ExpectedDollar)),
-        ),
-        (
-            "*1|$03|GET|",
-            "-ERR Protocol error: invalid length|",
-            Ok(Served::Protocol(Fault::BadLength)),
-        ),
-        (
-            "*1|$4|PINGxx",
-            "-ERR Protocol error: expected CRLF|",
-            Ok(Served::Protocol(Fault::ExpectedCrlf)),
-        ),
-        (
-            "*1|$1|a|+*1|$1|b|",
-            "$1|a|-ERR Protocol error: expected '*'|",
-            Ok(Served::Protocol(Fault::ExpectedStar)),
-        ),
-        (
-            "*1|$3|big|*1|$1|a|",
-            "-ERR out of memory|$1|a|",
-            Ok(Served::End),
-        ),
-        (
-            "*1|$1|a|*1|$3|end|*1|$1|b|",
-            "$1|a|",
-            Err(ServeFault::Door("enough")),
-        ),
-    ];
-    for (input, output, outcome) in rows {
+    for (input, output, outcome) in ROWS {
         let input = bytes_of(rt.alloc(), input)?;
         let output = bytes_of(rt.alloc(), output)?;
         for (piece, most) in [(1, 1), (5, 3), (NEVER, NEVER)] {
-            let mut reader = source_of(&input, piece);
-            let mut writer = sink_to(rt.alloc(), most);
+            let mut reader = Source::new(&input, piece);
+            let mut writer = Sink::new(rt.alloc(), most);
             assert_eq!(rt;
                 served(rt.alloc(), &mut reader, &mut writer),
                 outcome,
                 "at {input:?}"
             );
-            assert_eq!(rt; writer.held.as_slice(), output.as_slice(), "at {input:?}");
+            assert_eq!(rt; writer.taken.as_slice(), output.as_slice(), "at {input:?}");
+            assert_eq!(rt; writer.flushed, output.len(), "at {input:?}");
         }
     }
+    Ok(())
+}
+
+/// Keeps the bytes that it takes back until it is flushed, and says how many it has passed on.
+#[derive(Drop)]
+struct KeepsBack<'a> {
+    taken: Vec<u8>,
+    passed_on: &'a Cell<usize>,
+}
+
+impl Write for KeepsBack<'_> {
+    fn write(&mut self, buf: &[u8]) -> io::Result<usize> {
+        self.taken.extend_from_slice(buf)?;
+        Ok(buf.len())
+    }
+
+    fn flush(&mut self) -> io::Result<()> {
+        self.passed_on.set(self.taken.len());
+        Ok(())
+    }
+}
+
+/// Gives the same request a few times, each only once the reply to the one before it has come.
+#[derive(Drop)]
+struct WaitsForReply<'a> {
+    request: &'a [u8],
+    reply: usize,
+    asked: usize,
+    passed_on: &'a Cell<usize>,
+}
+
+impl Read for WaitsForReply<'_> {
+    fn read(&mut self, buf: &mut [u8]) -> io::Result<usize> {
+        let len = self.request.len();
+        if self.passed_on.get() != self.asked.saturating_mul(self.reply) || buf.len() < len {
+            return Err(ErrorKind::TimedOut.into());
+        }
+        if self.asked >= 5 {
+            return Ok(0);
+        }
+        self.asked += 1;
+        buf[..len].copy_from_slice(self.request);
+        Ok(len)
+    }
+}
+
+#[test]
+fn passes_each_reply_on_before_it_reads_again(rt: HostRuntime) -> Result<(), Fail> {
+    let request = bytes_of(rt.alloc(), "*1|$1|a|")?;
+    let passed_on = Cell::new(0);
+    let mut reader = WaitsForReply {
+        request: request.as_slice(),
+        reply: 7,
+        asked: 0,
+        passed_on: &passed_on,
+    };
+    let mut writer = KeepsBack {
+        taken: Vec::new(rt.alloc()),
+        passed_on: &passed_on,
+    };
+    let mut door = Echo { alloc: rt.alloc() };
+    assert_eq!(rt;
+        serve(
+            rt.alloc(),
+            Limits::DEFAULT,
+            &mut reader,
+            &mut writer,
+            &mut door
+        ),
+        Ok(Served::End)
+    );
+    assert_eq!(rt; (reader.asked, passed_on.get()), (5, 35));
+    Ok(())
+}
+
+#[test]
+fn serves_two_thousand_pieces_and_two_million_bytes(rt: HostRuntime) -> Result<(), Fail> {
+    let mut word = bytes_of(rt.alloc(), "$1000|")?;
+    word.extend_from_slice(&[b'x'; 1000])?;
+    word.extend_from_slice(b"\r\n")?;
+    let mut input = Vec::new(rt.alloc());
+    for _ in 0..2000 {
+        input.extend_from_slice(b"*1\r\n")?;
+        input.extend_from_slice(&word)?;
+    }
+    let mut reader = Source::new(&input, word.len() + 4);
+    let mut writer = Sink::new(rt.alloc(), NEVER);
+    assert_eq!(rt;
+        served(rt.alloc(), &mut reader, &mut writer),
+        Ok(Served::End)
+    );
+    assert_eq!(rt; reader.reads, 2001);
+    assert_eq!(rt; writer.taken.len(), 2000 * word.len());
     Ok(())
 }
 
 #[test]
 fn writes_once_before_each_read(rt: HostRuntime) -> Result<(), Fail> {
     let input = bytes_of(rt.alloc(), "*1|$1|a|*1|$1|b|*1|$1|c|*1|$1|d|")?;
-    let mut reader = source_of(&input, 33);
-    let mut writer = sink_to(rt.alloc(), NEVER);
+    let mut reader = Source::new(&input, 33);
+    let mut writer = Sink::new(rt.alloc(), NEVER);
     assert_eq!(rt;
         served(rt.alloc(), &mut reader, &mut writer),
         Ok(Served::End)
@@ -209,13 +193,13 @@ fn writes_when_enough_is_gathered(rt: HostRuntime) -> Result<(), Fail> {
     for _ in 0..4000 {
         input.extend_from_slice(b"*1\r\n$3\r\nbig\r\n")?;
     }
-    let mut reader = source_of(&input, NEVER);
-    let mut writer = sink_to(rt.alloc(), NEVER);
+    let mut reader = Source::new(&input, NEVER);
+    let mut writer = Sink::new(rt.alloc(), NEVER);
     assert_eq!(rt;
         served(rt.alloc(), &mut reader, &mut writer),
         Ok(Served::End)
     );
-    assert_eq!(rt; writer.held.len(), 4000 * 20);
+    assert_eq!(rt; writer.taken.len(), 4000 * 20);
     assert_eq!(rt; (reader.reads, writer.writes), (2, 2));
     Ok(())
 }
@@ -232,19 +216,19 @@ fn tells_a_failed_read_behind_all_replies(rt: HostRuntime) -> Result<(), Fail> {
         (7, 1, 0),
         (7, 2, 10),
     ] {
-        let mut reader = source_of(&input, piece);
+        let mut reader = Source::new(&input, piece);
         reader.fails_at = fails_at;
-        let mut writer = sink_to(rt.alloc(), NEVER);
+        let mut writer = Sink::new(rt.alloc(), NEVER);
         assert_eq!(rt;
             served(rt.alloc(), &mut reader, &mut writer),
             Err(ServeFault::Read)
         );
         assert_eq!(rt;
-            writer.held.len(),
+            writer.taken.len(),
             written,
             "at read {fails_at} of {piece} bytes"
         );
-        assert!(rt; output.starts_with(&writer.held));
+        assert!(rt; output.starts_with(&writer.taken));
     }
     Ok(())
 }
@@ -254,22 +238,22 @@ fn tells_a_failed_write_behind_a_beginning(rt: HostRuntime) -> Result<(), Fail> 
     let input = bytes_of(rt.alloc(), "*1|$4|PING|+")?;
     let output = bytes_of(rt.alloc(), "$4|PING|-ERR Protocol error: expected '*'|")?;
     for fails_at in 0..15 {
-        let mut reader = source_of(&input, NEVER);
-        let mut writer = sink_to(rt.alloc(), 3);
+        let mut reader = Source::new(&input, NEVER);
+        let mut writer = Sink::new(rt.alloc(), 3);
         writer.fails_at = fails_at;
         assert_eq!(rt;
             served(rt.alloc(), &mut reader, &mut writer),
             Err(ServeFault::Write)
         );
-        assert_eq!(rt; writer.held.len(), 3 * fails_at);
-        assert!(rt; output.starts_with(&writer.held));
+        assert_eq!(rt; writer.taken.len(), 3 * fails_at);
+        assert!(rt; output.starts_with(&writer.taken));
     }
-    let mut writer = sink_to(rt.alloc(), 0);
+    let mut writer = Sink::new(rt.alloc(), 0);
     assert_eq!(rt;
-        served(rt.alloc(), &mut source_of(&input, NEVER), &mut writer),
+        served(rt.alloc(), &mut Source::new(&input, NEVER), &mut writer),
         Err(ServeFault::Write)
     );
-    assert_eq!(rt; writer.held.len(), 0);
+    assert_eq!(rt; writer.taken.len(), 0);
     Ok(())
 }
 
@@ -278,15 +262,15 @@ fn tries_again_what_was_interrupted(rt: HostRuntime) -> Result<(), Fail> {
     let input = bytes_of(rt.alloc(), "*1|$4|PING|*1|$1|a|")?;
     let output = bytes_of(rt.alloc(), "$4|PING|$1|a|")?;
     for number in 0..8 {
-        let mut reader = source_of(&input, 4);
+        let mut reader = Source::new(&input, 4);
         (reader.fails_at, reader.kind) = (number, ErrorKind::Interrupted);
-        let mut writer = sink_to(rt.alloc(), 3);
+        let mut writer = Sink::new(rt.alloc(), 3);
         (writer.fails_at, writer.kind) = (number, ErrorKind::Interrupted);
         assert_eq!(rt;
             served(rt.alloc(), &mut reader, &mut writer),
             Ok(Served::End)
         );
-        assert_eq!(rt; writer.held.as_slice(), output.as_slice());
+        assert_eq!(rt; writer.taken.as_slice(), output.as_slice());
     }
     Ok(())
 }
@@ -311,17 +295,18 @@ fn count_replies(bytes: &[u8]) -> Option<usize> {
     None
 }
 
-// With ample memory this is three replies. Run with the Nth allocation failing, for each N, it says what is left to promise.
+// With ample memory this is three replies. Run with the Nth allocation failing, for each N, it says what is left to
+// promise.
 #[test]
 fn keeps_replies_whole_where_memory_fails(rt: HostRuntime) -> Result<(), Fail> {
     let input = b"*1\r\n$1\r\na\r\n*1\r\n$1\r\na\r\n*1\r\n$1\r\na\r\n";
     let Ok(held) = Vec::with_capacity(rt.alloc(), 100) else {
         return Ok(());
     };
-    let mut writer = sink_to(rt.alloc(), NEVER);
-    writer.held = held;
-    let outcome = served(rt.alloc(), &mut source_of(input, 11), &mut writer);
-    match count_replies(&writer.held) {
+    let mut writer = Sink::new(rt.alloc(), NEVER);
+    writer.taken = held;
+    let outcome = served(rt.alloc(), &mut Source::new(input, 11), &mut writer);
+    match count_replies(&writer.taken) {
         Some(count) => {
             let all = count == 3 && outcome == Ok(Served::End);
             assert!(rt;

@@ -7,7 +7,7 @@ use Rattle.std.specs.FinMap.{get, entries, find, get-entries, get-empty}
 use Rattle.std.specs.Option.{option_or}
 use Rattle.std.specs.Ordering.{nat_cmp, eq_by_cmp}
 use Rattle.keyspace.specs.Map.{Map, with_entries}
-use Rattle.placement.specs.Layout.{Layout, place}
+use Rattle.placement.specs.Layout.{Layout, shard_of}
 use Rattle.shard_maps.specs.Joined.{joined, map_of_shard, HasKeysOf, HasOwnKeys}
 use Rattle.values.specs.declared.Value.{Value}
 
@@ -54,7 +54,7 @@ get-joined-at (m ∷ ms) (suc p) q none =
     ∙ get-joined-at ms p q (λ i apart. none (suc i) (λ e. apart (cc)))
 
 -- a shard has nothing at a key that lies elsewhere
-pub none_elsewhere : (table : Layout) (shard : ℕ) (m : Map) (q : List ℕ) → HasKeysOf table shard m → (place table q ≡ shard → ⊥)
+pub none_elsewhere : (table : Layout) (shard : ℕ) (m : Map) (q : List ℕ) → HasKeysOf table shard m → (shard_of table q ≡ shard → ⊥)
     → get m q ≡ None
 none_elsewhere table shard m q own apart =
     elim (get m q) as (λ o. get m q ≡ o → o ≡ None) [
@@ -64,6 +64,6 @@ none_elsewhere table shard m q own apart =
 
 -- the joined map has at a key what the key's shard has there
 pub get-joined : (table : Layout) (maps : List Map) (q : List ℕ) → HasOwnKeys table maps
-    → get (joined maps) q ≡ get (map_of_shard maps (place table q)) q
+    → get (joined maps) q ≡ get (map_of_shard maps (shard_of table q)) q
 get-joined table maps q own =
-    get-joined-at maps (place table q) q (λ i apart. none_elsewhere table i (map_of_shard maps i) q (own i) (λ e. apart (sym e)))
+    get-joined-at maps (shard_of table q) q (λ i apart. none_elsewhere table i (map_of_shard maps i) q (own i) (λ e. apart (sym e)))

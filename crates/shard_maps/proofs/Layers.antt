@@ -10,7 +10,7 @@ use Rattle.groups.specs.GroupSet.{has}
 use Rattle.keyspace.proofs.Gets.{same}
 use Rattle.keyspace.specs.Map.{Map}
 use Rattle.placement.specs.Groups.{groups_of}
-use Rattle.placement.specs.Layout.{Layout, IsTable, place}
+use Rattle.placement.specs.Layout.{Layout, IsTable, shard_of}
 use Rattle.resp.specs.Content.{Content}
 use Rattle.skeen_core.specs.Order.{In}
 use Rattle.shard_maps.proofs.Joins.{get-joined}
@@ -46,7 +46,7 @@ pub joined-alike : (table : Layout) (ms ns : List Map) → HasOwnKeys table ms �
     → ((g : ℕ) → map_of_shard ns g ≡ map_of_shard ms g) → joined ns ≡ joined ms
 joined-alike table ms ns own own' alike =
     same (joined ns) (joined ms)
-    (λ q. get-joined table ns q own' ∙ ap (λ m. get m q) (alike (place table q)) ∙ sym (get-joined table ms q own))
+    (λ q. get-joined table ns q own' ∙ ap (λ m. get m q) (alike (shard_of table q)) ∙ sym (get-joined table ms q own))
 
 each_moved : (table : Layout) (old mid new : List Map) (cs : List Command) (os : List (Option Content))
     → ((d : Command) → In d cs → span_at mid (groups_of table d) ≡ span_at old (groups_of table d))

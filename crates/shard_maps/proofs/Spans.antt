@@ -16,9 +16,9 @@ use Rattle.groups.specs.GroupSetLaws.{has-chosen}
 use Rattle.keyspace.proofs.Gets.{same, same_bytes}
 use Rattle.keyspace.proofs.Parts.{get-restrict, get-put_back}
 use Rattle.keyspace.specs.Map.{Map, among, restrict}
-use Rattle.placement.proofs.Addressed.{place-below, has-groups_of-key}
+use Rattle.placement.proofs.Addressed.{shard_of-below, has-groups_of-key}
 use Rattle.placement.specs.Groups.{groups_of, has_key_on}
-use Rattle.placement.specs.Layout.{Layout, IsTable, place}
+use Rattle.placement.specs.Layout.{Layout, IsTable, shard_of}
 use Rattle.resp.specs.Content.{Content}
 use Rattle.shard_maps.proofs.Joins.{get-joined-cons, get-joined, none_elsewhere, or_same}
 use Rattle.shard_maps.specs.Joined.{joined, map_of_shard, HasOwnKeys, numbers, union, span_at}
@@ -37,34 +37,34 @@ or_cond_same false (Some v) = refl
 
 -- at a key the union of some shards has what the key's shard has, if it is one of these
 pub get-union : (table : Layout) (maps : List Map) (gs : List ℕ) (q : List ℕ) → HasOwnKeys table maps
-    → get (union (span_at maps gs)) q ≡ cond (has gs (place table q)) (get (map_of_shard maps (place table q)) q) None
+    → get (union (span_at maps gs)) q ≡ cond (has gs (shard_of table q)) (get (map_of_shard maps (shard_of table q)) q) None
 get-union table maps [] q own = get-empty (slice_cmp nat_cmp) q
 get-union table maps (g ∷ gs) q own =
     get-joined-cons (map_of_shard maps g) (map (λ s. s.1) (span_at maps gs)) q
     ∙ ap (option_or (get (map_of_shard maps g) q)) (get-union table maps gs q own)
-    ∙ elim (cases_eq g (place table q)) [
-      | inl e ↦ ap (λ n. option_or (get (map_of_shard maps n) q) (cond (has gs (place table q)) here None)) e
-          ∙ or_cond_same (has gs (place table q)) here
-          ∙ ap (λ b. cond (b || has gs (place table q)) here None) (sym (eq-eqb g (place table q) e))
-      | inr apart ↦ ap (λ o. option_or o (cond (has gs (place table q)) here None))
+    ∙ elim (cases_eq g (shard_of table q)) [
+      | inl e ↦ ap (λ n. option_or (get (map_of_shard maps n) q) (cond (has gs (shard_of table q)) here None)) e
+          ∙ or_cond_same (has gs (shard_of table q)) here
+          ∙ ap (λ b. cond (b || has gs (shard_of table q)) here None) (sym (eq-eqb g (shard_of table q) e))
+      | inr apart ↦ ap (λ o. option_or o (cond (has gs (shard_of table q)) here None))
           (none_elsewhere table g (map_of_shard maps g) q (own g) (λ e. apart (sym e)))
-          ∙ ap (λ b. cond (b || has gs (place table q)) here None) (sym (ne_eqb g (place table q) apart))
+          ∙ ap (λ b. cond (b || has gs (shard_of table q)) here None) (sym (ne_eqb g (shard_of table q) apart))
     ]
   where
     here : Option Value
-    here = get (map_of_shard maps (place table q)) q
+    here = get (map_of_shard maps (shard_of table q)) q
 
 -- so it is the joined map, cut down to the keys that lie there
 pub get-union-joined : (table : Layout) (maps : List Map) (gs : List ℕ) (q : List ℕ) → HasOwnKeys table maps
-    → get (union (span_at maps gs)) q ≡ cond (has gs (place table q)) (get (joined maps) q) None
+    → get (union (span_at maps gs)) q ≡ cond (has gs (shard_of table q)) (get (joined maps) q) None
 get-union-joined table maps gs q own =
-    get-union table maps gs q own ∙ ap (λ o. cond (has gs (place table q)) o None) (sym (get-joined table maps q own))
+    get-union table maps gs q own ∙ ap (λ o. cond (has gs (shard_of table q)) o None) (sym (get-joined table maps q own))
 
 -- ---- a command's groups
 
 -- each key of a command lies on one of its groups
 pub has-groups_of-among : (table : Layout) (command : Command) (q : List ℕ) → IsTable table → among (keys_of command) q ≡ true
-    → has (groups_of table command) (place table q) ≡ true
+    → has (groups_of table command) (shard_of table q) ≡ true
 has-groups_of-among table command q is_table h =
     let found = Any-from_list_any (bytes_eq q) (keys_of command) h in
     let is : q ≡ found.1 = same_bytes q found.1 found.4 in
@@ -73,11 +73,11 @@ has-groups_of-among table command q is_table h =
 
 -- and every key lies on a group of a whole command
 pub has-groups_of-whole : (table : Layout) (command : Command) (q : List ℕ) → IsTable table → is_whole command ≡ true
-    → has (groups_of table command) (place table q) ≡ true
+    → has (groups_of table command) (shard_of table q) ≡ true
 has-groups_of-whole table command q is_table whole =
-    has-chosen (λ s. is_whole command || has_key_on table s (keys_of command)) table.shards (place table q)
-    ∙ ap (λ b. b && (is_whole command || has_key_on table (place table q) (keys_of command))) (lt-ltb _ _ (place-below table q is_table))
-    ∙ ap (λ b. b || has_key_on table (place table q) (keys_of command)) whole
+    has-chosen (λ s. is_whole command || has_key_on table s (keys_of command)) table.shards (shard_of table q)
+    ∙ ap (λ b. b && (is_whole command || has_key_on table (shard_of table q) (keys_of command))) (lt-ltb _ _ (shard_of-below table q is_table))
+    ∙ ap (λ b. b || has_key_on table (shard_of table q) (keys_of command)) whole
 
 effect-whole : (command : Command) (m : Map) → is_whole command ≡ true → effect_of command m ≡ case_of command m
 effect-whole command m h = ap (λ b. cond b (case_of command m) (one (keys_of command) (case_of command) m)) h
@@ -88,7 +88,7 @@ effect-part command m h = ap (λ b. cond b (case_of command m) (one (keys_of com
 -- ---- a command on the joined map and on the union of the shards of its groups
 
 module _ (table : Layout) (command : Command) (m u : Map) (is_table : IsTable table)
-    (is : (q : List ℕ) → get u q ≡ cond (has (groups_of table command) (place table q)) (get m q) None) where
+    (is : (q : List ℕ) → get u q ≡ cond (has (groups_of table command) (shard_of table q)) (get m q) None) where
   all_of : is_whole command ≡ true → u ≡ m
   all_of whole = same u m (λ q. is q ∙ ap (λ b. cond b (get m q) None) (has-groups_of-whole table command q is_table whole))
 
@@ -99,7 +99,7 @@ module _ (table : Layout) (command : Command) (m u : Map) (is_table : IsTable ta
   own_part : restrict u (keys_of command) ≡ restrict m (keys_of command)
   own_part = same (restrict u (keys_of command)) (restrict m (keys_of command)) (λ q.
       get-restrict u (keys_of command) q ∙ ap (λ o. cond (among (keys_of command) q) o None) (is q)
-      ∙ keys_there (among (keys_of command) q) (has (groups_of table command) (place table q)) (get m q)
+      ∙ keys_there (among (keys_of command) q) (has (groups_of table command) (shard_of table q)) (get m q)
       (has-groups_of-among table command q is_table)
       ∙ sym (get-restrict m (keys_of command) q))
 
@@ -123,7 +123,7 @@ module _ (table : Layout) (command : Command) (m u : Map) (is_table : IsTable ta
       ∙ get-put_back n (keys_of command) (case_of command (restrict n (keys_of command))).0 q
 
   -- at a key of these groups both leave the same
-  pub same_there : (q : List ℕ) → has (groups_of table command) (place table q) ≡ true
+  pub same_there : (q : List ℕ) → has (groups_of table command) (shard_of table q) ≡ true
       → get (effect_of command u).0 q ≡ get (effect_of command m).0 q
   same_there q there = elim (is_whole command)
       as (λ b. is_whole command ≡ b → get (effect_of command u).0 q ≡ get (effect_of command m).0 q) [
@@ -136,7 +136,7 @@ module _ (table : Layout) (command : Command) (m u : Map) (is_table : IsTable ta
       ] refl
 
   -- and elsewhere nothing changes
-  pub same_elsewhere : (q : List ℕ) → has (groups_of table command) (place table q) ≡ false → get (effect_of command m).0 q ≡ get m q
+  pub same_elsewhere : (q : List ℕ) → has (groups_of table command) (shard_of table q) ≡ false → get (effect_of command m).0 q ≡ get m q
   same_elsewhere q away = elim (is_whole command) as (λ b. is_whole command ≡ b → get (effect_of command m).0 q ≡ get m q) [
     | true ↦ λ whole. absurd (both_ways _ away (has-groups_of-whole table command q is_table whole))
     | false ↦ λ part. get-effect-part m q part ∙ ap (λ b. cond b (get part_case.0 q) (get m q)) no_key

@@ -10,7 +10,7 @@ use Rattle.groups.specs.GroupSet.{has}
 use Rattle.keyspace.proofs.Gets.{same, get-retain_keys}
 use Rattle.keyspace.specs.Map.{Map}
 use Rattle.placement.specs.Groups.{groups_of}
-use Rattle.placement.specs.Layout.{Layout, IsTable, place}
+use Rattle.placement.specs.Layout.{Layout, IsTable, shard_of}
 use Rattle.resp.specs.Content.{Content}
 use Rattle.shard_maps.proofs.Joins.{get-joined}
 use Rattle.shard_maps.proofs.Spans.{numbers-span_at, get-union-joined, same_reply, same_there, same_elsewhere}
@@ -26,13 +26,13 @@ at_member f h (x ∷ gs) g e there = elim (or_cases (x == g) (has gs g) there) [
 ]
 
 pub get-part_of : (table : Layout) (m : Map) (shard : ℕ) (q : List ℕ)
-    → get (part_of table m shard) q ≡ cond (place table q == shard) (get m q) None
-get-part_of table m shard q = get-retain_keys m (λ key. place table key == shard) q
+    → get (part_of table m shard) q ≡ cond (shard_of table q == shard) (get m q) None
+get-part_of table m shard q = get-retain_keys m (λ key. shard_of table key == shard) q
 
 pub HasKeysOf-part_of : (table : Layout) (m : Map) (shard : ℕ) → HasKeysOf table shard (part_of table m shard)
 HasKeysOf-part_of table m shard q there =
-    elim (place table q == shard) as (λ b. (place table q == shard) ≡ b → IsSome (cond b (get m q) None) → place table q ≡ shard) [
-      | true ↦ λ e _. eqb-true (place table q) shard e
+    elim (shard_of table q == shard) as (λ b. (shard_of table q == shard) ≡ b → IsSome (cond b (get m q) None) → shard_of table q ≡ shard) [
+      | true ↦ λ e _. eqb-true (shard_of table q) shard e
       | false ↦ λ _ none. absurd (cc)
     ] refl (subst IsSome (get-part_of table m shard q) there)
 
@@ -55,22 +55,22 @@ module _ (table : Layout) (old new : List Map) (command : Command) (is_table : I
       | false ↦ λ away. subst (HasKeysOf table shard) (sym (others shard away)) (own shard)
     ] refl
 
-    is_part : (q : List ℕ) → get part q ≡ cond (has groups (place table q)) (get (joined old) q) None
+    is_part : (q : List ℕ) → get part q ≡ cond (has groups (shard_of table q)) (get (joined old) q) None
     is_part q = get-union-joined table old groups q own
 
     pub joined_after : joined new ≡ (effect_of command (joined old)).0
     joined_after = same (joined new) (effect_of command (joined old)).0 (λ q. get-joined table new q own_after ∙ at_key q)
       where
-        at_key : (q : List ℕ) → get (map_of_shard new (place table q)) q ≡ get (effect_of command (joined old)).0 q
-        at_key q = elim (has groups (place table q))
-            as (λ b. has groups (place table q) ≡ b → get (map_of_shard new (place table q)) q ≡ get (effect_of command (joined old)).0 q) [
+        at_key : (q : List ℕ) → get (map_of_shard new (shard_of table q)) q ≡ get (effect_of command (joined old)).0 q
+        at_key q = elim (has groups (shard_of table q))
+            as (λ b. has groups (shard_of table q) ≡ b → get (map_of_shard new (shard_of table q)) q ≡ get (effect_of command (joined old)).0 q) [
               | true ↦ λ there.
-                  ap (λ m. get m q) (given (place table q) there)
-                  ∙ get-part_of table (effect_of command part).0 (place table q) q
-                  ∙ ap (λ b. cond b (get (effect_of command part).0 q) None) (eq-eqb (place table q) (place table q) refl)
+                  ap (λ m. get m q) (given (shard_of table q) there)
+                  ∙ get-part_of table (effect_of command part).0 (shard_of table q) q
+                  ∙ ap (λ b. cond b (get (effect_of command part).0 q) None) (eq-eqb (shard_of table q) (shard_of table q) refl)
                   ∙ same_there table command (joined old) part is_table is_part q there
               | false ↦ λ away.
-                  ap (λ m. get m q) (others (place table q) away)
+                  ap (λ m. get m q) (others (shard_of table q) away)
                   ∙ sym (get-joined table old q own)
                   ∙ sym (same_elsewhere table command (joined old) part is_table is_part q away)
             ] refl

@@ -5,7 +5,7 @@ use Rattle.std.specs.List.{AllByRecursion}
 use Rattle.command_bodies.specs.Command.{effect_of}
 use Rattle.command_table.specs.declared.command.Command.{Command}
 use Rattle.keyspace.specs.Map.{Map, with_entries}
-use Rattle.placement.specs.Layout.{Layout, place}
+use Rattle.placement.specs.Layout.{Layout, shard_of}
 use Rattle.resp.specs.Content.{Content}
 
 -- the union of maps: at each key what the first of them that has the key has there
@@ -19,7 +19,7 @@ map_of_shard maps shard = slice_index_or maps shard empty
 
 -- the map has only keys that the table places on the shard
 abbrev pub HasKeysOf : Layout → ℕ → Map → Type 0
-HasKeysOf table shard m = (key : List ℕ) → IsSome (get m key) → place table key ≡ shard
+HasKeysOf table shard m = (key : List ℕ) → IsSome (get m key) → shard_of table key ≡ shard
 
 -- each shard's map has only keys that the table places there
 abbrev pub HasOwnKeys : Layout → List Map → Type 0
@@ -47,7 +47,7 @@ span_at maps groups = map (λ g. (g, map_of_shard maps g)) groups
 
 -- what a map has at the keys that lie on a shard
 abbrev pub part_of : Layout → Map → ℕ → Map
-part_of table m shard = retain_keys m (λ key. place table key == shard)
+part_of table m shard = retain_keys m (λ key. shard_of table key == shard)
 
 -- a map divided among shards: to each what it has at the keys that lie there
 abbrev pub divided : Layout → List ℕ → Map → Span

@@ -8,7 +8,7 @@ use Rattle.command_table.specs.declared.command.Command.{Command}
 use Rattle.groups.specs.GroupSet.{has}
 use Rattle.keyspace.specs.Map.{Map}
 use Rattle.placement.specs.Groups.{groups_of}
-use Rattle.placement.specs.Layout.{Layout, IsTable, place}
+use Rattle.placement.specs.Layout.{Layout, IsTable, shard_of}
 use Rattle.resp.specs.Content.{Content}
 use Rattle.shard_maps.specs.Joined.{joined, map_of_shard, HasOwnKeys, span_at, SpanRan}
 use Rattle.shard_maps.specs.Rows.{taken_out_each, IsGathered}
@@ -17,7 +17,7 @@ use Rattle.shard_maps.specs.Layer.{ShareNoGroup, LayerRan, Work, Ran, IsRunOf, o
 -- the joined map has at a key what the key's shard has there
 abbrev pub KeysLieOnTheirShards : Type 0
 KeysLieOnTheirShards = (table : Layout) (maps : List Map) (key : List ℕ) → HasOwnKeys table maps
-    → get (joined maps) key ≡ get (map_of_shard maps (place table key)) key
+    → get (joined maps) key ≡ get (map_of_shard maps (shard_of table key)) key
 
 -- a command that is run over the shards of its groups is run on the joined map
 abbrev pub SpansAreJoined : Type 0

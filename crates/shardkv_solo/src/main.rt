@@ -1,8 +1,9 @@
 //! `shardkv-solo`: one store, served on standard input and output.
 //!
-//! Requests are read from standard input and their replies written to standard output, in RESP2. Words on the command line are
-//! ignored. The statuses: 0 at the end of the input; 1 after the error line of a fault in it, or where it ends inside a request;
-//! 2 where a read or a write failed; 3 where memory was wanting. What cannot be told by an error line is told on standard error.
+//! Requests are read from standard input and their replies written to standard output, in RESP2. Words on the command
+//! line are ignored. The statuses: 0 at the end of the input; 1 after the error line of a fault in it, or where it ends
+//! inside a request; 2 where a read or a write failed; 3 where memory was wanting. What cannot be told by an error line
+//! is told on standard error.
 #![tactic(auto)]
 
 use serving::{ServeFault, Served};
@@ -14,7 +15,7 @@ use std::process::ExitCode;
 fn main(rt: HostRuntime) -> ExitCode {
     let mut store = Solo::new(rt.alloc(), BuildHasherDefault::<FoldHasher>::new());
     let served = store.serve(&mut rt.stdin(), &mut rt.stdout());
-    let (status, fault) = told(served);
+    let (status, fault) = status_of(served);
     if let Some(fault) = fault {
         let _ = eprintln!(rt; "shardkv-solo: {fault}");
     }
@@ -22,7 +23,7 @@ fn main(rt: HostRuntime) -> ExitCode {
 }
 
 /// The status for how serving ended, and what is told on standard error.
-fn told(served: Result<Served, ServeFault<Infallible>>) -> (u8, Option<&'static str>) {
+fn status_of(served: Result<Served, ServeFault<Infallible>>) -> (u8, Option<&'static str>) {
     match served {
         Ok(Served::End) => (0, None),
         Ok(Served::Protocol(_)) => (1, None),
@@ -48,7 +49,7 @@ mod tests {
             (Err(ServeFault::Write), 2, Some("a write failed")),
             (Err(ServeFault::Memory), 3, Some("out of memory")),
         ] {
-            assert_eq!(rt; told(served), (status, fault));
+            assert_eq!(rt; status_of(served), (status, fault));
         }
     }
 }

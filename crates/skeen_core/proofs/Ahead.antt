@@ -15,7 +15,7 @@ use Rattle.skeen_core.specs.Request.{same_id}
 use Rattle.skeen_core.specs.Group.{GroupState, fresh, heard, or_zero, own_at, next_clock, with_start, with_proposal, final_of, lifted, MayGo, Ascending, Delivers, Delivering, has_id, without, tell, ReceivesStart, Receives, BodyMayCome, MayCome}
 use Rattle.skeen_core.specs.Lawful.{Sound, Lawful}
 use Rattle.skeen_core.specs.Due.{place_by}
-use Rattle.skeen_core.specs.Runs.{Receipt, Leads, log, ClockNeverFalls, TellsAtMost, ClockIsAboveStamps, DeliveriesAscend, DeliveredIsForgotten, RepeatsChangeNothing, RuleDetermines}
+use Rattle.skeen_core.specs.Runs.{Receipt, ReceivesInTurn, log, ClockNeverFalls, TellsAtMost, ClockIsAboveStamps, DeliveriesAscend, DeliveredIsForgotten, RepeatsChangeNothing, RuleDetermines}
 use Rattle.skeen_core.proofs.Ids.{same_id-true, same_id-refl}
 use Rattle.skeen_core.proofs.Lists.{In-append}
 use Rattle.skeen_core.proofs.Stamps.{lt_irrefl, lt_asym, lt_le, le_lt, lt_from_clocks, final_above, final_within}
@@ -56,9 +56,9 @@ lawful_step me old p sent ds new lawful may r = by_step (step me old p.id p.body
         let body = subst (λ b. BodyMayCome me old p.id b) is may.body in
         subst (λ g. Lawful me g) (sym delivering.after) (lawful_without me _ ds (sound_proposal me old p.id from n lawful.sound body.0 body.2) delivering.delivers)
 
-pub lawful_leads : (me : ℕ) (old new : GroupState) (rs : List Receipt) → Lawful me old → Leads me old rs new → Lawful me new
-lawful_leads me old new [] lawful leads = subst (λ g. Lawful me g) (sym leads) lawful
-lawful_leads me old new (r ∷ rs) lawful leads = lawful_leads me leads.0 new rs (lawful_step me old r.packet r.sent r.delivered leads.0 lawful leads.1 leads.2) leads.3
+pub lawful_in_turn : (me : ℕ) (old new : GroupState) (rs : List Receipt) → Lawful me old → ReceivesInTurn me old rs new → Lawful me new
+lawful_in_turn me old new [] lawful receives = subst (λ g. Lawful me g) (sym receives) lawful
+lawful_in_turn me old new (r ∷ rs) lawful receives = lawful_in_turn me receives.0 new rs (lawful_step me old r.packet r.sent r.delivered receives.0 lawful receives.1 receives.2) receives.3
 
 -- ---- the clock
 
@@ -77,10 +77,10 @@ clock_step me old id body sent ds new r = by_step (step me old id body sent ds n
         omega arith
 
 pub clock_never_falls : ClockNeverFalls
-clock_never_falls me old new [] leads = let clocks = ap (λ (g : GroupState). g.clock) leads in omega arith
-clock_never_falls me old new (r ∷ rs) leads =
-    let first = clock_step me old r.packet.id r.packet.body r.sent r.delivered leads.0 leads.2 in
-    let rest = clock_never_falls me leads.0 new rs leads.3 in
+clock_never_falls me old new [] receives = let clocks = ap (λ (g : GroupState). g.clock) receives in omega arith
+clock_never_falls me old new (r ∷ rs) receives =
+    let first = clock_step me old r.packet.id r.packet.body r.sent r.delivered receives.0 receives.2 in
+    let rest = clock_never_falls me receives.0 new rs receives.3 in
     omega arith
 
 tells_more : (c d : ℕ) (b : Body) → TellsAtMost c b → c ≤ d → TellsAtMost d b
@@ -108,11 +108,11 @@ told_step me old id body sent ds new r p there = by_step (step me old id body se
         tells_more (next_clock old floor) new.clock p.body (tell_at me id (next_clock old floor) groups p (subst (λ l. In p l) told there)) (omega arith)
     by_step (Hears from n delivering is none) = absurd (subst (λ l. In p l) none there)
 
-told_leads : (me : ℕ) (old new : GroupState) (rs : List Receipt) → Leads me old rs new → (r : Receipt) (p : Packet) → In r rs → In p r.sent → TellsAtMost new.clock p.body
-told_leads me old new [] leads r p there here = absurd there
-told_leads me old new (x ∷ xs) leads r p (inl same) here =
-    tells_more _ new.clock p.body (told_step me old x.packet.id x.packet.body x.sent x.delivered leads.0 leads.2 p (subst (λ (y : Receipt). In p y.sent) same here)) (clock_never_falls me leads.0 new xs leads.3)
-told_leads me old new (x ∷ xs) leads r p (inr there) here = told_leads me leads.0 new xs leads.3 r p there here
+told_in_turn : (me : ℕ) (old new : GroupState) (rs : List Receipt) → ReceivesInTurn me old rs new → (r : Receipt) (p : Packet) → In r rs → In p r.sent → TellsAtMost new.clock p.body
+told_in_turn me old new [] receives r p there here = absurd there
+told_in_turn me old new (x ∷ xs) receives r p (inl same) here =
+    tells_more _ new.clock p.body (told_step me old x.packet.id x.packet.body x.sent x.delivered receives.0 receives.2 p (subst (λ (y : Receipt). In p y.sent) same here)) (clock_never_falls me receives.0 new xs receives.3)
+told_in_turn me old new (x ∷ xs) receives r p (inr there) here = told_in_turn me receives.0 new xs receives.3 r p there here
 
 -- ---- what is delivered is ahead of what is kept
 
@@ -150,7 +150,7 @@ ahead_same me old new id ds ahead but own c more = record {
 }
 
 -- a request that begins stands above all that was delivered
-ahead_start : (me : ℕ) (old : GroupState) (id : RequestId) (floor : ℕ) (groups : List ℕ) (ds : List Delivered) → Sound me old → has groups me ≡ true → Ahead me old ds → Ahead me (lifted (with_start me old id floor groups) id) ds
+pub ahead_start : (me : ℕ) (old : GroupState) (id : RequestId) (floor : ℕ) (groups : List ℕ) (ds : List Delivered) → Sound me old → has groups me ≡ true → Ahead me old ds → Ahead me (lifted (with_start me old id floor groups) id) ds
 ahead_start me old id floor groups ds sound member ahead =
     ahead_same me old (with_start me old id floor groups) id ds ahead (but_start me old id floor groups) own _ (lift_grows (next_clock old floor) (final_of (with_start me old id floor groups) id (get (with_start me old id floor groups).started id)))
   where
@@ -164,7 +164,7 @@ ahead_start me old id floor groups ds sound member ahead =
         (ap (λ o. stamp_lt d.stamp (record { clock = or_zero o; group = me })) heard_own ∙ less)
 
 -- what hears more stands no lower
-ahead_proposal : (me : ℕ) (old : GroupState) (id : RequestId) (from n : ℕ) (ds : List Delivered) → Sound me old → from ≢ me → ((i : RequestId) → heard old i from ≡ Some n → i ≡ id) → ((m : ℕ) → heard old id from ≡ Some m → m ≡ n) → Ahead me old ds →
+pub ahead_proposal : (me : ℕ) (old : GroupState) (id : RequestId) (from n : ℕ) (ds : List Delivered) → Sound me old → from ≢ me → ((i : RequestId) → heard old i from ≡ Some n → i ≡ id) → ((m : ℕ) → heard old id from ≡ Some m → m ≡ n) → Ahead me old ds →
     Ahead me (lifted (with_proposal old id from n) id) ds
 ahead_proposal me old id from n ds sound other single agrees ahead =
     ahead_same me old (with_proposal old id from n) id ds ahead (but_proposal old id from n) own _ (lift_grows old.clock (final_of (with_proposal old id from n) id (get old.started id)))
@@ -224,7 +224,7 @@ ahead_delivers me grp old ds sound ahead delivers = record {
       ];
 }
 
-ascending_append : (xs ys : List Delivered) → Ascending xs → Ascending ys → ((x y : Delivered) → In x xs → In y ys → stamp_lt x.stamp y.stamp ≡ true) → Ascending (xs ++ ys)
+pub ascending_append : (xs ys : List Delivered) → Ascending xs → Ascending ys → ((x y : Delivered) → In x xs → In y ys → stamp_lt x.stamp y.stamp ≡ true) → Ascending (xs ++ ys)
 ascending_append [] ys up up' less = up'
 ascending_append (x ∷ xs) ys up up' less = (
   λ e there. elim (In-append e xs ys there) [ inl before ↦ up.0 e before | inr after ↦ less x e (inl refl) after ],
@@ -232,7 +232,7 @@ ascending_append (x ∷ xs) ys up up' less = (
 )
 
 -- what goes now stands above what went before
-below_now : (me : ℕ) (grp : GroupState) (old ds : List Delivered) → Ahead me grp old → Delivers me grp ds → (x y : Delivered) → In x old → In y ds → stamp_lt x.stamp y.stamp ≡ true
+pub below_now : (me : ℕ) (grp : GroupState) (old ds : List Delivered) → Ahead me grp old → Delivers me grp ds → (x y : Delivered) → In x old → In y ds → stamp_lt x.stamp y.stamp ≡ true
 below_now me grp old ds ahead delivers x y there here =
     let may = delivers.only y here in
     ap (λ o. stamp_lt x.stamp (place_by o (own_at me grp y.id))) (sym may.stamp) ∙ ahead.below x y.id y.groups there may.started
@@ -269,13 +269,13 @@ going_step me old p sent before ds new going may r = record {
         let body = subst (λ b. BodyMayCome me old p.id b) is may.body in
         from_mid _ (sound_proposal me old p.id from n going.lawful.sound body.0 body.2) (ahead_proposal me old p.id from n before going.lawful.sound body.0 body.2 body.3 going.ahead) delivering
 
-going : (me : ℕ) (old new : GroupState) (before : List Delivered) (rs : List Receipt) → Going me old before → Leads me old rs new → Going me new (before ++ log rs)
-going me old new before [] go leads = subst (λ l. Going me new l) (sym (append-nil before)) (subst (λ g. Going me g before) (sym leads) go)
-going me old new before (r ∷ rs) go leads =
+going : (me : ℕ) (old new : GroupState) (before : List Delivered) (rs : List Receipt) → Going me old before → ReceivesInTurn me old rs new → Going me new (before ++ log rs)
+going me old new before [] go receives = subst (λ l. Going me new l) (sym (append-nil before)) (subst (λ g. Going me g before) (sym receives) go)
+going me old new before (r ∷ rs) go receives =
     subst (λ l. Going me new l) (append_assoc before r.delivered (log rs))
-    (going me leads.0 new (before ++ r.delivered) rs (going_step me old r.packet r.sent before r.delivered leads.0 go leads.1 leads.2) leads.3)
+    (going me receives.0 new (before ++ r.delivered) rs (going_step me old r.packet r.sent before r.delivered receives.0 go receives.1 receives.2) receives.3)
 
-going_fresh : (me : ℕ) → Going me fresh []
+pub going_fresh : (me : ℕ) → Going me fresh []
 going_fresh me = record {
   lawful = lawful_fresh me;
   ahead = record { clock = λ d there. absurd there; below = λ d i gs there. absurd there };
@@ -283,13 +283,13 @@ going_fresh me = record {
 }
 
 pub deliveries_ascend : DeliveriesAscend
-deliveries_ascend me rs new leads = (going me fresh new [] rs (going_fresh me) leads).ascending
+deliveries_ascend me rs new receives = (going me fresh new [] rs (going_fresh me) receives).ascending
 
 pub clock_is_above_stamps : ClockIsAboveStamps
-clock_is_above_stamps me rs new leads =
-    let go = going me fresh new [] rs (going_fresh me) leads in
+clock_is_above_stamps me rs new receives =
+    let go = going me fresh new [] rs (going_fresh me) receives in
     record {
-      told = told_leads me fresh new rs leads;
+      told = told_in_turn me fresh new rs receives;
       proposed = λ i n e. (go.lawful.sound.own i n e).0;
       settled = go.lawful.sound.tops;
       delivered = go.ahead.clock;
@@ -317,13 +317,13 @@ empty_of [] none = refl
 empty_of (d ∷ ds) none = absurd (none d (inl refl))
 
 pub repeats_change_nothing : RepeatsChangeNothing
-repeats_change_nothing me rs old new id (Start floor groups) sent ds leads again r = by_start (get old.started id) refl again r
+repeats_change_nothing me rs old new id (Start floor groups) sent ds receives again r = by_start (get old.started id) refl again r
   where
     by_start : (o : Option (List ℕ)) → get old.started id ≡ o → IsSome o → ReceivesStart o me old id floor groups sent ds new → (sent ≡ []) × (ds ≡ []) × (new ≡ old)
     by_start (Some gs) e s r = r
     by_start None e s r = absurd (both_ways _ refl s)
-repeats_change_nothing me rs old new id (Proposal from n) sent ds leads again r =
-    let lawful = lawful_leads me fresh old rs (lawful_fresh me) leads in
+repeats_change_nothing me rs old new id (Proposal from n) sent ds receives again r =
+    let lawful = lawful_in_turn me fresh old rs (lawful_fresh me) receives in
     let same : lifted (with_proposal old id from n) id ≡ old = ap (λ g. lifted g id) (same_proposal old id from n again) ∙ same_lifted me old id lawful.sound in
     let there : Delivering me old ds new = subst (λ g. Delivering me g ds new) same r.1 in
     let none : ds ≡ [] = empty_of ds (λ d here. lawful.stuck d (there.delivers.only d here)) in
@@ -331,7 +331,7 @@ repeats_change_nothing me rs old new id (Proposal from n) sent ds leads again r 
 
 -- ---- the rule leaves no choice
 
-same_ascending : (xs ys : List Delivered) → Ascending xs → Ascending ys → ((d : Delivered) → In d xs → In d ys) → ((d : Delivered) → In d ys → In d xs) → xs ≡ ys
+pub same_ascending : (xs ys : List Delivered) → Ascending xs → Ascending ys → ((d : Delivered) → In d xs → In d ys) → ((d : Delivered) → In d ys → In d xs) → xs ≡ ys
 same_ascending [] [] up up' to from = refl
 same_ascending [] (y ∷ ys) up up' to from = absurd (from y (inl refl))
 same_ascending (x ∷ xs) [] up up' to from = absurd (to x (inl refl))

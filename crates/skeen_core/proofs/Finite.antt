@@ -1,13 +1,13 @@
 -- What a group's state has of each request, after each change. No other file knows how a finite map answers.
-use Rattle.std.proofs.Common.{◌≡◌, ℕ, ◌==◌, ◌&&◌, Bool, true, false, cond, not, List, [], ◌∷◌, Option, Some, None, refl, sym, ap, ◌∙◌}
-use Rattle.std.specs.FinMap.{get, insert, find, get-empty, get-insert, get-retain_keys, get-from_entries, same_map}
+use Rattle.std.proofs.Common.{◌≡◌, ℕ, ◌+◌, ◌==◌, ◌&&◌, length, is_some, arith, Bool, true, false, cond, not, List, [], ◌∷◌, Option, Some, None, refl, sym, ap, ◌∙◌}
+use Rattle.std.specs.FinMap.{get, insert, find, len, len-empty, len-insert, get-empty, get-insert, get-retain_keys, get-from_entries, same_map}
 use Rattle.skeen_core.specs.declared.request.RequestId.{RequestId}
 use Rattle.skeen_core.specs.declared.packet.Delivered.{Delivered}
 use Rattle.skeen_core.specs.declared.kept.Started.{Started}
 use Rattle.skeen_core.specs.declared.kept.Heard.{Heard}
 use Rattle.skeen_core.specs.Request.{same_id, id_cmp, Source, source_cmp}
 use Rattle.skeen_core.specs.Group.{GroupState, fresh, heard, next_clock, with_start, with_proposal, without, has_id}
-use Rattle.skeen_core.specs.Kept.{starts_of, clocks_of, state_of, groups_in, clock_in}
+use Rattle.skeen_core.specs.Kept.{starts_of, clocks_of, state_of, groups_in, clock_in, Once}
 use Rattle.skeen_core.proofs.Ids.{id_total, source_total, id_antisym, source_antisym, id_tied, source_tied}
 
 -- ---- the rule's changes
@@ -80,3 +80,14 @@ started-state_of c ss ps i = get-from_entries id_total (starts_of ss) i ∙ find
 
 pub heard-state_of : (c : ℕ) (ss : List Started) (ps : List Heard) (i : RequestId) (g : ℕ) → heard (state_of c ss ps) i g ≡ clock_in ps i g
 heard-state_of c ss ps i g = get-from_entries source_total (clocks_of ps) (record { id = i; from = g }) ∙ find_clock ps i g
+
+-- where no id stands twice, as many have started as the list has
+pub len-started : (c : ℕ) (ss : List Started) (ps : List Heard) → Once ss → len (state_of c ss ps).started ≡ length ss
+len-started c [] ps once = len-empty id_cmp (List ℕ)
+len-started c (s ∷ ss) ps once =
+    let new : get (state_of c ss ps).started s.id ≡ None = started-state_of c ss ps s.id ∙ once.0 in
+    let rest = len-started c ss ps once.1 in
+    let one_more : len (insert (state_of c ss ps).started s.id s.groups) ≡ len (state_of c ss ps).started + 1 =
+    len-insert id_total (state_of c ss ps).started s.id s.groups
+    ∙ ap (λ o. cond (is_some o) (len (state_of c ss ps).started) (len (state_of c ss ps).started + 1)) new in
+    omega (arith, one_more, rest)

@@ -112,7 +112,7 @@ not_new me grp floor i h n sound at e new =
     let before = (sound.own i n (subst (λ g. heard grp i g ≡ Some n) at e)).0 in absurd (omega arith)
 
 -- started before, started now
-stays_started : (me : ℕ) (grp : GroupState) (id : RequestId) (floor : ℕ) (groups : List ℕ) (i : RequestId) → IsSome (get grp.started i) →
+pub stays_started : (me : ℕ) (grp : GroupState) (id : RequestId) (floor : ℕ) (groups : List ℕ) (i : RequestId) → IsSome (get grp.started i) →
     IsSome (get (with_start me grp id floor groups).started i)
 stays_started me grp id floor groups i before = elim (cases_Bool (same_id i id)) [
   | inl p ↦ some_is _ groups (start_there me grp id floor groups i p)
@@ -281,20 +281,20 @@ pub record Named (ds : List Delivered) (i : RequestId) : Type 0 where
   pub there : In one ds
   pub id : one.id ≡ i
 
-named : (ds : List Delivered) (i : RequestId) → has_id ds i ≡ true → Named ds i
+pub named : (ds : List Delivered) (i : RequestId) → has_id ds i ≡ true → Named ds i
 named [] i h = absurd (both_ways _ refl h)
 named (d ∷ ds) i h = elim (or_cases (same_id d.id i) (has_id ds i) h) [
   | inl e ↦ record { one = d; there = inl refl; id = same_id-true d.id i e }
   | inr e ↦ let rest = named ds i e in record { one = rest.one; there = inr rest.there; id = rest.id }
 ]
 
-kept_started : (grp : GroupState) (ds : List Delivered) (i : RequestId) (gs : List ℕ) → get (without grp ds).started i ≡ Some gs → (has_id ds i ≡ false) × (get grp.started i ≡ Some gs)
+pub kept_started : (grp : GroupState) (ds : List Delivered) (i : RequestId) (gs : List ℕ) → get (without grp ds).started i ≡ Some gs → (has_id ds i ≡ false) × (get grp.started i ≡ Some gs)
 kept_started grp ds i gs e = elim (cases_Bool (has_id ds i)) [
   | inl p ↦ absurd (None≢Some gs (ap (λ b. cond b None (get grp.started i)) (sym p) ∙ sym (started-without grp ds i) ∙ e))
   | inr p ↦ (p, ap (λ b. cond b None (get grp.started i)) (sym p) ∙ sym (started-without grp ds i) ∙ e)
 ]
 
-kept_heard : (grp : GroupState) (ds : List Delivered) (i : RequestId) (g n : ℕ) → heard (without grp ds) i g ≡ Some n → (has_id ds i ≡ false) × (heard grp i g ≡ Some n)
+pub kept_heard : (grp : GroupState) (ds : List Delivered) (i : RequestId) (g n : ℕ) → heard (without grp ds) i g ≡ Some n → (has_id ds i ≡ false) × (heard grp i g ≡ Some n)
 kept_heard grp ds i g n e = elim (cases_Bool (has_id ds i)) [
   | inl p ↦ absurd (None≢Some n (ap (λ b. cond b None (heard grp i g)) (sym p) ∙ sym (heard-without grp ds i g) ∙ e))
   | inr p ↦ (p, ap (λ b. cond b None (heard grp i g)) (sym p) ∙ sym (heard-without grp ds i g) ∙ e)

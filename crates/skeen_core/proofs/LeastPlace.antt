@@ -195,6 +195,14 @@ abbrev pub passing : {X : Type 0} → (X → Bool) → List X → ℕ
 passing p [] = 0
 passing p (x ∷ xs) = cond (p x) 1 0 + passing p xs
 
+at_most_one : (b : Bool) → cond {A = ℕ} b 1 0 ≤ 1
+at_most_one true = omega arith
+at_most_one false = omega arith
+
+pub passing_few : {X : Type 0} (p : X → Bool) (xs : List X) → passing p xs ≤ length xs
+passing_few p [] = omega arith
+passing_few p (x ∷ xs) = let rest = passing_few p xs in let here = at_most_one (p x) in omega arith
+
 fewer_at : (a b : Bool) → (b ≡ true → a ≡ true) → cond b 1 0 ≤ cond a 1 0
 fewer_at true true more = omega arith
 fewer_at true false more = omega arith

@@ -18,11 +18,11 @@ pub record Receipt : Type 0 where
   pub delivered : List Delivered
 
 -- the group receives these packets in turn, each of which may come
-abbrev pub Leads : ℕ → GroupState → List Receipt → GroupState → Type 0
-Leads me old [] new = new ≡ old
-Leads me old (r ∷ rs) new =
+abbrev pub ReceivesInTurn : ℕ → GroupState → List Receipt → GroupState → Type 0
+ReceivesInTurn me old [] new = new ≡ old
+ReceivesInTurn me old (r ∷ rs) new =
     (mid : GroupState) × MayCome (record { me = me; state = old }) r.packet
-    × Receives me old r.packet.id r.packet.body r.sent r.delivered mid × Leads me mid rs new
+    × Receives me old r.packet.id r.packet.body r.sent r.delivered mid × ReceivesInTurn me mid rs new
 
 -- all that was delivered, oldest first
 abbrev pub log : List Receipt → List Delivered
@@ -32,7 +32,7 @@ log (r ∷ rs) = r.delivered ++ log rs
 -- ---- the laws
 
 abbrev pub ClockNeverFalls : Type 0
-ClockNeverFalls = (me : ℕ) (old new : GroupState) (rs : List Receipt) → Leads me old rs new → old.clock ≤ new.clock
+ClockNeverFalls = (me : ℕ) (old new : GroupState) (rs : List Receipt) → ReceivesInTurn me old rs new → old.clock ≤ new.clock
 
 abbrev pub TellsAtMost : ℕ → Body → Type 0
 TellsAtMost c (Start floor groups) = Unit {0}
@@ -47,11 +47,11 @@ pub record IsAboveStamps (me : ℕ) (grp : GroupState) (rs : List Receipt) : Typ
   pub delivered : (d : Delivered) → In d (log rs) → d.stamp.clock ≤ grp.clock
 
 abbrev pub ClockIsAboveStamps : Type 0
-ClockIsAboveStamps = (me : ℕ) (rs : List Receipt) (new : GroupState) → Leads me fresh rs new → IsAboveStamps me new rs
+ClockIsAboveStamps = (me : ℕ) (rs : List Receipt) (new : GroupState) → ReceivesInTurn me fresh rs new → IsAboveStamps me new rs
 
 -- each stamp is below each later one, over all that the group delivers
 abbrev pub DeliveriesAscend : Type 0
-DeliveriesAscend = (me : ℕ) (rs : List Receipt) (new : GroupState) → Leads me fresh rs new → Ascending (log rs)
+DeliveriesAscend = (me : ℕ) (rs : List Receipt) (new : GroupState) → ReceivesInTurn me fresh rs new → Ascending (log rs)
 
 -- nothing is kept of what was delivered
 abbrev pub DeliveredIsForgotten : Type 0
@@ -67,7 +67,7 @@ IsRepeat grp id (Proposal from n) = heard grp id from ≡ Some n
 abbrev pub RepeatsChangeNothing : Type 0
 RepeatsChangeNothing =
     (me : ℕ) (rs : List Receipt) (old new : GroupState) (id : RequestId) (body : Body) (sent : List Packet) (ds : List Delivered) →
-    Leads me fresh rs old → IsRepeat old id body → Receives me old id body sent ds new → (sent ≡ []) × (ds ≡ []) × (new ≡ old)
+    ReceivesInTurn me fresh rs old → IsRepeat old id body → Receives me old id body sent ds new → (sent ≡ []) × (ds ≡ []) × (new ≡ old)
 
 -- the rule leaves no choice
 abbrev pub RuleDetermines : Type 0

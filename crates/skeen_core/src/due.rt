@@ -1,5 +1,5 @@
 //! What a group delivers: it looks for the request at the least place again and again, until that one isn't settled.
-ghost use Rattle.std.specs.Prelude.{◌≡◌, IfOk, MatchOption};
+ghost use Rattle.std.specs.Prelude.{◌≡◌, ◌≤◌, length, IfOk, MatchOption};
 ghost use Rattle.skeen_core.specs.Due.{place, is_above, is_before, settled, NoneAbove, IsNext, PlacesDiffer, IsDue};
 
 use super::kept::Started;
@@ -72,7 +72,8 @@ fn settled(request: &Started) -> Option<Delivered>
 /// Those that the group `me` delivers of its started requests, ascending. The only error is want of memory.
 pub fn due(alloc: Global, started: &[Started], me: GroupId) -> Result<Vec<Delivered>, AllocError>
     requires { PlacesDiffer me started.now }
-    ensures { IfOk result (λ ds. IsDue me started.now ds.items) }
+    ensures due { IfOk result (λ ds. IsDue me started.now ds.items) }
+    ensures few { IfOk result (λ ds. length ds.items ≤ length started.now) }
 {
     let mut due = Vec::new(alloc);
     let mut last = None;

@@ -1,6 +1,7 @@
 //! One group: what it does with the packets that come to it. The system hands it each packet that is for it, sends what
 //! it sends, and puts what it delivers in its queue.
-ghost use Rattle.std.specs.Prelude.{◌≡◌, ◌≤◌, ◌^◌, ◌++◌, [], ◌∷◌, IfOk, OnErr, OnOk};
+ghost use Rattle.std.specs.Prelude.{◌≡◌, ◌+◌, ◌≤◌, ◌^◌, ◌++◌, [], ◌∷◌, length, IfOk, OnErr, OnOk};
+ghost use Rattle.std.specs.FinMap.{len};
 ghost use Rattle.skeen_core.specs.Group.{fresh, lift, MayCome, BodyMayCome, Receives};
 ghost use Rattle.skeen_core.specs.Due.{PlacesDiffer, IsDue};
 ghost use Rattle.skeen_core.specs.Kept.{starts_left, clocks_left};
@@ -55,12 +56,15 @@ impl Group {
         }
     }
 
-    /// Receives a packet: gives the packets that the group sends, in order, and the requests that it delivers, ascending
-    /// by their final stamps. The only error is want of memory, and it changes nothing.
+    /// Receives a packet: gives the packets that the group sends, in order, and the requests that it delivers,
+    /// ascending by their final stamps. The only error is want of memory, and it changes nothing.
     ///
     /// The packet is for this group. A Start names this group. A Proposal comes from another group, and its stamp is
     /// that of no other request's proposal that the group has, and the same as that of the one it has from there for
     /// this request, if it has one. No clock, here or in the packet, is above 2^62.
+    ///
+    /// It sends fewer packets than the request of a Start has groups, and delivers at most one request more than
+    /// `started` says.
     pub fn receive(
         &mut self,
         alloc: Global,
@@ -70,6 +74,7 @@ impl Group {
         ensures me { self.new.me ≡ self.old.me }
         ensures rule { IfOk result (λ out. Receives self.old.me self.old.state packet.id packet.body
             out.0.items out.1.items self.new.state) }
+        ensures few { IfOk result (λ out. length out.1.items ≤ len self.old.state.started + 1) }
         ensures unchanged { OnErr result (self.new ≡ self.old) }
     {
         let Packet { to: _, id, body } = packet;
@@ -95,6 +100,7 @@ impl Group {
         ensures me { self.new.me ≡ self.old.me }
         ensures rule { IfOk result (λ out. Receives self.old.me self.old.state id (Body.Start floor groups)
             out.0.items out.1.items self.new.state) }
+        ensures few { IfOk result (λ out. length out.1.items ≤ len self.old.state.started + 1) }
         ensures unchanged { OnErr result (self.new ≡ self.old) }
     {
         if place_of(self.started.as_slice(), id).is_some() {
@@ -148,6 +154,7 @@ impl Group {
         ensures me { self.new.me ≡ self.old.me }
         ensures rule { IfOk result (λ out. Receives self.old.me self.old.state id (Body.Proposal from clock)
             [] out.items self.new.state) }
+        ensures few { IfOk result (λ out. length out.items ≤ len self.old.state.started + 1) }
         ensures unchanged { OnErr result (self.new ≡ self.old) }
     {
         if clock_of(self.proposals.as_slice(), id, from).is_some() {
@@ -200,6 +207,7 @@ fn deliver(
 ) -> Result<Vec<Delivered>, AllocError>
     requires { PlacesDiffer me started.old.items }
     ensures due { IfOk result (λ ds. IsDue me started.old.items ds.items) }
+    ensures few { IfOk result (λ ds. length ds.items ≤ length started.old.items) }
     ensures started { IfOk result (λ ds. started.new.items ≡ starts_left ds.items started.old.items) }
     ensures proposals { IfOk result (λ ds. proposals.new.items ≡ clocks_left ds.items proposals.old.items) }
     ensures started_kept { OnErr result (started.new.items ≡ started.old.items) }

@@ -83,7 +83,8 @@ impl Links {
         self.packets.get(place)
     }
 
-    /// Takes out the packet at place `place`, counted from 0 in order of sending; those behind it close up. It takes no memory.
+    /// Takes out the packet at place `place`, counted from 0 in order of sending; those behind it close up. It takes no
+    /// memory.
     pub fn take(&mut self, place: usize) -> Option<Packet>
         ensures taken { result ≡ slice_get self.old.packets place }
         ensures rest { self.new.packets ≡ remove self.old.packets place }

@@ -260,6 +260,30 @@ fn a_floor_lifts_the_proposal(rt: HostRuntime) -> Result<(), Fail> {
 }
 
 #[test]
+fn a_start_for_64_groups_is_told_to_63(rt: HostRuntime) -> Result<(), Fail> {
+    let alloc = rt.alloc();
+    let mut group = Group::new(alloc, GroupId::new(0));
+    let mut told = Vec::new(alloc);
+    for to in 1..64u8 {
+        told.push(proposal(to, 1, 0, 1))?;
+    }
+    let wanted = Wanted {
+        sends: &told,
+        delivers: &[],
+        clock: 1,
+        kept: 1,
+    };
+    let _ = step(
+        &rt,
+        alloc,
+        &mut group,
+        start(0, 1, 0, Groups::all(64)),
+        wanted,
+    )?;
+    Ok(())
+}
+
+#[test]
 fn links_keep_the_order_of_sending(rt: HostRuntime) -> Result<(), Fail> {
     let mut links = Links::new(rt.alloc());
     if links.reserve(4).is_err() {

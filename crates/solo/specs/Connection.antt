@@ -1,9 +1,9 @@
 -- What a request is answered, and a whole connection.
-use Rattle.std.specs.Prelude.{◌≡◌, ℕ, List, [], ◌∷◌, Option, Result, Ok, Err, IsOk}
+use Rattle.std.specs.Prelude.{◌≡◌, ℕ, List, [], ◌∷◌, Option, Result, Ok, Err}
 use Rattle.std.proofs.Common.{lit<}
 use Rattle.std.specs.declared.convert.Infallible.{Infallible}
 use Rattle.command_cases.specs.Case.{Case}
-use Rattle.command_bodies.specs.Command.{effect_of}
+use Rattle.command_bodies.specs.Command.{effect_of, TakesMemory}
 use Rattle.command_table.specs.Reading.{reading}
 use Rattle.command_table.specs.Refusal.{refusal_text}
 use Rattle.command_table.specs.declared.command.Command.{Command}
@@ -11,6 +11,7 @@ use Rattle.command_table.specs.declared.refusal.Refusal.{Refusal}
 use Rattle.keyspace.specs.Map.{Map}
 use Rattle.resp.specs.Content.{Content, ErrorLine}
 use Rattle.resp_decoder.specs.declared.limits.Limits.{Limits}
+use Rattle.resp_decoder.specs.declared.limits.TheConstants.{DEFAULT_WORDS, DEFAULT_BULK}
 use Rattle.serving.specs.declared.door.DoorFault.TheVariants.{Memory, Ended}
 use Rattle.serving.specs.declared.outcome.ServeFault.{ServeFault}
 use Rattle.serving.specs.declared.outcome.Served.{Served}
@@ -26,11 +27,12 @@ answer_by (Err refusal) m = (m, ErrorLine (refusal_text refusal))
 abbrev pub answer_to : List (List ℕ) → Case
 answer_to words = answer_by (reading words)
 
--- The request got its answer; or there was no memory for the command that it is, and the map is as before: to refuse words
--- takes no memory. The store ends no connection.
+-- The request got its answer; or it is a command that takes memory, there was none, and the map is as before: to refuse
+-- words takes no memory. The store ends no connection.
 abbrev pub Asks : Map → List (List ℕ) → Answer Infallible → Map → Type 0
 Asks old words (Ok reply) new = (new, reply) ≡ answer_to words old
-Asks old words (Err Memory) new = IsOk (reading words) × (new ≡ old)
+Asks old words (Err Memory) new =
+    (command : Command) × (reading words ≡ Ok command) × TakesMemory command old × (new ≡ old)
 Asks old words (Err (Ended reason)) new = ⊥
 
 -- the requests for which there was memory, and their replies
@@ -47,10 +49,10 @@ replies_of (Err fault ∷ answers) = replies_of answers
 
 -- how large a request may be: Redis's own limits
 abbrev pub limits : Limits
-limits = record { words = 1048576; bulk = 536870912; few_words = lit< tt; short_bulk = lit< tt }
+limits = record { words = DEFAULT_WORDS; bulk = DEFAULT_BULK; few_words = lit< tt; short_bulk = lit< tt }
 
--- The connection was served as `Serves` says, and the requests for which there was memory were answered one after another on the
--- one map, whose last state is t: the others have left no trace.
+-- The connection was served as `Serves` says, and the requests for which there was memory were answered one after
+-- another on the one map, whose last state is t: the others have left no trace.
 pub record ServesInTurn (before after old new : Option (List ℕ)) (s t : Map) (result : Result Served (ServeFault Infallible)) : Type 0 where
   pub connection : Serves Asks limits before after old new s t result
   pub replies : (t, replies_of connection.answers) ≡ in_turn answer_to s (answered_of connection.answered.requests connection.answers)

@@ -31,7 +31,8 @@ impl<S: BuildHasher> Door for Solo<S> {
 }
 
 impl<S: BuildHasher> Solo<S> {
-    /// Serves one connection on this store: reads requests, runs them one after another and writes their replies in that order.
+    /// Serves one connection on this store: reads requests, runs them one after another and writes their replies in
+    /// that order.
     ///
     /// How it ends and what is then read and written is as `serving::serve` says; it never answers `ServeFault::Door`.
     pub fn serve<R: Read, W: Write>(

@@ -3,7 +3,7 @@
 ghost use Rattle.std.specs.Prelude.{◌≡◌, map, OnErr, IfOk};
 ghost use Rattle.std.specs.FinMap as finite;
 ghost use Rattle.resp.specs.Content.{content};
-ghost use Rattle.command_bodies.specs.Command.{effect_of};
+ghost use Rattle.command_bodies.specs.Command.{effect_of, TakesMemory};
 ghost use Rattle.command_cases.specs.Case.{Does};
 ghost use Rattle.solo.specs.Solo.{solo_from, IsStepOrStarves, RunsBeginning};
 
@@ -48,7 +48,8 @@ impl<S: BuildHasher> Solo<S> {
         }
     }
 
-    /// Runs the command and gives its reply, or `ERR out of memory`, which leaves every key as it was.
+    /// Runs the command and gives its reply, or `ERR out of memory` where it takes memory and there is none, which leaves
+    /// every key as it was.
     pub fn run(&mut self, command: Command) -> Reply
         ensures { IsStepOrStarves command self.old (content result) self.new }
     {
@@ -60,7 +61,8 @@ impl<S: BuildHasher> Solo<S> {
 
     /// Runs the commands one after another and gives their replies.
     ///
-    /// With `AllocError` there was no memory for one of them or for its reply; those before it have been run.
+    /// With `AllocError` there was no memory for one of them that takes some, and those before it have been run; or there was
+    /// none for the list of replies, and none of them has. A run of no commands is never refused.
     pub fn run_all(&mut self, commands: Vec<Command>) -> Result<Vec<Reply>, AllocError>
         ensures ok { IfOk result (λ replies. (self.new, map content replies.items) ≡ solo_from self.old commands.items) }
         ensures err { OnErr result (RunsBeginning commands.items self.old self.new) }
@@ -70,14 +72,15 @@ impl<S: BuildHasher> Solo<S> {
             let Ok(reply) = self.try_run(command) else {
                 return Err(AllocError);
             };
-            replies.push(reply)?;
+            replies.push_reserved(reply);
         }
         Ok(replies)
     }
 
     /// Runs the command, unless there is no memory for it.
     pub(crate) fn try_run(&mut self, command: Command) -> Result<Reply, Starved>
-        ensures { Does (effect_of command) self.old self.new result }
+        ensures does { Does (effect_of command) self.old self.new result }
+        ensures starves { OnErr result (TakesMemory command self.old) }
     {
         execute(self.alloc, &mut self.keys, command)
     }

@@ -1,55 +1,9 @@
 //! What is written where a read or a write fails.
 
-use crate::text::{bytes_of, empty_store, requests_of};
+use crate::store::empty_store;
 use serving::ServeFault;
-use std::io;
-use std::io::{ErrorKind, Read, Write};
 use std::test::Fail;
-
-/// Gives these bytes, one at a time, and then fails.
-#[derive(Drop)]
-struct BreaksBehind<'a>(&'a [u8]);
-
-impl Read for BreaksBehind<'_> {
-    fn read(&mut self, buf: &mut [u8]) -> io::Result<usize> {
-        match self.0.split_first() {
-            Some((first, others)) if !buf.is_empty() => {
-                buf[0] = *first;
-                self.0 = others;
-                Ok(1)
-            }
-            _ => Err(io::Error::from(ErrorKind::ConnectionReset)),
-        }
-    }
-}
-
-/// Takes so many bytes, and nothing behind them.
-#[derive(Drop)]
-struct Takes {
-    taken: Vec<u8>,
-    room: usize,
-    fails: bool,
-}
-
-impl Write for Takes {
-    fn write(&mut self, buf: &[u8]) -> io::Result<usize> {
-        let n = buf.len().min(self.room);
-        if n == 0 && self.fails {
-            return Err(io::Error::from(ErrorKind::BrokenPipe));
-        }
-        match self.taken.extend_from_slice(&buf[..n]) {
-            Ok(()) => {
-                self.room -= n;
-                Ok(n)
-            }
-            Err(_) => Err(io::Error::from(ErrorKind::OutOfMemory)),
-        }
-    }
-
-    fn flush(&mut self) -> io::Result<()> {
-        Ok(())
-    }
-}
+use test_support::{NEVER, Sink, Source, bytes_of, requests_of};
 
 #[test]
 fn replies_stand_where_a_read_fails(rt: HostRuntime) -> Result<(), Fail> {
@@ -62,8 +16,9 @@ fn replies_stand_where_a_read_fails(rt: HostRuntime) -> Result<(), Fail> {
         (47, "+OK|$1|1|"),
     ] {
         let mut output = Vec::new(rt.alloc());
-        assert!(rt; given <= input.len());
-        let ended = empty_store(rt.alloc()).serve(&mut BreaksBehind(&input[..given]), &mut output);
+        let mut reader = Source::new(&input, 1);
+        reader.fails_at = given;
+        let ended = empty_store(rt.alloc()).serve(&mut reader, &mut output);
         assert_eq!(rt; ended, Err(ServeFault::Read), "behind {given}");
         assert_eq!(rt;
             output.as_slice(),
@@ -78,19 +33,16 @@ fn replies_stand_where_a_read_fails(rt: HostRuntime) -> Result<(), Fail> {
 fn a_beginning_stands_where_a_write_fails(rt: HostRuntime) -> Result<(), Fail> {
     let input = requests_of(rt.alloc(), "SET a 1; GET a; PING")?;
     let replies = bytes_of(rt.alloc(), "+OK|$1|1|+PONG|")?;
-    for room in 0..replies.len() {
-        for fails in [false, true] {
-            let mut output = Takes {
-                taken: Vec::new(rt.alloc()),
-                room,
-                fails,
-            };
+    for written in 0..replies.len() {
+        for (room, fails_at) in [(written, NEVER), (NEVER, written)] {
+            let mut output = Sink::new(rt.alloc(), 1);
+            (output.room, output.fails_at) = (room, fails_at);
             let ended = empty_store(rt.alloc()).serve(&mut input.as_slice(), &mut output);
-            assert_eq!(rt; ended, Err(ServeFault::Write), "room for {room}");
+            assert_eq!(rt; ended, Err(ServeFault::Write), "after {written}");
             assert_eq!(rt;
                 output.taken.as_slice(),
-                &replies[..room],
-                "room for {room}"
+                &replies[..written],
+                "after {written}"
             );
         }
     }

@@ -8,4 +8,4 @@ mod faults;
 #[cfg(test)]
 mod rows;
 #[cfg(test)]
-mod text;
+mod store;

@@ -1,36 +1,31 @@
 //! What the store answers, row by row.
 
-use crate::text::{BAD_LENGTH, END, Ending, INSIDE, bytes_of, empty_store, requests_of};
+use crate::store::{BAD_LENGTH, END, Ending, INSIDE, empty_store};
 use command_table::read;
 use resp::{Request, write_reply};
 use resp_decoder::Fault;
 use serving::Served;
+use std::alloc::Global;
 use std::io::Read;
+use std::process::Abort;
 use std::test::Fail;
+use test_support::{bytes_of, requests_of};
+
+/// Requests on an empty store, and their replies.
+#[rattlefmt::skip]
+const COMMANDS: [(&str, &str); 7] = [
+    ("SET a 1; GET a; DEL a a; GET a", "+OK|$1|1|:1|$-1|"),
+    ("PING hi; PING x y", "$2|hi|-ERR wrong number of arguments for 'ping' command|"),
+    ("ECHO ''; FOO", "$0||-ERR unknown command|"),
+    ("SET a 1 XX; SET a 1 nx NX; SET a 2 NX; GET a", "$-1|+OK|$-1|$1|1|"),
+    ("SET b 1 NX XX; SET b 1 EX 10; GET b", "-ERR syntax error|-ERR syntax error|$-1|"),
+    ("GET; DEL; SET a", "-ERR wrong number of arguments for 'get' command|-ERR wrong number of arguments for 'del' command|-ERR wrong number of arguments for 'set' command|"),
+    ("SET a 1; SET b 2; DEL a c b a; del b", "+OK|+OK|:2|:0|"),
+];
 
 #[test]
 fn commands_answer(rt: HostRuntime) -> Result<(), Fail> {
-    for (requests, replies) in [
-        ("SET a 1; GET a; DEL a a; GET a", "+OK|$1|1|:1|$-1|"),
-        (
-            "PING hi; PING x y",
-            "$2|hi|-ERR wrong number of arguments for 'ping' command|",
-        ),
-        ("ECHO ''; FOO", "$0||-ERR unknown command|"),
-        (
-            "SET a 1 XX; SET a 1 nx NX; SET a 2 NX; GET a",
-            "$-1|+OK|$-1|$1|1|",
-        ),
-        (
-            "SET b 1 NX XX; SET b 1 EX 10; GET b",
-            "-ERR syntax error|-ERR syntax error|$-1|",
-        ),
-        (
-            "GET; DEL; SET a",
-            "-ERR wrong number of arguments for 'get' command|-ERR wrong number of arguments for 'del' command|-ERR wrong number of arguments for 'set' command|",
-        ),
-        ("SET a 1; SET b 2; DEL a c b a; del b", "+OK|+OK|:2|:0|"),
-    ] {
+    for (requests, replies) in COMMANDS {
         let input = requests_of(rt.alloc(), requests)?;
         let mut output = Vec::new(rt.alloc());
         let ending = empty_store(rt.alloc()).serve(&mut input.as_slice(), &mut output);
@@ -44,41 +39,32 @@ fn commands_answer(rt: HostRuntime) -> Result<(), Fail> {
     Ok(())
 }
 
+const STAR: Ending = Ok(Served::Protocol(Fault::ExpectedStar));
+
+const DOLLAR: Ending = Ok(Served::Protocol(Fault::ExpectedDollar));
+
+const LINE_END: Ending = Ok(Served::Protocol(Fault::ExpectedCrlf));
+
+/// The bytes that are read, the replies, and how serving ends.
+#[rattlefmt::skip]
+const STREAMS: [(&str, &str, Ending); 12] = [
+    ("*1|$4|PiNG|", "+PONG|", END),
+    ("*3|$3|SET|$0||$0||*2|$3|GET|$0||*2|$3|GET|$1|a|", "+OK|$0||$-1|", END),
+    ("*0|*-1|*1|$4|PING|", "+PONG|", END),
+    ("", "", END),
+    ("*1|$4|PI", "", INSIDE),
+    ("*1|$4|PING|*", "+PONG|", INSIDE),
+    ("*1|$03|GET|", "-ERR Protocol error: invalid length|", BAD_LENGTH),
+    ("*1|$536870913", "-ERR Protocol error: invalid length|", BAD_LENGTH),
+    ("PING|", "-ERR Protocol error: expected '*'|", STAR),
+    ("*1|$4|PING|PING|*1|$4|PING|", "+PONG|-ERR Protocol error: expected '*'|", STAR),
+    ("*1|+PING|", "-ERR Protocol error: expected '$'|", DOLLAR),
+    ("*1|$4|PINGxx", "-ERR Protocol error: expected CRLF|", LINE_END),
+];
+
 #[test]
 fn bytes_are_read_as_requests(rt: HostRuntime) -> Result<(), Fail> {
-    let star: Ending = Ok(Served::Protocol(Fault::ExpectedStar));
-    let dollar: Ending = Ok(Served::Protocol(Fault::ExpectedDollar));
-    let line: Ending = Ok(Served::Protocol(Fault::ExpectedCrlf));
-    for (input, replies, ending) in [
-        ("*1|$4|PiNG|", "+PONG|", END),
-        (
-            "*3|$3|SET|$0||$0||*2|$3|GET|$0||*2|$3|GET|$1|a|",
-            "+OK|$0||$-1|",
-            END,
-        ),
-        ("*0|*-1|*1|$4|PING|", "+PONG|", END),
-        ("", "", END),
-        ("*1|$4|PI", "", INSIDE),
-        ("*1|$4|PING|*", "+PONG|", INSIDE),
-        (
-            "*1|$03|GET|",
-            "-ERR Protocol error: invalid length|",
-            BAD_LENGTH,
-        ),
-        (
-            "*1|$536870913",
-            "-ERR Protocol error: invalid length|",
-            BAD_LENGTH,
-        ),
-        ("PING|", "-ERR Protocol error: expected '*'|", star),
-        (
-            "*1|$4|PING|PING|*1|$4|PING|",
-            "+PONG|-ERR Protocol error: expected '*'|",
-            star,
-        ),
-        ("*1|+PING|", "-ERR Protocol error: expected '$'|", dollar),
-        ("*1|$4|PINGxx", "-ERR Protocol error: expected CRLF|", line),
-    ] {
+    for (input, replies, ending) in STREAMS {
         let bytes = bytes_of(rt.alloc(), input)?;
         let mut output = Vec::new(rt.alloc());
         let ended = empty_store(rt.alloc()).serve(&mut bytes.as_slice(), &mut output);
@@ -128,5 +114,49 @@ fn a_run_gives_a_reply_for_each_command(rt: HostRuntime) -> Result<(), Fail> {
     write_reply(&store.run(last.map_err(|_| "a refusal")?), &mut output)?;
     let replies = bytes_of(rt.alloc(), "+OK|$1|1|:1|$-1|+PONG|$2|hi|")?;
     assert_eq!(rt; output.as_slice(), replies.as_slice());
+    Ok(())
+}
+
+/// Has the store answer this input, and looks at its replies.
+fn expect(rt: &impl Abort, alloc: Global, input: &[u8], replies: &[u8]) {
+    let mut output = Vec::new(alloc);
+    let mut input = input;
+    let ending = empty_store(alloc).serve(&mut input, &mut output);
+    assert_eq!(rt; ending, END);
+    assert!(rt; output.as_slice() == replies);
+}
+
+#[test]
+fn two_thousand_keys_are_kept(rt: HostRuntime) -> Result<(), Fail> {
+    let mut input = Vec::new(rt.alloc());
+    let mut replies = Vec::new(rt.alloc());
+    for key in 1000..3000u32 {
+        let row = format!(in rt.alloc(); "SET {key} 1")?;
+        input.extend_from_slice(&requests_of(rt.alloc(), row.as_str())?)?;
+        replies.extend_from_slice(b"+OK\r\n")?;
+    }
+    for key in 1000..3000u32 {
+        let row = format!(in rt.alloc(); "GET {key}; DEL {key} a b c d e f g h; GET {key}")?;
+        input.extend_from_slice(&requests_of(rt.alloc(), row.as_str())?)?;
+        replies.extend_from_slice(b"$1\r\n1\r\n:1\r\n$-1\r\n")?;
+    }
+    expect(&rt, rt.alloc(), &input, &replies);
+    Ok(())
+}
+
+#[test]
+fn a_value_of_two_million_bytes_comes_back(rt: HostRuntime) -> Result<(), Fail> {
+    let mut value = bytes_of(rt.alloc(), "$2000000|")?;
+    for _ in 0..2000 {
+        value.extend_from_slice(&[b'x'; 1000])?;
+    }
+    value.extend_from_slice(b"\r\n")?;
+    let mut input = bytes_of(rt.alloc(), "*3|$3|SET|$1|a|")?;
+    input.extend_from_slice(&value)?;
+    input.extend_from_slice(&requests_of(rt.alloc(), "GET a; GET a")?)?;
+    let mut replies = bytes_of(rt.alloc(), "+OK|")?;
+    replies.extend_from_slice(&value)?;
+    replies.extend_from_slice(&value)?;
+    expect(&rt, rt.alloc(), &input, &replies);
     Ok(())
 }

@@ -5,16 +5,22 @@
 #![tactic(auto)]
 
 mod bodies;
+mod many;
+mod reads;
+mod replaces;
 
 ghost use Rattle.std.specs.Prelude.{◌≡◌, All, IsTrue, OnErr};
 ghost use Rattle.command_cases.specs.Case.{Does};
-ghost use Rattle.command_table.specs.Command.{string_command_keys};
+ghost use Rattle.command_table.specs.StringCommands.{string_command_keys};
 ghost use Rattle.string_commands.specs.StringCommand.{string_command_case, StringCommandTakesMemory};
 
-use bodies::{get, set};
+use bodies::{get, set, setnx};
 use command_cases::{Starved, body_rows};
 use command_table::{StringCommand, command_rows};
 use keyspace::Keyspace;
+use many::mget;
+use reads::{getrange, strlen};
+use replaces::{getdel, getset};
 use resp::Reply;
 use std::alloc::Global;
 

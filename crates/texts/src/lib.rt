@@ -4,8 +4,10 @@
 //! a contract can compare a command, a value or a request by `≡`. Keys, words and values of every crate above are of these types.
 #![tactic(auto)]
 
+mod pairs;
 mod text;
 mod text_list;
 
+pub use pairs::Pairs;
 pub use text::Text;
-pub use text_list::Texts;
+pub use text_list::{End, Texts};

@@ -1,6 +1,7 @@
 //! One byte string.
 
-ghost use Rattle.std.specs.Prelude.{◌≡◌, ◌↔◌, [], length, IsTrue, IfOk};
+ghost use Rattle.std.specs.Prelude.{◌≡◌, ◌↔◌, ◌+◌, ◌^◌, ◌<◌, ◌≤◌, [], ◌++◌, length, IsTrue, IsOk, IfOk, OnOk, OnErr};
+ghost use Rattle.texts.specs.Writes.{written_at};
 
 use std::alloc::{AllocError, Global};
 use std::marker::Model;
@@ -12,9 +13,9 @@ pub struct Text {
 }
 
 impl Model for Text {
-    ghost use Rattle.std.specs.Prelude.{ℕ, List};
+    ghost use Rattle.texts.specs.Texts.{Bytes};
 
-    ghost Value = { List ℕ };
+    ghost Value = { Bytes };
 
     ghost view = { λ t. t.bytes.items };
 }
@@ -59,11 +60,61 @@ impl Text {
         self.bytes.is_empty()
     }
 
+    /// Appends these bytes: in the room that the string has, or after one growth of it to at least double.
+    ///
+    /// `AllocError` where there is no memory for the longer string, which then stays as it was.
+    pub fn append(&mut self, tail: &[u8]) -> Result<(), AllocError>
+        ensures ok { OnOk result (self.new ≡ self.old ++ tail.now) }
+        ensures err { OnErr result (self.new ≡ self.old) }
+        ensures succeeds { tail.now ≡ [] → IsOk result }
+    {
+        self.bytes.extend_from_slice(tail)?;
+        Ok(())
+    }
+
+    /// Writes these bytes over the string, from `offset` on. Memory is taken only where the string gets longer; what then lies
+    /// between its old end and `offset` becomes zero bytes.
+    ///
+    /// `AllocError` where there is no memory for the longer string, which then stays as it was.
+    pub fn write_at(&mut self, offset: usize, more: &[u8]) -> Result<(), AllocError>
+        requires { offset + length more.now < 2 ^ 64 }
+        ensures ok { OnOk result (self.new ≡ written_at self.old offset more.now) }
+        ensures err { OnErr result (self.new ≡ self.old) }
+        ensures succeeds { offset + length more.now ≤ length self.old → IsOk result }
+    {
+        let end = offset + more.len();
+        let len = self.bytes.len();
+        if end <= len {
+            self.bytes[offset..end].copy_from_slice(more);
+            return Ok(());
+        }
+        self.bytes.reserve(end - len)?;
+        self.bytes.resize(offset, 0)?;
+        self.bytes.extend_from_slice(more)?;
+        Ok(())
+    }
+
+    /// Becomes these bytes. It takes memory only where they are more than the string has room for.
+    ///
+    /// `AllocError` where there is no memory for them; the string then stays as it was.
+    pub fn set(&mut self, bytes: &[u8]) -> Result<(), AllocError>
+        ensures ok { OnOk result (self.new ≡ bytes.now) }
+        ensures err { OnErr result (self.new ≡ self.old) }
+        ensures succeeds { length bytes.now ≤ length self.old → IsOk result }
+    {
+        self.bytes
+            .reserve(bytes.len().saturating_sub(self.bytes.len()))?;
+        self.bytes.clear();
+        self.bytes.extend_from_slice(bytes)?;
+        Ok(())
+    }
+
     /// The bytes, given back with the memory that they lie in.
     pub fn into_vec(self) -> Vec<u8>
         ensures { result.items ≡ self }
     {
-        self.bytes
+        let Text { bytes } = self;
+        bytes
     }
 }
 

@@ -1,0 +1,5 @@
+pub mod HashValue
+pub mod Items
+pub mod ListValue
+pub mod SetValue
+pub mod Value

@@ -1,5 +1,6 @@
 //! What can be read of a group.
-ghost use Rattle.std.specs.Prelude.{◌≡◌, ◌↔◌, IsTrue};
+ghost use Rattle.std.specs.Prelude.{◌≡◌, ◌<◌, ◌^◌, ◌↔◌, IsTrue};
+ghost use Rattle.std.specs.FinMap.{len};
 ghost use Rattle.skeen_core.specs.Group.{MayCome, CountsKept};
 
 use super::Group;
@@ -15,6 +16,14 @@ impl Group {
         self.clock
     }
 
+    /// How many requests have started and are not yet delivered.
+    pub fn started(&self) -> usize
+        ensures count { result ≡ len self.now.state.started }
+        ensures small { result < 2 ^ 63 }
+    {
+        self.started.len()
+    }
+
     /// How many requests the group keeps: those that have started, and those that haven't but of which a proposal came.
     /// It compares the proposals with one another, so it is for tests and inspection.
     pub fn kept(&self) -> usize
@@ -23,8 +32,8 @@ impl Group {
         count_requests(self.proposals.as_slice())
     }
 
-    /// Whether the packet may come: whether `receive` can be called with it. It compares the proposals with one another,
-    /// so it is for callers that can't prove the condition.
+    /// Whether the packet may come: whether `receive` can be called with it. It compares the proposals with one
+    /// another, so it is for callers that can't prove the condition.
     pub fn may_come(&self, packet: &Packet) -> bool
         ensures { IsTrue result ↔ MayCome self.now packet.now }
     {

@@ -2,7 +2,8 @@ use Rattle.std.proofs.Common.{◌≡◌, ◌∷◌, sym, ◌∙◌}
 use Rattle.std.specs.List.{remove}
 use Rattle.command_table.specs.Words.{texts_of}
 use Rattle.command_table.proofs.Texts.{first_word}
-use Rattle.command_table.proofs.Told.{told_if}
+use Rattle.command_table.proofs.Keyed.{keyed_if}
+use Rattle.command_table.proofs.Tells.{told_if}
 use Rattle.command_table.proofs.reading.read.Goals as goal
 
 pub returns-clause-reading : goal.returns-clause-reading
@@ -14,3 +15,6 @@ returns-clause-reading c =
 
 pub returns-clause-told : goal.returns-clause-told
 returns-clause-told c = told_if c.args.request c.read_named.result (returns-clause-reading c)
+
+pub returns-clause-keyed : goal.returns-clause-keyed
+returns-clause-keyed c = keyed_if c.args.request c.read_named.result (returns-clause-reading c)

@@ -1,7 +1,7 @@
 use Rattle.std.proofs.Common.{sym, ◌∙◌, rules, tests}
 use Rattle.std.proofs.lemmas.Iterator.{YieldsList-from_slice}
 use Rattle.std.proofs.lemmas.Iterator.Search.{all_from_yields_List}
-use Rattle.command_table.specs.StringTable.{is_option}
+use Rattle.command_table.specs.StringCommands.{is_option}
 use Rattle.command_table.proofs.Texts.{all_text}
 use Rattle.command_table.proofs.string_commands.are_options.Goals as goal
 

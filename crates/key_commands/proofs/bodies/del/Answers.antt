@@ -1,4 +1,4 @@
-use Rattle.std.proofs.Common.{◌≡◌, ℕ, ◌+◌, List, [], ◌∷◌, cond, map, drop, IsTrue, is_some, arith, sym, ap, subst, ◌∙◌}
+use Rattle.std.proofs.Common.{◌≡◌, ◌+◌, List, [], ◌∷◌, cond, drop, IsTrue, is_some, arith, sym, ap, subst, ◌∙◌}
 use Rattle.std.proofs.lemmas.List.{drop_all}
 use Rattle.std.specs.FinMap.{get, remove, len}
 use Rattle.command_cases.specs.Replies.{count}
@@ -6,14 +6,15 @@ use Rattle.resp.specs.Content.{content}
 use Rattle.command_cases.proofs.Items.{covered_item, rest_item}
 use Rattle.keyspace.proofs.Counts.{without-cons, without-nil, len-restrict-cons, len-restrict-nil}
 use Rattle.keyspace.specs.Map.{Map, restrict, without}
+use Rattle.texts.specs.Texts.{Bytes, texts_of}
 use Rattle.key_commands.proofs.bodies.del.Goals as goal
 use Rattle.key_commands.proofs.bodies.del.Goals.{then-is_some, else-is_some}
 
 -- one key taken from the map, and from those that are left
-without_turn : (m n : Map) (k : List ℕ) (rest ks : List (List ℕ)) → n ≡ remove m k → rest ≡ k ∷ ks → without n ks ≡ without m rest
+without_turn : (m n : Map) (k : Bytes) (rest ks : List Bytes) → n ≡ remove m k → rest ≡ k ∷ ks → without n ks ≡ without m rest
 without_turn m n k rest ks taken left = ap (λ a. without a ks) taken ∙ sym (without-cons m k ks) ∙ ap (without m) (sym left)
 
-len_turn : (m n : Map) (k : List ℕ) (rest ks : List (List ℕ)) → n ≡ remove m k → rest ≡ k ∷ ks
+len_turn : (m n : Map) (k : Bytes) (rest ks : List Bytes) → n ≡ remove m k → rest ≡ k ∷ ks
     → len (restrict m rest) ≡ cond (is_some (get m k)) 1 0 + len (restrict n ks)
 len_turn m n k rest ks taken left =
     ap (λ a. len (restrict m a)) left ∙ len-restrict-cons m k ks ∙ ap (λ a. cond (is_some (get m k)) 1 0 + len (restrict a ks)) (sym taken)
@@ -30,8 +31,8 @@ pub loop-key-preserved : goal.loop-key-preserved
 loop-key-preserved g c =
     let xs = c.as_slice-key-items.result.now in
     let i = c.loop-key.key-index in
-    let rest = map (λ t. t.items) (drop i xs) in
-    let ks = map (λ t. t.items) (drop (i + 1) xs) in
+    let rest = texts_of (drop i xs) in
+    let ks = texts_of (drop (i + 1) xs) in
     let m = g.K.Keyspace.contents c.loop-key.keyspace in
     let n = g.K.Keyspace.contents c.take.new.self in
     let k = c.as_slice.result.now in
@@ -53,8 +54,8 @@ pub returns-clause-done : goal.returns-clause-done
 returns-clause-done g c =
     let m = g.K.Keyspace.contents c.loop-key.keyspace in
     let xs = c.as_slice-key-items.result.now in
-    let rest = map (λ t. t.items) (drop c.loop-key.key-index xs) in
-    let none_left : rest ≡ [] = ap (map (λ t. t.items)) (drop_all c.loop-key.key-index xs c.loop-key-test.false) in
+    let rest = texts_of (drop c.loop-key.key-index xs) in
+    let none_left : rest ≡ [] = ap (texts_of) (drop_all c.loop-key.key-index xs c.loop-key-test.false) in
     let gone : m ≡ without (g.K.Keyspace.contents c.args.keyspace.now) c.args.keys =
     sym (without-nil m) ∙ ap (without m) (sym none_left) ∙ c.loop-key.invariant.removes in
     let none_counted : len (restrict m rest) ≡ 0 = ap (λ ks. len (restrict m ks)) none_left ∙ len-restrict-nil m in

@@ -1,13 +1,14 @@
-use Rattle.std.proofs.Common.{◌≡◌, ◌+◌, ◌≤◌, map, drop}
+use Rattle.std.proofs.Common.{◌≡◌, ◌+◌, ◌≤◌, drop}
 use Rattle.std.specs.FinMap.{len}
 use Rattle.keyspace.specs.Map.{restrict, without}
+use Rattle.texts.specs.Texts.{texts_of}
 use Rattle.key_commands.proofs.bodies.del.Given as goal
 
 -- what the keys that are left take away, from here, is what all keys take away from the start
 abbrev pub invariant-loop-key : goal.invariant-loop-key
 invariant-loop-key g l =
     let contents = g.K.Keyspace.contents in
-    let rest = map (λ t. t.items) (drop l.key-index l.key-items) in
+    let rest = texts_of (drop l.key-index l.key-items) in
     record {
       covers : g.K.Keyspace.covered l.keyspace ≡ g.K.Keyspace.covered l.fn.keyspace;
       bounded : l.removed ≤ l.key-index;

@@ -14,7 +14,7 @@ returns-in_default g c =
     answers_unsent g.D.Door.asks _ _ _ _ _ _ _ _ _ _ _ c.loop-pause.invariant c.gather-pause.ensures (rw c.as_slice.ensures.value at c.in_default.ensures.err)
 
 pub loop-pause-smaller : goal.loop-pause-smaller
-loop-pause-smaller g c = writing_shorter g.D.Door.asks c.args.decoder.now c.args.door.now (g.W.Write.contents c.args.writer.now) _ _ _ _ _ c.in-Full.ensures
+loop-pause-smaller g c = writing_shorter g.D.Door.asks c.args.decoder.now.held c.args.door.now (g.W.Write.contents c.args.writer.now) _ _ _ _ _ c.in-Full.ensures
 
 pub loop-pause-preserved : goal.loop-pause-preserved
 loop-pause-preserved g c =

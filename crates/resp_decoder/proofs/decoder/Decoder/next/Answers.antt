@@ -1,3 +1,5 @@
+use Rattle.std.proofs.Common.{ap}
+use Rattle.resp_decoder.specs.Decoding.{DecoderView}
 use Rattle.resp_decoder.proofs.Answering.{fails_from}
 use Rattle.resp_decoder.proofs.decoder.Decoder.next.Goals as goal
 
@@ -8,6 +10,8 @@ returns-in_default-fault c =
       request = tt;
       waits = tt;
       fault = λ no_memory.
-          fails_from c.self.inside.limits c.self.inside.progress c.self.inside.buffer.items c.deref.result.now c.self.inside.fault c.args.self.now c.fail.new.self c.in-Err-Bad.fault c.self.view_is c.in_default.is c.deref.ensures.value (reads no_memory) c.fail.ensures;
+          fails_from c.self.inside.limits c.self.inside.progress c.self.inside.buffer.items c.deref.result.now c.self.inside.fault c.args.self.now.held c.fail.new.self.held c.in-Err-Bad.fault (ap (λ (v : DecoderView). v.held) c.self.view_is) c.in_default.is c.deref.ensures.value (reads no_memory) c.fail.ensures.held;
       memory = λ is_memory. absurd (c.in_default-fault.not-Memory is_memory);
+      wants = λ is_memory. absurd (c.in_default-fault.not-Memory is_memory);
+      count_alone = c.fail.ensures.count_alone;
     }

@@ -1,10 +1,11 @@
 -- A Proposal: what the code has made of the lists is what the rule gives.
-use Rattle.std.proofs.Common.{◌≡◌, [], ◌∷◌, ◌++◌, Some, get_or, slice_set, arith, sym, ap, ◌∙◌, subst, refl, vec_len, length, take, ◌-◌}
+use Rattle.std.proofs.Common.{rules, ◌+◌, ◌≤◌, ◌≡◌, [], ◌∷◌, ◌++◌, Some, get_or, slice_set, arith, sym, ap, ◌∙◌, subst, refl, vec_len, length, take, ◌-◌}
+use Rattle.std.specs.FinMap.{len}
 use Rattle.skeen_core.specs.declared.packet.Body.TheVariants.{Proposal}
 use Rattle.skeen_core.specs.Stamp.{final}
 use Rattle.skeen_core.specs.Group.{GroupView, BodyMayCome, Receives, lift}
 use Rattle.skeen_core.specs.Kept.{state_of, groups_in, clock_in, StandsAt, IsKept}
-use Rattle.skeen_core.proofs.Finite.{heard-state_of}
+use Rattle.skeen_core.proofs.Finite.{heard-state_of, len-started}
 use Rattle.skeen_core.proofs.Lawful.{some_same}
 use Rattle.skeen_core.proofs.Representation.{own_heard, settled_at}
 use Rattle.skeen_core.proofs.Steps.{ToldMade, SetMade, told_early, told_differ, told_delivers, told_waits, told_again, comes_as, none_of, some_of, written_back, got_back, popped}
@@ -298,3 +299,9 @@ returns-in-Err-clause-unchanged c =
     let long : vec_len c.deliver.new.proposals ≡ length c.deliver.new.proposals.items = omega (arith, c.deliver.new.proposals.ok.0) in
     let off : c.pop.new.self.items ≡ ps = c.pop.ensures.rest ∙ ap (λ m. take (m - 1) c.deliver.new.proposals.items) long ∙ popped ps _ p (c.in-Err.ensures.proposals_kept ∙ made.clocks) in
     ap (λ l. record { me = me; state = state_of cl l c.pop.new.self.items }) back ∙ ap (λ l. record { me = me; state = state_of cl ss l }) off ∙ c.self.view_is
+
+pub returns-in-Ok-clause-few : goal.returns-in-Ok-clause-few
+returns-in-Ok-clause-few c =
+    let counted = len-started c.self.inside.clock c.self.inside.started.items c.self.inside.proposals.items c.self.invariant.keeps.once in
+    let few = c.in-Ok.ensures.few in
+    subst (λ (v : GroupView). length c.in-Ok.delivered.items ≤ len v.state.started + 1) c.self.view_is (search rules)

@@ -1,10 +1,11 @@
 -- A Start: what the code has made of the lists is what the rule gives.
-use Rattle.std.proofs.Common.{◌≡◌, ◌+◌, [], ◌∷◌, ◌++◌, None, arith, sym, ap, ◌∙◌, subst, refl}
-use Rattle.std.specs.FinMap.{get}
+use Rattle.std.proofs.Common.{rules, ◌≤◌, length, ◌≡◌, ◌+◌, [], ◌∷◌, ◌++◌, None, arith, sym, ap, ◌∙◌, subst, refl}
+use Rattle.std.specs.FinMap.{get, len}
 use Rattle.skeen_core.specs.declared.packet.Body.TheVariants.{Start}
 use Rattle.skeen_core.specs.Stamp.{final}
 use Rattle.skeen_core.specs.Group.{GroupView, BodyMayCome, ReceivesStart, lift}
 use Rattle.skeen_core.specs.Kept.{state_of, groups_in, clock_in}
+use Rattle.skeen_core.proofs.Finite.{len-started}
 use Rattle.skeen_core.proofs.Representation.{own_heard, begun_as}
 use Rattle.skeen_core.proofs.Steps.{StartMade, start_differ, start_delivers, start_waits, receives_new, receives_again, comes_as, not_there, is_there, none_of, stands_some}
 use Rattle.skeen_core.proofs.group.Group.start.Goals as goal
@@ -128,3 +129,9 @@ returns-in-Ok-clause-rule c =
     subst (λ (v : GroupView). ReceivesStart (get v.state.started c.args.id) v.me v.state c.args.id c.args.floor c.args.groups c.in_ok-sent.sent.items c.in-Ok.delivered.items
     (state_of c.lifted-clock.result c.deliver.new.started.items c.deliver.new.proposals.items)) c.self.view_is
     (receives_new me c.self.inside.clock ss ps c.args.id c.args.floor c.args.groups n _ _ _ absent made.clock c.in_ok-sent.ensures comes.delivering)
+
+pub returns-in-Ok-clause-few : goal.returns-in-Ok-clause-few
+returns-in-Ok-clause-few c =
+    let counted = len-started c.self.inside.clock c.self.inside.started.items c.self.inside.proposals.items c.self.invariant.keeps.once in
+    let few = c.in-Ok.ensures.few in
+    subst (λ (v : GroupView). length c.in-Ok.delivered.items ≤ len v.state.started + 1) c.self.view_is (search rules)

@@ -1,0 +1,183 @@
+-- The commands on lists: what is told of each, what their words say, and their rows.
+use Rattle.std.specs.Prelude.{ℤ, List, [], ◌∷◌, drop, Result, Ok, Err, if◌then◌else◌, codes}
+use Rattle.command_table.specs.declared.arity.Arity.TheVariants.{Exactly, AtLeast}
+use Rattle.command_table.specs.declared.command.Command.TheVariants as variant
+use Rattle.command_table.specs.declared.list_commands.ListCommand.{ListCommand}
+use Rattle.command_table.specs.declared.list_commands.ListCommand.TheVariants.{Llen, Lpop, Rpop, Lpush, Rpush, Lpushx, Rpushx, Lindex, Lset, Lrange, Ltrim, Lrem, Linsert, Lmove, Rpoplpush}
+use Rattle.command_table.specs.declared.list_commands.Side.{Side}
+use Rattle.command_table.specs.declared.list_commands.Side.TheVariants.{Before, After}
+use Rattle.command_table.specs.declared.refusal.Refusal.{Refusal}
+use Rattle.command_table.specs.declared.refusal.Refusal.TheVariants.{Syntax}
+use Rattle.command_table.specs.KeySpan.{Between}
+use Rattle.command_table.specs.Row.{Row, Reading}
+use Rattle.command_table.specs.Telling.{Telling, These, named}
+use Rattle.command_table.specs.Words.{Word, word, is_word, integer_word}
+use Rattle.texts.specs.declared.text_list.End.{End}
+use Rattle.texts.specs.declared.text_list.End.TheVariants.{Head, Tail}
+
+abbrev pub list_command_told : ListCommand → Telling
+list_command_told (Llen key) = record { name = codes "llen"; keys = These (key ∷ []) }
+list_command_told (Lpop key) = record { name = codes "lpop"; keys = These (key ∷ []) }
+list_command_told (Rpop key) = record { name = codes "rpop"; keys = These (key ∷ []) }
+list_command_told (Lpush key items) = record { name = codes "lpush"; keys = These (key ∷ []) }
+list_command_told (Rpush key items) = record { name = codes "rpush"; keys = These (key ∷ []) }
+list_command_told (Lpushx key items) = record { name = codes "lpushx"; keys = These (key ∷ []) }
+list_command_told (Rpushx key items) = record { name = codes "rpushx"; keys = These (key ∷ []) }
+list_command_told (Lindex key place) = record { name = codes "lindex"; keys = These (key ∷ []) }
+list_command_told (Lset key place item) = record { name = codes "lset"; keys = These (key ∷ []) }
+list_command_told (Lrange key start end) = record { name = codes "lrange"; keys = These (key ∷ []) }
+list_command_told (Ltrim key start end) = record { name = codes "ltrim"; keys = These (key ∷ []) }
+list_command_told (Lrem key count item) = record { name = codes "lrem"; keys = These (key ∷ []) }
+list_command_told (Linsert key side pivot item) = record { name = codes "linsert"; keys = These (key ∷ []) }
+list_command_told (Lmove from to taken put) = record { name = codes "lmove"; keys = These (from ∷ to ∷ []) }
+list_command_told (Rpoplpush from to) = record { name = codes "rpoplpush"; keys = These (from ∷ to ∷ []) }
+
+abbrev pub list_command_keys : ListCommand → List Word
+list_command_keys c = named (list_command_told c).keys
+
+-- the side of the pivot that the word names, BEFORE or AFTER
+abbrev pub side_of : Word → Result Side Refusal
+side_of w = if is_word (codes "before") w then Ok Before else if is_word (codes "after") w then Ok After else Err Syntax
+
+-- the end of a list that the word names, LEFT or RIGHT
+abbrev pub end_of : Word → Result End Refusal
+end_of w = if is_word (codes "left") w then Ok Head else if is_word (codes "right") w then Ok Tail else Err Syntax
+
+abbrev pub lindex_with : Word → Result ℤ Refusal → Reading
+lindex_with key (Ok place) = Ok (variant.List (Lindex key place))
+lindex_with key (Err refusal) = Err refusal
+
+abbrev pub lset_with : Word → Word → Result ℤ Refusal → Reading
+lset_with key item (Ok place) = Ok (variant.List (Lset key place item))
+lset_with key item (Err refusal) = Err refusal
+
+abbrev pub lrange_with : Word → Result ℤ Refusal → Result ℤ Refusal → Reading
+lrange_with key (Ok start) (Ok end) = Ok (variant.List (Lrange key start end))
+lrange_with key (Ok start) (Err refusal) = Err refusal
+lrange_with key (Err refusal) end = Err refusal
+
+abbrev pub ltrim_with : Word → Result ℤ Refusal → Result ℤ Refusal → Reading
+ltrim_with key (Ok start) (Ok end) = Ok (variant.List (Ltrim key start end))
+ltrim_with key (Ok start) (Err refusal) = Err refusal
+ltrim_with key (Err refusal) end = Err refusal
+
+abbrev pub lrem_with : Word → Word → Result ℤ Refusal → Reading
+lrem_with key item (Ok count) = Ok (variant.List (Lrem key count item))
+lrem_with key item (Err refusal) = Err refusal
+
+abbrev pub linsert_with : Word → Word → Word → Result Side Refusal → Reading
+linsert_with key pivot item (Ok side) = Ok (variant.List (Linsert key side pivot item))
+linsert_with key pivot item (Err refusal) = Err refusal
+
+abbrev pub lmove_with : Word → Word → Result End Refusal → Result End Refusal → Reading
+lmove_with from to (Ok taken) (Ok put) = Ok (variant.List (Lmove from to taken put))
+lmove_with from to (Ok taken) (Err refusal) = Err refusal
+lmove_with from to (Err refusal) put = Err refusal
+
+abbrev pub llen_row : Row
+llen_row = record { name = codes "llen"; arity = Exactly 2; keys = Between 1 1; reading = λ words. Ok (variant.List (Llen (word words 0))) }
+
+abbrev pub lpop_row : Row
+lpop_row = record { name = codes "lpop"; arity = Exactly 2; keys = Between 1 1; reading = λ words. Ok (variant.List (Lpop (word words 0))) }
+
+abbrev pub rpop_row : Row
+rpop_row = record { name = codes "rpop"; arity = Exactly 2; keys = Between 1 1; reading = λ words. Ok (variant.List (Rpop (word words 0))) }
+
+abbrev pub lpush_row : Row
+lpush_row =
+    record { name = codes "lpush"; arity = AtLeast 3; keys = Between 1 1; reading = λ words. Ok (variant.List (Lpush (word words 0) (drop 1 words))) }
+
+abbrev pub rpush_row : Row
+rpush_row =
+    record { name = codes "rpush"; arity = AtLeast 3; keys = Between 1 1; reading = λ words. Ok (variant.List (Rpush (word words 0) (drop 1 words))) }
+
+abbrev pub lpushx_row : Row
+lpushx_row =
+    record { name = codes "lpushx"; arity = AtLeast 3; keys = Between 1 1; reading = λ words. Ok (variant.List (Lpushx (word words 0) (drop 1 words))) }
+
+abbrev pub rpushx_row : Row
+rpushx_row =
+    record { name = codes "rpushx"; arity = AtLeast 3; keys = Between 1 1; reading = λ words. Ok (variant.List (Rpushx (word words 0) (drop 1 words))) }
+
+abbrev pub lindex_row : Row
+lindex_row = record {
+  name = codes "lindex";
+  arity = Exactly 3;
+  keys = Between 1 1;
+  reading = λ words. lindex_with (word words 0) (integer_word (word words 1));
+}
+
+abbrev pub lset_row : Row
+lset_row = record {
+  name = codes "lset";
+  arity = Exactly 4;
+  keys = Between 1 1;
+  reading = λ words. lset_with (word words 0) (word words 2) (integer_word (word words 1));
+}
+
+abbrev pub lrange_row : Row
+lrange_row = record {
+  name = codes "lrange";
+  arity = Exactly 4;
+  keys = Between 1 1;
+  reading = λ words. lrange_with (word words 0) (integer_word (word words 1)) (integer_word (word words 2));
+}
+
+abbrev pub ltrim_row : Row
+ltrim_row = record {
+  name = codes "ltrim";
+  arity = Exactly 4;
+  keys = Between 1 1;
+  reading = λ words. ltrim_with (word words 0) (integer_word (word words 1)) (integer_word (word words 2));
+}
+
+abbrev pub lrem_row : Row
+lrem_row = record {
+  name = codes "lrem";
+  arity = Exactly 4;
+  keys = Between 1 1;
+  reading = λ words. lrem_with (word words 0) (word words 2) (integer_word (word words 1));
+}
+
+abbrev pub linsert_row : Row
+linsert_row = record {
+  name = codes "linsert";
+  arity = Exactly 5;
+  keys = Between 1 1;
+  reading = λ words. linsert_with (word words 0) (word words 2) (word words 3) (side_of (word words 1));
+}
+
+abbrev pub lmove_row : Row
+lmove_row = record {
+  name = codes "lmove";
+  arity = Exactly 5;
+  keys = Between 1 2;
+  reading = λ words. lmove_with (word words 0) (word words 1) (end_of (word words 2)) (end_of (word words 3));
+}
+
+abbrev pub rpoplpush_row : Row
+rpoplpush_row = record {
+  name = codes "rpoplpush";
+  arity = Exactly 3;
+  keys = Between 1 2;
+  reading = λ words. Ok (variant.List (Rpoplpush (word words 0) (word words 1)));
+}
+
+abbrev pub list_rows : List Row
+list_rows =
+    llen_row
+    ∷ lpop_row
+    ∷ rpop_row
+    ∷ lpush_row
+    ∷ rpush_row
+    ∷ lpushx_row
+    ∷ rpushx_row
+    ∷ lindex_row
+    ∷ lset_row
+    ∷ lrange_row
+    ∷ ltrim_row
+    ∷ lrem_row
+    ∷ linsert_row
+    ∷ lmove_row
+    ∷ rpoplpush_row
+    ∷ []

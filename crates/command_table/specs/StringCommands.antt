@@ -1,0 +1,96 @@
+-- The commands on strings: what is told of each, what their words say, and their rows.
+use Rattle.std.specs.Prelude.{Bool, true, false, ◌||◌, List, [], ◌∷◌, drop, Result, Ok, Err, if◌then◌else◌, codes}
+use Rattle.std.specs.List.{list_any, list_all}
+use Rattle.command_table.specs.declared.arity.Arity.TheVariants.{Exactly, AtLeast}
+use Rattle.command_table.specs.declared.command.Command.TheVariants.{Str}
+use Rattle.command_table.specs.declared.refusal.Refusal.{Refusal}
+use Rattle.command_table.specs.declared.refusal.Refusal.TheVariants.{Syntax}
+use Rattle.command_table.specs.declared.string_commands.Condition.{Condition}
+use Rattle.command_table.specs.declared.string_commands.Condition.TheVariants.{Always, IfAbsent, IfPresent}
+use Rattle.command_table.specs.declared.string_commands.StringCommand.{StringCommand}
+use Rattle.command_table.specs.declared.string_commands.StringCommand.TheVariants.{Get, Set, Setnx, Getset, Getdel, Mget, Strlen, Getrange}
+use Rattle.command_table.specs.KeySpan.{Between, ToLastWord}
+use Rattle.command_table.specs.Row.{Row, Reading, integer_reading}
+use Rattle.command_table.specs.Telling.{Telling, These, named}
+use Rattle.command_table.specs.Words.{Word, word, is_word}
+
+abbrev pub string_command_told : StringCommand → Telling
+string_command_told (Get key) = record { name = codes "get"; keys = These (key ∷ []) }
+string_command_told (Set key value condition) = record { name = codes "set"; keys = These (key ∷ []) }
+string_command_told (Setnx key value) = record { name = codes "setnx"; keys = These (key ∷ []) }
+string_command_told (Getset key value) = record { name = codes "getset"; keys = These (key ∷ []) }
+string_command_told (Getdel key) = record { name = codes "getdel"; keys = These (key ∷ []) }
+string_command_told (Mget keys) = record { name = codes "mget"; keys = These keys }
+string_command_told (Strlen key) = record { name = codes "strlen"; keys = These (key ∷ []) }
+string_command_told (Getrange key start end) = record { name = codes "getrange"; keys = These (key ∷ []) }
+
+abbrev pub string_command_keys : StringCommand → List Word
+string_command_keys c = named (string_command_told c).keys
+
+-- the two options of SET
+abbrev pub is_nx : Word → Bool
+is_nx = is_word (codes "nx")
+
+abbrev pub is_xx : Word → Bool
+is_xx = is_word (codes "xx")
+
+abbrev pub is_option : Word → Bool
+is_option w = is_nx w || is_xx w
+
+-- what the options ask for, by whether NX and whether XX is among them
+abbrev pub condition_of : Bool → Bool → Result Condition Refusal
+condition_of false false = Ok Always
+condition_of true false = Ok IfAbsent
+condition_of false true = Ok IfPresent
+condition_of true true = Err Syntax
+
+-- the condition that the options state: each is NX or XX, and not both are there
+abbrev pub options_condition : List Word → Result Condition Refusal
+options_condition options =
+    if list_all is_option options then condition_of (list_any is_nx options) (list_any is_xx options) else Err Syntax
+
+abbrev pub set_with : Word → Word → Result Condition Refusal → Reading
+set_with key value (Ok condition) = Ok (Str (Set key value condition))
+set_with key value (Err refusal) = Err refusal
+
+abbrev pub set_reading : List Word → Reading
+set_reading words = set_with (word words 0) (word words 1) (options_condition (drop 2 words))
+
+abbrev pub get_row : Row
+get_row = record { name = codes "get"; arity = Exactly 2; keys = Between 1 1; reading = λ words. Ok (Str (Get (word words 0))) }
+
+abbrev pub set_row : Row
+set_row = record { name = codes "set"; arity = AtLeast 3; keys = Between 1 1; reading = set_reading }
+
+abbrev pub setnx_row : Row
+setnx_row = record { name = codes "setnx"; arity = Exactly 3; keys = Between 1 1; reading = λ words. Ok (Str (Setnx (word words 0) (word words 1))) }
+
+abbrev pub getset_row : Row
+getset_row = record {
+  name = codes "getset";
+  arity = Exactly 3;
+  keys = Between 1 1;
+  reading = λ words. Ok (Str (Getset (word words 0) (word words 1)));
+}
+
+abbrev pub getdel_row : Row
+getdel_row = record { name = codes "getdel"; arity = Exactly 2; keys = Between 1 1; reading = λ words. Ok (Str (Getdel (word words 0))) }
+
+abbrev pub mget_row : Row
+mget_row = record { name = codes "mget"; arity = AtLeast 2; keys = ToLastWord 1 1; reading = λ words. Ok (Str (Mget words)) }
+
+abbrev pub strlen_row : Row
+strlen_row = record { name = codes "strlen"; arity = Exactly 2; keys = Between 1 1; reading = λ words. Ok (Str (Strlen (word words 0))) }
+
+-- the start is read before the end
+abbrev pub getrange_reading : List Word → Reading
+getrange_reading words =
+    integer_reading (word words 1) (λ start. integer_reading (word words 2) (λ end. Ok (Str (Getrange (word words 0) start end))))
+
+abbrev pub getrange_row : Row
+getrange_row = record { name = codes "getrange"; arity = Exactly 4; keys = Between 1 1; reading = getrange_reading }
+
+abbrev pub string_rows : List Row
+string_rows =
+    get_row ∷ set_row ∷ setnx_row ∷ getset_row ∷ getdel_row ∷ mget_row ∷ strlen_row
+    ∷ getrange_row ∷ []

@@ -1,0 +1,215 @@
+//! Commands on hashes.
+
+ghost use Rattle.std.specs.Prelude.{◌≡◌, ◌≤◌, [], ◌∷◌, length, MatchResult, Some, None};
+ghost use Rattle.command_table.specs.HashCommands.{hash_command_told, hash_rows, whole_pairs, hlen_row, hget_row, hexists_row, hstrlen_row};
+ghost use Rattle.command_table.specs.HashCommands.{hkeys_row, hvals_row, hgetall_row, hmget_row, hdel_row, hsetnx_row, hset_row, hmset_row};
+ghost use Rattle.command_table.specs.Held.{told_held};
+ghost use Rattle.command_table.specs.Row.{row_of, reading_among};
+ghost use Rattle.command_table.specs.Words.{texts_of};
+
+use crate::arity::Arity;
+use crate::command::Command;
+use crate::command_rows;
+use crate::refusal::{CommandName, Refusal};
+use crate::rows::{keys_of_span, read_rows, told_rows};
+use crate::told::{Keys, Told};
+use crate::words::{first_and_rest, only_word, two_words};
+use texts::{Pairs, Text, Texts};
+
+/// A command on hashes.
+#[derive(Drop)]
+pub enum HashCommand {
+    /// `HLEN key`: the number of fields.
+    Hlen { key: Text },
+
+    /// `HGET key field`: the value of the field.
+    Hget { key: Text, field: Text },
+
+    /// `HEXISTS key field`: whether the field is there.
+    Hexists { key: Text, field: Text },
+
+    /// `HSTRLEN key field`: the length of the field's value.
+    Hstrlen { key: Text, field: Text },
+
+    /// `HKEYS key`: the fields.
+    Hkeys { key: Text },
+
+    /// `HVALS key`: the values.
+    Hvals { key: Text },
+
+    /// `HGETALL key`: the fields and their values by turns.
+    Hgetall { key: Text },
+
+    /// `HMGET key field [field ..]`: the value of each field.
+    Hmget { key: Text, fields: Texts },
+
+    /// `HDEL key field [field ..]`: removes the fields.
+    Hdel { key: Text, fields: Texts },
+
+    /// `HSETNX key field value`: sets the field where it isn't there.
+    Hsetnx { key: Text, field: Text, value: Text },
+
+    /// `HSET key field value [field value ..]`: sets the fields.
+    Hset { key: Text, pairs: Pairs },
+
+    /// `HMSET key field value [field value ..]`: sets the fields.
+    Hmset { key: Text, pairs: Pairs },
+}
+
+impl HashCommand {
+    /// What is told of the command.
+    pub(crate) fn told(&self) -> Told<'_>
+        ensures { told_held result ≡ hash_command_told self.now }
+    {
+        command_rows!(hashes, told_rows, HashCommand, self)
+    }
+}
+
+/// Reads the words after a name by the row that has it; `Err` gives the words back where none of these rows has it.
+pub(crate) fn read_hash_command(
+    name: &str,
+    words: Vec<Vec<u8>>,
+) -> Result<Result<Command, Refusal>, Vec<Vec<u8>>>
+    ensures { MatchResult
+        result
+        (λ read. reading_among hash_rows name.now (texts_of words.items) ≡ Some read)
+        (λ back. (row_of hash_rows name.now ≡ None) × (back ≡ words)) }
+{
+    command_rows!(hashes, read_rows, name, words)
+}
+
+/// `HLEN key`.
+fn read_hlen(words: Vec<Vec<u8>>) -> Result<Command, Refusal>
+    requires { length words.items ≡ 1 }
+    ensures { result ≡ hlen_row.reading (texts_of words.items) }
+{
+    let key = only_word(words);
+    Ok(Command::Hash(HashCommand::Hlen { key }))
+}
+
+/// `HGET key field`.
+fn read_hget(words: Vec<Vec<u8>>) -> Result<Command, Refusal>
+    requires { length words.items ≡ 2 }
+    ensures { result ≡ hget_row.reading (texts_of words.items) }
+{
+    let (key, field) = two_words(words);
+    Ok(Command::Hash(HashCommand::Hget { key, field }))
+}
+
+/// `HEXISTS key field`.
+fn read_hexists(words: Vec<Vec<u8>>) -> Result<Command, Refusal>
+    requires { length words.items ≡ 2 }
+    ensures { result ≡ hexists_row.reading (texts_of words.items) }
+{
+    let (key, field) = two_words(words);
+    Ok(Command::Hash(HashCommand::Hexists { key, field }))
+}
+
+/// `HSTRLEN key field`.
+fn read_hstrlen(words: Vec<Vec<u8>>) -> Result<Command, Refusal>
+    requires { length words.items ≡ 2 }
+    ensures { result ≡ hstrlen_row.reading (texts_of words.items) }
+{
+    let (key, field) = two_words(words);
+    Ok(Command::Hash(HashCommand::Hstrlen { key, field }))
+}
+
+/// `HKEYS key`.
+fn read_hkeys(words: Vec<Vec<u8>>) -> Result<Command, Refusal>
+    requires { length words.items ≡ 1 }
+    ensures { result ≡ hkeys_row.reading (texts_of words.items) }
+{
+    let key = only_word(words);
+    Ok(Command::Hash(HashCommand::Hkeys { key }))
+}
+
+/// `HVALS key`.
+fn read_hvals(words: Vec<Vec<u8>>) -> Result<Command, Refusal>
+    requires { length words.items ≡ 1 }
+    ensures { result ≡ hvals_row.reading (texts_of words.items) }
+{
+    let key = only_word(words);
+    Ok(Command::Hash(HashCommand::Hvals { key }))
+}
+
+/// `HGETALL key`.
+fn read_hgetall(words: Vec<Vec<u8>>) -> Result<Command, Refusal>
+    requires { length words.items ≡ 1 }
+    ensures { result ≡ hgetall_row.reading (texts_of words.items) }
+{
+    let key = only_word(words);
+    Ok(Command::Hash(HashCommand::Hgetall { key }))
+}
+
+/// `HMGET key field [field ..]`.
+fn read_hmget(words: Vec<Vec<u8>>) -> Result<Command, Refusal>
+    requires { 2 ≤ length words.items }
+    ensures { result ≡ hmget_row.reading (texts_of words.items) }
+{
+    let (key, fields) = first_and_rest(words);
+    Ok(Command::Hash(HashCommand::Hmget { key, fields }))
+}
+
+/// `HDEL key field [field ..]`.
+fn read_hdel(words: Vec<Vec<u8>>) -> Result<Command, Refusal>
+    requires { 2 ≤ length words.items }
+    ensures { result ≡ hdel_row.reading (texts_of words.items) }
+{
+    let (key, fields) = first_and_rest(words);
+    Ok(Command::Hash(HashCommand::Hdel { key, fields }))
+}
+
+/// `HSETNX key field value`.
+fn read_hsetnx(words: Vec<Vec<u8>>) -> Result<Command, Refusal>
+    requires { length words.items ≡ 3 }
+    ensures { result ≡ hsetnx_row.reading (texts_of words.items) }
+{
+    let (key, field, value) = three_words(words);
+    Ok(Command::Hash(HashCommand::Hsetnx { key, field, value }))
+}
+
+/// `HSET key field value [field value ..]`.
+fn read_hset(words: Vec<Vec<u8>>) -> Result<Command, Refusal>
+    requires { 3 ≤ length words.items }
+    ensures { result ≡ hset_row.reading (texts_of words.items) }
+{
+    let (key, rest) = first_and_rest(words);
+    match in_pairs(rest) {
+        Some(pairs) => Ok(Command::Hash(HashCommand::Hset { key, pairs })),
+        None => Err(Refusal::Arity(CommandName::of("hset"))),
+    }
+}
+
+/// `HMSET key field value [field value ..]`.
+fn read_hmset(words: Vec<Vec<u8>>) -> Result<Command, Refusal>
+    requires { 3 ≤ length words.items }
+    ensures { result ≡ hmset_row.reading (texts_of words.items) }
+{
+    let (key, rest) = first_and_rest(words);
+    match in_pairs(rest) {
+        Some(pairs) => Ok(Command::Hash(HashCommand::Hmset { key, pairs })),
+        None => Err(Refusal::Arity(CommandName::of("hmset"))),
+    }
+}
+
+/// The words two by two; `None` where one is left over.
+fn in_pairs(words: Texts) -> Option<Pairs>
+    ensures { result ≡ whole_pairs words }
+{
+    let words = words.into_vec();
+    if words.len() % 2 != 0 {
+        return None;
+    }
+    Some(Pairs::from_turns(words))
+}
+
+/// The three words.
+fn three_words(mut words: Vec<Vec<u8>>) -> (Text, Text, Text)
+    requires { length words.items ≡ 3 }
+    ensures { texts_of words.items ≡ result.0 ∷ result.1 ∷ result.2 ∷ [] }
+{
+    let third = words.pop().unwrap();
+    let second = words.pop().unwrap();
+    let first = words.pop().unwrap();
+    (Text::from(first), Text::from(second), Text::from(third))
+}

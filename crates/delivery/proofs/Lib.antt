@@ -1,0 +1,5 @@
+pub mod Layers
+pub mod Found
+pub mod Sound
+pub mod Rows
+pub mod Heads

@@ -1,0 +1,83 @@
+//! The queue of one group.
+ghost use Rattle.std.specs.Prelude.{◌≡◌, ◌+◌, ◌<◌, ◌≤◌, ◌++◌, [], ◌∷◌, drop, OnOk, OnErr, IsOk, option_copied};
+ghost use Rattle.delivery.specs.Search.{head_of};
+
+use skeen_core::Delivered;
+use std::alloc::{AllocError, Global};
+use std::collections::VecDeque;
+use std::marker::Model;
+
+/// What a group has delivered and no layer has taken yet. A contract sees the requests, oldest first, and how many more
+/// fit without memory.
+#[derive(Drop)]
+pub struct Queue {
+    requests: VecDeque<Delivered>,
+}
+
+impl Model for Queue {
+    ghost use Rattle.std.specs.Prelude.{◌-◌};
+    ghost use Rattle.std.specs.VecDeque.{deque_len, deque_capacity};
+    ghost use Rattle.delivery.specs.Queues.{QueueView};
+
+    ghost Value = { QueueView };
+
+    ghost view = { λ q. record {
+      requests = q.requests.items;
+      room =
+          deque_capacity q.requests - deque_len q.requests;
+    } };
+}
+
+impl Queue {
+    /// A queue without requests.
+    pub fn new(alloc: Global) -> Self
+        ensures { result.requests ≡ [] }
+    {
+        Queue {
+            requests: VecDeque::new(alloc),
+        }
+    }
+
+    /// The oldest request.
+    pub fn head(&self) -> Option<&Delivered>
+        ensures { option_copied result ≡ head_of self.now.requests }
+    {
+        self.requests.front()
+    }
+
+    /// Takes the room for `count` more requests. The only error is want of memory, which changes nothing.
+    pub fn reserve(&mut self, count: usize) -> Result<(), AllocError>
+        ensures requests { self.new.requests ≡ self.old.requests }
+        ensures room { OnOk result (count ≤ self.new.room) }
+        ensures room_kept { self.old.room ≤ self.new.room }
+        ensures succeeds { count ≤ self.old.room → IsOk result }
+        ensures unchanged { OnErr result (self.new ≡ self.old) }
+    {
+        let len = self.requests.len();
+        if count <= self.requests.capacity() - len {
+            return Ok(());
+        }
+        // The room at least doubles, so that requests that come one by one are copied a few times only.
+        self.requests.reserve_exact(count.max(len))
+    }
+
+    /// Puts the request behind all others. It can't fail where there is room, and want of memory changes nothing.
+    pub fn append(&mut self, request: Delivered) -> Result<(), AllocError>
+        ensures appended { OnOk result (self.new.requests ≡ self.old.requests ++ request ∷ []) }
+        ensures room { OnOk result (self.old.room ≤ self.new.room + 1) }
+        ensures succeeds { 0 < self.old.room → IsOk result }
+        ensures unchanged { OnErr result (self.new ≡ self.old) }
+    {
+        self.reserve(1)?;
+        self.requests.push_back_reserved(Delivered { ..request });
+        Ok(())
+    }
+
+    /// Takes the oldest request out, if there is one. It takes no memory.
+    pub fn pop(&mut self)
+        ensures requests { self.new.requests ≡ drop 1 self.old.requests }
+        ensures room { self.old.room ≤ self.new.room }
+    {
+        let _ = self.requests.pop_front();
+    }
+}

@@ -1,0 +1,2 @@
+pub mod HashCommand
+pub mod SetAnswer

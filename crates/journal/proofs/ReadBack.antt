@@ -1,0 +1,245 @@
+-- What was written of a trace spells that trace.
+use Rattle.std.proofs.Common.{◌≡◌, ◌≢◌, ℕ, zero, suc, ◌+◌, ◌/◌, ◌%◌, ◌^◌, ◌<◌, ◌≤◌, List, [], ◌∷◌, ◌++◌, length, map, get_or, Bool, true, false, ◌&&◌, refl, ap, ◌∙◌, arith, Option, Some, ◌==◌, codes, lit<}
+use Rattle.std.specs.Fmt.{decimal}
+use Rattle.std.specs.List.{flat_map, AllByRecursion, AllZip}
+use Rattle.std.specs.Result.{result_ok}
+use Rattle.std.proofs.lemmas.List.{append_assoc}
+use Rattle.std.proofs.lemmas.Fmt.{decimal_by_steps}
+use Rattle.std.proofs.lemmas.Bool.{ne_eqb}
+use Rattle.hex.specs.Hex.{encode_lower, encode_with, lower_digits, IsBytes}
+use Rattle.hex.proofs.HexLemmas.{decode_of-encode_lower}
+use Rattle.skeen_core.specs.declared.request.ConnId.{ConnId}
+use Rattle.skeen_core.specs.declared.request.RequestId.{RequestId}
+use Rattle.packing.specs.Codes.{WordFits, WordsFit}
+use Rattle.journal.specs.declared.step.Step.{Step}
+use Rattle.journal.specs.declared.step.Step.TheVariants.{Open, Submit, Deliver, Take, Run, Settle, Collect, Close}
+use Rattle.journal.specs.Codes.{IdFits, StepFits}
+use Rattle.journal.specs.TraceText.{word_text, id_text, step_name, step_args, joined, step_line, first_line, max_line, end_line, trace_text, word_in, cut_at, id_of, id_in, all_in, parts_in, named, step_in, IsStepLine, HasNoLf, Spells}
+use Rattle.journal.proofs.TextLaws.{number_in-decimal}
+
+-- ---- bytes above a space
+
+abbrev Visible : ℕ → Type 0
+Visible b = 32 < b
+
+abbrev Plain : List ℕ → Type 0
+Plain text = AllByRecursion Visible text
+
+all_append : (P : ℕ → Type 0) (xs ys : List ℕ) → AllByRecursion P xs → AllByRecursion P ys → AllByRecursion P (xs ++ ys)
+all_append P [] ys p q = q
+all_append P (x ∷ xs) ys p q = (p.0, all_append P xs ys p.1 q)
+
+weaker : (P Q : ℕ → Type 0) (xs : List ℕ) → ((x : ℕ) → P x → Q x) → AllByRecursion P xs → AllByRecursion Q xs
+weaker P Q [] f all = tt
+weaker P Q (x ∷ xs) f all = (f x all.0, weaker P Q xs f all.1)
+
+abbrev Digits : List ℕ → Type 0
+Digits text = AllByRecursion (λ b. 47 < b) text
+
+decimal-digits : (n : ℕ) → n < 2 ^ 64 → Digits (decimal n)
+decimal-digits n h =
+    decimal_by_steps (λ m ds. Digits ds) (λ m low. (omega arith, tt))
+    (λ m ds high all. all_append (λ b. 47 < b) ds ((48 + m % 10) ∷ []) all (omega arith, tt)) n h
+
+decimal-plain : (n : ℕ) → n < 2 ^ 64 → Plain (decimal n)
+decimal-plain n h = weaker (λ b. 47 < b) Visible (decimal n) (λ b high. omega arith) (decimal-digits n h)
+
+at_all : (P : ℕ → Type 0) (xs : List ℕ) (i : ℕ) → AllByRecursion P xs → i < length xs → P (get_or xs i 0)
+at_all P [] i all h = absurd (omega arith)
+at_all P (x ∷ xs) zero all h = all.0
+at_all P (x ∷ xs) (suc i) all h = at_all P xs i all.1 (omega arith)
+
+lower-plain : Plain lower_digits
+lower-plain = (
+  lit< tt,
+  (
+    lit< tt,
+    (
+      lit< tt,
+      (
+        lit< tt,
+        (
+          lit< tt,
+          (lit< tt, (lit< tt, (lit< tt, (lit< tt, (lit< tt, (lit< tt, (lit< tt, (lit< tt, (lit< tt, (lit< tt, (lit< tt, tt))))))))))),
+        ),
+      ),
+    ),
+  ),
+)
+
+digit-plain : (k : ℕ) → k < 16 → Visible (get_or lower_digits k 0)
+digit-plain k h = at_all Visible lower_digits k lower-plain h
+
+tail-bytes : (b : ℕ) (bs : List ℕ) → IsBytes (b ∷ bs) → IsBytes bs
+tail-bytes b bs is = λ i. is (suc i)
+
+encode-plain : (word : List ℕ) → IsBytes word → Plain (encode_lower word)
+unfolding encode_with
+encode-plain [] is = tt
+encode-plain (b ∷ bs) is =
+    let low : b < 256 = is 0 in
+    (digit-plain (b / 16) (omega arith), (digit-plain (b % 16) (omega arith), encode-plain bs (tail-bytes b bs is)))
+
+pub word-plain : (word : List ℕ) → WordFits word → Plain (word_text word)
+word-plain [] fits = (lit< tt, tt)
+word-plain (b ∷ bs) fits = encode-plain (b ∷ bs) fits.bytes
+
+id-plain : (id : RequestId) → IdFits id → Plain (id_text id)
+id-plain id fits = all_append Visible (decimal id.conn.0 ++ codes ".") (decimal id.seq)
+    (all_append Visible (decimal id.conn.0) (codes ".") (decimal-plain id.conn.0 fits.conn) (lit< tt, tt))
+    (decimal-plain id.seq fits.seq)
+
+-- ---- what is read of each part
+
+and-false : (a : Bool) → (a && false) ≡ false
+and-false true = refl
+and-false false = refl
+
+word_in-text : (word : List ℕ) → WordFits word → word_in (word_text word) ≡ Some word
+unfolding word_in encode_with
+word_in-text [] fits = refl
+word_in-text (b ∷ bs) fits =
+    let two : ((get_or lower_digits (b / 16) 0 == 45) && false) ≡ false = and-false (get_or lower_digits (b / 16) 0 == 45) in
+    rw two (ap result_ok (decode_of-encode_lower (b ∷ bs) fits.bytes))
+
+cut-at-dot : (ds rest : List ℕ) → Digits ds → cut_at 46 (ds ++ 46 ∷ rest) ≡ (ds, Some rest)
+unfolding cut_at
+cut-at-dot [] rest all = refl
+cut-at-dot (d ∷ ds) rest all =
+    let high = all.0 in let other : (d == 46) ≡ false = ne_eqb d 46 (omega arith) in rw (other, cut-at-dot ds rest all.1) refl
+
+id_in-text : (id : RequestId) → IdFits id → id_in (id_text id) ≡ Some id
+unfolding id_in id_of
+id_in-text id fits =
+    let cut : cut_at 46 (id_text id) ≡ (decimal id.conn.0, Some (decimal id.seq)) = ap (cut_at 46)
+    (append_assoc (decimal id.conn.0) (codes ".") (decimal id.seq)) ∙ cut-at-dot (decimal id.conn.0) (decimal id.seq)
+    (decimal-digits id.conn.0 fits.conn) in
+    rw (cut, number_in-decimal id.conn.0 (decimal id.conn.0) fits.conn refl, number_in-decimal id.seq (decimal id.seq) fits.seq refl) refl
+
+all_in-text : {A : Type 0} (Fits : A → Type 0) (read : List ℕ → Option A) (text : A → List ℕ) → ((x : A) → Fits x → read (text x) ≡ Some x)
+    → (xs : List A) → AllByRecursion Fits xs → all_in read (map text xs) ≡ Some xs
+all_in-text Fits read text back [] fit = refl
+all_in-text Fits read text back (x ∷ xs) fit = rw (back x fit.0, all_in-text Fits read text back xs fit.1) refl
+
+all_in-plain : {A : Type 0} (Fits : A → Type 0) (text : A → List ℕ) → ((x : A) → Fits x → Plain (text x))
+    → (xs : List A) → AllByRecursion Fits xs → AllByRecursion Plain (map text xs)
+all_in-plain Fits text plain [] fit = tt
+all_in-plain Fits text plain (x ∷ xs) fit = (plain x fit.0, all_in-plain Fits text plain xs fit.1)
+
+-- ---- a line and its parts
+
+parts_in-joined : (name : List ℕ) (args : List (List ℕ)) → Plain name → AllByRecursion Plain args → parts_in (joined name args) ≡
+    (name, args)
+parts_in-joined [] [] p q = refl
+parts_in-joined [] (arg ∷ args) p q = rw (parts_in-joined arg args q.0 q.1) refl
+parts_in-joined (b ∷ bs) args p q =
+    let high = p.0 in let other : (b == 32) ≡ false = ne_eqb b 32 (omega arith) in rw (other, parts_in-joined bs args p.1 q) refl
+
+-- ---- the line of a step
+
+names : (step : Step) → Plain (step_name step)
+names Open = (lit< tt, (lit< tt, (lit< tt, (lit< tt, tt))))
+names (Submit conn words) = (lit< tt, (lit< tt, (lit< tt, (lit< tt, (lit< tt, (lit< tt, tt))))))
+names (Deliver place) = (lit< tt, (lit< tt, (lit< tt, (lit< tt, (lit< tt, (lit< tt, (lit< tt, tt)))))))
+names Take = (lit< tt, (lit< tt, (lit< tt, (lit< tt, tt))))
+names (Run starved) = (lit< tt, (lit< tt, (lit< tt, tt)))
+names Settle = (lit< tt, (lit< tt, (lit< tt, (lit< tt, (lit< tt, (lit< tt, tt))))))
+names (Collect conn) = (lit< tt, (lit< tt, (lit< tt, (lit< tt, (lit< tt, (lit< tt, (lit< tt, tt)))))))
+names (Close conn) = (lit< tt, (lit< tt, (lit< tt, (lit< tt, (lit< tt, tt)))))
+
+args-plain : (step : Step) → StepFits step → AllByRecursion Plain (step_args step)
+args-plain Open fit = tt
+args-plain (Submit conn words) fit = (decimal-plain conn.0 fit.0, all_in-plain WordFits word_text word-plain words fit.1.each)
+args-plain (Deliver place) fit = (decimal-plain place fit, tt)
+args-plain Take fit = tt
+args-plain (Run starved) fit = all_in-plain IdFits id_text id-plain starved fit.each
+args-plain Settle fit = tt
+args-plain (Collect conn) fit = (decimal-plain conn.0 fit, tt)
+args-plain (Close conn) fit = (decimal-plain conn.0 fit, tt)
+
+submit-named : (conn : ConnId) (words : List (List ℕ)) → conn.0 < 2 ^ 64 → WordsFit words → named (codes "submit")
+    (decimal conn.0 ∷ map word_text words) ≡ Some (Submit conn words)
+submit-named conn [] low fit = let some = fit.some in absurd (omega arith)
+submit-named conn (word ∷ words) low fit =
+    rw (
+      number_in-decimal conn.0 (decimal conn.0) low refl,
+      all_in-text WordFits word_in word_text word_in-text
+          (word ∷ words) fit.each,
+    ) refl
+
+named-step : (step : Step) → StepFits step → named (step_name step) (step_args step) ≡ Some step
+named-step Open fit = refl
+named-step (Submit conn words) fit = submit-named conn words fit.0 fit.1
+named-step (Deliver place) fit = rw (number_in-decimal place (decimal place) fit refl) refl
+named-step Take fit = refl
+named-step (Run starved) fit = rw (all_in-text IdFits id_in id_text id_in-text starved fit.each) refl
+named-step Settle fit = refl
+named-step (Collect conn) fit = rw (number_in-decimal conn.0 (decimal conn.0) fit refl) refl
+named-step (Close conn) fit = rw (number_in-decimal conn.0 (decimal conn.0) fit refl) refl
+
+pub step_in-line : (step : Step) → StepFits step → step_in (step_line step) ≡ Some step
+unfolding step_in
+step_in-line step fit =
+    ap (λ (p : List ℕ × List (List ℕ)). named p.0 p.1) (parts_in-joined (step_name step) (step_args step) (names step)
+    (args-plain step fit)) ∙ named-step step fit
+
+-- ---- the lines of a trace
+
+no-lf : (text : List ℕ) → AllByRecursion (λ b. 31 < b) text → HasNoLf text
+no-lf text all = weaker (λ b. 31 < b) (λ b. b ≢ 10) text (λ b high e. omega arith) all
+
+args-high : (args : List (List ℕ)) → AllByRecursion Plain args → AllByRecursion (λ b. 31 < b) (flat_map (λ arg. 32 ∷ arg) args)
+args-high [] all = tt
+args-high (arg ∷ args) all = (
+  lit< tt,
+  all_append (λ b. 31 < b) arg (flat_map (λ arg. 32 ∷ arg) args)
+      (weaker Visible (λ b. 31 < b) arg (λ b high. omega arith) all.0) (args-high args all.1),
+)
+
+line-no-lf : (step : Step) → StepFits step → HasNoLf (step_line step)
+line-no-lf step fit =
+    no-lf (step_line step)
+    (all_append (λ b. 31 < b) (step_name step) (flat_map (λ arg. 32 ∷ arg) (step_args step))
+    (weaker Visible (λ b. 31 < b) (step_name step) (λ b high. omega arith) (names step))
+    (args-high (step_args step) (args-plain step fit)))
+
+lines-no-lf : (steps : List Step) (last : List ℕ) → AllByRecursion StepFits steps → HasNoLf last → AllByRecursion HasNoLf
+    (map step_line steps ++ last ∷ [])
+lines-no-lf [] last fit h = (h, tt)
+lines-no-lf (s ∷ ss) last fit h = (line-no-lf s fit.0, lines-no-lf ss last fit.1 h)
+
+each-line : (steps : List Step) → AllByRecursion StepFits steps → AllZip IsStepLine (map step_line steps) steps
+each-line [] fit = tt
+each-line (s ∷ ss) fit = (step_in-line s fit.0, each-line ss fit.1)
+
+numbered-no-lf : (name : List ℕ) (n : ℕ) → AllByRecursion (λ b. 31 < b) name → n < 2 ^ 64 → HasNoLf (name ++ decimal n)
+numbered-no-lf name n all h = no-lf (name ++ decimal n) (all_append (λ b. 31 < b) name (decimal n) all
+    (weaker (λ b. 47 < b) (λ b. 31 < b) (decimal n) (λ b high. omega arith) (decimal-digits n h)))
+
+pub written-spells : (max : ℕ) (steps : List Step) → 1 ≤ max → max ≤ 2 ^ 62 → length steps < 2 ^ 64 → AllByRecursion StepFits steps
+    → Spells (trace_text max steps) max steps
+written-spells max steps least greatest few fit = record {
+  lines = first_line ∷ max_line max ∷ (map step_line steps ++ end_line (length steps) ∷ []);
+  no_lf = (
+    no-lf first_line (
+      lit< tt,
+      (
+        lit< tt,
+        (
+          lit< tt,
+          (
+            lit< tt,
+            (lit< tt, (lit< tt, (lit< tt, (lit< tt, (lit< tt, (lit< tt, (lit< tt, (lit< tt, (lit< tt, (lit< tt, (lit< tt, tt))))))))))),
+          ),
+        ),
+      ),
+    ),
+    (
+      numbered-no-lf (codes "max ") max (lit< tt, (lit< tt, (lit< tt, (lit< tt, tt)))) (omega arith),
+      lines-no-lf steps
+          (end_line (length steps)) fit (numbered-no-lf (codes "end ") (length steps) (lit< tt, (lit< tt, (lit< tt, (lit< tt, tt)))) few),
+    ),
+  );
+  split = refl;
+  are = record { least = least; greatest = greatest; body = map step_line steps; each = each-line steps fit; whole = refl };
+}

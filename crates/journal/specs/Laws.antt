@@ -1,0 +1,17 @@
+-- What the definition of a trace's text gives for every text.
+use Rattle.std.specs.Prelude.{◌≡◌, ℕ, List}
+use Rattle.journal.specs.declared.step.Step.{Step}
+use Rattle.journal.specs.TraceText.{Spells, IsBad}
+
+-- a text spells one trace at most
+abbrev pub SpellsOne : Type 0
+SpellsOne = (text : List ℕ) (max max' : ℕ) (steps steps' : List Step) → Spells text max steps → Spells text max' steps' → (max ≡ max') ×
+    (steps ≡ steps')
+
+-- one line at most is at fault
+abbrev pub OneFault : Type 0
+OneFault = (text : List ℕ) (line line' : ℕ) → IsBad text line → IsBad text line' → line ≡ line'
+
+-- and none of a text that spells a trace
+abbrev pub NoFaultOfTrace : Type 0
+NoFaultOfTrace = (text : List ℕ) (max line : ℕ) (steps : List Step) → Spells text max steps → IsBad text line → ⊥

@@ -1,0 +1,5 @@
+pub mod Views
+pub mod Codes
+pub mod TraceText
+pub mod TraceReading
+pub mod Laws

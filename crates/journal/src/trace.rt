@@ -1,0 +1,152 @@
+//! The steps that were made, in order, to be made again by whoever has them.
+
+ghost use Rattle.std.specs.Prelude.{◌≡◌, ◌≤◌, ◌<◌, ◌^◌, ◌++◌, [], ◌∷◌, length, OnOk, OnErr, IfOk, IsOk, MatchOption};
+ghost use Rattle.std.specs.List.{AllByRecursion};
+ghost use Rattle.journal.specs.Codes.{step_size, StepFits};
+
+use super::codes::{put_step, reserve_step, take_step};
+use super::step::Step;
+use std::alloc::{AllocError, Global};
+use std::marker::Model;
+
+/// The steps that were made, in order, and at most how many may be made, from 1 to 2^62. They are kept for good.
+/// Contracts see beside them how many more bytes fit without memory.
+#[derive(Drop)]
+pub struct Trace {
+    max: u64,
+    count: usize,
+    bytes: Vec<u8>,
+}
+
+impl Model for Trace {
+    ghost use Rattle.std.specs.Prelude.{◌-◌, vec_len, vec_capacity};
+    ghost use Rattle.journal.specs.Views.{TraceView};
+
+    ghost Value = { TraceView };
+
+    ghost use Rattle.journal.specs.Codes.{steps_in, AreSteps};
+
+    ghost view = { λ t. record {
+      max = t.max;
+      steps = steps_in t.count t.bytes.items;
+      room = vec_capacity t.bytes - vec_len t.bytes;
+    } };
+
+    ghost invariant = { λ t. AreSteps (steps_in t.count t.bytes.items) t.max t.count t.bytes.items };
+}
+
+impl Trace {
+    /// No step was made, and at most `max` may be. It takes no memory.
+    pub fn new(alloc: Global, max: u64) -> Self
+        requires least { 1 ≤ max }
+        requires greatest { max ≤ 2 ^ 62 }
+        ensures max { result.max ≡ max }
+        ensures steps { result.steps ≡ [] }
+    {
+        Trace {
+            max,
+            count: 0,
+            bytes: Vec::new(alloc),
+        }
+    }
+
+    /// At most how many steps may be made: from 1 to 2^62.
+    pub fn max(&self) -> u64
+        ensures max { result ≡ self.now.max }
+        ensures least { 1 ≤ result }
+        ensures greatest { result ≤ 2 ^ 62 }
+    {
+        self.max
+    }
+
+    /// How many steps were made.
+    #[allow(clippy::len_without_is_empty)]
+    pub fn len(&self) -> usize
+        ensures number { result ≡ length self.now.steps }
+        ensures small { result < 2 ^ 63 }
+    {
+        self.count
+    }
+
+    /// Takes the room for this step, so that its `push` can't fail. The only error is want of memory, which changes
+    /// nothing.
+    pub fn reserve(&mut self, step: &Step) -> Result<(), AllocError>
+        ensures max { self.new.max ≡ self.old.max }
+        ensures steps { self.new.steps ≡ self.old.steps }
+        ensures room { OnOk result (step_size step.now ≤ self.new.room) }
+        ensures room_kept { self.old.room ≤ self.new.room }
+        ensures succeeds { step_size step.now ≤ self.old.room → IsOk result }
+        ensures unchanged { OnErr result (self.new ≡ self.old) }
+    {
+        reserve_step(step, &mut self.bytes)
+    }
+
+    /// Adds a step behind the others. It can't fail where there is room, and want of memory changes nothing.
+    pub fn push(&mut self, step: &Step) -> Result<(), AllocError>
+        ensures max { self.new.max ≡ self.old.max }
+        ensures steps { OnOk result (self.new.steps ≡ self.old.steps ++ step.now ∷ []) }
+        ensures succeeds { step_size step.now ≤ self.old.room → IsOk result }
+        ensures unchanged { OnErr result (self.new ≡ self.old) }
+    {
+        reserve_step(step, &mut self.bytes)?;
+        put_step(step, &mut self.bytes);
+        self.count += 1;
+        Ok(())
+    }
+
+    /// The steps, to be read one after another from the first. A caller learns that their numbers, words and ids lie
+    /// in memory.
+    pub fn steps(&self) -> Steps<'_>
+        ensures steps { result ≡ self.now.steps }
+        ensures fit { AllByRecursion StepFits self.now.steps }
+    {
+        Steps {
+            left: self.count,
+            bytes: self.bytes.as_slice(),
+        }
+    }
+}
+
+/// Steps of a trace, read one after another. Contracts see the steps that are left.
+#[derive(Drop)]
+pub struct Steps<'a> {
+    left: usize,
+    bytes: &'a [u8],
+}
+
+impl<'a> Model for Steps<'a> {
+    ghost use Rattle.std.specs.Prelude.{List};
+    ghost use Rattle.journal.specs.declared.step.Step.{Step};
+
+    ghost Value = { List Step };
+
+    ghost use Rattle.journal.specs.Codes.{steps_in};
+
+    ghost view = { λ s. steps_in s.left s.bytes.now };
+}
+
+impl<'a> Steps<'a> {
+    /// How many steps are left.
+    #[allow(clippy::len_without_is_empty)]
+    pub fn len(&self) -> usize
+        ensures { result ≡ length self.now }
+    {
+        self.left
+    }
+
+    /// The next step, as one of its own, and `None` behind the last. The only error is want of memory, and then the
+    /// step is still the next.
+    pub fn next(&mut self, alloc: Global) -> Result<Option<Step>, AllocError>
+        ensures next { IfOk result (λ next. MatchOption next ((self.old ≡ []) × (self.new ≡ []))
+            (λ step. self.old ≡ step ∷ self.new)) }
+        ensures unchanged { OnErr result (self.new ≡ self.old) }
+    {
+        if self.left == 0 {
+            return Ok(None);
+        }
+        let (step, rest) = take_step(alloc, self.bytes)?;
+        self.left -= 1;
+        self.bytes = rest;
+        Ok(Some(step))
+    }
+}

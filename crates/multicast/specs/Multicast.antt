@@ -1,0 +1,93 @@
+-- All groups with the packets between them and their queues.
+use Rattle.std.specs.Prelude.{◌≡◌, ℕ, ◌==◌, ◌<◌, ◌≤◌, cond, List, [], ◌∷◌, ◌++◌, length, remove, slice_get, slice_index_or, Some}
+use Rattle.delivery.specs.Queues.{queue_of, MayAppend}
+use Rattle.delivery.specs.Ready.{QueueOf, left_in}
+use Rattle.skeen_core.specs.Group.{GroupState, GroupView, fresh, MayCome, Receives}
+use Rattle.skeen_core.specs.declared.packet.Body.{Body}
+use Rattle.skeen_core.specs.declared.packet.Body.TheVariants.{Start, Proposal}
+use Rattle.skeen_core.specs.declared.packet.Delivered.{Delivered}
+use Rattle.skeen_core.specs.declared.packet.Packet.{Packet}
+use Rattle.skeen_core.specs.declared.request.RequestId.{RequestId}
+
+-- the groups by their numbers, the packets under way in order of sending, each group's queue, and how many more packets fit without
+-- memory
+pub record MulticastView : Type 0 where
+  pub groups : List GroupView
+  pub packets : List Packet
+  pub queues : List (List Delivered)
+  pub room : ℕ
+
+-- the state of a group; one that isn't there is as a new one
+abbrev pub group_of : List GroupView → ℕ → GroupState
+group_of groups g = (slice_index_or groups g (record { me = g; state = fresh })).state
+
+-- the function with one value changed
+abbrev pub at : {X : Type 0} → (ℕ → X) → ℕ → X → ℕ → X
+at f n x = λ m. cond (m == n) x (f m)
+
+-- nothing but the room may be other
+pub record IsSame (old new : MulticastView) : Type 0 where
+  pub groups : new.groups ≡ old.groups
+  pub packets : new.packets ≡ old.packets
+  pub queues : new.queues ≡ old.queues
+
+-- ---- a request begins
+
+-- one Start for each of these groups
+abbrev pub starts_to : RequestId → ℕ → List ℕ → List ℕ → List Packet
+starts_to id floor all [] = []
+starts_to id floor all (g ∷ gs) = record { to = g; id = id; body = Start floor all } ∷ starts_to id floor all gs
+
+-- its Starts go behind all packets
+pub record Begins (old : MulticastView) (id : RequestId) (floor : ℕ) (addressed : List ℕ) (new : MulticastView) : Type 0 where
+  pub groups : new.groups ≡ old.groups
+  pub packets : new.packets ≡ old.packets ++ starts_to id floor addressed addressed
+  pub queues : new.queues ≡ old.queues
+
+-- ---- a packet comes
+
+-- the requests may be appended to the group's queue one after another
+abbrev pub MayAppendAll : QueueOf → ℕ → List Delivered → Type 0
+MayAppendAll queue g [] = Unit {0}
+MayAppendAll queue g (d ∷ ds) = MayAppend queue g d × MayAppendAll (at queue g (queue g ++ d ∷ [])) g ds
+
+-- the packet may come to its group, and whatever that group delivers then may go to its queue
+pub record MayBeDelivered (v : MulticastView) (p : Packet) : Type 0 where
+  pub there : p.to < length v.groups
+  pub comes : MayCome (record { me = p.to; state = group_of v.groups p.to }) p
+  pub appends : (sent : List Packet) (ds : List Delivered) (state : GroupState) →
+      Receives p.to (group_of v.groups p.to) p.id p.body sent ds state → MayAppendAll (queue_of v.queues) p.to ds
+
+-- how many packets a group sends at most when this comes
+abbrev pub sends_at_most : Body → ℕ
+sends_at_most (Start floor groups) = length groups
+sends_at_most (Proposal from clock) = 0
+
+-- The packet at a place has come to its group, which has done with it what its rule says. What it sends goes behind all that is under way,
+-- and what it delivers behind its queue.
+pub record Delivers (old : MulticastView) (place : ℕ) (new : MulticastView) : Type 0 where
+  pub packet : Packet
+  pub sent : List Packet
+  pub delivered : List Delivered
+  pub state : GroupState
+  pub there : slice_get old.packets place ≡ Some packet
+  pub receives : Receives packet.to (group_of old.groups packet.to) packet.id packet.body sent delivered state
+  pub packets : new.packets ≡ remove old.packets place ++ sent
+  pub group : (g : ℕ) → group_of new.groups g ≡ at (group_of old.groups) packet.to state g
+  pub queue : (g : ℕ) → queue_of new.queues g ≡ at (queue_of old.queues) packet.to (queue_of old.queues packet.to ++ delivered) g
+  pub count : length new.groups ≡ length old.groups
+
+-- ---- a layer is taken
+
+pub record LosesLayer (old : MulticastView) (layer : List Delivered) (new : MulticastView) : Type 0 where
+  pub groups : new.groups ≡ old.groups
+  pub packets : new.packets ≡ old.packets
+  pub queue : (g : ℕ) → queue_of new.queues g ≡ left_in layer (queue_of old.queues g)
+
+-- ---- what every state is like
+
+-- there is a queue for each group, at most 64, and each group knows its number
+pub record IsWhole (groups : List GroupView) (queues : List (List Delivered)) : Type 0 where
+  pub as_many : length queues ≡ length groups
+  pub at_most_64 : length groups ≤ 64
+  pub numbered : (g : ℕ) → (d : GroupView) → g < length groups → (slice_index_or groups g d).me ≡ g

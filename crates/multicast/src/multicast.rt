@@ -1,0 +1,232 @@
+//! The groups, their packets and their queues, as one.
+
+ghost use Rattle.std.specs.Prelude.{◌≡◌, ℕ, ◌+◌, ◌<◌, ◌≤◌, ◌++◌, [], length, slice_get, true, option_copied, Some, None, IfOk, IfErr, OnOk, OnErr, IsOk, IsTrue, ◌↔◌};
+ghost use Rattle.std.specs.FinMap.{len};
+ghost use Rattle.delivery.specs.Queues.{queue_of, room_of, IsSound};
+ghost use Rattle.delivery.specs.Ready.{IsReady, IsLayer};
+ghost use Rattle.skeen_core.specs.Group.{fresh};
+ghost use Rattle.skeen_core.specs.declared.packet.Packet.{Packet};
+ghost use Rattle.skeen_core.specs.declared.packet.Delivered.{Delivered};
+ghost use Rattle.multicast.specs.Multicast.{at, group_of, sends_at_most, IsSame, IsWhole, Begins, MayAppendAll, MayBeDelivered, Delivers, LosesLayer};
+
+use delivery::Queues;
+use groups::{GroupId, Groups};
+use skeen_core::{Body, Delivered, Group, Links, Packet, RequestId};
+use std::alloc::{AllocError, Global};
+use std::marker::Model;
+use thiserror::Error;
+
+/// Why no packet came. Nothing was changed. Each reason has its number, from 1.
+#[derive(Clone, Copy, Debug, Drop, Error)]
+pub enum DeliverFault {
+    /// 1: no packet is at this place.
+    #[error("no packet is at this place")]
+    NoPacket,
+
+    /// 2: there was no memory.
+    #[error("out of memory")]
+    Memory,
+}
+
+/// The groups of all shards, the packets under way between them, and the queue of each group. Contracts see the groups by their
+/// numbers, the packets in order of sending, the queues oldest first, and how many more packets fit without memory.
+#[derive(Drop)]
+pub struct Multicast {
+    alloc: Global,
+    groups: Vec<Group>,
+    links: Links,
+    queues: Queues,
+}
+
+impl Model for Multicast {
+    ghost use Rattle.std.specs.Coded.{codes};
+    ghost use Rattle.skeen_core.specs.Kept.{group_code};
+    ghost use Rattle.multicast.specs.Multicast.{MulticastView, IsWhole};
+
+    ghost Value = { MulticastView };
+
+    ghost coded = { Prim.hlevel (codes, group_code) };
+
+    ghost view = { λ m. record { groups = m.groups.items; packets = m.links.packets; queues = m.queues.queues; room = m.links.room } };
+
+    ghost invariant = { λ m. IsWhole m.groups.items m.queues.queues };
+}
+
+impl Multicast {
+    /// The first `count` groups, at most 64: each is new, no packet is under way, and the queues are empty. The only error is want of
+    /// memory.
+    pub fn new(alloc: Global, count: u8) -> Result<Self, AllocError>
+        requires { count ≤ 64 }
+        ensures count { IfOk result (λ m. length m.groups ≡ count) }
+        ensures fresh { IfOk result (λ m. (g : ℕ) → group_of m.groups g ≡ fresh) }
+        ensures none { IfOk result (λ m. m.packets ≡ []) }
+        ensures empty { IfOk result (λ m. (g : ℕ) → queue_of m.queues g ≡ []) }
+    {
+        let queues = Queues::new(alloc, count)?;
+        let groups = new_groups(alloc, count)?;
+        Ok(Multicast {
+            alloc,
+            groups,
+            links: Links::new(alloc),
+            queues,
+        })
+    }
+
+    /// How many groups there are.
+    pub fn count(&self) -> u8
+        ensures count { result ≡ length self.now.groups }
+        ensures whole { IsWhole self.now.groups self.now.queues }
+    {
+        self.groups.len() as u8
+    }
+
+    /// The packet at this place of those under way, counted from 0 in order of sending.
+    pub fn packet(&self, place: usize) -> Option<&Packet>
+        ensures { option_copied result ≡ slice_get self.now.packets place }
+    {
+        self.links.packet(place)
+    }
+
+    /// How many packets are under way.
+    pub fn packets(&self) -> usize
+        ensures { result ≡ length self.now.packets }
+    {
+        self.links.len()
+    }
+
+    /// Takes the room for `count` more packets. The only error is want of memory; nothing but the room changes.
+    pub fn reserve(&mut self, count: usize) -> Result<(), AllocError>
+        ensures same { IsSame self.old self.new }
+        ensures room { OnOk result (count ≤ self.new.room) }
+    {
+        self.links.reserve(count)
+    }
+
+    /// A request begins: each of its groups is sent a Start, in ascending order. There is room for them.
+    pub fn start(&mut self, id: RequestId, floor: u64, groups: Groups)
+        requires { length groups ≤ self.old.room }
+        ensures { Begins self.old id floor groups self.new }
+    {
+        for group in groups.iter() {
+            let start = Packet {
+                to: group,
+                id,
+                body: Body::Start { floor, groups },
+            };
+            let Ok(()) = self.links.send(start) else {
+                unreachable!()
+            };
+        }
+    }
+
+    /// The packet at this place comes to its group: what the group sends goes behind all packets, and what it delivers behind its
+    /// queue. A refusal changes nothing but the room.
+    ///
+    /// The packet may come to its group, and what that group delivers then may be appended to its queue.
+    pub fn deliver(&mut self, place: usize) -> Result<(), DeliverFault>
+        requires { (p : Packet) → slice_get self.old.packets place ≡ Some p → MayBeDelivered self.old p }
+        ensures delivers { OnOk result (Delivers self.old place self.new) }
+        ensures no_packet { IfErr result (λ e. e ≡ DeliverFault.NoPacket → length self.old.packets ≤ place) }
+        ensures there { IfErr result (λ e. e ≡ DeliverFault.Memory → place < length self.old.packets) }
+        ensures unchanged { OnErr result (IsSame self.old self.new) }
+    {
+        let Some(packet) = self.links.packet(place) else {
+            return Err(DeliverFault::NoPacket);
+        };
+        let packet = Packet { ..*packet };
+        let to = packet.to;
+        if !make_room(&self.groups, &mut self.links, &mut self.queues, &packet) {
+            return Err(DeliverFault::Memory);
+        }
+        let group = &mut self.groups[usize::from(to.number())];
+        let Ok((sent, delivered)) = group.receive(self.alloc, packet) else {
+            return Err(DeliverFault::Memory);
+        };
+        let _ = self.links.take(place);
+        send_all(&mut self.links, sent);
+        append_all(&mut self.queues, to, delivered);
+        Ok(())
+    }
+
+    /// All requests that are ready, ascending by their stamps. The only error is want of memory; where none is ready none is wanted.
+    pub fn ready(&self) -> Result<Vec<Delivered>, AllocError>
+        ensures layer { IfOk result (λ layer. IsLayer (queue_of self.now.queues) layer.items) }
+        ensures succeeds { ((d : Delivered) → ¬ IsReady (queue_of self.now.queues) d) → IsOk result }
+        ensures sound { IsSound (queue_of self.now.queues) }
+    {
+        self.queues.ready(self.alloc)
+    }
+
+    /// Whether some request is ready. It takes no memory.
+    pub fn has_ready(&self) -> bool
+        ensures { IsTrue result ↔ ((d : Delivered) × IsReady (queue_of self.now.queues) d) }
+    {
+        self.queues.has_ready()
+    }
+
+    /// Takes a layer out of the queues. It takes no memory. What `ready` says of the queues holds of them.
+    pub fn lose_layer(&mut self, layer: &[Delivered])
+        requires sound { IsSound (queue_of self.old.queues) }
+        requires layer { IsLayer (queue_of self.old.queues) layer.now }
+        ensures { LosesLayer self.old layer.now self.new }
+    {
+        self.queues.pop_all(layer);
+    }
+}
+
+/// The first groups, each new.
+fn new_groups(alloc: Global, count: u8) -> Result<Vec<Group>, AllocError>
+    requires { count ≤ 64 }
+    ensures count { IfOk result (λ groups. length groups.items ≡ count) }
+    ensures fresh { IfOk result (λ groups. (g : ℕ) → g < length groups.items → slice_get groups.items g ≡ Some (record { me = g; state = fresh })) }
+{
+    let mut groups = Vec::with_capacity(alloc, usize::from(count))?;
+    for number in 0..count {
+        groups.push(Group::new(alloc, GroupId::new(number)))?;
+    }
+    Ok(groups)
+}
+
+/// Takes the room for what the packet's group may send and deliver when it comes; whether there was memory for it.
+fn make_room(groups: &Vec<Group>, links: &mut Links, queues: &mut Queues, packet: &Packet) -> bool
+    requires there { packet.now.to < length groups.now.items }
+    requires queue { packet.now.to < length queues.old.queues }
+    ensures packets { links.new.packets ≡ links.old.packets }
+    ensures queues { queues.new.queues ≡ queues.old.queues }
+    ensures sends { result ≡ true → sends_at_most packet.now.body ≤ links.new.room }
+    ensures delivers { result ≡ true → len (group_of groups.now.items packet.now.to).started + 1 ≤ room_of queues.new.rooms packet.now.to }
+{
+    let sends = match &packet.body {
+        Body::Start { floor: _, groups } => groups.len(),
+        Body::Proposal { .. } => 0,
+    };
+    let delivers = groups[usize::from(packet.to.number())].started() + 1;
+    links.reserve(sends).is_ok() && queues.reserve(packet.to, delivers).is_ok()
+}
+
+/// Sends these packets, for which there is room.
+fn send_all(links: &mut Links, sent: Vec<Packet>)
+    requires { length sent.items ≤ links.old.room }
+    ensures { links.new.packets ≡ links.old.packets ++ sent.items }
+{
+    for packet in sent {
+        let Ok(()) = links.send(packet) else {
+            unreachable!()
+        };
+    }
+}
+
+/// Puts these requests behind the group's queue, for which there is room.
+fn append_all(queues: &mut Queues, group: GroupId, delivered: Vec<Delivered>)
+    requires there { group < length queues.old.queues }
+    requires may_append { MayAppendAll (queue_of queues.old.queues) group delivered.items }
+    requires room { length delivered.items ≤ room_of queues.old.rooms group }
+    ensures count { length queues.new.queues ≡ length queues.old.queues }
+    ensures appended { (g : ℕ) → queue_of queues.new.queues g ≡ at (queue_of queues.old.queues) group (queue_of queues.old.queues group ++ delivered.items) g }
+{
+    for request in delivered {
+        let Ok(()) = queues.append(group, request) else {
+            unreachable!()
+        };
+    }
+}

@@ -1,0 +1,11 @@
+//! Numbers and words in bytes, one behind another, each saying where it ends.
+//!
+//! The journal keeps what happened in few bytes: a small number takes one, and a word its bytes and its length. The
+//! sizes are told first, so that room is taken once and what is put then can't fail.
+#![tactic(auto)]
+
+mod number;
+mod words;
+
+pub use number::{number_size, put_number, take_number};
+pub use words::{put_words, take_word, take_words, words_size};

@@ -1,0 +1,220 @@
+-- A submit of the router is a step of the world.
+use Rattle.std.proofs.Common.{◌≡◌, ℕ, suc, ◌==◌, true, false, cond, List, ◌∷◌, inl, inr, Option, Some, None, Result, Ok, Err, refl, sym, ap, ◌∙◌, subst, eq-eqb}
+use Rattle.std.proofs.lemmas.Bool.{both_ways, cases_Bool}
+use Rattle.std.specs.FinMap.{empty}
+use Rattle.command_bodies.specs.Command.{effect_of}
+use Rattle.command_bodies.specs.LocalCommand.{local_reply}
+use Rattle.command_table.specs.Reading.{reading}
+use Rattle.command_table.specs.Refusal.{refusal_text}
+use Rattle.command_table.specs.declared.command.Command.{Command}
+use Rattle.command_table.specs.declared.command.Command.TheVariants as command
+use Rattle.command_table.specs.declared.command.Command.TheVariants.{Key, Str, Local}
+use Rattle.command_table.specs.declared.local_commands.LocalCommand.{LocalCommand}
+use Rattle.command_table.specs.declared.local_commands.LocalCommand.TheVariants.{Ping, Echo}
+use Rattle.command_table.specs.declared.refusal.Refusal.{Refusal}
+use Rattle.placement.specs.Groups.{groups_of}
+use Rattle.placement.specs.Layout.{Layout}
+use Rattle.resp.specs.Content.{Content, ErrorLine}
+use Rattle.router.specs.Connection.{Answer, is_under_way}
+use Rattle.router.specs.Router.{RouterView, connection, Changes}
+use Rattle.router.specs.Submitting.{StandsBy, Submits, next_id}
+use Rattle.router.specs.declared.connection.Connection.{Connection}
+use Rattle.router.specs.declared.connection.Pending.{Pending}
+use Rattle.router.specs.declared.connection.Standing.{Standing}
+use Rattle.router.specs.declared.connection.Standing.TheVariants as router
+use Rattle.router.specs.declared.outcome.Outcome as kept
+use Rattle.router.specs.declared.submission.Submission.{Submission}
+use Rattle.skeen_core.proofs.Ids.{same_id-true, eq-same_id}
+use Rattle.skeen_core.specs.Request.{same_id}
+use Rattle.skeen_core.specs.declared.request.RequestId.{RequestId}
+use Rattle.system_view.proofs.Connections.{Alike, each_of, kept_here, kept_open}
+use Rattle.system_view.specs.Connections.{Addresses, outcome_shown, id_of, ShowsOpen, ShowsConnection, ShowsConnections}
+use Rattle.world.specs.Steps.{next_id as world_id, asks, final_clock, final_clock_of, floor_of, answered, multicast, submitted, submitted_to}
+use Rattle.world.specs.World.{World, Request, Outcome, Idle, Waiting, Answered}
+use Rattle.std.proofs.lemmas.Bool.{cond-true, cond-false}
+use Rattle.world_laws.specs.Good.{WorldGood}
+
+-- the submitting connection, as the router has it before and after
+pub record Submitter (old new : RouterView) (w : World) (c : ℕ) (was now : Connection) : Type 0 where
+  pub kept : connection old c ≡ Some was
+  pub idle : was.standing ≡ router.Idle
+  pub seq : now.seq ≡ suc (w.seq c)
+  pub live : now.is_open ≡ true
+  pub floor : now.floor ≡ floor_of w c
+  pub changes : Changes old new c (Some now)
+
+not_busy : (was : Connection) → was.standing ≡ router.Idle → is_under_way was.standing ≡ true → ⊥
+not_busy was idle busy = both_ways _ (ap is_under_way idle) busy
+
+abbrev to_outcome : Answer → Outcome
+to_outcome a = record { id = a.id; reply = a.reply; stamp = a.stamp }
+
+-- ---- answered at once
+
+alike_answered : (w : World) (c : ℕ) (reply : Content) (d : ℕ) → (d == c) ≡ false → Alike w (answered w c reply) d
+alike_answered w c reply d other = record {
+  standing = cond-false (d == c) _ (w.standing d) other;
+  seq = cond-false (d == c) (suc (w.seq c)) (w.seq d) other;
+  floor = λ rested. refl;
+  asked = λ seq. refl;
+  layer = refl;
+}
+
+shows_answered : (old new : RouterView) (w : World) (c : ℕ) (was now : Connection) (o : kept.Outcome) (reply : Content) → ShowsConnections old w → Submitter old new w c was now →
+    now.standing ≡ router.Answered o → outcome_shown o ≡ record { id = id_of c (suc (w.seq c)); reply = reply; stamp = None } → ShowsConnections new (answered w c reply)
+shows_answered old new w c was now o reply shows s is says = record {
+  opened = s.changes.opened ∙ shows.opened;
+  each = each_of old new w (answered w c reply) c (Some now) s.changes.at (alike_answered w c reply) shows.each (
+    s.seq ∙ sym (cond-true (c == c) (suc (w.seq c)) (w.seq c) (eq-eqb c c refl)),
+    inl (
+      s.live,
+      subst (λ t. ShowsOpen t now (answered w c reply) c) (sym is)
+          (cond-true (c == c) _ (w.standing c) (eq-eqb c c refl) ∙ ap Answered (sym says), s.floor),
+    ),
+  );
+  under_way = λ i q asked. elim (shows.under_way i q asked) [
+    | inl settled ↦ inl settled
+    | inr kept ↦ inr (kept_here old new c was (Some now) i s.kept s.changes.at (λ busy. absurd (not_busy was s.idle busy)) kept)
+  ];
+}
+
+-- ---- sent to groups
+
+module _ (t : Layout) (w : World) (c : ℕ) (r : Request) (good : WorldGood t w) where
+  other_id : (d seq : ℕ) → (d == c) ≡ false → same_id (id_of d seq) (id_of c (suc (w.seq c))) ≡ false
+  other_id d seq other = elim (cases_Bool (same_id (id_of d seq) (id_of c (suc (w.seq c))))) [
+    | inl e ↦ absurd (both_ways _ other (eq-eqb d c (ap (λ i. i.conn.0) (same_id-true _ _ e))))
+    | inr e ↦ e
+  ]
+
+  floor_else : (d : ℕ) → (d == c) ≡ false → floor_of (multicast w c r) d ≡ floor_of w d
+  floor_else d other = ap (final_clock_of (multicast w c r)) (cond-false (d == c) _ (w.last d) other) ∙ by_last (w.last d) refl
+    where
+      by_last : (o : Option RequestId) → w.last d ≡ o → final_clock_of (multicast w c r) o ≡ final_clock_of w o
+      by_last None e = refl
+      by_last (Some i) e =
+          let conn = (good.requests.lasts d i e).0 in
+          let unlike : (i.conn.0 == c) ≡ false = ap (λ n. n == c) conn ∙ other in
+          ap (final_clock w.proposed i) (cond-false' i (other_id i.conn.0 i.seq unlike))
+        where
+          cond-false' : (i : RequestId) → same_id (id_of i.conn.0 i.seq) (id_of c (suc (w.seq c))) ≡ false → asks w.asked (id_of c (suc (w.seq c))) r i ≡ w.asked i
+          cond-false' i e = ap (λ b. cond b (Some r) (w.asked i)) e
+
+  alike_multicast : (d : ℕ) → (d == c) ≡ false → Alike w (multicast w c r) d
+  alike_multicast d other = record {
+    standing = cond-false (d == c) Waiting (w.standing d) other;
+    seq = cond-false (d == c) (suc (w.seq c)) (w.seq d) other;
+    floor = λ rested. floor_else d other;
+    asked = λ seq. ap (λ b. cond b (Some r) (w.asked (id_of d seq))) (other_id d seq other);
+    layer = refl;
+  }
+
+  shows_multicast : (old new : RouterView) (was now : Connection) (p : Pending) → ShowsConnections old w → Submitter old new w c was now →
+      now.standing ≡ router.Waiting p → r.command ≡ p.command → reading p.words ≡ Ok p.command → ShowsConnections new (multicast w c r)
+  shows_multicast old new was now p shows s is command says = record {
+    opened = s.changes.opened ∙ shows.opened;
+    each = each_of old new w (multicast w c r) c (Some now) s.changes.at alike_multicast shows.each (
+      s.seq ∙ sym (cond-true (c == c) (suc (w.seq c)) (w.seq c) (eq-eqb c c refl)),
+      inl (
+        s.live,
+        subst (λ t. ShowsOpen t now (multicast w c r) c) (sym is)
+            (cond-true (c == c) Waiting (w.standing c) (eq-eqb c c refl), (r, ap (λ b. cond b (Some r) (w.asked (id_of c now.seq))) (eq-same_id (id_of c now.seq) (id_of c (suc (w.seq c))) (ap (id_of c) s.seq)), command, says)),
+      ),
+    );
+    under_way = λ i q asked. elim (cases_Bool (same_id i (id_of c (suc (w.seq c))))) [
+      | inl e ↦
+          let id = same_id-true _ _ e in
+          inr (record {
+            v = now;
+            kept = ap (connection new) (ap (λ j. j.conn.0) id) ∙ s.changes.at c ∙ ap (λ b. cond b (Some now) (connection old c)) (eq-eqb c c refl);
+            seq = s.seq ∙ sym (ap (λ j. j.seq) id);
+            under_way = ap is_under_way is;
+          })
+      | inr e ↦ elim (shows.under_way i q (sym (ap (λ b. cond b (Some r) (w.asked i)) e) ∙ asked)) [
+        | inl settled ↦ inl settled
+        | inr kept ↦ inr (kept_here old new c was (Some now) i s.kept s.changes.at (λ busy. absurd (not_busy was s.idle busy)) kept)
+      ]
+    ];
+  }
+
+-- ---- what the words say
+
+local_effect : (l : LocalCommand) → (effect_of (Local l) empty).1 ≡ local_reply l
+local_effect (Ping word) = refl
+local_effect (Echo word) = refl
+
+module _ (t : Layout) (w : World) (c : ℕ) (good : WorldGood t w) (words : List (List ℕ)) where
+  -- a command that addresses groups waits, and the world has sent it to them
+  waits_as : (old new : RouterView) (was now : Connection) (command : Command) (p : Pending) → reading words ≡ Ok command → (g : ℕ) (gs : List ℕ) → groups_of t command ≡ g ∷ gs →
+      ShowsConnections old w → Submitter old new w c was now → now.standing ≡ router.Waiting p → (p.words ≡ words) × (p.command ≡ command) →
+      ShowsConnections new (submitted_to w c command (groups_of t command))
+  waits_as old new was now command p read g gs groups shows s is same =
+      subst (λ all. ShowsConnections new (submitted_to w c command all)) (sym groups)
+      (shows_multicast t w c (record { floor = floor_of w c; groups = g ∷ gs; command = command }) good old new was now p shows s is (sym same.1) (ap reading same.0 ∙ read ∙ ap Ok (sym same.1)))
+
+  -- the words are read; the router has done as they say, and so has the world
+  by_reading : (old new : RouterView) (was now : Connection) (result : Result Command Refusal) → reading words ≡ result → Addresses t result → ShowsConnections old w → Submitter old new w c was now →
+      StandsBy (id_of c (suc (w.seq c))) words result now.standing → ShowsConnections new (submitted t w c result)
+  by_reading old new was now (Err refusal) read addresses shows s stands = by_standing now.standing refl stands
+    where
+      by_standing : (x : Standing) → now.standing ≡ x → StandsBy (id_of c (suc (w.seq c))) words (Err refusal) x → ShowsConnections new (answered w c (ErrorLine (refusal_text refusal)))
+      by_standing router.Idle e says = absurd says
+      by_standing (router.Waiting p) e says = absurd says
+      by_standing router.Taken e says = absurd says
+      by_standing (router.Answered o) e says = shows_answered old new w c was now o _ shows s e (ap to_outcome says)
+  by_reading old new was now (Ok (Local l)) read addresses shows s stands =
+      subst (λ gs. ShowsConnections new (submitted_to w c (Local l) gs)) (sym addresses) (by_standing now.standing refl stands)
+    where
+      by_standing : (x : Standing) → now.standing ≡ x → StandsBy (id_of c (suc (w.seq c))) words (Ok (Local l)) x → ShowsConnections new (answered w c (effect_of (Local l) empty).1)
+      by_standing router.Idle e says = absurd says
+      by_standing (router.Waiting p) e says = absurd says
+      by_standing router.Taken e says = absurd says
+      by_standing (router.Answered o) e says =
+          subst (λ reply. ShowsConnections new (answered w c reply)) (sym (local_effect l)) (shows_answered old new w c was now o (local_reply l) shows s e (ap to_outcome says))
+  by_reading old new was now (Ok (Key k)) read addresses shows s stands = by_standing now.standing refl stands
+    where
+      by_standing : (x : Standing) → now.standing ≡ x → StandsBy (id_of c (suc (w.seq c))) words (Ok (Key k)) x →
+          ShowsConnections new (submitted_to w c (Key k) (groups_of t (Key k)))
+      by_standing router.Idle e says = absurd says
+      by_standing (router.Waiting p) e says = waits_as old new was now (Key k) p read addresses.0 addresses.1 addresses.2 shows s e says
+      by_standing router.Taken e says = absurd says
+      by_standing (router.Answered o) e says = absurd says
+  by_reading old new was now (Ok (Str k)) read addresses shows s stands = by_standing now.standing refl stands
+    where
+      by_standing : (x : Standing) → now.standing ≡ x → StandsBy (id_of c (suc (w.seq c))) words (Ok (Str k)) x →
+          ShowsConnections new (submitted_to w c (Str k) (groups_of t (Str k)))
+      by_standing router.Idle e says = absurd says
+      by_standing (router.Waiting p) e says = waits_as old new was now (Str k) p read addresses.0 addresses.1 addresses.2 shows s e says
+      by_standing router.Taken e says = absurd says
+      by_standing (router.Answered o) e says = absurd says
+  by_reading old new was now (Ok (command.List k)) read addresses shows s stands = by_standing now.standing refl stands
+    where
+      by_standing : (x : Standing) → now.standing ≡ x → StandsBy (id_of c (suc (w.seq c))) words (Ok (command.List k)) x →
+          ShowsConnections new (submitted_to w c (command.List k) (groups_of t (command.List k)))
+      by_standing router.Idle e says = absurd says
+      by_standing (router.Waiting p) e says = waits_as old new was now (command.List k) p read addresses.0 addresses.1 addresses.2 shows s e says
+      by_standing router.Taken e says = absurd says
+      by_standing (router.Answered o) e says = absurd says
+  by_reading old new was now (Ok (command.Hash k)) read addresses shows s stands = by_standing now.standing refl stands
+    where
+      by_standing : (x : Standing) → now.standing ≡ x → StandsBy (id_of c (suc (w.seq c))) words (Ok (command.Hash k)) x →
+          ShowsConnections new (submitted_to w c (command.Hash k) (groups_of t (command.Hash k)))
+      by_standing router.Idle e says = absurd says
+      by_standing (router.Waiting p) e says = waits_as old new was now (command.Hash k) p read addresses.0 addresses.1 addresses.2 shows s e says
+      by_standing router.Taken e says = absurd says
+      by_standing (router.Answered o) e says = absurd says
+
+  pub shows_submit : (old new : RouterView) (sent : Submission) → Addresses t (reading words) → Submits t c words old sent new → ShowsConnections old w →
+      (w.standing c ≡ Idle) × (sent.id ≡ world_id w c) × (sent.floor ≡ floor_of w c) × ShowsConnections new (submitted t w c (reading words))
+  shows_submit old new sent addresses submits shows =
+      let was = submits.was in
+      let here = kept_open was w c submits.live (subst (λ x. ShowsConnection x w c) submits.kept (shows.each c)) in
+      let idle : (w.standing c ≡ Idle) × (was.floor ≡ floor_of w c) = subst (λ s. ShowsOpen s was w c) submits.idle here.1 in
+      let id : next_id c was ≡ id_of c (suc (w.seq c)) = ap (λ n. id_of c (suc n)) here.0 in (
+        idle.0,
+        submits.id ∙ id,
+        submits.floor ∙ idle.1,
+        by_reading old new was submits.now (reading words) refl addresses shows
+            (record { kept = submits.kept; idle = submits.idle; seq = submits.seq ∙ ap suc here.0; live = submits.still; floor = submits.same_floor ∙ idle.1; changes = submits.changes })
+            (subst (λ i. StandsBy i words (reading words) submits.now.standing) id submits.standing),
+      )

@@ -1,0 +1,2 @@
+//! What the parts of the system show of a world.
+#![tactic(auto)]

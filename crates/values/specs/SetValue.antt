@@ -1,0 +1,36 @@
+-- What the calls of a set leave: a list of members that ascend byte by byte, a string before those that it begins.
+use Rattle.std.specs.Prelude.{Bool, List, [], ◌∷◌}
+use Rattle.std.specs.BTreeSet as tree
+use Rattle.std.specs.Cmp.Lexicographic.{slice_cmp}
+use Rattle.std.specs.List.{list_any}
+use Rattle.std.specs.List.Sorted.{IsStrictlySortedBy}
+use Rattle.std.specs.Ordering.{nat_cmp}
+use Rattle.std.specs.Set.{remove_key}
+use Rattle.std.specs.Str.{bytes_eq}
+use Rattle.texts.specs.Texts.{Bytes}
+
+-- each member is below those after it
+abbrev pub IsAscending : List Bytes → Type 0
+IsAscending members = IsStrictlySortedBy (slice_cmp nat_cmp) members
+
+-- whether the string is a member
+abbrev pub is_member : List Bytes → Bytes → Bool
+is_member members member = list_any (bytes_eq member) members
+
+-- the members with this one at its place in the order, unless it is there
+abbrev pub with_member : List Bytes → Bytes → List Bytes
+with_member members member = tree.insert_key (slice_cmp nat_cmp) members member
+
+-- the members without this one
+abbrev pub without_member : List Bytes → Bytes → List Bytes
+without_member members member = remove_key (bytes_eq member) members
+
+-- the members with each of these, one after another
+abbrev pub with_members : List Bytes → List Bytes → List Bytes
+with_members members [] = members
+with_members members (member ∷ more) = with_members (with_member members member) more
+
+-- the members without any of these
+abbrev pub without_members : List Bytes → List Bytes → List Bytes
+without_members members [] = members
+without_members members (member ∷ more) = without_members (without_member members member) more

@@ -1,0 +1,83 @@
+//! The table that a hash keeps its pairs in, seen as the list of their bytes.
+
+ghost use Rattle.std.specs.Prelude.{◌≡◌, ◌+◌, ◌≤◌, length, None};
+ghost use Rattle.std.specs.Prelude.{IfOk, OnOk, OnErr};
+ghost use Rattle.std.specs.Option.{option_map};
+ghost use Rattle.indexmap.specs.IndexMap.{index_map_len, spare};
+ghost use Rattle.texts.specs.Texts.{texts_of, pairs_of};
+ghost use Rattle.values.specs.HashValue.{pairs_seen, field_value, with_field, without_field, with_fields, without_fields};
+
+use hashed_texts::{HashedSlice, HashedText};
+use indexmap::IndexMap;
+use std::alloc::AllocError;
+use std::hash::{BuildHasherDefault, FoldHasher};
+use texts::Text;
+
+/// Fields and their values in one hashed table, in order of insertion. Its seed is fixed.
+pub(crate) type PairTable = IndexMap<HashedText, Vec<u8>, BuildHasherDefault<FoldHasher>>;
+
+/// The value of a field.
+pub(crate) fn look_up<'a>(pairs: &'a PairTable, field: &[u8]) -> Option<&'a [u8]>
+    ensures { option_map (λ value. value.now) result ≡ field_value (pairs_seen pairs.now.entries) field.now }
+{
+    match pairs.get(HashedSlice { bytes: field }) {
+        Some(value) => Some(value.as_slice()),
+        None => None,
+    }
+}
+
+/// Sets a field and gives the value that it had; takes memory only for a new field.
+pub(crate) fn insert(
+    pairs: &mut PairTable,
+    field: Vec<u8>,
+    value: Vec<u8>,
+) -> Result<Option<Text>, AllocError>
+    ensures before { IfOk result (λ before. before ≡ field_value (pairs_seen pairs.old.entries) field.items) }
+    ensures ok { OnOk result
+        (pairs_seen pairs.new.entries ≡ with_field (pairs_seen pairs.old.entries) field.items value.items) }
+    ensures bound { index_map_len pairs.old ≤ index_map_len pairs.new }
+    ensures spare { spare pairs.old ≤ spare pairs.new + 1 }
+    ensures room { OnErr result (spare pairs.old ≡ 0) }
+    ensures absent { OnErr result (field_value (pairs_seen pairs.old.entries) field.items ≡ None) }
+    ensures err { OnErr result (pairs_seen pairs.new.entries ≡ pairs_seen pairs.old.entries) }
+{
+    match pairs.insert(HashedText { bytes: field }, value) {
+        Ok(Some(before)) => Ok(Some(Text::from(before))),
+        Ok(None) => Ok(None),
+        Err(_) => Err(AllocError),
+    }
+}
+
+/// Removes a field, where it is there. The others keep their order.
+pub(crate) fn remove(pairs: &mut PairTable, field: &[u8])
+    ensures left { pairs_seen pairs.new.entries ≡ without_field (pairs_seen pairs.old.entries) field.now }
+    ensures bound { index_map_len pairs.new ≤ index_map_len pairs.old }
+{
+    pairs.shift_remove(HashedSlice { bytes: field });
+}
+
+/// Sets the fields of these pairs, the first and the second of each by turns, for which there is room.
+pub(crate) fn insert_each(pairs: &mut PairTable, mut turns: Vec<Vec<u8>>)
+    requires { length turns.items ≤ spare pairs.old + spare pairs.old + 1 }
+    ensures set { pairs_seen pairs.new.entries
+        ≡ with_fields (pairs_seen pairs.old.entries) (pairs_of (texts_of turns.items)) }
+    ensures bound { index_map_len pairs.old ≤ index_map_len pairs.new }
+{
+    turns.reverse();
+    while let (Some(field), Some(value)) = (turns.pop(), turns.pop()) {
+        let Ok(_) = insert(pairs, field, value) else {
+            return;
+        };
+    }
+}
+
+/// Removes these fields, where they are there.
+pub(crate) fn remove_each(pairs: &mut PairTable, fields: &[Vec<u8>])
+    ensures left { pairs_seen pairs.new.entries
+        ≡ without_fields (pairs_seen pairs.old.entries) (texts_of fields.now) }
+    ensures bound { index_map_len pairs.new ≤ index_map_len pairs.old }
+{
+    for field in fields {
+        remove(pairs, field.as_slice());
+    }
+}

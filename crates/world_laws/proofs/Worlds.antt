@@ -1,0 +1,293 @@
+-- Each kind of step leads from a good world to a good one.
+use Rattle.std.proofs.Common.{◌≡◌, ℕ, List, [], ◌∷◌, ◌++◌, inl, inr, Some, None, Result, Ok, Err, slice_get, ◌==◌, refl, sym, ap, ◌∙◌, subst, append-nil, eq-eqb}
+use Rattle.std.proofs.lemmas.Bool.{or_left}
+use Rattle.std.specs.FinMap.{empty}
+use Rattle.command_bodies.specs.Command.{effect_of}
+use Rattle.command_table.specs.Reading.{reading}
+use Rattle.command_table.specs.declared.command.Command.{Command}
+use Rattle.command_table.specs.declared.refusal.Refusal.{Refusal}
+use Rattle.groups.specs.GroupSet.{has, IsAscending}
+use Rattle.groups.specs.GroupSetLaws.{IsAscending-chosen}
+use Rattle.journal.specs.declared.step.Step.{Step}
+use Rattle.journal.specs.declared.step.Step.TheVariants.{Open, Submit, Deliver, Take, Run, Settle, Collect, Close}
+use Rattle.placement.specs.Groups.{groups_of}
+use Rattle.placement.specs.Layout.{Layout}
+use Rattle.resp.specs.Content.{Content}
+use Rattle.skeen_core.proofs.Ahead.{going_fresh}
+use Rattle.skeen_core.proofs.Finite.{started-fresh, heard-fresh}
+use Rattle.skeen_core.proofs.Lawful.{None≢Some}
+use Rattle.skeen_core.proofs.Lists.{In-left, In-right}
+use Rattle.skeen_core.specs.Group.{GroupState, fresh}
+use Rattle.skeen_core.specs.Order.{In}
+use Rattle.skeen_core.specs.Stamp.{final}
+use Rattle.skeen_core.specs.declared.packet.Delivered.{Delivered}
+use Rattle.skeen_core.specs.declared.packet.Packet.{Packet}
+use Rattle.skeen_core.specs.declared.request.RequestId.{RequestId}
+use Rattle.skeen_core.specs.declared.stamp.Stamp.{Stamp}
+use Rattle.world.specs.Steps.{opening, Effect, Opens, next_id, clock_of, final_clock, final_clock_of, floor_of, multicast, answered, submitted_to, submitted, Submits, received, Comes, Takes, RunsLayer, Settles, Collects, Closes, Steps, Makes, Leads}
+use Rattle.world.specs.World.{World, Request, Standing, Closed, Idle, Waiting, Answered, Ended, HasRun}
+use Rattle.world_laws.specs.Good.{Among, GroupGood, log_of, SkeenGood, ShapedFor, delivered_of, all_delivered, all_taken, TakenGood, Pending, ConnectionsGood, WorldGood}
+use Rattle.world_laws.proofs.Connections.{not_pending, connections_open, connections_answered, connections_multicast, connections_collect, connections_close, connections_run, connections_settle}
+use Rattle.world_laws.proofs.Layers.{log_taken, taken_layer, taken_run, run_layer_good, run_more, all_delivered-append, in_delivered, taken_once}
+use Rattle.world_laws.proofs.Lists.{split_at}
+use Rattle.world_laws.proofs.Receipts.{packet_comes, among_comes}
+use Rattle.world_laws.proofs.Requests.{asks_more, skeen_multicast, next_is_new, Rested, requests_multicast, requests_counted, requests_proposed, taken_more}
+use Rattle.skeen_core.proofs.Lawful.{some_same}
+use Rattle.world_laws.proofs.Values.{idle_open, idle_not_waiting, closed_not_answered}
+
+-- ---- the opening
+
+group_opening : (me : ℕ) → GroupGood (λ i. None) (λ i g. None) me fresh []
+group_opening me = record {
+  going = going_fresh me;
+  heard = λ i h n e. absurd (None≢Some n (sym (heard-fresh i h) ∙ e));
+  clock = λ i n e. absurd (None≢Some n e);
+  apart = λ i j n e d. absurd (None≢Some n e);
+  started = λ i gs e. absurd (None≢Some gs (sym (started-fresh i) ∙ e));
+  known = λ d there. absurd there;
+  member = λ d there. absurd there;
+}
+
+pub good_opening : (t : Layout) → WorldGood t opening
+good_opening t = record {
+  skeen = record {
+    sent = λ p there. absurd there;
+    counted = λ i g. refl;
+    made = λ i g n e. absurd (None≢Some n e);
+    groups = group_opening;
+  };
+  requests = record {
+    shaped = λ i q e. absurd (None≢Some q e);
+    fresh = λ i q e. absurd (None≢Some q e);
+    lasts = λ c i e. absurd (None≢Some i e);
+    latest = λ i q e. absurd (None≢Some q e);
+    floors = λ i j q r conns less e d. absurd (None≢Some q e);
+  };
+  taken = record { known = λ d there. absurd there; passed = λ d there. absurd there; order = tt };
+  connections = record {
+    unopened = λ c less. (refl, refl, refl);
+    settled = [];
+    split = refl;
+    pending = λ i q e. absurd (None≢Some q e);
+    outcomes = λ c o e. absurd (closed_not_answered o e);
+  };
+  run = record { commands = λ e there. absurd there; replies = tt; map = refl };
+}
+
+-- ---- Open
+
+pub keeps_open : (t : Layout) (old new : World) (effect : Effect) → Opens old effect new → WorldGood t old → WorldGood t new
+keeps_open t old new effect step good = subst (λ w. WorldGood t w) (sym step.after) (record {
+  skeen = good.skeen;
+  requests = good.requests;
+  taken = good.taken;
+  connections =
+      connections_open old.opened old.standing old.seq old.last old.asked old.ended old.layer good.requests.fresh good.connections;
+  run = good.run;
+})
+
+-- ---- Submit
+
+pub good_answered : (t : Layout) (old : World) (c : ℕ) (reply : Content) → old.standing c ≡ Idle → WorldGood t old →
+    WorldGood t (answered old c reply)
+good_answered t old c reply idle good = record {
+  skeen = good.skeen;
+  requests = requests_counted t old.asked old.proposed old.seq old.last c good.requests;
+  taken = good.taken;
+  connections = connections_answered old.opened old.standing old.seq old.last old.asked old.ended old.layer c
+      (record { id = next_id old c; reply = reply; stamp = None }) idle refl refl good.connections;
+  run = good.run;
+}
+
+-- the last request of a connection that waits for none has its final stamp
+pub rested : (t : Layout) (w : World) (c : ℕ) (s : Standing) → w.standing c ≡ s → (s ≡ Closed → ⊥) → (s ≡ Waiting → ⊥) → WorldGood t w →
+    Rested w.asked w.proposed w.last c (floor_of w c)
+rested t w c s is_at lively not_waiting good = record {
+  stamp = λ l q is named.
+      let at_c = (good.requests.lasts c l is).0 in
+      elim (good.connections.pending l q named) [
+        | inl done ↦
+            let there : In (delivered_of done.0) (all_taken w.ended w.layer) = In-left _ (all_delivered w.ended) _
+            (in_delivered w.ended done.0 (subst (λ es. In done.0 es) (sym good.connections.split)
+            (In-left done.0 good.connections.settled _ done.1))) in
+            let known = good.taken.known (delivered_of done.0) there in
+            let same : known.named.0 ≡ q = some_same known.named.0 q (sym known.named.1 ∙ ap w.asked done.2 ∙ named) in
+            let stamp : final (w.proposed l) q.groups ≡ Some done.0.stamp =
+            ap (λ (x : Request). final (w.proposed l) x.groups) (sym same) ∙ ap (λ gs. final (w.proposed l) gs) known.named.2
+            ∙ ap (λ i. final (w.proposed i) done.0.groups) (sym done.2) ∙ known.stamp in
+            (done.0.stamp, stamp, sym (floor_is l q done.0.stamp is named stamp))
+        | inr pending ↦ absurd (not_pending w.standing w.seq l s (ap w.standing at_c ∙ is_at) lively not_waiting pending)
+      ];
+}
+  where
+    floor_is : (l : RequestId) (q : Request) (s : Stamp) → w.last c ≡ Some l → w.asked l ≡ Some q →
+        final (w.proposed l) q.groups ≡ Some s → floor_of w c ≡ s.clock
+    floor_is l q s is named stamp = ap (final_clock_of w) is ∙ ap (final_clock w.proposed l) named ∙ ap clock_of stamp
+
+pub good_multicast : (t : Layout) (old : World) (c : ℕ) (q : Request) → old.standing c ≡ Idle → q.floor ≡ floor_of old c → ShapedFor t q →
+    IsAscending q.groups → WorldGood t old → WorldGood t (multicast old c q)
+good_multicast t old c q idle floor shaped up good =
+    let none = next_is_new t old.asked old.proposed old.seq old.last c good.requests in
+    let more = asks_more old.asked (next_id old c) q none in
+    record {
+      skeen = skeen_multicast old.asked old.proposed old.packets old.group (log_of old) (next_id old c) q good.skeen none up;
+      requests = requests_multicast t old.asked old.proposed old.packets old.group
+          (log_of old) old.seq old.last c q good.skeen good.requests
+          (subst (λ n. Rested old.asked old.proposed old.last c n) (sym floor)
+          (rested t old c Idle idle idle_open idle_not_waiting good)) shaped;
+      taken = taken_more old.asked _ old.proposed old.proposed old.gone (all_taken old.ended old.layer) more (λ i h n e. e) good.taken;
+      connections = connections_multicast old.opened old.standing old.seq old.last old.asked old.ended old.layer c q idle good.connections;
+      run = run_more old.asked _ old.ended old.contents more good.run;
+    }
+
+good_submitted_to : (t : Layout) (old : World) (c : ℕ) (command : Command) (gs : List ℕ) → groups_of t command ≡ gs →
+    old.standing c ≡ Idle → WorldGood t old → WorldGood t (submitted_to old c command gs)
+good_submitted_to t old c command [] is idle good = good_answered t old c (effect_of command empty).1 idle good
+good_submitted_to t old c command (g ∷ gs) is idle good =
+    good_multicast t old c (record { floor = floor_of old c; groups = g ∷ gs; command = command }) idle refl
+    (record { groups = is; some = (g, or_left (g == g) (has gs g) (eq-eqb g g refl)) })
+    (subst (λ l. IsAscending l) is (IsAscending-chosen _ 0 t.shards)) good
+
+good_submitted : (t : Layout) (old : World) (c : ℕ) (r : Result Command Refusal) → old.standing c ≡ Idle → WorldGood t old →
+    WorldGood t (submitted t old c r)
+good_submitted t old c (Ok command) idle good = good_submitted_to t old c command (groups_of t command) refl idle good
+good_submitted t old c (Err refusal) idle good = good_answered t old c _ idle good
+
+pub keeps_submit : (t : Layout) (old new : World) (c : ℕ) (words : List (List ℕ)) (effect : Effect) → Submits t old c words effect new →
+    WorldGood t old → WorldGood t new
+keeps_submit t old new c words effect step good = subst (λ w. WorldGood t w) (sym step.after)
+    (good_submitted t old c (reading words) step.idle good)
+
+-- ---- Deliver
+
+pub among_received : (t : Layout) (old : World) (k : ℕ) (p : Packet) (sent : List Packet) (ds : List Delivered) (state : GroupState) →
+    slice_get old.packets k ≡ Some p → WorldGood t old →
+    Among old.proposed (received old k p sent ds state).proposed
+among_received t old k p sent ds state there good =
+    let parts = split_at old.packets k p there in
+    among_comes old.asked old.proposed old.packets old.group (log_of old) p.to p.id p.body parts.front parts.back parts.whole good.skeen
+
+pub keeps_deliver : (t : Layout) (old new : World) (k : ℕ) (effect : Effect) → Comes old k effect new → WorldGood t old → WorldGood t new
+keeps_deliver t old new k effect step good =
+    let among = among_received t old k step.packet step.sent step.delivered step.state step.there good in
+    subst (λ w. WorldGood t w) (sym step.after) (record {
+      skeen =
+          packet_comes old.asked old.proposed old.packets old.group old.gone old.queue k step.packet step.sent step.delivered step.state step.there good.skeen step.receives;
+      requests = requests_proposed t old.asked old.proposed _ old.seq old.last among good.requests;
+      taken = taken_more old.asked old.asked old.proposed _ old.gone (all_taken old.ended old.layer) (λ i q e. e) among good.taken;
+      connections = good.connections;
+      run = good.run;
+    })
+
+-- ---- Take, Run, Settle
+
+pub keeps_take : (t : Layout) (old new : World) (effect : Effect) → Takes old effect new → WorldGood t old → WorldGood t new
+keeps_take t old new effect step good = subst (λ w. WorldGood t w) (sym step.after) (record {
+  skeen = subst (λ log. SkeenGood old.asked old.proposed old.packets old.group log) (log_taken old.gone old.queue step.layer) good.skeen;
+  requests = good.requests;
+  taken = taken_layer old.asked old.proposed old.packets old.group old.gone old.queue old.ended step.layer good.skeen step.ready
+      (subst (λ l. TakenGood old.asked old.proposed old.gone (all_taken old.ended l)) step.free good.taken);
+  connections =
+      let before = subst (λ l. ConnectionsGood old.opened old.standing old.seq old.last old.asked old.ended l) step.free good.connections in
+      record {
+        unopened = before.unopened;
+        settled = before.settled;
+        split = before.split;
+        pending = before.pending;
+        outcomes = before.outcomes;
+      };
+  run = good.run;
+})
+
+pub keeps_run : (t : Layout) (old new : World) (starved : List RequestId) (effect : Effect) → RunsLayer old starved effect new →
+    WorldGood t old → WorldGood t new
+keeps_run t old new starved effect step good = subst (λ w. WorldGood t w) (sym step.after) (record {
+  skeen = good.skeen;
+  requests = good.requests;
+  taken = subst (λ ds. TakenGood old.asked old.proposed old.gone ds)
+      (taken_run old.asked starved old.contents old.ended step.outcomes step.layer step.in_turn)
+      (subst (λ l. TakenGood old.asked old.proposed old.gone (all_taken old.ended l)) step.there good.taken);
+  connections = connections_run old.opened old.standing old.seq old.last old.asked old.ended step.outcomes step.layer
+      (subst (λ l. ConnectionsGood old.opened old.standing old.seq old.last old.asked old.ended l) step.there good.connections);
+  run = run_layer_good old.asked starved old.contents old.ended step.outcomes step.layer step.in_turn good.run;
+})
+
+-- the requests of a layer that was run are those that their connections wait for
+pub run_is_pending : (t : Layout) (w : World) (es : List Ended) → w.layer ≡ HasRun es → WorldGood t w → (e : Ended) → In e es →
+    Pending w.standing w.seq e.id
+run_is_pending t w es is good e there =
+    let connections = subst (λ l. ConnectionsGood w.opened w.standing w.seq w.last w.asked w.ended l) is good.connections in
+    let at_end : In e w.ended = subst (λ l. In e l) (sym connections.split) (In-right e connections.settled es there) in
+    let named = good.run.commands e at_end in
+    elim (connections.pending e.id named.0 named.1) [
+      | inr pending ↦ pending
+      | inl done ↦
+          let split : all_taken w.ended (HasRun es) ≡ all_delivered connections.settled ++ all_delivered es =
+          append-nil (all_delivered w.ended) ∙ ap all_delivered connections.split ∙ all_delivered-append connections.settled es in
+          let taken = subst (λ ds. TakenGood w.asked w.proposed w.gone ds) split
+          (subst (λ l. TakenGood w.asked w.proposed w.gone (all_taken w.ended l)) is good.taken) in
+          absurd (taken_once t w.asked w.proposed w.gone w.seq w.last (all_delivered connections.settled)
+          (all_delivered es) good.requests taken (delivered_of done.0) (delivered_of e)
+          (in_delivered connections.settled done.0 done.1) (in_delivered es e there) done.2)
+    ]
+
+pub keeps_settle : (t : Layout) (old new : World) (effect : Effect) → Settles old effect new → WorldGood t old → WorldGood t new
+keeps_settle t old new effect step good = subst (λ w. WorldGood t w) (sym step.after) (record {
+  skeen = good.skeen;
+  requests = good.requests;
+  taken = subst (λ l. TakenGood old.asked old.proposed old.gone (all_taken old.ended l)) step.there good.taken;
+  connections = connections_settle old.opened old.standing old.seq old.last old.asked old.ended step.outcomes
+      (run_is_pending t old step.outcomes step.there good)
+      (subst (λ l. ConnectionsGood old.opened old.standing old.seq old.last old.asked old.ended l) step.there good.connections);
+  run = good.run;
+})
+
+-- ---- Collect, Close
+
+keeps_collects : (t : Layout) (old new : World) (c : ℕ) (s : Standing) (effect : Effect) → old.standing c ≡ s →
+    Collects s old c effect new → WorldGood t old → WorldGood t new
+keeps_collects t old new c Closed effect is step good = absurd step
+keeps_collects t old new c Idle effect is step good = subst (λ w. WorldGood t w) (sym step.1) good
+keeps_collects t old new c Waiting effect is step good = subst (λ w. WorldGood t w) (sym step.1) good
+keeps_collects t old new c (Answered o) effect is step good = subst (λ w. WorldGood t w) (sym step.1) (record {
+  skeen = good.skeen;
+  requests = good.requests;
+  taken = good.taken;
+  connections = connections_collect old.opened old.standing old.seq old.last old.asked old.ended old.layer c o is good.connections;
+  run = good.run;
+})
+
+pub keeps_collect : (t : Layout) (old new : World) (c : ℕ) (effect : Effect) → Collects (old.standing c) old c effect new →
+    WorldGood t old → WorldGood t new
+keeps_collect t old new c effect step good = keeps_collects t old new c (old.standing c) effect refl step good
+
+pub keeps_close : (t : Layout) (old new : World) (c : ℕ) (effect : Effect) → Closes old c effect new → WorldGood t old → WorldGood t new
+keeps_close t old new c effect step good = subst (λ w. WorldGood t w) (sym step.after) (record {
+  skeen = good.skeen;
+  requests = good.requests;
+  taken = good.taken;
+  connections = connections_close old.opened old.standing old.seq old.last old.asked old.ended old.layer c good.connections;
+  run = good.run;
+})
+
+-- ---- all steps
+
+pub keeps : (t : Layout) (old new : World) (step : Step) (effect : Effect) → Steps t old step effect new → WorldGood t old → WorldGood t new
+keeps t old new Open effect s good = keeps_open t old new effect s good
+keeps t old new (Submit conn words) effect s good = keeps_submit t old new conn.0 words effect s good
+keeps t old new (Deliver k) effect s good = keeps_deliver t old new k effect s good
+keeps t old new Take effect s good = keeps_take t old new effect s good
+keeps t old new (Run starved) effect s good = keeps_run t old new starved effect s good
+keeps t old new Settle effect s good = keeps_settle t old new effect s good
+keeps t old new (Collect conn) effect s good = keeps_collect t old new conn.0 effect s good
+keeps t old new (Close conn) effect s good = keeps_close t old new conn.0 effect s good
+
+pub keeps_all : (t : Layout) (old new : World) (steps : List Step) (effects : List Effect) → Makes t old steps effects new →
+    WorldGood t old → WorldGood t new
+keeps_all t old new [] effects made good = subst (λ w. WorldGood t w) (sym made.1) good
+keeps_all t old new (s ∷ ss) [] made good = absurd made
+keeps_all t old new (s ∷ ss) (e ∷ es) made good = keeps_all t made.0 new ss es made.2 (keeps t old made.0 s e made.1 good)
+
+-- every world of a history is good
+pub good_world : (t : Layout) (steps : List Step) (w : World) → Leads t opening steps w → WorldGood t w
+good_world t steps w leads = keeps_all t opening w steps leads.0 leads.1 (good_opening t)

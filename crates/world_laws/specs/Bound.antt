@@ -1,0 +1,50 @@
+-- How many steps there can be that bring packets, take layers, run and settle them.
+use Rattle.std.specs.Prelude.{ℕ, ◌+◌, ◌*◌, ◌≤◌, List, [], ◌∷◌, length, Result, Ok, Err}
+use Rattle.command_table.specs.Reading.{reading}
+use Rattle.command_table.specs.declared.command.Command.{Command}
+use Rattle.command_table.specs.declared.refusal.Refusal.{Refusal}
+use Rattle.journal.specs.declared.step.Step.{Step}
+use Rattle.journal.specs.declared.step.Step.TheVariants.{Open, Submit, Deliver, Take, Run, Settle, Collect, Close}
+use Rattle.placement.specs.Groups.{groups_of}
+use Rattle.placement.specs.Layout.{Layout}
+use Rattle.world.specs.Steps.{opening, Leads}
+use Rattle.world.specs.World.{World}
+
+-- 1 for a step that brings a packet, or takes, runs or settles a layer
+abbrev pub turn : Step → ℕ
+turn Open = 0
+turn (Submit conn words) = 0
+turn (Deliver place) = 1
+turn Take = 1
+turn (Run starved) = 1
+turn Settle = 1
+turn (Collect conn) = 0
+turn (Close conn) = 0
+
+-- how many of these there are
+abbrev pub turns : List Step → ℕ
+turns [] = 0
+turns (s ∷ ss) = turn s + turns ss
+
+-- what a request of k groups allows: k * k + 3
+abbrev pub allowed_to : List ℕ → ℕ
+allowed_to [] = 0
+allowed_to (g ∷ gs) = length (g ∷ gs) * length (g ∷ gs) + 3
+
+abbrev pub allowed_by : Layout → Result Command Refusal → ℕ
+allowed_by t (Ok command) = allowed_to (groups_of t command)
+allowed_by t (Err refusal) = 0
+
+abbrev pub allowance : Layout → Step → ℕ
+allowance t (Submit conn words) = allowed_by t (reading words)
+allowance t step = 0
+
+-- what all submitted requests allow
+abbrev pub allowances : Layout → List Step → ℕ
+allowances t [] = 0
+allowances t (s ∷ ss) = allowance t s + allowances t ss
+
+-- there are never more such steps than the submitted requests allow
+abbrev pub TurnsAreBounded : Type 0
+TurnsAreBounded = (t : Layout) (steps : List Step) (w : World) → Leads t opening steps w →
+    turns steps ≤ allowances t steps

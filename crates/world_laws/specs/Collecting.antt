@@ -1,0 +1,75 @@
+-- What connections are told: of what they submitted, and what they collect.
+use Rattle.std.specs.FinMap.{empty}
+use Rattle.std.specs.Prelude.{◌≡◌, ℕ, List, [], ◌∷◌, ◌⊎◌, Option, Some, None, Result, Ok, Err}
+use Rattle.command_bodies.specs.Command.{effect_of}
+use Rattle.command_table.specs.Reading.{reading}
+use Rattle.command_table.specs.Refusal.{refusal_text}
+use Rattle.command_table.specs.declared.command.Command.{Command}
+use Rattle.command_table.specs.declared.refusal.Refusal.{Refusal}
+use Rattle.journal.specs.declared.step.Step.{Step}
+use Rattle.journal.specs.declared.step.Step.TheVariants.{Submit, Collect}
+use Rattle.placement.specs.Groups.{groups_of}
+use Rattle.placement.specs.Layout.{Layout}
+use Rattle.resp.specs.Content.{Content, ErrorLine}
+use Rattle.skeen_core.specs.Group.{EachOnce}
+use Rattle.skeen_core.specs.Order.{In}
+use Rattle.skeen_core.specs.declared.request.ConnId.{ConnId}
+use Rattle.skeen_core.specs.declared.request.RequestId.{RequestId}
+use Rattle.world.specs.Steps.{opening, Effect, Submitted, Collected, outcome_of, Steps, Makes}
+use Rattle.world.specs.World.{World, Request, Outcome, Ended}
+
+-- ---- what was submitted
+
+-- the step submits a request of this id, whose words pass the test
+abbrev pub Submits : (List (List ℕ) → Type 0) → RequestId → Step → Effect → Type 0
+Submits test i (Submit conn words) (Submitted j) = (conn ≡ i.conn) × (j ≡ i) × test words
+Submits test i step effect = ⊥
+
+-- one of these steps does
+abbrev pub WasSubmitted : (List (List ℕ) → Type 0) → RequestId → List Step → List Effect → Type 0
+WasSubmitted test i [] effects = ⊥
+WasSubmitted test i (s ∷ ss) [] = ⊥
+WasSubmitted test i (s ∷ ss) (e ∷ es) = Submits test i s e ⊎ WasSubmitted test i ss es
+
+-- the reply to words that are asked of no group: their error, or what a command says that looks at no key
+abbrev pub reply_at_none : Command → List ℕ → Option Content
+reply_at_none command [] = Some (effect_of command empty).1
+reply_at_none command (g ∷ gs) = None
+
+abbrev pub reply_at_once : Layout → Result Command Refusal → Option Content
+reply_at_once t (Err refusal) = Some (ErrorLine (refusal_text refusal))
+reply_at_once t (Ok command) = reply_at_none command (groups_of t command)
+
+-- what is asked of groups is the command that a connection's words say
+abbrev pub AskedAsSubmitted : Type 0
+AskedAsSubmitted = (t : Layout) (steps : List Step) (effects : List Effect) (w : World) →
+    Makes t opening steps effects w →
+    (i : RequestId) (q : Request) → w.asked i ≡ Some q →
+    WasSubmitted (λ words. reading words ≡ Ok q.command) i steps effects
+
+-- ---- what is collected
+
+-- A connection collects the outcome of its own last request. Where that was run it is what came of it: its reply, or
+-- that there was no memory, with its final stamp. Else its words were asked of no group, and it is their reply, with
+-- no stamp.
+abbrev pub CollectsItsOwn : Type 0
+CollectsItsOwn = (t : Layout) (steps : List Step) (effects : List Effect) (old new : World) →
+    Makes t opening steps effects old →
+    (conn : ConnId) (o : Outcome) → Steps t old (Collect conn) (Collected (Some o)) new →
+    (o.id ≡ record { conn = conn; seq = old.seq conn.0 })
+    × (((e : Ended) × In e old.ended × (o ≡ outcome_of e))
+    ⊎ ((o.stamp ≡ None) × WasSubmitted (λ words. reply_at_once t (reading words) ≡ Some o.reply) o.id steps effects))
+
+abbrev pub with_collected : Effect → List RequestId → List RequestId
+with_collected (Collected (Some o)) ids = o.id ∷ ids
+with_collected effect ids = ids
+
+-- the ids whose outcomes were collected
+abbrev pub collected_in : List Effect → List RequestId
+collected_in [] = []
+collected_in (e ∷ es) = with_collected e (collected_in es)
+
+-- each is collected at most once
+abbrev pub CollectedOnce : Type 0
+CollectedOnce = (t : Layout) (steps : List Step) (effects : List Effect) (w : World) →
+    Makes t opening steps effects w → EachOnce (collected_in effects)

@@ -1,0 +1,139 @@
+-- The laws of order, for every history of steps.
+use Rattle.std.specs.FinMap.{get}
+use Rattle.std.specs.Prelude.{◌≡◌, ℕ, ◌<◌, ◌≤◌, true, false, List, ◌++◌, length, slice_get, map, ◌⊎◌, Some}
+use Rattle.groups.specs.GroupSet.{has}
+use Rattle.journal.specs.declared.step.Step.{Step}
+use Rattle.journal.specs.declared.step.Step.TheVariants.{Deliver}
+use Rattle.placement.specs.Layout.{Layout}
+use Rattle.skeen_core.specs.Group.{heard, Ascending, EachOnce}
+use Rattle.skeen_core.specs.Order.{In}
+use Rattle.skeen_core.specs.Stamp.{stamp_lt, final}
+use Rattle.skeen_core.specs.declared.packet.Delivered.{Delivered}
+use Rattle.skeen_core.specs.declared.packet.Packet.{Packet}
+use Rattle.skeen_core.specs.declared.request.RequestId.{RequestId}
+use Rattle.skeen_core.specs.declared.stamp.Stamp.{Stamp}
+use Rattle.world.specs.Steps.{opening, Effect, Steps, Leads}
+use Rattle.world.specs.World.{World, Request, Ended}
+use Rattle.world_laws.specs.Good.{Rising, log_of}
+
+-- it holds of every world that a history of steps gives
+abbrev pub OfEveryWorld : (Layout → World → Type 0) → Type 0
+OfEveryWorld P = (t : Layout) (steps : List Step) (w : World) → Leads t opening steps w → P t w
+
+-- ---- final stamps
+
+-- the request was submitted, and this is its final stamp: the greatest of the proposals that its groups have made
+pub record HasFinal (w : World) (i : RequestId) (q : Request) (s : Stamp) : Type 0 where
+  pub submitted : w.asked i ≡ Some q
+  pub stamp : final (w.proposed i) q.groups ≡ Some s
+
+-- the group knows that stamp as the request's final one: it has delivered the request with it, or has heard all its
+-- proposals
+pub record Settled (w : World) (g : ℕ) (i : RequestId) (s : Stamp) : Type 0 where
+  pub groups : List ℕ
+  pub started : get (w.group g).started i ≡ Some groups
+  pub stamp : final (heard (w.group g) i) groups ≡ Some s
+
+pub record DeliveredAs (w : World) (g : ℕ) (i : RequestId) (s : Stamp) : Type 0 where
+  pub it : Delivered
+  pub there : In it (log_of w g)
+  pub id : it.id ≡ i
+  pub stamp : it.stamp ≡ s
+
+abbrev pub KnowsFinal : World → ℕ → RequestId → Stamp → Type 0
+KnowsFinal w g i s = Settled w g i s ⊎ DeliveredAs w g i s
+
+-- all groups of a request that know its final stamp know the same one
+abbrev pub GroupsAgree : Type 0
+GroupsAgree = OfEveryWorld (λ t w. (g : ℕ) (i : RequestId) (s : Stamp) → KnowsFinal w g i s →
+    (q : Request) × (has q.groups g ≡ true) × HasFinal w i q s)
+
+-- each group of a request with a final stamp has proposed, and not above it
+abbrev pub FinalIsGreatest : Type 0
+FinalIsGreatest = OfEveryWorld (λ t w. (i : RequestId) (q : Request) (s : Stamp) → HasFinal w i q s → (g : ℕ) →
+    has q.groups g ≡ true →
+    (n : ℕ) × (w.proposed i g ≡ Some n) × (stamp_lt s (record { clock = n; group = g }) ≡ false))
+
+-- the final stamp is the proposal of one of the groups
+abbrev pub FinalIsProposed : Type 0
+FinalIsProposed = OfEveryWorld (λ t w. (i : RequestId) (q : Request) (s : Stamp) → HasFinal w i q s →
+    (has q.groups s.group ≡ true) × (w.proposed i s.group ≡ Some s.clock))
+
+-- no two requests have the same final stamp
+abbrev pub FinalStampsDiffer : Type 0
+FinalStampsDiffer = OfEveryWorld (λ t w. (i j : RequestId) (q r : Request) (s : Stamp) → HasFinal w i q s →
+    HasFinal w j r s → i ≡ j)
+
+-- of two requests of one connection the later one has the larger stamp
+abbrev pub StampsOfConnectionRise : Type 0
+StampsOfConnectionRise = OfEveryWorld (λ t w. (i j : RequestId) (q r : Request) (s u : Stamp) → i.conn.0 ≡ j.conn.0 →
+    i.seq < j.seq →
+    HasFinal w i q s → HasFinal w j r u → stamp_lt s u ≡ true)
+
+-- ---- groups
+
+-- a group's clock is at least that of each stamp that it has proposed or delivered
+abbrev pub ClockIsAboveProposals : Type 0
+ClockIsAboveProposals = OfEveryWorld (λ t w. (g : ℕ) (i : RequestId) (n : ℕ) → w.proposed i g ≡ Some n →
+    n ≤ (w.group g).clock)
+
+abbrev pub ClockIsAboveDeliveries : Type 0
+ClockIsAboveDeliveries = OfEveryWorld (λ t w. (g : ℕ) (d : Delivered) → In d (log_of w g) →
+    d.stamp.clock ≤ (w.group g).clock)
+
+-- no clock is above the number of steps
+abbrev pub ClocksAreBounded : Type 0
+ClocksAreBounded = (t : Layout) (steps : List Step) (w : World) → Leads t opening steps w → (g : ℕ) →
+    (w.group g).clock ≤ length steps
+
+-- each group delivers in ascending order
+abbrev pub DeliveriesAscend : Type 0
+DeliveriesAscend = OfEveryWorld (λ t w. (g : ℕ) → Ascending (log_of w g))
+
+-- ---- only the groups of a request do something for it
+
+-- a packet goes to a group of its request
+abbrev pub PacketsGoToAddressed : Type 0
+PacketsGoToAddressed = OfEveryWorld (λ t w. (p : Packet) → In p w.packets → (q : Request) × (w.asked p.id ≡ Some q)
+    × (has q.groups p.to ≡ true))
+
+-- a group has delivered requests of its own alone
+abbrev pub DeliveriesAreAddressed : Type 0
+DeliveriesAreAddressed = OfEveryWorld (λ t w. (g : ℕ) (d : Delivered) → In d (log_of w g) → has d.groups g ≡ true)
+
+-- the step brings a packet to the group
+abbrev pub Brings : World → Step → ℕ → Type 0
+Brings w (Deliver k) g = (p : Packet) × (slice_get w.packets k ≡ Some p) × (p.to ≡ g)
+Brings w step g = ⊥
+
+-- a step changes no group but the one that it brings a packet to
+abbrev pub OthersKeepStill : Type 0
+OthersKeepStill = (t : Layout) (old new : World) (step : Step) (effect : Effect) (g : ℕ) →
+    Steps t old step effect new → ¬ Brings old step g →
+    (new.group g ≡ old.group g) × (log_of new g ≡ log_of old g)
+
+-- ---- what was run
+
+abbrev pub ids_of : List Ended → List RequestId
+ids_of es = map (λ e. e.id) es
+
+-- each request ends at most once: it is executed, or it starves
+abbrev pub EndsOnce : Type 0
+EndsOnce = OfEveryWorld (λ t w. EachOnce (ids_of w.ended))
+
+-- what ends was submitted so, and ends with its final stamp
+abbrev pub EndsAsSubmitted : Type 0
+EndsAsSubmitted = OfEveryWorld (λ t w. (e : Ended) → In e w.ended →
+    (q : Request) × HasFinal w e.id q e.stamp × (e.command ≡ q.command) × (e.groups ≡ q.groups))
+
+-- where two requests share a group, the one that ends before has the smaller stamp
+abbrev pub TouchingByStamp : Ended → Ended → Type 0
+TouchingByStamp d e = (g : ℕ) → has d.groups g ≡ true → has e.groups g ≡ true → stamp_lt d.stamp e.stamp ≡ true
+
+abbrev pub TouchingEndInStampOrder : Type 0
+TouchingEndInStampOrder = OfEveryWorld (λ t w. Rising TouchingByStamp w.ended)
+
+-- a step adds to what has ended and changes nothing of it
+abbrev pub EndedIsKept : Type 0
+EndedIsKept = (t : Layout) (old new : World) (step : Step) (effect : Effect) → Steps t old step effect new →
+    (more : List Ended) × (new.ended ≡ old.ended ++ more)
