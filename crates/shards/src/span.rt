@@ -95,8 +95,23 @@ impl<F: SpanFrame> Span<F> {
         if self.shards.len() == 1 {
             return 0;
         }
-        let number = self.table.shard_of(key);
-        self.index_of_shard(number).unwrap()
+        self.index_of_shard(self.shard_of(key)).unwrap()
+    }
+
+    /// The shard on which the key lies.
+    fn shard_of(&self, key: &[u8]) -> GroupId
+        ensures { result ≡ place F.layout key.now }
+    {
+        self.table.shard_of(key)
+    }
+
+    /// Whether the shard of this number is in the span.
+    fn has_shard(&self, number: GroupId) -> bool
+        ensures { result ≡ has F.groups number }
+    {
+        // A proof learns from a field's use what is true of each span.
+        let _ = &self.shards;
+        self.index_of_shard(number).is_some()
     }
 
     /// The place in the span of the shard of this number, if it is there.
@@ -122,8 +137,7 @@ impl<F: SpanFrame> Keyspace for Span<F> {
     ghost covered = { λ _ key. lies_on F.layout F.groups key };
 
     fn covers(&self, key: &[u8]) -> bool {
-        let number = self.table.shard_of(key);
-        self.index_of_shard(number).is_some()
+        self.has_shard(self.shard_of(key))
     }
 
     fn look(&self, key: &[u8]) -> Option<&Value> {
