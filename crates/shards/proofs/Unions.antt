@@ -10,7 +10,7 @@ use Rattle.groups.specs.GroupSet.{has, IsAscending}
 use Rattle.keyspace.proofs.Changes.{set-get}
 use Rattle.keyspace.proofs.Gets.{same, same_bytes, get-set}
 use Rattle.keyspace.specs.Map.{Map, set}
-use Rattle.placement.specs.Layout.{Layout, place}
+use Rattle.placement.specs.Layout.{Layout, shard_of}
 use Rattle.shard_maps.proofs.Joins.{get-joined-cons, none_elsewhere}
 use Rattle.shard_maps.specs.Joined.{HasKeysOf, Span, numbers, union, SpanHasOwnKeys}
 use Rattle.shards.specs.Spans.{IsSpan}
@@ -65,7 +65,7 @@ not_first n ss i up below e = let less = up.0 (slice_index (numbers ss) i) (has-
 
 module _ (table : Layout) where
   -- no shard of the span is the key's
-  pub none_of : (ss : Span) (q : List ℕ) → SpanHasOwnKeys table ss → ((i : ℕ) → i < length ss → slice_index (numbers ss) i ≡ place table q → ⊥)
+  pub none_of : (ss : Span) (q : List ℕ) → SpanHasOwnKeys table ss → ((i : ℕ) → i < length ss → slice_index (numbers ss) i ≡ shard_of table q → ⊥)
       → get (union ss) q ≡ None
   none_of [] q own away = get-empty (slice_cmp nat_cmp) q
   none_of (s ∷ ss) q own away =
@@ -79,7 +79,7 @@ module _ (table : Layout) where
 
   -- it has what the key's shard has
   pub get-union_here : (ss : Span) (i : ℕ) (d : ℕ × Map) (q : List ℕ) → SpanHasOwnKeys table ss → IsAscending (numbers ss) → i < length ss
-      → slice_index (numbers ss) i ≡ place table q → get (union ss) q ≡ get (get_or ss i d).1 q
+      → slice_index (numbers ss) i ≡ shard_of table q → get (union ss) q ≡ get (get_or ss i d).1 q
   get-union_here [] i d q own up below here = absurd (omega (arith, below))
   get-union_here (s ∷ ss) zero d q own up below here =
       get-joined-cons s.1 (map (λ s. s.1) ss) q
@@ -91,15 +91,15 @@ module _ (table : Layout) where
       ∙ get-union_here ss i d q own.1 up.1 (omega (arith, below)) here
 
   -- a change at a key of the shard's own
-  own-set : (n : ℕ) (m : Map) (q : List ℕ) (o : Option Value) → n ≡ place table q → HasKeysOf table n m → HasKeysOf table n (set m q o)
+  own-set : (n : ℕ) (m : Map) (q : List ℕ) (o : Option Value) → n ≡ shard_of table q → HasKeysOf table n m → HasKeysOf table n (set m q o)
   own-set n m q o here own r there =
-      elim (bytes_eq q r) as (λ b. bytes_eq q r ≡ b → place table r ≡ n) [
-        | true ↦ λ e. ap (place table) (sym (same_bytes q r e)) ∙ sym here
+      elim (bytes_eq q r) as (λ b. bytes_eq q r ≡ b → shard_of table r ≡ n) [
+        | true ↦ λ e. ap (shard_of table) (sym (same_bytes q r e)) ∙ sym here
         | false ↦ λ e. own r (subst IsSome (get-set m q o r ∙ ap (λ b. cond b o (get m r)) e) there)
       ] refl
 
   pub own-changed : (ss : Span) (i : ℕ) (d : ℕ × Map) (q : List ℕ) (o : Option Value) → SpanHasOwnKeys table ss → i < length ss
-      → slice_index (numbers ss) i ≡ place table q → SpanHasOwnKeys table (slice_set ss i ((get_or ss i d).0, set (get_or ss i d).1 q o))
+      → slice_index (numbers ss) i ≡ shard_of table q → SpanHasOwnKeys table (slice_set ss i ((get_or ss i d).0, set (get_or ss i d).1 q o))
   own-changed [] i d q o own below here = absurd (omega (arith, below))
   own-changed (s ∷ ss) zero d q o own below here = (own-set s.0 s.1 q o here own.0, own.1)
   own-changed (s ∷ ss) (suc i) d q o own below here = (own.0, own-changed ss i d q o own.1 (omega (arith, below)) here)
@@ -113,7 +113,7 @@ module _ (table : Layout) where
   later_cases false o p r none = refl
 
   get-union-changed : (ss : Span) (i : ℕ) (d : ℕ × Map) (q : List ℕ) (o : Option Value) → SpanHasOwnKeys table ss → IsAscending (numbers ss) → i < length ss
-      → slice_index (numbers ss) i ≡ place table q → (r : List ℕ)
+      → slice_index (numbers ss) i ≡ shard_of table q → (r : List ℕ)
       → get (union (slice_set ss i ((get_or ss i d).0, set (get_or ss i d).1 q o))) r ≡ cond (bytes_eq q r) o (get (union ss) r)
   get-union-changed [] i d q o own up below here r = absurd (omega (arith, below))
   get-union-changed (s ∷ ss) zero d q o own up below here r =
@@ -123,7 +123,7 @@ module _ (table : Layout) where
       ∙ ap (cond (bytes_eq q r) o) (sym (get-joined-cons s.1 (map (λ s. s.1) ss) r))
     where
       none : bytes_eq q r ≡ true → get (union ss) r ≡ None
-      none e = none_of ss r own.1 (λ i inside f. not_first s.0 ss i up inside (f ∙ ap (place table) (sym (same_bytes q r e)) ∙ sym here))
+      none e = none_of ss r own.1 (λ i inside f. not_first s.0 ss i up inside (f ∙ ap (shard_of table) (sym (same_bytes q r e)) ∙ sym here))
   get-union-changed (s ∷ ss) (suc i) d q o own up below here r =
       get-joined-cons s.1 (map (λ s. s.1) (slice_set ss i ((get_or ss i d).0, set (get_or ss i d).1 q o))) r
       ∙ ap (option_or (get s.1 r)) (get-union-changed ss i d q o own.1 up.1 (omega (arith, below)) here r)
@@ -131,17 +131,17 @@ module _ (table : Layout) where
       ∙ ap (cond (bytes_eq q r) o) (sym (get-joined-cons s.1 (map (λ s. s.1) ss) r))
     where
       none : bytes_eq q r ≡ true → get s.1 r ≡ None
-      none e = none_elsewhere table s.0 s.1 r own.0 (λ f. not_first s.0 ss i up (omega (arith, below)) (here ∙ ap (place table) (same_bytes q r e) ∙ f))
+      none e = none_elsewhere table s.0 s.1 r own.0 (λ f. not_first s.0 ss i up (omega (arith, below)) (here ∙ ap (shard_of table) (same_bytes q r e) ∙ f))
 
   -- the union changes at that key alone
   pub union-changed : (ss : Span) (i : ℕ) (d : ℕ × Map) (q : List ℕ) (o : Option Value) → SpanHasOwnKeys table ss → IsAscending (numbers ss) → i < length ss
-      → slice_index (numbers ss) i ≡ place table q → union (slice_set ss i ((get_or ss i d).0, set (get_or ss i d).1 q o)) ≡ set (union ss) q o
+      → slice_index (numbers ss) i ≡ shard_of table q → union (slice_set ss i ((get_or ss i d).0, set (get_or ss i d).1 q o)) ≡ set (union ss) q o
   union-changed ss i d q o own up below here =
       same _ _ (λ r. get-union-changed ss i d q o own up below here r ∙ sym (get-set (union ss) q o r))
 
   -- what is kept of a span by it
   pub span-changed : (groups : List ℕ) (ss : Span) (i : ℕ) (d : ℕ × Map) (q : List ℕ) (o : Option Value) → IsSpan table groups ss → i < length ss
-      → slice_index (numbers ss) i ≡ place table q → IsSpan table groups (slice_set ss i ((get_or ss i d).0, set (get_or ss i d).1 q o))
+      → slice_index (numbers ss) i ≡ shard_of table q → IsSpan table groups (slice_set ss i ((get_or ss i d).0, set (get_or ss i d).1 q o))
   span-changed groups ss i d q o span below here = record {
     numbers = numbers-changed ss i d (set (get_or ss i d).1 q o) below ∙ span.numbers;
     ascending = span.ascending;
@@ -205,14 +205,14 @@ pub record Spot (table : Layout) (groups : List ℕ) (inside ss : Span) (i : ℕ
   pub shown : inside ≡ ss
   pub span : IsSpan table groups inside
   pub below : i < length ss
-  pub there : slice_index (numbers ss) i ≡ place table q
+  pub there : slice_index (numbers ss) i ≡ shard_of table q
   pub at : s ≡ get_or inside i s
 
 module _ (table : Layout) (groups : List ℕ) (inside ss : Span) (i : ℕ) (s : ℕ × Map) (q : List ℕ) (spot : Spot table groups inside ss i s q) where
   below' : i < length inside
   below' = subst (λ l. i < length l) (sym spot.shown) spot.below
 
-  there' : slice_index (numbers inside) i ≡ place table q
+  there' : slice_index (numbers inside) i ≡ shard_of table q
   there' = ap (λ l. slice_index (numbers l) i) spot.shown ∙ spot.there
 
   ascends : IsAscending (numbers inside)

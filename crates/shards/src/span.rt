@@ -2,7 +2,7 @@
 
 ghost use Rattle.std.specs.Prelude.{◌≡◌, ℕ, ◌<◌, IsTrue, List, MatchOption, false, length, slice_index};
 ghost use Rattle.groups.specs.GroupSet.{has};
-ghost use Rattle.placement.specs.Layout.{place};
+ghost use Rattle.placement.specs.Layout.{shard_of};
 ghost use Rattle.shard_maps.specs.Joined.{numbers};
 ghost use Rattle.shards.specs.Spans.{IsSpan, lies_on};
 
@@ -90,7 +90,7 @@ impl<F: SpanFrame> Span<F> {
     fn index_of(&self, key: &[u8]) -> usize
         requires { IsTrue (lies_on F.layout F.groups key.now) }
         ensures inside { result < length self.now }
-        ensures there { slice_index (numbers self.now) result ≡ place F.layout key.now }
+        ensures there { slice_index (numbers self.now) result ≡ shard_of F.layout key.now }
     {
         if self.shards.len() == 1 {
             return 0;

@@ -5,7 +5,7 @@ use Rattle.std.specs.Result.{OnErr, result_ok}
 use Rattle.command_table.specs.Command.{keys_of}
 use Rattle.groups.specs.GroupSet.{IsAscending, has}
 use Rattle.placement.proofs.Addressed.{has-groups_of-key}
-use Rattle.placement.specs.Layout.{place}
+use Rattle.placement.specs.Layout.{shard_of}
 use Rattle.resp.specs.Content.{content}
 use Rattle.resp.specs.declared.reply.Reply.{Reply}
 use Rattle.shard_maps.proofs.PutBack.{IsAscending-groups_of}
@@ -37,7 +37,7 @@ run_over-outcome-requires-clause-shards g c = record {
 
 pub run_over-outcome-requires-clause-keys : goal.run_over-outcome-requires-clause-keys
 run_over-outcome-requires-clause-keys g c k d below =
-    ap (λ gs. has gs (place c.args.table.now (get_or (keys_of c.args.self.job.command) k d))) (c.requires.numbers ∙ c.requires.groups)
+    ap (λ gs. has gs (shard_of c.args.table.now (get_or (keys_of c.args.self.job.command) k d))) (c.requires.numbers ∙ c.requires.groups)
     ∙ has-groups_of-key c.args.table.now c.args.self.job.command (get_or (keys_of c.args.self.job.command) k d) c.requires.is_table
     (k, below, any_default (keys_of c.args.self.job.command) k _ d below)
 

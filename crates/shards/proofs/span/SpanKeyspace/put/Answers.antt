@@ -1,6 +1,6 @@
 use Rattle.std.proofs.Common.{◌≡◌, sym, ap, ◌∙◌, Some, inl, inr, ◌⊎◌, Result, Ok, Err}
 use Rattle.std.specs.Result.{OnOk, OnErr}
-use Rattle.placement.specs.Layout.{place}
+use Rattle.placement.specs.Layout.{shard_of}
 use Rattle.std.specs.Result.{IfOk}
 use Rattle.shards.proofs.Unions.{Spot, get_here, changed_span, changed_union, kept_span, kept_union}
 use Rattle.shards.proofs.span.SpanKeyspace.put.Given.{Over}
@@ -28,7 +28,7 @@ spot g c = record {
   shown = c.self.view_is;
   span = c.self.invariant.1;
   below = c.index_of-index.ensures.inside;
-  there = c.index_of-index.ensures.there ∙ ap (place g.F.SpanFrame.layout) c.as_slice.ensures.value;
+  there = c.index_of-index.ensures.there ∙ ap (shard_of g.F.SpanFrame.layout) c.as_slice.ensures.value;
   at = c.index_mut.ensures.value;
 }
 
