@@ -38,6 +38,6 @@ module _ {A : Type 0} (case : A → Case) where
       (ap (λ l. l ++ others) (ap (λ v. v.1) before) ∙ ap (λ v. v.1) behind ∙ ap (λ n. (in_turn case n more).1) (ap (λ v. v.0) before))
   in_turn-append m mid new (a ∷ done) more replies others before behind =
       let rest = in_turn-append (case a m).0 mid new done more (in_turn case (case a m).0 done).1 others
-          (pair _ _ _ _ (ap (λ v. v.0) before) refl) behind in
+      (pair _ _ _ _ (ap (λ v. v.0) before) refl) behind in
       pair _ _ _ _ (ap (λ v. v.0) rest)
       (ap (λ l. l ++ others) (ap (λ v. v.1) before) ∙ ap (λ l. (case a m).1 ∷ l) (ap (λ v. v.1) rest))

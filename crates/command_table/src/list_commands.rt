@@ -22,40 +22,77 @@ use texts::{End, Text, Texts};
 #[derive(Drop)]
 pub enum ListCommand {
     /// `LLEN key`: the length of the list.
-    Llen { key: Text },
+    Llen {
+        key: Text,
+    },
 
     /// `LPOP key`: takes the item at the head.
-    Lpop { key: Text },
+    Lpop {
+        key: Text,
+    },
 
     /// `RPOP key`: takes the item at the tail.
-    Rpop { key: Text },
+    Rpop {
+        key: Text,
+    },
 
     /// `LPUSH key item [item ..]`: pushes the items at the head in turn.
-    Lpush { key: Text, items: Texts },
+    Lpush {
+        key: Text,
+        items: Texts,
+    },
 
     /// `RPUSH key item [item ..]`: pushes the items at the tail in turn.
-    Rpush { key: Text, items: Texts },
+    Rpush {
+        key: Text,
+        items: Texts,
+    },
 
     /// `LPUSHX key item [item ..]`: as LPUSH where the key is there.
-    Lpushx { key: Text, items: Texts },
+    Lpushx {
+        key: Text,
+        items: Texts,
+    },
 
     /// `RPUSHX key item [item ..]`: as RPUSH where the key is there.
-    Rpushx { key: Text, items: Texts },
+    Rpushx {
+        key: Text,
+        items: Texts,
+    },
 
     /// `LINDEX key place`: the item at the place.
-    Lindex { key: Text, place: i64 },
+    Lindex {
+        key: Text,
+        place: i64,
+    },
 
     /// `LSET key place item`: puts the item in the place of the one that is there.
-    Lset { key: Text, place: i64, item: Text },
+    Lset {
+        key: Text,
+        place: i64,
+        item: Text,
+    },
 
     /// `LRANGE key start end`: the items from the start to the end.
-    Lrange { key: Text, start: i64, end: i64 },
+    Lrange {
+        key: Text,
+        start: i64,
+        end: i64,
+    },
 
     /// `LTRIM key start end`: keeps the items from the start to the end.
-    Ltrim { key: Text, start: i64, end: i64 },
+    Ltrim {
+        key: Text,
+        start: i64,
+        end: i64,
+    },
 
     /// `LREM key count item`: removes items that are equal to this one.
-    Lrem { key: Text, count: i64, item: Text },
+    Lrem {
+        key: Text,
+        count: i64,
+        item: Text,
+    },
 
     /// `LINSERT key BEFORE|AFTER pivot item`: inserts the item beside the first one that is equal to the pivot.
     Linsert {
@@ -74,7 +111,10 @@ pub enum ListCommand {
     },
 
     /// `RPOPLPUSH source destination`: moves the item at the tail of one list to the head of another.
-    Rpoplpush { from: Text, to: Text },
+    Rpoplpush {
+        from: Text,
+        to: Text,
+    },
 }
 
 /// A side of an item of a list.

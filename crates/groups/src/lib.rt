@@ -5,12 +5,12 @@
 #![tactic(auto)]
 
 mod group_id;
-mod iter;
 mod group_set;
+mod iter;
 
 pub use group_id::GroupId;
-pub use iter::Iter;
 pub use group_set::Groups;
+pub use iter::Iter;
 
 #[cfg(test)]
 mod tests;

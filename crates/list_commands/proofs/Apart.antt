@@ -42,8 +42,8 @@ put_there taken put source target = kind.List (joined put (items_there target) (
 
 in_turn : (m : Map) (from to : Bytes) (taken put : End) (source target : Option Value) → IsTrue (is_list source) → IsTrue (may_be_list target)
     → ◌≡◌ {A = Map × Content}
-      (insert (set m from (at_list (pop_step taken) source).0) to (put_there taken put source target), (at_list (pop_step taken) source).1)
-      (set_two m from to (move_step false taken put source target).0, (move_step false taken put source target).1)
+    (insert (set m from (at_list (pop_step taken) source).0) to (put_there taken put source target), (at_list (pop_step taken) source).1)
+    (set_two m from to (move_step false taken put source target).0, (move_step false taken put source target).1)
 in_turn m from to taken put None target a b = absurd (cc)
 in_turn m from to taken put (Some (kind.Str text)) target a b = absurd (cc)
 in_turn m from to taken put (Some (kind.Hash pairs)) target a b = absurd (cc)

@@ -164,7 +164,7 @@ fn put_item<K: Keyspace>(
     requires target { IsTrue (may_be_list (map.get (K.contents keyspace.old) key)) }
     ensures ok { OnOk result (K.contents keyspace.new
         ≡ map.insert (K.contents keyspace.old) key
-            (kind.List (joined end (items_there (map.get (K.contents keyspace.old) key)) (item ∷ [])))) }
+        (kind.List (joined end (items_there (map.get (K.contents keyspace.old) key)) (item ∷ [])))) }
     ensures err { OnErr result (K.contents keyspace.new ≡ K.contents keyspace.old) }
     ensures covers { K.covered keyspace.new ≡ K.covered keyspace.old }
 {

@@ -21,11 +21,7 @@ use values::{ListValue, Value};
 ///
 /// It takes no memory. <https://redis.io/docs/latest/commands/llen/>
 #[tactic(auto, using(keyspace::proofs::Changes::changes))]
-pub(crate) fn llen<K: Keyspace>(
-    _alloc: Global,
-    keyspace: &K,
-    key: Text,
-) -> Result<Reply, Starved>
+pub(crate) fn llen<K: Keyspace>(_alloc: Global, keyspace: &K, key: Text) -> Result<Reply, Starved>
     requires { IsTrue (K.covered keyspace.now key) }
     ensures done { Does (at_key key (at_list length_step))
         (K.contents keyspace.now) (K.contents keyspace.now) result }
@@ -125,12 +121,7 @@ fn range_reply(alloc: Global, list: &ListValue, start: i64, end: i64) -> Result<
 }
 
 /// Copies of the items from one place to before another.
-fn copies(
-    alloc: Global,
-    list: &ListValue,
-    from: usize,
-    to: usize,
-) -> Result<Vec<Reply>, AllocError>
+fn copies(alloc: Global, list: &ListValue, from: usize, to: usize) -> Result<Vec<Reply>, AllocError>
     requires ordered { from ≤ to }
     requires within { to ≤ length list.now }
     ensures { IfOk result (λ replies. map content replies.items ≡ map BulkText (slice_range list.now from to)) }

@@ -46,7 +46,6 @@ impl<'r, R> Crew<'r, R> {
 
 impl<'r, R: Threads + Wait> Workers for Crew<'r, R> {
     ghost use Rattle.shard_exec.specs.Parts.{HasRoom};
-
     ghost use Rattle.std.specs.Int.NonZero.{non_zero_usize_get};
 
     ghost count = { λ c. non_zero_usize_get c.number };

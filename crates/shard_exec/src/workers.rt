@@ -69,7 +69,6 @@ pub struct InTurn(pub NonZeroUsize);
 
 impl Workers for InTurn {
     ghost use Rattle.shard_exec.specs.Parts.{HasResults};
-
     ghost use Rattle.std.specs.Int.NonZero.{non_zero_usize_get};
 
     ghost count = { λ w. non_zero_usize_get w.0 };

@@ -49,7 +49,10 @@ fn lists_are_pushed_and_moved(rt: HostRuntime) -> Result<(), Fail> {
     list.push_all(End::Head, texts(alloc, "x y")?)?;
     assert!(rt; list.insert(2, text(alloc, "p")?).is_ok());
     let all = list.range(0, list.len());
-    assert_eq!(rt; shown(alloc, all)?.as_slice(), b"y x p c b a d e".as_slice());
+    assert_eq!(rt;
+        shown(alloc, all)?.as_slice(),
+        b"y x p c b a d e".as_slice()
+    );
     let Ok((Some(left), moved)) = list.move_item(alloc, End::Tail, None, End::Head) else {
         return Err(Fail::from("nothing moved"));
     };
@@ -76,8 +79,14 @@ fn hashes_keep_the_order_of_their_fields(rt: HostRuntime) -> Result<(), Fail> {
     let (removed, left) = hash.remove_all(&texts(alloc, "b x e b")?);
     assert_eq!(rt; removed, 2);
     let left = left.ok_or("no hash")?;
-    assert_eq!(rt; shown(alloc, left.fields())?.as_slice(), b"a c d".as_slice());
-    assert_eq!(rt; shown(alloc, left.values())?.as_slice(), b"9 7 6".as_slice());
+    assert_eq!(rt;
+        shown(alloc, left.fields())?.as_slice(),
+        b"a c d".as_slice()
+    );
+    assert_eq!(rt;
+        shown(alloc, left.values())?.as_slice(),
+        b"9 7 6".as_slice()
+    );
     Ok(())
 }
 
@@ -94,7 +103,10 @@ fn sets_ascend(rt: HostRuntime) -> Result<(), Fail> {
     let (removed, left) = set.remove_all(&texts(alloc, "z q a")?);
     assert_eq!(rt; removed, 2);
     let left = left.ok_or("no set")?;
-    assert_eq!(rt; shown(alloc, left.members())?.as_slice(), b"B ab b c m".as_slice());
+    assert_eq!(rt;
+        shown(alloc, left.members())?.as_slice(),
+        b"B ab b c m".as_slice()
+    );
     assert_eq!(rt; Value::Set(left).type_name(), "set");
     Ok(())
 }

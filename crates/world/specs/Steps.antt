@@ -225,8 +225,11 @@ pub record RunsLayer (old : World) (starved : List RequestId) (effect : Effect) 
   pub there : old.layer ≡ Taken layer
   pub in_turn : RunInTurn old.asked starved old.contents layer outcomes
   pub answers : effect ≡ Ran (starved_among outcomes)
-  pub after : new ≡ record old { layer = HasRun outcomes; ended = old.ended ++ outcomes;
-      contents = after_all old.contents outcomes }
+  pub after : new ≡ record old {
+    layer = HasRun outcomes;
+    ended = old.ended ++ outcomes;
+    contents = after_all old.contents outcomes;
+  }
 
 -- ---- Settle: the layer's outcomes go to their connections
 

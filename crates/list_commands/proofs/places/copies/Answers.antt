@@ -19,8 +19,8 @@ loop-place-preserved c =
     record {
       behind = omega (arith, c.loop-place.invariant.behind);
       copied =
-      ap (map content) c.in_ok-push.ensures.items ∙ map-append content c.loop-place.replies.items (reply ∷ [])
-      ∙ ap (λ l. l ++ content reply ∷ []) c.loop-place.invariant.copied ∙ ap (λ r. map BulkText done ++ r ∷ []) here
-      ∙ sym (map-append BulkText done (t ∷ []))
-      ∙ ap (map BulkText) (sym (slice_range-next xs c.args.from i t c.loop-place.invariant.behind at));
+          ap (map content) c.in_ok-push.ensures.items ∙ map-append content c.loop-place.replies.items (reply ∷ [])
+          ∙ ap (λ l. l ++ content reply ∷ []) c.loop-place.invariant.copied ∙ ap (λ r. map BulkText done ++ r ∷ []) here
+          ∙ sym (map-append BulkText done (t ∷ []))
+          ∙ ap (map BulkText) (sym (slice_range-next xs c.args.from i t c.loop-place.invariant.behind at));
     }
