@@ -100,7 +100,7 @@ impl<F: SpanFrame> Span<F> {
 
     /// The shard on which the key lies.
     fn shard_of(&self, key: &[u8]) -> GroupId
-        ensures { result ≡ place F.layout key.now }
+        ensures { result ≡ shard_of F.layout key.now }
     {
         self.table.shard_of(key)
     }
