@@ -5,6 +5,7 @@ use crate::{
 };
 use resp::{Reply, Request, write_reply};
 use std::alloc::{AllocError, Global};
+use std::process::Abort;
 use std::test::Fail;
 
 /// Reads the words that stand in the line, one space apart.
@@ -95,23 +96,33 @@ fn tells_name_and_keys(rt: HostRuntime) -> Result<(), Fail> {
         ("Rename a b", "rename a b"),
         ("SETNX a 1", "setnx a"),
     ] {
-        let command = match read_line(alloc, line)? {
-            Ok(command) => command,
-            Err(refusal) => return Err(refusal.into()),
-        };
-        assert_eq!(rt; is_whole(&command), false);
-        let mut told = String::from_str(alloc, name(&command))?;
-        let listed = keys(alloc, &command)?;
-        assert_eq!(rt; listed.len(), key_count(&command));
-        for key in &listed {
-            write!(told, " {}", text(key))?;
-        }
-        if key_count(&command) > 0 {
-            assert_eq!(rt; Some(key_at(&command, 0)), listed.first().copied());
-        }
+        let told = told_line(&rt, alloc, line)?;
         assert_eq!(rt; told.as_str(), want);
     }
     Ok(())
+}
+
+/// The name and the keys of the command that a line says.
+fn told_line(rt: &impl Abort, alloc: Global, line: &str) -> Result<String, Fail> {
+    let command = match read_line(alloc, line)? {
+        Ok(command) => command,
+        Err(refusal) => return Err(refusal.into()),
+    };
+    assert_eq!(rt; is_whole(&command), false);
+    told_text(rt, alloc, &command)
+}
+
+fn told_text(rt: &impl Abort, alloc: Global, command: &Command) -> Result<String, Fail> {
+    let mut told = String::from_str(alloc, name(command))?;
+    let listed = keys(alloc, command)?;
+    assert_eq!(rt; listed.len(), key_count(command));
+    for key in &listed {
+        write!(told, " {}", text(key))?;
+    }
+    if key_count(command) > 0 {
+        assert_eq!(rt; Some(key_at(command, 0)), listed.first().copied());
+    }
+    Ok(told)
 }
 
 #[test]

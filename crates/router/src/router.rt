@@ -76,11 +76,15 @@ impl Router {
             standing: Standing::Idle,
         };
         match self.kept.insert(number, fresh) {
-            Ok(_) => {
+            Ok(before) => {
+                discard(before);
                 self.opened = number;
                 Ok(ConnId(number))
             }
-            Err(_) => Err(AllocError),
+            Err(refused) => {
+                discard(refused);
+                Err(AllocError)
+            }
         }
     }
 

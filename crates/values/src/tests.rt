@@ -44,25 +44,29 @@ fn shown(alloc: Global, items: Items<'_>) -> Result<Vec<u8>, Fail> {
 #[test]
 fn lists_are_pushed_and_moved(rt: HostRuntime) -> Result<(), Fail> {
     let alloc = rt.alloc();
-    let mut list = ListValue::from_pushes(End::Head, texts(alloc, "a b c")?).ok_or("no list")?;
-    list.push_all(End::Tail, texts(alloc, "d e")?)?;
-    list.push_all(End::Head, texts(alloc, "x y")?)?;
-    assert!(rt; list.insert(2, text(alloc, "p")?).is_ok());
-    let all = list.range(0, list.len());
-    assert_eq!(rt;
-        shown(alloc, all)?.as_slice(),
-        b"y x p c b a d e".as_slice()
-    );
+    let first = texts(alloc, "a b c")?;
+    let at_tail = texts(alloc, "d e")?;
+    let at_head = texts(alloc, "x y")?;
+    let between = text(alloc, "p")?;
+    let mut list = ListValue::from_pushes(End::Head, first).ok_or("no list")?;
+    list.push_all(End::Tail, at_tail)?;
+    list.push_all(End::Head, at_head)?;
+    assert!(rt; list.insert(2, between).is_ok());
+    let len = list.len();
+    let all = shown(alloc, list.range(0, len))?;
+    assert_eq!(rt; all.as_slice(), b"y x p c b a d e".as_slice());
     let Ok((Some(left), moved)) = list.move_item(alloc, End::Tail, None, End::Head) else {
         return Err(Fail::from("nothing moved"));
     };
     let Ok((Some(left), moved)) = left.move_item(alloc, End::Head, Some(moved), End::Head) else {
         return Err(Fail::from("nothing moved"));
     };
-    let rest = left.range(0, left.len());
-    assert_eq!(rt; shown(alloc, rest)?.as_slice(), b"x p c b a d".as_slice());
-    let both = moved.range(0, moved.len());
-    assert_eq!(rt; shown(alloc, both)?.as_slice(), b"y e".as_slice());
+    let len = left.len();
+    let rest = shown(alloc, left.range(0, len))?;
+    assert_eq!(rt; rest.as_slice(), b"x p c b a d".as_slice());
+    let len = moved.len();
+    let both = shown(alloc, moved.range(0, len))?;
+    assert_eq!(rt; both.as_slice(), b"y e".as_slice());
     Ok(())
 }
 
