@@ -41,6 +41,21 @@ fn shown(alloc: Global, items: Items<'_>) -> Result<Vec<u8>, Fail> {
     Ok(shown)
 }
 
+/// What is left of a list whose item at this end was moved to the head of another one, and that one.
+fn moved_apart(
+    alloc: Global,
+    list: ListValue,
+    end: End,
+    target: Option<ListValue>,
+) -> Result<(ListValue, ListValue), Fail> {
+    let Ok(both) = list.move_item(alloc, end, target, End::Head) else {
+        return Err(Fail::from("nothing moved"));
+    };
+    let (left, moved) = both;
+    let left = left.ok_or("nothing left")?;
+    Ok((left, moved))
+}
+
 #[test]
 fn lists_are_pushed_and_moved(rt: HostRuntime) -> Result<(), Fail> {
     let alloc = rt.alloc();
@@ -51,16 +66,15 @@ fn lists_are_pushed_and_moved(rt: HostRuntime) -> Result<(), Fail> {
     let mut list = ListValue::from_pushes(End::Head, first).ok_or("no list")?;
     list.push_all(End::Tail, at_tail)?;
     list.push_all(End::Head, at_head)?;
+    if list.len() < 2 {
+        return Err(Fail::from("too few items"));
+    }
     assert!(rt; list.insert(2, between).is_ok());
     let len = list.len();
     let all = shown(alloc, list.range(0, len))?;
     assert_eq!(rt; all.as_slice(), b"y x p c b a d e".as_slice());
-    let Ok((Some(left), moved)) = list.move_item(alloc, End::Tail, None, End::Head) else {
-        return Err(Fail::from("nothing moved"));
-    };
-    let Ok((Some(left), moved)) = left.move_item(alloc, End::Head, Some(moved), End::Head) else {
-        return Err(Fail::from("nothing moved"));
-    };
+    let (left, moved) = moved_apart(alloc, list, End::Tail, None)?;
+    let (left, moved) = moved_apart(alloc, left, End::Head, Some(moved))?;
     let len = left.len();
     let rest = shown(alloc, left.range(0, len))?;
     assert_eq!(rt; rest.as_slice(), b"x p c b a d".as_slice());
