@@ -2,3 +2,4 @@ pub mod Integer
 pub mod IntegerLaws
 pub mod Range
 pub mod RangeLaws
+pub mod Sum
