@@ -163,3 +163,105 @@ fn keys_and_strings_answer_in_turn(rt: HostRuntime) -> Result<(), Fail> {
     }
     Ok(())
 }
+
+#[test]
+fn numbers_in_strings_answer_in_turn(rt: HostRuntime) -> Result<(), Fail> {
+    let mut keyspace = Plain::new(rt.alloc(), BuildHasherDefault::<FoldHasher>::new());
+    let overflow = "-ERR increment or decrement would overflow\r\n";
+    let no_integer = "-ERR value is not an integer or out of range\r\n";
+    let wrong_type = "-WRONGTYPE Operation against a key holding the wrong kind of value\r\n";
+    let rows: [(&[&str], &str); 18] = [
+        (&["SET", "a", "9223372036854775807"], "+OK\r\n"),
+        (&["INCR", "a"], overflow),
+        (&["GET", "a"], "$19\r\n9223372036854775807\r\n"),
+        (&["DECRBY", "a", "-9223372036854775808"], overflow),
+        (&["INCR", "b"], ":1\r\n"),
+        (&["INCRBY", "b", "+1"], no_integer),
+        (&["INCRBY", "b", "41"], ":42\r\n"),
+        (&["DECRBY", "b", "50"], ":-8\r\n"),
+        (&["DECR", "b"], ":-9\r\n"),
+        (&["DECR", "b"], ":-10\r\n"),
+        (&["GET", "b"], "$3\r\n-10\r\n"),
+        (&["DECR", "c"], ":-1\r\n"),
+        (&["SET", "d", "01"], "+OK\r\n"),
+        (&["INCR", "d"], no_integer),
+        (&["GET", "d"], "$2\r\n01\r\n"),
+        (&["RPUSH", "e", "1"], ":1\r\n"),
+        (&["INCR", "e"], wrong_type),
+        (&["DECRBY", "e", "-9223372036854775808"], overflow),
+    ];
+    for (words, reply) in rows {
+        let text = answer(&rt, rt.alloc(), &mut keyspace, words)?;
+        assert_eq!(rt; text.as_slice(), reply.as_bytes(), "{words:?}");
+    }
+    Ok(())
+}
+
+#[test]
+fn writes_into_strings_answer_in_turn(rt: HostRuntime) -> Result<(), Fail> {
+    let mut keyspace = Plain::new(rt.alloc(), BuildHasherDefault::<FoldHasher>::new());
+    let bad_offset = "-ERR offset is out of range\r\n";
+    let too_long = "-ERR string exceeds maximum allowed size\r\n";
+    let wrong_type = "-WRONGTYPE Operation against a key holding the wrong kind of value\r\n";
+    let rows: [(&[&str], &str); 20] = [
+        (&["SETRANGE", "b", "3", "x"], ":4\r\n"),
+        (&["GET", "b"], "$4\r\n\0\0\0x\r\n"),
+        (&["SETRANGE", "b", "-1", "x"], bad_offset),
+        (&["SETRANGE", "b", "1", "yz"], ":4\r\n"),
+        (&["GET", "b"], "$4\r\n\0yzx\r\n"),
+        (&["SETRANGE", "b", "3", "12"], ":5\r\n"),
+        (&["SETRANGE", "b", "9", ""], ":5\r\n"),
+        (&["SETRANGE", "b", "536870912", "x"], too_long),
+        (&["GET", "b"], "$5\r\n\0yz12\r\n"),
+        (&["SETRANGE", "c", "9", ""], ":0\r\n"),
+        (&["SETRANGE", "c", "536870912", "x"], too_long),
+        (&["EXISTS", "c"], ":0\r\n"),
+        (&["APPEND", "c", "ab"], ":2\r\n"),
+        (&["APPEND", "c", ""], ":2\r\n"),
+        (&["APPEND", "c", "cd"], ":4\r\n"),
+        (&["GET", "c"], "$4\r\nabcd\r\n"),
+        (&["RPUSH", "e", "1"], ":1\r\n"),
+        (&["APPEND", "e", "1"], wrong_type),
+        (&["SETRANGE", "e", "0", ""], wrong_type),
+        (&["SETRANGE", "e", "-1", ""], bad_offset),
+    ];
+    for (words, reply) in rows {
+        let text = answer(&rt, rt.alloc(), &mut keyspace, words)?;
+        assert_eq!(rt; text.as_slice(), reply.as_bytes(), "{words:?}");
+    }
+    Ok(())
+}
+
+#[test]
+fn several_keys_and_fields_answer_in_turn(rt: HostRuntime) -> Result<(), Fail> {
+    let mut keyspace = Plain::new(rt.alloc(), BuildHasherDefault::<FoldHasher>::new());
+    let odd = "-ERR wrong number of arguments for 'mset' command\r\n";
+    let no_integer = "-ERR hash value is not an integer\r\n";
+    let rows: [(&[&str], &str); 17] = [
+        (&["MSET", "a", "1", "c", "2", "a", "3"], "+OK\r\n"),
+        (&["GET", "a"], "$1\r\n3\r\n"),
+        (&["GET", "c"], "$1\r\n2\r\n"),
+        (&["MSET", "a", "1", "c"], odd),
+        (&["MSETNX", "d", "1", "c", "4"], ":0\r\n"),
+        (&["EXISTS", "d"], ":0\r\n"),
+        (&["MSETNX", "d", "1", "e", "4"], ":1\r\n"),
+        (&["RPUSH", "f", "1"], ":1\r\n"),
+        (&["MSET", "f", "2", "d", "5"], "+OK\r\n"),
+        (&["MGET", "f", "d"], "*2\r\n$1\r\n2\r\n$1\r\n5\r\n"),
+        (&["HINCRBY", "h", "n", "5"], ":5\r\n"),
+        (&["HINCRBY", "h", "n", "-7"], ":-2\r\n"),
+        (&["HINCRBY", "h", "m", "9223372036854775807"], ":9223372036854775807\r\n"),
+        (
+            &["HINCRBY", "h", "m", "1"],
+            "-ERR increment or decrement would overflow\r\n",
+        ),
+        (&["HSET", "h", "t", "x"], ":1\r\n"),
+        (&["HINCRBY", "h", "t", "1"], no_integer),
+        (&["HVALS", "h"], "*3\r\n$2\r\n-2\r\n$19\r\n9223372036854775807\r\n$1\r\nx\r\n"),
+    ];
+    for (words, reply) in rows {
+        let text = answer(&rt, rt.alloc(), &mut keyspace, words)?;
+        assert_eq!(rt; text.as_slice(), reply.as_bytes(), "{words:?}");
+    }
+    Ok(())
+}

@@ -23,3 +23,7 @@ wrong_type = ErrorLine (codes "WRONGTYPE Operation against a key holding the wro
 -- a key that the command needs is missing
 abbrev pub no_such_key : Content
 no_such_key = ErrorLine (codes "ERR no such key")
+
+-- a sum has more than 64 bits with sign
+abbrev pub would_overflow : Content
+would_overflow = ErrorLine (codes "ERR increment or decrement would overflow")

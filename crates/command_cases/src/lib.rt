@@ -10,7 +10,8 @@ mod replies;
 ghost use Rattle.command_cases.specs.Commute.{AnswersCommute, ContentsCommute};
 
 pub use replies::{
-    GREATEST_COUNT, count_reply, no_such_key_reply, ok_reply, truth_reply, wrong_type_reply,
+    GREATEST_COUNT, count_reply, no_such_key_reply, ok_reply, truth_reply, would_overflow_reply,
+    wrong_type_reply,
 };
 use std::alloc::AllocError;
 

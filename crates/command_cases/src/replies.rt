@@ -1,7 +1,7 @@
 //! Replies that many commands give. None takes memory to make.
 
 ghost use Rattle.std.specs.Prelude.{◌≡◌};
-ghost use Rattle.command_cases.specs.Replies.{ok, count, truth, wrong_type, no_such_key};
+ghost use Rattle.command_cases.specs.Replies.{ok, count, truth, wrong_type, no_such_key, would_overflow};
 ghost use Rattle.resp.specs.Content.{content};
 
 use resp::{ErrorText, Reply};
@@ -44,4 +44,13 @@ pub fn no_such_key_reply() -> Reply
     ensures { content result ≡ no_such_key }
 {
     Reply::Error(ErrorText::Fixed("ERR no such key"))
+}
+
+/// That a sum doesn't fit 64 bits with sign.
+pub fn would_overflow_reply() -> Reply
+    ensures { content result ≡ would_overflow }
+{
+    Reply::Error(ErrorText::Fixed(
+        "ERR increment or decrement would overflow",
+    ))
 }

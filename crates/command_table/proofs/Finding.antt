@@ -1,12 +1,12 @@
 -- Rows, found by their names.
-use Rattle.std.proofs.Common.{◌≡◌, ℕ, zero, suc, ◌<◌, Bool, true, false, List, [], ◌∷◌, Some, None, refl, sym, subst, nat_lt, if◌then◌else◌, arith}
+use Rattle.std.proofs.Common.{◌≡◌, ℕ, zero, suc, ◌<◌, Bool, true, false, List, [], ◌∷◌, ◌++◌, Some, None, option_map, refl, sym, ap, subst, nat_lt, if◌then◌else◌, arith}
 use Rattle.std.specs.List.{list_all}
 use Rattle.std.specs.Str.{bytes_eq, IsUtf8, IsAscii}
 use Rattle.std.proofs.lemmas.Bool.{and_parts}
 use Rattle.std.proofs.lemmas.Bool.Decides.{nat_tests}
 use Rattle.std.proofs.lemmas.Slice.Eq.{bytes_eq-Decides}
 use Rattle.std.proofs.lemmas.Str.{IsUtf8-from_ascii}
-use Rattle.command_table.specs.Row.{Row, row_of}
+use Rattle.command_table.specs.Row.{Row, row_of, row_reading, reading_among}
 use Rattle.command_table.specs.Words.{Word}
 
 -- each byte is below 128
@@ -31,3 +31,16 @@ none_of_bytes (r ∷ rs) n h not_text =
       | true ↦ λ e. absurd (not_text (subst IsUtf8 (sym ((bytes_eq-Decides n r.name).0 e)) (IsUtf8-from_ascii r.name (IsAscii-name r.name parts.0))))
       | false ↦ λ e. none_of_bytes rs n parts.1 not_text
     ] refl
+
+row_of-beyond : (rs qs : List Row) (n : Word) → row_of rs n ≡ None → row_of (rs ++ qs) n ≡ row_of qs n
+row_of-beyond [] qs n none = refl
+row_of-beyond (r ∷ rs) qs n none =
+    elim (bytes_eq n r.name)
+    as (λ b. (if b then Some r else row_of rs n) ≡ None → (if b then Some r else row_of (rs ++ qs) n) ≡ row_of qs n) [
+      | true ↦ λ e. absurd cc
+      | false ↦ λ e. row_of-beyond rs qs n e
+    ] none
+
+-- where none of the first rows has the name, the others say what the words are
+pub reading-beyond : (rs qs : List Row) (n : Word) (words : List Word) → row_of rs n ≡ None → reading_among (rs ++ qs) n words ≡ reading_among qs n words
+reading-beyond rs qs n words none = ap (option_map (λ r. row_reading r words)) (row_of-beyond rs qs n none)

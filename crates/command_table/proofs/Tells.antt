@@ -13,7 +13,7 @@ use Rattle.command_table.specs.declared.key_commands.KeyCommand.TheVariants.{Flu
 use Rattle.command_table.specs.declared.string_commands.Condition.{Condition}
 use Rattle.command_table.specs.Arity.{admits}
 use Rattle.command_table.specs.Command.{told_of}
-use Rattle.command_table.specs.HashCommands.{hash_rows, hlen_row, hget_row, hexists_row, hstrlen_row, hkeys_row, hvals_row, hgetall_row, hmget_row, hdel_row, hsetnx_row, hset_row, hmset_row, whole_pairs, with_pairs}
+use Rattle.command_table.specs.HashCommands.{hash_rows, hlen_row, hget_row, hexists_row, hstrlen_row, hkeys_row, hvals_row, hgetall_row, hmget_row, hdel_row, hsetnx_row, hset_row, hmset_row, hincrby_row, whole_pairs, with_pairs}
 use Rattle.command_table.specs.KeyCommands.{key_rows, del_row, unlink_row, exists_row, type_row, rename_row, renamenx_row, dbsize_row, flushall_row}
 use Rattle.command_table.specs.KeySpan.{NoKeys, AllThereAre, Between, ToLastWord, stepped, keys_in}
 use Rattle.command_table.specs.ListCommands.{list_rows, llen_row, lpop_row, rpop_row, lpush_row, rpush_row, lpushx_row, rpushx_row}
@@ -25,6 +25,8 @@ use Rattle.command_table.specs.LocalCommands.{local_rows, ping_row, echo_row}
 use Rattle.command_table.specs.Reading.{rows, reading, IsTold}
 use Rattle.command_table.specs.Row.{Row, Reading, pairs_reading, then_reading, integer_reading, row_of, row_reading, row_told, reading_among}
 use Rattle.command_table.specs.StringCommands.{string_rows, get_row, set_row, setnx_row, getset_row, getdel_row, mget_row, strlen_row, getrange_row, set_with, options_condition}
+use Rattle.command_table.specs.StringCommands.{incr_row, decr_row, incrby_row, decrby_row, append_row, setrange_row, mset_row, msetnx_row}
+use Rattle.command_table.specs.declared.string_commands.StringCommand.TheVariants.{Mset, Msetnx}
 use Rattle.command_table.specs.Telling.{KeysTold, All, These}
 use Rattle.texts.specs.Texts.{firsts}
 use Rattle.command_table.specs.Words.{Word, word, is_word, lower, pairs_of, integer_word}
@@ -182,7 +184,31 @@ string_tell = (
               (
                 tells-one getrange_row refl refl (λ key ws. integer_tells getrange_row key (integer_word (word ws 0)) _ (λ start.
                     integer_tells getrange_row key (integer_word (word ws 1)) _ (λ end. refl))),
-                tt,
+                (
+                  tells-one incr_row refl refl (λ key ws. refl),
+                  (
+                    tells-one decr_row refl refl (λ key ws. refl),
+                    (
+                      tells-one incrby_row refl refl (λ key ws. integer_tells incrby_row key (integer_word (word ws 0)) _ (λ by. refl)),
+                      (
+                        tells-one decrby_row refl refl (λ key ws. integer_tells decrby_row key (integer_word (word ws 0)) _ (λ by. refl)),
+                        (
+                          tells-one append_row refl refl (λ key ws. refl),
+                          (
+                            tells-one setrange_row refl refl (λ key ws. integer_tells setrange_row key (integer_word (word ws 0)) _ (λ offset. refl)),
+                            (
+                              tells-pairs mset_row (λ pairs. Str (Mset pairs)) refl (λ ws. refl) (λ pairs. refl),
+                              (
+                                tells-pairs msetnx_row (λ pairs. Str (Msetnx pairs)) refl (λ ws. refl) (λ pairs. refl),
+                                tt,
+                              ),
+                            ),
+                          ),
+                        ),
+                      ),
+                    ),
+                  ),
+                ),
               ),
             ),
           ),
@@ -298,7 +324,10 @@ hash_tell = (
                       tells-one hset_row refl refl (λ key ws. pairs_tell hset_row (These (key ∷ [])) (codes "hset") (Hset key) (λ pairs. refl) (whole_pairs ws)),
                       (
                         tells-one hmset_row refl refl (λ key ws. pairs_tell hmset_row (These (key ∷ [])) (codes "hmset") (Hmset key) (λ pairs. refl) (whole_pairs ws)),
-                        tt,
+                        (
+                          tells-one hincrby_row refl refl (λ key ws. integer_tells hincrby_row key (integer_word (word ws 1)) _ (λ by. refl)),
+                          tt,
+                        ),
                       ),
                     ),
                   ),

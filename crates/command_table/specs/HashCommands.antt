@@ -3,10 +3,10 @@ use Rattle.std.specs.Prelude.{◌%◌, ◌==◌, List, [], ◌∷◌, drop, leng
 use Rattle.command_table.specs.declared.arity.Arity.TheVariants.{Exactly, AtLeast}
 use Rattle.command_table.specs.declared.command.Command.TheVariants.{Hash}
 use Rattle.command_table.specs.declared.hash_commands.HashCommand.{HashCommand}
-use Rattle.command_table.specs.declared.hash_commands.HashCommand.TheVariants.{Hlen, Hget, Hexists, Hstrlen, Hkeys, Hvals, Hgetall, Hmget, Hdel, Hsetnx, Hset, Hmset}
+use Rattle.command_table.specs.declared.hash_commands.HashCommand.TheVariants.{Hlen, Hget, Hexists, Hstrlen, Hkeys, Hvals, Hgetall, Hmget, Hdel, Hsetnx, Hset, Hmset, Hincrby}
 use Rattle.command_table.specs.declared.refusal.Refusal.TheVariants.{Arity}
 use Rattle.command_table.specs.KeySpan.{Between}
-use Rattle.command_table.specs.Row.{Row, Reading}
+use Rattle.command_table.specs.Row.{Row, Reading, integer_reading}
 use Rattle.command_table.specs.Telling.{Telling, These, named}
 use Rattle.command_table.specs.Words.{Word, word, pairs_of}
 
@@ -23,6 +23,7 @@ hash_command_told (Hdel key fields) = record { name = codes "hdel"; keys = These
 hash_command_told (Hsetnx key field value) = record { name = codes "hsetnx"; keys = These (key ∷ []) }
 hash_command_told (Hset key pairs) = record { name = codes "hset"; keys = These (key ∷ []) }
 hash_command_told (Hmset key pairs) = record { name = codes "hmset"; keys = These (key ∷ []) }
+hash_command_told (Hincrby key field by) = record { name = codes "hincrby"; keys = These (key ∷ []) }
 
 abbrev pub hash_command_keys : HashCommand → List Word
 hash_command_keys c = named (hash_command_told c).keys
@@ -74,7 +75,13 @@ hset_row = record { name = codes "hset"; arity = AtLeast 4; keys = Between 1 1; 
 abbrev pub hmset_row : Row
 hmset_row = record { name = codes "hmset"; arity = AtLeast 4; keys = Between 1 1; reading = λ words. with_pairs (codes "hmset") (Hmset (word words 0)) (whole_pairs (drop 1 words)) }
 
+abbrev pub hincrby_reading : List Word → Reading
+hincrby_reading words = integer_reading (word words 2) (λ by. Ok (Hash (Hincrby (word words 0) (word words 1) by)))
+
+abbrev pub hincrby_row : Row
+hincrby_row = record { name = codes "hincrby"; arity = Exactly 4; keys = Between 1 1; reading = hincrby_reading }
+
 abbrev pub hash_rows : List Row
 hash_rows =
     hlen_row ∷ hget_row ∷ hexists_row ∷ hstrlen_row ∷ hkeys_row ∷ hvals_row ∷ hgetall_row ∷ hmget_row ∷ hdel_row ∷ hsetnx_row
-    ∷ hset_row ∷ hmset_row ∷ []
+    ∷ hset_row ∷ hmset_row ∷ hincrby_row ∷ []

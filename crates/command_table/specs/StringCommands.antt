@@ -9,10 +9,12 @@ use Rattle.command_table.specs.declared.string_commands.Condition.{Condition}
 use Rattle.command_table.specs.declared.string_commands.Condition.TheVariants.{Always, IfAbsent, IfPresent}
 use Rattle.command_table.specs.declared.string_commands.StringCommand.{StringCommand}
 use Rattle.command_table.specs.declared.string_commands.StringCommand.TheVariants.{Get, Set, Setnx, Getset, Getdel, Mget, Strlen, Getrange}
+use Rattle.command_table.specs.declared.string_commands.StringCommand.TheVariants.{Incr, Decr, Incrby, Decrby, Append, Setrange, Mset, Msetnx}
 use Rattle.command_table.specs.KeySpan.{Between, ToLastWord}
-use Rattle.command_table.specs.Row.{Row, Reading, integer_reading}
+use Rattle.command_table.specs.Row.{Row, Reading, integer_reading, pairs_reading}
 use Rattle.command_table.specs.Telling.{Telling, These, named}
 use Rattle.command_table.specs.Words.{Word, word, is_word}
+use Rattle.texts.specs.Texts.{firsts}
 
 abbrev pub string_command_told : StringCommand → Telling
 string_command_told (Get key) = record { name = codes "get"; keys = These (key ∷ []) }
@@ -23,6 +25,14 @@ string_command_told (Getdel key) = record { name = codes "getdel"; keys = These 
 string_command_told (Mget keys) = record { name = codes "mget"; keys = These keys }
 string_command_told (Strlen key) = record { name = codes "strlen"; keys = These (key ∷ []) }
 string_command_told (Getrange key start end) = record { name = codes "getrange"; keys = These (key ∷ []) }
+string_command_told (Incr key) = record { name = codes "incr"; keys = These (key ∷ []) }
+string_command_told (Decr key) = record { name = codes "decr"; keys = These (key ∷ []) }
+string_command_told (Incrby key by) = record { name = codes "incrby"; keys = These (key ∷ []) }
+string_command_told (Decrby key by) = record { name = codes "decrby"; keys = These (key ∷ []) }
+string_command_told (Append key tail) = record { name = codes "append"; keys = These (key ∷ []) }
+string_command_told (Setrange key offset value) = record { name = codes "setrange"; keys = These (key ∷ []) }
+string_command_told (Mset pairs) = record { name = codes "mset"; keys = These (firsts pairs) }
+string_command_told (Msetnx pairs) = record { name = codes "msetnx"; keys = These (firsts pairs) }
 
 abbrev pub string_command_keys : StringCommand → List Word
 string_command_keys c = named (string_command_told c).keys
@@ -90,7 +100,57 @@ getrange_reading words =
 abbrev pub getrange_row : Row
 getrange_row = record { name = codes "getrange"; arity = Exactly 4; keys = Between 1 1; reading = getrange_reading }
 
+abbrev pub incr_row : Row
+incr_row = record { name = codes "incr"; arity = Exactly 2; keys = Between 1 1; reading = λ words. Ok (Str (Incr (word words 0))) }
+
+abbrev pub decr_row : Row
+decr_row = record { name = codes "decr"; arity = Exactly 2; keys = Between 1 1; reading = λ words. Ok (Str (Decr (word words 0))) }
+
+abbrev pub incrby_reading : List Word → Reading
+incrby_reading words = integer_reading (word words 1) (λ by. Ok (Str (Incrby (word words 0) by)))
+
+abbrev pub incrby_row : Row
+incrby_row = record { name = codes "incrby"; arity = Exactly 3; keys = Between 1 1; reading = incrby_reading }
+
+abbrev pub decrby_reading : List Word → Reading
+decrby_reading words = integer_reading (word words 1) (λ by. Ok (Str (Decrby (word words 0) by)))
+
+abbrev pub decrby_row : Row
+decrby_row = record { name = codes "decrby"; arity = Exactly 3; keys = Between 1 1; reading = decrby_reading }
+
+abbrev pub append_row : Row
+append_row = record {
+  name = codes "append";
+  arity = Exactly 3;
+  keys = Between 1 1;
+  reading = λ words. Ok (Str (Append (word words 0) (word words 1)));
+}
+
+abbrev pub setrange_reading : List Word → Reading
+setrange_reading words = integer_reading (word words 1) (λ offset. Ok (Str (Setrange (word words 0) offset (word words 2))))
+
+abbrev pub setrange_row : Row
+setrange_row = record { name = codes "setrange"; arity = Exactly 4; keys = Between 1 1; reading = setrange_reading }
+
+-- the words are keys and their values by turns
+abbrev pub mset_row : Row
+mset_row = record {
+  name = codes "mset";
+  arity = AtLeast 3;
+  keys = ToLastWord 1 2;
+  reading = pairs_reading (codes "mset") (λ pairs. Str (Mset pairs));
+}
+
+abbrev pub msetnx_row : Row
+msetnx_row = record {
+  name = codes "msetnx";
+  arity = AtLeast 3;
+  keys = ToLastWord 1 2;
+  reading = pairs_reading (codes "msetnx") (λ pairs. Str (Msetnx pairs));
+}
+
 abbrev pub string_rows : List Row
 string_rows =
     get_row ∷ set_row ∷ setnx_row ∷ getset_row ∷ getdel_row ∷ mget_row ∷ strlen_row
-    ∷ getrange_row ∷ []
+    ∷ getrange_row ∷ incr_row ∷ decr_row ∷ incrby_row ∷ decrby_row ∷ append_row ∷ setrange_row
+    ∷ mset_row ∷ msetnx_row ∷ []

@@ -1,8 +1,8 @@
 //! Commands on hashes.
 
-ghost use Rattle.std.specs.Prelude.{◌≡◌, ◌≤◌, [], ◌∷◌, length, MatchResult, Some, None};
+ghost use Rattle.std.specs.Prelude.{◌≡◌, ◌≤◌, length, MatchResult, Some, None};
 ghost use Rattle.command_table.specs.HashCommands.{hash_command_told, hash_rows, whole_pairs, hlen_row, hget_row, hexists_row, hstrlen_row};
-ghost use Rattle.command_table.specs.HashCommands.{hkeys_row, hvals_row, hgetall_row, hmget_row, hdel_row, hsetnx_row, hset_row, hmset_row};
+ghost use Rattle.command_table.specs.HashCommands.{hkeys_row, hvals_row, hgetall_row, hmget_row, hdel_row, hsetnx_row, hset_row, hmset_row, hincrby_row};
 ghost use Rattle.command_table.specs.Held.{told_held};
 ghost use Rattle.command_table.specs.Row.{row_of, reading_among};
 ghost use Rattle.command_table.specs.Words.{texts_of};
@@ -13,7 +13,7 @@ use crate::command_rows;
 use crate::refusal::{CommandName, Refusal};
 use crate::rows::{keys_of_span, read_rows, told_rows};
 use crate::told::{Keys, Told};
-use crate::words::{first_and_rest, only_word, two_words};
+use crate::words::{first_and_rest, integer_word, only_word, three_words, two_words};
 use texts::{Pairs, Text, Texts};
 
 /// A command on hashes.
@@ -54,6 +54,9 @@ pub enum HashCommand {
 
     /// `HMSET key field value [field value ..]`: sets the fields.
     Hmset { key: Text, pairs: Pairs },
+
+    /// `HINCRBY key field by`: adds a number to the one that the field's value says.
+    Hincrby { key: Text, field: Text, by: i64 },
 }
 
 impl HashCommand {
@@ -192,6 +195,16 @@ fn read_hmset(words: Vec<Vec<u8>>) -> Result<Command, Refusal>
     }
 }
 
+/// `HINCRBY key field by`.
+fn read_hincrby(words: Vec<Vec<u8>>) -> Result<Command, Refusal>
+    requires { length words.items ≡ 3 }
+    ensures { result ≡ hincrby_row.reading (texts_of words.items) }
+{
+    let (key, field, by) = three_words(words);
+    let by = integer_word(by.as_slice())?;
+    Ok(Command::Hash(HashCommand::Hincrby { key, field, by }))
+}
+
 /// The words two by two; `None` where one is left over.
 fn in_pairs(words: Texts) -> Option<Pairs>
     ensures { result ≡ whole_pairs words }
@@ -201,15 +214,4 @@ fn in_pairs(words: Texts) -> Option<Pairs>
         return None;
     }
     Some(Pairs::from_turns(words))
-}
-
-/// The three words.
-fn three_words(mut words: Vec<Vec<u8>>) -> (Text, Text, Text)
-    requires { length words.items ≡ 3 }
-    ensures { texts_of words.items ≡ result.0 ∷ result.1 ∷ result.2 ∷ [] }
-{
-    let third = words.pop().unwrap();
-    let second = words.pop().unwrap();
-    let first = words.pop().unwrap();
-    (Text::from(first), Text::from(second), Text::from(third))
 }

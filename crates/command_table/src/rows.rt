@@ -40,6 +40,14 @@ macro_rules! command_rows {
             ("mget", AtLeast(2), (1, -1, 1), Mget { keys }, read_mget, mget),
             ("strlen", Exactly(2), (1, 1, 1), Strlen { key }, read_strlen, strlen),
             ("getrange", Exactly(4), (1, 1, 1), Getrange { key, start, end }, read_getrange, getrange),
+            ("incr", Exactly(2), (1, 1, 1), Incr { key }, read_incr, incr),
+            ("decr", Exactly(2), (1, 1, 1), Decr { key }, read_decr, decr),
+            ("incrby", Exactly(3), (1, 1, 1), Incrby { key, by }, read_incrby, incrby),
+            ("decrby", Exactly(3), (1, 1, 1), Decrby { key, by }, read_decrby, decrby),
+            ("append", Exactly(3), (1, 1, 1), Append { key, tail }, read_append, append),
+            ("setrange", Exactly(4), (1, 1, 1), Setrange { key, offset, value }, read_setrange, setrange),
+            ("mset", AtLeast(3), (1, -1, 2), Mset { pairs }, read_mset, mset),
+            ("msetnx", AtLeast(3), (1, -1, 2), Msetnx { pairs }, read_msetnx, msetnx),
         }
     };
     (lists, $emit:ident, $($argument:tt)*) => {
@@ -75,6 +83,7 @@ macro_rules! command_rows {
             ("hsetnx", Exactly(4), (1, 1, 1), Hsetnx { key, field, value }, read_hsetnx, hsetnx),
             ("hset", AtLeast(4), (1, 1, 1), Hset { key, pairs }, read_hset, hset),
             ("hmset", AtLeast(4), (1, 1, 1), Hmset { key, pairs }, read_hmset, hmset),
+            ("hincrby", Exactly(4), (1, 1, 1), Hincrby { key, field, by }, read_hincrby, hincrby),
         }
     };
 }

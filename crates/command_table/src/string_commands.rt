@@ -2,7 +2,9 @@
 
 ghost use Rattle.std.specs.Prelude.{◌≡◌, ◌<◌, ◌≤◌, length, slice_get, MatchResult, Some, None};
 ghost use Rattle.command_table.specs.Held.{told_held};
-ghost use Rattle.command_table.specs.StringCommands.{string_command_told, string_rows, get_row, set_row, setnx_row, getset_row, getdel_row, mget_row, strlen_row, getrange_row, options_condition, is_option};
+ghost use Rattle.command_table.specs.StringCommands.{string_command_told, string_rows, get_row, set_row, setnx_row, getset_row, getdel_row, mget_row, strlen_row, getrange_row};
+ghost use Rattle.command_table.specs.StringCommands.{incr_row, decr_row, incrby_row, decrby_row, append_row, setrange_row, mset_row, msetnx_row};
+ghost use Rattle.command_table.specs.StringCommands.{options_condition, is_option};
 ghost use Rattle.command_table.specs.Row.{row_of, reading_among};
 ghost use Rattle.command_table.specs.Words.{texts_of};
 ghost use Rattle.std.specs.List.{list_all};
@@ -14,7 +16,7 @@ use crate::refusal::{CommandName, Refusal};
 use crate::rows::{keys_of_span, read_rows, told_rows};
 use crate::told::{Keys, Told};
 use crate::words::{has_word, integer_word, is_word, only_word, three_words, two_words};
-use texts::{Text, Texts};
+use texts::{Pairs, Text, Texts};
 
 /// A command on strings.
 #[derive(Drop)]
@@ -63,6 +65,51 @@ pub enum StringCommand {
         key: Text,
         start: i64,
         end: i64,
+    },
+
+    /// `INCR key`: adds 1 to the number that the string says.
+    Incr {
+        key: Text,
+    },
+
+    /// `DECR key`: takes 1 from it.
+    Decr {
+        key: Text,
+    },
+
+    /// `INCRBY key by`: adds a number to it.
+    Incrby {
+        key: Text,
+        by: i64,
+    },
+
+    /// `DECRBY key by`: takes a number from it.
+    Decrby {
+        key: Text,
+        by: i64,
+    },
+
+    /// `APPEND key tail`: puts the tail behind the string.
+    Append {
+        key: Text,
+        tail: Text,
+    },
+
+    /// `SETRANGE key offset value`: writes the value over the string, from the offset on.
+    Setrange {
+        key: Text,
+        offset: i64,
+        value: Text,
+    },
+
+    /// `MSET key value [key value ..]`: puts each value at its key.
+    Mset {
+        pairs: Pairs,
+    },
+
+    /// `MSETNX key value [key value ..]`: puts each value at its key, where none of the keys is there.
+    Msetnx {
+        pairs: Pairs,
     },
 }
 
@@ -177,6 +224,85 @@ fn read_getrange(words: Vec<Vec<u8>>) -> Result<Command, Refusal>
     let start = integer_word(start.as_slice())?;
     let end = integer_word(end.as_slice())?;
     Ok(Command::Str(StringCommand::Getrange { key, start, end }))
+}
+
+/// `INCR key`.
+fn read_incr(words: Vec<Vec<u8>>) -> Result<Command, Refusal>
+    requires { length words.items ≡ 1 }
+    ensures { result ≡ incr_row.reading (texts_of words.items) }
+{
+    let key = only_word(words);
+    Ok(Command::Str(StringCommand::Incr { key }))
+}
+
+/// `DECR key`.
+fn read_decr(words: Vec<Vec<u8>>) -> Result<Command, Refusal>
+    requires { length words.items ≡ 1 }
+    ensures { result ≡ decr_row.reading (texts_of words.items) }
+{
+    let key = only_word(words);
+    Ok(Command::Str(StringCommand::Decr { key }))
+}
+
+/// `INCRBY key by`.
+fn read_incrby(words: Vec<Vec<u8>>) -> Result<Command, Refusal>
+    requires { length words.items ≡ 2 }
+    ensures { result ≡ incrby_row.reading (texts_of words.items) }
+{
+    let (key, by) = two_words(words);
+    let by = integer_word(by.as_slice())?;
+    Ok(Command::Str(StringCommand::Incrby { key, by }))
+}
+
+/// `DECRBY key by`.
+fn read_decrby(words: Vec<Vec<u8>>) -> Result<Command, Refusal>
+    requires { length words.items ≡ 2 }
+    ensures { result ≡ decrby_row.reading (texts_of words.items) }
+{
+    let (key, by) = two_words(words);
+    let by = integer_word(by.as_slice())?;
+    Ok(Command::Str(StringCommand::Decrby { key, by }))
+}
+
+/// `APPEND key tail`.
+fn read_append(words: Vec<Vec<u8>>) -> Result<Command, Refusal>
+    requires { length words.items ≡ 2 }
+    ensures { result ≡ append_row.reading (texts_of words.items) }
+{
+    let (key, tail) = two_words(words);
+    Ok(Command::Str(StringCommand::Append { key, tail }))
+}
+
+/// `SETRANGE key offset value`.
+fn read_setrange(words: Vec<Vec<u8>>) -> Result<Command, Refusal>
+    requires { length words.items ≡ 3 }
+    ensures { result ≡ setrange_row.reading (texts_of words.items) }
+{
+    let (key, offset, value) = three_words(words);
+    let offset = integer_word(offset.as_slice())?;
+    Ok(Command::Str(StringCommand::Setrange { key, offset, value }))
+}
+
+/// `MSET key value [key value ..]`.
+fn read_mset(words: Vec<Vec<u8>>) -> Result<Command, Refusal>
+    ensures { result ≡ mset_row.reading (texts_of words.items) }
+{
+    if words.len() % 2 != 0 {
+        return Err(Refusal::Arity(CommandName::of("mset")));
+    }
+    let pairs = Pairs::from_turns(words);
+    Ok(Command::Str(StringCommand::Mset { pairs }))
+}
+
+/// `MSETNX key value [key value ..]`.
+fn read_msetnx(words: Vec<Vec<u8>>) -> Result<Command, Refusal>
+    ensures { result ≡ msetnx_row.reading (texts_of words.items) }
+{
+    if words.len() % 2 != 0 {
+        return Err(Refusal::Arity(CommandName::of("msetnx")));
+    }
+    let pairs = Pairs::from_turns(words);
+    Ok(Command::Str(StringCommand::Msetnx { pairs }))
 }
 
 /// The condition that the options of SET state.

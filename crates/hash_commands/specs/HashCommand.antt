@@ -1,13 +1,17 @@
 -- What the commands on hashes do, by the Redis command reference. A hash is the list of its pairs of a field and its value, in
 -- order of insertion; a key that is missing counts as a hash with no pairs.
-use Rattle.std.specs.Prelude.{◌≡◌, ℕ, ◌-◌, ◌<◌, List, [], map, length, Option, Some, None, IsSome, is_some, if◌then◌else◌, true, false}
+use Rattle.std.specs.Prelude.{◌≡◌, ℕ, ◌-◌, ◌<◌, ℤ, List, [], map, length, codes, Option, Some, None, Result, Ok, Err, IsSome, IsOk, is_some, if◌then◌else◌, true, false}
 use Rattle.std.specs.FinMap.{get}
+use Rattle.std.specs.Fmt.{signed_decimal}
 use Rattle.command_cases.specs.Case.{Case, Step, at_key}
-use Rattle.command_cases.specs.Replies.{ok, count, truth, wrong_type}
+use Rattle.command_cases.specs.Replies.{ok, count, truth, wrong_type, would_overflow}
 use Rattle.command_table.specs.declared.hash_commands.HashCommand.{HashCommand}
-use Rattle.command_table.specs.declared.hash_commands.HashCommand.TheVariants.{Hlen, Hget, Hexists, Hstrlen, Hkeys, Hvals, Hgetall, Hmget, Hdel, Hsetnx, Hset, Hmset}
+use Rattle.command_table.specs.declared.hash_commands.HashCommand.TheVariants.{Hlen, Hget, Hexists, Hstrlen, Hkeys, Hvals, Hgetall, Hmget, Hdel, Hsetnx, Hset, Hmset, Hincrby}
+use Rattle.integers.specs.Sum.{stored_sum}
+use Rattle.integers.specs.declared.sum.SumFault.{SumFault}
+use Rattle.integers.specs.declared.sum.SumFault.TheVariants.{NotInteger, Overflow}
 use Rattle.keyspace.specs.Map.{Map}
-use Rattle.resp.specs.Content.{Content, BulkText, Nothing, Several, contents}
+use Rattle.resp.specs.Content.{Content, BulkText, ErrorLine, Nothing, Number, Several, contents}
 use Rattle.texts.specs.Texts.{Bytes, by_turns}
 use Rattle.values.specs.HashValue.{field_value, with_field, with_fields, without_fields}
 use Rattle.values.specs.Value.{hash_value}
@@ -105,6 +109,20 @@ hset_step more = changes_hash (set_change count more)
 abbrev pub hmset_step : HashPairs → Step
 hmset_step more = changes_hash (set_change (λ added. ok) more)
 
+-- why a field has no number
+abbrev pub no_number : SumFault → Content
+no_number NotInteger = ErrorLine (codes "ERR hash value is not an integer")
+no_number Overflow = would_overflow
+
+-- the text of the sum at the field, and the sum; or what the key has, and why there is no sum
+abbrev pub with_sum : Bytes → HashPairs → Option Value → Result ℤ SumFault → Option Value × Content
+with_sum field pairs before (Ok sum) = (hash_value (with_field pairs field (signed_decimal sum)), Number sum)
+with_sum field pairs before (Err fault) = (before, no_number fault)
+
+-- HINCRBY: the number that the field's value says and another one, a missing field counting as 0
+abbrev pub hincrby_step : Bytes → ℤ → Step
+hincrby_step field by = at_hash (λ pairs before. with_sum field pairs before (stored_sum (field_value pairs field) by))
+
 abbrev pub hash_command_case : HashCommand → Case
 hash_command_case (Hlen key) = at_key key (looks_at_hash hlen_answer)
 hash_command_case (Hget key field) = at_key key (looks_at_hash (hget_answer field))
@@ -118,6 +136,7 @@ hash_command_case (Hdel key fields) = at_key key (changes_hash (hdel_change fiel
 hash_command_case (Hsetnx key field value) = at_key key (hsetnx_step field value)
 hash_command_case (Hset key pairs) = at_key key (hset_step pairs)
 hash_command_case (Hmset key pairs) = at_key key (hmset_step pairs)
+hash_command_case (Hincrby key field by) = at_key key (hincrby_step field by)
 
 -- the pairs at a key, where it is missing or holds a hash
 abbrev pub pairs_there : Option Value → Option HashPairs
@@ -136,7 +155,7 @@ some_pairs (Some (kind.List items)) = []
 some_pairs (Some (kind.Set members)) = []
 
 -- where a command on hashes takes memory: for the copies of the texts that it answers, for an array of some replies, for a field
--- that isn't there
+-- that isn't there, for the text of a sum
 abbrev pub HashCommandTakesMemory : HashCommand → Map → Type 0
 HashCommandTakesMemory (Hlen key) m = ⊥
 HashCommandTakesMemory (Hget key field) m = IsSome (field_value (some_pairs (get m key)) field)
@@ -150,3 +169,4 @@ HashCommandTakesMemory (Hdel key fields) m = ⊥
 HashCommandTakesMemory (Hsetnx key field value) m = IsSome (pairs_there (get m key)) × (field_value (some_pairs (get m key)) field ≡ None)
 HashCommandTakesMemory (Hset key pairs) m = IsSome (pairs_there (get m key))
 HashCommandTakesMemory (Hmset key pairs) m = IsSome (pairs_there (get m key))
+HashCommandTakesMemory (Hincrby key field by) m = IsSome (pairs_there (get m key)) × IsOk (stored_sum (field_value (some_pairs (get m key)) field) by)

@@ -207,7 +207,7 @@ fn set_new_hash<K: Keyspace>(
 
 /// Sets one field of a hash, which may be missing.
 #[tactic(auto, using(keyspace::proofs::Changes::changes))]
-fn set_field<K: Keyspace>(
+pub(crate) fn set_field<K: Keyspace>(
     alloc: Global,
     keyspace: &mut K,
     key: Text,

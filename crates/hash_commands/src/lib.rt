@@ -7,6 +7,7 @@
 mod arrays;
 mod changes;
 mod looks;
+mod numbers;
 
 ghost use Rattle.std.specs.Prelude.{◌≡◌, All, IsTrue, OnErr};
 ghost use Rattle.command_cases.specs.Case.{Does};
@@ -19,6 +20,7 @@ use command_cases::{Starved, body_rows};
 use command_table::{HashCommand, command_rows};
 use keyspace::Keyspace;
 use looks::{hexists, hget, hlen, hstrlen};
+use numbers::hincrby;
 use resp::Reply;
 use std::alloc::Global;
 

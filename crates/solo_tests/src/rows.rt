@@ -13,7 +13,7 @@ use test_support::{bytes_of, requests_of};
 
 /// Requests on an empty store, and their replies.
 #[rattlefmt::skip]
-const COMMANDS: [(&str, &str); 7] = [
+const COMMANDS: [(&str, &str); 11] = [
     ("SET a 1; GET a; DEL a a; GET a", "+OK|$1|1|:1|$-1|"),
     ("PING hi; PING x y", "$2|hi|-ERR wrong number of arguments for 'ping' command|"),
     ("ECHO ''; FOO", "$0||-ERR unknown command|"),
@@ -21,6 +21,10 @@ const COMMANDS: [(&str, &str); 7] = [
     ("SET b 1 NX XX; SET b 1 EX 10; GET b", "-ERR syntax error|-ERR syntax error|$-1|"),
     ("GET; DEL; SET a", "-ERR wrong number of arguments for 'get' command|-ERR wrong number of arguments for 'del' command|-ERR wrong number of arguments for 'set' command|"),
     ("SET a 1; SET b 2; DEL a c b a; del b", "+OK|+OK|:2|:0|"),
+    ("SET a 9223372036854775807; INCR a; GET a", "+OK|-ERR increment or decrement would overflow|$19|9223372036854775807|"),
+    ("DECRBY a -9223372036854775808; INCR b", "-ERR increment or decrement would overflow|:1|"),
+    ("INCR b; INCRBY b +1; SETRANGE b -1 x", ":1|-ERR value is not an integer or out of range|-ERR offset is out of range|"),
+    ("MSET a 1 c 2 a 3; GET a; APPEND a 0; HINCRBY h f 2", "+OK|$1|3|:2|:2|"),
 ];
 
 #[test]

@@ -5,9 +5,13 @@
 #![tactic(auto)]
 
 mod bodies;
+mod held;
 mod many;
+mod numbers;
+mod pairs;
 mod reads;
 mod replaces;
+mod writes;
 
 ghost use Rattle.std.specs.Prelude.{◌≡◌, All, IsTrue, OnErr};
 ghost use Rattle.command_cases.specs.Case.{Does};
@@ -19,10 +23,13 @@ use command_cases::{Starved, body_rows};
 use command_table::{StringCommand, command_rows};
 use keyspace::Keyspace;
 use many::mget;
+use numbers::{decr, decrby, incr, incrby};
+use pairs::{mset, msetnx};
 use reads::{getrange, strlen};
 use replaces::{getdel, getset};
 use resp::Reply;
 use std::alloc::Global;
+use writes::{append, setrange};
 
 /// Runs a command on strings, by the body that its row names.
 pub fn run_string_command<K: Keyspace>(

@@ -6,7 +6,7 @@ use Rattle.command_cases.specs.Shapes.{values_at}
 use Rattle.keyspace.specs.Map.{Map}
 use Rattle.resp.proofs.Contents.{content-Array}
 use Rattle.resp.specs.Content.{Content, content, contents, Several}
-use Rattle.string_commands.specs.StringCommand.{mget_reply, string_or_null}
+use Rattle.string_commands.specs.StringCommand.{string_or_null}
 use Rattle.texts.specs.Texts.{Bytes, texts_of}
 use Rattle.string_commands.proofs.many.mget.Goals as goal
 

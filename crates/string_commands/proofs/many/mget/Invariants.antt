@@ -1,8 +1,8 @@
-use Rattle.std.proofs.Common.{◌≡◌, ◌++◌, List, drop, map}
+use Rattle.std.proofs.Common.{◌≡◌, ◌++◌, drop, map}
 use Rattle.command_cases.specs.Shapes.{values_at}
-use Rattle.resp.specs.Content.{Content, content}
+use Rattle.resp.specs.Content.{content}
 use Rattle.string_commands.specs.StringCommand.{string_or_null}
-use Rattle.texts.specs.Texts.{Bytes, texts_of}
+use Rattle.texts.specs.Texts.{texts_of}
 use Rattle.string_commands.proofs.many.mget.Given as goal
 
 -- what is answered so far, and what stands at the keys that are left, are the whole answer

@@ -1,0 +1,157 @@
+//! INCR, DECR, INCRBY and DECRBY: numbers that are stored as their texts.
+
+ghost use Rattle.std.specs.Prelude.{◌≡◌, ◌<◌, pos, negsuc, Some, None, IsTrue, IfOk, OnOk, OnErr};
+ghost use Rattle.std.specs.FinMap as map;
+ghost use Rattle.std.specs.Fmt.{signed_decimal};
+ghost use Rattle.command_cases.specs.Case.{Does, at_key};
+ghost use Rattle.resp.specs.Content.{Number, content};
+ghost use Rattle.string_commands.specs.Held.{is_string};
+ghost use Rattle.string_commands.specs.StringCommand.{incrby_step, decrby_step, no_number, Grows, room};
+ghost use Rattle.values.specs.declared.Value.TheVariants as kind;
+
+use crate::held::take_text;
+use command_cases::{Starved, would_overflow_reply, wrong_type_reply};
+use integers::{SumFault, add_to, number_text, set_number};
+use keyspace::Keyspace;
+use resp::{ErrorText, Reply};
+use std::alloc::Global;
+use texts::Text;
+use values::Value;
+
+/// `INCR key`: as INCRBY with 1. <https://redis.io/docs/latest/commands/incr/>
+pub(crate) fn incr<K: Keyspace>(
+    alloc: Global,
+    keyspace: &mut K,
+    key: Text,
+) -> Result<Reply, Starved>
+    requires { IsTrue (K.covered keyspace.old key) }
+    ensures done { Does (at_key key (incrby_step (pos 1)))
+        (K.contents keyspace.old) (K.contents keyspace.new) result }
+    ensures starves { OnErr result (Grows (incrby_step (pos 1)) (map.get (K.contents keyspace.old) key)) }
+    ensures covers { K.covered keyspace.new ≡ K.covered keyspace.old }
+{
+    incrby(alloc, keyspace, key, 1)
+}
+
+/// `DECR key`: as INCRBY with -1. <https://redis.io/docs/latest/commands/decr/>
+pub(crate) fn decr<K: Keyspace>(
+    alloc: Global,
+    keyspace: &mut K,
+    key: Text,
+) -> Result<Reply, Starved>
+    requires { IsTrue (K.covered keyspace.old key) }
+    ensures done { Does (at_key key (incrby_step (negsuc 0)))
+        (K.contents keyspace.old) (K.contents keyspace.new) result }
+    ensures starves { OnErr result (Grows (incrby_step (negsuc 0)) (map.get (K.contents keyspace.old) key)) }
+    ensures covers { K.covered keyspace.new ≡ K.covered keyspace.old }
+{
+    incrby(alloc, keyspace, key, -1)
+}
+
+/// `INCRBY key by`: adds to the number that the string says, and gives the sum; a missing key counts as 0. An error where the key
+/// holds a value of another type, where its string is no integer, and where the sum doesn't fit 64 bits with sign.
+///
+/// Memory is taken only for a key that isn't there, and where the sum's text is longer than the string.
+/// <https://redis.io/docs/latest/commands/incrby/>
+#[tactic(auto, using(keyspace::proofs::Changes::changes, resp::proofs::Contents::content_of))]
+pub(crate) fn incrby<K: Keyspace>(
+    alloc: Global,
+    keyspace: &mut K,
+    key: Text,
+    by: i64,
+) -> Result<Reply, Starved>
+    requires { IsTrue (K.covered keyspace.old key) }
+    ensures done { Does (at_key key (incrby_step by))
+        (K.contents keyspace.old) (K.contents keyspace.new) result }
+    ensures starves { OnErr result (Grows (incrby_step by) (map.get (K.contents keyspace.old) key)) }
+    ensures covers { K.covered keyspace.new ≡ K.covered keyspace.old }
+{
+    match keyspace.look(key.as_slice()) {
+        None => put_number(alloc, keyspace, key, by),
+        Some(Value::Str(text)) => match add_to(text.as_slice(), by) {
+            Ok(sum) => change_number(alloc, keyspace, key.as_slice(), sum),
+            Err(fault) => Ok(no_number_reply(fault)),
+        },
+        Some(_) => Ok(wrong_type_reply()),
+    }
+}
+
+/// `DECRBY key by`: as INCRBY with the opposite number. The least number of 64 bits has none: it is refused before the key is
+/// looked at. <https://redis.io/docs/latest/commands/decrby/>
+#[tactic(auto, using(keyspace::proofs::Changes::changes))]
+pub(crate) fn decrby<K: Keyspace>(
+    alloc: Global,
+    keyspace: &mut K,
+    key: Text,
+    by: i64,
+) -> Result<Reply, Starved>
+    requires { IsTrue (K.covered keyspace.old key) }
+    ensures done { Does (at_key key (decrby_step by))
+        (K.contents keyspace.old) (K.contents keyspace.new) result }
+    ensures starves { OnErr result (Grows (decrby_step by) (map.get (K.contents keyspace.old) key)) }
+    ensures covers { K.covered keyspace.new ≡ K.covered keyspace.old }
+{
+    match by.checked_neg() {
+        Some(by) => incrby(alloc, keyspace, key, by),
+        None => Ok(would_overflow_reply()),
+    }
+}
+
+/// Why a string has no number for its key, as a reply.
+#[tactic(auto, using(resp::proofs::Contents::content_of))]
+fn no_number_reply(fault: SumFault) -> Reply
+    ensures { content result ≡ no_number fault }
+{
+    match fault {
+        SumFault::NotInteger => Reply::Error(ErrorText::Fixed(
+            "ERR value is not an integer or out of range",
+        )),
+        SumFault::Overflow => would_overflow_reply(),
+    }
+}
+
+/// Puts a number at a key that isn't there, and answers it.
+#[tactic(auto, using(keyspace::proofs::Changes::changes, resp::proofs::Contents::content_of))]
+fn put_number<K: Keyspace>(
+    alloc: Global,
+    keyspace: &mut K,
+    key: Text,
+    number: i64,
+) -> Result<Reply, Starved>
+    requires covered { IsTrue (K.covered keyspace.old key) }
+    requires absent { map.get (K.contents keyspace.old) key ≡ None }
+    ensures done { Does (at_key key (incrby_step number))
+        (K.contents keyspace.old) (K.contents keyspace.new) result }
+    ensures covers { K.covered keyspace.new ≡ K.covered keyspace.old }
+{
+    let text = number_text(alloc, number)?;
+    let Ok(_) = keyspace.put(key.into_vec(), Value::Str(text)) else {
+        return Err(Starved);
+    };
+    Ok(Reply::Int(number))
+}
+
+/// Makes the string at a key the text of a number, and answers the number.
+#[tactic(auto, using(keyspace::proofs::Changes::changes, resp::proofs::Contents::content_of))]
+fn change_number<K: Keyspace>(
+    alloc: Global,
+    keyspace: &mut K,
+    key: &[u8],
+    number: i64,
+) -> Result<Reply, Starved>
+    requires covered { IsTrue (K.covered keyspace.old key.now) }
+    requires there { IsTrue (is_string (map.get (K.contents keyspace.old) key.now)) }
+    ensures answer { IfOk result (λ reply. content reply ≡ Number number) }
+    ensures ok { OnOk result
+        (K.contents keyspace.new ≡ map.insert (K.contents keyspace.old) key.now (kind.Str (signed_decimal number))) }
+    ensures err { OnErr result (K.contents keyspace.new ≡ K.contents keyspace.old) }
+    ensures starves { OnErr result
+        (room (map.get (K.contents keyspace.old) key.now) < room (Some (kind.Str (signed_decimal number)))) }
+    ensures covers { K.covered keyspace.new ≡ K.covered keyspace.old }
+{
+    let mut text = take_text(alloc, keyspace, key);
+    let set = set_number(&mut text, number);
+    keyspace.replace(key, Value::Str(text));
+    set?;
+    Ok(Reply::Int(number))
+}
