@@ -163,3 +163,52 @@ fn keys_and_strings_answer_in_turn(rt: HostRuntime) -> Result<(), Fail> {
     }
     Ok(())
 }
+
+#[test]
+fn commands_on_sets_answer_in_turn(rt: HostRuntime) -> Result<(), Fail> {
+    let mut keyspace = Plain::new(rt.alloc(), BuildHasherDefault::<FoldHasher>::new());
+    let wrong_type = "-WRONGTYPE Operation against a key holding the wrong kind of value\r\n";
+    let rows: [(&[&str], &str); 30] = [
+        (&["SADD", "a", "m", "b", "m"], ":2\r\n"),
+        (&["SADD", "a", "b", "x"], ":1\r\n"),
+        (&["SADD", "a", "x"], ":0\r\n"),
+        (
+            &["SMEMBERS", "a"],
+            "*3\r\n$1\r\nb\r\n$1\r\nm\r\n$1\r\nx\r\n",
+        ),
+        (&["SMEMBERS", "none"], "*0\r\n"),
+        (&["SCARD", "a"], ":3\r\n"),
+        (&["SCARD", "none"], ":0\r\n"),
+        (&["SISMEMBER", "a", "m"], ":1\r\n"),
+        (&["SISMEMBER", "a", "q"], ":0\r\n"),
+        (&["SISMEMBER", "none", "m"], ":0\r\n"),
+        (
+            &["SMISMEMBER", "a", "m", "q", "m"],
+            "*3\r\n:1\r\n:0\r\n:1\r\n",
+        ),
+        (&["SMISMEMBER", "none", "m"], "*1\r\n:0\r\n"),
+        (&["TYPE", "a"], "+set\r\n"),
+        (&["GET", "a"], wrong_type),
+        (&["LPUSH", "a", "m"], wrong_type),
+        (&["HGET", "a", "m"], wrong_type),
+        (&["SREM", "a", "m", "q", "m"], ":1\r\n"),
+        (&["SREM", "a", "b", "x"], ":2\r\n"),
+        (&["SREM", "a", "b"], ":0\r\n"),
+        (&["EXISTS", "a"], ":0\r\n"),
+        (&["SET", "a", "v"], "+OK\r\n"),
+        (&["SADD", "a", "m"], wrong_type),
+        (&["SREM", "a", "m"], wrong_type),
+        (&["SISMEMBER", "a", "m"], wrong_type),
+        (&["SMISMEMBER", "a", "m"], wrong_type),
+        (&["SCARD", "a"], wrong_type),
+        (&["SMEMBERS", "a"], wrong_type),
+        (&["SADD", "c", "m"], ":1\r\n"),
+        (&["RENAME", "a", "c"], "+OK\r\n"),
+        (&["TYPE", "c"], "+string\r\n"),
+    ];
+    for (words, reply) in rows {
+        let text = answer(&rt, rt.alloc(), &mut keyspace, words)?;
+        assert_eq!(rt; text.as_slice(), reply.as_bytes(), "{words:?}");
+    }
+    Ok(())
+}

@@ -24,6 +24,7 @@ use Rattle.texts.specs.declared.text_list.End.{End}
 use Rattle.command_table.specs.LocalCommands.{local_rows, ping_row, echo_row}
 use Rattle.command_table.specs.Reading.{rows, reading, IsTold}
 use Rattle.command_table.specs.Row.{Row, Reading, pairs_reading, then_reading, integer_reading, row_of, row_reading, row_told, reading_among}
+use Rattle.command_table.specs.SetCommands.{set_rows, sadd_row, srem_row, sismember_row, smismember_row, scard_row, smembers_row}
 use Rattle.command_table.specs.StringCommands.{string_rows, get_row, set_row, setnx_row, getset_row, getdel_row, mget_row, strlen_row, getrange_row, set_with, options_condition}
 use Rattle.command_table.specs.Telling.{KeysTold, All, These}
 use Rattle.texts.specs.Texts.{firsts}
@@ -312,15 +313,34 @@ hash_tell = (
   ),
 )
 
+pub set_tell : AllTell set_rows
+set_tell = (
+  tells-one sadd_row refl refl (λ key ws. refl),
+  (
+    tells-one srem_row refl refl (λ key ws. refl),
+    (
+      tells-one sismember_row refl refl (λ key ws. refl),
+      (
+        tells-one smismember_row refl refl (λ key ws. refl),
+        (
+          tells-one scard_row refl refl (λ key ws. refl),
+          (tells-one smembers_row refl refl (λ key ws. refl), tt),
+        ),
+      ),
+    ),
+  ),
+)
+
 AllTell-append : (rs qs : List Row) → AllTell rs → AllTell qs → AllTell (rs ++ qs)
 AllTell-append [] qs a b = b
 AllTell-append (r ∷ rs) qs a b = (a.0, AllTell-append rs qs a.1 b)
 
 all_tell : AllTell rows
 all_tell =
-    AllTell-append local_rows (key_rows ++ string_rows ++ list_rows ++ hash_rows) local_tell
-    (AllTell-append key_rows (string_rows ++ list_rows ++ hash_rows) key_tell
-    (AllTell-append string_rows (list_rows ++ hash_rows) string_tell (AllTell-append list_rows hash_rows list_tell hash_tell)))
+    AllTell-append local_rows (key_rows ++ string_rows ++ list_rows ++ hash_rows ++ set_rows) local_tell
+    (AllTell-append key_rows (string_rows ++ list_rows ++ hash_rows ++ set_rows) key_tell
+    (AllTell-append string_rows (list_rows ++ hash_rows ++ set_rows) string_tell
+    (AllTell-append list_rows (hash_rows ++ set_rows) list_tell (AllTell-append hash_rows set_rows hash_tell set_tell))))
 
 told_by_row : (r : Row) → Tells r → (name : Word) (ws : List Word) → IsToldIn r (name ∷ ws) (row_reading r ws)
 told_by_row r tells name ws =
