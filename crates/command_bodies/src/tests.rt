@@ -212,3 +212,86 @@ fn commands_on_sets_answer_in_turn(rt: HostRuntime) -> Result<(), Fail> {
     }
     Ok(())
 }
+
+#[test]
+fn members_move_between_sets(rt: HostRuntime) -> Result<(), Fail> {
+    let mut keyspace = Plain::new(rt.alloc(), BuildHasherDefault::<FoldHasher>::new());
+    let wrong_type = "-WRONGTYPE Operation against a key holding the wrong kind of value\r\n";
+    let rows: [(&[&str], &str); 20] = [
+        (&["SADD", "a", "m"], ":1\r\n"),
+        (&["SMOVE", "a", "a", "m"], ":1\r\n"),
+        (&["SMOVE", "a", "a", "n"], ":0\r\n"),
+        (&["SMOVE", "y", "a", "m"], ":0\r\n"),
+        (&["SMEMBERS", "a"], "*1\r\n$1\r\nm\r\n"),
+        (&["SMOVE", "a", "b", "n"], ":0\r\n"),
+        (&["EXISTS", "b"], ":0\r\n"),
+        (&["SMOVE", "a", "b", "m"], ":1\r\n"),
+        (&["EXISTS", "a"], ":0\r\n"),
+        (&["SMEMBERS", "b"], "*1\r\n$1\r\nm\r\n"),
+        (&["SADD", "c", "m", "x"], ":2\r\n"),
+        (&["SMOVE", "c", "b", "x"], ":1\r\n"),
+        (&["SMOVE", "c", "b", "m"], ":1\r\n"),
+        (&["SMEMBERS", "b"], "*2\r\n$1\r\nm\r\n$1\r\nx\r\n"),
+        (&["SET", "s", "v"], "+OK\r\n"),
+        (&["SMOVE", "y", "s", "m"], ":0\r\n"),
+        (&["SMOVE", "s", "b", "m"], wrong_type),
+        (&["SMOVE", "b", "s", "q"], wrong_type),
+        (&["SMOVE", "b", "s", "m"], wrong_type),
+        (&["SCARD", "b"], ":2\r\n"),
+    ];
+    for (words, reply) in rows {
+        let text = answer(&rt, rt.alloc(), &mut keyspace, words)?;
+        assert_eq!(rt; text.as_slice(), reply.as_bytes(), "{words:?}");
+    }
+    Ok(())
+}
+
+#[test]
+fn sets_are_combined(rt: HostRuntime) -> Result<(), Fail> {
+    let mut keyspace = Plain::new(rt.alloc(), BuildHasherDefault::<FoldHasher>::new());
+    let wrong_type = "-WRONGTYPE Operation against a key holding the wrong kind of value\r\n";
+    let rows: [(&[&str], &str); 31] = [
+        (&["SADD", "a", "m", "n"], ":2\r\n"),
+        (&["SADD", "b", "n", "o"], ":2\r\n"),
+        (&["SINTER", "a", "b"], "*1\r\n$1\r\nn\r\n"),
+        (&["SINTER", "a"], "*2\r\n$1\r\nm\r\n$1\r\nn\r\n"),
+        (&["SINTER", "a", "none"], "*0\r\n"),
+        (&["SINTER", "none", "a"], "*0\r\n"),
+        (
+            &["SUNION", "b", "none", "a"],
+            "*3\r\n$1\r\nm\r\n$1\r\nn\r\n$1\r\no\r\n",
+        ),
+        (&["SUNION", "none"], "*0\r\n"),
+        (&["SDIFF", "a", "b"], "*1\r\n$1\r\nm\r\n"),
+        (&["SDIFF", "b", "a"], "*1\r\n$1\r\no\r\n"),
+        (&["SDIFF", "a", "none"], "*2\r\n$1\r\nm\r\n$1\r\nn\r\n"),
+        (&["SDIFF", "none", "a"], "*0\r\n"),
+        (&["SDIFF", "a", "a"], "*0\r\n"),
+        (&["SET", "s", "v"], "+OK\r\n"),
+        (&["SINTER", "none", "s"], wrong_type),
+        (&["SUNION", "s", "a"], wrong_type),
+        (&["SDIFF", "a", "s"], wrong_type),
+        (&["SDIFFSTORE", "s", "a", "s"], wrong_type),
+        (&["GET", "s"], "$1\r\nv\r\n"),
+        (&["SUNIONSTORE", "s", "a", "b"], ":3\r\n"),
+        (
+            &["SMEMBERS", "s"],
+            "*3\r\n$1\r\nm\r\n$1\r\nn\r\n$1\r\no\r\n",
+        ),
+        (&["SDIFFSTORE", "s", "s", "a"], ":1\r\n"),
+        (&["SMEMBERS", "s"], "*1\r\n$1\r\no\r\n"),
+        (&["SINTERSTORE", "new", "a", "b"], ":1\r\n"),
+        (&["SMEMBERS", "new"], "*1\r\n$1\r\nn\r\n"),
+        (&["SREM", "a", "n"], ":1\r\n"),
+        (&["SET", "z", "old"], "+OK\r\n"),
+        (&["SINTERSTORE", "z", "a", "b"], ":0\r\n"),
+        (&["EXISTS", "z"], ":0\r\n"),
+        (&["SUNIONSTORE", "a", "none"], ":0\r\n"),
+        (&["EXISTS", "a"], ":0\r\n"),
+    ];
+    for (words, reply) in rows {
+        let text = answer(&rt, rt.alloc(), &mut keyspace, words)?;
+        assert_eq!(rt; text.as_slice(), reply.as_bytes(), "{words:?}");
+    }
+    Ok(())
+}

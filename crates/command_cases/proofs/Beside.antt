@@ -17,11 +17,13 @@ asked_apart true b x y z apart = ap (λ t. cond t y x) (sym (apart refl)) ∙ re
 asked_apart false b x y z apart = refl
 
 -- a value is put at a key after another key was changed, or before
-pub set-insert_beside : (m : Map) (k l : List ℕ) (v : Value) (o : Option Value) → bytes_eq l k ≡ false → set (insert m k v) l o ≡ insert (set m l o) k v
+pub set-insert_beside : (m : Map) (k l : List ℕ) (v : Value) (o : Option Value) → bytes_eq l k ≡ false
+    → set (insert m k v) l o ≡ insert (set m l o) k v
 set-insert_beside m k l v o apart =
     same (set (insert m k v) l o) (insert (set m l o) k v) (λ q.
     get-set (insert m k v) l o q ∙ ap (cond (bytes_eq l q) o) (get-insert m k v q)
-    ∙ asked_apart (bytes_eq l q) (bytes_eq k q) o (Some v) (get m q) (λ e. ap (bytes_eq k) (sym (same_bytes l q e)) ∙ bytes_eq-swap k l ∙ apart)
+    ∙ asked_apart (bytes_eq l q) (bytes_eq k q) o (Some v) (get m q)
+    (λ e. ap (bytes_eq k) (sym (same_bytes l q e)) ∙ bytes_eq-swap k l ∙ apart)
     ∙ ap (cond (bytes_eq k q) (Some v)) (sym (get-set m l o q)) ∙ sym (get-insert (set m l o) k v q))
 
 pub ruleset beside = (get-insert_beside, get-remove_beside)

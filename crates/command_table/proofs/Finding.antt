@@ -1,5 +1,6 @@
 -- Rows, found by their names.
-use Rattle.std.proofs.Common.{◌≡◌, ℕ, zero, suc, ◌<◌, Bool, true, false, List, [], ◌∷◌, Some, None, refl, sym, subst, nat_lt, if◌then◌else◌, arith}
+use Rattle.std.proofs.Common.{◌≡◌, ℕ, zero, suc, ◌<◌, Bool, true, false, List, [], ◌∷◌, ◌++◌, Some, None, refl, sym}
+use Rattle.std.proofs.Common.{subst, nat_lt, if◌then◌else◌, arith}
 use Rattle.std.specs.List.{list_all}
 use Rattle.std.specs.Str.{bytes_eq, IsUtf8, IsAscii}
 use Rattle.std.proofs.lemmas.Bool.{and_parts}
@@ -31,3 +32,13 @@ none_of_bytes (r ∷ rs) n h not_text =
       | true ↦ λ e. absurd (not_text (subst IsUtf8 (sym ((bytes_eq-Decides n r.name).0 e)) (IsUtf8-from_ascii r.name (IsAscii-name r.name parts.0))))
       | false ↦ λ e. none_of_bytes rs n parts.1 not_text
     ] refl
+
+-- where the first rows have no row of this name the others are looked through
+pub row-after : (rs qs : List Row) (n : Word) → row_of rs n ≡ None → row_of (rs ++ qs) n ≡ row_of qs n
+row-after [] qs n none = refl
+row-after (r ∷ rs) qs n none =
+    elim (bytes_eq n r.name)
+    as (λ b. (if b then Some r else row_of rs n) ≡ None → (if b then Some r else row_of (rs ++ qs) n) ≡ row_of qs n) [
+      | true ↦ λ e. absurd cc
+      | false ↦ λ e. row-after rs qs n e
+    ] none

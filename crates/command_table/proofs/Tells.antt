@@ -25,6 +25,7 @@ use Rattle.command_table.specs.LocalCommands.{local_rows, ping_row, echo_row}
 use Rattle.command_table.specs.Reading.{rows, reading, IsTold}
 use Rattle.command_table.specs.Row.{Row, Reading, pairs_reading, then_reading, integer_reading, row_of, row_reading, row_told, reading_among}
 use Rattle.command_table.specs.SetCommands.{set_rows, sadd_row, srem_row, sismember_row, smismember_row, scard_row, smembers_row}
+use Rattle.command_table.specs.SetCommands.{smove_row, sinter_row, sunion_row, sdiff_row, sinterstore_row, sunionstore_row, sdiffstore_row}
 use Rattle.command_table.specs.StringCommands.{string_rows, get_row, set_row, setnx_row, getset_row, getdel_row, mget_row, strlen_row, getrange_row, set_with, options_condition}
 use Rattle.command_table.specs.Telling.{KeysTold, All, These}
 use Rattle.texts.specs.Texts.{firsts}
@@ -324,7 +325,28 @@ set_tell = (
         tells-one smismember_row refl refl (λ key ws. refl),
         (
           tells-one scard_row refl refl (λ key ws. refl),
-          (tells-one smembers_row refl refl (λ key ws. refl), tt),
+          (
+            tells-one smembers_row refl refl (λ key ws. refl),
+            (
+              tells-two smove_row refl refl refl (λ from to ws. refl),
+              (
+                tells-each sinter_row refl (λ keys. refl),
+                (
+                  tells-each sunion_row refl (λ keys. refl),
+                  (
+                    tells-each sdiff_row refl (λ keys. refl),
+                    (
+                      tells-target sinterstore_row refl refl (λ target sources. refl),
+                      (
+                        tells-target sunionstore_row refl refl (λ target sources. refl),
+                        (tells-target sdiffstore_row refl refl (λ target sources. refl), tt),
+                      ),
+                    ),
+                  ),
+                ),
+              ),
+            ),
+          ),
         ),
       ),
     ),

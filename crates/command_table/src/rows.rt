@@ -85,6 +85,13 @@ macro_rules! command_rows {
             ("smismember", AtLeast(3), (1, 1, 1), Smismember { key, members }, read_smismember, smismember),
             ("scard", Exactly(2), (1, 1, 1), Scard { key }, read_scard, scard),
             ("smembers", Exactly(2), (1, 1, 1), Smembers { key }, read_smembers, smembers),
+            ("smove", Exactly(4), (1, 2, 1), Smove { from, to, member }, read_smove, smove),
+            ("sinter", AtLeast(2), (1, -1, 1), Sinter { keys }, read_sinter, sinter),
+            ("sunion", AtLeast(2), (1, -1, 1), Sunion { keys }, read_sunion, sunion),
+            ("sdiff", AtLeast(2), (1, -1, 1), Sdiff { keys }, read_sdiff, sdiff),
+            ("sinterstore", AtLeast(3), (1, -1, 1), Sinterstore { target, sources }, read_sinterstore, sinterstore),
+            ("sunionstore", AtLeast(3), (1, -1, 1), Sunionstore { target, sources }, read_sunionstore, sunionstore),
+            ("sdiffstore", AtLeast(3), (1, -1, 1), Sdiffstore { target, sources }, read_sdiffstore, sdiffstore),
         }
     };
 }

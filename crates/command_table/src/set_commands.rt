@@ -5,6 +5,8 @@ ghost use Rattle.command_table.specs.Held.{told_held};
 ghost use Rattle.command_table.specs.Row.{row_of, reading_among};
 ghost use Rattle.command_table.specs.SetCommands.{set_command_told, set_rows};
 ghost use Rattle.command_table.specs.SetCommands.{sadd_row, srem_row, sismember_row, smismember_row, scard_row, smembers_row};
+ghost use Rattle.command_table.specs.SetCommands.{smove_row, sinter_row, sunion_row, sdiff_row};
+ghost use Rattle.command_table.specs.SetCommands.{sinterstore_row, sunionstore_row, sdiffstore_row};
 ghost use Rattle.command_table.specs.Words.{texts_of};
 
 use crate::arity::Arity;
@@ -13,7 +15,7 @@ use crate::command_rows;
 use crate::refusal::{CommandName, Refusal};
 use crate::rows::{keys_of_span, read_rows, told_rows};
 use crate::told::{Keys, Told};
-use crate::words::{first_and_rest, only_word, two_words};
+use crate::words::{first_and_rest, only_word, three_words, two_words};
 use texts::{Text, Texts};
 
 /// A command on sets.
@@ -36,6 +38,27 @@ pub enum SetCommand {
 
     /// `SMEMBERS key`: the members.
     Smembers { key: Text },
+
+    /// `SMOVE source destination member`: moves the member.
+    Smove { from: Text, to: Text, member: Text },
+
+    /// `SINTER key [key ..]`: the members that are in each set.
+    Sinter { keys: Texts },
+
+    /// `SUNION key [key ..]`: the members of all sets.
+    Sunion { keys: Texts },
+
+    /// `SDIFF key [key ..]`: the members of the first set that are in no other.
+    Sdiff { keys: Texts },
+
+    /// `SINTERSTORE target key [key ..]`: stores what SINTER answers.
+    Sinterstore { target: Text, sources: Texts },
+
+    /// `SUNIONSTORE target key [key ..]`: stores what SUNION answers.
+    Sunionstore { target: Text, sources: Texts },
+
+    /// `SDIFFSTORE target key [key ..]`: stores what SDIFF answers.
+    Sdiffstore { target: Text, sources: Texts },
 }
 
 impl SetCommand {
@@ -112,4 +135,64 @@ fn read_smembers(words: Vec<Vec<u8>>) -> Result<Command, Refusal>
 {
     let key = only_word(words);
     Ok(Command::Set(SetCommand::Smembers { key }))
+}
+
+/// `SMOVE source destination member`.
+fn read_smove(words: Vec<Vec<u8>>) -> Result<Command, Refusal>
+    requires { length words.items ≡ 3 }
+    ensures { result ≡ smove_row.reading (texts_of words.items) }
+{
+    let (from, to, member) = three_words(words);
+    Ok(Command::Set(SetCommand::Smove { from, to, member }))
+}
+
+/// `SINTER key [key ..]`.
+fn read_sinter(words: Vec<Vec<u8>>) -> Result<Command, Refusal>
+    ensures { result ≡ sinter_row.reading (texts_of words.items) }
+{
+    let keys = Texts::from(words);
+    Ok(Command::Set(SetCommand::Sinter { keys }))
+}
+
+/// `SUNION key [key ..]`.
+fn read_sunion(words: Vec<Vec<u8>>) -> Result<Command, Refusal>
+    ensures { result ≡ sunion_row.reading (texts_of words.items) }
+{
+    let keys = Texts::from(words);
+    Ok(Command::Set(SetCommand::Sunion { keys }))
+}
+
+/// `SDIFF key [key ..]`.
+fn read_sdiff(words: Vec<Vec<u8>>) -> Result<Command, Refusal>
+    ensures { result ≡ sdiff_row.reading (texts_of words.items) }
+{
+    let keys = Texts::from(words);
+    Ok(Command::Set(SetCommand::Sdiff { keys }))
+}
+
+/// `SINTERSTORE target key [key ..]`.
+fn read_sinterstore(words: Vec<Vec<u8>>) -> Result<Command, Refusal>
+    requires { 2 ≤ length words.items }
+    ensures { result ≡ sinterstore_row.reading (texts_of words.items) }
+{
+    let (target, sources) = first_and_rest(words);
+    Ok(Command::Set(SetCommand::Sinterstore { target, sources }))
+}
+
+/// `SUNIONSTORE target key [key ..]`.
+fn read_sunionstore(words: Vec<Vec<u8>>) -> Result<Command, Refusal>
+    requires { 2 ≤ length words.items }
+    ensures { result ≡ sunionstore_row.reading (texts_of words.items) }
+{
+    let (target, sources) = first_and_rest(words);
+    Ok(Command::Set(SetCommand::Sunionstore { target, sources }))
+}
+
+/// `SDIFFSTORE target key [key ..]`.
+fn read_sdiffstore(words: Vec<Vec<u8>>) -> Result<Command, Refusal>
+    requires { 2 ≤ length words.items }
+    ensures { result ≡ sdiffstore_row.reading (texts_of words.items) }
+{
+    let (target, sources) = first_and_rest(words);
+    Ok(Command::Set(SetCommand::Sdiffstore { target, sources }))
 }

@@ -7,8 +7,9 @@ ghost use Rattle.std.specs.FinMap as map;
 ghost use Rattle.std.specs.Option.{option_copied};
 ghost use Rattle.command_cases.specs.Case.{Does, at_key};
 ghost use Rattle.resp.specs.Content.{BulkText, content};
+ghost use Rattle.set_commands.specs.Combination.{found_members};
 ghost use Rattle.set_commands.specs.SetCommand.{looks_at_set, smembers_answer, sismember_answer, smismember_answer};
-ghost use Rattle.set_commands.specs.SetCommand.{found_members, members_there, some_members};
+ghost use Rattle.set_commands.specs.SetCommand.{members_there, some_members};
 
 use command_cases::{Starved, truth_reply, wrong_type_reply};
 use keyspace::Keyspace;

@@ -39,7 +39,8 @@ pub(crate) fn sadd<K: Keyspace>(
         Some(Value::Set(_)) => {}
         Some(_) => return Ok(wrong_type_reply()),
     }
-    let Value::Set(mut set) = keyspace.replace(key.as_slice(), Value::Str(Text::empty(alloc))) else {
+    let Value::Set(mut set) = keyspace.replace(key.as_slice(), Value::Str(Text::empty(alloc)))
+    else {
         unreachable!();
     };
     let done = set.insert_all(alloc, members);

@@ -4,21 +4,28 @@
 //! them.
 #![tactic(auto)]
 
+mod algebra;
 mod arrays;
 mod changes;
+mod combine;
 mod looks;
+mod moves;
+mod sets;
 
 ghost use Rattle.std.specs.Prelude.{◌≡◌, All, IsTrue, OnErr};
 ghost use Rattle.command_cases.specs.Case.{Does};
 ghost use Rattle.command_table.specs.SetCommands.{set_command_keys};
+ghost use Rattle.set_commands.specs.Combination.{IntersectionMembers, UnionMembers, DifferenceMembers};
 ghost use Rattle.set_commands.specs.SetCommand.{set_command_case, SetCommandTakesMemory};
 
+use algebra::{sdiff, sdiffstore, sinter, sinterstore, sunion, sunionstore};
 use arrays::{smembers, smismember};
 use changes::{sadd, srem};
 use command_cases::{Starved, body_rows};
 use command_table::{SetCommand, command_rows};
 use keyspace::Keyspace;
 use looks::{scard, sismember};
+use moves::smove;
 use resp::Reply;
 use std::alloc::Global;
 
@@ -36,3 +43,10 @@ pub fn run_set_command<K: Keyspace>(
 {
     command_rows!(sets, body_rows, SetCommand, alloc, keyspace, command)
 }
+
+/// What it is to be a member of an intersection, of a union and of a difference of sets.
+pub fn combined_members()
+    ensures intersection { IntersectionMembers }
+    ensures union { UnionMembers }
+    ensures difference { DifferenceMembers }
+{}

@@ -1,7 +1,8 @@
 use Rattle.std.proofs.Common.{◌≡◌, map, take}
 use Rattle.std.specs.Option.{option_copied}
 use Rattle.resp.specs.Content.{content}
-use Rattle.set_commands.specs.SetCommand.{found_members, sismember_answer}
+use Rattle.set_commands.specs.Combination.{found_members}
+use Rattle.set_commands.specs.SetCommand.{sismember_answer}
 use Rattle.texts.specs.Texts.{texts_of}
 use Rattle.set_commands.proofs.arrays.each_truth_reply.Given as goal
 
