@@ -1,5 +1,5 @@
 -- A member that is put at one key and then removed at another.
-use Rattle.std.proofs.Common.{◌≡◌, IsTrue, false, Option, sym, ap, subst, ◌∙◌}
+use Rattle.std.proofs.Common.{◌≡◌, IsTrue, false, sym, ap, subst, ◌∙◌}
 use Rattle.std.specs.FinMap.{get, insert}
 use Rattle.std.specs.Str.{bytes_eq}
 use Rattle.command_cases.proofs.Beside.{get-insert_beside, set-insert_beside}

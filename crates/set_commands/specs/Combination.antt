@@ -6,7 +6,7 @@ use Rattle.std.specs.Option.{option_copied}
 use Rattle.set_commands.specs.declared.combine.Combination.{Combination}
 use Rattle.set_commands.specs.declared.combine.Combination.TheVariants.{Intersection, Union, Difference}
 use Rattle.texts.specs.Texts.{Bytes}
-use Rattle.values.specs.SetValue.{IsAscending, is_member, with_members}
+use Rattle.values.specs.SetValue.{is_member, with_members}
 
 -- the members of a set
 abbrev pub Members : Type 0
