@@ -13,6 +13,7 @@ use Rattle.hash_commands.proofs.Local.{local-hash_command}
 use Rattle.key_commands.proofs.Local.{local-key_command}
 use Rattle.keyspace.specs.Map.{Map}
 use Rattle.list_commands.proofs.Local.{local-list_command}
+use Rattle.set_commands.proofs.Local.{local-set_command}
 use Rattle.string_commands.proofs.Local.{local-string_command}
 
 -- a case is taken on the whole map, or on the keys that it alone looks at
@@ -27,6 +28,8 @@ effect-case (Str c) m = effect_of-local (is_whole (Str c)) (keys_of (Str c)) (ca
 effect-case (variant.List c) m =
     effect_of-local (is_whole (variant.List c)) (keys_of (variant.List c)) (case_of (variant.List c)) m (λ _. local-list_command c)
 effect-case (Hash c) m = effect_of-local (is_whole (Hash c)) (keys_of (Hash c)) (case_of (Hash c)) m (λ _. local-hash_command c)
+effect-case (variant.Set c) m =
+    effect_of-local (is_whole (variant.Set c)) (keys_of (variant.Set c)) (case_of (variant.Set c)) m (λ _. local-set_command c)
 effect-case (Local c) m = effect_of-local (is_whole (Local c)) (keys_of (Local c)) (case_of (Local c)) m (λ _. local-constant (keys_of (Local c)) (local_reply c))
 
 -- a command that is not for all keys takes its part

@@ -10,6 +10,7 @@ use Rattle.hash_commands.specs.HashCommand.{hash_command_case, HashCommandTakesM
 use Rattle.key_commands.specs.KeyCommand.{key_command_case, KeyCommandTakesMemory}
 use Rattle.keyspace.specs.Map.{Map, AreApart}
 use Rattle.list_commands.specs.ListCommand.{list_command_case, ListCommandTakesMemory}
+use Rattle.set_commands.specs.SetCommand.{set_command_case, SetCommandTakesMemory}
 use Rattle.string_commands.specs.StringCommand.{string_command_case, StringCommandTakesMemory}
 
 -- what a command does to a map that has its keys, and what it answers
@@ -18,6 +19,7 @@ case_of (Key c) = key_command_case c
 case_of (Str c) = string_command_case c
 case_of (variant.List c) = list_command_case c
 case_of (Hash c) = hash_command_case c
+case_of (variant.Set c) = set_command_case c
 case_of (Local c) = λ m. (m, local_reply c)
 
 -- what a command does to the map of all keys: its case on what the map has at its own keys, which is then put back in their place.
@@ -31,6 +33,7 @@ TakesMemory (Key c) = KeyCommandTakesMemory c
 TakesMemory (Str c) = StringCommandTakesMemory c
 TakesMemory (variant.List c) = ListCommandTakesMemory c
 TakesMemory (Hash c) = HashCommandTakesMemory c
+TakesMemory (variant.Set c) = SetCommandTakesMemory c
 TakesMemory (Local c) = λ m. ⊥
 
 -- two commands with no key in common: each answers the same whether the other has run before it or not

@@ -22,6 +22,7 @@ use keyspace::Keyspace;
 use list_commands::run_list_command;
 pub use local_commands::local;
 use resp::Reply;
+use set_commands::run_set_command;
 use std::alloc::Global;
 use string_commands::run_string_command;
 
@@ -59,6 +60,7 @@ fn run<K: Keyspace>(alloc: Global, keyspace: &mut K, command: Command) -> Result
         Command::Str(command) => run_string_command(alloc, keyspace, command),
         Command::List(command) => run_list_command(alloc, keyspace, command),
         Command::Hash(command) => run_hash_command(alloc, keyspace, command),
+        Command::Set(command) => run_set_command(alloc, keyspace, command),
         Command::Local(command) => Ok(local(command)),
     }
 }

@@ -198,6 +198,55 @@ fn numbers_in_strings_answer_in_turn(rt: HostRuntime) -> Result<(), Fail> {
 }
 
 #[test]
+fn commands_on_sets_answer_in_turn(rt: HostRuntime) -> Result<(), Fail> {
+    let mut keyspace = Plain::new(rt.alloc(), BuildHasherDefault::<FoldHasher>::new());
+    let wrong_type = "-WRONGTYPE Operation against a key holding the wrong kind of value\r\n";
+    let rows: [(&[&str], &str); 30] = [
+        (&["SADD", "a", "m", "b", "m"], ":2\r\n"),
+        (&["SADD", "a", "b", "x"], ":1\r\n"),
+        (&["SADD", "a", "x"], ":0\r\n"),
+        (
+            &["SMEMBERS", "a"],
+            "*3\r\n$1\r\nb\r\n$1\r\nm\r\n$1\r\nx\r\n",
+        ),
+        (&["SMEMBERS", "none"], "*0\r\n"),
+        (&["SCARD", "a"], ":3\r\n"),
+        (&["SCARD", "none"], ":0\r\n"),
+        (&["SISMEMBER", "a", "m"], ":1\r\n"),
+        (&["SISMEMBER", "a", "q"], ":0\r\n"),
+        (&["SISMEMBER", "none", "m"], ":0\r\n"),
+        (
+            &["SMISMEMBER", "a", "m", "q", "m"],
+            "*3\r\n:1\r\n:0\r\n:1\r\n",
+        ),
+        (&["SMISMEMBER", "none", "m"], "*1\r\n:0\r\n"),
+        (&["TYPE", "a"], "+set\r\n"),
+        (&["GET", "a"], wrong_type),
+        (&["LPUSH", "a", "m"], wrong_type),
+        (&["HGET", "a", "m"], wrong_type),
+        (&["SREM", "a", "m", "q", "m"], ":1\r\n"),
+        (&["SREM", "a", "b", "x"], ":2\r\n"),
+        (&["SREM", "a", "b"], ":0\r\n"),
+        (&["EXISTS", "a"], ":0\r\n"),
+        (&["SET", "a", "v"], "+OK\r\n"),
+        (&["SADD", "a", "m"], wrong_type),
+        (&["SREM", "a", "m"], wrong_type),
+        (&["SISMEMBER", "a", "m"], wrong_type),
+        (&["SMISMEMBER", "a", "m"], wrong_type),
+        (&["SCARD", "a"], wrong_type),
+        (&["SMEMBERS", "a"], wrong_type),
+        (&["SADD", "c", "m"], ":1\r\n"),
+        (&["RENAME", "a", "c"], "+OK\r\n"),
+        (&["TYPE", "c"], "+string\r\n"),
+    ];
+    for (words, reply) in rows {
+        let text = answer(&rt, rt.alloc(), &mut keyspace, words)?;
+        assert_eq!(rt; text.as_slice(), reply.as_bytes(), "{words:?}");
+    }
+    Ok(())
+}
+
+#[test]
 fn writes_into_strings_answer_in_turn(rt: HostRuntime) -> Result<(), Fail> {
     let mut keyspace = Plain::new(rt.alloc(), BuildHasherDefault::<FoldHasher>::new());
     let bad_offset = "-ERR offset is out of range\r\n";
@@ -233,6 +282,39 @@ fn writes_into_strings_answer_in_turn(rt: HostRuntime) -> Result<(), Fail> {
 }
 
 #[test]
+fn members_move_between_sets(rt: HostRuntime) -> Result<(), Fail> {
+    let mut keyspace = Plain::new(rt.alloc(), BuildHasherDefault::<FoldHasher>::new());
+    let wrong_type = "-WRONGTYPE Operation against a key holding the wrong kind of value\r\n";
+    let rows: [(&[&str], &str); 20] = [
+        (&["SADD", "a", "m"], ":1\r\n"),
+        (&["SMOVE", "a", "a", "m"], ":1\r\n"),
+        (&["SMOVE", "a", "a", "n"], ":0\r\n"),
+        (&["SMOVE", "y", "a", "m"], ":0\r\n"),
+        (&["SMEMBERS", "a"], "*1\r\n$1\r\nm\r\n"),
+        (&["SMOVE", "a", "b", "n"], ":0\r\n"),
+        (&["EXISTS", "b"], ":0\r\n"),
+        (&["SMOVE", "a", "b", "m"], ":1\r\n"),
+        (&["EXISTS", "a"], ":0\r\n"),
+        (&["SMEMBERS", "b"], "*1\r\n$1\r\nm\r\n"),
+        (&["SADD", "c", "m", "x"], ":2\r\n"),
+        (&["SMOVE", "c", "b", "x"], ":1\r\n"),
+        (&["SMOVE", "c", "b", "m"], ":1\r\n"),
+        (&["SMEMBERS", "b"], "*2\r\n$1\r\nm\r\n$1\r\nx\r\n"),
+        (&["SET", "s", "v"], "+OK\r\n"),
+        (&["SMOVE", "y", "s", "m"], ":0\r\n"),
+        (&["SMOVE", "s", "b", "m"], wrong_type),
+        (&["SMOVE", "b", "s", "q"], wrong_type),
+        (&["SMOVE", "b", "s", "m"], wrong_type),
+        (&["SCARD", "b"], ":2\r\n"),
+    ];
+    for (words, reply) in rows {
+        let text = answer(&rt, rt.alloc(), &mut keyspace, words)?;
+        assert_eq!(rt; text.as_slice(), reply.as_bytes(), "{words:?}");
+    }
+    Ok(())
+}
+
+#[test]
 fn several_keys_and_fields_answer_in_turn(rt: HostRuntime) -> Result<(), Fail> {
     let mut keyspace = Plain::new(rt.alloc(), BuildHasherDefault::<FoldHasher>::new());
     let odd = "-ERR wrong number of arguments for 'mset' command\r\n";
@@ -258,6 +340,56 @@ fn several_keys_and_fields_answer_in_turn(rt: HostRuntime) -> Result<(), Fail> {
         (&["HSET", "h", "t", "x"], ":1\r\n"),
         (&["HINCRBY", "h", "t", "1"], no_integer),
         (&["HVALS", "h"], "*3\r\n$2\r\n-2\r\n$19\r\n9223372036854775807\r\n$1\r\nx\r\n"),
+    ];
+    for (words, reply) in rows {
+        let text = answer(&rt, rt.alloc(), &mut keyspace, words)?;
+        assert_eq!(rt; text.as_slice(), reply.as_bytes(), "{words:?}");
+    }
+    Ok(())
+}
+
+#[test]
+fn sets_are_combined(rt: HostRuntime) -> Result<(), Fail> {
+    let mut keyspace = Plain::new(rt.alloc(), BuildHasherDefault::<FoldHasher>::new());
+    let wrong_type = "-WRONGTYPE Operation against a key holding the wrong kind of value\r\n";
+    let rows: [(&[&str], &str); 31] = [
+        (&["SADD", "a", "m", "n"], ":2\r\n"),
+        (&["SADD", "b", "n", "o"], ":2\r\n"),
+        (&["SINTER", "a", "b"], "*1\r\n$1\r\nn\r\n"),
+        (&["SINTER", "a"], "*2\r\n$1\r\nm\r\n$1\r\nn\r\n"),
+        (&["SINTER", "a", "none"], "*0\r\n"),
+        (&["SINTER", "none", "a"], "*0\r\n"),
+        (
+            &["SUNION", "b", "none", "a"],
+            "*3\r\n$1\r\nm\r\n$1\r\nn\r\n$1\r\no\r\n",
+        ),
+        (&["SUNION", "none"], "*0\r\n"),
+        (&["SDIFF", "a", "b"], "*1\r\n$1\r\nm\r\n"),
+        (&["SDIFF", "b", "a"], "*1\r\n$1\r\no\r\n"),
+        (&["SDIFF", "a", "none"], "*2\r\n$1\r\nm\r\n$1\r\nn\r\n"),
+        (&["SDIFF", "none", "a"], "*0\r\n"),
+        (&["SDIFF", "a", "a"], "*0\r\n"),
+        (&["SET", "s", "v"], "+OK\r\n"),
+        (&["SINTER", "none", "s"], wrong_type),
+        (&["SUNION", "s", "a"], wrong_type),
+        (&["SDIFF", "a", "s"], wrong_type),
+        (&["SDIFFSTORE", "s", "a", "s"], wrong_type),
+        (&["GET", "s"], "$1\r\nv\r\n"),
+        (&["SUNIONSTORE", "s", "a", "b"], ":3\r\n"),
+        (
+            &["SMEMBERS", "s"],
+            "*3\r\n$1\r\nm\r\n$1\r\nn\r\n$1\r\no\r\n",
+        ),
+        (&["SDIFFSTORE", "s", "s", "a"], ":1\r\n"),
+        (&["SMEMBERS", "s"], "*1\r\n$1\r\no\r\n"),
+        (&["SINTERSTORE", "new", "a", "b"], ":1\r\n"),
+        (&["SMEMBERS", "new"], "*1\r\n$1\r\nn\r\n"),
+        (&["SREM", "a", "n"], ":1\r\n"),
+        (&["SET", "z", "old"], "+OK\r\n"),
+        (&["SINTERSTORE", "z", "a", "b"], ":0\r\n"),
+        (&["EXISTS", "z"], ":0\r\n"),
+        (&["SUNIONSTORE", "a", "none"], ":0\r\n"),
+        (&["EXISTS", "a"], ":0\r\n"),
     ];
     for (words, reply) in rows {
         let text = answer(&rt, rt.alloc(), &mut keyspace, words)?;

@@ -52,14 +52,18 @@ local-at_two first second step m =
     ∙ ap (λ n. set n second left.0.1) (put_back-set m keys (restrict m keys) first left.0.0 in_first)
     ∙ ap (λ n. set_two n first second left.0) (put_back-restrict m keys))
 
-pub local-at_target : (target : Bytes) (sources : List Bytes) (step : List (Option Value) → Option Value × Content)
+pub local-at_target : (target : Bytes) (sources : List Bytes) (step : Option Value → List (Option Value) → Option Value × Content)
     → IsLocal (target ∷ sources) (at_target target sources step)
 local-at_target target sources step m =
     let keys = target ∷ sources in
-    let left = step (values_at m sources) in
-    ap (λ os. (put_back m keys (set (restrict m keys) target (step os).0), (step os).1)) (values_at-restrict m keys sources (within-rest target sources))
+    let part = restrict m keys in
+    let left = step (get m target) (values_at m sources) in
+    ap (λ o. (put_back m keys (set part target (step o (values_at part sources)).0), (step o (values_at part sources)).1))
+    (get-restrict_here m keys target (among-first target sources))
+    ∙ ap (λ os. (put_back m keys (set part target (step (get m target) os).0), (step (get m target) os).1))
+    (values_at-restrict m keys sources (within-rest target sources))
     ∙ ap (λ n. (n, left.1))
-    (put_back-set m keys (restrict m keys) target left.0 (among-first target sources) ∙ ap (λ n. set n target left.0) (put_back-restrict m keys))
+    (put_back-set m keys part target left.0 (among-first target sources) ∙ ap (λ n. set n target left.0) (put_back-restrict m keys))
 
 -- pairs whose keys are among some may be written in the part or in the whole
 put_back-with_pairs : (m : Map) (keys : List Bytes) (part : Map) (pairs : List (Bytes × Bytes)) → Within (firsts pairs) keys

@@ -28,9 +28,10 @@ set_two m first second left = set (set m first left.0) second left.1
 abbrev pub at_two : Bytes → Bytes → StepOfTwo → Case
 at_two first second step m = (set_two m first second (step (get m first) (get m second)).0, (step (get m first) (get m second)).1)
 
--- what is left at the target, and the answer, are by what stands at the sources
-abbrev pub at_target : Bytes → List Bytes → (List (Option Value) → Option Value × Content) → Case
-at_target target sources step m = (set m target (step (values_at m sources)).0, (step (values_at m sources)).1)
+-- what is left at the target, and the answer, are by what stands there and at the sources
+abbrev pub at_target : Bytes → List Bytes → (Option Value → List (Option Value) → Option Value × Content) → Case
+at_target target sources step m =
+    (set m target (step (get m target) (values_at m sources)).0, (step (get m target) (values_at m sources)).1)
 
 -- the map with the second of each pair, as a string, at the first; of a key that is named twice, the last one stands
 abbrev pub with_pairs : Map → List (Bytes × Bytes) → Map

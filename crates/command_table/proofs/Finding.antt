@@ -1,5 +1,6 @@
 -- Rows, found by their names.
-use Rattle.std.proofs.Common.{◌≡◌, ℕ, zero, suc, ◌<◌, Bool, true, false, List, [], ◌∷◌, ◌++◌, Some, None, option_map, refl, sym, ap, subst, nat_lt, if◌then◌else◌, arith}
+use Rattle.std.proofs.Common.{◌≡◌, ℕ, zero, suc, ◌<◌, Bool, true, false, List, [], ◌∷◌, ◌++◌, Some, None, refl, sym}
+use Rattle.std.proofs.Common.{subst, nat_lt, if◌then◌else◌, arith}
 use Rattle.std.specs.List.{list_all}
 use Rattle.std.specs.Str.{bytes_eq, IsUtf8, IsAscii}
 use Rattle.std.proofs.lemmas.Bool.{and_parts}
@@ -32,15 +33,24 @@ none_of_bytes (r ∷ rs) n h not_text =
       | false ↦ λ e. none_of_bytes rs n parts.1 not_text
     ] refl
 
-row_of-beyond : (rs qs : List Row) (n : Word) → row_of rs n ≡ None → row_of (rs ++ qs) n ≡ row_of qs n
-row_of-beyond [] qs n none = refl
-row_of-beyond (r ∷ rs) qs n none =
+-- where the first rows have no row of this name the others are looked through
+pub row-after : (rs qs : List Row) (n : Word) → row_of rs n ≡ None → row_of (rs ++ qs) n ≡ row_of qs n
+row-after [] qs n none = refl
+row-after (r ∷ rs) qs n none =
     elim (bytes_eq n r.name)
     as (λ b. (if b then Some r else row_of rs n) ≡ None → (if b then Some r else row_of (rs ++ qs) n) ≡ row_of qs n) [
       | true ↦ λ e. absurd cc
-      | false ↦ λ e. row_of-beyond rs qs n e
+      | false ↦ λ e. row-after rs qs n e
     ] none
 
--- where none of the first rows has the name, the others say what the words are
-pub reading-beyond : (rs qs : List Row) (n : Word) (words : List Word) → row_of rs n ≡ None → reading_among (rs ++ qs) n words ≡ reading_among qs n words
-reading-beyond rs qs n words none = ap (option_map (λ r. row_reading r words)) (row_of-beyond rs qs n none)
+-- what the first rows say of words all of them say
+pub reading-before : (rs qs : List Row) (n : Word) (words : List Word) (read : _) → reading_among rs n words ≡ Some read →
+    reading_among (rs ++ qs) n words ≡ Some read
+reading-before [] qs n words read e = absurd cc
+reading-before (r ∷ rs) qs n words read e =
+    elim (bytes_eq n r.name)
+    as (λ b. option_map (λ q. row_reading q words) (if b then Some r else row_of rs n) ≡ Some read →
+        option_map (λ q. row_reading q words) (if b then Some r else row_of (rs ++ qs) n) ≡ Some read) [
+      | true ↦ λ here. here
+      | false ↦ λ there. reading-before rs qs n words read there
+    ] e

@@ -15,6 +15,7 @@ use Rattle.command_table.specs.KeySpan.{KeySpan, NoKeys, AllThereAre, Between, T
 use Rattle.command_table.specs.LocalCommands.{local_rows, ping_row, echo_row}
 use Rattle.command_table.specs.Reading.{rows, reading}
 use Rattle.command_table.specs.Row.{Row, Reading, row_told, row_reading, reading_among, row_of}
+use Rattle.command_table.specs.SetCommands.{set_rows}
 use Rattle.command_table.specs.StringCommands.{string_rows}
 use Rattle.command_table.specs.Telling.{KeysTold, All, These, named, is_all}
 use Rattle.command_table.specs.Words.{Word, lower}
@@ -25,7 +26,7 @@ use Rattle.command_table.specs.declared.command.Command.TheVariants as variant
 use Rattle.command_table.specs.declared.command.Command.TheVariants.{Key, Str, Local}
 use Rattle.command_table.specs.declared.local_commands.LocalCommand.TheVariants.{Ping, Echo}
 use Rattle.command_table.specs.declared.refusal.Refusal.TheVariants as refusal
-use Rattle.command_table.proofs.Tells.{Tells, AllTell, key_tell, string_tell, list_tell, hash_tell}
+use Rattle.command_table.proofs.Tells.{Tells, AllTell, key_tell, string_tell, list_tell, hash_tell, set_tell}
 
 nat_le_is : (a b : ℕ) → nat_le a b ≡ true → a ≤ b
 nat_le_is a b h = grind (arith, nat_tests)
@@ -97,6 +98,7 @@ keyed-told (Key c) some = names-told (Key c) some
 keyed-told (Str c) some = names-told (Str c) some
 keyed-told (variant.List c) some = names-told (variant.List c) some
 keyed-told (variant.Hash c) some = names-told (variant.Hash c) some
+keyed-told (variant.Set c) some = names-told (variant.Set c) some
 
 keyed-read : (r : Row) (ws : List Word) (read : Reading) → IfOk read (λ c. told_of c ≡ row_told r ([] ∷ ws)) → AreSome (keys_in r.keys ([] ∷ ws))
     → IfOk read IsKeyed
@@ -133,10 +135,11 @@ AllKeyed-append (r ∷ rs) qs a b = (a.0, AllKeyed-append rs qs a.1 b)
 
 all_keyed : AllKeyed rows
 all_keyed =
-    AllKeyed-append local_rows (key_rows ++ string_rows ++ list_rows ++ hash_rows) (ping_keyed, ((λ ws a. (refl, refl)), tt))
-    (AllKeyed-append key_rows (string_rows ++ list_rows ++ hash_rows) (all_take_keys key_rows key_tell refl)
-    (AllKeyed-append string_rows (list_rows ++ hash_rows) (all_take_keys string_rows string_tell refl)
-    (AllKeyed-append list_rows hash_rows (all_take_keys list_rows list_tell refl) (all_take_keys hash_rows hash_tell refl))))
+    AllKeyed-append local_rows (key_rows ++ string_rows ++ list_rows ++ hash_rows ++ set_rows) (ping_keyed, ((λ ws a. (refl, refl)), tt))
+    (AllKeyed-append key_rows (string_rows ++ list_rows ++ hash_rows ++ set_rows) (all_take_keys key_rows key_tell refl)
+    (AllKeyed-append string_rows (list_rows ++ hash_rows ++ set_rows) (all_take_keys string_rows string_tell refl)
+    (AllKeyed-append list_rows (hash_rows ++ set_rows) (all_take_keys list_rows list_tell refl)
+    (AllKeyed-append hash_rows set_rows (all_take_keys hash_rows hash_tell refl) (all_take_keys set_rows set_tell refl)))))
 
 keyed_by_row : (r : Row) → Keys r → (ws : List Word) → IfOk (row_reading r ws) IsKeyed
 keyed_by_row r keys ws =

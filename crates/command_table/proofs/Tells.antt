@@ -24,6 +24,8 @@ use Rattle.texts.specs.declared.text_list.End.{End}
 use Rattle.command_table.specs.LocalCommands.{local_rows, ping_row, echo_row}
 use Rattle.command_table.specs.Reading.{rows, reading, IsTold}
 use Rattle.command_table.specs.Row.{Row, Reading, pairs_reading, then_reading, integer_reading, row_of, row_reading, row_told, reading_among}
+use Rattle.command_table.specs.SetCommands.{set_rows, sadd_row, srem_row, sismember_row, smismember_row, scard_row, smembers_row}
+use Rattle.command_table.specs.SetCommands.{smove_row, sinter_row, sunion_row, sdiff_row, sinterstore_row, sunionstore_row, sdiffstore_row}
 use Rattle.command_table.specs.StringCommands.{string_rows, get_row, set_row, setnx_row, getset_row, getdel_row, mget_row, strlen_row, getrange_row, set_with, options_condition}
 use Rattle.command_table.specs.StringCommands.{incr_row, decr_row, incrby_row, decrby_row, append_row, setrange_row, mset_row, msetnx_row}
 use Rattle.command_table.specs.declared.string_commands.StringCommand.TheVariants.{Mset, Msetnx}
@@ -341,15 +343,55 @@ hash_tell = (
   ),
 )
 
+pub set_tell : AllTell set_rows
+set_tell = (
+  tells-one sadd_row refl refl (λ key ws. refl),
+  (
+    tells-one srem_row refl refl (λ key ws. refl),
+    (
+      tells-one sismember_row refl refl (λ key ws. refl),
+      (
+        tells-one smismember_row refl refl (λ key ws. refl),
+        (
+          tells-one scard_row refl refl (λ key ws. refl),
+          (
+            tells-one smembers_row refl refl (λ key ws. refl),
+            (
+              tells-two smove_row refl refl refl (λ from to ws. refl),
+              (
+                tells-each sinter_row refl (λ keys. refl),
+                (
+                  tells-each sunion_row refl (λ keys. refl),
+                  (
+                    tells-each sdiff_row refl (λ keys. refl),
+                    (
+                      tells-target sinterstore_row refl refl (λ target sources. refl),
+                      (
+                        tells-target sunionstore_row refl refl (λ target sources. refl),
+                        (tells-target sdiffstore_row refl refl (λ target sources. refl), tt),
+                      ),
+                    ),
+                  ),
+                ),
+              ),
+            ),
+          ),
+        ),
+      ),
+    ),
+  ),
+)
+
 AllTell-append : (rs qs : List Row) → AllTell rs → AllTell qs → AllTell (rs ++ qs)
 AllTell-append [] qs a b = b
 AllTell-append (r ∷ rs) qs a b = (a.0, AllTell-append rs qs a.1 b)
 
 all_tell : AllTell rows
 all_tell =
-    AllTell-append local_rows (key_rows ++ string_rows ++ list_rows ++ hash_rows) local_tell
-    (AllTell-append key_rows (string_rows ++ list_rows ++ hash_rows) key_tell
-    (AllTell-append string_rows (list_rows ++ hash_rows) string_tell (AllTell-append list_rows hash_rows list_tell hash_tell)))
+    AllTell-append local_rows (key_rows ++ string_rows ++ list_rows ++ hash_rows ++ set_rows) local_tell
+    (AllTell-append key_rows (string_rows ++ list_rows ++ hash_rows ++ set_rows) key_tell
+    (AllTell-append string_rows (list_rows ++ hash_rows ++ set_rows) string_tell
+    (AllTell-append list_rows (hash_rows ++ set_rows) list_tell (AllTell-append hash_rows set_rows hash_tell set_tell))))
 
 told_by_row : (r : Row) → Tells r → (name : Word) (ws : List Word) → IsToldIn r (name ∷ ws) (row_reading r ws)
 told_by_row r tells name ws =

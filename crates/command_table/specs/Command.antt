@@ -7,6 +7,7 @@ use Rattle.command_table.specs.HashCommands.{hash_command_told}
 use Rattle.command_table.specs.KeyCommands.{key_command_told}
 use Rattle.command_table.specs.ListCommands.{list_command_told}
 use Rattle.command_table.specs.LocalCommands.{local_command_told}
+use Rattle.command_table.specs.SetCommands.{set_command_told}
 use Rattle.command_table.specs.StringCommands.{string_command_told}
 use Rattle.command_table.specs.Telling.{Telling, named, is_all}
 use Rattle.command_table.specs.Words.{Word}
@@ -17,6 +18,7 @@ told_of (Key c) = key_command_told c
 told_of (Str c) = string_command_told c
 told_of (variant.List c) = list_command_told c
 told_of (Hash c) = hash_command_told c
+told_of (variant.Set c) = set_command_told c
 
 abbrev pub name_of : Command → Word
 name_of c = (told_of c).name

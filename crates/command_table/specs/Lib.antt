@@ -10,6 +10,7 @@ pub mod LocalCommands
 pub mod Reading
 pub mod Refusal
 pub mod Row
+pub mod SetCommands
 pub mod StringCommands
 pub mod Telling
 pub mod Words

@@ -8,12 +8,13 @@ use Rattle.command_table.specs.KeyCommands.{key_rows}
 use Rattle.command_table.specs.ListCommands.{list_rows}
 use Rattle.command_table.specs.LocalCommands.{local_rows}
 use Rattle.command_table.specs.Row.{Row, Reading, row_of, row_told, reading_among}
+use Rattle.command_table.specs.SetCommands.{set_rows}
 use Rattle.command_table.specs.StringCommands.{string_rows}
 use Rattle.command_table.specs.Words.{Word, lower}
 
 -- the table
 abbrev pub rows : List Row
-rows = local_rows ++ key_rows ++ string_rows ++ list_rows ++ hash_rows
+rows = local_rows ++ key_rows ++ string_rows ++ list_rows ++ hash_rows ++ set_rows
 
 -- what these words say, the first of which is a name in any case
 abbrev pub reading : List Word → Reading

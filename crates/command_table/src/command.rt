@@ -8,6 +8,7 @@ use crate::hash_commands::HashCommand;
 use crate::key_commands::KeyCommand;
 use crate::list_commands::ListCommand;
 use crate::local_commands::LocalCommand;
+use crate::set_commands::SetCommand;
 use crate::string_commands::StringCommand;
 use crate::told::Told;
 use std::alloc::{AllocError, Global};
@@ -27,6 +28,9 @@ pub enum Command {
     /// On hashes.
     Hash(HashCommand),
 
+    /// On sets.
+    Set(SetCommand),
+
     /// On no key.
     Local(LocalCommand),
 }
@@ -40,6 +44,7 @@ fn told(command: &Command) -> Told<'_>
         Command::Str(command) => command.told(),
         Command::List(command) => command.told(),
         Command::Hash(command) => command.told(),
+        Command::Set(command) => command.told(),
         Command::Local(command) => command.told(),
     }
 }

@@ -14,6 +14,7 @@ mod local_commands;
 mod reading;
 mod refusal;
 mod rows;
+mod set_commands;
 mod string_commands;
 #[cfg(test)]
 mod tests;
@@ -27,4 +28,5 @@ pub use list_commands::{ListCommand, Side};
 pub use local_commands::LocalCommand;
 pub use reading::read;
 pub use refusal::{CommandName, Refusal};
+pub use set_commands::SetCommand;
 pub use string_commands::{Condition, StringCommand};

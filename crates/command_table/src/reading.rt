@@ -17,6 +17,7 @@ use crate::key_commands::read_key_command;
 use crate::list_commands::read_list_command;
 use crate::local_commands::read_local_command;
 use crate::refusal::Refusal;
+use crate::set_commands::read_set_command;
 use crate::string_commands::read_string_command;
 use resp::Request;
 
@@ -72,7 +73,11 @@ fn read_by_row(name: &str, words: Vec<Vec<u8>>) -> Result<Command, Refusal>
         Ok(read) => return read,
         Err(words) => words,
     };
-    match read_hash_command(name, words) {
+    let words = match read_hash_command(name, words) {
+        Ok(read) => return read,
+        Err(words) => words,
+    };
+    match read_set_command(name, words) {
         Ok(read) => read,
         Err(_) => Err(Refusal::Unknown),
     }

@@ -3,8 +3,8 @@
 //! A row stands once, here. `command_rows!` hands the rows of a family to a macro of the caller's, which writes an arm for each:
 //! the crate of a family's bodies dispatches by them too.
 
-/// Hands the rows of a family, `local`, `keys`, `strings`, `lists` or `hashes`, to the macro named after it, with the words after that in
-/// brackets.
+/// Hands the rows of a family, `local`, `keys`, `strings`, `lists`, `hashes` or `sets`, to the macro named after it, with the words after
+/// that in brackets.
 ///
 /// A row has the command's name in lower case; how many words it takes, its name included; its key span, which is the first key,
 /// the last one and the step between them by word, the name being word 0 and -1 the last word, or `none`, or `whole` where it is
@@ -84,6 +84,23 @@ macro_rules! command_rows {
             ("hset", AtLeast(4), (1, 1, 1), Hset { key, pairs }, read_hset, hset),
             ("hmset", AtLeast(4), (1, 1, 1), Hmset { key, pairs }, read_hmset, hmset),
             ("hincrby", Exactly(4), (1, 1, 1), Hincrby { key, field, by }, read_hincrby, hincrby),
+        }
+    };
+    (sets, $emit:ident, $($argument:tt)*) => {
+        $emit! { [$($argument)*]
+            ("sadd", AtLeast(3), (1, 1, 1), Sadd { key, members }, read_sadd, sadd),
+            ("srem", AtLeast(3), (1, 1, 1), Srem { key, members }, read_srem, srem),
+            ("sismember", Exactly(3), (1, 1, 1), Sismember { key, member }, read_sismember, sismember),
+            ("smismember", AtLeast(3), (1, 1, 1), Smismember { key, members }, read_smismember, smismember),
+            ("scard", Exactly(2), (1, 1, 1), Scard { key }, read_scard, scard),
+            ("smembers", Exactly(2), (1, 1, 1), Smembers { key }, read_smembers, smembers),
+            ("smove", Exactly(4), (1, 2, 1), Smove { from, to, member }, read_smove, smove),
+            ("sinter", AtLeast(2), (1, -1, 1), Sinter { keys }, read_sinter, sinter),
+            ("sunion", AtLeast(2), (1, -1, 1), Sunion { keys }, read_sunion, sunion),
+            ("sdiff", AtLeast(2), (1, -1, 1), Sdiff { keys }, read_sdiff, sdiff),
+            ("sinterstore", AtLeast(3), (1, -1, 1), Sinterstore { target, sources }, read_sinterstore, sinterstore),
+            ("sunionstore", AtLeast(3), (1, -1, 1), Sunionstore { target, sources }, read_sunionstore, sunionstore),
+            ("sdiffstore", AtLeast(3), (1, -1, 1), Sdiffstore { target, sources }, read_sdiffstore, sdiffstore),
         }
     };
 }

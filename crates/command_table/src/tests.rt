@@ -45,6 +45,10 @@ fn refuses_what_the_table_refuses(rt: HostRuntime) -> Result<(), Fail> {
             "ERR wrong number of arguments for 'rename' command",
         ),
         (
+            "SMOVE a b",
+            "ERR wrong number of arguments for 'smove' command",
+        ),
+        (
             "SETNX a 1 NX",
             "ERR wrong number of arguments for 'setnx' command",
         ),
@@ -95,6 +99,10 @@ fn tells_name_and_keys(rt: HostRuntime) -> Result<(), Fail> {
         ("DEL a b a", "del a b a"),
         ("Rename a b", "rename a b"),
         ("SETNX a 1", "setnx a"),
+        ("SADD k a b", "sadd k"),
+        ("smove a b m", "smove a b"),
+        ("SUNION a b a", "sunion a b a"),
+        ("SInterStore t a b", "sinterstore t a b"),
     ] {
         let told = told_line(&rt, alloc, line)?;
         assert_eq!(rt; told.as_str(), want);

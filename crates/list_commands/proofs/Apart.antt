@@ -2,7 +2,7 @@
 use Rattle.std.proofs.Common.{◌≡◌, ℕ, IsTrue, List, Bool, true, false, cond, Option, Some, None, refl, sym, ap, ◌∙◌}
 use Rattle.std.specs.FinMap.{get, insert, remove}
 use Rattle.std.specs.Str.{bytes_eq}
-use Rattle.command_cases.proofs.Beside.{get-insert_beside}
+use Rattle.command_cases.proofs.Beside.{get-insert_beside, set-insert_beside}
 use Rattle.command_cases.specs.Case.{Step, at_key}
 use Rattle.command_cases.specs.Shapes.{at_two, set_two}
 use Rattle.keyspace.proofs.Changes.{set-set}
@@ -15,18 +15,6 @@ use Rattle.texts.specs.declared.text_list.End.{End}
 use Rattle.values.specs.ListValue.{end_item, joined}
 use Rattle.values.specs.declared.Value.{Value}
 use Rattle.values.specs.declared.Value.TheVariants as kind
-
-asked_apart : {A : Type 0} (a b : Bool) (x y z : A) → (a ≡ true → b ≡ false) → cond a x (cond b y z) ≡ cond b y (cond a x z)
-asked_apart true b x y z apart = ap (λ t. cond t y x) (sym (apart refl)) ∙ refl
-asked_apart false b x y z apart = refl
-
--- a value is put at a key after another key was changed, or before
-pub set-insert_beside : (m : Map) (k l : List ℕ) (v : Value) (o : Option Value) → bytes_eq l k ≡ false → set (insert m k v) l o ≡ insert (set m l o) k v
-set-insert_beside m k l v o apart =
-    same (set (insert m k v) l o) (insert (set m l o) k v) (λ q.
-    get-set (insert m k v) l o q ∙ ap (cond (bytes_eq l q) o) (get-insert m k v q)
-    ∙ asked_apart (bytes_eq l q) (bytes_eq k q) o (Some v) (get m q) (λ e. ap (bytes_eq k) (sym (same_bytes l q e)) ∙ bytes_eq-swap k l ∙ apart)
-    ∙ ap (cond (bytes_eq k q) (Some v)) (sym (get-set m l o q)) ∙ sym (get-insert (set m l o) k v q))
 
 -- a value that was taken out, and what is then left
 pub left_at : (m held n : Map) (key : Bytes) (step : Step) (v : Value) (before left : Option Value) (reply : Content) → get m key ≡ before

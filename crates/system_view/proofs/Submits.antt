@@ -203,6 +203,15 @@ module _ (t : Layout) (w : World) (c : ℕ) (good : WorldGood t w) (words : List
       by_standing (router.Waiting p) e says = waits_as old new was now (command.Hash k) p read addresses.0 addresses.1 addresses.2 shows s e says
       by_standing router.Taken e says = absurd says
       by_standing (router.Answered o) e says = absurd says
+  by_reading old new was now (Ok (command.Set k)) read addresses shows s stands = by_standing now.standing refl stands
+    where
+      by_standing : (x : Standing) → now.standing ≡ x → StandsBy (id_of c (suc (w.seq c))) words (Ok (command.Set k)) x →
+          ShowsConnections new (submitted_to w c (command.Set k) (groups_of t (command.Set k)))
+      by_standing router.Idle e says = absurd says
+      by_standing (router.Waiting p) e says =
+          waits_as old new was now (command.Set k) p read addresses.0 addresses.1 addresses.2 shows s e says
+      by_standing router.Taken e says = absurd says
+      by_standing (router.Answered o) e says = absurd says
 
   pub shows_submit : (old new : RouterView) (sent : Submission) → Addresses t (reading words) → Submits t c words old sent new → ShowsConnections old w →
       (w.standing c ≡ Idle) × (sent.id ≡ world_id w c) × (sent.floor ≡ floor_of w c) × ShowsConnections new (submitted t w c (reading words))

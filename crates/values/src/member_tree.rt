@@ -35,6 +35,17 @@ pub(crate) fn insert(there: &mut MemberTree, member: Vec<u8>) -> Result<bool, Al
     Ok(new)
 }
 
+/// The members, in order, moved out.
+pub(crate) fn into_list(alloc: Global, mut there: MemberTree) -> Result<Vec<Vec<u8>>, AllocError>
+    ensures { IfOk result (λ members. members.items ≡ there.keys) }
+{
+    let mut members = Vec::with_capacity(alloc, there.len())?;
+    while let Some(member) = there.pop_first() {
+        members.push(member)?;
+    }
+    Ok(members)
+}
+
 /// Removes a member, where it is there.
 pub(crate) fn remove(there: &mut MemberTree, member: &[u8])
     ensures left { texts_of there.new.keys ≡ without_member (texts_of there.old.keys) member.now }

@@ -9,7 +9,7 @@ ghost use Rattle.values.specs.SetValue.{IsAscending, is_member, with_member, wit
 
 use crate::items::{Items, Rest};
 use crate::member_tree::{
-    MemberTree, contains, insert, insert_all_or_none, insert_each, remove, remove_each,
+    MemberTree, contains, insert, insert_all_or_none, insert_each, into_list, remove, remove_each,
 };
 use std::alloc::{AllocError, Global};
 use std::collections::BTreeSet;
@@ -75,6 +75,16 @@ impl SetValue {
             value: None,
             rest: Rest::Members(self.members.iter()),
         }
+    }
+
+    /// The members in ascending order, moved out; no string is copied.
+    ///
+    /// `AllocError` where there is no memory for the list.
+    pub fn into_members(self, alloc: Global) -> Result<Texts, AllocError>
+        ensures { IfOk result (λ members. members ≡ self) }
+    {
+        let members = into_list(alloc, self.members)?;
+        Ok(Texts::from(members))
     }
 
     /// Inserts a member, and says whether it was new.

@@ -125,6 +125,9 @@ fn sets_ascend(rt: HostRuntime) -> Result<(), Fail> {
         shown(alloc, left.members())?.as_slice(),
         b"B ab b c m".as_slice()
     );
-    assert_eq!(rt; Value::Set(left).type_name(), "set");
+    let moved = left.into_members(alloc)?;
+    assert_eq!(rt; moved.len(), 5);
+    let again = SetValue::from_members(alloc, moved)?.ok_or("no set")?;
+    assert_eq!(rt; Value::Set(again).type_name(), "set");
     Ok(())
 }

@@ -1,0 +1,87 @@
+-- Members that are kept ascend as before, and what it is to be a member of what is kept or joined.
+use Rattle.std.proofs.Common.{◌≡◌, Bool, true, false, not, ◌&&◌, ◌||◌, List, [], ◌∷◌, refl, sym, ap, ◌∙◌}
+use Rattle.std.proofs.lemmas.Cmp.{nat_list_eq_equiv}
+use Rattle.std.proofs.lemmas.List.Kept.{IsStrictlySortedBy-filter}
+use Rattle.std.proofs.lemmas.List.Folds.{list_any-append}
+use Rattle.std.proofs.lemmas.Map.Made.{is_member-filter}
+use Rattle.std.proofs.lemmas.Map.Text.{is_eq-slice_cmp}
+use Rattle.std.proofs.lemmas.Slice.Eq.{bytes_eq-Decides}
+use Rattle.std.specs.Cmp.Lexicographic.{slice_cmp}
+use Rattle.std.specs.List.{filter, flat_map}
+use Rattle.std.specs.Ordering.{match_ordering, nat_cmp, is_eq}
+use Rattle.std.specs.Str.{bytes_eq}
+use Rattle.std.specs.declared.cmp.Ordering.{Ordering}
+use Rattle.std.specs.declared.cmp.Ordering.TheVariants.{Less, Equal, Greater}
+use Rattle.set_commands.specs.Combination.{Members, is_in_each, is_in_some, IntersectionMembers, UnionMembers, DifferenceMembers}
+use Rattle.texts.specs.Texts.{Bytes}
+use Rattle.values.specs.SetValue.{IsAscending, is_member, with_member, with_members}
+
+-- a member of a set is equal to the string that it is found by
+respects : (test : Bytes → Bool) (q x : Bytes) → bytes_eq q x ≡ true → test q ≡ test x
+respects test q x e = ap test ((bytes_eq-Decides q x).0 e)
+
+pub members-kept : (test : Bytes → Bool) (members : Members) (q : Bytes)
+    → is_member (filter test members) q ≡ (is_member members q && test q)
+members-kept test members q = is_member-filter nat_list_eq_equiv test q (respects test q) members
+
+pub intersection_members : IntersectionMembers
+intersection_members first others member = members-kept (is_in_each others) first member
+
+pub difference_members : DifferenceMembers
+difference_members first others member = members-kept (λ m. not (is_in_some others m)) first member
+
+or-swap : (a b c : Bool) → (a || (b || c)) ≡ (b || (a || c))
+or-swap true true c = refl
+or-swap true false c = refl
+or-swap false b c = refl
+
+or-twice : (a c : Bool) → (a || c) ≡ (a || (a || c))
+or-twice true c = refl
+or-twice false c = refl
+
+-- a member at its place in the order
+member-placed : (o : Ordering) (q x m : Bytes) (xs : Members) → slice_cmp nat_cmp m x ≡ o
+    → is_member (with_member xs m) q ≡ (bytes_eq q m || is_member xs q)
+    → is_member (match_ordering o (m ∷ x ∷ xs) (x ∷ xs) (x ∷ with_member xs m)) q ≡ (bytes_eq q m || is_member (x ∷ xs) q)
+member-placed Less q x m xs e rest = refl
+member-placed Equal q x m xs e rest =
+    let same : m ≡ x = (bytes_eq-Decides m x).0 (sym (is_eq-slice_cmp m x) ∙ ap is_eq e) in
+    or-twice (bytes_eq q x) (is_member xs q) ∙ ap (λ t. bytes_eq q t || (bytes_eq q x || is_member xs q)) (sym same)
+member-placed Greater q x m xs e rest =
+    ap (λ b. bytes_eq q x || b) rest ∙ or-swap (bytes_eq q x) (bytes_eq q m) (is_member xs q)
+
+member-with : (members : Members) (m q : Bytes) → is_member (with_member members m) q ≡ (bytes_eq q m || is_member members q)
+member-with [] m q = refl
+member-with (x ∷ xs) m q = member-placed (slice_cmp nat_cmp m x) q x m xs refl (member-with xs m q)
+
+or-nothing : (a : Bool) → a ≡ (a || false)
+or-nothing true = refl
+or-nothing false = refl
+
+member-with_each : (members more : Members) (q : Bytes)
+    → is_member (with_members members more) q ≡ (is_member more q || is_member members q)
+member-with_each members [] q = refl
+member-with_each members (m ∷ more) q =
+    member-with_each (with_member members m) more q
+    ∙ ap (λ b. is_member more q || b) (member-with members m q)
+    ∙ or-swap (is_member more q) (bytes_eq q m) (is_member members q)
+    ∙ or-joins (bytes_eq q m) (is_member more q) (is_member members q)
+  where
+    or-joins : (a b c : Bool) → (a || (b || c)) ≡ ((a || b) || c)
+    or-joins true b c = refl
+    or-joins false b c = refl
+
+member-of_all : (sets : List Members) (q : Bytes) → is_member (flat_map (λ members. members) sets) q ≡ is_in_some sets q
+member-of_all [] q = refl
+member-of_all (set ∷ sets) q =
+    list_any-append (bytes_eq q) set (flat_map (λ members. members) sets) ∙ ap (λ b. is_member set q || b) (member-of_all sets q)
+
+pub union_members : UnionMembers
+union_members sets q =
+    member-with_each [] (flat_map (λ members. members) sets) q
+    ∙ sym (or-nothing (is_member (flat_map (λ members. members) sets) q)) ∙ member-of_all sets q
+
+pub ascending-kept : (test : Bytes → Bool) (members : Members) → IsAscending members → IsAscending (filter test members)
+ascending-kept test members up = IsStrictlySortedBy-filter (slice_cmp nat_cmp) test members up
+
+pub ruleset kept = (ascending-kept)

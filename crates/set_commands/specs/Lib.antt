@@ -1,0 +1,2 @@
+pub mod Combination
+pub mod SetCommand
