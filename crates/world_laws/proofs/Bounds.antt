@@ -179,7 +179,7 @@ deliver_grown t old new k effect n step good b =
     let parts = split_at old.packets k step.packet step.there in
     let now =
     body_clock t old n step.packet.to step.packet.id step.packet.body parts.front parts.back step.sent step.delivered step.state parts.whole
-      good b step.receives in
+    good b step.receives in
     subst (λ w. Bounded w (suc n)) (sym step.after) (record {
       clocks = λ g. elim (g == step.packet.to) as (λ x. (cond x step.state (old.group g)).clock ≤ suc n) [
         | true ↦ now

@@ -115,7 +115,7 @@ owes_deliver t old new k effect step good owes =
           (at old.group step.packet.to step.state g)
           (old.gone g ++ at old.queue step.packet.to (old.queue step.packet.to ++ step.delivered) g)) (sym parts.rest)
           (comes_owing old step.packet.to step.packet.id step.packet.body parts.front parts.back step.sent step.delivered step.state
-            parts.whole good.skeen step.receives owes g);
+          parts.whole good.skeen step.receives owes g);
       taken = owes.taken;
     })
 

@@ -180,7 +180,7 @@ keeps_deliver t old new k effect step good =
     subst (λ w. WorldGood t w) (sym step.after) (record {
       skeen =
           packet_comes old.asked old.proposed old.packets old.group old.gone old.queue k step.packet step.sent step.delivered step.state
-            step.there good.skeen step.receives;
+          step.there good.skeen step.receives;
       requests = requests_proposed t old.asked old.proposed _ old.seq old.last among good.requests;
       taken = taken_more old.asked old.asked old.proposed _ old.gone (all_taken old.ended old.layer) (λ i q e. e) among good.taken;
       connections = good.connections;
