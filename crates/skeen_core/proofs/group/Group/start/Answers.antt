@@ -1,5 +1,5 @@
 -- A Start: what the code has made of the lists is what the rule gives.
-use Rattle.std.proofs.Common.{rules, ◌≤◌, length, ◌≡◌, ◌+◌, [], ◌∷◌, ◌++◌, arith, sym, ap, ◌∙◌, subst, refl}
+use Rattle.std.proofs.Common.{rules, ◌≤◌, length, ◌+◌, [], ◌∷◌, ◌++◌, arith, sym, ap, ◌∙◌, subst, refl}
 use Rattle.std.specs.FinMap.{get, len}
 use Rattle.skeen_core.specs.declared.packet.Body.TheVariants.{Start}
 use Rattle.skeen_core.specs.Stamp.{final}
