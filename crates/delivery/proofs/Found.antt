@@ -63,23 +63,25 @@ placed_up d [] up differ = ((λ e i. absurd i), tt)
 placed_up d (e ∷ es) up differ =
     subst (λ l. Ascending l) (sym (placed-cons d e es))
     (elim (stamp_lt d.stamp e.stamp) as (λ b. stamp_lt d.stamp e.stamp ≡ b → Ascending (cond b (d ∷ e ∷ es) (e ∷ placed d es))) [
-  | true ↦ λ h. (
-    (λ x i. elim i [
-      | inl same ↦ subst (λ (y : Delivered). stamp_lt d.stamp y.stamp ≡ true) (sym same) h
-      | inr j ↦ lt_trans d.stamp e.stamp x.stamp h (up.0 x j)
-    ]),
-    up,
-  )
-  | false ↦ λ h.
-      let less : stamp_lt e.stamp d.stamp ≡ true = elim (cases_Bool (stamp_lt e.stamp d.stamp)) [ inl l ↦ l
-        | inr l ↦ absurd (differ e (inl refl) (le_antisym e.stamp d.stamp l h)) ] in (
-        (λ x i. elim (in_placed d x es i) [
-          | inl same ↦ subst (λ (y : Delivered). stamp_lt e.stamp y.stamp ≡ true) (sym same) less
-          | inr j ↦ up.0 x j
+      | true ↦ λ h. (
+        (λ x i. elim i [
+          | inl same ↦ subst (λ (y : Delivered). stamp_lt d.stamp y.stamp ≡ true) (sym same) h
+          | inr j ↦ lt_trans d.stamp e.stamp x.stamp h (up.0 x j)
         ]),
-        placed_up d es up.1 (λ x j. differ x (inr j)),
+        up,
       )
-] refl)
+      | false ↦ λ h.
+          let less : stamp_lt e.stamp d.stamp ≡ true = elim (cases_Bool (stamp_lt e.stamp d.stamp)) [
+            | inl l ↦ l
+            | inr l ↦ absurd (differ e (inl refl) (le_antisym e.stamp d.stamp l h))
+          ] in (
+            (λ x i. elim (in_placed d x es i) [
+              | inl same ↦ subst (λ (y : Delivered). stamp_lt e.stamp y.stamp ≡ true) (sym same) less
+              | inr j ↦ up.0 x j
+            ]),
+            placed_up d es up.1 (λ x j. differ x (inr j)),
+          )
+    ] refl)
 
 -- ---- the request at a place
 
@@ -142,7 +144,7 @@ ready_of qs k d sound head first each = record {
       let s = starts_with (queue_of qs h) d.id (heads_at qs d.id d.groups each h inside) in
       let here = starts (queue_of qs k) d head in
       let same : s.one ≡ d = sound.one_id h k s.one d (subst (λ l. In s.one l) (sym s.is) (inl refl))
-        (subst (λ l. In d l) (sym here.is) (inl refl)) s.id in
+      (subst (λ l. In d l) (sym here.is) (inl refl)) s.id in
       (s.rest, s.is ∙ ap (λ y. y ∷ s.rest) same);
 }
 
@@ -156,13 +158,13 @@ found qs k d sound e = by_head (head_of (queue_of qs k)) refl e
     by_head : (o : Option Delivered) → head_of (queue_of qs k) ≡ o → if_ready qs k o ≡ Some d → Found qs k d
     by_head None h f = absurd (cc)
     by_head (Some x) h f = elim (is_first x.groups k && heads_each qs x.id x.groups)
-      as (λ b. (is_first x.groups k && heads_each qs x.id x.groups) ≡ b → cond b (Some x) None ≡ Some d → Found qs k d) [
-      | true ↦ λ t some.
-          let same : x ≡ d = cc in
-          let parts = and_parts (is_first x.groups k) (heads_each qs x.id x.groups) t in
-          subst (λ (y : Delivered). Found qs k y) same (record { ready = ready_of qs k x sound h parts.0 parts.1; first = parts.0 })
-      | false ↦ λ t none. absurd (cc)
-    ] refl f
+        as (λ b. (is_first x.groups k && heads_each qs x.id x.groups) ≡ b → cond b (Some x) None ≡ Some d → Found qs k d) [
+          | true ↦ λ t some.
+              let same : x ≡ d = cc in
+              let parts = and_parts (is_first x.groups k) (heads_each qs x.id x.groups) t in
+              subst (λ (y : Delivered). Found qs k y) same (record { ready = ready_of qs k x sound h parts.0 parts.1; first = parts.0 })
+          | false ↦ λ t none. absurd (cc)
+        ] refl f
 
 pub finds : (qs : List (List Delivered)) (k : ℕ) (d : Delivered) → IsReady (queue_of qs) d → is_first d.groups k ≡ true
     → ready_at qs k ≡ Some d
@@ -218,7 +220,7 @@ so_far_more qs k ds ds' d sound s some is = subst (λ l. SoFar qs (k + 1) l) (sy
         let o = s.only e i in
         let r = o.1.ready in
         let one : e ≡ d = sound.one_stamp r.somewhere.0 k e d (in_queue (queue_of qs) r.somewhere.0 e r r.somewhere.1)
-          (in_queue (queue_of qs) k d it.ready (first_has d.groups k it.first)) same in
+        (in_queue (queue_of qs) k d it.ready (first_has d.groups k it.first)) same in
         let at : o.0 ≡ k = one_first d.groups o.0 k (subst (λ (y : Delivered). is_first y.groups o.0 ≡ true) one o.1.first) it.first in
         absurd (omega (arith, o.2))
 

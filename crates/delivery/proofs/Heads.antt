@@ -17,7 +17,7 @@ pub record HeadsGone (old cur : List QueueView) (groups rest : List ℕ) : Type 
   pub ascending : IsAscending rest
   pub among : (g : ℕ) → has rest g ≡ true → has groups g ≡ true
   pub queue : (g : ℕ) → queue_of (requests_of cur) g
-    ≡ cond (has rest g) (queue_of (requests_of old) g) (without_head (has groups g) (queue_of (requests_of old) g))
+      ≡ cond (has rest g) (queue_of (requests_of old) g) (without_head (has groups g) (queue_of (requests_of old) g))
   pub room : (g : ℕ) → room_of (rooms_of old) g ≤ room_of (rooms_of cur) g
   pub count : length cur ≡ length old
 
@@ -47,9 +47,9 @@ gone_more old cur groups it rest n q q' s is p = record {
   among = λ g h. s.among g (had g h);
   queue = λ g. elim (cases_eq g n) [
     | inl at ↦ subst (λ (k : ℕ). queue_of (requests_of (slice_set cur n q')) k
-      ≡ cond (has rest k) (queue_of (requests_of old) k) (without_head (has groups k) (queue_of (requests_of old) k))) (sym at) here
+        ≡ cond (has rest k) (queue_of (requests_of old) k) (without_head (has groups k) (queue_of (requests_of old) k))) (sym at) here
     | inr ne ↦ queue_set_other cur n q' g ne ∙ s.queue g
-      ∙ ap (λ b. cond b (queue_of (requests_of old) g) (without_head (has groups g) (queue_of (requests_of old) g))) (elsewhere g ne)
+        ∙ ap (λ b. cond b (queue_of (requests_of old) g) (without_head (has groups g) (queue_of (requests_of old) g))) (elsewhere g ne)
   ];
   room = λ g. let a = s.room g in let b = rooms_kept cur n q q' p.low p.was p.room g in omega arith;
   count = length-set cur n q' ∙ s.count;
@@ -78,7 +78,7 @@ gone_more old cur groups it rest n q q' s is p = record {
     before = s.queue n ∙ ap (λ b. cond b (queue_of (requests_of old) n) (without_head (has groups n) (queue_of (requests_of old) n))) first
 
     here : queue_of (requests_of (slice_set cur n q')) n
-      ≡ cond (has rest n) (queue_of (requests_of old) n) (without_head (has groups n) (queue_of (requests_of old) n))
+        ≡ cond (has rest n) (queue_of (requests_of old) n) (without_head (has groups n) (queue_of (requests_of old) n))
     here = queue_set cur n q' p.low ∙ p.now ∙ ap (λ l. drop 1 l) (sym (queue_at cur n q p.low p.was) ∙ before)
         ∙ ap (λ b. without_head b (queue_of (requests_of old) n)) (sym (s.among n first))
         ∙ ap (λ b. cond b (queue_of (requests_of old) n) (without_head (has groups n) (queue_of (requests_of old) n))) (sym once)

@@ -57,7 +57,7 @@ rooms_kept qs g q q' low e more h = elim (cases_eq h g) [
   | inl at ↦
       let before : room_of (rooms_of qs) h ≡ q.room = ap (λ k. room_of (rooms_of qs) k) at ∙ room_at qs g q low e in
       let after : room_of (rooms_of (slice_set qs g q')) h ≡ q'.room = ap (λ k. room_of (rooms_of (slice_set qs g q')) k) at
-        ∙ room_set qs g q' low in
+      ∙ room_set qs g q' low in
       omega arith
   | inr ne ↦ let same = room_set_other qs g q' h ne in omega arith
 ]

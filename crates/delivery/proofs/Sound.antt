@@ -48,8 +48,10 @@ In-rest (e ∷ es) d i = inr i
 pub sound_popped : (queue queue' : QueueOf) (d : Delivered) → IsSound queue → ((g : ℕ) → queue' g ≡ popped d queue g) → IsSound queue'
 sound_popped queue queue' d s is = sound_fewer queue queue' s
     (λ g. subst (λ l. Ascending l) (sym (is g))
-      (elim (has d.groups g) as (λ b. Ascending (cond b (drop 1 (queue g)) (queue g))) [ true ↦ Ascending-rest (queue g) (s.ascending g)
-      | false ↦ s.ascending g ]))
+    (elim (has d.groups g) as (λ b. Ascending (cond b (drop 1 (queue g)) (queue g))) [
+      | true ↦ Ascending-rest (queue g) (s.ascending g)
+      | false ↦ s.ascending g
+    ]))
     (λ g e i. in_before g e (has d.groups g) (subst (λ l. In e l) (is g) i))
   where
     in_before : (g : ℕ) (e : Delivered) (b : Bool) → In e (cond b (drop 1 (queue g)) (queue g)) → In e (queue g)
@@ -65,15 +67,17 @@ below_last (x ∷ []) s up above d (inl e) = subst (λ (y : Delivered). stamp_lt
 below_last (x ∷ []) s up above d (inr i) = absurd i
 below_last (x ∷ y ∷ ys) s up above d (inl e) =
     subst (λ (z : Delivered). stamp_lt z.stamp s ≡ true) (sym e)
-      (lt_trans x.stamp y.stamp s (up.0 y (inl refl)) (below_last (y ∷ ys) s up.1 above y (inl refl)))
+    (lt_trans x.stamp y.stamp s (up.0 y (inl refl)) (below_last (y ∷ ys) s up.1 above y (inl refl)))
 below_last (x ∷ y ∷ ys) s up above d (inr i) = below_last (y ∷ ys) s up.1 above d i
 
 Ascending-end : (q : List Delivered) (d : Delivered) → Ascending q → ((e : Delivered) → In e q → stamp_lt e.stamp d.stamp ≡ true)
     → Ascending (q ++ d ∷ [])
 Ascending-end [] d up below = ((λ e i. absurd i), tt)
 Ascending-end (x ∷ xs) d up below = (
-  (λ e i. elim (In-end e d xs i) [ inl j ↦ up.0 e j
-    | inr same ↦ subst (λ (y : Delivered). stamp_lt x.stamp y.stamp ≡ true) (sym same) (below x (inl refl)) ]),
+  (λ e i. elim (In-end e d xs i) [
+    | inl j ↦ up.0 e j
+    | inr same ↦ subst (λ (y : Delivered). stamp_lt x.stamp y.stamp ≡ true) (sym same) (below x (inl refl))
+  ]),
   Ascending-end xs d up.1 (λ e i. below e (inr i)),
 )
 
@@ -99,7 +103,7 @@ module _ (queue queue' : QueueOf) (g : ℕ) (d : Delivered) (s : IsSound queue) 
     member = λ h e i. elim (came h e i) [
       | inl j ↦ s.member h e j
       | inr it ↦ subst (λ (k : ℕ). has e.groups k ≡ true) (sym it.0)
-        (subst (λ (y : Delivered). has y.groups g ≡ true) (sym it.1) may.member)
+          (subst (λ (y : Delivered). has y.groups g ≡ true) (sym it.1) may.member)
     ];
     ascending = λ h. elim (cases_eq h g) [
       | inl at ↦ subst (λ (k : ℕ). Ascending (queue' k)) (sym at) (subst (λ l. Ascending l) (sym here)

@@ -24,7 +24,7 @@ shifted test a zero = refl
 shifted test a (suc m) =
     let rest = shifted test (suc a) m in let power = pow-suc 2 a in
     elim (test (suc a)) as (λ t. number_of (cond t (suc a ∷ chosen test (suc (suc a)) m) (chosen test (suc (suc a)) m))
-      ≡ 2 * number_of (cond t (a ∷ chosen (λ g. test (suc g)) (suc a) m) (chosen (λ g. test (suc g)) (suc a) m))) [
+    ≡ 2 * number_of (cond t (a ∷ chosen (λ g. test (suc g)) (suc a) m) (chosen (λ g. test (suc g)) (suc a) m))) [
       | true ↦ omega arith
       | false ↦ rest
     ]
@@ -40,7 +40,7 @@ unfolding chosen number_of
 number_of-bits zero n h = omega arith
 number_of-bits (suc m) n h =
     let rest = shifted (is_one n) 0 m ∙ ap (λ gs. 2 * number_of gs) (halved_set m n)
-      ∙ ap (λ k. 2 * k) (number_of-bits m (n / 2) (half_lt m n h)) in
+    ∙ ap (λ k. 2 * k) (number_of-bits m (n / 2) (half_lt m n h)) in
     let low = bit_at_lowest n in
     elim (bit_at n 0 == 1) as (λ t. (bit_at n 0 == 1) ≡ t → number_of (cond t (0 ∷ chosen (is_one n) 1 m) (chosen (is_one n) 1 m)) ≡ n) [
       | true ↦ λ e. let one = eqb-true (bit_at n 0) 1 e in omega arith
@@ -62,7 +62,7 @@ moved_length test a zero = refl
 moved_length test a (suc m) =
     let rest = moved_length test (suc a) m in
     elim (test (suc a)) as (λ t. length (cond t (suc a ∷ chosen test (suc (suc a)) m) (chosen test (suc (suc a)) m))
-      ≡ length (cond t (a ∷ chosen (λ g. test (suc g)) (suc a) m) (chosen (λ g. test (suc g)) (suc a) m))) [
+    ≡ length (cond t (a ∷ chosen (λ g. test (suc g)) (suc a) m) (chosen (λ g. test (suc g)) (suc a) m))) [
       | true ↦ ap suc rest
       | false ↦ rest
     ]
@@ -74,7 +74,7 @@ length-bits (suc m) n h =
     let rest = moved_length (is_one n) 0 m ∙ ap (λ (gs : List ℕ). length gs) (halved_set m n) ∙ length-bits m (n / 2) (half_lt m n h) in
     let low = bit_at_lowest n in let step = ones_step n in
     elim (bit_at n 0 == 1) as (λ t. (bit_at n 0 == 1) ≡ t → length (cond t (0 ∷ chosen (is_one n) 1 m) (chosen (is_one n) 1 m))
-      ≡ count_ones n) [
+    ≡ count_ones n) [
       | true ↦ λ e. let one = eqb-true (bit_at n 0) 1 e in omega arith
       | false ↦ λ e. let not_one : bit_at n 0 ≡ 1 → ⊥ = (λ d. both_ways _ e (eq-eqb (bit_at n 0) 1 d)) in omega arith
     ] refl
@@ -90,7 +90,7 @@ ones_of-set n g less = chosen_same _ _ 64 alike ∙ sym (with-chosen (is_one n) 
     alike : (h : ℕ) → h < 64 → is_one (bit_or n (1 * 2 ^ g % 2 ^ 64)) h ≡ (g == h || is_one n h)
     alike h below = elim (cases_eq g h) [
       | inl e ↦ ap (λ k. k == 1) (subst (λ k. bit_at (bit_or n (1 * 2 ^ g % 2 ^ 64)) k ≡ 1) e (bit_at_set_same w64 n g less))
-        ∙ sym (ap (λ b. b || is_one n h) (eq-eqb g h e))
+          ∙ sym (ap (λ b. b || is_one n h) (eq-eqb g h e))
       | inr ne ↦ ap (λ k. k == 1) (bit_at_set_other w64 n g less h (λ e. ne (sym e))) ∙ sym (ap (λ b. b || is_one n h) (ne_eqb g h ne))
     ]
 
@@ -122,9 +122,9 @@ ones_of-first k h = same_sets _ _ (IsAscending-chosen (is_one (2 ^ k - 1)) 0 64)
     alike : (g : ℕ) → (nat_lt g 64 && is_one (2 ^ k - 1) g) ≡ (nat_lt g k && true)
     alike g = elim (cases_lt g k) [
       | inl less ↦ ap (λ b. b && is_one (2 ^ k - 1) g) (lt-ltb g 64 (omega arith)) ∙ ap (λ b. b == 1) (bit_at_ones k g less)
-        ∙ sym (ap (λ b. b && true) (lt-ltb g k less))
+          ∙ sym (ap (λ b. b && true) (lt-ltb g k less))
       | inr more ↦ ap (λ b. nat_lt g 64 && b == 1) (bit_at_ones_above k g more) ∙ and_false (nat_lt g 64)
-        ∙ sym (ap (λ b. b && true) (le-ltb g k more))
+          ∙ sym (ap (λ b. b && true) (le-ltb g k more))
     ]
 
 -- where k is the least place of a one, it comes first, and a word without that one has the rest
@@ -143,7 +143,7 @@ taken_out n n' k within one below gone others =
           | inl e ↦ let gone' : bit_at n' h ≡ 0 = subst (λ i. bit_at n' i ≡ 0) e gone in absurd (omega arith)
           | inr (inl less) ↦ less
           | inr (inr more) ↦ let same = others h (ltb-true h 64 parts.0) (λ e. omega arith) in let zero' = below h more in
-            absurd (omega arith)
+              absurd (omega arith)
         ]
 
     alike : (g : ℕ) → (nat_lt g 64 && is_one n g) ≡ (k == g || (nat_lt g 64 && is_one n' g))
@@ -153,9 +153,9 @@ taken_out n n' k within one below gone others =
           ap (λ b. b && is_one n g) (lt-ltb g 64 less) ∙ it ∙ sym (ap (λ b. b || (nat_lt g 64 && is_one n' g)) (eq-eqb k g e))
       | inr ne ↦ elim (cases_lt g 64) [
         | inl less ↦ ap (λ i. nat_lt g 64 && i == 1) (sym (others g less (λ e. ne (sym e))))
-          ∙ sym (ap (λ b. b || (nat_lt g 64 && is_one n' g)) (ne_eqb k g ne))
+            ∙ sym (ap (λ b. b || (nat_lt g 64 && is_one n' g)) (ne_eqb k g ne))
         | inr more ↦ ap (λ b. b && is_one n g) (le-ltb g 64 more) ∙ sym (ap (λ b. b && is_one n' g) (le-ltb g 64 more))
-          ∙ sym (ap (λ b. b || (nat_lt g 64 && is_one n' g)) (ne_eqb k g ne))
+            ∙ sym (ap (λ b. b || (nat_lt g 64 && is_one n' g)) (ne_eqb k g ne))
       ]
     ]
 

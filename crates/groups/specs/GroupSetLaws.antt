@@ -19,13 +19,13 @@ pub has-with : (gs : List ℕ) (g h : ℕ) → has (with_group gs g) h ≡ (g ==
 has-with [] g h = refl
 has-with (x ∷ xs) g h = elim (nat_lt x g) as (λ t. nat_lt x g ≡ t
     → has (cond t (x ∷ with_group xs g) (cond (x == g) (x ∷ xs) (g ∷ x ∷ xs))) h ≡ (g == h || (x == h || has xs h))) [
-  | true ↦ λ e. ap (λ b. x == h || b) (has-with xs g h) ∙ or_swap (x == h) (g == h) (has xs h)
-  | false ↦ λ e. elim (x == g) as (λ t. (x == g) ≡ t → has (cond t (x ∷ xs) (g ∷ x ∷ xs)) h ≡ (g == h || (x == h || has xs h))) [
-    | true ↦ λ d. let same = eqb-true x g d in
-      subst (λ y. (x == h || has xs h) ≡ (y == h || (x == h || has xs h))) same (or_twice (x == h) (has xs h))
-    | false ↦ λ d. refl
-  ] refl
-] refl
+      | true ↦ λ e. ap (λ b. x == h || b) (has-with xs g h) ∙ or_swap (x == h) (g == h) (has xs h)
+      | false ↦ λ e. elim (x == g) as (λ t. (x == g) ≡ t → has (cond t (x ∷ xs) (g ∷ x ∷ xs)) h ≡ (g == h || (x == h || has xs h))) [
+        | true ↦ λ d. let same = eqb-true x g d in
+            subst (λ y. (x == h || has xs h) ≡ (y == h || (x == h || has xs h))) same (or_twice (x == h) (has xs h))
+        | false ↦ λ d. refl
+      ] refl
+    ] refl
 
 -- ---- the members of a chosen set
 
@@ -141,8 +141,10 @@ chosen_same s t m same = same_sets _ _ (IsAscending-chosen s 0 m) (IsAscending-c
     ∙ sym (has-chosen t m g))
   where
     alike : (g : ℕ) → (nat_lt g m && s g) ≡ (nat_lt g m && t g)
-    alike g = elim (nat_lt g m) as (λ b. nat_lt g m ≡ b → (b && s g) ≡ (b && t g)) [ true ↦ λ e. same g (ltb-true g m e)
-      | false ↦ λ e. refl ] refl
+    alike g = elim (nat_lt g m) as (λ b. nat_lt g m ≡ b → (b && s g) ≡ (b && t g)) [
+      | true ↦ λ e. same g (ltb-true g m e)
+      | false ↦ λ e. refl
+    ] refl
 
 above_with : (x g : ℕ) (xs : List ℕ) → x < g → ((h : ℕ) → has xs h ≡ true → x < h) → (h : ℕ) → has (with_group xs g) h ≡ true → x < h
 above_with x g xs less up h e = elim (or_cases (g == h) (has xs h) (sym (has-with xs g h) ∙ e)) [
@@ -154,19 +156,22 @@ pub IsAscending-with : (gs : List ℕ) (g : ℕ) → IsAscending gs → IsAscend
 IsAscending-with [] g up = (λ h e. absurd (both_ways _ refl e), tt)
 IsAscending-with (x ∷ xs) g up =
     elim (nat_lt x g) as (λ t. nat_lt x g ≡ t → IsAscending (cond t (x ∷ with_group xs g) (cond (x == g) (x ∷ xs) (g ∷ x ∷ xs)))) [
-  | true ↦ λ e. (above_with x g xs (ltb-true x g e) up.0, IsAscending-with xs g up.1)
-  | false ↦ λ e. elim (x == g) as (λ t. (x == g) ≡ t → IsAscending (cond t (x ∷ xs) (g ∷ x ∷ xs))) [
-    | true ↦ λ d. up
-    | false ↦ λ d. (λ h there. let low = least_within h x xs up there in let not_less = ltb-false x g e in
-      let ne : x ≡ g → ⊥ = (λ s. both_ways _ d (eq-eqb x g s)) in omega arith, up)
-  ] refl
-] refl
+      | true ↦ λ e. (above_with x g xs (ltb-true x g e) up.0, IsAscending-with xs g up.1)
+      | false ↦ λ e. elim (x == g) as (λ t. (x == g) ≡ t → IsAscending (cond t (x ∷ xs) (g ∷ x ∷ xs))) [
+        | true ↦ λ d. up
+        | false ↦ λ d. (
+          λ h there. let low = least_within h x xs up there in let not_less = ltb-false x g e in
+              let ne : x ≡ g → ⊥ = (λ s. both_ways _ d (eq-eqb x g s)) in omega arith,
+          up,
+        )
+      ] refl
+    ] refl
 
 -- to put a group into a chosen set is to choose it too
 pub with-chosen : (test : ℕ → Bool) (m g : ℕ) → g < m → with_group (chosen test 0 m) g ≡ chosen (λ h. g == h || test h) 0 m
 with-chosen test m g less = same_sets _ _ (IsAscending-with _ g (IsAscending-chosen test 0 m)) (IsAscending-chosen _ 0 m)
     (λ h. has-with (chosen test 0 m) g h ∙ ap (λ b. g == h || b) (has-chosen test m h) ∙ alike h
-      ∙ sym (has-chosen (λ h. g == h || test h) m h))
+    ∙ sym (has-chosen (λ h. g == h || test h) m h))
   where
     alike : (h : ℕ) → (g == h || (nat_lt h m && test h)) ≡ (nat_lt h m && (g == h || test h))
     alike h = elim (nat_lt h m) as (λ b. nat_lt h m ≡ b → (g == h || (b && test h)) ≡ (b && (g == h || test h))) [

@@ -150,8 +150,7 @@ pub fn put_step(step: &Step, out: &mut Vec<u8>)
 }
 
 /// The step at the front of the bytes, and the bytes behind it; `AllocError` where there is no memory for it.
-#[tactic(auto, unfolding(crate::specs::Codes::step_at, crate::specs::Codes::step_of, crate::specs::Codes::deliver_at,
-    crate::specs::Codes::run_at, crate::specs::Codes::collect_at, crate::specs::Codes::close_at))]
+#[tactic(auto, unfolding(crate::specs::Codes::step_at, crate::specs::Codes::step_of, crate::specs::Codes::deliver_at, crate::specs::Codes::run_at, crate::specs::Codes::collect_at, crate::specs::Codes::close_at))]
 pub fn take_step(alloc: Global, bytes: &[u8]) -> Result<(Step, &[u8]), AllocError>
     ensures step { IfOk result (λ r. r.0 ≡ (step_at bytes.now).0) }
     ensures rest { IfOk result (λ r. r.1.now ≡ (step_at bytes.now).1) }

@@ -22,7 +22,7 @@ len-set_new : (m : Map) (k : List ℕ) (o : Option Value) → get m k ≡ None �
 len-set_new m k None e = let same_len : len (remove m k) ≡ len m = ap len (remove-none m k e) in omega (arith, same_len)
 len-set_new m k (Some v) e =
     let one_more : len (set m k (Some v)) ≡ len m + 1 = len-insert nat_list_cmp_total m k v
-      ∙ ap (λ o. cond (is_some o) (len m) (len m + 1)) e in
+    ∙ ap (λ o. cond (is_some o) (len m) (len m + 1)) e in
     omega (arith, one_more)
 
 without_each : (a b : Bool) (o : Option Value) → cond (not (a || b)) o None ≡ cond (not b) (cond a None o) None

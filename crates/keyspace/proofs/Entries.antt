@@ -72,9 +72,9 @@ pub len-map_of : (es : List (HashedText × Value)) → IsDistinct same_key (keys
 len-map_of [] h = len-empty (slice_cmp nat_cmp) Value
 len-map_of (e ∷ es) h =
     let new : get (map_of es) e.0.bytes.items ≡ None = get-map_of es e.0.bytes.items
-      ∙ absent e.0 es (IsDistinct-head same_key e.0 (keys_of es) h) in
+    ∙ absent e.0 es (IsDistinct-head same_key e.0 (keys_of es) h) in
     let rest = len-map_of es (IsDistinct-tail same_key e.0 (keys_of es) h) in
     let one_more : len (insert (map_of es) e.0.bytes.items e.1) ≡ len (map_of es) + 1 =
     len-insert nat_list_cmp_total (map_of es) e.0.bytes.items e.1
-      ∙ ap (λ o. cond (is_some o) (len (map_of es)) (len (map_of es) + 1)) new in
+    ∙ ap (λ o. cond (is_some o) (len (map_of es)) (len (map_of es) + 1)) new in
     omega (arith, one_more, rest)

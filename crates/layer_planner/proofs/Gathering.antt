@@ -29,4 +29,4 @@ union_more all all' it rest g h e f =
 pub passed_more : (taken it rest : List ℕ) (g h : ℕ) → it ≡ g ∷ rest → has taken g ≡ false → has taken h ≡ true → has it h ≡ has rest h
 passed_more taken it rest g h f out inside =
     ap (λ l. has l h) f ∙ ap (λ b. b || has rest h)
-      (ne_eqb g h (λ same. both_ways _ (subst (λ (x : ℕ). has taken x ≡ false) same out) inside))
+    (ne_eqb g h (λ same. both_ways _ (subst (λ (x : ℕ). has taken x ≡ false) same out) inside))

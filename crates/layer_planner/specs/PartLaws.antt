@@ -58,7 +58,7 @@ part_between w n k zero e h = let z : suc n + 0 ≡ suc n = omega arith in ap (�
 part_between w n k (suc i) e h =
     let z : suc n + suc i ≡ suc (n + suc i) = omega arith in
     let other : ((n + suc i) % w == k) ≡ false =
-      ne_eqb ((n + suc i) % w) k (λ same. mod_between w n (suc i) (omega arith) h (same ∙ sym e)) in
+    ne_eqb ((n + suc i) % w) k (λ same. mod_between w n (suc i) (omega arith) h (same ∙ sym e)) in
     let y : n + suc i ≡ suc n + i = omega arith in
     ap (λ m. part w m k) z ∙ part_no w (n + suc i) k other ∙ ap (λ m. part w m k) y ∙ part_between w n k i e (omega arith)
 
@@ -114,7 +114,7 @@ times_past w (suc m) k i h =
     let ih = times_past w m k i (omega arith) in
     elim (m % w == k) as (λ b. (m % w == k) ≡ b → times i (part w (suc m) k) ≡ 0) [
       | true ↦ λ e. ap (times i) (part_yes w m k (eqb-true (m % w) k e)) ∙ times-one i (part w m k) m
-        ∙ ap (λ b. times i (part w m k) + cond b 1 0) (ne_eqb m i (λ s. omega arith)) ∙ omega arith
+          ∙ ap (λ b. times i (part w m k) + cond b 1 0) (ne_eqb m i (λ s. omega arith)) ∙ omega arith
       | false ↦ λ e. ap (times i) (part_no w m k e) ∙ ih
     ] refl
 

@@ -28,7 +28,7 @@ pub all_fresh : (gs : List GroupView) → ((g : ℕ) → g < length gs → slice
     → group_of gs g ≡ fresh
 all_fresh gs each g = elim (cases_lt g (length gs)) [
   | inl less ↦ ap (λ (v : GroupView). v.state)
-    (found gs g (record { me = g; state = fresh }) (record { me = g; state = fresh }) (each g less))
+      (found gs g (record { me = g; state = fresh }) (record { me = g; state = fresh }) (each g less))
   | inr more ↦ ap (λ (v : GroupView). v.state) (beyond gs g (record { me = g; state = fresh }) more)
 ]
 
@@ -53,7 +53,7 @@ pub group_of-set : (gs : List GroupView) (g : ℕ) (v : GroupView) → g < lengt
 group_of-set gs g v low h =
     ap (λ (x : GroupView). x.state) (index-set gs g v h (record { me = h; state = fresh }) low)
     ∙ elim (h == g) as (λ b. (cond b v (slice_index_or gs h (record { me = h; state = fresh }))).state ≡ cond b v.state (group_of gs h))
-      [ true ↦ refl | false ↦ refl ]
+    [ true ↦ refl | false ↦ refl ]
 
 length-set : {X : Type 0} (xs : List X) (g : ℕ) (x : X) → length (slice_set xs g x) ≡ length xs
 length-set [] g x = refl
@@ -109,7 +109,7 @@ sent_few me grp id (Start floor groups) sent ds new r = by_started (get grp.star
     by_started : (o : Option (List ℕ)) → ReceivesStart o me grp id floor groups sent ds new → length sent ≤ length groups
     by_started (Some gs) r = let e = ap (λ (ps : List Packet). length ps) r.0 in omega arith
     by_started None r = let e = ap (λ (ps : List Packet). length ps) r.0 in let few = told_few me id (next_clock grp floor) groups in
-      omega arith
+        omega arith
 
 -- as many Starts as groups
 pub starts_many : (id : RequestId) (floor : ℕ) (all gs : List ℕ) → length (starts_to id floor all gs) ≡ length gs

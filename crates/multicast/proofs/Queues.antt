@@ -45,7 +45,7 @@ rest_next qs new g d ds low is h =
     at_point =
         let set = queue_of-set qs g (queue_of qs g ++ d ∷ []) low in
         ap (λ (x : List Delivered). at (queue_of (slice_set qs g (queue_of qs g ++ d ∷ []))) g (x ++ ds) h) (set g
-          ∙ at_here (queue_of qs) g (queue_of qs g ++ d ∷ []))
+        ∙ at_here (queue_of qs) g (queue_of qs g ++ d ∷ []))
         ∙ ap (λ (x : List Delivered). cond (h == g) ((queue_of qs g ++ d ∷ []) ++ ds) x) (set h)
         ∙ at_twice (queue_of qs) g (queue_of qs g ++ d ∷ []) ((queue_of qs g ++ d ∷ []) ++ ds) h
         ∙ ap (λ (x : List Delivered). at (queue_of qs) g x h) (append_snoc (queue_of qs g) d ds)
@@ -65,4 +65,4 @@ pub may_append_next : (qs new : List (List Delivered)) (g : ℕ) (d : Delivered)
     MayAppendAll (queue_of qs) g (d ∷ ds) → MayAppendAll (queue_of new) g ds
 may_append_next qs new g d ds low is may =
     subst (λ q. MayAppendAll (queue_of q) g ds) (sym is)
-      (may_append_same _ _ g ds (λ k h. sym (queue_of-set qs g (queue_of qs g ++ d ∷ []) low h) k) may.1)
+    (may_append_same _ _ g ds (λ k h. sym (queue_of-set qs g (queue_of qs g ++ d ∷ []) low h) k) may.1)

@@ -67,9 +67,9 @@ pub Any-groups_of : (table : Layout) (command : Command) (group : ℕ) → is_wh
     → Any (λ key. shard_of table key ≡ group) (keys_of command)
 Any-groups_of table command group part has =
     let there = and_parts (nat_lt group table.shards) _
-      (sym (has-chosen (λ s. is_whole command || has_key_on table s (keys_of command)) table.shards group) ∙ has) in
+    (sym (has-chosen (λ s. is_whole command || has_key_on table s (keys_of command)) table.shards group) ∙ has) in
     let some : has_key_on table group (keys_of command) ≡ true =
-      subst (λ b. (b || has_key_on table group (keys_of command)) ≡ true) part there.1 in
+    subst (λ b. (b || has_key_on table group (keys_of command)) ≡ true) part there.1 in
     let found = Any-from_list_any (λ k. shard_of table k == group) (keys_of command) some in
     (found.0, found.1, found.2, found.3, eqb-true _ _ found.4)
 

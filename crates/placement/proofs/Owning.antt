@@ -40,7 +40,7 @@ pub SomeTwice-next : (rs : List Range) (i : ℕ) (d : Range) (owners : List (Opt
     → has_slot s (get_or rs i d) ≡ true → IsSome (owner owners s) → SomeTwice rs
 SomeTwice-next rs i d owners s next owns within has some =
     let one : length (filter (has_slot s) (take i rs)) ≡ 1 = sym (length-shards_at s (take i rs)) ∙ ap length (owns s within)
-      ∙ one_more (owner owners s) some in
+    ∙ one_more (owner owners s) some in
     let two : length (filter (has_slot s) (take (i + 1) rs)) ≡ 1 + 1 = length-filter_more (has_slot s) rs i d next ∙ rw (one, has) in
     (s, within, omega (arith, taken_le (has_slot s) rs (i + 1), length-shards_at s rs))
 

@@ -101,5 +101,11 @@ array_item_fits old begun out reply item replies n i is counted within at begins
     let texts : length out ≡ length begun + length (flat_map reply_text (take i replies.items))
     = ap length goes ∙ length-append begun (flat_map reply_text (take i replies.items)) in
     let this : length (text (content item)) ≡ length (reply_text (get_or replies.items i item)) = ap (λ r. length (reply_text r)) at in
-    omega (arith, length-text-Array reply replies n is counted, length-flat_map-take reply_text replies.items i item within, line,
-      texts, this)
+    omega (
+      arith,
+      length-text-Array reply replies n is counted,
+      length-flat_map-take reply_text replies.items i item within,
+      line,
+      texts,
+      this,
+    )

@@ -28,7 +28,7 @@ byte_got byte fault (d ∷ ds) x e =
     elim (eqb_tells d byte) [
       | inl p ↦
           let rest : ds ≡ x.1 = ap (λ (w : NoValue × List ℕ). w.1)
-            (ok_is (tt, ds) x (sym (cond-true (eqb d byte) (Ok (tt, ds)) (Err (Bad fault)) p.0) ∙ e)) in
+          (ok_is (tt, ds) x (sym (cond-true (eqb d byte) (Ok (tt, ds)) (Err (Bad fault)) p.0) ∙ e)) in
           (tt, cc)
       | inr p ↦ let wrong : stopped (Bad fault) ≡ Ok x = sym (cond-false (eqb d byte) (Ok (tt, ds)) (Err (Bad fault)) p.0) ∙ e in absurd cc
     ]
@@ -44,9 +44,9 @@ byte_part byte fault [] e = record { value = tt; holds = tt; before = []; next =
 byte_part byte fault (d ∷ ds) e =
     elim (eqb_tells d byte) [
       | inl p ↦ let wrong : done {A = NoValue × List ℕ} (tt, ds) ≡ Err Open =
-        sym (cond-true (eqb d byte) (Ok (tt, ds)) (Err (Bad fault)) p.0) ∙ e in absurd cc
+          sym (cond-true (eqb d byte) (Ok (tt, ds)) (Err (Bad fault)) p.0) ∙ e in absurd cc
       | inr p ↦ let wrong : stopped {A = NoValue × List ℕ} (Bad fault) ≡ Err Open =
-        sym (cond-false (eqb d byte) (Ok (tt, ds)) (Err (Bad fault)) p.0) ∙ e in absurd cc
+          sym (cond-false (eqb d byte) (Ok (tt, ds)) (Err (Bad fault)) p.0) ∙ e in absurd cc
     ]
 
 byte_bad : (byte : ℕ) (fault : Fault) (b : List ℕ) (f : Fault) → byte_at byte fault b ≡ Err (Bad f)
@@ -56,10 +56,10 @@ byte_bad byte fault [] f e = absurd cc
 byte_bad byte fault (d ∷ ds) f e =
     elim (eqb_tells d byte) [
       | inl p ↦ let wrong : done {A = NoValue × List ℕ} (tt, ds) ≡ Err (Bad f) =
-        sym (cond-true (eqb d byte) (Ok (tt, ds)) (Err (Bad fault)) p.0) ∙ e in absurd cc
+          sym (cond-true (eqb d byte) (Ok (tt, ds)) (Err (Bad fault)) p.0) ∙ e in absurd cc
       | inr p ↦
           let same : stopped {A = NoValue × List ℕ} (Bad fault) ≡ Err (Bad f) =
-            sym (cond-false (eqb d byte) (Ok (tt, ds)) (Err (Bad fault)) p.0) ∙ e in
+          sym (cond-false (eqb d byte) (Ok (tt, ds)) (Err (Bad fault)) p.0) ∙ e in
           let faults : fault ≡ f = cc in
           record {
             value = tt;
@@ -94,9 +94,9 @@ pub line_reads : (fault : Fault) → Reads (line_at fault) Always (λ a. mark fa
 line_reads fault =
     same_reads (seen (λ p. p.1) (pair (byte_at 13 fault) (λ a. byte_at 10 fault))) (line_at fault) Always (λ a. mark fault crlf)
     (seen_reads (pair (byte_at 13 fault) (λ a. byte_at 10 fault)) (Both Always (λ a. Always))
-      (both_marks (λ a. (13, fault) ∷ []) (λ a b. (10, fault) ∷ [])) (λ p. p.1) Always (λ a. mark fault crlf)
+    (both_marks (λ a. (13, fault) ∷ []) (λ a b. (10, fault) ∷ [])) (λ p. p.1) Always (λ a. mark fault crlf)
     (pair_reads (byte_at 13 fault) Always (λ a. (13, fault) ∷ []) (λ a. byte_at 10 fault) (λ a. Always) (λ a b. (10, fault) ∷ [])
-      (byte_reads 13 fault) (λ a h. byte_reads 10 fault) (λ a h. (tt, tt)))
+    (byte_reads 13 fault) (λ a h. byte_reads 10 fault) (λ a h. (tt, tt)))
     (λ a h. (tt, refl)) (λ c h. ((tt, tt), (tt, tt), refl)))
     (line_seen fault)
 
@@ -121,7 +121,7 @@ some_got n fault b x e =
       | inr p ↦
           let len : length (take n b) ≡ n = omega (arith, length-take n b) in
           subst (λ (w : List ℕ × List ℕ). HasLength n w.0 × (b ≡ bytes (mark fault w.0) ++ w.1))
-            (ok_is (take n b, drop n b) x (sym p.1 ∙ e))
+          (ok_is (take n b, drop n b) x (sym p.1 ∙ e))
           (len, sym (ap (λ (t : List ℕ). t ++ drop n b) (bytes-mark fault (take n b)) ∙ take-append-drop n b))
     ]
 

@@ -28,9 +28,9 @@ bytes_read n =
     let two = pair (some_at n) (λ word. line_at ExpectedCrlf) in
     same_reads (seen (λ p. p.0) two) (rest_of_word n) (HasLength n) bytes_marks
     (seen_reads two (Both (HasLength n) (λ word. Always)) (both_marks (mark ExpectedCrlf) (λ word end. mark ExpectedCrlf crlf)) (λ p. p.0)
-      (HasLength n) bytes_marks
+    (HasLength n) bytes_marks
     (pair_reads (some_at n) (HasLength n) (mark ExpectedCrlf) (λ word. line_at ExpectedCrlf) (λ word. Always)
-      (λ word end. mark ExpectedCrlf crlf)
+    (λ word end. mark ExpectedCrlf crlf)
     (some_reads n ExpectedCrlf) (λ word h. line_reads ExpectedCrlf) (λ word h. (tt, tt)))
     (λ p h. (h.0, map-append (λ (b : ℕ). (b, ExpectedCrlf)) p.0 crlf))
     (λ word h. ((word, tt), (h, tt), refl)))
@@ -63,9 +63,9 @@ word_reads bulk small =
     let two = pair (byte_at 36 ExpectedDollar) (λ dollar. behind_dollar bulk) in
     same_reads (seen (λ p. p.1) two) (word_at bulk) (IsWord bulk) word_marks
     (seen_reads two (Both Always (λ dollar. IsWord bulk)) (both_marks (λ dollar. (36, ExpectedDollar) ∷ []) (λ dollar. sized_marks))
-      (λ p. p.1) (IsWord bulk) word_marks
+    (λ p. p.1) (IsWord bulk) word_marks
     (pair_reads (byte_at 36 ExpectedDollar) Always (λ dollar. (36, ExpectedDollar) ∷ []) (λ dollar. behind_dollar bulk)
-      (λ dollar. IsWord bulk) (λ dollar. sized_marks)
+    (λ dollar. IsWord bulk) (λ dollar. sized_marks)
     (byte_reads 36 ExpectedDollar) (λ dollar h. sized_reads bulk small) (λ dollar h. ([], omega arith)))
     (λ p h. (h.1, refl))
     (λ word h. ((tt, word), (tt, h), refl)))
@@ -108,7 +108,7 @@ words_read bulk (suc n) small =
     let two = pair (word_at bulk) (λ word. words_at bulk n) in
     same_reads (seen cons two) (words_at bulk (suc n)) (AreWords bulk (suc n)) words_marks
     (seen_reads two (Both (IsWord bulk) (λ word. AreWords bulk n)) (both_marks word_marks (λ word. words_marks)) cons
-      (AreWords bulk (suc n)) words_marks
+    (AreWords bulk (suc n)) words_marks
     (pair_reads (word_at bulk) (IsWord bulk) word_marks (λ word. words_at bulk n) (λ word. AreWords bulk n) (λ word. words_marks)
     (word_reads bulk small) (λ word h. words_read bulk n small) (λ word h. empty_words bulk n))
     (λ p h. ((ap (λ (k : ℕ). suc k) h.1.0, (h.0, h.1.1)), refl))
@@ -126,9 +126,9 @@ head_reads max small =
     let two = pair (byte_at 42 ExpectedStar) (λ star. count_at max) in
     same_reads (seen (λ p. p.1) two) (head_at max) (IsCount max) head_marks
     (seen_reads two (Both Always (λ star. IsCount max)) (both_marks (λ star. (42, ExpectedStar) ∷ []) (λ star. count_marks)) (λ p. p.1)
-      (IsCount max) head_marks
+    (IsCount max) head_marks
     (pair_reads (byte_at 42 ExpectedStar) Always (λ star. (42, ExpectedStar) ∷ []) (λ star. count_at max) (λ star. IsCount max)
-      (λ star. count_marks)
+    (λ star. count_marks)
     (byte_reads 42 ExpectedStar) (λ star h. count_reads max small) (λ star h. (Some 0, omega arith)))
     (λ p h. (h.1, refl))
     (λ count h. ((tt, count), (tt, h), refl)))
@@ -167,7 +167,7 @@ body_reads bulk None small =
 body_reads bulk (Some n) small =
     same_reads (seen (λ words. Some words) (words_at bulk n)) (body_at bulk (Some n)) (IsBody bulk (Some n)) body_marks
     (seen_reads (words_at bulk n) (AreWords bulk n) words_marks (λ words. Some words) (IsBody bulk (Some n)) body_marks
-      (words_read bulk n small)
+    (words_read bulk n small)
     (λ words h. (h, refl))
     (body_some bulk n))
     (λ b. refl)
@@ -196,10 +196,10 @@ item_reads limits =
     let two = pair (head_at limits.words) (body_at limits.bulk) in
     same_reads (seen (λ p. p.1) two) (item_at limits) (IsLawful limits) item_marks
     (seen_reads two (Both (IsCount limits.words) (IsBody limits.bulk)) (both_marks head_marks (λ count. body_marks)) (λ p. p.1)
-      (IsLawful limits) item_marks
+    (IsLawful limits) item_marks
     (pair_reads (head_at limits.words) (IsCount limits.words) head_marks (body_at limits.bulk) (IsBody limits.bulk) (λ count. body_marks)
     (head_reads limits.words limits.few_words) (λ count h. body_reads limits.bulk count limits.short_bulk)
-      (λ count h. some_body limits.bulk count))
+    (λ count h. some_body limits.bulk count))
     (λ p h. item_from limits p.0 p.1 h.0 h.1)
     (item_back limits))
     (second_seen (head_at limits.words) (body_at limits.bulk))

@@ -66,14 +66,18 @@ pub line_some : (max : ℕ) (s : Place) (b : ℕ) (bs : List ℕ) (t : Place) �
     → line_on max s (b ∷ bs) ≡ mapped (λ ds. b ∷ ds) (line_on max t bs)
 unfolding line_on
 line_some max s b bs t e =
-    ap (λ (o : Option Place). elim o as (λ q. Parsed (List ℕ)) [ Some u ↦ mapped (λ ds. b ∷ ds) (line_on max u bs)
-    | None ↦ ended (final s) (b ∷ bs) ]) e
+    ap (λ (o : Option Place). elim o as (λ q. Parsed (List ℕ)) [
+      | Some u ↦ mapped (λ ds. b ∷ ds) (line_on max u bs)
+      | None ↦ ended (final s) (b ∷ bs)
+    ]) e
 
 pub line_none : (max : ℕ) (s : Place) (b : ℕ) (bs : List ℕ) → step max s b ≡ None → line_on max s (b ∷ bs) ≡ ended (final s) (b ∷ bs)
 unfolding line_on
 line_none max s b bs e =
-    ap (λ (o : Option Place). elim o as (λ q. Parsed (List ℕ)) [ Some t ↦ mapped (λ ds. b ∷ ds) (line_on max t bs)
-    | None ↦ ended (final s) (b ∷ bs) ]) e
+    ap (λ (o : Option Place). elim o as (λ q. Parsed (List ℕ)) [
+      | Some t ↦ mapped (λ ds. b ∷ ds) (line_on max t bs)
+      | None ↦ ended (final s) (b ∷ bs)
+    ]) e
 
 pub path_some : (max : ℕ) (s : Place) (d : ℕ) (ds : List ℕ) (t : Place) → step max s d ≡ Some t → IsPath max t ds → IsPath max s (d ∷ ds)
 unfolding IsPath
@@ -105,8 +109,10 @@ no_return max (Digits n) =
 -- each line can be ended
 alive : (max : ℕ) (s : Place) → (ds : List ℕ) × IsPath max s ds
 alive max AtCount = (48 ∷ [], path_some max AtCount 48 [] (Digits 0) (rw (le-leb 0 max (omega arith)) refl) (path_end max (Digits 0) refl))
-alive max AtLength = (48 ∷ [],
-    path_some max AtLength 48 [] (Digits 0) (rw (le-leb 0 max (omega arith)) refl) (path_end max (Digits 0) refl))
+alive max AtLength = (
+  48 ∷ [],
+  path_some max AtLength 48 [] (Digits 0) (rw (le-leb 0 max (omega arith)) refl) (path_end max (Digits 0) refl),
+)
 alive max Minus = (49 ∷ [], path_some max Minus 49 [] MinusOne refl (path_end max MinusOne refl))
 alive max MinusOne = ([], path_end max MinusOne refl)
 alive max (Digits n) = ([], path_end max (Digits n) refl)
@@ -140,7 +146,7 @@ line_got max s (d ∷ ds) x e =
                 let y = bind_ok (line_at BadLength (d ∷ ds)) (λ z. Ok ([], z.1)) x (sym f.1 ∙ e1) in
                 let g = (line_reads BadLength).got (d ∷ ds) y.0 y.1 in
                 subst (λ (w : List ℕ × List ℕ). IsPath max s w.0 × (d ∷ ds ≡ bytes (line_marks w.0) ++ w.1)) (ok_is ([], y.0.1) x y.2)
-                  (path_end max s f.0, g.1)
+                (path_end max s f.0, g.1)
             | inr f ↦ let wrong : stopped {A = List ℕ × List ℕ} (Bad BadLength) ≡ Ok x = sym f.1 ∙ e1 in absurd cc
           ]
       | inr p ↦
@@ -155,7 +161,7 @@ line_again : (max : ℕ) (s : Place) (ds : List ℕ) → IsPath max s ds → (re
     ≡ Ok (ds, rest)
 line_again max s [] path rest =
     line_none max s 13 (10 ∷ rest) (no_return max s) ∙ ap (λ (f : Bool). ended f (13 ∷ 10 ∷ rest)) (end_final max s path)
-      ∙ ap (mapped (λ e. [])) ((line_reads BadLength).again tt tt rest)
+    ∙ ap (mapped (λ e. [])) ((line_reads BadLength).again tt tt rest)
 line_again max s (d ∷ ds) path rest =
     let p = path_back max s d ds path in
     line_some max s d (bytes (line_marks ds) ++ rest) p.0 p.1 ∙ ap (mapped (λ w. d ∷ w)) (line_again max p.0 ds p.2 rest)
@@ -174,8 +180,15 @@ line_part max s (d ∷ ds) e =
                 elim (bind_err (line_at BadLength (d ∷ ds)) (λ z. Ok ([], z.1)) Open (sym f.1 ∙ e1)) [
                   | inl h ↦
                       let o = (line_reads BadLength).part (d ∷ ds) h in
-                      record { value = []; holds = path_end max s f.0; before = o.before; next = o.next; after = o.after; text = o.text;
-                        split = o.split }
+                      record {
+                        value = [];
+                        holds = path_end max s f.0;
+                        before = o.before;
+                        next = o.next;
+                        after = o.after;
+                        text = o.text;
+                        split = o.split;
+                      }
                   | inr h ↦ absurd cc
                 ]
             | inr f ↦ let wrong : stopped {A = List ℕ × List ℕ} (Bad BadLength) ≡ Err Open = sym f.1 ∙ e1 in absurd cc
@@ -229,7 +242,7 @@ line_bad max s (d ∷ ds) fault e =
                             elim other as (λ w. IsPath max s w → bytes (line_marks w) ≡ bytes o.before ++ o.bad ∷ tail → ⊥) [
                               | [] ↦ λ q same2. o.none tt tt tail same2
                               | d' ∷ ds' ↦ λ q same2. no_step d' ds' q
-                                (same_head (bytes o.before) o.bad o.more tail d ds d' (bytes (line_marks ds')) o.split same2)
+                                  (same_head (bytes o.before) o.bad o.more tail d ds d' (bytes (line_marks ds')) o.split same2)
                             ] path same;
                       }
                   | inr h ↦ absurd cc

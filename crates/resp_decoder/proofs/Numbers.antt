@@ -127,7 +127,7 @@ count_at_seen max [] = refl
 count_at_seen max (b ∷ bs) =
     let n = b - 48 in
     let rest = λ (read : Result (NoValue × List ℕ) Stop). mapped {B = Option ℕ} (λ (e : NoValue). None)
-      (read >>= λ minus. byte_at 49 BadLength minus.1 >>= λ one. line_at BadLength one.1) in
+    (read >>= λ minus. byte_at 49 BadLength minus.1 >>= λ one. line_at BadLength one.1) in
     let negative = rest (byte_at 45 BadLength (b ∷ bs)) in
     let positive = mapped some_count (number_at max (b ∷ bs)) in
     elim (cases_Bool (eqb b 45)) [
@@ -142,7 +142,7 @@ count_at_seen max (b ∷ bs) =
           let stepped : step max AtCount b ≡ first_step max b = cond-false (eqb b 45) (Some Minus) (first_step max b) other in
           cond-false (eqb b 45) negative positive other
           ∙ first_seen max AtCount count_value some_count b bs stepped refl
-            (λ ds. sym (cond-false (eqb b 45) None (Some (value_on n ds)) other))
+          (λ ds. sym (cond-false (eqb b 45) None (Some (value_on n ds)) other))
     ]
 
 -- ---- the digits of a number are its decimal text
@@ -159,8 +159,12 @@ follows max n b e =
     let p = and_parts (ltb 0 n) (leb 48 b && (leb b 57 && leb (n * 10 + (b - 48)) max)) e in
     let q = and_parts (leb 48 b) (leb b 57 && leb (n * 10 + (b - 48)) max) p.1 in
     let r = and_parts (leb b 57) (leb (n * 10 + (b - 48)) max) q.1 in
-    record { positive = ltb-true 0 n p.0; from_zero = leb-true 48 b q.0; to_nine = leb-true b 57 r.0;
-      within = leb-true (n * 10 + (b - 48)) max r.1 }
+    record {
+      positive = ltb-true 0 n p.0;
+      from_zero = leb-true 48 b q.0;
+      to_nine = leb-true b 57 r.0;
+      within = leb-true (n * 10 + (b - 48)) max r.1;
+    }
 
 may_follow : (max n b : ℕ) → Follows max n b → is_more max n b ≡ true
 may_follow max n b f =
@@ -210,9 +214,11 @@ path_on max n small within (d ∷ ds) path =
     let p = path_back max (Digits n) d ds path in
     let m = n * 10 + (d - 48) in
     let f = digits_step max n d p.0 p.1 in
-    let q = path_on max m small f.0.within ds (subst (λ (t : Place). IsPath max t ds) (sym f.1) p.2) in
-    (q.0, q.1 ∙ ap (λ (w : List ℕ). w ++ ds) (decimal_more n d f.0.positive f.0.from_zero f.0.to_nine (omega (arith, f.0.within)))
-      ∙ append_assoc (decimal n) (d ∷ []) ds)
+    let q = path_on max m small f.0.within ds (subst (λ (t : Place). IsPath max t ds) (sym f.1) p.2) in (
+      q.0,
+      q.1 ∙ ap (λ (w : List ℕ). w ++ ds) (decimal_more n d f.0.positive f.0.from_zero f.0.to_nine (omega (arith, f.0.within)))
+          ∙ append_assoc (decimal n) (d ∷ []) ds,
+    )
 
 -- with a first digit
 first_digits : (max d : ℕ) (ds : List ℕ) (t : Place) → max < 2 ^ 32 → first_step max d ≡ Some t → IsPath max t ds
@@ -235,10 +241,12 @@ length_digits max (d ∷ ds) small path = let p = path_back max AtLength d ds pa
 path_push : (max n : ℕ) (ds : List ℕ) (d : ℕ) → IsPath max (Digits n) ds → Follows max (value_on n ds) d
     → IsPath max (Digits n) (ds ++ d ∷ []) × (value_on n (ds ++ d ∷ []) ≡ value_on n ds * 10 + (d - 48))
 unfolding value_on
-path_push max n [] d path f =
-    (path_some max (Digits n) d [] (Digits (n * 10 + (d - 48)))
+path_push max n [] d path f = (
+  path_some max (Digits n) d [] (Digits (n * 10 + (d - 48)))
       (cond-true (is_more max n d) (Some (Digits (n * 10 + (d - 48)))) None (may_follow max n d f))
-      (path_end max (Digits (n * 10 + (d - 48))) refl), refl)
+      (path_end max (Digits (n * 10 + (d - 48))) refl),
+  refl,
+)
 path_push max n (c ∷ ds) d path f =
     let p = path_back max (Digits n) c ds path in
     let s = digits_step max n c p.0 p.1 in
@@ -263,17 +271,23 @@ one_digit : (max n : ℕ) → n < 10 → IsTextOf max n ((48 + n) ∷ [])
 unfolding length_value value_on
 one_digit max n small within =
     let back : 48 + n - 48 ≡ n = omega arith in
-    let lead : IsFirst max (48 + n) = record { from_zero = omega arith; to_nine = omega arith; within = omega arith } in
-    (path_some max AtLength (48 + n) [] (Digits (48 + n - 48))
-      (cond-true (is_first max (48 + n)) (Some (Digits (48 + n - 48))) None (may_lead max (48 + n) lead))
-      (path_end max (Digits (48 + n - 48)) refl), back)
+    let lead : IsFirst max (48 + n) = record { from_zero = omega arith; to_nine = omega arith; within = omega arith } in (
+      path_some max AtLength (48 + n) [] (Digits (48 + n - 48))
+          (cond-true (is_first max (48 + n)) (Some (Digits (48 + n - 48))) None (may_lead max (48 + n) lead))
+          (path_end max (Digits (48 + n - 48)) refl),
+      back,
+    )
 
 more_digits : (max n : ℕ) (ds : List ℕ) → 10 ≤ n → IsTextOf max (n / 10) ds → IsTextOf max n (ds ++ (48 + n % 10) ∷ [])
 more_digits max n ds large front within =
     let p = front (omega arith) in
     let d = 48 + n % 10 in
-    let follow : Follows max (length_value ds) d = record { positive = omega (arith, p.1); from_zero = omega arith; to_nine = omega arith;
-      within = omega (arith, p.1) } in
+    let follow : Follows max (length_value ds) d = record {
+      positive = omega (arith, p.1);
+      from_zero = omega arith;
+      to_nine = omega arith;
+      within = omega (arith, p.1);
+    } in
     let q = length_push max ds d p.0 follow in
     (q.0, omega (arith, p.1, q.1))
 
@@ -343,15 +357,18 @@ length_to_count max (d ∷ ds) path =
     let p = path_back max AtLength d ds path in
     let c = chosen (is_first max d) (Digits (d - 48)) p.0 p.1 in
     let f = leads max d c.0 in
-    let other : eqb d 45 ≡ false = ne_eqb d 45 (λ e. absurd {A = ⊥} (omega (arith, e, f.from_zero))) in
-    (path_some max AtCount d ds p.0 (cond-false (eqb d 45) (Some Minus) (first_step max d) other ∙ p.1) p.2,
-      cond-false (eqb d 45) None (Some (value_on (d - 48) ds)) other)
+    let other : eqb d 45 ≡ false = ne_eqb d 45 (λ e. absurd {A = ⊥} (omega (arith, e, f.from_zero))) in (
+      path_some max AtCount d ds p.0 (cond-false (eqb d 45) (Some Minus) (first_step max d) other ∙ p.1) p.2,
+      cond-false (eqb d 45) None (Some (value_on (d - 48) ds)) other,
+    )
 
 count_path : (max : ℕ) → max < 2 ^ 32 → (c : Option ℕ) → IsCount max c → (ds : List ℕ) × IsPath max AtCount ds × (count_value ds ≡ c)
 unfolding count_value
-count_path max small None h =
-    (45 ∷ 49 ∷ [], path_some max AtCount 45 (49 ∷ []) Minus refl (path_some max Minus 49 [] MinusOne refl (path_end max MinusOne refl)),
-    refl)
+count_path max small None h = (
+  45 ∷ 49 ∷ [],
+  path_some max AtCount 45 (49 ∷ []) Minus refl (path_some max Minus 49 [] MinusOne refl (path_end max MinusOne refl)),
+  refl,
+)
 count_path max small (Some n) h =
     let p = decimal_path max n small h in
     let q = length_to_count max (decimal n) p.0 in

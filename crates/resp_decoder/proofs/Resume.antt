@@ -28,14 +28,14 @@ pub behind : (buffer : List ℕ) (start : ℕ) (front rest : List ℕ) → start
     → Behind buffer rest (length buffer - length rest)
 behind buffer start front rest fits e =
     let whole : buffer ≡ (take start buffer ++ front) ++ rest = sym (take-append-drop start buffer)
-      ∙ ap (λ (t : List ℕ). take start buffer ++ t) e ∙ sym (append_assoc (take start buffer) front rest) in
+    ∙ ap (λ (t : List ℕ). take start buffer ++ t) e ∙ sym (append_assoc (take start buffer) front rest) in
     let len : length buffer ≡ length (take start buffer ++ front) + length rest = ap length whole
-      ∙ length-append (take start buffer ++ front) rest in
+    ∙ length-append (take start buffer ++ front) rest in
     record {
       rest_fits = omega (arith, len);
       fits = omega arith;
       bytes_are = ap (λ (t : List ℕ). drop (length buffer - length rest) t) whole
-        ∙ drop_at (take start buffer ++ front) rest (length buffer - length rest) (omega (arith, len));
+          ∙ drop_at (take start buffer ++ front) rest (length buffer - length rest) (omega (arith, len));
     }
 
 -- ---- one more word
@@ -43,8 +43,8 @@ behind buffer start front rest fits e =
 words_text-push : (words : List (List ℕ)) (word : List ℕ) → words_text (words ++ word ∷ []) ≡ words_text words ++ bytes (word_marks word)
 words_text-push words word =
     ap bytes (flat_map-append word_marks words (word ∷ [])
-      ∙ ap (λ (t : Marked). flat_map word_marks words ++ t) (append-nil (word_marks word)))
-      ∙ bytes-append (flat_map word_marks words) (word_marks word)
+    ∙ ap (λ (t : Marked). flat_map word_marks words ++ t) (append-nil (word_marks word)))
+    ∙ bytes-append (flat_map word_marks words) (word_marks word)
 
 pub all_push : {X : Type 0} (P : X → Type 0) (xs : List X) (x : X) → AllByRecursion P xs → P x → AllByRecursion P (xs ++ x ∷ [])
 all_push P [] x h p = (p, tt)
@@ -65,8 +65,8 @@ word_moves bulk buffer start words word rest small fits e =
       short = g.0;
       rest_fits = b.rest_fits;
       text = ap (λ (t : List ℕ). words_text (words ++ word ∷ []) ++ t) b.bytes_are
-        ∙ ap (λ (t : List ℕ). t ++ rest) (words_text-push words word) ∙ append_assoc (words_text words) (bytes (word_marks word)) rest
-        ∙ ap (λ (t : List ℕ). words_text words ++ t) (sym g.1);
+          ∙ ap (λ (t : List ℕ). t ++ rest) (words_text-push words word) ∙ append_assoc (words_text words) (bytes (word_marks word)) rest
+          ∙ ap (λ (t : List ℕ). words_text words ++ t) (sym g.1);
     }
 
 -- ---- the items that are no request
@@ -103,7 +103,7 @@ words_stop bulk (suc n) left [] rest stop small total lacking short e = rw e ref
 words_stop bulk (suc n) left (word ∷ words) rest stop small total lacking short e =
     let cut : words_text (word ∷ words) ++ rest ≡ bytes (word_marks word) ++ (words_text words ++ rest) =
     ap (λ (t : List ℕ). t ++ rest) (bytes-append (word_marks word) (words_marks words))
-      ∙ append_assoc (bytes (word_marks word)) (words_text words) rest in
+    ∙ append_assoc (bytes (word_marks word)) (words_text words) rest in
     let first = (word_reads bulk small).again word short.0 (words_text words ++ rest) in
     let others = words_stop bulk n left words rest stop small (omega (arith, total)) lacking short.1 e in
     ap (words_at bulk (suc n)) cut ∙ rw (first, others) refl
@@ -145,7 +145,7 @@ empty_front limits b rest (Some n) zero_is e =
     let whole : b ≡ head_text 0 ++ rest = g.1 ∙ ap (λ (k : ℕ). head_text k ++ rest) zero_is in
     record {
       front = subst (λ (w : List ℕ). Stream limits w [] rest) (ap (λ (t : List ℕ). t ++ rest) empty_item
-        ∙ sym whole) (stream_one limits (Some []) rest (omega arith, tt));
+          ∙ sym whole) (stream_one limits (Some []) rest (omega arith, tt));
       text = bytes (number_marks 0);
       first = 42;
       whole = whole;

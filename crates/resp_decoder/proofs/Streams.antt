@@ -57,23 +57,23 @@ same_fault : {A : Type 0} (r : List ℕ → Parsed A) (lawful : A → Type 0) (m
     → (b : List ℕ) (fault fault' : Fault) → IsFaultIn lawful marks b fault → IsFaultIn lawful marks b fault' → fault ≡ fault'
 same_fault {A} r lawful marks reads b fault fault' f g =
     let text_f : bytes (marks f.value) ≡ bytes f.before ++ f.byte ∷ bytes f.after = ap bytes f.text
-      ∙ bytes-append f.before ((f.byte, fault) ∷ f.after) in
+    ∙ bytes-append f.before ((f.byte, fault) ∷ f.after) in
     let text_g : bytes (marks g.value) ≡ bytes g.before ++ g.byte ∷ bytes g.after = ap bytes g.text
-      ∙ bytes-append g.before ((g.byte, fault') ∷ g.after) in
+    ∙ bytes-append g.before ((g.byte, fault') ∷ g.after) in
     elim (split (bytes f.before) (f.bad ∷ f.more) (bytes g.before) g.bad g.more (sym f.split ∙ g.split)) [
       | inl p ↦
           absurd (g.none f.value f.holds (p.0 ++ f.byte ∷ bytes f.after) (text_f ∙ ap (λ (t : List ℕ). t ++ f.byte ∷ bytes f.after) p.1
-            ∙ append_assoc (bytes g.before) (g.bad ∷ p.0) (f.byte ∷ bytes f.after)))
+          ∙ append_assoc (bytes g.before) (g.bad ∷ p.0) (f.byte ∷ bytes f.after)))
       | inr p ↦
           elim p.0 as (λ mid. bytes g.before ≡ bytes f.before ++ mid → f.bad ∷ f.more ≡ mid ++ g.bad ∷ g.more → fault ≡ fault') [
             | [] ↦ λ e rest.
                 reads.places f.value g.value f.holds g.holds f.before (f.byte, fault) f.after g.before (g.byte, fault') g.after f.text
-                  g.text (sym (e ∙ append-nil (bytes f.before)))
+                g.text (sym (e ∙ append-nil (bytes f.before)))
             | m ∷ mid ↦ λ e rest.
                 let head : m ≡ f.bad = cc in
                 absurd (f.none g.value g.holds (mid ++ g.byte ∷ bytes g.after)
                 (text_g ∙ ap (λ (t : List ℕ). t ++ g.byte ∷ bytes g.after) (e ∙ ap (λ (k : ℕ). bytes f.before ++ k ∷ mid) head)
-                  ∙ append_assoc (bytes f.before) (f.bad ∷ mid) (g.byte ∷ bytes g.after)))
+                ∙ append_assoc (bytes f.before) (f.bad ∷ mid) (g.byte ∷ bytes g.after)))
           ] p.1 p.2
     ]
 
@@ -112,7 +112,7 @@ not_begun : (limits : Limits) (item : Item) (rest more : List ℕ) → IsLawful 
     → more ≡ item_text item ++ rest → ⊥
 not_begun limits item rest more h stops e =
     let wrong : stopped {A = Item × List ℕ} stops.0 ≡ Ok (item, rest) = sym stops.1 ∙ ap (item_at limits) e
-      ∙ item_again limits item rest h in
+    ∙ item_again limits item rest h in
     cc
 
 pub same_items : (limits : Limits) (items others : List Item) (rest rest' : List ℕ) → AllByRecursion (IsLawful limits) items
@@ -121,16 +121,16 @@ pub same_items : (limits : Limits) (items others : List Item) (rest rest' : List
 same_items limits [] [] rest rest' h h' s s' e = (refl, e)
 same_items limits [] (item ∷ others) rest rest' h h' s s' e =
     absurd (not_begun limits item (flat_map item_text others ++ rest') rest h'.0 s (e
-      ∙ append_assoc (item_text item) (flat_map item_text others) rest'))
+    ∙ append_assoc (item_text item) (flat_map item_text others) rest'))
 same_items limits (item ∷ items) [] rest rest' h h' s s' e =
     absurd (not_begun limits item (flat_map item_text items ++ rest) rest' h.0 s' (sym e
-      ∙ append_assoc (item_text item) (flat_map item_text items) rest))
+    ∙ append_assoc (item_text item) (flat_map item_text items) rest))
 same_items limits (item ∷ items) (other ∷ others) rest rest' h h' s s' e =
     let cut : item_text item ++ (flat_map item_text items ++ rest) ≡ item_text other ++ (flat_map item_text others ++ rest') =
     sym (append_assoc (item_text item) (flat_map item_text items) rest) ∙ e
-      ∙ append_assoc (item_text other) (flat_map item_text others) rest' in
+    ∙ append_assoc (item_text other) (flat_map item_text others) rest' in
     let front = same_front (item_at limits) (IsLawful limits) item_marks (item_reads limits) item other h.0 h'.0
-      (flat_map item_text items ++ rest) (flat_map item_text others ++ rest') cut in
+    (flat_map item_text items ++ rest) (flat_map item_text others ++ rest') cut in
     let back = same_items limits items others rest rest' h.1 h'.1 s s' front.1 in
     (cc, back.1)
 
@@ -156,16 +156,18 @@ ends_from limits rest (Some fault) e = (item_reads limits).bad rest fault e
 pub one_decoding : (limits : Limits) (stream : List ℕ) (list list' : List (List (List ℕ))) (rest rest' : List ℕ)
     (fault fault' : Option Fault)
     → Stream limits stream list rest → Ends limits rest fault → Stream limits stream list' rest' → Ends limits rest' fault' → (list ≡ list')
-      × (rest ≡ rest') × (fault ≡ fault')
+    × (rest ≡ rest') × (fault ≡ fault')
 one_decoding limits stream list list' rest rest' fault fault' s ends s' ends' =
     let stop = ends_is limits rest fault ends in
     let stop' = ends_is limits rest' fault' ends' in
     let same = same_items limits s.items s'.items rest rest' s.lawful s'.lawful (ending fault, stop) (ending fault', stop') (sym s.whole
-      ∙ s'.whole) in
+    ∙ s'.whole) in
     let faults : stopped {A = Item × List ℕ} (ending fault) ≡ stopped (ending fault') = sym stop ∙ ap (item_at limits) same.1 ∙ stop' in
-    let endings : ending fault ≡ ending fault' = cc in
-    (s.requests_are ∙ ap (λ (items : List Item). flat_map requests_of items) same.0 ∙ sym s'.requests_are, same.1,
-      ending_is fault fault' endings)
+    let endings : ending fault ≡ ending fault' = cc in (
+      s.requests_are ∙ ap (λ (items : List Item). flat_map requests_of items) same.0 ∙ sym s'.requests_are,
+      same.1,
+      ending_is fault fault' endings,
+    )
 
 pub one_fault : (limits : Limits) (rest : List ℕ) (fault fault' : Fault) → IsFault limits rest fault → IsFault limits rest fault'
     → fault ≡ fault'
@@ -187,11 +189,11 @@ stream_then limits b list list' mid rest s t = record {
   items = s.items ++ t.items;
   lawful = all-append limits s.items t.items s.lawful t.lawful;
   whole = s.whole ∙ ap (λ (w : List ℕ). flat_map item_text s.items ++ w) t.whole
-    ∙ sym (append_assoc (flat_map item_text s.items) (flat_map item_text t.items) rest)
-    ∙ ap (λ (w : List ℕ). w ++ rest) (sym (flat_map-append item_text s.items t.items));
+      ∙ sym (append_assoc (flat_map item_text s.items) (flat_map item_text t.items) rest)
+      ∙ ap (λ (w : List ℕ). w ++ rest) (sym (flat_map-append item_text s.items t.items));
   requests_are = ap (λ (w : List (List (List ℕ))). w ++ list') s.requests_are
-    ∙ ap (λ (w : List (List (List ℕ))). flat_map requests_of s.items ++ w) t.requests_are
-    ∙ sym (flat_map-append requests_of s.items t.items);
+      ∙ ap (λ (w : List (List (List ℕ))). flat_map requests_of s.items ++ w) t.requests_are
+      ∙ sym (flat_map-append requests_of s.items t.items);
 }
 
 -- one item
@@ -267,12 +269,20 @@ decoding_within limits (suc n) stream within =
           let g = (item_reads limits).got stream x.0 x.1 in
           let shorter = item_shorter limits stream x.0 x.1 in
           let others = decoding_within limits n x.0.1 (omega arith) in
-          let first = subst (λ (w : List ℕ). Stream limits w (requests_of x.0.0) x.0.1) (sym g.1) (stream_one limits x.0.0 x.0.1 g.0) in
-          (requests_of x.0.0 ++ others.0, others.1,
-            (others.2.0, stream_then limits stream (requests_of x.0.0) others.0 x.0.1 others.2.0 first others.2.1, others.2.2))
-      | inr s ↦ ([], stop_fault s.0,
-        (stream, stream_none limits stream,
-        ends_from limits stream (stop_fault s.0) (s.1 ∙ ap (λ (t : Stop). Err t) (sym (ending-stop_fault s.0)))))
+          let first = subst (λ (w : List ℕ). Stream limits w (requests_of x.0.0) x.0.1) (sym g.1) (stream_one limits x.0.0 x.0.1 g.0) in (
+            requests_of x.0.0 ++ others.0,
+            others.1,
+            (others.2.0, stream_then limits stream (requests_of x.0.0) others.0 x.0.1 others.2.0 first others.2.1, others.2.2),
+          )
+      | inr s ↦ (
+        [],
+        stop_fault s.0,
+        (
+          stream,
+          stream_none limits stream,
+          ends_from limits stream (stop_fault s.0) (s.1 ∙ ap (λ (t : Stop). Err t) (sym (ending-stop_fault s.0))),
+        ),
+      )
     ]
 
 pub some_decoding : (limits : Limits) (stream : List ℕ) → (requests : List (List (List ℕ))) × (fault : Option Fault)
@@ -282,5 +292,5 @@ some_decoding limits stream = decoding_within limits (suc (length stream)) strea
 pub open_no_fault : (limits : Limits) (rest : List ℕ) (fault : Fault) → IsOpen limits rest → IsFault limits rest fault → ⊥
 open_no_fault limits rest fault o f =
     let wrong : stopped {A = Item × List ℕ} Open ≡ stopped (Bad fault) = sym (ends_is limits rest None o)
-      ∙ ends_is limits rest (Some fault) f in
+    ∙ ends_is limits rest (Some fault) f in
     cc

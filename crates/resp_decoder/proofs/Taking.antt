@@ -21,8 +21,13 @@ pub record Taking (old : Held) (first : List (List (List ℕ))) (now : Held) (re
   pub no_fault : old.fault ≡ None
 
 pub taking_none : (old : Held) (first : List (List (List ℕ))) → old.fault ≡ None → Taking old first old first
-taking_none old first none = record { taken = []; gathered = sym (append-nil first); stream = stream_none old.limits old.bytes;
-    unchanged = refl; no_fault = none }
+taking_none old first none = record {
+  taken = [];
+  gathered = sym (append-nil first);
+  stream = stream_none old.limits old.bytes;
+  unchanged = refl;
+  no_fault = none;
+}
 
 limits_same : (old now : Held) → now ≡ with_bytes old now.bytes → now.limits ≡ old.limits
 limits_same old now e = ap (λ (h : Held). h.limits) e
@@ -40,7 +45,7 @@ taking_more old first now requests words new t r =
     let lawful = subst (λ (l : Limits). IsLawful l (Some words)) limits r.lawful in
     let front = subst (λ (l : Limits). Stream l now.bytes [] (item_text (Some words) ++ new.bytes)) limits r.front in
     let one = subst (λ (list : List (List (List ℕ))). Stream old.limits (item_text (Some words) ++ new.bytes) list new.bytes)
-      (one_request words r.has_name) (stream_one old.limits (Some words) new.bytes lawful) in
+    (one_request words r.has_name) (stream_one old.limits (Some words) new.bytes lawful) in
     let both = stream_then old.limits now.bytes [] (words ∷ []) (item_text (Some words) ++ new.bytes) new.bytes front one in
     record {
       taken = t.taken ++ words ∷ [];
@@ -56,7 +61,7 @@ taking_shorter now new words r =
     let text = flat_map item_text r.front.items in
     let len : length now.bytes ≡ length text + (length (item_text (Some words)) + length new.bytes) =
     ap length r.front.whole ∙ length-append text (item_text (Some words) ++ new.bytes)
-      ∙ ap (λ (n : ℕ). length text + n) (length-append (item_text (Some words)) new.bytes) in
+    ∙ ap (λ (n : ℕ). length text + n) (length-append (item_text (Some words)) new.bytes) in
     omega (arith, len)
 
 pub takes_open : (old : Held) (first : List (List (List ℕ))) (now : Held) (requests : List (List (List ℕ))) (new : Held)
@@ -67,7 +72,7 @@ takes_open old first now requests new t w =
     record {
       rest = new.bytes;
       stream = subst (λ (list : List (List (List ℕ))). Stream old.limits old.bytes list new.bytes) (append-nil t.taken)
-        (stream_then old.limits old.bytes t.taken [] now.bytes new.bytes t.stream front);
+          (stream_then old.limits old.bytes t.taken [] now.bytes new.bytes t.stream front);
       ends = subst (λ (l : Limits). IsOpen l new.bytes) limits w.rest_open;
       stays = λ e. w.unchanged ∙ ap (λ (h : Held). with_bytes h new.bytes) t.unchanged;
     }
@@ -82,7 +87,7 @@ takes_fault old first now requests fault new t f =
     record {
       rest = cause.0;
       stream = subst (λ (list : List (List (List ℕ))). Stream old.limits old.bytes list cause.0) (append-nil t.taken)
-        (stream_then old.limits old.bytes t.taken [] now.bytes cause.0 t.stream front);
+          (stream_then old.limits old.bytes t.taken [] now.bytes cause.0 t.stream front);
       ends = subst (λ (l : Limits). IsFault l cause.0 fault) limits cause.2;
       stays = λ e. absurd cc;
     }
@@ -122,11 +127,11 @@ gathered_more limits so_far now requests piece mid new list others fault g fed_i
     let more = stream_more limits so_far requests now.bytes piece g.stream in
     let taken : Stream limits (now.bytes ++ piece) list t.rest =
     subst (λ (l : Limits). Stream l (now.bytes ++ piece) list t.rest) same_limits
-      (subst (λ (b : List ℕ). Stream mid.limits b list t.rest) (ap (λ (h : Held). h.bytes) mid_is) t.stream) in
+    (subst (λ (b : List ℕ). Stream mid.limits b list t.rest) (ap (λ (h : Held). h.bytes) mid_is) t.stream) in
     let ends : Ends limits t.rest fault = subst (λ (l : Limits). Ends l t.rest fault) same_limits t.ends in
     let stream : Stream limits (so_far ++ piece) others t.rest =
     subst (λ (r : List (List (List ℕ))). Stream limits (so_far ++ piece) r t.rest) (sym others_are)
-      (stream_then limits (so_far ++ piece) requests list (now.bytes ++ piece) t.rest more taken) in
+    (stream_then limits (so_far ++ piece) requests list (now.bytes ++ piece) t.rest more taken) in
     record {
       decodes = (t.rest, stream, ends);
       goes_on = λ none.
@@ -168,7 +173,7 @@ pub whole_more : (pieces : List (Bor (List ℕ))) (k : ℕ) (d : Bor (List ℕ))
 whole_more pieces k d below =
     let piece = get_or pieces k d in
     ap whole (take_more pieces k d below) ∙ flat_map-append (λ (p : Bor (List ℕ)). p.now) (take k pieces) (piece ∷ [])
-      ∙ ap (λ (t : List ℕ). whole (take k pieces) ++ t) (append-nil piece.now)
+    ∙ ap (λ (t : List ℕ). whole (take k pieces) ++ t) (append-nil piece.now)
 
 pub whole_cut : (pieces : List (Bor (List ℕ))) (k : ℕ) → whole pieces ≡ whole (take k pieces) ++ whole (drop k pieces)
 whole_cut pieces k = ap whole (sym (take-append-drop k pieces))

@@ -67,7 +67,7 @@ unfolding number_on
 number_on_never max n [] = never_open
 number_on_never max n (b ∷ bs) =
     never_if _ _ _ (number_on_never max (n * 10 + (b - digit_zero)) bs)
-      (never_then _ _ (line_never BadLength (b ∷ bs) bad_length) (λ p. never_ok _))
+    (never_then _ _ (line_never BadLength (b ∷ bs) bad_length) (λ p. never_ok _))
 
 number_never : (max : ℕ) (b : List ℕ) → Never (number_at max b)
 unfolding number_at
@@ -95,7 +95,7 @@ unfolding count_at
 count_never max [] = never_open
 count_never max (b ∷ bs) =
     never_if _ _ _ (never_then _ _ (minus_one_never (b ∷ bs)) (λ p. never_ok _))
-      (never_then _ _ (number_never max (b ∷ bs)) (λ n. never_ok _))
+    (never_then _ _ (number_never max (b ∷ bs)) (λ n. never_ok _))
 
 pub head_never : (max : ℕ) (b : List ℕ) → Never (head_at max b)
 unfolding head_at
@@ -140,7 +140,7 @@ stops_at_head limits buffer old now result stop at read is =
 pub wants_at_head : {X : Type 0} (limits : Limits) (buffer : List ℕ) (old now : Progress) (result : Result X Stop) (count : Option ℕ)
     (n : ℕ) (more : List ℕ) → AtHead limits buffer old now
     → head_at limits.words (drop now.start buffer) ≡ Ok (count, more) → n ≡ unwrap_or count 0 → 0 < n → result ≡ Err (Bad Memory)
-      → Begins limits buffer old now result
+    → Begins limits buffer old now result
 wants_at_head limits buffer old now result count n more at read n_is some is =
     let none : BeginsNone limits buffer old now (Bad Memory) = record {
       sound = at.sound;
@@ -148,7 +148,7 @@ wants_at_head limits buffer old now result count n more at read n_is some is =
       front = at.front;
       why = λ other. absurd (other refl);
       wants = λ _. stands_head limits (drop old.start buffer) (drop now.start buffer) more count n at.front read
-        (some_count count n n_is some) some;
+          (some_count count n n_is some) some;
     } in
     subst (Begins limits buffer old now) (sym is) none
 

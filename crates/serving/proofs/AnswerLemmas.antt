@@ -73,7 +73,7 @@ module _ {S Reason : Type 0} (asks : S → List (List ℕ) → Answer Reason →
 
   -- one more request is asked
   pub answered_more : (stream mid rest : List ℕ) (s u t : S) (ended : Option Reason) (answers : List (Answer Reason))
-    (words : List (List ℕ)) (answer : Answer Reason)
+      (words : List (List ℕ)) (answer : Answer Reason)
       → Answered asks limits stream mid s u None answers → Stream limits mid [] (item_text (Some words) ++ rest)
       → 0 < length words → IsLawful limits (Some words) → asks u words answer t → EndsBy ended (answer ∷ [])
       → Answered asks limits stream rest s t ended (answers ++ answer ∷ [])
@@ -81,7 +81,7 @@ module _ {S Reason : Type 0} (asks : S → List (List ℕ) → Answer Reason →
       answered_join stream mid rest s u t ended answers (answer ∷ []) p record {
         requests = words ∷ [];
         taken = stream_then limits mid [] (words ∷ []) (item_text (Some words) ++ rest) rest front
-          (stream_request limits words rest some lawful);
+            (stream_request limits words rest some lawful);
         run = (t, asked, refl);
         ending = ending;
       }

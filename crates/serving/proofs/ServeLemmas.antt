@@ -71,7 +71,7 @@ module _ {S Reason : Type 0} (asks : S → List (List ℕ) → Answer Reason →
   }
 
   pub serves_unread : (left now : Option (List ℕ)) (t : S) (held : Held) → Serving asks limits before left old now s t held
-    → Serves asks limits before left old now s t (Err Read)
+      → Serves asks limits before left old now s t (Err Read)
   serves_unread left now t held p = record {
     read = p.read;
     rest = held.bytes;
@@ -93,8 +93,10 @@ module _ {S Reason : Type 0} (asks : S → List (List ℕ) → Answer Reason →
     consumed = Consumes-nil before;
     answered = answered_start asks limits [] s;
     tells = refl;
-    leaves = (record { held = []; piece = []; whole = refl; held_open = open_nothing limits; short = omega arith },
-      ([], inl refl, Appends-nil old));
+    leaves = (
+      record { held = []; piece = []; whole = refl; held_open = open_nothing limits; short = omega arith },
+      ([], inl refl, Appends-nil old),
+    );
   }
 
   remains : (fault : ServeFault Reason) (bytes piece rest : List ℕ) (requests : List (List (List ℕ)))
@@ -106,7 +108,7 @@ module _ {S Reason : Type 0} (asks : S → List (List ℕ) → Answer Reason →
 
   -- the read took no byte
   read_none : (left after : Option (List ℕ)) (read buffer : List ℕ) (n : ℕ) → Consumes before left read
-    → Consumes left after (take n buffer) → n ≡ 0 → Consumes before after read
+      → Consumes left after (take n buffer) → n ≡ 0 → Consumes before after read
   read_none left after read buffer n p q none =
       subst (Consumes before after) (append-nil read)
       (Consumes-trans before left after read [] p (subst (λ k. Consumes left after (take k buffer)) none q))
@@ -146,7 +148,7 @@ module _ {S Reason : Type 0} (asks : S → List (List ℕ) → Answer Reason →
   -- a piece was read for which the decoder has no memory
   pub serves_unfed : (left after now : Option (List ℕ)) (t : S) (held : Held) (piece : List ℕ)
       → Serving asks limits before left old now s t held → Consumes left after piece → length piece ≤ PIECE
-        → Serves asks limits before after old now s t (Err Memory)
+      → Serves asks limits before after old now s t (Err Memory)
   serves_unfed left after now t held piece p took short = record {
     read = p.read ++ piece;
     rest = held.bytes ++ piece;
@@ -163,7 +165,7 @@ module _ {S Reason : Type 0} (asks : S → List (List ℕ) → Answer Reason →
 
   -- the answers to a piece, behind those before it
   joined : (left now : Option (List ℕ)) (t u : S) (held : Held) (piece rest : List ℕ) (ended : Option Reason)
-    (others : List (Answer Reason))
+      (others : List (Answer Reason))
       → (p : Serving asks limits before left old now s t held) → Answered asks limits (held.bytes ++ piece) rest t u ended others
       → Answered asks limits (p.read ++ piece) rest s u ended (p.answers ++ others)
   joined left now t u held piece rest ended others p q =
@@ -173,7 +175,7 @@ module _ {S Reason : Type 0} (asks : S → List (List ℕ) → Answer Reason →
   -- what was held when a piece had come
   fed_to : (left now : Option (List ℕ)) (t : S) (held given : Held) (piece : List ℕ)
       → Serving asks limits before left old now s t held → given ≡ fed held piece
-        → given ≡ with_bytes (nothing_held limits) (held.bytes ++ piece)
+      → given ≡ with_bytes (nothing_held limits) (held.bytes ++ piece)
   fed_to left now t held given piece p e = e ∙ fed_held limits held piece p.kept
 
   pub can_answer : (left now : Option (List ℕ)) (t : S) (held given : Held) (piece : List ℕ)
@@ -201,7 +203,7 @@ module _ {S Reason : Type 0} (asks : S → List (List ℕ) → Answer Reason →
         }
 
     pub serves_fault : (fault : Fault) → Serving asks limits before left old now s t held → Consumes left after piece
-      → given ≡ fed held piece
+        → given ≡ fed held piece
         → AnswersHeld asks given next t u now new (Ok (Some fault)) → Serves asks limits before after old new s u (Ok (Protocol fault))
     serves_fault fault p took e answers =
         let given_is = fed_to left now t held given piece p e in
@@ -219,9 +221,9 @@ module _ {S Reason : Type 0} (asks : S → List (List ℕ) → Answer Reason →
         }
 
     pub serves_broken : (fault : ServeFault Reason) → Serving asks limits before left old now s t held → Consumes left after piece
-      → given ≡ fed held piece
+        → given ≡ fed held piece
         → AnswersHeld asks given next t u now new (Err fault) → length piece ≤ PIECE
-          → Serves asks limits before after old new s u (Err fault)
+        → Serves asks limits before after old new s u (Err fault)
     serves_broken fault p took e answers short =
         let given_is = fed_to left now t held given piece p e in
         let q : AnswersHeld asks (with_bytes (nothing_held limits) (held.bytes ++ piece)) next t u now new (Err fault)

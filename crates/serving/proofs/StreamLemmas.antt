@@ -32,9 +32,9 @@ text_passes : (limits : Limits) (held piece tail : List ℕ) (x : Item) → IsLa
 text_passes limits held piece tail x lawful opened same fits =
     let k = length (item_text x) in
     let begins : take k held ≡ item_text x = sym (take-append-le k held piece fits) ∙ ap (take k) same
-      ∙ take-append_seam (item_text x) tail in
+    ∙ take-append_seam (item_text x) tail in
     no_shorter (item_at limits) (IsLawful limits) item_marks (item_reads limits) opened.value x opened.holds lawful opened.before
-      opened.next opened.after
+    opened.next opened.after
     (drop k held) opened.text (sym opened.split ∙ sym (take-append-drop k held) ∙ ap (λ l. l ++ drop k held) begins)
 
 items_within : (limits : Limits) (held piece rest : List ℕ) (items : List Item) → AllByRecursion (IsLawful limits) items
@@ -45,7 +45,7 @@ items_within limits held piece rest (x ∷ xs) lawful same opened =
     let whole : held ++ piece ≡ item_text x ++ tail = same ∙ append_assoc (item_text x) (flat_map item_text xs) rest in
     let lengths : length held + length piece ≡ length (item_text x) + (length (flat_map item_text xs) + length rest)
     = sym (length-append held piece) ∙ ap length whole ∙ length-append (item_text x) tail
-      ∙ ap (λ n. length (item_text x) + n) (length-append (flat_map item_text xs) rest) in
+    ∙ ap (λ n. length (item_text x) + n) (length-append (flat_map item_text xs) rest) in
     elim (cases_lt (length held) (length (item_text x))) [
       | inl longer ↦ inr (omega (arith, lengths, longer))
       | inr fits ↦ absurd (text_passes limits held piece tail x lawful.0 opened whole fits)

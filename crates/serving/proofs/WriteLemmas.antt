@@ -21,7 +21,7 @@ use Rattle.serving.proofs.AnswerLemmas.{answered_start, answered_join, answers_t
 -- texts that were written behind those of earlier answers
 pub appends_texts : {Reason : Type 0} (old mid new : Option (List ℕ)) (answers others : List (Answer Reason)) (line : List ℕ)
     → Appends old mid (answers_text answers) → Appends mid new (answers_text others ++ line)
-      → Appends old new (answers_text (answers ++ others) ++ line)
+    → Appends old new (answers_text (answers ++ others) ++ line)
 appends_texts old mid new answers others line p q =
     subst (Appends old new)
     (sym (append_assoc (answers_text answers) (answers_text others) line) ∙ ap (λ l. l ++ line) (sym (answers_text-append answers others)))
@@ -31,7 +31,7 @@ pub appends_all : {Reason : Type 0} (old mid new : Option (List ℕ)) (answers o
     → Appends old mid (answers_text answers) → Appends mid new (answers_text others) → Appends old new (answers_text (answers ++ others))
 appends_all old mid new answers others p q =
     subst (Appends old new) (sym (answers_text-append answers others))
-      (Appends-trans old mid new (answers_text answers) (answers_text others) p q)
+    (Appends-trans old mid new (answers_text answers) (answers_text others) p q)
 
 -- all of the texts, or all but the last, behind earlier ones
 all_but_last_behind : {Reason : Type 0} (answers others : List (Answer Reason)) (text : List ℕ)
@@ -68,11 +68,13 @@ beginning_behind limits rest answers others text p = record {
 pub breaks_behind : {Reason : Type 0} (limits : Limits) (rest : List ℕ) (old mid new : Option (List ℕ))
     (answers others : List (Answer Reason)) (fault : ServeFault Reason)
     → Appends old mid (answers_text answers) → Breaks limits rest others mid new fault
-      → Breaks limits rest (answers ++ others) old new fault
+    → Breaks limits rest (answers ++ others) old new fault
 breaks_behind limits rest old mid new answers others Read p q = (q.0, appends_all old mid new answers others p q.1)
-breaks_behind limits rest old mid new answers others Write p q =
-    (answers_text answers ++ q.0, beginning_behind limits rest answers others q.0 q.1,
-      Appends-trans old mid new (answers_text answers) q.0 p q.2)
+breaks_behind limits rest old mid new answers others Write p q = (
+  answers_text answers ++ q.0,
+  beginning_behind limits rest answers others q.0 q.1,
+  Appends-trans old mid new (answers_text answers) q.0 p q.2,
+)
 breaks_behind limits rest old mid new answers others Memory p q =
     (answers_text answers ++ q.0, all_but_last_behind answers others q.0 q.1, Appends-trans old mid new (answers_text answers) q.0 p q.2)
 breaks_behind limits rest old mid new answers others (Door reason) p q = appends_all old mid new answers others p q
@@ -98,7 +100,7 @@ gathered_begins old new rest answers gathered Starved p =
         answer_text w.1 ++ [],
         inl refl,
         append-nil (answers_text answers) ∙ ap answers_text w.2 ∙ answers_text-append w.0 (w.1 ∷ [])
-          ∙ ap (λ l. l ++ (answer_text w.1 ++ [])) (sym w.3),
+            ∙ ap (λ l. l ++ (answer_text w.1 ++ [])) (sym w.3),
       )
     ]
 
@@ -152,13 +154,13 @@ module _ {S Reason : Type 0} (asks : S → List (List ℕ) → Answer Reason →
       record {
         answers = p.answers ++ q.answers;
         answered = subst (λ l. Answered asks old.limits old.bytes l s t None (p.answers ++ q.answers)) same
-          (joined now new u t middle gathered Full p q);
+            (joined now new u t middle gathered Full p q);
         held = held_left now new q.rest p.held q.pauses.0 ∙ ap (with_bytes old) same;
         written = appends_all before middle after p.answers q.answers p.written (subst (Appends middle after) q.pauses.2 sent);
       }
 
   pub writing_shorter : (now new : Held) (u t : S) (gathered : List ℕ) → Gathers asks now new u t gathered Full
-    → length new.bytes < length now.bytes
+      → length new.bytes < length now.bytes
   writing_shorter now new u t gathered q = subst (λ l. length l < length now.bytes) (sym (bytes_left now new q.rest q.pauses.0)) q.pauses.1
 
   pub answers_waits : (now new : Held) (u t : S) (middle after : Option (List ℕ)) (gathered : List ℕ)
@@ -221,7 +223,7 @@ module _ {S Reason : Type 0} (asks : S → List (List ℕ) → Answer Reason →
       → AnswersHeld asks old new s t before after (Err Write)
   answers_unsent now new u t middle after gathered pause p q part =
       let begins = sent_begins now.limits q.rest q.answers gathered part.0 part.1
-        (gathered_begins now new q.rest q.answers gathered pause q.pauses) q.small part.2 in
+      (gathered_begins now new q.rest q.answers gathered pause q.pauses) q.small part.2 in
       record {
         rest = q.rest;
         answers = p.answers ++ q.answers;

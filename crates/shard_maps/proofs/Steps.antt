@@ -65,7 +65,7 @@ module _ (table : Layout) (old new : List Map) (command : Command) (is_table : I
         at_key : (q : List ℕ) → get (map_of_shard new (shard_of table q)) q ≡ get (effect_of command (joined old)).0 q
         at_key q = elim (has groups (shard_of table q))
             as (λ b. has groups (shard_of table q) ≡ b
-              → get (map_of_shard new (shard_of table q)) q ≡ get (effect_of command (joined old)).0 q) [
+            → get (map_of_shard new (shard_of table q)) q ≡ get (effect_of command (joined old)).0 q) [
               | true ↦ λ there.
                   ap (λ m. get m q) (given (shard_of table q) there)
                   ∙ get-part_of table (effect_of command part).0 (shard_of table q) q

@@ -72,12 +72,12 @@ len-both : (n : ℕ) (u m d : Map) → len m ≡ n → IsBoth u m d → HaveNone
 len-both zero u m d few both apart =
     let none : m ≡ empty = empty_of_len m few in
     ap len (same u d (λ q. both q ∙ ap (λ x. option_or (get x q) (get d q)) none
-      ∙ ap (λ o. option_or o (get d q)) (get-empty (slice_cmp nat_cmp) q)))
+    ∙ ap (λ o. option_or o (get d q)) (get-empty (slice_cmp nat_cmp) q)))
     ∙ (let e : len d ≡ 0 + len d = omega arith in e)
 len-both (suc n) u m d few both apart =
     elim (entries m) as (λ es. entries m ≡ es → len u ≡ suc n + len d) [
       | [] ↦ λ e. let nothing : len m ≡ 0 = len-entries m ∙ ap (λ (es : List (List ℕ × Value)). length es) e in
-        absurd (omega (arith, nothing, few))
+          absurd (omega (arith, nothing, few))
       | e ∷ es ↦ λ is. one_fewer n u m d e.0 e.1 (get-first m e.0 e.1 es is) few both apart (λ w x. len-both n w x d)
     ] refl
 
@@ -114,7 +114,7 @@ pub most_added : (z w r : ℤ) (a b : ℕ) → z ≡ pos (min a 9223372036854775
     → r ≡ saturate_signed w64 (z +ℤ to_z w64 (of_z w64 w)) → to_z w64 (of_z w64 r) ≡ pos (min (a + b) 9223372036854775807)
 most_added z w r a b is more sum =
     let most : min (min a 9223372036854775807 + min b 9223372036854775807) 9223372036854775807 ≡ min (a + b) 9223372036854775807 =
-      omega arith in
+    omega arith in
     kept r (a + b)
     (sum ∙ ap (λ x. saturate_signed w64 (x +ℤ to_z w64 (of_z w64 w))) is
     ∙ ap (λ x. saturate_signed w64 (pos (min a 9223372036854775807) +ℤ x)) (kept w b more) ∙ ap pos most)

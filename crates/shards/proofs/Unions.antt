@@ -69,7 +69,7 @@ not_first n ss i up below e = let less = up.0 (slice_index (numbers ss) i) (has-
 module _ (table : Layout) where
   -- no shard of the span is the key's
   pub none_of : (ss : Span) (q : List ℕ) → SpanHasOwnKeys table ss
-    → ((i : ℕ) → i < length ss → slice_index (numbers ss) i ≡ shard_of table q → ⊥)
+      → ((i : ℕ) → i < length ss → slice_index (numbers ss) i ≡ shard_of table q → ⊥)
       → get (union ss) q ≡ None
   none_of [] q own away = get-empty (slice_cmp nat_cmp) q
   none_of (s ∷ ss) q own away =
@@ -118,7 +118,7 @@ module _ (table : Layout) where
   later_cases false o p r none = refl
 
   get-union-changed : (ss : Span) (i : ℕ) (d : ℕ × Map) (q : List ℕ) (o : Option Value) → SpanHasOwnKeys table ss → IsAscending (numbers ss)
-    → i < length ss
+      → i < length ss
       → slice_index (numbers ss) i ≡ shard_of table q → (r : List ℕ)
       → get (union (slice_set ss i ((get_or ss i d).0, set (get_or ss i d).1 q o))) r ≡ cond (bytes_eq q r) o (get (union ss) r)
   get-union-changed [] i d q o own up below here r = absurd (omega (arith, below))
@@ -138,11 +138,11 @@ module _ (table : Layout) where
     where
       none : bytes_eq q r ≡ true → get s.1 r ≡ None
       none e = none_elsewhere table s.0 s.1 r own.0
-        (λ f. not_first s.0 ss i up (omega (arith, below)) (here ∙ ap (shard_of table) (same_bytes q r e) ∙ f))
+          (λ f. not_first s.0 ss i up (omega (arith, below)) (here ∙ ap (shard_of table) (same_bytes q r e) ∙ f))
 
   -- the union changes at that key alone
   pub union-changed : (ss : Span) (i : ℕ) (d : ℕ × Map) (q : List ℕ) (o : Option Value) → SpanHasOwnKeys table ss → IsAscending (numbers ss)
-    → i < length ss
+      → i < length ss
       → slice_index (numbers ss) i ≡ shard_of table q → union (slice_set ss i ((get_or ss i d).0, set (get_or ss i d).1 q o))
       ≡ set (union ss) q o
   union-changed ss i d q o own up below here =
@@ -150,7 +150,7 @@ module _ (table : Layout) where
 
   -- what is kept of a span by it
   pub span-changed : (groups : List ℕ) (ss : Span) (i : ℕ) (d : ℕ × Map) (q : List ℕ) (o : Option Value) → IsSpan table groups ss
-    → i < length ss
+      → i < length ss
       → slice_index (numbers ss) i ≡ shard_of table q → IsSpan table groups (slice_set ss i ((get_or ss i d).0, set (get_or ss i d).1 q o))
   span-changed groups ss i d q o span below here = record {
     numbers = numbers-changed ss i d (set (get_or ss i d).1 q o) below ∙ span.numbers;
@@ -237,7 +237,7 @@ module _ (table : Layout) (groups : List ℕ) (inside ss : Span) (i : ℕ) (s : 
       ∙ ap (λ (p : ℕ × Map). get p.1 q) (sym spot.at)
 
   changed_to : (m : Map) (o : Option Value) → m ≡ set s.1 q o
-    → slice_set inside i (s.0, m) ≡ slice_set inside i ((get_or inside i s).0, set (get_or inside i s).1 q o)
+      → slice_set inside i (s.0, m) ≡ slice_set inside i ((get_or inside i s).0, set (get_or inside i s).1 q o)
   changed_to m o is = ap (λ x. slice_set inside i (s.0, x)) is ∙ ap (λ (p : ℕ × Map). slice_set inside i (p.0, set p.1 q o)) spot.at
 
   span-to : (m : Map) (o : Option Value) → m ≡ set s.1 q o → IsSpan table groups (slice_set inside i (s.0, m))
@@ -246,7 +246,7 @@ module _ (table : Layout) (groups : List ℕ) (inside ss : Span) (i : ℕ) (s : 
   union-to : (m : Map) (o : Option Value) → m ≡ set s.1 q o → union (slice_set inside i (s.0, m)) ≡ set (union ss) q o
   union-to m o is =
       ap union (changed_to m o is) ∙ union-changed table inside i s q o spot.span.own ascends below' there'
-        ∙ ap (λ l. set (union l) q o) spot.shown
+      ∙ ap (λ l. set (union l) q o) spot.shown
 
 module _ {table : Layout} {groups : List ℕ} {inside ss : Span} {i : ℕ} {s : ℕ × Map} {q : List ℕ}
     (spot : Spot table groups inside ss i s q) where

@@ -64,7 +64,7 @@ but_start me grp id floor groups = record {
   clock = omega arith;
   started = λ i e. started-with_start me grp id floor groups i ∙ ap (λ b. cond b (Some groups) (get grp.started i)) e;
   heard = λ i g e. heard-with_start me grp id floor groups i g
-    ∙ ap (λ b. cond (b && g == me) (Some (next_clock grp floor)) (heard grp i g)) e;
+      ∙ ap (λ b. cond (b && g == me) (Some (next_clock grp floor)) (heard grp i g)) e;
 }
 
 pub but_proposal : (grp : GroupState) (id : RequestId) (from n : ℕ) → SameBut id grp (with_proposal grp id from n)
@@ -76,11 +76,11 @@ but_proposal grp id from n = record {
 
 pub tops_lifted : (me : ℕ) (old new : GroupState) (id : RequestId) → Sound me old → SameBut id old new →
     (i : RequestId) (gs : List ℕ) (s : Stamp) → get new.started i ≡ Some gs → final (heard new i) gs ≡ Some s
-      → s.clock ≤ (lifted new id).clock
+    → s.clock ≤ (lifted new id).clock
 tops_lifted me old new id sound but i gs s there settled = elim (cases_Bool (same_id i id)) [
   | inl e ↦ let same = same_id-true i id e in
       lift_above new.clock (final_of new id (get new.started id)) s
-        (subst (λ j. final_of new j (get new.started j) ≡ Some s) same (ap (final_of new i) there ∙ settled))
+      (subst (λ j. final_of new j (get new.started j) ≡ Some s) same (ap (final_of new i) there ∙ settled))
   | inr e ↦
       let before = sound.tops i gs s (sym (but.started i e) ∙ there) (sym (same_final new old i gs (λ g. but.heard i g e)) ∙ settled) in
       let grown = but.clock in let lifts = lift_grows new.clock (final_of new id (get new.started id)) in omega arith
@@ -98,7 +98,7 @@ heard_new : (me : ℕ) (grp : GroupState) (id : RequestId) (floor : ℕ) (groups
     heard (with_start me grp id floor groups) i h ≡ Some n → (same_id i id && h == me) ≡ true → next_clock grp floor ≡ n
 heard_new me grp id floor groups i h n e p =
     some_same _ _ (ap (λ b. cond b (Some (next_clock grp floor)) (heard grp i h)) (sym p)
-      ∙ sym (heard-with_start me grp id floor groups i h) ∙ e)
+    ∙ sym (heard-with_start me grp id floor groups i h) ∙ e)
 
 heard_old : (me : ℕ) (grp : GroupState) (id : RequestId) (floor : ℕ) (groups : List ℕ) (i : RequestId) (h n : ℕ) →
     heard (with_start me grp id floor groups) i h ≡ Some n → (same_id i id && h == me) ≡ false → heard grp i h ≡ Some n
@@ -137,28 +137,31 @@ sound_start me grp id floor groups sound member = record {
     | inl p ↦ elim (cases_Bool (same_id j id && h == me)) [
       | inl q ↦ same_id-true i id (and_parts _ _ p).0 ∙ sym (same_id-true j id (and_parts _ _ q).0)
       | inr q ↦ absurd (not_new me grp floor j h n sound (eqb-true h me (and_parts _ _ p).1) (heard_old me grp id floor groups j h n d q)
-        (heard_new me grp id floor groups i h n e p))
+          (heard_new me grp id floor groups i h n e p))
     ]
     | inr p ↦ elim (cases_Bool (same_id j id && h == me)) [
       | inl q ↦ absurd (not_new me grp floor i h n sound (eqb-true h me (and_parts _ _ q).1) (heard_old me grp id floor groups i h n e p)
-        (heard_new me grp id floor groups j h n d q))
+          (heard_new me grp id floor groups j h n d q))
       | inr q ↦ sound.apart i j h n (heard_old me grp id floor groups i h n e p) (heard_old me grp id floor groups j h n d q)
     ]
   ];
   own = λ i n e.
       let lifts = lift_grows (next_clock grp floor)
-        (final_of (with_start me grp id floor groups) id (get (with_start me grp id floor groups).started id)) in
+      (final_of (with_start me grp id floor groups) id (get (with_start me grp id floor groups).started id)) in
       elim (cases_Bool (same_id i id && me == me)) [
-        | inl p ↦ (let it = heard_new me grp id floor groups i me n e p in
-          omega arith, some_is _ groups (start_there me grp id floor groups i (and_parts _ _ p).0))
+        | inl p ↦ (
+          let it = heard_new me grp id floor groups i me n e p in
+              omega arith,
+          some_is _ groups (start_there me grp id floor groups i (and_parts _ _ p).0),
+        )
         | inr p ↦ let before = sound.own i n (heard_old me grp id floor groups i me n e p) in
-          (omega arith, stays_started me grp id floor groups i before.1)
+            (omega arith, stays_started me grp id floor groups i before.1)
       ];
   started = λ i gs e. elim (cases_Bool (same_id i id)) [
     | inl p ↦ (
       some_is _ (next_clock grp floor) (own_there me grp id floor groups i p),
       let same : groups ≡ gs = some_same _ _ (sym (start_there me grp id floor groups i p) ∙ e) in
-        subst (λ hs. has hs me ≡ true) same member,
+          subst (λ hs. has hs me ≡ true) same member,
     )
     | inr p ↦ let before = sound.started i gs (sym ((but_start me grp id floor groups).started i p) ∙ e) in
         (subst (λ o. IsSome o) (sym ((but_start me grp id floor groups).heard i me p)) before.0, before.1)
@@ -195,11 +198,11 @@ sound_proposal me grp id from n sound other single = record {
     | inl p ↦ elim (cases_Bool (same_id j id && h == from)) [
       | inl q ↦ same_id-true i id (and_parts _ _ p).0 ∙ sym (same_id-true j id (and_parts _ _ q).0)
       | inr q ↦ same_id-true i id (and_parts _ _ p).0
-        ∙ sym (another j h m (eqb-true h from (and_parts _ _ p).1) (told_new grp id from n i h m e p) (told_old grp id from n j h m d q))
+          ∙ sym (another j h m (eqb-true h from (and_parts _ _ p).1) (told_new grp id from n i h m e p) (told_old grp id from n j h m d q))
     ]
     | inr p ↦ elim (cases_Bool (same_id j id && h == from)) [
       | inl q ↦ another i h m (eqb-true h from (and_parts _ _ q).1) (told_new grp id from n j h m d q) (told_old grp id from n i h m e p)
-        ∙ sym (same_id-true j id (and_parts _ _ q).0)
+          ∙ sym (same_id-true j id (and_parts _ _ q).0)
       | inr q ↦ sound.apart i j h m (told_old grp id from n i h m e p) (told_old grp id from n j h m d q)
     ]
   ];
@@ -208,7 +211,7 @@ sound_proposal me grp id from n sound other single = record {
       let lifts = lift_grows grp.clock (final_of (with_proposal grp id from n) id (get grp.started id)) in
       (omega arith, before.1);
   started = λ i gs e. let before = sound.started i gs e in
-    (subst (λ o. IsSome o) (sym (own_stays me grp id from n other i)) before.0, before.1);
+      (subst (λ o. IsSome o) (sym (own_stays me grp id from n other i)) before.0, before.1);
   tops = tops_lifted me grp (with_proposal grp id from n) id sound (but_proposal grp id from n);
 }
   where
@@ -220,7 +223,7 @@ sound_proposal me grp id from n sound other single = record {
 -- where the packet's request isn't settled, nothing more may go
 pub stuck_start : (me : ℕ) (grp : GroupState) (id : RequestId) (floor : ℕ) (groups : List ℕ) → Lawful me grp → get grp.started id ≡ None →
     final (heard (with_start me grp id floor groups) id) groups ≡ None → (d : Delivered)
-      → MayGo me (lifted (with_start me grp id floor groups) id) d → ⊥
+    → MayGo me (lifted (with_start me grp id floor groups) id) d → ⊥
 stuck_start me grp id floor groups lawful absent unsettled_one d may = elim (cases_Bool (same_id d.id id)) [
   | inl p ↦ let same : groups ≡ d.groups = some_same _ _ (sym (start_there me grp id floor groups d.id p) ∙ may.started) in
       None≢Some d.stamp (sym unsettled_one ∙ ap (λ gs. final (heard (with_start me grp id floor groups) id) gs) same
@@ -232,7 +235,7 @@ stuck_start me grp id floor groups lawful absent unsettled_one d may = elim (cas
       | inl q ↦ absurd (None≢Some gs (sym absent ∙ ap (λ i. get grp.started i) (sym (same_id-true u id q)) ∙ there))
       | inr q ↦ subst (λ o. stamp_lt d.stamp (record { clock = or_zero o; group = me }) ≡ true) (but.heard u me q)
           (may.below u gs (but.started u q ∙ there) (same_final (with_start me grp id floor groups) grp u gs (λ g. but.heard u g q)
-            ∙ unsettled))
+          ∙ unsettled))
     ];
   })
 ]
@@ -242,19 +245,19 @@ stuck_start me grp id floor groups lawful absent unsettled_one d may = elim (cas
 
 pub stuck_proposal : (me : ℕ) (grp : GroupState) (id : RequestId) (from n : ℕ) → Lawful me grp → from ≢ me →
     final_of (with_proposal grp id from n) id (get grp.started id) ≡ None → (d : Delivered)
-      → MayGo me (lifted (with_proposal grp id from n) id) d → ⊥
+    → MayGo me (lifted (with_proposal grp id from n) id) d → ⊥
 stuck_proposal me grp id from n lawful other unsettled_one d may = elim (cases_Bool (same_id d.id id)) [
   | inl p ↦ None≢Some d.stamp (sym unsettled_one
-    ∙ ap (λ i. final_of (with_proposal grp id from n) i (get grp.started i)) (sym (same_id-true d.id id p))
+      ∙ ap (λ i. final_of (with_proposal grp id from n) i (get grp.started i)) (sym (same_id-true d.id id p))
       ∙ ap (final_of (with_proposal grp id from n) d.id) may.started ∙ may.stamp)
   | inr p ↦ lawful.stuck d (record {
     started = may.started;
     stamp = sym (same_final (with_proposal grp id from n) grp d.id d.groups (λ g. but.heard d.id g p)) ∙ may.stamp;
     below = λ u gs there unsettled. subst (λ o. stamp_lt d.stamp (record { clock = or_zero o; group = me }) ≡ true)
-      (own_stays me grp id from n other u)
+        (own_stays me grp id from n other u)
         (may.below u gs there (elim (cases_Bool (same_id u id)) [
           | inl q ↦ ap (final_of (with_proposal grp id from n) u) (sym there)
-            ∙ ap (λ i. final_of (with_proposal grp id from n) i (get grp.started i)) (same_id-true u id q) ∙ unsettled_one
+              ∙ ap (λ i. final_of (with_proposal grp id from n) i (get grp.started i)) (same_id-true u id q) ∙ unsettled_one
           | inr q ↦ same_final (with_proposal grp id from n) grp u gs (λ g. but.heard u g q) ∙ unsettled
         ]));
   })
@@ -276,7 +279,7 @@ same_proposal grp id from n e = same_state (with_proposal grp id from n) grp ref
     (λ i g. heard-with_proposal grp id from n i g ∙ elim (cases_Bool (same_id i id && g == from)) [
       | inl p ↦ ap (λ b. cond b (Some n) (heard grp i g)) p ∙ sym e
           ∙ ap (λ j. heard grp j from) (sym (same_id-true i id (and_parts _ _ p).0))
-            ∙ ap (λ h. heard grp i h) (sym (eqb-true g from (and_parts _ _ p).1))
+          ∙ ap (λ h. heard grp i h) (sym (eqb-true g from (and_parts _ _ p).1))
       | inr p ↦ ap (λ b. cond b (Some n) (heard grp i g)) p
     ])
 
@@ -356,7 +359,7 @@ open_stays me grp ds delivers u gs there unsettled_one = elim (cases_Bool (has_i
   | inl p ↦ let it = named ds u p in let may = delivers.only it.one it.there in
       let same : it.one.groups ≡ gs = some_same _ _ (sym may.started ∙ ap (λ i. get grp.started i) it.id ∙ there) in
       absurd (None≢Some it.one.stamp (sym unsettled_one ∙ ap (λ hs. final (heard grp u) hs) (sym same)
-        ∙ ap (λ i. final (heard grp i) it.one.groups) (sym it.id) ∙ may.stamp))
+      ∙ ap (λ i. final (heard grp i) it.one.groups) (sym it.id) ∙ may.stamp))
   | inr p ↦ p
 ]
 
@@ -372,7 +375,7 @@ lawful_without me grp ds sound delivers = record {
             let stays = open_stays me grp ds delivers u gs there unsettled_one in
             subst (λ o. stamp_lt d.stamp (record { clock = or_zero o; group = me }) ≡ true) (still_heard grp ds u stays me)
             (may.below u gs (still_started grp ds u stays ∙ there) (same_final (without grp ds) grp u gs (still_heard grp ds u stays)
-              ∙ unsettled_one));
+            ∙ unsettled_one));
       } in
       both_ways _ kept.0 (id_there ds d (delivers.all d before));
 }

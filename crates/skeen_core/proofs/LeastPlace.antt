@@ -59,10 +59,12 @@ next_found me xs last (Some s) x next up before = record {
 pub next_stays : (me : ℕ) (xs : List Started) (last : Option Stamp) (best : Option Started) (x : Started)
     → MatchOption best (NoneAbove me xs last) (IsNext me xs last) →
     (is_above last (place me x) ≡ true → is_before me (place me x) best ≡ false)
-      → MatchOption best (NoneAbove me (xs ++ x ∷ []) last) (IsNext me (xs ++ x ∷ []) last)
+    → MatchOption best (NoneAbove me (xs ++ x ∷ []) last) (IsNext me (xs ++ x ∷ []) last)
 next_stays me xs last None x none not_up =
-    none_more me xs last x none (elim (cases_Bool (is_above last (place me x))) [ inl e ↦ absurd (both_ways _ (not_up e) refl)
-    | inr e ↦ e ])
+    none_more me xs last x none (elim (cases_Bool (is_above last (place me x))) [
+      | inl e ↦ absurd (both_ways _ (not_up e) refl)
+      | inr e ↦ e
+    ])
 next_stays me xs last (Some s) x next not_up = next_kept me xs last s x next not_up
 
 -- the same over the first k, with what the code computes
@@ -75,7 +77,7 @@ pub best_found : (me : ℕ) (ss : List Started) (last : Option Stamp) (best new 
 best_found me ss last best new x k within at is up before found =
     let longer : take (k + 1) ss ≡ take k ss ++ x ∷ [] = take_more ss k x within ∙ ap (λ y. take k ss ++ y ∷ []) (sym at) in
     subst (λ xs. IsBest me xs last new) (sym longer)
-      (subst (λ o. IsBest me (take k ss ++ x ∷ []) last o) (sym found) (next_found me (take k ss) last best x is up before))
+    (subst (λ o. IsBest me (take k ss ++ x ∷ []) last o) (sym found) (next_found me (take k ss) last best x is up before))
 
 pub best_stays : (me : ℕ) (ss : List Started) (last : Option Stamp) (best new : Option Started) (x : Started) (k : ℕ) → k < length ss
     → x ≡ get_or ss k x → IsBest me (take k ss) last best →
@@ -83,7 +85,7 @@ pub best_stays : (me : ℕ) (ss : List Started) (last : Option Stamp) (best new 
 best_stays me ss last best new x k within at is passed same =
     let longer : take (k + 1) ss ≡ take k ss ++ x ∷ [] = take_more ss k x within ∙ ap (λ y. take k ss ++ y ∷ []) (sym at) in
     subst (λ xs. IsBest me xs last new) (sym longer)
-      (subst (λ o. IsBest me (take k ss ++ x ∷ []) last o) (sym same) (next_stays me (take k ss) last best x is passed))
+    (subst (λ o. IsBest me (take k ss ++ x ∷ []) last o) (sym same) (next_stays me (take k ss) last best x is passed))
 
 -- ---- again and again
 
@@ -108,12 +110,15 @@ settled_is : (me : ℕ) (s : Started) (d : Delivered) → settled s ≡ Some d �
 settled_is me s d e = by_final s.final_stamp refl e
   where
     by_final : (o : Option Stamp) → s.final_stamp ≡ o → settled_as s o ≡ Some d → (s.final_stamp ≡ Some d.stamp) × (place me s ≡ d.stamp)
-      × (delivered_as s d.stamp ≡ d)
+        × (delivered_as s d.stamp ≡ d)
     by_final None p q = absurd (cc)
     by_final (Some t) p q =
-        let same : delivered_as s t ≡ d = cc in let stamps : t ≡ d.stamp = ap (λ x. x.stamp) same in
-        (p ∙ ap Some stamps, ap (λ o. place_by o (record { clock = s.own; group = me })) p
-          ∙ stamps, ap (delivered_as s) (sym stamps) ∙ same)
+        let same : delivered_as s t ≡ d = cc in let stamps : t ≡ d.stamp = ap (λ x. x.stamp) same in (
+          p ∙ ap Some stamps,
+          ap (λ o. place_by o (record { clock = s.own; group = me })) p
+              ∙ stamps,
+          ap (delivered_as s) (sym stamps) ∙ same,
+        )
 
 is_settled : (s : Started) (t : Stamp) → s.final_stamp ≡ Some t → settled s ≡ Some (delivered_as s t)
 is_settled s t e = ap (settled_as s) e
@@ -172,7 +177,7 @@ due_by me ss last ds so_far rest = record {
   only = so_far.only;
   below = λ d there u stands unsettled. elim (cases_Bool (is_above last (place me u))) [
     | inl above ↦ ap (λ o. stamp_lt d.stamp (place_by o (record { clock = u.own; group = me }))) (sym unsettled)
-      ∙ below_next last d.stamp (place me u) (so_far.upto d there) above
+        ∙ below_next last d.stamp (place me u) (so_far.upto d there) above
     | inr below ↦ let before = so_far.behind u stands below in absurd (no_stamp u before.0 unsettled before.1)
   ];
   all = λ s t there is below.
@@ -197,13 +202,13 @@ pub due_until : (me : ℕ) (ss : List Started) (last : Option Stamp) (ds : List 
     → IsNext me ss last n → settled n ≡ None → IsDue me ss ds
 due_until me ss last ds n so_far next unsettled =
     due_by me ss last ds so_far (λ s t there is below. elim (cases_Bool (is_above last (place me s))) [
-  | inl above ↦
-      let not_below = next.least s there above in
-      let less : stamp_lt t (record { clock = n.own; group = me }) ≡ true = below n next.there no_final in
-      absurd (both_ways _ not_below (ap (λ o. stamp_lt (place_by o (record { clock = s.own; group = me })) (place me n)) is
-        ∙ ap (λ o. stamp_lt t (place_by o (record { clock = n.own; group = me }))) no_final ∙ less))
-  | inr not_up ↦ not_up
-])
+      | inl above ↦
+          let not_below = next.least s there above in
+          let less : stamp_lt t (record { clock = n.own; group = me }) ≡ true = below n next.there no_final in
+          absurd (both_ways _ not_below (ap (λ o. stamp_lt (place_by o (record { clock = s.own; group = me })) (place me n)) is
+          ∙ ap (λ o. stamp_lt t (place_by o (record { clock = n.own; group = me }))) no_final ∙ less))
+      | inr not_up ↦ not_up
+    ])
   where
     no_final : n.final_stamp ≡ None
     no_final = by_final n.final_stamp refl unsettled

@@ -32,9 +32,9 @@ pub In-filter : {X : Type 0} (test : X → Bool) (x : X) (xs : List X) → In x 
 In-filter test x [] h = absurd h
 In-filter {X} test x (y ∷ xs) h = elim (test y) as (λ b. test y ≡ b → In x (cond b (y ∷ filter test xs) (filter test xs)) → In x (y ∷ xs)
     × (test x ≡ true)) [
-  | true ↦ λ e. elim [
-    | inl same ↦ (inl same, ap test same ∙ e)
-    | inr rest ↦ let r = In-filter test x xs rest in (inr r.0, r.1)
-  ]
-  | false ↦ λ e rest. let r = In-filter test x xs rest in (inr r.0, r.1)
-] refl h
+      | true ↦ λ e. elim [
+        | inl same ↦ (inl same, ap test same ∙ e)
+        | inr rest ↦ let r = In-filter test x xs rest in (inr r.0, r.1)
+      ]
+      | false ↦ λ e rest. let r = In-filter test x xs rest in (inr r.0, r.1)
+    ] refl h

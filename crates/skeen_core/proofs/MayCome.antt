@@ -36,9 +36,9 @@ stands : (ps : List Heard) (i : RequestId) (g n : ℕ) → clock_in ps i g ≡ S
 stands [] i g n e = absurd (cc)
 stands (p ∷ ps) i g n e = elim (same_id i p.id && g == p.from) as (λ b. (same_id i p.id && g == p.from) ≡ b
     → cond b (Some p.clock) (clock_in ps i g) ≡ Some n → (q : Heard) × In q (p ∷ ps) × (q.id ≡ i)) [
-  | true ↦ λ d is. (p, inl refl, sym (same_id-true i p.id (and_parts (same_id i p.id) (g == p.from) d).0))
-  | false ↦ λ d is. let rest = stands ps i g n is in (rest.0, inr rest.1, rest.2)
-] refl e
+      | true ↦ λ d is. (p, inl refl, sym (same_id-true i p.id (and_parts (same_id i p.id) (g == p.from) d).0))
+      | false ↦ λ d is. let rest = stands ps i g n is in (rest.0, inr rest.1, rest.2)
+    ] refl e
 
 or_left : (a b : Bool) → a ≡ true → (a || b) ≡ true
 or_left true b e = refl
@@ -53,21 +53,21 @@ single_at : (all ps : List Heard) (id : RequestId) (from n : ℕ) → is_single 
 single_at all [] id from n e p there is = absurd there
 single_at all (q ∷ qs) id from n e p (inl same) is =
     elim (or_cases (same_id q.id id) (not (is_clock (clock_in all q.id from) n))
-      (and_parts (same_id q.id id || not (is_clock (clock_in all q.id from) n)) (is_single all qs id from n) e).0) [
+    (and_parts (same_id q.id id || not (is_clock (clock_in all q.id from) n)) (is_single all qs id from n) e).0) [
       | inl named ↦ ap (λ x. x.id) same ∙ same_id-true q.id id named
       | inr isnt ↦ absurd (both_ways _ (ap not (is_its_clock (clock_in all q.id from) n (ap (λ x. clock_in all x.id from) (sym same) ∙ is)))
-        isnt)
+          isnt)
     ]
 single_at all (q ∷ qs) id from n e p (inr there) is =
     single_at all qs id from n (and_parts (same_id q.id id || not (is_clock (clock_in all q.id from) n)) (is_single all qs id from n) e).1 p
-      there is
+    there is
 
 at_single : (all ps : List Heard) (id : RequestId) (from n : ℕ) → ((i : RequestId) → clock_in all i from ≡ Some n → i ≡ id)
     → is_single all ps id from n ≡ true
 at_single all [] id from n single = refl
 at_single all (q ∷ qs) id from n single = and_from _ _ (elim (cases_Bool (is_clock (clock_in all q.id from) n)) [
   | inl is ↦ or_left (same_id q.id id) (not (is_clock (clock_in all q.id from) n))
-    (eq-same_id q.id id (single q.id (clock_is (clock_in all q.id from) n is)))
+      (eq-same_id q.id id (single q.id (clock_is (clock_in all q.id from) n is)))
   | inr isnt ↦ or_right (same_id q.id id) (not (is_clock (clock_in all q.id from) n)) (ap not isnt)
 ]) (at_single all qs id from n single)
 
@@ -86,7 +86,7 @@ body_may me c ss ps id (Proposal from n) e =
       leb-true n (2 ^ 62) second.0,
       λ i is. let it = stands ps i from n (sym (heard-state_of c ss ps i from) ∙ is) in
           sym it.2 ∙ single_at ps ps id from n third.0 it.0 it.1 (ap (λ j. clock_in ps j from) it.2
-            ∙ sym (heard-state_of c ss ps i from) ∙ is),
+          ∙ sym (heard-state_of c ss ps i from) ∙ is),
       λ m is. agrees_all (clock_in ps id from) n third.1 m (sym (heard-state_of c ss ps id from) ∙ is),
     )
 

@@ -33,9 +33,9 @@ found_some (s ∷ ss) a i (inl same) is none =
     None≢Some s.groups (sym none ∙ ap (λ b. cond b (Some s.groups) (groups_in ss i)) (eq-same_id i s.id (sym is ∙ ap (λ x. x.id) same)))
 found_some (s ∷ ss) a i (inr there) is none =
     found_some ss a i there is (elim (same_id i s.id) as (λ b. cond b (Some s.groups) (groups_in ss i) ≡ None → groups_in ss i ≡ None) [
-  | true ↦ λ e. absurd (None≢Some s.groups (sym e))
-  | false ↦ λ e. e
-] none)
+      | true ↦ λ e. absurd (None≢Some s.groups (sym e))
+      | false ↦ λ e. e
+    ] none)
 
 -- what is found stands there
 pub record FoundAs (ss : List Started) (i : RequestId) (gs : List ℕ) : Type 0 where
@@ -48,9 +48,9 @@ pub found : (ss : List Started) (i : RequestId) (gs : List ℕ) → groups_in ss
 found [] i gs e = absurd (None≢Some gs e)
 found (s ∷ ss) i gs e = elim (same_id i s.id) as (λ b. same_id i s.id ≡ b → cond b (Some s.groups) (groups_in ss i) ≡ Some gs
     → FoundAs (s ∷ ss) i gs) [
-  | true ↦ λ p d. record { one = s; there = inl refl; id = sym (same_id-true i s.id p); groups = some_same _ _ d }
-  | false ↦ λ p d. let rest = found ss i gs d in record { one = rest.one; there = inr rest.there; id = rest.id; groups = rest.groups }
-] refl e
+      | true ↦ λ p d. record { one = s; there = inl refl; id = sym (same_id-true i s.id p); groups = some_same _ _ d }
+      | false ↦ λ p d. let rest = found ss i gs d in record { one = rest.one; there = inr rest.there; id = rest.id; groups = rest.groups }
+    ] refl e
 
 pub single : (ss : List Started) (a b : Started) → Once ss → In a ss → In b ss → a.id ≡ b.id → a ≡ b
 single [] a b once there here same = absurd there
@@ -66,7 +66,7 @@ finds me ss ps a keeps there = by_find (groups_in ss a.id) refl
     by_find : (o : Option (List ℕ)) → groups_in ss a.id ≡ o → o ≡ Some a.groups
     by_find None e = absurd (found_some ss a a.id there refl e)
     by_find (Some gs) e = let it = found ss a.id gs e in
-      ap Some (sym it.groups ∙ ap (λ x. x.groups) (single ss it.one a keeps.once it.there there it.id))
+        ap Some (sym it.groups ∙ ap (λ x. x.groups) (single ss it.one a keeps.once it.there there it.id))
 
 -- ---- one more at the end
 
@@ -75,26 +75,26 @@ pub groups_in-push : (ss : List Started) (s : Started) (i : RequestId) → group
 groups_in-push [] s i none = refl
 groups_in-push (x ∷ xs) s i none =
     elim (same_id s.id x.id) as (λ b. same_id s.id x.id ≡ b → cond b (Some x.groups) (groups_in xs s.id) ≡ None
-      → groups_in ((x ∷ xs) ++ s ∷ []) i ≡ cond (same_id i s.id) (Some s.groups) (groups_in (x ∷ xs) i)) [
+    → groups_in ((x ∷ xs) ++ s ∷ []) i ≡ cond (same_id i s.id) (Some s.groups) (groups_in (x ∷ xs) i)) [
       | true ↦ λ p e. absurd (None≢Some x.groups (sym e))
       | false ↦ λ p e. ap (cond (same_id i x.id) (Some x.groups)) (groups_in-push xs s i e) ∙ apart p
     ] refl none
   where
     apart : same_id s.id x.id ≡ false → cond (same_id i x.id) (Some x.groups) (cond (same_id i s.id) (Some s.groups) (groups_in xs i))
-      ≡ cond (same_id i s.id) (Some s.groups) (cond (same_id i x.id) (Some x.groups) (groups_in xs i))
+        ≡ cond (same_id i s.id) (Some s.groups) (cond (same_id i x.id) (Some x.groups) (groups_in xs i))
     apart p = elim (same_id i s.id) as (λ b. same_id i s.id ≡ b
-      → cond (same_id i x.id) (Some x.groups) (cond b (Some s.groups) (groups_in xs i))
-      ≡ cond b (Some s.groups) (cond (same_id i x.id) (Some x.groups) (groups_in xs i))) [
-      | true ↦ λ e. ap (λ b. cond b (Some x.groups) (Some s.groups)) (ap (λ j. same_id j x.id) (same_id-true i s.id e) ∙ p)
-      | false ↦ λ e. refl
-    ] refl
+        → cond (same_id i x.id) (Some x.groups) (cond b (Some s.groups) (groups_in xs i))
+        ≡ cond b (Some s.groups) (cond (same_id i x.id) (Some x.groups) (groups_in xs i))) [
+          | true ↦ λ e. ap (λ b. cond b (Some x.groups) (Some s.groups)) (ap (λ j. same_id j x.id) (same_id-true i s.id e) ∙ p)
+          | false ↦ λ e. refl
+        ] refl
 
 pub clock_in-push : (ps : List Heard) (p : Heard) (i : RequestId) (g : ℕ) → clock_in ps p.id p.from ≡ None
     → clock_in (ps ++ p ∷ []) i g ≡ cond (same_id i p.id && g == p.from) (Some p.clock) (clock_in ps i g)
 clock_in-push [] p i g none = refl
 clock_in-push (x ∷ xs) p i g none =
     elim (same_id p.id x.id && p.from == x.from) as (λ b. (same_id p.id x.id && p.from == x.from) ≡ b
-      → cond b (Some x.clock) (clock_in xs p.id p.from) ≡ None →
+    → cond b (Some x.clock) (clock_in xs p.id p.from) ≡ None →
     clock_in ((x ∷ xs) ++ p ∷ []) i g ≡ cond (same_id i p.id && g == p.from) (Some p.clock) (clock_in (x ∷ xs) i g)) [
       | true ↦ λ q e. absurd (None≢Some x.clock (sym e))
       | false ↦ λ q e. ap (cond (same_id i x.id && g == x.from) (Some x.clock)) (clock_in-push xs p i g e) ∙ apart q
@@ -105,10 +105,10 @@ clock_in-push (x ∷ xs) p i g none =
         ≡ cond (same_id i p.id && g == p.from) (Some p.clock) (cond (same_id i x.id && g == x.from) (Some x.clock) (clock_in xs i g))
     apart q = elim (same_id i p.id && g == p.from) as (λ b. (same_id i p.id && g == p.from) ≡ b →
         cond (same_id i x.id && g == x.from) (Some x.clock) (cond b (Some p.clock) (clock_in xs i g))
-          ≡ cond b (Some p.clock) (cond (same_id i x.id && g == x.from) (Some x.clock) (clock_in xs i g))) [
+        ≡ cond b (Some p.clock) (cond (same_id i x.id && g == x.from) (Some x.clock) (clock_in xs i g))) [
           | true ↦ λ e. let parts = and_parts (same_id i p.id) (g == p.from) e in
               ap (λ b. cond b (Some x.clock) (Some p.clock)) (ap (λ j. same_id j x.id && g == x.from) (same_id-true i p.id parts.0)
-                ∙ ap (λ h. same_id p.id x.id && h == x.from) (eqb-true g p.from parts.1) ∙ q)
+              ∙ ap (λ h. same_id p.id x.id && h == x.from) (eqb-true g p.from parts.1) ∙ q)
           | false ↦ λ e. refl
         ] refl
 
@@ -124,19 +124,19 @@ groups_in-left ds (s ∷ ss) i =
     elim (same_id i s.id) as (λ b. same_id i s.id ≡ b
     → groups_in (cond (not (has_id ds s.id)) (s ∷ starts_left ds ss) (starts_left ds ss)) i
     ≡ cond (has_id ds i) None (cond b (Some s.groups) (groups_in ss i))) [
-  | true ↦ λ e. elim (has_id ds i) as (λ b. has_id ds i ≡ b
-    → groups_in (cond (not (has_id ds s.id)) (s ∷ starts_left ds ss) (starts_left ds ss)) i ≡ cond b None (Some s.groups)) [
-    | true ↦ λ d. ap (λ b. groups_in (cond (not b) (s ∷ starts_left ds ss) (starts_left ds ss)) i) (left_same ds i s.id e ∙ d)
-      ∙ groups_in-left ds ss i ∙ ap (λ b. cond b None (groups_in ss i)) d
-    | false ↦ λ d. ap (λ b. groups_in (cond (not b) (s ∷ starts_left ds ss) (starts_left ds ss)) i) (left_same ds i s.id e ∙ d)
-      ∙ ap (λ b. cond b (Some s.groups) (groups_in (starts_left ds ss) i)) e
-  ] refl
-  | false ↦ λ e. elim (has_id ds s.id) as (λ b. groups_in (cond (not b) (s ∷ starts_left ds ss) (starts_left ds ss)) i
-    ≡ cond (has_id ds i) None (groups_in ss i)) [
-    | true ↦ groups_in-left ds ss i
-    | false ↦ ap (λ b. cond b (Some s.groups) (groups_in (starts_left ds ss) i)) e ∙ groups_in-left ds ss i
-  ]
-] refl
+      | true ↦ λ e. elim (has_id ds i) as (λ b. has_id ds i ≡ b
+          → groups_in (cond (not (has_id ds s.id)) (s ∷ starts_left ds ss) (starts_left ds ss)) i ≡ cond b None (Some s.groups)) [
+            | true ↦ λ d. ap (λ b. groups_in (cond (not b) (s ∷ starts_left ds ss) (starts_left ds ss)) i) (left_same ds i s.id e ∙ d)
+                ∙ groups_in-left ds ss i ∙ ap (λ b. cond b None (groups_in ss i)) d
+            | false ↦ λ d. ap (λ b. groups_in (cond (not b) (s ∷ starts_left ds ss) (starts_left ds ss)) i) (left_same ds i s.id e ∙ d)
+                ∙ ap (λ b. cond b (Some s.groups) (groups_in (starts_left ds ss) i)) e
+          ] refl
+      | false ↦ λ e. elim (has_id ds s.id) as (λ b. groups_in (cond (not b) (s ∷ starts_left ds ss) (starts_left ds ss)) i
+          ≡ cond (has_id ds i) None (groups_in ss i)) [
+            | true ↦ groups_in-left ds ss i
+            | false ↦ ap (λ b. cond b (Some s.groups) (groups_in (starts_left ds ss) i)) e ∙ groups_in-left ds ss i
+          ]
+    ] refl
 
 pub clock_in-left : (ds : List Delivered) (ps : List Heard) (i : RequestId) (g : ℕ)
     → clock_in (clocks_left ds ps) i g ≡ cond (has_id ds i) None (clock_in ps i g)
@@ -144,36 +144,37 @@ clock_in-left ds [] i g = elim (has_id ds i) as (λ b. None ≡ cond {A = Option
 clock_in-left ds (p ∷ ps) i g = elim (same_id i p.id && g == p.from) as (λ b. (same_id i p.id && g == p.from) ≡ b
     → clock_in (cond (not (has_id ds p.id)) (p ∷ clocks_left ds ps) (clocks_left ds ps)) i g
     ≡ cond (has_id ds i) None (cond b (Some p.clock) (clock_in ps i g))) [
-  | true ↦ λ e. let same = (and_parts (same_id i p.id) (g == p.from) e).0 in
-      elim (has_id ds i) as (λ b. has_id ds i ≡ b → clock_in (cond (not (has_id ds p.id)) (p ∷ clocks_left ds ps) (clocks_left ds ps)) i g
-        ≡ cond b None (Some p.clock)) [
-        | true ↦ λ d. ap (λ b. clock_in (cond (not b) (p ∷ clocks_left ds ps) (clocks_left ds ps)) i g) (left_same ds i p.id same ∙ d)
-          ∙ clock_in-left ds ps i g ∙ ap (λ b. cond b None (clock_in ps i g)) d
-        | false ↦ λ d. ap (λ b. clock_in (cond (not b) (p ∷ clocks_left ds ps) (clocks_left ds ps)) i g) (left_same ds i p.id same ∙ d)
-          ∙ ap (λ b. cond b (Some p.clock) (clock_in (clocks_left ds ps) i g)) e
-      ] refl
-  | false ↦ λ e. elim (has_id ds p.id) as (λ b. clock_in (cond (not b) (p ∷ clocks_left ds ps) (clocks_left ds ps)) i g
-    ≡ cond (has_id ds i) None (clock_in ps i g)) [
-    | true ↦ clock_in-left ds ps i g
-    | false ↦ ap (λ b. cond b (Some p.clock) (clock_in (clocks_left ds ps) i g)) e ∙ clock_in-left ds ps i g
-  ]
-] refl
+      | true ↦ λ e. let same = (and_parts (same_id i p.id) (g == p.from) e).0 in
+          elim (has_id ds i) as (λ b. has_id ds i ≡ b →
+          clock_in (cond (not (has_id ds p.id)) (p ∷ clocks_left ds ps) (clocks_left ds ps)) i g
+          ≡ cond b None (Some p.clock)) [
+            | true ↦ λ d. ap (λ b. clock_in (cond (not b) (p ∷ clocks_left ds ps) (clocks_left ds ps)) i g) (left_same ds i p.id same ∙ d)
+                ∙ clock_in-left ds ps i g ∙ ap (λ b. cond b None (clock_in ps i g)) d
+            | false ↦ λ d. ap (λ b. clock_in (cond (not b) (p ∷ clocks_left ds ps) (clocks_left ds ps)) i g) (left_same ds i p.id same ∙ d)
+                ∙ ap (λ b. cond b (Some p.clock) (clock_in (clocks_left ds ps) i g)) e
+          ] refl
+      | false ↦ λ e. elim (has_id ds p.id) as (λ b. clock_in (cond (not b) (p ∷ clocks_left ds ps) (clocks_left ds ps)) i g
+          ≡ cond (has_id ds i) None (clock_in ps i g)) [
+            | true ↦ clock_in-left ds ps i g
+            | false ↦ ap (λ b. cond b (Some p.clock) (clock_in (clocks_left ds ps) i g)) e ∙ clock_in-left ds ps i g
+          ]
+    ] refl
 
 pub without-state_of : (c : ℕ) (ss : List Started) (ps : List Heard) (ds : List Delivered)
     → state_of c (starts_left ds ss) (clocks_left ds ps) ≡ without (state_of c ss ps) ds
 without-state_of c ss ps ds = same_state (state_of c (starts_left ds ss) (clocks_left ds ps)) (without (state_of c ss ps) ds) refl
     (λ i. started-state_of c (starts_left ds ss) (clocks_left ds ps) i ∙ groups_in-left ds ss i
-      ∙ sym (started-without (state_of c ss ps) ds i ∙ ap (cond (has_id ds i) None) (started-state_of c ss ps i)))
+    ∙ sym (started-without (state_of c ss ps) ds i ∙ ap (cond (has_id ds i) None) (started-state_of c ss ps i)))
     (λ i g. heard-state_of c (starts_left ds ss) (clocks_left ds ps) i g ∙ clock_in-left ds ps i g
-      ∙ sym (heard-without (state_of c ss ps) ds i g ∙ ap (cond (has_id ds i) None) (heard-state_of c ss ps i g)))
+    ∙ sym (heard-without (state_of c ss ps) ds i g ∙ ap (cond (has_id ds i) None) (heard-state_of c ss ps i g)))
 
 once_left : (ds : List Delivered) (ss : List Started) → Once ss → Once (starts_left ds ss)
 once_left ds [] once = tt
 once_left ds (s ∷ ss) once =
     elim (has_id ds s.id) as (λ b. has_id ds s.id ≡ b → Once (cond (not b) (s ∷ starts_left ds ss) (starts_left ds ss))) [
-  | true ↦ λ e. once_left ds ss once.1
-  | false ↦ λ e. (groups_in-left ds ss s.id ∙ ap (λ b. cond b None (groups_in ss s.id)) e ∙ once.0, once_left ds ss once.1)
-] refl
+      | true ↦ λ e. once_left ds ss once.1
+      | false ↦ λ e. (groups_in-left ds ss s.id ∙ ap (λ b. cond b None (groups_in ss s.id)) e ∙ once.0, once_left ds ss once.1)
+    ] refl
 
 pub keeps_left : (me : ℕ) (ss : List Started) (ps : List Heard) (ds : List Delivered) → Keeps me ss ps
     → Keeps me (starts_left ds ss) (clocks_left ds ps)
@@ -183,12 +184,14 @@ keeps_left me ss ps ds keeps = record {
       clock_in-left ds ps a.id me ∙ ap (λ b. cond b None (clock_in ps a.id me)) (not_there a f.1) ∙ keeps.own a f.0;
   final = λ a there. let f = In-filter (λ s. not (has_id ds s.id)) a ss there in
       keeps.final a f.0 ∙ ap (λ (h : ℕ → Option ℕ). final h a.groups)
-        (λ k g. sym (clock_in-left ds ps a.id g ∙ ap (λ b. cond b None (clock_in ps a.id g)) (not_there a f.1)) k);
+      (λ k g. sym (clock_in-left ds ps a.id g ∙ ap (λ b. cond b None (clock_in ps a.id g)) (not_there a f.1)) k);
 }
   where
     not_there : (a : Started) → not (has_id ds a.id) ≡ true → has_id ds a.id ≡ false
-    not_there a e = elim (has_id ds a.id) as (λ b. not b ≡ true → b ≡ false) [ true ↦ λ e. absurd (both_ways _ refl e)
-      | false ↦ λ e. refl ] e
+    not_there a e = elim (has_id ds a.id) as (λ b. not b ≡ true → b ≡ false) [
+      | true ↦ λ e. absurd (both_ways _ refl e)
+      | false ↦ λ e. refl
+    ] e
 
 -- ---- places
 
@@ -205,12 +208,12 @@ at_proposal me c ss ps a keeps sound there = heard-state_of c ss ps a.id (place 
     member = (sound.started a.id a.groups (started-state_of c ss ps a.id ∙ finds me ss ps a keeps there)).1
 
     from_groups : (gs : List ℕ) (s : Stamp) → has gs me ≡ true → final (clock_in ps a.id) gs ≡ Some s
-      → clock_in ps a.id s.group ≡ Some s.clock
+        → clock_in ps a.id s.group ≡ Some s.clock
     from_groups [] s m e = absurd (both_ways _ refl m)
     from_groups (g ∷ gs) s m e = final_proposed (clock_in ps a.id) g gs s e
 
     by_final : (o : Option Stamp) → a.final_stamp ≡ o → clock_in ps a.id (place_by o (record { clock = a.own; group = me })).group
-      ≡ Some (place_by o (record { clock = a.own; group = me })).clock
+        ≡ Some (place_by o (record { clock = a.own; group = me })).clock
     by_final None e = keeps.own a there
     by_final (Some s) e = from_groups a.groups s member (sym (keeps.final a there) ∙ e)
 
@@ -218,7 +221,7 @@ pub places_differ : (me c : ℕ) (ss : List Started) (ps : List Heard) → Keeps
 places_differ me c ss ps keeps sound a b there here same =
     let first = at_proposal me c ss ps a keeps sound there in
     let second : heard (state_of c ss ps) b.id (place me a).group ≡ Some (place me a).clock =
-      subst (λ (s : Stamp). heard (state_of c ss ps) b.id s.group ≡ Some s.clock) (sym same) (at_proposal me c ss ps b keeps sound here) in
+    subst (λ (s : Stamp). heard (state_of c ss ps) b.id s.group ≡ Some s.clock) (sym same) (at_proposal me c ss ps b keeps sound here) in
     single ss a b keeps.once there here (sound.apart a.id b.id _ _ first second)
 
 -- ---- what is due is what the rule delivers
@@ -233,21 +236,21 @@ delivers_due me c ss ps ds keeps due = record {
     below = λ u gs starts unsettled.
         let it = found ss u gs (sym (started-state_of c ss ps u) ∙ starts) in
         let no_final : it.one.final_stamp ≡ None = keeps.final it.one it.there ∙ ap (λ i. final (clock_in ps i) it.one.groups) it.id
-          ∙ ap (final (clock_in ps u)) it.groups ∙ sym (final_at c ss ps u gs) ∙ unsettled in
+        ∙ ap (final (clock_in ps u)) it.groups ∙ sym (final_at c ss ps u gs) ∙ unsettled in
         let own : heard (state_of c ss ps) u me ≡ Some it.one.own = heard-state_of c ss ps u me ∙ ap (λ i. clock_in ps i me) (sym it.id)
-          ∙ keeps.own it.one it.there in
+        ∙ keeps.own it.one it.there in
         ap (λ o. stamp_lt d.stamp (record { clock = or_zero o; group = me })) own ∙ due.below d there it.one it.there no_final;
   });
   all = λ d may.
       let it = found ss d.id d.groups (sym (started-state_of c ss ps d.id) ∙ may.started) in
       let is : it.one.final_stamp ≡ Some d.stamp = keeps.final it.one it.there ∙ ap (λ i. final (clock_in ps i) it.one.groups) it.id
-        ∙ ap (final (clock_in ps d.id)) it.groups ∙ sym (final_at c ss ps d.id d.groups) ∙ may.stamp in
+      ∙ ap (final (clock_in ps d.id)) it.groups ∙ sym (final_at c ss ps d.id d.groups) ∙ may.stamp in
       let below : BelowOpen me ss d.stamp = λ u there no_final.
       let unsettled : final (heard (state_of c ss ps) u.id) u.groups ≡ None = final_at c ss ps u.id u.groups ∙ sym (keeps.final u there)
-        ∙ no_final in
+      ∙ no_final in
       let own : heard (state_of c ss ps) u.id me ≡ Some u.own = heard-state_of c ss ps u.id me ∙ keeps.own u there in
       ap (λ o. stamp_lt d.stamp (record { clock = or_zero o; group = me })) (sym own)
-        ∙ may.below u.id u.groups (started-state_of c ss ps u.id ∙ finds me ss ps u keeps there) unsettled in
+      ∙ may.below u.id u.groups (started-state_of c ss ps u.id ∙ finds me ss ps u keeps there) unsettled in
       let same : delivered_as it.one d.stamp ≡ d = λ k. record { id = it.id k; stamp = d.stamp; groups = it.groups k } in
       subst (λ x. In x ds) same (due.all it.one d.stamp it.there is below);
 }
@@ -272,11 +275,13 @@ pub comes_due : (me : ℕ) (grp : GroupState) (c : ℕ) (ss : List Started) (ps 
 comes_due me grp c ss ps ds shows keeps sound due =
     let delivers : Delivers me grp ds = subst (λ g. Delivers me g ds) (sym shows) (delivers_due me c ss ps ds keeps due) in
     let left : state_of c (starts_left ds ss) (clocks_left ds ps) ≡ without grp ds = without-state_of c ss ps ds
-      ∙ ap (λ g. without g ds) (sym shows) in
+    ∙ ap (λ g. without g ds) (sym shows) in
     record {
       delivering = record { delivers = delivers; after = left };
-      kept = record { keeps = keeps_left me ss ps ds keeps;
-        lawful = subst (λ g. Lawful me g) (sym left) (lawful_without me grp ds sound delivers) };
+      kept = record {
+        keeps = keeps_left me ss ps ds keeps;
+        lawful = subst (λ g. Lawful me g) (sym left) (lawful_without me grp ds sound delivers);
+      };
     }
 
 -- ---- a Start of a request that hasn't started
@@ -294,7 +299,7 @@ no_own me c ss ps id sound absent = by_clock (clock_in ps id me) refl
     by_clock : (o : Option ℕ) → clock_in ps id me ≡ o → o ≡ None
     by_clock None e = refl
     by_clock (Some n) e = absurd (not_some (get (state_of c ss ps).started id) (started-state_of c ss ps id
-      ∙ absent) (sound.own id n (heard-state_of c ss ps id me ∙ e)).1)
+        ∙ absent) (sound.own id n (heard-state_of c ss ps id me ∙ e)).1)
       where
         not_some : (o : Option (List ℕ)) → o ≡ None → IsSome o → ⊥
         not_some o e h = cc
@@ -303,11 +308,11 @@ pub start_shows : (me c : ℕ) (ss : List Started) (ps : List Heard) (id : Reque
     → Sound me (state_of c ss ps) → groups_in ss id ≡ None →
     n ≡ suc (max c floor) → o ≡ final (clock_in (ps ++ own_heard me id n ∷ []) id) groups →
     lifted (with_start me (state_of c ss ps) id floor groups) id
-      ≡ state_of (lift n o) (ss ++ begun_as id groups n o ∷ []) (ps ++ own_heard me id n ∷ [])
+    ≡ state_of (lift n o) (ss ++ begun_as id groups n o ∷ []) (ps ++ own_heard me id n ∷ [])
 start_shows me c ss ps id floor groups n o sound absent clock is = same_state _ _ clocks starts hears
   where
     hears : (i : RequestId) (g : ℕ) → heard (with_start me (state_of c ss ps) id floor groups) i g
-      ≡ heard (state_of (lift n o) (ss ++ begun_as id groups n o ∷ []) (ps ++ own_heard me id n ∷ [])) i g
+        ≡ heard (state_of (lift n o) (ss ++ begun_as id groups n o ∷ []) (ps ++ own_heard me id n ∷ [])) i g
     hears i g =
         heard-with_start me (state_of c ss ps) id floor groups i g
         ∙ ap (λ m. cond (same_id i id && g == me) (Some m) (heard (state_of c ss ps) i g)) (sym clock)
@@ -316,7 +321,7 @@ start_shows me c ss ps id floor groups n o sound absent clock is = same_state _ 
         ∙ sym (heard-state_of (lift n o) (ss ++ begun_as id groups n o ∷ []) (ps ++ own_heard me id n ∷ []) i g)
 
     starts : (i : RequestId) → get (with_start me (state_of c ss ps) id floor groups).started i
-      ≡ get (state_of (lift n o) (ss ++ begun_as id groups n o ∷ []) (ps ++ own_heard me id n ∷ [])).started i
+        ≡ get (state_of (lift n o) (ss ++ begun_as id groups n o ∷ []) (ps ++ own_heard me id n ∷ [])).started i
     starts i =
         started-with_start me (state_of c ss ps) id floor groups i
         ∙ ap (cond (same_id i id) (Some groups)) (started-state_of c ss ps i)
@@ -324,26 +329,29 @@ start_shows me c ss ps id floor groups n o sound absent clock is = same_state _ 
         ∙ sym (started-state_of (lift n o) (ss ++ begun_as id groups n o ∷ []) (ps ++ own_heard me id n ∷ []) i)
 
     clocks : lift (next_clock (state_of c ss ps) floor)
-      (final_of (with_start me (state_of c ss ps) id floor groups) id (get (with_start me (state_of c ss ps) id floor groups).started id))
-      ≡ lift n o
+        (final_of (with_start me (state_of c ss ps) id floor groups) id (get (with_start me (state_of c ss ps) id floor groups).started id))
+        ≡ lift n o
     clocks =
         ap (λ m. lift m (final_of (with_start me (state_of c ss ps) id floor groups) id
-          (get (with_start me (state_of c ss ps) id floor groups).started id))) (sym clock)
+        (get (with_start me (state_of c ss ps) id floor groups).started id))) (sym clock)
         ∙ ap (λ r. lift n (final_of (with_start me (state_of c ss ps) id floor groups) id r))
-          (started-with_start me (state_of c ss ps) id floor groups id
-          ∙ ap (λ b. cond b (Some groups) (get (state_of c ss ps).started id)) (same_id-refl id))
+        (started-with_start me (state_of c ss ps) id floor groups id
+        ∙ ap (λ b. cond b (Some groups) (get (state_of c ss ps).started id)) (same_id-refl id))
         ∙ ap (λ (f : ℕ → Option ℕ). lift n (final f groups))
-          (λ k g. (hears id g ∙ heard-state_of (lift n o) (ss ++ begun_as id groups n o ∷ []) (ps ++ own_heard me id n ∷ []) id g) k)
+        (λ k g. (hears id g ∙ heard-state_of (lift n o) (ss ++ begun_as id groups n o ∷ []) (ps ++ own_heard me id n ∷ []) id g) k)
         ∙ ap (lift n) (sym is)
 
 once_push : (ss : List Started) (s : Started) → Once ss → groups_in ss s.id ≡ None → Once (ss ++ s ∷ [])
 once_push [] s once absent = (refl, tt)
 once_push (x ∷ xs) s once absent = elim (same_id s.id x.id) as (λ b. same_id s.id x.id ≡ b
     → cond b (Some x.groups) (groups_in xs s.id) ≡ None → Once ((x ∷ xs) ++ s ∷ [])) [
-  | true ↦ λ p e. absurd (None≢Some x.groups (sym e))
-  | false ↦ λ p e. (groups_in-push xs s x.id e ∙ ap (λ b. cond b (Some s.groups) (groups_in xs x.id)) (same_id-sym x.id s.id ∙ p)
-    ∙ once.0, once_push xs s once.1 e)
-] refl absent
+      | true ↦ λ p e. absurd (None≢Some x.groups (sym e))
+      | false ↦ λ p e. (
+        groups_in-push xs s x.id e ∙ ap (λ b. cond b (Some s.groups) (groups_in xs x.id)) (same_id-sym x.id s.id ∙ p)
+            ∙ once.0,
+        once_push xs s once.1 e,
+      )
+    ] refl absent
 
 -- a proposal for one request leaves what is heard of the others
 others_heard : (ps : List Heard) (p : Heard) (i : RequestId) (g : ℕ) → clock_in ps p.id p.from ≡ None → (i ≡ p.id → ⊥)
@@ -354,20 +362,20 @@ others_heard ps p i g none other = clock_in-push ps p i g none
 pub keeps_start : (me c : ℕ) (ss : List Started) (ps : List Heard) (id : RequestId) (groups : List ℕ) (n : ℕ) (o : Option Stamp)
     → Keeps me ss ps → Sound me (state_of c ss ps) → groups_in ss id ≡ None →
     o ≡ final (clock_in (ps ++ own_heard me id n ∷ []) id) groups
-      → Keeps me (ss ++ begun_as id groups n o ∷ []) (ps ++ own_heard me id n ∷ [])
+    → Keeps me (ss ++ begun_as id groups n o ∷ []) (ps ++ own_heard me id n ∷ [])
 keeps_start me c ss ps id groups n o keeps sound absent is = record {
   once = once_push ss (begun_as id groups n o) keeps.once absent;
   own = λ a there. elim (In-end a (begun_as id groups n o) ss there) [
     | inl before ↦ others_heard ps (own_heard me id n) a.id me none (λ e. found_some ss a id before e absent) ∙ keeps.own a before
     | inr same ↦ ap (λ i. clock_in (ps ++ own_heard me id n ∷ []) i me) (ap (λ x. x.id) same)
-      ∙ clock_in-push ps (own_heard me id n) id me none
+        ∙ clock_in-push ps (own_heard me id n) id me none
         ∙ ap (λ b. cond (b && me == me) (Some n) (clock_in ps id me)) (same_id-refl id)
-          ∙ ap (λ b. cond b (Some n) (clock_in ps id me)) (eq-eqb me me refl) ∙ ap (λ x. Some x.own) (sym same)
+        ∙ ap (λ b. cond b (Some n) (clock_in ps id me)) (eq-eqb me me refl) ∙ ap (λ x. Some x.own) (sym same)
   ];
   final = λ a there. elim (In-end a (begun_as id groups n o) ss there) [
     | inl before ↦ keeps.final a before
-      ∙ ap (λ (f : ℕ → Option ℕ). final f a.groups)
-      (λ k g. sym (others_heard ps (own_heard me id n) a.id g none (λ e. found_some ss a id before e absent)) k)
+        ∙ ap (λ (f : ℕ → Option ℕ). final f a.groups)
+        (λ k g. sym (others_heard ps (own_heard me id n) a.id g none (λ e. found_some ss a id before e absent)) k)
     | inr same ↦ ap (λ x. x.final_stamp) same ∙ is ∙ ap (λ x. final (clock_in (ps ++ own_heard me id n ∷ []) x.id) x.groups) (sym same)
   ];
 }
@@ -384,30 +392,30 @@ final_in ps i (Some gs) = final (clock_in ps i) gs
 pub told_shows : (c : ℕ) (ss ss' : List Started) (ps : List Heard) (p : Heard) → clock_in ps p.id p.from ≡ None
     → ((i : RequestId) → groups_in ss' i ≡ groups_in ss i) →
     lifted (with_proposal (state_of c ss ps) p.id p.from p.clock) p.id
-      ≡ state_of (lift c (final_in (ps ++ p ∷ []) p.id (groups_in ss p.id))) ss' (ps ++ p ∷ [])
+    ≡ state_of (lift c (final_in (ps ++ p ∷ []) p.id (groups_in ss p.id))) ss' (ps ++ p ∷ [])
 told_shows c ss ss' ps p none same = same_state _ _ clocks starts (hears (lift c (final_in (ps ++ p ∷ []) p.id (groups_in ss p.id))))
   where
     hears : (d : ℕ) (i : RequestId) (g : ℕ) → heard (with_proposal (state_of c ss ps) p.id p.from p.clock) i g
-      ≡ heard (state_of d ss' (ps ++ p ∷ [])) i g
+        ≡ heard (state_of d ss' (ps ++ p ∷ [])) i g
     hears d i g =
         heard-with_proposal (state_of c ss ps) p.id p.from p.clock i g
         ∙ ap (cond (same_id i p.id && g == p.from) (Some p.clock)) (heard-state_of c ss ps i g)
         ∙ sym (clock_in-push ps p i g none) ∙ sym (heard-state_of d ss' (ps ++ p ∷ []) i g)
 
     starts : (i : RequestId) → get (state_of c ss ps).started i
-      ≡ get (state_of (lift c (final_in (ps ++ p ∷ []) p.id (groups_in ss p.id))) ss' (ps ++ p ∷ [])).started i
+        ≡ get (state_of (lift c (final_in (ps ++ p ∷ []) p.id (groups_in ss p.id))) ss' (ps ++ p ∷ [])).started i
     starts i = started-state_of c ss ps i ∙ sym (same i)
-      ∙ sym (started-state_of (lift c (final_in (ps ++ p ∷ []) p.id (groups_in ss p.id))) ss' (ps ++ p ∷ []) i)
+        ∙ sym (started-state_of (lift c (final_in (ps ++ p ∷ []) p.id (groups_in ss p.id))) ss' (ps ++ p ∷ []) i)
 
     by_groups : (o : Option (List ℕ)) → final_of (with_proposal (state_of c ss ps) p.id p.from p.clock) p.id o
-      ≡ final_in (ps ++ p ∷ []) p.id o
+        ≡ final_in (ps ++ p ∷ []) p.id o
     by_groups None = refl
     by_groups (Some gs) = ap (λ (f : ℕ → Option ℕ). final f gs) (λ k g. (hears c p.id g ∙ heard-state_of c ss' (ps ++ p ∷ []) p.id g) k)
 
     clocks : lift c (final_of (with_proposal (state_of c ss ps) p.id p.from p.clock) p.id (get (state_of c ss ps).started p.id))
-      ≡ lift c (final_in (ps ++ p ∷ []) p.id (groups_in ss p.id))
+        ≡ lift c (final_in (ps ++ p ∷ []) p.id (groups_in ss p.id))
     clocks = ap (λ o. lift c (final_of (with_proposal (state_of c ss ps) p.id p.from p.clock) p.id o)) (started-state_of c ss ps p.id)
-      ∙ ap (lift c) (by_groups (groups_in ss p.id))
+        ∙ ap (lift c) (by_groups (groups_in ss p.id))
 
 -- the request hasn't started
 pub keeps_early : (me : ℕ) (ss : List Started) (ps : List Heard) (p : Heard) → Keeps me ss ps → clock_in ps p.id p.from ≡ None
@@ -416,7 +424,8 @@ keeps_early me ss ps p keeps none absent = record {
   once = keeps.once;
   own = λ a there. others_heard ps p a.id me none (λ e. found_some ss a p.id there e absent) ∙ keeps.own a there;
   final = λ a there. keeps.final a there
-    ∙ ap (λ (f : ℕ → Option ℕ). final f a.groups) (λ k g. sym (others_heard ps p a.id g none (λ e. found_some ss a p.id there e absent)) k);
+      ∙ ap (λ (f : ℕ → Option ℕ). final f a.groups)
+      (λ k g. sym (others_heard ps p a.id g none (λ e. found_some ss a p.id there e absent)) k);
 }
 
 -- the request has started
@@ -443,8 +452,10 @@ in_set (x ∷ xs) zero s d a within ids once (inl same) = inl same
 in_set (x ∷ xs) zero s d a within ids once (inr there) = inr (inr there, λ e. found_some xs a x.id there (e ∙ ids) once.0)
 in_set (x ∷ xs) (suc k) s d a within ids once (inl same) =
     inr (inl same, λ e. found_some xs (get_or xs k d) x.id (In-get xs k d (omega arith)) (sym ids ∙ sym e ∙ ap (λ y. y.id) same) once.0)
-in_set (x ∷ xs) (suc k) s d a within ids once (inr there) = elim (in_set xs k s d a (omega arith) ids once.1 there) [ inl same ↦ inl same
-    | inr other ↦ inr (inr other.0, other.1) ]
+in_set (x ∷ xs) (suc k) s d a within ids once (inr there) = elim (in_set xs k s d a (omega arith) ids once.1 there) [
+  | inl same ↦ inl same
+  | inr other ↦ inr (inr other.0, other.1)
+]
 
 -- the started request with this final stamp
 abbrev pub settled_at : Started → Option Stamp → Started
@@ -465,9 +476,9 @@ keeps_told me ss ps p k s o keeps none other within at named is = record {
   ];
   final = λ a there. elim (in_set ss k (settled_at s o) s a within (ap (λ x. x.id) at) keeps.once there) [
     | inl same ↦ ap (λ x. x.final_stamp) same ∙ is ∙ ap (λ i. final (clock_in (ps ++ p ∷ []) i) s.groups) (sym named)
-      ∙ ap (λ x. final (clock_in (ps ++ p ∷ []) x.id) x.groups) (sym same)
+        ∙ ap (λ x. final (clock_in (ps ++ p ∷ []) x.id) x.groups) (sym same)
     | inr rest ↦ keeps.final a rest.0
-      ∙ ap (λ (f : ℕ → Option ℕ). final f a.groups) (λ k g. sym (others_heard ps p a.id g none (λ e. rest.1 (e ∙ sym named))) k)
+        ∙ ap (λ (f : ℕ → Option ℕ). final f a.groups) (λ k g. sym (others_heard ps p a.id g none (λ e. rest.1 (e ∙ sym named))) k)
   ];
 }
   where

@@ -47,12 +47,16 @@ later_either : (s t : Stamp) → (later s t ≡ s) ⊎ (later s t ≡ t)
 later_either s t = elim (stamp_lt s t) as (λ b. (cond b t s ≡ s) ⊎ (cond b t s ≡ t)) [ true ↦ inr refl | false ↦ inl refl ]
 
 later_first : (s t : Stamp) → stamp_lt (later s t) s ≡ false
-later_first s t = elim (stamp_lt s t) as (λ b. stamp_lt s t ≡ b → stamp_lt (cond b t s) s ≡ false) [ true ↦ λ e. lt_asym s t e
-    | false ↦ λ e. lt_irrefl s ] refl
+later_first s t = elim (stamp_lt s t) as (λ b. stamp_lt s t ≡ b → stamp_lt (cond b t s) s ≡ false) [
+  | true ↦ λ e. lt_asym s t e
+  | false ↦ λ e. lt_irrefl s
+] refl
 
 later_second : (s t : Stamp) → stamp_lt (later s t) t ≡ false
-later_second s t = elim (stamp_lt s t) as (λ b. stamp_lt s t ≡ b → stamp_lt (cond b t s) t ≡ false) [ true ↦ λ e. lt_irrefl t
-    | false ↦ λ e. e ] refl
+later_second s t = elim (stamp_lt s t) as (λ b. stamp_lt s t ≡ b → stamp_lt (cond b t s) t ≡ false) [
+  | true ↦ λ e. lt_irrefl t
+  | false ↦ λ e. e
+] refl
 
 -- a settled request: the first group's proposal, and the final stamp of the others
 pub record Settled (f : ℕ → Option ℕ) (g : ℕ) (gs : List ℕ) (s : Stamp) : Type 0 where
@@ -91,7 +95,7 @@ final_above f (x ∷ xs) s g e h =
         clock = p.clock;
         heard = p.heard;
         within = le_trans (record { clock = p.clock; group = g }) parts.rest s p.within
-          (subst (λ t. stamp_lt t parts.rest ≡ false) parts.greatest (later_second _ parts.rest));
+            (subst (λ t. stamp_lt t parts.rest ≡ false) parts.greatest (later_second _ parts.rest));
       }
     ]
 
@@ -108,14 +112,14 @@ final_proposed f g [] s e =
     let parts = settled f g [] s e in
     let bottom : parts.rest ≡ record { clock = 0; group = 0 } = cc in
     let it : later (record { clock = parts.clock; group = g }) (record { clock = 0; group = 0 }) ≡ s =
-      subst (λ (t : Stamp). later (record { clock = parts.clock; group = g }) t ≡ s) bottom parts.greatest in
+    subst (λ (t : Stamp). later (record { clock = parts.clock; group = g }) t ≡ s) bottom parts.greatest in
     subst (λ (t : Stamp). f t.group ≡ Some t.clock) (sym (alone g parts.clock) ∙ it) parts.heard
 final_proposed f g (h ∷ hs) s e =
     let parts = settled f g (h ∷ hs) s e in
     elim (later_either (record { clock = parts.clock; group = g }) parts.rest) [
       | inl first ↦ subst (λ (t : Stamp). f t.group ≡ Some t.clock) (sym first ∙ parts.greatest) parts.heard
       | inr second ↦ subst (λ (t : Stamp). f t.group ≡ Some t.clock) (sym second
-        ∙ parts.greatest) (final_proposed f h hs parts.rest parts.others)
+          ∙ parts.greatest) (final_proposed f h hs parts.rest parts.others)
     ]
 
 -- what is settled stays so when more is heard
@@ -133,9 +137,9 @@ final_within f h (g ∷ gs) s more e =
 lowest_first : (s : Stamp) → later (record { clock = 0; group = 0 }) s ≡ s
 lowest_first s = elim (stamp_lt (record { clock = 0; group = 0 }) s) as (λ b. stamp_lt (record { clock = 0; group = 0 }) s ≡ b
     → cond {A = Stamp} b s (record { clock = 0; group = 0 }) ≡ s) [
-  | true ↦ λ e. refl
-  | false ↦ λ e. le_antisym (record { clock = 0; group = 0 }) s e (lowest s.group s.clock)
-] refl
+      | true ↦ λ e. refl
+      | false ↦ λ e. le_antisym (record { clock = 0; group = 0 }) s e (lowest s.group s.clock)
+    ] refl
 
 pub lowest_last : (s : Stamp) → later s (record { clock = 0; group = 0 }) ≡ s
 lowest_last s = alone s.group s.clock

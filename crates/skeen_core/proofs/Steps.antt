@@ -39,7 +39,7 @@ module _ {me c : ℕ} {ss : List Started} {ps : List Heard} {id : RequestId} {fl
   start_final m = m.settled ∙ ap (λ l. final (clock_in l id) groups) m.clocks
 
   start_state : StartMade me c ss ps id floor groups n o ss' ps' → lifted (with_start me (state_of c ss ps) id floor groups) id
-    ≡ state_of (lift n o) ss' ps'
+      ≡ state_of (lift n o) ss' ps'
   start_state m =
       start_shows me c ss ps id floor groups n o m.kept.lawful.sound m.absent m.clock (start_final m)
       ∙ ap (λ l. state_of (lift n o) l (ps ++ own_heard me id n ∷ [])) (sym m.starts) ∙ ap (λ l. state_of (lift n o) ss' l) (sym m.clocks)
@@ -66,23 +66,26 @@ module _ {me c : ℕ} {ss : List Started} {ps : List Heard} {id : RequestId} {fl
       comes_none me _ (lift n o) ss' ps' (start_state m) (start_keeps m) (start_sound m)
       (stuck_start me (state_of c ss ps) id floor groups m.kept.lawful absent
       (ap (λ (g : GroupState). final (heard g id) groups) (start_state m)
-        ∙ ap (λ (f : ℕ → Option ℕ). final f groups) (λ k g. heard-state_of (lift n o) ss' ps' id g k) ∙ sym m.settled ∙ none))
+      ∙ ap (λ (f : ℕ → Option ℕ). final f groups) (λ k g. heard-state_of (lift n o) ss' ps' id g k) ∙ sym m.settled ∙ none))
 
 pub receives_new : (me c : ℕ) (ss : List Started) (ps : List Heard) (id : RequestId) (floor : ℕ) (groups : List ℕ) (n : ℕ)
     (sent : List Packet) (ds : List Delivered) (new : GroupState) → groups_in ss id ≡ None →
     n ≡ suc (max c floor) → sent ≡ tell me id n groups → Delivering me (lifted (with_start me (state_of c ss ps) id floor groups) id) ds new
-      →
+    →
     ReceivesStart (get (state_of c ss ps).started id) me (state_of c ss ps) id floor groups sent ds new
 receives_new me c ss ps id floor groups n sent ds new absent clock told delivering =
-    subst (λ r. ReceivesStart r me (state_of c ss ps) id floor groups sent ds new) (sym (started-state_of c ss ps id ∙ absent)) (told
-      ∙ ap (λ m. tell me id m groups) clock, delivering)
+    subst (λ r. ReceivesStart r me (state_of c ss ps) id floor groups sent ds new) (sym (started-state_of c ss ps id ∙ absent)) (
+      told
+          ∙ ap (λ m. tell me id m groups) clock,
+      delivering,
+    )
 
 pub receives_again : (me c : ℕ) (ss : List Started) (ps : List Heard) (id : RequestId) (floor : ℕ) (groups : List ℕ) (gs : List ℕ)
     (sent : List Packet) (ds : List Delivered) → groups_in ss id ≡ Some gs →
     sent ≡ [] → ds ≡ [] → ReceivesStart (get (state_of c ss ps).started id) me (state_of c ss ps) id floor groups sent ds (state_of c ss ps)
 receives_again me c ss ps id floor groups gs sent ds there none no_one =
     subst (λ r. ReceivesStart r me (state_of c ss ps) id floor groups sent ds (state_of c ss ps))
-      (sym (started-state_of c ss ps id ∙ there)) (none, no_one, refl)
+    (sym (started-state_of c ss ps id ∙ there)) (none, no_one, refl)
 
 -- ---- a Proposal
 
@@ -109,23 +112,23 @@ module _ {me c : ℕ} {ss : List Started} {ps : List Heard} {p : Heard} {ps' : L
 
   -- the request hasn't started
   pub told_early : ToldMade me c ss ps p ps' → groups_in ss p.id ≡ None
-    → Comes me (lifted (with_proposal (state_of c ss ps) p.id p.from p.clock) p.id) [] c ss ps'
+      → Comes me (lifted (with_proposal (state_of c ss ps) p.id p.from p.clock) p.id) [] c ss ps'
   told_early m absent =
       let shows = told_shows c ss ss ps p m.none (λ i. refl) in
       let shows' : lifted (with_proposal (state_of c ss ps) p.id p.from p.clock) p.id ≡ state_of c ss ps' =
       shows ∙ ap (λ r. state_of (lift c (final_in (ps ++ p ∷ []) p.id r)) ss (ps ++ p ∷ [])) absent
-        ∙ ap (λ l. state_of c ss l) (sym m.clocks) in
+      ∙ ap (λ l. state_of c ss l) (sym m.clocks) in
       comes_none me _ c ss ps' shows' (subst (λ l. Keeps me ss l) (sym m.clocks) (keeps_early me ss ps p m.kept.keeps m.none absent))
-        (told_sound m)
+      (told_sound m)
       (stuck_proposal me (state_of c ss ps) p.id p.from p.clock m.kept.lawful m.other
-        (ap (final_of (with_proposal (state_of c ss ps) p.id p.from p.clock) p.id) (started-state_of c ss ps p.id ∙ absent)))
+      (ap (final_of (with_proposal (state_of c ss ps) p.id p.from p.clock) p.id) (started-state_of c ss ps p.id ∙ absent)))
 
   module _ {k : ℕ} {s : Started} {o : Option Stamp} {ss' : List Started} where
     told_final : ToldMade me c ss ps p ps' → SetMade ss p ps' k s o ss' → o ≡ final (clock_in (ps ++ p ∷ []) p.id) s.groups
     told_final m t = t.settled ∙ ap (λ l. final (clock_in l p.id) s.groups) m.clocks
 
     told_state : ToldMade me c ss ps p ps' → SetMade ss p ps' k s o ss' → lifted (with_proposal (state_of c ss ps) p.id p.from p.clock) p.id
-      ≡ state_of (lift c o) ss' ps'
+        ≡ state_of (lift c o) ss' ps'
     told_state m t =
         told_shows c ss (set ss k (settled_at s o)) ps p m.none (set_groups ss k s o t.within t.at)
         ∙ ap (λ r. state_of (lift c (final_in (ps ++ p ∷ []) p.id r)) (set ss k (settled_at s o)) (ps ++ p ∷ [])) t.found
@@ -142,17 +145,17 @@ module _ {me c : ℕ} {ss : List Started} {ps : List Heard} {p : Heard} {ps' : L
 
     pub told_delivers : ToldMade me c ss ps p ps' → SetMade ss p ps' k s o ss' → (ds : List Delivered) → IsDue me ss' ds →
         Comes me (lifted (with_proposal (state_of c ss ps) p.id p.from p.clock) p.id) ds (lift c o) (starts_left ds ss')
-          (clocks_left ds ps')
+        (clocks_left ds ps')
     told_delivers m t ds due = comes_due me _ (lift c o) ss' ps' ds (told_state m t) (told_keeps m t) (told_sound m) due
 
     pub told_waits : ToldMade me c ss ps p ps' → SetMade ss p ps' k s o ss' → o ≡ None
-      → Comes me (lifted (with_proposal (state_of c ss ps) p.id p.from p.clock) p.id) [] c ss' ps'
+        → Comes me (lifted (with_proposal (state_of c ss ps) p.id p.from p.clock) p.id) [] c ss' ps'
     told_waits m t none =
         comes_none me _ c ss' ps' (told_state m t ∙ ap (λ r. state_of (lift c r) ss' ps') none) (told_keeps m t) (told_sound m)
         (stuck_proposal me (state_of c ss ps) p.id p.from p.clock m.kept.lawful m.other
         (ap (final_of (with_proposal (state_of c ss ps) p.id p.from p.clock) p.id) (started-state_of c ss ps p.id ∙ t.found)
         ∙ ap (λ (g : GroupState). final (heard g p.id) s.groups) (told_state m t)
-          ∙ ap (λ (f : ℕ → Option ℕ). final f s.groups) (λ k g. heard-state_of (lift c o) ss' ps' p.id g k) ∙ sym t.settled ∙ none))
+        ∙ ap (λ (f : ℕ → Option ℕ). final f s.groups) (λ k g. heard-state_of (lift c o) ss' ps' p.id g k) ∙ sym t.settled ∙ none))
 
 -- the group has it already
 pub told_again : (me c : ℕ) (ss : List Started) (ps : List Heard) (id : RequestId) (from n m : ℕ) → IsKept me c ss ps
@@ -161,11 +164,11 @@ pub told_again : (me c : ℕ) (ss : List Started) (ps : List Heard) (id : Reques
 told_again me c ss ps id from n m kept there same =
     let grp = state_of c ss ps in
     let again : with_proposal (state_of c ss ps) id from n ≡ state_of c ss ps =
-      same_proposal (state_of c ss ps) id from n (heard-state_of c ss ps id from ∙ there ∙ ap Some same) in
+    same_proposal (state_of c ss ps) id from n (heard-state_of c ss ps id from ∙ there ∙ ap Some same) in
     let stays : lifted (with_proposal (state_of c ss ps) id from n) id ≡ state_of c ss ps = ap (λ g. lifted g id) again
-      ∙ same_lifted me (state_of c ss ps) id kept.lawful.sound in
+    ∙ same_lifted me (state_of c ss ps) id kept.lawful.sound in
     subst (λ g. Delivering me g [] (state_of c ss ps)) (sym stays)
-      (record { delivers = delivers_none me (state_of c ss ps) kept.lawful.stuck; after = sym (without_none (state_of c ss ps)) })
+    (record { delivers = delivers_none me (state_of c ss ps) kept.lawful.stuck; after = sym (without_none (state_of c ss ps)) })
 
 -- what was written is written back
 pub written_back : {X : Type 0} (xs : List X) (k : ℕ) (x y z : X) → k < length xs → x ≡ get_or xs k x → z ≡ x → set (set xs k y) k z ≡ xs
@@ -188,8 +191,8 @@ pub comes_as : (me : ℕ) (grp : GroupState) (ds ds' : List Delivered) (c c' : �
     Comes me grp ds c ss ps → Comes me grp ds' c' ss' ps'
 comes_as me grp ds ds' c c' ss ss' ps ps' d e s p comes =
     subst (λ x. Comes me grp x c' ss' ps') (sym d)
-      (subst (λ x. Comes me grp ds x ss' ps') (sym e)
-      (subst (λ x. Comes me grp ds c x ps') (sym s) (subst (λ x. Comes me grp ds c ss x) (sym p) comes)))
+    (subst (λ x. Comes me grp ds x ss' ps') (sym e)
+    (subst (λ x. Comes me grp ds c x ps') (sym s) (subst (λ x. Comes me grp ds c ss x) (sym p) comes)))
 
 pub not_there : {X : Type 0} (o : Option X) (P : Type 0) (Q : X → Type 0) → MatchOption o P Q → is_some o ≡ false → P
 not_there None P Q m e = m

@@ -25,7 +25,7 @@ source_code = code_by (RequestId × ℕ) (coded× id_code coded_ℕ) (λ s. (s.i
 abbrev pub state_code : Coded GroupState
 state_code =
     code_by (ℕ × (FinMap id_cmp (List ℕ) × FinMap source_cmp ℕ))
-      (coded× coded_ℕ (coded× (code id_code (coded_list coded_ℕ)) (code source_code coded_ℕ)))
+    (coded× coded_ℕ (coded× (code id_code (coded_list coded_ℕ)) (code source_code coded_ℕ)))
     (λ s. (s.clock, (s.started, s.proposals))) (λ p. record { clock = p.0; started = p.1.0; proposals = p.1.1 }) (λ _. refl)
 
 abbrev pub group_code : Coded GroupView

@@ -45,7 +45,7 @@ insert-seen k [] = refl
 insert-seen k (x ∷ xs) =
     texts-match (by_bytes k x) (k ∷ x ∷ xs) (x ∷ xs) (x ∷ tree.insert_key by_bytes xs k)
     ∙ ap (λ rest. match_ordering (by_bytes k x) (k.items ∷ x.items ∷ texts_of xs) (x.items ∷ texts_of xs) (x.items ∷ rest))
-      (insert-seen k xs)
+    (insert-seen k xs)
 
 pub remove-seen : (q : Bytes) (ks : List (Vec ℕ)) → texts_of (remove_key (is_here q) ks) ≡ without_member (texts_of ks) q
 remove-seen q [] = refl
@@ -60,7 +60,7 @@ ascending-seen [] h = h
 ascending-seen (k ∷ ks) h = (below ks h.0, ascending-seen ks h.1)
   where
     below : (xs : List (Vec ℕ)) → AllByRecursion (λ y. by_bytes k y ≡ Less) xs
-      → AllByRecursion (λ y. slice_cmp nat_cmp k.items y ≡ Less) (texts_of xs)
+        → AllByRecursion (λ y. slice_cmp nat_cmp k.items y ≡ Less) (texts_of xs)
     below [] h = h
     below (x ∷ xs) h = (h.0, below xs h.1)
 
@@ -110,7 +110,7 @@ in_order ms (m ∷ more) above up =
   where
     still_above : (more : List Bytes) → AllByRecursion (λ n. AllByRecursion (λ x. slice_cmp nat_cmp x n ≡ Less) ms) more
         → AllByRecursion (λ n. slice_cmp nat_cmp m n ≡ Less) more
-          → AllByRecursion (λ n. AllByRecursion (λ x. slice_cmp nat_cmp x n ≡ Less) (ms ++ m ∷ [])) more
+        → AllByRecursion (λ n. AllByRecursion (λ x. slice_cmp nat_cmp x n ≡ Less) (ms ++ m ∷ [])) more
     still_above [] above up = tt
     still_above (n ∷ more) above up = (all-pushed (λ x. slice_cmp nat_cmp x n ≡ Less) ms m above.0 up.0, still_above more above.1 up.1)
 

@@ -40,7 +40,7 @@ insert-seen k v [] = refl
 insert-seen k v (e ∷ es) =
     seen-cond (same_field k e.0) ((e.0, v) ∷ es) (e ∷ insert_entry same_field es k v)
     ∙ ap (λ rest. cond (same_field k e.0) ((e.0.bytes.items, v.items) ∷ pairs_seen es) ((e.0.bytes.items, e.1.items) ∷ rest))
-      (insert-seen k v es)
+    (insert-seen k v es)
 
 pub remove-seen : (q : Bytes) (es : List (HashedText × Vec ℕ)) → pairs_seen (remove_entry (is_field q) es) ≡ without_field (pairs_seen es) q
 remove-seen q [] = refl
@@ -55,7 +55,7 @@ distinct-seen [] h = h
 distinct-seen (e ∷ es) h = (apart es h.0, distinct-seen es h.1)
   where
     apart : (fs : List (HashedText × Vec ℕ)) → AllByRecursion (λ y. same_field e.0 y ≡ false) (keys_of fs)
-      → AllByRecursion (λ y. bytes_eq e.0.bytes.items y ≡ false) (map (λ p. p.0) (pairs_seen fs))
+        → AllByRecursion (λ y. bytes_eq e.0.bytes.items y ≡ false) (map (λ p. p.0) (pairs_seen fs))
     apart [] h = h
     apart (f ∷ fs) h = (h.0, apart fs h.1)
 

@@ -18,7 +18,7 @@ loop-request-preserved c =
       may = may_append_next qs c.append.new.self.queues g c.in-Some.request c.next.new.self.rest.items low set more;
       room = search rules;
       whole = λ h. rest_next qs c.append.new.self.queues g c.in-Some.request c.next.new.self.rest.items low set h
-        ∙ ap (λ l. with_rest qs g l h) (sym s.0) ∙ inv.whole h;
+          ∙ ap (λ l. with_rest qs g l h) (sym s.0) ∙ inv.whole h;
     }
 
 pub returns-clause-appended : goal.returns-clause-appended

@@ -11,5 +11,5 @@ invariant-loop-request l = record {
   may : MayAppendAll (queue_of l.queues.queues) l.fn.group l.request-iterator.rest.items;
   room : length l.request-iterator.rest.items ≤ room_of l.queues.rooms l.fn.group;
   whole : (g : ℕ) → with_rest l.queues.queues l.fn.group l.request-iterator.rest.items g
-    ≡ with_rest l.fn.queues.queues l.fn.group l.fn.delivered.items g;
+      ≡ with_rest l.fn.queues.queues l.fn.group l.fn.delivered.items g;
 }

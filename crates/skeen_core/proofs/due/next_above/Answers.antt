@@ -20,14 +20,14 @@ loop-request-preserved c =
       | else-is_above w ↦ elim w.else-is_above.branch [
         | else-is_above-via-then-is_above+else-is_before w' ↦
             best_stays c.args.me c.args.started.now c.args.last best _ x k c.loop-request-test.true c.request-item.is
-              c.loop-request.invariant
+            c.loop-request.invariant
             (λ up. ap (λ s. is_before c.args.me s best) (sym c.place-here.ensures) ∙ sym w'.is_before.ensures ∙ w'.if-is_before.false)
             w.next-is
         | else-is_above-via-else-is_above w' ↦
             best_stays c.args.me c.args.started.now c.args.last best _ x k c.loop-request-test.true c.request-item.is
-              c.loop-request.invariant
+            c.loop-request.invariant
             (λ up. absurd (both_ways _ (ap (is_above c.args.last) (sym c.place-here.ensures) ∙ sym c.is_above.ensures
-              ∙ w'.if-is_above.false) up))
+            ∙ w'.if-is_above.false) up))
             w.next-is
       ]
     ]

@@ -14,14 +14,14 @@ invariant_of-self c =
     let queues = same_queues qs c.args.self.now c.self.view_is in
     let may : MayAppend (queue_of (requests_of qs)) n c.args.request =
     subst (λ (k : ℕ). MayAppend (queue_of (requests_of qs)) k c.args.request) (sym at)
-      (subst (λ l. MayAppend (queue_of l) c.args.group c.args.request) (sym queues) c.requires.may_append) in (
+    (subst (λ l. MayAppend (queue_of l) c.args.group c.args.request) (sym queues) c.requires.may_append) in (
       subst (λ k. k ≤ 64) (sym (length-set qs n c.append.new.self)) c.self.invariant.0,
       by_result c.append.result c.append.ensures.appended c.append.ensures.unchanged
           (λ now. sound_append qs n c.index_mut-queue.result.now c.append.new.self c.args.request
-            (record { low = low; was = c.index_mut-queue.ensures.value; now = now }) c.self.invariant.1 may)
+          (record { low = low; was = c.index_mut-queue.ensures.value; now = now }) c.self.invariant.1 may)
           (λ same. subst (λ l. IsSound (queue_of l))
-            (sym (requests_kept qs n c.index_mut-queue.result.now c.append.new.self low c.index_mut-queue.ensures.value
-            (ap (λ q. q.requests) same))) c.self.invariant.1),
+          (sym (requests_kept qs n c.index_mut-queue.result.now c.append.new.self low c.index_mut-queue.ensures.value
+          (ap (λ q. q.requests) same))) c.self.invariant.1),
     )
 
 pub returns-clause-appended : goal.returns-clause-appended
@@ -33,7 +33,7 @@ returns-clause-appended c =
     let queues = same_queues qs c.args.self.now c.self.view_is in
     on_ok c.append.result
     (λ now. appended qs n c.index_mut-queue.result.now c.append.new.self c.args.request
-      (record { low = low; was = c.index_mut-queue.ensures.value; now = now })
+    (record { low = low; was = c.index_mut-queue.ensures.value; now = now })
     ∙ ap (λ l. slice_set l n (queue_of l n ++ c.args.request ∷ [])) queues
     ∙ ap (λ k. slice_set c.args.self.now.queues k (queue_of c.args.self.now.queues k ++ c.args.request ∷ [])) at)
     c.append.ensures.appended
@@ -45,7 +45,7 @@ returns-clause-room c =
     let at = c.from.ensures ∙ c.number.ensures.same in
     let low = has_place qs c.args.self.now c.args.group n c.self.view_is at c.requires.group in
     let before = ap (λ rs. room_of rs c.args.group) (sym (same_rooms qs c.args.self.now c.self.view_is))
-      ∙ ap (λ k. room_of (rooms_of qs) k) (sym at) ∙ room_at qs n c.index_mut-queue.result.now low c.index_mut-queue.ensures.value in
+    ∙ ap (λ k. room_of (rooms_of qs) k) (sym at) ∙ room_at qs n c.index_mut-queue.result.now low c.index_mut-queue.ensures.value in
     let after = ap (λ k. room_of (rooms_of (slice_set qs n c.append.new.self)) k) (sym at) ∙ room_set qs n c.append.new.self low in
     on_ok c.append.result (λ more. omega arith) c.append.ensures.room
 

@@ -15,7 +15,7 @@ loop-index-preserved c =
     let within : c.loop-index.index < length (keys_of c.args.command.now) = omega arith in
     c.with-groups.ensures ∙ rw c.loop-index.invariant
     (with-key c.args.self.now (keys_of c.args.command.now) c.loop-index.index c.key_at.result.now c.shard_of.result within c.key_at.ensures
-      c.shard_of.ensures.value c.shard_of.ensures.in_range)
+    c.shard_of.ensures.value c.shard_of.ensures.in_range)
 
 exact : (c : After-loop-index) → c.loop-index.groups ≡ groups_of c.args.self.now c.args.command.now
 exact c =

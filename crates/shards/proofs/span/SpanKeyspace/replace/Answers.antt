@@ -30,8 +30,10 @@ pub replace-requires-clause-there : goal.replace-requires-clause-there
 replace-requires-clause-there g c = subst IsSome (get_here (spot g c)) c.requires.there
 
 pub invariant_of-self : goal.invariant_of-self
-invariant_of-self g c = (c.self.invariant.0,
-    changed_span (spot_after g c) c.replace.new.self (Some c.args.value) c.replace.ensures.replaced)
+invariant_of-self g c = (
+  c.self.invariant.0,
+  changed_span (spot_after g c) c.replace.new.self (Some c.args.value) c.replace.ensures.replaced,
+)
 
 pub returns-clause-before : goal.returns-clause-before
 returns-clause-before g c = get_here (spot_after g c) ∙ c.replace.ensures.before
