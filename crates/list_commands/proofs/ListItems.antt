@@ -1,7 +1,7 @@
 -- Items of a list, by their places.
-use Rattle.std.proofs.Common.{◌≡◌, ℕ, zero, suc, ◌+◌, ◌-◌, ◌<◌, ◌≤◌, List, [], ◌∷◌, ◌++◌, length, take, drop, get_or, Option, Some, None}
-use Rattle.std.proofs.Common.{slice_get, refl, sym, ap, ◌∙◌, arith, add-one, drop-cons}
-use Rattle.std.proofs.lemmas.List.{append-nil, drop_all, get_or-drop, length-drop, take_all}
+use Rattle.std.proofs.Common.{◌≡◌, ℕ, suc, ◌+◌, ◌-◌, ◌<◌, ◌≤◌, List, [], ◌∷◌, ◌++◌, length, take, drop, get_or, Some, None}
+use Rattle.std.proofs.Common.{slice_get, sym, ap, ◌∙◌, arith, drop-cons}
+use Rattle.std.proofs.lemmas.List.{drop_all, get_or-drop, length-drop, take_all}
 use Rattle.std.proofs.lemmas.Option.{slice_get_within, get_or_from_slice_get, slice_get-get_or}
 use Rattle.std.specs.Prelude.{insert, slice_range}
 use Rattle.texts.specs.Texts.{Bytes}
