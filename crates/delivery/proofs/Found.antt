@@ -1,5 +1,6 @@
 -- What the search finds: all requests that are ready, each once, in order.
-use Rattle.std.proofs.Common.{◌≡◌, ℕ, suc, ◌+◌, ◌<◌, ◌≤◌, ◌==◌, ◌||◌, ◌&&◌, Bool, true, false, cond, List, [], ◌∷◌, ◌⊎◌, Option, Some, None, length, refl, sym, ap, ◌∙◌, subst, arith, inl, inr, eqb-true, eq-eqb}
+use Rattle.std.proofs.Common.{◌≡◌, ℕ, suc, ◌+◌, ◌<◌, ◌≤◌, ◌==◌, ◌||◌, ◌&&◌, Bool, true, false, cond, List, [], ◌∷◌, ◌⊎◌, Option, Some, None}
+use Rattle.std.proofs.Common.{length, refl, sym, ap, ◌∙◌, subst, arith, inl, inr, eqb-true, eq-eqb}
 use Rattle.std.specs.List.{insert}
 use Rattle.std.proofs.lemmas.Bool.{or_cases, both_ways, cases_Bool, cases_lt, and_parts, and_from}
 use Rattle.std.proofs.lemmas.List.{get_or_past}
@@ -21,15 +22,18 @@ use Rattle.delivery.proofs.Layers.{in_queue}
 
 pub count_within : (s : Stamp) (ds : List Delivered) → count_before s ds ≤ length ds
 count_within s [] = omega arith
-count_within s (d ∷ ds) = let ih = count_within s ds in elim (stamp_lt s d.stamp) as (λ b. cond b 0 (suc (count_before s ds)) ≤ length (d ∷ ds)) [ true ↦ omega arith | false ↦ omega arith ]
+count_within s (d ∷ ds) = let ih = count_within s ds in
+    elim (stamp_lt s d.stamp) as (λ b. cond b 0 (suc (count_before s ds)) ≤ length (d ∷ ds)) [ true ↦ omega arith | false ↦ omega arith ]
 
 abbrev placed : Delivered → List Delivered → List Delivered
 placed d ds = insert ds (count_before d.stamp ds) d
 
 placed-cons : (d e : Delivered) (es : List Delivered) → placed d (e ∷ es) ≡ cond (stamp_lt d.stamp e.stamp) (d ∷ e ∷ es) (e ∷ placed d es)
-placed-cons d e es = elim (stamp_lt d.stamp e.stamp) as (λ b. insert (e ∷ es) (cond b 0 (suc (count_before d.stamp es))) d ≡ cond b (d ∷ e ∷ es) (e ∷ placed d es)) [ true ↦ refl | false ↦ refl ]
+placed-cons d e es = elim (stamp_lt d.stamp e.stamp) as (λ b. insert (e ∷ es) (cond b 0 (suc (count_before d.stamp es))) d
+    ≡ cond b (d ∷ e ∷ es) (e ∷ placed d es)) [ true ↦ refl | false ↦ refl ]
 
-took : (d x e : Delivered) (es : List Delivered) (b : Bool) → (In x (placed d es) → (x ≡ d) ⊎ In x es) → In x (cond b (d ∷ e ∷ es) (e ∷ placed d es)) → (x ≡ d) ⊎ In x (e ∷ es)
+took : (d x e : Delivered) (es : List Delivered) (b : Bool) → (In x (placed d es) → (x ≡ d) ⊎ In x es)
+    → In x (cond b (d ∷ e ∷ es) (e ∷ placed d es)) → (x ≡ d) ⊎ In x (e ∷ es)
 took d x e es true rest (inl same) = inl same
 took d x e es true rest (inr j) = inr j
 took d x e es false rest (inl same) = inr (inl same)
@@ -40,7 +44,8 @@ in_placed d x [] (inl e) = inl e
 in_placed d x [] (inr i) = absurd i
 in_placed d x (e ∷ es) i = took d x e es (stamp_lt d.stamp e.stamp) (in_placed d x es) (subst (λ l. In x l) (placed-cons d e es) i)
 
-gave : (d x e : Delivered) (es : List Delivered) (b : Bool) → ((x ≡ d) ⊎ In x es → In x (placed d es)) → (x ≡ d) ⊎ In x (e ∷ es) → In x (cond b (d ∷ e ∷ es) (e ∷ placed d es))
+gave : (d x e : Delivered) (es : List Delivered) (b : Bool) → ((x ≡ d) ⊎ In x es → In x (placed d es)) → (x ≡ d) ⊎ In x (e ∷ es)
+    → In x (cond b (d ∷ e ∷ es) (e ∷ placed d es))
 gave d x e es true rest (inl same) = inl same
 gave d x e es true rest (inr k) = inr k
 gave d x e es false rest (inl same) = inr (rest (inl same))
@@ -52,25 +57,31 @@ placed_in d x [] (inl same) = inl same
 placed_in d x [] (inr i) = absurd i
 placed_in d x (e ∷ es) i = subst (λ l. In x l) (sym (placed-cons d e es)) (gave d x e es (stamp_lt d.stamp e.stamp) (placed_in d x es) i)
 
-placed_up : (d : Delivered) (es : List Delivered) → Ascending es → ((e : Delivered) → In e es → e.stamp ≡ d.stamp → ⊥) → Ascending (placed d es)
+placed_up : (d : Delivered) (es : List Delivered) → Ascending es → ((e : Delivered) → In e es → e.stamp ≡ d.stamp → ⊥)
+    → Ascending (placed d es)
 placed_up d [] up differ = ((λ e i. absurd i), tt)
-placed_up d (e ∷ es) up differ = subst (λ l. Ascending l) (sym (placed-cons d e es)) (elim (stamp_lt d.stamp e.stamp) as (λ b. stamp_lt d.stamp e.stamp ≡ b → Ascending (cond b (d ∷ e ∷ es) (e ∷ placed d es))) [
-  | true ↦ λ h. (
-    (λ x i. elim i [
-      | inl same ↦ subst (λ (y : Delivered). stamp_lt d.stamp y.stamp ≡ true) (sym same) h
-      | inr j ↦ lt_trans d.stamp e.stamp x.stamp h (up.0 x j)
-    ]),
-    up,
-  )
-  | false ↦ λ h.
-      let less : stamp_lt e.stamp d.stamp ≡ true = elim (cases_Bool (stamp_lt e.stamp d.stamp)) [ inl l ↦ l | inr l ↦ absurd (differ e (inl refl) (le_antisym e.stamp d.stamp l h)) ] in (
-        (λ x i. elim (in_placed d x es i) [
-          | inl same ↦ subst (λ (y : Delivered). stamp_lt e.stamp y.stamp ≡ true) (sym same) less
-          | inr j ↦ up.0 x j
+placed_up d (e ∷ es) up differ =
+    subst (λ l. Ascending l) (sym (placed-cons d e es))
+    (elim (stamp_lt d.stamp e.stamp) as (λ b. stamp_lt d.stamp e.stamp ≡ b → Ascending (cond b (d ∷ e ∷ es) (e ∷ placed d es))) [
+      | true ↦ λ h. (
+        (λ x i. elim i [
+          | inl same ↦ subst (λ (y : Delivered). stamp_lt d.stamp y.stamp ≡ true) (sym same) h
+          | inr j ↦ lt_trans d.stamp e.stamp x.stamp h (up.0 x j)
         ]),
-        placed_up d es up.1 (λ x j. differ x (inr j)),
+        up,
       )
-] refl)
+      | false ↦ λ h.
+          let less : stamp_lt e.stamp d.stamp ≡ true = elim (cases_Bool (stamp_lt e.stamp d.stamp)) [
+            | inl l ↦ l
+            | inr l ↦ absurd (differ e (inl refl) (le_antisym e.stamp d.stamp l h))
+          ] in (
+            (λ x i. elim (in_placed d x es i) [
+              | inl same ↦ subst (λ (y : Delivered). stamp_lt e.stamp y.stamp ≡ true) (sym same) less
+              | inr j ↦ up.0 x j
+            ]),
+            placed_up d es up.1 (λ x j. differ x (inr j)),
+          )
+    ] refl)
 
 -- ---- the request at a place
 
@@ -92,7 +103,8 @@ starts_with : (q : List Delivered) (i : RequestId) → is_named (head_of q) i �
 starts_with [] i h = absurd (both_ways _ refl h)
 starts_with (x ∷ xs) i h = record { one = x; rest = xs; is = refl; id = same_id-true x.id i h }
 
-heads_at : (qs : List (List Delivered)) (i : RequestId) (gs : List ℕ) → heads_each qs i gs ≡ true → (g : ℕ) → has gs g ≡ true → is_named (head_of (queue_of qs g)) i ≡ true
+heads_at : (qs : List (List Delivered)) (i : RequestId) (gs : List ℕ) → heads_each qs i gs ≡ true → (g : ℕ) → has gs g ≡ true
+    → is_named (head_of (queue_of qs g)) i ≡ true
 heads_at qs i [] h g k = absurd (both_ways _ refl k)
 heads_at qs i (x ∷ xs) h g k =
     let parts = and_parts (is_named (head_of (queue_of qs x)) i) (heads_each qs i xs) h in
@@ -101,7 +113,8 @@ heads_at qs i (x ∷ xs) h g k =
       | inr there ↦ heads_at qs i xs parts.1 g there
     ]
 
-all_heads : (qs : List (List Delivered)) (d : Delivered) (gs : List ℕ) → ((g : ℕ) → has gs g ≡ true → head_of (queue_of qs g) ≡ Some d) → heads_each qs d.id gs ≡ true
+all_heads : (qs : List (List Delivered)) (d : Delivered) (gs : List ℕ) → ((g : ℕ) → has gs g ≡ true → head_of (queue_of qs g) ≡ Some d)
+    → heads_each qs d.id gs ≡ true
 all_heads qs d [] h = refl
 all_heads qs d (x ∷ xs) h =
     and_from (is_named (head_of (queue_of qs x)) d.id) (heads_each qs d.id xs)
@@ -123,13 +136,15 @@ one_first : (gs : List ℕ) (g h : ℕ) → is_first gs g ≡ true → is_first 
 one_first [] g h e f = absurd (both_ways _ refl e)
 one_first (x ∷ xs) g h e f = sym (eqb-true x g e) ∙ eqb-true x h f
 
-ready_of : (qs : List (List Delivered)) (k : ℕ) (d : Delivered) → IsSound (queue_of qs) → head_of (queue_of qs k) ≡ Some d → is_first d.groups k ≡ true → heads_each qs d.id d.groups ≡ true → IsReady (queue_of qs) d
+ready_of : (qs : List (List Delivered)) (k : ℕ) (d : Delivered) → IsSound (queue_of qs) → head_of (queue_of qs k) ≡ Some d
+    → is_first d.groups k ≡ true → heads_each qs d.id d.groups ≡ true → IsReady (queue_of qs) d
 ready_of qs k d sound head first each = record {
   somewhere = (k, first_has d.groups k first);
   heads = λ h inside.
       let s = starts_with (queue_of qs h) d.id (heads_at qs d.id d.groups each h inside) in
       let here = starts (queue_of qs k) d head in
-      let same : s.one ≡ d = sound.one_id h k s.one d (subst (λ l. In s.one l) (sym s.is) (inl refl)) (subst (λ l. In d l) (sym here.is) (inl refl)) s.id in
+      let same : s.one ≡ d = sound.one_id h k s.one d (subst (λ l. In s.one l) (sym s.is) (inl refl))
+      (subst (λ l. In d l) (sym here.is) (inl refl)) s.id in
       (s.rest, s.is ∙ ap (λ y. y ∷ s.rest) same);
 }
 
@@ -142,15 +157,17 @@ found qs k d sound e = by_head (head_of (queue_of qs k)) refl e
   where
     by_head : (o : Option Delivered) → head_of (queue_of qs k) ≡ o → if_ready qs k o ≡ Some d → Found qs k d
     by_head None h f = absurd (cc)
-    by_head (Some x) h f = elim (is_first x.groups k && heads_each qs x.id x.groups) as (λ b. (is_first x.groups k && heads_each qs x.id x.groups) ≡ b → cond b (Some x) None ≡ Some d → Found qs k d) [
-      | true ↦ λ t some.
-          let same : x ≡ d = cc in
-          let parts = and_parts (is_first x.groups k) (heads_each qs x.id x.groups) t in
-          subst (λ (y : Delivered). Found qs k y) same (record { ready = ready_of qs k x sound h parts.0 parts.1; first = parts.0 })
-      | false ↦ λ t none. absurd (cc)
-    ] refl f
+    by_head (Some x) h f = elim (is_first x.groups k && heads_each qs x.id x.groups)
+        as (λ b. (is_first x.groups k && heads_each qs x.id x.groups) ≡ b → cond b (Some x) None ≡ Some d → Found qs k d) [
+          | true ↦ λ t some.
+              let same : x ≡ d = cc in
+              let parts = and_parts (is_first x.groups k) (heads_each qs x.id x.groups) t in
+              subst (λ (y : Delivered). Found qs k y) same (record { ready = ready_of qs k x sound h parts.0 parts.1; first = parts.0 })
+          | false ↦ λ t none. absurd (cc)
+        ] refl f
 
-pub finds : (qs : List (List Delivered)) (k : ℕ) (d : Delivered) → IsReady (queue_of qs) d → is_first d.groups k ≡ true → ready_at qs k ≡ Some d
+pub finds : (qs : List (List Delivered)) (k : ℕ) (d : Delivered) → IsReady (queue_of qs) d → is_first d.groups k ≡ true
+    → ready_at qs k ≡ Some d
 finds qs k d ready first =
     ap (if_ready qs k) (head_is k (first_has d.groups k first))
     ∙ ap (λ b. cond b (Some d) None) (and_from (is_first d.groups k) (heads_each qs d.id d.groups) first (all_heads qs d d.groups head_is))
@@ -181,7 +198,8 @@ so_far_skip qs k ds s none = record {
   ];
 }
 
-pub so_far_more : (qs : List (List Delivered)) (k : ℕ) (ds ds' : List Delivered) (d : Delivered) → IsSound (queue_of qs) → SoFar qs k ds → ready_at qs k ≡ Some d → ds' ≡ placed d ds → SoFar qs (k + 1) ds'
+pub so_far_more : (qs : List (List Delivered)) (k : ℕ) (ds ds' : List Delivered) (d : Delivered) → IsSound (queue_of qs) → SoFar qs k ds
+    → ready_at qs k ≡ Some d → ds' ≡ placed d ds → SoFar qs (k + 1) ds'
 so_far_more qs k ds ds' d sound s some is = subst (λ l. SoFar qs (k + 1) l) (sym is) (record {
   ascending = placed_up d ds s.ascending differ;
   only = λ e i. elim (in_placed d e ds i) [
@@ -201,7 +219,8 @@ so_far_more qs k ds ds' d sound s some is = subst (λ l. SoFar qs (k + 1) l) (sy
     differ e i same =
         let o = s.only e i in
         let r = o.1.ready in
-        let one : e ≡ d = sound.one_stamp r.somewhere.0 k e d (in_queue (queue_of qs) r.somewhere.0 e r r.somewhere.1) (in_queue (queue_of qs) k d it.ready (first_has d.groups k it.first)) same in
+        let one : e ≡ d = sound.one_stamp r.somewhere.0 k e d (in_queue (queue_of qs) r.somewhere.0 e r r.somewhere.1)
+        (in_queue (queue_of qs) k d it.ready (first_has d.groups k it.first)) same in
         let at : o.0 ≡ k = one_first d.groups o.0 k (subst (λ (y : Delivered). is_first y.groups o.0 ≡ true) one o.1.first) it.first in
         absurd (omega (arith, o.2))
 

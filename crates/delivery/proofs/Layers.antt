@@ -21,7 +21,8 @@ first_same : (q rest rest' : List Delivered) (d e : Delivered) → q ≡ d ∷ r
 first_same q rest rest' d e h k = cc
 
 -- a queue has one head
-pub one_head : (queue : QueueOf) (g : ℕ) (d e : Delivered) → IsReady queue d → IsReady queue e → has d.groups g ≡ true → has e.groups g ≡ true → d ≡ e
+pub one_head : (queue : QueueOf) (g : ℕ) (d e : Delivered) → IsReady queue d → IsReady queue e → has d.groups g ≡ true
+    → has e.groups g ≡ true → d ≡ e
 one_head queue g d e r s h k = let a = r.heads g h in let b = s.heads g k in first_same (queue g) a.0 b.0 d e a.1 b.1
 
 pub in_queue : (queue : QueueOf) (g : ℕ) (d : Delivered) → IsReady queue d → has d.groups g ≡ true → In d (queue g)
@@ -52,7 +53,8 @@ popped_elsewhere queue d g e = ap (λ b. cond b (drop 1 (queue g)) (queue g)) e
 popped_here : (queue : QueueOf) (d : Delivered) (g : ℕ) → has d.groups g ≡ true → popped d queue g ≡ drop 1 (queue g)
 popped_here queue d g e = ap (λ b. cond b (drop 1 (queue g)) (queue g)) e
 
-still_ready : (queue : QueueOf) (d e : Delivered) → ((g : ℕ) → has d.groups g ≡ true → has e.groups g ≡ false) → IsReady queue e → IsReady (popped d queue) e
+still_ready : (queue : QueueOf) (d e : Delivered) → ((g : ℕ) → has d.groups g ≡ true → has e.groups g ≡ false) → IsReady queue e
+    → IsReady (popped d queue) e
 still_ready queue d e apart r = record {
   somewhere = r.somewhere;
   heads = λ g h. elim (cases_Bool (has d.groups g)) [
@@ -71,11 +73,13 @@ layers_can_be_popped queue layer l = poppable layer queue (layers_share_no_group
 
 -- ---- what is left
 
-popped_none : (ds : List Delivered) (queue : QueueOf) (g : ℕ) → ((d : Delivered) → In d ds → has d.groups g ≡ false) → popped_all ds queue g ≡ queue g
+popped_none : (ds : List Delivered) (queue : QueueOf) (g : ℕ) → ((d : Delivered) → In d ds → has d.groups g ≡ false)
+    → popped_all ds queue g ≡ queue g
 popped_none [] queue g out = refl
 popped_none (d ∷ ds) queue g out = popped_none ds (popped d queue) g (λ e i. out e (inr i)) ∙ popped_elsewhere queue d g (out d (inl refl))
 
-popped_one : (ds : List Delivered) (queue : QueueOf) (g : ℕ) (d : Delivered) → ShareNoGroup ds → In d ds → has d.groups g ≡ true → popped_all ds queue g ≡ drop 1 (queue g)
+popped_one : (ds : List Delivered) (queue : QueueOf) (g : ℕ) (d : Delivered) → ShareNoGroup ds → In d ds → has d.groups g ≡ true
+    → popped_all ds queue g ≡ drop 1 (queue g)
 popped_one [] queue g d share i h = absurd i
 popped_one (x ∷ xs) queue g d share (inl same) h =
     let here : has x.groups g ≡ true = subst (λ (y : Delivered). has y.groups g ≡ true) same h in
@@ -98,13 +102,15 @@ named (d ∷ ds) i h = elim (or_cases (same_id d.id i) (has_id ds i) h) [
 ]
 
 -- a ready request of that id is the very one
-the_same : (queue : QueueOf) (layer : List Delivered) → IsSound queue → AllReady queue layer → (g : ℕ) (x : Delivered) → In x (queue g) → (n : Named layer x.id) → n.one ≡ x
+the_same : (queue : QueueOf) (layer : List Delivered) → IsSound queue → AllReady queue layer → (g : ℕ) (x : Delivered) → In x (queue g)
+    → (n : Named layer x.id) → n.one ≡ x
 the_same queue layer sound ready g x i n =
     let r = ready n.one n.there in
     sound.one_id r.somewhere.0 g n.one x (in_queue queue r.somewhere.0 n.one r r.somewhere.1) i n.id
 
 -- behind the head of a queue nothing is ready
-left_behind : (queue : QueueOf) (layer : List Delivered) → IsSound queue → AllReady queue layer → (g : ℕ) (x : Delivered) (rest : List Delivered) → queue g ≡ x ∷ rest → left_in layer rest ≡ rest
+left_behind : (queue : QueueOf) (layer : List Delivered) → IsSound queue → AllReady queue layer
+    → (g : ℕ) (x : Delivered) (rest : List Delivered) → queue g ≡ x ∷ rest → left_in layer rest ≡ rest
 left_behind queue layer sound ready g x [] e = refl
 left_behind queue layer sound ready g x (y ∷ ys) e = ap (λ b. cond b (left_in layer ys) (y ∷ ys)) not_named
   where

@@ -1,5 +1,6 @@
 -- The queues in a list, one written back.
-use Rattle.std.proofs.Common.{◌≡◌, ◌≢◌, ℕ, zero, suc, ◌<◌, ◌≤◌, List, [], ◌∷◌, ◌++◌, Result, Ok, Err, OnOk, OnErr, take, drop, length, map, slice_index_or, slice_set, refl, sym, ap, ◌∙◌, arith, inl, inr}
+use Rattle.std.proofs.Common.{◌≡◌, ◌≢◌, ℕ, zero, suc, ◌<◌, ◌≤◌, List, [], ◌∷◌, ◌++◌, Result, Ok, Err, OnOk, OnErr, take, drop, length, map}
+use Rattle.std.proofs.Common.{slice_index_or, slice_set, refl, sym, ap, ◌∙◌, arith, inl, inr}
 use Rattle.std.proofs.lemmas.Bool.{cases_eq}
 use Rattle.std.proofs.Math.Seq.{take-append_seam}
 use Rattle.std.proofs.lemmas.List.{map-set, get_or-map, get_or-set_same, get_or-set_other, length-map}
@@ -7,7 +8,8 @@ use Rattle.delivery.specs.Queues.{QueueView, QueuesView, requests_of, rooms_of, 
 use Rattle.skeen_core.specs.declared.packet.Delivered.{Delivered}
 use Rattle.delivery.proofs.Sound.{sound_appended}
 
-pub queue_at : (qs : List QueueView) (g : ℕ) (q : QueueView) → g < length qs → q ≡ slice_index_or qs g q → queue_of (requests_of qs) g ≡ q.requests
+pub queue_at : (qs : List QueueView) (g : ℕ) (q : QueueView) → g < length qs → q ≡ slice_index_or qs g q
+    → queue_of (requests_of qs) g ≡ q.requests
 queue_at qs g q h e = get_or-map (λ w. w.requests) qs g q [] h ∙ ap (λ w. w.requests) (sym e)
 
 pub room_at : (qs : List QueueView) (g : ℕ) (q : QueueView) → g < length qs → q ≡ slice_index_or qs g q → room_of (rooms_of qs) g ≡ q.room
@@ -25,31 +27,37 @@ in_map f (x ∷ xs) zero h = omega arith
 in_map f (x ∷ xs) (suc g) h = let ih = in_map f xs g (omega arith) in omega arith
 
 pub queue_set : (qs : List QueueView) (g : ℕ) (q : QueueView) → g < length qs → queue_of (requests_of (slice_set qs g q)) g ≡ q.requests
-queue_set qs g q h = ap (λ l. queue_of l g) (requests_set qs g q) ∙ get_or-set_same (requests_of qs) g q.requests [] (in_map (λ w. w.requests) qs g h)
+queue_set qs g q h = ap (λ l. queue_of l g) (requests_set qs g q)
+    ∙ get_or-set_same (requests_of qs) g q.requests [] (in_map (λ w. w.requests) qs g h)
 
-pub queue_set_other : (qs : List QueueView) (g : ℕ) (q : QueueView) (h : ℕ) → h ≢ g → queue_of (requests_of (slice_set qs g q)) h ≡ queue_of (requests_of qs) h
+pub queue_set_other : (qs : List QueueView) (g : ℕ) (q : QueueView) (h : ℕ) → h ≢ g
+    → queue_of (requests_of (slice_set qs g q)) h ≡ queue_of (requests_of qs) h
 queue_set_other qs g q h ne = ap (λ l. queue_of l h) (requests_set qs g q) ∙ get_or-set_other (requests_of qs) g h q.requests [] ne
 
 pub room_set : (qs : List QueueView) (g : ℕ) (q : QueueView) → g < length qs → room_of (rooms_of (slice_set qs g q)) g ≡ q.room
 room_set qs g q h = ap (λ l. room_of l g) (rooms_set qs g q) ∙ get_or-set_same (rooms_of qs) g q.room 0 (in_map (λ w. w.room) qs g h)
 
-pub room_set_other : (qs : List QueueView) (g : ℕ) (q : QueueView) (h : ℕ) → h ≢ g → room_of (rooms_of (slice_set qs g q)) h ≡ room_of (rooms_of qs) h
+pub room_set_other : (qs : List QueueView) (g : ℕ) (q : QueueView) (h : ℕ) → h ≢ g
+    → room_of (rooms_of (slice_set qs g q)) h ≡ room_of (rooms_of qs) h
 room_set_other qs g q h ne = ap (λ l. room_of l h) (rooms_set qs g q) ∙ get_or-set_other (rooms_of qs) g h q.room 0 ne
 
 -- ---- a queue is written back with the same requests
 
-pub requests_kept : (qs : List QueueView) (g : ℕ) (q q' : QueueView) → g < length qs → q ≡ slice_index_or qs g q → q'.requests ≡ q.requests → requests_of (slice_set qs g q') ≡ requests_of qs
+pub requests_kept : (qs : List QueueView) (g : ℕ) (q q' : QueueView) → g < length qs → q ≡ slice_index_or qs g q → q'.requests ≡ q.requests
+    → requests_of (slice_set qs g q') ≡ requests_of qs
 requests_kept [] g q q' h e same = absurd (omega arith)
 requests_kept (x ∷ xs) zero q q' h e same = ap (λ r. r ∷ requests_of xs) (same ∙ ap (λ w. w.requests) e)
 requests_kept (x ∷ xs) (suc g) q q' h e same = ap (λ l. x.requests ∷ l) (requests_kept xs g q q' (omega arith) e same)
 
 -- ---- no room is lost
 
-pub rooms_kept : (qs : List QueueView) (g : ℕ) (q q' : QueueView) → g < length qs → q ≡ slice_index_or qs g q → q.room ≤ q'.room → (h : ℕ) → room_of (rooms_of qs) h ≤ room_of (rooms_of (slice_set qs g q')) h
+pub rooms_kept : (qs : List QueueView) (g : ℕ) (q q' : QueueView) → g < length qs → q ≡ slice_index_or qs g q → q.room ≤ q'.room → (h : ℕ)
+    → room_of (rooms_of qs) h ≤ room_of (rooms_of (slice_set qs g q')) h
 rooms_kept qs g q q' low e more h = elim (cases_eq h g) [
   | inl at ↦
       let before : room_of (rooms_of qs) h ≡ q.room = ap (λ k. room_of (rooms_of qs) k) at ∙ room_at qs g q low e in
-      let after : room_of (rooms_of (slice_set qs g q')) h ≡ q'.room = ap (λ k. room_of (rooms_of (slice_set qs g q')) k) at ∙ room_set qs g q' low in
+      let after : room_of (rooms_of (slice_set qs g q')) h ≡ q'.room = ap (λ k. room_of (rooms_of (slice_set qs g q')) k) at
+      ∙ room_set qs g q' low in
       omega arith
   | inr ne ↦ let same = room_set_other qs g q' h ne in omega arith
 ]
@@ -84,7 +92,8 @@ on_ok (Err e) f a = tt
 
 -- ---- a queue without requests more
 
-pub empty_more : (qs : List QueueView) (q : QueueView) → ((g : ℕ) → queue_of (requests_of qs) g ≡ []) → q.requests ≡ [] → (g : ℕ) → queue_of (requests_of (qs ++ q ∷ [])) g ≡ []
+pub empty_more : (qs : List QueueView) (q : QueueView) → ((g : ℕ) → queue_of (requests_of qs) g ≡ []) → q.requests ≡ [] → (g : ℕ)
+    → queue_of (requests_of (qs ++ q ∷ [])) g ≡ []
 empty_more [] q none e zero = e
 empty_more [] q none e (suc g) = refl
 empty_more (x ∷ xs) q none e zero = none 0
@@ -97,10 +106,13 @@ pub record Appended (qs : List QueueView) (n : ℕ) (q q' : QueueView) (d : Deli
   pub was : q ≡ slice_index_or qs n q
   pub now : q'.requests ≡ q.requests ++ d ∷ []
 
-pub appended : (qs : List QueueView) (n : ℕ) (q q' : QueueView) (d : Delivered) → Appended qs n q q' d → requests_of (slice_set qs n q') ≡ slice_set (requests_of qs) n (queue_of (requests_of qs) n ++ d ∷ [])
-appended qs n q q' d a = requests_set qs n q' ∙ ap (λ l. slice_set (requests_of qs) n l) (a.now ∙ ap (λ l. l ++ d ∷ []) (sym (queue_at qs n q a.low a.was)))
+pub appended : (qs : List QueueView) (n : ℕ) (q q' : QueueView) (d : Delivered) → Appended qs n q q' d
+    → requests_of (slice_set qs n q') ≡ slice_set (requests_of qs) n (queue_of (requests_of qs) n ++ d ∷ [])
+appended qs n q q' d a = requests_set qs n q'
+    ∙ ap (λ l. slice_set (requests_of qs) n l) (a.now ∙ ap (λ l. l ++ d ∷ []) (sym (queue_at qs n q a.low a.was)))
 
-pub sound_append : (qs : List QueueView) (n : ℕ) (q q' : QueueView) (d : Delivered) → Appended qs n q q' d → IsSound (queue_of (requests_of qs)) → MayAppend (queue_of (requests_of qs)) n d → IsSound (queue_of (requests_of (slice_set qs n q')))
+pub sound_append : (qs : List QueueView) (n : ℕ) (q q' : QueueView) (d : Delivered) → Appended qs n q q' d
+    → IsSound (queue_of (requests_of qs)) → MayAppend (queue_of (requests_of qs)) n d → IsSound (queue_of (requests_of (slice_set qs n q')))
 sound_append qs n q q' d a s may =
     sound_appended (queue_of (requests_of qs)) (queue_of (requests_of (slice_set qs n q'))) n d s may
     (queue_set qs n q' a.low ∙ a.now ∙ ap (λ l. l ++ d ∷ []) (sym (queue_at qs n q a.low a.was)))

@@ -28,7 +28,8 @@ sound_none queue none = record {
 
 -- ---- requests go
 
-pub sound_fewer : (queue queue' : QueueOf) → IsSound queue → ((g : ℕ) → Ascending (queue' g)) → ((g : ℕ) (d : Delivered) → In d (queue' g) → In d (queue g)) → IsSound queue'
+pub sound_fewer : (queue queue' : QueueOf) → IsSound queue → ((g : ℕ) → Ascending (queue' g))
+    → ((g : ℕ) (d : Delivered) → In d (queue' g) → In d (queue g)) → IsSound queue'
 sound_fewer queue queue' s up in_old = record {
   member = λ g d i. s.member g d (in_old g d i);
   ascending = up;
@@ -46,7 +47,11 @@ In-rest (e ∷ es) d i = inr i
 
 pub sound_popped : (queue queue' : QueueOf) (d : Delivered) → IsSound queue → ((g : ℕ) → queue' g ≡ popped d queue g) → IsSound queue'
 sound_popped queue queue' d s is = sound_fewer queue queue' s
-    (λ g. subst (λ l. Ascending l) (sym (is g)) (elim (has d.groups g) as (λ b. Ascending (cond b (drop 1 (queue g)) (queue g))) [ true ↦ Ascending-rest (queue g) (s.ascending g) | false ↦ s.ascending g ]))
+    (λ g. subst (λ l. Ascending l) (sym (is g))
+    (elim (has d.groups g) as (λ b. Ascending (cond b (drop 1 (queue g)) (queue g))) [
+      | true ↦ Ascending-rest (queue g) (s.ascending g)
+      | false ↦ s.ascending g
+    ]))
     (λ g e i. in_before g e (has d.groups g) (subst (λ l. In e l) (is g) i))
   where
     in_before : (g : ℕ) (e : Delivered) (b : Bool) → In e (cond b (drop 1 (queue g)) (queue g)) → In e (queue g)
@@ -55,25 +60,32 @@ sound_popped queue queue' d s is = sound_fewer queue queue' s
 
 -- ---- a request comes
 
-below_last : (q : List Delivered) (s : Stamp) → Ascending q → is_above_last q s ≡ true → (d : Delivered) → In d q → stamp_lt d.stamp s ≡ true
+below_last : (q : List Delivered) (s : Stamp) → Ascending q → is_above_last q s ≡ true → (d : Delivered) → In d q
+    → stamp_lt d.stamp s ≡ true
 below_last [] s up above d i = absurd i
 below_last (x ∷ []) s up above d (inl e) = subst (λ (y : Delivered). stamp_lt y.stamp s ≡ true) (sym e) above
 below_last (x ∷ []) s up above d (inr i) = absurd i
 below_last (x ∷ y ∷ ys) s up above d (inl e) =
-    subst (λ (z : Delivered). stamp_lt z.stamp s ≡ true) (sym e) (lt_trans x.stamp y.stamp s (up.0 y (inl refl)) (below_last (y ∷ ys) s up.1 above y (inl refl)))
+    subst (λ (z : Delivered). stamp_lt z.stamp s ≡ true) (sym e)
+    (lt_trans x.stamp y.stamp s (up.0 y (inl refl)) (below_last (y ∷ ys) s up.1 above y (inl refl)))
 below_last (x ∷ y ∷ ys) s up above d (inr i) = below_last (y ∷ ys) s up.1 above d i
 
-Ascending-end : (q : List Delivered) (d : Delivered) → Ascending q → ((e : Delivered) → In e q → stamp_lt e.stamp d.stamp ≡ true) → Ascending (q ++ d ∷ [])
+Ascending-end : (q : List Delivered) (d : Delivered) → Ascending q → ((e : Delivered) → In e q → stamp_lt e.stamp d.stamp ≡ true)
+    → Ascending (q ++ d ∷ [])
 Ascending-end [] d up below = ((λ e i. absurd i), tt)
 Ascending-end (x ∷ xs) d up below = (
-  (λ e i. elim (In-end e d xs i) [ inl j ↦ up.0 e j | inr same ↦ subst (λ (y : Delivered). stamp_lt x.stamp y.stamp ≡ true) (sym same) (below x (inl refl)) ]),
+  (λ e i. elim (In-end e d xs i) [
+    | inl j ↦ up.0 e j
+    | inr same ↦ subst (λ (y : Delivered). stamp_lt x.stamp y.stamp ≡ true) (sym same) (below x (inl refl))
+  ]),
   Ascending-end xs d up.1 (λ e i. below e (inr i)),
 )
 
 same_delivered : (d e : Delivered) → d.id ≡ e.id → d.stamp ≡ e.stamp → d.groups ≡ e.groups → d ≡ e
 same_delivered d e i s g = λ k. record { id = i k; stamp = s k; groups = g k }
 
-module _ (queue queue' : QueueOf) (g : ℕ) (d : Delivered) (s : IsSound queue) (may : MayAppend queue g d) (here : queue' g ≡ queue g ++ d ∷ []) (other : (h : ℕ) → h ≢ g → queue' h ≡ queue h) where
+module _ (queue queue' : QueueOf) (g : ℕ) (d : Delivered) (s : IsSound queue) (may : MayAppend queue g d)
+    (here : queue' g ≡ queue g ++ d ∷ []) (other : (h : ℕ) → h ≢ g → queue' h ≡ queue h) where
   came : (h : ℕ) (e : Delivered) → In e (queue' h) → In e (queue h) ⊎ ((h ≡ g) × (e ≡ d))
   came h e i = elim (cases_eq h g) [
     | inl at ↦ elim (In-end e d (queue g) (subst (λ l. In e l) here (subst (λ (k : ℕ). In e (queue' k)) at i))) [
@@ -90,7 +102,8 @@ module _ (queue queue' : QueueOf) (g : ℕ) (d : Delivered) (s : IsSound queue) 
   sound_appended = record {
     member = λ h e i. elim (came h e i) [
       | inl j ↦ s.member h e j
-      | inr it ↦ subst (λ (k : ℕ). has e.groups k ≡ true) (sym it.0) (subst (λ (y : Delivered). has y.groups g ≡ true) (sym it.1) may.member)
+      | inr it ↦ subst (λ (k : ℕ). has e.groups k ≡ true) (sym it.0)
+          (subst (λ (y : Delivered). has y.groups g ≡ true) (sym it.1) may.member)
     ];
     ascending = λ h. elim (cases_eq h g) [
       | inl at ↦ subst (λ (k : ℕ). Ascending (queue' k)) (sym at) (subst (λ l. Ascending l) (sym here)

@@ -1,5 +1,6 @@
 //! The queues of all groups, and the layer of the requests that are ready.
-ghost use Rattle.std.specs.Prelude.{◌≡◌, ◌≢◌, ℕ, ◌+◌, ◌<◌, ◌≤◌, ◌++◌, [], ◌∷◌, true, cond, drop, length, slice_set, IfOk, OnOk, OnErr, IsOk, IsTrue, ◌↔◌, option_copied};
+ghost use Rattle.std.specs.Prelude.{◌≡◌, ◌≢◌, ℕ, ◌+◌, ◌<◌, ◌≤◌, ◌++◌, [], ◌∷◌, true, cond, drop, length, slice_set, IfOk, OnOk, OnErr};
+ghost use Rattle.std.specs.Prelude.{IsOk, IsTrue, ◌↔◌, option_copied};
 ghost use Rattle.groups.specs.GroupSet.{has};
 ghost use Rattle.skeen_core.specs.declared.packet.Delivered.{Delivered};
 ghost use Rattle.delivery.specs.Ready.{IsReady, IsLayer};

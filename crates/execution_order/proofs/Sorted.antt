@@ -11,7 +11,8 @@ use Rattle.skeen_core.specs.Order.{In}
 use Rattle.skeen_core.specs.Stamp.{stamp_lt}
 use Rattle.execution_order.proofs.Sorting.{In-sort, entries-rows_by_stamp}
 use Rattle.execution_order.proofs.Untouched.{untouched_commute, Touch-swap}
-use Rattle.execution_order.specs.Entries.{Entry, Row, commands_of, entries_of, replies_of, rows_from, insert_by, by_stamp, rows_by_stamp, Touch, InOrder, IsAddressed, AreAddressed}
+use Rattle.execution_order.specs.Entries.{Entry, Row, commands_of, entries_of, replies_of, rows_from, insert_by, by_stamp, rows_by_stamp}
+use Rattle.execution_order.specs.Entries.{Touch, InOrder, IsAddressed, AreAddressed}
 use Rattle.execution_order.specs.Laws.{SameInStampOrder, RepliesInStampOrder, RowsAreSolo}
 
 abbrev earlier : Entry → Entry → Bool

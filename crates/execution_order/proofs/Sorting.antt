@@ -1,6 +1,7 @@
 -- What sorting does to a list: the same elements, ascending.
 use Rattle.std.proofs.Common.{◌≡◌, List, [], ◌∷◌, Bool, true, false, cond, inl, inr, refl, ap, ◌∙◌}
-use Rattle.std.proofs.lemmas.List.Sorted.{IsPermutation-refl, IsPermutation-trans, IsPermutation-append_comm, IsPermutation-append_left, IsPermutation-append_right}
+use Rattle.std.proofs.lemmas.List.Sorted.{IsPermutation-refl, IsPermutation-trans, IsPermutation-append_comm, IsPermutation-append_left}
+use Rattle.std.proofs.lemmas.List.Sorted.{IsPermutation-append_right}
 use Rattle.std.specs.List.Sorted.{IsPermutation}
 use Rattle.skeen_core.proofs.Stamps.{lt_asym, le_trans}
 use Rattle.skeen_core.specs.Order.{In}

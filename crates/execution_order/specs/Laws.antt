@@ -5,7 +5,8 @@ use Rattle.command_bodies.specs.Command.{effect_of}
 use Rattle.command_bodies.specs.InTurn.{solo_from}
 use Rattle.keyspace.specs.Map.{Map}
 use Rattle.placement.specs.Layout.{Layout, IsTable}
-use Rattle.execution_order.specs.Entries.{Entry, Row, commands_of, entries_of, replies_of, rows_from, by_stamp, rows_by_stamp, Touch, AscendsByStamp, InOrder, IsAddressed, AreAddressed}
+use Rattle.execution_order.specs.Entries.{Entry, Row, commands_of, entries_of, replies_of, rows_from, by_stamp, rows_by_stamp, Touch}
+use Rattle.execution_order.specs.Entries.{AscendsByStamp, InOrder, IsAddressed, AreAddressed}
 
 -- requests that don't touch can change places: the second one answers the same whether the first has run before it or
 -- not, and both leave the same map in either order

@@ -1,5 +1,6 @@
 -- Sets of groups: what is in a set, and that its members say which set it is.
-use Rattle.std.proofs.Common.{◌≡◌, ℕ, zero, suc, ◌+◌, ◌<◌, ◌≤◌, ◌==◌, ◌||◌, ◌&&◌, nat_lt, Bool, true, false, cond, List, [], ◌∷◌, inl, inr, refl, sym, ap, ◌∙◌, subst, arith, eqb-true, eq-eqb, ltb-true, lt-ltb, ltb-false, le-ltb, ne_eqb, lt_irrefl}
+use Rattle.std.proofs.Common.{◌≡◌, ℕ, zero, suc, ◌+◌, ◌<◌, ◌≤◌, ◌==◌, ◌||◌, ◌&&◌, nat_lt, Bool, true, false, cond, List, [], ◌∷◌, inl, inr}
+use Rattle.std.proofs.Common.{refl, sym, ap, ◌∙◌, subst, arith, eqb-true, eq-eqb, ltb-true, lt-ltb, ltb-false, le-ltb, ne_eqb, lt_irrefl}
 use Rattle.std.proofs.lemmas.Bool.{cases_order, cases_lt, or_cases, both_ways, cases_Bool}
 use Rattle.groups.specs.GroupSet.{has, IsAscending, with_group, chosen}
 
@@ -16,13 +17,15 @@ or_twice false c = refl
 
 pub has-with : (gs : List ℕ) (g h : ℕ) → has (with_group gs g) h ≡ (g == h || has gs h)
 has-with [] g h = refl
-has-with (x ∷ xs) g h = elim (nat_lt x g) as (λ t. nat_lt x g ≡ t → has (cond t (x ∷ with_group xs g) (cond (x == g) (x ∷ xs) (g ∷ x ∷ xs))) h ≡ (g == h || (x == h || has xs h))) [
-  | true ↦ λ e. ap (λ b. x == h || b) (has-with xs g h) ∙ or_swap (x == h) (g == h) (has xs h)
-  | false ↦ λ e. elim (x == g) as (λ t. (x == g) ≡ t → has (cond t (x ∷ xs) (g ∷ x ∷ xs)) h ≡ (g == h || (x == h || has xs h))) [
-    | true ↦ λ d. let same = eqb-true x g d in subst (λ y. (x == h || has xs h) ≡ (y == h || (x == h || has xs h))) same (or_twice (x == h) (has xs h))
-    | false ↦ λ d. refl
-  ] refl
-] refl
+has-with (x ∷ xs) g h = elim (nat_lt x g) as (λ t. nat_lt x g ≡ t
+    → has (cond t (x ∷ with_group xs g) (cond (x == g) (x ∷ xs) (g ∷ x ∷ xs))) h ≡ (g == h || (x == h || has xs h))) [
+      | true ↦ λ e. ap (λ b. x == h || b) (has-with xs g h) ∙ or_swap (x == h) (g == h) (has xs h)
+      | false ↦ λ e. elim (x == g) as (λ t. (x == g) ≡ t → has (cond t (x ∷ xs) (g ∷ x ∷ xs)) h ≡ (g == h || (x == h || has xs h))) [
+        | true ↦ λ d. let same = eqb-true x g d in
+            subst (λ y. (x == h || has xs h) ≡ (y == h || (x == h || has xs h))) same (or_twice (x == h) (has xs h))
+        | false ↦ λ d. refl
+      ] refl
+    ] refl
 
 -- ---- the members of a chosen set
 
@@ -111,7 +114,8 @@ least_within x y ys up h = elim (or_cases (y == x) (has ys x) h) [
 not_again : (x : ℕ) (xs : List ℕ) → IsAscending (x ∷ xs) → has xs x ≡ false
 not_again x xs up = elim (cases_Bool (has xs x)) [ inl e ↦ absurd (lt_irrefl x (up.0 x e)) | inr e ↦ e ]
 
-rest_same : (x : ℕ) (xs ys : List ℕ) → IsAscending (x ∷ xs) → IsAscending (x ∷ ys) → ((g : ℕ) → has (x ∷ xs) g ≡ has (x ∷ ys) g) → (g : ℕ) → has xs g ≡ has ys g
+rest_same : (x : ℕ) (xs ys : List ℕ) → IsAscending (x ∷ xs) → IsAscending (x ∷ ys) → ((g : ℕ) → has (x ∷ xs) g ≡ has (x ∷ ys) g) → (g : ℕ)
+    → has xs g ≡ has ys g
 rest_same x xs ys up up' same g = elim (x == g) as (λ t. (x == g) ≡ t → has xs g ≡ has ys g) [
   | true ↦ λ e. let it = eqb-true x g e in subst (λ h. has xs h ≡ has ys h) it (not_again x xs up ∙ sym (not_again x ys up'))
   | false ↦ λ e. sym (ap (λ b. b || has xs g) e) ∙ same g ∙ ap (λ b. b || has ys g) e
@@ -133,10 +137,14 @@ same_sets (x ∷ xs) (y ∷ ys) up up' same =
 
 -- tests that agree on the first m choose the same set
 pub chosen_same : (s t : ℕ → Bool) (m : ℕ) → ((g : ℕ) → g < m → s g ≡ t g) → chosen s 0 m ≡ chosen t 0 m
-chosen_same s t m same = same_sets _ _ (IsAscending-chosen s 0 m) (IsAscending-chosen t 0 m) (λ g. has-chosen s m g ∙ alike g ∙ sym (has-chosen t m g))
+chosen_same s t m same = same_sets _ _ (IsAscending-chosen s 0 m) (IsAscending-chosen t 0 m) (λ g. has-chosen s m g ∙ alike g
+    ∙ sym (has-chosen t m g))
   where
     alike : (g : ℕ) → (nat_lt g m && s g) ≡ (nat_lt g m && t g)
-    alike g = elim (nat_lt g m) as (λ b. nat_lt g m ≡ b → (b && s g) ≡ (b && t g)) [ true ↦ λ e. same g (ltb-true g m e) | false ↦ λ e. refl ] refl
+    alike g = elim (nat_lt g m) as (λ b. nat_lt g m ≡ b → (b && s g) ≡ (b && t g)) [
+      | true ↦ λ e. same g (ltb-true g m e)
+      | false ↦ λ e. refl
+    ] refl
 
 above_with : (x g : ℕ) (xs : List ℕ) → x < g → ((h : ℕ) → has xs h ≡ true → x < h) → (h : ℕ) → has (with_group xs g) h ≡ true → x < h
 above_with x g xs less up h e = elim (or_cases (g == h) (has xs h) (sym (has-with xs g h) ∙ e)) [
@@ -146,18 +154,24 @@ above_with x g xs less up h e = elim (or_cases (g == h) (has xs h) (sym (has-wit
 
 pub IsAscending-with : (gs : List ℕ) (g : ℕ) → IsAscending gs → IsAscending (with_group gs g)
 IsAscending-with [] g up = (λ h e. absurd (both_ways _ refl e), tt)
-IsAscending-with (x ∷ xs) g up = elim (nat_lt x g) as (λ t. nat_lt x g ≡ t → IsAscending (cond t (x ∷ with_group xs g) (cond (x == g) (x ∷ xs) (g ∷ x ∷ xs)))) [
-  | true ↦ λ e. (above_with x g xs (ltb-true x g e) up.0, IsAscending-with xs g up.1)
-  | false ↦ λ e. elim (x == g) as (λ t. (x == g) ≡ t → IsAscending (cond t (x ∷ xs) (g ∷ x ∷ xs))) [
-    | true ↦ λ d. up
-    | false ↦ λ d. (λ h there. let low = least_within h x xs up there in let not_less = ltb-false x g e in let ne : x ≡ g → ⊥ = (λ s. both_ways _ d (eq-eqb x g s)) in omega arith, up)
-  ] refl
-] refl
+IsAscending-with (x ∷ xs) g up =
+    elim (nat_lt x g) as (λ t. nat_lt x g ≡ t → IsAscending (cond t (x ∷ with_group xs g) (cond (x == g) (x ∷ xs) (g ∷ x ∷ xs)))) [
+      | true ↦ λ e. (above_with x g xs (ltb-true x g e) up.0, IsAscending-with xs g up.1)
+      | false ↦ λ e. elim (x == g) as (λ t. (x == g) ≡ t → IsAscending (cond t (x ∷ xs) (g ∷ x ∷ xs))) [
+        | true ↦ λ d. up
+        | false ↦ λ d. (
+          λ h there. let low = least_within h x xs up there in let not_less = ltb-false x g e in
+              let ne : x ≡ g → ⊥ = (λ s. both_ways _ d (eq-eqb x g s)) in omega arith,
+          up,
+        )
+      ] refl
+    ] refl
 
 -- to put a group into a chosen set is to choose it too
 pub with-chosen : (test : ℕ → Bool) (m g : ℕ) → g < m → with_group (chosen test 0 m) g ≡ chosen (λ h. g == h || test h) 0 m
 with-chosen test m g less = same_sets _ _ (IsAscending-with _ g (IsAscending-chosen test 0 m)) (IsAscending-chosen _ 0 m)
-    (λ h. has-with (chosen test 0 m) g h ∙ ap (λ b. g == h || b) (has-chosen test m h) ∙ alike h ∙ sym (has-chosen (λ h. g == h || test h) m h))
+    (λ h. has-with (chosen test 0 m) g h ∙ ap (λ b. g == h || b) (has-chosen test m h) ∙ alike h
+    ∙ sym (has-chosen (λ h. g == h || test h) m h))
   where
     alike : (h : ℕ) → (g == h || (nat_lt h m && test h)) ≡ (nat_lt h m && (g == h || test h))
     alike h = elim (nat_lt h m) as (λ b. nat_lt h m ≡ b → (g == h || (b && test h)) ≡ (b && (g == h || test h))) [

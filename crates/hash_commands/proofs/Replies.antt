@@ -18,9 +18,11 @@ pub reply_more : {A : Type 0} (says : A → Content) (replies more : List Reply)
     → map content more ≡ map says (take (i + 1) xs)
 reply_more says replies more reply xs i x at before says_it pushed =
     ap (map content) pushed ∙ map-append content replies (reply ∷ []) ∙ ap (λ l. l ++ content reply ∷ []) before
-    ∙ ap (λ c. map says (take i xs) ++ c ∷ []) says_it ∙ sym (map-append says (take i xs) (x ∷ [])) ∙ ap (map says) (sym (take_item xs i x at))
+    ∙ ap (λ c. map says (take i xs) ++ c ∷ []) says_it ∙ sym (map-append says (take i xs) (x ∷ []))
+    ∙ ap (map says) (sym (take_item xs i x at))
 
-by_turns-append : (pairs : List (Bytes × Bytes)) (pair : Bytes × Bytes) → by_turns (pairs ++ pair ∷ []) ≡ by_turns pairs ++ pair.0 ∷ pair.1 ∷ []
+by_turns-append : (pairs : List (Bytes × Bytes)) (pair : Bytes × Bytes)
+    → by_turns (pairs ++ pair ∷ []) ≡ by_turns pairs ++ pair.0 ∷ pair.1 ∷ []
 by_turns-append [] pair = refl
 by_turns-append (p ∷ ps) pair = ap (λ l. p.0 ∷ p.1 ∷ l) (by_turns-append ps pair)
 

@@ -9,7 +9,9 @@ use Rattle.packing.specs.CodeLaws.{number_at-code, many-codes, words_at-code}
 use Rattle.journal.specs.declared.step.Step.{Step}
 use Rattle.journal.specs.declared.step.Step.TheVariants.{Open, Submit, Deliver, Take, Run, Settle, Collect, Close}
 use Rattle.journal.specs.Views.{RowView}
-use Rattle.journal.specs.Codes.{id_code, id_at, ids_code, ids_at, IdFits, IdsFit, step_code, step_at, step_of, submit_of, submit_at, deliver_at, run_at, collect_at, close_at, StepFits, steps_in, head_code, row_code, row_of, RowFits, RowWords, RowIsIn}
+use Rattle.journal.specs.Codes.{id_code, id_at, ids_code, ids_at, IdFits, IdsFit, step_code, step_at, step_of, submit_of, submit_at}
+use Rattle.journal.specs.Codes.{deliver_at, run_at, collect_at, close_at, StepFits, steps_in, head_code, row_code, row_of, RowFits}
+use Rattle.journal.specs.Codes.{RowWords, RowIsIn}
 
 -- ---- ids
 

@@ -1,5 +1,6 @@
 -- What was written of a trace spells that trace.
-use Rattle.std.proofs.Common.{◌≡◌, ◌≢◌, ℕ, zero, suc, ◌+◌, ◌/◌, ◌%◌, ◌^◌, ◌<◌, ◌≤◌, List, [], ◌∷◌, ◌++◌, length, map, get_or, Bool, true, false, ◌&&◌, refl, ap, ◌∙◌, arith, Option, Some, ◌==◌, codes, lit<}
+use Rattle.std.proofs.Common.{◌≡◌, ◌≢◌, ℕ, zero, suc, ◌+◌, ◌/◌, ◌%◌, ◌^◌, ◌<◌, ◌≤◌, List, [], ◌∷◌, ◌++◌, length, map, get_or, Bool, true}
+use Rattle.std.proofs.Common.{false, ◌&&◌, refl, ap, ◌∙◌, arith, Option, Some, ◌==◌, codes, lit<}
 use Rattle.std.specs.Fmt.{decimal}
 use Rattle.std.specs.List.{flat_map, AllByRecursion, AllZip}
 use Rattle.std.specs.Result.{result_ok}
@@ -14,7 +15,8 @@ use Rattle.packing.specs.Codes.{WordFits, WordsFit}
 use Rattle.journal.specs.declared.step.Step.{Step}
 use Rattle.journal.specs.declared.step.Step.TheVariants.{Open, Submit, Deliver, Take, Run, Settle, Collect, Close}
 use Rattle.journal.specs.Codes.{IdFits, StepFits}
-use Rattle.journal.specs.TraceText.{word_text, id_text, step_name, step_args, joined, step_line, first_line, max_line, end_line, trace_text, word_in, cut_at, id_of, id_in, all_in, parts_in, named, step_in, IsStepLine, HasNoLf, Spells}
+use Rattle.journal.specs.TraceText.{word_text, id_text, step_name, step_args, joined, step_line, first_line, max_line, end_line, trace_text}
+use Rattle.journal.specs.TraceText.{word_in, cut_at, id_of, id_in, all_in, parts_in, named, step_in, IsStepLine, HasNoLf, Spells}
 use Rattle.journal.proofs.TextLaws.{number_in-decimal}
 
 -- ---- bytes above a space

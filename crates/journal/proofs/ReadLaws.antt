@@ -1,12 +1,14 @@
 -- How a trace's text is read line by line: which lines a trace has, and what a fault's line is.
-use Rattle.std.proofs.Common.{◌≡◌, ◌≢◌, ℕ, suc, ◌+◌, ◌≤◌, ◌^◌, List, [], ◌∷◌, ◌++◌, length, Bool, true, false, refl, ap, sym, subst, ◌∙◌, arith, Option, Some, None, inl, inr, ◌⊎◌, ◌==◌, length-append, MatchOption}
+use Rattle.std.proofs.Common.{◌≡◌, ◌≢◌, ℕ, suc, ◌+◌, ◌≤◌, ◌^◌, List, [], ◌∷◌, ◌++◌, length, Bool, true, false, refl, ap, sym, subst, ◌∙◌}
+use Rattle.std.proofs.Common.{arith, Option, Some, None, inl, inr, ◌⊎◌, ◌==◌, length-append, MatchOption}
 use Rattle.std.specs.List.{flat_map, AllZip}
 use Rattle.std.proofs.lemmas.List.{append_assoc, append-nil}
 use Rattle.std.proofs.lemmas.List.Concat.{flat_map-append}
 use Rattle.std.proofs.lemmas.Bool.{cases_Bool, eqb-true, eqb-false}
 use Rattle.packing.specs.CodeLaws.{all_more}
 use Rattle.journal.specs.declared.step.Step.{Step}
-use Rattle.journal.specs.TraceText.{cut_at, step_in, first_line, max_line, end_line, ended, IsStepLine, AreLines, HasNoLf, Spells, Begins, IsBad}
+use Rattle.journal.specs.TraceText.{cut_at, step_in, first_line, max_line, end_line, ended, IsStepLine, AreLines, HasNoLf, Spells, Begins}
+use Rattle.journal.specs.TraceText.{IsBad}
 use Rattle.journal.specs.TraceReading.{IsRead, IsLine}
 
 -- ---- lines and their ends

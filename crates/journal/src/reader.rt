@@ -1,6 +1,7 @@
 //! Reading a trace's text: line by line, each byte of it once.
 
-ghost use Rattle.std.specs.Prelude.{◌≡◌, ◌↔◌, ℕ, ◌≤◌, ◌<◌, ◌^◌, [], ◌∷◌, ◌++◌, true, false, IfOk, List, decimal, IsTrue, MatchOption, MatchResult};
+ghost use Rattle.std.specs.Prelude.{◌≡◌, ◌↔◌, ℕ, ◌≤◌, ◌<◌, ◌^◌, [], ◌∷◌, ◌++◌, true, false, IfOk, List, decimal, IsTrue, MatchOption};
+ghost use Rattle.std.specs.Prelude.{MatchResult};
 ghost use Rattle.journal.specs.TraceText.{first_line, max_line, end_line, HasNoLf, step_in, Spells, IsFaultOf};
 ghost use Rattle.journal.specs.TraceReading.{IsLine, IsRead};
 

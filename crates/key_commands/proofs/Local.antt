@@ -10,7 +10,8 @@ use Rattle.command_cases.specs.Replies.{count}
 use Rattle.command_table.specs.KeyCommands.{key_command_told, key_command_keys}
 use Rattle.command_table.specs.Telling.{is_all}
 use Rattle.command_table.specs.declared.key_commands.KeyCommand.{KeyCommand}
-use Rattle.command_table.specs.declared.key_commands.KeyCommand.TheVariants.{Del, Unlink, Exists, TypeOf, Rename, Renamenx, Dbsize, Flushall}
+use Rattle.command_table.specs.declared.key_commands.KeyCommand.TheVariants.{Del, Unlink, Exists, TypeOf, Rename, Renamenx, Dbsize}
+use Rattle.command_table.specs.declared.key_commands.KeyCommand.TheVariants.{Flushall}
 use Rattle.key_commands.specs.KeyCommand.{del_case, type_step, rename_step, renamenx_step, key_command_case}
 use Rattle.keyspace.proofs.Gets.{same, get-retain_keys}
 use Rattle.keyspace.proofs.Parts.{get-restrict, get-put_back}

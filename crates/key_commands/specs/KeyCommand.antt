@@ -7,7 +7,8 @@ use Rattle.command_cases.specs.Case.{Case, Step, at_key}
 use Rattle.command_cases.specs.Replies.{ok, count, truth, no_such_key}
 use Rattle.command_cases.specs.Shapes.{StepOfTwo, at_each, at_two}
 use Rattle.command_table.specs.declared.key_commands.KeyCommand.{KeyCommand}
-use Rattle.command_table.specs.declared.key_commands.KeyCommand.TheVariants.{Del, Unlink, Exists, TypeOf, Rename, Renamenx, Dbsize, Flushall}
+use Rattle.command_table.specs.declared.key_commands.KeyCommand.TheVariants.{Del, Unlink, Exists, TypeOf, Rename, Renamenx, Dbsize}
+use Rattle.command_table.specs.declared.key_commands.KeyCommand.TheVariants.{Flushall}
 use Rattle.keyspace.specs.Map.{Map, restrict, without}
 use Rattle.resp.specs.Content.{Content, SimpleText}
 use Rattle.texts.specs.Texts.{Bytes}

@@ -54,7 +54,8 @@ pub remove-insert_beside : (m : Map) (k l : List ℕ) (v : Value) → bytes_eq l
 remove-insert_beside m k l v apart =
     same (remove (insert m k v) l) (insert (remove m l) k v) (λ q.
     get-remove (insert m k v) l q ∙ ap (cond (bytes_eq l q) None) (get-insert m k v q)
-    ∙ asked_apart (bytes_eq l q) (bytes_eq k q) None (Some v) (get m q) (λ e. ap (bytes_eq k) (sym (same_bytes l q e)) ∙ bytes_eq-swap k l ∙ apart)
+    ∙ asked_apart (bytes_eq l q) (bytes_eq k q) None (Some v) (get m q) (λ e. ap (bytes_eq k) (sym (same_bytes l q e))
+    ∙ bytes_eq-swap k l ∙ apart)
     ∙ ap (cond (bytes_eq k q) (Some v)) (sym (get-remove m l q)) ∙ sym (get-insert (remove m l) k v q))
 
 pub ruleset changes = (

@@ -1,5 +1,6 @@
 -- How many of some keys a map has, one key after another.
-use Rattle.std.proofs.Common.{◌≡◌, ℕ, ◌+◌, List, [], ◌∷◌, Bool, true, false, cond, not, ◌||◌, Option, Some, None, is_some, arith, refl, sym, ap, ◌∙◌}
+use Rattle.std.proofs.Common.{◌≡◌, ℕ, ◌+◌, List, [], ◌∷◌, Bool, true, false, cond, not, ◌||◌, Option, Some, None, is_some, arith, refl, sym}
+use Rattle.std.proofs.Common.{ap, ◌∙◌}
 use Rattle.std.proofs.lemmas.Cmp.{nat_list_cmp_total}
 use Rattle.std.specs.FinMap.{get, remove, len, len-insert, len-empty}
 use Rattle.std.specs.Cmp.Lexicographic.{slice_cmp}
@@ -20,7 +21,8 @@ none_either_way false = refl
 len-set_new : (m : Map) (k : List ℕ) (o : Option Value) → get m k ≡ None → len (set m k o) ≡ cond (is_some o) 1 0 + len m
 len-set_new m k None e = let same_len : len (remove m k) ≡ len m = ap len (remove-none m k e) in omega (arith, same_len)
 len-set_new m k (Some v) e =
-    let one_more : len (set m k (Some v)) ≡ len m + 1 = len-insert nat_list_cmp_total m k v ∙ ap (λ o. cond (is_some o) (len m) (len m + 1)) e in
+    let one_more : len (set m k (Some v)) ≡ len m + 1 = len-insert nat_list_cmp_total m k v
+    ∙ ap (λ o. cond (is_some o) (len m) (len m + 1)) e in
     omega (arith, one_more)
 
 without_each : (a b : Bool) (o : Option Value) → cond (not (a || b)) o None ≡ cond (not b) (cond a None o) None
@@ -60,7 +62,8 @@ restrict-cons m k ks =
     ∙ sym (get-set (restrict (remove m k) ks) k (get m k) q))
 
 -- of some keys, those that are there are the first, if it is, and then those among the others that aren't the first
-pub len-restrict-cons : (m : Map) (k : List ℕ) (ks : List (List ℕ)) → len (restrict m (k ∷ ks)) ≡ cond (is_some (get m k)) 1 0 + len (restrict (remove m k) ks)
+pub len-restrict-cons : (m : Map) (k : List ℕ) (ks : List (List ℕ))
+    → len (restrict m (k ∷ ks)) ≡ cond (is_some (get m k)) 1 0 + len (restrict (remove m k) ks)
 len-restrict-cons m k ks =
     let gone : get (restrict (remove m k) ks) k ≡ None =
     get-restrict (remove m k) ks k ∙ ap (λ o. cond (among ks k) o None) (get-remove_here m k) ∙ none_either_way (among ks k) in

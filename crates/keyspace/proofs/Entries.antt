@@ -1,5 +1,6 @@
 -- What a table of entries says as a map, after each change of the table that `indexmap` names.
-use Rattle.std.proofs.Common.{◌≡◌, ℕ, ◌+◌, List, [], ◌∷◌, map, length, Bool, true, false, cond, Option, Some, None, is_some, arith, refl, sym, ap, subst, ◌∙◌}
+use Rattle.std.proofs.Common.{◌≡◌, ℕ, ◌+◌, List, [], ◌∷◌, map, length, Bool, true, false, cond, Option, Some, None, is_some, arith, refl}
+use Rattle.std.proofs.Common.{sym, ap, subst, ◌∙◌}
 use Rattle.std.proofs.lemmas.Cmp.{nat_list_cmp_total, nat_list_eq_equiv}
 use Rattle.std.proofs.lemmas.Map.Text.{is_eq-slice_cmp}
 use Rattle.std.specs.Cmp.Lexicographic.{slice_cmp}
@@ -22,7 +23,8 @@ is_key q k = bytes_eq q k.bytes.items
 abbrev same_key : HashedText → HashedText → Bool
 same_key x y = bytes_eq x.bytes.items y.bytes.items
 
-found : (es : List (HashedText × Value)) (q : List ℕ) → find (slice_cmp nat_cmp) q (map (λ e. (e.0.bytes.items, e.1)) es) ≡ lookup (is_key q) es
+found : (es : List (HashedText × Value)) (q : List ℕ) → find (slice_cmp nat_cmp) q (map (λ e. (e.0.bytes.items, e.1)) es)
+    ≡ lookup (is_key q) es
 found [] q = refl
 found (e ∷ es) q =
     ap (λ b. cond b (Some e.1) (find (slice_cmp nat_cmp) q (map (λ e. (e.0.bytes.items, e.1)) es))) (is_eq-slice_cmp q e.0.bytes.items)
@@ -35,7 +37,8 @@ other_key : (k q : List ℕ) (x : HashedText) → bytes_eq k q ≡ false → byt
 other_key k q x apart here = subst (λ y. bytes_eq q y ≡ false) (same_bytes k x.bytes.items here) (bytes_eq-swap q k ∙ apart)
 
 -- a table that has `w` at the bytes `k`, and at each other key what it had, has so by every look-up
-changed : (k : List ℕ) (es fs : List (HashedText × Value)) (w : Option Value) → lookup (is_key k) fs ≡ w → KeepsOthers same_key (is_key k) es fs
+changed : (k : List ℕ) (es fs : List (HashedText × Value)) (w : Option Value) → lookup (is_key k) fs ≡ w
+    → KeepsOthers same_key (is_key k) es fs
     → (q : List ℕ) → lookup (is_key q) fs ≡ cond (bytes_eq k q) w (lookup (is_key q) es)
 unfolding KeepsOthers
 changed k es fs w here others q =
@@ -44,7 +47,8 @@ changed k es fs w here others q =
       | false ↦ λ e. others (is_key q) (λ x y h. nat_list_eq_equiv.congr q x.bytes.items y.bytes.items h) (λ x h. other_key k q x e h)
     ] refl
 
-pub map_of-inserted : (k : List ℕ) (es fs : List (HashedText × Value)) (v : Value) → lookup (is_key k) fs ≡ Some v → KeepsOthers same_key (is_key k) es fs
+pub map_of-inserted : (k : List ℕ) (es fs : List (HashedText × Value)) (v : Value) → lookup (is_key k) fs ≡ Some v
+    → KeepsOthers same_key (is_key k) es fs
     → map_of fs ≡ insert (map_of es) k v
 map_of-inserted k es fs v here others =
     same (map_of fs) (insert (map_of es) k v) (λ q.
@@ -58,7 +62,8 @@ map_of-removed k es fs here others =
     get-map_of fs q ∙ changed k es fs None here others q ∙ ap (cond (bytes_eq k q) None) (sym (get-map_of es q))
     ∙ sym (get-remove (map_of es) k q))
 
-absent : (k : HashedText) (es : List (HashedText × Value)) → AllByRecursion (λ y. same_key k y ≡ false) (keys_of es) → lookup (is_key k.bytes.items) es ≡ None
+absent : (k : HashedText) (es : List (HashedText × Value)) → AllByRecursion (λ y. same_key k y ≡ false) (keys_of es)
+    → lookup (is_key k.bytes.items) es ≡ None
 absent k [] h = refl
 absent k (e ∷ es) h = ap (λ b. cond b (Some e.1) (lookup (is_key k.bytes.items) es)) h.0 ∙ absent k es h.1
 
@@ -66,8 +71,10 @@ absent k (e ∷ es) h = ap (λ b. cond b (Some e.1) (lookup (is_key k.bytes.item
 pub len-map_of : (es : List (HashedText × Value)) → IsDistinct same_key (keys_of es) → len (map_of es) ≡ length es
 len-map_of [] h = len-empty (slice_cmp nat_cmp) Value
 len-map_of (e ∷ es) h =
-    let new : get (map_of es) e.0.bytes.items ≡ None = get-map_of es e.0.bytes.items ∙ absent e.0 es (IsDistinct-head same_key e.0 (keys_of es) h) in
+    let new : get (map_of es) e.0.bytes.items ≡ None = get-map_of es e.0.bytes.items
+    ∙ absent e.0 es (IsDistinct-head same_key e.0 (keys_of es) h) in
     let rest = len-map_of es (IsDistinct-tail same_key e.0 (keys_of es) h) in
     let one_more : len (insert (map_of es) e.0.bytes.items e.1) ≡ len (map_of es) + 1 =
-    len-insert nat_list_cmp_total (map_of es) e.0.bytes.items e.1 ∙ ap (λ o. cond (is_some o) (len (map_of es)) (len (map_of es) + 1)) new in
+    len-insert nat_list_cmp_total (map_of es) e.0.bytes.items e.1
+    ∙ ap (λ o. cond (is_some o) (len (map_of es)) (len (map_of es) + 1)) new in
     omega (arith, one_more, rest)

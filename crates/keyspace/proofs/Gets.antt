@@ -23,7 +23,8 @@ pub same_bytes : (k q : List ℕ) → bytes_eq k q ≡ true → k ≡ q
 same_bytes k q e = (bytes_eq-Decides k q).0 e
 
 pub get-insert : (m : Map) (k : List ℕ) (v : Value) (q : List ℕ) → get (insert m k v) q ≡ cond (bytes_eq k q) (Some v) (get m q)
-get-insert m k v q = map.get-insert nat_list_cmp_total m k v q ∙ ap (λ b. cond b (Some v) (get m q)) (is_eq-slice_cmp q k ∙ bytes_eq-swap q k)
+get-insert m k v q = map.get-insert nat_list_cmp_total m k v q
+    ∙ ap (λ b. cond b (Some v) (get m q)) (is_eq-slice_cmp q k ∙ bytes_eq-swap q k)
 
 pub get-remove : (m : Map) (k q : List ℕ) → get (remove m k) q ≡ cond (bytes_eq k q) None (get m q)
 get-remove m k q = map.get-remove nat_list_cmp_total m k q ∙ ap (λ b. cond b None (get m q)) (is_eq-slice_cmp q k ∙ bytes_eq-swap q k)

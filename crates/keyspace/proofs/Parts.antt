@@ -30,7 +30,8 @@ unfolding or_else
 or_else-parts true o p = or_else-none o
 or_else-parts false o p = refl
 
-get-with_entries : (m : Map) (es : List (List ℕ × Value)) (q : List ℕ) → get (with_entries m es) q ≡ or_else (find (slice_cmp nat_cmp) q es) (get m q)
+get-with_entries : (m : Map) (es : List (List ℕ × Value)) (q : List ℕ)
+    → get (with_entries m es) q ≡ or_else (find (slice_cmp nat_cmp) q es) (get m q)
 unfolding or_else
 get-with_entries m [] q = refl
 get-with_entries m (e ∷ es) q =
@@ -41,7 +42,8 @@ get-with_entries m (e ∷ es) q =
 pub get-restrict : (m : Map) (ks : List (List ℕ)) (q : List ℕ) → get (restrict m ks) q ≡ cond (among ks q) (get m q) None
 get-restrict m ks q = get-retain_keys m (among ks) q
 
-pub get-put_back : (m : Map) (ks : List (List ℕ)) (part : Map) (q : List ℕ) → get (put_back m ks part) q ≡ cond (among ks q) (get part q) (get m q)
+pub get-put_back : (m : Map) (ks : List (List ℕ)) (part : Map) (q : List ℕ)
+    → get (put_back m ks part) q ≡ cond (among ks q) (get part q) (get m q)
 get-put_back m ks part q =
     get-with_entries (without m ks) (entries (restrict part ks)) q
     ∙ ap (λ o. or_else o (get (without m ks) q)) (sym (get-entries (restrict part ks) q) ∙ get-restrict part ks q)
@@ -52,11 +54,13 @@ get-put_back m ks part q =
 pub get-restrict_here : (m : Map) (ks : List (List ℕ)) (k : List ℕ) → among ks k ≡ true → get (restrict m ks) k ≡ get m k
 get-restrict_here m ks k h = get-restrict m ks k ∙ ap (λ b. cond b (get m k) None) h
 
-pub get-put_back_here : (m : Map) (ks : List (List ℕ)) (part : Map) (k : List ℕ) → among ks k ≡ true → get (put_back m ks part) k ≡ get part k
+pub get-put_back_here : (m : Map) (ks : List (List ℕ)) (part : Map) (k : List ℕ) → among ks k ≡ true
+    → get (put_back m ks part) k ≡ get part k
 get-put_back_here m ks part k h = get-put_back m ks part k ∙ ap (λ b. cond b (get part k) (get m k)) h
 
 -- and beside them
-pub get-put_back_beside : (m : Map) (ks : List (List ℕ)) (part : Map) (k : List ℕ) → among ks k ≡ false → get (put_back m ks part) k ≡ get m k
+pub get-put_back_beside : (m : Map) (ks : List (List ℕ)) (part : Map) (k : List ℕ) → among ks k ≡ false
+    → get (put_back m ks part) k ≡ get m k
 get-put_back_beside m ks part k h = get-put_back m ks part k ∙ ap (λ b. cond b (get part k) (get m k)) h
 
 kept : (b : Bool) (o : Option Value) → cond b (cond b o None) o ≡ o
@@ -85,17 +89,20 @@ pub among-like : (ks : List (List ℕ)) (k q : List ℕ) → bytes_eq k q ≡ tr
 among-like ks k q e h = ap (among ks) (sym (same_bytes k q e)) ∙ h
 
 -- a change at one of the keys may be made in the part or in the whole
-pub put_back-set : (m : Map) (ks : List (List ℕ)) (part : Map) (k : List ℕ) (o : Option Value) → among ks k ≡ true → put_back m ks (set part k o) ≡ set (put_back m ks part) k o
+pub put_back-set : (m : Map) (ks : List (List ℕ)) (part : Map) (k : List ℕ) (o : Option Value) → among ks k ≡ true
+    → put_back m ks (set part k o) ≡ set (put_back m ks part) k o
 put_back-set m ks part k o h =
     same (put_back m ks (set part k o)) (set (put_back m ks part) k o) (λ q.
     get-put_back m ks (set part k o) q ∙ ap (λ p. cond (among ks q) p (get m q)) (get-set part k o q)
     ∙ both_tests (among ks q) (bytes_eq k q) o (get part q) (get m q) (λ e. among-like ks k q e h)
     ∙ ap (cond (bytes_eq k q) o) (sym (get-put_back m ks part q)) ∙ sym (get-set (put_back m ks part) k o q))
 
-pub put_back-insert : (m : Map) (ks : List (List ℕ)) (part : Map) (k : List ℕ) (v : Value) → among ks k ≡ true → put_back m ks (insert part k v) ≡ insert (put_back m ks part) k v
+pub put_back-insert : (m : Map) (ks : List (List ℕ)) (part : Map) (k : List ℕ) (v : Value) → among ks k ≡ true
+    → put_back m ks (insert part k v) ≡ insert (put_back m ks part) k v
 put_back-insert m ks part k v h = put_back-set m ks part k (Some v) h
 
-pub put_back-remove : (m : Map) (ks : List (List ℕ)) (part : Map) (k : List ℕ) → among ks k ≡ true → put_back m ks (remove part k) ≡ remove (put_back m ks part) k
+pub put_back-remove : (m : Map) (ks : List (List ℕ)) (part : Map) (k : List ℕ) → among ks k ≡ true
+    → put_back m ks (remove part k) ≡ remove (put_back m ks part) k
 put_back-remove m ks part k h = put_back-set m ks part k None h
 
 pub AreApart-swap : (ks js : List (List ℕ)) → AreApart ks js → AreApart js ks
@@ -114,7 +121,8 @@ in_either_order true b x y z apart = ap (λ t. cond t y x) (apart refl)
 in_either_order false b x y z apart = refl
 
 -- two parts with no key in common: the one is read as before the other was put back, and they are put back in either order
-pub restrict-put_back_apart : (m : Map) (ks js : List (List ℕ)) (part : Map) → AreApart ks js → restrict (put_back m ks part) js ≡ restrict m js
+pub restrict-put_back_apart : (m : Map) (ks js : List (List ℕ)) (part : Map) → AreApart ks js
+    → restrict (put_back m ks part) js ≡ restrict m js
 restrict-put_back_apart m ks js part apart =
     same (restrict (put_back m ks part) js) (restrict m js) (λ q.
     get-restrict (put_back m ks part) js q ∙ ap (λ o. cond (among js q) o None) (get-put_back m ks part q)

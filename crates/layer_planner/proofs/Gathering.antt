@@ -20,11 +20,13 @@ or_moves true false c = refl
 or_moves false true c = refl
 or_moves false false c = refl
 
-pub union_more : (all all' it rest : List ℕ) (g h : ℕ) → all' ≡ with_group all g → it ≡ g ∷ rest → (has all' h || has rest h) ≡ (has all h || has it h)
+pub union_more : (all all' it rest : List ℕ) (g h : ℕ) → all' ≡ with_group all g → it ≡ g ∷ rest
+    → (has all' h || has rest h) ≡ (has all h || has it h)
 union_more all all' it rest g h e f =
     ap (λ l. has l h || has rest h) e ∙ ap (λ b. b || has rest h) (has-with all g h) ∙ or_moves (has all h) (g == h) (has rest h)
     ∙ sym (ap (λ l. has all h || has l h) f)
 
 pub passed_more : (taken it rest : List ℕ) (g h : ℕ) → it ≡ g ∷ rest → has taken g ≡ false → has taken h ≡ true → has it h ≡ has rest h
 passed_more taken it rest g h f out inside =
-    ap (λ l. has l h) f ∙ ap (λ b. b || has rest h) (ne_eqb g h (λ same. both_ways _ (subst (λ (x : ℕ). has taken x ≡ false) same out) inside))
+    ap (λ l. has l h) f ∙ ap (λ b. b || has rest h)
+    (ne_eqb g h (λ same. both_ways _ (subst (λ (x : ℕ). has taken x ≡ false) same out) inside))

@@ -1,5 +1,6 @@
 -- The parts of a layer by their last place, and that each place stands in one part, once.
-use Rattle.std.proofs.Common.{◌≡◌, ℕ, zero, suc, ◌+◌, ◌-◌, ◌*◌, ◌/◌, ◌%◌, ◌<◌, ◌≤◌, ◌==◌, Bool, true, false, cond, List, [], ◌∷◌, ◌++◌, map, refl, sym, ap, ◌∙◌, subst, arith, inl, inr, ne_eqb, eq-eqb, eqb-true, lt-ltb, le-ltb}
+use Rattle.std.proofs.Common.{◌≡◌, ℕ, zero, suc, ◌+◌, ◌-◌, ◌*◌, ◌/◌, ◌%◌, ◌<◌, ◌≤◌, ◌==◌, Bool, true, false, cond, List, [], ◌∷◌, ◌++◌, map}
+use Rattle.std.proofs.Common.{refl, sym, ap, ◌∙◌, subst, arith, inl, inr, ne_eqb, eq-eqb, eqb-true, lt-ltb, le-ltb}
 use Rattle.std.specs.List.{filter, range_with_len, concat, count_by}
 use Rattle.std.proofs.lemmas.Bool.{cases_lt}
 use Rattle.std.proofs.lemmas.Nat.{mod-mul-add, div-add-mod', mod_below}
@@ -16,7 +17,8 @@ first_kept : {X : Type 0} (b : Bool) (x : X) (xs ys zs : List X) → xs ≡ ys +
 first_kept true x xs ys zs e = ap (λ l. x ∷ l) e
 first_kept false x xs ys zs e = e
 
-filter_last : (p : ℕ → Bool) (a n : ℕ) → filter p (range_with_len a (suc n)) ≡ filter p (range_with_len a n) ++ cond (p (a + n)) ((a + n) ∷ []) []
+filter_last : (p : ℕ → Bool) (a n : ℕ) → filter p (range_with_len a (suc n)) ≡ filter p (range_with_len a n)
+    ++ cond (p (a + n)) ((a + n) ∷ []) []
 filter_last p a zero = let e : a ≡ a + 0 = omega arith in ap (λ k. cond (p k) (k ∷ []) []) e
 filter_last p a (suc n) =
     let e : a + 1 + n ≡ a + suc n = omega arith in
@@ -24,10 +26,12 @@ filter_last p a (suc n) =
 
 -- of one place more a part has it or not
 pub part_yes : (w n k : ℕ) → n % w ≡ k → part w (suc n) k ≡ part w n k ++ n ∷ []
-part_yes w n k e = filter_last (λ i. i % w == k) 0 n ∙ let z : 0 + n ≡ n = omega arith in ap (λ m. part w n k ++ cond (m % w == k) (m ∷ []) []) z ∙ ap (λ b. part w n k ++ cond b (n ∷ []) []) (eq-eqb (n % w) k e)
+part_yes w n k e = filter_last (λ i. i % w == k) 0 n ∙ let z : 0 + n ≡ n = omega arith in
+    ap (λ m. part w n k ++ cond (m % w == k) (m ∷ []) []) z ∙ ap (λ b. part w n k ++ cond b (n ∷ []) []) (eq-eqb (n % w) k e)
 
 pub part_no : (w n k : ℕ) → (n % w == k) ≡ false → part w (suc n) k ≡ part w n k
-part_no w n k e = filter_last (λ i. i % w == k) 0 n ∙ let z : 0 + n ≡ n = omega arith in ap (λ m. part w n k ++ cond (m % w == k) (m ∷ []) []) z ∙ ap (λ b. part w n k ++ cond b (n ∷ []) []) e ∙ append-nil (part w n k)
+part_no w n k e = filter_last (λ i. i % w == k) 0 n ∙ let z : 0 + n ≡ n = omega arith in
+    ap (λ m. part w n k ++ cond (m % w == k) (m ∷ []) []) z ∙ ap (λ b. part w n k ++ cond b (n ∷ []) []) e ∙ append-nil (part w n k)
 
 -- ---- between two places of a part there is none
 
@@ -53,7 +57,8 @@ part_between : (w n k i : ℕ) → n % w ≡ k → i < w → part w (suc n + i) 
 part_between w n k zero e h = let z : suc n + 0 ≡ suc n = omega arith in ap (λ m. part w m k) z
 part_between w n k (suc i) e h =
     let z : suc n + suc i ≡ suc (n + suc i) = omega arith in
-    let other : ((n + suc i) % w == k) ≡ false = ne_eqb ((n + suc i) % w) k (λ same. mod_between w n (suc i) (omega arith) h (same ∙ sym e)) in
+    let other : ((n + suc i) % w == k) ≡ false =
+    ne_eqb ((n + suc i) % w) k (λ same. mod_between w n (suc i) (omega arith) h (same ∙ sym e)) in
     let y : n + suc i ≡ suc n + i = omega arith in
     ap (λ m. part w m k) z ∙ part_no w (n + suc i) k other ∙ ap (λ m. part w m k) y ∙ part_between w n k i e (omega arith)
 
@@ -73,14 +78,16 @@ mod_next w n low =
 
 -- the part once the next place is there
 pub part_next : (w n k : ℕ) → 0 < w → n % w ≡ k → part w (suc (n + w)) k ≡ part w (suc n) k ++ (n + w) ∷ []
-part_next w n k low e = part_yes w (n + w) k (mod_next w n low ∙ e) ∙ ap (λ l. l ++ (n + w) ∷ []) (part_end w n k (n + w) e (omega arith) (omega arith))
+part_next w n k low e = part_yes w (n + w) k (mod_next w n low ∙ e)
+    ∙ ap (λ l. l ++ (n + w) ∷ []) (part_end w n k (n + w) e (omega arith) (omega arith))
 
 pub mod_small : (w n : ℕ) → n < w → n % w ≡ n
 mod_small w n h = let same : 0 * w + n ≡ n = omega arith in ap (λ k. k % w) (sym same) ∙ mod-mul-add 0 w n h
 
 none_before : (w k n : ℕ) → k < w → n ≤ k → part w n k ≡ []
 none_before w k zero h l = refl
-none_before w k (suc n) h l = part_no w n k (ne_eqb (n % w) k (λ e. let f = mod_small w n (omega arith) in absurd (omega arith))) ∙ none_before w k n h (omega arith)
+none_before w k (suc n) h l = part_no w n k (ne_eqb (n % w) k (λ e. let f = mod_small w n (omega arith) in absurd (omega arith)))
+    ∙ none_before w k n h (omega arith)
 
 -- the part up to its first place
 pub part_first : (w k : ℕ) → k < w → part w (suc k) k ≡ k ∷ []
@@ -98,14 +105,16 @@ times-append : (i : ℕ) (xs ys : List ℕ) → times i (xs ++ ys) ≡ times i x
 times-append i xs ys = sum_by-append (λ j. cond (j == i) 1 0) xs ys
 
 times-one : (i : ℕ) (xs : List ℕ) (n : ℕ) → times i (xs ++ n ∷ []) ≡ times i xs + cond (n == i) 1 0
-times-one i xs n = times-append i xs (n ∷ []) ∙ let z : 0 + cond (n == i) 1 0 ≡ cond (n == i) 1 0 = omega arith in ap (λ t. times i xs + t) z
+times-one i xs n = times-append i xs (n ∷ []) ∙ let z : 0 + cond (n == i) 1 0 ≡ cond (n == i) 1 0 = omega arith in
+    ap (λ t. times i xs + t) z
 
 times_past : (w m k i : ℕ) → m ≤ i → times i (part w m k) ≡ 0
 times_past w zero k i h = refl
 times_past w (suc m) k i h =
     let ih = times_past w m k i (omega arith) in
     elim (m % w == k) as (λ b. (m % w == k) ≡ b → times i (part w (suc m) k) ≡ 0) [
-      | true ↦ λ e. ap (times i) (part_yes w m k (eqb-true (m % w) k e)) ∙ times-one i (part w m k) m ∙ ap (λ b. times i (part w m k) + cond b 1 0) (ne_eqb m i (λ s. omega arith)) ∙ omega arith
+      | true ↦ λ e. ap (times i) (part_yes w m k (eqb-true (m % w) k e)) ∙ times-one i (part w m k) m
+          ∙ ap (λ b. times i (part w m k) + cond b 1 0) (ne_eqb m i (λ s. omega arith)) ∙ omega arith
       | false ↦ λ e. ap (times i) (part_no w m k e) ∙ ih
     ] refl
 

@@ -1,6 +1,7 @@
 -- Items of a list, by their places.
-use Rattle.std.proofs.Common.{◌≡◌, ℕ, zero, suc, ◌+◌, ◌-◌, ◌<◌, ◌≤◌, List, [], ◌∷◌, ◌++◌, length, take, drop, get_or, Option, Some, None, slice_get, refl, sym, ap, ◌∙◌, arith, add-one, drop-cons}
-use Rattle.std.proofs.lemmas.List.{append-nil, drop_all, get_or-drop, length-drop, take_all}
+use Rattle.std.proofs.Common.{◌≡◌, ℕ, suc, ◌+◌, ◌-◌, ◌<◌, ◌≤◌, List, [], ◌∷◌, ◌++◌, length, take, drop, get_or, Some, None}
+use Rattle.std.proofs.Common.{slice_get, sym, ap, ◌∙◌, arith, drop-cons}
+use Rattle.std.proofs.lemmas.List.{drop_all, get_or-drop, length-drop, take_all}
 use Rattle.std.proofs.lemmas.Option.{slice_get_within, get_or_from_slice_get, slice_get-get_or}
 use Rattle.std.specs.Prelude.{insert, slice_range}
 use Rattle.texts.specs.Texts.{Bytes}
@@ -20,7 +21,8 @@ pub insert-behind : (xs : List Bytes) (n : ℕ) (t : Bytes) → n ≡ length xs 
 insert-behind xs n t long =
     ap (λ l. l ++ t ∷ drop n xs) (take_all n xs (omega (arith, long))) ∙ ap (λ l. xs ++ t ∷ l) (drop_all n xs (omega (arith, long)))
 
-slice_get-drop : (xs : List Bytes) (from i : ℕ) (t : Bytes) → from ≤ i → slice_get xs i ≡ Some t → slice_get (drop from xs) (i - from) ≡ Some t
+slice_get-drop : (xs : List Bytes) (from i : ℕ) (t : Bytes) → from ≤ i → slice_get xs i ≡ Some t
+    → slice_get (drop from xs) (i - from) ≡ Some t
 slice_get-drop xs from i t le e =
     let within : i < length xs = slice_get_within xs i t e in
     let here : from + (i - from) ≡ i = omega arith in

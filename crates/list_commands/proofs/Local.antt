@@ -5,7 +5,8 @@ use Rattle.command_cases.proofs.Shapes.{local-at_two}
 use Rattle.command_cases.specs.Case.{IsLocal}
 use Rattle.command_table.specs.ListCommands.{list_command_keys}
 use Rattle.command_table.specs.declared.list_commands.ListCommand.{ListCommand}
-use Rattle.command_table.specs.declared.list_commands.ListCommand.TheVariants.{Llen, Lpop, Rpop, Lpush, Rpush, Lpushx, Rpushx, Lindex, Lset, Lrange, Ltrim, Lrem, Linsert, Lmove, Rpoplpush}
+use Rattle.command_table.specs.declared.list_commands.ListCommand.TheVariants.{Llen, Lpop, Rpop, Lpush, Rpush, Lpushx, Rpushx, Lindex, Lset}
+use Rattle.command_table.specs.declared.list_commands.ListCommand.TheVariants.{Lrange, Ltrim, Lrem, Linsert, Lmove, Rpoplpush}
 use Rattle.texts.specs.declared.text_list.End.TheVariants.{Head, Tail}
 use Rattle.list_commands.specs.ListCommand.{at_list, length_step, pop_step, push_step, push_there_step, index_step, set_step, range_step}
 use Rattle.list_commands.specs.ListCommand.{trim_step, remove_step, insert_step, move_step, list_command_case}

@@ -7,7 +7,8 @@ use Rattle.command_cases.specs.Case.{Case, Step, at_key}
 use Rattle.command_cases.specs.Replies.{ok, count, wrong_type, no_such_key}
 use Rattle.command_cases.specs.Shapes.{StepOfTwo, at_two}
 use Rattle.command_table.specs.declared.list_commands.ListCommand.{ListCommand}
-use Rattle.command_table.specs.declared.list_commands.ListCommand.TheVariants.{Llen, Lpop, Rpop, Lpush, Rpush, Lpushx, Rpushx, Lindex, Lset, Lrange, Ltrim, Lrem, Linsert, Lmove, Rpoplpush}
+use Rattle.command_table.specs.declared.list_commands.ListCommand.TheVariants.{Llen, Lpop, Rpop, Lpush, Rpush, Lpushx, Rpushx, Lindex, Lset}
+use Rattle.command_table.specs.declared.list_commands.ListCommand.TheVariants.{Lrange, Ltrim, Lrem, Linsert, Lmove, Rpoplpush}
 use Rattle.command_table.specs.declared.list_commands.Side.{Side}
 use Rattle.command_table.specs.declared.list_commands.Side.TheVariants.{Before, After}
 use Rattle.integers.specs.Range.{place, range_items}
@@ -176,7 +177,8 @@ move_step false taken put (Some (kind.List items)) (Some (kind.List others)) =
     ((list_value (popped taken items), Some (kind.List (joined put others (end_item taken items)))), first_or_null (end_item taken items))
 move_step false taken put (Some (kind.List items)) (Some (kind.Str text)) = ((Some (kind.List items), Some (kind.Str text)), wrong_type)
 move_step false taken put (Some (kind.List items)) (Some (kind.Hash pairs)) = ((Some (kind.List items), Some (kind.Hash pairs)), wrong_type)
-move_step false taken put (Some (kind.List items)) (Some (kind.Set members)) = ((Some (kind.List items), Some (kind.Set members)), wrong_type)
+move_step false taken put (Some (kind.List items)) (Some (kind.Set members)) =
+    ((Some (kind.List items), Some (kind.Set members)), wrong_type)
 
 abbrev pub list_command_case : ListCommand → Case
 list_command_case (Llen key) = at_key key (at_list length_step)

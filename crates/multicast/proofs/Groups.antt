@@ -1,5 +1,6 @@
 -- The groups by their numbers.
-use Rattle.std.proofs.Common.{◌≡◌, ℕ, zero, suc, ◌<◌, ◌≤◌, ◌==◌, Bool, true, false, cond, List, [], ◌∷◌, length, slice_get, slice_set, slice_index_or, Option, Some, None, inl, inr, refl, sym, ap, ◌∙◌, arith, eq-eqb, eqb-true, ne_eqb}
+use Rattle.std.proofs.Common.{◌≡◌, ℕ, zero, suc, ◌<◌, ◌≤◌, ◌==◌, Bool, true, false, cond, List, [], ◌∷◌, length, slice_get, slice_set}
+use Rattle.std.proofs.Common.{slice_index_or, Option, Some, None, inl, inr, refl, sym, ap, ◌∙◌, arith, eq-eqb, eqb-true, ne_eqb}
 use Rattle.std.proofs.lemmas.Bool.{cases_lt, cases_Bool, both_ways}
 use Rattle.skeen_core.proofs.Lawful.{some_same}
 use Rattle.std.specs.FinMap.{get}
@@ -23,9 +24,11 @@ beyond (y ∷ ys) zero d h = absurd (omega arith)
 beyond (y ∷ ys) (suc g) d h = beyond ys g d (omega arith)
 
 -- groups that are all new
-pub all_fresh : (gs : List GroupView) → ((g : ℕ) → g < length gs → slice_get gs g ≡ Some (record { me = g; state = fresh })) → (g : ℕ) → group_of gs g ≡ fresh
+pub all_fresh : (gs : List GroupView) → ((g : ℕ) → g < length gs → slice_get gs g ≡ Some (record { me = g; state = fresh })) → (g : ℕ)
+    → group_of gs g ≡ fresh
 all_fresh gs each g = elim (cases_lt g (length gs)) [
-  | inl less ↦ ap (λ (v : GroupView). v.state) (found gs g (record { me = g; state = fresh }) (record { me = g; state = fresh }) (each g less))
+  | inl less ↦ ap (λ (v : GroupView). v.state)
+      (found gs g (record { me = g; state = fresh }) (record { me = g; state = fresh }) (each g less))
   | inr more ↦ ap (λ (v : GroupView). v.state) (beyond gs g (record { me = g; state = fresh }) more)
 ]
 
@@ -36,17 +39,21 @@ same_test h g = elim (cases_Bool (h == g)) [
 ]
 
 -- one group changed among many
-pub index-set : {X : Type 0} (xs : List X) (g : ℕ) (x : X) (h : ℕ) (d : X) → g < length xs → slice_index_or (slice_set xs g x) h d ≡ cond (h == g) x (slice_index_or xs h d)
+pub index-set : {X : Type 0} (xs : List X) (g : ℕ) (x : X) (h : ℕ) (d : X) → g < length xs
+    → slice_index_or (slice_set xs g x) h d ≡ cond (h == g) x (slice_index_or xs h d)
 index-set [] g x h d low = absurd (omega arith)
 index-set (y ∷ ys) zero x zero d low = refl
 index-set (y ∷ ys) zero x (suc h) d low = sym (ap (λ b. cond b x (slice_index_or ys h d)) (ne_eqb (suc h) 0 (λ e. omega arith)))
 index-set (y ∷ ys) (suc g) x zero d low = sym (ap (λ b. cond b x y) (ne_eqb 0 (suc g) (λ e. omega arith)))
-index-set (y ∷ ys) (suc g) x (suc h) d low = index-set ys g x h d (omega arith) ∙ ap (λ b. cond b x (slice_index_or ys h d)) (sym (same_test h g))
+index-set (y ∷ ys) (suc g) x (suc h) d low = index-set ys g x h d (omega arith)
+    ∙ ap (λ b. cond b x (slice_index_or ys h d)) (sym (same_test h g))
 
-pub group_of-set : (gs : List GroupView) (g : ℕ) (v : GroupView) → g < length gs → (h : ℕ) → group_of (slice_set gs g v) h ≡ at (group_of gs) g v.state h
+pub group_of-set : (gs : List GroupView) (g : ℕ) (v : GroupView) → g < length gs → (h : ℕ)
+    → group_of (slice_set gs g v) h ≡ at (group_of gs) g v.state h
 group_of-set gs g v low h =
     ap (λ (x : GroupView). x.state) (index-set gs g v h (record { me = h; state = fresh }) low)
-    ∙ elim (h == g) as (λ b. (cond b v (slice_index_or gs h (record { me = h; state = fresh }))).state ≡ cond b v.state (group_of gs h)) [ true ↦ refl | false ↦ refl ]
+    ∙ elim (h == g) as (λ b. (cond b v (slice_index_or gs h (record { me = h; state = fresh }))).state ≡ cond b v.state (group_of gs h))
+    [ true ↦ refl | false ↦ refl ]
 
 length-set : {X : Type 0} (xs : List X) (g : ℕ) (x : X) → length (slice_set xs g x) ≡ length xs
 length-set [] g x = refl
@@ -57,7 +64,8 @@ pub count-set : (gs : List GroupView) (g : ℕ) (v : GroupView) → length (slic
 count-set gs g v = length-set gs g v
 
 -- a group that is changed and knows its number still
-pub numbered-set : (gs : List GroupView) (g : ℕ) (v : GroupView) → g < length gs → v.me ≡ g → ((h : ℕ) (d : GroupView) → h < length gs → (slice_index_or gs h d).me ≡ h) →
+pub numbered-set : (gs : List GroupView) (g : ℕ) (v : GroupView) → g < length gs → v.me ≡ g
+    → ((h : ℕ) (d : GroupView) → h < length gs → (slice_index_or gs h d).me ≡ h) →
     (h : ℕ) (d : GroupView) → h < length (slice_set gs g v) → (slice_index_or (slice_set gs g v) h d).me ≡ h
 numbered-set gs g v low me before h d within =
     let within' : h < length gs = let e = length-set gs g v in omega arith in
@@ -74,7 +82,8 @@ one_more false ps p n few = omega arith
 -- no more packets are told than there are groups
 pub told_few : (me : ℕ) (id : RequestId) (n : ℕ) (gs : List ℕ) → length (tell me id n gs) ≤ length gs
 told_few me id n [] = omega arith
-told_few me id n (g ∷ gs) = one_more (g == me) (tell me id n gs) (record { to = g; id = id; body = Proposal me n }) (length gs) (told_few me id n gs)
+told_few me id n (g ∷ gs) = one_more (g == me) (tell me id n gs) (record { to = g; id = id; body = Proposal me n }) (length gs)
+    (told_few me id n gs)
 
 -- what is found stands within the list
 pub within : {X : Type 0} (xs : List X) (k : ℕ) (x : X) → slice_get xs k ≡ Some x → k < length xs
@@ -92,13 +101,15 @@ pub state_at : (gs : List GroupView) (g : ℕ) (v : GroupView) → g < length gs
 state_at gs g v low is = ap (λ (x : GroupView). x.state) (any_default gs g (record { me = g; state = fresh }) v low ∙ sym is)
 
 -- a group sends no more than its packet's groups
-pub sent_few : (me : ℕ) (grp : GroupState) (id : RequestId) (body : Body) (sent : List Packet) (ds : List Delivered) (new : GroupState) → Receives me grp id body sent ds new → length sent ≤ sends_at_most body
+pub sent_few : (me : ℕ) (grp : GroupState) (id : RequestId) (body : Body) (sent : List Packet) (ds : List Delivered) (new : GroupState)
+    → Receives me grp id body sent ds new → length sent ≤ sends_at_most body
 sent_few me grp id (Proposal from n) sent ds new r = let e = ap (λ (ps : List Packet). length ps) r.0 in omega arith
 sent_few me grp id (Start floor groups) sent ds new r = by_started (get grp.started id) r
   where
     by_started : (o : Option (List ℕ)) → ReceivesStart o me grp id floor groups sent ds new → length sent ≤ length groups
     by_started (Some gs) r = let e = ap (λ (ps : List Packet). length ps) r.0 in omega arith
-    by_started None r = let e = ap (λ (ps : List Packet). length ps) r.0 in let few = told_few me id (next_clock grp floor) groups in omega arith
+    by_started None r = let e = ap (λ (ps : List Packet). length ps) r.0 in let few = told_few me id (next_clock grp floor) groups in
+        omega arith
 
 -- as many Starts as groups
 pub starts_many : (id : RequestId) (floor : ℕ) (all gs : List ℕ) → length (starts_to id floor all gs) ≡ length gs

@@ -7,5 +7,6 @@ use Rattle.delivery.proofs.Layers.{popped_is_left}
 use Rattle.skeen_core.specs.declared.packet.Delivered.{Delivered}
 
 -- the queues once a layer is popped
-pub once_popped : (was now : QueueOf) (layer : List Delivered) → IsSound was → IsLayer was layer → now ≡ popped_all layer was → (g : ℕ) → now g ≡ left_in layer (was g)
+pub once_popped : (was now : QueueOf) (layer : List Delivered) → IsSound was → IsLayer was layer → now ≡ popped_all layer was → (g : ℕ)
+    → now g ≡ left_in layer (was g)
 once_popped was now layer sound is popped g = ap (λ (q : QueueOf). q g) popped ∙ popped_is_left was layer sound is g

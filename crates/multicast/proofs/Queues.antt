@@ -1,5 +1,6 @@
 -- One queue changed among many.
-use Rattle.std.proofs.Common.{◌≡◌, ℕ, ◌<◌, ◌==◌, true, false, cond, List, [], ◌∷◌, ◌++◌, length, slice_set, refl, sym, ap, ◌∙◌, subst, arith, eqb-true, eq-eqb, append-nil}
+use Rattle.std.proofs.Common.{◌≡◌, ℕ, ◌<◌, ◌==◌, true, false, cond, List, [], ◌∷◌, ◌++◌, length, slice_set, refl, sym, ap, ◌∙◌, subst}
+use Rattle.std.proofs.Common.{arith, eqb-true, eq-eqb, append-nil}
 use Rattle.std.proofs.Math.Seq.{append_snoc}
 use Rattle.delivery.specs.Queues.{queue_of}
 use Rattle.multicast.proofs.Groups.{index-set}
@@ -7,7 +8,8 @@ use Rattle.multicast.specs.Multicast.{at, MayAppendAll}
 use Rattle.skeen_core.specs.declared.packet.Delivered.{Delivered}
 
 -- a queue set is that queue, and the others are as they were
-pub queue_of-set : (qs : List (List Delivered)) (g : ℕ) (q : List Delivered) → g < length qs → (h : ℕ) → queue_of (slice_set qs g q) h ≡ at (queue_of qs) g q h
+pub queue_of-set : (qs : List (List Delivered)) (g : ℕ) (q : List Delivered) → g < length qs → (h : ℕ)
+    → queue_of (slice_set qs g q) h ≡ at (queue_of qs) g q h
 queue_of-set qs g q low h = index-set qs g q h [] low
 
 -- put twice at a place
@@ -29,7 +31,8 @@ abbrev pub with_rest : List (List Delivered) → ℕ → List Delivered → ℕ 
 with_rest qs g rest h = at (queue_of qs) g (queue_of qs g ++ rest) h
 
 -- one more appended, the rest one shorter
-pub rest_next : (qs new : List (List Delivered)) (g : ℕ) (d : Delivered) (ds : List Delivered) → g < length qs → new ≡ slice_set qs g (queue_of qs g ++ d ∷ []) →
+pub rest_next : (qs new : List (List Delivered)) (g : ℕ) (d : Delivered) (ds : List Delivered) → g < length qs
+    → new ≡ slice_set qs g (queue_of qs g ++ d ∷ []) →
     (h : ℕ) → with_rest new g ds h ≡ with_rest qs g (d ∷ ds) h
 rest_next qs new g d ds low is h =
     ap (λ (x : List (List Delivered)). with_rest x g ds h) is
@@ -41,13 +44,15 @@ rest_next qs new g d ds low is h =
     at_point : with_rest (slice_set qs g (queue_of qs g ++ d ∷ [])) g ds h ≡ with_rest qs g (d ∷ ds) h
     at_point =
         let set = queue_of-set qs g (queue_of qs g ++ d ∷ []) low in
-        ap (λ (x : List Delivered). at (queue_of (slice_set qs g (queue_of qs g ++ d ∷ []))) g (x ++ ds) h) (set g ∙ at_here (queue_of qs) g (queue_of qs g ++ d ∷ []))
+        ap (λ (x : List Delivered). at (queue_of (slice_set qs g (queue_of qs g ++ d ∷ []))) g (x ++ ds) h) (set g
+        ∙ at_here (queue_of qs) g (queue_of qs g ++ d ∷ []))
         ∙ ap (λ (x : List Delivered). cond (h == g) ((queue_of qs g ++ d ∷ []) ++ ds) x) (set h)
         ∙ at_twice (queue_of qs) g (queue_of qs g ++ d ∷ []) ((queue_of qs g ++ d ∷ []) ++ ds) h
         ∙ ap (λ (x : List Delivered). at (queue_of qs) g x h) (append_snoc (queue_of qs g) d ds)
 
 -- nothing is left to append
-pub rest_none : (qs : List (List Delivered)) (g : ℕ) (rest : List Delivered) → length rest ≡ 0 → (h : ℕ) → with_rest qs g rest h ≡ queue_of qs h
+pub rest_none : (qs : List (List Delivered)) (g : ℕ) (rest : List Delivered) → length rest ≡ 0 → (h : ℕ)
+    → with_rest qs g rest h ≡ queue_of qs h
 rest_none qs g [] none h = at_same (queue_of qs) g h (queue_of qs g ++ []) (append-nil (queue_of qs g))
 rest_none qs g (d ∷ ds) none h = absurd (omega arith)
 
@@ -55,7 +60,9 @@ rest_none qs g (d ∷ ds) none h = absurd (omega arith)
 pub may_append_same : (f k : ℕ → List Delivered) (g : ℕ) (ds : List Delivered) → f ≡ k → MayAppendAll f g ds → MayAppendAll k g ds
 may_append_same f k g ds same may = subst (λ q. MayAppendAll q g ds) same may
 
-pub may_append_next : (qs new : List (List Delivered)) (g : ℕ) (d : Delivered) (ds : List Delivered) → g < length qs → new ≡ slice_set qs g (queue_of qs g ++ d ∷ []) →
+pub may_append_next : (qs new : List (List Delivered)) (g : ℕ) (d : Delivered) (ds : List Delivered) → g < length qs
+    → new ≡ slice_set qs g (queue_of qs g ++ d ∷ []) →
     MayAppendAll (queue_of qs) g (d ∷ ds) → MayAppendAll (queue_of new) g ds
 may_append_next qs new g d ds low is may =
-    subst (λ q. MayAppendAll (queue_of q) g ds) (sym is) (may_append_same _ _ g ds (λ k h. sym (queue_of-set qs g (queue_of qs g ++ d ∷ []) low h) k) may.1)
+    subst (λ q. MayAppendAll (queue_of q) g ds) (sym is)
+    (may_append_same _ _ g ds (λ k h. sym (queue_of-set qs g (queue_of qs g ++ d ∷ []) low h) k) may.1)

@@ -1,13 +1,15 @@
 //! The groups, their packets and their queues, as one.
 
-ghost use Rattle.std.specs.Prelude.{◌≡◌, ℕ, ◌+◌, ◌<◌, ◌≤◌, ◌++◌, [], length, slice_get, true, option_copied, Some, None, IfOk, IfErr, OnOk, OnErr, IsOk, IsTrue, ◌↔◌};
+ghost use Rattle.std.specs.Prelude.{◌≡◌, ℕ, ◌+◌, ◌<◌, ◌≤◌, ◌++◌, [], length, slice_get, true, option_copied, Some, None, IfOk, IfErr, OnOk};
+ghost use Rattle.std.specs.Prelude.{OnErr, IsOk, IsTrue, ◌↔◌};
 ghost use Rattle.std.specs.FinMap.{len};
 ghost use Rattle.delivery.specs.Queues.{queue_of, room_of, IsSound};
 ghost use Rattle.delivery.specs.Ready.{IsReady, IsLayer};
 ghost use Rattle.skeen_core.specs.Group.{fresh};
 ghost use Rattle.skeen_core.specs.declared.packet.Packet.{Packet};
 ghost use Rattle.skeen_core.specs.declared.packet.Delivered.{Delivered};
-ghost use Rattle.multicast.specs.Multicast.{at, group_of, sends_at_most, IsSame, IsWhole, Begins, MayAppendAll, MayBeDelivered, Delivers, LosesLayer};
+ghost use Rattle.multicast.specs.Multicast.{at, group_of, sends_at_most, IsSame, IsWhole, Begins, MayAppendAll, MayBeDelivered, Delivers};
+ghost use Rattle.multicast.specs.Multicast.{LosesLayer};
 
 use delivery::Queues;
 use groups::{GroupId, Groups};
@@ -178,7 +180,8 @@ impl Multicast {
 fn new_groups(alloc: Global, count: u8) -> Result<Vec<Group>, AllocError>
     requires { count ≤ 64 }
     ensures count { IfOk result (λ groups. length groups.items ≡ count) }
-    ensures fresh { IfOk result (λ groups. (g : ℕ) → g < length groups.items → slice_get groups.items g ≡ Some (record { me = g; state = fresh })) }
+    ensures fresh { IfOk result (λ groups. (g : ℕ) → g < length groups.items
+        → slice_get groups.items g ≡ Some (record { me = g; state = fresh })) }
 {
     let mut groups = Vec::with_capacity(alloc, usize::from(count))?;
     for number in 0..count {
@@ -222,7 +225,8 @@ fn append_all(queues: &mut Queues, group: GroupId, delivered: Vec<Delivered>)
     requires may_append { MayAppendAll (queue_of queues.old.queues) group delivered.items }
     requires room { length delivered.items ≤ room_of queues.old.rooms group }
     ensures count { length queues.new.queues ≡ length queues.old.queues }
-    ensures appended { (g : ℕ) → queue_of queues.new.queues g ≡ at (queue_of queues.old.queues) group (queue_of queues.old.queues group ++ delivered.items) g }
+    ensures appended { (g : ℕ)
+        → queue_of queues.new.queues g ≡ at (queue_of queues.old.queues) group (queue_of queues.old.queues group ++ delivered.items) g }
 {
     for request in delivered {
         let Ok(()) = queues.append(group, request) else {

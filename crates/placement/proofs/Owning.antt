@@ -1,5 +1,7 @@
 -- The shards of the slots, while the ranges are gone through.
-use Rattle.std.proofs.Common.{◌≡◌, ℕ, ℤ, pos, ◌≤ℤ◌, ◌<ℤ◌, suc, ◌+◌, ◌<◌, ◌≤◌, Bool, true, false, cond, List, [], ◌∷◌, length, Option, Some, None, IsSome, option_to_list, replicate, take, drop, get_or, map, filter, refl, sym, ap, ◌∙◌, subst, arith, length-append}
+use Rattle.std.proofs.Common.{◌≡◌, ℕ, ℤ, pos, ◌≤ℤ◌, ◌<ℤ◌, suc, ◌+◌, ◌<◌, ◌≤◌, Bool, true, false, cond, List, [], ◌∷◌, length, Option, Some}
+use Rattle.std.proofs.Common.{None, IsSome, option_to_list, replicate, take, drop, get_or, map, filter, refl, sym, ap, ◌∙◌, subst, arith}
+use Rattle.std.proofs.Common.{length-append}
 use Rattle.std.proofs.lemmas.Int.{ints}
 use Rattle.std.proofs.lemmas.List.{get_or-replicate, take-append-drop}
 use Rattle.std.proofs.lemmas.List.Filters.{length-filter_more}
@@ -33,15 +35,18 @@ one_more None h = cc
 one_more (Some g) h = refl
 
 -- a slot that has a shard and is in the next range is in two
-pub SomeTwice-next : (rs : List Range) (i : ℕ) (d : Range) (owners : List (Option ℕ)) (s : ℕ) → i < length rs → Owns (take i rs) owners → s < SLOTS
+pub SomeTwice-next : (rs : List Range) (i : ℕ) (d : Range) (owners : List (Option ℕ)) (s : ℕ) → i < length rs → Owns (take i rs) owners
+    → s < SLOTS
     → has_slot s (get_or rs i d) ≡ true → IsSome (owner owners s) → SomeTwice rs
 SomeTwice-next rs i d owners s next owns within has some =
-    let one : length (filter (has_slot s) (take i rs)) ≡ 1 = sym (length-shards_at s (take i rs)) ∙ ap length (owns s within) ∙ one_more (owner owners s) some in
+    let one : length (filter (has_slot s) (take i rs)) ≡ 1 = sym (length-shards_at s (take i rs)) ∙ ap length (owns s within)
+    ∙ one_more (owner owners s) some in
     let two : length (filter (has_slot s) (take (i + 1) rs)) ≡ 1 + 1 = length-filter_more (has_slot s) rs i d next ∙ rw (one, has) in
     (s, within, omega (arith, taken_le (has_slot s) rs (i + 1), length-shards_at s rs))
 
 -- a shard that a slot's ranges name is known, where each range names a known one
-shards_at-known : (P : ℤ → Type 0) (s : ℕ) (rs : List Range) (z : ℤ) (zs : List ℤ) → AllByRecursion (λ r. P r.shard) rs → shards_at s rs ≡ z ∷ zs → P z
+shards_at-known : (P : ℤ → Type 0) (s : ℕ) (rs : List Range) (z : ℤ) (zs : List ℤ) → AllByRecursion (λ r. P r.shard) rs
+    → shards_at s rs ≡ z ∷ zs → P z
 shards_at-known P s [] z zs h e = cc
 shards_at-known P s (r ∷ rs) z zs h e =
     elim (has_slot s r) as (λ b. map (λ x. x.shard) (cond b (r ∷ filter (has_slot s) rs) (filter (has_slot s) rs)) ≡ z ∷ zs → P z) [
@@ -50,7 +55,8 @@ shards_at-known P s (r ∷ rs) z zs h e =
     ] e
 
 -- where each slot has one shard, the document gives the table of these
-pub Gives-from_owners : (d : Document) (n : ℕ) (owners : List (Option ℕ)) (slots : List ℕ) → KnowsShards d → d.shards ≡ pos n → Owns d.ranges owners → OwnEach owners slots
+pub Gives-from_owners : (d : Document) (n : ℕ) (owners : List (Option ℕ)) (slots : List ℕ) → KnowsShards d → d.shards ≡ pos n
+    → Owns d.ranges owners → OwnEach owners slots
     → Gives d (record { shards = n; slots = slots })
 Gives-from_owners d n owners slots known same owns each = record {
   known = known;

@@ -1,5 +1,6 @@
 -- The shards of the slots while the ranges of a document are gone through.
-use Rattle.std.specs.Prelude.{pos, map, ◌≡◌, ℕ, ◌<◌, true, false, List, Option, Some, None, IsSome, option_to_list, length, slice_index, slice_index_or}
+use Rattle.std.specs.Prelude.{pos, map, ◌≡◌, ℕ, ◌<◌, true, false, List, Option, Some, None, IsSome, option_to_list, length, slice_index}
+use Rattle.std.specs.Prelude.{slice_index_or}
 use Rattle.placement.specs.declared.document.Range.{Range}
 use Rattle.placement.specs.declared.slots.TheConstants.{SLOTS}
 use Rattle.placement.specs.Layout.{has_slot, shards_at}

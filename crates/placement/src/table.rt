@@ -43,7 +43,8 @@ impl Table {
     ///
     /// The document has the integer `shards`, from 1 to 64, and the array `range` of tables, and no other key. Each
     /// table of `range` has the integers `from`, `to` and `shard`, with `0 <= from <= to <= 1023` and `0 <= shard <
-    /// shards`, and no other key. Each slot is in one range. A negative `from` or `to` is another shape (`Toml`); a negative `shards` or `shard` has
+    /// shards`, and no other key. Each slot is in one range. A negative `from` or `to` is another shape (`Toml`); a
+    /// negative `shards` or `shard` has
     /// the shape and is `Shard`.
     /// [`TableFault`] says what a refused text breaks; `Memory` says nothing of the text.
     pub fn from_toml(alloc: Global, text: &str) -> Result<Self, TableFault>

@@ -3,7 +3,8 @@ use Rattle.std.specs.Global.{Vec}
 use Rattle.std.proofs.Common.{◌≡◌, ℕ, ℤ, List, map, ap, sym, ◌∙◌, Bor}
 use Rattle.resp.specs.declared.reply.ErrorText.{ErrorText}
 use Rattle.resp.specs.declared.reply.Reply.{Reply}
-use Rattle.resp.specs.declared.reply.Reply.TheVariants.{Simple, Error, Int, Bulk, Null, Array, rolls-Simple, rolls-Error, rolls-Int, rolls-Bulk, rolls-Null, rolls-Array}
+use Rattle.resp.specs.declared.reply.Reply.TheVariants.{Simple, Error, Int, Bulk, Null, Array, rolls-Simple, rolls-Error, rolls-Int}
+use Rattle.resp.specs.declared.reply.Reply.TheVariants.{rolls-Bulk, rolls-Null, rolls-Array}
 use Rattle.resp.specs.declared.reply.Reply.TheFolds.{fold-roll-Reply}
 use Rattle.resp.specs.Content.{SimpleText, ErrorLine, Number, BulkText, Nothing, Several, content, contents, error_text}
 

@@ -1,7 +1,8 @@
 -- The text of each kind of reply, and of an array as its replies' texts in a row.
 use Rattle.std.specs.Global.{Vec}
 use Rattle.std.specs.Fmt.{decimal, signed_decimal}
-use Rattle.std.proofs.Common.{◌≡◌, ℕ, ℤ, ◌+◌, List, [], ◌∷◌, ◌++◌, map, length, ap, ◌∙◌, refl, Bor, arith, codes, take, ◌<◌, ◌≤◌, append_assoc, length-append, get_or}
+use Rattle.std.proofs.Common.{◌≡◌, ℕ, ℤ, ◌+◌, List, [], ◌∷◌, ◌++◌, map, length, ap, ◌∙◌, refl, Bor, arith, codes, take, ◌<◌, ◌≤◌}
+use Rattle.std.proofs.Common.{append_assoc, length-append, get_or}
 use Rattle.std.proofs.lemmas.List.{take_all}
 use Rattle.std.proofs.lemmas.List.Folds.{length-flat_map-take}
 use Rattle.std.specs.List.{flat_map}
@@ -36,7 +37,8 @@ text-Bulk bytes = ap text (content-Bulk bytes)
 pub text-Null : text (content Null) ≡ codes "$-1" ++ crlf
 text-Null = ap text content-Null
 
-pub text-Array : (replies : Vec Reply) → text (content (Array replies)) ≡ codes "*" ++ decimal (length replies.items) ++ crlf ++ flat_map reply_text replies.items
+pub text-Array : (replies : Vec Reply) → text (content (Array replies)) ≡ codes "*" ++ decimal (length replies.items) ++ crlf
+    ++ flat_map reply_text replies.items
 text-Array replies =
     rw (content-Array replies, count_of-contents replies.items, contents_text-contents replies.items)
 
@@ -99,4 +101,11 @@ array_item_fits old begun out reply item replies n i is counted within at begins
     let texts : length out ≡ length begun + length (flat_map reply_text (take i replies.items))
     = ap length goes ∙ length-append begun (flat_map reply_text (take i replies.items)) in
     let this : length (text (content item)) ≡ length (reply_text (get_or replies.items i item)) = ap (λ r. length (reply_text r)) at in
-    omega (arith, length-text-Array reply replies n is counted, length-flat_map-take reply_text replies.items i item within, line, texts, this)
+    omega (
+      arith,
+      length-text-Array reply replies n is counted,
+      length-flat_map-take reply_text replies.items i item within,
+      line,
+      texts,
+      this,
+    )

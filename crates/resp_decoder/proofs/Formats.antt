@@ -10,14 +10,16 @@ use Rattle.resp_decoder.specs.Parsing.{Parsed, ◌>>=◌}
 -- ---- one list cut in two ways
 
 -- the first part of the one goes past the place of the other, or the other way round
-pub split : (xs ys us : List ℕ) (z : ℕ) (vs : List ℕ) → xs ++ ys ≡ us ++ z ∷ vs → ((mid : List ℕ) × (xs ≡ us ++ z ∷ mid)) ⊎ ((mid : List ℕ) × (us ≡ xs ++ mid) × (ys ≡ mid ++ z ∷ vs))
+pub split : (xs ys us : List ℕ) (z : ℕ) (vs : List ℕ) → xs ++ ys ≡ us ++ z ∷ vs → ((mid : List ℕ) × (xs ≡ us ++ z ∷ mid))
+    ⊎ ((mid : List ℕ) × (us ≡ xs ++ mid) × (ys ≡ mid ++ z ∷ vs))
 split [] ys us z vs e = inr (us, refl, e)
 split (x ∷ xs) ys [] z vs e = inl (xs, cc)
 split (x ∷ xs) ys (u ∷ us) z vs e =
     let same : x ≡ u = cc in
     elim (split xs ys us z vs cc) [ inl p ↦ inl (p.0, cc) | inr p ↦ inr (p.0, cc, p.2) ]
 
-pub split_marked : (xs ys us : Marked) (z : ℕ × Fault) (vs : Marked) → xs ++ ys ≡ us ++ z ∷ vs → ((mid : Marked) × (xs ≡ us ++ z ∷ mid)) ⊎ ((mid : Marked) × (us ≡ xs ++ mid) × (ys ≡ mid ++ z ∷ vs))
+pub split_marked : (xs ys us : Marked) (z : ℕ × Fault) (vs : Marked) → xs ++ ys ≡ us ++ z ∷ vs → ((mid : Marked) × (xs ≡ us ++ z ∷ mid))
+    ⊎ ((mid : Marked) × (us ≡ xs ++ mid) × (ys ≡ mid ++ z ∷ vs))
 split_marked [] ys us z vs e = inr (us, refl, e)
 split_marked (x ∷ xs) ys [] z vs e = inl (xs, cc)
 split_marked (x ∷ xs) ys (u ∷ us) z vs e =
@@ -37,7 +39,8 @@ pub bind_ok : {A B : Type 0} (r : Result A Stop) (f : A → Result B Stop) (y : 
 bind_ok (Ok x) f y e = (x, refl, e)
 bind_ok (Err d) f y e = absurd cc
 
-pub bind_err : {A B : Type 0} (r : Result A Stop) (f : A → Result B Stop) (stop : Stop) → (r >>= f) ≡ Err stop → (r ≡ Err stop) ⊎ ((x : A) × (r ≡ Ok x) × (f x ≡ Err stop))
+pub bind_err : {A B : Type 0} (r : Result A Stop) (f : A → Result B Stop) (stop : Stop) → (r >>= f) ≡ Err stop → (r ≡ Err stop)
+    ⊎ ((x : A) × (r ≡ Ok x) × (f x ≡ Err stop))
 bind_err (Ok x) f stop e = inr (x, refl, e)
 bind_err (Err d) f stop e = inl (let same : d ≡ stop = cc in cc)
 
@@ -51,7 +54,8 @@ ok_is x y e = cc
 
 -- two texts that agree up to a place have the same fault there
 abbrev pub ArePlaced : {A : Type 0} → (A → Type 0) → (A → Marked) → Type 0
-ArePlaced {A} lawful marks = (x y : A) → lawful x → lawful y → (before : Marked) (next : ℕ × Fault) (after before' : Marked) (next' : ℕ × Fault) (after' : Marked)
+ArePlaced {A} lawful marks = (x y : A) → lawful x → lawful y
+    → (before : Marked) (next : ℕ × Fault) (after before' : Marked) (next' : ℕ × Fault) (after' : Marked)
     → marks x ≡ before ++ next ∷ after → marks y ≡ before' ++ next' ∷ after' → bytes before ≡ bytes before' → next.1 ≡ next'.1
 
 pub record Reads {A : Type 0} (r : List ℕ → Parsed A) (lawful : A → Type 0) (marks : A → Marked) : Type 0 where
@@ -85,14 +89,19 @@ nothing_before x (z ∷ xs) ys e = cc
 
 -- a text can't end within another
 pub no_shorter : {A : Type 0} (r : List ℕ → Parsed A) (lawful : A → Type 0) (marks : A → Marked) → Reads r lawful marks
-    → (x y : A) → lawful x → lawful y → (before : Marked) (next : ℕ × Fault) (after : Marked) (mid : List ℕ) → marks x ≡ before ++ next ∷ after → bytes before ≡ bytes (marks y) ++ mid → ⊥
+    → (x y : A) → lawful x → lawful y → (before : Marked) (next : ℕ × Fault) (after : Marked) (mid : List ℕ)
+    → marks x ≡ before ++ next ∷ after → bytes before ≡ bytes (marks y) ++ mid → ⊥
 no_shorter r lawful marks reads x y hx hy before next after mid text e =
     let whole : bytes (marks x) ≡ bytes (marks y) ++ (mid ++ next.0 ∷ bytes after) =
-    ap bytes text ∙ bytes-append before (next ∷ after) ∙ ap (λ (t : List ℕ). t ++ next.0 ∷ bytes after) e ∙ append_assoc (bytes (marks y)) mid (next.0 ∷ bytes after) in
-    nothing_before next.0 mid (bytes after) (same_front r lawful marks reads x y hx hy [] (mid ++ next.0 ∷ bytes after) (append-nil (bytes (marks x)) ∙ whole)).1
+    ap bytes text ∙ bytes-append before (next ∷ after) ∙ ap (λ (t : List ℕ). t ++ next.0 ∷ bytes after) e
+    ∙ append_assoc (bytes (marks y)) mid (next.0 ∷ bytes after) in
+    nothing_before next.0 mid (bytes after)
+    (same_front r lawful marks reads x y hx hy [] (mid ++ next.0 ∷ bytes after) (append-nil (bytes (marks x)) ∙ whole)).1
 
-pair_got : {A B : Type 0} (r : List ℕ → Parsed A) (P : A → Type 0) (m : A → Marked) (s : A → List ℕ → Parsed B) (Q : A → B → Type 0) (n : A → B → Marked)
-    → Reads r P m → ((a : A) → P a → Reads (s a) (Q a) (n a)) → (b : List ℕ) (z : (A × B) × List ℕ) → pair r s b ≡ Ok z → Both P Q z.0 × (b ≡ bytes (both_marks m n z.0) ++ z.1)
+pair_got : {A B : Type 0} (r : List ℕ → Parsed A) (P : A → Type 0) (m : A → Marked) (s : A → List ℕ → Parsed B) (Q : A → B → Type 0) (n : A
+    → B → Marked)
+    → Reads r P m → ((a : A) → P a → Reads (s a) (Q a) (n a)) → (b : List ℕ) (z : (A × B) × List ℕ) → pair r s b ≡ Ok z
+    → Both P Q z.0 × (b ≡ bytes (both_marks m n z.0) ++ z.1)
 pair_got {A} {B} r P m s Q n reads then_reads b z e =
     let first = bind_ok (r b) (λ x. s x.0 x.1 >>= λ y. Ok ((x.0, y.0), y.1)) z e in
     let x = first.0 in
@@ -101,18 +110,24 @@ pair_got {A} {B} r P m s Q n reads then_reads b z e =
     let g = reads.got b x first.1 in
     let h = (then_reads x.0 g.0).got x.1 y second.1 in
     let whole : b ≡ bytes (m x.0 ++ n x.0 y.0) ++ y.1 =
-    g.1 ∙ ap (λ (t : List ℕ). bytes (m x.0) ++ t) h.1 ∙ sym (append_assoc (bytes (m x.0)) (bytes (n x.0 y.0)) y.1) ∙ ap (λ (t : List ℕ). t ++ y.1) (sym (bytes-append (m x.0) (n x.0 y.0))) in
-    subst (λ (w : (A × B) × List ℕ). Both P Q w.0 × (b ≡ bytes (both_marks m n w.0) ++ w.1)) (ok_is ((x.0, y.0), y.1) z second.2) ((g.0, h.0), whole)
+    g.1 ∙ ap (λ (t : List ℕ). bytes (m x.0) ++ t) h.1 ∙ sym (append_assoc (bytes (m x.0)) (bytes (n x.0 y.0)) y.1)
+    ∙ ap (λ (t : List ℕ). t ++ y.1) (sym (bytes-append (m x.0) (n x.0 y.0))) in
+    subst (λ (w : (A × B) × List ℕ). Both P Q w.0 × (b ≡ bytes (both_marks m n w.0) ++ w.1)) (ok_is ((x.0, y.0), y.1) z second.2)
+    ((g.0, h.0), whole)
 
-pair_again : {A B : Type 0} (r : List ℕ → Parsed A) (P : A → Type 0) (m : A → Marked) (s : A → List ℕ → Parsed B) (Q : A → B → Type 0) (n : A → B → Marked)
-    → Reads r P m → ((a : A) → P a → Reads (s a) (Q a) (n a)) → (p : A × B) → Both P Q p → (rest : List ℕ) → pair r s (bytes (both_marks m n p) ++ rest) ≡ Ok (p, rest)
+pair_again : {A B : Type 0} (r : List ℕ → Parsed A) (P : A → Type 0) (m : A → Marked) (s : A → List ℕ → Parsed B) (Q : A → B
+    → Type 0) (n : A → B → Marked)
+    → Reads r P m → ((a : A) → P a → Reads (s a) (Q a) (n a)) → (p : A × B) → Both P Q p → (rest : List ℕ)
+    → pair r s (bytes (both_marks m n p) ++ rest) ≡ Ok (p, rest)
 pair_again r P m s Q n reads then_reads p h rest =
     let cut : bytes (m p.0 ++ n p.0 p.1) ++ rest ≡ bytes (m p.0) ++ (bytes (n p.0 p.1) ++ rest) =
     ap (λ (t : List ℕ). t ++ rest) (bytes-append (m p.0) (n p.0 p.1)) ∙ append_assoc (bytes (m p.0)) (bytes (n p.0 p.1)) rest in
     ap (pair r s) cut ∙ rw (reads.again p.0 h.0 (bytes (n p.0 p.1) ++ rest), (then_reads p.0 h.0).again p.1 h.1 rest) refl
 
-pair_part : {A B : Type 0} (r : List ℕ → Parsed A) (P : A → Type 0) (m : A → Marked) (s : A → List ℕ → Parsed B) (Q : A → B → Type 0) (n : A → B → Marked)
-    → Reads r P m → ((a : A) → P a → Reads (s a) (Q a) (n a)) → ((a : A) → P a → (b : B) × Q a b) → (b : List ℕ) → pair r s b ≡ Err Open → IsOpenIn (Both P Q) (both_marks m n) b
+pair_part : {A B : Type 0} (r : List ℕ → Parsed A) (P : A → Type 0) (m : A → Marked) (s : A → List ℕ → Parsed B) (Q : A → B → Type 0) (n : A
+    → B → Marked)
+    → Reads r P m → ((a : A) → P a → Reads (s a) (Q a) (n a)) → ((a : A) → P a → (b : B) × Q a b) → (b : List ℕ) → pair r s b ≡ Err Open
+    → IsOpenIn (Both P Q) (both_marks m n) b
 pair_part r P m s Q n reads then_reads some b e =
     elim (bind_err (r b) (λ x. s x.0 x.1 >>= λ y. Ok ((x.0, y.0), y.1)) Open e) [
       | inl stopped ↦
@@ -146,8 +161,10 @@ pair_part r P m s Q n reads then_reads some b e =
           ]
     ]
 
-pair_bad : {A B : Type 0} (r : List ℕ → Parsed A) (P : A → Type 0) (m : A → Marked) (s : A → List ℕ → Parsed B) (Q : A → B → Type 0) (n : A → B → Marked)
-    → Reads r P m → ((a : A) → P a → Reads (s a) (Q a) (n a)) → ((a : A) → P a → (b : B) × Q a b) → (b : List ℕ) (fault : Fault) → pair r s b ≡ Err (Bad fault) → IsFaultIn (Both P Q) (both_marks m n) b fault
+pair_bad : {A B : Type 0} (r : List ℕ → Parsed A) (P : A → Type 0) (m : A → Marked) (s : A → List ℕ → Parsed B) (Q : A → B → Type 0) (n : A
+    → B → Marked)
+    → Reads r P m → ((a : A) → P a → Reads (s a) (Q a) (n a)) → ((a : A) → P a → (b : B) × Q a b) → (b : List ℕ) (fault : Fault)
+    → pair r s b ≡ Err (Bad fault) → IsFaultIn (Both P Q) (both_marks m n) b fault
 pair_bad {A} {B} r P m s Q n reads then_reads some b fault e =
     elim (bind_err (r b) (λ x. s x.0 x.1 >>= λ y. Ok ((x.0, y.0), y.1)) (Bad fault) e) [
       | inl stopped ↦
@@ -159,12 +176,14 @@ pair_bad {A} {B} r P m s Q n reads then_reads some b fault e =
             before = o.before;
             byte = o.byte;
             after = o.after ++ n o.value follow.0;
-            text = ap (λ (t : Marked). t ++ n o.value follow.0) o.text ∙ append_assoc o.before ((o.byte, fault) ∷ o.after) (n o.value follow.0);
+            text = ap (λ (t : Marked). t ++ n o.value follow.0) o.text
+                ∙ append_assoc o.before ((o.byte, fault) ∷ o.after) (n o.value follow.0);
             bad = o.bad;
             more = o.more;
             split = o.split;
             none = λ other h tail same.
-                elim (split (bytes (m other.0)) (bytes (n other.0 other.1)) (bytes o.before) o.bad tail (sym (bytes-append (m other.0) (n other.0 other.1)) ∙ same)) [
+                elim (split (bytes (m other.0)) (bytes (n other.0 other.1)) (bytes o.before) o.bad tail
+                (sym (bytes-append (m other.0) (n other.0 other.1)) ∙ same)) [
                   | inl p ↦ o.none other.0 h.0 p.0 p.1
                   | inr p ↦ no_shorter r P m reads o.value other.0 o.holds h.0 o.before (o.byte, fault) o.after p.0 o.text p.1
                 ];
@@ -184,28 +203,39 @@ pair_bad {A} {B} r P m s Q n reads then_reads some b fault e =
                   text = ap (λ (t : Marked). m x.0 ++ t) o.text ∙ sym (append_assoc (m x.0) o.before ((o.byte, fault) ∷ o.after));
                   bad = o.bad;
                   more = o.more;
-                  split = g.1 ∙ ap (λ (t : List ℕ). bytes (m x.0) ++ t) o.split ∙ sym (append_assoc (bytes (m x.0)) (bytes o.before) (o.bad ∷ o.more)) ∙ ap (λ (t : List ℕ). t ++ o.bad ∷ o.more) (sym (bytes-append (m x.0) o.before));
+                  split = g.1 ∙ ap (λ (t : List ℕ). bytes (m x.0) ++ t) o.split
+                      ∙ sym (append_assoc (bytes (m x.0)) (bytes o.before) (o.bad ∷ o.more))
+                      ∙ ap (λ (t : List ℕ). t ++ o.bad ∷ o.more) (sym (bytes-append (m x.0) o.before));
                   none = λ other h tail same.
                       let cut : bytes (m other.0) ++ bytes (n other.0 other.1) ≡ bytes (m x.0) ++ (bytes o.before ++ o.bad ∷ tail) =
-                      sym (bytes-append (m other.0) (n other.0 other.1)) ∙ same ∙ ap (λ (t : List ℕ). t ++ o.bad ∷ tail) (bytes-append (m x.0) o.before) ∙ append_assoc (bytes (m x.0)) (bytes o.before) (o.bad ∷ tail) in
-                      let front = same_front r P m reads other.0 x.0 h.0 g.0 (bytes (n other.0 other.1)) (bytes o.before ++ o.bad ∷ tail) cut in
-                      let moved = subst (λ (a : A). Q a other.1 × (bytes (n a other.1) ≡ bytes o.before ++ o.bad ∷ tail)) front.0 (h.1, front.1) in
+                      sym (bytes-append (m other.0) (n other.0 other.1)) ∙ same
+                      ∙ ap (λ (t : List ℕ). t ++ o.bad ∷ tail) (bytes-append (m x.0) o.before)
+                      ∙ append_assoc (bytes (m x.0)) (bytes o.before) (o.bad ∷ tail) in
+                      let front = same_front r P m reads other.0 x.0 h.0 g.0 (bytes (n other.0 other.1))
+                      (bytes o.before ++ o.bad ∷ tail) cut in
+                      let moved = subst (λ (a : A). Q a other.1 × (bytes (n a other.1) ≡ bytes o.before ++ o.bad ∷ tail)) front.0 (
+                        h.1,
+                        front.1,
+                      ) in
                       o.none other.1 moved.0 tail moved.1;
                 }
             | inr second ↦ absurd cc
           ]
     ]
 
-pair_places : {A B : Type 0} (r : List ℕ → Parsed A) (P : A → Type 0) (m : A → Marked) (s : A → List ℕ → Parsed B) (Q : A → B → Type 0) (n : A → B → Marked)
+pair_places : {A B : Type 0} (r : List ℕ → Parsed A) (P : A → Type 0) (m : A → Marked) (s : A → List ℕ → Parsed B) (Q : A → B
+    → Type 0) (n : A → B → Marked)
     → Reads r P m → ((a : A) → P a → Reads (s a) (Q a) (n a)) → ArePlaced (Both P Q) (both_marks m n)
 pair_places {A} {B} r P m s Q n reads then_reads x y hx hy before next after before' next' after' tx ty same =
     elim (split_marked (m x.0) (n x.0 x.1) before next after tx) [
       | inl p ↦ elim (split_marked (m y.0) (n y.0 y.1) before' next' after' ty) [
         | inl q ↦ reads.places x.0 y.0 hx.0 hy.0 before next p.0 before' next' q.0 p.1 q.1 same
-        | inr q ↦ absurd (no_shorter r P m reads x.0 y.0 hx.0 hy.0 before next p.0 (bytes q.0) p.1 (same ∙ ap bytes q.1 ∙ bytes-append (m y.0) q.0))
+        | inr q ↦ absurd (no_shorter r P m reads x.0 y.0 hx.0 hy.0 before next p.0 (bytes q.0) p.1 (same ∙ ap bytes q.1
+            ∙ bytes-append (m y.0) q.0))
       ]
       | inr p ↦ elim (split_marked (m y.0) (n y.0 y.1) before' next' after' ty) [
-        | inl q ↦ absurd (no_shorter r P m reads y.0 x.0 hy.0 hx.0 before' next' q.0 (bytes p.0) q.1 (sym same ∙ ap bytes p.1 ∙ bytes-append (m x.0) p.0))
+        | inl q ↦ absurd (no_shorter r P m reads y.0 x.0 hy.0 hx.0 before' next' q.0 (bytes p.0) q.1 (sym same ∙ ap bytes p.1
+            ∙ bytes-append (m x.0) p.0))
         | inr q ↦
             let cut : bytes (m x.0) ++ bytes p.0 ≡ bytes (m y.0) ++ bytes q.0 =
             sym (bytes-append (m x.0) p.0) ∙ sym (ap bytes p.1) ∙ same ∙ ap bytes q.1 ∙ bytes-append (m y.0) q.0 in
@@ -216,8 +246,10 @@ pair_places {A} {B} r P m s Q n reads then_reads x y hx hy before next after bef
     ]
 
 -- Reading a text and then one that may depend on its value, where some lawful value always follows.
-pub pair_reads : {A B : Type 0} (r : List ℕ → Parsed A) (P : A → Type 0) (m : A → Marked) (s : A → List ℕ → Parsed B) (Q : A → B → Type 0) (n : A → B → Marked)
-    → Reads r P m → ((a : A) → P a → Reads (s a) (Q a) (n a)) → ((a : A) → P a → (b : B) × Q a b) → Reads (pair r s) (Both P Q) (both_marks m n)
+pub pair_reads : {A B : Type 0} (r : List ℕ → Parsed A) (P : A → Type 0) (m : A → Marked) (s : A → List ℕ → Parsed B) (Q : A → B
+    → Type 0) (n : A → B → Marked)
+    → Reads r P m → ((a : A) → P a → Reads (s a) (Q a) (n a)) → ((a : A) → P a → (b : B) × Q a b)
+    → Reads (pair r s) (Both P Q) (both_marks m n)
 pair_reads r P m s Q n reads then_reads some = record {
   got = pair_got r P m s Q n reads then_reads;
   again = pair_again r P m s Q n reads then_reads;
@@ -232,16 +264,22 @@ abbrev pub seen : {A C : Type 0} → (A → C) → (List ℕ → Parsed A) → L
 seen f r b = r b >>= λ x. Ok (f x.0, x.1)
 
 seen_got : {A C : Type 0} (r : List ℕ → Parsed A) (P : A → Type 0) (m : A → Marked) (f : A → C) (Q : C → Type 0) (n : C → Marked)
-    → Reads r P m → ((a : A) → P a → Q (f a) × (n (f a) ≡ m a)) → (b : List ℕ) (z : C × List ℕ) → seen f r b ≡ Ok z → Q z.0 × (b ≡ bytes (n z.0) ++ z.1)
+    → Reads r P m → ((a : A) → P a → Q (f a) × (n (f a) ≡ m a)) → (b : List ℕ) (z : C × List ℕ) → seen f r b ≡ Ok z
+    → Q z.0 × (b ≡ bytes (n z.0) ++ z.1)
 seen_got {A} {C} r P m f Q n reads to b z e =
     let first = bind_ok (r b) (λ x. Ok (f x.0, x.1)) z e in
     let x = first.0 in
     let g = reads.got b x first.1 in
     let t = to x.0 g.0 in
-    subst (λ (w : C × List ℕ). Q w.0 × (b ≡ bytes (n w.0) ++ w.1)) (ok_is (f x.0, x.1) z first.2) (t.0, g.1 ∙ ap (λ (k : Marked). bytes k ++ x.1) (sym t.1))
+    subst (λ (w : C × List ℕ). Q w.0 × (b ≡ bytes (n w.0) ++ w.1)) (ok_is (f x.0, x.1) z first.2) (
+      t.0,
+      g.1
+          ∙ ap (λ (k : Marked). bytes k ++ x.1) (sym t.1),
+    )
 
 seen_again : {A C : Type 0} (r : List ℕ → Parsed A) (P : A → Type 0) (m : A → Marked) (f : A → C) (Q : C → Type 0) (n : C → Marked)
-    → Reads r P m → ((a : A) → P a → Q (f a) × (n (f a) ≡ m a)) → ((c : C) → Q c → (a : A) × P a × (f a ≡ c)) → (c : C) → Q c → (rest : List ℕ) → seen f r (bytes (n c) ++ rest) ≡ Ok (c, rest)
+    → Reads r P m → ((a : A) → P a → Q (f a) × (n (f a) ≡ m a)) → ((c : C) → Q c → (a : A) × P a × (f a ≡ c)) → (c : C) → Q c
+    → (rest : List ℕ) → seen f r (bytes (n c) ++ rest) ≡ Ok (c, rest)
 seen_again {A} {C} r P m f Q n reads to from c h rest =
     let a = from c h in
     let at : seen f r (bytes (n (f a.0)) ++ rest) ≡ Ok (f a.0, rest) =
@@ -260,7 +298,8 @@ seen_part r P m f Q n reads to b e =
     ]
 
 seen_bad : {A C : Type 0} (r : List ℕ → Parsed A) (P : A → Type 0) (m : A → Marked) (f : A → C) (Q : C → Type 0) (n : C → Marked)
-    → Reads r P m → ((a : A) → P a → Q (f a) × (n (f a) ≡ m a)) → ((c : C) → Q c → (a : A) × P a × (f a ≡ c)) → (b : List ℕ) (fault : Fault) → seen f r b ≡ Err (Bad fault) → IsFaultIn Q n b fault
+    → Reads r P m → ((a : A) → P a → Q (f a) × (n (f a) ≡ m a)) → ((c : C) → Q c → (a : A) × P a × (f a ≡ c)) → (b : List ℕ) (fault : Fault)
+    → seen f r b ≡ Err (Bad fault) → IsFaultIn Q n b fault
 seen_bad r P m f Q n reads to from b fault e =
     elim (bind_err (r b) (λ x. Ok (f x.0, x.1)) (Bad fault) e) [
       | inl stopped ↦
@@ -288,7 +327,8 @@ seen_places : {A C : Type 0} (P : A → Type 0) (m : A → Marked) (f : A → C)
 seen_places P m f Q n placed to from x y hx hy before next after before' next' after' tx ty same =
     let a = from x hx in
     let c = from y hy in
-    placed a.0 c.0 a.1 c.1 before next after before' next' after' (sym (to a.0 a.1).1 ∙ ap n a.2 ∙ tx) (sym (to c.0 c.1).1 ∙ ap n c.2 ∙ ty) same
+    placed a.0 c.0 a.1 c.1 before next after before' next' after' (sym (to a.0 a.1).1 ∙ ap n a.2 ∙ tx) (sym (to c.0 c.1).1
+    ∙ ap n c.2 ∙ ty) same
 
 -- Reading the same texts, for values that stand for them as well.
 pub seen_reads : {A C : Type 0} (r : List ℕ → Parsed A) (P : A → Type 0) (m : A → Marked) (f : A → C) (Q : C → Type 0) (n : C → Marked)
@@ -302,7 +342,8 @@ seen_reads r P m f Q n reads to from = record {
 }
 
 -- The same reader in other words.
-pub same_reads : {A : Type 0} (r s : List ℕ → Parsed A) (P : A → Type 0) (m : A → Marked) → Reads r P m → ((b : List ℕ) → s b ≡ r b) → Reads s P m
+pub same_reads : {A : Type 0} (r s : List ℕ → Parsed A) (P : A → Type 0) (m : A → Marked) → Reads r P m → ((b : List ℕ) → s b ≡ r b)
+    → Reads s P m
 same_reads r s P m reads same = record {
   got = λ b x e. reads.got b x (sym (same b) ∙ e);
   again = λ a h rest. same (bytes (m a) ++ rest) ∙ reads.again a h rest;
@@ -327,7 +368,8 @@ none_reads {A} a = record {
   no_place (m ∷ before) next after e = cc
 
 -- every mark of a text that is marked with one fault has that fault
-pub one_mark : (fault : Fault) (bs : List ℕ) (before : Marked) (next : ℕ × Fault) (after : Marked) → mark fault bs ≡ before ++ next ∷ after → next.1 ≡ fault
+pub one_mark : (fault : Fault) (bs : List ℕ) (before : Marked) (next : ℕ × Fault) (after : Marked) → mark fault bs ≡ before ++ next ∷ after
+    → next.1 ≡ fault
 one_mark fault [] [] next after e = absurd cc
 one_mark fault [] (m ∷ before) next after e = absurd cc
 one_mark fault (b ∷ bs) [] next after e = let head : (b, fault) ≡ next = cc in ap (λ (m : ℕ × Fault). m.1) (sym head)
@@ -342,7 +384,8 @@ one_fault_places lawful fault text x y hx hy before next after before' next' aft
 abbrev pub mapped : {A B : Type 0} → (A → B) → Result (A × List ℕ) Stop → Result (B × List ℕ) Stop
 mapped f r = r >>= λ x. Ok (f x.0, x.1)
 
-then_seen_one : {A B C : Type 0} (g : A → B → C) (a : A) (q : Result (B × List ℕ) Stop) → mapped (λ b. g a b) q ≡ mapped (λ (z : A × B). g z.0 z.1) (mapped (λ b. (a, b)) q)
+then_seen_one : {A B C : Type 0} (g : A → B → C) (a : A) (q : Result (B × List ℕ) Stop)
+    → mapped (λ b. g a b) q ≡ mapped (λ (z : A × B). g z.0 z.1) (mapped (λ b. (a, b)) q)
 then_seen_one g a (Ok y) = refl
 then_seen_one g a (Err e) = refl
 

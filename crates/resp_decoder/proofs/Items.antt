@@ -1,13 +1,16 @@
 -- Words, counts of words and whole requests.
-use Rattle.std.proofs.Common.{◌≡◌, ℕ, zero, suc, ◌^◌, ◌<◌, ◌≤◌, List, [], ◌∷◌, ◌++◌, length, replicate, Option, Some, None, Ok, refl, sym, ap, subst, arith}
+use Rattle.std.proofs.Common.{◌≡◌, ℕ, zero, suc, ◌^◌, ◌<◌, ◌≤◌, List, [], ◌∷◌, ◌++◌, length, replicate, Option, Some, None, Ok, refl, sym}
+use Rattle.std.proofs.Common.{ap, subst, arith}
 use Rattle.std.specs.List.{flat_map, AllByRecursion}
 use Rattle.std.proofs.lemmas.List.{map-append, length-replicate}
 use Rattle.resp.specs.Text.{crlf}
 use Rattle.resp_decoder.specs.declared.fault.Fault.TheVariants.{ExpectedStar, ExpectedDollar, ExpectedCrlf}
 use Rattle.resp_decoder.specs.declared.limits.Limits.{Limits}
 use Rattle.resp_decoder.specs.Texts.{Marked, mark, number_marks, word_marks, Item, item_marks, IsLawful}
-use Rattle.resp_decoder.specs.Parsing.{Parsed, ◌>>=◌, byte_at, line_at, some_at, number_at, word_at, words_at, count_at, head_at, body_at, item_at}
-use Rattle.resp_decoder.proofs.Formats.{Reads, Both, both_marks, pair, seen, pair_reads, seen_reads, same_reads, then_seen, second_seen, none_reads}
+use Rattle.resp_decoder.specs.Parsing.{Parsed, ◌>>=◌, byte_at, line_at, some_at, number_at, word_at, words_at, count_at, head_at, body_at}
+use Rattle.resp_decoder.specs.Parsing.{item_at}
+use Rattle.resp_decoder.proofs.Formats.{Reads, Both, both_marks, pair, seen, pair_reads, seen_reads, same_reads, then_seen, second_seen}
+use Rattle.resp_decoder.proofs.Formats.{none_reads}
 use Rattle.resp_decoder.proofs.Bytes.{Always, HasLength, byte_reads, line_reads, some_reads}
 use Rattle.resp_decoder.proofs.Numbers.{IsWithin, number_reads, IsCount, count_marks, count_reads}
 
@@ -24,8 +27,10 @@ bytes_read : (n : ℕ) → Reads (rest_of_word n) (HasLength n) bytes_marks
 bytes_read n =
     let two = pair (some_at n) (λ word. line_at ExpectedCrlf) in
     same_reads (seen (λ p. p.0) two) (rest_of_word n) (HasLength n) bytes_marks
-    (seen_reads two (Both (HasLength n) (λ word. Always)) (both_marks (mark ExpectedCrlf) (λ word end. mark ExpectedCrlf crlf)) (λ p. p.0) (HasLength n) bytes_marks
-    (pair_reads (some_at n) (HasLength n) (mark ExpectedCrlf) (λ word. line_at ExpectedCrlf) (λ word. Always) (λ word end. mark ExpectedCrlf crlf)
+    (seen_reads two (Both (HasLength n) (λ word. Always)) (both_marks (mark ExpectedCrlf) (λ word end. mark ExpectedCrlf crlf)) (λ p. p.0)
+    (HasLength n) bytes_marks
+    (pair_reads (some_at n) (HasLength n) (mark ExpectedCrlf) (λ word. line_at ExpectedCrlf) (λ word. Always)
+    (λ word end. mark ExpectedCrlf crlf)
     (some_reads n ExpectedCrlf) (λ word h. line_reads ExpectedCrlf) (λ word h. (tt, tt)))
     (λ p h. (h.0, map-append (λ (b : ℕ). (b, ExpectedCrlf)) p.0 crlf))
     (λ word h. ((word, tt), (h, tt), refl)))
@@ -57,8 +62,10 @@ unfolding word_at
 word_reads bulk small =
     let two = pair (byte_at 36 ExpectedDollar) (λ dollar. behind_dollar bulk) in
     same_reads (seen (λ p. p.1) two) (word_at bulk) (IsWord bulk) word_marks
-    (seen_reads two (Both Always (λ dollar. IsWord bulk)) (both_marks (λ dollar. (36, ExpectedDollar) ∷ []) (λ dollar. sized_marks)) (λ p. p.1) (IsWord bulk) word_marks
-    (pair_reads (byte_at 36 ExpectedDollar) Always (λ dollar. (36, ExpectedDollar) ∷ []) (λ dollar. behind_dollar bulk) (λ dollar. IsWord bulk) (λ dollar. sized_marks)
+    (seen_reads two (Both Always (λ dollar. IsWord bulk)) (both_marks (λ dollar. (36, ExpectedDollar) ∷ []) (λ dollar. sized_marks))
+    (λ p. p.1) (IsWord bulk) word_marks
+    (pair_reads (byte_at 36 ExpectedDollar) Always (λ dollar. (36, ExpectedDollar) ∷ []) (λ dollar. behind_dollar bulk)
+    (λ dollar. IsWord bulk) (λ dollar. sized_marks)
     (byte_reads 36 ExpectedDollar) (λ dollar h. sized_reads bulk small) (λ dollar h. ([], omega arith)))
     (λ p h. (h.1, refl))
     (λ word h. ((tt, word), (tt, h), refl)))
@@ -79,7 +86,8 @@ empty_words bulk (suc n) = let ws = empty_words bulk n in ([] ∷ ws.0, (ap (λ 
 abbrev cons : List ℕ × List (List ℕ) → List (List ℕ)
 cons p = p.0 ∷ p.1
 
-one_more : (bulk n : ℕ) (words : List (List ℕ)) → AreWords bulk (suc n) words → (p : List ℕ × List (List ℕ)) × (IsWord bulk p.0 × AreWords bulk n p.1) × (cons p ≡ words)
+one_more : (bulk n : ℕ) (words : List (List ℕ)) → AreWords bulk (suc n) words → (p : List ℕ × List (List ℕ))
+    × (IsWord bulk p.0 × AreWords bulk n p.1) × (cons p ≡ words)
 one_more bulk n [] h = absurd (omega (arith, h.0))
 one_more bulk n (word ∷ words) h = ((word, words), (h.1.0, (omega (arith, h.0), h.1.1)), refl)
 
@@ -99,7 +107,8 @@ words_read bulk zero small =
 words_read bulk (suc n) small =
     let two = pair (word_at bulk) (λ word. words_at bulk n) in
     same_reads (seen cons two) (words_at bulk (suc n)) (AreWords bulk (suc n)) words_marks
-    (seen_reads two (Both (IsWord bulk) (λ word. AreWords bulk n)) (both_marks word_marks (λ word. words_marks)) cons (AreWords bulk (suc n)) words_marks
+    (seen_reads two (Both (IsWord bulk) (λ word. AreWords bulk n)) (both_marks word_marks (λ word. words_marks)) cons
+    (AreWords bulk (suc n)) words_marks
     (pair_reads (word_at bulk) (IsWord bulk) word_marks (λ word. words_at bulk n) (λ word. AreWords bulk n) (λ word. words_marks)
     (word_reads bulk small) (λ word h. words_read bulk n small) (λ word h. empty_words bulk n))
     (λ p h. ((ap (λ (k : ℕ). suc k) h.1.0, (h.0, h.1.1)), refl))
@@ -116,8 +125,10 @@ unfolding head_at
 head_reads max small =
     let two = pair (byte_at 42 ExpectedStar) (λ star. count_at max) in
     same_reads (seen (λ p. p.1) two) (head_at max) (IsCount max) head_marks
-    (seen_reads two (Both Always (λ star. IsCount max)) (both_marks (λ star. (42, ExpectedStar) ∷ []) (λ star. count_marks)) (λ p. p.1) (IsCount max) head_marks
-    (pair_reads (byte_at 42 ExpectedStar) Always (λ star. (42, ExpectedStar) ∷ []) (λ star. count_at max) (λ star. IsCount max) (λ star. count_marks)
+    (seen_reads two (Both Always (λ star. IsCount max)) (both_marks (λ star. (42, ExpectedStar) ∷ []) (λ star. count_marks)) (λ p. p.1)
+    (IsCount max) head_marks
+    (pair_reads (byte_at 42 ExpectedStar) Always (λ star. (42, ExpectedStar) ∷ []) (λ star. count_at max) (λ star. IsCount max)
+    (λ star. count_marks)
     (byte_reads 42 ExpectedStar) (λ star h. count_reads max small) (λ star h. (Some 0, omega arith)))
     (λ p h. (h.1, refl))
     (λ count h. ((tt, count), (tt, h), refl)))
@@ -155,7 +166,8 @@ body_reads bulk None small =
     (λ b. refl)
 body_reads bulk (Some n) small =
     same_reads (seen (λ words. Some words) (words_at bulk n)) (body_at bulk (Some n)) (IsBody bulk (Some n)) body_marks
-    (seen_reads (words_at bulk n) (AreWords bulk n) words_marks (λ words. Some words) (IsBody bulk (Some n)) body_marks (words_read bulk n small)
+    (seen_reads (words_at bulk n) (AreWords bulk n) words_marks (λ words. Some words) (IsBody bulk (Some n)) body_marks
+    (words_read bulk n small)
     (λ words h. (h, refl))
     (body_some bulk n))
     (λ b. refl)
@@ -164,14 +176,16 @@ some_body : (bulk : ℕ) (count : Option ℕ) → (item : Item) × IsBody bulk c
 some_body bulk None = (None, tt)
 some_body bulk (Some n) = let ws = empty_words bulk n in (Some ws.0, ws.1)
 
-item_from : (limits : Limits) (count : Option ℕ) (item : Item) → IsCount limits.words count → IsBody limits.bulk count item → IsLawful limits item × (item_marks item ≡ head_marks count ++ body_marks item)
+item_from : (limits : Limits) (count : Option ℕ) (item : Item) → IsCount limits.words count → IsBody limits.bulk count item
+    → IsLawful limits item × (item_marks item ≡ head_marks count ++ body_marks item)
 item_from limits None None h i = (tt, refl)
 item_from limits None (Some words) h i = absurd i
 item_from limits (Some n) None h i = absurd i
 item_from limits (Some n) (Some words) h i =
     ((subst (IsWithin limits.words) (sym i.0) h, i.1), ap (λ (k : ℕ). (42, ExpectedStar) ∷ (number_marks k ++ words_marks words)) i.0)
 
-item_back : (limits : Limits) (item : Item) → IsLawful limits item → (p : Option ℕ × Item) × (IsCount limits.words p.0 × IsBody limits.bulk p.0 p.1) × (p.1 ≡ item)
+item_back : (limits : Limits) (item : Item) → IsLawful limits item → (p : Option ℕ × Item)
+    × (IsCount limits.words p.0 × IsBody limits.bulk p.0 p.1) × (p.1 ≡ item)
 item_back limits None h = ((None, None), (tt, tt), refl)
 item_back limits (Some words) h = ((Some (length words), Some words), (h.0, (refl, h.1)), refl)
 
@@ -181,9 +195,11 @@ unfolding item_at
 item_reads limits =
     let two = pair (head_at limits.words) (body_at limits.bulk) in
     same_reads (seen (λ p. p.1) two) (item_at limits) (IsLawful limits) item_marks
-    (seen_reads two (Both (IsCount limits.words) (IsBody limits.bulk)) (both_marks head_marks (λ count. body_marks)) (λ p. p.1) (IsLawful limits) item_marks
+    (seen_reads two (Both (IsCount limits.words) (IsBody limits.bulk)) (both_marks head_marks (λ count. body_marks)) (λ p. p.1)
+    (IsLawful limits) item_marks
     (pair_reads (head_at limits.words) (IsCount limits.words) head_marks (body_at limits.bulk) (IsBody limits.bulk) (λ count. body_marks)
-    (head_reads limits.words limits.few_words) (λ count h. body_reads limits.bulk count limits.short_bulk) (λ count h. some_body limits.bulk count))
+    (head_reads limits.words limits.few_words) (λ count h. body_reads limits.bulk count limits.short_bulk)
+    (λ count h. some_body limits.bulk count))
     (λ p h. item_from limits p.0 p.1 h.0 h.1)
     (item_back limits))
     (second_seen (head_at limits.words) (body_at limits.bulk))

@@ -7,7 +7,8 @@ use Rattle.resp_decoder.specs.declared.fault.Fault.TheVariants.{ExpectedStar, Ex
 use Rattle.resp_decoder.specs.declared.limits.Limits.{Limits}
 use Rattle.resp_decoder.specs.declared.parsing.Stop.TheVariants.{Bad}
 use Rattle.resp_decoder.specs.Texts.{Item, IsFault}
-use Rattle.resp_decoder.specs.Parsing.{Parsed, ◌>>=◌, byte_at, line_at, number_on, number_at, some_at, word_at, words_at, minus_one_at, count_at, head_at, body_at, item_at}
+use Rattle.resp_decoder.specs.Parsing.{Parsed, ◌>>=◌, byte_at, line_at, number_on, number_at, some_at, word_at, words_at, minus_one_at}
+use Rattle.resp_decoder.specs.Parsing.{count_at, head_at, body_at, item_at}
 use Rattle.resp_decoder.specs.Laws.{lines, KnownTexts, KnownFaults}
 use Rattle.resp_decoder.proofs.Items.{item_reads}
 
@@ -23,7 +24,8 @@ read_known : (limits : Limits) (b : List ℕ) → limits.words ≡ 1048576 → l
 unfolding item_at
 read_known limits b words_are bulk_is = ap (λ (n : ℕ). read n limits.bulk b) words_are ∙ ap (λ (n : ℕ). read 1048576 n b) bulk_is
 
-stands : (limits : Limits) (b : List ℕ) (fault : Fault) → limits.words ≡ 1048576 → limits.bulk ≡ 536870912 → read 1048576 536870912 b ≡ Err (Bad fault) → IsFault limits b fault
+stands : (limits : Limits) (b : List ℕ) (fault : Fault) → limits.words ≡ 1048576 → limits.bulk ≡ 536870912
+    → read 1048576 536870912 b ≡ Err (Bad fault) → IsFault limits b fault
 stands limits b fault words_are bulk_is e = (item_reads limits).bad b fault (read_known limits b words_are bulk_is ∙ e)
 
 pub known_faults : KnownFaults

@@ -1,5 +1,6 @@
 -- Reading the line of a count or a length, as its digits: what byte may come next is a matter of where the line is.
-use Rattle.std.proofs.Common.{◌≡◌, ℕ, ◌+◌, ◌-◌, ◌*◌, Bool, true, false, eqb, ltb, leb, ◌&&◌, cond, List, [], ◌∷◌, ◌++◌, Option, Some, None, Ok, Err, ◌⊎◌, inl, inr, refl, sym, ap, subst, ◌∙◌, arith}
+use Rattle.std.proofs.Common.{◌≡◌, ℕ, ◌+◌, ◌-◌, ◌*◌, Bool, true, false, eqb, ltb, leb, ◌&&◌, cond, List, [], ◌∷◌, ◌++◌, Option, Some, None}
+use Rattle.std.proofs.Common.{Ok, Err, ◌⊎◌, inl, inr, refl, sym, ap, subst, ◌∙◌, arith}
 use Rattle.std.specs.Prelude.{MatchOption}
 use Rattle.std.proofs.lemmas.Bool.{le-leb, and_right, cond-false}
 use Rattle.resp.specs.Text.{crlf}
@@ -61,19 +62,29 @@ pub step_cases : (o : Option Place) → (o ≡ None) ⊎ ((t : Place) × (o ≡ 
 step_cases None = inl refl
 step_cases (Some t) = inr (t, refl)
 
-pub line_some : (max : ℕ) (s : Place) (b : ℕ) (bs : List ℕ) (t : Place) → step max s b ≡ Some t → line_on max s (b ∷ bs) ≡ mapped (λ ds. b ∷ ds) (line_on max t bs)
+pub line_some : (max : ℕ) (s : Place) (b : ℕ) (bs : List ℕ) (t : Place) → step max s b ≡ Some t
+    → line_on max s (b ∷ bs) ≡ mapped (λ ds. b ∷ ds) (line_on max t bs)
 unfolding line_on
-line_some max s b bs t e = ap (λ (o : Option Place). elim o as (λ q. Parsed (List ℕ)) [ Some u ↦ mapped (λ ds. b ∷ ds) (line_on max u bs) | None ↦ ended (final s) (b ∷ bs) ]) e
+line_some max s b bs t e =
+    ap (λ (o : Option Place). elim o as (λ q. Parsed (List ℕ)) [
+      | Some u ↦ mapped (λ ds. b ∷ ds) (line_on max u bs)
+      | None ↦ ended (final s) (b ∷ bs)
+    ]) e
 
 pub line_none : (max : ℕ) (s : Place) (b : ℕ) (bs : List ℕ) → step max s b ≡ None → line_on max s (b ∷ bs) ≡ ended (final s) (b ∷ bs)
 unfolding line_on
-line_none max s b bs e = ap (λ (o : Option Place). elim o as (λ q. Parsed (List ℕ)) [ Some t ↦ mapped (λ ds. b ∷ ds) (line_on max t bs) | None ↦ ended (final s) (b ∷ bs) ]) e
+line_none max s b bs e =
+    ap (λ (o : Option Place). elim o as (λ q. Parsed (List ℕ)) [
+      | Some t ↦ mapped (λ ds. b ∷ ds) (line_on max t bs)
+      | None ↦ ended (final s) (b ∷ bs)
+    ]) e
 
 pub path_some : (max : ℕ) (s : Place) (d : ℕ) (ds : List ℕ) (t : Place) → step max s d ≡ Some t → IsPath max t ds → IsPath max s (d ∷ ds)
 unfolding IsPath
 path_some max s d ds t e path = rw e path
 
-pub path_back : (max : ℕ) (s : Place) (d : ℕ) (ds : List ℕ) → IsPath max s (d ∷ ds) → (t : Place) × (step max s d ≡ Some t) × IsPath max t ds
+pub path_back : (max : ℕ) (s : Place) (d : ℕ) (ds : List ℕ) → IsPath max s (d ∷ ds) → (t : Place) × (step max s d ≡ Some t)
+    × IsPath max t ds
 unfolding IsPath
 path_back max s d ds path =
     elim (step_cases (step max s d)) [ inl e ↦ absurd (rw e at path) | inr p ↦ (p.0, p.1, rw p.1 at path) ]
@@ -91,19 +102,25 @@ no_return max AtCount = refl
 no_return max AtLength = refl
 no_return max Minus = refl
 no_return max MinusOne = refl
-no_return max (Digits n) = cond-false (is_more max n 13) (Some (Digits (n * 10 + (13 - 48)))) None (and_right (ltb 0 n) (leb 48 13 && (leb 13 57 && leb (n * 10 + (13 - 48)) max)) refl)
+no_return max (Digits n) =
+    cond-false (is_more max n 13) (Some (Digits (n * 10 + (13 - 48)))) None
+    (and_right (ltb 0 n) (leb 48 13 && (leb 13 57 && leb (n * 10 + (13 - 48)) max)) refl)
 
 -- each line can be ended
 alive : (max : ℕ) (s : Place) → (ds : List ℕ) × IsPath max s ds
 alive max AtCount = (48 ∷ [], path_some max AtCount 48 [] (Digits 0) (rw (le-leb 0 max (omega arith)) refl) (path_end max (Digits 0) refl))
-alive max AtLength = (48 ∷ [], path_some max AtLength 48 [] (Digits 0) (rw (le-leb 0 max (omega arith)) refl) (path_end max (Digits 0) refl))
+alive max AtLength = (
+  48 ∷ [],
+  path_some max AtLength 48 [] (Digits 0) (rw (le-leb 0 max (omega arith)) refl) (path_end max (Digits 0) refl),
+)
 alive max Minus = (49 ∷ [], path_some max Minus 49 [] MinusOne refl (path_end max MinusOne refl))
 alive max MinusOne = ([], path_end max MinusOne refl)
 alive max (Digits n) = ([], path_end max (Digits n) refl)
 
 -- ---- the laws
 
-ended_cases : (b : Bool) (bs : List ℕ) → ((b ≡ true) × (ended b bs ≡ mapped (λ e. []) (line_at BadLength bs))) ⊎ ((b ≡ false) × (ended b bs ≡ Err (Bad BadLength)))
+ended_cases : (b : Bool) (bs : List ℕ) → ((b ≡ true) × (ended b bs ≡ mapped (λ e. []) (line_at BadLength bs)))
+    ⊎ ((b ≡ false) × (ended b bs ≡ Err (Bad BadLength)))
 ended_cases true bs = inl (refl, refl)
 ended_cases false bs = inr (refl, refl)
 
@@ -111,11 +128,13 @@ first_mark : (ds : List ℕ) → (b : ℕ) × (after : Marked) × (line_marks ds
 first_mark [] = (13, mark BadLength (10 ∷ []), refl)
 first_mark (d ∷ ds) = (d, line_marks ds, refl)
 
-same_head : (before : List ℕ) (bad : ℕ) (more tail : List ℕ) (d : ℕ) (ds : List ℕ) (d' : ℕ) (ds' : List ℕ) → d ∷ ds ≡ before ++ bad ∷ more → d' ∷ ds' ≡ before ++ bad ∷ tail → d ≡ d'
+same_head : (before : List ℕ) (bad : ℕ) (more tail : List ℕ) (d : ℕ) (ds : List ℕ) (d' : ℕ) (ds' : List ℕ) → d ∷ ds ≡ before ++ bad ∷ more
+    → d' ∷ ds' ≡ before ++ bad ∷ tail → d ≡ d'
 same_head [] bad more tail d ds d' ds' e e' = cc
 same_head (b ∷ before) bad more tail d ds d' ds' e e' = cc
 
-line_got : (max : ℕ) (s : Place) (b : List ℕ) (x : List ℕ × List ℕ) → line_on max s b ≡ Ok x → IsPath max s x.0 × (b ≡ bytes (line_marks x.0) ++ x.1)
+line_got : (max : ℕ) (s : Place) (b : List ℕ) (x : List ℕ × List ℕ) → line_on max s b ≡ Ok x → IsPath max s x.0
+    × (b ≡ bytes (line_marks x.0) ++ x.1)
 unfolding line_on
 line_got max s [] x e = absurd cc
 line_got max s (d ∷ ds) x e =
@@ -126,7 +145,8 @@ line_got max s (d ∷ ds) x e =
             | inl f ↦
                 let y = bind_ok (line_at BadLength (d ∷ ds)) (λ z. Ok ([], z.1)) x (sym f.1 ∙ e1) in
                 let g = (line_reads BadLength).got (d ∷ ds) y.0 y.1 in
-                subst (λ (w : List ℕ × List ℕ). IsPath max s w.0 × (d ∷ ds ≡ bytes (line_marks w.0) ++ w.1)) (ok_is ([], y.0.1) x y.2) (path_end max s f.0, g.1)
+                subst (λ (w : List ℕ × List ℕ). IsPath max s w.0 × (d ∷ ds ≡ bytes (line_marks w.0) ++ w.1)) (ok_is ([], y.0.1) x y.2)
+                (path_end max s f.0, g.1)
             | inr f ↦ let wrong : stopped {A = List ℕ × List ℕ} (Bad BadLength) ≡ Ok x = sym f.1 ∙ e1 in absurd cc
           ]
       | inr p ↦
@@ -137,9 +157,11 @@ line_got max s (d ∷ ds) x e =
           (path_some max s d y.0.0 t p.1 g.0, ap (λ (w : List ℕ). d ∷ w) g.1)
     ]
 
-line_again : (max : ℕ) (s : Place) (ds : List ℕ) → IsPath max s ds → (rest : List ℕ) → line_on max s (bytes (line_marks ds) ++ rest) ≡ Ok (ds, rest)
+line_again : (max : ℕ) (s : Place) (ds : List ℕ) → IsPath max s ds → (rest : List ℕ) → line_on max s (bytes (line_marks ds) ++ rest)
+    ≡ Ok (ds, rest)
 line_again max s [] path rest =
-    line_none max s 13 (10 ∷ rest) (no_return max s) ∙ ap (λ (f : Bool). ended f (13 ∷ 10 ∷ rest)) (end_final max s path) ∙ ap (mapped (λ e. [])) ((line_reads BadLength).again tt tt rest)
+    line_none max s 13 (10 ∷ rest) (no_return max s) ∙ ap (λ (f : Bool). ended f (13 ∷ 10 ∷ rest)) (end_final max s path)
+    ∙ ap (mapped (λ e. [])) ((line_reads BadLength).again tt tt rest)
 line_again max s (d ∷ ds) path rest =
     let p = path_back max s d ds path in
     line_some max s d (bytes (line_marks ds) ++ rest) p.0 p.1 ∙ ap (mapped (λ w. d ∷ w)) (line_again max p.0 ds p.2 rest)
@@ -158,7 +180,15 @@ line_part max s (d ∷ ds) e =
                 elim (bind_err (line_at BadLength (d ∷ ds)) (λ z. Ok ([], z.1)) Open (sym f.1 ∙ e1)) [
                   | inl h ↦
                       let o = (line_reads BadLength).part (d ∷ ds) h in
-                      record { value = []; holds = path_end max s f.0; before = o.before; next = o.next; after = o.after; text = o.text; split = o.split }
+                      record {
+                        value = [];
+                        holds = path_end max s f.0;
+                        before = o.before;
+                        next = o.next;
+                        after = o.after;
+                        text = o.text;
+                        split = o.split;
+                      }
                   | inr h ↦ absurd cc
                 ]
             | inr f ↦ let wrong : stopped {A = List ℕ × List ℕ} (Bad BadLength) ≡ Err Open = sym f.1 ∙ e1 in absurd cc
@@ -181,7 +211,8 @@ line_part max s (d ∷ ds) e =
           ]
     ]
 
-line_bad : (max : ℕ) (s : Place) (b : List ℕ) (fault : Fault) → line_on max s b ≡ Err (Bad fault) → IsFaultIn (IsPath max s) line_marks b fault
+line_bad : (max : ℕ) (s : Place) (b : List ℕ) (fault : Fault) → line_on max s b ≡ Err (Bad fault)
+    → IsFaultIn (IsPath max s) line_marks b fault
 unfolding line_on
 line_bad max s [] fault e = absurd cc
 line_bad max s (d ∷ ds) fault e =
@@ -210,7 +241,8 @@ line_bad max s (d ∷ ds) fault e =
                         none = λ other path tail same.
                             elim other as (λ w. IsPath max s w → bytes (line_marks w) ≡ bytes o.before ++ o.bad ∷ tail → ⊥) [
                               | [] ↦ λ q same2. o.none tt tt tail same2
-                              | d' ∷ ds' ↦ λ q same2. no_step d' ds' q (same_head (bytes o.before) o.bad o.more tail d ds d' (bytes (line_marks ds')) o.split same2)
+                              | d' ∷ ds' ↦ λ q same2. no_step d' ds' q
+                                  (same_head (bytes o.before) o.bad o.more tail d ds d' (bytes (line_marks ds')) o.split same2)
                             ] path same;
                       }
                   | inr h ↦ absurd cc

@@ -1,16 +1,19 @@
 -- Counts and lengths: the digits of a line and their number.
-use Rattle.std.proofs.Common.{◌≡◌, ℕ, ◌+◌, ◌-◌, ◌*◌, ◌/◌, ◌%◌, ◌^◌, ◌<◌, ◌≤◌, Bool, true, false, eqb, ltb, leb, ◌&&◌, cond, List, [], ◌∷◌, ◌++◌, Option, Some, None, Result, Ok, Err, inl, inr, refl, sym, ap, subst, ◌∙◌, append_assoc, arith}
+use Rattle.std.proofs.Common.{◌≡◌, ℕ, ◌+◌, ◌-◌, ◌*◌, ◌/◌, ◌%◌, ◌^◌, ◌<◌, ◌≤◌, Bool, true, false, eqb, ltb, leb, ◌&&◌, cond, List, [], ◌∷◌}
+use Rattle.std.proofs.Common.{◌++◌, Option, Some, None, Result, Ok, Err, inl, inr, refl, sym, ap, subst, ◌∙◌, append_assoc, arith}
 use Rattle.std.specs.Fmt.{decimal}
 use Rattle.std.proofs.lemmas.Fmt.{decimal_step, decimal_digit, decimal_by_steps}
 use Rattle.std.proofs.lemmas.List.{append-nil}
-use Rattle.std.proofs.lemmas.Bool.{cases_Bool, le-leb, lt-ltb, leb-true, ltb-true, and_parts, and_from, cond-true, cond-false, ne_eqb, eqb-true}
+use Rattle.std.proofs.lemmas.Bool.{cases_Bool, le-leb, lt-ltb, leb-true, ltb-true, and_parts, and_from, cond-true, cond-false, ne_eqb}
+use Rattle.std.proofs.lemmas.Bool.{eqb-true}
 use Rattle.resp_decoder.specs.declared.fault.Fault.TheVariants.{BadLength}
 use Rattle.resp_decoder.specs.declared.parsing.Stop.{Stop}
 use Rattle.resp_decoder.specs.declared.parsing.Stop.TheVariants.{Bad}
 use Rattle.resp_decoder.specs.Texts.{Marked, number_marks}
 use Rattle.resp_decoder.specs.Parsing.{◌>>=◌, NoValue, byte_at, line_at, is_more, is_first, number_on, number_at, minus_one_at, count_at}
 use Rattle.resp_decoder.proofs.Formats.{Reads, mapped, seen, seen_reads, same_reads}
-use Rattle.resp_decoder.proofs.Lines.{Place, AtCount, AtLength, Minus, MinusOne, Digits, step, first_step, final, ended, line_on, IsPath, line_marks, line_some, line_none, path_some, path_back, path_end, end_final, lines_read}
+use Rattle.resp_decoder.proofs.Lines.{Place, AtCount, AtLength, Minus, MinusOne, Digits, step, first_step, final, ended, line_on, IsPath}
+use Rattle.resp_decoder.proofs.Lines.{line_marks, line_some, line_none, path_some, path_back, path_end, end_final, lines_read}
 
 -- ---- the number of the digits
 
@@ -59,7 +62,8 @@ mapped_same f g (Ok x) same = ap (λ b. Ok (b, x.1)) (same x.0)
 mapped_same f g (Err e) same = refl
 
 -- where a first digit may come, and nothing else
-first_seen : {C : Type 0} (max : ℕ) (place : Place) (f : List ℕ → C) (g : ℕ → C) (b : ℕ) (bs : List ℕ) → step max place b ≡ first_step max b → final place ≡ false → ((ds : List ℕ) → g (value_on (b - 48) ds) ≡ f (b ∷ ds))
+first_seen : {C : Type 0} (max : ℕ) (place : Place) (f : List ℕ → C) (g : ℕ → C) (b : ℕ) (bs : List ℕ) → step max place b ≡ first_step max b
+    → final place ≡ false → ((ds : List ℕ) → g (value_on (b - 48) ds) ≡ f (b ∷ ds))
     → mapped g (number_at max (b ∷ bs)) ≡ seen f (line_on max place) (b ∷ bs)
 unfolding number_at
 first_seen max place f g b bs first never same =
@@ -85,7 +89,8 @@ mapped_id (Err e) = refl
 number_at_seen : (max : ℕ) (b : List ℕ) → number_at max b ≡ seen length_value (line_on max AtLength) b
 unfolding number_at line_on length_value
 number_at_seen max [] = refl
-number_at_seen max (b ∷ bs) = sym (mapped_id (number_at max (b ∷ bs))) ∙ first_seen max AtLength length_value (λ n. n) b bs refl refl (λ ds. refl)
+number_at_seen max (b ∷ bs) = sym (mapped_id (number_at max (b ∷ bs)))
+    ∙ first_seen max AtLength length_value (λ n. n) b bs refl refl (λ ds. refl)
 
 -- behind `-1`
 minus_one_seen : (max : ℕ) (b : List ℕ) → mapped {B = List ℕ} (λ e. []) (line_at BadLength b) ≡ line_on max MinusOne b
@@ -93,7 +98,8 @@ unfolding line_at byte_at line_on
 minus_one_seen max [] = refl
 minus_one_seen max (b ∷ bs) = refl
 
-minus_seen : {C : Type 0} (max : ℕ) (f : List ℕ → C) (c : C) (bs : List ℕ) → ((ds : List ℕ) → c ≡ f ds) → mapped (λ e. c) (byte_at 49 BadLength bs >>= λ one. line_at BadLength one.1) ≡ mapped f (line_on max Minus bs)
+minus_seen : {C : Type 0} (max : ℕ) (f : List ℕ → C) (c : C) (bs : List ℕ) → ((ds : List ℕ) → c ≡ f ds)
+    → mapped (λ e. c) (byte_at 49 BadLength bs >>= λ one. line_at BadLength one.1) ≡ mapped f (line_on max Minus bs)
 unfolding byte_at line_on
 minus_seen max f c [] same = refl
 minus_seen {C} max f c (b ∷ bs) same =
@@ -120,7 +126,8 @@ unfolding count_at minus_one_at byte_at line_on count_value
 count_at_seen max [] = refl
 count_at_seen max (b ∷ bs) =
     let n = b - 48 in
-    let rest = λ (read : Result (NoValue × List ℕ) Stop). mapped {B = Option ℕ} (λ (e : NoValue). None) (read >>= λ minus. byte_at 49 BadLength minus.1 >>= λ one. line_at BadLength one.1) in
+    let rest = λ (read : Result (NoValue × List ℕ) Stop). mapped {B = Option ℕ} (λ (e : NoValue). None)
+    (read >>= λ minus. byte_at 49 BadLength minus.1 >>= λ one. line_at BadLength one.1) in
     let negative = rest (byte_at 45 BadLength (b ∷ bs)) in
     let positive = mapped some_count (number_at max (b ∷ bs)) in
     elim (cases_Bool (eqb b 45)) [
@@ -134,7 +141,8 @@ count_at_seen max (b ∷ bs) =
       | inr other ↦
           let stepped : step max AtCount b ≡ first_step max b = cond-false (eqb b 45) (Some Minus) (first_step max b) other in
           cond-false (eqb b 45) negative positive other
-          ∙ first_seen max AtCount count_value some_count b bs stepped refl (λ ds. sym (cond-false (eqb b 45) None (Some (value_on n ds)) other))
+          ∙ first_seen max AtCount count_value some_count b bs stepped refl
+          (λ ds. sym (cond-false (eqb b 45) None (Some (value_on n ds)) other))
     ]
 
 -- ---- the digits of a number are its decimal text
@@ -151,7 +159,12 @@ follows max n b e =
     let p = and_parts (ltb 0 n) (leb 48 b && (leb b 57 && leb (n * 10 + (b - 48)) max)) e in
     let q = and_parts (leb 48 b) (leb b 57 && leb (n * 10 + (b - 48)) max) p.1 in
     let r = and_parts (leb b 57) (leb (n * 10 + (b - 48)) max) q.1 in
-    record { positive = ltb-true 0 n p.0; from_zero = leb-true 48 b q.0; to_nine = leb-true b 57 r.0; within = leb-true (n * 10 + (b - 48)) max r.1 }
+    record {
+      positive = ltb-true 0 n p.0;
+      from_zero = leb-true 48 b q.0;
+      to_nine = leb-true b 57 r.0;
+      within = leb-true (n * 10 + (b - 48)) max r.1;
+    }
 
 may_follow : (max n b : ℕ) → Follows max n b → is_more max n b ≡ true
 may_follow max n b f =
@@ -193,18 +206,23 @@ decimal_more n d positive low high small =
     let last : 48 + m % 10 ≡ d = omega arith in
     decimal_step m (omega arith) (omega arith) ∙ rw (front, last) refl
 
-path_on : (max n : ℕ) → max < 2 ^ 32 → n ≤ max → (ds : List ℕ) → IsPath max (Digits n) ds → (value_on n ds ≤ max) × (decimal (value_on n ds) ≡ decimal n ++ ds)
+path_on : (max n : ℕ) → max < 2 ^ 32 → n ≤ max → (ds : List ℕ) → IsPath max (Digits n) ds → (value_on n ds ≤ max)
+    × (decimal (value_on n ds) ≡ decimal n ++ ds)
 unfolding value_on
 path_on max n small within [] path = (within, sym (append-nil (decimal n)))
 path_on max n small within (d ∷ ds) path =
     let p = path_back max (Digits n) d ds path in
     let m = n * 10 + (d - 48) in
     let f = digits_step max n d p.0 p.1 in
-    let q = path_on max m small f.0.within ds (subst (λ (t : Place). IsPath max t ds) (sym f.1) p.2) in
-    (q.0, q.1 ∙ ap (λ (w : List ℕ). w ++ ds) (decimal_more n d f.0.positive f.0.from_zero f.0.to_nine (omega (arith, f.0.within))) ∙ append_assoc (decimal n) (d ∷ []) ds)
+    let q = path_on max m small f.0.within ds (subst (λ (t : Place). IsPath max t ds) (sym f.1) p.2) in (
+      q.0,
+      q.1 ∙ ap (λ (w : List ℕ). w ++ ds) (decimal_more n d f.0.positive f.0.from_zero f.0.to_nine (omega (arith, f.0.within)))
+          ∙ append_assoc (decimal n) (d ∷ []) ds,
+    )
 
 -- with a first digit
-first_digits : (max d : ℕ) (ds : List ℕ) (t : Place) → max < 2 ^ 32 → first_step max d ≡ Some t → IsPath max t ds → (value_on (d - 48) ds ≤ max) × (decimal (value_on (d - 48) ds) ≡ d ∷ ds)
+first_digits : (max d : ℕ) (ds : List ℕ) (t : Place) → max < 2 ^ 32 → first_step max d ≡ Some t → IsPath max t ds
+    → (value_on (d - 48) ds ≤ max) × (decimal (value_on (d - 48) ds) ≡ d ∷ ds)
 first_digits max d ds t small e path =
     let c = chosen (is_first max d) (Digits (d - 48)) t e in
     let f = leads max d c.0 in
@@ -212,17 +230,23 @@ first_digits max d ds t small e path =
     let digit : 48 + (d - 48) ≡ d = omega (arith, f.from_zero) in
     (p.0, p.1 ∙ ap (λ (w : List ℕ). w ++ ds) (decimal_digit (d - 48) (omega (arith, f.to_nine)) ∙ ap (λ (k : ℕ). k ∷ []) digit))
 
-pub length_digits : (max : ℕ) (ds : List ℕ) → max < 2 ^ 32 → IsPath max AtLength ds → (length_value ds ≤ max) × (decimal (length_value ds) ≡ ds)
+pub length_digits : (max : ℕ) (ds : List ℕ) → max < 2 ^ 32 → IsPath max AtLength ds → (length_value ds ≤ max)
+    × (decimal (length_value ds) ≡ ds)
 unfolding length_value
 length_digits max [] small path = let never = end_final max AtLength path in absurd cc
 length_digits max (d ∷ ds) small path = let p = path_back max AtLength d ds path in first_digits max d ds p.0 small p.1 p.2
 
 -- ---- and each number has its decimal text
 
-path_push : (max n : ℕ) (ds : List ℕ) (d : ℕ) → IsPath max (Digits n) ds → Follows max (value_on n ds) d → IsPath max (Digits n) (ds ++ d ∷ []) × (value_on n (ds ++ d ∷ []) ≡ value_on n ds * 10 + (d - 48))
+path_push : (max n : ℕ) (ds : List ℕ) (d : ℕ) → IsPath max (Digits n) ds → Follows max (value_on n ds) d
+    → IsPath max (Digits n) (ds ++ d ∷ []) × (value_on n (ds ++ d ∷ []) ≡ value_on n ds * 10 + (d - 48))
 unfolding value_on
-path_push max n [] d path f =
-    (path_some max (Digits n) d [] (Digits (n * 10 + (d - 48))) (cond-true (is_more max n d) (Some (Digits (n * 10 + (d - 48)))) None (may_follow max n d f)) (path_end max (Digits (n * 10 + (d - 48))) refl), refl)
+path_push max n [] d path f = (
+  path_some max (Digits n) d [] (Digits (n * 10 + (d - 48)))
+      (cond-true (is_more max n d) (Some (Digits (n * 10 + (d - 48)))) None (may_follow max n d f))
+      (path_end max (Digits (n * 10 + (d - 48))) refl),
+  refl,
+)
 path_push max n (c ∷ ds) d path f =
     let p = path_back max (Digits n) c ds path in
     let s = digits_step max n c p.0 p.1 in
@@ -230,7 +254,8 @@ path_push max n (c ∷ ds) d path f =
     let q = path_push max m ds d (subst (λ (t : Place). IsPath max t ds) (sym s.1) p.2) f in
     (path_some max (Digits n) c (ds ++ d ∷ []) (Digits m) (p.1 ∙ ap (λ (t : Place). Some t) (sym s.1)) q.0, q.1)
 
-length_push : (max : ℕ) (ds : List ℕ) (d : ℕ) → IsPath max AtLength ds → Follows max (length_value ds) d → IsPath max AtLength (ds ++ d ∷ []) × (length_value (ds ++ d ∷ []) ≡ length_value ds * 10 + (d - 48))
+length_push : (max : ℕ) (ds : List ℕ) (d : ℕ) → IsPath max AtLength ds → Follows max (length_value ds) d
+    → IsPath max AtLength (ds ++ d ∷ []) × (length_value (ds ++ d ∷ []) ≡ length_value ds * 10 + (d - 48))
 unfolding length_value
 length_push max [] d path f = let never = end_final max AtLength path in absurd cc
 length_push max (c ∷ ds) d path f =
@@ -246,14 +271,23 @@ one_digit : (max n : ℕ) → n < 10 → IsTextOf max n ((48 + n) ∷ [])
 unfolding length_value value_on
 one_digit max n small within =
     let back : 48 + n - 48 ≡ n = omega arith in
-    let lead : IsFirst max (48 + n) = record { from_zero = omega arith; to_nine = omega arith; within = omega arith } in
-    (path_some max AtLength (48 + n) [] (Digits (48 + n - 48)) (cond-true (is_first max (48 + n)) (Some (Digits (48 + n - 48))) None (may_lead max (48 + n) lead)) (path_end max (Digits (48 + n - 48)) refl), back)
+    let lead : IsFirst max (48 + n) = record { from_zero = omega arith; to_nine = omega arith; within = omega arith } in (
+      path_some max AtLength (48 + n) [] (Digits (48 + n - 48))
+          (cond-true (is_first max (48 + n)) (Some (Digits (48 + n - 48))) None (may_lead max (48 + n) lead))
+          (path_end max (Digits (48 + n - 48)) refl),
+      back,
+    )
 
 more_digits : (max n : ℕ) (ds : List ℕ) → 10 ≤ n → IsTextOf max (n / 10) ds → IsTextOf max n (ds ++ (48 + n % 10) ∷ [])
 more_digits max n ds large front within =
     let p = front (omega arith) in
     let d = 48 + n % 10 in
-    let follow : Follows max (length_value ds) d = record { positive = omega (arith, p.1); from_zero = omega arith; to_nine = omega arith; within = omega (arith, p.1) } in
+    let follow : Follows max (length_value ds) d = record {
+      positive = omega (arith, p.1);
+      from_zero = omega arith;
+      to_nine = omega arith;
+      within = omega (arith, p.1);
+    } in
     let q = length_push max ds d p.0 follow in
     (q.0, omega (arith, p.1, q.1))
 
@@ -294,7 +328,8 @@ minus_path max (d ∷ ds) path =
     let is_one = eqb-true d 49 c.0 in
     cc
 
-count_digits : (max : ℕ) (ds : List ℕ) → max < 2 ^ 32 → IsPath max AtCount ds → IsCount max (count_value ds) × (count_marks (count_value ds) ≡ line_marks ds)
+count_digits : (max : ℕ) (ds : List ℕ) → max < 2 ^ 32 → IsPath max AtCount ds → IsCount max (count_value ds)
+    × (count_marks (count_value ds) ≡ line_marks ds)
 unfolding count_value
 count_digits max [] small path = let never = end_final max AtCount path in absurd cc
 count_digits max (d ∷ ds) small path =
@@ -322,12 +357,18 @@ length_to_count max (d ∷ ds) path =
     let p = path_back max AtLength d ds path in
     let c = chosen (is_first max d) (Digits (d - 48)) p.0 p.1 in
     let f = leads max d c.0 in
-    let other : eqb d 45 ≡ false = ne_eqb d 45 (λ e. absurd {A = ⊥} (omega (arith, e, f.from_zero))) in
-    (path_some max AtCount d ds p.0 (cond-false (eqb d 45) (Some Minus) (first_step max d) other ∙ p.1) p.2, cond-false (eqb d 45) None (Some (value_on (d - 48) ds)) other)
+    let other : eqb d 45 ≡ false = ne_eqb d 45 (λ e. absurd {A = ⊥} (omega (arith, e, f.from_zero))) in (
+      path_some max AtCount d ds p.0 (cond-false (eqb d 45) (Some Minus) (first_step max d) other ∙ p.1) p.2,
+      cond-false (eqb d 45) None (Some (value_on (d - 48) ds)) other,
+    )
 
 count_path : (max : ℕ) → max < 2 ^ 32 → (c : Option ℕ) → IsCount max c → (ds : List ℕ) × IsPath max AtCount ds × (count_value ds ≡ c)
 unfolding count_value
-count_path max small None h = (45 ∷ 49 ∷ [], path_some max AtCount 45 (49 ∷ []) Minus refl (path_some max Minus 49 [] MinusOne refl (path_end max MinusOne refl)), refl)
+count_path max small None h = (
+  45 ∷ 49 ∷ [],
+  path_some max AtCount 45 (49 ∷ []) Minus refl (path_some max Minus 49 [] MinusOne refl (path_end max MinusOne refl)),
+  refl,
+)
 count_path max small (Some n) h =
     let p = decimal_path max n small h in
     let q = length_to_count max (decimal n) p.0 in

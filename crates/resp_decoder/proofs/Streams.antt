@@ -1,5 +1,6 @@
 -- Streams of requests: how they join, how they end, and that each has one reading.
-use Rattle.std.proofs.Common.{◌≡◌, ℕ, zero, suc, ◌+◌, ◌<◌, List, [], ◌∷◌, ◌++◌, length, Option, Some, None, Result, Ok, Err, ◌⊎◌, inl, inr, refl, sym, ap, subst, ◌∙◌, append_assoc, arith}
+use Rattle.std.proofs.Common.{◌≡◌, ℕ, zero, suc, ◌+◌, ◌<◌, List, [], ◌∷◌, ◌++◌, length, Option, Some, None, Result, Ok, Err, ◌⊎◌, inl, inr}
+use Rattle.std.proofs.Common.{refl, sym, ap, subst, ◌∙◌, append_assoc, arith}
 use Rattle.std.specs.List.{flat_map, AllByRecursion}
 use Rattle.std.proofs.lemmas.List.{append-nil, length-append}
 use Rattle.std.proofs.lemmas.List.Concat.{flat_map-append}
@@ -7,7 +8,8 @@ use Rattle.resp_decoder.specs.declared.fault.Fault.{Fault}
 use Rattle.resp_decoder.specs.declared.limits.Limits.{Limits}
 use Rattle.resp_decoder.specs.declared.parsing.Stop.{Stop}
 use Rattle.resp_decoder.specs.declared.parsing.Stop.TheVariants.{Open, Bad}
-use Rattle.resp_decoder.specs.Texts.{Marked, bytes, Item, item_marks, item_text, IsLawful, requests_of, Stream, IsOpenIn, IsFaultIn, IsOpen, IsFault, Ends, Decodes}
+use Rattle.resp_decoder.specs.Texts.{Marked, bytes, Item, item_marks, item_text, IsLawful, requests_of, Stream, IsOpenIn, IsFaultIn, IsOpen}
+use Rattle.resp_decoder.specs.Texts.{IsFault, Ends, Decodes}
 use Rattle.resp_decoder.specs.Parsing.{Parsed, byte_at, head_at, item_at}
 use Rattle.resp_decoder.proofs.Formats.{Reads, split, same_front, no_shorter, bytes-append}
 use Rattle.resp_decoder.proofs.Bytes.{stopped}
@@ -24,15 +26,19 @@ stop_cases Open = inl refl
 stop_cases (Bad fault) = inr (fault, refl)
 
 -- what begins a text, and goes on with a byte that no text has there
-no_text : {A : Type 0} (lawful : A → Type 0) (marks : A → Marked) (b : List ℕ) (fault : Fault) → (f : IsFaultIn lawful marks b fault) → (value : A) → lawful value → (rest : List ℕ) → bytes (marks value) ≡ b ++ rest → ⊥
+no_text : {A : Type 0} (lawful : A → Type 0) (marks : A → Marked) (b : List ℕ) (fault : Fault) → (f : IsFaultIn lawful marks b fault)
+    → (value : A) → lawful value → (rest : List ℕ) → bytes (marks value) ≡ b ++ rest → ⊥
 no_text lawful marks b fault f value h rest e =
     f.none value h (f.more ++ rest) (e ∙ ap (λ (t : List ℕ). t ++ rest) f.split ∙ append_assoc (bytes f.before) (f.bad ∷ f.more) rest)
 
 -- an open rest begins a text
-open_text : {A : Type 0} (lawful : A → Type 0) (marks : A → Marked) (b : List ℕ) → (o : IsOpenIn lawful marks b) → bytes (marks o.value) ≡ b ++ o.next.0 ∷ bytes o.after
-open_text lawful marks b o = ap bytes o.text ∙ bytes-append o.before (o.next ∷ o.after) ∙ ap (λ (t : List ℕ). t ++ o.next.0 ∷ bytes o.after) (sym o.split)
+open_text : {A : Type 0} (lawful : A → Type 0) (marks : A → Marked) (b : List ℕ) → (o : IsOpenIn lawful marks b)
+    → bytes (marks o.value) ≡ b ++ o.next.0 ∷ bytes o.after
+open_text lawful marks b o = ap bytes o.text ∙ bytes-append o.before (o.next ∷ o.after)
+    ∙ ap (λ (t : List ℕ). t ++ o.next.0 ∷ bytes o.after) (sym o.split)
 
-pub open_is : {A : Type 0} (r : List ℕ → Parsed A) (lawful : A → Type 0) (marks : A → Marked) → Reads r lawful marks → (b : List ℕ) → IsOpenIn lawful marks b → r b ≡ Err Open
+pub open_is : {A : Type 0} (r : List ℕ → Parsed A) (lawful : A → Type 0) (marks : A → Marked) → Reads r lawful marks → (b : List ℕ)
+    → IsOpenIn lawful marks b → r b ≡ Err Open
 open_is {A} r lawful marks reads b o =
     elim (result_cases (r b)) [
       | inl x ↦
@@ -47,25 +53,32 @@ open_is {A} r lawful marks reads b o =
     ]
 
 -- one place, and so one fault
-same_fault : {A : Type 0} (r : List ℕ → Parsed A) (lawful : A → Type 0) (marks : A → Marked) → Reads r lawful marks → (b : List ℕ) (fault fault' : Fault) → IsFaultIn lawful marks b fault → IsFaultIn lawful marks b fault' → fault ≡ fault'
+same_fault : {A : Type 0} (r : List ℕ → Parsed A) (lawful : A → Type 0) (marks : A → Marked) → Reads r lawful marks
+    → (b : List ℕ) (fault fault' : Fault) → IsFaultIn lawful marks b fault → IsFaultIn lawful marks b fault' → fault ≡ fault'
 same_fault {A} r lawful marks reads b fault fault' f g =
-    let text_f : bytes (marks f.value) ≡ bytes f.before ++ f.byte ∷ bytes f.after = ap bytes f.text ∙ bytes-append f.before ((f.byte, fault) ∷ f.after) in
-    let text_g : bytes (marks g.value) ≡ bytes g.before ++ g.byte ∷ bytes g.after = ap bytes g.text ∙ bytes-append g.before ((g.byte, fault') ∷ g.after) in
+    let text_f : bytes (marks f.value) ≡ bytes f.before ++ f.byte ∷ bytes f.after = ap bytes f.text
+    ∙ bytes-append f.before ((f.byte, fault) ∷ f.after) in
+    let text_g : bytes (marks g.value) ≡ bytes g.before ++ g.byte ∷ bytes g.after = ap bytes g.text
+    ∙ bytes-append g.before ((g.byte, fault') ∷ g.after) in
     elim (split (bytes f.before) (f.bad ∷ f.more) (bytes g.before) g.bad g.more (sym f.split ∙ g.split)) [
       | inl p ↦
-          absurd (g.none f.value f.holds (p.0 ++ f.byte ∷ bytes f.after) (text_f ∙ ap (λ (t : List ℕ). t ++ f.byte ∷ bytes f.after) p.1 ∙ append_assoc (bytes g.before) (g.bad ∷ p.0) (f.byte ∷ bytes f.after)))
+          absurd (g.none f.value f.holds (p.0 ++ f.byte ∷ bytes f.after) (text_f ∙ ap (λ (t : List ℕ). t ++ f.byte ∷ bytes f.after) p.1
+          ∙ append_assoc (bytes g.before) (g.bad ∷ p.0) (f.byte ∷ bytes f.after)))
       | inr p ↦
           elim p.0 as (λ mid. bytes g.before ≡ bytes f.before ++ mid → f.bad ∷ f.more ≡ mid ++ g.bad ∷ g.more → fault ≡ fault') [
             | [] ↦ λ e rest.
-                reads.places f.value g.value f.holds g.holds f.before (f.byte, fault) f.after g.before (g.byte, fault') g.after f.text g.text (sym (e ∙ append-nil (bytes f.before)))
+                reads.places f.value g.value f.holds g.holds f.before (f.byte, fault) f.after g.before (g.byte, fault') g.after f.text
+                g.text (sym (e ∙ append-nil (bytes f.before)))
             | m ∷ mid ↦ λ e rest.
                 let head : m ≡ f.bad = cc in
                 absurd (f.none g.value g.holds (mid ++ g.byte ∷ bytes g.after)
-                (text_g ∙ ap (λ (t : List ℕ). t ++ g.byte ∷ bytes g.after) (e ∙ ap (λ (k : ℕ). bytes f.before ++ k ∷ mid) head) ∙ append_assoc (bytes f.before) (f.bad ∷ mid) (g.byte ∷ bytes g.after)))
+                (text_g ∙ ap (λ (t : List ℕ). t ++ g.byte ∷ bytes g.after) (e ∙ ap (λ (k : ℕ). bytes f.before ++ k ∷ mid) head)
+                ∙ append_assoc (bytes f.before) (f.bad ∷ mid) (g.byte ∷ bytes g.after)))
           ] p.1 p.2
     ]
 
-pub fault_is : {A : Type 0} (r : List ℕ → Parsed A) (lawful : A → Type 0) (marks : A → Marked) → Reads r lawful marks → (b : List ℕ) (fault : Fault) → IsFaultIn lawful marks b fault → r b ≡ Err (Bad fault)
+pub fault_is : {A : Type 0} (r : List ℕ → Parsed A) (lawful : A → Type 0) (marks : A → Marked) → Reads r lawful marks
+    → (b : List ℕ) (fault : Fault) → IsFaultIn lawful marks b fault → r b ≡ Err (Bad fault)
 fault_is {A} r lawful marks reads b fault f =
     elim (result_cases (r b)) [
       | inl x ↦
@@ -91,25 +104,33 @@ fault_is {A} r lawful marks reads b fault f =
 abbrev pub Stops : Limits → List ℕ → Type 0
 Stops limits rest = (stop : Stop) × (item_at limits rest ≡ Err stop)
 
-item_again : (limits : Limits) (item : Item) (rest : List ℕ) → IsLawful limits item → item_at limits (item_text item ++ rest) ≡ Ok (item, rest)
+item_again : (limits : Limits) (item : Item) (rest : List ℕ) → IsLawful limits item
+    → item_at limits (item_text item ++ rest) ≡ Ok (item, rest)
 item_again limits item rest h = (item_reads limits).again item h rest
 
-not_begun : (limits : Limits) (item : Item) (rest more : List ℕ) → IsLawful limits item → Stops limits more → more ≡ item_text item ++ rest → ⊥
+not_begun : (limits : Limits) (item : Item) (rest more : List ℕ) → IsLawful limits item → Stops limits more
+    → more ≡ item_text item ++ rest → ⊥
 not_begun limits item rest more h stops e =
-    let wrong : stopped {A = Item × List ℕ} stops.0 ≡ Ok (item, rest) = sym stops.1 ∙ ap (item_at limits) e ∙ item_again limits item rest h in
+    let wrong : stopped {A = Item × List ℕ} stops.0 ≡ Ok (item, rest) = sym stops.1 ∙ ap (item_at limits) e
+    ∙ item_again limits item rest h in
     cc
 
-pub same_items : (limits : Limits) (items others : List Item) (rest rest' : List ℕ) → AllByRecursion (IsLawful limits) items → AllByRecursion (IsLawful limits) others → Stops limits rest → Stops limits rest'
+pub same_items : (limits : Limits) (items others : List Item) (rest rest' : List ℕ) → AllByRecursion (IsLawful limits) items
+    → AllByRecursion (IsLawful limits) others → Stops limits rest → Stops limits rest'
     → flat_map item_text items ++ rest ≡ flat_map item_text others ++ rest' → (items ≡ others) × (rest ≡ rest')
 same_items limits [] [] rest rest' h h' s s' e = (refl, e)
 same_items limits [] (item ∷ others) rest rest' h h' s s' e =
-    absurd (not_begun limits item (flat_map item_text others ++ rest') rest h'.0 s (e ∙ append_assoc (item_text item) (flat_map item_text others) rest'))
+    absurd (not_begun limits item (flat_map item_text others ++ rest') rest h'.0 s (e
+    ∙ append_assoc (item_text item) (flat_map item_text others) rest'))
 same_items limits (item ∷ items) [] rest rest' h h' s s' e =
-    absurd (not_begun limits item (flat_map item_text items ++ rest) rest' h.0 s' (sym e ∙ append_assoc (item_text item) (flat_map item_text items) rest))
+    absurd (not_begun limits item (flat_map item_text items ++ rest) rest' h.0 s' (sym e
+    ∙ append_assoc (item_text item) (flat_map item_text items) rest))
 same_items limits (item ∷ items) (other ∷ others) rest rest' h h' s s' e =
     let cut : item_text item ++ (flat_map item_text items ++ rest) ≡ item_text other ++ (flat_map item_text others ++ rest') =
-    sym (append_assoc (item_text item) (flat_map item_text items) rest) ∙ e ∙ append_assoc (item_text other) (flat_map item_text others) rest' in
-    let front = same_front (item_at limits) (IsLawful limits) item_marks (item_reads limits) item other h.0 h'.0 (flat_map item_text items ++ rest) (flat_map item_text others ++ rest') cut in
+    sym (append_assoc (item_text item) (flat_map item_text items) rest) ∙ e
+    ∙ append_assoc (item_text other) (flat_map item_text others) rest' in
+    let front = same_front (item_at limits) (IsLawful limits) item_marks (item_reads limits) item other h.0 h'.0
+    (flat_map item_text items ++ rest) (flat_map item_text others ++ rest') cut in
     let back = same_items limits items others rest rest' h.1 h'.1 s s' front.1 in
     (cc, back.1)
 
@@ -132,17 +153,24 @@ pub ends_from : (limits : Limits) (rest : List ℕ) (fault : Option Fault) → i
 ends_from limits rest None e = (item_reads limits).part rest e
 ends_from limits rest (Some fault) e = (item_reads limits).bad rest fault e
 
-pub one_decoding : (limits : Limits) (stream : List ℕ) (list list' : List (List (List ℕ))) (rest rest' : List ℕ) (fault fault' : Option Fault)
-    → Stream limits stream list rest → Ends limits rest fault → Stream limits stream list' rest' → Ends limits rest' fault' → (list ≡ list') × (rest ≡ rest') × (fault ≡ fault')
+pub one_decoding : (limits : Limits) (stream : List ℕ) (list list' : List (List (List ℕ))) (rest rest' : List ℕ)
+    (fault fault' : Option Fault)
+    → Stream limits stream list rest → Ends limits rest fault → Stream limits stream list' rest' → Ends limits rest' fault' → (list ≡ list')
+    × (rest ≡ rest') × (fault ≡ fault')
 one_decoding limits stream list list' rest rest' fault fault' s ends s' ends' =
     let stop = ends_is limits rest fault ends in
     let stop' = ends_is limits rest' fault' ends' in
-    let same = same_items limits s.items s'.items rest rest' s.lawful s'.lawful (ending fault, stop) (ending fault', stop') (sym s.whole ∙ s'.whole) in
+    let same = same_items limits s.items s'.items rest rest' s.lawful s'.lawful (ending fault, stop) (ending fault', stop') (sym s.whole
+    ∙ s'.whole) in
     let faults : stopped {A = Item × List ℕ} (ending fault) ≡ stopped (ending fault') = sym stop ∙ ap (item_at limits) same.1 ∙ stop' in
-    let endings : ending fault ≡ ending fault' = cc in
-    (s.requests_are ∙ ap (λ (items : List Item). flat_map requests_of items) same.0 ∙ sym s'.requests_are, same.1, ending_is fault fault' endings)
+    let endings : ending fault ≡ ending fault' = cc in (
+      s.requests_are ∙ ap (λ (items : List Item). flat_map requests_of items) same.0 ∙ sym s'.requests_are,
+      same.1,
+      ending_is fault fault' endings,
+    )
 
-pub one_fault : (limits : Limits) (rest : List ℕ) (fault fault' : Fault) → IsFault limits rest fault → IsFault limits rest fault' → fault ≡ fault'
+pub one_fault : (limits : Limits) (rest : List ℕ) (fault fault' : Fault) → IsFault limits rest fault → IsFault limits rest fault'
+    → fault ≡ fault'
 one_fault limits rest fault fault' f g = same_fault (item_at limits) (IsLawful limits) item_marks (item_reads limits) rest fault fault' f g
 
 -- ---- streams join
@@ -150,20 +178,27 @@ one_fault limits rest fault fault' f g = same_fault (item_at limits) (IsLawful l
 pub stream_none : (limits : Limits) (b : List ℕ) → Stream limits b [] b
 stream_none limits b = record { items = []; lawful = tt; whole = refl; requests_are = refl }
 
-all-append : (limits : Limits) (xs ys : List Item) → AllByRecursion (IsLawful limits) xs → AllByRecursion (IsLawful limits) ys → AllByRecursion (IsLawful limits) (xs ++ ys)
+all-append : (limits : Limits) (xs ys : List Item) → AllByRecursion (IsLawful limits) xs → AllByRecursion (IsLawful limits) ys
+    → AllByRecursion (IsLawful limits) (xs ++ ys)
 all-append limits [] ys h k = k
 all-append limits (x ∷ xs) ys h k = (h.0, all-append limits xs ys h.1 k)
 
-pub stream_then : (limits : Limits) (b : List ℕ) (list list' : List (List (List ℕ))) (mid rest : List ℕ) → Stream limits b list mid → Stream limits mid list' rest → Stream limits b (list ++ list') rest
+pub stream_then : (limits : Limits) (b : List ℕ) (list list' : List (List (List ℕ))) (mid rest : List ℕ) → Stream limits b list mid
+    → Stream limits mid list' rest → Stream limits b (list ++ list') rest
 stream_then limits b list list' mid rest s t = record {
   items = s.items ++ t.items;
   lawful = all-append limits s.items t.items s.lawful t.lawful;
-  whole = s.whole ∙ ap (λ (w : List ℕ). flat_map item_text s.items ++ w) t.whole ∙ sym (append_assoc (flat_map item_text s.items) (flat_map item_text t.items) rest) ∙ ap (λ (w : List ℕ). w ++ rest) (sym (flat_map-append item_text s.items t.items));
-  requests_are = ap (λ (w : List (List (List ℕ))). w ++ list') s.requests_are ∙ ap (λ (w : List (List (List ℕ))). flat_map requests_of s.items ++ w) t.requests_are ∙ sym (flat_map-append requests_of s.items t.items);
+  whole = s.whole ∙ ap (λ (w : List ℕ). flat_map item_text s.items ++ w) t.whole
+      ∙ sym (append_assoc (flat_map item_text s.items) (flat_map item_text t.items) rest)
+      ∙ ap (λ (w : List ℕ). w ++ rest) (sym (flat_map-append item_text s.items t.items));
+  requests_are = ap (λ (w : List (List (List ℕ))). w ++ list') s.requests_are
+      ∙ ap (λ (w : List (List (List ℕ))). flat_map requests_of s.items ++ w) t.requests_are
+      ∙ sym (flat_map-append requests_of s.items t.items);
 }
 
 -- one item
-pub stream_one : (limits : Limits) (item : Item) (rest : List ℕ) → IsLawful limits item → Stream limits (item_text item ++ rest) (requests_of item) rest
+pub stream_one : (limits : Limits) (item : Item) (rest : List ℕ) → IsLawful limits item
+    → Stream limits (item_text item ++ rest) (requests_of item) rest
 stream_one limits item rest h = record {
   items = item ∷ [];
   lawful = (h, tt);
@@ -172,7 +207,8 @@ stream_one limits item rest h = record {
 }
 
 -- what comes behind stays behind
-pub stream_more : (limits : Limits) (b : List ℕ) (list : List (List (List ℕ))) (rest more : List ℕ) → Stream limits b list rest → Stream limits (b ++ more) list (rest ++ more)
+pub stream_more : (limits : Limits) (b : List ℕ) (list : List (List (List ℕ))) (rest more : List ℕ) → Stream limits b list rest
+    → Stream limits (b ++ more) list (rest ++ more)
 stream_more limits b list rest more s = record {
   items = s.items;
   lawful = s.lawful;
@@ -233,15 +269,28 @@ decoding_within limits (suc n) stream within =
           let g = (item_reads limits).got stream x.0 x.1 in
           let shorter = item_shorter limits stream x.0 x.1 in
           let others = decoding_within limits n x.0.1 (omega arith) in
-          let first = subst (λ (w : List ℕ). Stream limits w (requests_of x.0.0) x.0.1) (sym g.1) (stream_one limits x.0.0 x.0.1 g.0) in
-          (requests_of x.0.0 ++ others.0, others.1, (others.2.0, stream_then limits stream (requests_of x.0.0) others.0 x.0.1 others.2.0 first others.2.1, others.2.2))
-      | inr s ↦ ([], stop_fault s.0, (stream, stream_none limits stream, ends_from limits stream (stop_fault s.0) (s.1 ∙ ap (λ (t : Stop). Err t) (sym (ending-stop_fault s.0)))))
+          let first = subst (λ (w : List ℕ). Stream limits w (requests_of x.0.0) x.0.1) (sym g.1) (stream_one limits x.0.0 x.0.1 g.0) in (
+            requests_of x.0.0 ++ others.0,
+            others.1,
+            (others.2.0, stream_then limits stream (requests_of x.0.0) others.0 x.0.1 others.2.0 first others.2.1, others.2.2),
+          )
+      | inr s ↦ (
+        [],
+        stop_fault s.0,
+        (
+          stream,
+          stream_none limits stream,
+          ends_from limits stream (stop_fault s.0) (s.1 ∙ ap (λ (t : Stop). Err t) (sym (ending-stop_fault s.0))),
+        ),
+      )
     ]
 
-pub some_decoding : (limits : Limits) (stream : List ℕ) → (requests : List (List (List ℕ))) × (fault : Option Fault) × Decodes limits stream requests fault
+pub some_decoding : (limits : Limits) (stream : List ℕ) → (requests : List (List (List ℕ))) × (fault : Option Fault)
+    × Decodes limits stream requests fault
 some_decoding limits stream = decoding_within limits (suc (length stream)) stream (omega arith)
 
 pub open_no_fault : (limits : Limits) (rest : List ℕ) (fault : Fault) → IsOpen limits rest → IsFault limits rest fault → ⊥
 open_no_fault limits rest fault o f =
-    let wrong : stopped {A = Item × List ℕ} Open ≡ stopped (Bad fault) = sym (ends_is limits rest None o) ∙ ends_is limits rest (Some fault) f in
+    let wrong : stopped {A = Item × List ℕ} Open ≡ stopped (Bad fault) = sym (ends_is limits rest None o)
+    ∙ ends_is limits rest (Some fault) f in
     cc

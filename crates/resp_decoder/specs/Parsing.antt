@@ -1,5 +1,6 @@
 -- Reading from left to right: the value at the front of the bytes and the bytes behind it, or why there is none.
-use Rattle.std.specs.Prelude.{◌≡◌, ℕ, zero, suc, ◌+◌, ◌-◌, ◌*◌, List, [], ◌∷◌, length, take, drop, Option, Some, None, Result, Ok, Err, Bool, ◌&&◌, nat_lt, nat_le, ◌==◌, if◌then◌else◌}
+use Rattle.std.specs.Prelude.{◌≡◌, ℕ, zero, suc, ◌+◌, ◌-◌, ◌*◌, List, [], ◌∷◌, length, take, drop, Option, Some, None, Result, Ok, Err}
+use Rattle.std.specs.Prelude.{Bool, ◌&&◌, nat_lt, nat_le, ◌==◌, if◌then◌else◌}
 use Rattle.resp.specs.Ascii.{line_feed, carriage_return, dollar, asterisk, minus, digit_zero, digit_one, digit_nine}
 use Rattle.resp_decoder.specs.declared.fault.Fault.{Fault}
 use Rattle.resp_decoder.specs.declared.fault.Fault.TheVariants.{ExpectedStar, ExpectedDollar, BadLength, ExpectedCrlf}
@@ -54,7 +55,8 @@ is_first max b = nat_le digit_zero b && (nat_le b digit_nine && nat_le (b - digi
 -- the number whose digits so far are n, up to the line's end
 unfoldable pub number_on : ℕ → ℕ → List ℕ → Parsed ℕ
 number_on max n [] = Err Open
-number_on max n (b ∷ bs) = if is_more max n b then number_on max (n * 10 + (b - digit_zero)) bs else (line_at BadLength (b ∷ bs) >>= λ end. Ok (n, end.1))
+number_on max n (b ∷ bs) =
+    if is_more max n b then number_on max (n * 10 + (b - digit_zero)) bs else (line_at BadLength (b ∷ bs) >>= λ end. Ok (n, end.1))
 
 unfoldable pub number_at : ℕ → List ℕ → Parsed ℕ
 number_at max [] = Err Open
@@ -90,7 +92,8 @@ minus_one_at bytes = do
 -- a count, or `-1`
 unfoldable pub count_at : ℕ → List ℕ → Parsed (Option ℕ)
 count_at max [] = Err Open
-count_at max (b ∷ bs) = if b == minus then (minus_one_at (b ∷ bs) >>= λ end. Ok (None, end.1)) else (number_at max (b ∷ bs) >>= λ n. Ok (Some n.0, n.1))
+count_at max (b ∷ bs) = if b == minus then (minus_one_at (b ∷ bs) >>= λ end. Ok (None, end.1)) else
+    (number_at max (b ∷ bs) >>= λ n. Ok (Some n.0, n.1))
 
 -- `*` and a count
 unfoldable pub head_at : ℕ → List ℕ → Parsed (Option ℕ)

@@ -1,5 +1,6 @@
 -- Requests that are asked and answered one after another.
-use Rattle.std.proofs.Common.{◌≡◌, ℕ, ◌<◌, length, List, [], ◌∷◌, ◌++◌, Option, None, Some, Err, refl, sym, ap, ◌∙◌, subst, append_assoc, append-nil}
+use Rattle.std.proofs.Common.{◌≡◌, ℕ, ◌<◌, length, List, [], ◌∷◌, ◌++◌, Option, None, Some, Err, refl, sym, ap, ◌∙◌, subst, append_assoc}
+use Rattle.std.proofs.Common.{append-nil}
 use Rattle.std.specs.List.{AllByRecursion}
 use Rattle.std.proofs.lemmas.List.Concat.{flat_map-append}
 use Rattle.resp_decoder.specs.declared.limits.Limits.{Limits}
@@ -9,7 +10,8 @@ use Rattle.serving.specs.Answers.{Answer, answer_text, answers_text, Runs, GoesO
 use Rattle.resp_decoder.proofs.Streams.{stream_none, stream_then, stream_more}
 use Rattle.serving.proofs.StreamLemmas.{stream_request}
 
-AllByRecursion-append : {X : Type 0} (P : X → Type 0) (xs ys : List X) → AllByRecursion P xs → AllByRecursion P ys → AllByRecursion P (xs ++ ys)
+AllByRecursion-append : {X : Type 0} (P : X → Type 0) (xs ys : List X) → AllByRecursion P xs → AllByRecursion P ys
+    → AllByRecursion P (xs ++ ys)
 AllByRecursion-append P [] ys p q = q
 AllByRecursion-append P (x ∷ xs) ys p q = (p.0, AllByRecursion-append P xs ys p.1 q)
 
@@ -30,7 +32,8 @@ EndsBy-append (Some reason) answers others p q = (
   AllByRecursion-append GoesOn answers q.0 p q.2,
 )
 
-pub answers_text-append : {Reason : Type 0} (answers others : List (Answer Reason)) → answers_text (answers ++ others) ≡ answers_text answers ++ answers_text others
+pub answers_text-append : {Reason : Type 0} (answers others : List (Answer Reason))
+    → answers_text (answers ++ others) ≡ answers_text answers ++ answers_text others
 answers_text-append answers others = flat_map-append answer_text answers others
 
 module _ {S Reason : Type 0} (asks : S → List (List ℕ) → Answer Reason → S → Type 0) (limits : Limits) where
@@ -69,14 +72,16 @@ module _ {S Reason : Type 0} (asks : S → List (List ℕ) → Answer Reason →
   }
 
   -- one more request is asked
-  pub answered_more : (stream mid rest : List ℕ) (s u t : S) (ended : Option Reason) (answers : List (Answer Reason)) (words : List (List ℕ)) (answer : Answer Reason)
+  pub answered_more : (stream mid rest : List ℕ) (s u t : S) (ended : Option Reason) (answers : List (Answer Reason))
+      (words : List (List ℕ)) (answer : Answer Reason)
       → Answered asks limits stream mid s u None answers → Stream limits mid [] (item_text (Some words) ++ rest)
       → 0 < length words → IsLawful limits (Some words) → asks u words answer t → EndsBy ended (answer ∷ [])
       → Answered asks limits stream rest s t ended (answers ++ answer ∷ [])
   answered_more stream mid rest s u t ended answers words answer p front some lawful asked ending =
       answered_join stream mid rest s u t ended answers (answer ∷ []) p record {
         requests = words ∷ [];
-        taken = stream_then limits mid [] (words ∷ []) (item_text (Some words) ++ rest) rest front (stream_request limits words rest some lawful);
+        taken = stream_then limits mid [] (words ∷ []) (item_text (Some words) ++ rest) rest front
+            (stream_request limits words rest some lawful);
         run = (t, asked, refl);
         ending = ending;
       }

@@ -1,5 +1,6 @@
 -- Serving a connection, read by read.
-use Rattle.std.proofs.Common.{◌≡◌, ℕ, ◌<◌, ◌≤◌, List, [], ◌∷◌, ◌++◌, length, Option, None, Some, Ok, Err, Bool, true, false, IsTrue, ◌↔◌, take, refl, sym, ap, ◌∙◌, subst, append-nil, inl, arith}
+use Rattle.std.proofs.Common.{◌≡◌, ℕ, ◌<◌, ◌≤◌, List, [], ◌∷◌, ◌++◌, length, Option, None, Some, Ok, Err, Bool, true, false, IsTrue, ◌↔◌}
+use Rattle.std.proofs.Common.{take, refl, sym, ap, ◌∙◌, subst, append-nil, inl, arith}
 use Rattle.std.proofs.lemmas.Bool.{false≢true}
 use Rattle.std.specs.Io.KnownBytes.{Appends, Consumes, Keeps, IsAtEnd}
 use Rattle.std.proofs.KnownBytes.{Appends-nil, Consumes-trans, Consumes-nil, Consumes-kept}
@@ -31,7 +32,8 @@ nothing_waits pending [] waits e = refl
 nothing_waits pending (b ∷ bs) waits e = absurd (false≢true (sym e ∙ waits.1 (omega arith)))
 
 -- All requests that were read are answered and their replies written; the decoder holds an open rest.
-pub record Serving {S Reason : Type 0} (asks : S → List (List ℕ) → Answer Reason → S → Type 0) (limits : Limits) (before left old now : Option (List ℕ)) (s t : S) (held : Held) : Type 0 where
+pub record Serving {S Reason : Type 0} (asks : S → List (List ℕ) → Answer Reason → S → Type 0) (limits : Limits)
+    (before left old now : Option (List ℕ)) (s t : S) (held : Held) : Type 0 where
   pub read : List ℕ
   pub answers : List (Answer Reason)
   pub consumed : Consumes before left read
@@ -40,7 +42,8 @@ pub record Serving {S Reason : Type 0} (asks : S → List (List ℕ) → Answer 
   pub rest_open : IsOpen limits held.bytes
   pub written : Appends old now (answers_text answers)
 
-module _ {S Reason : Type 0} (asks : S → List (List ℕ) → Answer Reason → S → Type 0) (limits : Limits) (before old : Option (List ℕ)) (s : S) where
+module _ {S Reason : Type 0} (asks : S → List (List ℕ) → Answer Reason → S → Type 0) (limits : Limits) (before old : Option (List ℕ))
+    (s : S) where
   pub serving_start : (held : Held) → held ≡ nothing_held limits → Serving asks limits before before old old s s held
   serving_start held e =
       let none : held.bytes ≡ [] = ap (λ (h : Held). h.bytes) e in
@@ -67,7 +70,8 @@ module _ {S Reason : Type 0} (asks : S → List (List ℕ) → Answer Reason →
     written = p.written;
   }
 
-  pub serves_unread : (left now : Option (List ℕ)) (t : S) (held : Held) → Serving asks limits before left old now s t held → Serves asks limits before left old now s t (Err Read)
+  pub serves_unread : (left now : Option (List ℕ)) (t : S) (held : Held) → Serving asks limits before left old now s t held
+      → Serves asks limits before left old now s t (Err Read)
   serves_unread left now t held p = record {
     read = p.read;
     rest = held.bytes;
@@ -89,7 +93,10 @@ module _ {S Reason : Type 0} (asks : S → List (List ℕ) → Answer Reason →
     consumed = Consumes-nil before;
     answered = answered_start asks limits [] s;
     tells = refl;
-    leaves = (record { held = []; piece = []; whole = refl; held_open = open_nothing limits; short = omega arith }, ([], inl refl, Appends-nil old));
+    leaves = (
+      record { held = []; piece = []; whole = refl; held_open = open_nothing limits; short = omega arith },
+      ([], inl refl, Appends-nil old),
+    );
   }
 
   remains : (fault : ServeFault Reason) (bytes piece rest : List ℕ) (requests : List (List (List ℕ)))
@@ -100,7 +107,8 @@ module _ {S Reason : Type 0} (asks : S → List (List ℕ) → Answer Reason →
   remains (Door reason) bytes piece rest requests p opened short = tt
 
   -- the read took no byte
-  read_none : (left after : Option (List ℕ)) (read buffer : List ℕ) (n : ℕ) → Consumes before left read → Consumes left after (take n buffer) → n ≡ 0 → Consumes before after read
+  read_none : (left after : Option (List ℕ)) (read buffer : List ℕ) (n : ℕ) → Consumes before left read
+      → Consumes left after (take n buffer) → n ≡ 0 → Consumes before after read
   read_none left after read buffer n p q none =
       subst (Consumes before after) (append-nil read)
       (Consumes-trans before left after read [] p (subst (λ k. Consumes left after (take k buffer)) none q))
@@ -139,7 +147,8 @@ module _ {S Reason : Type 0} (asks : S → List (List ℕ) → Answer Reason →
 
   -- a piece was read for which the decoder has no memory
   pub serves_unfed : (left after now : Option (List ℕ)) (t : S) (held : Held) (piece : List ℕ)
-      → Serving asks limits before left old now s t held → Consumes left after piece → length piece ≤ PIECE → Serves asks limits before after old now s t (Err Memory)
+      → Serving asks limits before left old now s t held → Consumes left after piece → length piece ≤ PIECE
+      → Serves asks limits before after old now s t (Err Memory)
   serves_unfed left after now t held piece p took short = record {
     read = p.read ++ piece;
     rest = held.bytes ++ piece;
@@ -155,7 +164,8 @@ module _ {S Reason : Type 0} (asks : S → List (List ℕ) → Answer Reason →
   }
 
   -- the answers to a piece, behind those before it
-  joined : (left now : Option (List ℕ)) (t u : S) (held : Held) (piece rest : List ℕ) (ended : Option Reason) (others : List (Answer Reason))
+  joined : (left now : Option (List ℕ)) (t u : S) (held : Held) (piece rest : List ℕ) (ended : Option Reason)
+      (others : List (Answer Reason))
       → (p : Serving asks limits before left old now s t held) → Answered asks limits (held.bytes ++ piece) rest t u ended others
       → Answered asks limits (p.read ++ piece) rest s u ended (p.answers ++ others)
   joined left now t u held piece rest ended others p q =
@@ -164,7 +174,8 @@ module _ {S Reason : Type 0} (asks : S → List (List ℕ) → Answer Reason →
 
   -- what was held when a piece had come
   fed_to : (left now : Option (List ℕ)) (t : S) (held given : Held) (piece : List ℕ)
-      → Serving asks limits before left old now s t held → given ≡ fed held piece → given ≡ with_bytes (nothing_held limits) (held.bytes ++ piece)
+      → Serving asks limits before left old now s t held → given ≡ fed held piece
+      → given ≡ with_bytes (nothing_held limits) (held.bytes ++ piece)
   fed_to left now t held given piece p e = e ∙ fed_held limits held piece p.kept
 
   pub can_answer : (left now : Option (List ℕ)) (t : S) (held given : Held) (piece : List ℕ)
@@ -191,7 +202,8 @@ module _ {S Reason : Type 0} (asks : S → List (List ℕ) → Answer Reason →
           written = appends_all old now new p.answers q.answers p.written q.empties.2;
         }
 
-    pub serves_fault : (fault : Fault) → Serving asks limits before left old now s t held → Consumes left after piece → given ≡ fed held piece
+    pub serves_fault : (fault : Fault) → Serving asks limits before left old now s t held → Consumes left after piece
+        → given ≡ fed held piece
         → AnswersHeld asks given next t u now new (Ok (Some fault)) → Serves asks limits before after old new s u (Ok (Protocol fault))
     serves_fault fault p took e answers =
         let given_is = fed_to left now t held given piece p e in
@@ -208,8 +220,10 @@ module _ {S Reason : Type 0} (asks : S → List (List ℕ) → Answer Reason →
           leaves = (q.empties.0, appends_texts old now new p.answers q.answers (fault_text fault) p.written q.empties.1);
         }
 
-    pub serves_broken : (fault : ServeFault Reason) → Serving asks limits before left old now s t held → Consumes left after piece → given ≡ fed held piece
-        → AnswersHeld asks given next t u now new (Err fault) → length piece ≤ PIECE → Serves asks limits before after old new s u (Err fault)
+    pub serves_broken : (fault : ServeFault Reason) → Serving asks limits before left old now s t held → Consumes left after piece
+        → given ≡ fed held piece
+        → AnswersHeld asks given next t u now new (Err fault) → length piece ≤ PIECE
+        → Serves asks limits before after old new s u (Err fault)
     serves_broken fault p took e answers short =
         let given_is = fed_to left now t held given piece p e in
         let q : AnswersHeld asks (with_bytes (nothing_held limits) (held.bytes ++ piece)) next t u now new (Err fault)

@@ -1,5 +1,6 @@
 -- One request at the front of a stream, and how long what is behind it can be.
-use Rattle.std.proofs.Common.{◌≡◌, ◌⊎◌, inl, inr, ℕ, ◌+◌, ◌<◌, ◌≤◌, List, [], ◌∷◌, ◌++◌, length, take, drop, Some, refl, sym, ap, ◌∙◌, length-append, append_assoc, take-append-drop, arith}
+use Rattle.std.proofs.Common.{◌≡◌, ◌⊎◌, inl, inr, ℕ, ◌+◌, ◌<◌, ◌≤◌, List, [], ◌∷◌, ◌++◌, length, take, drop, Some, refl, sym, ap, ◌∙◌}
+use Rattle.std.proofs.Common.{length-append, append_assoc, take-append-drop, arith}
 use Rattle.std.proofs.lemmas.List.{take-append-le}
 use Rattle.std.proofs.Math.Seq.{take-append_seam}
 use Rattle.std.specs.List.{flat_map}
@@ -30,8 +31,10 @@ text_passes : (limits : Limits) (held piece tail : List ℕ) (x : Item) → IsLa
     → held ++ piece ≡ item_text x ++ tail → length (item_text x) ≤ length held → ⊥
 text_passes limits held piece tail x lawful opened same fits =
     let k = length (item_text x) in
-    let begins : take k held ≡ item_text x = sym (take-append-le k held piece fits) ∙ ap (take k) same ∙ take-append_seam (item_text x) tail in
-    no_shorter (item_at limits) (IsLawful limits) item_marks (item_reads limits) opened.value x opened.holds lawful opened.before opened.next opened.after
+    let begins : take k held ≡ item_text x = sym (take-append-le k held piece fits) ∙ ap (take k) same
+    ∙ take-append_seam (item_text x) tail in
+    no_shorter (item_at limits) (IsLawful limits) item_marks (item_reads limits) opened.value x opened.holds lawful opened.before
+    opened.next opened.after
     (drop k held) opened.text (sym opened.split ∙ sym (take-append-drop k held) ∙ ap (λ l. l ++ drop k held) begins)
 
 items_within : (limits : Limits) (held piece rest : List ℕ) (items : List Item) → AllByRecursion (IsLawful limits) items
@@ -41,19 +44,22 @@ items_within limits held piece rest (x ∷ xs) lawful same opened =
     let tail = flat_map item_text xs ++ rest in
     let whole : held ++ piece ≡ item_text x ++ tail = same ∙ append_assoc (item_text x) (flat_map item_text xs) rest in
     let lengths : length held + length piece ≡ length (item_text x) + (length (flat_map item_text xs) + length rest)
-    = sym (length-append held piece) ∙ ap length whole ∙ length-append (item_text x) tail ∙ ap (λ n. length (item_text x) + n) (length-append (flat_map item_text xs) rest) in
+    = sym (length-append held piece) ∙ ap length whole ∙ length-append (item_text x) tail
+    ∙ ap (λ n. length (item_text x) + n) (length-append (flat_map item_text xs) rest) in
     elim (cases_lt (length held) (length (item_text x))) [
       | inl longer ↦ inr (omega (arith, lengths, longer))
       | inr fits ↦ absurd (text_passes limits held piece tail x lawful.0 opened whole fits)
     ]
 
 -- Behind requests that were taken out of an open rest and a piece there is no more than the piece, or all of it where none was.
-pub rest_within : (limits : Limits) (held piece rest : List ℕ) (requests : List (List (List ℕ))) → Stream limits (held ++ piece) requests rest
+pub rest_within : (limits : Limits) (held piece rest : List ℕ) (requests : List (List (List ℕ)))
+    → Stream limits (held ++ piece) requests rest
     → IsOpen limits held → (rest ≡ held ++ piece) ⊎ (length rest ≤ length piece)
 rest_within limits held piece rest requests p opened = items_within limits held piece rest p.items p.lawful p.whole opened
 
 -- what is left then is an open rest and at most the piece
-pub at_most_piece : (limits : Limits) (held piece rest : List ℕ) (requests : List (List (List ℕ))) → Stream limits (held ++ piece) requests rest
+pub at_most_piece : (limits : Limits) (held piece rest : List ℕ) (requests : List (List (List ℕ)))
+    → Stream limits (held ++ piece) requests rest
     → IsOpen limits held → length piece ≤ PIECE → IsAtMostPiece limits rest
 at_most_piece limits held piece rest requests p opened short =
     elim (rest_within limits held piece rest requests p opened) [

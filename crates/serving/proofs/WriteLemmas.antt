@@ -1,5 +1,6 @@
 -- The answers to the requests held, as they are gathered and written.
-use Rattle.std.proofs.Common.{◌≡◌, ℕ, ◌<◌, List, [], ◌∷◌, ◌++◌, length, Option, None, Some, Ok, Err, refl, sym, ap, ◌∙◌, subst, append_assoc, append-nil, inl, inr}
+use Rattle.std.proofs.Common.{◌≡◌, ℕ, ◌<◌, List, [], ◌∷◌, ◌++◌, length, Option, None, Some, Ok, Err, refl, sym, ap, ◌∙◌, subst}
+use Rattle.std.proofs.Common.{append_assoc, append-nil, inl, inr}
 use Rattle.std.specs.Io.KnownBytes.{Appends}
 use Rattle.std.proofs.KnownBytes.{Appends-trans, Appends-nil}
 use Rattle.resp_decoder.specs.declared.fault.Fault.{Fault}
@@ -19,7 +20,8 @@ use Rattle.serving.proofs.AnswerLemmas.{answered_start, answered_join, answers_t
 
 -- texts that were written behind those of earlier answers
 pub appends_texts : {Reason : Type 0} (old mid new : Option (List ℕ)) (answers others : List (Answer Reason)) (line : List ℕ)
-    → Appends old mid (answers_text answers) → Appends mid new (answers_text others ++ line) → Appends old new (answers_text (answers ++ others) ++ line)
+    → Appends old mid (answers_text answers) → Appends mid new (answers_text others ++ line)
+    → Appends old new (answers_text (answers ++ others) ++ line)
 appends_texts old mid new answers others line p q =
     subst (Appends old new)
     (sym (append_assoc (answers_text answers) (answers_text others) line) ∙ ap (λ l. l ++ line) (sym (answers_text-append answers others)))
@@ -28,7 +30,8 @@ appends_texts old mid new answers others line p q =
 pub appends_all : {Reason : Type 0} (old mid new : Option (List ℕ)) (answers others : List (Answer Reason))
     → Appends old mid (answers_text answers) → Appends mid new (answers_text others) → Appends old new (answers_text (answers ++ others))
 appends_all old mid new answers others p q =
-    subst (Appends old new) (sym (answers_text-append answers others)) (Appends-trans old mid new (answers_text answers) (answers_text others) p q)
+    subst (Appends old new) (sym (answers_text-append answers others))
+    (Appends-trans old mid new (answers_text answers) (answers_text others) p q)
 
 -- all of the texts, or all but the last, behind earlier ones
 all_but_last_behind : {Reason : Type 0} (answers others : List (Answer Reason)) (text : List ℕ)
@@ -62,11 +65,16 @@ beginning_behind limits rest answers others text p = record {
 }
 
 -- what a fault leaves, behind answers that were written before
-pub breaks_behind : {Reason : Type 0} (limits : Limits) (rest : List ℕ) (old mid new : Option (List ℕ)) (answers others : List (Answer Reason)) (fault : ServeFault Reason)
-    → Appends old mid (answers_text answers) → Breaks limits rest others mid new fault → Breaks limits rest (answers ++ others) old new fault
+pub breaks_behind : {Reason : Type 0} (limits : Limits) (rest : List ℕ) (old mid new : Option (List ℕ))
+    (answers others : List (Answer Reason)) (fault : ServeFault Reason)
+    → Appends old mid (answers_text answers) → Breaks limits rest others mid new fault
+    → Breaks limits rest (answers ++ others) old new fault
 breaks_behind limits rest old mid new answers others Read p q = (q.0, appends_all old mid new answers others p q.1)
-breaks_behind limits rest old mid new answers others Write p q =
-    (answers_text answers ++ q.0, beginning_behind limits rest answers others q.0 q.1, Appends-trans old mid new (answers_text answers) q.0 p q.2)
+breaks_behind limits rest old mid new answers others Write p q = (
+  answers_text answers ++ q.0,
+  beginning_behind limits rest answers others q.0 q.1,
+  Appends-trans old mid new (answers_text answers) q.0 p q.2,
+)
 breaks_behind limits rest old mid new answers others Memory p q =
     (answers_text answers ++ q.0, all_but_last_behind answers others q.0 q.1, Appends-trans old mid new (answers_text answers) q.0 p q.2)
 breaks_behind limits rest old mid new answers others (Door reason) p q = appends_all old mid new answers others p q
@@ -76,12 +84,14 @@ abbrev Covers : {Reason : Type 0} → Limits → List ℕ → List (Answer Reaso
 Covers limits rest answers gathered =
     (line : List ℕ) × (more : List ℕ) × IsLastLine limits rest line × (answers_text answers ++ line ≡ gathered ++ more)
 
-gathered_begins : {Reason : Type 0} (old new : Held) (rest : List ℕ) (answers : List (Answer Reason)) (gathered : List ℕ) (pause : Pause Reason)
+gathered_begins : {Reason : Type 0} (old new : Held) (rest : List ℕ) (answers : List (Answer Reason)) (gathered : List ℕ)
+    (pause : Pause Reason)
     → Pauses old new rest answers gathered pause → Covers old.limits rest answers gathered
 gathered_begins old new rest answers gathered Full p = ([], [], inl refl, ap (λ l. l ++ []) (sym p.2))
 gathered_begins old new rest answers gathered Waits p = ([], [], inl refl, ap (λ l. l ++ []) (sym p.2))
 gathered_begins old new rest answers gathered (Closed reason) p = ([], [], inl refl, ap (λ l. l ++ []) (sym p))
-gathered_begins old new rest answers gathered (Faulty fault) p = (fault_text fault, [], inr (fault, p.0, refl), sym p.1 ∙ sym (append-nil gathered))
+gathered_begins old new rest answers gathered (Faulty fault) p =
+    (fault_text fault, [], inr (fault, p.0, refl), sym p.1 ∙ sym (append-nil gathered))
 gathered_begins old new rest answers gathered Starved p =
     elim p as (λ _. Covers old.limits rest answers gathered) [
       | inl all ↦ ([], [], inl refl, ap (λ l. l ++ []) (sym all))
@@ -89,7 +99,8 @@ gathered_begins old new rest answers gathered Starved p =
         [],
         answer_text w.1 ++ [],
         inl refl,
-        append-nil (answers_text answers) ∙ ap answers_text w.2 ∙ answers_text-append w.0 (w.1 ∷ []) ∙ ap (λ l. l ++ (answer_text w.1 ++ [])) (sym w.3),
+        append-nil (answers_text answers) ∙ ap answers_text w.2 ∙ answers_text-append w.0 (w.1 ∷ [])
+            ∙ ap (λ l. l ++ (answer_text w.1 ++ [])) (sym w.3),
       )
     ]
 
@@ -110,7 +121,8 @@ sent_begins limits rest answers gathered sent unsent p small e = record {
 }
 
 -- The requests before the bytes that are held now were answered, and the replies written.
-pub record Writing {S Reason : Type 0} (asks : S → List (List ℕ) → Answer Reason → S → Type 0) (old new : Held) (s t : S) (before after : Option (List ℕ)) : Type 0 where
+pub record Writing {S Reason : Type 0} (asks : S → List (List ℕ) → Answer Reason → S → Type 0) (old new : Held) (s t : S)
+    (before after : Option (List ℕ)) : Type 0 where
   pub answers : List (Answer Reason)
   pub answered : Answered asks old.limits old.bytes new.bytes s t None answers
   pub held : new ≡ with_bytes old new.bytes
@@ -141,12 +153,14 @@ module _ {S Reason : Type 0} (asks : S → List (List ℕ) → Answer Reason →
       let same = sym (bytes_left now new q.rest q.pauses.0) in
       record {
         answers = p.answers ++ q.answers;
-        answered = subst (λ l. Answered asks old.limits old.bytes l s t None (p.answers ++ q.answers)) same (joined now new u t middle gathered Full p q);
+        answered = subst (λ l. Answered asks old.limits old.bytes l s t None (p.answers ++ q.answers)) same
+            (joined now new u t middle gathered Full p q);
         held = held_left now new q.rest p.held q.pauses.0 ∙ ap (with_bytes old) same;
         written = appends_all before middle after p.answers q.answers p.written (subst (Appends middle after) q.pauses.2 sent);
       }
 
-  pub writing_shorter : (now new : Held) (u t : S) (gathered : List ℕ) → Gathers asks now new u t gathered Full → length new.bytes < length now.bytes
+  pub writing_shorter : (now new : Held) (u t : S) (gathered : List ℕ) → Gathers asks now new u t gathered Full
+      → length new.bytes < length now.bytes
   writing_shorter now new u t gathered q = subst (λ l. length l < length now.bytes) (sym (bytes_left now new q.rest q.pauses.0)) q.pauses.1
 
   pub answers_waits : (now new : Held) (u t : S) (middle after : Option (List ℕ)) (gathered : List ℕ)
@@ -208,7 +222,8 @@ module _ {S Reason : Type 0} (asks : S → List (List ℕ) → Answer Reason →
       → Writing asks old now s u before middle → Gathers asks now new u t gathered pause → AppendsPart middle after gathered
       → AnswersHeld asks old new s t before after (Err Write)
   answers_unsent now new u t middle after gathered pause p q part =
-      let begins = sent_begins now.limits q.rest q.answers gathered part.0 part.1 (gathered_begins now new q.rest q.answers gathered pause q.pauses) q.small part.2 in
+      let begins = sent_begins now.limits q.rest q.answers gathered part.0 part.1
+      (gathered_begins now new q.rest q.answers gathered pause q.pauses) q.small part.2 in
       record {
         rest = q.rest;
         answers = p.answers ++ q.answers;

@@ -1,5 +1,6 @@
 -- The shards of a layer's commands, taken out, run over and put back: the layer has run, as `LayerRan` says.
-use Rattle.std.proofs.Common.{◌≡◌, ℕ, ◌<◌, ◌||◌, nat_lt, List, [], ◌∷◌, map, length, true, false, Option, Some, None, inl, inr, refl, sym, ap, ◌∙◌, subst, ltb-true}
+use Rattle.std.proofs.Common.{◌≡◌, ℕ, ◌<◌, ◌||◌, nat_lt, List, [], ◌∷◌, map, length, true, false, Option, Some, None, inl, inr, refl, sym}
+use Rattle.std.proofs.Common.{ap, ◌∙◌, subst, ltb-true}
 use Rattle.std.proofs.lemmas.Bool.{and_parts}
 use Rattle.std.specs.FinMap.{empty}
 use Rattle.std.specs.List.{AllZip, AllByRecursion}
@@ -15,7 +16,8 @@ use Rattle.resp.specs.Content.{Content}
 use Rattle.skeen_core.specs.Order.{In}
 use Rattle.shard_maps.proofs.Layers.{layer_in_turn}
 use Rattle.shard_maps.proofs.Parts.{AllZip-gathered}
-use Rattle.shard_maps.proofs.Rows.{length-put_span, at-put_spans, picked-alike, picked-put_span, at-emptied, taken_out-picked, at-emptied_each, length-emptied_each}
+use Rattle.shard_maps.proofs.Rows.{length-put_span, at-put_spans, picked-alike, picked-put_span, at-emptied, taken_out-picked}
+use Rattle.shard_maps.proofs.Rows.{at-emptied_each, length-emptied_each}
 use Rattle.shard_maps.proofs.Spans.{numbers-span_at}
 use Rattle.shard_maps.specs.Joined.{map_of_shard, Span, numbers, span_at, divided, union, SpanRan}
 use Rattle.shard_maps.specs.Layer.{ShareNoGroup, RanBetween, LayerRan, Ran, IsRunOf, outcomes_of, works_of, left_of, with_rans}

@@ -1,5 +1,6 @@
 -- Things taken out of a row and put back: what stands at each number then.
-use Rattle.std.proofs.Common.{◌≡◌, ℕ, zero, suc, ◌<◌, ◌==◌, List, [], ◌∷◌, length, true, false, slice_set, slice_index_or, arith, refl, sym, ap, ◌∙◌, subst, eq-eqb}
+use Rattle.std.proofs.Common.{◌≡◌, ℕ, zero, suc, ◌<◌, ◌==◌, List, [], ◌∷◌, length, true, false, slice_set, slice_index_or, arith, refl, sym}
+use Rattle.std.proofs.Common.{ap, ◌∙◌, subst, eq-eqb}
 use Rattle.std.proofs.lemmas.Bool.{both_ways, or_left, or_right, or_parts}
 use Rattle.std.specs.List.{AllByRecursion}
 use Rattle.groups.specs.GroupSet.{has, IsAscending}

@@ -1,5 +1,6 @@
 -- A command over the shards of its groups is that command on the joined map.
-use Rattle.std.proofs.Common.{◌≡◌, ℕ, ◌||◌, ◌&&◌, List, [], ◌∷◌, map, Bool, true, false, cond, Option, Some, None, slice_index_or, inl, inr, refl, sym, ap, ◌∙◌, subst, eq-eqb, ne_eqb, lt-ltb}
+use Rattle.std.proofs.Common.{◌≡◌, ℕ, ◌||◌, ◌&&◌, List, [], ◌∷◌, map, Bool, true, false, cond, Option, Some, None, slice_index_or, inl, inr}
+use Rattle.std.proofs.Common.{refl, sym, ap, ◌∙◌, subst, eq-eqb, ne_eqb, lt-ltb}
 use Rattle.std.proofs.lemmas.Bool.{cases_eq, both_ways}
 use Rattle.std.proofs.lemmas.List.Folds.{Any-from_list_any}
 use Rattle.std.specs.Cmp.Lexicographic.{slice_cmp}
@@ -76,7 +77,8 @@ pub has-groups_of-whole : (table : Layout) (command : Command) (q : List ℕ) �
     → has (groups_of table command) (shard_of table q) ≡ true
 has-groups_of-whole table command q is_table whole =
     has-chosen (λ s. is_whole command || has_key_on table s (keys_of command)) table.shards (shard_of table q)
-    ∙ ap (λ b. b && (is_whole command || has_key_on table (shard_of table q) (keys_of command))) (lt-ltb _ _ (shard_of-below table q is_table))
+    ∙ ap (λ b. b && (is_whole command || has_key_on table (shard_of table q) (keys_of command)))
+    (lt-ltb _ _ (shard_of-below table q is_table))
     ∙ ap (λ b. b || has_key_on table (shard_of table q) (keys_of command)) whole
 
 effect-whole : (command : Command) (m : Map) → is_whole command ≡ true → effect_of command m ≡ case_of command m

@@ -1,5 +1,6 @@
 -- One command run over its shards, the others left: the shards have only their own keys again, and the joined map is the command's.
-use Rattle.std.proofs.Common.{◌≡◌, ℕ, ◌==◌, List, [], ◌∷◌, map, drop, true, false, cond, Some, None, slice_index_or, inl, inr, refl, sym, ap, ◌∙◌, subst, eqb-true, eq-eqb}
+use Rattle.std.proofs.Common.{◌≡◌, ℕ, ◌==◌, List, [], ◌∷◌, map, drop, true, false, cond, Some, None, slice_index_or, inl, inr, refl, sym}
+use Rattle.std.proofs.Common.{ap, ◌∙◌, subst, eqb-true, eq-eqb}
 use Rattle.std.proofs.lemmas.Bool.{or_cases}
 use Rattle.std.specs.FinMap.{get, empty}
 use Rattle.std.specs.Option.{IsSome}
@@ -63,7 +64,8 @@ module _ (table : Layout) (old new : List Map) (command : Command) (is_table : I
       where
         at_key : (q : List ℕ) → get (map_of_shard new (shard_of table q)) q ≡ get (effect_of command (joined old)).0 q
         at_key q = elim (has groups (shard_of table q))
-            as (λ b. has groups (shard_of table q) ≡ b → get (map_of_shard new (shard_of table q)) q ≡ get (effect_of command (joined old)).0 q) [
+            as (λ b. has groups (shard_of table q) ≡ b
+            → get (map_of_shard new (shard_of table q)) q ≡ get (effect_of command (joined old)).0 q) [
               | true ↦ λ there.
                   ap (λ m. get m q) (given (shard_of table q) there)
                   ∙ get-part_of table (effect_of command part).0 (shard_of table q) q

@@ -12,7 +12,8 @@ use Rattle.placement.specs.Layout.{Layout, IsTable, shard_of}
 use Rattle.resp.specs.Content.{Content}
 use Rattle.shard_maps.specs.Joined.{joined, map_of_shard, HasOwnKeys, span_at, SpanRan}
 use Rattle.shard_maps.specs.Rows.{taken_out_each, IsGathered}
-use Rattle.shard_maps.specs.Layer.{ShareNoGroup, LayerRan, Work, Ran, IsRunOf, outcomes_of, works_of, left_of, with_rans, AnsweredInTurn, executed_of, replies_of}
+use Rattle.shard_maps.specs.Layer.{ShareNoGroup, LayerRan, Work, Ran, IsRunOf, outcomes_of, works_of, left_of, with_rans, AnsweredInTurn}
+use Rattle.shard_maps.specs.Layer.{executed_of, replies_of}
 
 -- the joined map has at a key what the key's shard has there
 abbrev pub KeysLieOnTheirShards : Type 0

@@ -1,9 +1,11 @@
 -- How many keys the shards of a span have together.
-use Rattle.std.proofs.Common.{◌≡◌, ℕ, zero, suc, ◌+◌, ◌<◌, add-one, List, [], ◌∷◌, map, length, take, get_or, Bool, true, false, cond, Option, Some, None, is_some, min, ℤ, pos, ◌+ℤ◌, w64, to_z, of_z, refl, sym, ap, ◌∙◌, subst, arith}
+use Rattle.std.proofs.Common.{◌≡◌, ℕ, zero, suc, ◌+◌, ◌<◌, add-one, List, [], ◌∷◌, map, length, take, get_or, Bool, true, false, cond}
+use Rattle.std.proofs.Common.{Option, Some, None, is_some, min, ℤ, pos, ◌+ℤ◌, w64, to_z, of_z, refl, sym, ap, ◌∙◌, subst, arith}
 use Rattle.std.proofs.lemmas.Cmp.{nat_list_cmp_total}
 use Rattle.std.proofs.Math.Facts.{to_z_pos}
 use Rattle.std.specs.Cmp.Lexicographic.{slice_cmp}
-use Rattle.std.specs.FinMap.{get, empty, remove, len, entries, find, get-entries, len-entries, get-empty, len-empty, len-insert, empty_of_len}
+use Rattle.std.specs.FinMap.{get, empty, remove, len, entries, find, get-entries, len-entries, get-empty, len-empty, len-insert}
+use Rattle.std.specs.FinMap.{empty_of_len}
 use Rattle.std.specs.Int.{saturate_signed}
 use Rattle.std.specs.Option.{option_or, IsSome}
 use Rattle.std.specs.Ordering.{nat_cmp}
@@ -69,11 +71,13 @@ one_fewer n u m d k v there few both apart rest =
 len-both : (n : ℕ) (u m d : Map) → len m ≡ n → IsBoth u m d → HaveNone m d → len u ≡ n + len d
 len-both zero u m d few both apart =
     let none : m ≡ empty = empty_of_len m few in
-    ap len (same u d (λ q. both q ∙ ap (λ x. option_or (get x q) (get d q)) none ∙ ap (λ o. option_or o (get d q)) (get-empty (slice_cmp nat_cmp) q)))
+    ap len (same u d (λ q. both q ∙ ap (λ x. option_or (get x q) (get d q)) none
+    ∙ ap (λ o. option_or o (get d q)) (get-empty (slice_cmp nat_cmp) q)))
     ∙ (let e : len d ≡ 0 + len d = omega arith in e)
 len-both (suc n) u m d few both apart =
     elim (entries m) as (λ es. entries m ≡ es → len u ≡ suc n + len d) [
-      | [] ↦ λ e. let nothing : len m ≡ 0 = len-entries m ∙ ap (λ (es : List (List ℕ × Value)). length es) e in absurd (omega (arith, nothing, few))
+      | [] ↦ λ e. let nothing : len m ≡ 0 = len-entries m ∙ ap (λ (es : List (List ℕ × Value)). length es) e in
+          absurd (omega (arith, nothing, few))
       | e ∷ es ↦ λ is. one_fewer n u m d e.0 e.1 (get-first m e.0 e.1 es is) few both apart (λ w x. len-both n w x d)
     ] refl
 
@@ -90,7 +94,8 @@ len-union table (s ∷ ss) own up =
     (λ q there. none_of table ss q own.1 (λ i below e. not_first s.0 ss i up below (e ∙ own.0 q there)))
     ∙ ap (λ n. len s.1 + n) rest
 
-pub total-take : (ss : Span) (i : ℕ) (s : ℕ × Map) → i < length ss → s ≡ get_or ss i s → total (take (i + 1) ss) ≡ total (take i ss) + len s.1
+pub total-take : (ss : Span) (i : ℕ) (s : ℕ × Map) → i < length ss → s ≡ get_or ss i s
+    → total (take (i + 1) ss) ≡ total (take i ss) + len s.1
 total-take ss i s below at = ap (λ k. total (take k ss)) (add-one i) ∙ step ss i s below at
   where
     step : (ss : Span) (i : ℕ) (s : ℕ × Map) → i < length ss → s ≡ get_or ss i s → total (take (suc i) ss) ≡ total (take i ss) + len s.1
@@ -108,7 +113,8 @@ kept r n is =
 pub most_added : (z w r : ℤ) (a b : ℕ) → z ≡ pos (min a 9223372036854775807) → w ≡ pos (min b 9223372036854775807)
     → r ≡ saturate_signed w64 (z +ℤ to_z w64 (of_z w64 w)) → to_z w64 (of_z w64 r) ≡ pos (min (a + b) 9223372036854775807)
 most_added z w r a b is more sum =
-    let most : min (min a 9223372036854775807 + min b 9223372036854775807) 9223372036854775807 ≡ min (a + b) 9223372036854775807 = omega arith in
+    let most : min (min a 9223372036854775807 + min b 9223372036854775807) 9223372036854775807 ≡ min (a + b) 9223372036854775807 =
+    omega arith in
     kept r (a + b)
     (sum ∙ ap (λ x. saturate_signed w64 (x +ℤ to_z w64 (of_z w64 w))) is
     ∙ ap (λ x. saturate_signed w64 (pos (min a 9223372036854775807) +ℤ x)) (kept w b more) ∙ ap pos most)

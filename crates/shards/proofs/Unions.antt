@@ -1,5 +1,7 @@
 -- A key of a span: which shard has it, and what a change there is to the union of the shards.
-use Rattle.std.proofs.Common.{◌≡◌, ℕ, zero, suc, ◌+◌, ◌<◌, ◌==◌, ◌||◌, List, [], ◌∷◌, map, length, get_or, slice_set, slice_index, Bool, true, false, cond, Option, Some, None, is_some, MatchOption, inl, inr, refl, sym, ap, ◌∙◌, subst, arith, eqb-true, eq-eqb, add-one}
+use Rattle.std.proofs.Common.{◌≡◌, ℕ, zero, suc, ◌+◌, ◌<◌, ◌==◌, ◌||◌, List, [], ◌∷◌, map, length, get_or, slice_set, slice_index, Bool}
+use Rattle.std.proofs.Common.{true, false, cond, Option, Some, None, is_some, MatchOption, inl, inr, refl, sym, ap, ◌∙◌, subst, arith}
+use Rattle.std.proofs.Common.{eqb-true, eq-eqb, add-one}
 use Rattle.std.proofs.lemmas.Bool.{or_cases}
 use Rattle.std.specs.Cmp.Lexicographic.{slice_cmp}
 use Rattle.std.specs.FinMap.{get, empty, get-empty}
@@ -52,7 +54,8 @@ number_at [] i d below = absurd (omega (arith, below))
 number_at (s ∷ ss) zero d below = refl
 number_at (s ∷ ss) (suc i) d below = number_at ss i d (omega (arith, below))
 
-pub numbers-changed : (ss : Span) (i : ℕ) (d : ℕ × Map) (m : Map) → i < length ss → numbers (slice_set ss i ((get_or ss i d).0, m)) ≡ numbers ss
+pub numbers-changed : (ss : Span) (i : ℕ) (d : ℕ × Map) (m : Map) → i < length ss → numbers (slice_set ss i ((get_or ss i d).0, m))
+    ≡ numbers ss
 numbers-changed [] i d m below = absurd (omega (arith, below))
 numbers-changed (s ∷ ss) zero d m below = refl
 numbers-changed (s ∷ ss) (suc i) d m below = ap (λ l. s.0 ∷ l) (numbers-changed ss i d m (omega (arith, below)))
@@ -65,7 +68,8 @@ not_first n ss i up below e = let less = up.0 (slice_index (numbers ss) i) (has-
 
 module _ (table : Layout) where
   -- no shard of the span is the key's
-  pub none_of : (ss : Span) (q : List ℕ) → SpanHasOwnKeys table ss → ((i : ℕ) → i < length ss → slice_index (numbers ss) i ≡ shard_of table q → ⊥)
+  pub none_of : (ss : Span) (q : List ℕ) → SpanHasOwnKeys table ss
+      → ((i : ℕ) → i < length ss → slice_index (numbers ss) i ≡ shard_of table q → ⊥)
       → get (union ss) q ≡ None
   none_of [] q own away = get-empty (slice_cmp nat_cmp) q
   none_of (s ∷ ss) q own away =
@@ -87,7 +91,8 @@ module _ (table : Layout) where
       ∙ or_none (get s.1 q)
   get-union_here (s ∷ ss) (suc i) d q own up below here =
       get-joined-cons s.1 (map (λ s. s.1) ss) q
-      ∙ ap (λ o. option_or o (get (union ss) q)) (none_elsewhere table s.0 s.1 q own.0 (λ e. not_first s.0 ss i up (omega (arith, below)) (here ∙ e)))
+      ∙ ap (λ o. option_or o (get (union ss) q))
+      (none_elsewhere table s.0 s.1 q own.0 (λ e. not_first s.0 ss i up (omega (arith, below)) (here ∙ e)))
       ∙ get-union_here ss i d q own.1 up.1 (omega (arith, below)) here
 
   -- a change at a key of the shard's own
@@ -112,7 +117,8 @@ module _ (table : Layout) where
   later_cases true o p r none = ap (λ t. option_or t o) (none refl)
   later_cases false o p r none = refl
 
-  get-union-changed : (ss : Span) (i : ℕ) (d : ℕ × Map) (q : List ℕ) (o : Option Value) → SpanHasOwnKeys table ss → IsAscending (numbers ss) → i < length ss
+  get-union-changed : (ss : Span) (i : ℕ) (d : ℕ × Map) (q : List ℕ) (o : Option Value) → SpanHasOwnKeys table ss → IsAscending (numbers ss)
+      → i < length ss
       → slice_index (numbers ss) i ≡ shard_of table q → (r : List ℕ)
       → get (union (slice_set ss i ((get_or ss i d).0, set (get_or ss i d).1 q o))) r ≡ cond (bytes_eq q r) o (get (union ss) r)
   get-union-changed [] i d q o own up below here r = absurd (omega (arith, below))
@@ -131,16 +137,20 @@ module _ (table : Layout) where
       ∙ ap (cond (bytes_eq q r) o) (sym (get-joined-cons s.1 (map (λ s. s.1) ss) r))
     where
       none : bytes_eq q r ≡ true → get s.1 r ≡ None
-      none e = none_elsewhere table s.0 s.1 r own.0 (λ f. not_first s.0 ss i up (omega (arith, below)) (here ∙ ap (shard_of table) (same_bytes q r e) ∙ f))
+      none e = none_elsewhere table s.0 s.1 r own.0
+          (λ f. not_first s.0 ss i up (omega (arith, below)) (here ∙ ap (shard_of table) (same_bytes q r e) ∙ f))
 
   -- the union changes at that key alone
-  pub union-changed : (ss : Span) (i : ℕ) (d : ℕ × Map) (q : List ℕ) (o : Option Value) → SpanHasOwnKeys table ss → IsAscending (numbers ss) → i < length ss
-      → slice_index (numbers ss) i ≡ shard_of table q → union (slice_set ss i ((get_or ss i d).0, set (get_or ss i d).1 q o)) ≡ set (union ss) q o
+  pub union-changed : (ss : Span) (i : ℕ) (d : ℕ × Map) (q : List ℕ) (o : Option Value) → SpanHasOwnKeys table ss → IsAscending (numbers ss)
+      → i < length ss
+      → slice_index (numbers ss) i ≡ shard_of table q → union (slice_set ss i ((get_or ss i d).0, set (get_or ss i d).1 q o))
+      ≡ set (union ss) q o
   union-changed ss i d q o own up below here =
       same _ _ (λ r. get-union-changed ss i d q o own up below here r ∙ sym (get-set (union ss) q o r))
 
   -- what is kept of a span by it
-  pub span-changed : (groups : List ℕ) (ss : Span) (i : ℕ) (d : ℕ × Map) (q : List ℕ) (o : Option Value) → IsSpan table groups ss → i < length ss
+  pub span-changed : (groups : List ℕ) (ss : Span) (i : ℕ) (d : ℕ × Map) (q : List ℕ) (o : Option Value) → IsSpan table groups ss
+      → i < length ss
       → slice_index (numbers ss) i ≡ shard_of table q → IsSpan table groups (slice_set ss i ((get_or ss i d).0, set (get_or ss i d).1 q o))
   span-changed groups ss i d q o span below here = record {
     numbers = numbers-changed ss i d (set (get_or ss i d).1 q o) below ∙ span.numbers;
@@ -156,12 +166,14 @@ cleared zero ss = ss
 cleared (suc n) [] = []
 cleared (suc n) (s ∷ ss) = (s.0, empty) ∷ cleared n ss
 
-cleared-next : (n : ℕ) (ss : Span) (d : ℕ × Map) → n < length ss → slice_set (cleared n ss) n ((get_or (cleared n ss) n d).0, empty) ≡ cleared (suc n) ss
+cleared-next : (n : ℕ) (ss : Span) (d : ℕ × Map) → n < length ss → slice_set (cleared n ss) n ((get_or (cleared n ss) n d).0, empty)
+    ≡ cleared (suc n) ss
 cleared-next n [] d below = absurd (omega (arith, below))
 cleared-next zero (s ∷ ss) d below = refl
 cleared-next (suc n) (s ∷ ss) d below = ap (λ l. (s.0, empty) ∷ l) (cleared-next n ss d (omega (arith, below)))
 
-pub cleared_step : (items ss : Span) (n : ℕ) (s : ℕ × Map) (m : Map) → items ≡ cleared n ss → n < length ss → s ≡ get_or items n s → m ≡ empty
+pub cleared_step : (items ss : Span) (n : ℕ) (s : ℕ × Map) (m : Map) → items ≡ cleared n ss → n < length ss → s ≡ get_or items n s
+    → m ≡ empty
     → slice_set items n (s.0, m) ≡ cleared (n + 1) ss
 cleared_step items ss n s m is below at none =
     ap (λ l. slice_set l n (s.0, m)) is ∙ ap (λ x. slice_set (cleared n ss) n (s.0, x)) none
@@ -208,7 +220,8 @@ pub record Spot (table : Layout) (groups : List ℕ) (inside ss : Span) (i : ℕ
   pub there : slice_index (numbers ss) i ≡ shard_of table q
   pub at : s ≡ get_or inside i s
 
-module _ (table : Layout) (groups : List ℕ) (inside ss : Span) (i : ℕ) (s : ℕ × Map) (q : List ℕ) (spot : Spot table groups inside ss i s q) where
+module _ (table : Layout) (groups : List ℕ) (inside ss : Span) (i : ℕ) (s : ℕ × Map) (q : List ℕ)
+    (spot : Spot table groups inside ss i s q) where
   below' : i < length inside
   below' = subst (λ l. i < length l) (sym spot.shown) spot.below
 
@@ -223,7 +236,8 @@ module _ (table : Layout) (groups : List ℕ) (inside ss : Span) (i : ℕ) (s : 
       ap (λ l. get (union l) q) (sym spot.shown) ∙ get-union_here table inside i s q spot.span.own ascends below' there'
       ∙ ap (λ (p : ℕ × Map). get p.1 q) (sym spot.at)
 
-  changed_to : (m : Map) (o : Option Value) → m ≡ set s.1 q o → slice_set inside i (s.0, m) ≡ slice_set inside i ((get_or inside i s).0, set (get_or inside i s).1 q o)
+  changed_to : (m : Map) (o : Option Value) → m ≡ set s.1 q o
+      → slice_set inside i (s.0, m) ≡ slice_set inside i ((get_or inside i s).0, set (get_or inside i s).1 q o)
   changed_to m o is = ap (λ x. slice_set inside i (s.0, x)) is ∙ ap (λ (p : ℕ × Map). slice_set inside i (p.0, set p.1 q o)) spot.at
 
   span-to : (m : Map) (o : Option Value) → m ≡ set s.1 q o → IsSpan table groups (slice_set inside i (s.0, m))
@@ -231,9 +245,11 @@ module _ (table : Layout) (groups : List ℕ) (inside ss : Span) (i : ℕ) (s : 
 
   union-to : (m : Map) (o : Option Value) → m ≡ set s.1 q o → union (slice_set inside i (s.0, m)) ≡ set (union ss) q o
   union-to m o is =
-      ap union (changed_to m o is) ∙ union-changed table inside i s q o spot.span.own ascends below' there' ∙ ap (λ l. set (union l) q o) spot.shown
+      ap union (changed_to m o is) ∙ union-changed table inside i s q o spot.span.own ascends below' there'
+      ∙ ap (λ l. set (union l) q o) spot.shown
 
-module _ {table : Layout} {groups : List ℕ} {inside ss : Span} {i : ℕ} {s : ℕ × Map} {q : List ℕ} (spot : Spot table groups inside ss i s q) where
+module _ {table : Layout} {groups : List ℕ} {inside ss : Span} {i : ℕ} {s : ℕ × Map} {q : List ℕ}
+    (spot : Spot table groups inside ss i s q) where
   pub get_here : get (union ss) q ≡ get s.1 q
   get_here = here table groups inside ss i s q spot
 

@@ -1,5 +1,6 @@
 -- The laws of one group over all lists of packets.
-use Rattle.std.proofs.Common.{◌≡◌, ◌≢◌, ℕ, ◌≤◌, ◌==◌, ◌&&◌, true, false, cond, List, [], ◌∷◌, ◌++◌, inl, inr, Option, Some, None, IsSome, refl, sym, ap, ◌∙◌, subst, arith, eqb-true, eq-eqb, append-nil, append_assoc}
+use Rattle.std.proofs.Common.{◌≡◌, ◌≢◌, ℕ, ◌≤◌, ◌==◌, ◌&&◌, true, false, cond, List, [], ◌∷◌, ◌++◌, inl, inr, Option, Some, None, IsSome}
+use Rattle.std.proofs.Common.{refl, sym, ap, ◌∙◌, subst, arith, eqb-true, eq-eqb, append-nil, append_assoc}
 use Rattle.std.proofs.lemmas.Bool.{both_ways, cases_Bool, and_parts}
 use Rattle.std.specs.FinMap.{get}
 use Rattle.groups.specs.GroupSet.{has}
@@ -12,38 +13,50 @@ use Rattle.skeen_core.specs.declared.packet.Delivered.{Delivered}
 use Rattle.skeen_core.specs.Order.{In}
 use Rattle.skeen_core.specs.Stamp.{stamp_lt, final}
 use Rattle.skeen_core.specs.Request.{same_id}
-use Rattle.skeen_core.specs.Group.{GroupState, fresh, heard, or_zero, own_at, next_clock, with_start, with_proposal, final_of, lifted, MayGo, Ascending, Delivers, Delivering, has_id, without, tell, ReceivesStart, Receives, BodyMayCome, MayCome}
+use Rattle.skeen_core.specs.Group.{GroupState, fresh, heard, or_zero, own_at, next_clock, with_start, with_proposal, final_of, lifted}
+use Rattle.skeen_core.specs.Group.{MayGo, Ascending, Delivers, Delivering, has_id, without, tell, ReceivesStart, Receives, BodyMayCome}
+use Rattle.skeen_core.specs.Group.{MayCome}
 use Rattle.skeen_core.specs.Lawful.{Sound, Lawful}
 use Rattle.skeen_core.specs.Due.{place_by}
-use Rattle.skeen_core.specs.Runs.{Receipt, ReceivesInTurn, log, ClockNeverFalls, TellsAtMost, ClockIsAboveStamps, DeliveriesAscend, DeliveredIsForgotten, RepeatsChangeNothing, RuleDetermines}
+use Rattle.skeen_core.specs.Runs.{Receipt, ReceivesInTurn, log, ClockNeverFalls, TellsAtMost, ClockIsAboveStamps, DeliveriesAscend}
+use Rattle.skeen_core.specs.Runs.{DeliveredIsForgotten, RepeatsChangeNothing, RuleDetermines}
 use Rattle.skeen_core.proofs.Ids.{same_id-true, same_id-refl}
 use Rattle.skeen_core.proofs.Lists.{In-append}
 use Rattle.skeen_core.proofs.Stamps.{lt_irrefl, lt_asym, lt_le, le_lt, lt_from_clocks, final_above, final_within}
 use Rattle.skeen_core.proofs.Finite.{heard-with_start, heard-with_proposal, started-without, heard-without}
-use Rattle.skeen_core.proofs.Lawful.{None≢Some, same_final, lift_grows, lawful_fresh, SameBut, but_start, but_proposal, own_stays, sound_start, sound_proposal, lawful_without, without_none, same_proposal, same_lifted, id_there, still_heard, still_started}
+use Rattle.skeen_core.proofs.Lawful.{None≢Some, same_final, lift_grows, lawful_fresh, SameBut, but_start, but_proposal, own_stays}
+use Rattle.skeen_core.proofs.Lawful.{sound_start, sound_proposal, lawful_without, without_none, same_proposal, same_lifted, id_there}
+use Rattle.skeen_core.proofs.Lawful.{still_heard, still_started}
 
 -- ---- what a receipt is: nothing, or a sound state from which the group delivers
 
-pub data Step (me : ℕ) (old : GroupState) (id : RequestId) (body : Body) (sent : List Packet) (ds : List Delivered) (new : GroupState) : Type 0 where
+pub data Step (me : ℕ) (old : GroupState) (id : RequestId) (body : Body) (sent : List Packet) (ds : List Delivered) (new : GroupState)
+    : Type 0 where
   Again : sent ≡ [] → ds ≡ [] → new ≡ old → Step me old id body sent ds new
-  Begins : (floor : ℕ) (groups : List ℕ) → get old.started id ≡ None → Delivering me (lifted (with_start me old id floor groups) id) ds new → (body ≡ Start floor groups) → sent ≡ tell me id (next_clock old floor) groups → Step me old id body sent ds new
-  Hears : (from n : ℕ) → Delivering me (lifted (with_proposal old id from n) id) ds new → (body ≡ Proposal from n) → sent ≡ [] → Step me old id body sent ds new
+  Begins : (floor : ℕ) (groups : List ℕ) → get old.started id ≡ None → Delivering me (lifted (with_start me old id floor groups) id) ds new
+      → (body ≡ Start floor groups) → sent ≡ tell me id (next_clock old floor) groups → Step me old id body sent ds new
+  Hears : (from n : ℕ) → Delivering me (lifted (with_proposal old id from n) id) ds new → (body ≡ Proposal from n) → sent ≡ []
+      → Step me old id body sent ds new
 
-step_start : (me : ℕ) (old : GroupState) (id : RequestId) (floor : ℕ) (groups : List ℕ) (sent : List Packet) (ds : List Delivered) (new : GroupState) (o : Option (List ℕ)) → get old.started id ≡ o →
+step_start : (me : ℕ) (old : GroupState) (id : RequestId) (floor : ℕ) (groups : List ℕ) (sent : List Packet) (ds : List Delivered)
+    (new : GroupState) (o : Option (List ℕ)) → get old.started id ≡ o →
     ReceivesStart o me old id floor groups sent ds new → Step me old id (Start floor groups) sent ds new
 step_start me old id floor groups sent ds new (Some gs) e r = Again r.0 r.1 r.2
 step_start me old id floor groups sent ds new None e r = Begins floor groups e r.1 refl r.0
 
-step : (me : ℕ) (old : GroupState) (id : RequestId) (body : Body) (sent : List Packet) (ds : List Delivered) (new : GroupState) → Receives me old id body sent ds new → Step me old id body sent ds new
+step : (me : ℕ) (old : GroupState) (id : RequestId) (body : Body) (sent : List Packet) (ds : List Delivered) (new : GroupState)
+    → Receives me old id body sent ds new → Step me old id body sent ds new
 step me old id (Start floor groups) sent ds new r = step_start me old id floor groups sent ds new (get old.started id) refl r
 step me old id (Proposal from n) sent ds new r = Hears from n r.1 refl r.0
 
-start_of : (me : ℕ) (old : GroupState) (id : RequestId) (body : Body) (floor : ℕ) (groups : List ℕ) → body ≡ Start floor groups → BodyMayCome me old id body → BodyMayCome me old id (Start floor groups)
+start_of : (me : ℕ) (old : GroupState) (id : RequestId) (body : Body) (floor : ℕ) (groups : List ℕ) → body ≡ Start floor groups
+    → BodyMayCome me old id body → BodyMayCome me old id (Start floor groups)
 start_of me old id body floor groups e m = subst (λ b. BodyMayCome me old id b) e m
 
 -- ---- lawful after each packet
 
-pub lawful_step : (me : ℕ) (old : GroupState) (p : Packet) (sent : List Packet) (ds : List Delivered) (new : GroupState) → Lawful me old → MayCome (record { me = me; state = old }) p →
+pub lawful_step : (me : ℕ) (old : GroupState) (p : Packet) (sent : List Packet) (ds : List Delivered) (new : GroupState) → Lawful me old
+    → MayCome (record { me = me; state = old }) p →
     Receives me old p.id p.body sent ds new → Lawful me new
 lawful_step me old p sent ds new lawful may r = by_step (step me old p.id p.body sent ds new r)
   where
@@ -51,25 +64,30 @@ lawful_step me old p sent ds new lawful may r = by_step (step me old p.id p.body
     by_step (Again s d same) = subst (λ g. Lawful me g) (sym same) lawful
     by_step (Begins floor groups absent delivering is told) =
         let member = (start_of me old p.id p.body floor groups is may.body).0 in
-        subst (λ g. Lawful me g) (sym delivering.after) (lawful_without me _ ds (sound_start me old p.id floor groups lawful.sound member) delivering.delivers)
+        subst (λ g. Lawful me g) (sym delivering.after)
+        (lawful_without me _ ds (sound_start me old p.id floor groups lawful.sound member) delivering.delivers)
     by_step (Hears from n delivering is told) =
         let body = subst (λ b. BodyMayCome me old p.id b) is may.body in
-        subst (λ g. Lawful me g) (sym delivering.after) (lawful_without me _ ds (sound_proposal me old p.id from n lawful.sound body.0 body.2) delivering.delivers)
+        subst (λ g. Lawful me g) (sym delivering.after)
+        (lawful_without me _ ds (sound_proposal me old p.id from n lawful.sound body.0 body.2) delivering.delivers)
 
 pub lawful_in_turn : (me : ℕ) (old new : GroupState) (rs : List Receipt) → Lawful me old → ReceivesInTurn me old rs new → Lawful me new
 lawful_in_turn me old new [] lawful receives = subst (λ g. Lawful me g) (sym receives) lawful
-lawful_in_turn me old new (r ∷ rs) lawful receives = lawful_in_turn me receives.0 new rs (lawful_step me old r.packet r.sent r.delivered receives.0 lawful receives.1 receives.2) receives.3
+lawful_in_turn me old new (r ∷ rs) lawful receives =
+    lawful_in_turn me receives.0 new rs (lawful_step me old r.packet r.sent r.delivered receives.0 lawful receives.1 receives.2) receives.3
 
 -- ---- the clock
 
-clock_step : (me : ℕ) (old : GroupState) (id : RequestId) (body : Body) (sent : List Packet) (ds : List Delivered) (new : GroupState) → Receives me old id body sent ds new → old.clock ≤ new.clock
+clock_step : (me : ℕ) (old : GroupState) (id : RequestId) (body : Body) (sent : List Packet) (ds : List Delivered) (new : GroupState)
+    → Receives me old id body sent ds new → old.clock ≤ new.clock
 clock_step me old id body sent ds new r = by_step (step me old id body sent ds new r)
   where
     by_step : Step me old id body sent ds new → old.clock ≤ new.clock
     by_step (Again s d same) = let clocks = ap (λ (g : GroupState). g.clock) same in omega arith
     by_step (Begins floor groups absent delivering is told) =
         let clocks = ap (λ (g : GroupState). g.clock) delivering.after in
-        let lifts = lift_grows (next_clock old floor) (final_of (with_start me old id floor groups) id (get (with_start me old id floor groups).started id)) in
+        let lifts = lift_grows (next_clock old floor)
+        (final_of (with_start me old id floor groups) id (get (with_start me old id floor groups).started id)) in
         omega arith
     by_step (Hears from n delivering is told) =
         let clocks = ap (λ (g : GroupState). g.clock) delivering.after in
@@ -89,29 +107,36 @@ tells_more c d (Proposal from n) t more = omega arith
 
 tell_at : (me : ℕ) (id : RequestId) (n : ℕ) (groups : List ℕ) (p : Packet) → In p (tell me id n groups) → TellsAtMost n p.body
 tell_at me id n [] p there = absurd there
-tell_at me id n (g ∷ gs) p there = elim (g == me) as (λ b. In p (cond b (tell me id n gs) (record { to = g; id = id; body = Proposal me n } ∷ tell me id n gs)) → TellsAtMost n p.body) [
-  | true ↦ λ rest. tell_at me id n gs p rest
-  | false ↦ elim [
-    | inl same ↦ subst (λ (q : Packet). TellsAtMost n q.body) (sym same) (omega arith)
-    | inr rest ↦ tell_at me id n gs p rest
-  ]
-] there
+tell_at me id n (g ∷ gs) p there =
+    elim (g == me) as (λ b. In p (cond b (tell me id n gs) (record { to = g; id = id; body = Proposal me n } ∷ tell me id n gs))
+    → TellsAtMost n p.body) [
+      | true ↦ λ rest. tell_at me id n gs p rest
+      | false ↦ elim [
+        | inl same ↦ subst (λ (q : Packet). TellsAtMost n q.body) (sym same) (omega arith)
+        | inr rest ↦ tell_at me id n gs p rest
+      ]
+    ] there
 
-told_step : (me : ℕ) (old : GroupState) (id : RequestId) (body : Body) (sent : List Packet) (ds : List Delivered) (new : GroupState) → Receives me old id body sent ds new → (p : Packet) → In p sent → TellsAtMost new.clock p.body
+told_step : (me : ℕ) (old : GroupState) (id : RequestId) (body : Body) (sent : List Packet) (ds : List Delivered) (new : GroupState)
+    → Receives me old id body sent ds new → (p : Packet) → In p sent → TellsAtMost new.clock p.body
 told_step me old id body sent ds new r p there = by_step (step me old id body sent ds new r)
   where
     by_step : Step me old id body sent ds new → TellsAtMost new.clock p.body
     by_step (Again none d same) = absurd (subst (λ l. In p l) none there)
     by_step (Begins floor groups absent delivering is told) =
         let clocks = ap (λ (g : GroupState). g.clock) delivering.after in
-        let lifts = lift_grows (next_clock old floor) (final_of (with_start me old id floor groups) id (get (with_start me old id floor groups).started id)) in
-        tells_more (next_clock old floor) new.clock p.body (tell_at me id (next_clock old floor) groups p (subst (λ l. In p l) told there)) (omega arith)
+        let lifts = lift_grows (next_clock old floor)
+        (final_of (with_start me old id floor groups) id (get (with_start me old id floor groups).started id)) in
+        tells_more (next_clock old floor) new.clock p.body (tell_at me id (next_clock old floor) groups p (subst (λ l. In p l) told there))
+        (omega arith)
     by_step (Hears from n delivering is none) = absurd (subst (λ l. In p l) none there)
 
-told_in_turn : (me : ℕ) (old new : GroupState) (rs : List Receipt) → ReceivesInTurn me old rs new → (r : Receipt) (p : Packet) → In r rs → In p r.sent → TellsAtMost new.clock p.body
+told_in_turn : (me : ℕ) (old new : GroupState) (rs : List Receipt) → ReceivesInTurn me old rs new → (r : Receipt) (p : Packet) → In r rs
+    → In p r.sent → TellsAtMost new.clock p.body
 told_in_turn me old new [] receives r p there here = absurd there
 told_in_turn me old new (x ∷ xs) receives r p (inl same) here =
-    tells_more _ new.clock p.body (told_step me old x.packet.id x.packet.body x.sent x.delivered receives.0 receives.2 p (subst (λ (y : Receipt). In p y.sent) same here)) (clock_never_falls me receives.0 new xs receives.3)
+    tells_more _ new.clock p.body (told_step me old x.packet.id x.packet.body x.sent x.delivered receives.0 receives.2 p
+    (subst (λ (y : Receipt). In p y.sent) same here)) (clock_never_falls me receives.0 new xs receives.3)
 told_in_turn me old new (x ∷ xs) receives r p (inr there) here = told_in_turn me receives.0 new xs receives.3 r p there here
 
 -- ---- what is delivered is ahead of what is kept
@@ -122,10 +147,12 @@ stands_at me grp i gs = place_by (final (heard grp i) gs) (own_at me grp i)
 
 pub record Ahead (me : ℕ) (grp : GroupState) (ds : List Delivered) : Type 0 where
   pub clock : (d : Delivered) → In d ds → d.stamp.clock ≤ grp.clock
-  pub below : (d : Delivered) (i : RequestId) (gs : List ℕ) → In d ds → get grp.started i ≡ Some gs → stamp_lt d.stamp (stands_at me grp i gs) ≡ true
+  pub below : (d : Delivered) (i : RequestId) (gs : List ℕ) → In d ds → get grp.started i ≡ Some gs
+      → stamp_lt d.stamp (stands_at me grp i gs) ≡ true
 
 -- a stamp below the own proposal of a started request is below its place
-below_place : (me : ℕ) (grp : GroupState) (i : RequestId) (gs : List ℕ) (t : Stamp) → Sound me grp → get grp.started i ≡ Some gs → stamp_lt t (own_at me grp i) ≡ true → stamp_lt t (stands_at me grp i gs) ≡ true
+below_place : (me : ℕ) (grp : GroupState) (i : RequestId) (gs : List ℕ) (t : Stamp) → Sound me grp → get grp.started i ≡ Some gs
+    → stamp_lt t (own_at me grp i) ≡ true → stamp_lt t (stands_at me grp i gs) ≡ true
 below_place me grp i gs t sound there less = by_final (final (heard grp i) gs) refl
   where
     by_final : (o : Option Stamp) → final (heard grp i) gs ≡ o → stamp_lt t (place_by o (own_at me grp i)) ≡ true
@@ -137,67 +164,88 @@ below_place me grp i gs t sound there less = by_final (final (heard grp i) gs) r
 
 -- a state that has no less of each started request, and starts none below the clock
 ahead_same : (me : ℕ) (old new : GroupState) (id : RequestId) (ds : List Delivered) → Ahead me old ds → SameBut id old new →
-    ((d : Delivered) (gs : List ℕ) → In d ds → get new.started id ≡ Some gs → stamp_lt d.stamp (stands_at me new id gs) ≡ true) → (c : ℕ) → new.clock ≤ c → Ahead me (record { clock = c; started = new.started; proposals = new.proposals }) ds
+    ((d : Delivered) (gs : List ℕ) → In d ds → get new.started id ≡ Some gs → stamp_lt d.stamp (stands_at me new id gs) ≡ true) → (c : ℕ)
+    → new.clock ≤ c → Ahead me (record { clock = c; started = new.started; proposals = new.proposals }) ds
 ahead_same me old new id ds ahead but own c more = record {
   clock = λ d there. let before = ahead.clock d there in let grown = but.clock in omega arith;
   below = λ d i gs there starts. elim (cases_Bool (same_id i id)) [
-    | inl e ↦ subst (λ j. stamp_lt d.stamp (stands_at me new j gs) ≡ true) (sym (same_id-true i id e)) (own d gs there (ap (λ j. get new.started j) (sym (same_id-true i id e)) ∙ starts))
+    | inl e ↦ subst (λ j. stamp_lt d.stamp (stands_at me new j gs) ≡ true) (sym (same_id-true i id e))
+        (own d gs there (ap (λ j. get new.started j) (sym (same_id-true i id e)) ∙ starts))
     | inr e ↦
         let before = ahead.below d i gs there (sym (but.started i e) ∙ starts) in
         ap (λ o. stamp_lt d.stamp (place_by o (own_at me new i))) (same_final new old i gs (λ g. but.heard i g e))
-        ∙ ap (λ o. stamp_lt d.stamp (place_by (final (heard old i) gs) (record { clock = or_zero o; group = me }))) (but.heard i me e) ∙ before
+        ∙ ap (λ o. stamp_lt d.stamp (place_by (final (heard old i) gs) (record { clock = or_zero o; group = me }))) (but.heard i me e)
+        ∙ before
   ];
 }
 
 -- a request that begins stands above all that was delivered
-pub ahead_start : (me : ℕ) (old : GroupState) (id : RequestId) (floor : ℕ) (groups : List ℕ) (ds : List Delivered) → Sound me old → has groups me ≡ true → Ahead me old ds → Ahead me (lifted (with_start me old id floor groups) id) ds
+pub ahead_start : (me : ℕ) (old : GroupState) (id : RequestId) (floor : ℕ) (groups : List ℕ) (ds : List Delivered) → Sound me old
+    → has groups me ≡ true → Ahead me old ds → Ahead me (lifted (with_start me old id floor groups) id) ds
 ahead_start me old id floor groups ds sound member ahead =
-    ahead_same me old (with_start me old id floor groups) id ds ahead (but_start me old id floor groups) own _ (lift_grows (next_clock old floor) (final_of (with_start me old id floor groups) id (get (with_start me old id floor groups).started id)))
+    ahead_same me old (with_start me old id floor groups) id ds ahead (but_start me old id floor groups) own _
+    (lift_grows (next_clock old floor)
+    (final_of (with_start me old id floor groups) id (get (with_start me old id floor groups).started id)))
   where
-    own : (d : Delivered) (gs : List ℕ) → In d ds → get (with_start me old id floor groups).started id ≡ Some gs → stamp_lt d.stamp (stands_at me (with_start me old id floor groups) id gs) ≡ true
+    own : (d : Delivered) (gs : List ℕ) → In d ds → get (with_start me old id floor groups).started id ≡ Some gs
+        → stamp_lt d.stamp (stands_at me (with_start me old id floor groups) id gs) ≡ true
     own d gs there starts =
         let heard_own : heard (with_start me old id floor groups) id me ≡ Some (next_clock old floor) =
-        heard-with_start me old id floor groups id me ∙ ap (λ b. cond (b && me == me) (Some (next_clock old floor)) (heard old id me)) (same_id-refl id) ∙ ap (λ b. cond b (Some (next_clock old floor)) (heard old id me)) (eq-eqb me me refl) in
+        heard-with_start me old id floor groups id me
+        ∙ ap (λ b. cond (b && me == me) (Some (next_clock old floor)) (heard old id me)) (same_id-refl id)
+        ∙ ap (λ b. cond b (Some (next_clock old floor)) (heard old id me)) (eq-eqb me me refl) in
         let low = ahead.clock d there in
-        let less : stamp_lt d.stamp (record { clock = next_clock old floor; group = me }) ≡ true = lt_from_clocks d.stamp (record { clock = next_clock old floor; group = me }) (omega arith) in
-        below_place me (lifted (with_start me old id floor groups) id) id gs d.stamp (sound_start me old id floor groups sound member) starts
+        let less : stamp_lt d.stamp (record { clock = next_clock old floor; group = me }) ≡ true =
+        lt_from_clocks d.stamp (record { clock = next_clock old floor; group = me }) (omega arith) in
+        below_place me (lifted (with_start me old id floor groups) id) id gs d.stamp
+        (sound_start me old id floor groups sound member) starts
         (ap (λ o. stamp_lt d.stamp (record { clock = or_zero o; group = me })) heard_own ∙ less)
 
 -- what hears more stands no lower
-pub ahead_proposal : (me : ℕ) (old : GroupState) (id : RequestId) (from n : ℕ) (ds : List Delivered) → Sound me old → from ≢ me → ((i : RequestId) → heard old i from ≡ Some n → i ≡ id) → ((m : ℕ) → heard old id from ≡ Some m → m ≡ n) → Ahead me old ds →
+pub ahead_proposal : (me : ℕ) (old : GroupState) (id : RequestId) (from n : ℕ) (ds : List Delivered) → Sound me old → from ≢ me
+    → ((i : RequestId) → heard old i from ≡ Some n → i ≡ id) → ((m : ℕ) → heard old id from ≡ Some m → m ≡ n) → Ahead me old ds →
     Ahead me (lifted (with_proposal old id from n) id) ds
 ahead_proposal me old id from n ds sound other single agrees ahead =
-    ahead_same me old (with_proposal old id from n) id ds ahead (but_proposal old id from n) own _ (lift_grows old.clock (final_of (with_proposal old id from n) id (get old.started id)))
+    ahead_same me old (with_proposal old id from n) id ds ahead (but_proposal old id from n) own _
+    (lift_grows old.clock (final_of (with_proposal old id from n) id (get old.started id)))
   where
     more : (g m : ℕ) → heard old id g ≡ Some m → heard (with_proposal old id from n) id g ≡ Some m
     more g m e = heard-with_proposal old id from n id g ∙ elim (cases_Bool (same_id id id && g == from)) [
-      | inl p ↦ ap (λ b. cond b (Some n) (heard old id g)) p ∙ ap Some (sym (agrees m (ap (λ h. heard old id h) (sym (eqb-true g from (and_parts (same_id id id) (g == from) p).1)) ∙ e)))
+      | inl p ↦ ap (λ b. cond b (Some n) (heard old id g)) p
+          ∙ ap Some (sym (agrees m (ap (λ h. heard old id h) (sym (eqb-true g from (and_parts (same_id id id) (g == from) p).1)) ∙ e)))
       | inr p ↦ ap (λ b. cond b (Some n) (heard old id g)) p ∙ e
     ]
 
-    own : (d : Delivered) (gs : List ℕ) → In d ds → get old.started id ≡ Some gs → stamp_lt d.stamp (stands_at me (with_proposal old id from n) id gs) ≡ true
+    own : (d : Delivered) (gs : List ℕ) → In d ds → get old.started id ≡ Some gs
+        → stamp_lt d.stamp (stands_at me (with_proposal old id from n) id gs) ≡ true
     own d gs there starts = by_old (final (heard old id) gs) refl (ahead.below d id gs there starts)
       where
-        by_old : (o : Option Stamp) → final (heard old id) gs ≡ o → stamp_lt d.stamp (place_by o (own_at me old id)) ≡ true → stamp_lt d.stamp (stands_at me (with_proposal old id from n) id gs) ≡ true
-        by_old (Some s) e less = ap (λ o. stamp_lt d.stamp (place_by o (own_at me (with_proposal old id from n) id))) (final_within (heard old id) (heard (with_proposal old id from n) id) gs s more e) ∙ less
-        by_old None e less = below_place me (lifted (with_proposal old id from n) id) id gs d.stamp (sound_proposal me old id from n sound other single) starts
+        by_old : (o : Option Stamp) → final (heard old id) gs ≡ o → stamp_lt d.stamp (place_by o (own_at me old id)) ≡ true
+            → stamp_lt d.stamp (stands_at me (with_proposal old id from n) id gs) ≡ true
+        by_old (Some s) e less = ap (λ o. stamp_lt d.stamp (place_by o (own_at me (with_proposal old id from n) id)))
+            (final_within (heard old id) (heard (with_proposal old id from n) id) gs s more e) ∙ less
+        by_old None e less = below_place me (lifted (with_proposal old id from n) id) id gs d.stamp
+            (sound_proposal me old id from n sound other single) starts
             (ap (λ o. stamp_lt d.stamp (record { clock = or_zero o; group = me })) (own_stays me old id from n other id) ∙ less)
 
 -- ---- a delivery
 
-kept_place : (me : ℕ) (grp : GroupState) (ds : List Delivered) (i : RequestId) (gs : List ℕ) → has_id ds i ≡ false → stands_at me (without grp ds) i gs ≡ stands_at me grp i gs
+kept_place : (me : ℕ) (grp : GroupState) (ds : List Delivered) (i : RequestId) (gs : List ℕ) → has_id ds i ≡ false
+    → stands_at me (without grp ds) i gs ≡ stands_at me grp i gs
 kept_place me grp ds i gs e =
     ap (λ o. place_by o (own_at me (without grp ds) i)) (same_final (without grp ds) grp i gs (still_heard grp ds i e))
     ∙ ap (λ o. place_by (final (heard grp i) gs) (record { clock = or_zero o; group = me })) (still_heard grp ds i e me)
 
-left_started : (grp : GroupState) (ds : List Delivered) (i : RequestId) (gs : List ℕ) → get (without grp ds).started i ≡ Some gs → (has_id ds i ≡ false) × (get grp.started i ≡ Some gs)
+left_started : (grp : GroupState) (ds : List Delivered) (i : RequestId) (gs : List ℕ) → get (without grp ds).started i ≡ Some gs
+    → (has_id ds i ≡ false) × (get grp.started i ≡ Some gs)
 left_started grp ds i gs e = elim (cases_Bool (has_id ds i)) [
   | inl p ↦ absurd (None≢Some gs (ap (λ b. cond b None (get grp.started i)) (sym p) ∙ sym (started-without grp ds i) ∙ e))
   | inr p ↦ (p, sym (still_started grp ds i p) ∙ e)
 ]
 
 -- what stays stands above what goes
-above_delivered : (me : ℕ) (grp : GroupState) (ds : List Delivered) → Delivers me grp ds → (d : Delivered) (i : RequestId) (gs : List ℕ) → In d ds → has_id ds i ≡ false → get grp.started i ≡ Some gs → stamp_lt d.stamp (stands_at me grp i gs) ≡ true
+above_delivered : (me : ℕ) (grp : GroupState) (ds : List Delivered) → Delivers me grp ds → (d : Delivered) (i : RequestId) (gs : List ℕ)
+    → In d ds → has_id ds i ≡ false → get grp.started i ≡ Some gs → stamp_lt d.stamp (stands_at me grp i gs) ≡ true
 above_delivered me grp ds delivers d i gs there stays starts = by_final (final (heard grp i) gs) refl
   where
     by_final : (o : Option Stamp) → final (heard grp i) gs ≡ o → stamp_lt d.stamp (place_by o (own_at me grp i)) ≡ true
@@ -206,11 +254,18 @@ above_delivered me grp ds delivers d i gs there stays starts = by_final (final (
       | inl less ↦ less
       | inr not_less ↦
           let it : Delivered = record { id = i; stamp = s; groups = gs } in
-          let may : MayGo me grp (record { id = i; stamp = s; groups = gs }) = record { started = starts; stamp = e; below = λ u hs starts' unsettled. le_lt s d.stamp (own_at me grp u) not_less ((delivers.only d there).below u hs starts' unsettled) } in
+          let may : MayGo me grp (record { id = i; stamp = s; groups = gs }) =
+          record {
+            started = starts;
+            stamp = e;
+            below = λ u hs starts' unsettled. le_lt s d.stamp (own_at me grp u) not_less
+                ((delivers.only d there).below u hs starts' unsettled);
+          } in
           absurd (both_ways _ stays (id_there ds (record { id = i; stamp = s; groups = gs }) (delivers.all _ may)))
     ]
 
-pub ahead_delivers : (me : ℕ) (grp : GroupState) (old ds : List Delivered) → Sound me grp → Ahead me grp old → Delivers me grp ds → Ahead me (without grp ds) (old ++ ds)
+pub ahead_delivers : (me : ℕ) (grp : GroupState) (old ds : List Delivered) → Sound me grp → Ahead me grp old → Delivers me grp ds
+    → Ahead me (without grp ds) (old ++ ds)
 ahead_delivers me grp old ds sound ahead delivers = record {
   clock = λ d there. elim (In-append d old ds there) [
     | inl before ↦ ahead.clock d before
@@ -224,7 +279,8 @@ ahead_delivers me grp old ds sound ahead delivers = record {
       ];
 }
 
-pub ascending_append : (xs ys : List Delivered) → Ascending xs → Ascending ys → ((x y : Delivered) → In x xs → In y ys → stamp_lt x.stamp y.stamp ≡ true) → Ascending (xs ++ ys)
+pub ascending_append : (xs ys : List Delivered) → Ascending xs → Ascending ys
+    → ((x y : Delivered) → In x xs → In y ys → stamp_lt x.stamp y.stamp ≡ true) → Ascending (xs ++ ys)
 ascending_append [] ys up up' less = up'
 ascending_append (x ∷ xs) ys up up' less = (
   λ e there. elim (In-append e xs ys there) [ inl before ↦ up.0 e before | inr after ↦ less x e (inl refl) after ],
@@ -232,7 +288,8 @@ ascending_append (x ∷ xs) ys up up' less = (
 )
 
 -- what goes now stands above what went before
-pub below_now : (me : ℕ) (grp : GroupState) (old ds : List Delivered) → Ahead me grp old → Delivers me grp ds → (x y : Delivered) → In x old → In y ds → stamp_lt x.stamp y.stamp ≡ true
+pub below_now : (me : ℕ) (grp : GroupState) (old ds : List Delivered) → Ahead me grp old → Delivers me grp ds → (x y : Delivered) → In x old
+    → In y ds → stamp_lt x.stamp y.stamp ≡ true
 below_now me grp old ds ahead delivers x y there here =
     let may = delivers.only y here in
     ap (λ o. stamp_lt x.stamp (place_by o (own_at me grp y.id))) (sym may.stamp) ∙ ahead.below x y.id y.groups there may.started
@@ -244,7 +301,8 @@ pub record Going (me : ℕ) (grp : GroupState) (ds : List Delivered) : Type 0 wh
   pub ahead : Ahead me grp ds
   pub ascending : Ascending ds
 
-going_step : (me : ℕ) (old : GroupState) (p : Packet) (sent : List Packet) (before ds : List Delivered) (new : GroupState) → Going me old before → MayCome (record { me = me; state = old }) p →
+going_step : (me : ℕ) (old : GroupState) (p : Packet) (sent : List Packet) (before ds : List Delivered) (new : GroupState)
+    → Going me old before → MayCome (record { me = me; state = old }) p →
     Receives me old p.id p.body sent ds new → Going me new (before ++ ds)
 going_step me old p sent before ds new going may r = record {
   lawful = lawful_step me old p sent ds new going.lawful may r;
@@ -252,7 +310,8 @@ going_step me old p sent before ds new going may r = record {
   ascending = (by_step (step me old p.id p.body sent ds new r)).1;
 }
   where
-    from_mid : (mid : GroupState) → Sound me mid → Ahead me mid before → Delivering me mid ds new → Ahead me new (before ++ ds) × Ascending (before ++ ds)
+    from_mid : (mid : GroupState) → Sound me mid → Ahead me mid before → Delivering me mid ds new → Ahead me new (before ++ ds)
+        × Ascending (before ++ ds)
     from_mid mid sound ahead delivering = (
       subst (λ g. Ahead me g (before ++ ds)) (sym delivering.after) (ahead_delivers me mid before ds sound ahead delivering.delivers),
       ascending_append before ds going.ascending delivering.delivers.ascending (below_now me mid before ds ahead delivering.delivers),
@@ -260,20 +319,27 @@ going_step me old p sent before ds new going may r = record {
 
     by_step : Step me old p.id p.body sent ds new → Ahead me new (before ++ ds) × Ascending (before ++ ds)
     by_step (Again s d same) =
-        let nothing : before ++ ds ≡ before = ap (λ l. before ++ l) d ∙ append-nil before in
-        (subst (λ l. Ahead me new l) (sym nothing) (subst (λ g. Ahead me g before) (sym same) going.ahead), subst (λ l. Ascending l) (sym nothing) going.ascending)
+        let nothing : before ++ ds ≡ before = ap (λ l. before ++ l) d ∙ append-nil before in (
+          subst (λ l. Ahead me new l) (sym nothing) (subst (λ g. Ahead me g before) (sym same) going.ahead),
+          subst (λ l. Ascending l) (sym nothing) going.ascending,
+        )
     by_step (Begins floor groups absent delivering is told) =
         let member = (start_of me old p.id p.body floor groups is may.body).0 in
-        from_mid _ (sound_start me old p.id floor groups going.lawful.sound member) (ahead_start me old p.id floor groups before going.lawful.sound member going.ahead) delivering
+        from_mid _ (sound_start me old p.id floor groups going.lawful.sound member)
+        (ahead_start me old p.id floor groups before going.lawful.sound member going.ahead) delivering
     by_step (Hears from n delivering is told) =
         let body = subst (λ b. BodyMayCome me old p.id b) is may.body in
-        from_mid _ (sound_proposal me old p.id from n going.lawful.sound body.0 body.2) (ahead_proposal me old p.id from n before going.lawful.sound body.0 body.2 body.3 going.ahead) delivering
+        from_mid _ (sound_proposal me old p.id from n going.lawful.sound body.0 body.2)
+        (ahead_proposal me old p.id from n before going.lawful.sound body.0 body.2 body.3 going.ahead) delivering
 
-going : (me : ℕ) (old new : GroupState) (before : List Delivered) (rs : List Receipt) → Going me old before → ReceivesInTurn me old rs new → Going me new (before ++ log rs)
-going me old new before [] go receives = subst (λ l. Going me new l) (sym (append-nil before)) (subst (λ g. Going me g before) (sym receives) go)
+going : (me : ℕ) (old new : GroupState) (before : List Delivered) (rs : List Receipt) → Going me old before → ReceivesInTurn me old rs new
+    → Going me new (before ++ log rs)
+going me old new before [] go receives =
+    subst (λ l. Going me new l) (sym (append-nil before)) (subst (λ g. Going me g before) (sym receives) go)
 going me old new before (r ∷ rs) go receives =
     subst (λ l. Going me new l) (append_assoc before r.delivered (log rs))
-    (going me receives.0 new (before ++ r.delivered) rs (going_step me old r.packet r.sent before r.delivered receives.0 go receives.1 receives.2) receives.3)
+    (going me receives.0 new (before ++ r.delivered) rs
+    (going_step me old r.packet r.sent before r.delivered receives.0 go receives.1 receives.2) receives.3)
 
 pub going_fresh : (me : ℕ) → Going me fresh []
 going_fresh me = record {
@@ -303,8 +369,10 @@ delivered_is_forgotten me old new id body sent ds r d there = by_step (step me o
     gone : (mid : GroupState) → Delivering me mid ds new → (get new.started d.id ≡ None) × ((g : ℕ) → heard new d.id g ≡ None)
     gone mid delivering =
         let named = id_there ds d there in (
-          ap (λ (g : GroupState). get g.started d.id) delivering.after ∙ started-without mid ds d.id ∙ ap (λ b. cond b None (get mid.started d.id)) named,
-          λ h. ap (λ (g : GroupState). heard g d.id h) delivering.after ∙ heard-without mid ds d.id h ∙ ap (λ b. cond b None (heard mid d.id h)) named,
+          ap (λ (g : GroupState). get g.started d.id) delivering.after ∙ started-without mid ds d.id
+              ∙ ap (λ b. cond b None (get mid.started d.id)) named,
+          λ h. ap (λ (g : GroupState). heard g d.id h) delivering.after ∙ heard-without mid ds d.id h
+              ∙ ap (λ b. cond b None (heard mid d.id h)) named,
         )
 
     by_step : Step me old id body sent ds new → (get new.started d.id ≡ None) × ((g : ℕ) → heard new d.id g ≡ None)
@@ -319,42 +387,54 @@ empty_of (d ∷ ds) none = absurd (none d (inl refl))
 pub repeats_change_nothing : RepeatsChangeNothing
 repeats_change_nothing me rs old new id (Start floor groups) sent ds receives again r = by_start (get old.started id) refl again r
   where
-    by_start : (o : Option (List ℕ)) → get old.started id ≡ o → IsSome o → ReceivesStart o me old id floor groups sent ds new → (sent ≡ []) × (ds ≡ []) × (new ≡ old)
+    by_start : (o : Option (List ℕ)) → get old.started id ≡ o → IsSome o → ReceivesStart o me old id floor groups sent ds new
+        → (sent ≡ []) × (ds ≡ []) × (new ≡ old)
     by_start (Some gs) e s r = r
     by_start None e s r = absurd (both_ways _ refl s)
 repeats_change_nothing me rs old new id (Proposal from n) sent ds receives again r =
     let lawful = lawful_in_turn me fresh old rs (lawful_fresh me) receives in
-    let same : lifted (with_proposal old id from n) id ≡ old = ap (λ g. lifted g id) (same_proposal old id from n again) ∙ same_lifted me old id lawful.sound in
+    let same : lifted (with_proposal old id from n) id ≡ old = ap (λ g. lifted g id) (same_proposal old id from n again)
+    ∙ same_lifted me old id lawful.sound in
     let there : Delivering me old ds new = subst (λ g. Delivering me g ds new) same r.1 in
     let none : ds ≡ [] = empty_of ds (λ d here. lawful.stuck d (there.delivers.only d here)) in
     (r.0, none, there.after ∙ ap (without old) none ∙ without_none old)
 
 -- ---- the rule leaves no choice
 
-pub same_ascending : (xs ys : List Delivered) → Ascending xs → Ascending ys → ((d : Delivered) → In d xs → In d ys) → ((d : Delivered) → In d ys → In d xs) → xs ≡ ys
+pub same_ascending : (xs ys : List Delivered) → Ascending xs → Ascending ys → ((d : Delivered) → In d xs → In d ys)
+    → ((d : Delivered) → In d ys → In d xs) → xs ≡ ys
 same_ascending [] [] up up' to from = refl
 same_ascending [] (y ∷ ys) up up' to from = absurd (from y (inl refl))
 same_ascending (x ∷ xs) [] up up' to from = absurd (to x (inl refl))
 same_ascending (x ∷ xs) (y ∷ ys) up up' to from =
     let e = firsts (to x (inl refl)) (from y (inl refl)) in
     ap (λ z. z ∷ xs) e ∙ ap (λ l. y ∷ l) (same_ascending xs ys up.1 up'.1
-    (λ d there. elim (to d (inr there)) [ inl same ↦ absurd (both_ways _ (lt_irrefl x.stamp) (ap (λ z. stamp_lt x.stamp z.stamp) (e ∙ sym same) ∙ up.0 d there)) | inr rest ↦ rest ])
-    (λ d there. elim (from d (inr there)) [ inl same ↦ absurd (both_ways _ (lt_irrefl y.stamp) (ap (λ z. stamp_lt y.stamp z.stamp) (sym e ∙ sym same) ∙ up'.0 d there)) | inr rest ↦ rest ]))
+    (λ d there. elim (to d (inr there)) [
+      | inl same ↦ absurd (both_ways _ (lt_irrefl x.stamp) (ap (λ z. stamp_lt x.stamp z.stamp) (e ∙ sym same) ∙ up.0 d there))
+      | inr rest ↦ rest
+    ])
+    (λ d there. elim (from d (inr there)) [
+      | inl same ↦ absurd (both_ways _ (lt_irrefl y.stamp) (ap (λ z. stamp_lt y.stamp z.stamp) (sym e ∙ sym same) ∙ up'.0 d there))
+      | inr rest ↦ rest
+    ]))
   where
     firsts : In x (y ∷ ys) → In y (x ∷ xs) → x ≡ y
     firsts (inl same) there = same
     firsts (inr there) (inl same) = sym same
     firsts (inr there) (inr here) = absurd (both_ways _ (lt_asym y.stamp x.stamp (up'.0 x there)) (up.0 y here))
 
-delivering_same : (me : ℕ) (grp : GroupState) (ds ds' : List Delivered) (new new' : GroupState) → Delivering me grp ds new → Delivering me grp ds' new' → (ds ≡ ds') × (new ≡ new')
+delivering_same : (me : ℕ) (grp : GroupState) (ds ds' : List Delivered) (new new' : GroupState) → Delivering me grp ds new
+    → Delivering me grp ds' new' → (ds ≡ ds') × (new ≡ new')
 delivering_same me grp ds ds' new new' a b =
-    let same = same_ascending ds ds' a.delivers.ascending b.delivers.ascending (λ d there. b.delivers.all d (a.delivers.only d there)) (λ d there. a.delivers.all d (b.delivers.only d there)) in
+    let same = same_ascending ds ds' a.delivers.ascending b.delivers.ascending (λ d there. b.delivers.all d (a.delivers.only d there))
+    (λ d there. a.delivers.all d (b.delivers.only d there)) in
     (same, a.after ∙ ap (without grp) same ∙ sym b.after)
 
 pub rule_determines : RuleDetermines
 rule_determines me old new new' id (Start floor groups) sent sent' ds ds' r r' = by_start (get old.started id) r r'
   where
-    by_start : (o : Option (List ℕ)) → ReceivesStart o me old id floor groups sent ds new → ReceivesStart o me old id floor groups sent' ds' new' → (sent ≡ sent') × (ds ≡ ds') × (new ≡ new')
+    by_start : (o : Option (List ℕ)) → ReceivesStart o me old id floor groups sent ds new
+        → ReceivesStart o me old id floor groups sent' ds' new' → (sent ≡ sent') × (ds ≡ ds') × (new ≡ new')
     by_start (Some gs) a b = (a.0 ∙ sym b.0, a.1 ∙ sym b.1, a.2 ∙ sym b.2)
     by_start None a b = let both = delivering_same me _ ds ds' new new' a.1 b.1 in (a.0 ∙ sym b.0, both.0, both.1)
 rule_determines me old new new' id (Proposal from n) sent sent' ds ds' r r' =

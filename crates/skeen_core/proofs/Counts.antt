@@ -1,5 +1,6 @@
 -- The requests of which a group has proposals are those that it keeps.
-use Rattle.std.proofs.Common.{◌≡◌, ℕ, ◌==◌, ◌&&◌, ◌||◌, Bool, true, false, cond, List, [], ◌∷◌, inl, inr, Option, Some, None, IsSome, is_some, length, refl, sym, ap, ◌∙◌, subst, eq-eqb}
+use Rattle.std.proofs.Common.{◌≡◌, ℕ, ◌==◌, ◌&&◌, ◌||◌, Bool, true, false, cond, List, [], ◌∷◌, inl, inr, Option, Some, None, IsSome}
+use Rattle.std.proofs.Common.{is_some, length, refl, sym, ap, ◌∙◌, subst, eq-eqb}
 use Rattle.std.proofs.lemmas.Bool.{both_ways, or_cases, and_parts}
 use Rattle.std.specs.FinMap.{get}
 use Rattle.skeen_core.specs.declared.request.RequestId.{RequestId}
@@ -19,8 +20,13 @@ some_either false n o h = h
 named_heard : (ps : List Heard) (i : RequestId) → names ps i ≡ true → (g : ℕ) × IsSome (clock_in ps i g)
 named_heard [] i h = absurd (both_ways _ refl h)
 named_heard (p ∷ ps) i h = elim (or_cases (same_id p.id i) (names ps i) h) [
-  | inl e ↦ (p.from, ap (λ b. is_some (cond (b && p.from == p.from) (Some p.clock) (clock_in ps i p.from))) (same_id-sym i p.id ∙ e) ∙ ap (λ b. is_some (cond b (Some p.clock) (clock_in ps i p.from))) (eq-eqb p.from p.from refl))
-  | inr e ↦ let rest = named_heard ps i e in (rest.0, some_either (same_id i p.id && rest.0 == p.from) p.clock (clock_in ps i rest.0) rest.1)
+  | inl e ↦ (
+    p.from,
+    ap (λ b. is_some (cond (b && p.from == p.from) (Some p.clock) (clock_in ps i p.from))) (same_id-sym i p.id ∙ e)
+        ∙ ap (λ b. is_some (cond b (Some p.clock) (clock_in ps i p.from))) (eq-eqb p.from p.from refl),
+  )
+  | inr e ↦ let rest = named_heard ps i e in
+      (rest.0, some_either (same_id i p.id && rest.0 == p.from) p.clock (clock_in ps i rest.0) rest.1)
 ]
 
 or_more : (a b : Bool) → b ≡ true → (a || b) ≡ true
@@ -29,10 +35,11 @@ or_more false b e = e
 
 heard_named : (ps : List Heard) (i : RequestId) (g : ℕ) → IsSome (clock_in ps i g) → names ps i ≡ true
 heard_named [] i g h = absurd (both_ways _ refl h)
-heard_named (p ∷ ps) i g h = elim (same_id i p.id && g == p.from) as (λ b. (same_id i p.id && g == p.from) ≡ b → IsSome (cond b (Some p.clock) (clock_in ps i g)) → names (p ∷ ps) i ≡ true) [
-  | true ↦ λ e some. ap (λ b. b || names ps i) (same_id-sym p.id i ∙ (and_parts (same_id i p.id) (g == p.from) e).0)
-  | false ↦ λ e some. or_more (same_id p.id i) (names ps i) (heard_named ps i g some)
-] refl h
+heard_named (p ∷ ps) i g h = elim (same_id i p.id && g == p.from) as (λ b. (same_id i p.id && g == p.from) ≡ b
+    → IsSome (cond b (Some p.clock) (clock_in ps i g)) → names (p ∷ ps) i ≡ true) [
+      | true ↦ λ e some. ap (λ b. b || names ps i) (same_id-sym p.id i ∙ (and_parts (same_id i p.id) (g == p.from) e).0)
+      | false ↦ λ e some. or_more (same_id p.id i) (names ps i) (heard_named ps i g some)
+    ] refl h
 
 ids_named : (ps : List Heard) (i : RequestId) → In i (ids_of ps) → names ps i ≡ true
 ids_named [] i there = absurd there
@@ -68,7 +75,8 @@ pub counts_kept : (me c : ℕ) (ss : List Started) (ps : List Heard) → IsKept 
 counts_kept me c ss ps kept = record {
   ids = ids_of ps;
   once = ids_once ps;
-  kept = λ i there. let it = named_heard ps i (ids_named ps i there) in inr (it.0, subst (λ o. IsSome o) (sym (heard-state_of c ss ps i it.0)) it.1);
+  kept = λ i there. let it = named_heard ps i (ids_named ps i there) in
+      inr (it.0, subst (λ o. IsSome o) (sym (heard-state_of c ss ps i it.0)) it.1);
   all = λ i there. elim there [
     | inl starts ↦ named_ids ps i (heard_named ps i me (subst (λ o. IsSome o) (heard-state_of c ss ps i me) (own_there i starts)))
     | inr it ↦ named_ids ps i (heard_named ps i it.0 (subst (λ o. IsSome o) (heard-state_of c ss ps i it.0) it.1))

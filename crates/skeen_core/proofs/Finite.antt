@@ -1,6 +1,8 @@
 -- What a group's state has of each request, after each change. No other file knows how a finite map answers.
-use Rattle.std.proofs.Common.{◌≡◌, ℕ, ◌+◌, ◌==◌, ◌&&◌, length, is_some, arith, Bool, true, false, cond, not, List, [], ◌∷◌, Option, Some, None, refl, sym, ap, ◌∙◌}
-use Rattle.std.specs.FinMap.{get, insert, find, len, len-empty, len-insert, get-empty, get-insert, get-retain_keys, get-from_entries, same_map}
+use Rattle.std.proofs.Common.{◌≡◌, ℕ, ◌+◌, ◌==◌, ◌&&◌, length, is_some, arith, Bool, true, false, cond, not, List, [], ◌∷◌, Option, Some}
+use Rattle.std.proofs.Common.{None, refl, sym, ap, ◌∙◌}
+use Rattle.std.specs.FinMap.{get, insert, find, len, len-empty, len-insert, get-empty, get-insert, get-retain_keys, get-from_entries}
+use Rattle.std.specs.FinMap.{same_map}
 use Rattle.skeen_core.specs.declared.request.RequestId.{RequestId}
 use Rattle.skeen_core.specs.declared.packet.Delivered.{Delivered}
 use Rattle.skeen_core.specs.declared.kept.Started.{Started}
@@ -24,7 +26,8 @@ started-with_start me grp id floor groups i =
     get-insert id_total grp.started id groups i ∙ ap (λ b. cond b (Some groups) (get grp.started i)) (id_tied i id)
 
 heard-insert : (grp : GroupState) (id : RequestId) (from n : ℕ) (i : RequestId) (g : ℕ) →
-    get (insert grp.proposals (record { id = id; from = from }) n) (record { id = i; from = g }) ≡ cond (same_id i id && g == from) (Some n) (heard grp i g)
+    get (insert grp.proposals (record { id = id; from = from }) n) (record { id = i; from = g })
+    ≡ cond (same_id i id && g == from) (Some n) (heard grp i g)
 heard-insert grp id from n i g =
     get-insert source_total grp.proposals (record { id = id; from = from }) n (record { id = i; from = g })
     ∙ ap (λ b. cond b (Some n) (heard grp i g)) (source_tied (record { id = i; from = g }) (record { id = id; from = from }))
@@ -67,12 +70,14 @@ same_state a b clocks starts hears =
 find_start : (ss : List Started) (i : RequestId) → find id_cmp i (starts_of ss) ≡ groups_in ss i
 find_start [] i = refl
 find_start (s ∷ ss) i =
-    ap (λ b. cond b (Some s.groups) (find id_cmp i (starts_of ss))) (id_tied i s.id) ∙ ap (cond (same_id i s.id) (Some s.groups)) (find_start ss i)
+    ap (λ b. cond b (Some s.groups) (find id_cmp i (starts_of ss))) (id_tied i s.id)
+    ∙ ap (cond (same_id i s.id) (Some s.groups)) (find_start ss i)
 
 find_clock : (ps : List Heard) (i : RequestId) (g : ℕ) → find source_cmp (record { id = i; from = g }) (clocks_of ps) ≡ clock_in ps i g
 find_clock [] i g = refl
 find_clock (p ∷ ps) i g =
-    ap (λ b. cond b (Some p.clock) (find source_cmp (record { id = i; from = g }) (clocks_of ps))) (source_tied (record { id = i; from = g }) (record { id = p.id; from = p.from }))
+    ap (λ b. cond b (Some p.clock) (find source_cmp (record { id = i; from = g }) (clocks_of ps)))
+    (source_tied (record { id = i; from = g }) (record { id = p.id; from = p.from }))
     ∙ ap (cond (same_id i p.id && g == p.from) (Some p.clock)) (find_clock ps i g)
 
 pub started-state_of : (c : ℕ) (ss : List Started) (ps : List Heard) (i : RequestId) → get (state_of c ss ps).started i ≡ groups_in ss i

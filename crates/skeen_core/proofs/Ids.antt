@@ -17,7 +17,8 @@ same_id-true i j h =
     λ k. record { conn = record { 0 = conns k }; seq = seqs k }
 
 pub eq-same_id : (i j : RequestId) → i ≡ j → same_id i j ≡ true
-eq-same_id i j e = and_from (i.conn.0 == j.conn.0) (i.seq == j.seq) (eq-eqb i.conn.0 j.conn.0 (ap (λ k. k.conn.0) e)) (eq-eqb i.seq j.seq (ap (λ k. k.seq) e))
+eq-same_id i j e = and_from (i.conn.0 == j.conn.0) (i.seq == j.seq) (eq-eqb i.conn.0 j.conn.0 (ap (λ k. k.conn.0) e))
+    (eq-eqb i.seq j.seq (ap (λ k. k.seq) e))
 
 pub same_id-refl : (i : RequestId) → same_id i i ≡ true
 same_id-refl i = eq-same_id i i refl
@@ -40,7 +41,8 @@ then_eq Greater b = refl
 
 pub id_tied : (i j : RequestId) → eq_by_cmp id_cmp i j ≡ same_id i j
 id_tied i j = then_eq (nat_cmp i.conn.0 j.conn.0) (nat_cmp i.seq j.seq)
-    ∙ ap (λ b. b && is_eq (nat_cmp i.seq j.seq)) (unsigned_tied i.conn.0 j.conn.0) ∙ ap (λ b. i.conn.0 == j.conn.0 && b) (unsigned_tied i.seq j.seq)
+    ∙ ap (λ b. b && is_eq (nat_cmp i.seq j.seq)) (unsigned_tied i.conn.0 j.conn.0)
+    ∙ ap (λ b. i.conn.0 == j.conn.0 && b) (unsigned_tied i.seq j.seq)
 
 pub source_tied : (s t : Source) → eq_by_cmp source_cmp s t ≡ (same_id s.id t.id && s.from == t.from)
 source_tied s t = then_eq (id_cmp s.id t.id) (nat_cmp s.from t.from)

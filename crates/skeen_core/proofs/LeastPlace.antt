@@ -1,5 +1,6 @@
 -- To deliver the request at the least place again and again is to deliver what is settled and below all that isn't.
-use Rattle.std.proofs.Common.{◌≡◌, ℕ, ◌+◌, ◌<◌, ◌≤◌, Bool, true, false, cond, List, [], ◌∷◌, ◌++◌, inl, inr, Option, Some, None, MatchOption, length, take, get_or, refl, sym, ap, ◌∙◌, subst, arith}
+use Rattle.std.proofs.Common.{◌≡◌, ℕ, ◌+◌, ◌<◌, ◌≤◌, Bool, true, false, cond, List, [], ◌∷◌, ◌++◌, inl, inr, Option, Some, None}
+use Rattle.std.proofs.Common.{MatchOption, length, take, get_or, refl, sym, ap, ◌∙◌, subst, arith}
 use Rattle.std.proofs.lemmas.Bool.{both_ways, cases_Bool}
 use Rattle.std.proofs.lemmas.List.{take_more}
 use Rattle.skeen_core.specs.declared.stamp.Stamp.{Stamp}
@@ -8,19 +9,22 @@ use Rattle.skeen_core.specs.declared.kept.Started.{Started}
 use Rattle.skeen_core.specs.Order.{In}
 use Rattle.skeen_core.specs.Stamp.{stamp_lt}
 use Rattle.skeen_core.specs.Group.{Ascending}
-use Rattle.skeen_core.specs.Due.{place_by, place, is_above, is_before, NoneAbove, IsNext, PlacesDiffer, BelowOpen, delivered_as, settled_as, settled, IsOf, IsDue}
+use Rattle.skeen_core.specs.Due.{place_by, place, is_above, is_before, NoneAbove, IsNext, PlacesDiffer, BelowOpen, delivered_as, settled_as}
+use Rattle.skeen_core.specs.Due.{settled, IsOf, IsDue}
 use Rattle.skeen_core.proofs.Lists.{In-left, In-last, In-end}
 use Rattle.skeen_core.proofs.Stamps.{lt_irrefl, lt_asym, lt_trans, le_trans, le_lt, le_antisym}
 
 -- ---- the search for the least place
 
-none_more : (me : ℕ) (xs : List Started) (last : Option Stamp) (x : Started) → NoneAbove me xs last → is_above last (place me x) ≡ false → NoneAbove me (xs ++ x ∷ []) last
+none_more : (me : ℕ) (xs : List Started) (last : Option Stamp) (x : Started) → NoneAbove me xs last → is_above last (place me x) ≡ false
+    → NoneAbove me (xs ++ x ∷ []) last
 none_more me xs last x none e t there = elim (In-end t x xs there) [
   | inl before ↦ none t before
   | inr same ↦ ap (λ s. is_above last (place me s)) same ∙ e
 ]
 
-next_kept : (me : ℕ) (xs : List Started) (last : Option Stamp) (s x : Started) → IsNext me xs last s → (is_above last (place me x) ≡ true → stamp_lt (place me x) (place me s) ≡ false) → IsNext me (xs ++ x ∷ []) last s
+next_kept : (me : ℕ) (xs : List Started) (last : Option Stamp) (s x : Started) → IsNext me xs last s
+    → (is_above last (place me x) ≡ true → stamp_lt (place me x) (place me s) ≡ false) → IsNext me (xs ++ x ∷ []) last s
 next_kept me xs last s x next e = record {
   there = In-left s xs (x ∷ []) next.there;
   above = next.above;
@@ -31,7 +35,8 @@ next_kept me xs last s x next e = record {
 }
 
 -- the one passed now is the first above, or below the one found before
-pub next_found : (me : ℕ) (xs : List Started) (last : Option Stamp) (best : Option Started) (x : Started) → MatchOption best (NoneAbove me xs last) (IsNext me xs last) →
+pub next_found : (me : ℕ) (xs : List Started) (last : Option Stamp) (best : Option Started) (x : Started)
+    → MatchOption best (NoneAbove me xs last) (IsNext me xs last) →
     is_above last (place me x) ≡ true → is_before me (place me x) best ≡ true → IsNext me (xs ++ x ∷ []) last x
 next_found me xs last None x none up before = record {
   there = In-last x xs;
@@ -51,26 +56,36 @@ next_found me xs last (Some s) x next up before = record {
 }
 
 -- the one passed now isn't above, or isn't below the one found before
-pub next_stays : (me : ℕ) (xs : List Started) (last : Option Stamp) (best : Option Started) (x : Started) → MatchOption best (NoneAbove me xs last) (IsNext me xs last) →
-    (is_above last (place me x) ≡ true → is_before me (place me x) best ≡ false) → MatchOption best (NoneAbove me (xs ++ x ∷ []) last) (IsNext me (xs ++ x ∷ []) last)
-next_stays me xs last None x none not_up = none_more me xs last x none (elim (cases_Bool (is_above last (place me x))) [ inl e ↦ absurd (both_ways _ (not_up e) refl) | inr e ↦ e ])
+pub next_stays : (me : ℕ) (xs : List Started) (last : Option Stamp) (best : Option Started) (x : Started)
+    → MatchOption best (NoneAbove me xs last) (IsNext me xs last) →
+    (is_above last (place me x) ≡ true → is_before me (place me x) best ≡ false)
+    → MatchOption best (NoneAbove me (xs ++ x ∷ []) last) (IsNext me (xs ++ x ∷ []) last)
+next_stays me xs last None x none not_up =
+    none_more me xs last x none (elim (cases_Bool (is_above last (place me x))) [
+      | inl e ↦ absurd (both_ways _ (not_up e) refl)
+      | inr e ↦ e
+    ])
 next_stays me xs last (Some s) x next not_up = next_kept me xs last s x next not_up
 
 -- the same over the first k, with what the code computes
 abbrev pub IsBest : ℕ → List Started → Option Stamp → Option Started → Type 0
 IsBest me xs last best = MatchOption best (NoneAbove me xs last) (IsNext me xs last)
 
-pub best_found : (me : ℕ) (ss : List Started) (last : Option Stamp) (best new : Option Started) (x : Started) (k : ℕ) → k < length ss → x ≡ get_or ss k x → IsBest me (take k ss) last best →
+pub best_found : (me : ℕ) (ss : List Started) (last : Option Stamp) (best new : Option Started) (x : Started) (k : ℕ) → k < length ss
+    → x ≡ get_or ss k x → IsBest me (take k ss) last best →
     is_above last (place me x) ≡ true → is_before me (place me x) best ≡ true → new ≡ Some x → IsBest me (take (k + 1) ss) last new
 best_found me ss last best new x k within at is up before found =
     let longer : take (k + 1) ss ≡ take k ss ++ x ∷ [] = take_more ss k x within ∙ ap (λ y. take k ss ++ y ∷ []) (sym at) in
-    subst (λ xs. IsBest me xs last new) (sym longer) (subst (λ o. IsBest me (take k ss ++ x ∷ []) last o) (sym found) (next_found me (take k ss) last best x is up before))
+    subst (λ xs. IsBest me xs last new) (sym longer)
+    (subst (λ o. IsBest me (take k ss ++ x ∷ []) last o) (sym found) (next_found me (take k ss) last best x is up before))
 
-pub best_stays : (me : ℕ) (ss : List Started) (last : Option Stamp) (best new : Option Started) (x : Started) (k : ℕ) → k < length ss → x ≡ get_or ss k x → IsBest me (take k ss) last best →
+pub best_stays : (me : ℕ) (ss : List Started) (last : Option Stamp) (best new : Option Started) (x : Started) (k : ℕ) → k < length ss
+    → x ≡ get_or ss k x → IsBest me (take k ss) last best →
     (is_above last (place me x) ≡ true → is_before me (place me x) best ≡ false) → new ≡ best → IsBest me (take (k + 1) ss) last new
 best_stays me ss last best new x k within at is passed same =
     let longer : take (k + 1) ss ≡ take k ss ++ x ∷ [] = take_more ss k x within ∙ ap (λ y. take k ss ++ y ∷ []) (sym at) in
-    subst (λ xs. IsBest me xs last new) (sym longer) (subst (λ o. IsBest me (take k ss ++ x ∷ []) last o) (sym same) (next_stays me (take k ss) last best x is passed))
+    subst (λ xs. IsBest me xs last new) (sym longer)
+    (subst (λ o. IsBest me (take k ss ++ x ∷ []) last o) (sym same) (next_stays me (take k ss) last best x is passed))
 
 -- ---- again and again
 
@@ -90,19 +105,26 @@ due_none me ss = record {
 }
 
 -- what is settled is delivered at its final stamp, where it stands
-settled_is : (me : ℕ) (s : Started) (d : Delivered) → settled s ≡ Some d → (s.final_stamp ≡ Some d.stamp) × (place me s ≡ d.stamp) × (delivered_as s d.stamp ≡ d)
+settled_is : (me : ℕ) (s : Started) (d : Delivered) → settled s ≡ Some d → (s.final_stamp ≡ Some d.stamp) × (place me s ≡ d.stamp)
+    × (delivered_as s d.stamp ≡ d)
 settled_is me s d e = by_final s.final_stamp refl e
   where
-    by_final : (o : Option Stamp) → s.final_stamp ≡ o → settled_as s o ≡ Some d → (s.final_stamp ≡ Some d.stamp) × (place me s ≡ d.stamp) × (delivered_as s d.stamp ≡ d)
+    by_final : (o : Option Stamp) → s.final_stamp ≡ o → settled_as s o ≡ Some d → (s.final_stamp ≡ Some d.stamp) × (place me s ≡ d.stamp)
+        × (delivered_as s d.stamp ≡ d)
     by_final None p q = absurd (cc)
     by_final (Some t) p q =
-        let same : delivered_as s t ≡ d = cc in let stamps : t ≡ d.stamp = ap (λ x. x.stamp) same in
-        (p ∙ ap Some stamps, ap (λ o. place_by o (record { clock = s.own; group = me })) p ∙ stamps, ap (delivered_as s) (sym stamps) ∙ same)
+        let same : delivered_as s t ≡ d = cc in let stamps : t ≡ d.stamp = ap (λ x. x.stamp) same in (
+          p ∙ ap Some stamps,
+          ap (λ o. place_by o (record { clock = s.own; group = me })) p
+              ∙ stamps,
+          ap (delivered_as s) (sym stamps) ∙ same,
+        )
 
 is_settled : (s : Started) (t : Stamp) → s.final_stamp ≡ Some t → settled s ≡ Some (delivered_as s t)
 is_settled s t e = ap (settled_as s) e
 
-ascending_more : (ds : List Delivered) (d : Delivered) → Ascending ds → ((e : Delivered) → In e ds → stamp_lt e.stamp d.stamp ≡ true) → Ascending (ds ++ d ∷ [])
+ascending_more : (ds : List Delivered) (d : Delivered) → Ascending ds → ((e : Delivered) → In e ds → stamp_lt e.stamp d.stamp ≡ true)
+    → Ascending (ds ++ d ∷ [])
 ascending_more [] d up below = (λ e none. absurd none, tt)
 ascending_more (x ∷ xs) d up below = (
   λ e there. elim (In-end e d xs there) [
@@ -121,7 +143,8 @@ above_more : (last : Option Stamp) (s t : Stamp) → is_above last s ≡ true �
 above_more None s t up less = refl
 above_more (Some l) s t up less = lt_trans l s t up less
 
-pub due_more : (me : ℕ) (ss : List Started) (last : Option Stamp) (ds : List Delivered) (s : Started) (d : Delivered) → PlacesDiffer me ss → DueSoFar me ss last ds → IsNext me ss last s → settled s ≡ Some d →
+pub due_more : (me : ℕ) (ss : List Started) (last : Option Stamp) (ds : List Delivered) (s : Started) (d : Delivered) → PlacesDiffer me ss
+    → DueSoFar me ss last ds → IsNext me ss last s → settled s ≡ Some d →
     DueSoFar me ss (Some d.stamp) (ds ++ d ∷ [])
 due_more me ss last ds s d differ so_far next is =
     let at = settled_is me s d is in
@@ -153,7 +176,8 @@ due_by me ss last ds so_far rest = record {
   ascending = so_far.ascending;
   only = so_far.only;
   below = λ d there u stands unsettled. elim (cases_Bool (is_above last (place me u))) [
-    | inl above ↦ ap (λ o. stamp_lt d.stamp (place_by o (record { clock = u.own; group = me }))) (sym unsettled) ∙ below_next last d.stamp (place me u) (so_far.upto d there) above
+    | inl above ↦ ap (λ o. stamp_lt d.stamp (place_by o (record { clock = u.own; group = me }))) (sym unsettled)
+        ∙ below_next last d.stamp (place me u) (so_far.upto d there) above
     | inr below ↦ let before = so_far.behind u stands below in absurd (no_stamp u before.0 unsettled before.1)
   ];
   all = λ s t there is below.
@@ -170,17 +194,21 @@ due_by me ss last ds so_far rest = record {
     same_one : {x y : Delivered} → Some x ≡ Some y → x ≡ y
     same_one e = cc
 
-pub due_all : (me : ℕ) (ss : List Started) (last : Option Stamp) (ds : List Delivered) → DueSoFar me ss last ds → NoneAbove me ss last → IsDue me ss ds
+pub due_all : (me : ℕ) (ss : List Started) (last : Option Stamp) (ds : List Delivered) → DueSoFar me ss last ds → NoneAbove me ss last
+    → IsDue me ss ds
 due_all me ss last ds so_far none = due_by me ss last ds so_far (λ s t there is below. none s there)
 
-pub due_until : (me : ℕ) (ss : List Started) (last : Option Stamp) (ds : List Delivered) (n : Started) → DueSoFar me ss last ds → IsNext me ss last n → settled n ≡ None → IsDue me ss ds
-due_until me ss last ds n so_far next unsettled = due_by me ss last ds so_far (λ s t there is below. elim (cases_Bool (is_above last (place me s))) [
-  | inl above ↦
-      let not_below = next.least s there above in
-      let less : stamp_lt t (record { clock = n.own; group = me }) ≡ true = below n next.there no_final in
-      absurd (both_ways _ not_below (ap (λ o. stamp_lt (place_by o (record { clock = s.own; group = me })) (place me n)) is ∙ ap (λ o. stamp_lt t (place_by o (record { clock = n.own; group = me }))) no_final ∙ less))
-  | inr not_up ↦ not_up
-])
+pub due_until : (me : ℕ) (ss : List Started) (last : Option Stamp) (ds : List Delivered) (n : Started) → DueSoFar me ss last ds
+    → IsNext me ss last n → settled n ≡ None → IsDue me ss ds
+due_until me ss last ds n so_far next unsettled =
+    due_by me ss last ds so_far (λ s t there is below. elim (cases_Bool (is_above last (place me s))) [
+      | inl above ↦
+          let not_below = next.least s there above in
+          let less : stamp_lt t (record { clock = n.own; group = me }) ≡ true = below n next.there no_final in
+          absurd (both_ways _ not_below (ap (λ o. stamp_lt (place_by o (record { clock = s.own; group = me })) (place me n)) is
+          ∙ ap (λ o. stamp_lt t (place_by o (record { clock = n.own; group = me }))) no_final ∙ less))
+      | inr not_up ↦ not_up
+    ])
   where
     no_final : n.final_stamp ≡ None
     no_final = by_final n.final_stamp refl unsettled
@@ -213,7 +241,8 @@ no_more : {X : Type 0} (p q : X → Bool) (xs : List X) → ((y : X) → q y ≡
 no_more p q [] more = omega arith
 no_more p q (x ∷ xs) more = let rest = no_more p q xs more in let here = fewer_at (p x) (q x) (more x) in omega arith
 
-fewer : {X : Type 0} (p q : X → Bool) (xs : List X) (x : X) → ((y : X) → q y ≡ true → p y ≡ true) → In x xs → p x ≡ true → q x ≡ false → passing q xs < passing p xs
+fewer : {X : Type 0} (p q : X → Bool) (xs : List X) (x : X) → ((y : X) → q y ≡ true → p y ≡ true) → In x xs → p x ≡ true → q x ≡ false
+    → passing q xs < passing p xs
 fewer p q [] x more there is isnt = absurd there
 fewer p q (y ∷ ys) x more (inl same) is isnt =
     let rest = no_more p q ys more in
@@ -223,7 +252,8 @@ fewer p q (y ∷ ys) x more (inl same) is isnt =
 fewer p q (y ∷ ys) x more (inr there) is isnt =
     let rest = fewer p q ys x more there is isnt in let here = fewer_at (p y) (q y) (more y) in omega arith
 
-pub fewer_above : (me : ℕ) (ss : List Started) (last : Option Stamp) (s : Started) (d : Delivered) → IsNext me ss last s → settled s ≡ Some d →
+pub fewer_above : (me : ℕ) (ss : List Started) (last : Option Stamp) (s : Started) (d : Delivered) → IsNext me ss last s
+    → settled s ≡ Some d →
     passing (λ t. is_above (Some d.stamp) (place me t)) ss < passing (λ t. is_above last (place me t)) ss
 fewer_above me ss last s d next is =
     let at = (settled_is me s d is).1 in

@@ -1,5 +1,6 @@
 -- What stands in a list that is made from others.
-use Rattle.std.proofs.Common.{◌≡◌, ℕ, zero, suc, ◌<◌, Bool, true, false, cond, List, [], ◌∷◌, ◌++◌, ◌⊎◌, inl, inr, length, get_or, filter, refl, ap, ◌∙◌, arith}
+use Rattle.std.proofs.Common.{◌≡◌, ℕ, zero, suc, ◌<◌, Bool, true, false, cond, List, [], ◌∷◌, ◌++◌, ◌⊎◌, inl, inr, length, get_or, filter}
+use Rattle.std.proofs.Common.{refl, ap, ◌∙◌, arith}
 use Rattle.skeen_core.specs.Order.{In}
 
 pub In-left : {X : Type 0} (x : X) (xs ys : List X) → In x xs → In x (xs ++ ys)
@@ -29,10 +30,11 @@ In-get (x ∷ xs) (suc k) d h = inr (In-get xs k d (omega arith))
 
 pub In-filter : {X : Type 0} (test : X → Bool) (x : X) (xs : List X) → In x (filter test xs) → In x xs × (test x ≡ true)
 In-filter test x [] h = absurd h
-In-filter {X} test x (y ∷ xs) h = elim (test y) as (λ b. test y ≡ b → In x (cond b (y ∷ filter test xs) (filter test xs)) → In x (y ∷ xs) × (test x ≡ true)) [
-  | true ↦ λ e. elim [
-    | inl same ↦ (inl same, ap test same ∙ e)
-    | inr rest ↦ let r = In-filter test x xs rest in (inr r.0, r.1)
-  ]
-  | false ↦ λ e rest. let r = In-filter test x xs rest in (inr r.0, r.1)
-] refl h
+In-filter {X} test x (y ∷ xs) h = elim (test y) as (λ b. test y ≡ b → In x (cond b (y ∷ filter test xs) (filter test xs)) → In x (y ∷ xs)
+    × (test x ≡ true)) [
+      | true ↦ λ e. elim [
+        | inl same ↦ (inl same, ap test same ∙ e)
+        | inr rest ↦ let r = In-filter test x xs rest in (inr r.0, r.1)
+      ]
+      | false ↦ λ e rest. let r = In-filter test x xs rest in (inr r.0, r.1)
+    ] refl h

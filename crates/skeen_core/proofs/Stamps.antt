@@ -1,5 +1,6 @@
 -- The order of stamps, and the final stamp as the greatest proposal.
-use Rattle.std.proofs.Common.{◌≡◌, ℕ, ◌<◌, ◌≤◌, ◌==◌, true, false, cond, List, [], ◌∷◌, Option, Some, None, option_map, refl, sym, ap, ◌∙◌, subst, arith, ◌⊎◌, inl, inr, eqb-true}
+use Rattle.std.proofs.Common.{◌≡◌, ℕ, ◌<◌, ◌≤◌, ◌==◌, true, false, cond, List, [], ◌∷◌, Option, Some, None, option_map, refl, sym, ap, ◌∙◌}
+use Rattle.std.proofs.Common.{subst, arith, ◌⊎◌, inl, inr, eqb-true}
 use Rattle.std.proofs.lemmas.Bool.{or_cases, both_ways}
 use Rattle.std.proofs.lemmas.Bool.Decides.{nat_tests}
 use Rattle.groups.specs.GroupSet.{has}
@@ -46,10 +47,16 @@ later_either : (s t : Stamp) → (later s t ≡ s) ⊎ (later s t ≡ t)
 later_either s t = elim (stamp_lt s t) as (λ b. (cond b t s ≡ s) ⊎ (cond b t s ≡ t)) [ true ↦ inr refl | false ↦ inl refl ]
 
 later_first : (s t : Stamp) → stamp_lt (later s t) s ≡ false
-later_first s t = elim (stamp_lt s t) as (λ b. stamp_lt s t ≡ b → stamp_lt (cond b t s) s ≡ false) [ true ↦ λ e. lt_asym s t e | false ↦ λ e. lt_irrefl s ] refl
+later_first s t = elim (stamp_lt s t) as (λ b. stamp_lt s t ≡ b → stamp_lt (cond b t s) s ≡ false) [
+  | true ↦ λ e. lt_asym s t e
+  | false ↦ λ e. lt_irrefl s
+] refl
 
 later_second : (s t : Stamp) → stamp_lt (later s t) t ≡ false
-later_second s t = elim (stamp_lt s t) as (λ b. stamp_lt s t ≡ b → stamp_lt (cond b t s) t ≡ false) [ true ↦ λ e. lt_irrefl t | false ↦ λ e. e ] refl
+later_second s t = elim (stamp_lt s t) as (λ b. stamp_lt s t ≡ b → stamp_lt (cond b t s) t ≡ false) [
+  | true ↦ λ e. lt_irrefl t
+  | false ↦ λ e. e
+] refl
 
 -- a settled request: the first group's proposal, and the final stamp of the others
 pub record Settled (f : ℕ → Option ℕ) (g : ℕ) (gs : List ℕ) (s : Stamp) : Type 0 where
@@ -87,7 +94,8 @@ final_above f (x ∷ xs) s g e h =
       | inr there ↦ let p = final_above f xs parts.rest g parts.others there in record {
         clock = p.clock;
         heard = p.heard;
-        within = le_trans (record { clock = p.clock; group = g }) parts.rest s p.within (subst (λ t. stamp_lt t parts.rest ≡ false) parts.greatest (later_second _ parts.rest));
+        within = le_trans (record { clock = p.clock; group = g }) parts.rest s p.within
+            (subst (λ t. stamp_lt t parts.rest ≡ false) parts.greatest (later_second _ parts.rest));
       }
     ]
 
@@ -103,17 +111,20 @@ pub final_proposed : (f : ℕ → Option ℕ) (g : ℕ) (gs : List ℕ) (s : Sta
 final_proposed f g [] s e =
     let parts = settled f g [] s e in
     let bottom : parts.rest ≡ record { clock = 0; group = 0 } = cc in
-    let it : later (record { clock = parts.clock; group = g }) (record { clock = 0; group = 0 }) ≡ s = subst (λ (t : Stamp). later (record { clock = parts.clock; group = g }) t ≡ s) bottom parts.greatest in
+    let it : later (record { clock = parts.clock; group = g }) (record { clock = 0; group = 0 }) ≡ s =
+    subst (λ (t : Stamp). later (record { clock = parts.clock; group = g }) t ≡ s) bottom parts.greatest in
     subst (λ (t : Stamp). f t.group ≡ Some t.clock) (sym (alone g parts.clock) ∙ it) parts.heard
 final_proposed f g (h ∷ hs) s e =
     let parts = settled f g (h ∷ hs) s e in
     elim (later_either (record { clock = parts.clock; group = g }) parts.rest) [
       | inl first ↦ subst (λ (t : Stamp). f t.group ≡ Some t.clock) (sym first ∙ parts.greatest) parts.heard
-      | inr second ↦ subst (λ (t : Stamp). f t.group ≡ Some t.clock) (sym second ∙ parts.greatest) (final_proposed f h hs parts.rest parts.others)
+      | inr second ↦ subst (λ (t : Stamp). f t.group ≡ Some t.clock) (sym second
+          ∙ parts.greatest) (final_proposed f h hs parts.rest parts.others)
     ]
 
 -- what is settled stays so when more is heard
-pub final_within : (f h : ℕ → Option ℕ) (gs : List ℕ) (s : Stamp) → ((g n : ℕ) → f g ≡ Some n → h g ≡ Some n) → final f gs ≡ Some s → final h gs ≡ Some s
+pub final_within : (f h : ℕ → Option ℕ) (gs : List ℕ) (s : Stamp) → ((g n : ℕ) → f g ≡ Some n → h g ≡ Some n) → final f gs ≡ Some s
+    → final h gs ≡ Some s
 final_within f h [] s more e = e
 final_within f h (g ∷ gs) s more e =
     let parts = settled f g gs s e in
@@ -124,10 +135,11 @@ final_within f h (g ∷ gs) s more e =
 -- ---- the final stamp, from the first group on
 
 lowest_first : (s : Stamp) → later (record { clock = 0; group = 0 }) s ≡ s
-lowest_first s = elim (stamp_lt (record { clock = 0; group = 0 }) s) as (λ b. stamp_lt (record { clock = 0; group = 0 }) s ≡ b → cond {A = Stamp} b s (record { clock = 0; group = 0 }) ≡ s) [
-  | true ↦ λ e. refl
-  | false ↦ λ e. le_antisym (record { clock = 0; group = 0 }) s e (lowest s.group s.clock)
-] refl
+lowest_first s = elim (stamp_lt (record { clock = 0; group = 0 }) s) as (λ b. stamp_lt (record { clock = 0; group = 0 }) s ≡ b
+    → cond {A = Stamp} b s (record { clock = 0; group = 0 }) ≡ s) [
+      | true ↦ λ e. refl
+      | false ↦ λ e. le_antisym (record { clock = 0; group = 0 }) s e (lowest s.group s.clock)
+    ] refl
 
 pub lowest_last : (s : Stamp) → later s (record { clock = 0; group = 0 }) ≡ s
 lowest_last s = alone s.group s.clock
@@ -149,20 +161,24 @@ final_begun None = refl
 final_begun (Some s) = ap Some (sym (lowest_first s))
 
 -- one group more is looked at
-pub final_more : (s : Stamp) (g n : ℕ) (o : Option Stamp) → option_map (later s) (later_of g (Some n) o) ≡ option_map (later (later s (record { clock = n; group = g }))) o
+pub final_more : (s : Stamp) (g n : ℕ) (o : Option Stamp)
+    → option_map (later s) (later_of g (Some n) o) ≡ option_map (later (later s (record { clock = n; group = g }))) o
 final_more s g n None = refl
 final_more s g n (Some t) = ap Some (later_assoc s (record { clock = n; group = g }) t)
 
 -- the loop over the groups: o is the final stamp of all, s the greatest so far, and gs are left
-pub final_missing : (f : ℕ → Option ℕ) (o : Option Stamp) (s : Stamp) (left rest : List ℕ) (g : ℕ) → o ≡ option_map (later s) (final f left) → left ≡ g ∷ rest → f g ≡ None → o ≡ None
+pub final_missing : (f : ℕ → Option ℕ) (o : Option Stamp) (s : Stamp) (left rest : List ℕ) (g : ℕ) → o ≡ option_map (later s) (final f left)
+    → left ≡ g ∷ rest → f g ≡ None → o ≡ None
 final_missing f o s left rest g is next none =
     is ∙ ap (λ gs. option_map (later s) (final f gs)) next ∙ ap (λ c. option_map (later s) (later_of g c (final f rest))) none
 
-pub final_passed : (f : ℕ → Option ℕ) (o : Option Stamp) (s t : Stamp) (left rest : List ℕ) (g n : ℕ) → o ≡ option_map (later s) (final f left) → left ≡ g ∷ rest → f g ≡ Some n →
+pub final_passed : (f : ℕ → Option ℕ) (o : Option Stamp) (s t : Stamp) (left rest : List ℕ) (g n : ℕ)
+    → o ≡ option_map (later s) (final f left) → left ≡ g ∷ rest → f g ≡ Some n →
     later s (record { clock = n; group = g }) ≡ t → o ≡ option_map (later t) (final f rest)
 final_passed f o s t left rest g n is next there greatest =
     is ∙ ap (λ gs. option_map (later s) (final f gs)) next ∙ ap (λ c. option_map (later s) (later_of g c (final f rest))) there
     ∙ final_more s g n (final f rest) ∙ ap (λ u. option_map (later u) (final f rest)) greatest
 
-pub final_ended : (f : ℕ → Option ℕ) (o : Option Stamp) (s : Stamp) (left : List ℕ) → o ≡ option_map (later s) (final f left) → left ≡ [] → o ≡ Some s
+pub final_ended : (f : ℕ → Option ℕ) (o : Option Stamp) (s : Stamp) (left : List ℕ) → o ≡ option_map (later s) (final f left) → left ≡ []
+    → o ≡ Some s
 final_ended f o s left is none = is ∙ ap (λ gs. option_map (later s) (final f gs)) none ∙ ap Some (lowest_last s)

@@ -1,5 +1,6 @@
 -- What the code of `receive` has made of the two lists, and that it is the rule's state.
-use Rattle.std.proofs.Common.{◌≡◌, ◌≢◌, ℕ, zero, suc, ◌<◌, max, true, false, List, [], ◌∷◌, ◌++◌, Option, Some, None, length, MatchOption, is_some, get_or, set, take, length-append, ◌-◌, refl, sym, ap, ◌∙◌, subst, arith}
+use Rattle.std.proofs.Common.{◌≡◌, ◌≢◌, ℕ, zero, suc, ◌<◌, max, true, false, List, [], ◌∷◌, ◌++◌, Option, Some, None, length, MatchOption}
+use Rattle.std.proofs.Common.{is_some, get_or, set, take, length-append, ◌-◌, refl, sym, ap, ◌∙◌, subst, arith}
 use Rattle.std.proofs.lemmas.Bool.{both_ways}
 use Rattle.std.specs.FinMap.{get}
 use Rattle.groups.specs.GroupSet.{has}
@@ -15,12 +16,15 @@ use Rattle.skeen_core.specs.Lawful.{Sound}
 use Rattle.skeen_core.specs.Kept.{state_of, groups_in, clock_in, StandsAt, Keeps, IsKept, starts_left, clocks_left}
 use Rattle.skeen_core.specs.Due.{PlacesDiffer, IsDue}
 use Rattle.skeen_core.proofs.Finite.{started-state_of, heard-state_of}
-use Rattle.skeen_core.proofs.Lawful.{sound_start, sound_proposal, stuck_start, stuck_proposal, delivers_none, without_none, same_lifted, same_proposal}
-use Rattle.skeen_core.proofs.Representation.{Comes, comes_none, comes_due, places_differ, own_heard, begun_as, start_shows, keeps_start, final_in, told_shows, keeps_early, settled_at, set_groups, keeps_told}
+use Rattle.skeen_core.proofs.Lawful.{sound_start, sound_proposal, stuck_start, stuck_proposal, delivers_none, without_none, same_lifted}
+use Rattle.skeen_core.proofs.Lawful.{same_proposal}
+use Rattle.skeen_core.proofs.Representation.{Comes, comes_none, comes_due, places_differ, own_heard, begun_as, start_shows, keeps_start}
+use Rattle.skeen_core.proofs.Representation.{final_in, told_shows, keeps_early, settled_at, set_groups, keeps_told}
 
 -- ---- a Start of a new request
 
-pub record StartMade (me c : ℕ) (ss : List Started) (ps : List Heard) (id : RequestId) (floor : ℕ) (groups : List ℕ) (n : ℕ) (o : Option Stamp) (ss' : List Started) (ps' : List Heard) : Type 0 where
+pub record StartMade (me c : ℕ) (ss : List Started) (ps : List Heard) (id : RequestId) (floor : ℕ) (groups : List ℕ) (n : ℕ)
+    (o : Option Stamp) (ss' : List Started) (ps' : List Heard) : Type 0 where
   pub kept : IsKept me c ss ps
   pub absent : groups_in ss id ≡ None
   pub member : has groups me ≡ true
@@ -29,11 +33,13 @@ pub record StartMade (me c : ℕ) (ss : List Started) (ps : List Heard) (id : Re
   pub settled : o ≡ final (clock_in ps' id) groups
   pub starts : ss' ≡ ss ++ begun_as id groups n o ∷ []
 
-module _ {me c : ℕ} {ss : List Started} {ps : List Heard} {id : RequestId} {floor : ℕ} {groups : List ℕ} {n : ℕ} {o : Option Stamp} {ss' : List Started} {ps' : List Heard} where
+module _ {me c : ℕ} {ss : List Started} {ps : List Heard} {id : RequestId} {floor : ℕ} {groups : List ℕ} {n : ℕ} {o : Option Stamp}
+    {ss' : List Started} {ps' : List Heard} where
   start_final : StartMade me c ss ps id floor groups n o ss' ps' → o ≡ final (clock_in (ps ++ own_heard me id n ∷ []) id) groups
   start_final m = m.settled ∙ ap (λ l. final (clock_in l id) groups) m.clocks
 
-  start_state : StartMade me c ss ps id floor groups n o ss' ps' → lifted (with_start me (state_of c ss ps) id floor groups) id ≡ state_of (lift n o) ss' ps'
+  start_state : StartMade me c ss ps id floor groups n o ss' ps' → lifted (with_start me (state_of c ss ps) id floor groups) id
+      ≡ state_of (lift n o) ss' ps'
   start_state m =
       start_shows me c ss ps id floor groups n o m.kept.lawful.sound m.absent m.clock (start_final m)
       ∙ ap (λ l. state_of (lift n o) l (ps ++ own_heard me id n ∷ [])) (sym m.starts) ∙ ap (λ l. state_of (lift n o) ss' l) (sym m.clocks)
@@ -59,18 +65,27 @@ module _ {me c : ℕ} {ss : List Started} {ps : List Heard} {id : RequestId} {fl
       let absent : get (state_of c ss ps).started id ≡ None = started-state_of c ss ps id ∙ m.absent in
       comes_none me _ (lift n o) ss' ps' (start_state m) (start_keeps m) (start_sound m)
       (stuck_start me (state_of c ss ps) id floor groups m.kept.lawful absent
-      (ap (λ (g : GroupState). final (heard g id) groups) (start_state m) ∙ ap (λ (f : ℕ → Option ℕ). final f groups) (λ k g. heard-state_of (lift n o) ss' ps' id g k) ∙ sym m.settled ∙ none))
+      (ap (λ (g : GroupState). final (heard g id) groups) (start_state m)
+      ∙ ap (λ (f : ℕ → Option ℕ). final f groups) (λ k g. heard-state_of (lift n o) ss' ps' id g k) ∙ sym m.settled ∙ none))
 
-pub receives_new : (me c : ℕ) (ss : List Started) (ps : List Heard) (id : RequestId) (floor : ℕ) (groups : List ℕ) (n : ℕ) (sent : List Packet) (ds : List Delivered) (new : GroupState) → groups_in ss id ≡ None →
-    n ≡ suc (max c floor) → sent ≡ tell me id n groups → Delivering me (lifted (with_start me (state_of c ss ps) id floor groups) id) ds new →
+pub receives_new : (me c : ℕ) (ss : List Started) (ps : List Heard) (id : RequestId) (floor : ℕ) (groups : List ℕ) (n : ℕ)
+    (sent : List Packet) (ds : List Delivered) (new : GroupState) → groups_in ss id ≡ None →
+    n ≡ suc (max c floor) → sent ≡ tell me id n groups → Delivering me (lifted (with_start me (state_of c ss ps) id floor groups) id) ds new
+    →
     ReceivesStart (get (state_of c ss ps).started id) me (state_of c ss ps) id floor groups sent ds new
 receives_new me c ss ps id floor groups n sent ds new absent clock told delivering =
-    subst (λ r. ReceivesStart r me (state_of c ss ps) id floor groups sent ds new) (sym (started-state_of c ss ps id ∙ absent)) (told ∙ ap (λ m. tell me id m groups) clock, delivering)
+    subst (λ r. ReceivesStart r me (state_of c ss ps) id floor groups sent ds new) (sym (started-state_of c ss ps id ∙ absent)) (
+      told
+          ∙ ap (λ m. tell me id m groups) clock,
+      delivering,
+    )
 
-pub receives_again : (me c : ℕ) (ss : List Started) (ps : List Heard) (id : RequestId) (floor : ℕ) (groups : List ℕ) (gs : List ℕ) (sent : List Packet) (ds : List Delivered) → groups_in ss id ≡ Some gs →
+pub receives_again : (me c : ℕ) (ss : List Started) (ps : List Heard) (id : RequestId) (floor : ℕ) (groups : List ℕ) (gs : List ℕ)
+    (sent : List Packet) (ds : List Delivered) → groups_in ss id ≡ Some gs →
     sent ≡ [] → ds ≡ [] → ReceivesStart (get (state_of c ss ps).started id) me (state_of c ss ps) id floor groups sent ds (state_of c ss ps)
 receives_again me c ss ps id floor groups gs sent ds there none no_one =
-    subst (λ r. ReceivesStart r me (state_of c ss ps) id floor groups sent ds (state_of c ss ps)) (sym (started-state_of c ss ps id ∙ there)) (none, no_one, refl)
+    subst (λ r. ReceivesStart r me (state_of c ss ps) id floor groups sent ds (state_of c ss ps))
+    (sym (started-state_of c ss ps id ∙ there)) (none, no_one, refl)
 
 -- ---- a Proposal
 
@@ -82,7 +97,8 @@ pub record ToldMade (me c : ℕ) (ss : List Started) (ps : List Heard) (p : Hear
   pub clocks : ps' ≡ ps ++ p ∷ []
 
 -- the request at place k has started
-pub record SetMade (ss : List Started) (p : Heard) (ps' : List Heard) (k : ℕ) (s : Started) (o : Option Stamp) (ss' : List Started) : Type 0 where
+pub record SetMade (ss : List Started) (p : Heard) (ps' : List Heard) (k : ℕ) (s : Started) (o : Option Stamp) (ss' : List Started)
+    : Type 0 where
   pub within : k < length ss
   pub at : s ≡ get_or ss k s
   pub named : s.id ≡ p.id
@@ -95,19 +111,24 @@ module _ {me c : ℕ} {ss : List Started} {ps : List Heard} {p : Heard} {ps' : L
   told_sound m = sound_proposal me (state_of c ss ps) p.id p.from p.clock m.kept.lawful.sound m.other m.single
 
   -- the request hasn't started
-  pub told_early : ToldMade me c ss ps p ps' → groups_in ss p.id ≡ None → Comes me (lifted (with_proposal (state_of c ss ps) p.id p.from p.clock) p.id) [] c ss ps'
+  pub told_early : ToldMade me c ss ps p ps' → groups_in ss p.id ≡ None
+      → Comes me (lifted (with_proposal (state_of c ss ps) p.id p.from p.clock) p.id) [] c ss ps'
   told_early m absent =
       let shows = told_shows c ss ss ps p m.none (λ i. refl) in
       let shows' : lifted (with_proposal (state_of c ss ps) p.id p.from p.clock) p.id ≡ state_of c ss ps' =
-      shows ∙ ap (λ r. state_of (lift c (final_in (ps ++ p ∷ []) p.id r)) ss (ps ++ p ∷ [])) absent ∙ ap (λ l. state_of c ss l) (sym m.clocks) in
-      comes_none me _ c ss ps' shows' (subst (λ l. Keeps me ss l) (sym m.clocks) (keeps_early me ss ps p m.kept.keeps m.none absent)) (told_sound m)
-      (stuck_proposal me (state_of c ss ps) p.id p.from p.clock m.kept.lawful m.other (ap (final_of (with_proposal (state_of c ss ps) p.id p.from p.clock) p.id) (started-state_of c ss ps p.id ∙ absent)))
+      shows ∙ ap (λ r. state_of (lift c (final_in (ps ++ p ∷ []) p.id r)) ss (ps ++ p ∷ [])) absent
+      ∙ ap (λ l. state_of c ss l) (sym m.clocks) in
+      comes_none me _ c ss ps' shows' (subst (λ l. Keeps me ss l) (sym m.clocks) (keeps_early me ss ps p m.kept.keeps m.none absent))
+      (told_sound m)
+      (stuck_proposal me (state_of c ss ps) p.id p.from p.clock m.kept.lawful m.other
+      (ap (final_of (with_proposal (state_of c ss ps) p.id p.from p.clock) p.id) (started-state_of c ss ps p.id ∙ absent)))
 
   module _ {k : ℕ} {s : Started} {o : Option Stamp} {ss' : List Started} where
     told_final : ToldMade me c ss ps p ps' → SetMade ss p ps' k s o ss' → o ≡ final (clock_in (ps ++ p ∷ []) p.id) s.groups
     told_final m t = t.settled ∙ ap (λ l. final (clock_in l p.id) s.groups) m.clocks
 
-    told_state : ToldMade me c ss ps p ps' → SetMade ss p ps' k s o ss' → lifted (with_proposal (state_of c ss ps) p.id p.from p.clock) p.id ≡ state_of (lift c o) ss' ps'
+    told_state : ToldMade me c ss ps p ps' → SetMade ss p ps' k s o ss' → lifted (with_proposal (state_of c ss ps) p.id p.from p.clock) p.id
+        ≡ state_of (lift c o) ss' ps'
     told_state m t =
         told_shows c ss (set ss k (settled_at s o)) ps p m.none (set_groups ss k s o t.within t.at)
         ∙ ap (λ r. state_of (lift c (final_in (ps ++ p ∷ []) p.id r)) (set ss k (settled_at s o)) (ps ++ p ∷ [])) t.found
@@ -123,24 +144,31 @@ module _ {me c : ℕ} {ss : List Started} {ps : List Heard} {p : Heard} {ps' : L
     told_differ m t = places_differ me (lift c o) ss' ps' (told_keeps m t) (subst (λ g. Sound me g) (told_state m t) (told_sound m))
 
     pub told_delivers : ToldMade me c ss ps p ps' → SetMade ss p ps' k s o ss' → (ds : List Delivered) → IsDue me ss' ds →
-        Comes me (lifted (with_proposal (state_of c ss ps) p.id p.from p.clock) p.id) ds (lift c o) (starts_left ds ss') (clocks_left ds ps')
+        Comes me (lifted (with_proposal (state_of c ss ps) p.id p.from p.clock) p.id) ds (lift c o) (starts_left ds ss')
+        (clocks_left ds ps')
     told_delivers m t ds due = comes_due me _ (lift c o) ss' ps' ds (told_state m t) (told_keeps m t) (told_sound m) due
 
-    pub told_waits : ToldMade me c ss ps p ps' → SetMade ss p ps' k s o ss' → o ≡ None → Comes me (lifted (with_proposal (state_of c ss ps) p.id p.from p.clock) p.id) [] c ss' ps'
+    pub told_waits : ToldMade me c ss ps p ps' → SetMade ss p ps' k s o ss' → o ≡ None
+        → Comes me (lifted (with_proposal (state_of c ss ps) p.id p.from p.clock) p.id) [] c ss' ps'
     told_waits m t none =
         comes_none me _ c ss' ps' (told_state m t ∙ ap (λ r. state_of (lift c r) ss' ps') none) (told_keeps m t) (told_sound m)
         (stuck_proposal me (state_of c ss ps) p.id p.from p.clock m.kept.lawful m.other
         (ap (final_of (with_proposal (state_of c ss ps) p.id p.from p.clock) p.id) (started-state_of c ss ps p.id ∙ t.found)
-        ∙ ap (λ (g : GroupState). final (heard g p.id) s.groups) (told_state m t) ∙ ap (λ (f : ℕ → Option ℕ). final f s.groups) (λ k g. heard-state_of (lift c o) ss' ps' p.id g k) ∙ sym t.settled ∙ none))
+        ∙ ap (λ (g : GroupState). final (heard g p.id) s.groups) (told_state m t)
+        ∙ ap (λ (f : ℕ → Option ℕ). final f s.groups) (λ k g. heard-state_of (lift c o) ss' ps' p.id g k) ∙ sym t.settled ∙ none))
 
 -- the group has it already
-pub told_again : (me c : ℕ) (ss : List Started) (ps : List Heard) (id : RequestId) (from n m : ℕ) → IsKept me c ss ps → clock_in ps id from ≡ Some m → m ≡ n →
+pub told_again : (me c : ℕ) (ss : List Started) (ps : List Heard) (id : RequestId) (from n m : ℕ) → IsKept me c ss ps
+    → clock_in ps id from ≡ Some m → m ≡ n →
     Delivering me (lifted (with_proposal (state_of c ss ps) id from n) id) [] (state_of c ss ps)
 told_again me c ss ps id from n m kept there same =
     let grp = state_of c ss ps in
-    let again : with_proposal (state_of c ss ps) id from n ≡ state_of c ss ps = same_proposal (state_of c ss ps) id from n (heard-state_of c ss ps id from ∙ there ∙ ap Some same) in
-    let stays : lifted (with_proposal (state_of c ss ps) id from n) id ≡ state_of c ss ps = ap (λ g. lifted g id) again ∙ same_lifted me (state_of c ss ps) id kept.lawful.sound in
-    subst (λ g. Delivering me g [] (state_of c ss ps)) (sym stays) (record { delivers = delivers_none me (state_of c ss ps) kept.lawful.stuck; after = sym (without_none (state_of c ss ps)) })
+    let again : with_proposal (state_of c ss ps) id from n ≡ state_of c ss ps =
+    same_proposal (state_of c ss ps) id from n (heard-state_of c ss ps id from ∙ there ∙ ap Some same) in
+    let stays : lifted (with_proposal (state_of c ss ps) id from n) id ≡ state_of c ss ps = ap (λ g. lifted g id) again
+    ∙ same_lifted me (state_of c ss ps) id kept.lawful.sound in
+    subst (λ g. Delivering me g [] (state_of c ss ps)) (sym stays)
+    (record { delivers = delivers_none me (state_of c ss ps) kept.lawful.stuck; after = sym (without_none (state_of c ss ps)) })
 
 -- what was written is written back
 pub written_back : {X : Type 0} (xs : List X) (k : ℕ) (x y z : X) → k < length xs → x ≡ get_or xs k x → z ≡ x → set (set xs k y) k z ≡ xs
@@ -158,10 +186,13 @@ popped {X} xs zs y made =
     ap (λ (l : List X). take (length l - 1) l) made ∙ ap (λ n. take n (xs ++ y ∷ [])) shorter ∙ take_front xs y
 
 -- the same, of what equals it
-pub comes_as : (me : ℕ) (grp : GroupState) (ds ds' : List Delivered) (c c' : ℕ) (ss ss' : List Started) (ps ps' : List Heard) → ds' ≡ ds → c' ≡ c → ss' ≡ ss → ps' ≡ ps →
+pub comes_as : (me : ℕ) (grp : GroupState) (ds ds' : List Delivered) (c c' : ℕ) (ss ss' : List Started) (ps ps' : List Heard) → ds' ≡ ds
+    → c' ≡ c → ss' ≡ ss → ps' ≡ ps →
     Comes me grp ds c ss ps → Comes me grp ds' c' ss' ps'
 comes_as me grp ds ds' c c' ss ss' ps ps' d e s p comes =
-    subst (λ x. Comes me grp x c' ss' ps') (sym d) (subst (λ x. Comes me grp ds x ss' ps') (sym e) (subst (λ x. Comes me grp ds c x ps') (sym s) (subst (λ x. Comes me grp ds c ss x) (sym p) comes)))
+    subst (λ x. Comes me grp x c' ss' ps') (sym d)
+    (subst (λ x. Comes me grp ds x ss' ps') (sym e)
+    (subst (λ x. Comes me grp ds c x ps') (sym s) (subst (λ x. Comes me grp ds c ss x) (sym p) comes)))
 
 pub not_there : {X : Type 0} (o : Option X) (P : Type 0) (Q : X → Type 0) → MatchOption o P Q → is_some o ≡ false → P
 not_there None P Q m e = m

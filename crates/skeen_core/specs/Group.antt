@@ -3,7 +3,8 @@
 -- other addressees; when it has all proposals it takes the greatest, and delivers messages in timestamp order once no
 -- message that it still waits for could come before. The floor is this project's own addition; at 0 it changes nothing.
 use Rattle.std.specs.FinMap.{FinMap, get, insert, retain_keys, empty}
-use Rattle.std.specs.Prelude.{◌≡◌, ◌≢◌, ℕ, suc, ◌≤◌, ◌^◌, Bool, true, false, cond, not, List, [], ◌∷◌, ◌||◌, ◌==◌, max, length, ◌⊎◌, Option, Some, None, IsSome}
+use Rattle.std.specs.Prelude.{◌≡◌, ◌≢◌, ℕ, suc, ◌≤◌, ◌^◌, Bool, true, false, cond, not, List, [], ◌∷◌, ◌||◌, ◌==◌, max, length, ◌⊎◌, Option}
+use Rattle.std.specs.Prelude.{Some, None, IsSome}
 use Rattle.groups.specs.GroupSet.{has}
 use Rattle.skeen_core.specs.Order.{In}
 use Rattle.skeen_core.specs.Request.{same_id, id_cmp, source_cmp}

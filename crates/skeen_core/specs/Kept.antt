@@ -1,5 +1,6 @@
 -- How a group keeps its state: started requests and proposals, each in a list in order of coming.
-use Rattle.std.specs.Prelude.{◌≡◌, ℕ, ◌<◌, length, slice_index_or, List, [], ◌∷◌, refl, Option, Some, None, Bool, false, ◌||◌, cond, not, filter, ◌==◌, ◌&&◌}
+use Rattle.std.specs.Prelude.{◌≡◌, ℕ, ◌<◌, length, slice_index_or, List, [], ◌∷◌, refl, Option, Some, None, Bool, false, ◌||◌, cond, not}
+use Rattle.std.specs.Prelude.{filter, ◌==◌, ◌&&◌}
 use Rattle.std.specs.Coded.{Coded, code_by, coded×, coded_ℕ, coded_list}
 use Rattle.std.specs.FinMap.{FinMap, from_entries, code}
 use Rattle.skeen_core.specs.Request.{same_id, id_cmp, Source, source_cmp}
@@ -15,14 +16,16 @@ use Rattle.skeen_core.specs.declared.kept.Heard.{Heard}
 -- ---- a state as data
 
 abbrev pub id_code : Coded RequestId
-id_code = code_by (ℕ × ℕ) (coded× coded_ℕ coded_ℕ) (λ i. (i.conn.0, i.seq)) (λ p. record { conn = record { 0 = p.0 }; seq = p.1 }) (λ _. refl)
+id_code = code_by (ℕ × ℕ) (coded× coded_ℕ coded_ℕ) (λ i. (i.conn.0, i.seq)) (λ p. record { conn = record { 0 = p.0 }; seq = p.1 })
+    (λ _. refl)
 
 abbrev pub source_code : Coded Source
 source_code = code_by (RequestId × ℕ) (coded× id_code coded_ℕ) (λ s. (s.id, s.from)) (λ p. record { id = p.0; from = p.1 }) (λ _. refl)
 
 abbrev pub state_code : Coded GroupState
 state_code =
-    code_by (ℕ × (FinMap id_cmp (List ℕ) × FinMap source_cmp ℕ)) (coded× coded_ℕ (coded× (code id_code (coded_list coded_ℕ)) (code source_code coded_ℕ)))
+    code_by (ℕ × (FinMap id_cmp (List ℕ) × FinMap source_cmp ℕ))
+    (coded× coded_ℕ (coded× (code id_code (coded_list coded_ℕ)) (code source_code coded_ℕ)))
     (λ s. (s.clock, (s.started, s.proposals))) (λ p. record { clock = p.0; started = p.1.0; proposals = p.1.1 }) (λ _. refl)
 
 abbrev pub group_code : Coded GroupView

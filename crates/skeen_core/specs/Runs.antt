@@ -56,7 +56,8 @@ DeliveriesAscend = (me : ℕ) (rs : List Receipt) (new : GroupState) → Receive
 -- nothing is kept of what was delivered
 abbrev pub DeliveredIsForgotten : Type 0
 DeliveredIsForgotten =
-    (me : ℕ) (old new : GroupState) (id : RequestId) (body : Body) (sent : List Packet) (ds : List Delivered) → Receives me old id body sent ds new →
+    (me : ℕ) (old new : GroupState) (id : RequestId) (body : Body) (sent : List Packet) (ds : List Delivered)
+    → Receives me old id body sent ds new →
     (d : Delivered) → In d ds → (get new.started d.id ≡ None) × ((g : ℕ) → heard new d.id g ≡ None)
 
 -- the group has that Start or that Proposal already

@@ -1,5 +1,6 @@
 //! What holds of the rule itself, over every list of packets that one group receives.
-ghost use Rattle.skeen_core.specs.Runs.{ClockNeverFalls, ClockIsAboveStamps, DeliveriesAscend, DeliveredIsForgotten, RepeatsChangeNothing, RuleDetermines};
+ghost use Rattle.skeen_core.specs.Runs.{ClockNeverFalls, ClockIsAboveStamps, DeliveriesAscend, DeliveredIsForgotten, RepeatsChangeNothing};
+ghost use Rattle.skeen_core.specs.Runs.{RuleDetermines};
 
 /// The laws of the rule that `Group::receive` keeps. It does nothing: its contract states them.
 pub fn laws_of_one_group()

@@ -1,5 +1,6 @@
 -- Runs of a store, one thing after another.
-use Rattle.std.proofs.Common.{◌≡◌, ℕ, ◌<◌, ◌^◌, lit<, Option, Result, List, [], ◌∷◌, ◌++◌, Ok, Err, ap, sym, ◌∙◌, subst, refl, inl, inr, arith, length, length-append, append_assoc}
+use Rattle.std.proofs.Common.{◌≡◌, ℕ, ◌<◌, ◌^◌, lit<, Option, Result, List, [], ◌∷◌, ◌++◌, Ok, Err, ap, sym, ◌∙◌, subst, refl, inl, inr}
+use Rattle.std.proofs.Common.{arith, length, length-append, append_assoc}
 use Rattle.std.specs.Coded.{le_prop}
 use Rattle.std.specs.declared.convert.Infallible.{Infallible}
 use Rattle.command_bodies.proofs.Turns.{pair}
@@ -60,7 +61,8 @@ limits_are l words bulk =
 
 -- a connection that was served under limits of these numbers
 pub served_in_turn : (l : Limits) (before after old new : Option (List ℕ)) (s t : Map) (result : Result Served (ServeFault Infallible))
-    → l.words ≡ DEFAULT_WORDS → l.bulk ≡ DEFAULT_BULK → Serves Asks l before after old new s t result → ServesInTurn before after old new s t result
+    → l.words ≡ DEFAULT_WORDS → l.bulk ≡ DEFAULT_BULK → Serves Asks l before after old new s t result
+    → ServesInTurn before after old new s t result
 served_in_turn l before after old new s t result words bulk served =
     let connection = subst (λ v. Serves Asks v before after old new s t result) (limits_are l words bulk) served in record {
       connection = connection;

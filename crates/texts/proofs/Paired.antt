@@ -1,11 +1,13 @@
 -- Byte strings, two by two.
-use Rattle.std.proofs.Common.{◌≡◌, ℕ, zero, suc, ◌+◌, ◌*◌, ◌≤◌, ◌<◌, ◌%◌, List, [], ◌∷◌, length, Some, slice_get, slice_index_or, refl, ap, arith}
+use Rattle.std.proofs.Common.{◌≡◌, ℕ, zero, suc, ◌+◌, ◌*◌, ◌≤◌, ◌<◌, ◌%◌, List, [], ◌∷◌, length, Some, slice_get, slice_index_or, refl, ap}
+use Rattle.std.proofs.Common.{arith}
 use native.Mathlib.Numerals.{unary_clauses}
 use Rattle.std.specs.Global.{Vec}
 use Rattle.texts.specs.Texts.{texts_of, pairs_of, firsts, by_turns}
 
 -- half as many pairs as strings
-pub length-pairs_of : (ts : List (Vec ℕ)) → (2 * length (pairs_of (texts_of ts)) ≤ length ts) × (length ts ≤ 2 * length (pairs_of (texts_of ts)) + 1)
+pub length-pairs_of : (ts : List (Vec ℕ)) → (2 * length (pairs_of (texts_of ts)) ≤ length ts)
+    × (length ts ≤ 2 * length (pairs_of (texts_of ts)) + 1)
 length-pairs_of [] = (omega arith, omega arith)
 length-pairs_of (a ∷ []) = (omega arith, omega arith)
 length-pairs_of (a ∷ b ∷ ts) = let more = length-pairs_of ts in (omega (arith, more.0), omega (arith, more.1))

@@ -1,5 +1,6 @@
 -- What the calls of a list do, on lists of anything.
-use Rattle.std.proofs.Common.{◌≡◌, ℕ, suc, zero, ◌+◌, ◌-◌, ◌<◌, ◌≤◌, Bool, true, false, cond, ltb, Some, None, List, [], ◌∷◌, ◌++◌, length, take, drop, get_or, refl, sym, ap, ◌∙◌, arith, append_assoc, drop-cons, add-one}
+use Rattle.std.proofs.Common.{◌≡◌, ℕ, suc, zero, ◌+◌, ◌-◌, ◌<◌, ◌≤◌, Bool, true, false, cond, ltb, Some, None, List, [], ◌∷◌, ◌++◌, length}
+use Rattle.std.proofs.Common.{take, drop, get_or, refl, sym, ap, ◌∙◌, arith, append_assoc, drop-cons, add-one}
 use Rattle.std.proofs.lemmas.List.{take-append-le, take_all, drop_all, append-nil, length-take, length-drop}
 use Rattle.std.proofs.lemmas.Slice.{between_is}
 use Rattle.std.proofs.lemmas.List.Sums.{position_or_len_is}
@@ -48,18 +49,22 @@ turned_out test most xs i left t ys h within passes n more =
 
 -- it stays, and goes behind
 pub turned_on : {A : Type 0} (test : A → Bool) (most : ℕ) (xs : List A) (i left : ℕ) (t : A) (ys : List A)
-    → IsTurned test most xs i left (t ∷ ys) → i < length xs → (0 < left → test t ≡ false) → IsTurned test most xs (i + 1) left (ys ++ t ∷ [])
+    → IsTurned test most xs i left (t ∷ ys) → i < length xs → (0 < left → test t ≡ false)
+    → IsTurned test most xs (i + 1) left (ys ++ t ∷ [])
 turned_on test most xs i left t ys h within fails =
     let next = next_in_turn xs i h.stay t ys within h.there in
-    let kept : (n : ℕ) → (0 < n → test t ≡ false) → without_first test n (t ∷ drop (i + 1) xs) ≡ t ∷ without_first test n (drop (i + 1) xs) =
+    let kept : (n : ℕ) → (0 < n → test t ≡ false)
+    → without_first test n (t ∷ drop (i + 1) xs) ≡ t ∷ without_first test n (drop (i + 1) xs) =
     keeps test t (drop (i + 1) xs) in
     record {
       stay = h.stay ++ t ∷ [];
       there = ap (λ l. l ++ t ∷ []) next.1 ∙ append_assoc (drop (i + 1) xs) h.stay (t ∷ []);
-      rest = append_assoc h.stay (t ∷ []) (without_first test left (drop (i + 1) xs)) ∙ ap (λ l. h.stay ++ l) (sym (kept left fails)) ∙ ap (λ l. h.stay ++ without_first test left l) next.0 ∙ h.rest;
+      rest = append_assoc h.stay (t ∷ []) (without_first test left (drop (i + 1) xs)) ∙ ap (λ l. h.stay ++ l) (sym (kept left fails))
+          ∙ ap (λ l. h.stay ++ without_first test left l) next.0 ∙ h.rest;
     }
   where
-    keeps : {A : Type 0} (test : A → Bool) (t : A) (xs : List A) (n : ℕ) → (0 < n → test t ≡ false) → without_first test n (t ∷ xs) ≡ t ∷ without_first test n xs
+    keeps : {A : Type 0} (test : A → Bool) (t : A) (xs : List A) (n : ℕ) → (0 < n → test t ≡ false)
+        → without_first test n (t ∷ xs) ≡ t ∷ without_first test n xs
     keeps test t xs zero fails = refl
     keeps test t xs (suc n) fails = ap (λ b. cond b (without_first test n xs) (t ∷ without_first test (suc n) xs)) (fails (omega arith))
 

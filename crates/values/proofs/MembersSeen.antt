@@ -30,7 +30,8 @@ member-seen q [] = refl
 member-seen q (k ∷ ks) =
     ap (λ b. b || list_any (is_here q) ks) (is_eq-slice_cmp q k.items) ∙ ap (λ b. bytes_eq q k.items || b) (member-seen q ks)
 
-texts-match : (o : Ordering) (xs ys zs : List (Vec ℕ)) → texts_of (match_ordering o xs ys zs) ≡ match_ordering o (texts_of xs) (texts_of ys) (texts_of zs)
+texts-match : (o : Ordering) (xs ys zs : List (Vec ℕ))
+    → texts_of (match_ordering o xs ys zs) ≡ match_ordering o (texts_of xs) (texts_of ys) (texts_of zs)
 texts-match Less xs ys zs = refl
 texts-match Equal xs ys zs = refl
 texts-match Greater xs ys zs = refl
@@ -43,7 +44,8 @@ pub insert-seen : (k : Vec ℕ) (ks : List (Vec ℕ)) → texts_of (tree.insert_
 insert-seen k [] = refl
 insert-seen k (x ∷ xs) =
     texts-match (by_bytes k x) (k ∷ x ∷ xs) (x ∷ xs) (x ∷ tree.insert_key by_bytes xs k)
-    ∙ ap (λ rest. match_ordering (by_bytes k x) (k.items ∷ x.items ∷ texts_of xs) (x.items ∷ texts_of xs) (x.items ∷ rest)) (insert-seen k xs)
+    ∙ ap (λ rest. match_ordering (by_bytes k x) (k.items ∷ x.items ∷ texts_of xs) (x.items ∷ texts_of xs) (x.items ∷ rest))
+    (insert-seen k xs)
 
 pub remove-seen : (q : Bytes) (ks : List (Vec ℕ)) → texts_of (remove_key (is_here q) ks) ≡ without_member (texts_of ks) q
 remove-seen q [] = refl
@@ -57,7 +59,8 @@ unfolding IsStrictlySortedBy
 ascending-seen [] h = h
 ascending-seen (k ∷ ks) h = (below ks h.0, ascending-seen ks h.1)
   where
-    below : (xs : List (Vec ℕ)) → AllByRecursion (λ y. by_bytes k y ≡ Less) xs → AllByRecursion (λ y. slice_cmp nat_cmp k.items y ≡ Less) (texts_of xs)
+    below : (xs : List (Vec ℕ)) → AllByRecursion (λ y. by_bytes k y ≡ Less) xs
+        → AllByRecursion (λ y. slice_cmp nat_cmp k.items y ≡ Less) (texts_of xs)
     below [] h = h
     below (x ∷ xs) h = (h.0, below xs h.1)
 
@@ -106,7 +109,8 @@ in_order ms (m ∷ more) above up =
     ∙ in_order (ms ++ m ∷ []) more (still_above more above.1 up.0) up.1 ∙ append_assoc ms (m ∷ []) more
   where
     still_above : (more : List Bytes) → AllByRecursion (λ n. AllByRecursion (λ x. slice_cmp nat_cmp x n ≡ Less) ms) more
-        → AllByRecursion (λ n. slice_cmp nat_cmp m n ≡ Less) more → AllByRecursion (λ n. AllByRecursion (λ x. slice_cmp nat_cmp x n ≡ Less) (ms ++ m ∷ [])) more
+        → AllByRecursion (λ n. slice_cmp nat_cmp m n ≡ Less) more
+        → AllByRecursion (λ n. AllByRecursion (λ x. slice_cmp nat_cmp x n ≡ Less) (ms ++ m ∷ [])) more
     still_above [] above up = tt
     still_above (n ∷ more) above up = (all-pushed (λ x. slice_cmp nat_cmp x n ≡ Less) ms m above.0 up.0, still_above more above.1 up.1)
 
@@ -119,10 +123,12 @@ with_members-ascending members up = in_order [] members (none_there members) up
 
 pub with_members-pushed_seen : (ms : List Bytes) (first : List (Vec ℕ)) (last : Vec ℕ)
     → with_members ms (texts_of (first ++ last ∷ [])) ≡ with_member (with_members ms (texts_of first)) last.items
-with_members-pushed_seen ms first last = ap (with_members ms) (map-append (λ t. t.items) first (last ∷ [])) ∙ with_members-pushed ms (texts_of first) last.items
+with_members-pushed_seen ms first last = ap (with_members ms) (map-append (λ t. t.items) first (last ∷ []))
+    ∙ with_members-pushed ms (texts_of first) last.items
 
 -- the same, of one that was new
-pub without-with_new : (ms : List Bytes) (q : Bytes) (new : Bool) → new ≡ not (is_member ms q) → new ≡ true → without_member (with_member ms q) q ≡ ms
+pub without-with_new : (ms : List Bytes) (q : Bytes) (new : Bool) → new ≡ not (is_member ms q) → new ≡ true
+    → without_member (with_member ms q) q ≡ ms
 without-with_new ms q new e yet = without-with ms q (absent (is_member ms q) (sym e ∙ yet))
   where
     absent : (there : Bool) → not there ≡ true → there ≡ false

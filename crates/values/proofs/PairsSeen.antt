@@ -18,11 +18,13 @@ same_field x y = bytes_eq x.bytes.items y.bytes.items
 abbrev pub is_field : Bytes → HashedText → Bool
 is_field q x = bytes_eq q x.bytes.items
 
-option_map-cond : {A B : Type 0} (f : A → B) (b : Bool) (x y : Option A) → option_map f (cond b x y) ≡ cond b (option_map f x) (option_map f y)
+option_map-cond : {A B : Type 0} (f : A → B) (b : Bool) (x y : Option A)
+    → option_map f (cond b x y) ≡ cond b (option_map f x) (option_map f y)
 option_map-cond f true x y = refl
 option_map-cond f false x y = refl
 
-pub lookup-seen : (q : Bytes) (es : List (HashedText × Vec ℕ)) → option_map (λ v. v.items) (lookup (is_field q) es) ≡ field_value (pairs_seen es) q
+pub lookup-seen : (q : Bytes) (es : List (HashedText × Vec ℕ)) → option_map (λ v. v.items) (lookup (is_field q) es)
+    ≡ field_value (pairs_seen es) q
 lookup-seen q [] = refl
 lookup-seen q (e ∷ es) =
     option_map-cond (λ v. v.items) (is_field q e.0) (Some e.1) (lookup (is_field q) es)
@@ -32,11 +34,13 @@ seen-cond : (b : Bool) (xs ys : List (HashedText × Vec ℕ)) → pairs_seen (co
 seen-cond true xs ys = refl
 seen-cond false xs ys = refl
 
-pub insert-seen : (k : HashedText) (v : Vec ℕ) (es : List (HashedText × Vec ℕ)) → pairs_seen (insert_entry same_field es k v) ≡ with_field (pairs_seen es) k.bytes.items v.items
+pub insert-seen : (k : HashedText) (v : Vec ℕ) (es : List (HashedText × Vec ℕ))
+    → pairs_seen (insert_entry same_field es k v) ≡ with_field (pairs_seen es) k.bytes.items v.items
 insert-seen k v [] = refl
 insert-seen k v (e ∷ es) =
     seen-cond (same_field k e.0) ((e.0, v) ∷ es) (e ∷ insert_entry same_field es k v)
-    ∙ ap (λ rest. cond (same_field k e.0) ((e.0.bytes.items, v.items) ∷ pairs_seen es) ((e.0.bytes.items, e.1.items) ∷ rest)) (insert-seen k v es)
+    ∙ ap (λ rest. cond (same_field k e.0) ((e.0.bytes.items, v.items) ∷ pairs_seen es) ((e.0.bytes.items, e.1.items) ∷ rest))
+    (insert-seen k v es)
 
 pub remove-seen : (q : Bytes) (es : List (HashedText × Vec ℕ)) → pairs_seen (remove_entry (is_field q) es) ≡ without_field (pairs_seen es) q
 remove-seen q [] = refl
@@ -44,12 +48,14 @@ remove-seen q (e ∷ es) =
     seen-cond (is_field q e.0) es (e ∷ remove_entry (is_field q) es)
     ∙ ap (λ rest. cond (is_field q e.0) (pairs_seen es) ((e.0.bytes.items, e.1.items) ∷ rest)) (remove-seen q es)
 
-pub distinct-seen : (es : List (HashedText × Vec ℕ)) → IsDistinct same_field (keys_of es) → IsDistinct bytes_eq (map (λ p. p.0) (pairs_seen es))
+pub distinct-seen : (es : List (HashedText × Vec ℕ)) → IsDistinct same_field (keys_of es)
+    → IsDistinct bytes_eq (map (λ p. p.0) (pairs_seen es))
 unfolding IsDistinct
 distinct-seen [] h = h
 distinct-seen (e ∷ es) h = (apart es h.0, distinct-seen es h.1)
   where
-    apart : (fs : List (HashedText × Vec ℕ)) → AllByRecursion (λ y. same_field e.0 y ≡ false) (keys_of fs) → AllByRecursion (λ y. bytes_eq e.0.bytes.items y ≡ false) (map (λ p. p.0) (pairs_seen fs))
+    apart : (fs : List (HashedText × Vec ℕ)) → AllByRecursion (λ y. same_field e.0 y ≡ false) (keys_of fs)
+        → AllByRecursion (λ y. bytes_eq e.0.bytes.items y ≡ false) (map (λ p. p.0) (pairs_seen fs))
     apart [] h = h
     apart (f ∷ fs) h = (h.0, apart fs h.1)
 

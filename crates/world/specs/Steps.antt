@@ -1,6 +1,7 @@
 -- The eight kinds of step: when each is accepted, what it answers, and the world after it.
 use Rattle.std.specs.FinMap.{get, empty}
-use Rattle.std.specs.Prelude.{◌≡◌, ◌≢◌, ℕ, suc, ◌≤◌, Bool, false, cond, ◌||◌, ◌&&◌, ◌==◌, List, [], ◌∷◌, ◌++◌, length, remove, slice_get, Option, Some, None, Result, Ok, Err}
+use Rattle.std.specs.Prelude.{◌≡◌, ◌≢◌, ℕ, suc, ◌≤◌, Bool, false, cond, ◌||◌, ◌&&◌, ◌==◌, List, [], ◌∷◌, ◌++◌, length, remove, slice_get}
+use Rattle.std.specs.Prelude.{Option, Some, None, Result, Ok, Err}
 use Rattle.command_bodies.specs.Command.{effect_of}
 use Rattle.command_table.specs.Reading.{reading}
 use Rattle.command_table.specs.Refusal.{refusal_text}
@@ -22,7 +23,8 @@ use Rattle.skeen_core.specs.declared.packet.Delivered.{Delivered}
 use Rattle.skeen_core.specs.declared.packet.Packet.{Packet}
 use Rattle.skeen_core.specs.declared.request.RequestId.{RequestId}
 use Rattle.skeen_core.specs.declared.stamp.Stamp.{Stamp}
-use Rattle.world.specs.World.{World, Request, Outcome, Standing, Closed, Idle, Waiting, Answered, Ended, Layer, NoneTaken, Taken, HasRun, Proposals}
+use Rattle.world.specs.World.{World, Request, Outcome, Standing, Closed, Idle, Waiting, Answered, Ended, Layer, NoneTaken, Taken, HasRun}
+use Rattle.world.specs.World.{Proposals}
 
 -- the function with one value changed
 abbrev pub at : {X : Type 0} → (ℕ → X) → ℕ → X → ℕ → X

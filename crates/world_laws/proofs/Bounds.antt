@@ -1,5 +1,6 @@
 -- No number of a world is above the number of steps that led to it.
-use Rattle.std.proofs.Common.{◌≡◌, ℕ, suc, ◌+◌, ◌≤◌, ◌==◌, ◌&&◌, true, false, cond, List, [], ◌∷◌, ◌++◌, length, inl, inr, Option, Some, None, Result, Ok, Err, refl, sym, ap, subst, arith}
+use Rattle.std.proofs.Common.{◌≡◌, ℕ, suc, ◌+◌, ◌≤◌, ◌==◌, ◌&&◌, true, false, cond, List, [], ◌∷◌, ◌++◌, length, inl, inr, Option, Some}
+use Rattle.std.proofs.Common.{None, Result, Ok, Err, refl, sym, ap, subst, arith}
 use Rattle.std.proofs.lemmas.Bool.{cases_Bool}
 use Rattle.std.specs.FinMap.{get}
 use Rattle.std.specs.Option.{is_some}
@@ -13,7 +14,8 @@ use Rattle.placement.specs.Groups.{groups_of}
 use Rattle.placement.specs.Layout.{Layout}
 use Rattle.resp.specs.Content.{Content}
 use Rattle.skeen_core.proofs.Lawful.{None≢Some}
-use Rattle.skeen_core.specs.Group.{GroupState, heard, next_clock, with_start, with_proposal, final_of, lift, lifted, ReceivesStart, Receives}
+use Rattle.skeen_core.specs.Group.{GroupState, heard, next_clock, with_start, with_proposal, final_of, lift, lifted, ReceivesStart}
+use Rattle.skeen_core.specs.Group.{Receives}
 use Rattle.skeen_core.specs.Order.{In}
 use Rattle.skeen_core.specs.Request.{same_id}
 use Rattle.skeen_core.specs.Stamp.{final}
@@ -23,7 +25,8 @@ use Rattle.skeen_core.specs.declared.packet.Delivered.{Delivered}
 use Rattle.skeen_core.specs.declared.packet.Packet.{Packet}
 use Rattle.skeen_core.specs.declared.request.RequestId.{RequestId}
 use Rattle.skeen_core.specs.declared.stamp.Stamp.{Stamp}
-use Rattle.world.specs.Steps.{at, opening, Effect, next_id, clock_of, final_clock, final_clock_of, floor_of, multicast, answered, submitted_to, submitted, hears, Comes, Collects, Steps, Makes, Leads}
+use Rattle.world.specs.Steps.{at, opening, Effect, next_id, clock_of, final_clock, final_clock_of, floor_of, multicast, answered}
+use Rattle.world.specs.Steps.{submitted_to, submitted, hears, Comes, Collects, Steps, Makes, Leads}
 use Rattle.world.specs.World.{World, Request, Standing, Closed, Idle, Waiting, Answered, Proposals}
 use Rattle.world_laws.specs.Good.{Asked, Addressed, Among, bit, starts_of, addresses, log_of, WorldGood, Bounded}
 use Rattle.world_laws.proofs.Groups.{mid_start, mid_proposal, by_test}
@@ -175,7 +178,8 @@ deliver_grown : (t : Layout) (old new : World) (k : ℕ) (effect : Effect) (n : 
 deliver_grown t old new k effect n step good b =
     let parts = split_at old.packets k step.packet step.there in
     let now =
-    body_clock t old n step.packet.to step.packet.id step.packet.body parts.front parts.back step.sent step.delivered step.state parts.whole good b step.receives in
+    body_clock t old n step.packet.to step.packet.id step.packet.body parts.front parts.back step.sent step.delivered step.state parts.whole
+    good b step.receives in
     subst (λ w. Bounded w (suc n)) (sym step.after) (record {
       clocks = λ g. elim (g == step.packet.to) as (λ x. (cond x step.state (old.group g)).clock ≤ suc n) [
         | true ↦ now

@@ -1,5 +1,6 @@
 -- What connections are told, over histories.
-use Rattle.std.proofs.Common.{◌≡◌, ℕ, suc, ◌<◌, ◌==◌, true, false, cond, List, [], ◌∷◌, ◌⊎◌, inl, inr, Some, None, Result, Ok, Err, refl, sym, ap, ◌∙◌, subst, arith, eqb-true, eq-eqb}
+use Rattle.std.proofs.Common.{◌≡◌, ℕ, suc, ◌<◌, ◌==◌, true, false, cond, List, [], ◌∷◌, ◌⊎◌, inl, inr, Some, None, Result, Ok, Err, refl}
+use Rattle.std.proofs.Common.{sym, ap, ◌∙◌, subst, arith, eqb-true, eq-eqb}
 use Rattle.std.proofs.lemmas.Bool.{cases_Bool}
 use Rattle.command_table.specs.Reading.{reading}
 use Rattle.command_table.specs.Refusal.{refusal_text}
@@ -13,7 +14,8 @@ use Rattle.resp.specs.Content.{ErrorLine}
 use Rattle.skeen_core.specs.Group.{EachOnce}
 use Rattle.skeen_core.specs.Order.{In}
 use Rattle.skeen_core.specs.declared.request.RequestId.{RequestId}
-use Rattle.world.specs.Steps.{at, opening, Effect, Opened, Submitted, Ran, Collected, Made, answered, submitted_to, submitted, settled, Collects, Steps, Makes}
+use Rattle.world.specs.Steps.{at, opening, Effect, Opened, Submitted, Ran, Collected, Made, answered, submitted_to, submitted, settled}
+use Rattle.world.specs.Steps.{Collects, Steps, Makes}
 use Rattle.world.specs.World.{World, Outcome, Standing, Closed, Idle, Waiting, Answered, Ended}
 use Rattle.world_laws.specs.Collecting.{with_collected, collected_in, CollectedOnce}
 use Rattle.world_laws.specs.Good.{Pending, WorldGood}

@@ -1,5 +1,6 @@
 -- What callees ask follows from what every world is like.
-use Rattle.std.proofs.Common.{◌≡◌, ℕ, ◌^◌, ◌≤◌, ◌==◌, true, List, [], ◌∷◌, ◌++◌, inl, inr, length, refl, sym, ap, ◌∙◌, subst, arith, eqb-true, eq-eqb, append_assoc}
+use Rattle.std.proofs.Common.{◌≡◌, ℕ, ◌^◌, ◌≤◌, ◌==◌, true, List, [], ◌∷◌, ◌++◌, inl, inr, length, refl, sym, ap, ◌∙◌, subst, arith}
+use Rattle.std.proofs.Common.{eqb-true, eq-eqb, append_assoc}
 use Rattle.std.proofs.lemmas.Bool.{cases_Bool}
 use Rattle.delivery.specs.Queues.{is_above_last, MayAppend, IsSound}
 use Rattle.groups.specs.GroupSet.{has}
@@ -19,7 +20,8 @@ use Rattle.world.specs.Steps.{at, Effect, Comes}
 use Rattle.world.specs.World.{World, Request, Ended, Taken}
 use Rattle.world_laws.specs.Good.{BodyGood, log_of, delivered_of, all_delivered, all_taken, Touching, TakenGood, WorldGood, Bounded}
 use Rattle.world_laws.specs.Order.{HasFinal}
-use Rattle.world_laws.specs.Conditions.{PacketsMayCome, QueuesAreSound, DeliveriesMayAppend, LayersAreSubmitted, LayersAreAbove, SettledIsWaitedFor, NumbersAreBounded}
+use Rattle.world_laws.specs.Conditions.{PacketsMayCome, QueuesAreSound, DeliveriesMayAppend, LayersAreSubmitted, LayersAreAbove}
+use Rattle.world_laws.specs.Conditions.{SettledIsWaitedFor, NumbersAreBounded}
 use Rattle.world_laws.proofs.Bounds.{bounded_world}
 use Rattle.world_laws.proofs.Groups.{}
 use Rattle.world_laws.proofs.Layers.{in_delivered, known_same, ascending_cross, ascending_right}

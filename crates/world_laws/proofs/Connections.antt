@@ -1,5 +1,6 @@
 -- Connections, at each step that touches them.
-use Rattle.std.proofs.Common.{◌≡◌, ℕ, suc, ◌≤◌, ◌<◌, ◌==◌, false, List, [], ◌∷◌, ◌++◌, ◌⊎◌, inl, inr, Option, Some, None, refl, sym, ap, ◌∙◌, subst, arith, eqb-true, eq-eqb, append-nil}
+use Rattle.std.proofs.Common.{◌≡◌, ℕ, suc, ◌≤◌, ◌<◌, ◌==◌, false, List, [], ◌∷◌, ◌++◌, ◌⊎◌, inl, inr, Option, Some, None, refl, sym, ap}
+use Rattle.std.proofs.Common.{◌∙◌, subst, arith, eqb-true, eq-eqb, append-nil}
 use Rattle.std.proofs.lemmas.Bool.{both_ways, cases_Bool}
 use Rattle.skeen_core.proofs.Ids.{same_id-true, eq-same_id}
 use Rattle.skeen_core.proofs.Lists.{In-left, In-right}
@@ -12,7 +13,8 @@ use Rattle.world.specs.World.{Request, Outcome, Standing, Closed, Idle, Waiting,
 use Rattle.world_laws.specs.Good.{Asked, Named, Pending, OutcomeGood, ConnectionsGood}
 use Rattle.world_laws.proofs.Groups.{by_test}
 use Rattle.std.proofs.lemmas.Bool.{cond-true, cond-false}
-use Rattle.world_laws.proofs.Values.{same_request, idle_open, idle_not_waiting, answered_open, answered_not_waiting, idle_not_answered, waiting_not_answered, closed_not_answered, closed_not_waiting, same_outcome}
+use Rattle.world_laws.proofs.Values.{same_request, idle_open, idle_not_waiting, answered_open, answered_not_waiting, idle_not_answered}
+use Rattle.world_laws.proofs.Values.{waiting_not_answered, closed_not_answered, closed_not_waiting, same_outcome}
 
 -- ---- standings
 

@@ -1,5 +1,6 @@
 -- A layer: taken from the queues, run, settled.
-use Rattle.std.proofs.Common.{◌≡◌, ℕ, Bool, true, false, cond, List, [], ◌∷◌, ◌++◌, ◌⊎◌, inl, inr, Option, Some, None, refl, sym, ap, ◌∙◌, subst, append-nil, append_assoc}
+use Rattle.std.proofs.Common.{◌≡◌, ℕ, Bool, true, false, cond, List, [], ◌∷◌, ◌++◌, ◌⊎◌, inl, inr, Option, Some, None, refl, sym, ap, ◌∙◌}
+use Rattle.std.proofs.Common.{subst, append-nil, append_assoc}
 use Rattle.std.proofs.lemmas.Bool.{both_ways}
 use Rattle.std.specs.FinMap.{empty}
 use Rattle.command_bodies.specs.Command.{effect_of}
@@ -18,7 +19,8 @@ use Rattle.skeen_core.specs.declared.packet.Packet.{Packet}
 use Rattle.skeen_core.specs.declared.request.RequestId.{RequestId}
 use Rattle.world.specs.Steps.{names, map_after, after_all, RunInTurn}
 use Rattle.world.specs.World.{Request, Ended, NoneTaken, Taken, HasRun, Proposals}
-use Rattle.world_laws.specs.Good.{Rising, Asked, Known, SkeenGood, AskedGood, delivered_of, all_delivered, all_taken, Touching, TakenGood, RepliesOn, RepliesInTurn, RunGood}
+use Rattle.world_laws.specs.Good.{Rising, Asked, Known, SkeenGood, AskedGood, delivered_of, all_delivered, all_taken, Touching, TakenGood}
+use Rattle.world_laws.specs.Good.{RepliesOn, RepliesInTurn, RunGood}
 use Rattle.world_laws.proofs.Groups.{AskedMore}
 use Rattle.world_laws.proofs.Lists.{rising_append, rising_cross, rising_left}
 use Rattle.skeen_core.proofs.Lawful.{some_same}

@@ -1,5 +1,6 @@
 -- The laws of order, read off what every world is like.
-use Rattle.std.proofs.Common.{◌≡◌, ℕ, ◌+◌, ◌≤◌, ◌<◌, ◌==◌, Bool, true, false, List, [], ◌∷◌, ◌++◌, inl, inr, Option, Some, Result, Ok, Err, refl, sym, ap, ◌∙◌, subst, arith, eqb-true, append-nil, append_assoc}
+use Rattle.std.proofs.Common.{◌≡◌, ℕ, ◌+◌, ◌≤◌, ◌<◌, ◌==◌, Bool, true, false, List, [], ◌∷◌, ◌++◌, inl, inr, Option, Some, Result, Ok, Err}
+use Rattle.std.proofs.Common.{refl, sym, ap, ◌∙◌, subst, arith, eqb-true, append-nil, append_assoc}
 use Rattle.std.proofs.lemmas.Bool.{cases_Bool}
 use Rattle.std.specs.Option.{is_some}
 use Rattle.command_table.specs.Reading.{reading}
@@ -21,8 +22,12 @@ use Rattle.skeen_core.specs.declared.request.RequestId.{RequestId}
 use Rattle.skeen_core.specs.declared.stamp.Stamp.{Stamp}
 use Rattle.world.specs.Steps.{Effect, submitted_to, submitted, Comes, Collects}
 use Rattle.world.specs.World.{World, Request, Standing, Closed, Idle, Waiting, Answered, Ended, Proposals}
-use Rattle.world_laws.specs.Good.{Rising, Asked, Known, BodyGood, bit, starts_of, addresses, log_of, delivered_of, all_delivered, taken_in, all_taken, Touching, TakenGood, WorldGood}
-use Rattle.world_laws.specs.Order.{HasFinal, GroupsAgree, FinalIsGreatest, FinalIsProposed, FinalStampsDiffer, StampsOfConnectionRise, ClockIsAboveProposals, ClockIsAboveDeliveries, ClocksAreBounded, DeliveriesAscend, PacketsGoToAddressed, DeliveriesAreAddressed, Brings, OthersKeepStill, ids_of, EndsOnce, EndsAsSubmitted, TouchingByStamp, TouchingEndInStampOrder, EndedIsKept}
+use Rattle.world_laws.specs.Good.{Rising, Asked, Known, BodyGood, bit, starts_of, addresses, log_of, delivered_of, all_delivered, taken_in}
+use Rattle.world_laws.specs.Good.{all_taken, Touching, TakenGood, WorldGood}
+use Rattle.world_laws.specs.Order.{HasFinal, GroupsAgree, FinalIsGreatest, FinalIsProposed, FinalStampsDiffer, StampsOfConnectionRise}
+use Rattle.world_laws.specs.Order.{ClockIsAboveProposals, ClockIsAboveDeliveries, ClocksAreBounded, DeliveriesAscend, PacketsGoToAddressed}
+use Rattle.world_laws.specs.Order.{DeliveriesAreAddressed, Brings, OthersKeepStill, ids_of, EndsOnce, EndsAsSubmitted, TouchingByStamp}
+use Rattle.world_laws.specs.Order.{TouchingEndInStampOrder, EndedIsKept}
 use Rattle.world_laws.proofs.Bounds.{bounded_world}
 use Rattle.world_laws.proofs.Groups.{}
 use Rattle.world_laws.proofs.Layers.{log_taken, all_delivered-append, in_delivered, taken_once}

@@ -1,5 +1,6 @@
 -- Every world owes what a good one may owe.
-use Rattle.std.proofs.Common.{◌≡◌, ℕ, ◌+◌, ◌==◌, true, false, cond, List, [], ◌∷◌, ◌++◌, ◌⊎◌, inl, inr, Option, Some, None, Result, Ok, Err, refl, sym, ap, ◌∙◌, subst, eqb-true, append_assoc}
+use Rattle.std.proofs.Common.{◌≡◌, ℕ, ◌+◌, ◌==◌, true, false, cond, List, [], ◌∷◌, ◌++◌, ◌⊎◌, inl, inr, Option, Some, None, Result, Ok, Err}
+use Rattle.std.proofs.Common.{refl, sym, ap, ◌∙◌, subst, eqb-true, append_assoc}
 use Rattle.std.specs.FinMap.{get}
 use Rattle.std.specs.Option.{is_some}
 use Rattle.command_table.specs.Reading.{reading}
@@ -21,7 +22,8 @@ use Rattle.skeen_core.specs.declared.packet.Body.TheVariants.{Start, Proposal}
 use Rattle.skeen_core.specs.declared.packet.Delivered.{Delivered}
 use Rattle.skeen_core.specs.declared.packet.Packet.{Packet}
 use Rattle.skeen_core.specs.declared.request.RequestId.{RequestId}
-use Rattle.world.specs.Steps.{at, starts, opening, Effect, next_id, floor_of, multicast, submitted_to, submitted, hears, with_own, now_proposed, Comes, Takes, RunsLayer, Settles, Collects, Steps, Makes, Leads}
+use Rattle.world.specs.Steps.{at, starts, opening, Effect, next_id, floor_of, multicast, submitted_to, submitted, hears, with_own}
+use Rattle.world.specs.Steps.{now_proposed, Comes, Takes, RunsLayer, Settles, Collects, Steps, Makes, Leads}
 use Rattle.world.specs.World.{World, Request, Standing, Closed, Idle, Waiting, Answered, Proposals}
 use Rattle.world_laws.specs.Good.{Asked, BodyGood, bit, starts_of, addresses, log_of, SkeenGood, all_delivered, all_taken, WorldGood}
 use Rattle.world_laws.specs.Quiet.{IsOut, told_by, GroupOwes, OwesGood}
@@ -112,7 +114,8 @@ owes_deliver t old new k effect step good owes =
           (now_proposed old.proposed step.packet.to (old.group step.packet.to) step.packet.id step.packet.body) (l ++ step.sent) g
           (at old.group step.packet.to step.state g)
           (old.gone g ++ at old.queue step.packet.to (old.queue step.packet.to ++ step.delivered) g)) (sym parts.rest)
-          (comes_owing old step.packet.to step.packet.id step.packet.body parts.front parts.back step.sent step.delivered step.state parts.whole good.skeen step.receives owes g);
+          (comes_owing old step.packet.to step.packet.id step.packet.body parts.front parts.back step.sent step.delivered step.state
+          parts.whole good.skeen step.receives owes g);
       taken = owes.taken;
     })
 

@@ -1,5 +1,6 @@
 -- Packets under way: how many Starts there are, and what is sent.
-use Rattle.std.proofs.Common.{◌≡◌, ℕ, ◌+◌, ◌==◌, ◌&&◌, ◌||◌, true, false, cond, List, [], ◌∷◌, ◌++◌, inl, inr, Some, refl, sym, ap, subst, arith, eqb-true, eq-eqb}
+use Rattle.std.proofs.Common.{◌≡◌, ℕ, ◌+◌, ◌==◌, ◌&&◌, ◌||◌, true, false, cond, List, [], ◌∷◌, ◌++◌, inl, inr, Some, refl, sym, ap, subst}
+use Rattle.std.proofs.Common.{arith, eqb-true, eq-eqb}
 use Rattle.std.proofs.lemmas.Bool.{both_ways, cases_Bool, and_right, or_parts, or_left, or_right}
 use Rattle.groups.specs.GroupSet.{has, IsAscending}
 use Rattle.skeen_core.specs.Group.{tell}

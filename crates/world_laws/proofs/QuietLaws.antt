@@ -1,5 +1,6 @@
 -- In a quiet world each request has ended: the one with the least stamp of all that haven't would be ready.
-use Rattle.std.proofs.Common.{◌≡◌, ℕ, zero, suc, ◌<◌, ◌≤◌, ◌==◌, nat_lt, Bool, true, false, List, [], ◌∷◌, ◌⊎◌, inl, inr, Option, Some, None, IsSome, length, refl, sym, ap, ◌∙◌, subst, arith, eq-eqb, ltb-true}
+use Rattle.std.proofs.Common.{◌≡◌, ℕ, zero, suc, ◌<◌, ◌≤◌, ◌==◌, nat_lt, Bool, true, false, List, [], ◌∷◌, ◌⊎◌, inl, inr, Option, Some}
+use Rattle.std.proofs.Common.{None, IsSome, length, refl, sym, ap, ◌∙◌, subst, arith, eq-eqb, ltb-true}
 use Rattle.std.proofs.lemmas.Bool.{both_ways, cases_Bool, cases_order, or_left, or_right, and_parts}
 use Rattle.std.specs.FinMap.{get}
 use Rattle.std.specs.Option.{is_some}

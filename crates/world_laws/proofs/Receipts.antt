@@ -1,5 +1,6 @@
 -- A packet comes to its group: what is known of packets, proposals and groups is kept.
-use Rattle.std.proofs.Common.{◌≡◌, ℕ, ◌+◌, ◌≤◌, ◌<◌, ◌==◌, ◌&&◌, Bool, true, false, cond, List, [], ◌∷◌, ◌++◌, inl, inr, Option, Some, None, IsSome, slice_get, refl, sym, ap, ◌∙◌, subst, arith, eqb-true, eq-eqb, append_assoc, append-nil}
+use Rattle.std.proofs.Common.{◌≡◌, ℕ, ◌+◌, ◌≤◌, ◌<◌, ◌==◌, ◌&&◌, Bool, true, false, cond, List, [], ◌∷◌, ◌++◌, inl, inr, Option, Some, None}
+use Rattle.std.proofs.Common.{IsSome, slice_get, refl, sym, ap, ◌∙◌, subst, arith, eqb-true, eq-eqb, append_assoc, append-nil}
 use Rattle.std.proofs.lemmas.Bool.{both_ways, cases_Bool, and_parts, and_from, and_right}
 use Rattle.std.specs.FinMap.{get}
 use Rattle.std.specs.List.{remove}
@@ -8,7 +9,8 @@ use Rattle.groups.specs.GroupSet.{has}
 use Rattle.skeen_core.proofs.Ids.{same_id-true, same_id-refl}
 use Rattle.skeen_core.proofs.Lawful.{None≢Some}
 use Rattle.skeen_core.proofs.Lists.{In-left, In-right, In-append}
-use Rattle.skeen_core.specs.Group.{GroupState, heard, next_clock, with_start, with_proposal, lifted, Delivering, tell, ReceivesStart, Receives}
+use Rattle.skeen_core.specs.Group.{GroupState, heard, next_clock, with_start, with_proposal, lifted, Delivering, tell, ReceivesStart}
+use Rattle.skeen_core.specs.Group.{Receives}
 use Rattle.skeen_core.specs.Order.{In}
 use Rattle.skeen_core.specs.Request.{same_id}
 use Rattle.skeen_core.specs.declared.packet.Body.{Body}

@@ -1,5 +1,6 @@
 -- What is asked and answered comes from what was submitted.
-use Rattle.std.proofs.Common.{◌≡◌, ℕ, suc, ◌==◌, List, [], ◌∷◌, ◌⊎◌, inl, inr, Option, Some, None, Result, Ok, Err, refl, sym, ap, ◌∙◌, subst}
+use Rattle.std.proofs.Common.{◌≡◌, ℕ, suc, ◌==◌, List, [], ◌∷◌, ◌⊎◌, inl, inr, Option, Some, None, Result, Ok, Err, refl, sym, ap, ◌∙◌}
+use Rattle.std.proofs.Common.{subst}
 use Rattle.std.proofs.lemmas.Bool.{cases_Bool}
 use Rattle.std.specs.FinMap.{empty}
 use Rattle.command_bodies.specs.Command.{effect_of}
@@ -17,7 +18,8 @@ use Rattle.skeen_core.proofs.Lawful.{None≢Some}
 use Rattle.skeen_core.specs.Request.{same_id}
 use Rattle.skeen_core.specs.declared.request.ConnId.{ConnId}
 use Rattle.skeen_core.specs.declared.request.RequestId.{RequestId}
-use Rattle.world.specs.Steps.{at, opening, Effect, Submitted, Collected, next_id, floor_of, multicast, answered, submitted_to, submitted, outcome_of, Collects, Steps, Makes}
+use Rattle.world.specs.Steps.{at, opening, Effect, Submitted, Collected, next_id, floor_of, multicast, answered, submitted_to, submitted}
+use Rattle.world.specs.Steps.{outcome_of, Collects, Steps, Makes}
 use Rattle.world.specs.World.{World, Request, Outcome, Standing, Closed, Idle, Waiting, Answered, Ended}
 use Rattle.world_laws.specs.Collecting.{Submits, WasSubmitted, reply_at_none, reply_at_once, AskedAsSubmitted, CollectsItsOwn}
 use Rattle.world_laws.proofs.Connections.{settled_result}

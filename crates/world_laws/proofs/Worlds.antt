@@ -1,5 +1,6 @@
 -- Each kind of step leads from a good world to a good one.
-use Rattle.std.proofs.Common.{◌≡◌, ℕ, List, [], ◌∷◌, ◌++◌, inl, inr, Some, None, Result, Ok, Err, slice_get, ◌==◌, refl, sym, ap, ◌∙◌, subst, append-nil, eq-eqb}
+use Rattle.std.proofs.Common.{◌≡◌, ℕ, List, [], ◌∷◌, ◌++◌, inl, inr, Some, None, Result, Ok, Err, slice_get, ◌==◌, refl, sym, ap, ◌∙◌}
+use Rattle.std.proofs.Common.{subst, append-nil, eq-eqb}
 use Rattle.std.proofs.lemmas.Bool.{or_left}
 use Rattle.std.specs.FinMap.{empty}
 use Rattle.command_bodies.specs.Command.{effect_of}
@@ -24,14 +25,20 @@ use Rattle.skeen_core.specs.declared.packet.Delivered.{Delivered}
 use Rattle.skeen_core.specs.declared.packet.Packet.{Packet}
 use Rattle.skeen_core.specs.declared.request.RequestId.{RequestId}
 use Rattle.skeen_core.specs.declared.stamp.Stamp.{Stamp}
-use Rattle.world.specs.Steps.{opening, Effect, Opens, next_id, clock_of, final_clock, final_clock_of, floor_of, multicast, answered, submitted_to, submitted, Submits, received, Comes, Takes, RunsLayer, Settles, Collects, Closes, Steps, Makes, Leads}
+use Rattle.world.specs.Steps.{opening, Effect, Opens, next_id, clock_of, final_clock, final_clock_of, floor_of, multicast, answered}
+use Rattle.world.specs.Steps.{submitted_to, submitted, Submits, received, Comes, Takes, RunsLayer, Settles, Collects, Closes, Steps, Makes}
+use Rattle.world.specs.Steps.{Leads}
 use Rattle.world.specs.World.{World, Request, Standing, Closed, Idle, Waiting, Answered, Ended, HasRun}
-use Rattle.world_laws.specs.Good.{Among, GroupGood, log_of, SkeenGood, ShapedFor, delivered_of, all_delivered, all_taken, TakenGood, Pending, ConnectionsGood, WorldGood}
-use Rattle.world_laws.proofs.Connections.{not_pending, connections_open, connections_answered, connections_multicast, connections_collect, connections_close, connections_run, connections_settle}
-use Rattle.world_laws.proofs.Layers.{log_taken, taken_layer, taken_run, run_layer_good, run_more, all_delivered-append, in_delivered, taken_once}
+use Rattle.world_laws.specs.Good.{Among, GroupGood, log_of, SkeenGood, ShapedFor, delivered_of, all_delivered, all_taken, TakenGood}
+use Rattle.world_laws.specs.Good.{Pending, ConnectionsGood, WorldGood}
+use Rattle.world_laws.proofs.Connections.{not_pending, connections_open, connections_answered, connections_multicast, connections_collect}
+use Rattle.world_laws.proofs.Connections.{connections_close, connections_run, connections_settle}
+use Rattle.world_laws.proofs.Layers.{log_taken, taken_layer, taken_run, run_layer_good, run_more, all_delivered-append, in_delivered}
+use Rattle.world_laws.proofs.Layers.{taken_once}
 use Rattle.world_laws.proofs.Lists.{split_at}
 use Rattle.world_laws.proofs.Receipts.{packet_comes, among_comes}
-use Rattle.world_laws.proofs.Requests.{asks_more, skeen_multicast, next_is_new, Rested, requests_multicast, requests_counted, requests_proposed, taken_more}
+use Rattle.world_laws.proofs.Requests.{asks_more, skeen_multicast, next_is_new, Rested, requests_multicast, requests_counted}
+use Rattle.world_laws.proofs.Requests.{requests_proposed, taken_more}
 use Rattle.skeen_core.proofs.Lawful.{some_same}
 use Rattle.world_laws.proofs.Values.{idle_open, idle_not_waiting, closed_not_answered}
 
@@ -172,7 +179,8 @@ keeps_deliver t old new k effect step good =
     let among = among_received t old k step.packet step.sent step.delivered step.state step.there good in
     subst (λ w. WorldGood t w) (sym step.after) (record {
       skeen =
-          packet_comes old.asked old.proposed old.packets old.group old.gone old.queue k step.packet step.sent step.delivered step.state step.there good.skeen step.receives;
+          packet_comes old.asked old.proposed old.packets old.group old.gone old.queue k step.packet step.sent step.delivered step.state
+          step.there good.skeen step.receives;
       requests = requests_proposed t old.asked old.proposed _ old.seq old.last among good.requests;
       taken = taken_more old.asked old.asked old.proposed _ old.gone (all_taken old.ended old.layer) (λ i q e. e) among good.taken;
       connections = good.connections;

@@ -5,9 +5,12 @@ use Rattle.delivery.proofs.queues.pop_heads.Goals as goal
 pub loop-group-preserved : goal.loop-group-preserved
 loop-group-preserved c =
     let at = c.from.ensures ∙ c.number.ensures.same in
-    let low = gone_place c.args.queues.now c.loop-group.queues c.args.groups c.loop-group.group-iterator c.next.new.self c.in-Some.group c.loop-group.invariant c.in-Some.ensures.steps c.requires in
-    let kept : (slice_index_or c.loop-group.queues c.from.result c.index-queues-from.result).room ≤ c.pop.new.self.room = c.pop.ensures.room in
-    gone_more c.args.queues.now c.loop-group.queues c.args.groups c.loop-group.group-iterator c.next.new.self c.from.result c.index-queues-from.result c.pop.new.self
+    let low = gone_place c.args.queues.now c.loop-group.queues c.args.groups c.loop-group.group-iterator c.next.new.self c.in-Some.group
+    c.loop-group.invariant c.in-Some.ensures.steps c.requires in
+    let kept : (slice_index_or c.loop-group.queues c.from.result c.index-queues-from.result).room ≤ c.pop.new.self.room =
+    c.pop.ensures.room in
+    gone_more c.args.queues.now c.loop-group.queues c.args.groups c.loop-group.group-iterator c.next.new.self c.from.result
+    c.index-queues-from.result c.pop.new.self
     c.loop-group.invariant (rw at c.in-Some.ensures.steps)
     (record {
       low = subst (λ n. n < length c.loop-group.queues) (sym at) low;

@@ -8,7 +8,8 @@ use Rattle.hash_commands.proofs.arrays.pairs_reply.Goals as goal
 
 pub loop-place-preserved : goal.loop-place-preserved
 loop-place-preserved c =
-    replies_more c.loop-place.replies.items c.push.new.self.items c.push-in-loop-place.new.self.items c.in_ok-bulk_copy.field-0 c.in_ok-bulk_copy-2.field-0
+    replies_more c.loop-place.replies.items c.push.new.self.items c.push-in-loop-place.new.self.items c.in_ok-bulk_copy.field-0
+    c.in_ok-bulk_copy-2.field-0
     c.args.hash.now c.loop-place.place (c.in-Some.field.now, c.in-Some.value.now) c.in-Some.ensures c.loop-place.invariant
     c.in_ok-bulk_copy.ensures c.in_ok-bulk_copy-2.ensures c.in_ok-push.ensures.items c.in_ok-push-2.ensures.items
 

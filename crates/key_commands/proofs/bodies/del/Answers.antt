@@ -36,17 +36,24 @@ loop-key-preserved g c =
     let m = g.K.Keyspace.contents c.loop-key.keyspace in
     let n = g.K.Keyspace.contents c.take.new.self in
     let k = c.as_slice.result.now in
-    let left : rest ≡ k ∷ ks = rest_item xs i c.key-item.result c.loop-key-test.true c.key-item.is ∙ ap (λ key. key ∷ ks) (sym c.as_slice.ensures.value) in
+    let left : rest ≡ k ∷ ks = rest_item xs i c.key-item.result c.loop-key-test.true c.key-item.is
+    ∙ ap (λ key. key ∷ ks) (sym c.as_slice.ensures.value) in
     let counted : len (restrict m rest) ≡ cond c.is_some.result 1 0 + len (restrict n ks) =
     len_turn m n k rest ks c.take.ensures.removed left
-    ∙ ap (λ b. cond b 1 0 + len (restrict n ks)) {x = is_some (get m k)} (ap is_some {x = get m k} (sym c.take.ensures.before) ∙ sym c.is_some.ensures) in
+    ∙ ap (λ b. cond b 1 0 + len (restrict n ks)) {x = is_some (get m k)} (ap is_some {x = get m k} (sym c.take.ensures.before)
+    ∙ sym c.is_some.ensures) in
     record {
       covers = c.take.ensures.covers ∙ c.loop-key.invariant.covers;
       bounded = elim c.if-is_some.branch [ then-is_some w ↦ omega arith | else-is_some w ↦ omega arith ];
       removes = without_turn m n k rest ks c.take.ensures.removed left ∙ c.loop-key.invariant.removes;
       counts = elim c.if-is_some.branch [
         | then-is_some w ↦ omega (arith, counted, ap (λ b. cond b 1 0 + len (restrict n ks)) w.if-is_some.true, c.loop-key.invariant.counts)
-        | else-is_some w ↦ omega (arith, counted, ap (λ b. cond b 1 0 + len (restrict n ks)) w.if-is_some.false, c.loop-key.invariant.counts)
+        | else-is_some w ↦ omega (
+          arith,
+          counted,
+          ap (λ b. cond b 1 0 + len (restrict n ks)) w.if-is_some.false,
+          c.loop-key.invariant.counts,
+        )
       ];
     }
 

@@ -1,4 +1,4 @@
-use Rattle.std.proofs.Common.{◌≡◌, IsTrue, sym, subst}
+use Rattle.std.proofs.Common.{IsTrue, sym, subst}
 use Rattle.command_cases.proofs.Items.{covered_item}
 use Rattle.key_commands.proofs.looks.exists.Goals as goal
 

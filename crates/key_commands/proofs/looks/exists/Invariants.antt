@@ -10,5 +10,6 @@ invariant-loop-key g l =
     let m = g.K.Keyspace.contents l.keyspace in
     record {
       bounded : l.there ≤ l.key-index;
-      counts : l.there + count_by is_some (values_at m (texts_of (drop l.key-index l.key-items))) ≡ count_by is_some (values_at m l.fn.keys);
+      counts : l.there + count_by is_some (values_at m (texts_of (drop l.key-index l.key-items)))
+          ≡ count_by is_some (values_at m l.fn.keys);
     }

@@ -26,4 +26,5 @@ returns c =
     let within : to ≤ length xs = omega (arith, c.range_of-from.ensures.within, c.len.ensures.len) in
     content-Array c.in_ok-copies.field-0
     ∙ ap (λ rs. Several (contents rs))
-    (c.in_ok-copies.ensures ∙ ap (map BulkText) (sym (range_items-slice c.args.start c.args.end xs from to c.range_of-from.ensures.ordered within places)))
+    (c.in_ok-copies.ensures ∙ ap (map BulkText)
+    (sym (range_items-slice c.args.start c.args.end xs from to c.range_of-from.ensures.ordered within places)))

@@ -17,8 +17,11 @@ loop-request-preserved c =
       count = search rules;
       may = may_append_next qs c.append.new.self.queues g c.in-Some.request c.next.new.self.rest.items low set more;
       room = search rules;
-      whole = λ h. rest_next qs c.append.new.self.queues g c.in-Some.request c.next.new.self.rest.items low set h ∙ ap (λ l. with_rest qs g l h) (sym s.0) ∙ inv.whole h;
+      whole = λ h. rest_next qs c.append.new.self.queues g c.in-Some.request c.next.new.self.rest.items low set h
+          ∙ ap (λ l. with_rest qs g l h) (sym s.0) ∙ inv.whole h;
     }
 
 pub returns-clause-appended : goal.returns-clause-appended
-returns-clause-appended c = λ h. sym (rest_none c.loop-request.queues.queues c.args.group c.loop-request.request-iterator.rest.items (search rules) h) ∙ c.loop-request.invariant.whole h
+returns-clause-appended c =
+    λ h. sym (rest_none c.loop-request.queues.queues c.args.group c.loop-request.request-iterator.rest.items (search rules) h)
+    ∙ c.loop-request.invariant.whole h

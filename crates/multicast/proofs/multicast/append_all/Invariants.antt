@@ -10,5 +10,6 @@ invariant-loop-request l = record {
   count : length l.queues.queues ≡ length l.fn.queues.queues;
   may : MayAppendAll (queue_of l.queues.queues) l.fn.group l.request-iterator.rest.items;
   room : length l.request-iterator.rest.items ≤ room_of l.queues.rooms l.fn.group;
-  whole : (g : ℕ) → with_rest l.queues.queues l.fn.group l.request-iterator.rest.items g ≡ with_rest l.fn.queues.queues l.fn.group l.fn.delivered.items g;
+  whole : (g : ℕ) → with_rest l.queues.queues l.fn.group l.request-iterator.rest.items g
+      ≡ with_rest l.fn.queues.queues l.fn.group l.fn.delivered.items g;
 }

@@ -1,7 +1,8 @@
 use Rattle.std.proofs.Common.{◌≡◌, ◌<◌, ◌+◌, rules, arith, length, ap, sym, ◌∙◌, vec_len, vec_capacity}
 use Rattle.std.specs.Fmt.{signed_decimal}
 use Rattle.resp.specs.Text.{reply_text}
-use Rattle.resp.proofs.Texts.{text-Simple-written, text-Error-written, text-Int-written, text-Bulk-written, text-Array-written, array_head_fits, array_item_fits}
+use Rattle.resp.proofs.Texts.{text-Simple-written, text-Error-written, text-Int-written, text-Bulk-written, text-Array-written}
+use Rattle.resp.proofs.Texts.{array_head_fits, array_item_fits}
 use Rattle.resp.proofs.write.+put.Goals as goal
 
 pub returns-in_ok-put_line-in-Simple-clause-ok : goal.returns-in_ok-put_line-in-Simple-clause-ok
@@ -19,7 +20,8 @@ returns-in_ok-put_line-in-Int-clause-ok t c =
 
 pub returns-in_ok-extend_from_slice-in-Bulk-2-clause-ok : goal.returns-in_ok-extend_from_slice-in-Bulk-2-clause-ok
 returns-in_ok-extend_from_slice-in-Bulk-2-clause-ok t c =
-    text-Bulk-written _ _ _ _ _ _ c.in-Bulk.bytes c.len.result c.in-Bulk.is (c.len.ensures ∙ sym c.deref.ensures.len ∙ ap length c.deref.ensures.value) c.deref.ensures.value
+    text-Bulk-written _ _ _ _ _ _ c.in-Bulk.bytes c.len.result c.in-Bulk.is (c.len.ensures ∙ sym c.deref.ensures.len
+    ∙ ap length c.deref.ensures.value) c.deref.ensures.value
     c.in_ok-put_length-in-Bulk.ensures.ok c.in_ok-extend_from_slice-in-Bulk.ensures.items c.in_ok-extend_from_slice-in-Bulk-2.ensures.items
 
 pub returns-in_err-put_length-in-Array-clause-full : goal.returns-in_err-put_length-in-Array-clause-full
@@ -35,7 +37,8 @@ returns-in_err-put-in-Array-clause-full t c =
     let items = c.deref-reply-items.ensures.value in
     let counted : c.len-in-Array.result ≡ length c.in-Array.replies.items = omega (arith, c.len-in-Array.ensures, c.in-Array.replies.ok) in
     let within : c.loop-reply.reply-index < length c.in-Array.replies.items = omega (arith, ap length items) in
-    let fits = array_item_fits c.args.out.now.items c.put_length-in-Array.new.out.items c.loop-reply.out.items c.args.reply.now c.reply-item.result
+    let fits = array_item_fits c.args.out.now.items c.put_length-in-Array.new.out.items c.loop-reply.out.items c.args.reply.now
+    c.reply-item.result
     c.in-Array.replies c.len-in-Array.result c.loop-reply.reply-index c.in-Array.is counted within (rw items at c.reply-item.is)
     c.in_ok-put_length-in-Array.ensures.ok (rw items at c.loop-reply.invariant.texts) in
     let fails : vec_capacity c.args.out.now < vec_len c.args.out.now + length (reply_text c.args.reply.now) =

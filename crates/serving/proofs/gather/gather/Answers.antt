@@ -16,7 +16,8 @@ returns-in_default g c =
 
 pub returns-in-Err-gather_reply : goal.returns-in-Err-gather_reply
 returns-in-Err-gather_reply g c =
-    gathers_reply g.D.Door.asks _ _ _ _ _ _ _ _ _ _ _ c.loop-decoder.invariant (rw c.in-Some.is at c.in-Ok.ensures.request) c.in-Err-gather_reply.ensures
+    gathers_reply g.D.Door.asks _ _ _ _ _ _ _ _ _ _ _ c.loop-decoder.invariant (rw c.in-Some.is at c.in-Ok.ensures.request)
+    c.in-Err-gather_reply.ensures
     (omega (arith, c.loop-decoder-test.true, c.len.ensures, c.loop-decoder.replies.ok))
 
 pub loop-decoder-smaller : goal.loop-decoder-smaller
@@ -24,8 +25,10 @@ loop-decoder-smaller g c = taking_shorter _ _ _ (rw c.in-Some.is at c.in-Ok.ensu
 
 pub loop-decoder-preserved : goal.loop-decoder-preserved
 loop-decoder-preserved g c =
-    gathering_more g.D.Door.asks _ _ _ _ _ _ 0 _ _ _ c.loop-decoder.invariant (rw c.in-Some.is at c.in-Ok.ensures.request) c.in_default-gather_reply.ensures
+    gathering_more g.D.Door.asks _ _ _ _ _ _ 0 _ _ _ c.loop-decoder.invariant (rw c.in-Some.is at c.in-Ok.ensures.request)
+    c.in_default-gather_reply.ensures
     (omega (arith, c.loop-decoder-test.true, c.len.ensures, c.loop-decoder.replies.ok))
 
 pub returns : goal.returns
-returns g c = gathers_full g.D.Door.asks _ _ _ _ _ c.loop-decoder.invariant (omega (arith, c.loop-decoder-test.false, c.len.ensures, c.loop-decoder.replies.ok.0))
+returns g c = gathers_full g.D.Door.asks _ _ _ _ _ c.loop-decoder.invariant
+    (omega (arith, c.loop-decoder-test.false, c.len.ensures, c.loop-decoder.replies.ok.0))

@@ -8,7 +8,8 @@ use Rattle.skeen_core.proofs.due.due.Goals.{in-Some+in_default-settled, in_defau
 
 pub loop-next-smaller : goal.loop-next-smaller
 loop-next-smaller c =
-    fewer_above c.args.me c.args.started.now c.loop-next.last c.in-Some.next c.in-Some-settled.request c.in-Some.ensures (sym c.settled.ensures ∙ c.in-Some-settled.is)
+    fewer_above c.args.me c.args.started.now c.loop-next.last c.in-Some.next c.in-Some-settled.request c.in-Some.ensures
+    (sym c.settled.ensures ∙ c.in-Some-settled.is)
 
 pub loop-next-init : goal.loop-next-init
 loop-next-init c =
@@ -21,16 +22,19 @@ pub loop-next-preserved : goal.loop-next-preserved
 loop-next-preserved c =
     let is = sym c.settled.ensures ∙ c.in-Some-settled.is in
     let fewer = fewer_above c.args.me c.args.started.now c.loop-next.last c.in-Some.next c.in-Some-settled.request c.in-Some.ensures is in
-    let longer = ap (λ (ds : List Delivered). length ds) c.in_ok-push.ensures.items ∙ length-append c.loop-next.due.items (c.in-Some-settled.request ∷ []) in
+    let longer = ap (λ (ds : List Delivered). length ds) c.in_ok-push.ensures.items
+    ∙ length-append c.loop-next.due.items (c.in-Some-settled.request ∷ []) in
     let before = c.loop-next.invariant.2 in (
       c.loop-next.invariant.0,
-      rw c.in_ok-push.ensures.items (due_more c.args.me c.args.started.now c.loop-next.last c.loop-next.due.items c.in-Some.next c.in-Some-settled.request
+      rw c.in_ok-push.ensures.items
+          (due_more c.args.me c.args.started.now c.loop-next.last c.loop-next.due.items c.in-Some.next c.in-Some-settled.request
           c.loop-next.invariant.0 c.loop-next.invariant.1 c.in-Some.ensures is),
       omega arith,
     )
 
 pub returns-clause-due : goal.returns-clause-due
 returns-clause-due c = elim c.match-next_above.branch [
-  | in-Some+in_default-settled w ↦ due_until c.args.me c.args.started.now c.loop-next.last c.loop-next.due.items w.in-Some.next c.loop-next.invariant.1 w.in-Some.ensures (sym w.settled.ensures ∙ w.in_default-settled.is)
+  | in-Some+in_default-settled w ↦ due_until c.args.me c.args.started.now c.loop-next.last c.loop-next.due.items w.in-Some.next
+      c.loop-next.invariant.1 w.in-Some.ensures (sym w.settled.ensures ∙ w.in_default-settled.is)
   | in_default w ↦ due_all c.args.me c.args.started.now c.loop-next.last c.loop-next.due.items c.loop-next.invariant.1 w.in_default.ensures
 ]

@@ -13,15 +13,19 @@ loop-group-init c =
 pub returns-in_err-clock_of : goal.returns-in_err-clock_of
 returns-in_err-clock_of c =
     c.from_residual.ensures
-    ∙ sym (final_missing (clock_in c.args.proposals.now c.args.id) _ c.loop-group.greatest c.loop-group.group-iterator c.next.new.self c.in-Some.group
+    ∙ sym (final_missing (clock_in c.args.proposals.now c.args.id) _ c.loop-group.greatest c.loop-group.group-iterator c.next.new.self
+    c.in-Some.group
     c.loop-group.invariant c.in-Some.ensures.steps (sym c.in_err-clock_of.ensures))
 
 pub loop-group-preserved : goal.loop-group-preserved
 loop-group-preserved c =
-    let not_less : stamp_lt c.loop-group.greatest (record { clock = c.in_ok-clock_of.field-0; group = c.in-Some.group }) ≡ false = search rules in
-    final_passed (clock_in c.args.proposals.now c.args.id) _ c.loop-group.greatest c.loop-group.greatest c.loop-group.group-iterator c.next.new.self c.in-Some.group c.in_ok-clock_of.field-0
+    let not_less : stamp_lt c.loop-group.greatest (record { clock = c.in_ok-clock_of.field-0; group = c.in-Some.group }) ≡ false =
+    search rules in
+    final_passed (clock_in c.args.proposals.now c.args.id) _ c.loop-group.greatest c.loop-group.greatest c.loop-group.group-iterator
+    c.next.new.self c.in-Some.group c.in_ok-clock_of.field-0
     c.loop-group.invariant c.in-Some.ensures.steps (sym c.in_ok-clock_of.ensures)
     (ap (λ b. cond {A = Stamp} b (record { clock = c.in_ok-clock_of.field-0; group = c.in-Some.group }) c.loop-group.greatest) not_less)
 
 pub returns : goal.returns
-returns c = sym (final_ended (clock_in c.args.proposals.now c.args.id) _ c.loop-group.greatest c.loop-group.group-iterator c.loop-group.invariant c.in-None.ensures.steps.0)
+returns c = sym (final_ended (clock_in c.args.proposals.now c.args.id) _ c.loop-group.greatest c.loop-group.group-iterator
+    c.loop-group.invariant c.in-None.ensures.steps.0)

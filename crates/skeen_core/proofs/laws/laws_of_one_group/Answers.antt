@@ -1,4 +1,5 @@
-use Rattle.skeen_core.proofs.Ahead.{clock_never_falls, clock_is_above_stamps, deliveries_ascend, delivered_is_forgotten, repeats_change_nothing, rule_determines}
+use Rattle.skeen_core.proofs.Ahead.{clock_never_falls, clock_is_above_stamps, deliveries_ascend, delivered_is_forgotten}
+use Rattle.skeen_core.proofs.Ahead.{repeats_change_nothing, rule_determines}
 use Rattle.skeen_core.proofs.laws.laws_of_one_group.Goals as goal
 
 pub returns : goal.returns

@@ -3,7 +3,8 @@ use Rattle.std.proofs.lemmas.List.{length-map, map-append}
 use Rattle.std.specs.Str.{bytes_eq}
 use Rattle.values.proofs.Lists.{IsTurned, turned_out, turned_on, turned_all}
 use Rattle.values.proofs.list_value.remove_from_head.Goals as goal
-use Rattle.values.proofs.list_value.remove_from_head.Goals.{then-left-gt0+then-eq, else-left-gt0, else-left-gt0-via-then-left-gt0+else-eq, else-left-gt0-via-else-left-gt0}
+use Rattle.values.proofs.list_value.remove_from_head.Goals.{then-left-gt0+then-eq, else-left-gt0, else-left-gt0-via-then-left-gt0+else-eq}
+use Rattle.values.proofs.list_value.remove_from_head.Goals.{else-left-gt0-via-else-left-gt0}
 
 pub loop-turn-preserved : goal.loop-turn-preserved
 loop-turn-preserved c =
@@ -35,13 +36,20 @@ loop-turn-preserved c =
             | else-left-gt0-via-else-left-gt0 v ↦ λ some. absurd (omega (arith, v.if-left-gt0.false))
           ] in
           let behind : map (λ t. t.items) w.push_back_reserved.new.self.items ≡ ys ++ t ∷ [] =
-          ap (map (λ t. t.items)) w.push_back_reserved.ensures.items ∙ map-append (λ t. t.items) c.pop_front.new.self.items (c.in-Some.text ∷ []) in
+          ap (map (λ t. t.items)) w.push_back_reserved.ensures.items
+          ∙ map-append (λ t. t.items) c.pop_front.new.self.items (c.in-Some.text ∷ []) in
           record {
             turned =
                 subst (λ n. IsTurned test most xs (i + 1) n (map (λ t. t.items) c.if-left-gt0.texts.items)) (sym w.left-is)
                 (subst (IsTurned test most xs (i + 1) left) (sym (ap (λ q. map (λ t. t.items) q.items) w.texts-is ∙ behind))
                 (turned_on test most xs i left t ys turned within fails));
-            bound = omega (arith, ap (λ q. q.len) w.texts-is, w.push_back_reserved.ensures.len, c.in-Some.ensures.cases, c.loop-turn.invariant.bound);
+            bound = omega (
+              arith,
+              ap (λ q. q.len) w.texts-is,
+              w.push_back_reserved.ensures.len,
+              c.in-Some.ensures.cases,
+              c.loop-turn.invariant.bound,
+            );
           }
     ]
 
@@ -49,6 +57,7 @@ pub returns-clause-left : goal.returns-clause-left
 returns-clause-left c =
     let xs = map (λ t. t.items) c.args.texts.now.items in
     let long : length xs ≡ length c.args.texts.now.items = length-map c.args.texts.now.items (λ t. t.items) in
-    let done = turned_all (bytes_eq c.args.item.now) c.args.most xs c.loop-turn._turn c.loop-turn.left (map (λ t. t.items) c.loop-turn.texts.items) c.loop-turn.invariant.turned
+    let done = turned_all (bytes_eq c.args.item.now) c.args.most xs c.loop-turn._turn c.loop-turn.left
+    (map (λ t. t.items) c.loop-turn.texts.items) c.loop-turn.invariant.turned
     (omega (arith, long, c.loop-turn-test.false, c.len-turn-end.ensures, c.args.texts.now.ok.0)) in
     done

@@ -10,7 +10,8 @@ loop-member-init c =
     let members = c.args.members.items in
     let seen = texts_of c.args.there.now.keys in
     let turned : reverse (texts_of c.reverse.new.self.items) ≡ texts_of members =
-    ap (λ l. reverse (texts_of l)) c.reverse.ensures.items ∙ ap reverse (map-reverse (λ t. t.items) members) ∙ reverse-reverse (texts_of members) in
+    ap (λ l. reverse (texts_of l)) c.reverse.ensures.items ∙ ap reverse (map-reverse (λ t. t.items) members)
+    ∙ reverse-reverse (texts_of members) in
     record {
       set = ap (with_members seen) turned;
       back = ap (λ put. without_members seen (reverse (texts_of put))) c.in_ok-put.ensures.items;

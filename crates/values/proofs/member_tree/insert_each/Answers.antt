@@ -9,7 +9,8 @@ pub loop-member-init : goal.loop-member-init
 loop-member-init c =
     let members = c.args.members.items in
     let turned : reverse (texts_of c.reverse.new.self.items) ≡ texts_of members =
-    ap (λ l. reverse (texts_of l)) c.reverse.ensures.items ∙ ap reverse (map-reverse (λ t. t.items) members) ∙ reverse-reverse (texts_of members) in
+    ap (λ l. reverse (texts_of l)) c.reverse.ensures.items ∙ ap reverse (map-reverse (λ t. t.items) members)
+    ∙ reverse-reverse (texts_of members) in
     ap (with_members (texts_of c.args.there.now.keys)) turned
 
 pub loop-member-preserved : goal.loop-member-preserved

@@ -12,7 +12,8 @@ loop-member-preserved c =
     let rest = texts_of (drop (i + 1) members) in
     let seen = texts_of c.loop-member.there.keys in
     let turn : texts_of (drop i members) ≡ member ∷ rest =
-    map-drop_turn (λ t. t.items) members i c.member-item.result c.loop-member-test.true c.member-item.is ∙ ap (λ t. t ∷ rest) (sym c.as_slice.ensures.value) in
+    map-drop_turn (λ t. t.items) members i c.member-item.result c.loop-member-test.true c.member-item.is
+    ∙ ap (λ t. t ∷ rest) (sym c.as_slice.ensures.value) in
     let removed : texts_of c.remove.new.there.keys ≡ without_member seen member =
     c.remove.ensures.left in
     record {

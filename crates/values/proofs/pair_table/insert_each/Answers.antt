@@ -10,7 +10,8 @@ loop-field-init c =
     let turns = c.args.turns.items in
     let seen = pairs_seen c.args.pairs.now.entries in
     let turned : reverse (texts_of c.reverse.new.self.items) ≡ texts_of turns =
-    ap (λ l. reverse (texts_of l)) c.reverse.ensures.items ∙ ap reverse (map-reverse (λ t. t.items) turns) ∙ reverse-reverse (texts_of turns) in
+    ap (λ l. reverse (texts_of l)) c.reverse.ensures.items ∙ ap reverse (map-reverse (λ t. t.items) turns)
+    ∙ reverse-reverse (texts_of turns) in
     record {
       set = ap (λ l. with_fields seen (pairs_of l)) turned;
       room = omega (arith, ap length c.reverse.ensures.items, length-reverse turns, c.requires);
@@ -35,6 +36,14 @@ loop-field-preserved c =
       set =
           ap (λ ps. with_fields ps (pairs_of (reverse (texts_of after)))) set_here
           ∙ ap (λ l. with_fields seen (pairs_of l)) (sym turn) ∙ c.loop-field.invariant.set;
-      room = omega (arith, ap length c.in-Some-Some.ensures.items, length-append between (field ∷ []), ap length c.in-Some-Some.ensures'.items, length-append after (value ∷ []), c.loop-field.invariant.room, c.in-Ok.ensures.spare);
+      room = omega (
+        arith,
+        ap length c.in-Some-Some.ensures.items,
+        length-append between (field ∷ []),
+        ap length c.in-Some-Some.ensures'.items,
+        length-append after (value ∷ []),
+        c.loop-field.invariant.room,
+        c.in-Ok.ensures.spare,
+      );
       bound = omega (arith, c.in-Ok.ensures.bound, c.loop-field.invariant.bound);
     }

@@ -12,7 +12,8 @@ loop-field-preserved c =
     let rest = texts_of (drop (i + 1) fields) in
     let seen = pairs_seen c.loop-field.pairs.entries in
     let turn : texts_of (drop i fields) ≡ field ∷ rest =
-    map-drop_turn (λ t. t.items) fields i c.field-item.result c.loop-field-test.true c.field-item.is ∙ ap (λ t. t ∷ rest) (sym c.as_slice.ensures.value) in
+    map-drop_turn (λ t. t.items) fields i c.field-item.result c.loop-field-test.true c.field-item.is
+    ∙ ap (λ t. t ∷ rest) (sym c.as_slice.ensures.value) in
     let removed : pairs_seen c.remove.new.pairs.entries ≡ without_field seen field =
     c.remove.ensures.left in
     record {

@@ -1,4 +1,7 @@
-use Rattle.world_laws.proofs.OrderLaws.{groups_agree, final_is_greatest, final_is_told, final_stamps_differ, stamps_of_connection_rise, clock_is_above_proposals, clock_is_above_deliveries, clocks_are_bounded, deliveries_ascend, packets_go_to_addressed, deliveries_are_addressed, others_keep_still, ends_once, ends_as_submitted, touching_end_in_stamp_order, ended_is_kept}
+use Rattle.world_laws.proofs.OrderLaws.{groups_agree, final_is_greatest, final_is_told, final_stamps_differ, stamps_of_connection_rise}
+use Rattle.world_laws.proofs.OrderLaws.{clock_is_above_proposals, clock_is_above_deliveries, clocks_are_bounded, deliveries_ascend}
+use Rattle.world_laws.proofs.OrderLaws.{packets_go_to_addressed, deliveries_are_addressed, others_keep_still, ends_once, ends_as_submitted}
+use Rattle.world_laws.proofs.OrderLaws.{touching_end_in_stamp_order, ended_is_kept}
 use Rattle.world_laws.proofs.order.order_of_requests.Goals as goal
 
 pub returns : goal.returns

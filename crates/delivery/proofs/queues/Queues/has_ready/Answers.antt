@@ -13,6 +13,7 @@ returns c =
     let qs = requests_of c.as_slice-queues.result.now in
     let same = ap requests_of value ∙ same_queues c.self.inside.queues.items c.args.self.now c.self.view_is in (
       (λ e. absurd (both_ways _ refl e)),
-      (λ w. absurd (none_ready qs c.loop-place.place (omega (arith, length-map c.as_slice-queues.result.now (λ q. q.requests))) c.loop-place.invariant w.0
+      (λ w. absurd (none_ready qs c.loop-place.place (omega (arith, length-map c.as_slice-queues.result.now (λ q. q.requests)))
+          c.loop-place.invariant w.0
           (subst (λ l. IsReady (queue_of l) w.0) (sym same) w.1))),
     )

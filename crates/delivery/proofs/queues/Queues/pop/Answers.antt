@@ -26,4 +26,5 @@ returns-clause-popped c =
     let it = back c.pop_heads.new.queues qs c.self.inside.queues.len long c.self.inside.queues.ok.0 in
     let is : (g : ℕ) → queue_of (requests_of c.pop_heads.new.queues) g ≡ popped c.args.request.now (queue_of (requests_of qs)) g =
     λ g. c.pop_heads.ensures.popped g ∙ ap (λ (l : List QueueView). popped c.args.request.now (queue_of (requests_of l)) g) now in
-    ap (λ l. queue_of (requests_of l)) it ∙ (λ i g. is g i) ∙ ap (λ l. popped c.args.request.now (queue_of l)) (same_queues qs c.args.self.now c.self.view_is)
+    ap (λ l. queue_of (requests_of l)) it ∙ (λ i g. is g i)
+    ∙ ap (λ l. popped c.args.request.now (queue_of l)) (same_queues qs c.args.self.now c.self.view_is)

@@ -5,7 +5,8 @@ use Rattle.groups.proofs.group_set.GroupsPartialEq.eq.Goals as goal
 
 pub returns-clause-same : goal.returns-clause-same
 returns-clause-same c =
-    rw (← c.self.view_is, ← c.other.view_is) (same_from_decides _ _ (Decides-words _ _ c.self.invariant c.other.invariant) (bytes_eq-Decides _ _))
+    rw (← c.self.view_is, ← c.other.view_is)
+    (same_from_decides _ _ (Decides-words _ _ c.self.invariant c.other.invariant) (bytes_eq-Decides _ _))
 
 pub returns-clause-equal : goal.returns-clause-equal
 returns-clause-equal c =

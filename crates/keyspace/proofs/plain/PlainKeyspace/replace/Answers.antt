@@ -22,4 +22,5 @@ pub returns-clause-replaced : goal.returns-clause-replaced
 returns-clause-replaced g c =
     let there = subst IsSome (get-map_of c.args.self.now.entries.entries c.args.key.now) c.requires.there in
     let u = (c.get_mut.follows.holds c.replace.new.dest).3 there in
-    map_of-inserted c.args.key.now c.args.self.now.entries.entries _ c.args.value (u.1 ∙ ap Some {x = c.replace.new.dest} c.replace.ensures.after) u.3
+    map_of-inserted c.args.key.now c.args.self.now.entries.entries _ c.args.value (u.1
+    ∙ ap Some {x = c.replace.new.dest} c.replace.ensures.after) u.3

@@ -15,8 +15,15 @@ pub returns : goal.returns
 returns c =
     let sound = subst (λ (v : MulticastView). IsSound (queue_of v.queues)) (sym c.self.view_is) c.requires.sound in
     let is = subst (λ (v : MulticastView). IsLayer (queue_of v.queues) c.args.layer.now) (sym c.self.view_is) c.requires.layer in
-    subst (λ (v : MulticastView). LosesLayer v c.args.layer.now (record { groups = c.self.inside.groups.items; packets = c.self.inside.links.packets; queues = c.pop_all.new.self.queues; room = c.self.inside.links.room })) c.self.view_is (record {
+    subst (λ (v : MulticastView). LosesLayer v c.args.layer.now
+    (record {
+      groups = c.self.inside.groups.items;
+      packets = c.self.inside.links.packets;
+      queues = c.pop_all.new.self.queues;
+      room = c.self.inside.links.room;
+    })) c.self.view_is (record {
       groups = refl;
       packets = refl;
-      queue = once_popped (queue_of c.self.inside.queues.queues) (queue_of c.pop_all.new.self.queues) c.args.layer.now sound is c.pop_all.ensures.popped;
+      queue = once_popped (queue_of c.self.inside.queues.queues) (queue_of c.pop_all.new.self.queues) c.args.layer.now sound is
+          c.pop_all.ensures.popped;
     })

@@ -6,4 +6,6 @@ use Rattle.multicast.specs.Multicast.{MulticastView}
 use Rattle.multicast.proofs.multicast.Multicast.ready.Goals as goal
 
 pub returns-clause-succeeds : goal.returns-clause-succeeds
-returns-clause-succeeds c = λ none. c.ready.ensures.succeeds (subst (λ (v : MulticastView). (d : Delivered) → IsReady (queue_of v.queues) d → ⊥) (sym c.self.view_is) none)
+returns-clause-succeeds c =
+    λ none. c.ready.ensures.succeeds
+    (subst (λ (v : MulticastView). (d : Delivered) → IsReady (queue_of v.queues) d → ⊥) (sym c.self.view_is) none)

@@ -14,7 +14,8 @@ pub loop-index-preserved : goal.loop-index-preserved
 loop-index-preserved c =
     let within : c.loop-index.index < length (keys_of c.args.command.now) = omega arith in
     c.with-groups.ensures ∙ rw c.loop-index.invariant
-    (with-key c.args.self.now (keys_of c.args.command.now) c.loop-index.index c.key_at.result.now c.shard_of.result within c.key_at.ensures c.shard_of.ensures.value c.shard_of.ensures.in_range)
+    (with-key c.args.self.now (keys_of c.args.command.now) c.loop-index.index c.key_at.result.now c.shard_of.result within c.key_at.ensures
+    c.shard_of.ensures.value c.shard_of.ensures.in_range)
 
 exact : (c : After-loop-index) → c.loop-index.groups ≡ groups_of c.args.self.now c.args.command.now
 exact c =
@@ -26,7 +27,8 @@ pub returns-clause-exact : goal.returns-clause-exact
 returns-clause-exact c = exact c
 
 pub returns-clause-each_key : goal.returns-clause-each_key
-returns-clause-each_key c = λ key at. rw (exact c) (has-groups_of-key c.args.self.now c.args.command.now key c.shards-shards.ensures.is_table at)
+returns-clause-each_key c =
+    λ key at. rw (exact c) (has-groups_of-key c.args.self.now c.args.command.now key c.shards-shards.ensures.is_table at)
 
 pub returns-clause-no_other : goal.returns-clause-no_other
 returns-clause-no_other c = λ part group has. Any-groups_of c.args.self.now c.args.command.now group part (rw (exact c) at has)

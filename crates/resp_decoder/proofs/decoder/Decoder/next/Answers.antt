@@ -10,7 +10,9 @@ returns-in_default-fault c =
       request = tt;
       waits = tt;
       fault = λ no_memory.
-          fails_from c.self.inside.limits c.self.inside.progress c.self.inside.buffer.items c.deref.result.now c.self.inside.fault c.args.self.now.held c.fail.new.self.held c.in-Err-Bad.fault (ap (λ (v : DecoderView). v.held) c.self.view_is) c.in_default.is c.deref.ensures.value (reads no_memory) c.fail.ensures.held;
+          fails_from c.self.inside.limits c.self.inside.progress c.self.inside.buffer.items c.deref.result.now c.self.inside.fault
+          c.args.self.now.held c.fail.new.self.held c.in-Err-Bad.fault (ap (λ (v : DecoderView). v.held) c.self.view_is) c.in_default.is
+          c.deref.ensures.value (reads no_memory) c.fail.ensures.held;
       memory = λ is_memory. absurd (c.in_default-fault.not-Memory is_memory);
       wants = λ is_memory. absurd (c.in_default-fault.not-Memory is_memory);
       count_alone = c.fail.ensures.count_alone;

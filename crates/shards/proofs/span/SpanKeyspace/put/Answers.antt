@@ -23,7 +23,9 @@ one_of : {X E : Type 0} {A B : Type 0} (r : Result X E) → OnOk r A → OnErr r
 one_of (Ok x) a b = inl a
 one_of (Err x) a b = inr b
 
-spot : (g : Over) (c : goal.After-self-1 g) → Spot g.F.SpanFrame.layout g.F.SpanFrame.groups c.self.inside.shards.items c.args.self.now c.index_of-index.result c.index_mut.result.now c.args.key.items
+spot : (g : Over) (c : goal.After-self-1 g)
+    → Spot g.F.SpanFrame.layout g.F.SpanFrame.groups c.self.inside.shards.items c.args.self.now c.index_of-index.result
+    c.index_mut.result.now c.args.key.items
 spot g c = record {
   shown = c.self.view_is;
   span = c.self.invariant.1;

@@ -3,7 +3,9 @@ use Rattle.shards.proofs.Unions.{Spot, get_here, changed_span, changed_union}
 use Rattle.shards.proofs.span.SpanKeyspace.take.Given.{Over}
 use Rattle.shards.proofs.span.SpanKeyspace.take.Goals as goal
 
-spot : (g : Over) (c : goal.After-self-1 g) → Spot g.F.SpanFrame.layout g.F.SpanFrame.groups c.self.inside.shards.items c.args.self.now c.index_of-index.result c.index_mut.result.now c.args.key.now
+spot : (g : Over) (c : goal.After-self-1 g)
+    → Spot g.F.SpanFrame.layout g.F.SpanFrame.groups c.self.inside.shards.items c.args.self.now c.index_of-index.result
+    c.index_mut.result.now c.args.key.now
 spot g c = record {
   shown = c.self.view_is;
   span = c.self.invariant.1;

@@ -11,10 +11,12 @@ returns-then-self-le-GREATEST_CLOCK c =
     let g = c.self.inside in
     let p = c.args.packet.now in
     let body = body_may_come g.id g.proposals.items p.id p.body in
-    let is : c.body_may_come.result ≡ (p.to == g.id && (nat_le g.clock (2 ^ 62) && body_may_come g.id g.proposals.items p.id p.body)) = elim c.if-eq.branch [
+    let is : c.body_may_come.result ≡ (p.to == g.id && (nat_le g.clock (2 ^ 62) && body_may_come g.id g.proposals.items p.id p.body)) =
+    elim c.if-eq.branch [
       | then-eq w ↦
           c.body_may_come.ensures ∙ ap (λ l. body_may_come g.id l p.id p.body) c.as_slice.ensures.value
-          ∙ sym (ap (λ b. b && (nat_le g.clock (2 ^ 62) && body)) (sym c.eq.ensures ∙ w.if-eq.true) ∙ ap (λ b. b && body) (sym w.value-is ∙ c.if-self-le-GREATEST_CLOCK.true))
+          ∙ sym (ap (λ b. b && (nat_le g.clock (2 ^ 62) && body)) (sym c.eq.ensures ∙ w.if-eq.true)
+          ∙ ap (λ b. b && body) (sym w.value-is ∙ c.if-self-le-GREATEST_CLOCK.true))
       | else-eq w ↦ absurd (both_ways _ (w.value-is ∙ w.if-eq.false) c.if-self-le-GREATEST_CLOCK.true)
     ] in
     subst (λ (v : GroupView). IsTrue c.body_may_come.result ↔ MayCome v p) c.self.view_is

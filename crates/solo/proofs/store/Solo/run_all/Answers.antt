@@ -32,9 +32,11 @@ loop-command-preserved g c = record {
 pub returns-in_err-replies-clause-err : goal.returns-in_err-replies-clause-err
 returns-in_err-replies-clause-err g c =
     let p = err_from_is_err_and c.from_residual.result c.from_residual.ensures.1 in
-    rw p.1 (none_ran c.args.commands.items c.args.self.now (λ none. false≢true (c.in_err-replies.ensures.succeeds (c.len.ensures ∙ c.args.commands.ok.0 ∙ none))))
+    rw p.1 (none_ran c.args.commands.items c.args.self.now
+    (λ none. false≢true (c.in_err-replies.ensures.succeeds (c.len.ensures ∙ c.args.commands.ok.0 ∙ none))))
 
 pub returns-in_default-clause-err : goal.returns-in_default-clause-err
 returns-in_default-clause-err g c =
     some_ran c.args.commands.items c.loop-command.yielded _ _ c.in-Some.command c.args.self.now c.loop-command.self _ _
-    c.in-Some.ensures.steps.0 c.loop-command.invariant.split c.loop-command.invariant.run c.in_default.ensures.does c.in_default.ensures.starves
+    c.in-Some.ensures.steps.0 c.loop-command.invariant.split c.loop-command.invariant.run c.in_default.ensures.does
+    c.in_default.ensures.starves
