@@ -332,14 +332,20 @@ fn several_keys_and_fields_answer_in_turn(rt: HostRuntime) -> Result<(), Fail> {
         (&["MGET", "f", "d"], "*2\r\n$1\r\n2\r\n$1\r\n5\r\n"),
         (&["HINCRBY", "h", "n", "5"], ":5\r\n"),
         (&["HINCRBY", "h", "n", "-7"], ":-2\r\n"),
-        (&["HINCRBY", "h", "m", "9223372036854775807"], ":9223372036854775807\r\n"),
+        (
+            &["HINCRBY", "h", "m", "9223372036854775807"],
+            ":9223372036854775807\r\n",
+        ),
         (
             &["HINCRBY", "h", "m", "1"],
             "-ERR increment or decrement would overflow\r\n",
         ),
         (&["HSET", "h", "t", "x"], ":1\r\n"),
         (&["HINCRBY", "h", "t", "1"], no_integer),
-        (&["HVALS", "h"], "*3\r\n$2\r\n-2\r\n$19\r\n9223372036854775807\r\n$1\r\nx\r\n"),
+        (
+            &["HVALS", "h"],
+            "*3\r\n$2\r\n-2\r\n$19\r\n9223372036854775807\r\n$1\r\nx\r\n",
+        ),
     ];
     for (words, reply) in rows {
         let text = answer(&rt, rt.alloc(), &mut keyspace, words)?;

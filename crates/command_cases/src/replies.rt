@@ -50,7 +50,5 @@ pub fn no_such_key_reply() -> Reply
 pub fn would_overflow_reply() -> Reply
     ensures { content result ≡ would_overflow }
 {
-    Reply::Error(ErrorText::Fixed(
-        "ERR increment or decrement would overflow",
-    ))
+    Reply::Error(ErrorText::Fixed("ERR increment or decrement would overflow"))
 }

@@ -50,7 +50,7 @@ reading-before [] qs n words read e = absurd cc
 reading-before (r ∷ rs) qs n words read e =
     elim (bytes_eq n r.name)
     as (λ b. option_map (λ q. row_reading q words) (if b then Some r else row_of rs n) ≡ Some read →
-        option_map (λ q. row_reading q words) (if b then Some r else row_of (rs ++ qs) n) ≡ Some read) [
+    option_map (λ q. row_reading q words) (if b then Some r else row_of (rs ++ qs) n) ≡ Some read) [
       | true ↦ λ here. here
       | false ↦ λ there. reading-before rs qs n words read there
     ] e

@@ -1,7 +1,9 @@
 -- A packet that comes in the system comes in the world, and may come.
-use Rattle.std.proofs.Common.{◌≡◌, ℕ, zero, suc, ◌<◌, ◌≤◌, ◌^◌, ◌==◌, Bool, true, false, cond, List, [], ◌∷◌, ◌++◌, ◌⊎◌, inl, inr, length, remove, slice_get, Option, Some, None, refl, sym, ap, ◌∙◌, subst, arith, eqb-true, eq-eqb, ltb-true, append-nil, append_assoc}
+use Rattle.std.proofs.Common.{◌≡◌, ℕ, zero, suc, ◌<◌, ◌≤◌, ◌^◌, ◌==◌, true, false, cond, List, [], ◌∷◌, ◌++◌, inl, inr}
+use Rattle.std.proofs.Common.{length, remove, slice_get, Some, refl, sym, ap, ◌∙◌, subst, eqb-true, eq-eqb, ltb-true}
+use Rattle.std.proofs.Common.{append-nil, append_assoc}
 use Rattle.std.proofs.Math.Seq.{append_snoc}
-use Rattle.std.proofs.lemmas.Bool.{and_parts, cases_Bool}
+use Rattle.std.proofs.lemmas.Bool.{and_parts}
 use Rattle.command_table.specs.declared.command.Command.{Command}
 use Rattle.delivery.specs.Queues.{queue_of, MayAppend}
 use Rattle.delivery.specs.Ready.{QueueOf}
@@ -14,12 +16,10 @@ use Rattle.placement.specs.Layout.{Layout}
 use Rattle.skeen_core.proofs.Lawful.{some_same}
 use Rattle.skeen_core.specs.Group.{GroupState, MayCome, Receives}
 use Rattle.skeen_core.specs.Order.{In}
-use Rattle.skeen_core.specs.Stamp.{stamp_lt}
 use Rattle.skeen_core.specs.declared.packet.Delivered.{Delivered}
 use Rattle.skeen_core.specs.declared.packet.Packet.{Packet}
-use Rattle.skeen_core.specs.declared.stamp.Stamp.{Stamp}
 use Rattle.system_view.specs.Multicast.{ShowsMulticast}
-use Rattle.world.specs.Steps.{at, opening, Effect, Made, Comes, received, Leads}
+use Rattle.world.specs.Steps.{at, opening, Made, Comes, received, Leads}
 use Rattle.world.specs.World.{World, Request}
 use Rattle.world_laws.proofs.ConditionLaws.{packets_may_come, deliveries_may_append}
 use Rattle.world_laws.proofs.Worlds.{good_world}
@@ -50,54 +50,43 @@ at_here : {X : Type 0} (f : ℕ → X) (g : ℕ) (x : X) → at f g x g ≡ x
 at_here f g x = ap (λ b. cond b x (f g)) (eq-eqb g g refl)
 
 module _ (queue : QueueOf) (g : ℕ) (all : List Delivered)
-    (joins : (front : List Delivered) (d : Delivered) (back : List Delivered) → all ≡ front ++ d ∷ back → MayAppend (at queue g (queue g ++ front)) g d) where
-  behind : (front : List Delivered) (ds : List Delivered) → all ≡ front ++ ds → MayAppendAll (at queue g (queue g ++ front)) g ds
+    (joins : (front : List Delivered) (d : Delivered) (back : List Delivered) → all ≡ front ++ d ∷ back →
+    MayAppend (at queue g (queue g ++ front)) g d) where
+  behind : (front : List Delivered) (ds : List Delivered) → all ≡ front ++ ds →
+      MayAppendAll (at queue g (queue g ++ front)) g ds
   behind front [] split = tt
   behind front (d ∷ ds) split = (
     joins front d ds split,
-    subst (λ q. MayAppendAll q g ds) (λ k h. sym (more h) k) (behind (front ++ d ∷ []) ds (split ∙ sym (append_snoc front d ds))),
+    subst (λ q. MayAppendAll q g ds) (λ k h. sym (more h) k)
+        (behind (front ++ d ∷ []) ds (split ∙ sym (append_snoc front d ds))),
   )
     where
-      more : (h : ℕ) → at (at queue g (queue g ++ front)) g (at queue g (queue g ++ front) g ++ d ∷ []) h ≡ at queue g (queue g ++ (front ++ d ∷ [])) h
+      more : (h : ℕ) →
+          at (at queue g (queue g ++ front)) g (at queue g (queue g ++ front) g ++ d ∷ []) h ≡ at queue g
+          (queue g ++ (front ++ d ∷ [])) h
       more h =
           at_twice queue g (queue g ++ front) (at queue g (queue g ++ front) g ++ d ∷ []) h
-          ∙ ap (λ (x : List Delivered). at queue g x h) (ap (λ (x : List Delivered). x ++ d ∷ []) (at_here queue g (queue g ++ front)) ∙ append_assoc (queue g) front (d ∷ []))
+          ∙ ap (λ (x : List Delivered). at queue g x h)
+          (ap (λ (x : List Delivered). x ++ d ∷ []) (at_here queue g (queue g ++ front))
+          ∙ append_assoc (queue g) front (d ∷ []))
 
   all_append : MayAppendAll queue g all
-  all_append = subst (λ q. MayAppendAll q g all) (λ k h. at_same queue g (queue g ++ []) (append-nil (queue g)) h k) (behind [] all refl)
+  all_append =
+      subst (λ q. MayAppendAll q g all) (λ k h. at_same queue g (queue g ++ []) (append-nil (queue g)) h k)
+      (behind [] all refl)
 
 -- ---- a packet comes
 
-module _ (t : Layout) (v : MulticastView) (w : World) (steps : List Step) (leads : Leads t opening steps w) (few : length steps ≤ 2 ^ 62) (shows : ShowsMulticast t v w) where
+module _ (t : Layout) (v : MulticastView) (w : World) (shows : ShowsMulticast t v w) where
   group_is : (g : ℕ) → group_of v.groups g ≡ w.group g
   group_is = shows.groups
 
   queues_are : queue_of v.queues ≡ w.queue
   queues_are = λ k g. shows.queues g k
 
-  -- each packet under way may come, and what is delivered then may be appended
-  pub may_be_delivered : (k : ℕ) (p : Packet) → slice_get v.packets k ≡ Some p → MayBeDelivered v p
-  may_be_delivered k p found =
-      let there = subst (λ ps. slice_get ps k ≡ Some p) shows.packets found in
-      let under_way = stands w.packets k p there in
-      let to = packets_go_to_addressed t steps w leads p under_way in
-      record {
-        there = subst (λ n. p.to < n) (sym shows.count) (below to.0 to.1 to.2);
-        comes = subst (λ s. MayCome (record { me = p.to; state = s }) p) (sym (group_is p.to)) (packets_may_come t steps w leads few p under_way);
-        appends = λ sent ds state receives.
-            let receives' = subst (λ s. Receives p.to s p.id p.body sent ds state) (group_is p.to) receives in
-            let comes : Comes w k Made (received w k p sent ds state) = record { packet = p; sent = sent; delivered = ds; state = state; there = there; receives = receives'; answers = refl; after = refl } in
-            subst (λ q. MayAppendAll q p.to ds) (sym queues_are)
-            (all_append w.queue p.to ds (deliveries_may_append t steps w (received w k p sent ds state) k Made leads comes));
-      }
-    where
-      below : (q : Request) → w.asked p.id ≡ Some q → has q.groups p.to ≡ true → p.to < t.shards
-      below q asked member =
-          let shaped = (good_world t steps w leads).requests.shaped p.id q asked in
-          group_below t q.command p.to (subst (λ gs. has gs p.to ≡ true) (sym shaped.groups) member)
-
-  -- and where it comes in the system it comes in the world
-  pub shows_deliver : (new : MulticastView) (k : ℕ) → Delivers v k new → (w' : World) × Comes w k Made w' × ShowsMulticast t new w'
+  -- where a packet comes in the system it comes in the world
+  pub shows_deliver : (new : MulticastView) (k : ℕ) → Delivers v k new →
+      (w' : World) × Comes w k Made w' × ShowsMulticast t new w'
   shows_deliver new k d = (
     received w k d.packet d.sent d.delivered d.state,
     record {
@@ -106,7 +95,9 @@ module _ (t : Layout) (v : MulticastView) (w : World) (steps : List Step) (leads
       delivered = d.delivered;
       state = d.state;
       there = subst (λ ps. slice_get ps k ≡ Some d.packet) shows.packets d.there;
-      receives = subst (λ s. Receives d.packet.to s d.packet.id d.packet.body d.sent d.delivered d.state) (group_is d.packet.to) d.receives;
+      receives =
+          subst (λ s. Receives d.packet.to s d.packet.id d.packet.body d.sent d.delivered d.state)
+          (group_is d.packet.to) d.receives;
       answers = refl;
       after = refl;
     },
@@ -117,3 +108,38 @@ module _ (t : Layout) (v : MulticastView) (w : World) (steps : List Step) (leads
       queues = λ g. d.queue g ∙ ap (λ (f : QueueOf). at f d.packet.to (f d.packet.to ++ d.delivered) g) queues_are;
     },
   )
+
+module _ (t : Layout) (v : MulticastView) (w : World) (steps : List Step) (leads : Leads t opening steps w)
+    (few : length steps ≤ 2 ^ 62) (shows : ShowsMulticast t v w) where
+  -- each packet under way may come, and what is delivered then may be appended
+  pub may_be_delivered : (k : ℕ) (p : Packet) → slice_get v.packets k ≡ Some p → MayBeDelivered v p
+  may_be_delivered k p found =
+      let there = subst (λ ps. slice_get ps k ≡ Some p) shows.packets found in
+      let under_way = stands w.packets k p there in
+      let to = packets_go_to_addressed t steps w leads p under_way in
+      record {
+        there = subst (λ n. p.to < n) (sym shows.count) (below to.0 to.1 to.2);
+        comes = subst (λ s. MayCome (record { me = p.to; state = s }) p) (sym (group_is t v w shows p.to))
+            (packets_may_come t steps w leads few p under_way);
+        appends = λ sent ds state receives.
+            let receives' = subst (λ s. Receives p.to s p.id p.body sent ds state) (group_is t v w shows p.to) receives in
+            let comes : Comes w k Made (received w k p sent ds state) =
+            record {
+              packet = p;
+              sent = sent;
+              delivered = ds;
+              state = state;
+              there = there;
+              receives = receives';
+              answers = refl;
+              after = refl;
+            } in
+            subst (λ q. MayAppendAll q p.to ds) (sym (queues_are t v w shows))
+            (all_append w.queue p.to ds
+            (deliveries_may_append t steps w (received w k p sent ds state) k Made leads comes));
+      }
+    where
+      below : (q : Request) → w.asked p.id ≡ Some q → has q.groups p.to ≡ true → p.to < t.shards
+      below q asked member =
+          let shaped = (good_world t steps w leads).requests.shaped p.id q asked in
+          group_below t q.command p.to (subst (λ gs. has gs p.to ≡ true) (sym shaped.groups) member)

@@ -1,3 +1,9 @@
 pub mod Connections
+pub mod Running
 pub mod Submits
+pub mod Addresses
 pub mod Delivering
+pub mod Settling
+pub mod Taking
+pub mod Jobs
+pub mod Received

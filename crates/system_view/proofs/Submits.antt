@@ -1,5 +1,6 @@
 -- A submit of the router is a step of the world.
-use Rattle.std.proofs.Common.{◌≡◌, ℕ, suc, ◌==◌, true, false, cond, List, ◌∷◌, inl, inr, Option, Some, None, Result, Ok, Err, refl, sym, ap, ◌∙◌, subst, eq-eqb}
+use Rattle.std.proofs.Common.{◌≡◌, ℕ, suc, ◌==◌, true, false, cond, List, ◌∷◌, inl, inr, Option, Some, None, Result, Ok}
+use Rattle.std.proofs.Common.{Err, refl, sym, ap, ◌∙◌, subst, eq-eqb}
 use Rattle.std.proofs.lemmas.Bool.{both_ways, cases_Bool}
 use Rattle.std.specs.FinMap.{empty}
 use Rattle.command_bodies.specs.Command.{effect_of}
@@ -29,7 +30,8 @@ use Rattle.skeen_core.specs.Request.{same_id}
 use Rattle.skeen_core.specs.declared.request.RequestId.{RequestId}
 use Rattle.system_view.proofs.Connections.{Alike, each_of, kept_here, kept_open}
 use Rattle.system_view.specs.Connections.{Addresses, outcome_shown, id_of, ShowsOpen, ShowsConnection, ShowsConnections}
-use Rattle.world.specs.Steps.{next_id as world_id, asks, final_clock, final_clock_of, floor_of, answered, multicast, submitted, submitted_to}
+use Rattle.world.specs.Steps.{next_id as world_id, asks, final_clock, final_clock_of, floor_of, answered, multicast}
+use Rattle.world.specs.Steps.{submitted, submitted_to}
 use Rattle.world.specs.World.{World, Request, Outcome, Idle, Waiting, Answered}
 use Rattle.std.proofs.lemmas.Bool.{cond-true, cond-false}
 use Rattle.world_laws.specs.Good.{WorldGood}
@@ -55,13 +57,16 @@ alike_answered : (w : World) (c : ℕ) (reply : Content) (d : ℕ) → (d == c) 
 alike_answered w c reply d other = record {
   standing = cond-false (d == c) _ (w.standing d) other;
   seq = cond-false (d == c) (suc (w.seq c)) (w.seq d) other;
-  floor = λ rested. refl;
+  floor = λ free. refl;
   asked = λ seq. refl;
-  layer = refl;
+  layer = λ seq there. there;
 }
 
-shows_answered : (old new : RouterView) (w : World) (c : ℕ) (was now : Connection) (o : kept.Outcome) (reply : Content) → ShowsConnections old w → Submitter old new w c was now →
-    now.standing ≡ router.Answered o → outcome_shown o ≡ record { id = id_of c (suc (w.seq c)); reply = reply; stamp = None } → ShowsConnections new (answered w c reply)
+shows_answered : (old new : RouterView) (w : World) (c : ℕ) (was now : Connection) (o : kept.Outcome)
+    (reply : Content) → ShowsConnections old w → Submitter old new w c was now →
+    now.standing ≡ router.Answered o →
+    outcome_shown o ≡ record { id = id_of c (suc (w.seq c)); reply = reply; stamp = None } →
+    ShowsConnections new (answered w c reply)
 shows_answered old new w c was now o reply shows s is says = record {
   opened = s.changes.opened ∙ shows.opened;
   each = each_of old new w (answered w c reply) c (Some now) s.changes.at (alike_answered w c reply) shows.each (
@@ -74,7 +79,8 @@ shows_answered old new w c was now o reply shows s is says = record {
   );
   under_way = λ i q asked. elim (shows.under_way i q asked) [
     | inl settled ↦ inl settled
-    | inr kept ↦ inr (kept_here old new c was (Some now) i s.kept s.changes.at (λ busy. absurd (not_busy was s.idle busy)) kept)
+    | inr kept ↦ inr
+        (kept_here old new c was (Some now) i s.kept s.changes.at (λ busy. absurd (not_busy was s.idle busy)) kept)
   ];
 }
 
@@ -88,7 +94,8 @@ module _ (t : Layout) (w : World) (c : ℕ) (r : Request) (good : WorldGood t w)
   ]
 
   floor_else : (d : ℕ) → (d == c) ≡ false → floor_of (multicast w c r) d ≡ floor_of w d
-  floor_else d other = ap (final_clock_of (multicast w c r)) (cond-false (d == c) _ (w.last d) other) ∙ by_last (w.last d) refl
+  floor_else d other = ap (final_clock_of (multicast w c r)) (cond-false (d == c) _ (w.last d) other)
+      ∙ by_last (w.last d) refl
     where
       by_last : (o : Option RequestId) → w.last d ≡ o → final_clock_of (multicast w c r) o ≡ final_clock_of w o
       by_last None e = refl
@@ -97,28 +104,39 @@ module _ (t : Layout) (w : World) (c : ℕ) (r : Request) (good : WorldGood t w)
           let unlike : (i.conn.0 == c) ≡ false = ap (λ n. n == c) conn ∙ other in
           ap (final_clock w.proposed i) (cond-false' i (other_id i.conn.0 i.seq unlike))
         where
-          cond-false' : (i : RequestId) → same_id (id_of i.conn.0 i.seq) (id_of c (suc (w.seq c))) ≡ false → asks w.asked (id_of c (suc (w.seq c))) r i ≡ w.asked i
+          cond-false' : (i : RequestId) → same_id (id_of i.conn.0 i.seq) (id_of c (suc (w.seq c))) ≡ false →
+              asks w.asked (id_of c (suc (w.seq c))) r i ≡ w.asked i
           cond-false' i e = ap (λ b. cond b (Some r) (w.asked i)) e
 
   alike_multicast : (d : ℕ) → (d == c) ≡ false → Alike w (multicast w c r) d
   alike_multicast d other = record {
     standing = cond-false (d == c) Waiting (w.standing d) other;
     seq = cond-false (d == c) (suc (w.seq c)) (w.seq d) other;
-    floor = λ rested. floor_else d other;
+    floor = λ free. floor_else d other;
     asked = λ seq. ap (λ b. cond b (Some r) (w.asked (id_of d seq))) (other_id d seq other);
-    layer = refl;
+    layer = λ seq there. there;
   }
 
-  shows_multicast : (old new : RouterView) (was now : Connection) (p : Pending) → ShowsConnections old w → Submitter old new w c was now →
-      now.standing ≡ router.Waiting p → r.command ≡ p.command → reading p.words ≡ Ok p.command → ShowsConnections new (multicast w c r)
+  shows_multicast : (old new : RouterView) (was now : Connection) (p : Pending) → ShowsConnections old w →
+      Submitter old new w c was now →
+      now.standing ≡ router.Waiting p → r.command ≡ p.command → reading p.words ≡ Ok p.command →
+      ShowsConnections new (multicast w c r)
   shows_multicast old new was now p shows s is command says = record {
     opened = s.changes.opened ∙ shows.opened;
     each = each_of old new w (multicast w c r) c (Some now) s.changes.at alike_multicast shows.each (
       s.seq ∙ sym (cond-true (c == c) (suc (w.seq c)) (w.seq c) (eq-eqb c c refl)),
       inl (
         s.live,
-        subst (λ t. ShowsOpen t now (multicast w c r) c) (sym is)
-            (cond-true (c == c) Waiting (w.standing c) (eq-eqb c c refl), (r, ap (λ b. cond b (Some r) (w.asked (id_of c now.seq))) (eq-same_id (id_of c now.seq) (id_of c (suc (w.seq c))) (ap (id_of c) s.seq)), command, says)),
+        subst (λ t. ShowsOpen t now (multicast w c r) c) (sym is) (
+          cond-true (c == c) Waiting (w.standing c) (eq-eqb c c refl),
+          (
+            r,
+            ap (λ b. cond b (Some r) (w.asked (id_of c now.seq)))
+                (eq-same_id (id_of c now.seq) (id_of c (suc (w.seq c))) (ap (id_of c) s.seq)),
+            command,
+            says,
+          ),
+        ),
       ),
     );
     under_way = λ i q asked. elim (cases_Bool (same_id i (id_of c (suc (w.seq c))))) [
@@ -126,13 +144,15 @@ module _ (t : Layout) (w : World) (c : ℕ) (r : Request) (good : WorldGood t w)
           let id = same_id-true _ _ e in
           inr (record {
             v = now;
-            kept = ap (connection new) (ap (λ j. j.conn.0) id) ∙ s.changes.at c ∙ ap (λ b. cond b (Some now) (connection old c)) (eq-eqb c c refl);
+            kept = ap (connection new) (ap (λ j. j.conn.0) id) ∙ s.changes.at c
+                ∙ ap (λ b. cond b (Some now) (connection old c)) (eq-eqb c c refl);
             seq = s.seq ∙ sym (ap (λ j. j.seq) id);
             under_way = ap is_under_way is;
           })
       | inr e ↦ elim (shows.under_way i q (sym (ap (λ b. cond b (Some r) (w.asked i)) e) ∙ asked)) [
         | inl settled ↦ inl settled
-        | inr kept ↦ inr (kept_here old new c was (Some now) i s.kept s.changes.at (λ busy. absurd (not_busy was s.idle busy)) kept)
+        | inr kept ↦ inr
+            (kept_here old new c was (Some now) i s.kept s.changes.at (λ busy. absurd (not_busy was s.idle busy)) kept)
       ]
     ];
   }
@@ -145,38 +165,48 @@ local_effect (Echo word) = refl
 
 module _ (t : Layout) (w : World) (c : ℕ) (good : WorldGood t w) (words : List (List ℕ)) where
   -- a command that addresses groups waits, and the world has sent it to them
-  waits_as : (old new : RouterView) (was now : Connection) (command : Command) (p : Pending) → reading words ≡ Ok command → (g : ℕ) (gs : List ℕ) → groups_of t command ≡ g ∷ gs →
-      ShowsConnections old w → Submitter old new w c was now → now.standing ≡ router.Waiting p → (p.words ≡ words) × (p.command ≡ command) →
+  waits_as : (old new : RouterView) (was now : Connection) (command : Command) (p : Pending) →
+      reading words ≡ Ok command → (g : ℕ) (gs : List ℕ) → groups_of t command ≡ g ∷ gs →
+      ShowsConnections old w → Submitter old new w c was now → now.standing ≡ router.Waiting p →
+      (p.words ≡ words) × (p.command ≡ command) →
       ShowsConnections new (submitted_to w c command (groups_of t command))
   waits_as old new was now command p read g gs groups shows s is same =
       subst (λ all. ShowsConnections new (submitted_to w c command all)) (sym groups)
-      (shows_multicast t w c (record { floor = floor_of w c; groups = g ∷ gs; command = command }) good old new was now p shows s is (sym same.1) (ap reading same.0 ∙ read ∙ ap Ok (sym same.1)))
+      (shows_multicast t w c
+      (record { floor = floor_of w c; groups = g ∷ gs; command = command }) good old new was now p shows s is
+      (sym same.1) (ap reading same.0 ∙ read ∙ ap Ok (sym same.1)))
 
   -- the words are read; the router has done as they say, and so has the world
-  by_reading : (old new : RouterView) (was now : Connection) (result : Result Command Refusal) → reading words ≡ result → Addresses t result → ShowsConnections old w → Submitter old new w c was now →
+  by_reading : (old new : RouterView) (was now : Connection) (result : Result Command Refusal) →
+      reading words ≡ result → Addresses t result → ShowsConnections old w → Submitter old new w c was now →
       StandsBy (id_of c (suc (w.seq c))) words result now.standing → ShowsConnections new (submitted t w c result)
   by_reading old new was now (Err refusal) read addresses shows s stands = by_standing now.standing refl stands
     where
-      by_standing : (x : Standing) → now.standing ≡ x → StandsBy (id_of c (suc (w.seq c))) words (Err refusal) x → ShowsConnections new (answered w c (ErrorLine (refusal_text refusal)))
+      by_standing : (x : Standing) → now.standing ≡ x → StandsBy (id_of c (suc (w.seq c))) words (Err refusal) x →
+          ShowsConnections new (answered w c (ErrorLine (refusal_text refusal)))
       by_standing router.Idle e says = absurd says
       by_standing (router.Waiting p) e says = absurd says
       by_standing router.Taken e says = absurd says
       by_standing (router.Answered o) e says = shows_answered old new w c was now o _ shows s e (ap to_outcome says)
   by_reading old new was now (Ok (Local l)) read addresses shows s stands =
-      subst (λ gs. ShowsConnections new (submitted_to w c (Local l) gs)) (sym addresses) (by_standing now.standing refl stands)
+      subst (λ gs. ShowsConnections new (submitted_to w c (Local l) gs)) (sym addresses)
+      (by_standing now.standing refl stands)
     where
-      by_standing : (x : Standing) → now.standing ≡ x → StandsBy (id_of c (suc (w.seq c))) words (Ok (Local l)) x → ShowsConnections new (answered w c (effect_of (Local l) empty).1)
+      by_standing : (x : Standing) → now.standing ≡ x → StandsBy (id_of c (suc (w.seq c))) words (Ok (Local l)) x →
+          ShowsConnections new (answered w c (effect_of (Local l) empty).1)
       by_standing router.Idle e says = absurd says
       by_standing (router.Waiting p) e says = absurd says
       by_standing router.Taken e says = absurd says
       by_standing (router.Answered o) e says =
-          subst (λ reply. ShowsConnections new (answered w c reply)) (sym (local_effect l)) (shows_answered old new w c was now o (local_reply l) shows s e (ap to_outcome says))
+          subst (λ reply. ShowsConnections new (answered w c reply)) (sym (local_effect l))
+          (shows_answered old new w c was now o (local_reply l) shows s e (ap to_outcome says))
   by_reading old new was now (Ok (Key k)) read addresses shows s stands = by_standing now.standing refl stands
     where
       by_standing : (x : Standing) → now.standing ≡ x → StandsBy (id_of c (suc (w.seq c))) words (Ok (Key k)) x →
           ShowsConnections new (submitted_to w c (Key k) (groups_of t (Key k)))
       by_standing router.Idle e says = absurd says
-      by_standing (router.Waiting p) e says = waits_as old new was now (Key k) p read addresses.0 addresses.1 addresses.2 shows s e says
+      by_standing (router.Waiting p) e says =
+          waits_as old new was now (Key k) p read addresses.0 addresses.1 addresses.2 shows s e says
       by_standing router.Taken e says = absurd says
       by_standing (router.Answered o) e says = absurd says
   by_reading old new was now (Ok (Str k)) read addresses shows s stands = by_standing now.standing refl stands
@@ -184,28 +214,34 @@ module _ (t : Layout) (w : World) (c : ℕ) (good : WorldGood t w) (words : List
       by_standing : (x : Standing) → now.standing ≡ x → StandsBy (id_of c (suc (w.seq c))) words (Ok (Str k)) x →
           ShowsConnections new (submitted_to w c (Str k) (groups_of t (Str k)))
       by_standing router.Idle e says = absurd says
-      by_standing (router.Waiting p) e says = waits_as old new was now (Str k) p read addresses.0 addresses.1 addresses.2 shows s e says
+      by_standing (router.Waiting p) e says =
+          waits_as old new was now (Str k) p read addresses.0 addresses.1 addresses.2 shows s e says
       by_standing router.Taken e says = absurd says
       by_standing (router.Answered o) e says = absurd says
   by_reading old new was now (Ok (command.List k)) read addresses shows s stands = by_standing now.standing refl stands
     where
-      by_standing : (x : Standing) → now.standing ≡ x → StandsBy (id_of c (suc (w.seq c))) words (Ok (command.List k)) x →
+      by_standing : (x : Standing) → now.standing ≡ x →
+          StandsBy (id_of c (suc (w.seq c))) words (Ok (command.List k)) x →
           ShowsConnections new (submitted_to w c (command.List k) (groups_of t (command.List k)))
       by_standing router.Idle e says = absurd says
-      by_standing (router.Waiting p) e says = waits_as old new was now (command.List k) p read addresses.0 addresses.1 addresses.2 shows s e says
+      by_standing (router.Waiting p) e says =
+          waits_as old new was now (command.List k) p read addresses.0 addresses.1 addresses.2 shows s e says
       by_standing router.Taken e says = absurd says
       by_standing (router.Answered o) e says = absurd says
   by_reading old new was now (Ok (command.Hash k)) read addresses shows s stands = by_standing now.standing refl stands
     where
-      by_standing : (x : Standing) → now.standing ≡ x → StandsBy (id_of c (suc (w.seq c))) words (Ok (command.Hash k)) x →
+      by_standing : (x : Standing) → now.standing ≡ x →
+          StandsBy (id_of c (suc (w.seq c))) words (Ok (command.Hash k)) x →
           ShowsConnections new (submitted_to w c (command.Hash k) (groups_of t (command.Hash k)))
       by_standing router.Idle e says = absurd says
-      by_standing (router.Waiting p) e says = waits_as old new was now (command.Hash k) p read addresses.0 addresses.1 addresses.2 shows s e says
+      by_standing (router.Waiting p) e says =
+          waits_as old new was now (command.Hash k) p read addresses.0 addresses.1 addresses.2 shows s e says
       by_standing router.Taken e says = absurd says
       by_standing (router.Answered o) e says = absurd says
   by_reading old new was now (Ok (command.Set k)) read addresses shows s stands = by_standing now.standing refl stands
     where
-      by_standing : (x : Standing) → now.standing ≡ x → StandsBy (id_of c (suc (w.seq c))) words (Ok (command.Set k)) x →
+      by_standing : (x : Standing) → now.standing ≡ x →
+          StandsBy (id_of c (suc (w.seq c))) words (Ok (command.Set k)) x →
           ShowsConnections new (submitted_to w c (command.Set k) (groups_of t (command.Set k)))
       by_standing router.Idle e says = absurd says
       by_standing (router.Waiting p) e says =
@@ -213,17 +249,28 @@ module _ (t : Layout) (w : World) (c : ℕ) (good : WorldGood t w) (words : List
       by_standing router.Taken e says = absurd says
       by_standing (router.Answered o) e says = absurd says
 
-  pub shows_submit : (old new : RouterView) (sent : Submission) → Addresses t (reading words) → Submits t c words old sent new → ShowsConnections old w →
-      (w.standing c ≡ Idle) × (sent.id ≡ world_id w c) × (sent.floor ≡ floor_of w c) × ShowsConnections new (submitted t w c (reading words))
+  pub shows_submit : (old new : RouterView) (sent : Submission) → Addresses t (reading words) →
+      Submits t c words old sent new → ShowsConnections old w →
+      (w.standing c ≡ Idle) × (sent.id ≡ world_id w c) × (sent.floor ≡ floor_of w c) × ShowsConnections new
+      (submitted t w c (reading words))
   shows_submit old new sent addresses submits shows =
       let was = submits.was in
       let here = kept_open was w c submits.live (subst (λ x. ShowsConnection x w c) submits.kept (shows.each c)) in
-      let idle : (w.standing c ≡ Idle) × (was.floor ≡ floor_of w c) = subst (λ s. ShowsOpen s was w c) submits.idle here.1 in
+      let idle : (w.standing c ≡ Idle) × (was.floor ≡ floor_of w c) =
+      subst (λ s. ShowsOpen s was w c) submits.idle here.1 in
       let id : next_id c was ≡ id_of c (suc (w.seq c)) = ap (λ n. id_of c (suc n)) here.0 in (
         idle.0,
         submits.id ∙ id,
         submits.floor ∙ idle.1,
         by_reading old new was submits.now (reading words) refl addresses shows
-            (record { kept = submits.kept; idle = submits.idle; seq = submits.seq ∙ ap suc here.0; live = submits.still; floor = submits.same_floor ∙ idle.1; changes = submits.changes })
+            (record {
+              kept = submits.kept;
+              idle = submits.idle;
+              seq = submits.seq ∙ ap suc here.0;
+              live =
+                  submits.still;
+              floor = submits.same_floor ∙ idle.1;
+              changes = submits.changes;
+            })
             (subst (λ i. StandsBy i words (reading words) submits.now.standing) id submits.standing),
       )

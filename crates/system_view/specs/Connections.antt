@@ -16,7 +16,8 @@ use Rattle.router.specs.declared.connection.Standing.TheVariants as router
 use Rattle.router.specs.declared.outcome.Outcome as kept
 use Rattle.skeen_core.specs.declared.request.RequestId.{RequestId}
 use Rattle.world.specs.Steps.{floor_of}
-use Rattle.world.specs.World.{World, Request, Outcome, Closed, Idle, Waiting, Answered, Ended, Layer, NoneTaken, Taken, HasRun}
+use Rattle.world.specs.World.{World, Request, Outcome, Closed, Idle, Waiting, Answered, Ended, Layer, NoneTaken, Taken}
+use Rattle.world.specs.World.{HasRun}
 use Rattle.world_laws.specs.Good.{Named, run_in, all_delivered}
 use Rattle.skeen_core.specs.Group.{has_id}
 
@@ -24,7 +25,8 @@ use Rattle.skeen_core.specs.Group.{has_id}
 abbrev pub outcome_shown : kept.Outcome → Outcome
 outcome_shown o = record { id = o.id; reply = content o.reply; stamp = o.stamp }
 
--- the words and the command of a request that waits to be taken: it was submitted with that command, which the words say
+-- the words and the command of a request that waits to be taken: it was submitted with that command, which the words
+-- say
 abbrev pub Waits : World → RequestId → Pending → Type 0
 Waits w id p = (q : Request) × (w.asked id ≡ Some q) × (q.command ≡ p.command) × (reading p.words ≡ Ok p.command)
 
@@ -53,7 +55,9 @@ ShowsClosed router.Taken v w c = (w.standing c ≡ Closed) × InLayer w.layer (i
 ShowsClosed (router.Answered o) v w c = ⊥
 
 abbrev pub ShowsKept : Connection → World → ℕ → Type 0
-ShowsKept v w c = (v.seq ≡ w.seq c) × (((v.is_open ≡ true) × ShowsOpen v.standing v w c) ⊎ ((v.is_open ≡ false) × ShowsClosed v.standing v w c))
+ShowsKept v w c =
+    (v.seq ≡ w.seq c) ×
+    (((v.is_open ≡ true) × ShowsOpen v.standing v w c) ⊎ ((v.is_open ≡ false) × ShowsClosed v.standing v w c))
 
 abbrev pub ShowsConnection : Option Connection → World → ℕ → Type 0
 ShowsConnection None w c = w.standing c ≡ Closed

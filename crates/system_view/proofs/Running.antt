@@ -1,0 +1,490 @@
+-- A layer that is run in the system is run in the world.
+use Rattle.std.proofs.Common.{refl, sym, ap, ◌∙◌, subst, inl, inr, eq-eqb, append-nil}
+use Rattle.std.proofs.Math.Seq.{append_snoc}
+use Rattle.std.proofs.lemmas.Bool.{or_left, or_right}
+use Rattle.std.specs.List.{AllZip, AllByRecursion}
+use Rattle.std.specs.Prelude.{◌≡◌, ℕ, zero, suc, Bool, true, false, cond, ◌||◌, List, [], ◌∷◌, ◌++◌, map, ◌⊎◌}
+use Rattle.std.specs.Prelude.{Option, Some, None, is_none, Ok, slice_set}
+use Rattle.command_bodies.specs.Command.{effect_of}
+use Rattle.command_table.specs.Reading.{reading}
+use Rattle.command_table.specs.declared.command.Command.{Command}
+use Rattle.execution_order.specs.Entries.{Row}
+use Rattle.groups.specs.GroupSet.{has}
+use Rattle.keyspace.specs.Map.{Map}
+use Rattle.journal.specs.Views.{RowView, row_view}
+use Rattle.journal.specs.declared.step.Step.{Step}
+use Rattle.layer_planner.specs.declared.job.Job.{Job}
+use Rattle.placement.specs.Groups.{groups_of}
+use Rattle.placement.specs.Layout.{Layout}
+use Rattle.resp.specs.Content.{Content}
+use Rattle.resp.specs.Text.{text}
+use Rattle.resp.specs.declared.reply.Reply.{Reply}
+use Rattle.router.specs.Router.{RouterView, connection}
+use Rattle.router.specs.declared.connection.Connection.{Connection}
+use Rattle.router.specs.declared.connection.Standing.{Standing}
+use Rattle.router.specs.declared.connection.Standing.TheVariants as router
+use Rattle.shard_exec.proofs.Zips.{zip_push}
+use Rattle.shard_exec.specs.Layers.{commands_of, AddressTheirGroups, outcomes_of_ended, IsOf}
+use Rattle.shard_exec.specs.Runs.{outcome}
+use Rattle.shard_exec.specs.Stamps.{last_of, is_above, IsFresh, AreFresh, raise, raised}
+use Rattle.shard_exec.specs.StoreStates.{StoreState}
+use Rattle.shard_exec.specs.Stores.{HasRunLayer}
+use Rattle.shard_exec.specs.declared.done.Ended as run
+use Rattle.shard_maps.specs.Joined.{joined}
+use Rattle.shard_maps.specs.Layer.{AnsweredInTurn}
+use Rattle.skeen_core.proofs.Ids.{same_id-refl, ne-same_id}
+use Rattle.skeen_core.proofs.Lawful.{some_same}
+use Rattle.skeen_core.proofs.Lists.{In-left, In-right}
+use Rattle.skeen_core.specs.Group.{EachOnce, has_id}
+use Rattle.skeen_core.specs.Order.{In}
+use Rattle.skeen_core.specs.Stamp.{stamp_lt}
+use Rattle.skeen_core.specs.declared.packet.Delivered.{Delivered}
+use Rattle.skeen_core.specs.declared.request.RequestId.{RequestId}
+use Rattle.skeen_core.specs.declared.stamp.Stamp.{Stamp}
+use Rattle.system_view.specs.Connections.{InLayer, id_of, ShowsOpen, ShowsClosed, ShowsConnection}
+use Rattle.system_view.specs.Connections.{IsSettled, ShowsConnections}
+use Rattle.system_view.specs.Layers.{IsJob, AreJobs, AreEnded, if_none, starved_of, ShowsStore, IsRow, AreRows}
+use Rattle.world.specs.Steps.{opening, Ran, names, map_after, after_all, ended_as, RunInTurn}
+use Rattle.world.specs.Steps.{if_starved, starved_among, RunsLayer, Leads}
+use Rattle.world.specs.World.{World, Request, Ended, Layer, Taken, HasRun}
+use Rattle.world_laws.proofs.ConditionLaws.{layer_is_submitted, layer_is_above}
+use Rattle.world_laws.proofs.Layers.{run_of_layer, taken_once}
+use Rattle.world_laws.proofs.Worlds.{good_world}
+use Rattle.world_laws.specs.Good.{Asked, run_in, all_delivered, all_taken, TakenGood, WorldGood}
+use Rattle.world_laws.specs.Headline.{with_row, rows_of}
+
+-- ---- a layer that was taken may be run
+
+-- a request's stamp is above a last one where it is above each that there is
+above_of : (last : Option Stamp) (stamp : Stamp) →
+    ((before : Stamp) → last ≡ Some before → stamp_lt before stamp ≡ true) → is_above last stamp ≡ true
+above_of None stamp above = refl
+above_of (Some before) stamp above = above before refl
+
+-- what holds of each request of the layer
+all_jobs : (P : Job → Type 0) (asked : Asked) (ds : List Delivered) (js : List Job) (wss : List (List (List ℕ))) →
+    AreJobs asked ds js wss →
+    ((d : Delivered) (j : Job) (words : List (List ℕ)) → In d ds → IsJob asked d j words → P j) → AllByRecursion P js
+all_jobs P asked [] [] [] are holds = tt
+all_jobs P asked [] [] (ws ∷ wss) are holds = absurd are
+all_jobs P asked [] (j ∷ js) wss are holds = absurd are
+all_jobs P asked (d ∷ ds) [] wss are holds = absurd are
+all_jobs P asked (d ∷ ds) (j ∷ js) [] are holds = absurd are
+all_jobs P asked (d ∷ ds) (j ∷ js) (ws ∷ wss) are holds = (
+  holds d j ws (inl refl) are.0,
+  all_jobs P asked ds js wss are.1 (λ e k words there is. holds e k words (inr there) is),
+)
+
+module _ (t : Layout) (s : StoreState) (w : World) (ds : List Delivered) (good : WorldGood t w)
+    (is_taken : w.layer ≡ Taken ds) (shows : ShowsStore t s w) where
+  job_addresses : (d : Delivered) (j : Job) (words : List (List ℕ)) → In d ds → IsJob w.asked d j words →
+      j.groups ≡ groups_of s.table j.command
+  job_addresses d j words there is =
+      let submitted = layer_is_submitted t w good ds is_taken d there in
+      let same : submitted.0 ≡ is.asked_so.0 =
+      some_same submitted.0 is.asked_so.0 (sym submitted.1.submitted ∙ is.asked_so.1) in
+      is.groups ∙ submitted.2 ∙ ap (λ (q : Request). groups_of t q.command) same ∙ ap (groups_of t) is.asked_so.2
+      ∙ ap (λ (l : Layout). groups_of l j.command) (sym shows.table)
+
+  job_is_fresh : (d : Delivered) (j : Job) (words : List (List ℕ)) → In d ds → IsJob w.asked d j words →
+      IsFresh s.lasts j
+  job_is_fresh d j words there is g member = above_of (last_of s.lasts g) j.stamp (λ before e.
+      let last = shows.lasts g before e in
+      let above = layer_is_above t w good ds is_taken d there last.0 last.1 g last.2
+      (subst (λ gs. has gs g ≡ true) is.groups member) in
+      ap (λ x. stamp_lt x j.stamp) (sym last.3) ∙ ap (λ x. stamp_lt last.0.stamp x) is.stamp ∙ above)
+
+-- what the store asks of a layer holds of one that was taken
+pub may_be_run : (t : Layout) (s : StoreState) (w : World) (steps : List Step) (ds : List Delivered) (js : List Job)
+    (wss : List (List (List ℕ))) → Leads t opening steps w → w.layer ≡ Taken ds → AreJobs w.asked ds js wss →
+    ShowsStore t s w → AddressTheirGroups s.table js × AreFresh s.lasts js
+may_be_run t s w steps ds js wss leads is_taken are shows =
+    let good = good_world t steps w leads in (
+      all_jobs (λ j. j.groups ≡ groups_of s.table j.command) w.asked ds js wss are
+          (job_addresses t s w ds good is_taken shows),
+      all_jobs (IsFresh s.lasts) w.asked ds js wss are (job_is_fresh t s w ds good is_taken shows),
+    )
+
+-- ---- the requests that ended
+
+abbrev ended_by : Job → run.Ended → Ended
+ended_by j r = record { id = j.id; stamp = j.stamp; groups = j.groups; command = j.command; reply = outcome r.reply }
+
+-- how the requests of a layer ended, as the world tells of them
+abbrev pub ended_in : List Job → List run.Ended → List Ended
+ended_in [] rs = []
+ended_in (j ∷ js) [] = []
+ended_in (j ∷ js) (r ∷ rs) = ended_by j r ∷ ended_in js rs
+
+are_ended : (asked : Asked) (ds : List Delivered) (js : List Job) (wss : List (List (List ℕ))) (rs : List run.Ended) →
+    AreJobs asked ds js wss → AllZip IsOf js rs → AreEnded (ended_in js rs) rs wss
+are_ended asked [] [] [] [] are told = tt
+are_ended asked [] [] [] (r ∷ rs) are told = absurd told
+are_ended asked [] [] (ws ∷ wss) rs are told = absurd are
+are_ended asked [] (j ∷ js) wss rs are told = absurd are
+are_ended asked (d ∷ ds) [] wss rs are told = absurd are
+are_ended asked (d ∷ ds) (j ∷ js) [] rs are told = absurd are
+are_ended asked (d ∷ ds) (j ∷ js) (ws ∷ wss) [] are told = absurd told
+are_ended asked (d ∷ ds) (j ∷ js) (ws ∷ wss) (r ∷ rs) are told = (
+  record { id = told.0.0; stamp = told.0.1; reply = refl; says = are.0.says },
+  are_ended asked ds js wss rs are.1 told.1,
+)
+
+-- ---- who starved
+
+abbrev ids_run : List run.Ended → List RequestId
+ids_run rs = map (λ r. r.id) rs
+
+abbrev ids_delivered : List Delivered → List RequestId
+ids_delivered ds = map (λ d. d.id) ds
+
+-- the test tells of each request whether it starved
+abbrev pub TellsStarved : (RequestId → Bool) → List run.Ended → Type 0
+TellsStarved starves [] = Unit {0}
+TellsStarved starves (r ∷ rs) = (starves r.id ≡ is_none (outcome r.reply)) × TellsStarved starves rs
+
+if_same : (reply : Option Reply) (i : RequestId) (ids : List RequestId) →
+    if_none reply i ids ≡ if_starved (outcome reply) i ids
+if_same None i ids = refl
+if_same (Some reply) i ids = refl
+
+pub starved_same : (js : List Job) (rs : List run.Ended) → AllZip IsOf js rs →
+    starved_of rs ≡ starved_among (ended_in js rs)
+starved_same [] [] told = refl
+starved_same [] (r ∷ rs) told = absurd told
+starved_same (j ∷ js) [] told = absurd told
+starved_same (j ∷ js) (r ∷ rs) told =
+    if_same r.reply r.id (starved_of rs) ∙ ap (λ i. if_starved (outcome r.reply) i (starved_of rs)) told.0.0
+    ∙ ap (if_starved (outcome r.reply) j.id) (starved_same js rs told.1)
+
+-- another request's id makes no difference
+names_but : (reply : Option Reply) (i id : RequestId) (ids : List RequestId) → (i ≡ id → ⊥) →
+    names (if_none reply i ids) id ≡ names ids id
+names_but None i id ids differ = ap (λ b. b || names ids id) (ne-same_id i id differ)
+names_but (Some reply) i id ids differ = refl
+
+names_own : (reply : Option Reply) (i : RequestId) (ids : List RequestId) → names ids i ≡ false →
+    names (if_none reply i ids) i ≡ is_none (outcome reply)
+names_own None i ids out = ap (λ b. b || names ids i) (same_id-refl i)
+names_own (Some reply) i ids out = out
+
+names_none : (rs : List run.Ended) (i : RequestId) → (In i (ids_run rs) → ⊥) → names (starved_of rs) i ≡ false
+names_none [] i out = refl
+names_none (r ∷ rs) i out =
+    names_but r.reply r.id i (starved_of rs) (λ e. out (inl (sym e))) ∙ names_none rs i (λ there. out (inr there))
+
+tells_more : (reply : Option Reply) (i : RequestId) (ids : List RequestId) (rs : List run.Ended) →
+    (In i (ids_run rs) → ⊥) → TellsStarved (names ids) rs → TellsStarved (names (if_none reply i ids)) rs
+tells_more reply i ids [] out tells = tt
+tells_more reply i ids (r ∷ rs) out tells = (
+  names_but reply i r.id ids (λ e. out (inl e)) ∙ tells.0,
+  tells_more reply i ids rs (λ there. out (inr there)) tells.1,
+)
+
+-- where each id stands once, the starved ids name just those that starved
+pub tells_starved : (rs : List run.Ended) → EachOnce (ids_run rs) → TellsStarved (names (starved_of rs)) rs
+tells_starved [] once = tt
+tells_starved (r ∷ rs) once = (
+  names_own r.reply r.id (starved_of rs) (names_none rs r.id once.0),
+  tells_more r.reply r.id (starved_of rs) rs once.0 (tells_starved rs once.1),
+)
+
+in_delivered_ids : (ds : List Delivered) (i : RequestId) → In i (ids_delivered ds) →
+    (d : Delivered) × In d ds × (i ≡ d.id)
+in_delivered_ids [] i there = absurd there
+in_delivered_ids (d ∷ ds) i (inl same) = (d, inl refl, same)
+in_delivered_ids (d ∷ ds) i (inr there) = let rest = in_delivered_ids ds i there in (rest.0, inr rest.1, rest.2)
+
+-- each id stands once in what was taken last
+once_taken : (t : Layout) (w : World) (front ds : List Delivered) → WorldGood t w →
+    TakenGood w.asked w.proposed w.gone (front ++ ds) → EachOnce (ids_delivered ds)
+once_taken t w front [] good taken = tt
+once_taken t w front (d ∷ ds) good taken = (
+  λ there. let e = in_delivered_ids ds d.id there in
+      taken_once t w.asked w.proposed w.gone w.seq w.last (front ++ d ∷ []) ds good.requests moved d e.0
+      (In-right d front (d ∷ []) (inl refl)) e.1 e.2,
+  once_taken t w (front ++ d ∷ []) ds good moved,
+)
+  where
+    moved : TakenGood w.asked w.proposed w.gone ((front ++ d ∷ []) ++ ds)
+    moved = subst (λ l. TakenGood w.asked w.proposed w.gone l) (sym (append_snoc front d ds)) taken
+
+once_layer : (t : Layout) (w : World) (ds : List Delivered) → WorldGood t w → w.layer ≡ Taken ds →
+    EachOnce (ids_delivered ds)
+once_layer t w ds good is_taken = once_taken t w (all_delivered w.ended) ds good
+    (subst (λ l. TakenGood w.asked w.proposed w.gone (all_taken w.ended l)) is_taken good.taken)
+
+ids_same : (asked : Asked) (ds : List Delivered) (js : List Job) (wss : List (List (List ℕ))) (rs : List run.Ended) →
+    AreJobs asked ds js wss → AllZip IsOf js rs → ids_delivered ds ≡ ids_run rs
+ids_same asked [] [] [] [] are told = refl
+ids_same asked [] [] [] (r ∷ rs) are told = absurd told
+ids_same asked [] [] (ws ∷ wss) rs are told = absurd are
+ids_same asked [] (j ∷ js) wss rs are told = absurd are
+ids_same asked (d ∷ ds) [] wss rs are told = absurd are
+ids_same asked (d ∷ ds) (j ∷ js) [] rs are told = absurd are
+ids_same asked (d ∷ ds) (j ∷ js) (ws ∷ wss) [] are told = absurd told
+ids_same asked (d ∷ ds) (j ∷ js) (ws ∷ wss) (r ∷ rs) are told =
+    ap (λ i. i ∷ ids_delivered ds) (sym (told.0.0 ∙ are.0.id))
+    ∙ ap (λ l. r.id ∷ l) (ids_same asked ds js wss rs are.1 told.1)
+
+-- ---- one after another
+
+-- the first of the commands starved, or was answered on the map; the others go on from what it left
+answered_first : (o : Option Content) (m new : Map) (c : Command) (cs : List Command) (os : List (Option Content)) →
+    AnsweredInTurn m (c ∷ cs) (o ∷ os) new →
+    (o ≡ cond (is_none o) None (Some (effect_of c m).1)) × AnsweredInTurn (map_after o c m) cs os new
+answered_first None m new c cs os answered = (refl, answered)
+answered_first (Some reply) m new c cs os answered = (ap Some answered.0, answered.1)
+
+contents_after : (m new : Map) (js : List Job) (rs : List run.Ended) →
+    AnsweredInTurn m (commands_of js) (outcomes_of_ended rs) new → new ≡ after_all m (ended_in js rs)
+contents_after m new [] [] answered = answered
+contents_after m new [] (r ∷ rs) answered = absurd answered
+contents_after m new (j ∷ js) [] answered = absurd answered
+contents_after m new (j ∷ js) (r ∷ rs) answered = contents_after (map_after (outcome r.reply) j.command m) new js rs
+    (answered_first (outcome r.reply) m new j.command (commands_of js) (outcomes_of_ended rs) answered).1
+
+-- a request ends as the world says
+ends_as : (asked : Asked) (starved : List RequestId) (m : Map) (d : Delivered) (j : Job) (words : List (List ℕ))
+    (r : run.Ended) → (is : IsJob asked d j words) → IsOf j r → names starved r.id ≡ is_none (outcome r.reply) →
+    outcome r.reply ≡ cond (is_none (outcome r.reply)) None (Some (effect_of j.command m).1) →
+    ended_by j r ≡ ended_as starved m d is.asked_so.0.command
+ends_as asked starved m d j words r is of tells answer = λ i. record {
+  id = is.id i;
+  stamp = is.stamp i;
+  groups = is.groups i;
+  command = command i;
+  reply = reply i;
+}
+  where
+    command : j.command ≡ is.asked_so.0.command
+    command = sym is.asked_so.2
+
+    reply : outcome r.reply ≡ cond (names starved d.id) None (Some (effect_of is.asked_so.0.command m).1)
+    reply =
+        answer ∙ ap (λ b. cond b None (Some (effect_of j.command m).1)) (sym tells ∙ ap (names starved) (of.0 ∙ is.id))
+        ∙ ap (λ c. cond (names starved d.id) None (Some (effect_of c m).1)) command
+
+run_in_turn : (asked : Asked) (starved : List RequestId) (m new : Map) (ds : List Delivered) (js : List Job)
+    (wss : List (List (List ℕ))) (rs : List run.Ended) → AreJobs asked ds js wss → AllZip IsOf js rs →
+    TellsStarved (names starved) rs → AnsweredInTurn m (commands_of js) (outcomes_of_ended rs) new →
+    RunInTurn asked starved m ds (ended_in js rs)
+run_in_turn asked starved m new [] [] [] [] are told tells answered = refl
+run_in_turn asked starved m new [] [] [] (r ∷ rs) are told tells answered = absurd told
+run_in_turn asked starved m new [] [] (ws ∷ wss) rs are told tells answered = absurd are
+run_in_turn asked starved m new [] (j ∷ js) wss rs are told tells answered = absurd are
+run_in_turn asked starved m new (d ∷ ds) [] wss rs are told tells answered = absurd are
+run_in_turn asked starved m new (d ∷ ds) (j ∷ js) [] rs are told tells answered = absurd are
+run_in_turn asked starved m new (d ∷ ds) (j ∷ js) (ws ∷ wss) [] are told tells answered = absurd told
+run_in_turn asked starved m new (d ∷ ds) (j ∷ js) (ws ∷ wss) (r ∷ rs) are told tells answered =
+    let first = answered_first (outcome r.reply) m new j.command (commands_of js) (outcomes_of_ended rs) answered in (
+      (are.0.asked_so.0, are.0.asked_so.1, ends_as asked starved m d j ws r are.0 told.0 tells.0 first.0),
+      run_in_turn asked starved (map_after (outcome r.reply) j.command m) new ds js wss rs are.1 told.1 tells.1 first.1,
+    )
+
+-- ---- the last stamps
+
+set_last : (lasts : List (Option Stamp)) (g : ℕ) (x : Option Stamp) (n : ℕ) →
+    (last_of (slice_set lasts g x) n ≡ last_of lasts n) ⊎ ((g ≡ n) × (last_of (slice_set lasts g x) n ≡ x))
+set_last [] g x n = inl refl
+set_last (l ∷ ls) zero x zero = inr (refl, refl)
+set_last (l ∷ ls) zero x (suc n) = inl refl
+set_last (l ∷ ls) (suc g) x zero = inl refl
+set_last (l ∷ ls) (suc g) x (suc n) = elim (set_last ls g x n) [ inl e ↦ inl e | inr e ↦ inr (ap suc e.0, e.1) ]
+
+raise_last : (lasts : List (Option Stamp)) (gs : List ℕ) (stamp : Stamp) (n : ℕ) →
+    (last_of (raise lasts gs stamp) n ≡ last_of lasts n)
+    ⊎ ((has gs n ≡ true) × (last_of (raise lasts gs stamp) n ≡ Some stamp))
+raise_last lasts [] stamp n = inl refl
+raise_last lasts (g ∷ gs) stamp n = elim (raise_last (slice_set lasts g (Some stamp)) gs stamp n) [
+  | inr e ↦ inr (or_right _ _ e.0, e.1)
+  | inl e ↦ elim (set_last lasts g (Some stamp) n) [
+    | inl d ↦ inl (e ∙ d)
+    | inr d ↦ inr (or_left _ _ (eq-eqb g n d.0), e ∙ d.1)
+  ]
+]
+
+-- a shard's last stamp is as it was, or that of a request of the layer which addresses the shard
+raised_last : (lasts : List (Option Stamp)) (js : List Job) (n : ℕ) →
+    (last_of (raised lasts js) n ≡ last_of lasts n)
+    ⊎ ((j : Job) × In j js × (has j.groups n ≡ true) × (last_of (raised lasts js) n ≡ Some j.stamp))
+raised_last lasts [] n = inl refl
+raised_last lasts (j ∷ js) n = elim (raised_last (raise lasts j.groups j.stamp) js n) [
+  | inr e ↦ inr (e.0, inr e.1, e.2, e.3)
+  | inl e ↦ elim (raise_last lasts j.groups j.stamp n) [
+    | inl d ↦ inl (e ∙ d)
+    | inr d ↦ inr (j, inl refl, d.0, e ∙ d.1)
+  ]
+]
+
+-- each request of the layer ended
+in_ended : (js : List Job) (rs : List run.Ended) (j : Job) → AllZip IsOf js rs → In j js →
+    (e : Ended) × In e (ended_in js rs) × (e.groups ≡ j.groups) × (e.stamp ≡ j.stamp)
+in_ended [] rs j told there = absurd there
+in_ended (k ∷ ks) [] j told there = absurd told
+in_ended (k ∷ ks) (r ∷ rs) j told (inl same) =
+    (ended_by k r, inl refl, ap (λ (x : Job). x.groups) (sym same), ap (λ (x : Job). x.stamp) (sym same))
+in_ended (k ∷ ks) (r ∷ rs) j told (inr there) =
+    let rest = in_ended ks rs j told.1 there in (rest.0, inr rest.1, rest.2, rest.3)
+
+-- ---- the world after it
+
+-- the world once its layer was run, and its requests ended so
+abbrev pub ran_world : World → List Ended → World
+ran_world w es = record w { layer = HasRun es; ended = w.ended ++ es; contents = after_all w.contents es }
+
+pub store_run : (t : Layout) (old new : StoreState) (w : World) (skip : List RequestId) (js : List Job)
+    (rs : List run.Ended) → HasRunLayer old skip js rs new → ShowsStore t old w →
+    ShowsStore t new (ran_world w (ended_in js rs))
+store_run t old new w skip js rs ran shows = record {
+  table = ran.table ∙ shows.table;
+  lives = ran.goes_on;
+  contents = contents_after (joined old.maps) (joined new.maps) js rs ran.done.in_turn
+      ∙ ap (λ m. after_all m (ended_in js rs)) shows.contents;
+  lasts = λ g stamp e.
+      let is : last_of (raised old.lasts js) g ≡ Some stamp = ap (λ l. last_of l g) (sym ran.lasts) ∙ e in
+      elim (raised_last old.lasts js g) [
+        | inl same ↦
+            let it = shows.lasts g stamp (sym same ∙ is) in
+            (it.0, In-left it.0 w.ended (ended_in js rs) it.1, it.2, it.3)
+        | inr raised ↦
+            let it = in_ended js rs raised.0 ran.done.told raised.1 in (
+              it.0,
+              In-right it.0 w.ended (ended_in js rs) it.1,
+              ap (λ gs. has gs g) it.2 ∙ raised.2,
+              it.3 ∙ some_same raised.0.stamp stamp (sym raised.3 ∙ is),
+            )
+      ];
+}
+
+-- ---- connections, while a layer is run
+
+module _ (w : World) (ds : List Delivered) (es : List Ended) (is_taken : w.layer ≡ Taken ds)
+    (same : all_delivered es ≡ ds) where
+  in_layer_run : (i : RequestId) → InLayer w.layer i → InLayer (HasRun es) i
+  in_layer_run i there = subst (λ l. has_id l i ≡ true) (sym same) (subst (λ (l : Layer). InLayer l i) is_taken there)
+
+  open_run : (s : Standing) (v : Connection) (c : ℕ) → ShowsOpen s v w c → ShowsOpen s v (ran_world w es) c
+  open_run router.Idle v c shows = shows
+  open_run (router.Waiting p) v c shows = shows
+  open_run router.Taken v c shows = (shows.0, in_layer_run (id_of c v.seq) shows.1)
+  open_run (router.Answered o) v c shows = shows
+
+  closed_run : (s : Standing) (v : Connection) (c : ℕ) → ShowsClosed s v w c → ShowsClosed s v (ran_world w es) c
+  closed_run router.Idle v c shows = absurd shows
+  closed_run (router.Waiting p) v c shows = shows
+  closed_run router.Taken v c shows = (shows.0, in_layer_run (id_of c v.seq) shows.1)
+  closed_run (router.Answered o) v c shows = absurd shows
+
+  connection_run : (o : Option Connection) (c : ℕ) → ShowsConnection o w c → ShowsConnection o (ran_world w es) c
+  connection_run None c shows = shows
+  connection_run (Some v) c (seq, inl live) = (seq, inl (live.0, open_run v.standing v c live.1))
+  connection_run (Some v) c (seq, inr shut) = (seq, inr (shut.0, closed_run v.standing v c shut.1))
+
+  -- what was settled before is so still
+  settled_run : (i : RequestId) → IsSettled w i → IsSettled (ran_world w es) i
+  settled_run i settled = (
+    settled.0,
+    ap (λ l. l ++ es) (settled.1 ∙ ap (λ l. settled.0 ++ run_in l) is_taken ∙ append-nil settled.0),
+    settled.2,
+  )
+
+  pub connections_run : (r : RouterView) → ShowsConnections r w → ShowsConnections r (ran_world w es)
+  connections_run r shows = record {
+    opened = shows.opened;
+    each = λ c. connection_run (connection r c) c (shows.each c);
+    under_way = λ i q asked. elim (shows.under_way i q asked) [
+      | inl settled ↦ inl (settled_run i settled)
+      | inr kept ↦ inr kept
+    ];
+  }
+
+-- ---- the layer
+
+-- the layer is run in the world, and the store and the router show the world after it
+pub record ShowsRun (t : Layout) (w : World) (r : RouterView) (wss : List (List (List ℕ))) (rs : List run.Ended)
+    (new : StoreState) : Type 0 where
+  pub es : List Ended
+  pub ended : AreEnded es rs wss
+  pub starved : starved_of rs ≡ starved_among es
+  pub runs : RunsLayer w (starved_of rs) (Ran (starved_of rs)) (ran_world w es)
+  pub store : ShowsStore t new (ran_world w es)
+  pub connections : ShowsConnections r (ran_world w es)
+
+pub shows_run : (t : Layout) (w : World) (steps : List Step) (ds : List Delivered) (js : List Job)
+    (wss : List (List (List ℕ))) (r : RouterView) (old new : StoreState) (skip : List RequestId) (rs : List run.Ended) →
+    Leads t opening steps w → w.layer ≡ Taken ds → AreJobs w.asked ds js wss → ShowsStore t old w →
+    ShowsConnections r w → HasRunLayer old skip js rs new → ShowsRun t w r wss rs new
+shows_run t w steps ds js wss r old new skip rs leads is_taken are store connections ran = record {
+  es = ended_in js rs;
+  ended = are_ended w.asked ds js wss rs are told;
+  starved = starved_same js rs told;
+  runs = record {
+    layer = ds;
+    outcomes = ended_in js rs;
+    there = is_taken;
+    in_turn = in_turn;
+    answers = ap Ran (starved_same js rs told);
+    after = refl;
+  };
+  store = store_run t old new w skip js rs ran store;
+  connections = connections_run w ds (ended_in js rs) is_taken
+      (run_of_layer w.asked (starved_of rs) w.contents ds (ended_in js rs) in_turn) r connections;
+}
+  where
+    told : AllZip IsOf js rs
+    told = ran.done.told
+
+    once : EachOnce (ids_run rs)
+    once = subst EachOnce (ids_same w.asked ds js wss rs are ran.done.told)
+        (once_layer t w ds (good_world t steps w leads) is_taken)
+
+    in_turn : RunInTurn w.asked (starved_of rs) w.contents ds (ended_in js rs)
+    in_turn = run_in_turn w.asked (starved_of rs) w.contents (joined new.maps) ds js wss rs are ran.done.told
+        (tells_starved rs once)
+        (subst (λ m. AnsweredInTurn m (commands_of js) (outcomes_of_ended rs) (joined new.maps)) store.contents
+        ran.done.in_turn)
+
+-- ---- the rows
+
+abbrev row_of : Ended → Content → Row
+row_of e reply = record {
+  entry = record { id = e.id; stamp = e.stamp; groups = e.groups; command = e.command };
+  reply = reply;
+}
+
+with_row-append : (e : Ended) (o : Option Content) (xs ys : List Row) → with_row e o (xs ++ ys) ≡ with_row e o xs ++ ys
+with_row-append e None xs ys = refl
+with_row-append e (Some reply) xs ys = refl
+
+rows_of-append : (es : List Ended) (e : Ended) → rows_of (es ++ e ∷ []) ≡ rows_of es ++ with_row e e.reply []
+rows_of-append [] e = refl
+rows_of-append (x ∷ xs) e =
+    ap (with_row x x.reply) (rows_of-append xs e) ∙ with_row-append x x.reply (rows_of xs) (with_row e e.reply [])
+
+-- one that starved has no row
+pub rows_starved : (es : List Ended) (e : Ended) (kept : List RowView) → AreRows es kept → e.reply ≡ None →
+    AreRows (es ++ e ∷ []) kept
+rows_starved es e kept are none = subst (λ rows. AllZip IsRow rows kept) (sym same) are
+  where
+    same : rows_of (es ++ e ∷ []) ≡ rows_of es
+    same = rows_of-append es e ∙ ap (λ o. rows_of es ++ with_row e o []) none ∙ append-nil (rows_of es)
+
+-- one that was executed has one
+pub rows_executed : (es : List Ended) (e : Ended) (kept : List RowView) (row : RowView) (words : List (List ℕ))
+    (reply : Content) → AreRows es kept → e.reply ≡ Some reply → row ≡ row_view e.id e.stamp words (text reply) →
+    reading words ≡ Ok e.command → AreRows (es ++ e ∷ []) (kept ++ row ∷ [])
+rows_executed es e kept row words reply are some is says =
+    subst (λ rows. AllZip IsRow rows (kept ++ row ∷ [])) (sym same)
+    (zip_push IsRow (rows_of es) kept (row_of e reply) row are is_row)
+  where
+    same : rows_of (es ++ e ∷ []) ≡ rows_of es ++ row_of e reply ∷ []
+    same = rows_of-append es e ∙ ap (λ o. rows_of es ++ with_row e o []) some
+
+    is_row : IsRow (row_of e reply) row
+    is_row = record {
+      id = ap (λ (r : RowView). r.id) is;
+      stamp = ap (λ (r : RowView). r.stamp) is;
+      says = ap (λ (r : RowView). reading r.words) is ∙ says;
+      reply = ap (λ (r : RowView). r.reply) is;
+    }

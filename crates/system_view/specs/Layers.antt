@@ -1,0 +1,84 @@
+-- What the layer, the store, the rows and the starved ids of the system show of a world.
+use Rattle.std.specs.List.{AllZip}
+use Rattle.std.specs.Prelude.{◌≡◌, ℕ, true, false, List, [], ◌∷◌, Option, Some, None, Ok}
+use Rattle.command_table.specs.Reading.{reading}
+use Rattle.execution_order.specs.Entries.{Row}
+use Rattle.groups.specs.GroupSet.{has}
+use Rattle.journal.specs.Views.{RowView}
+use Rattle.layer_planner.specs.declared.job.Job.{Job}
+use Rattle.placement.specs.Layout.{Layout}
+use Rattle.resp.specs.Text.{text}
+use Rattle.resp.specs.declared.reply.Reply.{Reply}
+use Rattle.shard_exec.specs.Runs.{outcome}
+use Rattle.shard_exec.specs.Stamps.{last_of}
+use Rattle.shard_exec.specs.StoreStates.{StoreState}
+use Rattle.shard_exec.specs.declared.done.Ended as run
+use Rattle.shard_maps.specs.Joined.{joined}
+use Rattle.skeen_core.specs.Order.{In}
+use Rattle.skeen_core.specs.declared.packet.Delivered.{Delivered}
+use Rattle.skeen_core.specs.declared.request.RequestId.{RequestId}
+use Rattle.skeen_core.specs.declared.stamp.Stamp.{Stamp}
+use Rattle.world.specs.World.{World, Request, Ended}
+use Rattle.world_laws.specs.Good.{Asked}
+use Rattle.world_laws.specs.Headline.{rows_of}
+
+-- ---- a layer that was taken
+
+-- a delivered request, ready to be run: the command is the one that was submitted, and its words say it
+pub record IsJob (asked : Asked) (d : Delivered) (j : Job) (words : List (List ℕ)) : Type 0 where
+  pub id : j.id ≡ d.id
+  pub stamp : j.stamp ≡ d.stamp
+  pub groups : j.groups ≡ d.groups
+  pub asked_so : (q : Request) × (asked d.id ≡ Some q) × (q.command ≡ j.command)
+  pub says : reading words ≡ Ok j.command
+
+abbrev pub AreJobs : Asked → List Delivered → List Job → List (List (List ℕ)) → Type 0
+AreJobs asked [] [] [] = Unit {0}
+AreJobs asked (d ∷ ds) (j ∷ js) (ws ∷ wss) = IsJob asked d j ws × AreJobs asked ds js wss
+AreJobs asked _ _ _ = ⊥
+
+-- ---- a layer that was run
+
+-- a request of it, as the store tells of it, with its words
+pub record IsEnded (e : Ended) (r : run.Ended) (words : List (List ℕ)) : Type 0 where
+  pub id : r.id ≡ e.id
+  pub stamp : r.stamp ≡ e.stamp
+  pub reply : outcome r.reply ≡ e.reply
+  pub says : reading words ≡ Ok e.command
+
+abbrev pub AreEnded : List Ended → List run.Ended → List (List (List ℕ)) → Type 0
+AreEnded [] [] [] = Unit {0}
+AreEnded (e ∷ es) (r ∷ rs) (ws ∷ wss) = IsEnded e r ws × AreEnded es rs wss
+AreEnded _ _ _ = ⊥
+
+abbrev pub if_none : Option Reply → RequestId → List RequestId → List RequestId
+if_none None id ids = id ∷ ids
+if_none (Some reply) id ids = ids
+
+-- the ids of those that starved
+abbrev pub starved_of : List run.Ended → List RequestId
+starved_of [] = []
+starved_of (r ∷ rs) = if_none r.reply r.id (starved_of rs)
+
+-- ---- the store
+
+-- The shards' maps, joined, are the contents; a shard's last stamp is that of a request which ended there.
+pub record ShowsStore (t : Layout) (s : StoreState) (w : World) : Type 0 where
+  pub table : s.table ≡ t
+  pub lives : s.failed ≡ false
+  pub contents : joined s.maps ≡ w.contents
+  pub lasts : (g : ℕ) (stamp : Stamp) → last_of s.lasts g ≡ Some stamp →
+      (e : Ended) × In e w.ended × (has e.groups g ≡ true) × (e.stamp ≡ stamp)
+
+-- ---- the rows
+
+-- the row that is kept of an executed request: its id, its final stamp, words that say its command, and its reply's text
+pub record IsRow (executed : Row) (kept : RowView) : Type 0 where
+  pub id : kept.id ≡ executed.entry.id
+  pub stamp : kept.stamp ≡ executed.entry.stamp
+  pub says : reading kept.words ≡ Ok executed.entry.command
+  pub reply : kept.reply ≡ text executed.reply
+
+-- one for each executed request, in the order of execution; those that starved have none
+abbrev pub AreRows : List Ended → List RowView → Type 0
+AreRows es kept = AllZip IsRow (rows_of es) kept
