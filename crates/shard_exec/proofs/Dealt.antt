@@ -1,6 +1,8 @@
 -- The requests of a layer dealt to parts by a plan in which each place stands once, and what they gave, put in their places: each place
 -- has what its own request gave.
-use Rattle.std.proofs.Common.{◌≡◌, ℕ, zero, suc, ◌+◌, ◌<◌, ◌≤◌, ◌==◌, ◌⊎◌, inl, inr, nat_lt, List, [], ◌∷◌, ◌++◌, map, length, Bool, true, false, cond, Option, Some, None, slice_get, slice_set, is_some, append_assoc, arith, refl, sym, ap, ◌∙◌, subst, eqb-true, eq-eqb, ne_eqb, ltb-true, lt-ltb}
+use Rattle.std.proofs.Common.{◌≡◌, ℕ, zero, suc, ◌+◌, ◌<◌, ◌≤◌, ◌==◌, ◌⊎◌, inl, inr, nat_lt, List, [], ◌∷◌, ◌++◌, map, length, Bool, true}
+use Rattle.std.proofs.Common.{false, cond, Option, Some, None, slice_get, slice_set, is_some, append_assoc, arith, refl, sym, ap, ◌∙◌}
+use Rattle.std.proofs.Common.{subst, eqb-true, eq-eqb, ne_eqb, ltb-true, lt-ltb}
 use Rattle.std.proofs.lemmas.Bool.{cases_eq}
 use Rattle.std.proofs.lemmas.List.{length-set, append-nil}
 use Rattle.std.proofs.lemmas.List.Sums.{sum_by-append}
@@ -30,7 +32,8 @@ abbrev times : ℕ → List ℕ → ℕ
 times i xs = count_by (λ j. j == i) xs
 
 times-cons : (i x : ℕ) (xs : List ℕ) → times i (x ∷ xs) ≡ cond (x == i) 1 0 + times i xs
-times-cons i x xs = sum_by-append (λ j. cond (j == i) 1 0) (x ∷ []) xs ∙ (let e : (0 + cond (x == i) 1 0) + times i xs ≡ cond (x == i) 1 0 + times i xs = omega arith in e)
+times-cons i x xs = sum_by-append (λ j. cond (j == i) 1 0) (x ∷ []) xs
+    ∙ (let e : (0 + cond (x == i) 1 0) + times i xs ≡ cond (x == i) 1 0 + times i xs = omega arith in e)
 
 abbrev bit : Bool → ℕ
 bit b = cond b 1 0
@@ -42,7 +45,8 @@ in_from_times : (i : ℕ) (xs : List ℕ) → 0 < times i xs → In i xs
 in_from_times i [] some = absurd (omega (arith, some))
 in_from_times i (x ∷ xs) some = elim (cases_eq x i) [
   | inl e ↦ inl (sym e)
-  | inr ne ↦ inr (in_from_times i xs (let other : bit (x == i) ≡ 0 = ap bit (ne_eqb x i ne) in let c = times-cons i x xs in omega (arith, other, c, some)))
+  | inr ne ↦ inr (in_from_times i xs (let other : bit (x == i) ≡ 0 = ap bit (ne_eqb x i ne) in let c = times-cons i x xs in
+      omega (arith, other, c, some)))
 ]
 
 times_from_in : (i : ℕ) (xs : List ℕ) → In i xs → 0 < times i xs
@@ -58,7 +62,8 @@ once_later x xs once i = let c = times-cons i x xs in let o = once i in omega (a
 
 not_later : (x : ℕ) (xs : List ℕ) → AtMostOnce (x ∷ xs) → (i : ℕ) → In i xs → x ≡ i → ⊥
 not_later x xs once i there e =
-    let one = one_here i x e in let c = times-cons i x xs in let o = once i in let some = times_from_in i xs there in omega (arith, one, c, o, some)
+    let one = one_here i x e in let c = times-cons i x xs in let o = once i in let some = times_from_in i xs there in
+    omega (arith, one, c, o, some)
 
 pub plan_once : (p m : ℕ) → 0 < p → AtMostOnce (concat (dealt p m))
 plan_once p m some i = let e = each_place_once p m i some in few (nat_lt i m) _ e
@@ -69,7 +74,8 @@ plan_once p m some i = let e = each_place_once p m i some in few (nat_lt i m) _ 
 
 pub plan_all : (p m i : ℕ) → 0 < p → i < m → In i (concat (dealt p m))
 plan_all p m i some below =
-    in_from_times i (concat (dealt p m)) (let e : times i (concat (dealt p m)) ≡ 1 = each_place_once p m i some ∙ ap (λ b. cond b 1 0) (lt-ltb i m below) in omega (arith, e))
+    in_from_times i (concat (dealt p m)) (let e : times i (concat (dealt p m)) ≡ 1 = each_place_once p m i some
+    ∙ ap (λ b. cond b 1 0) (lt-ltb i m below) in omega (arith, e))
 
 pub plan_within : (p m i : ℕ) → 0 < p → In i (concat (dealt p m)) → i < m
 plan_within p m i some there =
@@ -94,7 +100,8 @@ get-set_here (x ∷ xs) zero y below = refl
 get-set_here (x ∷ xs) (suc i) y below = get-set_here xs i y (omega (arith, below))
 
 module _ {X : Type 0} where
-  pub can_take : (slots : List (Option X)) (is : List ℕ) → AtMostOnce is → ((i : ℕ) → In i is → (x : X) × (slice_get slots i ≡ Some (Some x))) → CanTake slots is
+  pub can_take : (slots : List (Option X)) (is : List ℕ) → AtMostOnce is
+      → ((i : ℕ) → In i is → (x : X) × (slice_get slots i ≡ Some (Some x))) → CanTake slots is
   can_take slots [] once held = tt
   can_take slots (i ∷ is) once held = (
     held i (inl refl),
@@ -111,7 +118,8 @@ module _ {X : Type 0} where
   can_take_rest slots [] js can = can
   can_take_rest slots (i ∷ is) js can = can_take_rest (slice_set slots i None) is js can.1
 
-  pub took_both : (slots : List (Option X)) (is js : List ℕ) (xs ys : List X) → Took slots is xs → Took (left_at slots is) js ys → Took slots (is ++ js) (xs ++ ys)
+  pub took_both : (slots : List (Option X)) (is js : List ℕ) (xs ys : List X) → Took slots is xs → Took (left_at slots is) js ys
+      → Took slots (is ++ js) (xs ++ ys)
   took_both slots [] js [] ys t u = u
   took_both slots [] js (x ∷ xs) ys t u = absurd t
   took_both slots (i ∷ is) js [] ys t u = absurd t
@@ -131,27 +139,31 @@ module _ {X : Type 0} where
   at_some (y ∷ xs) (suc i) below = at_some xs i (omega (arith, below))
 
   -- what is there when its turn comes was there from the beginning
-  still : (slots : List (Option X)) (i j : ℕ) (x : X) → slice_get (slice_set slots i None) j ≡ Some (Some x) → slice_get slots j ≡ Some (Some x)
+  still : (slots : List (Option X)) (i j : ℕ) (x : X) → slice_get (slice_set slots i None) j ≡ Some (Some x)
+      → slice_get slots j ≡ Some (Some x)
   still [] i j x e = e
   still (s ∷ slots) zero zero x e = absurd (let f = same_some None (Some x) e in cc)
   still (s ∷ slots) zero (suc j) x e = e
   still (s ∷ slots) (suc i) zero x e = e
   still (s ∷ slots) (suc i) (suc j) x e = still slots i j x e
 
-  from_beginning : (slots : List (Option X)) (i : ℕ) (is : List ℕ) (xs : List X) → AllZip (λ j x. slice_get (slice_set slots i None) j ≡ Some (Some x)) is xs
+  from_beginning : (slots : List (Option X)) (i : ℕ) (is : List ℕ) (xs : List X)
+      → AllZip (λ j x. slice_get (slice_set slots i None) j ≡ Some (Some x)) is xs
       → AllZip (λ j x. slice_get slots j ≡ Some (Some x)) is xs
   from_beginning slots i [] [] z = tt
   from_beginning slots i [] (x ∷ xs) z = absurd z
   from_beginning slots i (j ∷ is) [] z = absurd z
   from_beginning slots i (j ∷ is) (x ∷ xs) z = (still slots i j x z.0, from_beginning slots i is xs z.1)
 
-  took_at : (slots : List (Option X)) (is : List ℕ) (xs : List X) → Took slots is xs → AllZip (λ j x. slice_get slots j ≡ Some (Some x)) is xs
+  took_at : (slots : List (Option X)) (is : List ℕ) (xs : List X) → Took slots is xs
+      → AllZip (λ j x. slice_get slots j ≡ Some (Some x)) is xs
   took_at slots [] [] t = tt
   took_at slots [] (x ∷ xs) t = absurd t
   took_at slots (i ∷ is) [] t = absurd t
   took_at slots (i ∷ is) (x ∷ xs) t = (t.0, from_beginning slots i is xs (took_at (slice_set slots i None) is xs t.1))
 
-  all_at : (all : List X) (is : List ℕ) (xs : List X) → AllZip (λ j x. slice_get (map (λ x. Some x) all) j ≡ Some (Some x)) is xs → AllZip (At all) is xs
+  all_at : (all : List X) (is : List ℕ) (xs : List X) → AllZip (λ j x. slice_get (map (λ x. Some x) all) j ≡ Some (Some x)) is xs
+      → AllZip (At all) is xs
   all_at all [] [] z = tt
   all_at all [] (x ∷ xs) z = absurd z
   all_at all (i ∷ is) [] z = absurd z
@@ -174,7 +186,8 @@ pub record GaveAt (table : Layout) (works : List Work) (i : ℕ) (r : Ran) : Typ
   pub ran : HasRun table work r
   pub place : r.place ≡ i
 
-pub gave_at : (table : Layout) (works : List Work) (is : List ℕ) (ws : List Work) (rs : List Ran) → InPlaces 0 works → AllZip (At works) is ws
+pub gave_at : (table : Layout) (works : List Work) (is : List ℕ) (ws : List Work) (rs : List Ran) → InPlaces 0 works
+    → AllZip (At works) is ws
     → AllZip (HasRun table) ws rs → AllZip (GaveAt table works) is rs
 gave_at table works [] [] [] p z y = tt
 gave_at table works [] [] (r ∷ rs) p z y = absurd y
@@ -186,13 +199,17 @@ gave_at table works (i ∷ is) (w ∷ ws) (r ∷ rs) p z y = (
   gave_at table works is ws rs p z.1 y.1,
 )
 
-pub gave_within : (table : Layout) (works : List Work) (n : ℕ) (is : List ℕ) (rs : List Ran) → n ≡ length works → AllZip (GaveAt table works) is rs
+pub gave_within : (table : Layout) (works : List Work) (n : ℕ) (is : List ℕ) (rs : List Ran) → n ≡ length works
+    → AllZip (GaveAt table works) is rs
     → AllByRecursion (λ r. r.place < n) rs
 gave_within table works n [] [] e z = tt
 gave_within table works n [] (r ∷ rs) e z = absurd z
 gave_within table works n (i ∷ is) [] e z = absurd z
-gave_within table works n (i ∷ is) (r ∷ rs) e z =
-    (let inside = slice_get_within works i z.0.work z.0.at in let at = z.0.place in omega (arith, inside, at, e), gave_within table works n is rs e z.1)
+gave_within table works n (i ∷ is) (r ∷ rs) e z = (
+  let inside = slice_get_within works i z.0.work z.0.at in let at = z.0.place in
+      omega (arith, inside, at, e),
+  gave_within table works n is rs e z.1,
+)
 
 -- a place has what its request gave
 pub record Filled (table : Layout) (works : List Work) (slots : List (Option Ran)) (i : ℕ) : Type 0 where
@@ -235,7 +252,8 @@ pub all_given : (table : Layout) (works : List Work) (slots : List (Option Ran))
     → AllZip (GaveAt table works) is rs → ((i : ℕ) → i < length works → In i is) → AllZip (HasGiven table) works (placed slots rs)
 all_given table works slots is rs long z all =
     AllZip-from_places (HasGiven table) works (placed slots rs) (length-placed slots rs ∙ long) (λ i w s at there.
-    let f = fill table works slots is rs z i (subst (λ n. i < n) (sym long) (slice_get_within works i w at)) (inl (all i (slice_get_within works i w at))) in
+    let f = fill table works slots is rs z i (subst (λ n. i < n) (sym long) (slice_get_within works i w at))
+    (inl (all i (slice_get_within works i w at))) in
     (f.ran, sym (same_some _ _ (sym f.there ∙ there)), subst (λ v. HasRun table v f.ran) (same_some _ _ (sym f.gave.at ∙ at)) f.gave.ran))
 
 -- ---- parts
@@ -248,24 +266,29 @@ ready_parts table (p ∷ ps) r = let both = all_both (IsReady table) p.works.ite
     all_both P [] ys h = (tt, h)
     all_both P (x ∷ xs) ys h = let rest = all_both P xs ys h.1 in ((h.0, rest.0), rest.1)
 
-zip_more : {A B : Type 0} (R : A → B → Type 0) (xs xs' : List A) (ys ys' : List B) → AllZip R xs ys → AllZip R xs' ys' → AllZip R (xs ++ xs') (ys ++ ys')
+zip_more : {A B : Type 0} (R : A → B → Type 0) (xs xs' : List A) (ys ys' : List B) → AllZip R xs ys → AllZip R xs' ys'
+    → AllZip R (xs ++ xs') (ys ++ ys')
 zip_more R [] xs' [] ys' z w = w
 zip_more R [] xs' (y ∷ ys) ys' z w = absurd z
 zip_more R (x ∷ xs) xs' [] ys' z w = absurd z
 zip_more R (x ∷ xs) xs' (y ∷ ys) ys' z w = (z.0, zip_more R xs xs' ys ys' z.1 w)
 
-pub all_runs : (table : Layout) (ps : List Part) (rs : List (Vec Ran)) → AllZip (HasRunPart table) ps rs → AllZip (HasRun table) (all_works ps) (all_rans rs)
+pub all_runs : (table : Layout) (ps : List Part) (rs : List (Vec Ran)) → AllZip (HasRunPart table) ps rs
+    → AllZip (HasRun table) (all_works ps) (all_rans rs)
 all_runs table [] [] z = tt
 all_runs table [] (r ∷ rs) z = absurd z
 all_runs table (p ∷ ps) [] z = absurd z
-all_runs table (p ∷ ps) (r ∷ rs) z = zip_more (HasRun table) p.works.items (all_works ps) r.items (all_rans rs) z.0 (all_runs table ps rs z.1)
+all_runs table (p ∷ ps) (r ∷ rs) z =
+    zip_more (HasRun table) p.works.items (all_works ps) r.items (all_rans rs) z.0 (all_runs table ps rs z.1)
 
-ready_at : (table : Layout) (works : List Work) (i : ℕ) (w : Work) → AllByRecursion (IsReady table) works → slice_get works i ≡ Some w → IsReady table w
+ready_at : (table : Layout) (works : List Work) (i : ℕ) (w : Work) → AllByRecursion (IsReady table) works → slice_get works i ≡ Some w
+    → IsReady table w
 ready_at table [] i w r e = absurd (let f = e in cc)
 ready_at table (v ∷ works) zero w r e = subst (IsReady table) (same_some v w e) r.0
 ready_at table (v ∷ works) (suc i) w r e = ready_at table works i w r.1 e
 
-pub ready_taken : (table : Layout) (works : List Work) (is : List ℕ) (ws : List Work) → AllByRecursion (IsReady table) works → AllZip (At works) is ws
+pub ready_taken : (table : Layout) (works : List Work) (is : List ℕ) (ws : List Work) → AllByRecursion (IsReady table) works
+    → AllZip (At works) is ws
     → AllByRecursion (IsReady table) ws
 ready_taken table works [] [] r z = tt
 ready_taken table works [] (w ∷ ws) r z = absurd z
@@ -294,32 +317,38 @@ pub all_first : {A : Type 0} (P : A → Type 0) (xs ys : List A) → AllByRecurs
 all_first P [] ys h = (tt, h)
 all_first P (x ∷ xs) ys h = let rest = all_first P xs ys h.1 in ((h.0, rest.0), rest.1)
 
-pub given_full : (table : Layout) (works : List Work) (slots : List (Option Ran)) → AllZip (HasGiven table) works slots → AllByRecursion IsSome slots
+pub given_full : (table : Layout) (works : List Work) (slots : List (Option Ran)) → AllZip (HasGiven table) works slots
+    → AllByRecursion IsSome slots
 given_full table [] [] z = tt
 given_full table [] (s ∷ slots) z = absurd z
 given_full table (w ∷ works) [] z = absurd z
 given_full table (w ∷ works) (s ∷ slots) z = (ap is_some z.0.1, given_full table works slots z.1)
 
-pub given_run : (table : Layout) (works : List Work) (rans : List Ran) → AllZip (HasGiven table) works (map (λ r. Some r) rans) → AllZip (HasRun table) works rans
+pub given_run : (table : Layout) (works : List Work) (rans : List Ran) → AllZip (HasGiven table) works (map (λ r. Some r) rans)
+    → AllZip (HasRun table) works rans
 given_run table [] [] z = tt
 given_run table [] (r ∷ rans) z = absurd z
 given_run table (w ∷ works) [] z = absurd z
 given_run table (w ∷ works) (r ∷ rans) z = (subst (HasRun table w) (same_some _ _ (sym z.0.1)) z.0.2, given_run table works rans z.1)
 
 -- everything from the dealing to the gathering
-pub record DealtWhole (table : Layout) (works : List Work) (plan : List (List ℕ)) (parts : List Part) (results : List (Vec Ran)) : Type 0 where
+pub record DealtWhole (table : Layout) (works : List Work) (plan : List (List ℕ)) (parts : List Part) (results : List (Vec Ran))
+    : Type 0 where
   pub gave : AllZip (GaveAt table works) (concat plan) (all_rans results)
   pub all : (i : ℕ) → i < length works → In i (concat plan)
 
 pub dealt_whole : (table : Layout) (works : List Work) (plan : List (List ℕ)) (parts : List Part) (results : List (Vec Ran)) (p : ℕ) → 0 < p
-    → plan ≡ dealt p (length works) → InPlaces 0 works → Took (map (λ w. Some w) works) (concat plan) (all_works parts) → AllZip (HasRunPart table) parts results
+    → plan ≡ dealt p (length works) → InPlaces 0 works → Took (map (λ w. Some w) works) (concat plan) (all_works parts)
+    → AllZip (HasRunPart table) parts results
     → DealtWhole table works plan parts results
 dealt_whole table works plan parts results p some is places took ran = record {
-  gave = gave_at table works (concat plan) (all_works parts) (all_rans results) places (taken_at works (concat plan) (all_works parts) took) (all_runs table parts results ran);
+  gave = gave_at table works (concat plan) (all_works parts) (all_rans results) places (taken_at works (concat plan) (all_works parts) took)
+      (all_runs table parts results ran);
   all = λ i below. subst (λ l. In i (concat l)) (sym is) (plan_all p (length works) i some below);
 }
 
-pub can_deal : (works : List Work) (plan : List (List ℕ)) (p : ℕ) → 0 < p → plan ≡ dealt p (length works) → CanTake (map (λ w. Some w) works) (concat plan)
+pub can_deal : (works : List Work) (plan : List (List ℕ)) (p : ℕ) → 0 < p → plan ≡ dealt p (length works)
+    → CanTake (map (λ w. Some w) works) (concat plan)
 can_deal works plan p some is =
     subst (λ l. CanTake (map (λ w. Some w) works) (concat l)) (sym is)
     (can_take (map (λ w. Some w) works) (concat (dealt p (length works))) (plan_once p (length works) some)

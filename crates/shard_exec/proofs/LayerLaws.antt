@@ -1,5 +1,6 @@
 -- A layer whose requests were run each over its own shards: what holds of the row, of what is told and of the last stamps.
-use Rattle.std.proofs.Common.{◌≡◌, ℕ, zero, suc, ◌+◌, ◌<◌, ◌⊎◌, List, slice_set, is_some, eq-eqb, [], ◌∷◌, ◌++◌, map, length, Bool, true, false, Option, Some, None, inl, inr, refl, sym, ap, ◌∙◌, subst}
+use Rattle.std.proofs.Common.{◌≡◌, ℕ, zero, suc, ◌+◌, ◌<◌, ◌⊎◌, List, slice_set, is_some, eq-eqb, [], ◌∷◌, ◌++◌, map, length, Bool, true}
+use Rattle.std.proofs.Common.{false, Option, Some, None, inl, inr, refl, sym, ap, ◌∙◌, subst}
 use Rattle.std.proofs.lemmas.Bool.{or_left, or_right}
 use Rattle.std.proofs.Math.ListN.{replicate}
 use Rattle.std.specs.Cmp.Lexicographic.{slice_cmp}
@@ -29,7 +30,8 @@ use Rattle.shard_exec.specs.declared.work.Work.{Work}
 use Rattle.shard_exec.specs.declared.work.Ran.{Ran}
 use Rattle.std.specs.Option.{IfSome}
 use Rattle.shard_exec.specs.Dealing.{InPlaces}
-use Rattle.shard_exec.specs.Layers.{commands_of, AddressTheirGroups, is_named, outcomes_of_ended, MayStarve, IsOf, IsDone, IsInside, IsWork, AreWorks, ended_of}
+use Rattle.shard_exec.specs.Layers.{commands_of, AddressTheirGroups, is_named, outcomes_of_ended, MayStarve, IsOf, IsDone, IsInside, IsWork}
+use Rattle.shard_exec.specs.Layers.{AreWorks, ended_of}
 use Rattle.shard_exec.specs.Runs.{IsReady, outcome, HasRun}
 use Rattle.shard_exec.specs.Stamps.{raise, raised, raised_by}
 
@@ -41,7 +43,8 @@ spans_each maps jobs = map (λ j. span_at maps j.groups) jobs
 
 -- ---- groups
 
-groups_are : (table : Layout) (jobs : List Job) → AddressTheirGroups table jobs → groups_each jobs ≡ map (groups_of table) (commands_of jobs)
+groups_are : (table : Layout) (jobs : List Job) → AddressTheirGroups table jobs
+    → groups_each jobs ≡ map (groups_of table) (commands_of jobs)
 groups_are table [] a = refl
 groups_are table (j ∷ js) a =
     ap (λ (g : List ℕ). g ∷ groups_each js) a.0 ∙ ap (λ (l : List (List ℕ)). groups_of table j.command ∷ l) (groups_are table js a.1)
@@ -57,24 +60,30 @@ apart_pairs : (jobs : List Job) → planner.ShareNoGroup jobs → PairsApart (λ
 apart_pairs [] s = tt
 apart_pairs (j ∷ js) s = (s.0, apart_pairs js s.1)
 
-addressed : (table : Layout) (jobs : List Job) → AddressTheirGroups table jobs → (j : Job) → In j jobs → j.groups ≡ groups_of table j.command
+addressed : (table : Layout) (jobs : List Job) → AddressTheirGroups table jobs → (j : Job) → In j jobs
+    → j.groups ≡ groups_of table j.command
 addressed table [] a j i = absurd i
 addressed table (k ∷ ks) a j (inl e) = subst (λ x. x.groups ≡ groups_of table x.command) (sym e) a.0
 addressed table (k ∷ ks) a j (inr i) = addressed table ks a.1 j i
 
-share : (table : Layout) (jobs : List Job) → AddressTheirGroups table jobs → planner.ShareNoGroup jobs → layers.ShareNoGroup table (commands_of jobs)
+share : (table : Layout) (jobs : List Job) → AddressTheirGroups table jobs → planner.ShareNoGroup jobs
+    → layers.ShareNoGroup table (commands_of jobs)
 share table jobs a s = ShareNoGroup-map table (λ j. j.groups) (λ j. j.command) jobs (addressed table jobs a) (apart_pairs jobs s)
 
-pub all_inside : (table : Layout) (n : ℕ) (jobs : List Job) → n ≡ table.shards → AddressTheirGroups table jobs → AllByRecursion (IsInside n) jobs
+pub all_inside : (table : Layout) (n : ℕ) (jobs : List Job) → n ≡ table.shards → AddressTheirGroups table jobs
+    → AllByRecursion (IsInside n) jobs
 all_inside table n [] e a = tt
-all_inside table n (j ∷ js) e a =
-    ((λ g there. subst (λ m. g < m) (sym e) (groups_of-below table j.command g (ap (λ gs. has gs g) (sym a.0) ∙ there))), all_inside table n js e a.1)
+all_inside table n (j ∷ js) e a = (
+  (λ g there. subst (λ m. g < m) (sym e) (groups_of-below table j.command g (ap (λ gs. has gs g) (sym a.0) ∙ there))),
+  all_inside table n js e a.1,
+)
 
 -- the shards that each request gets are those that the store had
 pub taken_as_they_were : (table : Layout) (maps : List Map) (jobs : List Job) → AddressTheirGroups table jobs → planner.ShareNoGroup jobs
     → taken_out_each empty maps (groups_each jobs) ≡ spans_each maps jobs
 taken_as_they_were table maps jobs a s =
-    ap (taken_out_each empty maps) (groups_are table jobs a) ∙ layer_taken_out table maps (commands_of jobs) (share table jobs a s) ∙ spans_are table maps jobs a
+    ap (taken_out_each empty maps) (groups_are table jobs a) ∙ layer_taken_out table maps (commands_of jobs) (share table jobs a s)
+    ∙ spans_are table maps jobs a
 
 own_span : (table : Layout) (maps : List Map) (gs : List ℕ) → HasOwnKeys table maps → SpanHasOwnKeys table (span_at maps gs)
 own_span table maps [] own = tt
@@ -82,7 +91,8 @@ own_span table maps (g ∷ gs) own = (own g, own_span table maps gs own)
 
 -- so each is ready to be run
 pub all_ready : (table : Layout) (maps : List Map) (skip : List RequestId) (at : ℕ) (jobs : List Job) (works : List Work) → IsTable table
-    → HasOwnKeys table maps → AddressTheirGroups table jobs → AreWorks skip at jobs (spans_each maps jobs) works → AllByRecursion (IsReady table) works
+    → HasOwnKeys table maps → AddressTheirGroups table jobs → AreWorks skip at jobs (spans_each maps jobs) works
+    → AllByRecursion (IsReady table) works
 all_ready table maps skip at [] [] t own a w = tt
 all_ready table maps skip at [] (x ∷ works) t own a w = absurd w
 all_ready table maps skip at (j ∷ js) [] t own a w = absurd w
@@ -104,7 +114,8 @@ pub record RanFor (table : Layout) (maps : List Map) (skip : List RequestId) (j 
   pub ran : SpanRan table j.command (span_at maps j.groups) (outcome r.reply) r.shards.items
   pub starves : MayStarve maps skip j (ended_of r)
 
-ran_for : (table : Layout) (maps : List Map) (skip : List RequestId) (at : ℕ) (j : Job) (w : Work) (r : Ran) → IsWork skip at j (span_at maps j.groups) w
+ran_for : (table : Layout) (maps : List Map) (skip : List RequestId) (at : ℕ) (j : Job) (w : Work) (r : Ran)
+    → IsWork skip at j (span_at maps j.groups) w
     → HasRun table w r → RanFor table maps skip j r
 ran_for table maps skip at j w r is run = record {
   of = (run.id ∙ ap (λ (k : Job). k.id) is.job, run.stamp ∙ ap (λ (k : Job). k.stamp) is.job);
@@ -125,7 +136,8 @@ all_ran table maps skip at [] [] (r ∷ rans) w z = absurd z
 all_ran table maps skip at [] (x ∷ works) rans w z = absurd w
 all_ran table maps skip at (j ∷ js) [] rans w z = absurd w
 all_ran table maps skip at (j ∷ js) (x ∷ works) [] w z = absurd z
-all_ran table maps skip at (j ∷ js) (x ∷ works) (r ∷ rans) w z = (ran_for table maps skip at j x r w.0 z.0, all_ran table maps skip (at + 1) js works rans w.1 z.1)
+all_ran table maps skip at (j ∷ js) (x ∷ works) (r ∷ rans) w z =
+    (ran_for table maps skip at j x r w.0 z.0, all_ran table maps skip (at + 1) js works rans w.1 z.1)
 
 -- ---- what follows
 
@@ -133,12 +145,15 @@ abbrev ran_of : Ran → layers.Ran
 ran_of r = record { outcome = outcome r.reply; span = r.shards.items }
 
 runs : (table : Layout) (maps : List Map) (skip : List RequestId) (jobs : List Job) (rans : List Ran) → AddressTheirGroups table jobs
-    → AllZip (RanFor table maps skip) jobs rans → AllZip (layers.IsRunOf table) (layers.works_of table maps (commands_of jobs)) (map ran_of rans)
+    → AllZip (RanFor table maps skip) jobs rans
+    → AllZip (layers.IsRunOf table) (layers.works_of table maps (commands_of jobs)) (map ran_of rans)
 runs table maps skip [] [] a z = tt
 runs table maps skip [] (r ∷ rans) a z = absurd z
 runs table maps skip (j ∷ js) [] a z = absurd z
-runs table maps skip (j ∷ js) (r ∷ rans) a z =
-    (subst (λ gs. SpanRan table j.command (span_at maps gs) (outcome r.reply) r.shards.items) a.0 z.0.ran, runs table maps skip js rans a.1 z.1)
+runs table maps skip (j ∷ js) (r ∷ rans) a z = (
+  subst (λ gs. SpanRan table j.command (span_at maps gs) (outcome r.reply) r.shards.items) a.0 z.0.ran,
+  runs table maps skip js rans a.1 z.1,
+)
 
 outcomes_same : (rans : List Ran) → layers.outcomes_of (map ran_of rans) ≡ outcomes_of_ended (map ended_of rans)
 outcomes_same [] = refl
@@ -163,9 +178,11 @@ all_starve table maps skip (j ∷ js) [] z = absurd z
 all_starve table maps skip (j ∷ js) (r ∷ rans) z = (z.0.starves, all_starve table maps skip js rans z.1)
 
 -- the layer is done
-pub layer_done : (table : Layout) (maps : List Map) (skip : List RequestId) (jobs : List Job) (rans : List Ran) → IsTable table → length maps ≡ table.shards
+pub layer_done : (table : Layout) (maps : List Map) (skip : List RequestId) (jobs : List Job) (rans : List Ran) → IsTable table
+    → length maps ≡ table.shards
     → HasOwnKeys table maps → AddressTheirGroups table jobs → planner.ShareNoGroup jobs → AllZip (RanFor table maps skip) jobs rans
-    → IsDone table maps skip jobs (map ended_of rans) (put_spans (emptied_each empty maps (groups_each jobs)) (map (λ r. r.shards.items) rans))
+    → IsDone table maps skip jobs (map ended_of rans)
+    (put_spans (emptied_each empty maps (groups_each jobs)) (map (λ r. r.shards.items) rans))
 layer_done table maps skip jobs rans t long own a s z =
     let cs = commands_of jobs in
     let new = put_spans (emptied_each empty maps (groups_each jobs)) (map (λ r. r.shards.items) rans) in
@@ -186,7 +203,8 @@ layer_done table maps skip jobs rans t long own a s z =
     }
 
 -- the last stamps are those of the requests
-pub raised_same : (table : Layout) (maps : List Map) (skip : List RequestId) (jobs : List Job) (rans : List Ran) (lasts : List (Option Stamp))
+pub raised_same : (table : Layout) (maps : List Map) (skip : List RequestId) (jobs : List Job) (rans : List Ran)
+    (lasts : List (Option Stamp))
     → AllZip (RanFor table maps skip) jobs rans → raised_by lasts rans ≡ raised lasts jobs
 raised_same table maps skip [] [] lasts z = refl
 raised_same table maps skip [] (r ∷ rans) lasts z = absurd z
@@ -201,12 +219,14 @@ below n [] h = tt
 below n (s ∷ ss) h = (h s.0 (or_left _ _ (eq-eqb s.0 s.0 refl)), below n ss (λ g there. h g (or_right _ _ there)))
 
 pub all_below : (table : Layout) (maps : List Map) (skip : List RequestId) (n : ℕ) (jobs : List Job) (rans : List Ran) → n ≡ table.shards
-    → AddressTheirGroups table jobs → AllZip (RanFor table maps skip) jobs rans → AllByRecursion (λ r. AllByRecursion (λ s. s.0 < n) r.shards.items) rans
+    → AddressTheirGroups table jobs → AllZip (RanFor table maps skip) jobs rans
+    → AllByRecursion (λ r. AllByRecursion (λ s. s.0 < n) r.shards.items) rans
 all_below table maps skip n [] [] e a z = tt
 all_below table maps skip n [] (r ∷ rans) e a z = absurd z
 all_below table maps skip n (j ∷ js) [] e a z = absurd z
 all_below table maps skip n (j ∷ js) (r ∷ rans) e a z = (
-  below n r.shards.items (λ g there. subst (λ m. g < m) (sym e) (groups_of-below table j.command g (ap (λ gs. has gs g) (sym (z.0.numbers ∙ a.0)) ∙ there))),
+  below n r.shards.items (λ g there. subst (λ m. g < m) (sym e)
+      (groups_of-below table j.command g (ap (λ gs. has gs g) (sym (z.0.numbers ∙ a.0)) ∙ there))),
   all_below table maps skip n js rans e a.1 z.1,
 )
 
@@ -242,11 +262,13 @@ own-emptied : (table : Layout) (maps : List Map) (gs : List ℕ) → HasOwnKeys 
 own-emptied table maps [] own = own
 own-emptied table maps (g ∷ gs) own = own-emptied table (slice_set maps g empty) gs (own-set_empty table maps g own)
 
-pub own_left : (table : Layout) (maps : List Map) (sets : List (List ℕ)) → HasOwnKeys table maps → HasOwnKeys table (emptied_each empty maps sets)
+pub own_left : (table : Layout) (maps : List Map) (sets : List (List ℕ)) → HasOwnKeys table maps
+    → HasOwnKeys table (emptied_each empty maps sets)
 own_left table maps [] own = own
 own_left table maps (gs ∷ sets) own = own_left table (emptied empty maps gs) sets (own-emptied table maps gs own)
 
-pub works_length : (skip : List RequestId) (at : ℕ) (jobs : List Job) (spans : List Span) (works : List Work) → AreWorks skip at jobs spans works
+pub works_length : (skip : List RequestId) (at : ℕ) (jobs : List Job) (spans : List Span) (works : List Work)
+    → AreWorks skip at jobs spans works
     → length works ≡ length jobs
 works_length skip at [] [] [] w = refl
 works_length skip at [] [] (x ∷ works) w = absurd w
@@ -255,7 +277,8 @@ works_length skip at (j ∷ js) [] works w = absurd w
 works_length skip at (j ∷ js) (s ∷ spans) [] w = absurd w
 works_length skip at (j ∷ js) (s ∷ spans) (x ∷ works) w = ap suc (works_length skip (at + 1) js spans works w.1)
 
-pub in_places : (skip : List RequestId) (at : ℕ) (jobs : List Job) (spans : List Span) (works : List Work) → AreWorks skip at jobs spans works → InPlaces at works
+pub in_places : (skip : List RequestId) (at : ℕ) (jobs : List Job) (spans : List Span) (works : List Work)
+    → AreWorks skip at jobs spans works → InPlaces at works
 in_places skip at [] [] [] w = tt
 in_places skip at [] [] (x ∷ works) w = absurd w
 in_places skip at [] (s ∷ spans) works w = absurd w

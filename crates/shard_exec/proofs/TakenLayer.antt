@@ -13,7 +13,8 @@ abbrev groups_each : List Job → List (List ℕ)
 groups_each jobs = map (λ j. j.groups) jobs
 
 pub works_more : (skip : List RequestId) (row row' : List Map) (works works' ws : List Work) (jobs jobs' : List Job) (j : Job) (w : Work)
-    → jobs ≡ j ∷ jobs' → works' ≡ works ++ w ∷ [] → row' ≡ emptied empty row j.groups → IsWork skip (length works) j (taken_out empty row j.groups) w
+    → jobs ≡ j ∷ jobs' → works' ≡ works ++ w ∷ [] → row' ≡ emptied empty row j.groups
+    → IsWork skip (length works) j (taken_out empty row j.groups) w
     → AreWorks skip (length works') jobs' (taken_out_each empty row' (groups_each jobs')) ws
     → AreWorks skip (length works) jobs (taken_out_each empty row (groups_each jobs)) (w ∷ ws)
 works_more skip row row' works works' ws jobs jobs' j w is pushed left work rest =
@@ -26,4 +27,5 @@ works_more skip row row' works works' ws jobs jobs' j w is pushed left work rest
 
 pub left_more : (row row' : List Map) (jobs jobs' : List Job) (j : Job) → jobs ≡ j ∷ jobs' → row' ≡ emptied empty row j.groups
     → emptied_each empty row' (groups_each jobs') ≡ emptied_each empty row (groups_each jobs)
-left_more row row' jobs jobs' j is left = ap (λ r. emptied_each empty r (groups_each jobs')) left ∙ ap (λ js. emptied_each empty row (groups_each js)) (sym is)
+left_more row row' jobs jobs' j is left = ap (λ r. emptied_each empty r (groups_each jobs')) left
+    ∙ ap (λ js. emptied_each empty row (groups_each js)) (sym is)

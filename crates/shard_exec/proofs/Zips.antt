@@ -7,7 +7,8 @@ pub none_left : {A B : Type 0} (R : A → B → Type 0) (xs : List A) → length
 none_left R [] e = tt
 none_left R (x ∷ xs) e = (let k = e in cc)
 
-pub zip_push : {A B : Type 0} (R : A → B → Type 0) (xs : List A) (ys : List B) (x : A) (y : B) → AllZip R xs ys → R x y → AllZip R (xs ++ x ∷ []) (ys ++ y ∷ [])
+pub zip_push : {A B : Type 0} (R : A → B → Type 0) (xs : List A) (ys : List B) (x : A) (y : B) → AllZip R xs ys → R x y
+    → AllZip R (xs ++ x ∷ []) (ys ++ y ∷ [])
 zip_push R [] [] x y z r = (r, tt)
 zip_push R [] (w ∷ ys) x y z r = absurd z
 zip_push R (w ∷ xs) [] x y z r = absurd z
@@ -20,7 +21,8 @@ zip_length R (w ∷ xs) [] z = absurd z
 zip_length R (v ∷ xs) (w ∷ ys) z = ap suc (zip_length R xs ys z.1)
 
 -- one relation after another
-pub zip_then : {A B C : Type 0} (R : A → B → Type 0) (S : B → C → Type 0) (U : A → C → Type 0) → ((a : A) (b : B) (c : C) → R a b → S b c → U a c)
+pub zip_then : {A B C : Type 0} (R : A → B → Type 0) (S : B → C → Type 0) (U : A → C → Type 0)
+    → ((a : A) (b : B) (c : C) → R a b → S b c → U a c)
     → (as_ : List A) (bs : List B) (cs : List C) → AllZip R as_ bs → AllZip S bs cs → AllZip U as_ cs
 zip_then R S U f [] [] [] z w = tt
 zip_then R S U f [] [] (c ∷ cs) z w = absurd w

@@ -47,7 +47,8 @@ IsOf j e = (e.id ≡ j.id) × (e.stamp ≡ j.stamp)
 
 -- The requests of a layer were run over the shards: each over those of its groups, which comes to the same as one after another on the
 -- joined map, in the order of the layer, the starved ones skipped. Other shards are as they were, and each shard has only its own keys.
-pub record IsDone (table : Layout) (old : List Map) (skip : List RequestId) (layer : List Job) (done : List Ended) (new : List Map) : Type 0 where
+pub record IsDone (table : Layout) (old : List Map) (skip : List RequestId) (layer : List Job) (done : List Ended) (new : List Map)
+    : Type 0 where
   pub told : AllZip IsOf layer done
   pub in_turn : AnsweredInTurn (joined old) (commands_of layer) (outcomes_of_ended done) (joined new)
   pub shards : LayerRan table old (commands_of layer) (outcomes_of_ended done) new

@@ -28,7 +28,8 @@ pub record IsStore (s : StoreState) : Type 0 where
 abbrev pub state_code : Coded StoreState
 state_code =
     code_by ((Layout × List Map) × (List (Option Stamp) × Bool))
-    (coded× (coded× table.the_row.coded (coded_list (code (coded_list coded_ℕ) value.the_row.coded))) (coded× (coded_list (coded_option stamp.the_row.coded)) coded_bool))
+    (coded× (coded× table.the_row.coded (coded_list (code (coded_list coded_ℕ) value.the_row.coded)))
+    (coded× (coded_list (coded_option stamp.the_row.coded)) coded_bool))
     (λ s. ((s.table, s.maps), (s.lasts, s.failed)))
     (λ p. record { table = p.0.0; maps = p.0.1; lasts = p.1.0; failed = p.1.1 })
     (λ _. refl)

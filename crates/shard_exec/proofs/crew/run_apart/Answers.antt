@@ -6,12 +6,14 @@ use Rattle.shard_exec.proofs.crew.run_apart.Goals as goal
 
 pub join_all-all-requires-clause-room : goal.join_all-all-requires-clause-room
 join_all-all-requires-clause-room g c =
-    let n : length c.in-Some-start_all.children.items ≡ length c.pop.new.self.items = zip_length _ _ _ c.in-Some-start_all.ensures in search rules
+    let n : length c.in-Some-start_all.children.items ≡ length c.pop.new.self.items = zip_length _ _ _ c.in-Some-start_all.ensures in
+    search rules
 
 pub unreachable-requires : goal.unreachable-requires
 unreachable-requires g c =
     let n : length c.in-Some-start_all.children.items ≡ length c.pop.new.self.items = zip_length _ _ _ c.in-Some-start_all.ensures in
-    let m : length c.join_all-all.result.items ≡ length c.in-Some-start_all.children.items = zip_length _ _ _ c.join_all-all.ensures.each in search rules
+    let m : length c.join_all-all.result.items ≡ length c.in-Some-start_all.children.items = zip_length _ _ _ c.join_all-all.ensures.each in
+    search rules
 
 pub returns : goal.returns
 returns g c =

@@ -7,7 +7,8 @@ use Rattle.shard_exec.proofs.taking.put_layer.Given as goal
 
 abbrev pub invariant-loop-ran : goal.invariant-loop-ran
 invariant-loop-ran l = record {
-  row : put_spans l.row.items (map (λ r. r.shards.items) l.ran-iterator.rest.items) ≡ put_spans l.fn.row.items (map (λ r. r.shards.items) l.fn.rans.items);
+  row : put_spans l.row.items (map (λ r. r.shards.items) l.ran-iterator.rest.items)
+      ≡ put_spans l.fn.row.items (map (λ r. r.shards.items) l.fn.rans.items);
   raised : raised_by l.lasts.items l.ran-iterator.rest.items ≡ raised_by l.fn.lasts.items l.fn.rans.items;
   done : l.done.items ++ map ended_of l.ran-iterator.rest.items ≡ map ended_of l.fn.rans.items;
   inside : AllByRecursion (λ r. AllByRecursion (λ s. s.0 < length l.fn.row.items) r.shards.items) l.ran-iterator.rest.items;

@@ -19,10 +19,14 @@ loop-job-preserved c =
     let inside = subst (AllByRecursion (IsInside (length c.loop-job.row.items))) is inv.inside in
     record {
       works = λ ws rest.
-          subst (AreWorks c.args.skip.now 0 c.args.jobs.items _) (sym (ap (λ l. l ++ ws) c.in-Ok.ensures.items ∙ append_snoc c.loop-job.works.items c.take_work.result ws))
+          subst (AreWorks c.args.skip.now 0 c.args.jobs.items _)
+          (sym (ap (λ l. l ++ ws) c.in-Ok.ensures.items ∙ append_snoc c.loop-job.works.items c.take_work.result ws))
           (inv.works (c.take_work.result ∷ ws)
-          (works_more c.args.skip.now c.loop-job.row.items c.take_work.new.row.items c.loop-job.works.items c.push.new.self.items ws _ _ c.in-Some.job c.take_work.result
-          is c.in-Ok.ensures.items c.take_work.ensures.left (subst (λ n. IsWork c.args.skip.now n c.in-Some.job (taken_out empty c.loop-job.row.items c.in-Some.job.groups) c.take_work.result) at c.take_work.ensures.work) rest));
+          (works_more c.args.skip.now c.loop-job.row.items c.take_work.new.row.items c.loop-job.works.items c.push.new.self.items ws _ _
+          c.in-Some.job c.take_work.result
+          is c.in-Ok.ensures.items c.take_work.ensures.left
+          (subst (λ n. IsWork c.args.skip.now n c.in-Some.job (taken_out empty c.loop-job.row.items c.in-Some.job.groups)
+          c.take_work.result) at c.take_work.ensures.work) rest));
       left = left_more c.loop-job.row.items c.take_work.new.row.items _ _ c.in-Some.job is c.take_work.ensures.left ∙ inv.left;
       inside = subst (λ n. AllByRecursion (IsInside n) c.next.new.self.rest.items) (sym same_length) inside.1;
       spans = (subst (AllZip FitsGroups (c.in-Some.job ∷ c.next.new.self.rest.items)) c.in-Some-next.ensures.items
@@ -34,4 +38,6 @@ pub returns-clause-works : goal.returns-clause-works
 returns-clause-works c =
     let none : c.loop-job.job-iterator.rest.items ≡ [] = nil_from_length _ (search rules) in
     subst (AreWorks c.args.skip.now 0 c.args.jobs.items _) (append-nil _)
-    (c.loop-job.invariant.works [] (subst (λ js. AreWorks c.args.skip.now (length c.loop-job.works.items) js (taken_out_each empty c.loop-job.row.items (map (λ j. j.groups) js)) []) (sym none) tt))
+    (c.loop-job.invariant.works []
+    (subst (λ js. AreWorks c.args.skip.now (length c.loop-job.works.items) js
+    (taken_out_each empty c.loop-job.row.items (map (λ j. j.groups) js)) []) (sym none) tt))

@@ -6,4 +6,5 @@ use Rattle.shard_exec.proofs.Zips.{none_left}
 use Rattle.shard_exec.proofs.workers.run_in_turn.Goals as goal
 
 pub returns : goal.returns
-returns g c = subst (AllZip (HasRunPart c.args.table.now) c.args.parts.items) (append-nil _) (c.loop-part.invariant.0 [] (none_left _ _ (search rules)))
+returns g c = subst (AllZip (HasRunPart c.args.table.now) c.args.parts.items) (append-nil _)
+    (c.loop-part.invariant.0 [] (none_left _ _ (search rules)))

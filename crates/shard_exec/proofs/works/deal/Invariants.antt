@@ -7,7 +7,8 @@ use Rattle.shard_exec.proofs.works.deal.Given as goal
 -- what is taken by the rest of the plan, behind what was, is what the plan takes
 abbrev pub invariant-loop-part : goal.invariant-loop-part
 invariant-loop-part l = record {
-  took : (ws : _) → Took l.slots.items (concat (drop l.part-index l.plan)) ws → Took l.fn.slots.items (concat l.plan) (all_works l.parts.items ++ ws);
+  took : (ws : _) → Took l.slots.items (concat (drop l.part-index l.plan)) ws
+      → Took l.fn.slots.items (concat l.plan) (all_works l.parts.items ++ ws);
   there : CanTake l.slots.items (concat (drop l.part-index l.plan));
   rooms : AllZip FitsPlaces (drop l.part-index l.plan) l.rooms.rest.items;
   parts : length l.parts.items ≡ l.part-index;

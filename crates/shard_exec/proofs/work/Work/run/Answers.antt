@@ -1,4 +1,5 @@
-use Rattle.std.proofs.Common.{◌≡◌, ℕ, zero, suc, ◌<◌, List, [], ◌∷◌, length, get_or, arith, true, Option, Some, None, Result, Ok, Err, subst, sym, ap, ◌∙◌, refl}
+use Rattle.std.proofs.Common.{◌≡◌, ℕ, zero, suc, ◌<◌, List, [], ◌∷◌, length, get_or, arith, true, Option, Some, None, Result, Ok, Err}
+use Rattle.std.proofs.Common.{subst, sym, ap, ◌∙◌, refl}
 use Rattle.std.proofs.lemmas.Bool.{both_ways}
 use Rattle.std.specs.Option.{option_map}
 use Rattle.std.specs.Result.{OnErr, result_ok}
@@ -31,7 +32,8 @@ any_default (x ∷ xs) (suc k) d e below = any_default xs k d e (omega (arith, b
 pub run_over-outcome-requires-clause-shards : goal.run_over-outcome-requires-clause-shards
 run_over-outcome-requires-clause-shards g c = record {
   numbers = refl;
-  ascending = subst IsAscending (sym (c.requires.numbers ∙ c.requires.groups)) (IsAscending-groups_of c.args.table.now c.args.self.job.command);
+  ascending = subst IsAscending (sym (c.requires.numbers ∙ c.requires.groups))
+      (IsAscending-groups_of c.args.table.now c.args.self.job.command);
   own = c.requires.own;
 }
 
@@ -54,5 +56,6 @@ returns g c =
           (SpanRan-done c.args.table.now c.args.self.job.command c.args.self.shards.items c.run_over-outcome.result.1.items
           span.ascending span.numbers span.own c.run_over-outcome.result.0 c.requires.own c.run_over-outcome.ensures.done);
       skipped = λ e. absurd (both_ways _ c.if-skipped.false e);
-      starved = λ _ none. starves c.run_over-outcome.result.0 c.run_over-outcome.ensures.starves (ap outcome (sym c.ok.ensures.value) ∙ none);
+      starved = λ _ none. starves c.run_over-outcome.result.0 c.run_over-outcome.ensures.starves
+          (ap outcome (sym c.ok.ensures.value) ∙ none);
     }
