@@ -133,6 +133,14 @@ fn told_text(rt: &impl Abort, alloc: Global, command: &Command) -> Result<String
     Ok(told)
 }
 
+/// The condition of a SET.
+fn condition_in(command: &Command) -> Option<Condition> {
+    match command {
+        Command::Str(StringCommand::Set { condition, .. }) => Some(*condition),
+        _ => None,
+    }
+}
+
 #[test]
 fn reads_the_options_of_set(rt: HostRuntime) -> Result<(), Fail> {
     for (line, want) in [
@@ -140,12 +148,10 @@ fn reads_the_options_of_set(rt: HostRuntime) -> Result<(), Fail> {
         ("SET a 1 nx NX", Condition::IfAbsent),
         ("set a 1 Xx", Condition::IfPresent),
     ] {
-        match read_line(rt.alloc(), line)? {
-            Ok(Command::Str(StringCommand::Set { condition, .. })) => {
-                assert_eq!(rt; condition, want);
-            }
-            _ => return Err("not read as SET".into()),
-        }
+        let Ok(command) = read_line(rt.alloc(), line)? else {
+            return Err("not read".into());
+        };
+        assert_eq!(rt; condition_in(&command), Some(want));
     }
     Ok(())
 }
