@@ -30,7 +30,8 @@ effect-case (variant.List c) m =
 effect-case (Hash c) m = effect_of-local (is_whole (Hash c)) (keys_of (Hash c)) (case_of (Hash c)) m (λ _. local-hash_command c)
 effect-case (variant.Set c) m =
     effect_of-local (is_whole (variant.Set c)) (keys_of (variant.Set c)) (case_of (variant.Set c)) m (λ _. local-set_command c)
-effect-case (Local c) m = effect_of-local (is_whole (Local c)) (keys_of (Local c)) (case_of (Local c)) m (λ _. local-constant (keys_of (Local c)) (local_reply c))
+effect-case (Local c) m = effect_of-local (is_whole (Local c)) (keys_of (Local c)) (case_of (Local c)) m
+    (λ _. local-constant (keys_of (Local c)) (local_reply c))
 
 -- a command that is not for all keys takes its part
 effect_part : (command : Command) (m : Map) → is_whole command ≡ false → effect_of command m ≡ one (keys_of command) (case_of command) m

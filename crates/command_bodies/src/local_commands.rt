@@ -9,7 +9,9 @@ use resp::Reply;
 use texts::Text;
 
 macro_rules! local_rows {
-    ([$command:expr] $(($name:literal, $arity:ident($number:literal), $span:tt, $variant:ident { $($field:ident),* }, $read:ident, $body:ident),)*) => {
+    ([$command:expr] $((
+        $name:literal, $arity:ident($number:literal), $span:tt, $variant:ident { $($field:ident),* }, $read:ident, $body:ident
+    ),)*) => {
         match $command {
             $(LocalCommand::$variant { $($field),* } => $body($($field),*),)*
         }

@@ -14,4 +14,5 @@ contents_commute keys others case other m apart =
     let beside = (other (restrict m others)).0 in
     ap (λ p. put_back (put_back m keys part) others (other p).0) (restrict-put_back_apart m keys others part apart)
     ∙ put_back-put_back_apart m keys others part beside apart
-    ∙ ap (λ p. put_back (put_back m others beside) keys (case p).0) (sym (restrict-put_back_apart m others keys beside (AreApart-swap keys others apart)))
+    ∙ ap (λ p. put_back (put_back m others beside) keys (case p).0)
+    (sym (restrict-put_back_apart m others keys beside (AreApart-swap keys others apart)))

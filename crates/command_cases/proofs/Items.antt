@@ -1,5 +1,6 @@
 -- A loop over a command's keys, of which contracts see the bytes: the key of one turn, and what is left after it.
-use Rattle.std.proofs.Common.{◌≡◌, ℕ, suc, ◌+◌, ◌<◌, List, [], ◌∷◌, length, drop, get_or, All, Bool, IsTrue, add-one, arith, sym, ap, subst, ◌∙◌}
+use Rattle.std.proofs.Common.{◌≡◌, ℕ, suc, ◌+◌, ◌<◌, List, [], ◌∷◌, length, drop, get_or, All, Bool, IsTrue, add-one, arith, sym, ap, subst}
+use Rattle.std.proofs.Common.{◌∙◌}
 use Rattle.std.proofs.Math.ListN.{get_or-map}
 use Rattle.std.proofs.Math.Seq.{drop-cons}
 use Rattle.std.proofs.lemmas.List.{length-map}
@@ -10,7 +11,8 @@ use Rattle.texts.specs.Texts.{Bytes, texts_of}
 pub covered_item : (covered : Bytes → Bool) (keys : List Bytes) (xs : List (Vec ℕ)) (i : ℕ) (x : Vec ℕ)
     → texts_of xs ≡ keys → i < length xs → x ≡ get_or xs i x → All (λ key. IsTrue (covered key)) keys → IsTrue (covered x.items)
 covered_item covered keys xs i x seen within is all =
-    let at : get_or keys i x.items ≡ x.items = ap (λ ks. get_or ks i x.items) (sym seen) ∙ get_or-map (λ t. t.items) xs i x ∙ ap (λ t. t.items) (sym is) in
+    let at : get_or keys i x.items ≡ x.items = ap (λ ks. get_or ks i x.items) (sym seen) ∙ get_or-map (λ t. t.items) xs i x
+    ∙ ap (λ t. t.items) (sym is) in
     let within_keys : i < length keys = omega (arith, length-map xs (λ (t : Vec ℕ). t.items), ap length seen) in
     subst (λ key. IsTrue (covered key)) at (all i x.items within_keys)
 

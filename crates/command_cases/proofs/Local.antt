@@ -14,7 +14,8 @@ local-at_key key step m =
     let member = among-first key [] in
     let left = (step (get m key)).0 in
     ap (λ o. (put_back m keys (set (restrict m keys) key (step o).0), (step o).1)) (get-restrict_here m keys key member)
-    ∙ ap (λ n. (n, (step (get m key)).1)) (put_back-set m keys (restrict m keys) key left member ∙ ap (λ n. set n key left) (put_back-restrict m keys))
+    ∙ ap (λ n. (n, (step (get m key)).1))
+    (put_back-set m keys (restrict m keys) key left member ∙ ap (λ n. set n key left) (put_back-restrict m keys))
 
 -- a case that leaves the map and answers the same to all
 pub local-constant : (keys : List Bytes) (reply : Content) → IsLocal keys (λ m. (m, reply))

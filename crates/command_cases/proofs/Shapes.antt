@@ -43,7 +43,10 @@ local-at_two first second step m =
     let in_first = among-first first (second ∷ []) in
     let in_second = within-rest first (second ∷ []) second (among-first second []) in
     let left = step (get m first) (get m second) in
-    ap (λ o. (put_back m keys (set_two (restrict m keys) first second (step o (get (restrict m keys) second)).0), (step o (get (restrict m keys) second)).1))
+    ap (λ o. (
+      put_back m keys (set_two (restrict m keys) first second (step o (get (restrict m keys) second)).0),
+      (step o (get (restrict m keys) second)).1,
+    ))
     (get-restrict_here m keys first in_first)
     ∙ ap (λ o. (put_back m keys (set_two (restrict m keys) first second (step (get m first) o).0), (step (get m first) o).1))
     (get-restrict_here m keys second in_second)
@@ -82,7 +85,8 @@ put_back-written m pairs true =
     put_back-with_pairs m keys (restrict m keys) pairs (λ key h. h) ∙ ap (λ n. with_pairs n pairs) (put_back-restrict m keys)
 put_back-written m pairs false = put_back-restrict m (firsts pairs)
 
-pub local-at_pairs : (pairs : List (Bytes × Bytes)) (step : List (Option Value) → Bool × Content) → IsLocal (firsts pairs) (at_pairs pairs step)
+pub local-at_pairs : (pairs : List (Bytes × Bytes)) (step : List (Option Value) → Bool × Content) →
+    IsLocal (firsts pairs) (at_pairs pairs step)
 local-at_pairs pairs step m =
     let keys = firsts pairs in
     let done = step (values_at m keys) in

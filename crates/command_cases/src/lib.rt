@@ -31,7 +31,9 @@ impl From<AllocError> for Starved {
 /// keyspace and the command.
 #[macro_export]
 macro_rules! body_rows {
-    ([$family:ident, $alloc:expr, $keyspace:expr, $command:expr] $(($name:literal, $arity:ident($number:literal), $span:tt, $variant:ident { $($field:ident),* }, $read:ident, $body:ident),)*) => {
+    ([$family:ident, $alloc:expr, $keyspace:expr, $command:expr] $((
+        $name:literal, $arity:ident($number:literal), $span:tt, $variant:ident { $($field:ident),* }, $read:ident, $body:ident
+    ),)*) => {
         match $command {
             $($family::$variant { $($field),* } => $body($alloc, $keyspace, $($field),*),)*
         }

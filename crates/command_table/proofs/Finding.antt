@@ -29,7 +29,8 @@ none_of_bytes (r ∷ rs) n h not_text =
     let parts = and_parts (is_ascii_name r.name) (list_all (λ x. is_ascii_name x.name) rs) h in
     elim (bytes_eq n r.name)
     as (λ b. bytes_eq n r.name ≡ b → (if b then Some r else row_of rs n) ≡ None) [
-      | true ↦ λ e. absurd (not_text (subst IsUtf8 (sym ((bytes_eq-Decides n r.name).0 e)) (IsUtf8-from_ascii r.name (IsAscii-name r.name parts.0))))
+      | true ↦ λ e. absurd (not_text (subst IsUtf8 (sym ((bytes_eq-Decides n r.name).0 e))
+          (IsUtf8-from_ascii r.name (IsAscii-name r.name parts.0))))
       | false ↦ λ e. none_of_bytes rs n parts.1 not_text
     ] refl
 

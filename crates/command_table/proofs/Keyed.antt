@@ -1,5 +1,7 @@
 -- That each command that is read names keys, or is one that looks at none.
-use Rattle.std.proofs.Common.{◌≡◌, ℕ, zero, suc, ◌+◌, ◌-◌, ◌<◌, ◌≤◌, ◌++◌, ◌&&◌, ◌==◌, nat_le, nat_lt, Bool, true, false, List, [], ◌∷◌, length, take, drop, Some, Ok, Err, IfOk, unwrap_or, option_map, if◌then◌else◌, inl, inr, refl, sym, ap, subst, ◌∙◌, arith}
+use Rattle.std.proofs.Common.{◌≡◌, ℕ, zero, suc, ◌+◌, ◌-◌, ◌<◌, ◌≤◌, ◌++◌, ◌&&◌, ◌==◌, nat_le, nat_lt, Bool, true, false, List, [], ◌∷◌}
+use Rattle.std.proofs.Common.{length, take, drop, Some, Ok, Err, IfOk, unwrap_or, option_map, if◌then◌else◌, inl, inr, refl, sym, ap, subst}
+use Rattle.std.proofs.Common.{◌∙◌, arith}
 use Rattle.std.proofs.lemmas.Bool.{and_parts}
 use Rattle.std.proofs.lemmas.Bool.Decides.{nat_tests}
 use Rattle.std.proofs.lemmas.List.{length-drop}
@@ -100,7 +102,8 @@ keyed-told (variant.List c) some = names-told (variant.List c) some
 keyed-told (variant.Hash c) some = names-told (variant.Hash c) some
 keyed-told (variant.Set c) some = names-told (variant.Set c) some
 
-keyed-read : (r : Row) (ws : List Word) (read : Reading) → IfOk read (λ c. told_of c ≡ row_told r ([] ∷ ws)) → AreSome (keys_in r.keys ([] ∷ ws))
+keyed-read : (r : Row) (ws : List Word) (read : Reading) → IfOk read (λ c. told_of c ≡ row_told r ([] ∷ ws)) →
+    AreSome (keys_in r.keys ([] ∷ ws))
     → IfOk read IsKeyed
 keyed-read r ws (Ok c) told some = keyed-told c (subst (λ t. AreSome t.keys) (sym told) some)
 keyed-read r ws (Err refused) told some = tt
@@ -147,7 +150,8 @@ keyed_by_row r keys ws =
     as (λ b. admits r.arity (length ws + 1) ≡ b → IfOk (if b then r.reading ws else Err (refusal.Arity r.name)) IsKeyed)
     [ true ↦ λ a. keys ws a | false ↦ λ a. tt ] refl
 
-keyed_among : (rs : List Row) → AllKeyed rs → (n : Word) (ws : List Word) → IfOk (unwrap_or (reading_among rs n ws) (Err refusal.Unknown)) IsKeyed
+keyed_among : (rs : List Row) → AllKeyed rs → (n : Word) (ws : List Word) →
+    IfOk (unwrap_or (reading_among rs n ws) (Err refusal.Unknown)) IsKeyed
 keyed_among [] keys n ws = tt
 keyed_among (r ∷ rs) keys n ws =
     elim (bytes_eq n r.name)

@@ -1,5 +1,6 @@
 -- What a row says of the words is what is told of the command.
-use Rattle.std.proofs.Common.{Bool, Err, IfOk, List, None, Ok, Option, Result, Some, [], ap, arith, drop, false, if◌then◌else◌, length, option_map, refl, subst, sym, true, unwrap_or, ℤ, ◌%◌, ◌++◌, ◌+◌, ◌==◌, ◌||◌, ◌∙◌, ◌∷◌, ◌≡◌}
+use Rattle.std.proofs.Common.{Bool, Err, IfOk, List, None, Ok, Option, Result, Some, [], ap, arith, drop, false, if◌then◌else◌, length}
+use Rattle.std.proofs.Common.{option_map, refl, subst, sym, true, unwrap_or, ℤ, ◌%◌, ◌++◌, ◌+◌, ◌==◌, ◌||◌, ◌∙◌, ◌∷◌, ◌≡◌}
 use Rattle.std.proofs.lemmas.Bool.Decides.{nat_tests}
 use Rattle.std.specs.Prelude.{codes}
 use Rattle.std.specs.Str.{bytes_eq}
@@ -13,20 +14,25 @@ use Rattle.command_table.specs.declared.key_commands.KeyCommand.TheVariants.{Flu
 use Rattle.command_table.specs.declared.string_commands.Condition.{Condition}
 use Rattle.command_table.specs.Arity.{admits}
 use Rattle.command_table.specs.Command.{told_of}
-use Rattle.command_table.specs.HashCommands.{hash_rows, hlen_row, hget_row, hexists_row, hstrlen_row, hkeys_row, hvals_row, hgetall_row, hmget_row, hdel_row, hsetnx_row, hset_row, hmset_row, hincrby_row, whole_pairs, with_pairs}
-use Rattle.command_table.specs.KeyCommands.{key_rows, del_row, unlink_row, exists_row, type_row, rename_row, renamenx_row, dbsize_row, flushall_row}
+use Rattle.command_table.specs.HashCommands.{hash_rows, hlen_row, hget_row, hexists_row, hstrlen_row, hkeys_row, hvals_row, hgetall_row}
+use Rattle.command_table.specs.HashCommands.{hmget_row, hdel_row, hsetnx_row, hset_row, hmset_row, hincrby_row, whole_pairs, with_pairs}
+use Rattle.command_table.specs.KeyCommands.{key_rows, del_row, unlink_row, exists_row, type_row, rename_row, renamenx_row, dbsize_row}
+use Rattle.command_table.specs.KeyCommands.{flushall_row}
 use Rattle.command_table.specs.KeySpan.{NoKeys, AllThereAre, Between, ToLastWord, stepped, keys_in}
 use Rattle.command_table.specs.ListCommands.{list_rows, llen_row, lpop_row, rpop_row, lpush_row, rpush_row, lpushx_row, rpushx_row}
-use Rattle.command_table.specs.ListCommands.{lindex_row, lset_row, lrange_row, ltrim_row, lrem_row, lindex_with, lset_with, lrange_with, ltrim_with, lrem_with}
+use Rattle.command_table.specs.ListCommands.{lindex_row, lset_row, lrange_row, ltrim_row, lrem_row, lindex_with, lset_with, lrange_with}
+use Rattle.command_table.specs.ListCommands.{ltrim_with, lrem_with}
 use Rattle.command_table.specs.ListCommands.{linsert_row, lmove_row, rpoplpush_row, linsert_with, lmove_with, side_of, end_of}
 use Rattle.command_table.specs.declared.list_commands.Side.{Side}
 use Rattle.texts.specs.declared.text_list.End.{End}
 use Rattle.command_table.specs.LocalCommands.{local_rows, ping_row, echo_row}
 use Rattle.command_table.specs.Reading.{rows, reading, IsTold}
-use Rattle.command_table.specs.Row.{Row, Reading, pairs_reading, then_reading, integer_reading, row_of, row_reading, row_told, reading_among}
+use Rattle.command_table.specs.Row.{Row, Reading, pairs_reading, then_reading, integer_reading, row_of, row_reading, row_told}
+use Rattle.command_table.specs.Row.{reading_among}
 use Rattle.command_table.specs.SetCommands.{set_rows, sadd_row, srem_row, sismember_row, smismember_row, scard_row, smembers_row}
 use Rattle.command_table.specs.SetCommands.{smove_row, sinter_row, sunion_row, sdiff_row, sinterstore_row, sunionstore_row, sdiffstore_row}
-use Rattle.command_table.specs.StringCommands.{string_rows, get_row, set_row, setnx_row, getset_row, getdel_row, mget_row, strlen_row, getrange_row, set_with, options_condition}
+use Rattle.command_table.specs.StringCommands.{string_rows, get_row, set_row, setnx_row, getset_row, getdel_row, mget_row, strlen_row}
+use Rattle.command_table.specs.StringCommands.{getrange_row, set_with, options_condition}
 use Rattle.command_table.specs.StringCommands.{incr_row, decr_row, incrby_row, decrby_row, append_row, setrange_row, mset_row, msetnx_row}
 use Rattle.command_table.specs.declared.string_commands.StringCommand.TheVariants.{Mset, Msetnx}
 use Rattle.command_table.specs.Telling.{KeysTold, All, These}
@@ -65,7 +71,8 @@ AllTell (r ∷ rs) = Tells r × AllTell rs
 abbrev pub IsToldAs : Row → KeysTold → Reading → Type 0
 IsToldAs r keys read = IfOk read (λ c. told_of c ≡ record { name = r.name; keys = keys })
 
-with_keys : (r : Row) (keys : KeysTold) (name : Word) (ws : List Word) (read : Reading) → keys_in r.keys (name ∷ ws) ≡ keys → IsToldAs r keys read
+with_keys : (r : Row) (keys : KeysTold) (name : Word) (ws : List Word) (read : Reading) → keys_in r.keys (name ∷ ws) ≡ keys →
+    IsToldAs r keys read
     → IsToldIn r (name ∷ ws) read
 with_keys r keys name ws read span made = subst (λ k. IsToldAs r k read) (sym span) made
 
@@ -90,7 +97,8 @@ pub tells-two : (r : Row) → r.keys ≡ Between 1 2 → admits r.arity 1 ≡ fa
 tells-two r span none few made name [] a = absurd cc
 tells-two r span none few made name (key ∷ []) a = absurd cc
 tells-two r span none few made name (key ∷ other ∷ ws) a =
-    with_keys r (These (key ∷ other ∷ [])) name (key ∷ other ∷ ws) _ (ap (λ s. keys_in s (name ∷ key ∷ other ∷ ws)) span) (made key other ws)
+    with_keys r (These (key ∷ other ∷ [])) name (key ∷ other ∷ ws) _ (ap (λ s. keys_in s (name ∷ key ∷ other ∷ ws)) span)
+    (made key other ws)
 
 -- each word
 pub tells-each : (r : Row) → r.keys ≡ ToLastWord 1 1 → ((ws : List Word) → IsToldAs r (These ws) (r.reading ws)) → Tells r
@@ -106,7 +114,8 @@ tells-target r span few made name (target ∷ sources) a =
     (ap (λ s. keys_in s (name ∷ target ∷ sources)) span ∙ ap These (stepped-one (target ∷ sources))) (made target sources)
 
 -- every second word, of pairs
-pub tells-pairs : (r : Row) (make : List (Word × Word) → Command) → r.keys ≡ ToLastWord 1 2 → ((ws : List Word) → r.reading ws ≡ pairs_reading r.name make ws)
+pub tells-pairs : (r : Row) (make : List (Word × Word) → Command) → r.keys ≡ ToLastWord 1 2 →
+    ((ws : List Word) → r.reading ws ≡ pairs_reading r.name make ws)
     → ((pairs : List (Word × Word)) → told_of (make pairs) ≡ record { name = r.name; keys = These (firsts pairs) }) → Tells r
 tells-pairs r make span reads made name ws a =
     subst (λ read. IsToldIn r (name ∷ ws) read) (sym (reads ws))
@@ -197,7 +206,8 @@ string_tell = (
                         (
                           tells-one append_row refl refl (λ key ws. refl),
                           (
-                            tells-one setrange_row refl refl (λ key ws. integer_tells setrange_row key (integer_word (word ws 0)) _ (λ offset. refl)),
+                            tells-one setrange_row refl refl
+                                (λ key ws. integer_tells setrange_row key (integer_word (word ws 0)) _ (λ offset. refl)),
                             (
                               tells-pairs mset_row (λ pairs. Str (Mset pairs)) refl (λ ws. refl) (λ pairs. refl),
                               (
@@ -279,7 +289,8 @@ list_tell = (
                         (
                           tells-one linsert_row refl refl (λ key ws. linsert_tells key (word ws 1) (word ws 2) (side_of (word ws 0))),
                           (
-                            tells-two lmove_row refl refl refl (λ from to ws. lmove_tells from to (end_of (word ws 0)) (end_of (word ws 1))),
+                            tells-two lmove_row refl refl refl
+                                (λ from to ws. lmove_tells from to (end_of (word ws 0)) (end_of (word ws 1))),
                             (tells-two rpoplpush_row refl refl refl (λ from to ws. refl), tt),
                           ),
                         ),
@@ -296,7 +307,8 @@ list_tell = (
   ),
 )
 
-pairs_tell : (r : Row) (keys : KeysTold) (name : Word) (make : List (Word × Word) → HashCommand) → ((pairs : List (Word × Word)) → IsToldAs r keys (Ok (Hash (make pairs))))
+pairs_tell : (r : Row) (keys : KeysTold) (name : Word) (make : List (Word × Word) → HashCommand) →
+    ((pairs : List (Word × Word)) → IsToldAs r keys (Ok (Hash (make pairs))))
     → (pairs : Option (List (Word × Word))) → IsToldAs r keys (with_pairs name make pairs)
 pairs_tell r keys name make made (Some pairs) = made pairs
 pairs_tell r keys name make made None = tt
@@ -323,11 +335,14 @@ hash_tell = (
                   (
                     tells-one hsetnx_row refl refl (λ key ws. refl),
                     (
-                      tells-one hset_row refl refl (λ key ws. pairs_tell hset_row (These (key ∷ [])) (codes "hset") (Hset key) (λ pairs. refl) (whole_pairs ws)),
+                      tells-one hset_row refl refl (λ key ws. pairs_tell hset_row (These (key ∷ [])) (codes "hset") (Hset key)
+                          (λ pairs. refl) (whole_pairs ws)),
                       (
-                        tells-one hmset_row refl refl (λ key ws. pairs_tell hmset_row (These (key ∷ [])) (codes "hmset") (Hmset key) (λ pairs. refl) (whole_pairs ws)),
+                        tells-one hmset_row refl refl (λ key ws. pairs_tell hmset_row (These (key ∷ [])) (codes "hmset") (Hmset key)
+                            (λ pairs. refl) (whole_pairs ws)),
                         (
-                          tells-one hincrby_row refl refl (λ key ws. integer_tells hincrby_row key (integer_word (word ws 1)) _ (λ by. refl)),
+                          tells-one hincrby_row refl refl
+                              (λ key ws. integer_tells hincrby_row key (integer_word (word ws 1)) _ (λ by. refl)),
                           tt,
                         ),
                       ),

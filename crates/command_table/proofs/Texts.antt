@@ -1,5 +1,6 @@
 -- Lists of words, seen through their bytes.
-use Rattle.std.proofs.Common.{◌≡◌, ℕ, Bool, suc, zero, ◌+◌, ◌<◌, ◌||◌, ◌&&◌, List, [], ◌∷◌, ◌++◌, length, take, Some, slice_get, slice_index_or, refl, sym, ap, arith, add-one}
+use Rattle.std.proofs.Common.{◌≡◌, ℕ, Bool, suc, zero, ◌+◌, ◌<◌, ◌||◌, ◌&&◌, List, [], ◌∷◌, ◌++◌, length, take, Some, slice_get}
+use Rattle.std.proofs.Common.{slice_index_or, refl, sym, ap, arith, add-one}
 use Rattle.std.specs.Global.{Vec}
 use Rattle.std.specs.List.{list_any, list_all, remove}
 use Rattle.command_table.specs.Words.{texts_of, Word}
@@ -22,6 +23,7 @@ pub take_next : (ks : List Word) (i : ℕ) (k : Word) → slice_get ks i ≡ Som
 take_next ks i k e = rw add-one (next_suc ks i k e)
 
 -- the first word, and the others
-pub first_word : (ws : List (Vec ℕ)) (w : Vec ℕ) → 0 < length ws → w ≡ slice_index_or ws 0 w → texts_of ws ≡ w.items ∷ texts_of (remove ws 0)
+pub first_word : (ws : List (Vec ℕ)) (w : Vec ℕ) → 0 < length ws → w ≡ slice_index_or ws 0 w →
+    texts_of ws ≡ w.items ∷ texts_of (remove ws 0)
 first_word [] w h e = absurd (omega arith)
 first_word (x ∷ ws) w h e = ap (λ (v : Vec ℕ). v.items ∷ texts_of ws) (sym e)

@@ -3,7 +3,8 @@ use Rattle.std.specs.Prelude.{◌%◌, ◌==◌, List, [], ◌∷◌, drop, leng
 use Rattle.command_table.specs.declared.arity.Arity.TheVariants.{Exactly, AtLeast}
 use Rattle.command_table.specs.declared.command.Command.TheVariants.{Hash}
 use Rattle.command_table.specs.declared.hash_commands.HashCommand.{HashCommand}
-use Rattle.command_table.specs.declared.hash_commands.HashCommand.TheVariants.{Hlen, Hget, Hexists, Hstrlen, Hkeys, Hvals, Hgetall, Hmget, Hdel, Hsetnx, Hset, Hmset, Hincrby}
+use Rattle.command_table.specs.declared.hash_commands.HashCommand.TheVariants.{Hlen, Hget, Hexists, Hstrlen, Hkeys, Hvals, Hgetall, Hmget}
+use Rattle.command_table.specs.declared.hash_commands.HashCommand.TheVariants.{Hdel, Hsetnx, Hset, Hmset, Hincrby}
 use Rattle.command_table.specs.declared.refusal.Refusal.TheVariants.{Arity}
 use Rattle.command_table.specs.KeySpan.{Between}
 use Rattle.command_table.specs.Row.{Row, Reading, integer_reading}
@@ -32,13 +33,31 @@ abbrev pub hlen_row : Row
 hlen_row = record { name = codes "hlen"; arity = Exactly 2; keys = Between 1 1; reading = λ words. Ok (Hash (Hlen (word words 0))) }
 
 abbrev pub hget_row : Row
-hget_row = record { name = codes "hget"; arity = Exactly 3; keys = Between 1 1; reading = λ words. Ok (Hash (Hget (word words 0) (word words 1))) }
+hget_row = record {
+  name = codes "hget";
+  arity = Exactly 3;
+  keys = Between 1 1;
+  reading =
+      λ words. Ok (Hash (Hget (word words 0) (word words 1)));
+}
 
 abbrev pub hexists_row : Row
-hexists_row = record { name = codes "hexists"; arity = Exactly 3; keys = Between 1 1; reading = λ words. Ok (Hash (Hexists (word words 0) (word words 1))) }
+hexists_row = record {
+  name = codes "hexists";
+  arity = Exactly 3;
+  keys = Between 1 1;
+  reading =
+      λ words. Ok (Hash (Hexists (word words 0) (word words 1)));
+}
 
 abbrev pub hstrlen_row : Row
-hstrlen_row = record { name = codes "hstrlen"; arity = Exactly 3; keys = Between 1 1; reading = λ words. Ok (Hash (Hstrlen (word words 0) (word words 1))) }
+hstrlen_row = record {
+  name = codes "hstrlen";
+  arity = Exactly 3;
+  keys = Between 1 1;
+  reading =
+      λ words. Ok (Hash (Hstrlen (word words 0) (word words 1)));
+}
 
 abbrev pub hkeys_row : Row
 hkeys_row = record { name = codes "hkeys"; arity = Exactly 2; keys = Between 1 1; reading = λ words. Ok (Hash (Hkeys (word words 0))) }
@@ -47,17 +66,41 @@ abbrev pub hvals_row : Row
 hvals_row = record { name = codes "hvals"; arity = Exactly 2; keys = Between 1 1; reading = λ words. Ok (Hash (Hvals (word words 0))) }
 
 abbrev pub hgetall_row : Row
-hgetall_row = record { name = codes "hgetall"; arity = Exactly 2; keys = Between 1 1; reading = λ words. Ok (Hash (Hgetall (word words 0))) }
+hgetall_row = record {
+  name = codes "hgetall";
+  arity = Exactly 2;
+  keys = Between 1 1;
+  reading =
+      λ words. Ok (Hash (Hgetall (word words 0)));
+}
 
 -- the words after the key are fields
 abbrev pub hmget_row : Row
-hmget_row = record { name = codes "hmget"; arity = AtLeast 3; keys = Between 1 1; reading = λ words. Ok (Hash (Hmget (word words 0) (drop 1 words))) }
+hmget_row = record {
+  name = codes "hmget";
+  arity = AtLeast 3;
+  keys = Between 1 1;
+  reading =
+      λ words. Ok (Hash (Hmget (word words 0) (drop 1 words)));
+}
 
 abbrev pub hdel_row : Row
-hdel_row = record { name = codes "hdel"; arity = AtLeast 3; keys = Between 1 1; reading = λ words. Ok (Hash (Hdel (word words 0) (drop 1 words))) }
+hdel_row = record {
+  name = codes "hdel";
+  arity = AtLeast 3;
+  keys = Between 1 1;
+  reading =
+      λ words. Ok (Hash (Hdel (word words 0) (drop 1 words)));
+}
 
 abbrev pub hsetnx_row : Row
-hsetnx_row = record { name = codes "hsetnx"; arity = Exactly 4; keys = Between 1 1; reading = λ words. Ok (Hash (Hsetnx (word words 0) (word words 1) (word words 2))) }
+hsetnx_row = record {
+  name = codes "hsetnx";
+  arity = Exactly 4;
+  keys = Between 1 1;
+  reading =
+      λ words. Ok (Hash (Hsetnx (word words 0) (word words 1) (word words 2)));
+}
 
 -- the words two by two, where none is left over
 abbrev pub whole_pairs : List Word → Option (List (Word × Word))
@@ -70,10 +113,22 @@ with_pairs name make None = Err (Arity name)
 
 -- the words after the key are fields and their values by turns
 abbrev pub hset_row : Row
-hset_row = record { name = codes "hset"; arity = AtLeast 4; keys = Between 1 1; reading = λ words. with_pairs (codes "hset") (Hset (word words 0)) (whole_pairs (drop 1 words)) }
+hset_row = record {
+  name = codes "hset";
+  arity = AtLeast 4;
+  keys = Between 1 1;
+  reading =
+      λ words. with_pairs (codes "hset") (Hset (word words 0)) (whole_pairs (drop 1 words));
+}
 
 abbrev pub hmset_row : Row
-hmset_row = record { name = codes "hmset"; arity = AtLeast 4; keys = Between 1 1; reading = λ words. with_pairs (codes "hmset") (Hmset (word words 0)) (whole_pairs (drop 1 words)) }
+hmset_row = record {
+  name = codes "hmset";
+  arity = AtLeast 4;
+  keys = Between 1 1;
+  reading =
+      λ words. with_pairs (codes "hmset") (Hmset (word words 0)) (whole_pairs (drop 1 words));
+}
 
 abbrev pub hincrby_reading : List Word → Reading
 hincrby_reading words = integer_reading (word words 2) (λ by. Ok (Hash (Hincrby (word words 0) (word words 1) by)))

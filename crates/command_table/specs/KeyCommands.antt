@@ -3,7 +3,8 @@ use Rattle.std.specs.Prelude.{◌||◌, List, [], ◌∷◌, Ok, Err, if◌then�
 use Rattle.command_table.specs.declared.arity.Arity.TheVariants.{Exactly, AtLeast}
 use Rattle.command_table.specs.declared.command.Command.TheVariants.{Key}
 use Rattle.command_table.specs.declared.key_commands.KeyCommand.{KeyCommand}
-use Rattle.command_table.specs.declared.key_commands.KeyCommand.TheVariants.{Del, Unlink, Exists, TypeOf, Rename, Renamenx, Dbsize, Flushall}
+use Rattle.command_table.specs.declared.key_commands.KeyCommand.TheVariants.{Del, Unlink, Exists, TypeOf, Rename, Renamenx, Dbsize}
+use Rattle.command_table.specs.declared.key_commands.KeyCommand.TheVariants.{Flushall}
 use Rattle.command_table.specs.declared.refusal.Refusal.TheVariants.{Syntax}
 use Rattle.command_table.specs.KeySpan.{AllThereAre, Between, ToLastWord}
 use Rattle.command_table.specs.Row.{Row, Reading}
@@ -37,10 +38,22 @@ abbrev pub type_row : Row
 type_row = record { name = codes "type"; arity = Exactly 2; keys = Between 1 1; reading = λ words. Ok (Key (TypeOf (word words 0))) }
 
 abbrev pub rename_row : Row
-rename_row = record { name = codes "rename"; arity = Exactly 3; keys = Between 1 2; reading = λ words. Ok (Key (Rename (word words 0) (word words 1))) }
+rename_row = record {
+  name = codes "rename";
+  arity = Exactly 3;
+  keys = Between 1 2;
+  reading =
+      λ words. Ok (Key (Rename (word words 0) (word words 1)));
+}
 
 abbrev pub renamenx_row : Row
-renamenx_row = record { name = codes "renamenx"; arity = Exactly 3; keys = Between 1 2; reading = λ words. Ok (Key (Renamenx (word words 0) (word words 1))) }
+renamenx_row = record {
+  name = codes "renamenx";
+  arity = Exactly 3;
+  keys = Between 1 2;
+  reading =
+      λ words. Ok (Key (Renamenx (word words 0) (word words 1)));
+}
 
 abbrev pub dbsize_row : Row
 dbsize_row = record { name = codes "dbsize"; arity = Exactly 1; keys = AllThereAre; reading = λ words. Ok (Key Dbsize) }

@@ -3,7 +3,8 @@ use Rattle.std.specs.Prelude.{ℤ, List, [], ◌∷◌, drop, Result, Ok, Err, i
 use Rattle.command_table.specs.declared.arity.Arity.TheVariants.{Exactly, AtLeast}
 use Rattle.command_table.specs.declared.command.Command.TheVariants as variant
 use Rattle.command_table.specs.declared.list_commands.ListCommand.{ListCommand}
-use Rattle.command_table.specs.declared.list_commands.ListCommand.TheVariants.{Llen, Lpop, Rpop, Lpush, Rpush, Lpushx, Rpushx, Lindex, Lset, Lrange, Ltrim, Lrem, Linsert, Lmove, Rpoplpush}
+use Rattle.command_table.specs.declared.list_commands.ListCommand.TheVariants.{Llen, Lpop, Rpop, Lpush, Rpush, Lpushx, Rpushx, Lindex, Lset}
+use Rattle.command_table.specs.declared.list_commands.ListCommand.TheVariants.{Lrange, Ltrim, Lrem, Linsert, Lmove, Rpoplpush}
 use Rattle.command_table.specs.declared.list_commands.Side.{Side}
 use Rattle.command_table.specs.declared.list_commands.Side.TheVariants.{Before, After}
 use Rattle.command_table.specs.declared.refusal.Refusal.{Refusal}
@@ -85,19 +86,43 @@ rpop_row = record { name = codes "rpop"; arity = Exactly 2; keys = Between 1 1; 
 
 abbrev pub lpush_row : Row
 lpush_row =
-    record { name = codes "lpush"; arity = AtLeast 3; keys = Between 1 1; reading = λ words. Ok (variant.List (Lpush (word words 0) (drop 1 words))) }
+    record {
+      name = codes "lpush";
+      arity = AtLeast 3;
+      keys = Between 1 1;
+      reading =
+          λ words. Ok (variant.List (Lpush (word words 0) (drop 1 words)));
+    }
 
 abbrev pub rpush_row : Row
 rpush_row =
-    record { name = codes "rpush"; arity = AtLeast 3; keys = Between 1 1; reading = λ words. Ok (variant.List (Rpush (word words 0) (drop 1 words))) }
+    record {
+      name = codes "rpush";
+      arity = AtLeast 3;
+      keys = Between 1 1;
+      reading =
+          λ words. Ok (variant.List (Rpush (word words 0) (drop 1 words)));
+    }
 
 abbrev pub lpushx_row : Row
 lpushx_row =
-    record { name = codes "lpushx"; arity = AtLeast 3; keys = Between 1 1; reading = λ words. Ok (variant.List (Lpushx (word words 0) (drop 1 words))) }
+    record {
+      name = codes "lpushx";
+      arity = AtLeast 3;
+      keys = Between 1 1;
+      reading =
+          λ words. Ok (variant.List (Lpushx (word words 0) (drop 1 words)));
+    }
 
 abbrev pub rpushx_row : Row
 rpushx_row =
-    record { name = codes "rpushx"; arity = AtLeast 3; keys = Between 1 1; reading = λ words. Ok (variant.List (Rpushx (word words 0) (drop 1 words))) }
+    record {
+      name = codes "rpushx";
+      arity = AtLeast 3;
+      keys = Between 1 1;
+      reading =
+          λ words. Ok (variant.List (Rpushx (word words 0) (drop 1 words)));
+    }
 
 abbrev pub lindex_row : Row
 lindex_row = record {

@@ -9,7 +9,8 @@ use Rattle.command_table.specs.declared.string_commands.Condition.{Condition}
 use Rattle.command_table.specs.declared.string_commands.Condition.TheVariants.{Always, IfAbsent, IfPresent}
 use Rattle.command_table.specs.declared.string_commands.StringCommand.{StringCommand}
 use Rattle.command_table.specs.declared.string_commands.StringCommand.TheVariants.{Get, Set, Setnx, Getset, Getdel, Mget, Strlen, Getrange}
-use Rattle.command_table.specs.declared.string_commands.StringCommand.TheVariants.{Incr, Decr, Incrby, Decrby, Append, Setrange, Mset, Msetnx}
+use Rattle.command_table.specs.declared.string_commands.StringCommand.TheVariants.{Incr, Decr, Incrby, Decrby, Append, Setrange, Mset}
+use Rattle.command_table.specs.declared.string_commands.StringCommand.TheVariants.{Msetnx}
 use Rattle.command_table.specs.KeySpan.{Between, ToLastWord}
 use Rattle.command_table.specs.Row.{Row, Reading, integer_reading, pairs_reading}
 use Rattle.command_table.specs.Telling.{Telling, These, named}
@@ -73,7 +74,13 @@ abbrev pub set_row : Row
 set_row = record { name = codes "set"; arity = AtLeast 3; keys = Between 1 1; reading = set_reading }
 
 abbrev pub setnx_row : Row
-setnx_row = record { name = codes "setnx"; arity = Exactly 3; keys = Between 1 1; reading = λ words. Ok (Str (Setnx (word words 0) (word words 1))) }
+setnx_row = record {
+  name = codes "setnx";
+  arity = Exactly 3;
+  keys = Between 1 1;
+  reading =
+      λ words. Ok (Str (Setnx (word words 0) (word words 1)));
+}
 
 abbrev pub getset_row : Row
 getset_row = record {

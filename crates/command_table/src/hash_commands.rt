@@ -2,7 +2,8 @@
 
 ghost use Rattle.std.specs.Prelude.{◌≡◌, ◌≤◌, length, MatchResult, Some, None};
 ghost use Rattle.command_table.specs.HashCommands.{hash_command_told, hash_rows, whole_pairs, hlen_row, hget_row, hexists_row, hstrlen_row};
-ghost use Rattle.command_table.specs.HashCommands.{hkeys_row, hvals_row, hgetall_row, hmget_row, hdel_row, hsetnx_row, hset_row, hmset_row, hincrby_row};
+ghost use Rattle.command_table.specs.HashCommands.{hkeys_row, hvals_row, hgetall_row, hmget_row, hdel_row, hsetnx_row, hset_row, hmset_row};
+ghost use Rattle.command_table.specs.HashCommands.{hincrby_row};
 ghost use Rattle.command_table.specs.Held.{told_held};
 ghost use Rattle.command_table.specs.Row.{row_of, reading_among};
 ghost use Rattle.command_table.specs.Words.{texts_of};

@@ -107,7 +107,9 @@ macro_rules! command_rows {
 
 /// Reads these words by the row of this name; gives the words back where no row has it.
 macro_rules! read_rows {
-    ([$name:expr, $words:expr] $(($text:literal, $arity:ident($number:literal), $span:tt, $variant:ident { $($field:ident),* }, $read:ident, $body:ident),)*) => {
+    ([$name:expr, $words:expr] $((
+        $text:literal, $arity:ident($number:literal), $span:tt, $variant:ident { $($field:ident),* }, $read:ident, $body:ident
+    ),)*) => {
         match $name {
             $($text => Ok(if Arity::$arity($number).admits($words.len() + 1) {
                 $read($words)
@@ -121,7 +123,9 @@ macro_rules! read_rows {
 
 /// What the row of this command tells of it.
 macro_rules! told_rows {
-    ([$family:ident, $command:expr] $(($text:literal, $arity:ident($number:literal), $span:tt, $variant:ident { $($field:ident),* }, $read:ident, $body:ident),)*) => {
+    ([$family:ident, $command:expr] $((
+        $text:literal, $arity:ident($number:literal), $span:tt, $variant:ident { $($field:ident),* }, $read:ident, $body:ident
+    ),)*) => {
         match $command {
             $($family::$variant { $($field),* } => Told { name: $text, keys: keys_of_span!($span $(, $field)*) },)*
         }

@@ -2,8 +2,10 @@
 
 ghost use Rattle.std.specs.Prelude.{◌≡◌, ◌<◌, ◌≤◌, length, slice_get, MatchResult, Some, None};
 ghost use Rattle.command_table.specs.Held.{told_held};
-ghost use Rattle.command_table.specs.StringCommands.{string_command_told, string_rows, get_row, set_row, setnx_row, getset_row, getdel_row, mget_row, strlen_row, getrange_row};
-ghost use Rattle.command_table.specs.StringCommands.{incr_row, decr_row, incrby_row, decrby_row, append_row, setrange_row, mset_row, msetnx_row};
+ghost use Rattle.command_table.specs.StringCommands.{string_command_told, string_rows, get_row, set_row, setnx_row, getset_row, getdel_row};
+ghost use Rattle.command_table.specs.StringCommands.{mget_row, strlen_row, getrange_row};
+ghost use Rattle.command_table.specs.StringCommands.{incr_row, decr_row, incrby_row, decrby_row, append_row, setrange_row, mset_row};
+ghost use Rattle.command_table.specs.StringCommands.{msetnx_row};
 ghost use Rattle.command_table.specs.StringCommands.{options_condition, is_option};
 ghost use Rattle.command_table.specs.Row.{row_of, reading_among};
 ghost use Rattle.command_table.specs.Words.{texts_of};

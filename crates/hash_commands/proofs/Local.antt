@@ -3,8 +3,11 @@ use Rattle.command_cases.proofs.Local.{local-at_key}
 use Rattle.command_cases.specs.Case.{IsLocal}
 use Rattle.command_table.specs.HashCommands.{hash_command_keys}
 use Rattle.command_table.specs.declared.hash_commands.HashCommand.{HashCommand}
-use Rattle.command_table.specs.declared.hash_commands.HashCommand.TheVariants.{Hlen, Hget, Hexists, Hstrlen, Hkeys, Hvals, Hgetall, Hmget, Hdel, Hsetnx, Hset, Hmset, Hincrby}
-use Rattle.hash_commands.specs.HashCommand.{looks_at_hash, hlen_answer, hget_answer, hexists_answer, hstrlen_answer, hkeys_answer, hvals_answer, hgetall_answer, hmget_answer, changes_hash, hdel_change, hsetnx_step, hset_step, hmset_step, hincrby_step, hash_command_case}
+use Rattle.command_table.specs.declared.hash_commands.HashCommand.TheVariants.{Hlen, Hget, Hexists, Hstrlen, Hkeys, Hvals, Hgetall, Hmget}
+use Rattle.command_table.specs.declared.hash_commands.HashCommand.TheVariants.{Hdel, Hsetnx, Hset, Hmset, Hincrby}
+use Rattle.hash_commands.specs.HashCommand.{looks_at_hash, hlen_answer, hget_answer, hexists_answer, hstrlen_answer, hkeys_answer}
+use Rattle.hash_commands.specs.HashCommand.{hvals_answer, hgetall_answer, hmget_answer, changes_hash, hdel_change, hsetnx_step, hset_step}
+use Rattle.hash_commands.specs.HashCommand.{hmset_step, hincrby_step, hash_command_case}
 
 pub local-hash_command : (c : HashCommand) → IsLocal (hash_command_keys c) (hash_command_case c)
 local-hash_command (Hlen key) = local-at_key key (looks_at_hash hlen_answer)

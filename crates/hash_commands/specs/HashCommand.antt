@@ -1,12 +1,14 @@
 -- What the commands on hashes do, by the Redis command reference. A hash is the list of its pairs of a field and its value, in
 -- order of insertion; a key that is missing counts as a hash with no pairs.
-use Rattle.std.specs.Prelude.{◌≡◌, ℕ, ◌-◌, ◌<◌, ℤ, List, [], map, length, codes, Option, Some, None, Result, Ok, Err, IsSome, IsOk, is_some, if◌then◌else◌, true, false}
+use Rattle.std.specs.Prelude.{◌≡◌, ℕ, ◌-◌, ◌<◌, ℤ, List, [], map, length, codes, Option, Some, None, Result, Ok, Err, IsSome, IsOk, is_some}
+use Rattle.std.specs.Prelude.{if◌then◌else◌, true, false}
 use Rattle.std.specs.FinMap.{get}
 use Rattle.std.specs.Fmt.{signed_decimal}
 use Rattle.command_cases.specs.Case.{Case, Step, at_key}
 use Rattle.command_cases.specs.Replies.{ok, count, truth, wrong_type, would_overflow}
 use Rattle.command_table.specs.declared.hash_commands.HashCommand.{HashCommand}
-use Rattle.command_table.specs.declared.hash_commands.HashCommand.TheVariants.{Hlen, Hget, Hexists, Hstrlen, Hkeys, Hvals, Hgetall, Hmget, Hdel, Hsetnx, Hset, Hmset, Hincrby}
+use Rattle.command_table.specs.declared.hash_commands.HashCommand.TheVariants.{Hlen, Hget, Hexists, Hstrlen, Hkeys, Hvals, Hgetall, Hmget}
+use Rattle.command_table.specs.declared.hash_commands.HashCommand.TheVariants.{Hdel, Hsetnx, Hset, Hmset, Hincrby}
 use Rattle.integers.specs.Sum.{stored_sum}
 use Rattle.integers.specs.declared.sum.SumFault.{SumFault}
 use Rattle.integers.specs.declared.sum.SumFault.TheVariants.{NotInteger, Overflow}
@@ -169,4 +171,5 @@ HashCommandTakesMemory (Hdel key fields) m = ⊥
 HashCommandTakesMemory (Hsetnx key field value) m = IsSome (pairs_there (get m key)) × (field_value (some_pairs (get m key)) field ≡ None)
 HashCommandTakesMemory (Hset key pairs) m = IsSome (pairs_there (get m key))
 HashCommandTakesMemory (Hmset key pairs) m = IsSome (pairs_there (get m key))
-HashCommandTakesMemory (Hincrby key field by) m = IsSome (pairs_there (get m key)) × IsOk (stored_sum (field_value (some_pairs (get m key)) field) by)
+HashCommandTakesMemory (Hincrby key field by) m =
+    IsSome (pairs_there (get m key)) × IsOk (stored_sum (field_value (some_pairs (get m key)) field) by)

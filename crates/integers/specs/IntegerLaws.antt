@@ -1,5 +1,6 @@
 -- That `integer_of` gives the number of which the text is printed, and no other.
-use Rattle.std.proofs.Common.{◌≡◌, ◌≢◌, ℕ, suc, ◌<◌, ◌^◌, Bool, true, false, cond, ◌&&◌, List, drop, get_or, ℤ, pos, negsuc, neg_ℤ, Some, None, Result, Ok, Err, w64, if◌then◌else◌, refl, sym, ap, subst, ◌∙◌, arith}
+use Rattle.std.proofs.Common.{◌≡◌, ◌≢◌, ℕ, suc, ◌<◌, ◌^◌, Bool, true, false, cond, ◌&&◌, List, drop, get_or, ℤ, pos, negsuc, neg_ℤ, Some}
+use Rattle.std.proofs.Common.{None, Result, Ok, Err, w64, if◌then◌else◌, refl, sym, ap, subst, ◌∙◌, arith}
 use Rattle.std.proofs.lemmas.Bool.{and_parts}
 use Rattle.std.proofs.lemmas.Bool.Decides.{nat_tests}
 use Rattle.std.proofs.lemmas.Fmt.{decimal_is_IsNumeral, IsAscii-signed, parse-signed_decimal}
@@ -41,7 +42,8 @@ pub integer_of-text : (text : Bytes) (z : ℤ) → IsIntegerText text z → inte
 integer_of-text text z is =
     let same : bytes_eq (signed_decimal z) (signed_decimal z) ≡ true = (bytes_eq-Decides (signed_decimal z) (signed_decimal z)).1 refl in
     ap integer_of is.1
-    ∙ ap (λ n. if fits_64_bits n && bytes_eq (signed_decimal z) (signed_decimal n) then Some n else None) (value-signed_decimal z (mag-fits z is.0))
+    ∙ ap (λ n. if fits_64_bits n && bytes_eq (signed_decimal z) (signed_decimal n) then Some n else None)
+    (value-signed_decimal z (mag-fits z is.0))
     ∙ ap (λ b. if b && bytes_eq (signed_decimal z) (signed_decimal z) then Some z else None) is.0
     ∙ ap (λ (b : Bool). if b then Some z else None) same
 

@@ -1,5 +1,6 @@
 -- The items of a range, as one slice.
-use Rattle.std.proofs.Common.{◌≡◌, ℕ, zero, suc, ◌-◌, ◌<◌, ◌≤◌, ◌&&◌, nat_le, nat_lt, Bool, true, false, List, [], ◌∷◌, length, take, drop, ℤ, if◌then◌else◌, refl, sym, ap, ◌∙◌, arith}
+use Rattle.std.proofs.Common.{◌≡◌, ℕ, zero, suc, ◌-◌, ◌<◌, ◌≤◌, ◌&&◌, nat_le, nat_lt, Bool, true, false, List, [], ◌∷◌, length, take, drop}
+use Rattle.std.proofs.Common.{ℤ, if◌then◌else◌, refl, sym, ap, ◌∙◌, arith}
 use Rattle.std.proofs.lemmas.Bool.Decides.{nat_tests}
 use Rattle.std.specs.Prelude.{slice_range}
 use Rattle.integers.specs.Range.{is_in_range, items_where, range_items}
@@ -53,11 +54,13 @@ items_where-slice wanted (x ∷ xs) (suc from) (suc to) ordered within is =
     let same : suc to - suc from ≡ to - from = omega arith in
     ap (λ b. if b then x ∷ items_where (λ p. wanted (suc p)) xs else items_where (λ p. wanted (suc p)) xs)
     (is 0 (omega arith) ∙ not_between (suc from) (suc to) 0 (omega arith))
-    ∙ items_where-slice (λ p. wanted (suc p)) xs from to (omega arith) (omega arith) (λ p w. is (suc p) (omega arith) ∙ between_suc from to p)
+    ∙ items_where-slice (λ p. wanted (suc p)) xs from to (omega arith) (omega arith)
+    (λ p w. is (suc p) (omega arith) ∙ between_suc from to p)
     ∙ ap (λ n. take n (drop from xs)) (sym same)
 
 -- what `range_of` says of the places is enough to find the items of a range in one slice
 pub range_items-slice : {A : Type 0} (start end : ℤ) (xs : List A) (from to : ℕ) → from ≤ to → to ≤ length xs
     → ((p : ℕ) → p < length xs → is_in_range start end (length xs) p ≡ (nat_le from p && nat_lt p to))
     → range_items start end xs ≡ slice_range xs from to
-range_items-slice start end xs from to ordered within is = items_where-slice (is_in_range start end (length xs)) xs from to ordered within is
+range_items-slice start end xs from to ordered within is =
+    items_where-slice (is_in_range start end (length xs)) xs from to ordered within is

@@ -28,7 +28,8 @@ left_at m held n key step v before left reply there out back leaves answers =
 abbrev pub put_there : End → End → Option Value → Option Value → Value
 put_there taken put source target = kind.List (joined put (items_there target) (end_item taken (items_there source)))
 
-in_turn : (m : Map) (from to : Bytes) (taken put : End) (source target : Option Value) → IsTrue (is_list source) → IsTrue (may_be_list target)
+in_turn : (m : Map) (from to : Bytes) (taken put : End) (source target : Option Value) → IsTrue (is_list source) →
+    IsTrue (may_be_list target)
     → ◌≡◌ {A = Map × Content}
     (insert (set m from (at_list (pop_step taken) source).0) to (put_there taken put source target), (at_list (pop_step taken) source).1)
     (set_two m from to (move_step false taken put source target).0, (move_step false taken put source target).1)
@@ -43,8 +44,10 @@ in_turn m from to taken put (Some (kind.List items)) (Some (kind.Hash pairs)) a 
 in_turn m from to taken put (Some (kind.List items)) (Some (kind.Set members)) a b = absurd (cc)
 
 -- the item is put at the second key, and then taken at the first
-pub moved : (m : Map) (from to : Bytes) (taken put : End) → bytes_eq from to ≡ false → IsTrue (is_list (get m from)) → IsTrue (may_be_list (get m to))
-    → at_key from (at_list (pop_step taken)) (insert m to (put_there taken put (get m from) (get m to))) ≡ at_two from to (move_step false taken put) m
+pub moved : (m : Map) (from to : Bytes) (taken put : End) → bytes_eq from to ≡ false → IsTrue (is_list (get m from)) →
+    IsTrue (may_be_list (get m to))
+    → at_key from (at_list (pop_step taken)) (insert m to (put_there taken put (get m from) (get m to))) ≡ at_two from to
+    (move_step false taken put) m
 moved m from to taken put apart a b =
     let v = put_there taken put (get m from) (get m to) in
     let step = at_list (pop_step taken) in

@@ -1,5 +1,6 @@
 -- Which words address groups: those of each command that looks at keys.
-use Rattle.std.proofs.Common.{◌≡◌, ℕ, ◌<◌, ◌||◌, ◌&&◌, ◌==◌, Bool, true, false, List, [], ◌∷◌, inl, inr, length, nat_lt, Result, Ok, Err, IfOk, IsTrue, Contains, refl, sym, ap, ◌∙◌, subst, arith, eq-eqb}
+use Rattle.std.proofs.Common.{◌≡◌, ℕ, ◌<◌, ◌||◌, ◌&&◌, ◌==◌, Bool, true, false, List, [], ◌∷◌, inl, inr, length, nat_lt, Result, Ok, Err}
+use Rattle.std.proofs.Common.{IfOk, IsTrue, Contains, refl, sym, ap, ◌∙◌, subst, arith, eq-eqb}
 use Rattle.std.proofs.lemmas.Bool.{both_ways, and_parts}
 use Rattle.command_table.proofs.Keyed.{keyed_if}
 use Rattle.command_table.specs.Command.{keys_of, is_whole}
@@ -34,7 +35,8 @@ module _ (t : Layout) (table : IsTable t) where
       by_keys : (keys : List (List ℕ)) → keys_of c ≡ keys → 0 < length (keys_of c) → (g : ℕ) × (gs : List ℕ) × (groups_of t c ≡ g ∷ gs)
       by_keys [] e some = absurd (let k = ap length e in omega arith)
       by_keys (key ∷ keys) e some =
-          has_some (groups_of t c) (shard_of t key) (has-groups_of-key t c key table (subst (λ ks. Contains ks key) (sym e) (0, omega arith, refl)))
+          has_some (groups_of t c) (shard_of t key)
+          (has-groups_of-key t c key table (subst (λ ks. Contains ks key) (sym e) (0, omega arith, refl)))
 
   no_groups : (c : Command) → keys_of c ≡ [] → is_whole c ≡ false → groups_of t c ≡ []
   no_groups c none local = by_groups (groups_of t c) refl

@@ -28,8 +28,10 @@ returns-in-Err-clause-done g c =
     let m = g.K.Keyspace.contents c.args.keyspace.now in
     let pairs = c.in-Some-Hash.hash in
     let seen : c.in-Some-Hash.field-0.now ≡ kind.Hash pairs = c.in-Some-Hash.field-0-is in
-    let there : get m c.args.key ≡ Some (kind.Hash pairs) = ap (get m) (sym c.as_slice.ensures) ∙ sym c.in-Some-Hash.ensures ∙ ap Some seen in
+    let there : get m c.args.key ≡ Some (kind.Hash pairs) = ap (get m) (sym c.as_slice.ensures) ∙ sym c.in-Some-Hash.ensures
+    ∙ ap Some seen in
     let none : stored_sum (field_value pairs c.args.field) c.args.by ≡ Err c.in-Err.fault =
     ap (λ f. stored_sum (field_value pairs f) c.args.by) (sym c.as_slice-in-Some-Hash.ensures)
-    ∙ ap (stored_sum (field_value pairs c.as_slice-in-Some-Hash.result.now)) (sym (to_z-of_z w64 c.args.by c.ranges.by)) ∙ sym c.in-Err.ensures in
+    ∙ ap (stored_sum (field_value pairs c.as_slice-in-Some-Hash.result.now)) (sym (to_z-of_z w64 c.args.by c.ranges.by))
+    ∙ sym c.in-Err.ensures in
     ap (λ r. (m, r)) c.no_number_reply.ensures ∙ no_sum m c.args.key c.args.field c.args.by pairs c.in-Err.fault there none

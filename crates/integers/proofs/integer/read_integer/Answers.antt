@@ -29,5 +29,6 @@ returns-else-eq-clause-text c n is =
     let fits : FitsSigned w64 c.in-Ok-parse.number = subst (FitsSigned w64) (sym same) (record { sfits = mag-fits n is.0 }) in
     let printed : c.as_bytes.result.now ≡ c.args.text.now =
     c.as_bytes.ensures.value ∙ c.format.ensures.text ∙ ap signed_decimal (to_z-of_z w64 c.in-Ok-parse.number fits ∙ same) ∙ sym is.1 in
-    let equal : bytes_eq c.as_bytes.result.now c.args.text.now ≡ true = (bytes_eq-Decides c.as_bytes.result.now c.args.text.now).1 printed in
+    let equal : bytes_eq c.as_bytes.result.now c.args.text.now ≡ true =
+    (bytes_eq-Decides c.as_bytes.result.now c.args.text.now).1 printed in
     absurd (cc)

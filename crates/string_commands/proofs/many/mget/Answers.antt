@@ -15,7 +15,8 @@ abbrev answers : Map → List Bytes → List Content
 answers m keys = map string_or_null (values_at m keys)
 
 -- one more reply, to the first of the keys that are left
-one_more : (m : Map) (k : Bytes) (said : Content) (done now : List Content) (rest ks all : List Bytes) → rest ≡ k ∷ ks → said ≡ string_or_null (get m k)
+one_more : (m : Map) (k : Bytes) (said : Content) (done now : List Content) (rest ks all : List Bytes) → rest ≡ k ∷ ks →
+    said ≡ string_or_null (get m k)
     → now ≡ done ++ said ∷ [] → done ++ answers m rest ≡ answers m all → now ++ answers m ks ≡ answers m all
 one_more m k said done now rest ks all left is grown before =
     ap (λ l. l ++ answers m ks) grown ∙ append_assoc done (said ∷ []) (answers m ks)
@@ -47,7 +48,8 @@ loop-key-preserved g c =
     let said : content c.in_ok-reply.reply ≡ string_or_null (get m k) = c.in_ok-reply.ensures in
     let grown : map content c.push.new.self.items ≡ done ++ content c.in_ok-reply.reply ∷ [] =
     ap (map content) c.in-Ok.ensures.items ∙ map-append content c.loop-key.replies.items (c.in_ok-reply.reply ∷ []) in
-    one_more m k (content c.in_ok-reply.reply) done (map content c.push.new.self.items) (texts_of (drop i xs)) ks c.args.keys left said grown
+    one_more m k (content c.in_ok-reply.reply) done (map content c.push.new.self.items) (texts_of (drop i xs)) ks c.args.keys left said
+    grown
     c.loop-key.invariant
 
 pub returns : goal.returns
@@ -56,5 +58,6 @@ returns g c =
     let xs = c.as_slice-key-items.result.now in
     let none_left : texts_of (drop c.loop-key.key-index xs) ≡ [] = ap texts_of (drop_all c.loop-key.key-index xs c.loop-key-test.false) in
     let done = map content c.loop-key.replies.items in
-    let whole : done ≡ answers m c.args.keys = sym (append-nil done) ∙ ap (λ ks. done ++ answers m ks) (sym none_left) ∙ c.loop-key.invariant in
+    let whole : done ≡ answers m c.args.keys = sym (append-nil done) ∙ ap (λ ks. done ++ answers m ks) (sym none_left)
+    ∙ c.loop-key.invariant in
     record { done = ap (λ r. (m, r)) (content-Array c.loop-key.replies ∙ ap (λ rs. Several (contents rs)) whole) }

@@ -18,5 +18,6 @@ returns c =
     ∙ c.range_of-from.ensures.places p within in
     let slice : range_items start end bytes ≡ slice_range bytes from to =
     range_items-slice start end bytes from to c.range_of-from.ensures.ordered c.range_of-from.ensures.within places in
-    let whole : slice_range bytes from to ≡ range_items start end c.args.text.now = sym slice ∙ ap (range_items start end) c.as_slice-bytes.ensures in
+    let whole : slice_range bytes from to ≡ range_items start end c.args.text.now = sym slice
+    ∙ ap (range_items start end) c.as_slice-bytes.ensures in
     record { copied = subst (λ l. IfOk c.copy_of.result (λ t. t ≡ l)) whole c.copy_of.ensures.copied }
