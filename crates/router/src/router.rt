@@ -1,11 +1,12 @@
 //! The router.
 
-ghost use Rattle.std.specs.Prelude.{◌≡◌, ℕ, ◌==◌, cond, ◌<◌, ◌+◌, ◌^◌, [], Some, None, false, Ok, IfOk, OnOk, OnErr, IfErr, IsSome, IfSome, IfNone, ◌≢◌, option_map, option_copied};
+ghost use Rattle.std.specs.Prelude.{◌≡◌, ℕ, ◌==◌, cond, ◌<◌, ◌+◌, ◌^◌, [], Some, None, false, Ok, IfOk, OnOk, OnErr, IfErr, IsSome, IfSome};
+ghost use Rattle.std.specs.Prelude.{IfNone, ◌≢◌, option_map, option_copied};
 ghost use Rattle.router.specs.Connection.{just_opened, with_standing};
 ghost use Rattle.router.specs.Router.{connection, is_open, waiting, pending_at, once_settled, once_closed, Changes, Collects, Closes};
 ghost use Rattle.router.specs.declared.connection.Standing.{Standing};
 ghost use Rattle.router.specs.declared.connection.Standing.TheVariants.{Answered};
-ghost use Rattle.router.specs.Submitting.{Submits, IsRefused, IsIdleAt, StandsBy, groups_by};
+ghost use Rattle.router.specs.Submitting.{Submits, IsRefused, IsIdle, IsIdleAt, StandsBy, groups_by};
 ghost use Rattle.router.specs.declared.submission.SubmitFault.{SubmitFault};
 ghost use Rattle.router.specs.declared.connection.Connection.{Connection};
 ghost use Rattle.command_table.specs.Reading.{reading};
@@ -120,6 +121,16 @@ impl Router {
             },
         );
         Ok(Submission { id, floor, groups })
+    }
+
+    /// Whether the connection may submit: it is open and has collected the outcome of its last request. `Busy` and `NoConn` say why it
+    /// may not.
+    pub fn may_submit(&self, conn: ConnId) -> Result<(), SubmitFault>
+        ensures may { OnOk result (IsIdle (connection self.now conn.0)) }
+        ensures may_not { IfErr result (λ e. (e ≢ SubmitFault.Memory) × IsRefused (connection self.now conn.0) e) }
+    {
+        let Idle { seq: _, floor: _ } = self.idle(conn)?;
+        Ok(())
     }
 
     /// The command of a request that waits to be taken; none where this request doesn't. It takes no memory.

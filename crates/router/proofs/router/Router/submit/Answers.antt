@@ -10,7 +10,8 @@ returns-clause-submitted c =
     let was = known.idle.was in
     let same = known.seq in
     let next : c.in_ok-seq.field-0.seq + 1 ≡ suc was.seq = omega arith in
-    let id : (let i : RequestId = record { conn = c.args.conn; seq = c.in_ok-seq.field-0.seq + 1 } in i) ≡ next_id c.args.conn.0 was = λ k. record { conn = c.args.conn; seq = next k } in
+    let id : (let i : RequestId = record { conn = c.args.conn; seq = c.in_ok-seq.field-0.seq + 1 } in i) ≡ next_id c.args.conn.0 was =
+    λ k. record { conn = c.args.conn; seq = next k } in
     record {
       was = was;
       kept = known.idle.kept;
@@ -21,7 +22,8 @@ returns-clause-submitted c =
       still = refl;
       seq = next;
       same_floor = known.floor;
-      standing = subst (λ i. StandsBy i c.args.words (reading c.args.words) c.standing_of-standing.result.0) id c.standing_of-standing.ensures.standing;
+      standing = subst (λ i. StandsBy i c.args.words (reading c.args.words) c.standing_of-standing.result.0) id
+          c.standing_of-standing.ensures.standing;
       id = id;
       floor = known.floor;
       groups = c.standing_of-standing.ensures.groups;
