@@ -1,0 +1,181 @@
+-- What each system is, it is after every step, made or not.
+use Rattle.std.proofs.Common.{◌≡◌, ◌≢◌, ℕ, suc, ◌+◌, ◌<◌, Bool, true, false, List, [], ◌∷◌, ◌++◌, length, ◌⊎◌, inl, inr, refl, sym, ap}
+use Rattle.std.proofs.Common.{◌∙◌, subst, arith, length-append}
+use Rattle.std.proofs.lemmas.Bool.{both_ways}
+use Rattle.execution_order.specs.Entries.{rows_by_stamp}
+use Rattle.journal.specs.declared.step.Step.{Step}
+use Rattle.multicast.specs.Multicast.{MulticastView, IsSame, group_of}
+use Rattle.delivery.specs.Queues.{queue_of}
+use Rattle.placement.specs.Layout.{Layout, IsTable}
+use Rattle.system.specs.Parts.{IsAt, ShowsStage, ShowsRows, Makes, Keeps, stored}
+use Rattle.system.specs.Refusing.{Lives, IsFault, HasFailed}
+use Rattle.system.specs.System.{SystemView, ShowsHistory, IsSystem, IsStep, Refuses, IsRefused, ObeysOneThread}
+use Rattle.system.specs.declared.effect.Effect.{Effect}
+use Rattle.system.specs.declared.fault.StepFault.{StepFault}
+use Rattle.system.specs.declared.fault.StepFault.TheVariants.{Busy, NoConn, NoPacket, InFlight, NoLayer, Exhausted, Memory, Failed}
+use Rattle.system.specs.declared.parts.Parts.{Parts}
+use Rattle.system_view.specs.Connections.{ShowsConnections}
+use Rattle.system_view.specs.Layers.{ShowsStore}
+use Rattle.system_view.specs.Multicast.{ShowsMulticast}
+use Rattle.world.specs.Steps.{opening, Leads}
+use Rattle.world.specs.World.{World}
+use Rattle.world_laws.proofs.HeadlineLaws.{headline_holds}
+use Rattle.world_laws.specs.Headline.{IsOneThread, rows_of}
+
+-- ---- the headline
+
+-- whatever history led here, replies and contents are those of one thread
+pub obeys : (s : SystemView) → IsTable s.parts.store.table → ObeysOneThread s
+obeys s is_table = λ h w at'. subst (λ m. IsOneThread m (rows_by_stamp (rows_of w.ended))) (sym at'.shows.store.contents)
+    (headline_holds s.parts.store.table h w is_table at'.leads)
+
+-- ---- a step that was made
+
+-- a system that lives and may make a step has come by few steps
+pub lives : (s : SystemView) → IsSystem s → s.parts.store.failed ≡ false → s.steps < s.max_steps → Lives s.parts
+lives s is alive left =
+    let shown = is.shows alive in
+    let count = shown.2.count in
+    let few = is.few in
+    record { history = shown.0; world = shown.1; at = shown.2.at; few = omega arith }
+
+one_more : (h : List Step) (s : Step) (old new : ℕ) → length h ≡ old → new ≡ suc old → length (h ++ s ∷ []) ≡ new
+one_more h s old new count next = let k = length-append h (s ∷ []) in omega arith
+
+pub goes_on : (old new : SystemView) (step : Step) (effect : Effect) → IsSystem old → IsStep old step effect new → IsSystem new
+goes_on old new step effect is made =
+    let counted = made.counted in
+    let same = made.max_steps in
+    let left = made.left in
+    let few = is.few in
+    record {
+      is_table = subst IsTable (sym made.makes.table) is.is_table;
+      within = omega arith;
+      few = omega arith;
+      shows = λ alive.
+          let shown = is.shows made.lived in
+          let next = made.makes.from_each shown.0 shown.1 shown.2.at in (
+            shown.0 ++ stored step effect ∷ [],
+            next.0,
+            record { at = next.2; count = one_more shown.0 (stored step effect) old.steps new.steps shown.2.count made.counted },
+          );
+    }
+
+-- the parts made the step: so did the system
+pub made_so : (old : SystemView) (step : Step) (effect : Effect) (parts : Parts) → IsSystem old → old.parts.store.failed ≡ false →
+    old.steps < old.max_steps → Makes old.parts step effect parts →
+    IsStep old step effect (record { max_steps = old.max_steps; steps = old.steps + 1; parts = parts })
+made_so old step effect parts is alive left makes = record {
+  lived = alive;
+  lives = let shown = is.shows alive in (makes.from_each shown.0 shown.1 shown.2.at).2.shows.store.lives;
+  left = left;
+  counted = omega arith;
+  max_steps = refl;
+  makes = makes;
+}
+
+-- ---- a step that was not
+
+multicast_kept : (t : Layout) (old new : MulticastView) (w : World) → IsSame old new → ShowsMulticast t old w → ShowsMulticast t new w
+multicast_kept t old new w same shows = record {
+  count = ap length same.groups ∙ shows.count;
+  groups = λ g. ap (λ gs. group_of gs g) same.groups ∙ shows.groups g;
+  packets = same.packets ∙ shows.packets;
+  queues = λ g. ap (λ qs. queue_of qs g) same.queues ∙ shows.queues g;
+}
+
+-- parts that are as they were but for room show what they showed
+pub still_at : (old new : Parts) → Keeps old new → (h : List Step) (w : World) → IsAt old h w → IsAt new h w
+still_at old new keeps h w at' = record {
+  leads = subst (λ s. Leads s.table opening h w) (sym keeps.store) at'.leads;
+  shows = record {
+    connections = subst (λ r. ShowsConnections r w) (sym keeps.router) at'.shows.connections;
+    multicast = subst (λ s. ShowsMulticast s.table new.multicast w) (sym keeps.store)
+        (multicast_kept old.store.table old.multicast new.multicast w keeps.multicast at'.shows.multicast);
+    store = subst (λ s. ShowsStore s.table s w) (sym keeps.store) at'.shows.store;
+    stage = subst (λ s. ShowsStage s w) (sym keeps.stage) at'.shows.stage;
+    rows = subst (λ rs. ShowsRows rs w) (sym keeps.rows) at'.shows.rows;
+    starved = keeps.starved ∙ at'.shows.starved;
+  };
+}
+
+-- what a refusal leaves: all as before but for room, or a system that has failed
+abbrev pub Leaves : Parts → Parts → Type 0
+Leaves old new = Keeps old new ⊎ HasFailed old new
+
+pub table_left : (old new : Parts) → Leaves old new → new.store.table ≡ old.store.table
+table_left old new (inl keeps) = ap (λ s. s.table) keeps.store
+table_left old new (inr failed) = failed.table
+
+still_shows : (old new : SystemView) → IsSystem old → new.steps ≡ old.steps → Leaves old.parts new.parts →
+    new.parts.store.failed ≡ false → (h : List Step) × (w : World) × ShowsHistory new h w
+still_shows old new is same (inl keeps) alive =
+    let shown = is.shows (ap (λ s. s.failed) (sym keeps.store) ∙ alive) in (
+      shown.0,
+      shown.1,
+      record {
+        at = still_at old.parts new.parts keeps shown.0 shown.1 shown.2.at;
+        count = shown.2.count ∙ sym same;
+      },
+    )
+still_shows old new is same (inr failed) alive = absurd (both_ways _ alive failed.failed)
+
+pub stays : (old new : SystemView) → IsSystem old → new.steps ≡ old.steps → new.max_steps ≡ old.max_steps →
+    Leaves old.parts new.parts → IsSystem new
+stays old new is steps most leaves =
+    let within = is.within in
+    let few = is.few in
+    record {
+      is_table = subst IsTable (sym (table_left old.parts new.parts leaves)) is.is_table;
+      within = omega arith;
+      few = omega arith;
+      shows = still_shows old new is steps leaves;
+    }
+
+failed_or_not : (f : StepFault) → (f ≡ Failed) ⊎ (f ≢ Failed)
+failed_or_not Busy = inr (λ e. let k = e in cc)
+failed_or_not NoConn = inr (λ e. let k = e in cc)
+failed_or_not NoPacket = inr (λ e. let k = e in cc)
+failed_or_not InFlight = inr (λ e. let k = e in cc)
+failed_or_not NoLayer = inr (λ e. let k = e in cc)
+failed_or_not Exhausted = inr (λ e. let k = e in cc)
+failed_or_not Memory = inr (λ e. let k = e in cc)
+failed_or_not Failed = inl refl
+
+leaves_by : (fault : StepFault) (old new : Parts) → (fault ≢ Failed → Keeps old new) → (fault ≡ Failed → HasFailed old new) →
+    ((fault ≡ Failed) ⊎ (fault ≢ Failed)) → Leaves old new
+leaves_by fault old new keeps fails (inl failed) = inr (fails failed)
+leaves_by fault old new keeps fails (inr other) = inl (keeps other)
+
+-- what the parts leave by a fault
+pub leaves : (fault : StepFault) (old new : Parts) → (fault ≢ Failed → Keeps old new) → (fault ≡ Failed → HasFailed old new) →
+    Leaves old new
+leaves fault old new keeps fails = leaves_by fault old new keeps fails (failed_or_not fault)
+
+-- ---- why it was not
+
+refused_by : (old new : SystemView) (step : Step) (fault : StepFault) → old.parts.store.failed ≡ false →
+    old.steps < old.max_steps → new.steps ≡ old.steps → new.max_steps ≡ old.max_steps →
+    IsFault old.parts step fault × Keeps old.parts new.parts → Refuses old step fault new
+refused_by old new step fault alive left steps most told =
+    record { lived = alive; left = left; why = told.0; kept = record { max_steps = most; steps = steps; parts = told.1 } }
+
+-- what the parts answer, the system answers
+pub refused_so : (may_refuse : Bool) (old new : SystemView) (step : Step) (fault : StepFault) → old.parts.store.failed ≡ false →
+    old.steps < old.max_steps → new.steps ≡ old.steps → new.max_steps ≡ old.max_steps →
+    (fault ≢ Failed → IsFault old.parts step fault × Keeps old.parts new.parts) →
+    (fault ≡ Failed → (may_refuse ≡ true) × HasFailed old.parts new.parts) → IsRefused may_refuse old step fault new
+refused_so may old new step Busy alive left steps most keeps fails =
+    refused_by old new step Busy alive left steps most (keeps (λ e. let k = e in cc))
+refused_so may old new step NoConn alive left steps most keeps fails =
+    refused_by old new step NoConn alive left steps most (keeps (λ e. let k = e in cc))
+refused_so may old new step NoPacket alive left steps most keeps fails =
+    refused_by old new step NoPacket alive left steps most (keeps (λ e. let k = e in cc))
+refused_so may old new step InFlight alive left steps most keeps fails =
+    refused_by old new step InFlight alive left steps most (keeps (λ e. let k = e in cc))
+refused_so may old new step NoLayer alive left steps most keeps fails =
+    refused_by old new step NoLayer alive left steps most (keeps (λ e. let k = e in cc))
+refused_so may old new step Memory alive left steps most keeps fails =
+    refused_by old new step Memory alive left steps most (keeps (λ e. let k = e in cc))
+refused_so may old new step Exhausted alive left steps most keeps fails = absurd (keeps (λ e. let k = e in cc)).0
+refused_so may old new step Failed alive left steps most keeps fails = let told = fails refl in inr (alive, told.0, told.1)

@@ -1,0 +1,11 @@
+pub mod Histories
+pub mod Rest
+pub mod Connecting
+pub mod Messages
+pub mod Layering
+pub mod Refusals
+pub mod Told
+pub mod Lasting
+pub mod Opening
+pub mod Runs
+pub mod Quiet

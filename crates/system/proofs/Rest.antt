@@ -1,0 +1,72 @@
+-- What the parts behind the router show of a world in which they are the same.
+use Rattle.std.proofs.Common.{◌≡◌, ℕ, true, List, [], ◌∷◌, ◌++◌, Some, sym, ap, ◌∙◌, subst}
+use Rattle.groups.specs.GroupSet.{has}
+use Rattle.layer_planner.specs.declared.job.Job.{Job}
+use Rattle.multicast.specs.Multicast.{MulticastView}
+use Rattle.placement.specs.Layout.{Layout}
+use Rattle.shard_exec.specs.StoreStates.{StoreState}
+use Rattle.skeen_core.specs.Order.{In}
+use Rattle.skeen_core.specs.declared.packet.Delivered.{Delivered}
+use Rattle.skeen_core.specs.declared.request.RequestId.{RequestId}
+use Rattle.system.specs.Parts.{ShowsStage, ShowsRows}
+use Rattle.system.specs.declared.stage.Stage.{Stage}
+use Rattle.system.specs.declared.stage.Stage.TheVariants.{Free, Taken, HasRun}
+use Rattle.system_view.specs.Layers.{AreJobs, ShowsStore}
+use Rattle.system_view.specs.Multicast.{ShowsMulticast}
+use Rattle.world.specs.World.{World, Request}
+use Rattle.world_laws.specs.Good.{Asked, run_in}
+
+-- the requests of the first world are asked in the second
+abbrev pub KeepsAsked : Asked → Asked → Type 0
+KeepsAsked asked asked' = (i : RequestId) (q : Request) → asked i ≡ Some q → asked' i ≡ Some q
+
+jobs_asked : (asked asked' : Asked) (ds : List Delivered) (js : List Job) (wss : List (List (List ℕ))) → KeepsAsked asked asked' →
+    AreJobs asked ds js wss → AreJobs asked' ds js wss
+jobs_asked asked asked' [] [] [] keeps are = tt
+jobs_asked asked asked' (d ∷ ds) (j ∷ js) (ws ∷ wss) keeps are = (
+  record {
+    id = are.0.id;
+    stamp = are.0.stamp;
+    groups = are.0.groups;
+    asked_so = (are.0.asked_so.0, keeps d.id are.0.asked_so.0 are.0.asked_so.1, are.0.asked_so.2);
+    says = are.0.says;
+  },
+  jobs_asked asked asked' ds js wss keeps are.1,
+)
+jobs_asked asked asked' [] [] (ws ∷ wss) keeps are = absurd are
+jobs_asked asked asked' [] (j ∷ js) wss keeps are = absurd are
+jobs_asked asked asked' (d ∷ ds) [] wss keeps are = absurd are
+jobs_asked asked asked' (d ∷ ds) (j ∷ js) [] keeps are = absurd are
+
+pub stage_same : (stage : Stage) (w w' : World) → KeepsAsked w.asked w'.asked → w'.layer ≡ w.layer → ShowsStage stage w →
+    ShowsStage stage w'
+stage_same Free w w' keeps same shows = same ∙ shows
+stage_same (Taken taken) w w' keeps same shows =
+    (shows.0, same ∙ shows.1, jobs_asked w.asked w'.asked shows.0 taken.layer taken.words.items keeps shows.2)
+stage_same (HasRun ran) w w' keeps same shows = (shows.0, same ∙ shows.1, shows.2)
+
+pub rows_same : (rows : List _) (w w' : World) → w'.ended ≡ w.ended → w'.layer ≡ w.layer → ShowsRows rows w → ShowsRows rows w'
+rows_same rows w w' ended layer shows = record {
+  settled = shows.settled;
+  split = ended ∙ shows.split ∙ ap (λ l. shows.settled ++ run_in l) (sym layer);
+  each = shows.each;
+}
+
+pub store_same : (t : Layout) (s : StoreState) (w w' : World) → w'.ended ≡ w.ended → w'.contents ≡ w.contents → ShowsStore t s w →
+    ShowsStore t s w'
+store_same t s w w' ended contents shows = record {
+  table = shows.table;
+  lives = shows.lives;
+  contents = shows.contents ∙ sym contents;
+  lasts = λ g stamp last. subst (λ es. (e : _) × In e es × (has e.groups g ≡ true) × (e.stamp ≡ stamp)) (sym ended)
+      (shows.lasts g stamp last);
+}
+
+pub multicast_same : (t : Layout) (v : MulticastView) (w w' : World) → w'.group ≡ w.group → w'.packets ≡ w.packets → w'.queue ≡ w.queue →
+    ShowsMulticast t v w → ShowsMulticast t v w'
+multicast_same t v w w' group packets queue shows = record {
+  count = shows.count;
+  groups = λ g. shows.groups g ∙ sym (ap (λ f. f g) group);
+  packets = shows.packets ∙ sym packets;
+  queues = λ g. shows.queues g ∙ sym (ap (λ f. f g) queue);
+}

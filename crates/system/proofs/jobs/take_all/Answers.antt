@@ -1,0 +1,103 @@
+use Rattle.std.proofs.Common.{rules, ◌≡◌, ◌<◌, ◌+◌, [], ◌∷◌, ◌++◌, suc, List, length, take, drop, slice_index_or, refl, sym, ap, ◌∙◌, subst}
+use Rattle.std.proofs.Common.{arith}
+use Rattle.std.proofs.Math.Seq.{drop-cons}
+use Rattle.std.proofs.lemmas.List.{take_more, take_all, drop_all}
+use Rattle.layer_planner.specs.declared.job.Job.{Job}
+use Rattle.skeen_core.specs.declared.packet.Delivered.{Delivered}
+use Rattle.system_view.proofs.Jobs.{take_some, take_one}
+use Rattle.system_view.specs.Layers.{AreJobs}
+use Rattle.system_view.specs.Taking.{IsTaking}
+use Rattle.system.proofs.jobs.take_all.Goals as goal
+
+-- the request whose turn it is heads those behind
+here : (ready : List Delivered) (i : _) (d : Delivered) → i < length ready → d ≡ slice_index_or ready i d →
+    drop i ready ≡ d ∷ drop (i + 1) ready
+here ready i d within is =
+    let next : suc i ≡ i + 1 = omega arith in
+    subst (λ n. drop i ready ≡ d ∷ drop n ready) next (drop-cons ready i d within ∙ ap (λ x. x ∷ drop (suc i) ready) (sym is))
+
+-- and then those in front
+passed : (ready : List Delivered) (i : _) (d : Delivered) → i < length ready → d ≡ slice_index_or ready i d →
+    take (i + 1) ready ≡ take i ready ++ d ∷ []
+passed ready i d within is = take_more ready i d within ∙ ap (λ x. take i ready ++ x ∷ []) (sym is)
+
+pub loop-request-init : goal.loop-request-init
+loop-request-init c = record {
+  out = λ t w is. (is, search rules);
+  jobs = search rules;
+  words = search rules;
+  room_of_jobs = c.requires.no_jobs.1;
+  room_of_words = c.requires.no_words.1;
+}
+
+pub unreachable-requires : goal.unreachable-requires
+unreachable-requires c =
+    let given = c.requires.waits in
+    let ready = c.args.ready.now in
+    let i = c.loop-request.request-index in
+    let d = c.request-item.result in
+    let now = (c.loop-request.invariant.out given.0 given.1 given.2).0 in
+    let next = subst (λ ds. IsTaking given.0 given.1 (take i ready) ds c.loop-request.router)
+    (here ready i d c.loop-request-test.true c.request-item.is) now in
+    take_some given.0 given.1 (take i ready) d (drop (i + 1) ready) c.loop-request.router next
+    (sym c.take.ensures.taken ∙ c.in_default.is)
+
+pub push_reserved-requires : goal.push_reserved-requires
+push_reserved-requires c =
+    let inv = c.loop-request.invariant in
+    let within = c.loop-request-test.true in
+    let room = inv.room_of_jobs in
+    let count = inv.jobs in
+    search rules
+
+pub push_reserved-requires-in-loop-request : goal.push_reserved-requires-in-loop-request
+push_reserved-requires-in-loop-request c =
+    let inv = c.loop-request.invariant in
+    let within = c.loop-request-test.true in
+    let room = inv.room_of_words in
+    let count = inv.words in
+    search rules
+
+pub loop-request-preserved : goal.loop-request-preserved
+loop-request-preserved c =
+    let ready = c.args.ready.now in
+    let i = c.loop-request.request-index in
+    let d = c.request-item.result in
+    let inv = c.loop-request.invariant in
+    let p = c.in-Some.field-0 in
+    let j : Job = record { id = d.id; stamp = d.stamp; groups = d.groups; command = p.command } in
+    record {
+      out = λ t w is.
+          let now = inv.out t w is in
+          let next = subst (λ ds. IsTaking t w (take i ready) ds c.loop-request.router)
+          (here ready i d c.loop-request-test.true c.request-item.is) now.0 in
+          let one = take_one t w (take i ready) d (drop (i + 1) ready) c.loop-request.router next c.take.new.self p
+          c.loop-request.jobs.items j
+          c.loop-request.words.items (sym c.take.ensures.taken ∙ c.in-Some.is) c.in-Some.ensures.changes now.1 refl refl refl refl in
+          let front = sym (passed ready i d c.loop-request-test.true c.request-item.is) in (
+            subst (λ ds. IsTaking t w ds (drop (i + 1) ready) c.take.new.self) front one.0,
+            subst (λ ds. AreJobs w.asked ds c.push_reserved.new.self.items c.push_reserved-in-loop-request.new.self.items) front
+                (subst (λ js. AreJobs w.asked (take i ready ++ d ∷ []) js c.push_reserved-in-loop-request.new.self.items)
+                (sym c.push_reserved.ensures.items)
+                (subst (λ wss. AreJobs w.asked (take i ready ++ d ∷ []) (c.loop-request.jobs.items ++ j ∷ []) wss)
+                (sym c.push_reserved-in-loop-request.ensures.items) one.1)),
+          );
+      jobs = search rules;
+      words = search rules;
+      room_of_jobs = search rules;
+      room_of_words = search rules;
+    }
+
+pub returns : goal.returns
+returns c = record {
+  taken = λ t w is.
+      let ready = c.args.ready.now in
+      let i = c.loop-request.request-index in
+      let now = c.loop-request.invariant.out t w is in
+      let front = take_all i ready c.loop-request-test.false in
+      let back = drop_all i ready c.loop-request-test.false in (
+        subst (λ ds. IsTaking t w ds [] c.loop-request.router) front
+            (subst (λ ds. IsTaking t w (take i ready) ds c.loop-request.router) back now.0),
+        subst (λ ds. AreJobs w.asked ds c.loop-request.jobs.items c.loop-request.words.items) front now.1,
+      );
+}

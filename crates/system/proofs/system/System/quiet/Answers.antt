@@ -1,0 +1,10 @@
+use Rattle.std.proofs.Common.{not, IsTrue, ◌↔◌, sym, ◌∙◌, subst}
+use Rattle.system.proofs.Quiet.{no_packets, quiet_by}
+use Rattle.system.specs.System.{SystemView, IsQuiet}
+use Rattle.system.proofs.system.System.quiet.Goals as goal
+
+pub returns : goal.returns
+returns c =
+    subst (λ (s : SystemView). IsTrue (not c.has_ready.result) ↔ IsQuiet s.parts) c.self.view_is
+    (quiet_by c.has_ready.result c.self.inside.parts
+    (no_packets c.self.inside.parts.multicast.packets (sym c.packets.ensures ∙ c.if-packets-ne0.false)) c.in-Free.is c.has_ready.ensures)

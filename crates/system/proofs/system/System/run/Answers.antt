@@ -1,0 +1,55 @@
+use Rattle.std.proofs.Common.{rules, ◌≡◌, List, [], ◌∷◌, length, inl, refl, sym, subst, arith}
+use Rattle.journal.specs.declared.step.Step.{Step}
+use Rattle.system.proofs.Lasting.{obeys}
+use Rattle.system.proofs.Runs.{IsUpTo, up_to_next, runs_all, runs_to}
+use Rattle.system.specs.System.{SystemView, ObeysOneThread}
+use Rattle.system.specs.declared.system.System.TheInside.{Inside}
+use Rattle.system.proofs.system.System.run.Goals as goal
+
+abbrev was : Inside → SystemView
+was inside = record { max_steps = inside.max_steps; steps = inside.steps; parts = inside.parts }
+
+none_left : (steps : List Step) → length steps ≡ 0 → steps ≡ []
+none_left [] none = refl
+none_left (step ∷ steps) none = absurd (omega arith)
+
+pub returns-in_default-clause-one_thread : goal.returns-in_default-clause-one_thread
+returns-in_default-clause-one_thread g c =
+    subst ObeysOneThread c.self.view_is (obeys (was c.self.inside) c.self.invariant.is_table)
+
+pub loop-step-init : goal.loop-step-init
+loop-step-init g c = (
+  record { made = []; split = search rules; are_made = (c.in-Ok.ensures.items, refl) },
+  search rules,
+  subst ObeysOneThread c.self.view_is (obeys (was c.self.inside) c.self.invariant.is_table),
+)
+
+pub loop-step-preserved : goal.loop-step-preserved
+loop-step-preserved g c =
+    let now = c.loop-step.invariant in
+    let s = c.in-Some.ensures.steps in
+    let left = c.next.new.self.rest.items in
+    let here = subst (λ rest. IsUpTo c.args.self.now c.args.steps.items c.loop-step.effects.items rest c.loop-step.self) s.0 now.0 in
+    let room = now.1 in (
+      subst (λ effects. IsUpTo c.args.self.now c.args.steps.items effects left c.step.new.self) (sym c.push_reserved.ensures.items)
+          (up_to_next c.args.self.now c.loop-step.self c.step.new.self c.args.steps.items left c.loop-step.effects.items c.in-Some.step
+          c.in-Ok-step.effect here c.in-Ok-step.ensures.made),
+      search rules,
+      c.step.ensures.one_thread,
+    )
+
+pub returns-in-Err-clause-runs : goal.returns-in-Err-clause-runs
+returns-in-Err-clause-runs g c =
+    let now = c.loop-step.invariant in
+    let s = c.in-Some.ensures.steps in
+    let left = c.next.new.self.rest.items in
+    let here = subst (λ rest. IsUpTo c.args.self.now c.args.steps.items c.loop-step.effects.items rest c.loop-step.self) s.0 now.0 in
+    inl (runs_to g.W.Workers.may_refuse c.args.self.now c.loop-step.self c.step.new.self c.args.steps.items left
+    c.loop-step.effects.items c.in-Some.step c.in-Err.fault here c.in-Err.ensures.refused)
+
+pub returns-clause-runs : goal.returns-clause-runs
+returns-clause-runs g c =
+    let none = none_left c.loop-step.step-iterator.rest.items (search rules) in
+    inl (runs_all g.W.Workers.may_refuse c.args.self.now c.loop-step.self c.args.steps.items c.loop-step.effects.items
+    (subst (λ rest. IsUpTo c.args.self.now c.args.steps.items c.loop-step.effects.items rest c.loop-step.self) none
+    c.loop-step.invariant.0))

@@ -1,0 +1,67 @@
+use Rattle.std.proofs.Common.{◌≡◌, ◌+◌, ◌<◌, refl, sym, ◌∙◌, subst, arith}
+use Rattle.placement.specs.Layout.{IsTable}
+use Rattle.system.proofs.Lasting.{obeys, lives, made_so, goes_on, Leaves, leaves, table_left, stays, refused_so}
+use Rattle.system.specs.System.{SystemView, IsSystem, IsStep, IsRefused, ObeysOneThread}
+use Rattle.system.specs.declared.parts.Parts.{Parts}
+use Rattle.system.specs.declared.system.System.TheInside.{Inside}
+use Rattle.system.proofs.system.System.step.Goals as goal
+
+-- what the system was, and what it is where these are its parts
+abbrev was : Inside → SystemView
+was inside = record { max_steps = inside.max_steps; steps = inside.steps; parts = inside.parts }
+
+abbrev with_parts : Inside → Parts → SystemView
+with_parts inside parts = record { max_steps = inside.max_steps; steps = inside.steps; parts = parts }
+
+below : (inside : Inside) → IsSystem (was inside) → (inside.steps ≡ inside.max_steps → ⊥) → inside.steps < inside.max_steps
+below inside is apart = let within = is.within in omega arith
+
+pub returns-then-self-clause-one_thread : goal.returns-then-self-clause-one_thread
+returns-then-self-clause-one_thread g c =
+    subst ObeysOneThread c.self.view_is (obeys (was c.self.inside) c.self.invariant.is_table)
+
+pub make-requires : goal.make-requires
+make-requires g c = lives (was c.self.inside) c.self.invariant (sym c.has_failed.ensures ∙ c.if-has_failed.false)
+    (below c.self.inside c.self.invariant c.if-self.false)
+
+pub invariant_of-self : goal.invariant_of-self
+invariant_of-self g c =
+    let old = was c.self.inside in
+    let made = made_so old c.args.step c.in-Ok.effect c.make.new.self c.self.invariant
+    (sym c.has_failed.ensures ∙ c.if-has_failed.false) (below c.self.inside c.self.invariant c.if-self.false)
+    c.in-Ok.ensures.made in
+    goes_on old _ c.args.step c.in-Ok.effect c.self.invariant made
+
+pub invariant_of-self-in-Err : goal.invariant_of-self-in-Err
+invariant_of-self-in-Err g c =
+    let told = c.in-Err.ensures in
+    stays (was c.self.inside) (with_parts c.self.inside c.make.new.self) c.self.invariant refl refl
+    (leaves c.in-Err.fault c.self.inside.parts c.make.new.self (λ other. (told.fault other).1) (λ failed. (told.failed failed).1))
+
+pub returns-in-Ok-clause-made : goal.returns-in-Ok-clause-made
+returns-in-Ok-clause-made g c =
+    let old = was c.self.inside in
+    subst (λ s. IsStep s c.args.step c.in-Ok.effect (record { max_steps = c.self.inside.max_steps; steps = c.self.inside.steps + 1; parts = c.make.new.self }))
+    c.self.view_is
+    (made_so old c.args.step c.in-Ok.effect c.make.new.self c.self.invariant (sym c.has_failed.ensures ∙ c.if-has_failed.false)
+    (below c.self.inside c.self.invariant c.if-self.false) c.in-Ok.ensures.made)
+
+pub returns-in-Ok-clause-one_thread : goal.returns-in-Ok-clause-one_thread
+returns-in-Ok-clause-one_thread g c =
+    obeys (with_parts c.self.inside c.make.new.self) (subst IsTable (sym c.in-Ok.ensures.made.table) c.self.invariant.is_table)
+
+pub returns-in-Err-clause-refused : goal.returns-in-Err-clause-refused
+returns-in-Err-clause-refused g c =
+    let told = c.in-Err.ensures in
+    subst (λ s. IsRefused g.W.Workers.may_refuse s c.args.step c.in-Err.fault (with_parts c.self.inside c.make.new.self)) c.self.view_is
+    (refused_so g.W.Workers.may_refuse (was c.self.inside) (with_parts c.self.inside c.make.new.self) c.args.step c.in-Err.fault
+    (sym c.has_failed.ensures ∙ c.if-has_failed.false) (below c.self.inside c.self.invariant c.if-self.false) refl refl
+    told.fault told.failed)
+
+pub returns-in-Err-clause-one_thread : goal.returns-in-Err-clause-one_thread
+returns-in-Err-clause-one_thread g c =
+    let told = c.in-Err.ensures in
+    let left : Leaves c.self.inside.parts c.make.new.self =
+    leaves c.in-Err.fault c.self.inside.parts c.make.new.self (λ other. (told.fault other).1) (λ failed. (told.failed failed).1) in
+    obeys (with_parts c.self.inside c.make.new.self)
+    (subst IsTable (sym (table_left c.self.inside.parts c.make.new.self left)) c.self.invariant.is_table)

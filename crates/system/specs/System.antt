@@ -1,0 +1,91 @@
+-- The system as contracts see it.
+use Rattle.std.specs.Prelude.{◌≡◌, ℕ, suc, ◌<◌, ◌≤◌, ◌^◌, Bool, true, false, List, [], length, ◌⊎◌}
+use Rattle.delivery.specs.Queues.{queue_of}
+use Rattle.delivery.specs.Ready.{IsReady}
+use Rattle.journal.specs.declared.step.Step.{Step}
+use Rattle.placement.specs.Layout.{Layout, IsTable}
+use Rattle.shard_maps.specs.Joined.{joined}
+use Rattle.skeen_core.specs.declared.packet.Delivered.{Delivered}
+use Rattle.system.specs.Parts.{IsAt, Makes, Keeps}
+use Rattle.system.specs.Refusing.{IsFault, HasFailed}
+use Rattle.system.specs.declared.effect.Effect.{Effect}
+use Rattle.system.specs.declared.fault.StepFault.{StepFault}
+use Rattle.system.specs.declared.fault.StepFault.TheVariants.{Exhausted, Failed}
+use Rattle.system.specs.declared.parts.Parts.{Parts}
+use Rattle.system.specs.declared.stage.Stage.TheVariants.{Free}
+use Rattle.world.specs.Steps.{opening}
+use Rattle.world.specs.World.{World}
+use Rattle.world_laws.specs.Headline.{IsOneThread, rows_of}
+use Rattle.execution_order.specs.Entries.{rows_by_stamp}
+
+-- how many steps may be made, how many were, and the parts
+pub record SystemView : Type 0 where
+  pub max_steps : ℕ
+  pub steps : ℕ
+  pub parts : Parts
+
+-- as many steps as were made lead to a world that the parts show
+pub record ShowsHistory (s : SystemView) (h : List Step) (w : World) : Type 0 where
+  pub at : IsAt s.parts h w
+  pub count : length h ≡ s.steps
+
+-- what each system is: unless a worker's start was refused, it shows the world of some history
+pub record IsSystem (s : SystemView) : Type 0 where
+  pub is_table : IsTable s.parts.store.table
+  pub within : s.steps ≤ s.max_steps
+  pub few : s.max_steps ≤ 2 ^ 62
+  pub shows : s.parts.store.failed ≡ false → (h : List Step) × (w : World) × ShowsHistory s h w
+
+-- a new system: nothing has happened
+pub record IsNew (t : Layout) (most : ℕ) (s : SystemView) : Type 0 where
+  pub max_steps : s.max_steps ≡ most
+  pub none : s.steps ≡ 0
+  pub table : s.parts.store.table ≡ t
+  pub lives : s.parts.store.failed ≡ false
+  pub shows : ShowsHistory s [] opening
+
+-- ---- a step
+
+-- it was made: whatever world the system showed, the step is accepted there, and the system shows the world after it
+pub record IsStep (old : SystemView) (step : Step) (effect : Effect) (new : SystemView) : Type 0 where
+  pub lived : old.parts.store.failed ≡ false
+  pub lives : new.parts.store.failed ≡ false
+  pub left : old.steps < old.max_steps
+  pub counted : new.steps ≡ suc old.steps
+  pub max_steps : new.max_steps ≡ old.max_steps
+  pub makes : Makes old.parts step effect new.parts
+
+-- all is as before but room
+pub record IsKept (old new : SystemView) : Type 0 where
+  pub max_steps : new.max_steps ≡ old.max_steps
+  pub steps : new.steps ≡ old.steps
+  pub parts : Keeps old.parts new.parts
+
+pub record Refuses (old : SystemView) (step : Step) (fault : StepFault) (new : SystemView) : Type 0 where
+  pub lived : old.parts.store.failed ≡ false
+  pub left : old.steps < old.max_steps
+  pub why : IsFault old.parts step fault
+  pub kept : IsKept old new
+
+-- why it was not made
+abbrev pub IsRefused : Bool → SystemView → Step → StepFault → SystemView → Type 0
+IsRefused may_refuse old step Failed new =
+    ((old.parts.store.failed ≡ true) × (new ≡ old))
+    ⊎ ((old.parts.store.failed ≡ false) × (may_refuse ≡ true) × HasFailed old.parts new.parts)
+IsRefused may_refuse old step Exhausted new =
+    (old.parts.store.failed ≡ false) × (old.steps ≡ old.max_steps) × (new ≡ old)
+IsRefused may_refuse old step fault new = Refuses old step fault new
+
+-- ---- what it shows
+
+-- no packet is under way, no layer is there, and no request is ready
+pub record IsQuiet (p : Parts) : Type 0 where
+  pub packets : p.multicast.packets ≡ []
+  pub layer : p.stage ≡ Free
+  pub none_ready : (d : Delivered) → ¬ IsReady (queue_of p.multicast.queues) d
+
+-- The headline: whatever history led here, what the shards hold together, and the replies to all that was executed, are those of one thread
+-- that runs the executed requests, sorted by their final stamps, on one map.
+abbrev pub ObeysOneThread : SystemView → Type 0
+ObeysOneThread s = (h : List Step) (w : World) → IsAt s.parts h w →
+    IsOneThread (joined s.parts.store.maps) (rows_by_stamp (rows_of w.ended))

@@ -1,0 +1,24 @@
+//! What a step answers.
+
+use journal::RequestIds;
+use router::Outcome;
+use skeen_core::{ConnId, RequestId};
+
+/// What a step that was made answers.
+#[derive(Drop)]
+pub enum Effect {
+    /// The connection that was opened.
+    Opened(ConnId),
+
+    /// The id of the request that was submitted.
+    Submitted(RequestId),
+
+    /// The requests of the layer that starved, in the order of the layer. A run that is told to let these starve comes to the same.
+    Ran(RequestIds),
+
+    /// The outcome that waited for the connection, if one did.
+    Collected(Option<Outcome>),
+
+    /// A packet came, or a layer was taken or settled, or a connection was closed.
+    Made,
+}

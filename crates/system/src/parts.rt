@@ -1,0 +1,240 @@
+//! The parts of the system, and what each kind of step does to them.
+
+ghost use Rattle.std.specs.Prelude.{◌≡◌, ◌≢◌, ◌<◌, ◌^◌, length, true, IfOk, IfErr, OnErr};
+ghost use Rattle.system.specs.Parts.{Makes, Keeps};
+ghost use Rattle.system.specs.Refusing.{Lives, IsFault, HasFailed};
+ghost use Rattle.system.specs.declared.fault.StepFault.{StepFault};
+ghost use Rattle.journal.specs.declared.step.Step.{Step};
+
+use super::effect::Effect;
+use super::fault::StepFault;
+use super::jobs::take_all;
+use super::outcomes::{add_rows, note_starved, settle_all};
+use super::stage::{RanLayer, Stage, TakenLayer};
+use journal::{RequestIds, Rows, Step};
+use layer_planner::Layer;
+use multicast::Multicast;
+use resp::Request;
+use router::Router;
+use shard_exec::{ExecFault, Gate, Store, Workers};
+use skeen_core::{ConnId, RequestId};
+use std::alloc::Global;
+use std::mem;
+
+/// The connections, the groups with their packets and queues, the shards, the layer that is under way, the rows of what was executed in
+/// settled layers, and the ids of what starved.
+#[derive(Drop)]
+pub struct Parts {
+    pub router: Router,
+    pub multicast: Multicast,
+    pub store: Store,
+    pub stage: Stage,
+    pub rows: Rows,
+    pub starved: Vec<RequestId>,
+}
+
+impl Parts {
+    /// Makes the step, or says why it isn't made.
+    pub fn make<W: Workers>(
+        &mut self,
+        alloc: Global,
+        step: Step,
+        workers: &W,
+        gate: &(dyn Gate + Sync),
+    ) -> Result<Effect, StepFault>
+        requires { Lives self.old }
+        ensures made { IfOk result (λ effect. Makes self.old step effect self.new) }
+        ensures fault { IfErr result (λ fault. fault ≢ StepFault.Failed → IsFault self.old step fault × Keeps self.old self.new) }
+        ensures failed { IfErr result (λ fault. fault ≡ StepFault.Failed → (W.may_refuse ≡ true) × HasFailed self.old self.new) }
+    {
+        match step {
+            Step::Open => self.open(),
+            Step::Submit { conn, words } => self.submit(conn, words),
+            Step::Deliver { place } => self.deliver(place),
+            Step::Take => self.take(alloc),
+            Step::Run { starved } => self.run(alloc, starved, workers, gate),
+            Step::Settle => self.settle(),
+            Step::Collect { conn } => self.collect(conn),
+            Step::Close { conn } => self.close(conn),
+        }
+    }
+
+    /// Opens the next connection.
+    fn open(&mut self) -> Result<Effect, StepFault>
+        requires { Lives self.old }
+        ensures made { IfOk result (λ effect. Makes self.old Step.Open effect self.new) }
+        ensures fault { IfErr result (IsFault self.old Step.Open) }
+        ensures no_failure { IfErr result (λ fault. fault ≢ StepFault.Failed) }
+        ensures keeps { OnErr result (Keeps self.old self.new) }
+    {
+        let conn = self.router.open()?;
+        Ok(Effect::Opened(conn))
+    }
+
+    /// A connection submits a request of these words; a Start goes to each of its groups.
+    fn submit(&mut self, conn: ConnId, words: Request) -> Result<Effect, StepFault>
+        requires { Lives self.old }
+        ensures made { IfOk result (λ effect. Makes self.old (Step.Submit conn words) effect self.new) }
+        ensures fault { IfErr result (IsFault self.old (Step.Submit conn words)) }
+        ensures no_failure { IfErr result (λ fault. fault ≢ StepFault.Failed) }
+        ensures keeps { OnErr result (Keeps self.old self.new) }
+    {
+        if let Err(refused) = self.router.may_submit(conn) {
+            return Err(StepFault::from(refused));
+        }
+        let groups = usize::from(self.store.table().shards());
+        self.multicast.reserve(groups)?;
+        let sent = self.router.submit(self.store.table(), conn, words)?;
+        self.multicast.start(sent.id, sent.floor, sent.groups);
+        Ok(Effect::Submitted(sent.id))
+    }
+
+    /// The packet at this place comes to its group.
+    fn deliver(&mut self, place: u64) -> Result<Effect, StepFault>
+        requires { Lives self.old }
+        ensures made { IfOk result (λ effect. Makes self.old (Step.Deliver place) effect self.new) }
+        ensures fault { IfErr result (IsFault self.old (Step.Deliver place)) }
+        ensures no_failure { IfErr result (λ fault. fault ≢ StepFault.Failed) }
+        ensures keeps { OnErr result (Keeps self.old self.new) }
+    {
+        self.multicast.deliver(place as usize)?;
+        Ok(Effect::Made)
+    }
+
+    /// All ready requests are taken as the next layer: their commands and words out of the router, and they themselves out of the queues.
+    fn take(&mut self, alloc: Global) -> Result<Effect, StepFault>
+        requires { Lives self.old }
+        ensures made { IfOk result (λ effect. Makes self.old Step.Take effect self.new) }
+        ensures fault { IfErr result (IsFault self.old Step.Take) }
+        ensures no_failure { IfErr result (λ fault. fault ≢ StepFault.Failed) }
+        ensures keeps { OnErr result (Keeps self.old self.new) }
+    {
+        let Stage::Free = &self.stage else {
+            return Err(StepFault::InFlight);
+        };
+        let Ok(ready) = self.multicast.ready() else {
+            return Err(StepFault::Memory);
+        };
+        if ready.is_empty() {
+            return Err(StepFault::NoLayer);
+        }
+        let Ok(mut jobs) = Vec::with_capacity(alloc, ready.len()) else {
+            return Err(StepFault::Memory);
+        };
+        let Ok(mut words) = Vec::with_capacity(alloc, ready.len()) else {
+            return Err(StepFault::Memory);
+        };
+        take_all(&mut self.router, ready.as_slice(), &mut jobs, &mut words);
+        self.multicast.lose_layer(ready.as_slice());
+        let Some(layer) = Layer::gather(jobs) else {
+            unreachable!()
+        };
+        stand(&mut self.stage, Stage::Taken(TakenLayer { layer, words }));
+        Ok(Effect::Made)
+    }
+
+    /// Runs the layer that was taken, but for the requests of `skip`, which count as starved.
+    fn run<W: Workers>(
+        &mut self,
+        alloc: Global,
+        skip: RequestIds,
+        workers: &W,
+        gate: &(dyn Gate + Sync),
+    ) -> Result<Effect, StepFault>
+        requires { Lives self.old }
+        ensures made { IfOk result (λ effect. Makes self.old (Step.Run skip) effect self.new) }
+        ensures fault { IfErr result (λ fault. fault ≢ StepFault.Failed
+            → IsFault self.old (Step.Run skip) fault × Keeps self.old self.new) }
+        ensures failed { IfErr result (λ fault. fault ≡ StepFault.Failed → (W.may_refuse ≡ true) × HasFailed self.old self.new) }
+    {
+        let Stage::Taken(taken) = &self.stage else {
+            return Err(StepFault::NoLayer);
+        };
+        let count = taken.layer.len();
+        self.starved.reserve(count)?;
+        let mut starved = Vec::with_capacity(alloc, count)?;
+        let Stage::Taken(TakenLayer { layer, words }) = mem::replace(&mut self.stage, Stage::Free)
+        else {
+            unreachable!()
+        };
+        match self
+            .store
+            .run_layer(alloc, layer, skip.as_slice(), workers, gate)
+        {
+            Ok(ended) => {
+                note_starved(ended.as_slice(), &mut starved, &mut self.starved);
+                stand(&mut self.stage, Stage::HasRun(RanLayer { ended, words }));
+                Ok(Effect::Ran(RequestIds::from(starved)))
+            }
+            Err(ExecFault::Memory(layer)) => {
+                stand(&mut self.stage, Stage::Taken(TakenLayer { layer, words }));
+                Err(StepFault::Memory)
+            }
+            Err(ExecFault::Failed) => Err(StepFault::Failed),
+            Err(ExecFault::Stale(_)) => unreachable!(),
+        }
+    }
+
+    /// The outcomes of the layer that was run go to their connections, and each executed request gets its row.
+    fn settle(&mut self) -> Result<Effect, StepFault>
+        requires { Lives self.old }
+        ensures made { IfOk result (λ effect. Makes self.old Step.Settle effect self.new) }
+        ensures fault { IfErr result (IsFault self.old Step.Settle) }
+        ensures no_failure { IfErr result (λ fault. fault ≢ StepFault.Failed) }
+        ensures keeps { OnErr result (Keeps self.old self.new) }
+    {
+        let Stage::HasRun(layer) = &self.stage else {
+            return Err(StepFault::NoLayer);
+        };
+        add_rows(
+            &mut self.rows,
+            layer.ended.as_slice(),
+            layer.words.as_slice(),
+        )?;
+        let Stage::HasRun(RanLayer { ended, words }) = mem::replace(&mut self.stage, Stage::Free)
+        else {
+            unreachable!()
+        };
+        settle_all(&mut self.router, ended);
+        discard(words);
+        Ok(Effect::Made)
+    }
+
+    /// Collects the outcome that waits for a connection, if one does. It takes no memory.
+    fn collect(&mut self, conn: ConnId) -> Result<Effect, StepFault>
+        requires { Lives self.old }
+        ensures made { IfOk result (λ effect. Makes self.old (Step.Collect conn) effect self.new) }
+        ensures fault { IfErr result (IsFault self.old (Step.Collect conn)) }
+        ensures no_conn { IfErr result (λ fault. fault ≡ StepFault.NoConn) }
+        ensures keeps { OnErr result (Keeps self.old self.new) }
+    {
+        match self.router.collect(conn) {
+            Ok(outcome) => Ok(Effect::Collected(outcome)),
+            Err(_) => Err(StepFault::NoConn),
+        }
+    }
+
+    /// Closes a connection. It takes no memory.
+    fn close(&mut self, conn: ConnId) -> Result<Effect, StepFault>
+        requires { Lives self.old }
+        ensures made { IfOk result (λ effect. Makes self.old (Step.Close conn) effect self.new) }
+        ensures fault { IfErr result (IsFault self.old (Step.Close conn)) }
+        ensures no_conn { IfErr result (λ fault. fault ≡ StepFault.NoConn) }
+        ensures keeps { OnErr result (Keeps self.old self.new) }
+    {
+        match self.router.close(conn) {
+            Ok(()) => Ok(Effect::Made),
+            Err(_) => Err(StepFault::NoConn),
+        }
+    }
+}
+
+/// The layer is now so far.
+fn stand(stage: &mut Stage, now: Stage)
+    ensures { stage.new ≡ now }
+{
+    discard(mem::replace(stage, now));
+}
+
+/// Lets a value go. What that takes for each kind of command is seen here alone.
+fn discard<T: Drop>(_value: T) {}

@@ -1,0 +1,30 @@
+//! The layer that is under way.
+
+use layer_planner::Layer;
+use resp::Request;
+use shard_exec::Ended;
+
+/// A layer that was taken: its requests, and beside each its words.
+#[derive(Drop)]
+pub struct TakenLayer {
+    pub layer: Layer,
+    pub words: Vec<Request>,
+}
+
+/// A layer that was run: what became of each request, and beside each its words.
+#[derive(Drop)]
+pub struct RanLayer {
+    pub ended: Vec<Ended>,
+    pub words: Vec<Request>,
+}
+
+/// How far the layer is that is under way, if one is.
+#[derive(Drop)]
+pub enum Stage {
+    /// None is.
+    Free,
+    /// It was taken, and is to be run.
+    Taken(TakenLayer),
+    /// It was run, and is to be settled.
+    HasRun(RanLayer),
+}
