@@ -1,0 +1,222 @@
+//! Scripts, and what they are answered.
+
+use crate::steps::{first_word, step_of, steps_of};
+use crate::tables::system_of;
+use crate::trouble::Trouble;
+use crate::wording::{by_stamp, push_effect, push_ids, push_row, push_rows, push_waiting};
+use journal::Step;
+use shard_exec::{Open, Workers};
+use skeen_core::ConnId;
+use std::alloc::Global;
+use std::process::Abort;
+use system::{Effect, StepFault, System};
+
+/// A script for a new system.
+#[derive(Clone, Copy)]
+pub(crate) struct Row {
+    /// How many shards there are, each with as many slots.
+    pub shards: u64,
+    pub max_steps: u64,
+
+    /// Lines `STEPS => ANSWERS`.
+    pub script: &'static str,
+}
+
+/// Follows a row's script in a new system.
+pub(crate) fn follow_row<W: Workers>(
+    rt: &impl Abort,
+    alloc: Global,
+    row: Row,
+    workers: &W,
+) -> Result<(), Trouble> {
+    let mut system = system_of(alloc, row.shards, row.max_steps)?;
+    follow(rt, alloc, &mut system, row.script, workers)
+}
+
+/// Makes the steps of each line of the script, and looks whether they are answered as it says.
+pub(crate) fn follow<W: Workers>(
+    rt: &impl Abort,
+    alloc: Global,
+    system: &mut System,
+    script: &str,
+    workers: &W,
+) -> Result<(), Trouble> {
+    for line in script.split('\n') {
+        let (said, wanted) = line.split_once(" => ").ok_or("no answer is wanted")?;
+        let answered = answer(rt, alloc, system, said, workers)?;
+        assert_eq!(rt; answered.as_str(), wanted, "{said}");
+    }
+    Ok(())
+}
+
+/// What the words at the left of a line are answered. They are a list of steps, which are run in one call, or look at something:
+/// `steps`, `packets`, `quiet`, `rows` (how many there are), `row PLACE` (in the order of execution), `sorted PLACE` (in the order of
+/// stamps), `starved` or `waits CONN`. `drain` delivers all packets and tells how many there were. `ask CONN WORD ..` makes all steps from
+/// a request's submit to its collect.
+pub(crate) fn answer<W: Workers>(
+    rt: &impl Abort,
+    alloc: Global,
+    system: &mut System,
+    said: &str,
+    workers: &W,
+) -> Result<String, Trouble> {
+    let (name, rest) = first_word(said);
+    match name {
+        "steps" => Ok(format!(in alloc; "{}", system.steps())?),
+        "packets" => Ok(format!(in alloc; "{}", system.packets())?),
+        "quiet" => Ok(format!(in alloc; "{}", system.quiet())?),
+        "rows" => Ok(format!(in alloc; "{}", system.rows().len())?),
+        "row" => row_at(alloc, system, rest.parse()?),
+        "sorted" => sorted_at(alloc, system, rest.parse()?),
+        "starved" => starved(alloc, system),
+        "waits" => waiting(alloc, system, ConnId(rest.parse()?)),
+        "drain" => Ok(format!(in alloc; "{}", deliver_all(system, workers)?)?),
+        "ask" => ask(alloc, system, rest, workers),
+        _ => made(rt, alloc, system, said, workers),
+    }
+}
+
+/// What the steps came to, with `; ` between, and behind them the fault of the one that wasn't made. Where none was made, nothing may
+/// have changed, unless a worker couldn't be started.
+fn made<W: Workers>(
+    rt: &impl Abort,
+    alloc: Global,
+    system: &mut System,
+    list: &str,
+    workers: &W,
+) -> Result<String, Trouble> {
+    let before = state(alloc, system)?;
+    let (effects, fault) = system.run(steps_of(alloc, list)?, workers, &Open);
+    if effects.is_empty() && !matches!(fault, Some(StepFault::Failed)) {
+        let after = state(alloc, system)?;
+        assert_eq!(rt; after.as_str(), before.as_str(), "{list}");
+    }
+    effects_and_fault(alloc, effects, fault)
+}
+
+fn effects_and_fault(
+    alloc: Global,
+    effects: Vec<Effect>,
+    fault: Option<StepFault>,
+) -> Result<String, Trouble> {
+    let mut text = String::new(alloc);
+    for effect in effects {
+        if !text.is_empty() {
+            text.push_str("; ")?;
+        }
+        push_effect(alloc, &mut text, &effect)?;
+        discard(effect);
+    }
+    if let Some(fault) = fault {
+        if !text.is_empty() {
+            text.push_str("; ")?;
+        }
+        write!(text, "{fault:?}")?;
+    }
+    Ok(text)
+}
+
+/// Lets a value go. What that takes for each kind of reply is seen here alone.
+pub(crate) fn discard<T: Drop>(_value: T) {}
+
+/// All that can be looked at.
+pub(crate) fn state(alloc: Global, system: &System) -> Result<String, Trouble> {
+    let mut text = format!(in alloc;
+        "{} steps, {} packets, quiet {}\nstarved",
+        system.steps(),
+        system.packets(),
+        system.quiet()
+    )?;
+    push_ids(&mut text, system.starved())?;
+    text.push('\n')?;
+    push_rows(alloc, &mut text, system.rows())?;
+    for conn in 0..4 {
+        push_waiting(alloc, &mut text, system.waits(ConnId(conn)))?;
+        text.push('\n')?;
+    }
+    Ok(text)
+}
+
+fn row_at(alloc: Global, system: &System, place: usize) -> Result<String, Trouble> {
+    let mut text = String::new(alloc);
+    match system.rows().row(place) {
+        Some(row) => push_row(alloc, &mut text, &row)?,
+        None => text.push_str("nothing")?,
+    }
+    Ok(text)
+}
+
+fn sorted_at(alloc: Global, system: &System, place: usize) -> Result<String, Trouble> {
+    let places = by_stamp(alloc, system.rows())?;
+    row_at(alloc, system, *places.get(place).ok_or("no such row")?)
+}
+
+fn starved(alloc: Global, system: &System) -> Result<String, Trouble> {
+    let mut text = format!(in alloc; "{}:", system.starved().len())?;
+    push_ids(&mut text, system.starved())?;
+    Ok(text)
+}
+
+fn waiting(alloc: Global, system: &System, conn: ConnId) -> Result<String, Trouble> {
+    let mut text = String::new(alloc);
+    push_waiting(alloc, &mut text, system.waits(conn))?;
+    Ok(text)
+}
+
+/// Submits a request, delivers all packets in their order, runs all layers, and collects. What was collected.
+pub(crate) fn ask<W: Workers>(
+    alloc: Global,
+    system: &mut System,
+    asked: &str,
+    workers: &W,
+) -> Result<String, Trouble> {
+    let (conn, _) = first_word(asked);
+    let submit = format!(in alloc; "submit {asked}")?;
+    let collect = format!(in alloc; "collect {conn}")?;
+    make(alloc, system, submit.as_str(), workers)?;
+    deliver_all(system, workers)?;
+    run_layers(alloc, system, workers)?;
+    make(alloc, system, collect.as_str(), workers)
+}
+
+/// Makes a step, which is made, and tells what it came to.
+pub(crate) fn make<W: Workers>(
+    alloc: Global,
+    system: &mut System,
+    words: &str,
+    workers: &W,
+) -> Result<String, Trouble> {
+    let effect = system.step(step_of(alloc, words)?, workers, &Open)?;
+    let mut text = String::new(alloc);
+    push_effect(alloc, &mut text, &effect)?;
+    discard(effect);
+    Ok(text)
+}
+
+/// Delivers the oldest packet until none is left, 10,000 times at most. How often.
+pub(crate) fn deliver_all<W: Workers>(system: &mut System, workers: &W) -> Result<u32, Trouble> {
+    for count in 0..10_000u32 {
+        if system.packets() == 0 {
+            return Ok(count);
+        }
+        discard(system.step(Step::Deliver { place: 0 }, workers, &Open)?);
+    }
+    Err("packets are left".into())
+}
+
+/// Takes, runs and settles layers until nothing is ready, 10,000 times at most.
+pub(crate) fn run_layers<W: Workers>(
+    alloc: Global,
+    system: &mut System,
+    workers: &W,
+) -> Result<(), Trouble> {
+    for _ in 0..10_000u32 {
+        if system.quiet() {
+            return Ok(());
+        }
+        make(alloc, system, "take", workers)?;
+        make(alloc, system, "run", workers)?;
+        make(alloc, system, "settle", workers)?;
+    }
+    Err("layers are left".into())
+}

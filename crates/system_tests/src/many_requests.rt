@@ -1,0 +1,257 @@
+//! Many requests of several connections, whose packets come in any order, against one store on one map.
+
+use crate::answers::{ask, deliver_all, discard, make, run_layers};
+use crate::steps::step_of;
+use crate::tables::system_of;
+use crate::trouble::Trouble;
+use crate::wording::{by_stamp, push_rows};
+use command_table::read;
+use journal::Rows;
+use resp::write_reply;
+use router::Outcome;
+use shard_exec::{Crew, InTurn, Open, Workers};
+use solo::Solo;
+use std::alloc::Global;
+use std::hash::{BuildHasherDefault, FoldHasher};
+use std::num::NonZeroUsize;
+use std::process::Abort;
+use std::test::Fail;
+use system::{Effect, StepFault, System};
+
+/// Marsaglia's xorshift: numbers that look like chance, and are the same in each run.
+#[derive(Drop)]
+struct Dice {
+    state: u64,
+}
+
+impl Dice {
+    /// A number below `count`, or 0.
+    fn below(&mut self, count: u64) -> u64 {
+        self.state ^= self.state << 13;
+        self.state ^= self.state >> 7;
+        self.state ^= self.state << 17;
+        if count == 0 { 0 } else { self.state % count }
+    }
+}
+
+/// How many connections ask.
+const CONNECTIONS: u64 = 8;
+
+/// Requests in which `K` stands for one of 12 keys, and `N` for a number below 50.
+const REQUESTS: [&str; 24] = [
+    "SET K N",
+    "SET K N NX",
+    "GET K",
+    "INCRBY K N",
+    "APPEND K N",
+    "MSET K N K N",
+    "MSETNX K N K N K N",
+    "MGET K K K K",
+    "DEL K K",
+    "EXISTS K K",
+    "RENAME K K",
+    "RENAMENX K K",
+    "TYPE K",
+    "RPUSH K N N",
+    "LMOVE K K LEFT RIGHT",
+    "LRANGE K 0 -1",
+    "SADD K N N N",
+    "SMOVE K K N",
+    "SUNIONSTORE K K K",
+    "SINTER K K",
+    "HSET K N N",
+    "HGETALL K",
+    "DBSIZE",
+    "PING N",
+];
+
+/// Requests of a key, with what stands before and behind it, that tell all that lies there, whatever its type.
+const LOOKS: [(&str, &str); 5] = [
+    ("TYPE", ""),
+    ("GET", ""),
+    ("LRANGE", " 0 -1"),
+    ("HGETALL", ""),
+    ("SMEMBERS", ""),
+];
+
+/// One of the requests, with its keys and numbers.
+fn request(alloc: Global, dice: &mut Dice) -> Result<String, Trouble> {
+    let place = dice.below(24) as usize;
+    let pattern = REQUESTS.get(place).ok_or("no such request")?;
+    let mut text = String::new(alloc);
+    for word in pattern.split(' ') {
+        if !text.is_empty() {
+            text.push(' ')?;
+        }
+        match word {
+            "K" => write!(text, "k{}", dice.below(12))?,
+            "N" => write!(text, "{}", dice.below(50))?,
+            word => text.push_str(word)?,
+        }
+    }
+    Ok(text)
+}
+
+/// A step of one of the eight connections, or of none, which perhaps can't be made now.
+fn some_step(alloc: Global, packets: usize, dice: &mut Dice) -> Result<String, Trouble> {
+    let conn = dice.below(CONNECTIONS).wrapping_add(1);
+    match dice.below(16) {
+        0..=2 => {
+            let words = request(alloc, dice)?;
+            Ok(format!(in alloc; "submit {conn} {words}")?)
+        }
+        3..=10 => {
+            let place = dice.below(packets as u64);
+            Ok(format!(in alloc; "deliver {place}")?)
+        }
+        11 => Ok(String::from_str(alloc, "take")?),
+        12 => Ok(String::from_str(alloc, "run")?),
+        13 => Ok(String::from_str(alloc, "settle")?),
+        _ => Ok(format!(in alloc; "collect {conn}")?),
+    }
+}
+
+/// Makes the step, if it can be made now. That it can't is told by the step's own fault.
+fn make_or_not<W: Workers>(
+    rt: &impl Abort,
+    alloc: Global,
+    system: &mut System,
+    words: &str,
+    workers: &W,
+) -> Result<(), Trouble> {
+    match system.step(step_of(alloc, words)?, workers, &Open) {
+        Ok(Effect::Collected(Some(outcome))) => {
+            look_at_reply(rt, alloc, system.rows(), &outcome)?;
+            discard(outcome);
+            Ok(())
+        }
+        Ok(effect) => {
+            discard(effect);
+            Ok(())
+        }
+        Err(StepFault::Exhausted | StepFault::Memory | StepFault::Failed) => {
+            Err("not the step's own fault".into())
+        }
+        Err(_) => Ok(()),
+    }
+}
+
+/// Looks whether the reply that a client gets is that of its request's row. A request of no group has none.
+fn look_at_reply(
+    rt: &impl Abort,
+    alloc: Global,
+    rows: &Rows,
+    outcome: &Outcome,
+) -> Result<(), Trouble> {
+    if outcome.stamp.is_none() {
+        return Ok(());
+    }
+    let mut reply = Vec::new(alloc);
+    write_reply(&outcome.reply, &mut reply)?;
+    for place in 0..rows.len() {
+        if let Some(row) = rows.row(place) {
+            if row.id() == outcome.id {
+                assert!(rt; row.reply() == reply.as_slice(), "another reply");
+                return Ok(());
+            }
+        }
+    }
+    Err("a request without a row".into())
+}
+
+/// Makes steps at random, then ends what is under way, and at last asks for all that lies at the keys.
+fn play<W: Workers>(
+    rt: &impl Abort,
+    alloc: Global,
+    system: &mut System,
+    workers: &W,
+) -> Result<(), Trouble> {
+    for _ in 0..CONNECTIONS {
+        make(alloc, system, "open", workers)?;
+    }
+    let mut dice = Dice {
+        state: 88_172_645_463_325_252,
+    };
+    for _ in 0..10_000u32 {
+        let words = some_step(alloc, system.packets(), &mut dice)?;
+        make_or_not(rt, alloc, system, words.as_str(), workers)?;
+    }
+    for words in ["run", "settle"] {
+        make_or_not(rt, alloc, system, words, workers)?;
+    }
+    deliver_all(system, workers)?;
+    run_layers(alloc, system, workers)?;
+    look_at_all(alloc, system, workers)
+}
+
+/// Has a connection of its own, the ninth, ask for all that lies at the keys.
+fn look_at_all<W: Workers>(alloc: Global, system: &mut System, workers: &W) -> Result<(), Trouble> {
+    make(alloc, system, "open", workers)?;
+    for key in 0..12u32 {
+        for (before, behind) in LOOKS {
+            let asked = format!(in alloc; "9 {before} k{key}{behind}")?;
+            ask(alloc, system, asked.as_str(), workers)?;
+        }
+    }
+    Ok(())
+}
+
+/// Whether these are 0, 1, 2 and so on.
+fn is_counted(places: &[usize]) -> bool {
+    for (count, place) in places.iter().enumerate() {
+        if count != *place {
+            return false;
+        }
+    }
+    true
+}
+
+/// Looks whether the replies are those of one store that runs the executed requests in the order of these places, which are ascending
+/// by stamp.
+fn look_at_rows(
+    rt: &impl Abort,
+    alloc: Global,
+    rows: &Rows,
+    places: Vec<usize>,
+) -> Result<(), Trouble> {
+    let mut one = Solo::new(alloc, BuildHasherDefault::<FoldHasher>::new());
+    for place in places {
+        let row = rows.row(place).ok_or("no such row")?;
+        let command = read(row.request(alloc)?).map_err(|_| "a refused request")?;
+        let mut reply = Vec::new(alloc);
+        write_reply(&one.run(command), &mut reply)?;
+        assert!(rt; row.reply() == reply.as_slice(), "another reply");
+    }
+    Ok(())
+}
+
+/// Plays in a new system of four shards, and gives all its rows as text.
+fn played<W: Workers>(rt: &impl Abort, alloc: Global, workers: &W) -> Result<String, Trouble> {
+    let mut system = system_of(alloc, 4, 1_000_000)?;
+    play(rt, alloc, &mut system, workers)?;
+    assert!(rt; system.quiet(), "something is under way");
+    assert!(rt; system.rows().len() > 300, "few requests");
+    assert!(rt; system.starved().is_empty(), "a request starved");
+    let places = by_stamp(alloc, system.rows())?;
+    assert!(rt;
+        !is_counted(places.as_slice()),
+        "executed in the order of stamps"
+    );
+    look_at_rows(rt, alloc, system.rows(), places)?;
+    let mut text = String::new(alloc);
+    push_rows(alloc, &mut text, system.rows())?;
+    Ok(text)
+}
+
+#[test]
+fn as_one_store_in_the_order_of_stamps(rt: HostRuntime) -> Result<(), Fail> {
+    let first = played(&rt, rt.alloc(), &InTurn(NonZeroUsize::MIN))?;
+    for number in [2, 8] {
+        let number = NonZeroUsize::new(number).ok_or("a number of workers")?;
+        let in_turn = played(&rt, rt.alloc(), &InTurn(number))?;
+        assert!(rt; in_turn.as_str() == first.as_str(), "other rows in turn");
+        let crew = played(&rt, rt.alloc(), &Crew::new(&rt, number))?;
+        assert!(rt; crew.as_str() == first.as_str(), "other rows on threads");
+    }
+    Ok(())
+}

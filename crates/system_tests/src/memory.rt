@@ -1,0 +1,249 @@
+//! What becomes of a run in which one allocation fails.
+//!
+//! Where all succeed these tests say no more than others do. They are meant to be run with each allocation failing in turn.
+
+use crate::answers::{answer, discard, follow, state};
+use crate::steps::{first_word, step_of};
+use crate::tables::system_of;
+use crate::trouble::Trouble;
+use crate::wording::{push_effect, push_ids};
+use shard_exec::{InTurn, Open, Workers};
+use std::alloc::Global;
+use std::num::NonZeroUsize;
+use std::process::Abort;
+use std::test::Fail;
+use system::{Effect, StepFault, System};
+
+/// Two requests of both groups cross, and then one of each group tells what is there.
+const CROSSING: &str = "open => opened 1
+open => opened 2
+submit 1 MSET a 1 c 2 => submitted 1.1
+submit 2 MSET a 3 c 4 => submitted 2.1
+deliver 0 => made
+deliver 2 => made
+deliver 1 => made
+deliver 0 => made
+deliver 0 => made
+deliver 0 => made
+deliver 0 => made
+deliver 0 => made
+take => made
+run => ran
+settle => made
+take => made
+run => ran
+settle => made
+collect 1 => 1.1 at 2.1 +OK|
+collect 2 => 2.1 at 2.0 +OK|
+submit 1 GET a => submitted 1.2
+submit 2 GET c => submitted 2.2
+deliver 0 => made
+deliver 0 => made
+take => made
+run => ran
+settle => made
+collect 1 => 1.2 at 3.0 $1|1|
+collect 2 => 2.2 at 3.1 $1|2|
+rows => 4
+row 0 => 2.1 at 2.0 MSET a 3 c 4 +OK|
+row 1 => 1.1 at 2.1 MSET a 1 c 2 +OK|
+row 2 => 1.2 at 3.0 GET a $1|1|
+row 3 => 2.2 at 3.1 GET c $1|2|
+starved => 0:";
+
+/// One request names a key twice, and then both keys are looked at.
+const SAME_KEY_TWICE: &str = "open => opened 1
+submit 1 MSET a 1 c 2 a 3 => submitted 1.1
+deliver 0 => made
+deliver 0 => made
+deliver 0 => made
+deliver 0 => made
+take => made
+run => ran
+settle => made
+collect 1 => 1.1 at 1.1 +OK|
+submit 1 MGET a c => submitted 1.2
+deliver 0 => made
+deliver 0 => made
+deliver 0 => made
+deliver 0 => made
+take => made
+run => ran
+settle => made
+collect 1 => 1.2 at 2.1 *2|$1|3|$1|2|
+rows => 2
+row 0 => 1.1 at 1.1 MSET a 1 c 2 a 3 +OK|
+row 1 => 1.2 at 2.1 MGET a c *2|$1|3|$1|2|
+starved => 0:";
+
+/// Steps with a fault of their own, which is told also where there is no memory.
+const OWN_FAULTS: &str = "submit 1 SET a 1 => NoConn
+open => opened 1
+submit 1 SET a 1 => submitted 1.1
+submit 1 SET a 2 => Busy
+submit 9 SET a 1 => NoConn
+deliver 1 => NoPacket
+take => NoLayer
+run => NoLayer
+settle => NoLayer
+deliver 0 => made
+deliver 0 => NoPacket
+take => made
+take => InFlight
+settle => NoLayer
+run => ran
+run => NoLayer
+settle => made
+take => NoLayer
+collect 2 => NoConn
+close 2 => NoConn
+open => opened 2
+open => Exhausted
+submit 1 SET a 2 => Exhausted
+submit 2 SET a 2 => Exhausted
+take => Exhausted";
+
+/// Makes the steps of each line, and again where there was no memory for it. What is given is a script again: what each step came to,
+/// and in each run the requests that starved.
+fn followed<W: Workers>(
+    rt: &impl Abort,
+    alloc: Global,
+    system: &mut System,
+    script: &str,
+    workers: &W,
+) -> Result<String, Trouble> {
+    let mut again = String::new(alloc);
+    for line in script.split('\n') {
+        let (said, wanted) = line.split_once(" => ").ok_or("no answer is wanted")?;
+        if !again.is_empty() {
+            again.push('\n')?;
+        }
+        push_line(rt, alloc, system, &mut again, said, wanted, workers)?;
+    }
+    Ok(again)
+}
+
+/// Adds a line: what is looked at, or a step and what it came to.
+fn push_line<W: Workers>(
+    rt: &impl Abort,
+    alloc: Global,
+    system: &mut System,
+    text: &mut String,
+    said: &str,
+    wanted: &str,
+    workers: &W,
+) -> Result<(), Trouble> {
+    if matches!(first_word(said).0, "rows" | "row" | "starved") {
+        let answered = answer(rt, alloc, system, said, workers)?;
+        write!(text, "{said} => {answered}")?;
+        return Ok(());
+    }
+    match made_at_last(rt, alloc, system, said, wanted, workers)? {
+        Ok(effect) => push_made(alloc, text, said, effect),
+        Err(fault) => Ok(write!(text, "{said} => {fault:?}")?),
+    }
+}
+
+/// Makes a step. Where it is refused for want of memory, nothing has changed, and it is made again.
+fn made_at_last<W: Workers>(
+    rt: &impl Abort,
+    alloc: Global,
+    system: &mut System,
+    said: &str,
+    wanted: &str,
+    workers: &W,
+) -> Result<Result<Effect, StepFault>, Trouble> {
+    let before = state(alloc, system)?;
+    match system.step(step_of(alloc, said)?, workers, &Open) {
+        Err(StepFault::Memory) => (),
+        made => return Ok(made),
+    }
+    assert!(rt; !is_own_fault(wanted), "{said} was refused for memory");
+    let after = state(alloc, system)?;
+    assert_eq!(rt; after.as_str(), before.as_str(), "{said}");
+    Ok(system.step(step_of(alloc, said)?, workers, &Open))
+}
+
+/// Whether this is the name of a fault that comes before want of memory.
+fn is_own_fault(answer: &str) -> bool {
+    matches!(
+        answer,
+        "Busy" | "NoConn" | "NoPacket" | "InFlight" | "NoLayer" | "Exhausted"
+    )
+}
+
+/// Adds a step and what it came to. A run in which requests starved is told to let them starve.
+fn push_made(alloc: Global, text: &mut String, said: &str, effect: Effect) -> Result<(), Trouble> {
+    text.push_str(said)?;
+    if let Effect::Ran(starved) = &effect {
+        push_ids(text, starved.as_slice())?;
+    }
+    text.push_str(" => ")?;
+    push_effect(alloc, text, &effect)?;
+    discard(effect);
+    Ok(())
+}
+
+/// Follows the script in a new system. Where no request starved, all is as if memory had always been there; where one did, all is as
+/// in a run that is told to let it starve.
+fn attempt<W: Workers>(
+    rt: &impl Abort,
+    alloc: Global,
+    max_steps: u64,
+    script: &str,
+    workers: &W,
+) -> Result<(), Trouble> {
+    let mut system = system_of(alloc, 2, max_steps)?;
+    let again = followed(rt, alloc, &mut system, script, workers)?;
+    if system.starved().is_empty() {
+        assert_eq!(rt; again.as_str(), script);
+        return Ok(());
+    }
+    let mut told = system_of(alloc, 2, max_steps)?;
+    follow(rt, alloc, &mut told, again.as_str(), workers)
+}
+
+/// Follows the script, and once more where an allocation of the test's own failed.
+fn attempts<W: Workers>(
+    rt: &impl Abort,
+    alloc: Global,
+    max_steps: u64,
+    script: &str,
+    workers: &W,
+) -> Result<(), Trouble> {
+    match attempt(rt, alloc, max_steps, script, workers) {
+        Err(Trouble::Memory) => attempt(rt, alloc, max_steps, script, workers),
+        ended => ended,
+    }
+}
+
+#[test]
+fn crossing_where_memory_fails(rt: HostRuntime) -> Result<(), Fail> {
+    attempts(&rt, rt.alloc(), 1000, CROSSING, &InTurn(NonZeroUsize::MIN))?;
+    Ok(())
+}
+
+#[test]
+fn crossing_by_two_where_memory_fails(rt: HostRuntime) -> Result<(), Fail> {
+    let two = NonZeroUsize::new(2).ok_or("two")?;
+    attempts(&rt, rt.alloc(), 1000, CROSSING, &InTurn(two))?;
+    Ok(())
+}
+
+#[test]
+fn same_key_twice_where_memory_fails(rt: HostRuntime) -> Result<(), Fail> {
+    attempts(
+        &rt,
+        rt.alloc(),
+        1000,
+        SAME_KEY_TWICE,
+        &InTurn(NonZeroUsize::MIN),
+    )?;
+    Ok(())
+}
+
+#[test]
+fn own_faults_come_before_memory(rt: HostRuntime) -> Result<(), Fail> {
+    attempts(&rt, rt.alloc(), 7, OWN_FAULTS, &InTurn(NonZeroUsize::MIN))?;
+    Ok(())
+}

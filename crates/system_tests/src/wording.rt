@@ -1,0 +1,120 @@
+//! What steps come to, and what is there then, as text. In replies `|` stands for CR LF.
+
+use crate::trouble::Trouble;
+use journal::{Row, Rows};
+use resp::write_reply;
+use router::Outcome;
+use skeen_core::{RequestId, Stamp};
+use std::alloc::Global;
+use system::Effect;
+
+/// Adds what a step came to.
+pub(crate) fn push_effect(
+    alloc: Global,
+    text: &mut String,
+    effect: &Effect,
+) -> Result<(), Trouble> {
+    match effect {
+        Effect::Opened(conn) => write!(text, "opened {}", conn.0)?,
+        Effect::Submitted(id) => write!(text, "submitted {}.{}", id.conn.0, id.seq)?,
+        Effect::Ran(starved) => push_ran(text, starved.as_slice())?,
+        Effect::Collected(outcome) => push_waiting(alloc, text, outcome.as_ref())?,
+        Effect::Made => text.push_str("made")?,
+    }
+    Ok(())
+}
+
+fn push_ran(text: &mut String, starved: &[RequestId]) -> Result<(), Trouble> {
+    text.push_str("ran")?;
+    if !starved.is_empty() {
+        text.push_str(", starved")?;
+        push_ids(text, starved)?;
+    }
+    Ok(())
+}
+
+/// Adds the ids, a blank before each.
+pub(crate) fn push_ids(text: &mut String, ids: &[RequestId]) -> Result<(), Trouble> {
+    for id in ids {
+        write!(text, " {}.{}", id.conn.0, id.seq)?;
+    }
+    Ok(())
+}
+
+/// Adds an outcome, if one is there.
+pub(crate) fn push_waiting(
+    alloc: Global,
+    text: &mut String,
+    outcome: Option<&Outcome>,
+) -> Result<(), Trouble> {
+    match outcome {
+        Some(outcome) => push_outcome(alloc, text, outcome),
+        None => Ok(text.push_str("nothing")?),
+    }
+}
+
+fn push_outcome(alloc: Global, text: &mut String, outcome: &Outcome) -> Result<(), Trouble> {
+    write!(text, "{}.{} ", outcome.id.conn.0, outcome.id.seq)?;
+    if let Some(stamp) = &outcome.stamp {
+        push_stamp(text, stamp)?;
+    }
+    let mut reply = Vec::new(alloc);
+    write_reply(&outcome.reply, &mut reply)?;
+    push_reply(text, reply.as_slice())
+}
+
+/// Adds `at CLOCK.GROUP ` and nothing else.
+fn push_stamp(text: &mut String, stamp: &Stamp) -> Result<(), Trouble> {
+    write!(text, "at {}.{} ", stamp.clock, stamp.group.number())?;
+    Ok(())
+}
+
+/// Adds the text of a reply, with `|` for CR LF.
+fn push_reply(text: &mut String, reply: &[u8]) -> Result<(), Trouble> {
+    for byte in reply {
+        match *byte {
+            b'\r' => (),
+            b'\n' => text.push('|')?,
+            byte => text.push(char::from(byte))?,
+        }
+    }
+    Ok(())
+}
+
+/// Adds a row: id, stamp, words and reply.
+pub(crate) fn push_row(alloc: Global, text: &mut String, row: &Row<'_>) -> Result<(), Trouble> {
+    write!(text, "{}.{} ", row.id().conn.0, row.id().seq)?;
+    push_stamp(text, row.stamp())?;
+    for word in row.request(alloc)?.into_words() {
+        push_reply(text, word.as_slice())?;
+        text.push(' ')?;
+    }
+    push_reply(text, row.reply())
+}
+
+/// Adds all rows in the order of execution.
+pub(crate) fn push_rows(alloc: Global, text: &mut String, rows: &Rows) -> Result<(), Trouble> {
+    for place in 0..rows.len() {
+        if let Some(row) = rows.row(place) {
+            push_row(alloc, text, &row)?;
+            text.push('\n')?;
+        }
+    }
+    Ok(())
+}
+
+/// The places of the rows, from 0, ascending by their stamps.
+pub(crate) fn by_stamp(alloc: Global, rows: &Rows) -> Result<Vec<usize>, Trouble> {
+    let mut stamps = Vec::new(alloc);
+    for place in 0..rows.len() {
+        if let Some(row) = rows.row(place) {
+            stamps.push((row.stamp().clock, row.stamp().group.number(), place))?;
+        }
+    }
+    stamps.sort()?;
+    let mut places = Vec::new(alloc);
+    for (_, _, place) in stamps {
+        places.push(place)?;
+    }
+    Ok(places)
+}
