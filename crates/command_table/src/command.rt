@@ -1,6 +1,6 @@
 //! A command that was read, and what is told of it: its name, its keys, and whether it is for all keys.
 
-ghost use Rattle.std.specs.Prelude.{◌≡◌, ◌<◌, length, map, slice_get, IfOk, Some};
+ghost use Rattle.std.specs.Prelude.{◌≡◌, ◌<◌, length, map, slice_get, IfOk, OnErr, Some};
 ghost use Rattle.command_table.specs.Command.{told_of, name_of, keys_of, is_whole};
 ghost use Rattle.command_table.specs.Held.{told_held};
 
@@ -81,6 +81,7 @@ pub fn key_at(command: &Command, place: usize) -> &[u8]
 /// The command's keys, in order of its words, repeats kept; `AllocError` where there is no memory for the list.
 pub fn keys(alloc: Global, command: &Command) -> Result<Vec<&[u8]>, AllocError>
     ensures listed { IfOk result (λ keys. map (λ k. k.now) keys.items ≡ keys_of command.now) }
+    ensures of_no_key { OnErr result (0 < length (keys_of command.now)) }
 {
     let count = key_count(command);
     let mut keys = Vec::with_capacity(alloc, count)?;

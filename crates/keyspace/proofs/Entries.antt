@@ -1,18 +1,20 @@
 -- What a table of entries says as a map, after each change of the table that `indexmap` names.
-use Rattle.std.proofs.Common.{◌≡◌, ℕ, ◌+◌, List, [], ◌∷◌, map, length, Bool, true, false, cond, Option, Some, None, is_some, arith, refl}
+use Rattle.std.proofs.Common.{◌≡◌, ℕ, ◌+◌, ◌≤◌, List, [], ◌∷◌, map, length, Bool, true, false, cond, Option, Some, None, is_some, arith, refl}
 use Rattle.std.proofs.Common.{sym, ap, subst, ◌∙◌}
 use Rattle.std.proofs.lemmas.Cmp.{nat_list_cmp_total, nat_list_eq_equiv}
 use Rattle.std.proofs.lemmas.Map.Text.{is_eq-slice_cmp}
 use Rattle.std.specs.Cmp.Lexicographic.{slice_cmp}
 use Rattle.std.specs.FinMap.{get, insert, remove, len, find, get-from_entries, len-insert, len-empty}
 use Rattle.hashed_texts.specs.declared.HashedText.{HashedText}
-use Rattle.std.specs.List.{IsDistinct, AllByRecursion}
+use Rattle.std.specs.List.{IsDistinct, AllByRecursion, slice_get}
+use Rattle.std.proofs.lemmas.List.{length-map}
+use Rattle.std.proofs.lemmas.Option.{slice_get_past}
 use Rattle.std.specs.Map.{lookup, keys_of, KeepsOthers}
 use Rattle.std.specs.Ordering.{nat_cmp}
 use Rattle.std.specs.Str.{bytes_eq}
-use Rattle.std.proofs.lemmas.Map.Keys.{IsDistinct-head, IsDistinct-tail}
+use Rattle.std.proofs.lemmas.Map.Keys.{IsDistinct-cons, IsDistinct-head, IsDistinct-tail}
 use Rattle.keyspace.proofs.Gets.{same, same_bytes, get-insert, get-remove, bytes_eq-swap}
-use Rattle.keyspace.specs.Plain.{map_of}
+use Rattle.keyspace.specs.Plain.{map_of, listed}
 use Rattle.values.specs.declared.Value.{Value}
 
 -- the test by which a table is searched for these bytes
@@ -78,3 +80,20 @@ len-map_of (e ∷ es) h =
     len-insert nat_list_cmp_total (map_of es) e.0.bytes.items e.1
     ∙ ap (λ o. cond (is_some o) (len (map_of es)) (len (map_of es) + 1)) new in
     omega (arith, one_more, rest)
+
+others_apart : (k : HashedText) (es : List (HashedText × Value)) → AllByRecursion (λ y. same_key k y ≡ false) (keys_of es)
+    → AllByRecursion (λ y. bytes_eq k.bytes.items y ≡ false) (keys_of (listed es))
+others_apart k [] h = h
+others_apart k (e ∷ es) h = (h.0, others_apart k es h.1)
+
+-- keys that differ do so as byte strings
+pub each_once-listed : (es : List (HashedText × Value)) → IsDistinct same_key (keys_of es) → IsDistinct bytes_eq (keys_of (listed es))
+unfolding IsDistinct
+each_once-listed [] h = h
+each_once-listed (e ∷ es) h =
+    IsDistinct-cons bytes_eq e.0.bytes.items (keys_of (listed es))
+    (others_apart e.0 es (IsDistinct-head same_key e.0 (keys_of es) h))
+    (each_once-listed es (IsDistinct-tail same_key e.0 (keys_of es) h))
+
+pub past_listed : (es : List (HashedText × Value)) (n : ℕ) → length es ≤ n → slice_get (listed es) n ≡ None
+past_listed es n h = slice_get_past (listed es) n (subst (λ m. m ≤ n) (sym (length-map es _)) h)

@@ -4,6 +4,7 @@
 //! written and proved once for one table and for the shards of several. `Plain` is the one table.
 #![tactic(auto)]
 
+mod listed;
 mod plain;
 #[cfg(test)]
 mod tests;
@@ -13,6 +14,7 @@ ghost use Rattle.std.specs.FinMap as map;
 ghost use Rattle.std.specs.Option.{option_copied};
 ghost use Rattle.keyspace.specs.Map.{Map, set};
 
+pub use listed::Listed;
 pub use plain::Plain;
 use values::Value;
 

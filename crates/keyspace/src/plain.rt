@@ -3,7 +3,7 @@
 ghost use Rattle.std.specs.Prelude.{◌≡◌};
 ghost use Rattle.std.specs.FinMap as map;
 
-use crate::Keyspace;
+use crate::{Keyspace, Listed};
 use hashed_texts::{HashedSlice, HashedText};
 use indexmap::IndexMap;
 use std::alloc::Global;
@@ -70,5 +70,20 @@ impl<S: BuildHasher> Keyspace for Plain<S> {
 
     fn clear(&mut self) {
         self.entries.clear();
+    }
+}
+
+impl<S: BuildHasher> Listed for Plain<S> {
+    ghost use Rattle.keyspace.specs.Plain.{listed};
+
+    ghost listed = { λ p. listed p.entries.entries };
+
+    fn entry(&self, place: usize) -> Option<(&[u8], &Value)> {
+        if place < self.entries.len() {
+            let (key, value) = self.entries.get_index(place)?;
+            Some((key.bytes.as_slice(), value))
+        } else {
+            None
+        }
     }
 }

@@ -187,10 +187,10 @@ Grows step before = room before < room (step before).0
 abbrev pub missing_among : Map → List Bytes → List Bytes
 missing_among m keys = filter (λ key. not (is_some (get m key))) keys
 
--- where a command on strings takes memory: GET and GETRANGE copy a string that is there, and MGET makes a list; the others add a key
--- that isn't there, or make its string longer than it was
+-- where a command on strings takes memory: GET copies a string that isn't empty, GETRANGE one that is there, and MGET makes a list; the
+-- others add a key that isn't there, or make its string longer than it was
 abbrev pub StringCommandTakesMemory : StringCommand → Map → Type 0
-StringCommandTakesMemory (Get key) m = IsSome (get m key)
+StringCommandTakesMemory (Get key) m = 1 < room (get m key)
 StringCommandTakesMemory (Set key value condition) m = (get m key ≡ None) × IsTrue (is_admitted condition false)
 StringCommandTakesMemory (Setnx key value) m = get m key ≡ None
 StringCommandTakesMemory (Getset key value) m = get m key ≡ None

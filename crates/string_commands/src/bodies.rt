@@ -1,9 +1,9 @@
 //! GET, SET and SETNX.
 
-ghost use Rattle.std.specs.Prelude.{◌≡◌, IsTrue, IsSome, None, false, OnErr};
+ghost use Rattle.std.specs.Prelude.{◌≡◌, ◌<◌, IsTrue, None, false, OnErr};
 ghost use Rattle.std.specs.FinMap as map;
 ghost use Rattle.command_cases.specs.Case.{Does, at_key};
-ghost use Rattle.string_commands.specs.StringCommand.{get_step, set_step, setnx_step, is_admitted};
+ghost use Rattle.string_commands.specs.StringCommand.{get_step, set_step, setnx_step, is_admitted, room};
 
 use command_cases::{Starved, ok_reply, truth_reply, wrong_type_reply};
 use command_table::Condition;
@@ -21,7 +21,7 @@ pub(crate) fn get<K: Keyspace>(alloc: Global, keyspace: &K, key: Text) -> Result
     requires { IsTrue (K.covered keyspace.now key) }
     ensures done { Does (at_key key get_step)
         (K.contents keyspace.now) (K.contents keyspace.now) result }
-    ensures starves { OnErr result (IsSome (map.get (K.contents keyspace.now) key)) }
+    ensures starves { OnErr result (1 < room (map.get (K.contents keyspace.now) key)) }
 {
     match keyspace.look(key.as_slice()) {
         None => Ok(Reply::Null),

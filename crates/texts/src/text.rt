@@ -33,6 +33,7 @@ impl Text {
     /// A copy of these bytes; `AllocError` where there is no memory for it.
     pub fn copy_of(alloc: Global, bytes: &[u8]) -> Result<Self, AllocError>
         ensures copied { IfOk result (λ t. t ≡ bytes.now) }
+        ensures of_nothing { OnErr result (0 < length bytes.now) }
     {
         let mut copy = Vec::with_capacity(alloc, bytes.len())?;
         copy.extend_from_slice(bytes)?;
