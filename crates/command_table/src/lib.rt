@@ -16,8 +16,6 @@ mod refusal;
 mod rows;
 mod set_commands;
 mod string_commands;
-#[cfg(test)]
-mod tests;
 mod told;
 mod words;
 

@@ -19,6 +19,3 @@ pub use fault::{Fault, fault_line};
 pub use laws::{known_texts, one_decoding, one_fault};
 pub use limits::{DEFAULT_BULK, DEFAULT_WORDS, Limits};
 pub use pieces::{Decoded, decode_all};
-
-#[cfg(test)]
-mod tests;

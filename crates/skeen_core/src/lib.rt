@@ -24,6 +24,3 @@ pub use links::Links;
 pub use packet::{Body, Delivered, Packet};
 pub use request::{ConnId, RequestId};
 pub use stamp::Stamp;
-
-#[cfg(test)]
-mod tests;

@@ -11,3 +11,5 @@ mod faults;
 mod rows;
 #[cfg(test)]
 mod store;
+#[cfg(test)]
+mod table;

@@ -1,5 +1,7 @@
-use super::*;
+//! The rows of the decoder, and each of them cut anywhere.
+
 use resp::Request;
+use resp_decoder::{Decoded, Decoder, Fault, Limits, decode_all, fault_line};
 use std::alloc::{AllocError, Global};
 use std::test::Fail;
 use test_support::bytes_of;

@@ -1,6 +1,6 @@
 //! Requests as a user writes them, read against the rows of the Redis command reference.
 
-use crate::{
+use command_table::{
     Command, Condition, Refusal, StringCommand, is_whole, key_at, key_count, keys, name, read,
 };
 use resp::{Reply, Request, write_reply};

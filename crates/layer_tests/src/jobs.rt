@@ -1,0 +1,122 @@
+//! Jobs from the words of a request, and replies as the text that a client gets.
+
+use command_table::read;
+use layer_planner::{Job, Layer};
+use placement::{GroupId, Table};
+use resp::{Request, write_reply};
+use shard_exec::{Ended, Gate, InTurn, Open, Store, Workers};
+use skeen_core::{ConnId, RequestId, Stamp};
+use std::alloc::Global;
+use std::process::Abort;
+use std::test::Fail;
+
+/// Two shards: `a`, `b` and `y` lie on 0, `c`, `d`, `x` and `z` on 1.
+pub(crate) fn two_shards(alloc: Global) -> Result<Table, Fail> {
+    table_of(alloc, 2)
+}
+
+/// So many shards, each with as many slots.
+pub(crate) fn table_of(alloc: Global, shards: u64) -> Result<Table, Fail> {
+    if shards == 0 || shards > 64 {
+        return Err("1 to 64 shards".into());
+    }
+    let mut text = format!(in alloc; "shards = {shards}\n")?;
+    for shard in 0..shards {
+        let (from, to) = (shard * 1024 / shards, (shard + 1) * 1024 / shards - 1);
+        write!(
+            text,
+            "[[range]]\nfrom = {from}\nto = {to}\nshard = {shard}\n"
+        )?;
+    }
+    Ok(Table::from_toml(alloc, text.as_str())?)
+}
+
+/// The job of these words, separated by blanks: its id is (1, seq), and its stamp is of its greatest group.
+pub(crate) fn job(
+    alloc: Global,
+    table: &Table,
+    seq: u64,
+    clock: u64,
+    words: &str,
+) -> Result<Job, Fail> {
+    let mut copies = Vec::new(alloc);
+    for word in words.split(' ') {
+        copies.push(Vec::from_slice(alloc, word.as_bytes())?)?;
+    }
+    if copies.is_empty() {
+        return Err("no words".into());
+    }
+    let command = read(Request::from_words(copies))?;
+    let groups = table.groups(&command);
+    let mut group = GroupId::new(0);
+    for other in groups.iter() {
+        group = other;
+    }
+    Ok(Job {
+        id: RequestId {
+            conn: ConnId(1),
+            seq,
+        },
+        stamp: Stamp { clock, group },
+        groups,
+        command,
+    })
+}
+
+/// The layer of these jobs.
+pub(crate) fn layer(jobs: Vec<Job>) -> Result<Layer, Fail> {
+    Ok(Layer::gather(jobs).ok_or("a group twice")?)
+}
+
+/// Runs one request and gives its reply's text.
+pub(crate) fn ask(
+    rt: &impl Abort,
+    alloc: Global,
+    store: &mut Store,
+    table: &Table,
+    clock: u64,
+    words: &str,
+) -> Result<String, Fail> {
+    let mut jobs = Vec::new(alloc);
+    jobs.push(job(alloc, table, clock, clock, words)?)?;
+    let done = run(
+        rt,
+        alloc,
+        store,
+        layer(jobs)?,
+        &InTurn(std::num::NonZeroUsize::MIN),
+        &Open,
+    )?;
+    text(alloc, done.as_slice())
+}
+
+/// Runs a layer.
+pub(crate) fn run<W: Workers>(
+    rt: &impl Abort,
+    alloc: Global,
+    store: &mut Store,
+    layer: Layer,
+    workers: &W,
+    gate: &(dyn Gate + Sync),
+) -> Result<Vec<Ended>, Fail> {
+    assert!(rt; store.may_run(&layer), "groups of another table");
+    Ok(
+        store
+            .run_layer(alloc, layer, &[], workers, gate)
+            .ok()
+            .ok_or("not run")?,
+    )
+}
+
+/// What was answered, with blanks between; `starved` where there is no reply.
+pub(crate) fn text(alloc: Global, done: &[Ended]) -> Result<String, Fail> {
+    let mut bytes = Vec::new(alloc);
+    for ended in done {
+        match &ended.reply {
+            Some(reply) => write_reply(reply, &mut bytes)?,
+            None => bytes.extend_from_slice(b"starved")?,
+        }
+        bytes.push(b' ')?;
+    }
+    Ok(String::from_utf8(bytes).ok().ok_or("not text")?)
+}

@@ -1,0 +1,11 @@
+//! Layers of requests in the words of a user, run over the shards by workers of every kind.
+#![tactic(auto)]
+
+#[cfg(test)]
+mod held;
+#[cfg(test)]
+mod jobs;
+#[cfg(test)]
+mod layers;
+#[cfg(test)]
+mod many;
