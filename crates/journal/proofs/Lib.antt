@@ -6,3 +6,4 @@ pub mod ReadLaws
 pub mod Written
 pub mod ReadBack
 pub mod OneReading
+pub mod Places

@@ -94,6 +94,10 @@ StepFits Settle = Unit {0}
 abbrev pub step_size : Step → ℕ
 step_size step = length (step_code step)
 
+-- how many bytes the steps take, one behind another
+abbrev pub steps_size : List Step → ℕ
+steps_size steps = length (flat_map step_code steps)
+
 -- the steps that so many bytes are
 abbrev pub steps_in : ℕ → List ℕ → List Step
 steps_in count bytes = (many step_at count bytes).0

@@ -1,8 +1,10 @@
 //! Steps and the heads of rows in bytes: how many they take, and how they are put and taken.
 
 ghost use Rattle.std.specs.Prelude.{◌≡◌, ℕ, ◌+◌, ◌≤◌, ◌<◌, ◌^◌, ◌++◌, List, length, vec_len, vec_capacity, MatchOption, IfOk, IsOk, OnOk};
-ghost use Rattle.std.specs.Prelude.{OnErr};
-ghost use Rattle.journal.specs.Codes.{id_at, ids_code, ids_at, submit_at, step_code, step_at, IdsFit, StepFits, head_code, HeadFits};
+ghost use Rattle.std.specs.Prelude.{OnErr, IfSome};
+ghost use Rattle.journal.specs.Codes.{id_at, ids_code, ids_at, submit_at, step_code, step_at, step_size, IdsFit, StepFits, head_code, HeadFits};
+ghost use Rattle.journal.specs.declared.step.Step.{Step};
+ghost use Rattle.skeen_core.specs.declared.request.RequestId.{RequestId};
 
 use super::request_ids::RequestIds;
 use super::step::Step;
@@ -80,6 +82,16 @@ fn take_ids(alloc: Global, bytes: &[u8]) -> Result<(Vec<RequestId>, &[u8]), Allo
         rest = more;
     }
     Ok((ids, rest))
+}
+
+/// How many bytes a Run takes at most, at which at most so many requests starved; `None` where that may be 2^64 or more.
+pub fn size_of_run(starved: usize) -> Option<usize>
+    ensures { IfSome result (λ size. (ids : List RequestId) → length ids ≤ starved → step_size (Step.Run ids) ≤ size) }
+{
+    if starved > usize::MAX / 32 {
+        return None;
+    }
+    Some(10 + 18 * starved)
 }
 
 /// How many bytes a step takes; `None` where that is 2^64 or more.

@@ -27,6 +27,3 @@ pub use rows::Rows;
 pub use step::Step;
 pub use trace::{Steps, Trace};
 pub use writer::write_trace;
-
-#[cfg(test)]
-mod tests;

@@ -1,11 +1,15 @@
 //! The steps that were made, in order, to be made again by whoever has them.
 
-ghost use Rattle.std.specs.Prelude.{◌≡◌, ◌≤◌, ◌<◌, ◌^◌, ◌++◌, [], ◌∷◌, length, OnOk, OnErr, IfOk, IsOk, MatchOption};
+ghost use Rattle.std.specs.Prelude.{◌≡◌, ℕ, ◌≤◌, ◌<◌, ◌^◌, ◌++◌, List, [], ◌∷◌, length, OnOk, OnErr, IfOk, IsOk, MatchOption, IsTrue, ◌↔◌};
 ghost use Rattle.std.specs.List.{AllByRecursion};
-ghost use Rattle.journal.specs.Codes.{step_size, StepFits};
+ghost use Rattle.journal.specs.Codes.{step_size, steps_size, StepFits};
+ghost use Rattle.journal.specs.declared.step.Step.{Step};
+ghost use Rattle.skeen_core.specs.declared.request.RequestId.{RequestId};
 
-use super::codes::{put_step, reserve_step, take_step};
+use super::codes::{put_step, reserve_step, size_of_run, take_step};
 use super::step::Step;
+use packing::{PackedWords, number_size};
+use skeen_core::ConnId;
 use std::alloc::{AllocError, Global};
 use std::marker::Model;
 
@@ -92,6 +96,55 @@ impl Trace {
         put_step(step, &mut self.bytes);
         self.count += 1;
         Ok(())
+    }
+
+    /// Takes the room for a Run at which at most so many requests starved, so that its `push` can't fail. The only error
+    /// is want of memory, which changes nothing.
+    pub fn reserve_run(&mut self, starved: usize) -> Result<(), AllocError>
+        ensures max { self.new.max ≡ self.old.max }
+        ensures steps { self.new.steps ≡ self.old.steps }
+        ensures room { OnOk result ((ids : List RequestId) → length ids ≤ starved → step_size (Step.Run ids) ≤ self.new.room) }
+        ensures unchanged { OnErr result (self.new ≡ self.old) }
+    {
+        let Some(size) = size_of_run(starved) else {
+            return Err(AllocError);
+        };
+        self.bytes.reserve(size)
+    }
+
+    /// How many bytes the steps take, which is the place at which the next one begins.
+    pub fn size(&self) -> usize
+        ensures { result ≡ steps_size self.now.steps }
+    {
+        self.bytes.len()
+    }
+
+    /// Takes back the last step, which begins at this place. It takes no memory.
+    pub fn take_back(&mut self, place: usize)
+        requires { (front : List Step) × (last : Step) × (self.old.steps ≡ front ++ last ∷ []) × (place ≡ steps_size front) }
+        ensures max { self.new.max ≡ self.old.max }
+        ensures steps { (front : List Step) (last : Step) → self.old.steps ≡ front ++ last ∷ [] → self.new.steps ≡ front }
+    {
+        self.bytes.truncate(place);
+        self.count -= 1;
+    }
+
+    /// Whether the connection's Submit that begins at this place has these words. It takes no memory.
+    pub fn has_words(&self, place: usize, conn: ConnId, words: &PackedWords) -> bool
+        ensures { (front : List Step) (said : List (List ℕ)) (back : List Step)
+            → self.now.steps ≡ front ++ Step.Submit conn said ∷ back → place ≡ steps_size front
+            → IsTrue result ↔ (words.now ≡ said) }
+    {
+        let lies = self.bytes.as_slice();
+        let words = words.as_bytes();
+        if words.is_empty() {
+            return false;
+        }
+        let start = place.saturating_add(1 + number_size(conn.0));
+        if start > lies.len() {
+            return false;
+        }
+        lies[start..].starts_with(words)
     }
 
     /// The steps, to be read one after another from the first. A caller learns that their numbers, words and ids lie

@@ -5,7 +5,9 @@
 #![tactic(auto)]
 
 mod number;
+mod packed;
 mod words;
 
 pub use number::{number_size, put_number, take_number};
+pub use packed::PackedWords;
 pub use words::{put_words, take_word, take_words, words_size};
