@@ -38,3 +38,9 @@ HasFailed may_refuse old layer (Memory back) new =
 HasFailed may_refuse old layer Failed new =
     ((old.failed ≡ true) × (new ≡ old)) ⊎
     ((may_refuse ≡ true) × (old.failed ≡ false) × AreFresh old.lasts layer × (new.failed ≡ true) × (new.table ≡ old.table))
+
+-- why a layer is not even begun: the store has failed before, or a stamp is not above the last one of a shard
+abbrev pub IsNotAdmitted : Bool → List (Option Stamp) → List Job → ExecFault → Type 0
+IsNotAdmitted failed lasts layer (Stale back) = (failed ≡ false) × (AreFresh lasts layer → ⊥) × (back ≡ layer)
+IsNotAdmitted failed lasts layer (Memory back) = ⊥
+IsNotAdmitted failed lasts layer Failed = failed ≡ true

@@ -15,8 +15,6 @@ mod moves;
 mod part;
 mod store;
 mod taking;
-#[cfg(test)]
-mod tests;
 mod work;
 mod workers;
 mod works;

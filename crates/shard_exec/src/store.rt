@@ -1,18 +1,23 @@
 //! The store: the shards, and the last stamp of each.
 
-ghost use Rattle.std.specs.Prelude.{◌≡◌, length, true, false, IfOk, IfErr};
+ghost use Rattle.std.specs.Prelude.{◌≡◌, ◌++◌, length, true, false, IfOk, IfErr, OnOk, OnErr};
 ghost use Rattle.std.specs.Bool.{OnTrue, OnFalse};
+ghost use Rattle.std.specs.FinMap.{empty};
 ghost use Rattle.std.specs.List.{AllByRecursion};
+ghost use Rattle.dumps.specs.Dump.{dump_text};
 ghost use Rattle.placement.specs.Groups.{groups_of};
+ghost use Rattle.shard_exec.specs.declared.done.ExecFault.{ExecFault};
+ghost use Rattle.shard_maps.specs.Joined.{joined};
 ghost use Rattle.shard_exec.specs.Layers.{AddressTheirGroups, IsInside};
 ghost use Rattle.shard_exec.specs.Stamps.{AreFresh, IsFresh, is_above};
 ghost use Rattle.shard_exec.specs.StoreStates.{IsStore};
-ghost use Rattle.shard_exec.specs.Stores.{empty_store, HasRunLayer, HasFailed};
+ghost use Rattle.shard_exec.specs.Stores.{empty_store, HasRunLayer, HasFailed, IsNotAdmitted};
 
 use crate::dealt_room::DealtRoom;
 use crate::layer_room::LayerRoom;
 use crate::layer_run::run_layer_over;
 use crate::{Ended, ExecFault, Gate, Workers};
+use dumps::Dump;
 use layer_planner::{Job, Layer};
 use placement::Table;
 use shards::{Shard, ShardHasher};
@@ -89,6 +94,18 @@ impl Store {
         self.failed
     }
 
+    /// Appends the dump of the map that the shards hold together: a line for each key, ascending by bytes.
+    ///
+    /// With `AllocError`, where there is no memory for it, `out` is as it was.
+    pub fn dump(&self, alloc: Global, out: &mut Vec<u8>) -> Result<(), AllocError>
+        ensures ok { OnOk result (out.new.items ≡ out.old.items ++ dump_text (joined self.now.maps)) }
+        ensures err { OnErr result (out.new.items ≡ out.old.items) }
+    {
+        let mut dump = Dump::new(alloc);
+        add_shards(self.shards.as_slice(), &mut dump)?;
+        dump.write(out)
+    }
+
     /// Whether each request of the layer addresses the groups that the table gives its command: the condition of `run_layer`, for callers
     /// that can't prove it.
     pub fn may_run(&self, layer: &Layer) -> bool
@@ -115,12 +132,10 @@ impl Store {
         ensures done { IfOk result (λ done. HasRunLayer self.old skip.now layer done.items self.new) }
         ensures fault { IfErr result (λ fault. HasFailed W.may_refuse self.old layer fault self.new) }
     {
-        if self.failed {
-            return Err(ExecFault::Failed);
-        }
-        if !are_fresh(self.lasts.as_slice(), layer.jobs()) {
-            return Err(ExecFault::Stale(layer));
-        }
+        let layer = match admit(self.failed, self.lasts.as_slice(), layer) {
+            Ok(layer) => layer,
+            Err(fault) => return Err(fault),
+        };
         if layer.is_empty() {
             return Ok(Vec::new(alloc));
         }
@@ -145,12 +160,47 @@ impl Store {
         );
         match outcome {
             Ok(done) => Ok(done),
-            Err(_) => {
-                self.failed = true;
-                Err(ExecFault::Failed)
-            }
+            Err(_) => Err(fail(&mut self.failed)),
         }
     }
+}
+
+/// The layer, if it may be run over shards of these last stamps, which have not failed; else why it may not.
+fn admit(failed: bool, lasts: &[Option<Stamp>], layer: Layer) -> Result<Layer, ExecFault>
+    requires { AllByRecursion (IsInside (length lasts.now)) layer }
+    ensures admitted { IfOk result (λ back. back ≡ layer) }
+    ensures lives { OnOk result (failed ≡ false) }
+    ensures fresh { OnOk result (AreFresh lasts.now layer) }
+    ensures refused { IfErr result (IsNotAdmitted failed lasts.now layer) }
+{
+    if failed {
+        return Err(ExecFault::Failed);
+    }
+    if !are_fresh(lasts, layer.jobs()) {
+        return Err(ExecFault::Stale(layer));
+    }
+    Ok(layer)
+}
+
+/// That a worker's start was refused, remembered for good.
+fn fail(failed: &mut bool) -> ExecFault
+    ensures told { result ≡ ExecFault.Failed }
+    ensures remembered { failed.new ≡ true }
+{
+    *failed = true;
+    ExecFault::Failed
+}
+
+/// Adds all that the shards hold to an empty dump, the last shard first.
+fn add_shards<'a>(shards: &'a [Shard], dump: &mut Dump<'a>) -> Result<(), AllocError>
+    requires { dump.old ≡ empty }
+    ensures { OnOk result (dump.new ≡ joined shards.now) }
+{
+    let count = shards.len();
+    for done in 0..count {
+        shards[count - 1 - done].add_to(dump)?;
+    }
+    Ok(())
 }
 
 /// Whether each request addresses the groups that the table gives its command.

@@ -1,11 +1,13 @@
 //! The map of one shard.
 
-ghost use Rattle.std.specs.Prelude.{◌≡◌};
+ghost use Rattle.std.specs.Prelude.{◌≡◌, OnOk};
 ghost use Rattle.std.specs.FinMap as map;
+ghost use Rattle.keyspace.specs.Map.{with_entries};
 
 use crate::ShardHasher;
+use dumps::Dump;
 use keyspace::{Keyspace, Plain};
-use std::alloc::Global;
+use std::alloc::{AllocError, Global};
 use std::marker::Model;
 use values::Value;
 
@@ -37,6 +39,14 @@ impl Shard {
         Shard {
             keys: Plain::new(alloc, hasher),
         }
+    }
+
+    /// Adds all of its keys with their values to a dump. With `AllocError`, where there is no memory for the list of them, some have
+    /// been added.
+    pub fn add_to<'a>(&'a self, dump: &mut Dump<'a>) -> Result<(), AllocError>
+        ensures { OnOk result (dump.new ≡ with_entries dump.old (map.entries self.now)) }
+    {
+        dump.add_all(&self.keys)
     }
 }
 

@@ -1,15 +1,17 @@
 //! The store: a map, and commands run on it in turn.
 
-ghost use Rattle.std.specs.Prelude.{◌≡◌, map, OnErr, IfOk};
+ghost use Rattle.std.specs.Prelude.{◌≡◌, ◌++◌, map, OnOk, OnErr, IfOk};
 ghost use Rattle.std.specs.FinMap as finite;
 ghost use Rattle.resp.specs.Content.{content};
 ghost use Rattle.command_bodies.specs.Command.{effect_of, TakesMemory};
 ghost use Rattle.command_cases.specs.Case.{Does};
+ghost use Rattle.dumps.specs.Dump.{dump_text};
 ghost use Rattle.solo.specs.Solo.{solo_from, IsStepOrStarves, RunsBeginning};
 
 use command_bodies::execute;
 use command_cases::Starved;
 use command_table::Command;
+use dumps::Dump;
 use keyspace::Plain;
 use resp::Reply;
 use std::alloc::{AllocError, Global};
@@ -77,12 +79,24 @@ impl<S: BuildHasher> Solo<S> {
         Ok(replies)
     }
 
-    /// Runs the command, unless there is no memory for it.
-    pub(crate) fn try_run(&mut self, command: Command) -> Result<Reply, Starved>
+    /// Runs the command and gives its reply; `Starved`, and every key is as it was, where it takes memory and there is none.
+    pub fn try_run(&mut self, command: Command) -> Result<Reply, Starved>
         ensures does { Does (effect_of command) self.old self.new result }
         ensures starves { OnErr result (TakesMemory command self.old) }
     {
         execute(self.alloc, &mut self.keys, command)
+    }
+
+    /// Appends the dump of the map: a line for each key, ascending by bytes.
+    ///
+    /// With `AllocError`, where there is no memory for it, `out` is as it was.
+    pub fn dump(&self, out: &mut Vec<u8>) -> Result<(), AllocError>
+        ensures ok { OnOk result (out.new.items ≡ out.old.items ++ dump_text self.now) }
+        ensures err { OnErr result (out.new.items ≡ out.old.items) }
+    {
+        let mut dump = Dump::new(self.alloc);
+        dump.add_all(&self.keys)?;
+        dump.write(out)
     }
 
     /// The allocator that the keys lie in.

@@ -62,6 +62,7 @@ pub open_makes : (old : Parts) (r : RouterView) (c : ConnId) → c.0 ≡ old.rou
     Makes old Open (Opened c) (record old { router = r })
 open_makes old r c number count changes = record {
   table = refl;
+  named = λ h w at'. tt;
   from_each = λ h w at'.
       let good = good_world old.store.table h w at'.leads in
       let next : c.0 ≡ suc w.opened = let e = at'.shows.connections.opened in omega arith in
@@ -94,6 +95,7 @@ pub collect_makes : (old : Parts) (r : RouterView) (conn : ConnId) (given : Opti
     Makes old (Collect conn) (Collected given) (record old { router = r })
 collect_makes old r conn given collects = record {
   table = refl;
+  named = λ h w at'. tt;
   from_each = λ h w at'.
       let as_world = shows_collect old.router r w conn.0 given collects at'.shows.connections in
       makes_to old (record old { router = r }) (Collect conn) (Collected given) h w as_world.0 refl at' as_world.1
@@ -106,6 +108,7 @@ pub close_makes : (old : Parts) (r : RouterView) (conn : ConnId) → Closes old.
     Makes old (Close conn) Made (record old { router = r })
 close_makes old r conn closes = record {
   table = refl;
+  named = λ h w at'. tt;
   from_each = λ h w at'.
       let as_world = shows_close old.router r w conn.0 closes at'.shows.connections in
       makes_to old (record old { router = r }) (Close conn) Made h w (standing_world w conn.0 Closed) refl at'

@@ -1,5 +1,5 @@
 -- Take, Run and Settle of the parts are steps of the world.
-use Rattle.std.proofs.Common.{◌≡◌, ◌≢◌, ℕ, suc, length, List, [], ◌∷◌, ◌++◌, Option, Some, None, refl, sym, ap, ◌∙◌, subst, append-nil}
+use Rattle.std.proofs.Common.{◌≡◌, ◌≢◌, ℕ, suc, true, ◌||◌, inl, inr, length, List, [], ◌∷◌, ◌++◌, Option, Some, None, refl, sym, ap, ◌∙◌, subst, append-nil}
 use Rattle.std.specs.Global.{Vec}
 use Rattle.std.specs.List.{AllZip}
 use Rattle.delivery.specs.Queues.{queue_of}
@@ -12,7 +12,14 @@ use Rattle.multicast.specs.Multicast.{MulticastView, LosesLayer}
 use Rattle.placement.specs.Layout.{Layout}
 use Rattle.resp.specs.Content.{Content}
 use Rattle.router.specs.Router.{RouterView}
-use Rattle.shard_exec.specs.Layers.{AddressTheirGroups, IsOf}
+use Rattle.keyspace.specs.Map.{Map}
+use Rattle.resp.specs.declared.reply.Reply.{Reply}
+use Rattle.shard_exec.specs.Layers.{AddressTheirGroups, IsOf, MayStarve, is_named}
+use Rattle.shard_exec.specs.Runs.{outcome}
+use Rattle.skeen_core.proofs.Ids.{same_id-refl, same_id-sym}
+use Rattle.skeen_core.specs.Order.{In}
+use Rattle.skeen_core.specs.Request.{same_id}
+use Rattle.std.proofs.lemmas.Bool.{or_right}
 use Rattle.shard_exec.specs.Stamps.{AreFresh}
 use Rattle.shard_exec.specs.StoreStates.{StoreState}
 use Rattle.shard_exec.specs.Stores.{HasRunLayer}
@@ -32,14 +39,14 @@ use Rattle.system.specs.declared.stage.TakenLayer.{TakenLayer}
 use Rattle.system_view.proofs.Running.{ran_world, may_be_run, shows_run}
 use Rattle.system_view.proofs.Settling.{all_settled, settle_starts, settle_ends}
 use Rattle.system_view.proofs.Taking.{take_starts, take_ends, take_queues}
-use Rattle.system_view.specs.Layers.{AreJobs, AreEnded, AreRows, ShowsStore, starved_of}
+use Rattle.system_view.specs.Layers.{AreJobs, AreEnded, AreRows, ShowsStore, if_none, starved_of}
 use Rattle.system_view.specs.Multicast.{ShowsMulticast}
 use Rattle.system_view.specs.Settling.{IsSettling}
 use Rattle.system_view.specs.Taking.{IsTaking}
-use Rattle.world.specs.Steps.{Made as WorldMade, taken, if_starved, starved_among, Settles, RunsLayer}
+use Rattle.world.specs.Steps.{Made as WorldMade, taken, names, if_starved, starved_among, Settles, RunsLayer}
 use Rattle.world.specs.Steps as world
 use Rattle.world.specs.World.{World, Ended, Layer, NoneTaken, Taken, HasRun}
-use Rattle.world_laws.specs.Good.{run_in}
+use Rattle.world_laws.specs.Good.{Asked, run_in, taken_in}
 
 -- what is settled, where the layer that is there has run so
 rows_at : (rows : List RowView) (w : World) (l : Layer) → w.layer ≡ l → ShowsRows rows w →
@@ -67,6 +74,7 @@ module _ (old : Parts) (r : RouterView) (m : MulticastView) (layer : TakenLayer)
       LosesLayer old.multicast ds m → Makes old step.Take Made taken_parts
   take_makes is_free ready some takes loses = record {
     table = refl;
+    named = λ h w at'. tt;
     from_each = λ h w at'.
         let free : w.layer ≡ NoneTaken = subst (λ s. ShowsStage s w) is_free at'.shows.stage in
         let queues : queue_of old.multicast.queues ≡ w.queue = λ k g. at'.shows.multicast.queues g k in
@@ -97,6 +105,7 @@ module _ (old : Parts) (r : RouterView) (rows : List RowView) (ran : RanLayer) w
       IsSettling t w es [] r) → Makes old step.Settle Made settled_parts
   settle_makes has_run adds settles = record {
     table = refl;
+    named = λ h w at'. tt;
     from_each = λ h w at'. by_stage h w at' (subst (λ s. ShowsStage s w) has_run at'.shows.stage);
   }
     where
@@ -123,6 +132,36 @@ module _ (old : Parts) (r : RouterView) (rows : List RowView) (ran : RanLayer) w
 
 -- ---- Run
 
+names-is_named : (skip : List RequestId) (id : RequestId) → names skip id ≡ is_named skip id
+names-is_named [] id = refl
+names-is_named (i ∷ is) id = ap (λ b. b || names is id) (same_id-sym i id) ∙ ap (λ b. same_id id i || b) (names-is_named is id)
+
+-- one that has no reply is among the starved
+names_first : (reply : Option Reply) (id : RequestId) (ids : List RequestId) → outcome reply ≡ None → names (if_none reply id ids) id ≡ true
+names_first None id ids none = ap (λ b. b || names ids id) (same_id-refl id)
+names_first (Some reply) id ids none = cc
+
+names_later : (reply : Option Reply) (i id : RequestId) (ids : List RequestId) → names ids id ≡ true → names (if_none reply i ids) id ≡ true
+names_later None i id ids later = or_right (same_id i id) (names ids id) later
+names_later (Some reply) i id ids later = later
+
+-- a request of the layer that was to be skipped is among the starved
+named_starve : (maps : List Map) (skip : List RequestId) (asked : Asked) (ds : List Delivered) (js : List Job)
+    (wss : List (List (List ℕ))) (rs : List run.Ended) → AreJobs asked ds js wss → AllZip IsOf js rs → AllZip (MayStarve maps skip) js rs →
+    (d : Delivered) → In d ds → names skip d.id ≡ true → names (starved_of rs) d.id ≡ true
+named_starve maps skip asked [] js wss rs are told starve d there skipped = absurd there
+named_starve maps skip asked (e ∷ ds) [] wss rs are told starve d there skipped = absurd are
+named_starve maps skip asked (e ∷ ds) (j ∷ js) [] rs are told starve d there skipped = absurd are
+named_starve maps skip asked (e ∷ ds) (j ∷ js) (ws ∷ wss) [] are told starve d there skipped = absurd told
+named_starve maps skip asked (e ∷ ds) (j ∷ js) (ws ∷ wss) (r ∷ rs) are told starve d (inl first) skipped =
+    let job : j.id ≡ d.id = are.0.id ∙ sym (ap (λ (x : Delivered). x.id) first) in
+    let named : is_named skip j.id ≡ true = ap (is_named skip) job ∙ sym (names-is_named skip d.id) ∙ skipped in
+    subst (λ i. names (if_none r.reply r.id (starved_of rs)) i ≡ true) (told.0.0 ∙ job)
+    (names_first r.reply r.id (starved_of rs) (starve.0.skipped named))
+named_starve maps skip asked (e ∷ ds) (j ∷ js) (ws ∷ wss) (r ∷ rs) are told starve d (inr there) skipped =
+    names_later r.reply r.id d.id (starved_of rs)
+    (named_starve maps skip asked ds js wss rs are.1 told.1 starve.1 d there skipped)
+
 module _ (old : Parts) (store : StoreState) (taken : TakenLayer) (ran : RanLayer) (starved : Vec RequestId) where
   abbrev pub ran_parts : Parts
   ran_parts = record old { store = store; stage = stage.HasRun ran; starved = starved }
@@ -133,6 +172,12 @@ module _ (old : Parts) (store : StoreState) (taken : TakenLayer) (ran : RanLayer
       Makes old (step.Run skip) (Ran ids) ran_parts
   run_makes skip ids is_taken runs words ids_are adds = record {
     table = runs.table;
+    named = λ h w at' ds is d there skipped.
+        let shows = subst (λ s. ShowsStage s w) is_taken at'.shows.stage in
+        let same : ds ≡ shows.0 = ap taken_in (sym is ∙ shows.1) in
+        subst (λ l. names l d.id ≡ true) (sym ids_are)
+        (named_starve old.store.maps skip w.asked shows.0 taken.layer taken.words.items ran.ended.items shows.2 runs.done.told
+        runs.done.starved d (subst (In d) same there) skipped);
     from_each = λ h w at'. by_stage h w at' (subst (λ s. ShowsStage s w) is_taken at'.shows.stage);
   }
     where

@@ -139,6 +139,7 @@ pub submit_makes : (old : Parts) (r : RouterView) (m : MulticastView) (conn : Co
     Makes old (Submit conn words) (Submitted sent.id) (record old { router = r; multicast = m })
 submit_makes old r m conn words sent table submits begins = record {
   table = refl;
+  named = λ h w at'. tt;
   from_each = λ h w at'.
       let good = good_world old.store.table h w at'.leads in
       let as_world = shows_submit old.store.table w conn.0 good words old.router r sent (addresses old.store.table table words) submits
@@ -155,6 +156,7 @@ pub deliver_makes : (old : Parts) (m : MulticastView) (place : ℕ) → Delivers
     Makes old (Deliver place) Made (record old { multicast = m })
 deliver_makes old m place delivers = record {
   table = refl;
+  named = λ h w at'. tt;
   from_each = λ h w at'.
       let as_world = shows_deliver old.store.table old.multicast w at'.shows.multicast m place delivers in
       let comes : Comes w place WorldMade as_world.0 = as_world.1 in

@@ -15,4 +15,5 @@ mod system;
 
 pub use effect::Effect;
 pub use fault::StepFault;
+pub use stage::Progress;
 pub use system::System;

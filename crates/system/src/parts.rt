@@ -1,7 +1,9 @@
 //! The parts of the system, and what each kind of step does to them.
 
-ghost use Rattle.std.specs.Prelude.{◌≡◌, ◌≢◌, ◌<◌, ◌^◌, length, true, IfOk, IfErr, OnErr};
-ghost use Rattle.system.specs.Parts.{Makes, Keeps};
+ghost use Rattle.std.specs.Prelude.{◌≡◌, ◌≢◌, ◌<◌, ◌^◌, List, length, true, IfOk, IfErr, OnOk, OnErr};
+ghost use Rattle.system.specs.Parts.{IsAt, Makes, Keeps};
+ghost use Rattle.system_view.specs.Layers.{AreRows};
+ghost use Rattle.world.specs.World.{World};
 ghost use Rattle.system.specs.Refusing.{Lives, IsFault, HasFailed};
 ghost use Rattle.system.specs.declared.fault.StepFault.{StepFault};
 ghost use Rattle.journal.specs.declared.step.Step.{Step};
@@ -18,7 +20,7 @@ use resp::Request;
 use router::Router;
 use shard_exec::{ExecFault, Gate, Store, Workers};
 use skeen_core::{ConnId, RequestId};
-use std::alloc::Global;
+use std::alloc::{AllocError, Global};
 use std::mem;
 
 /// The connections, the groups with their packets and queues, the shards, the layer that is under way, the rows of what was executed in
@@ -198,6 +200,21 @@ impl Parts {
         settle_all(&mut self.router, ended);
         discard(words);
         Ok(Effect::Made)
+    }
+
+    /// Adds the rows of the layer that was run, if one was and isn't settled. The only error is want of memory.
+    pub fn add_ran(&mut self) -> Result<(), AllocError>
+        requires { (h : List Step) × (w : World) × IsAt self.old h w }
+        ensures { OnOk result ((h : List Step) (w : World) → IsAt self.old h w → AreRows w.ended self.new.rows) }
+    {
+        let Stage::HasRun(layer) = &self.stage else {
+            return Ok(());
+        };
+        add_rows(
+            &mut self.rows,
+            layer.ended.as_slice(),
+            layer.words.as_slice(),
+        )
     }
 
     /// Collects the outcome that waits for a connection, if one does. It takes no memory.

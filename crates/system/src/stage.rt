@@ -28,3 +28,14 @@ pub enum Stage {
     /// It was run, and is to be settled.
     HasRun(RanLayer),
 }
+
+/// How far the layer is that is under way, apart from what is in it.
+#[derive(Clone, Copy, Debug, PartialEq, Eq)]
+pub enum Progress {
+    /// None is under way.
+    Free,
+    /// It was taken, and is to be run.
+    Taken,
+    /// It was run, and is to be settled.
+    HasRun,
+}

@@ -1,14 +1,20 @@
 //! The system.
 
-ghost use Rattle.std.specs.Prelude.{◌≡◌, ◌<◌, ◌≤◌, ◌^◌, length, [], IfOk, IfErr, IsTrue, ◌↔◌, option_copied};
+ghost use Rattle.std.specs.Prelude.{◌≡◌, ◌<◌, ◌≤◌, ◌^◌, ◌++◌, List, length, [], IfOk, IfErr, OnOk, OnErr, IsTrue, ◌↔◌, option_copied};
 ghost use Rattle.system.specs.System.{IsNew, IsStep, IsRefused, IsQuiet, ObeysOneThread};
 ghost use Rattle.system.specs.Runs.{Runs};
 ghost use Rattle.router.specs.Router.{waiting};
+ghost use Rattle.dumps.specs.Dump.{dump_text};
+ghost use Rattle.journal.specs.declared.step.Step.{Step};
+ghost use Rattle.shard_maps.specs.Joined.{joined};
+ghost use Rattle.system.specs.Parts.{IsAt, progress_of, to_run};
+ghost use Rattle.system_view.specs.Layers.{AreRows};
+ghost use Rattle.world.specs.World.{World};
 
 use super::effect::Effect;
 use super::fault::StepFault;
 use super::parts::Parts;
-use super::stage::Stage;
+use super::stage::{Progress, Stage};
 use journal::{Rows, Step};
 use multicast::Multicast;
 use placement::Table;
@@ -152,6 +158,34 @@ impl System {
         self.steps
     }
 
+    /// Whether a worker could not be started once: then no step is made any more.
+    pub fn has_failed(&self) -> bool
+        ensures { result ≡ self.now.parts.store.failed }
+    {
+        self.parts.store.has_failed()
+    }
+
+    /// How far the layer is that is under way: which of Take, Run and Settle may come next.
+    pub fn progress(&self) -> Progress
+        ensures { result ≡ progress_of self.now.parts.stage }
+    {
+        match &self.parts.stage {
+            Stage::Free => Progress::Free,
+            Stage::Taken(_) => Progress::Taken,
+            Stage::HasRun(_) => Progress::HasRun,
+        }
+    }
+
+    /// How many requests the layer has that was taken and is to be run; 0 where none is. No more can starve in the next run.
+    pub fn to_run(&self) -> usize
+        ensures { result ≡ to_run self.now.parts.stage }
+    {
+        match &self.parts.stage {
+            Stage::Taken(taken) => taken.layer.len(),
+            _ => 0,
+        }
+    }
+
     /// How many packets are under way.
     pub fn packets(&self) -> usize
         ensures { result ≡ length self.now.parts.multicast.packets }
@@ -171,6 +205,29 @@ impl System {
         ensures { result.now ≡ self.now.parts.starved.items }
     {
         self.parts.starved.as_slice()
+    }
+
+    /// Appends the dump of the map that the shards hold together: a line for each key, ascending by bytes.
+    ///
+    /// With `AllocError`, where there is no memory for it, `out` is as it was.
+    pub fn dump(&self, out: &mut Vec<u8>) -> Result<(), AllocError>
+        ensures ok { OnOk result (out.new.items ≡ out.old.items ++ dump_text (joined self.now.parts.store.maps)) }
+        ensures err { OnErr result (out.new.items ≡ out.old.items) }
+    {
+        self.parts.store.dump(self.alloc, out)
+    }
+
+    /// The rows of all that was executed, in the order of execution, those of a layer that isn't settled included. The only error is
+    /// want of memory.
+    pub fn into_rows(self) -> Result<Rows, AllocError>
+        ensures { IfOk result (λ rows. (h : List Step) (w : World) → IsAt self.parts h w → AreRows w.ended rows) }
+    {
+        let mut parts = self.parts;
+        if parts.store.has_failed() {
+            return Ok(parts.rows);
+        }
+        parts.add_ran()?;
+        Ok(parts.rows)
     }
 
     /// Whether nothing is under way: no packet, no layer, and no request that is ready. It takes no memory.
