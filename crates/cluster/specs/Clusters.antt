@@ -1,0 +1,153 @@
+-- A cluster and its seats, as contracts see them.
+use Rattle.std.specs.BTreeMap.{is_at}
+use Rattle.std.specs.Map.{lookup}
+use Rattle.std.specs.Ordering.{is_eq, nat_cmp}
+use Rattle.std.specs.Prelude.{◌≡◌, ◌≢◌, ℕ, ◌+◌, ◌<◌, ◌≤◌, ◌^◌, cond, true, false, List, [], length, ◌⊎◌, Option, Some, None}
+use Rattle.cluster.specs.Histories.{HistoryView, has_failed, IsIn, IsMade, IsRefused, IsFault}
+use Rattle.cluster.specs.Outcomes.{IsAbove}
+use Rattle.cluster.specs.Submits.{submits, submits_by, IsSaid, IsLast}
+use Rattle.cluster.specs.declared.cluster.CloseFault.{CloseFault}
+use Rattle.cluster.specs.declared.cluster.CloseFault.TheVariants as close
+use Rattle.cluster.specs.declared.cluster.Last.{Last}
+use Rattle.journal.specs.declared.step.Step.{Step}
+use Rattle.journal.specs.declared.step.Step.TheVariants.{Submit, Collect, Close}
+use Rattle.router.specs.Router.{waiting}
+use Rattle.router.specs.declared.outcome.Outcome.{Outcome}
+use Rattle.skeen_core.specs.declared.request.ConnId.{ConnId}
+use Rattle.skeen_core.specs.declared.request.RequestId.{RequestId}
+use Rattle.system.specs.System.{IsQuiet}
+use Rattle.system.specs.declared.effect.Effect.TheVariants.{Made}
+use Rattle.system.specs.declared.fault.StepFault.{StepFault}
+use Rattle.system.specs.declared.fault.StepFault.TheVariants.{NoConn}
+use Rattle.world.specs.Steps as world
+use Rattle.world.specs.World.{World, Standing, Closed}
+
+-- ---- a seat
+
+-- its connection, its floor, how many requests it has submitted, and the words of the last one
+pub record SeatView : Type 0 where
+  pub conn : ConnId
+  pub floor : ℕ
+  pub count : ℕ
+  pub words : List (List ℕ)
+
+-- the id of the seat's last request
+abbrev pub last_id : SeatView → RequestId
+last_id s = record { conn = s.conn; seq = s.count }
+
+-- the id of its next one
+abbrev pub next_id : SeatView → RequestId
+next_id s = record { conn = s.conn; seq = s.count + 1 }
+
+-- The trace has as many Submits of the seat's connection as the seat counts, and for its last request the words that the seat has.
+pub record Fits (s : SeatView) (steps : List Step) : Type 0 where
+  pub counted : s.count ≡ submits_by s.conn.0 steps
+  pub said : 0 < s.count → IsSaid steps (last_id s) s.words
+
+-- ---- a cluster
+
+-- its system and trace, the ledger's book, how many seats sat and stood, and how many requests those submitted that stood
+pub record ClusterView : Type 0 where
+  pub history : HistoryView
+  pub book : ℕ
+  pub sat : ℕ
+  pub stood : ℕ
+  pub back : ℕ
+
+-- what is known of the last request of a connection
+abbrev pub last_of : List (ℕ × Last) → ℕ → Option Last
+last_of lasts c = lookup (is_at (nat_cmp c)) lasts
+
+abbrev pub IsLastOf : List Step → ℕ → Option Last → Type 0
+IsLastOf steps c None = Unit {0}
+IsLastOf steps c (Some last) = IsLast steps c last.count last.place
+
+-- what is known is so
+abbrev pub AreLasts : List (ℕ × Last) → List Step → Type 0
+AreLasts lasts steps = (i : ℕ) → IsLastOf steps i (last_of lasts i)
+
+-- this is known of one connection now, and of each other as before
+abbrev pub IsPut : List (ℕ × Last) → ℕ → Option Last → List (ℕ × Last) → Type 0
+IsPut old c now new = (i : ℕ) → last_of new i ≡ cond (is_eq (nat_cmp c i)) now (last_of old i)
+
+-- the connection was closed, and nothing is known of it
+pub record HasClosed (conn : ConnId) (old new : HistoryView) (lasts lasts' : List (ℕ × Last)) : Type 0 where
+  pub made : IsMade old (Close conn) Made new
+  pub lost : IsPut lasts conn.0 None lasts'
+
+-- a connection of which nothing is known is closed
+abbrev pub IsKnown : Option Last → Standing → Type 0
+IsKnown None standing = standing ≡ Closed
+IsKnown (Some last) standing = Unit {0}
+
+-- The history is in a world in which each seat that sat has opened a connection, and of each open one something is known.
+pub record IsSeated (lasts : List (ℕ × Last)) (sat : ℕ) (h : HistoryView) : Type 0 where
+  pub world : World
+  pub shows : IsIn h world
+  pub opened : world.opened ≡ sat
+  pub known : (i : ℕ) → IsKnown (last_of lasts i) (world.standing i)
+
+-- What each cluster is. Of the ledger's parts, `parts` are here, and each of the others is out with a seat; `requests` is the book as a
+-- number.
+pub record IsCluster (all parts requests : ℕ) (lasts : List (ℕ × Last)) (c : ClusterView) : Type 0 where
+  pub booked : c.book ≡ submits c.history.steps
+  pub counted : requests ≡ c.book
+  pub seats : parts + c.sat ≡ all + c.stood
+  pub sits : c.sat ≤ length c.history.steps
+  pub within : length c.history.steps ≤ c.history.max_steps
+  pub most : c.history.max_steps < all
+  pub few : c.history.max_steps ≤ 2 ^ 62
+  pub are_lasts : AreLasts lasts c.history.steps
+  pub seated : has_failed c.history ≡ false → IsSeated lasts c.sat c.history
+
+-- a new cluster: no step was made
+pub record IsNew (most : ℕ) (c : ClusterView) : Type 0 where
+  pub steps : c.history.steps ≡ []
+  pub max_steps : c.history.max_steps ≡ most
+  pub lives : has_failed c.history ≡ false
+  pub book : c.book ≡ 0
+  pub sat : c.sat ≡ 0
+  pub stood : c.stood ≡ 0
+  pub back : c.back ≡ 0
+
+-- what is kept beside the history stays as it was
+pub record SameBook (old new : ClusterView) : Type 0 where
+  pub book : new.book ≡ old.book
+  pub back : new.back ≡ old.back
+  pub stood : new.stood ≡ old.stood
+
+-- ---- refusals
+
+-- the seat's connection isn't open, or the seat is not as the trace has it
+abbrev pub IsForeign : HistoryView → SeatView → Type 0
+IsForeign h s = IsRefused h (Collect s.conn) world.NoConn ⊎ ¬ Fits s h.steps
+
+-- why a seat's submit isn't made
+abbrev pub IsSubmitFault : HistoryView → SeatView → List (List ℕ) → StepFault → Type 0
+IsSubmitFault h s words NoConn = IsForeign h s
+IsSubmitFault h s words fault = IsFault h (Submit s.conn words) fault
+
+-- an outcome waits for the seat, and its stamp isn't above the seat's floor
+pub record IsBelow (h : HistoryView) (s : SeatView) : Type 0 where
+  pub outcome : Outcome
+  pub waits : waiting h.system.parts.router s.conn.0 ≡ Some outcome
+  pub below : ¬ IsAbove outcome.stamp s.floor
+
+-- the seat is as the trace has it, and an outcome waits for it whose stamp is above its floor
+pub record CanCollect (h : HistoryView) (s : SeatView) : Type 0 where
+  pub lives : has_failed h ≡ false
+  pub fits : Fits s h.steps
+  pub outcome : Outcome
+  pub waits : waiting h.system.parts.router s.conn.0 ≡ Some outcome
+  pub above : IsAbove outcome.stamp s.floor
+
+-- why a seat collects nothing
+abbrev pub IsCollectFault : HistoryView → SeatView → StepFault → Type 0
+IsCollectFault h s NoConn = IsForeign h s ⊎ IsBelow h s
+IsCollectFault h s fault = IsFault h (Collect s.conn) fault
+
+-- why a cluster isn't closed: the first that applies
+abbrev pub IsCloseFault : ClusterView → CloseFault → Type 0
+IsCloseFault c close.Failed = has_failed c.history ≡ true
+IsCloseFault c close.SeatsOut = (has_failed c.history ≡ false) × (c.stood ≢ c.sat)
+IsCloseFault c close.NotQuiet = (has_failed c.history ≡ false) × (c.stood ≡ c.sat) × ¬ IsQuiet c.history.system.parts
