@@ -1,0 +1,5 @@
+mod Places
+mod Sorting
+mod Comparing
+mod Making
+mod Writing

@@ -1,0 +1,12 @@
+use Rattle.std.proofs.Common.{◌≤◌, ◌-◌, ℕ, List, drop}
+use Rattle.std.specs.List.{AllZip, AllByRecursion}
+use Rattle.execution_order.specs.Entries.{Row, rows_by_stamp}
+use Rattle.replay.specs.Order.{Key, ArePlaced}
+use Rattle.system_view.specs.Layers.{IsRow}
+use Rattle.replay.proofs.order.by_stamp.Given as goal
+
+-- the last rows are in their order, and each stands behind the others
+abbrev pub invariant-loop-done : goal.invariant-loop-done
+invariant-loop-done l =
+    ((executed : List Row) → AllZip IsRow executed l.rows → ArePlaced executed l.order.keys (rows_by_stamp (drop (l.count - l.done) executed)))
+    × AllByRecursion (λ (key : Key). l.count - l.done ≤ key.2) l.order.keys

@@ -1,0 +1,4 @@
+pub mod Report
+pub mod Order
+pub mod Replay
+pub mod Show

@@ -1,0 +1,75 @@
+-- What a replay answers.
+use Rattle.std.specs.Prelude.{◌≡◌, ◌≢◌, ℕ, Bool, true, false, List, [], ◌∷◌, ◌++◌, length}
+use Rattle.journal.specs.Views.{TraceView}
+use Rattle.journal.specs.declared.step.Step.{Step}
+use Rattle.journal.specs.declared.step.Step.TheVariants.{Run}
+use Rattle.skeen_core.specs.declared.request.RequestId.{RequestId}
+use Rattle.placement.specs.Layout.{Layout}
+use Rattle.replay.specs.Report.{report_text}
+use Rattle.replay.specs.declared.report.Report.{Report}
+use Rattle.replay.specs.declared.fault.ReplayFault.{ReplayFault}
+use Rattle.replay.specs.declared.fault.ReplayFault.TheVariants as replay
+use Rattle.system.specs.Parts.{IsAt}
+use Rattle.system.specs.System.{SystemView, IsRefused}
+use Rattle.system.specs.declared.fault.StepFault.{StepFault}
+use Rattle.system.specs.declared.fault.StepFault.TheVariants.{Busy, NoConn, NoPacket, InFlight, NoLayer, Exhausted, Memory, Failed}
+use Rattle.world.specs.Steps.{opening, Leads, Refused}
+use Rattle.world.specs.Steps as world
+use Rattle.world.specs.World.{World}
+
+-- The steps lead to a world, and this is its report: it agrees. A list of steps leads to one world at most.
+pub record IsReport (t : Layout) (steps : List Step) (report : Report) : Type 0 where
+  pub world : World
+  pub leads : Leads t opening steps world
+  pub text : report.text.items ≡ report_text world
+  pub agrees : report.agree ≡ true
+
+-- ---- refusals
+
+-- why a step isn't accepted in this world, behind so many steps: a fault of its own, or none may be made any more, or a worker could not
+-- be started
+abbrev pub IsRefusal : Bool → ℕ → ℕ → World → Step → StepFault → Type 0
+IsRefusal may_refuse most made w step Busy = Refused w step world.Busy
+IsRefusal may_refuse most made w step NoConn = Refused w step world.NoConn
+IsRefusal may_refuse most made w step NoPacket = Refused w step world.NoPacket
+IsRefusal may_refuse most made w step InFlight = Refused w step world.InFlight
+IsRefusal may_refuse most made w step NoLayer = Refused w step world.NoLayer
+IsRefusal may_refuse most made w step Exhausted = made ≡ most
+IsRefusal may_refuse most made w step Failed = may_refuse ≡ true
+IsRefusal may_refuse most made w step Memory = ⊥
+
+-- the steps before this index are accepted, and the one that stands there isn't
+pub record IsRefusedAt (may_refuse : Bool) (t : Layout) (most : ℕ) (steps : List Step) (index : ℕ) (fault : StepFault) : Type 0 where
+  pub before : List Step
+  pub step : Step
+  pub behind : List Step
+  pub split : steps ≡ before ++ step ∷ behind
+  pub at : index ≡ length before
+  pub world : World
+  pub leads : Leads t opening before world
+  pub why : IsRefusal may_refuse most (length before) world step fault
+
+abbrev pub IsFaultOf : Bool → Layout → ℕ → List Step → ReplayFault → Type 0
+IsFaultOf may_refuse t most steps (replay.Step index fault) = IsRefusedAt may_refuse t most steps index fault
+IsFaultOf may_refuse t most steps replay.Memory = Unit {0}
+
+-- ---- on the way
+
+-- the ids that a Run names; none of another step
+abbrev pub named_in : Step → List RequestId
+named_in (Run starved) = starved
+named_in step = []
+
+-- the fault of a step with this index: it is the system's, and not want of memory
+abbrev pub IsRefusalOf : Bool → SystemView → Step → ℕ → SystemView → ReplayFault → Type 0
+IsRefusalOf may_refuse old step index new (replay.Step at fault) = (at ≡ index) × (fault ≢ Memory) × IsRefused may_refuse old step fault new
+IsRefusalOf may_refuse old step index new replay.Memory = Unit {0}
+
+-- so many steps were made, and lead to a world that the system shows
+pub record StandsAt (t : Layout) (most : ℕ) (made : List Step) (s : SystemView) : Type 0 where
+  pub world : World
+  pub shows : IsAt s.parts made world
+  pub table : s.parts.store.table ≡ t
+  pub lives : s.parts.store.failed ≡ false
+  pub count : s.steps ≡ length made
+  pub limit : s.max_steps ≡ most

@@ -1,0 +1,68 @@
+-- The report of a replay, line by line, as a function of the world that the steps led to.
+use Rattle.std.specs.Prelude.{◌≡◌, ℕ, Bool, true, false, ◌&&◌, List, [], ◌∷◌, ◌++◌, codes, decimal, bytes_eq}
+use Rattle.std.specs.FinMap.{empty}
+use Rattle.std.specs.List.{flat_map}
+use Rattle.command_bodies.specs.Command.{effect_of}
+use Rattle.command_bodies.specs.InTurn.{solo_from}
+use Rattle.command_table.specs.Command.{name_of}
+use Rattle.command_table.specs.declared.command.Command.{Command}
+use Rattle.dumps.specs.Dump.{dump_text}
+use Rattle.execution_order.specs.Entries.{Row, commands_of, entries_of, rows_by_stamp}
+use Rattle.hex.specs.Hex.{encode_lower}
+use Rattle.journal.specs.TraceText.{id_text}
+use Rattle.keyspace.specs.Map.{Map}
+use Rattle.resp.specs.Text.{text}
+use Rattle.skeen_core.specs.declared.request.RequestId.{RequestId}
+use Rattle.skeen_core.specs.declared.stamp.Stamp.{Stamp}
+use Rattle.world.specs.Steps.{starved_among}
+use Rattle.world.specs.World.{World}
+use Rattle.world_laws.specs.Headline.{rows_of}
+
+abbrev pub stamp_text : Stamp → List ℕ
+stamp_text s = decimal s.clock ++ codes "." ++ decimal s.group
+
+-- `row CLOCK.GROUP CONN.SEQ NAME REPLY`, and LF
+abbrev pub line_of : Stamp → RequestId → Command → List ℕ → List ℕ
+line_of stamp id command reply =
+    codes "row " ++ stamp_text stamp ++ codes " " ++ id_text id ++ codes " " ++ name_of command ++ codes " " ++ encode_lower reply
+    ++ codes "\n"
+
+-- the line of an executed request
+abbrev pub row_line : Row → List ℕ
+row_line r = line_of r.entry.stamp r.entry.id r.entry.command (text r.reply)
+
+-- `starved CONN.SEQ`, and LF
+abbrev pub starved_line : RequestId → List ℕ
+starved_line id = codes "starved " ++ id_text id ++ codes "\n"
+
+-- ---- the comparison
+
+-- one thread that runs these requests one after another, on this map first, gives each of them its reply
+abbrev pub replies_agree : Map → List Row → Bool
+replies_agree m [] = true
+replies_agree m (r ∷ rs) =
+    bytes_eq (text (effect_of r.entry.command m).1) (text r.reply) && replies_agree (effect_of r.entry.command m).0 rs
+
+-- the map that it leaves
+abbrev pub left_by : Map → List Row → Map
+left_by m rows = (solo_from m (commands_of (entries_of rows))).0
+
+-- from no keys on it gives each its reply, and leaves the map of this dump
+abbrev pub agrees : List Row → List ℕ → Bool
+agrees rows dump = replies_agree empty rows && bytes_eq (dump_text (left_by empty rows)) dump
+
+abbrev pub last_line : Bool → List ℕ
+last_line true = codes "agree\n"
+last_line false = codes "differ\n"
+
+-- ---- the whole
+
+-- the executed requests, ascending by their final stamps
+abbrev pub executed_in : World → List Row
+executed_in w = rows_by_stamp (rows_of w.ended)
+
+-- The executed requests by their stamps, the starved ones in the order of their turns, the dump of the map, and what the comparison says.
+abbrev pub report_text : World → List ℕ
+report_text w =
+    flat_map row_line (executed_in w) ++ flat_map starved_line (starved_among w.ended) ++ dump_text w.contents
+    ++ last_line (agrees (executed_in w) (dump_text w.contents))

@@ -1,0 +1,69 @@
+//! The comparison with one store on one map.
+
+ghost use Rattle.std.specs.Prelude.{◌≡◌, ◌++◌, IfOk, List, bytes_eq};
+ghost use Rattle.std.specs.List.{AllZip, flat_map};
+ghost use Rattle.command_bodies.specs.Command.{effect_of};
+ghost use Rattle.execution_order.specs.Entries.{Row as Executed, rows_by_stamp};
+ghost use Rattle.resp.specs.Text.{text};
+ghost use Rattle.system_view.specs.Layers.{IsRow};
+ghost use Rattle.replay.specs.Report.{row_line, replies_agree, left_by};
+
+use crate::lines::put_row_line;
+use crate::order::by_stamp;
+use command_table::read;
+use journal::{Row, Rows};
+use resp::write_reply;
+use solo::Solo;
+use std::alloc::{AllocError, Global};
+use std::hash::BuildHasher;
+
+/// Appends a line for each executed request, in the order of their stamps, runs them in this order on the store, and says whether each is
+/// answered as it was. The only error is want of memory.
+pub(super) fn put_rows<S: BuildHasher>(
+    alloc: Global,
+    rows: &Rows,
+    solo: &mut Solo<S>,
+    out: &mut Vec<u8>,
+) -> Result<bool, AllocError>
+    ensures { IfOk result (λ same. (executed : List Executed) → AllZip IsRow executed rows.now →
+        (out.new.items ≡ out.old.items ++ flat_map row_line (rows_by_stamp executed))
+        × (solo.new ≡ left_by solo.old (rows_by_stamp executed))
+        × (same ≡ replies_agree solo.old (rows_by_stamp executed))) }
+{
+    let order = by_stamp(alloc, rows)?;
+    let mut keys = order.iter();
+    let mut same = true;
+    while let Some(key) = keys.next() {
+        let (_, _, place) = *key;
+        let Some(row) = rows.row(place) else {
+            return Ok(false);
+        };
+        let as_it_was = put_row(alloc, &row, solo, out)?;
+        same = same && as_it_was;
+    }
+    Ok(same)
+}
+
+/// Appends the line of an executed request, runs it on the store, and says whether it is answered as it was.
+fn put_row<S: BuildHasher>(
+    alloc: Global,
+    row: &Row<'_>,
+    solo: &mut Solo<S>,
+    out: &mut Vec<u8>,
+) -> Result<bool, AllocError>
+    ensures { IfOk result (λ same. (executed : Executed) → IsRow executed row.now →
+        (out.new.items ≡ out.old.items ++ row_line executed)
+        × (solo.new ≡ (effect_of executed.entry.command solo.old).0)
+        × (same ≡ bytes_eq (text (effect_of executed.entry.command solo.old).1) (text executed.reply))) }
+{
+    let Ok(command) = read(row.request(alloc)?) else {
+        return Ok(false);
+    };
+    put_row_line(alloc, row, &command, out)?;
+    let Ok(reply) = solo.try_run(command) else {
+        return Err(AllocError);
+    };
+    let mut said = Vec::new(alloc);
+    write_reply(&reply, &mut said)?;
+    Ok(said.as_slice() == row.reply())
+}

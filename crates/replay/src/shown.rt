@@ -1,0 +1,113 @@
+//! A table's text and a trace's text, to a report that is written out.
+
+ghost use Rattle.std.specs.Prelude.{◌≡◌, IfOk};
+ghost use Rattle.replay.specs.Show.{IsShown};
+ghost use Rattle.replay.specs.Show as spec;
+
+use crate::fault::ReplayFault;
+use crate::steps::replay;
+use journal::{TraceFault, read_trace};
+use placement::{Table, TableFault};
+use shard_exec::Workers;
+use std::alloc::Global;
+use std::io::Write;
+use system::StepFault;
+use thiserror::Error;
+
+/// Why no report was written, or not all of one.
+#[derive(Clone, Copy, Debug, Drop, Error)]
+pub enum ShowFault {
+    /// The table's text is none.
+    #[error("the table: {0}")]
+    Table(TableFault),
+
+    /// The table's text is no UTF-8.
+    #[error("the table: not UTF-8")]
+    Encoding,
+
+    /// The trace's text is none, at this line.
+    #[error("the trace: line {line} is no line of a trace")]
+    Trace { line: u64 },
+
+    /// The step at this place, counted from 0, is refused.
+    #[error("step {index} is refused: {fault}")]
+    Step { index: u64, fault: StepFault },
+
+    /// There was no memory.
+    #[error("out of memory")]
+    Memory,
+
+    /// A write failed.
+    #[error("a write failed")]
+    Write,
+}
+
+impl ShowFault {
+    /// The status with which the program ends: 3 of the table, 4 of the trace, 5 of a refused step, 6 of memory, 7 of a write.
+    pub fn status(&self) -> u8
+        ensures { result ≡ spec.status_of self.now }
+    {
+        match self {
+            ShowFault::Table(_) | ShowFault::Encoding => 3,
+            ShowFault::Trace { .. } => 4,
+            ShowFault::Step { .. } => 5,
+            ShowFault::Memory => 6,
+            ShowFault::Write => 7,
+        }
+    }
+}
+
+/// Writes the report of this trace over shards as this table says, and answers the program's status: 0 where the report agrees, 1 where
+/// it differs, and else that of the fault. Only with 0 and 1 is all of it written.
+pub fn show<W: Workers, O: Write>(
+    alloc: Global,
+    table: &[u8],
+    trace: &[u8],
+    workers: &W,
+    writer: &mut O,
+) -> u8
+    ensures { result ≡ 0 → IsShown table.now trace.now (O.contents writer.old) (O.contents writer.new) }
+{
+    match told(alloc, table, trace, workers, writer) {
+        Ok(true) => 0,
+        Ok(false) => 1,
+        Err(fault) => fault.status(),
+    }
+}
+
+/// Writes the report of this trace over shards as this table says, and answers whether it agrees. The table is read first.
+pub fn told<W: Workers, O: Write>(
+    alloc: Global,
+    table: &[u8],
+    trace: &[u8],
+    workers: &W,
+    writer: &mut O,
+) -> Result<bool, ShowFault>
+    ensures { IfOk result (λ _. IsShown table.now trace.now (O.contents writer.old) (O.contents writer.new)) }
+{
+    let Ok(text) = str::from_utf8(table) else {
+        return Err(ShowFault::Encoding);
+    };
+    let table = match Table::from_toml(alloc, text) {
+        Ok(table) => table,
+        Err(TableFault::Memory) => return Err(ShowFault::Memory),
+        Err(fault) => return Err(ShowFault::Table(fault)),
+    };
+    let trace = match read_trace(alloc, trace) {
+        Ok(trace) => trace,
+        Err(TraceFault::Bad { line }) => return Err(ShowFault::Trace { line }),
+        Err(TraceFault::Memory) => return Err(ShowFault::Memory),
+    };
+    let report = match replay(alloc, trace, table, workers) {
+        Ok(report) => report,
+        Err(ReplayFault::Step { index, fault }) => return Err(ShowFault::Step { index, fault }),
+        Err(ReplayFault::Memory) => return Err(ShowFault::Memory),
+    };
+    let Ok(()) = writer.write_all(report.text.as_slice()) else {
+        return Err(ShowFault::Write);
+    };
+    let Ok(()) = writer.flush() else {
+        return Err(ShowFault::Write);
+    };
+    Ok(report.agree)
+}

@@ -1,0 +1,127 @@
+//! The steps of a trace, made again.
+
+ghost use Rattle.std.specs.Prelude.{◌≡◌, ℕ, ◌++◌, ◌∷◌, List, [], IfOk, IfErr, OnOk, true, IsTrue};
+ghost use Rattle.std.specs.List.{AllByRecursion};
+ghost use Rattle.journal.specs.declared.step.Step.{Step};
+ghost use Rattle.placement.specs.Layout.{Layout};
+ghost use Rattle.skeen_core.specs.declared.request.RequestId.{RequestId};
+ghost use Rattle.system.specs.declared.effect.Effect.{Effect};
+ghost use Rattle.world.specs.Steps.{names};
+ghost use Rattle.replay.specs.Replay.{IsReport, IsFaultOf, IsRefusalOf, StandsAt, named_in};
+
+use crate::fault::ReplayFault;
+use crate::report::{Report, report_of};
+use journal::{Step, Steps, Trace};
+use placement::Table;
+use shard_exec::{Open, Workers};
+use skeen_core::RequestId;
+use std::alloc::{AllocError, Global};
+use system::{Effect, StepFault, System};
+
+/// Makes the steps of the trace again in a new system of this table, and reports on the run: the executed requests by their stamps, those
+/// that starved, the contents, and whether one thread on one map comes to the same.
+///
+/// The report is that of the world to which the steps lead, whatever the workers. `ReplayFault` says which step is the first that isn't
+/// accepted, and why; or that there was no memory.
+pub fn replay<W: Workers>(
+    alloc: Global,
+    trace: Trace,
+    table: Table,
+    workers: &W,
+) -> Result<Report, ReplayFault>
+    ensures report { IfOk result (IsReport table trace.steps) }
+    ensures fault { IfErr result (IsFaultOf W.may_refuse table trace.max trace.steps) }
+{
+    let mut system = System::new(alloc, table, trace.max())?;
+    make_all(alloc, trace.steps(), &mut system, workers)?;
+    Ok(report_of(alloc, system)?)
+}
+
+/// Makes the steps, up to the first that isn't accepted.
+fn make_all<W: Workers>(
+    alloc: Global,
+    mut steps: Steps<'_>,
+    system: &mut System,
+    workers: &W,
+) -> Result<(), ReplayFault>
+    requires { StandsAt system.old.parts.store.table system.old.max_steps [] system.old }
+    ensures made { OnOk result (StandsAt system.old.parts.store.table system.old.max_steps steps.entry system.new) }
+    ensures fault { IfErr result (IsFaultOf W.may_refuse system.old.parts.store.table system.old.max_steps steps.entry) }
+{
+    let count = steps.len();
+    for index in 0..count {
+        let Some(step) = steps.next(alloc)? else {
+            unreachable!()
+        };
+        if let Err(fault) = make(alloc, step, index as u64, system, workers) {
+            return Err(fault);
+        }
+    }
+    Ok(())
+}
+
+/// Makes the step with this index.
+fn make<W: Workers>(
+    alloc: Global,
+    step: Step,
+    index: u64,
+    system: &mut System,
+    workers: &W,
+) -> Result<(), ReplayFault>
+    ensures made { OnOk result ((t : Layout) (most : ℕ) (before : List Step) → StandsAt t most before system.old
+        → StandsAt t most (before ++ step ∷ []) system.new) }
+    ensures fault { IfErr result (IsRefusalOf W.may_refuse system.old step index system.new) }
+{
+    let named = named_in(alloc, &step)?;
+    match system.step(step, workers, &Open) {
+        Ok(effect) => {
+            if are_named(effect, named.as_slice()) {
+                Ok(())
+            } else {
+                Err(ReplayFault::Memory)
+            }
+        }
+        Err(StepFault::Memory) => Err(ReplayFault::Memory),
+        Err(fault) => Err(ReplayFault::Step { index, fault }),
+    }
+}
+
+/// Whether all that starved are among those that were named to starve.
+fn are_named(effect: Effect, named: &[RequestId]) -> bool
+    ensures { IsTrue result → (starved : List RequestId) → effect ≡ Effect.Ran starved
+        → AllByRecursion (λ id. names named.now id ≡ true) starved }
+{
+    match effect {
+        Effect::Ran(starved) => are_among(starved.as_slice(), named),
+        _ => true,
+    }
+}
+
+/// The ids that a Run names; none of another step.
+fn named_in(alloc: Global, step: &Step) -> Result<Vec<RequestId>, AllocError>
+    ensures { IfOk result (λ named. named.items ≡ named_in step.now) }
+{
+    match step {
+        Step::Run { starved } => starved.as_slice().to_vec(alloc),
+        _ => Ok(Vec::new(alloc)),
+    }
+}
+
+/// Whether each of these ids is one of the others.
+fn are_among(ids: &[RequestId], others: &[RequestId]) -> bool
+    ensures { IsTrue result → AllByRecursion (λ id. names others.now id ≡ true) ids.now }
+{
+    for id in ids {
+        if !is_among(id, others) {
+            return false;
+        }
+    }
+    true
+}
+
+/// Whether the id is one of the others.
+fn is_among(id: &RequestId, others: &[RequestId]) -> bool
+    ensures { result ≡ names others.now id.now }
+{
+    others.contains(id)
+}

@@ -1,0 +1,76 @@
+//! `shardkv-replay`: the report of a trace.
+//!
+//! `--table FILE --trace FILE [--workers N]` names the table of the shards, the trace of a run over them, and how many workers run each
+//! layer's requests. The report goes to standard output, and what went wrong to standard error. The statuses: 0 where the report agrees
+//! with one thread on one map, 1 where it differs; 2 for the words; 3 for the table; 4 for the trace; 5 where a step is refused; 6 where
+//! memory was wanting; 7 where a read or a write failed.
+#![tactic(auto)]
+
+use replay::told;
+use replay_options::{OptionsFault, options};
+use shard_exec::InTurn;
+use std::io::{self, ErrorKind};
+use std::num::NonZeroUsize;
+use std::process::ExitCode;
+use std::{env, fs};
+
+fn main(rt: HostRuntime) -> ExitCode {
+    let alloc = rt.alloc();
+    let mut words = Vec::new(alloc);
+    let Ok(args) = env::args(&rt) else {
+        return ExitCode::from(2);
+    };
+    for word in args {
+        if words.push(word).is_err() {
+            return ExitCode::from(6);
+        }
+    }
+    let asked = match options(alloc, words.as_slice()) {
+        Ok(asked) => asked,
+        Err(fault) => {
+            let _ = eprintln!(rt; "shardkv-replay: {fault}");
+            return ExitCode::from(status_of_words(fault));
+        }
+    };
+    let table = match fs::read(&rt, asked.table) {
+        Ok(bytes) => bytes,
+        Err(fault) => {
+            let _ = eprintln!(rt; "shardkv-replay: the table: {fault}");
+            return ExitCode::from(status_of_read(&fault, 3));
+        }
+    };
+    let trace = match fs::read(&rt, asked.trace) {
+        Ok(bytes) => bytes,
+        Err(fault) => {
+            let _ = eprintln!(rt; "shardkv-replay: the trace: {fault}");
+            return ExitCode::from(status_of_read(&fault, 7));
+        }
+    };
+    let Some(workers) = NonZeroUsize::new(usize::from(asked.workers)) else {
+        return ExitCode::from(2);
+    };
+    let (table, trace) = (table.as_slice(), trace.as_slice());
+    match told(alloc, table, trace, &InTurn(workers), &mut rt.stdout()) {
+        Ok(agree) => ExitCode::from(u8::from(!agree)),
+        Err(fault) => {
+            let _ = eprintln!(rt; "shardkv-replay: {fault}");
+            ExitCode::from(fault.status())
+        }
+    }
+}
+
+/// The status where the words are none of the program's.
+fn status_of_words(fault: OptionsFault) -> u8 {
+    match fault {
+        OptionsFault::Usage | OptionsFault::Workers => 2,
+        OptionsFault::Memory => 6,
+    }
+}
+
+/// The status where a file couldn't be read, and this one is the file's.
+fn status_of_read(fault: &io::Error, status: u8) -> u8 {
+    match fault.kind() {
+        ErrorKind::OutOfMemory => 6,
+        _ => status,
+    }
+}
