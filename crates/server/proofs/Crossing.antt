@@ -1,0 +1,111 @@
+-- That a system, a cluster and a shared cluster can go to another thread, where the parts can.
+use denote.RattleType.{RattleType}
+use mathlib.Core.List.{List, [], ◌∷◌}
+use mir.Syntax.{Sym, Ty, Lifetime}
+use base.Fml.{Lft}
+use denote.Exit.{no}
+use denote.Ref.{ShrRef}
+use denote.Param.{param, arg}
+use denote.Param.Send.{IsSend, IsSync, AllSend, sendable, param_send, param_sync, arg_send, shr_send, recorded_send, struct_send}
+use denote.Struct.Field.{u64-field}
+use denote.Struct.Struct.{Struct}
+use denote.Struct.Declared as declared
+use Rattle.std.specs.contracts.net.tcp.TcpStream as TcpStream
+use Rattle.std.specs.contracts.num.NonZeroUsize as NonZeroUsize
+use Rattle.std.specs.contracts.sync.Mutex as Mutex
+use Rattle.std.specs.contracts.vec.Vec as Vec
+use Rattle.std.specs.contracts.alloc.Global as Global
+use Rattle.std.specs.contracts.impls.GlobalAllocator.TheImpl.{ghosts}
+use Rattle.server.specs.contracts.desk.Turns as Turns
+use denote.Struct.Tuple.{TupleAt, type_at}
+use Rattle.std.proofs.Crossing.{crosses}
+use Rattle.std.proofs.MapsCrossing as maps
+use Rattle.server.proofs.LedgerSending.{book_send, share_send}
+use Rattle.std.specs.declared.sync.ledger.Ledger.{Ghosts}
+use Rattle.server.specs.contracts.held.Held as Held
+use Rattle.server.specs.contracts.shared.Shared as Shared
+use Rattle.cluster.specs.contracts.cluster.Cluster as Cluster
+use Rattle.system.specs.contracts.system.System as System
+use Rattle.router.specs.contracts.router.Router as Router
+use Rattle.shard_exec.specs.contracts.store.Store as Store
+use Rattle.shard_exec.specs.contracts.done.Ended as Ended
+use Rattle.layer_planner.specs.contracts.layer.Layer as Layer
+use Rattle.resp.specs.contracts.request.Request as Request
+use Rattle.journal.specs.contracts.rows.Rows as Rows
+use Rattle.multicast.specs.contracts.multicast.Multicast as Multicast
+
+pub system_send : IsSend Router.the_row → IsSend Multicast.the_row → IsSend Store.the_row → IsSend Rows.the_row → IsSend Layer.the_row
+    → IsSend Ended.the_row → IsSend Request.the_row → IsSend System.the_row
+system_send r m s w l e q = search (sendable, crosses) depth 40 fits 3000
+
+pub cluster_send : (L : RattleType) (g : Ghosts L.Denot) → IsSend System.the_row → IsSend (Cluster.the_row L g)
+cluster_send L g s = search (sendable, crosses, maps.BTreeMap-send, book_send, share_send) depth 40 fits 3000
+
+pub held_send : (L : RattleType) (g : Ghosts L.Denot) → IsSend (Cluster.the_row L g) → IsSend (Held.the_row L g)
+held_send L g s = search (sendable, crosses) depth 40 fits 3000
+
+pub shared_sync : (L : RattleType) (g : Ghosts L.Denot) → IsSend (Held.the_row L g) → IsSync (Shared.the_row L g)
+shared_sync L g s = search (sendable, crosses) depth 40 fits 3000
+
+pub shared_syncs : (L : RattleType) (g : Ghosts L.Denot) → IsSend System.the_row → IsSync (Shared.the_row L g)
+shared_syncs L g s = shared_sync L g (held_send L g (cluster_send L g s))
+
+stream_send : IsSend TcpStream.the_row
+stream_send = search (sendable, crosses) depth 40 fits 3000
+
+turns_send : IsSend Turns.the_row
+turns_send = search (sendable, crosses) depth 40 fits 3000
+
+u64_send : IsSend (u64-field).row
+u64_send = search sendable depth 20
+
+ended_sync : IsSync (Mutex.the_row (Vec.the_row (u64-field).row Global.the_row ghosts))
+ended_sync = search (sendable, crosses) depth 40 fits 3000
+
+workers_send : IsSend NonZeroUsize.the_row
+workers_send = search (sendable, crosses) depth 40 fits 3000
+
+module _ (δ : Ty) (ν : Sym) (L R : RattleType) (g : Ghosts L.Denot) where
+  -- what the thread of a connection captures
+  abbrev pub served : (ℓ₁ : Lifetime) (κ₁ : Lft) (ℓ₂ : Lifetime) (κ₂ : Lft) (ℓ₃ : Lifetime) (κ₃ : Lft) → List RattleType
+  served ℓ₁ κ₁ ℓ₂ κ₂ ℓ₃ κ₃ =
+      ShrRef ℓ₁ κ₁ (param 1 R) ∷ ShrRef ℓ₂ κ₂ (Shared.the_row (param 0 L) g) ∷ TcpStream.the_row ∷ Turns.the_row
+      ∷ ShrRef ℓ₃ κ₃ (Mutex.the_row (Vec.the_row (u64-field).row Global.the_row ghosts)) ∷ (u64-field).row ∷ []
+
+  pub served_send : (ℓ₁ : Lifetime) (κ₁ : Lft) (ℓ₂ : Lifetime) (κ₂ : Lft) (ℓ₃ : Lifetime) (κ₃ : Lft) → IsSync R → IsSend System.the_row
+      → IsSend (param 1 (arg δ no (TupleAt ν (served ℓ₁ κ₁ ℓ₂ κ₂ ℓ₃ κ₃))))
+  served_send ℓ₁ κ₁ ℓ₂ κ₂ ℓ₃ κ₃ r s =
+      let T = type_at ν (served ℓ₁ κ₁ ℓ₂ κ₂ ℓ₃ κ₃) in
+      let sends : AllSend (declared.fields T) = (
+        shr_send ℓ₁ κ₁ (param 1 R) (param_sync 1 R r),
+        (
+          shr_send ℓ₂ κ₂ (Shared.the_row (param 0 L) g) (shared_syncs (param 0 L) g s),
+          (
+            stream_send,
+            (
+              turns_send,
+              (
+                shr_send ℓ₃ κ₃ (Mutex.the_row (Vec.the_row (u64-field).row Global.the_row ghosts)) ended_sync,
+                (u64_send, tt),
+              ),
+            ),
+          ),
+        ),
+      ) in
+      param_send 1 (arg δ no (declared.row T)) (arg_send δ no (declared.row T)
+      (recorded_send (Struct (declared.shape T)) T.D T.to T.to_one (struct_send (declared.shape T) sends)))
+
+  -- what the thread that drives captures
+  abbrev pub driver : (ℓ₁ : Lifetime) (κ₁ : Lft) (ℓ₂ : Lifetime) (κ₂ : Lft) → List RattleType
+  driver ℓ₁ κ₁ ℓ₂ κ₂ = ShrRef ℓ₁ κ₁ (param 1 R) ∷ ShrRef ℓ₂ κ₂ (Shared.the_row (param 0 L) g) ∷ NonZeroUsize.the_row ∷ []
+
+  pub driver_send : (ℓ₁ : Lifetime) (κ₁ : Lft) (ℓ₂ : Lifetime) (κ₂ : Lft) → IsSync R → IsSend System.the_row
+      → IsSend (param 1 (arg δ no (TupleAt ν (driver ℓ₁ κ₁ ℓ₂ κ₂))))
+  driver_send ℓ₁ κ₁ ℓ₂ κ₂ r s =
+      let T = type_at ν (driver ℓ₁ κ₁ ℓ₂ κ₂) in
+      let sends : AllSend (declared.fields T) = (
+        shr_send ℓ₁ κ₁ (param 1 R) (param_sync 1 R r),
+        (shr_send ℓ₂ κ₂ (Shared.the_row (param 0 L) g) (shared_syncs (param 0 L) g s), (workers_send, tt)),
+      ) in
+      param_send 1 (arg δ no (declared.row T)) (arg_send δ no (declared.row T)
+      (recorded_send (Struct (declared.shape T)) T.D T.to T.to_one (struct_send (declared.shape T) sends)))

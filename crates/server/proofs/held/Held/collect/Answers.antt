@@ -1,0 +1,25 @@
+use Rattle.std.proofs.Common.{◌∙◌, sym}
+use Rattle.server.proofs.Refusals.{collect_fault}
+use Rattle.server.proofs.Collecting.{answered_of}
+use Rattle.server.proofs.held.Held.collect.Goals as goal
+
+pub returns-then-is_exhausted-clause-refused : goal.returns-then-is_exhausted-clause-refused
+returns-then-is_exhausted-clause-refused g c = (c.collect.new.self.history, c.is_exhausted.ensures c.if-is_exhausted.true)
+
+pub returns-in-Ok-Some-clause-answered : goal.returns-in-Ok-Some-clause-answered
+returns-in-Ok-Some-clause-answered g c =
+    let told = c.in-Ok-Some.ensures in
+    answered_of c.args.self.now.cluster.history c.collect.new.self.history c.args.seat.now c.collect.new.seat c.in-Ok-Some.answer
+    (rw c.in-Ok-Some.field-0-is at told.collected)
+    (rw c.in-Ok-Some.field-0-is at told.id)
+    (rw c.in-Ok-Some.field-0-is at told.words)
+    (rw c.in-Ok-Some.field-0-is at told.said)
+    (rw c.in-Ok-Some.field-0-is at told.from)
+    (rw c.in-Ok-Some.field-0-is at told.above)
+    (rw c.in-Ok-Some.field-0-is at told.seat)
+    c.lawful.ensures.lawful
+
+pub returns-in-Some-clause-refused : goal.returns-in-Some-clause-refused
+returns-in-Some-clause-refused g c =
+    collect_fault c.args.self.now.cluster.history c.args.seat.now c.in-Err.fault c.in-Some.fault c.in-Err.ensures.refused
+    (sym c.lasting.ensures ∙ c.in-Some.is)

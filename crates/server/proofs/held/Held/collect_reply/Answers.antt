@@ -1,0 +1,14 @@
+use Rattle.std.proofs.Common.{◌∙◌, sym}
+use Rattle.server.proofs.Refusals.{collect_fault}
+use Rattle.server.proofs.Collecting.{replied_of}
+use Rattle.server.proofs.held.Held.collect_reply.Goals as goal
+
+pub returns-in-Ok-Some-clause-answered : goal.returns-in-Ok-Some-clause-answered
+returns-in-Ok-Some-clause-answered g c =
+    replied_of c.args.self.now.cluster.history c.collect_reply.new.self.history c.args.seat.now c.collect_reply.new.seat
+    c.in-Ok-Some.reply (rw c.in-Ok-Some.field-0-is at c.in-Ok-Some.ensures.replied) c.lawful.ensures.lawful
+
+pub returns-in-Some-clause-refused : goal.returns-in-Some-clause-refused
+returns-in-Some-clause-refused g c =
+    collect_fault c.args.self.now.cluster.history c.args.seat.now c.in-Err.fault c.in-Some.fault c.in-Err.ensures.refused
+    (sym c.lasting.ensures ∙ c.in-Some.is)

@@ -1,0 +1,82 @@
+//! What stands behind a connection: its seat at the shared cluster.
+
+ghost use Rattle.std.specs.Prelude.{◌≡◌, IfOk, IfErr};
+ghost use Rattle.resp.specs.Content.{content};
+ghost use Rattle.server.specs.Asks.{submitted, IsReplied, IsAskFault};
+
+use crate::fault::AskFault;
+use crate::shared::Shared;
+use cluster::Seat;
+use resp::{Reply, Request};
+use serving::{Door, DoorFault};
+use std::sync::Wait;
+use std::sync::ledger::Ledger;
+
+/// Who makes the turns that a request needs.
+#[derive(Clone, Copy, Debug, PartialEq, Eq)]
+pub enum Turns {
+    /// The thread that asks.
+    Own,
+    /// A thread that drives the cluster.
+    Driver,
+}
+
+/// A seat at a shared cluster, which asks what its connection requests.
+///
+/// A request for which there is no memory is answered so, and the connection goes on; any other refusal ends it.
+#[derive(Drop)]
+pub struct Desk<'a, L: Ledger, R: Wait> {
+    rt: &'a R,
+    shared: &'a Shared<L>,
+    seat: Seat<L>,
+    turns: Turns,
+}
+
+impl<'a, L: Ledger, R: Wait> Desk<'a, L, R> {
+    /// The desk of this seat, whose requests are brought on by those who make the turns.
+    pub fn new(rt: &'a R, shared: &'a Shared<L>, seat: Seat<L>, turns: Turns) -> Self
+        ensures { result.seat ≡ seat }
+    {
+        Desk {
+            rt,
+            shared,
+            seat,
+            turns,
+        }
+    }
+
+    /// Asks, and has those make the turns who are to.
+    fn asked(&mut self, request: Request) -> Result<Reply, AskFault>
+        ensures replied { IfOk result (λ reply. IsReplied (submitted self.old.seat request) (content reply) self.new.seat) }
+        ensures refused { IfErr result (λ fault. IsAskFault self.old.seat request fault self.new.seat) }
+    {
+        match self.turns {
+            Turns::Own => self.shared.ask_turning(self.rt, &mut self.seat, request),
+            Turns::Driver => self.shared.ask_driven(self.rt, &mut self.seat, request),
+        }
+    }
+
+    /// The seat, given back.
+    pub fn into_seat(self) -> Seat<L>
+        ensures { result ≡ self.entry.seat }
+    {
+        self.seat
+    }
+}
+
+impl<'a, L: Ledger, R: Wait> Door for Desk<'a, L, R> {
+    ghost use Rattle.server.specs.Desks.{Asks};
+
+    type Reason = AskFault;
+
+    ghost asks = { λ old words answer new. Asks old.seat words answer new.seat };
+
+    fn ask(&mut self, request: Request) -> Result<Reply, DoorFault<AskFault>> {
+        let asked = self.asked(request);
+        match asked {
+            Ok(reply) => Ok(reply),
+            Err(AskFault::Memory) => Err(DoorFault::Memory),
+            Err(fault) => Err(DoorFault::Ended(fault)),
+        }
+    }
+}

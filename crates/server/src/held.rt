@@ -1,0 +1,163 @@
+//! What the lock guards: a cluster, and whether it is shut.
+
+ghost use Rattle.std.specs.Prelude.{◌≡◌, true, OnErr, OnOk, IfOk, IfErr, IfSome, IfNone};
+ghost use Rattle.cluster.specs.Answers.{shown_outcome};
+ghost use Rattle.resp.specs.Content.{content};
+ghost use Rattle.server.specs.Asks.{submitted, IsNewSeat, IsAnswered, IsReplied, IsSitFault, IsSubmitFault, IsCollectFault, IsStopped};
+ghost use Rattle.server.specs.Closings.{IsClosed, IsCloseFault, IsWritten};
+ghost use Rattle.cluster.specs.Histories.{IsFault};
+ghost use Rattle.journal.specs.declared.step.Step.{Step};
+ghost use Rattle.system.specs.declared.fault.StepFault.{StepFault};
+
+use crate::fault::{AskFault, lasting, told};
+use cluster::{Answer, CloseFault, Closing, Cluster, Pick, Seat};
+use journal::write_trace;
+use resp::{Reply, Request};
+use shard_exec::{Gate, Workers};
+use std::alloc::AllocError;
+use std::sync::ledger::Ledger;
+use system::Progress;
+
+/// A cluster, and whether it is shut: then no one sits or asks any more.
+#[derive(Drop)]
+pub(crate) struct Held<L: Ledger> {
+    pub cluster: Cluster<L>,
+    pub shut: bool,
+}
+
+/// How the turns go on.
+#[derive(Clone, Copy, Debug, PartialEq, Eq)]
+pub(crate) enum Turn {
+    /// One was made; `settled` where outcomes went to their connections.
+    Made { settled: bool },
+    /// None was made for want of memory.
+    Starved,
+    /// Nothing is under way.
+    Quiet,
+}
+
+impl<L: Ledger> Held<L> {
+    /// Opens a connection, and gives the seat that has it.
+    pub fn sit(&mut self) -> Result<Seat<L>, AskFault>
+        ensures seat { IfOk result IsNewSeat }
+        ensures refused { IfErr result IsSitFault }
+    {
+        if self.shut {
+            return Err(AskFault::Closed);
+        }
+        match self.cluster.sit() {
+            Ok(seat) => {
+                self.cluster.lawful();
+                Ok(seat)
+            }
+            Err(fault) => Err(told(fault)),
+        }
+    }
+
+    /// Submits a request of these words.
+    pub fn submit(&mut self, seat: &mut Seat<L>, words: Request) -> Result<(), AskFault>
+        ensures submitted { OnOk result (seat.new ≡ submitted seat.old words) }
+        ensures refused { IfErr result (IsSubmitFault seat.old words) }
+        ensures unchanged { OnErr result (seat.new ≡ seat.old) }
+    {
+        if self.shut {
+            return Err(AskFault::Closed);
+        }
+        match self.cluster.submit(seat, words) {
+            Ok(_) => Ok(()),
+            Err(fault) => Err(told(fault)),
+        }
+    }
+
+    /// What came of the seat's last request, with its words, if it is there. A want of memory is no refusal: it is not there yet.
+    pub fn collect(&mut self, seat: &mut Seat<L>) -> Result<Option<Answer>, AskFault>
+        ensures answered { IfOk result (λ answer. IfSome answer (λ a. IsAnswered seat.old (shown_outcome a) seat.new)) }
+        ensures words { IfOk result (λ answer. IfSome answer (λ a. a.words ≡ seat.old.words)) }
+        ensures unasked { IfOk result (λ answer. IfNone answer (seat.new ≡ seat.old)) }
+        ensures refused { IfErr result (IsCollectFault seat.old) }
+        ensures unchanged { OnErr result (seat.new ≡ seat.old) }
+    {
+        match self.cluster.collect(seat) {
+            Ok(Some(answer)) => {
+                self.cluster.lawful();
+                Ok(Some(answer))
+            }
+            Ok(None) => {
+                if self.is_exhausted() {
+                    return Err(AskFault::Exhausted);
+                }
+                Ok(None)
+            }
+            Err(fault) => match lasting(fault) {
+                Some(fault) => Err(fault),
+                None => Ok(None),
+            },
+        }
+    }
+
+    /// Whether no more steps may be made.
+    fn is_exhausted(&self) -> bool
+        ensures { result ≡ true → IsFault self.now.cluster.history Step.Open StepFault.Exhausted }
+    {
+        let trace = self.cluster.trace();
+        !self.cluster.system().has_failed() && trace.len() as u64 == trace.max()
+    }
+
+    /// The reply alone of what came of the seat's last request, if it is there. A want of memory is no refusal: it is not there yet.
+    pub fn collect_reply(&mut self, seat: &mut Seat<L>) -> Result<Option<Reply>, AskFault>
+        ensures answered { IfOk result (λ reply. IfSome reply (λ r. IsReplied seat.old (content r) seat.new)) }
+        ensures unasked { IfOk result (λ reply. IfNone reply (seat.new ≡ seat.old)) }
+        ensures refused { IfErr result (IsCollectFault seat.old) }
+        ensures unchanged { OnErr result (seat.new ≡ seat.old) }
+    {
+        match self.cluster.collect_reply(seat) {
+            Ok(Some(reply)) => {
+                self.cluster.lawful();
+                Ok(Some(reply))
+            }
+            Ok(None) => Ok(None),
+            Err(fault) => match lasting(fault) {
+                Some(fault) => Err(fault),
+                None => Ok(None),
+            },
+        }
+    }
+
+    /// Makes a turn, if one can be made.
+    pub fn turn<P: Pick, W: Workers>(
+        &mut self,
+        pick: &P,
+        workers: &W,
+        gate: &(dyn Gate + Sync),
+    ) -> Result<Turn, AskFault>
+        ensures { IfErr result IsStopped }
+    {
+        let settled = self.cluster.system().progress() == Progress::HasRun;
+        match self.cluster.turn(pick, workers, gate) {
+            Ok(true) => Ok(Turn::Made { settled }),
+            Ok(false) => Ok(Turn::Quiet),
+            Err(fault) => match lasting(fault) {
+                Some(fault) => Err(fault),
+                None => Ok(Turn::Starved),
+            },
+        }
+    }
+
+    /// What is told of the cluster when it is closed.
+    pub fn close(&mut self) -> Result<Closing, CloseFault>
+        ensures closed { IfOk result IsClosed }
+        ensures refused { IfErr result IsCloseFault }
+    {
+        self.cluster.lawful();
+        self.cluster.closing()
+    }
+
+    /// Appends the text of the trace.
+    pub fn write_trace(&self, out: &mut Vec<u8>) -> Result<(), AllocError>
+        ensures written { OnOk result (IsWritten out.old.items out.new.items) }
+        ensures unchanged { OnErr result (out.new.items ≡ out.old.items) }
+    {
+        self.cluster.lawful();
+        write_trace(self.cluster.trace(), out)
+    }
+}

@@ -1,0 +1,19 @@
+//! A server of many connections over one cluster.
+//!
+//! `Shared` is a cluster under a lock; a `Desk` is what stands behind a connection and asks its requests of it. `host` serves the
+//! connections that come to a listener, a thread each, and `read_options` reads the words that the program is started with.
+#![tactic(auto)]
+
+mod command_line;
+mod desk;
+mod fault;
+mod held;
+mod hosting;
+mod sending;
+mod shared;
+
+pub use command_line::{Options, OptionsFault, read_options};
+pub use desk::{Desk, Turns};
+pub use fault::AskFault;
+pub use hosting::host;
+pub use shared::Shared;
