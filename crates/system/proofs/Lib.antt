@@ -9,3 +9,5 @@ pub mod Lasting
 pub mod Opening
 pub mod Runs
 pub mod Quiet
+pub mod Submitted
+pub mod Endings

@@ -4,3 +4,4 @@ pub mod Refusing
 pub mod System
 pub mod Runs
 pub mod Outcomes
+pub mod Endings

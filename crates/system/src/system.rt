@@ -3,6 +3,7 @@
 ghost use Rattle.std.specs.Prelude.{◌≡◌, ◌<◌, ◌≤◌, ◌^◌, ◌++◌, List, length, [], IfOk, IfErr, OnOk, OnErr, IsTrue, ◌↔◌, option_copied};
 ghost use Rattle.system.specs.System.{IsNew, IsStep, IsRefused, IsQuiet, ObeysOneThread};
 ghost use Rattle.system.specs.Runs.{Runs};
+ghost use Rattle.system.specs.Endings.{EachHasEnded, SomeMayBeMade, TurnsAreFew};
 ghost use Rattle.router.specs.Router.{waiting};
 ghost use Rattle.dumps.specs.Dump.{dump_text};
 ghost use Rattle.journal.specs.declared.step.Step.{Step};
@@ -241,6 +242,19 @@ impl System {
             return false;
         }
         !self.parts.multicast.has_ready()
+    }
+
+    /// It does nothing: its contract says that what is under way can be brought to an end.
+    ///
+    /// Where the system is quiet each request that was submitted to groups was executed or starved. Where it isn't, one of Deliver(0),
+    /// Take, Run and Settle is made by `step`, or refused as `Exhausted`, `Memory` or `Failed` alone; `progress` tells which. And of these
+    /// four there are never more steps than k * k + 3 for each submitted request of k groups.
+    pub fn ends(&self)
+        ensures ended { IsQuiet self.now.parts → EachHasEnded self.now.parts }
+        ensures goes_on { ¬ IsQuiet self.now.parts → SomeMayBeMade (progress_of self.now.parts.stage) self.now }
+        ensures bounded { TurnsAreFew self.now.parts }
+    {
+        let _ = &self.parts;
     }
 
     /// The outcome that waits for a connection, left in place. It takes no memory.

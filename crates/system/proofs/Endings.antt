@@ -1,0 +1,183 @@
+-- That nothing is left behind, that something can be done until then, and that there is an end to it.
+use Rattle.std.proofs.Common.{◌≡◌, Bool, false, List, [], ◌∷◌, ◌++◌, length, ◌⊎◌, inl, inr, Option, Some, None, refl, sym, ap, ◌∙◌, subst}
+use Rattle.std.proofs.Common.{arith, append-nil}
+use Rattle.std.specs.List.{AllZip}
+use Rattle.delivery.specs.Queues.{queue_of}
+use Rattle.delivery.specs.Ready.{QueueOf, IsReady}
+use Rattle.execution_order.specs.Entries.{Row}
+use Rattle.journal.specs.Views.{RowView}
+use Rattle.journal.specs.declared.step.Step.{Step}
+use Rattle.journal.specs.declared.step.Step.TheVariants as steps
+use Rattle.resp.specs.Content.{Content}
+use Rattle.skeen_core.specs.Order.{In}
+use Rattle.skeen_core.specs.declared.packet.Delivered.{Delivered}
+use Rattle.skeen_core.specs.declared.packet.Packet.{Packet}
+use Rattle.skeen_core.specs.declared.request.RequestId.{RequestId}
+use Rattle.system.proofs.Refusals.{take_memory}
+use Rattle.system.proofs.Submitted.{was_asked}
+use Rattle.system.specs.Endings.{IsExecuted, HasStarved, EachHasEnded, MayBeMade, SomeMayBeMade, TurnsAreFew}
+use Rattle.system.specs.Faults.{own_fault}
+use Rattle.system.specs.Parts.{IsAt, ShowsStage, ShowsRows, progress_of}
+use Rattle.system.specs.Refusing.{Refuses, RefusesNot}
+use Rattle.system.specs.System.{SystemView, IsSystem, IsRefused, IsQuiet}
+use Rattle.system.specs.declared.fault.StepFault.{StepFault}
+use Rattle.system.specs.declared.fault.StepFault.TheVariants.{Busy, NoConn, NoPacket, InFlight, NoLayer, Exhausted, Memory, Failed}
+use Rattle.system.specs.declared.parts.Parts.{Parts}
+use Rattle.system.specs.declared.stage.Stage.{Stage}
+use Rattle.system.specs.declared.stage.Stage.TheVariants as stage
+use Rattle.system_view.specs.Layers.{IsRow}
+use Rattle.world.specs.Steps.{opening, OwnFault, NothingToRun, NothingToSettle, Refused, if_starved, starved_among}
+use Rattle.world.specs.Steps as world
+use Rattle.world.specs.World.{World, Ended, NoneTaken, Taken, HasRun}
+use Rattle.world_laws.proofs.BoundLaws.{turns_are_bounded}
+use Rattle.world_laws.proofs.QuietLaws.{quiet_means_ended}
+use Rattle.world_laws.proofs.Worlds.{good_opening}
+use Rattle.world_laws.specs.Good.{Named, run_in}
+use Rattle.world_laws.specs.Headline.{with_row, rows_of}
+use Rattle.world_laws.specs.Quiet as quiet
+
+-- ---- what has ended
+
+-- it has a row, or is among the starved
+abbrev Told : List Row → List RequestId → RequestId → Type 0
+Told rows starved i = ((x : Row) × In x rows × (x.entry.id ≡ i)) ⊎ In i starved
+
+abbrev row_of : Ended → Content → Row
+row_of e reply = record {
+  entry = record { id = e.id; stamp = e.stamp; groups = e.groups; command = e.command };
+  reply = reply;
+}
+
+told_first : (e : Ended) (reply : Option Content) (rows : List Row) (starved : List RequestId) →
+    Told (with_row e reply rows) (if_starved reply e.id starved) e.id
+told_first e None rows starved = inr (inl refl)
+told_first e (Some reply) rows starved = inl (row_of e reply, inl refl, refl)
+
+told_later : (e : Ended) (reply : Option Content) (rows : List Row) (starved : List RequestId) (i : RequestId) → Told rows starved i →
+    Told (with_row e reply rows) (if_starved reply e.id starved) i
+told_later e None rows starved i (inl row) = inl row
+told_later e None rows starved i (inr there) = inr (inr there)
+told_later e (Some reply) rows starved i (inl row) = inl (row.0, inr row.1, row.2)
+told_later e (Some reply) rows starved i (inr there) = inr there
+
+-- what has ended was executed, or starved
+told : (es : List Ended) (e : Ended) → In e es → Told (rows_of es) (starved_among es) e.id
+told [] e there = absurd there
+told (f ∷ es) e (inl here) =
+    subst (λ (x : Ended). Told (rows_of (f ∷ es)) (starved_among (f ∷ es)) x.id) (sym here)
+    (told_first f f.reply (rows_of es) (starved_among es))
+told (f ∷ es) e (inr later) = told_later f f.reply (rows_of es) (starved_among es) e.id (told es e later)
+
+-- the row that is kept of an executed request
+kept : (xs : List Row) (rows : List RowView) (x : Row) → AllZip IsRow xs rows → In x xs → (row : RowView) × In row rows × IsRow x row
+kept [] rows x all there = absurd there
+kept (y ∷ xs) [] x all there = absurd all
+kept (y ∷ xs) (row ∷ rows) x all (inl here) = (row, inl refl, subst (λ z. IsRow z row) (sym here) all.0)
+kept (y ∷ xs) (row ∷ rows) x all (inr later) = let rest = kept xs rows x all.1 later in (rest.0, inr rest.1, rest.2)
+
+-- where no layer is there all that has ended has its row
+all_settled : (rows : List RowView) (w : World) → ShowsRows rows w → w.layer ≡ NoneTaken → AllZip IsRow (rows_of w.ended) rows
+all_settled rows w shows free =
+    subst (λ es. AllZip IsRow (rows_of es) rows)
+    (sym (shows.split ∙ (ap (λ l. shows.settled ++ run_in l) free ∙ append-nil shows.settled))) shows.each
+
+quiet_there : (p : Parts) → IsQuiet p → (h : List Step) (w : World) → IsAt p h w → quiet.IsQuiet w
+quiet_there p is h w at' =
+    let queues : queue_of p.multicast.queues ≡ w.queue = λ k g. at'.shows.multicast.queues g k in
+    record {
+      packets = sym at'.shows.multicast.packets ∙ is.packets;
+      layer = subst (λ s. ShowsStage s w) is.layer at'.shows.stage;
+      none_ready = subst (λ (q : QueueOf). (d : Delivered) → ¬ IsReady q d) queues is.none_ready;
+    }
+
+pub each_has_ended : (p : Parts) → IsQuiet p → EachHasEnded p
+each_has_ended p is h w at' effects made i submitted = (ended, shown)
+  where
+    there : quiet.IsQuiet w
+    there = quiet_there p is h w at'
+
+    ended : Named w.ended i
+    ended =
+        let asked = was_asked p.store.table opening w h effects i made (good_opening p.store.table) submitted in
+        quiet_means_ended p.store.table h w at'.leads there i asked.0 asked.1
+
+    shown : IsExecuted p i ⊎ HasStarved p i
+    shown = elim (told w.ended ended.0 ended.1) [
+      | inl executed ↦
+          let row = kept (rows_of w.ended) p.rows executed.0 (all_settled p.rows w at'.shows.rows there.layer) executed.1 in
+          inl (row.0, row.1, row.2.id ∙ (executed.2 ∙ ended.2))
+      | inr starved ↦
+          inr (subst (λ ids. In i ids) (sym at'.shows.starved) (subst (λ j. In j (starved_among w.ended)) ended.2 starved))
+    ]
+
+-- ---- what can be done
+
+-- the world to which the system's history led does not refuse what no world does
+not_there : (s : SystemView) (step : Step) → IsSystem s → RefusesNot s.parts step → (fault : OwnFault) →
+    s.parts.store.failed ≡ false → Refuses s.parts step fault → ⊥
+not_there s step is none fault lived why =
+    let shown = is.shows lived in none shown.0 shown.1 shown.2.at fault (why shown.0 shown.1 shown.2.at)
+
+no_own_fault : (s : SystemView) (step : Step) → IsSystem s → RefusesNot s.parts step → (may_refuse : Bool) (fault : StepFault)
+    (new : SystemView) → IsRefused may_refuse s step fault new → own_fault fault ≡ None
+no_own_fault s step is none may Busy new refused = absurd (not_there s step is none world.Busy refused.lived refused.why)
+no_own_fault s step is none may NoConn new refused = absurd (not_there s step is none world.NoConn refused.lived refused.why)
+no_own_fault s step is none may NoPacket new refused = absurd (not_there s step is none world.NoPacket refused.lived refused.why)
+no_own_fault s step is none may InFlight new refused = absurd (not_there s step is none world.InFlight refused.lived refused.why)
+no_own_fault s step is none may NoLayer new refused = absurd (not_there s step is none world.NoLayer refused.lived refused.why)
+no_own_fault s step is none may Exhausted new refused = refl
+no_own_fault s step is none may Memory new refused = refl
+no_own_fault s step is none may Failed new refused = refl
+
+may_be_made : (s : SystemView) (step : Step) → IsSystem s → RefusesNot s.parts step → MayBeMade s step
+may_be_made s step is none = record { not_refused = none; no_own_fault = no_own_fault s step is none }
+
+-- a packet that is there can be brought
+deliver_not : (w : World) (packet : Packet) (rest : List Packet) → w.packets ≡ packet ∷ rest → (fault : OwnFault) →
+    ¬ Refused w (steps.Deliver 0) fault
+deliver_not w packet rest some world.Busy refused = refused
+deliver_not w packet rest some world.NoConn refused = refused
+deliver_not w packet rest some world.NoPacket refused = let longer = ap (λ (ps : List Packet). length ps) some in omega arith
+deliver_not w packet rest some world.InFlight refused = refused
+deliver_not w packet rest some world.NoLayer refused = refused
+
+-- a layer that was taken can be run
+run_not : (w : World) (ds : List Delivered) (starved : List RequestId) → w.layer ≡ Taken ds → (fault : OwnFault) →
+    ¬ Refused w (steps.Run starved) fault
+run_not w ds starved taken world.Busy refused = refused
+run_not w ds starved taken world.NoConn refused = refused
+run_not w ds starved taken world.NoPacket refused = refused
+run_not w ds starved taken world.InFlight refused = refused
+run_not w ds starved taken world.NoLayer refused = subst NothingToRun taken refused
+
+-- a layer that was run can be settled
+settle_not : (w : World) (es : List Ended) → w.layer ≡ HasRun es → (fault : OwnFault) → ¬ Refused w steps.Settle fault
+settle_not w es ran world.Busy refused = refused
+settle_not w es ran world.NoConn refused = refused
+settle_not w es ran world.NoPacket refused = refused
+settle_not w es ran world.InFlight refused = refused
+settle_not w es ran world.NoLayer refused = subst NothingToSettle ran refused
+
+by_packets : (s : SystemView) (packets : List Packet) → IsSystem s → ¬ IsQuiet s.parts → s.parts.stage ≡ stage.Free →
+    s.parts.multicast.packets ≡ packets → MayBeMade s steps.Take ⊎ MayBeMade s (steps.Deliver 0)
+by_packets s [] is busy free none =
+    inl (may_be_made s steps.Take is (take_memory s.parts free (λ idle. busy (record { packets = none; layer = free; none_ready = idle }))))
+by_packets s (packet ∷ rest) is busy free some =
+    inr (may_be_made s (steps.Deliver 0) is (λ h w at'. deliver_not w packet rest (sym at'.shows.multicast.packets ∙ some)))
+
+by_stage : (s : SystemView) (now : Stage) → IsSystem s → ¬ IsQuiet s.parts → s.parts.stage ≡ now → SomeMayBeMade (progress_of now) s
+by_stage s stage.Free is busy same = by_packets s s.parts.multicast.packets is busy same refl
+by_stage s (stage.Taken taken) is busy same = λ starved.
+    may_be_made s (steps.Run starved) is (λ h w at'.
+    let there = subst (λ x. ShowsStage x w) same at'.shows.stage in run_not w there.0 starved there.1)
+by_stage s (stage.HasRun ran) is busy same =
+    may_be_made s steps.Settle is (λ h w at'.
+    let there = subst (λ x. ShowsStage x w) same at'.shows.stage in settle_not w there.0 there.1)
+
+pub some_may_be_made : (s : SystemView) → IsSystem s → ¬ IsQuiet s.parts → SomeMayBeMade (progress_of s.parts.stage) s
+some_may_be_made s is busy = by_stage s s.parts.stage is busy refl
+
+-- ---- how many steps there can be
+
+pub turns_are_few : (p : Parts) → TurnsAreFew p
+turns_are_few p h w at' = turns_are_bounded p.store.table h w at'.leads

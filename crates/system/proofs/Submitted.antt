@@ -1,0 +1,76 @@
+-- What a history submitted to groups the world was asked.
+use Rattle.std.proofs.Common.{◌≡◌, ◌≢◌, ℕ, List, [], ◌∷◌, inl, inr, Some, refl, sym, ◌∙◌, subst}
+use Rattle.std.proofs.lemmas.Bool.{cond-true}
+use Rattle.command_table.specs.Reading.{reading}
+use Rattle.command_table.specs.declared.command.Command.{Command}
+use Rattle.journal.specs.declared.step.Step.{Step}
+use Rattle.journal.specs.declared.step.Step.TheVariants.{Open, Submit, Deliver, Take, Run, Settle, Collect, Close}
+use Rattle.placement.specs.Groups.{groups_of}
+use Rattle.placement.specs.Layout.{Layout}
+use Rattle.skeen_core.proofs.Ids.{same_id-refl}
+use Rattle.skeen_core.specs.Request.{same_id}
+use Rattle.skeen_core.specs.declared.request.ConnId.{ConnId}
+use Rattle.skeen_core.specs.declared.request.RequestId.{RequestId}
+use Rattle.system.specs.Endings.{AsksGroups}
+use Rattle.world.specs.Steps.{Effect, Steps, Makes, next_id, floor_of, submitted, submitted_to}
+use Rattle.world.specs.Steps as world
+use Rattle.world.specs.World.{World, Request}
+use Rattle.world_laws.proofs.Floors.{knows_more}
+use Rattle.world_laws.proofs.Worlds.{keeps}
+use Rattle.world_laws.specs.Collecting.{Submits, WasSubmitted}
+use Rattle.world_laws.specs.Good.{WorldGood}
+
+abbrev pub IsAsked : World → RequestId → Type 0
+IsAsked w i = (q : Request) × (w.asked i ≡ Some q)
+
+-- it stays asked
+asked_still : (t : Layout) (old new : World) (ss : List Step) (es : List Effect) (i : RequestId) → Makes t old ss es new →
+    WorldGood t old → IsAsked old i → IsAsked new i
+asked_still t old new [] es i made good asked = subst (λ w. IsAsked w i) (sym made.1) asked
+asked_still t old new (s ∷ ss) [] i made good asked = absurd made
+asked_still t old new (s ∷ ss) (e ∷ es) i made good asked =
+    asked_still t made.0 new ss es i made.2 (keeps t old made.0 s e made.1 good)
+    (asked.0, (knows_more t old made.0 s e made.1 good).0 i asked.0 asked.1)
+
+asked_to : (old : World) (c : ℕ) (command : Command) (gs : List ℕ) → gs ≢ [] → IsAsked (submitted_to old c command gs) (next_id old c)
+asked_to old c command [] some = absurd (some refl)
+asked_to old c command (g ∷ gs) some =
+    let q : Request = record { floor = floor_of old c; groups = g ∷ gs; command = command } in
+    (q, cond-true (same_id (next_id old c) (next_id old c)) (Some q) (old.asked (next_id old c)) (same_id-refl (next_id old c)))
+
+asked_submit : (t : Layout) (old new : World) (i : RequestId) (conn : ConnId) (words : List (List ℕ)) (e : Effect) →
+    world.Submits t old conn.0 words e new → Submits (AsksGroups t) i (Submit conn words) e → IsAsked new i
+asked_submit t old new i conn words (world.Opened c) step now = absurd now
+asked_submit t old new i conn words (world.Submitted j) step now =
+    let same : next_id old conn.0 ≡ i = sym (same_submitted j (next_id old conn.0) step.answers) ∙ now.1 in
+    subst (λ w. IsAsked w i) (sym step.after)
+    (subst (λ k. IsAsked (submitted t old conn.0 (reading words)) k) same
+    (subst (λ r. IsAsked (submitted t old conn.0 r) (next_id old conn.0)) (sym now.2.1)
+    (asked_to old conn.0 now.2.0 (groups_of t now.2.0) now.2.2)))
+  where
+    same_submitted : (j k : RequestId) → world.Submitted j ≡ world.Submitted k → j ≡ k
+    same_submitted j k same = let e = same in cc
+asked_submit t old new i conn words (world.Ran ids) step now = absurd now
+asked_submit t old new i conn words (world.Collected o) step now = absurd now
+asked_submit t old new i conn words world.Made step now = absurd now
+
+asked_now : (t : Layout) (old new : World) (i : RequestId) (s : Step) (e : Effect) → Steps t old s e new → Submits (AsksGroups t) i s e →
+    IsAsked new i
+asked_now t old new i Open e step now = absurd now
+asked_now t old new i (Submit conn words) e step now = asked_submit t old new i conn words e step now
+asked_now t old new i (Deliver k) e step now = absurd now
+asked_now t old new i Take e step now = absurd now
+asked_now t old new i (Run starved) e step now = absurd now
+asked_now t old new i Settle e step now = absurd now
+asked_now t old new i (Collect conn) e step now = absurd now
+asked_now t old new i (Close conn) e step now = absurd now
+
+-- what was submitted to groups is asked
+pub was_asked : (t : Layout) (old new : World) (ss : List Step) (es : List Effect) (i : RequestId) → Makes t old ss es new →
+    WorldGood t old → WasSubmitted (AsksGroups t) i ss es → IsAsked new i
+was_asked t old new [] es i made good was = absurd was
+was_asked t old new (s ∷ ss) [] i made good was = absurd made
+was_asked t old new (s ∷ ss) (e ∷ es) i made good (inl now) =
+    asked_still t made.0 new ss es i made.2 (keeps t old made.0 s e made.1 good) (asked_now t old made.0 i s e made.1 now)
+was_asked t old new (s ∷ ss) (e ∷ es) i made good (inr later) =
+    was_asked t made.0 new ss es i made.2 (keeps t old made.0 s e made.1 good) later

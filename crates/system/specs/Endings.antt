@@ -1,0 +1,64 @@
+-- That nothing is left behind, that something can be done until then, and that there is an end to it.
+use Rattle.std.specs.Prelude.{◌≡◌, ◌≢◌, ℕ, ◌≤◌, Bool, List, [], ◌⊎◌, None, Ok}
+use Rattle.command_table.specs.Reading.{reading}
+use Rattle.command_table.specs.declared.command.Command.{Command}
+use Rattle.journal.specs.Views.{RowView}
+use Rattle.journal.specs.declared.step.Step.{Step}
+use Rattle.journal.specs.declared.step.Step.TheVariants.{Deliver, Take, Run, Settle}
+use Rattle.placement.specs.Groups.{groups_of}
+use Rattle.placement.specs.Layout.{Layout}
+use Rattle.skeen_core.specs.Order.{In}
+use Rattle.skeen_core.specs.declared.request.RequestId.{RequestId}
+use Rattle.system.specs.Faults.{own_fault}
+use Rattle.system.specs.Parts.{IsAt}
+use Rattle.system.specs.Refusing.{RefusesNot}
+use Rattle.system.specs.System.{SystemView, IsRefused}
+use Rattle.system.specs.declared.fault.StepFault.{StepFault}
+use Rattle.system.specs.declared.parts.Parts.{Parts}
+use Rattle.system.specs.declared.stage.Progress.{Progress}
+use Rattle.system.specs.declared.stage.Progress.TheVariants.{Free, Taken, HasRun}
+use Rattle.world.specs.Steps.{opening, Effect, Makes}
+use Rattle.world.specs.World.{World}
+use Rattle.world_laws.specs.Bound.{turns, allowances}
+use Rattle.world_laws.specs.Collecting.{WasSubmitted}
+use Rattle.world_laws.specs.Good.{Named}
+
+-- ---- what has ended
+
+-- the request was executed, and has its row
+abbrev pub IsExecuted : Parts → RequestId → Type 0
+IsExecuted p i = (row : RowView) × In row p.rows × (row.id ≡ i)
+
+abbrev pub HasStarved : Parts → RequestId → Type 0
+HasStarved p i = In i p.starved.items
+
+-- the words are a command that addresses groups
+abbrev pub AsksGroups : Layout → List (List ℕ) → Type 0
+AsksGroups t words = (command : Command) × (reading words ≡ Ok command) × (groups_of t command ≢ [])
+
+-- whatever history led here, each request that it submitted to groups has ended: it was executed, or it starved
+abbrev pub EachHasEnded : Parts → Type 0
+EachHasEnded p = (h : List Step) (w : World) → IsAt p h w → (effects : List Effect) → Makes p.store.table opening h effects w →
+    (i : RequestId) → WasSubmitted (AsksGroups p.store.table) i h effects → Named w.ended i × (IsExecuted p i ⊎ HasStarved p i)
+
+-- ---- what can be done
+
+-- No world that the system shows refuses the step; so whatever `step` refuses it for is no fault of the step's own: it is Exhausted, Memory
+-- or Failed.
+pub record MayBeMade (s : SystemView) (step : Step) : Type 0 where
+  pub not_refused : RefusesNot s.parts step
+  pub no_own_fault : (may_refuse : Bool) (fault : StepFault) (new : SystemView) → IsRefused may_refuse s step fault new →
+      own_fault fault ≡ None
+
+-- a layer that is there can be run or settled; else one can be taken, or the oldest packet brought
+abbrev pub SomeMayBeMade : Progress → SystemView → Type 0
+SomeMayBeMade Free s = MayBeMade s Take ⊎ MayBeMade s (Deliver 0)
+SomeMayBeMade Taken s = (starved : List RequestId) → MayBeMade s (Run starved)
+SomeMayBeMade HasRun s = MayBeMade s Settle
+
+-- ---- how many steps there can be
+
+-- whatever history led here, it has no more steps that bring packets, take layers, run or settle them than its submitted requests allow:
+-- k * k + 3 for each request of k groups
+abbrev pub TurnsAreFew : Parts → Type 0
+TurnsAreFew p = (h : List Step) (w : World) → IsAt p h w → turns h ≤ allowances p.store.table h
