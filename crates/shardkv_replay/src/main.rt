@@ -2,30 +2,26 @@
 //!
 //! `--table FILE --trace FILE [--workers N]` names the table of the shards, the trace of a run over them, and how many workers run each
 //! layer's requests. The report goes to standard output, and what went wrong to standard error. The statuses: 0 where the report agrees
-//! with one thread on one map, 1 where it differs; 2 for the words; 3 for the table; 4 for the trace; 5 where a step is refused; 6 where
-//! memory was wanting; 7 where a read or a write failed.
+//! with one thread on one map, 1 where it differs; 2 for the words; 3 for the table; 4 for the trace; 5 where a step is refused, or a
+//! worker's thread can't be started; 6 where memory was wanting; 7 where a read or a write failed.
 #![tactic(auto)]
 
-use replay::told;
+use replay::{ShowFault, told};
 use replay_options::{OptionsFault, options};
-use shard_exec::InTurn;
-use std::io::{self, ErrorKind};
+use shard_exec::{Crew, InTurn};
+use std::io::{self, ErrorKind, Write};
 use std::num::NonZeroUsize;
 use std::process::ExitCode;
+use std::sync::Wait;
+use std::thread::Threads;
 use std::{env, fs};
 
 fn main(rt: HostRuntime) -> ExitCode {
-    let alloc = rt.alloc();
-    let mut words = Vec::new(alloc);
-    let Ok(args) = env::args(&rt) else {
-        return ExitCode::from(2);
+    let words = match words(&rt) {
+        Ok(words) => words,
+        Err(fault) => return ExitCode::from(status_of_read(&fault, 2)),
     };
-    for word in args {
-        if words.push(word).is_err() {
-            return ExitCode::from(6);
-        }
-    }
-    let asked = match options(alloc, words.as_slice()) {
+    let asked = match options(rt.alloc(), words.as_slice()) {
         Ok(asked) => asked,
         Err(fault) => {
             let _ = eprintln!(rt; "shardkv-replay: {fault}");
@@ -50,13 +46,32 @@ fn main(rt: HostRuntime) -> ExitCode {
         return ExitCode::from(2);
     };
     let (table, trace) = (table.as_slice(), trace.as_slice());
-    match told(alloc, table, trace, &InTurn(workers), &mut rt.stdout()) {
+    match report(&rt, table, trace, workers, &mut rt.stdout()) {
         Ok(agree) => ExitCode::from(u8::from(!agree)),
         Err(fault) => {
             let _ = eprintln!(rt; "shardkv-replay: {fault}");
             ExitCode::from(fault.status())
         }
     }
+}
+
+/// The words on the command line.
+fn words<R: env::Env + AllocGlobal>(rt: &R) -> io::Result<Vec<String>> {
+    Ok(env::args(rt)?.collect(rt.alloc())?)
+}
+
+/// Writes the report, and answers whether it agrees. One worker needs no thread; of several, each has a thread while a layer is run.
+fn report<R: Threads + Wait + AllocGlobal, O: Write>(
+    rt: &R,
+    table: &[u8],
+    trace: &[u8],
+    workers: NonZeroUsize,
+    out: &mut O,
+) -> Result<bool, ShowFault> {
+    if workers.get() == 1 {
+        return told(rt.alloc(), table, trace, &InTurn(workers), out);
+    }
+    told(rt.alloc(), table, trace, &Crew::new(rt, workers), out)
 }
 
 /// The status where the words are none of the program's.

@@ -1,0 +1,196 @@
+//! What becomes of a call in which one allocation fails.
+//!
+//! Where all succeed these tests say no more than others do. They are meant to be run with each allocation failing in turn: what that
+//! call was asked for isn't begun, and the next one does all of it. Where the allocation is the test's own, the test begins anew.
+
+use crate::traces::{CROSSING, LAYER_OF_TWO, Row, STARVED, TABLE};
+use command_table::read;
+use journal::{Trace, TraceFault, read_trace, write_trace};
+use placement::{Table, TableFault};
+use replay::{ShowFault, told};
+use resp::Request;
+use shard_exec::{Crew, InTurn, Open, Workers};
+use solo::Solo;
+use std::alloc::{AllocError, Global};
+use std::hash::{BuildHasherDefault, FoldHasher};
+use std::num::NonZeroUsize;
+use std::process::Abort;
+use std::test::Fail;
+use system::{StepFault, System};
+use test_support::Sink;
+
+const ONE: InTurn = InTurn(NonZeroUsize::MIN);
+
+/// What stands in a buffer already.
+const BEFORE: &[u8] = b"before ";
+
+/// The trace of a text that spells one.
+fn trace_of(rt: &impl Abort, alloc: Global, text: &str) -> Result<Trace, AllocError> {
+    for _ in 0..2 {
+        match read_trace(alloc, text.as_bytes()) {
+            Ok(trace) => return Ok(trace),
+            Err(fault) => assert_eq!(rt; fault, TraceFault::Memory),
+        }
+    }
+    panic!(rt; "no memory for a second time")
+}
+
+/// The buffer has behind `BEFORE` this text and nothing else.
+fn assert_behind(rt: &impl Abort, alloc: Global, out: &[u8], text: &str) -> Result<(), AllocError> {
+    let mut wanted = Vec::from_slice(alloc, BEFORE)?;
+    wanted.extend_from_slice(text.as_bytes())?;
+    assert_eq!(rt; out, wanted.as_slice());
+    Ok(())
+}
+
+fn read_and_written(rt: &impl Abort, alloc: Global, row: Row) -> Result<(), AllocError> {
+    let trace = trace_of(rt, alloc, row.trace)?;
+    let mut out = Vec::from_slice(alloc, BEFORE)?;
+    if write_trace(&trace, &mut out).is_err() {
+        assert_behind(rt, alloc, out.as_slice(), "")?;
+        write_trace(&trace, &mut out)?;
+    }
+    assert_behind(rt, alloc, out.as_slice(), row.trace)
+}
+
+#[test]
+fn traces_are_read_and_written_where_memory_fails(rt: HostRuntime) -> Result<(), Fail> {
+    for row in [CROSSING, STARVED] {
+        if read_and_written(&rt, rt.alloc(), row).is_err() {
+            read_and_written(&rt, rt.alloc(), row)?;
+        }
+    }
+    Ok(())
+}
+
+/// The system after the steps of the crossing requests.
+fn crossed(rt: &impl Abort, alloc: Global) -> Result<System, AllocError> {
+    let table = match Table::from_toml(alloc, TABLE) {
+        Ok(table) => table,
+        Err(fault) => {
+            assert!(rt; matches!(fault, TableFault::Memory), "no table");
+            return Err(AllocError);
+        }
+    };
+    let trace = trace_of(rt, alloc, CROSSING.trace)?;
+    let mut system = System::new(alloc, table, trace.max())?;
+    let mut steps = trace.steps();
+    while let Some(step) = steps.next(alloc)? {
+        if let Err(fault) = system.step(step, &ONE, &Open) {
+            assert!(rt; matches!(fault, StepFault::Memory), "{fault}");
+            return Err(AllocError);
+        }
+    }
+    Ok(system)
+}
+
+fn system_dumped(rt: &impl Abort, alloc: Global) -> Result<(), AllocError> {
+    let system = crossed(rt, alloc)?;
+    if !system.starved().is_empty() {
+        return Err(AllocError);
+    }
+    let mut out = Vec::from_slice(alloc, BEFORE)?;
+    if system.dump(&mut out).is_err() {
+        assert_behind(rt, alloc, out.as_slice(), "")?;
+        system.dump(&mut out)?;
+    }
+    assert_behind(
+        rt,
+        alloc,
+        out.as_slice(),
+        "key 61 string 31\nkey 63 string 32\n",
+    )
+}
+
+#[test]
+fn a_system_is_dumped_where_memory_fails(rt: HostRuntime) -> Result<(), Fail> {
+    if system_dumped(&rt, rt.alloc()).is_err() {
+        system_dumped(&rt, rt.alloc())?;
+    }
+    Ok(())
+}
+
+fn solo_dumped(rt: &impl Abort, alloc: Global) -> Result<(), AllocError> {
+    let mut solo = Solo::new(alloc, BuildHasherDefault::<FoldHasher>::new());
+    let requests: [&[&[u8]]; 3] = [
+        &[b"SADD", b"c", b"n", b"m"],
+        &[b"RPUSH", b"", b"", b"x"],
+        &[b"HSET", b"a", b"f", b"1"],
+    ];
+    for words in requests {
+        if words.is_empty() {
+            panic!(rt; "no words")
+        }
+        let Ok(command) = read(Request::copy_of(alloc, words)?) else {
+            panic!(rt; "a command is refused")
+        };
+        if solo.try_run(command).is_err() {
+            return Err(AllocError);
+        }
+    }
+    let mut out = Vec::from_slice(alloc, BEFORE)?;
+    if solo.dump(&mut out).is_err() {
+        assert_behind(rt, alloc, out.as_slice(), "")?;
+        solo.dump(&mut out)?;
+    }
+    let lines = "key - list - 78\nkey 61 hash 66 31\nkey 63 set 6d 6e\n";
+    assert_behind(rt, alloc, out.as_slice(), lines)
+}
+
+#[test]
+fn a_store_on_one_map_is_dumped_where_memory_fails(rt: HostRuntime) -> Result<(), Fail> {
+    if solo_dumped(&rt, rt.alloc()).is_err() {
+        solo_dumped(&rt, rt.alloc())?;
+    }
+    Ok(())
+}
+
+/// The report comes whole. Where there was no memory for it, or for a worker's thread, nothing was written, and then it comes at the
+/// second call.
+fn shown<W: Workers>(
+    rt: &impl Abort,
+    alloc: Global,
+    row: Row,
+    workers: &W,
+) -> Result<(), AllocError> {
+    let mut sink = Sink::new(alloc, 100);
+    sink.taken.reserve(row.report.len())?;
+    let (table, trace) = (TABLE.as_bytes(), row.trace.as_bytes());
+    let mut ended = told(alloc, table, trace, workers, &mut sink);
+    if let Err(fault) = ended {
+        assert!(rt; is_no_memory(&fault), "{fault}");
+        assert_eq!(rt; sink.writes, 0);
+        ended = told(alloc, table, trace, workers, &mut sink);
+    }
+    assert!(rt; matches!(ended, Ok(true)));
+    assert_eq!(rt; sink.taken.as_slice(), row.report.as_bytes());
+    Ok(())
+}
+
+fn is_no_memory(fault: &ShowFault) -> bool {
+    match fault {
+        ShowFault::Memory => true,
+        ShowFault::Step { fault, .. } => matches!(fault, StepFault::Failed),
+        _ => false,
+    }
+}
+
+#[test]
+fn reports_come_whole_where_memory_fails(rt: HostRuntime) -> Result<(), Fail> {
+    for row in [CROSSING, STARVED, LAYER_OF_TWO] {
+        if shown(&rt, rt.alloc(), row, &ONE).is_err() {
+            shown(&rt, rt.alloc(), row, &ONE)?;
+        }
+    }
+    Ok(())
+}
+
+#[test]
+fn reports_of_a_crew_come_whole_where_memory_fails(rt: HostRuntime) -> Result<(), Fail> {
+    let two = NonZeroUsize::new(2).ok_or("two")?;
+    let crew = Crew::new(&rt, two);
+    if shown(&rt, rt.alloc(), LAYER_OF_TWO, &crew).is_err() {
+        shown(&rt, rt.alloc(), LAYER_OF_TWO, &crew)?;
+    }
+    Ok(())
+}

@@ -1,0 +1,28 @@
+//! Traces that are replayed to their end, and their reports.
+
+use crate::showing::assert_shown;
+use crate::traces::{
+    CROSSING, FLUSHED_BEFORE, FLUSHED_BEHIND, LATE_WITH_A_SMALL_STAMP, LAYER_OF_TWO, NO_STEP, Row,
+    SECOND_OF_TWO_STARVES, STARVED, UNSETTLED,
+};
+use std::test::Fail;
+
+const ROWS: [Row; 9] = [
+    CROSSING,
+    STARVED,
+    FLUSHED_BEHIND,
+    FLUSHED_BEFORE,
+    LATE_WITH_A_SMALL_STAMP,
+    LAYER_OF_TWO,
+    SECOND_OF_TWO_STARVES,
+    UNSETTLED,
+    NO_STEP,
+];
+
+#[test]
+fn traces_have_their_reports(rt: HostRuntime) -> Result<(), Fail> {
+    for row in ROWS {
+        assert_shown(&rt, rt.alloc(), row.trace, 0, row.report)?;
+    }
+    Ok(())
+}

@@ -1,0 +1,271 @@
+//! Traces on two shards, and their reports. `a` (61) lies on shard 0, and `c` (63) on shard 1.
+
+/// A trace's text, and the report that it has to have.
+#[derive(Clone, Copy, Drop)]
+pub(crate) struct Row {
+    pub(crate) trace: &'static str,
+    pub(crate) report: &'static str,
+}
+
+/// The slots 0 to 511 on shard 0, and the rest on shard 1.
+pub(crate) const TABLE: &str =
+    "shards = 2\n[[range]]\nfrom = 0\nto = 511\nshard = 0\n[[range]]\nfrom = 512\nto = 1023\nshard = 1\n";
+
+/// MSET a 1 c 2 and MSET a 3 c 4 cross: each comes to another group first.
+pub(crate) const CROSSING: Row = Row {
+    trace: "shardkv-trace 1
+max 1000
+open
+open
+submit 1 4d534554 61 31 63 32
+submit 2 4d534554 61 33 63 34
+deliver 0
+deliver 2
+deliver 1
+deliver 0
+deliver 0
+deliver 0
+deliver 0
+deliver 0
+take
+run
+settle
+take
+run
+settle
+collect 1
+collect 2
+end 20
+",
+    report: "row 2.0 2.1 mset 2b4f4b0d0a
+row 2.1 1.1 mset 2b4f4b0d0a
+key 61 string 31
+key 63 string 32
+agree
+",
+};
+
+/// MSET a 1 c 2 starves, and GET a finds nothing.
+pub(crate) const STARVED: Row = Row {
+    trace: "shardkv-trace 1
+max 50
+open
+submit 1 4d534554 61 31 63 32
+deliver 0
+deliver 0
+deliver 0
+deliver 0
+take
+run 1.1
+settle
+collect 1
+submit 1 474554 61
+deliver 0
+take
+run
+settle
+collect 1
+end 16
+",
+    report: "row 2.0 1.2 get 242d310d0a
+starved 1.1
+agree
+",
+};
+
+/// FLUSHALL of all groups, behind SET c 2 at group 1; then DBSIZE.
+pub(crate) const FLUSHED_BEHIND: Row = Row {
+    trace: "shardkv-trace 1
+max 1000
+open
+open
+submit 1 464c555348414c4c
+submit 2 534554 63 32
+deliver 2
+deliver 0
+deliver 0
+deliver 0
+deliver 0
+take
+run
+settle
+take
+run
+settle
+collect 1
+collect 2
+submit 1 444253495a45
+deliver 0
+deliver 0
+deliver 0
+deliver 0
+take
+run
+settle
+collect 1
+end 26
+",
+    report: "row 1.1 2.1 set 2b4f4b0d0a
+row 2.1 1.1 flushall 2b4f4b0d0a
+row 3.1 1.2 dbsize 3a300d0a
+agree
+",
+};
+
+/// The same, but FLUSHALL comes to group 1 first, and SET c 2 waits behind it.
+pub(crate) const FLUSHED_BEFORE: Row = Row {
+    trace: "shardkv-trace 1
+max 1000
+open
+open
+submit 1 464c555348414c4c
+submit 2 534554 63 32
+deliver 1
+deliver 1
+deliver 0
+deliver 0
+deliver 0
+take
+run
+settle
+take
+run
+settle
+collect 1
+collect 2
+submit 1 444253495a45
+deliver 0
+deliver 0
+deliver 0
+deliver 0
+take
+run
+settle
+collect 1
+end 26
+",
+    report: "row 1.1 1.1 flushall 2b4f4b0d0a
+row 2.1 2.1 set 2b4f4b0d0a
+row 3.1 1.2 dbsize 3a310d0a
+key 63 string 32
+agree
+",
+};
+
+/// SET c 9 is executed last and has the second stamp.
+pub(crate) const LATE_WITH_A_SMALL_STAMP: Row = Row {
+    trace: "shardkv-trace 1
+max 1000
+open
+open
+submit 1 534554 61 31
+deliver 0
+take
+run
+settle
+collect 1
+submit 1 534554 61 32
+deliver 0
+take
+run
+settle
+collect 1
+submit 1 534554 61 33
+deliver 0
+take
+run
+settle
+collect 1
+submit 2 534554 63 39
+deliver 0
+take
+run
+settle
+collect 2
+end 26
+",
+    report: "row 1.0 1.1 set 2b4f4b0d0a
+row 1.1 2.1 set 2b4f4b0d0a
+row 2.0 1.2 set 2b4f4b0d0a
+row 3.0 1.3 set 2b4f4b0d0a
+key 61 string 33
+key 63 string 39
+agree
+",
+};
+
+/// SET a 1 and SET c 2 are one layer.
+pub(crate) const LAYER_OF_TWO: Row = Row {
+    trace: "shardkv-trace 1
+max 1000
+open
+open
+submit 1 534554 61 31
+submit 2 534554 63 32
+deliver 0
+deliver 0
+take
+run
+settle
+collect 1
+collect 2
+end 11
+",
+    report: "row 1.0 1.1 set 2b4f4b0d0a
+row 1.1 2.1 set 2b4f4b0d0a
+key 61 string 31
+key 63 string 32
+agree
+",
+};
+
+/// The same; the second starves, and the line `run` names a request of no layer too.
+pub(crate) const SECOND_OF_TWO_STARVES: Row = Row {
+    trace: "shardkv-trace 1
+max 1000
+open
+open
+submit 1 534554 61 31
+submit 2 534554 63 32
+deliver 0
+deliver 0
+take
+run 7.1 2.1
+settle
+collect 1
+collect 2
+end 11
+",
+    report: "row 1.0 1.1 set 2b4f4b0d0a
+starved 2.1
+key 61 string 31
+agree
+",
+};
+
+/// The last layer was run and isn't settled.
+pub(crate) const UNSETTLED: Row = Row {
+    trace: "shardkv-trace 1
+max 5
+open
+submit 1 534554 61 31
+deliver 0
+take
+run
+end 5
+",
+    report: "row 1.0 1.1 set 2b4f4b0d0a
+key 61 string 31
+agree
+",
+};
+
+/// Nothing happens.
+pub(crate) const NO_STEP: Row = Row {
+    trace: "shardkv-trace 1
+max 1
+end 0
+",
+    report: "agree
+",
+};
