@@ -83,11 +83,12 @@ where
         + Net<Listener = TcpListener, Stream = TcpStream>,
     requires { InRange options.now }
 {
-    join(
+    let (otherwise, ended) = join(
         rt,
-        move || hosted(rt, listener, options),
         move || follow(rt, rt.alloc(), listener, clients, acts),
-    )
+        move || hosted(rt, listener, options),
+    );
+    (ended, otherwise)
 }
 
 /// The last line of a text.
