@@ -86,7 +86,9 @@ where
     let (otherwise, ended) = join(
         rt,
         move || follow(rt, rt.alloc(), listener, clients, acts),
-        move || hosted(rt, listener, options),
+        move ||
+            requires { InRange options.now }
+        { hosted(rt, listener, options) },
     );
     (ended, otherwise)
 }
