@@ -16,4 +16,5 @@ pub use command_line::{Options, OptionsFault, read_options};
 pub use desk::{Desk, Turns};
 pub use fault::AskFault;
 pub use hosting::host;
+pub use sending::shared_syncs;
 pub use shared::Shared;

@@ -1,4 +1,5 @@
-//! That a system can go to another thread, part by part: the functions do nothing, and their contracts say it.
+//! That a system can go to another thread, part by part, and that threads may share a cluster under its lock: the functions do nothing, and
+//! their contracts say it.
 
 ghost use denote.Param.Send.{IsSend, IsSync};
 ghost use Rattle.router.specs.contracts.router.Router as router_type;
@@ -9,6 +10,7 @@ ghost use Rattle.system.specs.contracts.system.System as system_type;
 ghost use Rattle.layer_planner.specs.contracts.layer.Layer as layer_type;
 ghost use Rattle.shard_exec.specs.contracts.done.Ended as ended_type;
 ghost use Rattle.resp.specs.contracts.request.Request as request_type;
+ghost use Rattle.server.specs.contracts.shared.Shared as shared_type;
 
 use command_table::Command;
 use journal::Rows;
@@ -17,6 +19,7 @@ use multicast::Multicast;
 use resp::{Reply, Request};
 use router::{Outcome, Router};
 use shard_exec::{Ended, Store};
+use std::sync::ledger::Ledger;
 
 fn sends<T: Send>()
     ensures { IsSend T.row }
@@ -85,4 +88,11 @@ pub(crate) fn system_sends()
     store_sends();
     multicast_sends();
     rows_sends();
+}
+
+/// What a user with threads of its own needs: a `&` to a shared cluster may go to another thread. It does nothing; its contract says it.
+pub fn shared_syncs<L: Ledger>()
+    ensures { IsSync (shared_type.the_row L.row L.Ledger) }
+{
+    system_sends();
 }

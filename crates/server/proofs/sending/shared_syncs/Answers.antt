@@ -1,0 +1,6 @@
+use denote.Param.{param}
+use Rattle.server.proofs.Crossing.{shared_syncs}
+use Rattle.server.proofs.sending.shared_syncs.Goals as goal
+
+pub returns : goal.returns
+returns g c = shared_syncs (param 0 g.row.L) g.L.Ledger c.system_sends.ensures

@@ -1,0 +1,49 @@
+//! What clients that count together ask, and what they are to be told.
+
+use std::alloc::{AllocError, Global};
+use test_support::requests_of;
+
+/// So many rounds: an INCR of `a`, two more on `c`, the digit to `b` and `d` at once, and both of these read.
+pub(crate) fn count_requests(
+    alloc: Global,
+    rounds: usize,
+    digit: usize,
+) -> Result<Vec<u8>, AllocError> {
+    let round = format!(in alloc; "INCR a; INCRBY c 2; MSET b {digit} d {digit}; MGET d b")?;
+    let round = requests_of(alloc, round.as_str())?;
+    let mut requests = Vec::new(alloc);
+    for _ in 0..rounds {
+        requests.extend_from_slice(round.as_slice())?;
+    }
+    Ok(requests)
+}
+
+/// Whether these are the replies to so many rounds: the sums rise, and `b` and `d` are one and the same each time.
+pub(crate) fn are_counted(rounds: usize, replies: &[u8]) -> bool {
+    let Ok(text) = str::from_utf8(replies) else {
+        return false;
+    };
+    let mut lines = text.lines();
+    let mut sums = (0, 0);
+    for _ in 0..rounds {
+        match (integer(lines.next()), integer(lines.next())) {
+            (Some(ones), Some(twos)) if sums.0 < ones && sums.1 < twos => sums = (ones, twos),
+            _ => return false,
+        }
+        for line in ["+OK", "*2", "$1"] {
+            if lines.next() != Some(line) {
+                return false;
+            }
+        }
+        let second = lines.next();
+        if lines.next() != Some("$1") || second.is_none() || lines.next() != second {
+            return false;
+        }
+    }
+    lines.next().is_none()
+}
+
+/// The number of an integer's line.
+fn integer(line: Option<&str>) -> Option<u64> {
+    line?.strip_prefix(':')?.parse::<u64>().ok()
+}

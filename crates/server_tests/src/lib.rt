@@ -1,0 +1,20 @@
+//! The server as those meet it who use it: a shared cluster and its threads, connections over sockets, and the words that it is started
+//! with.
+#![tactic(auto)]
+
+#[cfg(test)]
+mod clients;
+#[cfg(test)]
+mod counting;
+#[cfg(test)]
+mod hosting;
+#[cfg(test)]
+mod limits;
+#[cfg(test)]
+mod rows;
+#[cfg(test)]
+mod sockets;
+#[cfg(test)]
+mod trouble;
+#[cfg(test)]
+mod words;
