@@ -75,7 +75,10 @@ fn crossed(rt: &impl Abort, alloc: Global) -> Result<System, AllocError> {
     let trace = trace_of(rt, alloc, CROSSING.trace)?;
     let mut system = System::new(alloc, table, trace.max())?;
     let mut steps = trace.steps();
-    while let Some(step) = steps.next(alloc)? {
+    for _ in 0..trace.len() {
+        let Some(step) = steps.next(alloc)? else {
+            break;
+        };
         if let Err(fault) = system.step(step, &ONE, &Open) {
             assert!(rt; matches!(fault, StepFault::Memory), "{fault}");
             return Err(AllocError);
