@@ -1,4 +1,3 @@
 pub mod Finding
 pub mod Keyed
-pub mod Texts
 pub mod Tells

@@ -1,16 +1,11 @@
 -- Replies made one after another, for the pairs of a hash in order.
 use Rattle.std.proofs.Common.{◌≡◌, ℕ, ◌+◌, List, [], ◌∷◌, ◌++◌, map, take, Some, refl, sym, ap, ◌∙◌}
-use Rattle.std.proofs.lemmas.List.{map-append, take_more}
-use Rattle.std.proofs.lemmas.Option.{slice_get_within, get_or_from_slice_get}
+use Rattle.std.proofs.lemmas.List.{map-append}
 use Rattle.std.specs.List.{slice_get}
 use Rattle.resp.specs.Content.{Content, BulkText, content}
 use Rattle.resp.specs.declared.reply.Reply.{Reply}
+use Rattle.texts.proofs.Lists.{take_next}
 use Rattle.texts.specs.Texts.{Bytes, by_turns}
-
--- one item more
-pub take_item : {A : Type 0} (xs : List A) (i : ℕ) (x : A) → Some x ≡ slice_get xs i → take (i + 1) xs ≡ take i xs ++ x ∷ []
-take_item xs i x at =
-    take_more xs i x (slice_get_within xs i x (sym at)) ∙ ap (λ y. take i xs ++ y ∷ []) (get_or_from_slice_get xs i x x (sym at))
 
 -- one reply more, for one item
 pub reply_more : {A : Type 0} (says : A → Content) (replies more : List Reply) (reply : Reply) (xs : List A) (i : ℕ) (x : A)
@@ -19,7 +14,7 @@ pub reply_more : {A : Type 0} (says : A → Content) (replies more : List Reply)
 reply_more says replies more reply xs i x at before says_it pushed =
     ap (map content) pushed ∙ map-append content replies (reply ∷ []) ∙ ap (λ l. l ++ content reply ∷ []) before
     ∙ ap (λ c. map says (take i xs) ++ c ∷ []) says_it ∙ sym (map-append says (take i xs) (x ∷ []))
-    ∙ ap (map says) (sym (take_item xs i x at))
+    ∙ ap (map says) (sym (take_next xs i x (sym at)))
 
 by_turns-append : (pairs : List (Bytes × Bytes)) (pair : Bytes × Bytes)
     → by_turns (pairs ++ pair ∷ []) ≡ by_turns pairs ++ pair.0 ∷ pair.1 ∷ []
@@ -39,7 +34,7 @@ replies_more replies more all first second xs i x at before says_first says_seco
     ∙ ap (λ c. (map BulkText (by_turns (take i xs)) ++ BulkText x.0 ∷ []) ++ c ∷ []) says_second
     ∙ two (map BulkText (by_turns (take i xs))) (BulkText x.0) (BulkText x.1)
     ∙ sym (map-append BulkText (by_turns (take i xs)) (x.0 ∷ x.1 ∷ []))
-    ∙ ap (map BulkText) (sym (by_turns-append (take i xs) x) ∙ ap by_turns (sym (take_item xs i x at)))
+    ∙ ap (map BulkText) (sym (by_turns-append (take i xs) x) ∙ ap by_turns (sym (take_next xs i x (sym at))))
   where
     two : (cs : List Content) (c d : Content) → (cs ++ c ∷ []) ++ d ∷ [] ≡ cs ++ c ∷ d ∷ []
     two [] c d = refl

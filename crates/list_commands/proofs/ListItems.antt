@@ -5,7 +5,7 @@ use Rattle.std.proofs.lemmas.List.{drop_all, get_or-drop, length-drop, take_all}
 use Rattle.std.proofs.lemmas.Option.{slice_get_within, get_or_from_slice_get, slice_get-get_or}
 use Rattle.std.specs.Prelude.{insert, slice_range}
 use Rattle.texts.specs.Texts.{Bytes}
-use Rattle.command_table.proofs.Texts.{take_next}
+use Rattle.texts.proofs.Lists.{take_next}
 
 pub first-item : (xs : List Bytes) (t : Bytes) → slice_get xs 0 ≡ Some t → t ∷ [] ≡ take 1 xs
 first-item [] t e = absurd (cc)

@@ -134,7 +134,9 @@ mod tests {
         assert_eq!(rt; request.len(), 4);
         assert_eq!(rt; request.word(3).len(), 2_000_000);
         assert_eq!(rt; request.word(1), b"a".as_slice());
-        let again = Request::from_words(request.into_words());
+        let copy = request.try_clone(rt.alloc())?;
+        assert!(rt; copy.word(3) == large.as_slice());
+        let again = Request::from_words(copy.into_words());
         assert_eq!(rt; again.word(0), b"SET".as_slice());
         Ok(())
     }

@@ -205,6 +205,27 @@ fn writes_when_enough_is_gathered(rt: HostRuntime) -> Result<(), Fail> {
 }
 
 #[test]
+fn writes_on_where_one_byte_is_taken_at_once(rt: HostRuntime) -> Result<(), Fail> {
+    // One reply of 20,010 bytes, written in as many writes.
+    let mut reply = bytes_of(rt.alloc(), "$20000|")?;
+    for _ in 0..20 {
+        reply.extend_from_slice(&[b'x'; 1000])?;
+    }
+    reply.extend_from_slice(b"\r\n")?;
+    let mut input = bytes_of(rt.alloc(), "*1|")?;
+    input.extend_from_slice(&reply)?;
+    let mut reader = Source::new(&input, NEVER);
+    let mut writer = Sink::new(rt.alloc(), 1);
+    assert_eq!(rt;
+        served(rt.alloc(), &mut reader, &mut writer),
+        Ok(Served::End)
+    );
+    assert_eq!(rt; writer.writes, 20_010);
+    assert!(rt; writer.taken.as_slice() == reply.as_slice());
+    Ok(())
+}
+
+#[test]
 fn tells_a_failed_read_behind_all_replies(rt: HostRuntime) -> Result<(), Fail> {
     let input = bytes_of(rt.alloc(), "*1|$4|PING|*1|$")?;
     let output = bytes_of(rt.alloc(), "$4|PING|")?;

@@ -5,7 +5,7 @@ use command_table::read;
 use resp::{Request, write_reply};
 use resp_decoder::Fault;
 use serving::Served;
-use std::alloc::Global;
+use std::alloc::{AllocError, Global};
 use std::io::Read;
 use std::process::Abort;
 use std::test::Fail;
@@ -163,4 +163,88 @@ fn a_value_of_two_million_bytes_comes_back(rt: HostRuntime) -> Result<(), Fail> 
     replies.extend_from_slice(&value)?;
     expect(&rt, rt.alloc(), &input, &replies);
     Ok(())
+}
+
+#[test]
+fn a_thousand_words_are_taken(rt: HostRuntime) -> Result<(), Fail> {
+    let alloc = rt.alloc();
+    let mut numbers = String::new(alloc);
+    let mut pairs = String::new(alloc);
+    let mut listed = bytes_of(alloc, "*1000|")?;
+    for number in 1000..2000u32 {
+        write!(numbers, " {number}")?;
+        write!(pairs, " {number} {number}")?;
+        let item = format!(in alloc; "$4\r\n{number}\r\n")?;
+        listed.extend_from_slice(item.as_bytes())?;
+    }
+    let row = format!(in alloc;
+        "MSET{pairs}; MGET{numbers}; HSET h{pairs}; HMGET h{numbers}; \
+        RPUSH l{numbers}; LRANGE l 0 -1; SADD s{numbers}; SMEMBERS s; DEL{numbers}; MSETNX{pairs}"
+    )?;
+    let input = requests_of(alloc, row.as_str())?;
+    let mut replies = Vec::new(alloc);
+    for written in ["+OK|", ":1000|", ":1000|", ":1000|"] {
+        replies.extend_from_slice(&bytes_of(alloc, written)?)?;
+        replies.extend_from_slice(&listed)?;
+    }
+    replies.extend_from_slice(&bytes_of(alloc, ":1000|:1|")?)?;
+    expect(&rt, alloc, &input, &replies);
+    Ok(())
+}
+
+/// Requests and their replies; `@` at the end stands for a value of more than a mebibyte.
+type Large = (&'static str, &'static str);
+
+#[rattlefmt::skip]
+const LARGE_STRINGS: [Large; 6] = [
+    ("SET a @", "+OK|"), ("APPEND a @", ":2200000|"), ("SETRANGE a 2200000 @", ":3300000|"), ("GETRANGE a 1100000 2199999", "@"),
+    ("MSET b @", "+OK|"), ("MGET b", "*1|@"),
+];
+
+#[rattlefmt::skip]
+const LARGE_ITEMS: [Large; 6] = [
+    ("RPUSH l @", ":1|"), ("LRANGE l 0 -1", "*1|@"), ("HSET h f @", ":1|"), ("HGET h f", "@"), ("SADD s @", ":1|"), ("SMEMBERS s", "*1|@"),
+];
+
+/// Appends these bytes, with the value in place of the mark at their end, if it stands there.
+fn append(out: &mut Vec<u8>, bytes: &[u8], mark: &[u8], value: &[u8]) -> Result<(), AllocError> {
+    match bytes.strip_suffix(mark) {
+        Some(before) => {
+            out.extend_from_slice(before)?;
+            out.extend_from_slice(value)
+        }
+        None => out.extend_from_slice(bytes),
+    }
+}
+
+fn answer_large(rt: &impl Abort, alloc: Global, rows: &[Large]) -> Result<(), Fail> {
+    let mut value = bytes_of(alloc, "$1100000|")?;
+    for _ in 0..1100 {
+        value.extend_from_slice(&[b'x'; 1000])?;
+    }
+    value.extend_from_slice(b"\r\n")?;
+    let mut input = Vec::new(alloc);
+    let mut replies = Vec::new(alloc);
+    for row in rows {
+        let (request, reply) = *row;
+        append(
+            &mut input,
+            &requests_of(alloc, request)?,
+            b"$1\r\n@\r\n",
+            &value,
+        )?;
+        append(&mut replies, &bytes_of(alloc, reply)?, b"@", &value)?;
+    }
+    expect(rt, alloc, &input, &replies);
+    Ok(())
+}
+
+#[test]
+fn large_strings_are_written_and_read(rt: HostRuntime) -> Result<(), Fail> {
+    answer_large(&rt, rt.alloc(), &LARGE_STRINGS)
+}
+
+#[test]
+fn large_items_are_written_and_read(rt: HostRuntime) -> Result<(), Fail> {
+    answer_large(&rt, rt.alloc(), &LARGE_ITEMS)
 }

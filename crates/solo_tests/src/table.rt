@@ -97,6 +97,7 @@ fn tells_name_and_keys(rt: HostRuntime) -> Result<(), Fail> {
         ("SET a 1", "set a"),
         ("SET a 1 nx NX", "set a"),
         ("DEL a b a", "del a b a"),
+        ("DEL a b c d e f g h i", "del a b c d e f g h i"),
         ("Rename a b", "rename a b"),
         ("SETNX a 1", "setnx a"),
         ("SADD k a b", "sadd k"),

@@ -1,7 +1,7 @@
 use Rattle.std.proofs.Common.{arith}
 use Rattle.std.proofs.lemmas.List.{map-append}
 use Rattle.command_table.specs.Command.{keys_of}
-use Rattle.command_table.proofs.Texts.{take_next}
+use Rattle.texts.proofs.Lists.{take_next}
 use Rattle.command_table.proofs.command.keys.Goals as goal
 
 pub loop-place-preserved : goal.loop-place-preserved

@@ -1,7 +1,7 @@
 use Rattle.std.proofs.Common.{◌≡◌, ◌∷◌, sym, ◌∙◌}
 use Rattle.std.specs.List.{remove}
 use Rattle.command_table.specs.Words.{texts_of}
-use Rattle.command_table.proofs.Texts.{first_word}
+use Rattle.texts.proofs.Lists.{first_text}
 use Rattle.command_table.proofs.Keyed.{keyed_if}
 use Rattle.command_table.proofs.Tells.{told_if}
 use Rattle.command_table.proofs.reading.read.Goals as goal
@@ -9,7 +9,7 @@ use Rattle.command_table.proofs.reading.read.Goals as goal
 pub returns-clause-reading : goal.returns-clause-reading
 returns-clause-reading c =
     let ws = c.into_words-words.result.items in
-    let apart = first_word ws c.remove.result c.into_words-words.ensures.some c.remove.ensures.value in
+    let apart = first_text ws c.remove.result c.into_words-words.ensures.some c.remove.ensures.value in
     let whole : c.args.request ≡ c.remove.result.items ∷ texts_of (remove ws 0) = sym c.into_words-words.ensures.words ∙ apart in
     rw whole (cc)
 

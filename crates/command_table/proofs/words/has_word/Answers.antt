@@ -2,7 +2,7 @@ use Rattle.std.proofs.Common.{sym, ◌∙◌, rules, tests}
 use Rattle.std.proofs.lemmas.Iterator.{YieldsList-from_slice}
 use Rattle.std.proofs.lemmas.Iterator.Search.{any_from_yields_List}
 use Rattle.command_table.specs.Words.{is_word}
-use Rattle.command_table.proofs.Texts.{any_text}
+use Rattle.texts.proofs.Lists.{any_text}
 use Rattle.command_table.proofs.words.has_word.Goals as goal
 
 pub returns : goal.returns
