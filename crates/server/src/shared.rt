@@ -12,6 +12,7 @@ ghost use Rattle.server.specs.Closings.{IsClosed, IsCloseFault, IsWritten};
 
 use crate::fault::AskFault;
 use crate::held::{Held, Turn};
+use crate::turnstile::Turnstile;
 use cluster::{Answer, CloseFault, Closing, Cluster, First, Pick, Seat};
 use placement::Table;
 use resp::{Reply, Request};
@@ -31,6 +32,7 @@ pub struct Shared<L: Ledger> {
     work: Condvar,
     // Outcomes went to their connections, or no turn is made any more.
     done: Condvar,
+    turnstile: Turnstile,
 }
 
 impl<L: Ledger> Shared<L> {
@@ -57,6 +59,7 @@ impl<L: Ledger> Shared<L> {
             }),
             work: Condvar::new(),
             done: Condvar::new(),
+            turnstile: Turnstile::new(),
         })
     }
 
@@ -66,6 +69,11 @@ impl<L: Ledger> Shared<L> {
         ensures refused { IfErr result IsSitFault }
     {
         self.held.lock(rt).sit()
+    }
+
+    /// What the connections that make their own turns pass one at a time.
+    pub(crate) fn turnstile(&self) -> &Turnstile {
+        &self.turnstile
     }
 
     /// Submits a request of these words, and waits until another thread that drives the cluster has brought what came of it.
