@@ -244,15 +244,15 @@ impl<L: Ledger> Shared<L> {
         ensures unchanged { OnErr result (seat.new ≡ seat.old) }
     {
         let mut held = self.held.lock(rt);
-        match held.collect_reply(seat) {
-            Ok(Some(reply)) => return Ok(Some(reply)),
-            Ok(None) => {}
-            Err(fault) => return Err(fault),
+        if held.cluster.system().waits(seat.conn()).is_none() {
+            match held.turn(&First, &InTurn(NonZeroUsize::MIN), &Open) {
+                // Nothing comes any more: the seat is told why.
+                Ok(Turn::Quiet) => {}
+                Ok(_) => return Ok(None),
+                Err(fault) => return Err(fault),
+            }
         }
-        match held.turn(&First, &InTurn(NonZeroUsize::MIN), &Open) {
-            Ok(_) => Ok(None),
-            Err(fault) => Err(fault),
-        }
+        held.collect_reply(seat)
     }
 
     /// Makes a turn, or waits for one to be there to be made. Says whether it is to go on.
