@@ -51,7 +51,10 @@ impl<'a, L: Ledger, R: Wait> Desk<'a, L, R> {
         ensures refused { IfErr result (λ fault. IsAskFault self.old.seat request fault self.new.seat) }
     {
         match self.turns {
-            Turns::Own => self.shared.ask_turning(self.rt, &mut self.seat, request),
+            Turns::Own => {
+                self.shared.turnstile().enter(self.rt, self.seat.conn());
+                self.shared.ask_turning(self.rt, &mut self.seat, request)
+            }
             Turns::Driver => self.shared.ask_driven(self.rt, &mut self.seat, request),
         }
     }
@@ -78,5 +81,9 @@ impl<'a, L: Ledger, R: Wait> Door for Desk<'a, L, R> {
             Err(AskFault::Memory) => Err(DoorFault::Memory),
             Err(fault) => Err(DoorFault::Ended(fault)),
         }
+    }
+
+    fn rest(&self) {
+        self.shared.turnstile().leave(self.rt, self.seat.conn());
     }
 }

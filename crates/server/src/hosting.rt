@@ -10,7 +10,7 @@ use crate::shared::Shared;
 use cluster::{CloseFault, First};
 use placement::Table;
 use resp_decoder::Limits;
-use serving::serve;
+use serving::{Door, serve};
 use shard_exec::{Crew, InTurn, Open};
 use shards::ShardHasher;
 use std::alloc::AllocError;
@@ -275,5 +275,6 @@ fn serve_connection<L: Ledger, R: Wait + AllocGlobal>(
         &mut writer,
         &mut desk,
     );
+    desk.rest();
     shared.stand(rt, desk.into_seat());
 }

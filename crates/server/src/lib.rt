@@ -11,6 +11,7 @@ mod held;
 mod hosting;
 mod sending;
 mod shared;
+mod turnstile;
 
 pub use command_line::{Options, OptionsFault, read_options};
 pub use desk::{Desk, Turns};

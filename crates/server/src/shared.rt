@@ -12,6 +12,7 @@ ghost use Rattle.server.specs.Closings.{IsClosed, IsCloseFault, IsWritten};
 
 use crate::fault::AskFault;
 use crate::held::{Held, Turn};
+use crate::turnstile::Turnstile;
 use cluster::{Answer, CloseFault, Closing, Cluster, First, Pick, Seat};
 use placement::Table;
 use resp::{Reply, Request};
@@ -31,6 +32,7 @@ pub struct Shared<L: Ledger> {
     work: Condvar,
     // Outcomes went to their connections, or no turn is made any more.
     done: Condvar,
+    turnstile: Turnstile,
 }
 
 impl<L: Ledger> Shared<L> {
@@ -57,6 +59,7 @@ impl<L: Ledger> Shared<L> {
             }),
             work: Condvar::new(),
             done: Condvar::new(),
+            turnstile: Turnstile::new(),
         })
     }
 
@@ -66,6 +69,11 @@ impl<L: Ledger> Shared<L> {
         ensures refused { IfErr result IsSitFault }
     {
         self.held.lock(rt).sit()
+    }
+
+    /// What the connections that make their own turns pass one at a time.
+    pub(crate) fn turnstile(&self) -> &Turnstile {
+        &self.turnstile
     }
 
     /// Submits a request of these words, and waits until another thread that drives the cluster has brought what came of it.
@@ -236,15 +244,15 @@ impl<L: Ledger> Shared<L> {
         ensures unchanged { OnErr result (seat.new ≡ seat.old) }
     {
         let mut held = self.held.lock(rt);
-        match held.collect_reply(seat) {
-            Ok(Some(reply)) => return Ok(Some(reply)),
-            Ok(None) => {}
-            Err(fault) => return Err(fault),
+        if held.cluster.system().waits(seat.conn()).is_none() {
+            match held.turn(&First, &InTurn(NonZeroUsize::MIN), &Open) {
+                // Nothing comes any more: the seat is told why.
+                Ok(Turn::Quiet) => {}
+                Ok(_) => return Ok(None),
+                Err(fault) => return Err(fault),
+            }
         }
-        match held.turn(&First, &InTurn(NonZeroUsize::MIN), &Open) {
-            Ok(_) => Ok(None),
-            Err(fault) => Err(fault),
-        }
+        held.collect_reply(seat)
     }
 
     /// Makes a turn, or waits for one to be there to be made. Says whether it is to go on.

@@ -41,6 +41,7 @@ pub fn serve<R: Read, W: Write, D: Door>(
     let mut replies = Vec::new(alloc);
     let mut decoder = Decoder::new(alloc, limits);
     for _ in 0..u64::MAX {
+        door.rest();
         let n = match reader.read(piece) {
             Ok(n) => n,
             Err(e) => {
@@ -86,6 +87,7 @@ fn answer_held<W: Write, D: Door>(
 {
     loop {
         let pause = gather(decoder, door, replies);
+        door.rest();
         let Ok(()) = send(writer, replies.as_slice()) else {
             return Err(ServeFault::Write);
         };

@@ -152,6 +152,95 @@ fn passes_each_reply_on_before_it_reads_again(rt: HostRuntime) -> Result<(), Fai
     Ok(())
 }
 
+/// Echoes, and rests where it is told to.
+#[derive(Drop)]
+struct Rests<'a> {
+    echo: Echo,
+    at_rest: &'a Cell<bool>,
+}
+
+impl Door for Rests<'_> {
+    type Reason = &'static str;
+
+    ghost asks = { λ _ _ _ _. Unit {0} };
+
+    fn ask(&mut self, request: Request) -> Result<Reply, DoorFault<&'static str>> {
+        self.at_rest.set(false);
+        self.echo.ask(request)
+    }
+
+    fn rest(&self) {
+        self.at_rest.set(true);
+    }
+}
+
+/// Fails where the door is not at rest.
+#[derive(Drop)]
+struct WantsRest<'a, T> {
+    inner: T,
+    at_rest: &'a Cell<bool>,
+}
+
+impl<T> WantsRest<'_, T> {
+    fn look(&self) -> io::Result<()> {
+        if self.at_rest.get() {
+            Ok(())
+        } else {
+            Err(ErrorKind::TimedOut.into())
+        }
+    }
+}
+
+impl Read for WantsRest<'_, Source<'_>> {
+    fn read(&mut self, buf: &mut [u8]) -> io::Result<usize> {
+        self.look()?;
+        self.inner.read(buf)
+    }
+}
+
+impl Write for WantsRest<'_, Sink> {
+    fn write(&mut self, buf: &[u8]) -> io::Result<usize> {
+        self.look()?;
+        self.inner.write(buf)
+    }
+
+    fn flush(&mut self) -> io::Result<()> {
+        self.look()?;
+        self.inner.flush()
+    }
+}
+
+#[test]
+fn has_the_door_rest_before_each_read_and_write(rt: HostRuntime) -> Result<(), Fail> {
+    let input = bytes_of(rt.alloc(), "*1|$1|a|*1|$1|b|*1|$1|c|")?;
+    let at_rest = &Cell::new(false);
+    let mut reader = WantsRest {
+        inner: Source::new(&input, 15),
+        at_rest,
+    };
+    let mut writer = WantsRest {
+        inner: Sink::new(rt.alloc(), NEVER),
+        at_rest,
+    };
+    let echo = Echo { alloc: rt.alloc() };
+    let mut door = Rests { echo, at_rest };
+    assert_eq!(rt;
+        serve(
+            rt.alloc(),
+            Limits::DEFAULT,
+            &mut reader,
+            &mut writer,
+            &mut door
+        ),
+        Ok(Served::End)
+    );
+    assert_eq!(rt;
+        writer.inner.taken.as_slice(),
+        b"$1\r\na\r\n$1\r\nb\r\n$1\r\nc\r\n".as_slice()
+    );
+    Ok(())
+}
+
 #[test]
 fn serves_two_thousand_pieces_and_two_million_bytes(rt: HostRuntime) -> Result<(), Fail> {
     let mut word = bytes_of(rt.alloc(), "$1000|")?;

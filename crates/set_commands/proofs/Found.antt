@@ -1,7 +1,7 @@
 -- The sets at the keys of a command, one key after another, and what is combined of them.
-use Rattle.std.proofs.Common.{◌≡◌, ℕ, ◌+◌, ◌<◌, List, [], ◌∷◌, ◌++◌, length, drop, get_or, Option, Some, None}
+use Rattle.std.proofs.Common.{◌≡◌, ℕ, ◌+◌, ◌<◌, List, [], ◌∷◌, ◌++◌, length, take, drop, get_or, Option, Some, None}
 use Rattle.std.proofs.Common.{refl, sym, ap, ◌∙◌, append_assoc}
-use Rattle.std.proofs.lemmas.List.{append-nil}
+use Rattle.std.proofs.lemmas.List.{append-nil, map-append, take-append-drop}
 use Rattle.std.specs.Borrow.{Bor}
 use Rattle.std.specs.FinMap.{get}
 use Rattle.std.specs.Option.{option_copied, option_map}
@@ -55,6 +55,14 @@ found-all m done rest keys left before =
 pub found-turn : (sets : List (Option (Bor Members))) (i : ℕ) (set : Option (Bor Members)) → i < length sets → set ≡ get_or sets i set
     → found_sets (drop i sets) ≡ found_members (option_copied set) ∷ found_sets (drop (i + 1) sets)
 found-turn sets i set within is = map-drop_turn (λ s. found_members (option_copied s)) sets i set within is
+
+-- the sets before a place, the set there and those after it
+pub found-apart : (sets before rest after : List (Option (Bor Members))) (set : Option (Bor Members)) (place : ℕ) → before ≡ take place sets
+    → rest ≡ drop place sets → rest ≡ set ∷ after → found_sets sets ≡ found_sets before ++ found_members (option_copied set) ∷ found_sets after
+found-apart sets before rest after set place front back is =
+    ap found_sets
+    (sym (take-append-drop place sets) ∙ ap (λ l. l ++ drop place sets) (sym front) ∙ ap (λ l. before ++ l) (sym back ∙ is))
+    ∙ map-append (λ s. found_members (option_copied s)) before (set ∷ after)
 
 pub found-nonempty : (members : Members) → found_members (nonempty members) ≡ members
 found-nonempty [] = refl

@@ -1,18 +1,21 @@
 -- Members that are kept ascend as before, and what it is to be a member of what is kept or joined.
-use Rattle.std.proofs.Common.{◌≡◌, Bool, true, false, not, ◌&&◌, ◌||◌, List, [], ◌∷◌, refl, sym, ap, ◌∙◌}
-use Rattle.std.proofs.lemmas.Cmp.{nat_list_eq_equiv}
+use Rattle.std.proofs.Common.{◌≡◌, Bool, true, false, not, ◌&&◌, ◌||◌, List, [], ◌∷◌, ◌++◌, refl, sym, ap, ◌∙◌}
+use Rattle.std.proofs.lemmas.Cmp.{nat_list_cmp_total, nat_list_eq_equiv}
 use Rattle.std.proofs.lemmas.List.Kept.{IsStrictlySortedBy-filter}
 use Rattle.std.proofs.lemmas.List.Folds.{list_any-append}
+use Rattle.std.proofs.lemmas.Map.Lookups.{btree_set_from_contains, exact_bytes}
 use Rattle.std.proofs.lemmas.Map.Made.{is_member-filter}
 use Rattle.std.proofs.lemmas.Map.Text.{is_eq-slice_cmp}
 use Rattle.std.proofs.lemmas.Slice.Eq.{bytes_eq-Decides}
 use Rattle.std.specs.Cmp.Lexicographic.{slice_cmp}
-use Rattle.std.specs.List.{filter, flat_map}
+use Rattle.std.specs.List.{AllByRecursion, filter, flat_map, list_any}
+use Rattle.std.specs.List.Sorted.{IsStrictlySortedBy}
 use Rattle.std.specs.Ordering.{match_ordering, nat_cmp, is_eq}
 use Rattle.std.specs.Str.{bytes_eq}
 use Rattle.std.specs.declared.cmp.Ordering.{Ordering}
 use Rattle.std.specs.declared.cmp.Ordering.TheVariants.{Less, Equal, Greater}
-use Rattle.set_commands.specs.Combination.{Members, is_in_each, is_in_some, IntersectionMembers, UnionMembers, DifferenceMembers}
+use Rattle.set_commands.specs.Combination.{Members, intersection, is_in_all, is_in_each, is_in_some}
+use Rattle.set_commands.specs.Combination.{IntersectionMembers, UnionMembers, DifferenceMembers}
 use Rattle.texts.specs.Texts.{Bytes}
 use Rattle.values.specs.SetValue.{IsAscending, is_member, with_member, with_members}
 
@@ -84,4 +87,52 @@ union_members sets q =
 pub ascending-kept : (test : Bytes → Bool) (members : Members) → IsAscending members → IsAscending (filter test members)
 ascending-kept test members up = IsStrictlySortedBy-filter (slice_cmp nat_cmp) test members up
 
-pub ruleset kept = (ascending-kept)
+-- ascending lists with the same members are one list
+pub ascending-alike : (xs ys : Members) → IsAscending xs → IsAscending ys → ((q : Bytes) → is_member xs q ≡ is_member ys q) → xs ≡ ys
+ascending-alike xs ys up high same =
+    btree_set_from_contains nat_list_cmp_total (record { keys = xs }) (record { keys = ys }) up high (λ q. seen xs q ∙ same q ∙ sym (seen ys q))
+    exact_bytes
+  where
+    seen : (members : Members) (q : Bytes) → list_any (λ x. is_eq (slice_cmp nat_cmp q x)) members ≡ is_member members q
+    seen [] q = refl
+    seen (x ∷ xs) q =
+        ap (λ b. b || list_any (λ x. is_eq (slice_cmp nat_cmp q x)) xs) (is_eq-slice_cmp q x) ∙ ap (λ b. bytes_eq q x || b) (seen xs q)
+
+and-swap : (a b c : Bool) → (b && (a && c)) ≡ (a && (b && c))
+and-swap true b c = refl
+and-swap false true c = refl
+and-swap false false c = refl
+
+-- a set among others decides before them
+each-moved : (before after : List Members) (set : Members) (q : Bytes)
+    → is_in_each (before ++ set ∷ after) q ≡ (is_member set q && is_in_all before after q)
+each-moved [] after set q = refl
+each-moved (first ∷ before) after set q =
+    ap (λ b. is_member first q && b) (each-moved before after set q)
+    ∙ and-swap (is_member set q) (is_member first q) (is_in_all before after q) ∙ ap (λ b. is_member set q && b)
+    (and-joins (is_member first q) (is_in_each before q) (is_in_each after q))
+  where
+    and-joins : (a b c : Bool) → (a && (b && c)) ≡ ((a && b) && c)
+    and-joins true b c = refl
+    and-joins false b c = refl
+
+-- an intersection is what is kept of any one of the sets
+pub intersection-kept : (before after : List Members) (set : Members) → AllByRecursion IsAscending (before ++ set ∷ after)
+    → filter (is_in_all before after) set ≡ intersection (before ++ set ∷ after)
+intersection-kept [] after set up = refl
+intersection-kept (first ∷ before) after set up =
+    ascending-alike (filter (is_in_all (first ∷ before) after) set) (filter (is_in_each (before ++ set ∷ after)) first)
+    (ascending-kept (is_in_all (first ∷ before) after) set (one before up.1)) (ascending-kept (is_in_each (before ++ set ∷ after)) first up.0)
+    (λ q.
+    members-kept (is_in_all (first ∷ before) after) set q
+    ∙ sym (each-moved (first ∷ before) after set q) ∙ sym (members-kept (is_in_each (before ++ set ∷ after)) first q))
+  where
+    one : (before : List Members) → AllByRecursion IsAscending (before ++ set ∷ after) → IsAscending set
+    one [] up = up.0
+    one (first ∷ before) up = one before up.1
+
+pub nothing-ascends : IsAscending []
+unfolding IsStrictlySortedBy
+nothing-ascends = tt
+
+pub ruleset kept = (ascending-kept, nothing-ascends)

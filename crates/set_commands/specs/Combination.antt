@@ -29,6 +29,10 @@ is_in_each sets member = list_all (λ members. is_member members member) sets
 abbrev pub is_in_some : List Members → Bytes → Bool
 is_in_some sets member = list_any (λ members. is_member members member) sets
 
+-- it is a member of each set before another and of each after it
+abbrev pub is_in_all : List Members → List Members → Bytes → Bool
+is_in_all before after member = is_in_each before member && is_in_each after member
+
 -- the members of the first set that are in each of the others
 abbrev pub intersection : List Members → Members
 intersection [] = []

@@ -1,7 +1,7 @@
 //! SINTER, SUNION and SDIFF, and the commands that store what these answer.
 //!
-//! All sets are read before anything changes, and the result is made once: its members are moved to the reply, or the set to the
-//! target.
+//! All sets are read before anything changes, and the result is made once: its members are moved to the reply, or to a set, which is
+//! moved to the target.
 
 ghost use Rattle.std.specs.Prelude.{◌≡◌, All, IsTrue, IfOk, MatchResult, length};
 ghost use Rattle.std.specs.Option.{option_map};
@@ -15,7 +15,7 @@ ghost use Rattle.set_commands.specs.SetCommand.{bulk_texts, combined_answer, sto
 ghost use Rattle.set_commands.specs.declared.combine.Combination.TheVariants.{Intersection, Union, Difference};
 ghost use Rattle.values.specs.declared.Value.TheVariants as kind;
 
-use crate::combine::{Combination, combine};
+use crate::combine::{Combination, combine, combine_as_set};
 use crate::sets::find_sets;
 use command_cases::{Starved, count_reply, wrong_type_reply};
 use keyspace::Keyspace;
@@ -138,15 +138,12 @@ fn answer<K: Keyspace>(
     Ok(members_reply(alloc, combined)?)
 }
 
-/// The members of a set, moved to the reply; a set that is missing has none.
+/// The members of a combination, moved to the reply.
 #[tactic(auto, using(resp::proofs::Contents::content_of))]
-fn members_reply(alloc: Global, set: Option<SetValue>) -> Result<Reply, AllocError>
-    ensures { IfOk result (λ reply. content reply ≡ bulk_texts (found_members set)) }
+fn members_reply(alloc: Global, combined: Texts) -> Result<Reply, AllocError>
+    ensures { IfOk result (λ reply. content reply ≡ bulk_texts combined) }
 {
-    let Some(set) = set else {
-        return Ok(Reply::Array(Vec::new(alloc)));
-    };
-    let mut members = set.into_members(alloc)?.into_vec();
+    let mut members = combined.into_vec();
     let mut replies = Vec::with_capacity(alloc, members.len())?;
     members.reverse();
     while let Some(member) = members.pop() {
@@ -174,7 +171,7 @@ fn store<K: Keyspace>(
         let Some(sets) = find_sets(alloc, keyspace, sources)? else {
             return Ok(wrong_type_reply());
         };
-        combine(alloc, how, sets.as_slice())?
+        combine_as_set(alloc, how, sets.as_slice())?
     };
     put_set(keyspace, target, combined)
 }

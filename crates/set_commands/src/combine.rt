@@ -1,12 +1,13 @@
 //! Intersection, union and difference of sets. Each member of the result is copied once.
 
-ghost use Rattle.std.specs.Prelude.{◌≡◌, [], ◌∷◌, ◌++◌, not, IfOk, OnOk};
-ghost use Rattle.std.specs.List.{filter, flat_map};
+ghost use Rattle.std.specs.Prelude.{◌≡◌, ◌-◌, ◌≤◌, [], ◌∷◌, ◌++◌, length, not, IfOk, OnOk};
+ghost use Rattle.std.specs.List.{AllByRecursion, filter, flat_map};
 ghost use Rattle.std.specs.Option.{option_copied};
-ghost use Rattle.set_commands.specs.Combination.{combined, found_members, found_sets, is_in_each, is_in_some};
+ghost use Rattle.set_commands.specs.Combination.{combined, difference, intersection, union};
+ghost use Rattle.set_commands.specs.Combination.{found_members, found_sets, is_in_all, is_in_each, is_in_some};
 ghost use Rattle.texts.specs.Texts.{texts_of};
 ghost use Rattle.values.specs.ListValue.{nonempty};
-ghost use Rattle.values.specs.SetValue.{IsAscending, is_member, with_members};
+ghost use Rattle.values.specs.SetValue.{IsAscending, is_member};
 
 use std::alloc::{AllocError, Global};
 use texts::{Text, Texts};
@@ -25,64 +26,114 @@ pub(crate) enum Combination {
     Difference,
 }
 
-/// The combination of these sets, if it has a member; a set that is missing has none.
+/// The members of the combination of these sets, ascending; a set that is missing has none.
 pub(crate) fn combine(
+    alloc: Global,
+    how: Combination,
+    sets: &[Option<&SetValue>],
+) -> Result<Texts, AllocError>
+    ensures { IfOk result (λ members. members ≡ combined how (found_sets sets.now)) }
+{
+    match how {
+        Combination::Intersection => intersection(alloc, sets),
+        Combination::Union => union(alloc, sets),
+        Combination::Difference => difference(alloc, sets),
+    }
+}
+
+/// The combination of these sets as a set, if it has a member; a set that is missing has none.
+pub(crate) fn combine_as_set(
     alloc: Global,
     how: Combination,
     sets: &[Option<&SetValue>],
 ) -> Result<Option<SetValue>, AllocError>
     ensures { IfOk result (λ set. set ≡ nonempty (combined how (found_sets sets.now))) }
 {
-    let Some((first, others)) = sets.split_first() else {
-        return Ok(None);
+    let members = match how {
+        Combination::Intersection => intersection(alloc, sets)?,
+        Combination::Union => return union_as_set(alloc, sets),
+        Combination::Difference => difference(alloc, sets)?,
     };
-    match how {
-        Combination::Intersection => intersection(alloc, *first, others),
-        Combination::Union => union(alloc, sets),
-        Combination::Difference => difference(alloc, *first, others),
+    SetValue::from_members(alloc, members)
+}
+
+/// The members that are in each of these sets: those of the smallest that the others have.
+#[tactic(auto, using(crate::proofs::Kept::kept))]
+fn intersection(alloc: Global, sets: &[Option<&SetValue>]) -> Result<Texts, AllocError>
+    ensures common { IfOk result (λ members. members ≡ intersection (found_sets sets.now)) }
+    ensures ascending { IfOk result IsAscending }
+{
+    let (before, rest) = sets.split_at(smallest(sets));
+    let Some((set, after)) = rest.split_first() else {
+        return Ok(Texts::from(Vec::new(alloc)));
+    };
+    let Some(set) = *set else {
+        return Ok(Texts::from(Vec::new(alloc)));
+    };
+    kept_in_each(alloc, set, before, after)
+}
+
+/// The place of the smallest of these sets; 0 where there is none.
+fn smallest(sets: &[Option<&SetValue>]) -> usize
+    ensures place { result ≤ length sets.now - 1 }
+    ensures ascending { AllByRecursion IsAscending (found_sets sets.now) }
+{
+    let mut place = 0;
+    let mut least = usize::MAX;
+    for i in 0..sets.len() {
+        let size = size(sets[i]);
+        if size < least {
+            place = i;
+            least = size;
+        }
+    }
+    place
+}
+
+/// The number of members; a set that is missing has none.
+#[tactic(auto, using(crate::proofs::Kept::kept))]
+fn size(set: Option<&SetValue>) -> usize
+    ensures { IsAscending (found_members (option_copied set.entry)) }
+{
+    match set {
+        None => 0,
+        Some(set) => set.len(),
     }
 }
 
-/// The members of the first set that are in each of the others.
-#[tactic(auto, using(crate::proofs::Kept::kept))]
-fn intersection(
-    alloc: Global,
-    first: Option<&SetValue>,
-    others: &[Option<&SetValue>],
-) -> Result<Option<SetValue>, AllocError>
-    ensures { IfOk result (λ set.
-        set ≡ nonempty (filter (is_in_each (found_sets others.now)) (found_members (option_copied first.entry)))) }
-{
-    let Some(first) = first else {
-        return Ok(None);
-    };
-    let kept = kept_in_each(alloc, first, others)?;
-    SetValue::from_members(alloc, kept)
-}
-
-/// The members of the set that are in each of the others, copied.
+/// The members of the set that are in each of the others, those before it and those after it, copied.
 fn kept_in_each(
     alloc: Global,
     set: &SetValue,
-    others: &[Option<&SetValue>],
+    before: &[Option<&SetValue>],
+    after: &[Option<&SetValue>],
 ) -> Result<Texts, AllocError>
-    ensures kept { IfOk result (λ kept. kept ≡ filter (is_in_each (found_sets others.now)) set.now) }
+    ensures kept { IfOk result (λ kept. kept ≡ filter (is_in_all (found_sets before.now) (found_sets after.now)) set.now) }
     ensures ascending { IfOk result IsAscending }
 {
     let mut kept = Vec::with_capacity(alloc, set.len())?;
     let mut members = set.members();
     while let Some(member) = members.next() {
-        if is_in_each(others, member) {
+        if is_in_each(before, member) && is_in_each(after, member) {
             push_copy(alloc, &mut kept, member)?;
         }
     }
     Ok(Texts::from(kept))
 }
 
-/// The members of all sets.
-fn union(alloc: Global, sets: &[Option<&SetValue>]) -> Result<Option<SetValue>, AllocError>
-    ensures { IfOk result (λ set.
-        set ≡ nonempty (with_members [] (flat_map (λ members. members) (found_sets sets.now)))) }
+/// The members of all sets, ascending.
+fn union(alloc: Global, sets: &[Option<&SetValue>]) -> Result<Texts, AllocError>
+    ensures { IfOk result (λ members. members ≡ union (found_sets sets.now)) }
+{
+    let Some(set) = union_as_set(alloc, sets)? else {
+        return Ok(Texts::from(Vec::new(alloc)));
+    };
+    set.into_members(alloc)
+}
+
+/// The members of all sets as a set, if there are any.
+fn union_as_set(alloc: Global, sets: &[Option<&SetValue>]) -> Result<Option<SetValue>, AllocError>
+    ensures { IfOk result (λ set. set ≡ nonempty (union (found_sets sets.now))) }
 {
     let all = all_members(alloc, sets)?;
     SetValue::from_members(alloc, all)
@@ -150,19 +201,18 @@ pub(crate) fn has(set: Option<&SetValue>, member: &[u8]) -> bool
 }
 
 /// The members of the first set that are in none of the others.
-fn difference(
-    alloc: Global,
-    first: Option<&SetValue>,
-    others: &[Option<&SetValue>],
-) -> Result<Option<SetValue>, AllocError>
-    ensures { IfOk result (λ set. set ≡ nonempty (filter (λ member. not (is_in_some (found_sets others.now) member))
-        (found_members (option_copied first.entry)))) }
+#[tactic(auto, using(crate::proofs::Kept::kept))]
+fn difference(alloc: Global, sets: &[Option<&SetValue>]) -> Result<Texts, AllocError>
+    ensures left { IfOk result (λ members. members ≡ difference (found_sets sets.now)) }
+    ensures ascending { IfOk result IsAscending }
 {
-    let Some(first) = first else {
-        return Ok(None);
+    let Some((first, others)) = sets.split_first() else {
+        return Ok(Texts::from(Vec::new(alloc)));
     };
-    let kept = kept_in_none(alloc, first, others)?;
-    SetValue::from_members(alloc, kept)
+    let Some(first) = *first else {
+        return Ok(Texts::from(Vec::new(alloc)));
+    };
+    kept_in_none(alloc, first, others)
 }
 
 /// The members of the set that are in none of the others, copied.

@@ -1,11 +1,11 @@
 use Rattle.std.proofs.Common.{◌≡◌, sym, subst, rules}
 use Rattle.std.specs.List.{filter}
 use Rattle.set_commands.proofs.Kept.{ascending-kept}
-use Rattle.set_commands.specs.Combination.{found_sets, is_in_each}
+use Rattle.set_commands.specs.Combination.{found_sets, is_in_all}
 use Rattle.values.specs.SetValue.{IsAscending}
 use Rattle.set_commands.proofs.combine.kept_in_each.Goals as goal
 
 pub returns-clause-ascending : goal.returns-clause-ascending
 returns-clause-ascending c =
-    let kept : c.from.result ≡ filter (is_in_each (found_sets c.args.others.now)) c.args.set.now = search rules in
-    subst IsAscending (sym kept) (ascending-kept (is_in_each (found_sets c.args.others.now)) c.args.set.now c.len.ensures.ascending)
+    let kept : c.from.result ≡ filter (is_in_all (found_sets c.args.before.now) (found_sets c.args.after.now)) c.args.set.now = search rules in
+    subst IsAscending (sym kept) (ascending-kept (is_in_all (found_sets c.args.before.now) (found_sets c.args.after.now)) c.args.set.now c.len.ensures.ascending)
