@@ -9,13 +9,15 @@ mod compare;
 mod fault;
 mod lines;
 mod order;
+mod progress;
 mod report;
 mod shown;
 mod steps;
 
 pub use fault::ReplayFault;
+pub use progress::{Progress, Unwatched};
 pub use report::Report;
-pub use shown::{ShowFault, show, told};
+pub use shown::{ShowFault, show, told, told_watched};
 pub use steps::replay;
 
 #[cfg(test)]

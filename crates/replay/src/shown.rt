@@ -1,11 +1,14 @@
 //! A table's text and a trace's text, to a report that is written out.
 
-ghost use Rattle.std.specs.Prelude.{◌≡◌, IfOk};
+ghost use Rattle.std.specs.Prelude.{◌≡◌, ℕ, IfOk, List, Option};
+ghost use Rattle.std.specs.Io.KnownBytes.{Appends};
 ghost use Rattle.replay.specs.Show.{IsShown};
 ghost use Rattle.replay.specs.Show as spec;
 
 use crate::fault::ReplayFault;
-use crate::steps::replay;
+use crate::progress::{Progress, Unwatched};
+use crate::report::Report;
+use crate::steps::replay_watched;
 use journal::{TraceFault, read_trace};
 use placement::{Table, TableFault};
 use shard_exec::Workers;
@@ -85,6 +88,48 @@ pub fn told<W: Workers, O: Write>(
 ) -> Result<bool, ShowFault>
     ensures { IfOk result (λ _. IsShown table.now trace.now (O.contents writer.old) (O.contents writer.new)) }
 {
+    told_watched(alloc, table, trace, workers, &mut Unwatched, writer)
+}
+
+/// As `told`, and tells how far it is. Nothing is written before the watcher knows that the report is there.
+pub fn told_watched<W: Workers, P: Progress, O: Write>(
+    alloc: Global,
+    table: &[u8],
+    trace: &[u8],
+    workers: &W,
+    progress: &mut P,
+    writer: &mut O,
+) -> Result<bool, ShowFault>
+    ensures { IfOk result (λ _. IsShown table.now trace.now (O.contents writer.old) (O.contents writer.new)) }
+{
+    let report = match found(alloc, table, trace, workers, progress) {
+        Ok(report) => report,
+        Err(fault) => {
+            progress.ended();
+            return Err(fault);
+        }
+    };
+    progress.ended();
+    let Ok(()) = writer.write_all(report.text.as_slice()) else {
+        return Err(ShowFault::Write);
+    };
+    let Ok(()) = writer.flush() else {
+        return Err(ShowFault::Write);
+    };
+    Ok(report.agree)
+}
+
+/// The report of this trace over shards as this table says. The table is read first.
+fn found<W: Workers, P: Progress>(
+    alloc: Global,
+    table: &[u8],
+    trace: &[u8],
+    workers: &W,
+    progress: &mut P,
+) -> Result<Report, ShowFault>
+    ensures { IfOk result (λ report. (before after : Option (List ℕ)) → Appends before after report.text.items
+        → IsShown table.now trace.now before after) }
+{
     let Ok(text) = str::from_utf8(table) else {
         return Err(ShowFault::Encoding);
     };
@@ -98,16 +143,10 @@ pub fn told<W: Workers, O: Write>(
         Err(TraceFault::Bad { line }) => return Err(ShowFault::Trace { line }),
         Err(TraceFault::Memory) => return Err(ShowFault::Memory),
     };
-    let report = match replay(alloc, trace, table, workers) {
+    let report = match replay_watched(alloc, trace, table, workers, progress) {
         Ok(report) => report,
         Err(ReplayFault::Step { index, fault }) => return Err(ShowFault::Step { index, fault }),
         Err(ReplayFault::Memory) => return Err(ShowFault::Memory),
     };
-    let Ok(()) = writer.write_all(report.text.as_slice()) else {
-        return Err(ShowFault::Write);
-    };
-    let Ok(()) = writer.flush() else {
-        return Err(ShowFault::Write);
-    };
-    Ok(report.agree)
+    Ok(report)
 }

@@ -10,6 +10,7 @@ ghost use Rattle.world.specs.Steps.{names};
 ghost use Rattle.replay.specs.Replay.{IsReport, IsFaultOf, IsRefusalOf, StandsAt, named_in};
 
 use crate::fault::ReplayFault;
+use crate::progress::{Progress, Unwatched};
 use crate::report::{Report, report_of};
 use journal::{Step, Steps, Trace};
 use placement::Table;
@@ -32,17 +33,32 @@ pub fn replay<W: Workers>(
     ensures report { IfOk result (IsReport table trace.steps) }
     ensures fault { IfErr result (IsFaultOf W.may_refuse table trace.max trace.steps) }
 {
+    replay_watched(alloc, trace, table, workers, &mut Unwatched)
+}
+
+/// As `replay`, and tells of each step that was made.
+pub(super) fn replay_watched<W: Workers, P: Progress>(
+    alloc: Global,
+    trace: Trace,
+    table: Table,
+    workers: &W,
+    progress: &mut P,
+) -> Result<Report, ReplayFault>
+    ensures report { IfOk result (IsReport table trace.steps) }
+    ensures fault { IfErr result (IsFaultOf W.may_refuse table trace.max trace.steps) }
+{
     let mut system = System::new(alloc, table, trace.max())?;
-    make_all(alloc, trace.steps(), &mut system, workers)?;
+    make_all(alloc, trace.steps(), &mut system, workers, progress)?;
     Ok(report_of(alloc, system)?)
 }
 
-/// Makes the steps, up to the first that isn't accepted.
-fn make_all<W: Workers>(
+/// Makes the steps, up to the first that isn't accepted, and tells of each that was made.
+fn make_all<W: Workers, P: Progress>(
     alloc: Global,
     mut steps: Steps<'_>,
     system: &mut System,
     workers: &W,
+    progress: &mut P,
 ) -> Result<(), ReplayFault>
     requires { StandsAt system.old.parts.store.table system.old.max_steps [] system.old }
     ensures made { OnOk result (StandsAt system.old.parts.store.table system.old.max_steps steps.entry system.new) }
@@ -56,6 +72,7 @@ fn make_all<W: Workers>(
         if let Err(fault) = make(alloc, step, index as u64, system, workers) {
             return Err(fault);
         }
+        progress.made(index as u64 + 1, count as u64);
     }
     Ok(())
 }

@@ -14,4 +14,6 @@ mod showing;
 #[cfg(test)]
 mod traces;
 #[cfg(test)]
+mod watching;
+#[cfg(test)]
 mod writes;

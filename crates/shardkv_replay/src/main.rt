@@ -4,12 +4,17 @@
 //! layer's requests. The report goes to standard output, and what went wrong to standard error. The statuses: 0 where the report agrees
 //! with one thread on one map, 1 where it differs; 2 for the words; 3 for the table; 4 for the trace; 5 where a step is refused, or a
 //! worker's thread can't be started; 6 where memory was wanting; 7 where a read or a write failed.
+//!
+//! Where standard error is a terminal, a line on it tells how many of the steps are made, and is gone before the report is written.
 #![tactic(auto)]
 
-use replay::{ShowFault, told};
+mod line;
+
+use line::Line;
+use replay::{Progress, ShowFault, told_watched};
 use replay_options::{OptionsFault, options};
 use shard_exec::{Crew, InTurn};
-use std::io::{self, ErrorKind, Write};
+use std::io::{self, ErrorKind, IsTerminal, Write};
 use std::num::NonZeroUsize;
 use std::process::ExitCode;
 use std::sync::Wait;
@@ -46,7 +51,8 @@ fn main(rt: HostRuntime) -> ExitCode {
         return ExitCode::from(2);
     };
     let (table, trace) = (table.as_slice(), trace.as_slice());
-    match report(&rt, table, trace, workers, &mut rt.stdout()) {
+    let mut line = Line::new(&rt, rt.stderr(), rt.stderr().is_terminal());
+    match report(&rt, table, trace, workers, &mut line, &mut rt.stdout()) {
         Ok(agree) => ExitCode::from(u8::from(!agree)),
         Err(fault) => {
             let _ = eprintln!(rt; "shardkv-replay: {fault}");
@@ -61,17 +67,25 @@ fn words<R: env::Env + AllocGlobal>(rt: &R) -> io::Result<Vec<String>> {
 }
 
 /// Writes the report, and answers whether it agrees. One worker needs no thread; of several, each has a thread while a layer is run.
-fn report<R: Threads + Wait + AllocGlobal, O: Write>(
+fn report<R: Threads + Wait + AllocGlobal, P: Progress, O: Write>(
     rt: &R,
     table: &[u8],
     trace: &[u8],
     workers: NonZeroUsize,
+    progress: &mut P,
     out: &mut O,
 ) -> Result<bool, ShowFault> {
     if workers.get() == 1 {
-        return told(rt.alloc(), table, trace, &InTurn(workers), out);
+        return told_watched(rt.alloc(), table, trace, &InTurn(workers), progress, out);
     }
-    told(rt.alloc(), table, trace, &Crew::new(rt, workers), out)
+    told_watched(
+        rt.alloc(),
+        table,
+        trace,
+        &Crew::new(rt, workers),
+        progress,
+        out,
+    )
 }
 
 /// The status where the words are none of the program's.
@@ -89,3 +103,6 @@ fn status_of_read(fault: &io::Error, status: u8) -> u8 {
         _ => status,
     }
 }
+
+#[cfg(test)]
+mod tests;

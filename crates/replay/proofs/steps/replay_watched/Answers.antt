@@ -1,6 +1,6 @@
 use Rattle.std.proofs.Common.{◌≡◌, refl, sym, ap, ◌∙◌, subst}
 use Rattle.world.specs.Steps.{opening, Leads}
-use Rattle.replay.proofs.steps.replay.Goals as goal
+use Rattle.replay.proofs.steps.replay_watched.Goals as goal
 
 pub make_all-requires : goal.make_all-requires
 make_all-requires g c =

@@ -1,0 +1,20 @@
+//! How far a replay is, for whoever watches it.
+
+/// Is told how far a replay is. What it does with that is its own affair: no report depends on it.
+pub trait Progress {
+    /// So many of all the steps were made, and all of them were accepted. It is called after each step.
+    fn made(&mut self, steps: u64, all: u64);
+
+    /// The report is there, or there will be none: `made` is called no more. Nothing was written before.
+    fn ended(&mut self);
+}
+
+/// Lets no one know.
+#[derive(Clone, Copy, Debug, Drop)]
+pub struct Unwatched;
+
+impl Progress for Unwatched {
+    fn made(&mut self, _steps: u64, _all: u64) {}
+
+    fn ended(&mut self) {}
+}
