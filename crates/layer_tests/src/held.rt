@@ -1,6 +1,7 @@
 //! That a crew of two really runs two requests at once, and what a refused start leaves.
 
 use crate::jobs::{job, layer, run, text, two_shards};
+use crate::trouble::Trouble;
 use layer_planner::Layer;
 use placement::Table;
 use shard_exec::{Crew, ExecFault, Gate, InTurn, Open, Part, Ran, Refused, Room, Store, Workers};
@@ -49,7 +50,7 @@ fn holding<'r, R>(clock: &'r R, turns: u32) -> Held<'r, R> {
 }
 
 /// `SET a 1` on the one shard and `SET c 2` on the other.
-fn two_requests(alloc: Global, table: &Table) -> Result<Layer, Fail> {
+fn two_requests(alloc: Global, table: &Table) -> Result<Layer, Trouble> {
     let mut jobs = Vec::new(alloc);
     jobs.push(job(alloc, table, 1, 1, "SET a 1")?)?;
     jobs.push(job(alloc, table, 2, 1, "SET c 2")?)?;

@@ -1,5 +1,6 @@
 //! Jobs from the words of a request, and replies as the text that a client gets.
 
+use crate::trouble::Trouble;
 use command_table::read;
 use layer_planner::{Job, Layer};
 use placement::{GroupId, Table};
@@ -8,17 +9,16 @@ use shard_exec::{Ended, Gate, InTurn, Open, Store, Workers};
 use skeen_core::{ConnId, RequestId, Stamp};
 use std::alloc::Global;
 use std::process::Abort;
-use std::test::Fail;
 
 /// Two shards: `a`, `b` and `y` lie on 0, `c`, `d`, `x` and `z` on 1.
-pub(crate) fn two_shards(alloc: Global) -> Result<Table, Fail> {
+pub(crate) fn two_shards(alloc: Global) -> Result<Table, Trouble> {
     table_of(alloc, 2)
 }
 
 /// So many shards, each with as many slots.
-pub(crate) fn table_of(alloc: Global, shards: u64) -> Result<Table, Fail> {
+pub(crate) fn table_of(alloc: Global, shards: u64) -> Result<Table, Trouble> {
     if shards == 0 || shards > 64 {
-        return Err("1 to 64 shards".into());
+        return Err(Trouble::Asked);
     }
     let mut text = format!(in alloc; "shards = {shards}\n")?;
     for shard in 0..shards {
@@ -38,13 +38,13 @@ pub(crate) fn job(
     seq: u64,
     clock: u64,
     words: &str,
-) -> Result<Job, Fail> {
+) -> Result<Job, Trouble> {
     let mut copies = Vec::new(alloc);
     for word in words.split(' ') {
         copies.push(Vec::from_slice(alloc, word.as_bytes())?)?;
     }
     if copies.is_empty() {
-        return Err("no words".into());
+        return Err(Trouble::Asked);
     }
     let command = read(Request::from_words(copies))?;
     let groups = table.groups(&command);
@@ -64,7 +64,7 @@ pub(crate) fn job(
 }
 
 /// The layer of these jobs.
-pub(crate) fn layer(jobs: Vec<Job>) -> Result<Layer, Fail> {
+pub(crate) fn layer(jobs: Vec<Job>) -> Result<Layer, Trouble> {
     Ok(Layer::gather(jobs).ok_or("a group twice")?)
 }
 
@@ -76,7 +76,7 @@ pub(crate) fn ask(
     table: &Table,
     clock: u64,
     words: &str,
-) -> Result<String, Fail> {
+) -> Result<String, Trouble> {
     let mut jobs = Vec::new(alloc);
     jobs.push(job(alloc, table, clock, clock, words)?)?;
     let done = run(
@@ -98,7 +98,7 @@ pub(crate) fn run<W: Workers>(
     layer: Layer,
     workers: &W,
     gate: &(dyn Gate + Sync),
-) -> Result<Vec<Ended>, Fail> {
+) -> Result<Vec<Ended>, Trouble> {
     assert!(rt; store.may_run(&layer), "groups of another table");
     Ok(
         store
@@ -109,7 +109,7 @@ pub(crate) fn run<W: Workers>(
 }
 
 /// What was answered, with blanks between; `starved` where there is no reply.
-pub(crate) fn text(alloc: Global, done: &[Ended]) -> Result<String, Fail> {
+pub(crate) fn text(alloc: Global, done: &[Ended]) -> Result<String, Trouble> {
     let mut bytes = Vec::new(alloc);
     for ended in done {
         match &ended.reply {

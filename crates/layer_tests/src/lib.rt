@@ -9,3 +9,7 @@ mod jobs;
 mod layers;
 #[cfg(test)]
 mod many;
+#[cfg(test)]
+mod memory;
+#[cfg(test)]
+mod trouble;
