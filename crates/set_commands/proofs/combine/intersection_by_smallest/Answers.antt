@@ -5,7 +5,7 @@ use Rattle.set_commands.proofs.Found.{found-apart}
 use Rattle.set_commands.proofs.Kept.{intersection-kept}
 use Rattle.set_commands.specs.Combination.{found_members, found_sets, intersection}
 use Rattle.values.specs.SetValue.{IsAscending}
-use Rattle.set_commands.proofs.combine.intersection.Goals as goal
+use Rattle.set_commands.proofs.combine.intersection_by_smallest.Goals as goal
 
 pub returns-in_default-set-clause-common : goal.returns-in_default-set-clause-common
 returns-in_default-set-clause-common c =
