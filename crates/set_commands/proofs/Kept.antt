@@ -93,7 +93,8 @@ ascending-kept test members up = IsStrictlySortedBy-filter (slice_cmp nat_cmp) t
 -- ascending lists with the same members are one list
 pub ascending-alike : (xs ys : Members) → IsAscending xs → IsAscending ys → ((q : Bytes) → is_member xs q ≡ is_member ys q) → xs ≡ ys
 ascending-alike xs ys up high same =
-    btree_set_from_contains nat_list_cmp_total (record { keys = xs }) (record { keys = ys }) up high (λ q. seen xs q ∙ same q ∙ sym (seen ys q))
+    btree_set_from_contains nat_list_cmp_total (record { keys = xs })
+    (record { keys = ys }) up high (λ q. seen xs q ∙ same q ∙ sym (seen ys q))
     exact_bytes
   where
     seen : (members : Members) (q : Bytes) → list_any (λ x. is_eq (slice_cmp nat_cmp q x)) members ≡ is_member members q
@@ -125,7 +126,8 @@ pub intersection-kept : (before after : List Members) (set : Members) → AllByR
 intersection-kept [] after set up = refl
 intersection-kept (first ∷ before) after set up =
     ascending-alike (filter (is_in_all (first ∷ before) after) set) (filter (is_in_each (before ++ set ∷ after)) first)
-    (ascending-kept (is_in_all (first ∷ before) after) set (one before up.1)) (ascending-kept (is_in_each (before ++ set ∷ after)) first up.0)
+    (ascending-kept (is_in_all (first ∷ before) after) set (one before up.1))
+    (ascending-kept (is_in_each (before ++ set ∷ after)) first up.0)
     (λ q.
     members-kept (is_in_all (first ∷ before) after) set q
     ∙ sym (each-moved (first ∷ before) after set q) ∙ sym (members-kept (is_in_each (before ++ set ∷ after)) first q))
