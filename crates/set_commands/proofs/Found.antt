@@ -58,7 +58,8 @@ found-turn sets i set within is = map-drop_turn (λ s. found_members (option_cop
 
 -- the sets before a place, the set there and those after it
 pub found-apart : (sets before rest after : List (Option (Bor Members))) (set : Option (Bor Members)) (place : ℕ) → before ≡ take place sets
-    → rest ≡ drop place sets → rest ≡ set ∷ after → found_sets sets ≡ found_sets before ++ found_members (option_copied set) ∷ found_sets after
+    → rest ≡ drop place sets → rest ≡ set ∷ after
+    → found_sets sets ≡ found_sets before ++ found_members (option_copied set) ∷ found_sets after
 found-apart sets before rest after set place front back is =
     ap found_sets
     (sym (take-append-drop place sets) ∙ ap (λ l. l ++ drop place sets) (sym front) ∙ ap (λ l. before ++ l) (sym back ∙ is))

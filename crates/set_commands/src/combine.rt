@@ -1,6 +1,6 @@
 //! Intersection, union and difference of sets. Each member of the result is copied once.
 
-ghost use Rattle.std.specs.Prelude.{◌≡◌, ◌-◌, ◌≤◌, [], ◌∷◌, ◌++◌, length, not, IfOk, OnOk};
+ghost use Rattle.std.specs.Prelude.{◌≡◌, ◌-◌, ◌<◌, ◌≤◌, [], ◌∷◌, ◌++◌, length, not, IfOk, IfSome, OnOk};
 ghost use Rattle.std.specs.List.{AllByRecursion, filter, flat_map};
 ghost use Rattle.std.specs.Option.{option_copied};
 ghost use Rattle.set_commands.specs.Combination.{combined, difference, intersection, union};
@@ -10,6 +10,7 @@ ghost use Rattle.values.specs.ListValue.{nonempty};
 ghost use Rattle.values.specs.SetValue.{IsAscending, is_member};
 
 use std::alloc::{AllocError, Global};
+use std::cmp::Ordering;
 use texts::{Text, Texts};
 use values::SetValue;
 
@@ -57,9 +58,74 @@ pub(crate) fn combine_as_set(
     SetValue::from_members(alloc, members)
 }
 
+/// The members that are in each of these sets: two of like size are walked side by side; else the smallest is walked, and the others
+/// are asked.
+#[tactic(auto, using(crate::proofs::Kept::both_kept))]
+fn intersection(alloc: Global, sets: &[Option<&SetValue>]) -> Result<Texts, AllocError>
+    ensures common { IfOk result (λ members. members ≡ intersection (found_sets sets.now)) }
+    ensures ascending { IfOk result IsAscending }
+{
+    if let Some((first, second)) = pair(sets)
+        && are_alike(first.len(), second.len())
+    {
+        return kept_side_by_side(alloc, first, second);
+    }
+    intersection_by_smallest(alloc, sets)
+}
+
+/// These sets, where they are two and neither is missing.
+fn pair<'a>(sets: &[Option<&'a SetValue>]) -> Option<(&'a SetValue, &'a SetValue)>
+    ensures { IfSome result (λ pair. found_sets sets.now ≡ pair.0.now ∷ pair.1.now ∷ []) }
+{
+    if sets.len() != 2 {
+        return None;
+    }
+    let first = sets[0]?;
+    let second = sets[1]?;
+    Some((first, second))
+}
+
+/// Whether it is cheaper to walk two sets of these sizes side by side than to look the members of the one up in the other, which takes
+/// as many steps a member as the size has binary digits.
+fn are_alike(one: usize, other: usize) -> bool
+    requires one { 0 < one }
+    requires other { 0 < other }
+{
+    let few = one.min(other);
+    let many = one.max(other);
+    many / few < many.ilog2() as usize
+}
+
+/// The members that both sets have, copied; both are walked once.
+#[tactic(auto, using(crate::proofs::Kept::walked))]
+fn kept_side_by_side(
+    alloc: Global,
+    first: &SetValue,
+    second: &SetValue,
+) -> Result<Texts, AllocError>
+    ensures kept { IfOk result (λ kept. kept ≡ filter (is_member second.now) first.now) }
+    ensures ascending { IfOk result IsAscending }
+{
+    let mut kept = Vec::with_capacity(alloc, first.len().min(second.len()))?;
+    let (mut members, mut others) = (first.members(), second.members());
+    let (mut member, mut other) = (members.next(), others.next());
+    while let (Some(one), Some(two)) = (member, other) {
+        match one.cmp(two) {
+            Ordering::Less => member = members.next(),
+            Ordering::Greater => other = others.next(),
+            Ordering::Equal => {
+                push_copy(alloc, &mut kept, one)?;
+                member = members.next();
+                other = others.next();
+            }
+        }
+    }
+    Ok(Texts::from(kept))
+}
+
 /// The members that are in each of these sets: those of the smallest that the others have.
 #[tactic(auto, using(crate::proofs::Kept::kept))]
-fn intersection(alloc: Global, sets: &[Option<&SetValue>]) -> Result<Texts, AllocError>
+fn intersection_by_smallest(alloc: Global, sets: &[Option<&SetValue>]) -> Result<Texts, AllocError>
     ensures common { IfOk result (λ members. members ≡ intersection (found_sets sets.now)) }
     ensures ascending { IfOk result IsAscending }
 {

@@ -7,5 +7,6 @@ use Rattle.set_commands.proofs.combine.kept_in_each.Goals as goal
 
 pub returns-clause-ascending : goal.returns-clause-ascending
 returns-clause-ascending c =
-    let kept : c.from.result ≡ filter (is_in_all (found_sets c.args.before.now) (found_sets c.args.after.now)) c.args.set.now = search rules in
-    subst IsAscending (sym kept) (ascending-kept (is_in_all (found_sets c.args.before.now) (found_sets c.args.after.now)) c.args.set.now c.len.ensures.ascending)
+    let test = is_in_all (found_sets c.args.before.now) (found_sets c.args.after.now) in
+    let kept : c.from.result ≡ filter test c.args.set.now = search rules in
+    subst IsAscending (sym kept) (ascending-kept test c.args.set.now c.len.ensures.ascending)

@@ -5,7 +5,7 @@ use Rattle.set_commands.proofs.Found.{found-apart}
 use Rattle.set_commands.proofs.Kept.{intersection-kept}
 use Rattle.set_commands.specs.Combination.{found_members, found_sets, intersection}
 use Rattle.values.specs.SetValue.{IsAscending}
-use Rattle.set_commands.proofs.combine.intersection.Goals as goal
+use Rattle.set_commands.proofs.combine.intersection_by_smallest.Goals as goal
 
 pub returns-in_default-set-clause-common : goal.returns-in_default-set-clause-common
 returns-in_default-set-clause-common c =
@@ -14,7 +14,8 @@ returns-in_default-set-clause-common c =
     let after = c.in-Some.after.now in
     let missing : c.in-Some.set.now ≡ None = search rules in
     let whole : found_sets sets ≡ found_sets before ++ [] ∷ found_sets after =
-    found-apart sets before c.split_at.result.1.now after c.in-Some.set.now c.smallest.result c.split_at.ensures.front c.split_at.ensures.back
+    found-apart sets before c.split_at.result.1.now after c.in-Some.set.now c.smallest.result c.split_at.ensures.front
+    c.split_at.ensures.back
     c.in-Some.ensures.cases.0
     ∙ ap (λ s. found_sets before ++ found_members (option_copied s) ∷ found_sets after) missing in
     let nothing : c.from-in_default-set.result ≡ [] = search rules in
@@ -31,7 +32,8 @@ returns-clause-common c =
     let set = c.in-Some-set.set.now in
     let there : c.in-Some.set.now ≡ Some c.in-Some-set.set = search rules in
     let whole : found_sets sets ≡ found_sets before ++ set ∷ found_sets after =
-    found-apart sets before c.split_at.result.1.now after c.in-Some.set.now c.smallest.result c.split_at.ensures.front c.split_at.ensures.back
+    found-apart sets before c.split_at.result.1.now after c.in-Some.set.now c.smallest.result c.split_at.ensures.front
+    c.split_at.ensures.back
     c.in-Some.ensures.cases.0
     ∙ ap (λ s. found_sets before ++ found_members (option_copied s) ∷ found_sets after) there in
     subst (λ members. IfOk c.kept_in_each.result (λ kept. kept ≡ members))
