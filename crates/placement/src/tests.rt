@@ -146,9 +146,9 @@ fn reads_inline_tables_over_several_lines(rt: HostRuntime) -> Result<(), Fail> {
 }
 
 #[test]
-fn reads_forty_thousand_ranges(rt: HostRuntime) -> Result<(), Fail> {
+fn reads_a_hundred_thousand_ranges(rt: HostRuntime) -> Result<(), Fail> {
     let mut text = String::from_str(rt.alloc(), "shards = 1\nrange = [\n")?;
-    for number in 0..40_000u32 {
+    for number in 0..100_000u32 {
         let slot = number % 1024;
         write!(text, "{{ from = {slot}, to = {slot}, shard = 0 }},\n")?;
     }
