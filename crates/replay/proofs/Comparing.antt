@@ -10,12 +10,11 @@ use Rattle.dumps.specs.Dump.{dump_text}
 use Rattle.execution_order.specs.Entries.{Row, commands_of, entries_of, replies_of, rows_by_stamp}
 use Rattle.journal.specs.Views.{RowView}
 use Rattle.keyspace.specs.Map.{Map}
-use Rattle.resp.specs.Content.{Content}
 use Rattle.resp.specs.Text.{text}
 use Rattle.system_view.specs.Layers.{IsRow, AreRows}
 use Rattle.world_laws.specs.Headline.{IsOneThread, rows_of}
 use Rattle.replay.proofs.Places.{zip_at, zip_beside}
-use Rattle.replay.specs.Order.{Key, IsPlaced, ArePlaced}
+use Rattle.replay.specs.Order.{Key, ArePlaced}
 use Rattle.replay.specs.Report.{row_line, replies_agree, left_by, agrees, starved_line, last_line, executed_in, report_text}
 use Rattle.journal.specs.declared.step.Step.{Step}
 use Rattle.placement.specs.Layout.{IsTable}

@@ -1,5 +1,5 @@
 -- Steps of a trace that are made, and the one that isn't.
-use Rattle.std.proofs.Common.{◌≡◌, ◌≢◌, ℕ, suc, ◌+◌, Bool, true, false, cond, ◌||◌, List, [], ◌∷◌, ◌++◌, length, take, drop, zero, ◌<◌, ◌⊎◌, inl, inr, Option, Some, None}
+use Rattle.std.proofs.Common.{◌≡◌, ◌≢◌, ℕ, suc, ◌+◌, Bool, true, false, cond, ◌||◌, List, [], ◌∷◌, ◌++◌, length, take, drop, zero, ◌<◌, inl, inr, Option, Some, None}
 use Rattle.std.proofs.Common.{refl, sym, ap, ◌∙◌, subst, arith, length-append}
 use Rattle.std.proofs.lemmas.Bool.{or_cases}
 use Rattle.std.specs.List.{AllByRecursion, list_any}
@@ -19,15 +19,14 @@ use Rattle.skeen_core.specs.Request.{same_id}
 use Rattle.skeen_core.specs.declared.packet.Delivered.{Delivered}
 use Rattle.skeen_core.specs.declared.request.RequestId.{RequestId}
 use Rattle.system.proofs.Histories.{leads_more}
-use Rattle.system.specs.Parts.{IsAt, StarvesNamed, effect_shown, stored}
+use Rattle.system.specs.Parts.{StarvesNamed, effect_shown, stored}
 use Rattle.system.specs.System.{SystemView, IsStep, IsRefused}
 use Rattle.system.specs.declared.effect.Effect.{Effect}
 use Rattle.system.specs.declared.effect.Effect.TheVariants as effect
 use Rattle.system.specs.declared.fault.StepFault.{StepFault}
 use Rattle.system.specs.declared.fault.StepFault.TheVariants.{Busy, NoConn, NoPacket, InFlight, NoLayer, Exhausted, Memory, Failed}
-use Rattle.world.specs.Steps.{opening, names, ended_as, map_after, RunInTurn, RunsLayer, Steps, Leads}
-use Rattle.world.specs.Steps as world
-use Rattle.world.specs.World.{World, Request, Ended}
+use Rattle.world.specs.Steps.{opening, names, map_after, RunInTurn, Steps, Leads}
+use Rattle.world.specs.World.{World, Ended}
 use Rattle.world_laws.specs.Good.{Asked}
 
 -- ---- a Run starves those that its line names, and no other

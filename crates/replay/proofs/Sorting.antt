@@ -1,5 +1,5 @@
 -- The places of rows, put one by one to their places in the order of stamps.
-use Rattle.std.proofs.Common.{◌≡◌, ℕ, suc, ◌+◌, ◌-◌, ◌<◌, ◌≤◌, ◌==◌, ◌||◌, ◌&&◌, true, false, cond, List, [], ◌∷◌, length, drop, slice_get}
+use Rattle.std.proofs.Common.{◌≡◌, ℕ, suc, ◌<◌, ◌≤◌, ◌==◌, ◌||◌, ◌&&◌, true, false, cond, List, [], ◌∷◌, length, drop, slice_get}
 use Rattle.std.proofs.Common.{Bool, nat_lt, Some, ◌⊎◌, inl, inr, arith, refl, sym, ap, ◌∙◌, subst}
 use Rattle.std.proofs.lemmas.Bool.{cases_order}
 use Rattle.std.proofs.lemmas.Bool.Decides.{nat_tests}

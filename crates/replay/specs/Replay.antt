@@ -1,6 +1,5 @@
 -- What a replay answers.
 use Rattle.std.specs.Prelude.{◌≡◌, ◌≢◌, ℕ, Bool, true, false, List, [], ◌∷◌, ◌++◌, length}
-use Rattle.journal.specs.Views.{TraceView}
 use Rattle.journal.specs.declared.step.Step.{Step}
 use Rattle.journal.specs.declared.step.Step.TheVariants.{Run}
 use Rattle.skeen_core.specs.declared.request.RequestId.{RequestId}

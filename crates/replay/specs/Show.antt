@@ -1,5 +1,5 @@
 -- What the program has written, and its statuses.
-use Rattle.std.specs.Prelude.{◌≡◌, ℕ, List, Option}
+use Rattle.std.specs.Prelude.{ℕ, List, Option}
 use Rattle.std.specs.Io.KnownBytes.{Appends}
 use Rattle.journal.specs.TraceText.{Spells}
 use Rattle.journal.specs.declared.step.Step.{Step}

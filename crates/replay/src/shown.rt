@@ -1,6 +1,6 @@
 //! A table's text and a trace's text, to a report that is written out.
 
-ghost use Rattle.std.specs.Prelude.{◌≡◌, ℕ, IfOk, List, Option};
+ghost use Rattle.std.specs.Prelude.{◌≡◌, ℕ, true, IfOk, OnOk, List, Option};
 ghost use Rattle.std.specs.Io.KnownBytes.{Appends};
 ghost use Rattle.replay.specs.Show.{IsShown};
 ghost use Rattle.replay.specs.Show as spec;
@@ -86,7 +86,8 @@ pub fn told<W: Workers, O: Write>(
     workers: &W,
     writer: &mut O,
 ) -> Result<bool, ShowFault>
-    ensures { IfOk result (λ _. IsShown table.now trace.now (O.contents writer.old) (O.contents writer.new)) }
+    ensures shown { OnOk result (IsShown table.now trace.now (O.contents writer.old) (O.contents writer.new)) }
+    ensures agrees { IfOk result (λ agree. agree ≡ true) }
 {
     told_watched(alloc, table, trace, workers, &mut Unwatched, writer)
 }
@@ -100,7 +101,8 @@ pub fn told_watched<W: Workers, P: Progress, O: Write>(
     progress: &mut P,
     writer: &mut O,
 ) -> Result<bool, ShowFault>
-    ensures { IfOk result (λ _. IsShown table.now trace.now (O.contents writer.old) (O.contents writer.new)) }
+    ensures shown { OnOk result (IsShown table.now trace.now (O.contents writer.old) (O.contents writer.new)) }
+    ensures agrees { IfOk result (λ agree. agree ≡ true) }
 {
     let report = match found(alloc, table, trace, workers, progress) {
         Ok(report) => report,
@@ -127,8 +129,9 @@ fn found<W: Workers, P: Progress>(
     workers: &W,
     progress: &mut P,
 ) -> Result<Report, ShowFault>
-    ensures { IfOk result (λ report. (before after : Option (List ℕ)) → Appends before after report.text.items
+    ensures shown { IfOk result (λ report. (before after : Option (List ℕ)) → Appends before after report.text.items
         → IsShown table.now trace.now before after) }
+    ensures agrees { IfOk result (λ report. report.agree ≡ true) }
 {
     let Ok(text) = str::from_utf8(table) else {
         return Err(ShowFault::Encoding);

@@ -1,4 +1,4 @@
-use Rattle.std.proofs.Common.{◌≡◌, ◌++◌, ◌∷◌, ◌&&◌, Bool, true, false, Some, None, slice_get, refl, sym, ap, ◌∙◌, subst}
+use Rattle.std.proofs.Common.{◌≡◌, ◌++◌, ◌&&◌, None, slice_get, sym, ap, ◌∙◌, subst}
 use Rattle.std.specs.List.{flat_map}
 use Rattle.execution_order.specs.Entries.{rows_by_stamp}
 use Rattle.replay.proofs.Comparing.{Whole, next_row, row_there}

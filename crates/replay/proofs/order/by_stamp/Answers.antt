@@ -1,4 +1,4 @@
-use Rattle.std.proofs.Common.{◌≡◌, ℕ, suc, ◌+◌, ◌-◌, ◌<◌, ◌≤◌, length, slice_get, Some, None, arith, refl, sym, ap, ◌∙◌, subst}
+use Rattle.std.proofs.Common.{◌≡◌, suc, ◌+◌, ◌-◌, length, slice_get, Some, arith, sym, ap, ◌∙◌}
 use Rattle.dumps.proofs.Orders.{past-none}
 use Rattle.replay.proofs.Sorting.{none_placed, none_before, one_more_placed, one_more_before}
 use Rattle.replay.specs.Order.{Key}

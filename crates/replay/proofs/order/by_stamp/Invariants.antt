@@ -1,4 +1,4 @@
-use Rattle.std.proofs.Common.{◌≤◌, ◌-◌, ℕ, List, drop}
+use Rattle.std.proofs.Common.{◌≤◌, ◌-◌, List, drop}
 use Rattle.std.specs.List.{AllZip, AllByRecursion}
 use Rattle.execution_order.specs.Entries.{Row, rows_by_stamp}
 use Rattle.replay.specs.Order.{Key, ArePlaced}

@@ -1,4 +1,4 @@
-use Rattle.std.proofs.Common.{◌≡◌, ◌++◌, [], true, List, Bool, refl, sym, ap, ◌∙◌, subst}
+use Rattle.std.proofs.Common.{◌≡◌, ◌++◌, true, List, ap, ◌∙◌, subst}
 use Rattle.std.specs.List.{flat_map}
 use Rattle.dumps.specs.Dump.{dump_text}
 use Rattle.journal.specs.declared.step.Step.{Step}

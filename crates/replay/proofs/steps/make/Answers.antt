@@ -1,4 +1,4 @@
-use Rattle.std.proofs.Common.{◌≡◌, true, List, refl, sym, ap, ◌∙◌, subst}
+use Rattle.std.proofs.Common.{◌≡◌, true, List, subst}
 use Rattle.std.specs.List.{AllByRecursion}
 use Rattle.skeen_core.specs.declared.request.RequestId.{RequestId}
 use Rattle.system.specs.declared.effect.Effect.TheVariants as effect

@@ -1,4 +1,4 @@
-use Rattle.std.proofs.Common.{◌≡◌, ◌<◌, ◌∷◌, length, take, drop, arith, refl, sym, ap, ◌∙◌, subst}
+use Rattle.std.proofs.Common.{◌<◌, length, take, arith}
 use Rattle.replay.proofs.Making.{none_left, next_none, next_some, fault_at, one_more_made}
 use Rattle.replay.proofs.steps.make_all.Goals as goal
 

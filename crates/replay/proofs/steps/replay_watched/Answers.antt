@@ -1,4 +1,4 @@
-use Rattle.std.proofs.Common.{◌≡◌, refl, sym, ap, ◌∙◌, subst}
+use Rattle.std.proofs.Common.{refl, ◌∙◌, subst}
 use Rattle.world.specs.Steps.{opening, Leads}
 use Rattle.replay.proofs.steps.replay_watched.Goals as goal
 
