@@ -76,7 +76,14 @@ fn a_refused_step_is_not_told(rt: HostRuntime) -> Result<(), Fail> {
 
 #[test]
 fn of_a_bad_trace_only_the_end_is_told(rt: HostRuntime) -> Result<(), Fail> {
-    let fault = assert_watched(&rt, rt.alloc(), "shardkv-trace 1\nmax 9\nopen\nend 2\n", 0, 0, "")?;
+    let fault = assert_watched(
+        &rt,
+        rt.alloc(),
+        "shardkv-trace 1\nmax 9\nopen\nend 2\n",
+        0,
+        0,
+        "",
+    )?;
     assert!(rt; matches!(fault, Some(ShowFault::Trace { .. })));
     Ok(())
 }
