@@ -1,4 +1,5 @@
--- A part of a map: cut down to some keys, and put back. What a body does with one key or several is carried through these.
+-- A part of a map: cut down to some keys, and put back. What a body does with one key or several is carried through
+-- these.
 use Rattle.std.proofs.Common.{◌≡◌, ℕ, List, [], ◌∷◌, Bool, true, false, cond, not, ◌||◌, Option, Some, None, refl, sym, ap, ◌∙◌}
 use Rattle.std.proofs.lemmas.Cmp.{nat_list_cmp_total}
 use Rattle.std.specs.Cmp.Lexicographic.{slice_cmp}
@@ -120,7 +121,8 @@ in_either_order : (a b : Bool) (x y z : Option Value) → (a ≡ true → b ≡ 
 in_either_order true b x y z apart = ap (λ t. cond t y x) (apart refl)
 in_either_order false b x y z apart = refl
 
--- two parts with no key in common: the one is read as before the other was put back, and they are put back in either order
+-- two parts with no key in common: the one is read as before the other was put back, and they are put back in either
+-- order
 pub restrict-put_back_apart : (m : Map) (ks js : List (List ℕ)) (part : Map) → AreApart ks js
     → restrict (put_back m ks part) js ≡ restrict m js
 restrict-put_back_apart m ks js part apart =

@@ -1,5 +1,5 @@
--- The contents of a keyspace: a finite map from keys, which are byte strings, to values. Its words are those of `FinMap`; here
--- are the few that speak of a set of keys at once, given as a list in any order and with repeats.
+-- The contents of a keyspace: a finite map from keys, which are byte strings, to values. Its words are those of
+-- `FinMap`; here are the few that speak of a set of keys at once, given as a list in any order and with repeats.
 use Rattle.std.specs.Prelude.{◌≡◌, ℕ, Bool, true, false, not, List, [], ◌∷◌, Option, Some, None}
 use Rattle.std.specs.Cmp.Lexicographic.{slice_cmp}
 use Rattle.std.specs.FinMap.{FinMap, insert, remove, retain_keys, entries}

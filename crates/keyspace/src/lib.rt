@@ -1,7 +1,7 @@
 //! Keys and their values.
 //!
-//! A keyspace is a finite map from byte strings to values. `Keyspace` is what the bodies of commands use of it, so that a body is
-//! written and proved once for one table and for the shards of several. `Plain` is the one table.
+//! A keyspace is a finite map from byte strings to values. `Keyspace` is what the bodies of commands use of it, so that
+//! a body is written and proved once for one table and for the shards of several. `Plain` is the one table.
 #![tactic(auto)]
 
 mod listed;
@@ -20,8 +20,9 @@ use values::Value;
 
 /// The keys that a command may touch, with their values.
 ///
-/// Contracts see the `contents`, a finite map, and the keys that are `covered`: a keyspace may stand for a part of all keys, and
-/// a key that is handed to one of these calls has to be covered. What is covered never changes. Only `put` takes memory.
+/// Contracts see the `contents`, a finite map, and the keys that are `covered`: a keyspace may stand for a part of all
+/// keys, and a key that is handed to one of these calls has to be covered. What is covered never changes. Only `put`
+/// takes memory.
 pub trait Keyspace {
     ghost contents: { Self → Map };
 
@@ -45,7 +46,8 @@ pub trait Keyspace {
 
     /// Sets the key and gives the value that it had.
     ///
-    /// It is refused only for want of memory at a key that isn't there. Then nothing has changed, and key and value come back.
+    /// It is refused only for want of memory at a key that isn't there. Then nothing has changed, and key and value
+    /// come back.
     fn put(&mut self, key: Vec<u8>, value: Value) -> Result<Option<Value>, (Vec<u8>, Value)>
         requires { IsTrue (covered self.old key.items) }
         ensures before { IfOk result (λ before. before ≡ map.get (contents self.old) key.items) }

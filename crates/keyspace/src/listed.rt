@@ -12,7 +12,8 @@ use values::Value;
 
 /// A keyspace whose entries can be gone through by their places, for whoever prints or copies all of it.
 ///
-/// Contracts see the entries as they are `listed`: each key once, in no promised order, which holds until the next change.
+/// Contracts see the entries as they are `listed`: each key once, in no promised order, which holds until the next
+/// change.
 pub trait Listed: Keyspace {
     ghost listed: { Self → List (List ℕ × Value) };
 

@@ -10,12 +10,17 @@ use std::alloc::Global;
 use std::hash::BuildHasher;
 use values::Value;
 
+/// A table for at most so many keys is never made smaller, but by `clear`.
+const KEPT_ROOM: usize = 1024;
+
 /// A keyspace that covers every key, in one table whose keys are hashed by `S`.
 ///
-/// Each call takes constant time on average, wherever the hasher spreads the keys.
+/// Each call takes constant time on average, wherever the hasher spreads the keys: a table is made twice as large where
+/// it is full, and a quarter as large where less than an eighth of it is used. The room of a table that was cleared is
+/// given back.
 #[derive(Drop)]
 pub struct Plain<S: BuildHasher> {
-    entries: IndexMap<HashedText, Value, S>,
+    pub(super) entries: IndexMap<HashedText, Value, S>,
 }
 
 impl<S: BuildHasher> Plain<S> {
@@ -26,6 +31,16 @@ impl<S: BuildHasher> Plain<S> {
         Plain {
             entries: IndexMap::with_hasher(alloc, hasher),
         }
+    }
+}
+
+/// Makes a large table smaller where little of it is used.
+fn give_back<S: BuildHasher>(entries: &mut IndexMap<HashedText, Value, S>)
+    ensures { entries.new.entries ≡ entries.old.entries }
+{
+    let room = entries.capacity();
+    if room > KEPT_ROOM && entries.len() < room / 8 {
+        entries.shrink_to(room / 4);
     }
 }
 
@@ -46,7 +61,9 @@ impl<S: BuildHasher> Keyspace for Plain<S> {
     }
 
     fn take(&mut self, key: &[u8]) -> Option<Value> {
-        self.entries.swap_remove(HashedSlice { bytes: key })
+        let taken = self.entries.swap_remove(HashedSlice { bytes: key });
+        give_back(&mut self.entries);
+        taken
     }
 
     fn put(&mut self, key: Vec<u8>, value: Value) -> Result<Option<Value>, (Vec<u8>, Value)> {
@@ -70,6 +87,7 @@ impl<S: BuildHasher> Keyspace for Plain<S> {
 
     fn clear(&mut self) {
         self.entries.clear();
+        self.entries.shrink_to_fit();
     }
 }
 

@@ -1,6 +1,8 @@
-//! That each call succeeds where there is memory, at a concrete hasher, and through the trait.
+//! That each call succeeds where there is memory, at a concrete hasher, and through the trait; and that room is given
+//! back.
 
 use crate::{Keyspace, Plain};
+use std::alloc::{AllocError, Global};
 use std::hash::{BuildHasherDefault, FoldHasher};
 use std::test::Fail;
 use texts::Text;
@@ -29,5 +31,34 @@ fn keys_come_and_go(rt: HostRuntime) -> Result<(), Fail> {
     assert!(rt; keys.look(b"a").is_none());
     keys.clear();
     assert_eq!(rt; keys.size(), 0);
+    Ok(())
+}
+
+/// The key of this number.
+fn numbered(alloc: Global, number: u32) -> Result<Vec<u8>, AllocError> {
+    number.to_be_bytes().to_vec(alloc)
+}
+
+#[test]
+fn gives_back_the_room_of_keys_that_went(rt: HostRuntime) -> Result<(), Fail> {
+    let alloc = rt.alloc();
+    let mut keys = Plain::new(alloc, BuildHasherDefault::<FoldHasher>::new());
+    for number in 0..5000u32 {
+        let value = Value::Str(Text::copy_of(alloc, b"1")?);
+        assert!(rt; keys.put(numbered(alloc, number)?, value).is_ok());
+    }
+    assert!(rt; keys.entries.capacity() >= 5000);
+    for number in 0..4990u32 {
+        assert!(rt; keys.take(numbered(alloc, number)?.as_slice()).is_some());
+    }
+    assert!(rt; keys.entries.capacity() <= 1024);
+    for number in 4990..5000u32 {
+        assert_eq!(rt;
+            text_of(keys.look(numbered(alloc, number)?.as_slice())),
+            Some(b"1".as_slice())
+        );
+    }
+    keys.clear();
+    assert!(rt; keys.entries.capacity() < 10);
     Ok(())
 }

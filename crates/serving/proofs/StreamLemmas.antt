@@ -51,7 +51,8 @@ items_within limits held piece rest (x ∷ xs) lawful same opened =
       | inr fits ↦ absurd (text_passes limits held piece tail x lawful.0 opened whole fits)
     ]
 
--- Behind requests that were taken out of an open rest and a piece there is no more than the piece, or all of it where none was.
+-- Behind requests that were taken out of an open rest and a piece there is no more than the piece, or all of it where
+-- none was.
 pub rest_within : (limits : Limits) (held piece rest : List ℕ) (requests : List (List (List ℕ)))
     → Stream limits (held ++ piece) requests rest
     → IsOpen limits held → (rest ≡ held ++ piece) ⊎ (length rest ≤ length piece)

@@ -12,8 +12,8 @@ use Rattle.serving.specs.declared.outcome.ServeFault.{ServeFault}
 use Rattle.serving.specs.Answers.{Answer, answer_text, answers_text, GoesOn, Answered}
 use Rattle.serving.specs.Serves.{IsAllOrAllButLast, IsBatch, Breaks, Tells}
 
--- The door was asked a request: the text of its answer was added, or the buffer, with room for so many bytes, had none for
--- it, or the door ended the connection. So a door's own want of memory is answered as any other request.
+-- The door was asked a request: the text of its answer was added, or the buffer, with room for so many bytes, had none
+-- for it, or the door ended the connection. So a door's own want of memory is answered as any other request.
 abbrev pub AddsReply : {S Reason : Type 0} → (S → List (List ℕ) → Answer Reason → S → Type 0)
     → S → List (List ℕ) → S → ℕ → List ℕ → List ℕ → Result Unit (Pause Reason) → Type 0
 AddsReply {S} {Reason} asks s request t room before after (Ok done) =

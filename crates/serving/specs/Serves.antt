@@ -35,15 +35,16 @@ IsAllOrAllButLast {Reason} answers text =
 abbrev pub IsLastLine : Limits → List ℕ → List ℕ → Type 0
 IsLastLine limits rest line = (line ≡ []) ⊎ ((fault : Fault) × IsFault limits rest fault × (line ≡ fault_text fault))
 
--- What is gathered before it is written: the texts of these answers, but for the last of them, are no more bytes than are
--- gathered at most.
+-- What is gathered before it is written: the texts of these answers, but for the last of them, are no more bytes than
+-- are gathered at most.
 abbrev pub IsBatch : {Reason : Type 0} → List (Answer Reason) → Type 0
 IsBatch {Reason} batch =
     (batch ≡ [])
     ⊎ ((first : List (Answer Reason)) × (last : Answer Reason) × (batch ≡ first ++ last ∷ [])
     × (length (answers_text first) ≤ GATHERED))
 
--- a beginning of the texts of the answers and of the last line after them, which lacks no more than a part of the last batch
+-- a beginning of the texts of the answers and of the last line after them, which lacks no more than a part of the last
+-- batch
 pub record IsBeginning {Reason : Type 0} (limits : Limits) (rest : List ℕ) (answers : List (Answer Reason))
     (text : List ℕ) : Type 0 where
   pub before : List (Answer Reason)

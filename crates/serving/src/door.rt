@@ -27,7 +27,7 @@ pub trait Door {
     fn ask(&mut self, request: Request) -> Result<Reply, DoorFault<Self::Reason>>
         ensures { asks self.old request (answer_of result) self.new };
 
-    /// Told before each read and each write, which may take long: a door lets go here of what others wait for. It changes nothing of what
-    /// the door answers.
+    /// Told before each read and each write, which may take long: a door lets go here of what others wait for. It
+    /// changes nothing of what the door answers.
     fn rest(&self) {}
 }

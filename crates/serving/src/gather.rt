@@ -10,6 +10,9 @@ use resp_decoder::{Decoder, Fault, fault_line};
 /// How many bytes of replies are gathered at most before one more reply is added.
 const GATHERED: usize = 64 * 1024;
 
+/// The buffer of replies keeps no more room than this between one batch and the next.
+const KEPT_ROOM: usize = 1024 * 1024;
+
 /// Why gathering paused. What was gathered is to be written in any case.
 #[derive(Drop)]
 pub(crate) enum Pause<E> {
@@ -39,6 +42,7 @@ pub(crate) fn gather<D: Door>(
     ensures { Gathers D.asks decoder.old.held decoder.new.held door.old door.new replies.new.items result }
 {
     replies.clear();
+    replies.shrink_to(KEPT_ROOM);
     while replies.len() <= GATHERED {
         let taken = match decoder.next() {
             Ok(taken) => taken,

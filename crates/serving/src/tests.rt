@@ -1,9 +1,10 @@
 //! Serving over memory, with a door of the tests' own. The requests, replies and error lines are those of the RESP2
 //! specification and of this project's texts for faults; `|` stands for CR LF.
 
+use crate::gather::{Pause, gather};
 use crate::{Door, DoorFault, ServeFault, Served, serve};
 use resp::{Reply, Request};
-use resp_decoder::{Fault, Limits};
+use resp_decoder::{Decoder, Fault, Limits};
 use std::alloc::Global;
 use std::cell::Cell;
 use std::io;
@@ -272,6 +273,19 @@ fn writes_once_before_each_read(rt: HostRuntime) -> Result<(), Fail> {
         Ok(Served::End)
     );
     assert_eq!(rt; (reader.reads, writer.writes), (3, 2));
+    Ok(())
+}
+
+#[test]
+fn gives_back_the_room_of_large_replies(rt: HostRuntime) -> Result<(), Fail> {
+    let alloc = rt.alloc();
+    let mut decoder = Decoder::new(alloc, Limits::DEFAULT);
+    let mut replies = Vec::with_capacity(alloc, 4_000_000)?;
+    replies.push(1u8)?;
+    let pause = gather(&mut decoder, &mut Echo { alloc }, &mut replies);
+    assert!(rt; matches!(pause, Pause::Waits));
+    assert!(rt; replies.is_empty());
+    assert!(rt; replies.capacity() <= 1_048_576);
     Ok(())
 }
 
