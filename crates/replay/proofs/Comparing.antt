@@ -1,5 +1,6 @@
 -- The rows that are put, run and compared one after another; and what the headline says of them.
-use Rattle.std.proofs.Common.{◌≡◌, ℕ, Bool, true, false, ◌&&◌, List, [], ◌∷◌, ◌++◌, Some, Result, Ok, Err, IfOk, slice_get, refl, sym, ap, ◌∙◌, subst, bytes_eq}
+use Rattle.std.proofs.Common.{◌≡◌, ℕ, Bool, true, false, ◌&&◌, List, [], ◌∷◌, ◌++◌, Some, Result, Ok, Err}
+use Rattle.std.proofs.Common.{IfOk, slice_get, refl, sym, ap, ◌∙◌, subst, bytes_eq}
 use Rattle.std.proofs.lemmas.List.{append_assoc}
 use Rattle.std.specs.Cmp.Lexicographic.{bytes_decides}
 use Rattle.std.specs.FinMap.{empty}
@@ -46,7 +47,8 @@ and_assoc false b c = refl
 pub next_row : (E : List Row) (R : List RowView) (key : Key) (keys : List Key) (row : RowView) (out out' all : List ℕ) (m m' last : Map)
     (same as_it_was same' agree : Bool) → AllZip IsRow E R → slice_get R key.2 ≡ Some row → same' ≡ (same && as_it_was) →
     RowDone row out out' m m' as_it_was → Whole E (key ∷ keys) out all m last same agree → Whole E keys out' all m' last same' agree
-next_row E R key keys row out out' all m m' last same as_it_was same' agree are there both done ([], placed, texts, maps, sames) = absurd placed
+next_row E R key keys row out out' all m m' last same as_it_was same' agree are there both done ([], placed, texts, maps, sames) =
+    absurd placed
 next_row E R key keys row out out' all m m' last same as_it_was same' agree are there both done (r ∷ rs, placed, texts, maps, sames) =
     let found = zip_at IsRow E R key.2 row are there in
     let one : found.0 ≡ r = same_one found.0 r (sym found.1 ∙ placed.0.there) in

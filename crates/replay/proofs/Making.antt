@@ -1,5 +1,6 @@
 -- Steps of a trace that are made, and the one that isn't.
-use Rattle.std.proofs.Common.{◌≡◌, ◌≢◌, ℕ, suc, ◌+◌, Bool, true, false, cond, ◌||◌, List, [], ◌∷◌, ◌++◌, length, take, drop, zero, ◌<◌, inl, inr, Option, Some, None}
+use Rattle.std.proofs.Common.{◌≡◌, ◌≢◌, ℕ, suc, ◌+◌, Bool, true, false, cond, ◌||◌, List, [], ◌∷◌, ◌++◌}
+use Rattle.std.proofs.Common.{length, take, drop, zero, ◌<◌, inl, inr, Option, Some, None}
 use Rattle.std.proofs.Common.{refl, sym, ap, ◌∙◌, subst, arith, length-append}
 use Rattle.std.proofs.lemmas.Bool.{or_cases}
 use Rattle.std.specs.List.{AllByRecursion, list_any}
@@ -170,7 +171,8 @@ refusal may_refuse t most before old new s InFlight stands other is = is.why bef
 refusal may_refuse t most before old new s NoLayer stands other is = is.why before stands.world stands.shows
 refusal may_refuse t most before old new s Exhausted stands other is = sym stands.count ∙ is.1 ∙ stands.limit
 refusal may_refuse t most before old new s Memory stands other is = absurd (other refl)
-refusal may_refuse t most before old new s Failed stands other (inl before') = absurd (both_ways old.parts.store.failed before'.0 stands.lives)
+refusal may_refuse t most before old new s Failed stands other (inl before') =
+    absurd (both_ways old.parts.store.failed before'.0 stands.lives)
 refusal may_refuse t most before old new s Failed stands other (inr now) = now.1
 
 pub refused_at : (may_refuse : Bool) (t : Layout) (most : ℕ) (steps before behind : List Step) (old new : SystemView) (s : Step)
@@ -191,7 +193,8 @@ refused_at may_refuse t most steps before behind old new s index fault split at-
 
 -- where the next step is there, so many were made before it
 pub made_before : {A : Type 0} (steps left : List A) (n : ℕ) (s : A) → left ≡ drop n steps → (rest : List A) → left ≡ s ∷ rest →
-    (steps ≡ take n steps ++ s ∷ rest) × (n ≡ length (take n steps)) × (take (suc n) steps ≡ take n steps ++ s ∷ []) × (rest ≡ drop (suc n) steps)
+    (steps ≡ take n steps ++ s ∷ rest) × (n ≡ length (take n steps)) × (take (suc n) steps ≡ take n steps ++ s ∷ [])
+    × (rest ≡ drop (suc n) steps)
 made_before steps left n s are rest next =
     let here : drop n steps ≡ s ∷ rest = sym are ∙ next in (
       split_at steps n ∙ ap (λ l. take n steps ++ l) here,

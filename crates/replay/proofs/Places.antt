@@ -38,7 +38,8 @@ zip_at R (x ∷ xs) [] n y are is = absurd are
 zip_at {B = B} R (x ∷ xs) (z ∷ zs) zero y are is = let same : z ≡ y = cc in (x, refl, subst (R x) same are.0)
 zip_at R (x ∷ xs) (z ∷ zs) (suc n) y are is = zip_at R xs zs n y are.1 is
 
-pub zip_beside : {A B : Type 0} (R : A → B → Type 0) (xs : List A) (ys : List B) (n : ℕ) (x : A) → AllZip R xs ys → slice_get xs n ≡ Some x →
+pub zip_beside : {A B : Type 0} (R : A → B → Type 0) (xs : List A) (ys : List B) (n : ℕ) (x : A) →
+    AllZip R xs ys → slice_get xs n ≡ Some x →
     (y : B) × (slice_get ys n ≡ Some y) × R x y
 zip_beside R [] [] n x are is = cc
 zip_beside R [] (z ∷ zs) n x are is = absurd are

@@ -29,7 +29,8 @@ pair_lt b h a g = nat_lt b a || (b == a && nat_lt h g)
 
 -- A key of a smaller place is before another one, or its stamp is the greater.
 orders : (a g p b h q : ℕ) → p < q →
-    ((key_cmp (a, g, p) (b, h, q) ≡ Greater) × (pair_lt b h a g ≡ true)) ⊎ ((key_cmp (a, g, p) (b, h, q) ≡ Less) × (pair_lt b h a g ≡ false))
+    ((key_cmp (a, g, p) (b, h, q) ≡ Greater) × (pair_lt b h a g ≡ true))
+    ⊎ ((key_cmp (a, g, p) (b, h, q) ≡ Less) × (pair_lt b h a g ≡ false))
 orders a g p b h q less = elim (cases_order a b) [
   | inl same ↦ elim (cases_order g h) [
     | inl tie ↦ inr (

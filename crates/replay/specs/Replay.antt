@@ -25,8 +25,8 @@ pub record IsReport (t : Layout) (steps : List Step) (report : Report) : Type 0 
 
 -- ---- refusals
 
--- why a step isn't accepted in this world, behind so many steps: a fault of its own, or none may be made any more, or a worker could not
--- be started
+-- why a step isn't accepted in this world, behind so many steps: a fault of its own, or none may be made any more, or a
+-- worker could not be started
 abbrev pub IsRefusal : Bool → ℕ → ℕ → World → Step → StepFault → Type 0
 IsRefusal may_refuse most made w step Busy = Refused w step world.Busy
 IsRefusal may_refuse most made w step NoConn = Refused w step world.NoConn

@@ -61,7 +61,8 @@ last_line false = codes "differ\n"
 abbrev pub executed_in : World → List Row
 executed_in w = rows_by_stamp (rows_of w.ended)
 
--- The executed requests by their stamps, the starved ones in the order of their turns, the dump of the map, and what the comparison says.
+-- The executed requests by their stamps, the starved ones in the order of their turns, the dump of the map, and what
+-- the comparison says.
 abbrev pub report_text : World → List ℕ
 report_text w =
     flat_map row_line (executed_in w) ++ flat_map starved_line (starved_among w.ended) ++ dump_text w.contents

@@ -17,8 +17,8 @@ use solo::Solo;
 use std::alloc::{AllocError, Global};
 use std::hash::BuildHasher;
 
-/// Appends a line for each executed request, in the order of their stamps, runs them in this order on the store, and says whether each is
-/// answered as it was. The only error is want of memory.
+/// Appends a line for each executed request, in the order of their stamps, runs them in this order on the store, and
+/// says whether each is answered as it was. The only error is want of memory.
 pub(super) fn put_rows<S: BuildHasher>(
     alloc: Global,
     rows: &Rows,

@@ -20,7 +20,8 @@ use system::System;
 /// What a run came to, and whether one thread on one map came to the same.
 #[derive(Drop)]
 pub struct Report {
-    /// A line for each executed request, by their stamps; one for each that starved; the dump of the contents; and `agree` or `differ`.
+    /// A line for each executed request, by their stamps; one for each that starved; the dump of the contents; and
+    /// `agree` or `differ`.
     pub text: Vec<u8>,
 
     /// Whether the replies and the contents are those of one thread on one map.
@@ -40,8 +41,8 @@ pub(super) fn report_of(alloc: Global, system: System) -> Result<Report, AllocEr
     compared(alloc, &rows, starved.as_slice(), dump.as_slice())
 }
 
-/// The report of these rows, these lines of starved requests and this dump, once one store on one map has run the rows' requests. The only
-/// error is want of memory.
+/// The report of these rows, these lines of starved requests and this dump, once one store on one map has run the rows'
+/// requests. The only error is want of memory.
 pub(super) fn compared(
     alloc: Global,
     rows: &Rows,

@@ -1,8 +1,9 @@
 //! A table's text and a trace's text, to a report that is written out.
 
-ghost use Rattle.std.specs.Prelude.{◌≡◌, ℕ, true, IfOk, OnOk, List, Option};
+ghost use Rattle.std.specs.Prelude.{◌≡◌, ◌≢◌, ℕ, true, IfOk, IfErr, OnOk, List, Option};
 ghost use Rattle.std.specs.Io.KnownBytes.{Appends};
-ghost use Rattle.replay.specs.Show.{IsShown};
+ghost use Rattle.replay.specs.Show.{IsShown, IsShowFault};
+ghost use Rattle.replay.specs.declared.shown.ShowFault.{ShowFault};
 ghost use Rattle.replay.specs.Show as spec;
 
 use crate::fault::ReplayFault;
@@ -46,7 +47,8 @@ pub enum ShowFault {
 }
 
 impl ShowFault {
-    /// The status with which the program ends: 3 of the table, 4 of the trace, 5 of a refused step, 6 of memory, 7 of a write.
+    /// The status with which the program ends: 3 of the table, 4 of the trace, 5 of a refused step, 6 of memory, 7 of a
+    /// write.
     pub fn status(&self) -> u8
         ensures { result ≡ spec.status_of self.now }
     {
@@ -60,8 +62,9 @@ impl ShowFault {
     }
 }
 
-/// Writes the report of this trace over shards as this table says, and answers the program's status: 0 where the report agrees, 1 where
-/// it differs, and else that of the fault. Only with 0 and 1 is all of it written.
+/// Writes the report of this trace over shards as this table says, and answers the program's status: 0 where the report
+/// agrees, 1 where it differs, which never comes, and else that of the fault, which is there. Only with 0 is all of it
+/// written.
 pub fn show<W: Workers, O: Write>(
     alloc: Global,
     table: &[u8],
@@ -69,7 +72,8 @@ pub fn show<W: Workers, O: Write>(
     workers: &W,
     writer: &mut O,
 ) -> u8
-    ensures { result ≡ 0 → IsShown table.now trace.now (O.contents writer.old) (O.contents writer.new) }
+    ensures shown { result ≡ 0 → IsShown table.now trace.now (O.contents writer.old) (O.contents writer.new) }
+    ensures fault { result ≢ 0 → (fault : ShowFault) × (result ≡ spec.status_of fault) × IsShowFault W.may_refuse table.now trace.now fault }
 {
     match told(alloc, table, trace, workers, writer) {
         Ok(true) => 0,
@@ -78,7 +82,11 @@ pub fn show<W: Workers, O: Write>(
     }
 }
 
-/// Writes the report of this trace over shards as this table says, and answers whether it agrees. The table is read first.
+/// Writes the report of this trace over shards as this table says, and answers whether it agrees. The table is read
+/// first.
+///
+/// `ShowFault` says what is wrong with the texts, the first fault of the table before one of the trace; `Memory` and
+/// `Write` say nothing of them.
 pub fn told<W: Workers, O: Write>(
     alloc: Global,
     table: &[u8],
@@ -88,6 +96,7 @@ pub fn told<W: Workers, O: Write>(
 ) -> Result<bool, ShowFault>
     ensures shown { OnOk result (IsShown table.now trace.now (O.contents writer.old) (O.contents writer.new)) }
     ensures agrees { IfOk result (λ agree. agree ≡ true) }
+    ensures fault { IfErr result (IsShowFault W.may_refuse table.now trace.now) }
 {
     told_watched(alloc, table, trace, workers, &mut Unwatched, writer)
 }
@@ -103,6 +112,7 @@ pub fn told_watched<W: Workers, P: Progress, O: Write>(
 ) -> Result<bool, ShowFault>
     ensures shown { OnOk result (IsShown table.now trace.now (O.contents writer.old) (O.contents writer.new)) }
     ensures agrees { IfOk result (λ agree. agree ≡ true) }
+    ensures fault { IfErr result (IsShowFault W.may_refuse table.now trace.now) }
 {
     let report = match found(alloc, table, trace, workers, progress) {
         Ok(report) => report,
@@ -132,6 +142,7 @@ fn found<W: Workers, P: Progress>(
     ensures shown { IfOk result (λ report. (before after : Option (List ℕ)) → Appends before after report.text.items
         → IsShown table.now trace.now before after) }
     ensures agrees { IfOk result (λ report. report.agree ≡ true) }
+    ensures fault { IfErr result (IsShowFault W.may_refuse table.now trace.now) }
 {
     let Ok(text) = str::from_utf8(table) else {
         return Err(ShowFault::Encoding);

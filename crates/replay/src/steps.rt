@@ -19,11 +19,11 @@ use skeen_core::RequestId;
 use std::alloc::{AllocError, Global};
 use system::{Effect, StepFault, System};
 
-/// Makes the steps of the trace again in a new system of this table, and reports on the run: the executed requests by their stamps, those
-/// that starved, the contents, and whether one thread on one map comes to the same.
+/// Makes the steps of the trace again in a new system of this table, and reports on the run: the executed requests by
+/// their stamps, those that starved, the contents, and whether one thread on one map comes to the same.
 ///
-/// The report is that of the world to which the steps lead, whatever the workers. `ReplayFault` says which step is the first that isn't
-/// accepted, and why; or that there was no memory.
+/// The report is that of the world to which the steps lead, whatever the workers. `ReplayFault` says which step is the
+/// first that isn't accepted, and why; or that there was no memory.
 pub fn replay<W: Workers>(
     alloc: Global,
     trace: Trace,

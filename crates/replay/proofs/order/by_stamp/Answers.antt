@@ -31,7 +31,7 @@ loop-done-preserved c =
     let stamp = c.stamp-stamp.ensures in
     let key : x ≡ (c.in-Some.row.stamp.clock, c.in-Some.row.stamp.group, next) =
     λ i. (ap (λ s. s.clock) stamp i, (c.number.ensures.same ∙ ap (λ s. s.group) stamp) i, place i) in (
-      λ executed are. one_more_placed executed c.args.rows.now c.in-Some.row x c.loop-done.order.keys c.insert.new.self.keys next now step key there
-          c.in-Ok.ensures.keys c.loop-done.invariant.1 are (c.loop-done.invariant.0 executed are),
+      λ executed are. one_more_placed executed c.args.rows.now c.in-Some.row x c.loop-done.order.keys c.insert.new.self.keys
+          next now step key there c.in-Ok.ensures.keys c.loop-done.invariant.1 are (c.loop-done.invariant.0 executed are),
       one_more_before x c.loop-done.order.keys c.insert.new.self.keys next now step place c.in-Ok.ensures.keys c.loop-done.invariant.1,
     )

@@ -22,7 +22,8 @@ returns c =
     let dump : c.as_slice-2.result.now ≡ dump_text (joined s.parts.store.maps) =
     c.as_slice-2.ensures.value ∙ c.in_ok-dump.ensures.ok
     ∙ ap (λ l. l ++ dump_text (joined s.parts.store.maps)) c.new-dump.ensures.items in
-    let is_table : IsTable s.parts.store.table = subst (λ (v : SystemView). IsTable v.parts.store.table) c.system.view_is c.system.invariant.is_table in
+    let is_table : IsTable s.parts.store.table =
+    subst (λ (v : SystemView). IsTable v.parts.store.table) c.system.view_is c.system.invariant.is_table in
     if_ok c.compared.result _ (λ (report : Report). (h : List Step) (w : World) → IsAt s.parts h w →
     (report.text.items ≡ report_text w) × (report.agree ≡ true))
     (λ report told. reports s c.in_ok-rows.rows c.as_slice.result.now c.as_slice-2.result.now report.text.items report.agree is_table

@@ -4,7 +4,8 @@ use Rattle.replay.proofs.steps.make_all.Goals as goal
 
 pub unreachable-requires : goal.unreachable-requires
 unreachable-requires g c =
-    let few : c.loop-index.index < length c.args.steps = let more = c.loop-index-test.true in let count = c.len-count.ensures in omega arith in
+    let few : c.loop-index.index < length c.args.steps =
+    let more = c.loop-index-test.true in let count = c.len-count.ensures in omega arith in
     none_left c.args.steps c.loop-index.steps c.loop-index.index c.loop-index.invariant.0
     (next_none c.in_ok-step.field-0 c.loop-index.steps c.next.new.self c.in_default.is c.in_ok-step.ensures.next) few
 
