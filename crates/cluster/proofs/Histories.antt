@@ -1,5 +1,5 @@
 -- A history stays one, whether a step is made or not.
-use Rattle.std.proofs.Common.{◌≡◌, ℕ, suc, ◌≤◌, ◌^◌, Bool, false, List, [], ◌∷◌, ◌++◌, length, inl, inr, refl, sym, ap, ◌∙◌}
+use Rattle.std.proofs.Common.{◌≡◌, ℕ, suc, ◌≤◌, Bool, false, List, [], ◌∷◌, ◌++◌, length, inl, inr, refl, sym, ap, ◌∙◌}
 use Rattle.std.proofs.Common.{subst, arith, length-append}
 use Rattle.std.proofs.lemmas.Bool.{both_ways}
 use Rattle.cluster.specs.Histories.{HistoryView, has_failed, IsIn, IsHistory, IsMade, IsUnchanged, IsRefused, IsFault}
@@ -22,6 +22,7 @@ use Rattle.placement.specs.Layout.{Layout}
 use Rattle.world.specs.Steps.{OwnFault, opening}
 use Rattle.world.specs.Steps as world
 use Rattle.world.specs.World.{World}
+use Rattle.journal.specs.declared.trace.TheConstants.{GREATEST_STEPS}
 
 -- ---- a step that was made
 
@@ -225,7 +226,7 @@ history_left may old new step Failed is (inr left) = history_failed old new is l
 -- ---- none
 
 -- no step was made
-pub history_new : (t : Layout) (most : ℕ) (s : SystemView) (max : ℕ) (steps : List Step) → most ≤ 2 ^ 62 → system.IsNew t most s →
+pub history_new : (t : Layout) (most : ℕ) (s : SystemView) (max : ℕ) (steps : List Step) → most ≤ GREATEST_STEPS → system.IsNew t most s →
     max ≡ most → steps ≡ [] → IsHistory (history s max steps)
 history_new t most s max steps few is same none =
     record {

@@ -1,5 +1,5 @@
 -- What a cluster is, it is after each of its steps.
-use Rattle.std.proofs.Common.{◌≡◌, ℕ, suc, ◌+◌, ◌<◌, ◌≤◌, ◌^◌, ◌==◌, cond, Bool, true, false, List, [], ◌∷◌, ◌++◌, ◌⊎◌}
+use Rattle.std.proofs.Common.{◌≡◌, ℕ, suc, ◌+◌, ◌<◌, ◌≤◌, ◌==◌, cond, Bool, true, false, List, [], ◌∷◌, ◌++◌, ◌⊎◌}
 use Rattle.std.proofs.Common.{length, Option, Some, None, Result, Ok, Err, IfOk, IfErr}
 use Rattle.std.proofs.Common.{refl, sym, ap, ◌∙◌, subst, arith, inl, inr, length-append, eqb-true, eq-eqb}
 use Rattle.std.proofs.lemmas.Bool.{both_ways, cond-true, cond-false, cases_Bool}
@@ -28,6 +28,7 @@ use Rattle.world.specs.Steps as world
 use Rattle.world.specs.World.{World, Standing, Closed, Idle}
 use Rattle.world_laws.proofs.Values.{at_here}
 use Rattle.world_laws.proofs.Worlds.{good_world}
+use Rattle.journal.specs.declared.trace.TheConstants.{GREATEST_STEPS}
 
 abbrev pub cluster : HistoryView → ℕ → ℕ → ℕ → ℕ → ClusterView
 cluster h book sat stood back = record { history = h; book = book; sat = sat; stood = stood; back = back }
@@ -312,7 +313,7 @@ submits_by_few c (s ∷ steps) = omega (arith, submits_by_few c steps, no_more s
 
 -- there are fewer requests than any number that is counted in
 pub requests_few : (all parts requests : ℕ) (lasts : List (ℕ × Last)) (c : ClusterView) → IsCluster all parts requests lasts c →
-    requests ≤ 2 ^ 62
+    requests ≤ GREATEST_STEPS
 requests_few all parts requests lasts c is =
     let counted = is.counted in
     let booked = is.booked in
@@ -321,7 +322,7 @@ requests_few all parts requests lasts c is =
     omega (arith, submits_few c.history.steps)
 
 pub count_few : (all parts requests : ℕ) (lasts : List (ℕ × Last)) (c : ClusterView) (i count : ℕ) →
-    IsCluster all parts requests lasts c → count ≡ submits_by i c.history.steps → count ≤ 2 ^ 62
+    IsCluster all parts requests lasts c → count ≡ submits_by i c.history.steps → count ≤ GREATEST_STEPS
 count_few all parts requests lasts c i count is counted =
     let booked = is.booked in
     let within = is.within in
@@ -502,7 +503,7 @@ cluster_turned all parts requests lasts h h' book sat stood back pick may (Err f
 -- ---- none
 
 pub cluster_new : (all parts : ℕ) (lasts : List (ℕ × Last)) (h : HistoryView) (book most back : ℕ) → parts ≡ all → lasts ≡ [] → book ≡ 0 →
-    h.steps ≡ [] → h.max_steps ≡ most → most < all → most ≤ 2 ^ 62 → IsLawful h → IsCluster all parts 0 lasts (cluster h book 0 0 back)
+    h.steps ≡ [] → h.max_steps ≡ most → most < all → most ≤ GREATEST_STEPS → IsLawful h → IsCluster all parts 0 lasts (cluster h book 0 0 back)
 cluster_new all parts lasts h book most back whole nothing zero' none same enough few lawful =
     let leads = subst (λ hs. Leads h.system.parts.store.table opening hs lawful.world) none lawful.shows.at.leads in
     let steps = ap length none in

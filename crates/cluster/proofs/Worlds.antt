@@ -1,5 +1,5 @@
--- What a step of the world leaves as it was: how many requests a connection has submitted, how many connections were opened, and who is
--- closed.
+-- What a step of the world leaves as it was: how many requests a connection has submitted, how many connections were
+-- opened, and who is closed.
 use Rattle.std.proofs.Common.{◌≡◌, ℕ, suc, ◌+◌, ◌==◌, cond, false, List, [], ◌∷◌, Result, Ok, Err, refl}
 use Rattle.std.proofs.Common.{sym, ap, ◌∙◌}
 use Rattle.std.proofs.Common.{arith, inl, inr, eqb-true}

@@ -17,9 +17,9 @@ use Rattle.world.specs.World.{Outcome}
 abbrev pub shown_outcome : Answer → Outcome
 shown_outcome a = record { id = a.id; reply = content a.reply; stamp = a.stamp }
 
--- The reply is that of the outcome which this step collected for the seat. It came of the seat's last request: the trace has the seat's
--- words for its id, and with these words it is a row, or starved, or was answered at once. Its stamp is above the seat's floor, and raises
--- it.
+-- The reply is that of the outcome which this step collected for the seat. It came of the seat's last request: the
+-- trace has the seat's words for its id, and with these words it is a row, or starved, or was answered at once. Its
+-- stamp is above the seat's floor, and raises it.
 pub record IsReplied (old : HistoryView) (s : SeatView) (r : Reply) (new : HistoryView) (after : SeatView) : Type 0 where
   pub outcome : router.Outcome
   pub reply : r ≡ outcome.reply

@@ -2,7 +2,7 @@
 use Rattle.std.specs.BTreeMap.{is_at}
 use Rattle.std.specs.Map.{lookup}
 use Rattle.std.specs.Ordering.{is_eq, nat_cmp}
-use Rattle.std.specs.Prelude.{◌≡◌, ◌≢◌, ℕ, ◌+◌, ◌<◌, ◌≤◌, ◌^◌, cond, true, false, List, [], length, ◌⊎◌, Option, Some, None}
+use Rattle.std.specs.Prelude.{◌≡◌, ◌≢◌, ℕ, ◌+◌, ◌<◌, ◌≤◌, cond, true, false, List, [], length, ◌⊎◌, Option, Some, None}
 use Rattle.cluster.specs.Histories.{HistoryView, has_failed, IsIn, IsMade, IsRefused, IsFault}
 use Rattle.cluster.specs.Outcomes.{IsAbove}
 use Rattle.cluster.specs.Submits.{submits, submits_by, IsSaid, IsLast}
@@ -21,6 +21,7 @@ use Rattle.system.specs.declared.fault.StepFault.{StepFault}
 use Rattle.system.specs.declared.fault.StepFault.TheVariants.{NoConn}
 use Rattle.world.specs.Steps as world
 use Rattle.world.specs.World.{World, Standing, Closed}
+use Rattle.journal.specs.declared.trace.TheConstants.{GREATEST_STEPS}
 
 -- ---- a seat
 
@@ -39,14 +40,16 @@ last_id s = record { conn = s.conn; seq = s.count }
 abbrev pub next_id : SeatView → RequestId
 next_id s = record { conn = s.conn; seq = s.count + 1 }
 
--- The trace has as many Submits of the seat's connection as the seat counts, and for its last request the words that the seat has.
+-- The trace has as many Submits of the seat's connection as the seat counts, and for its last request the words that
+-- the seat has.
 pub record Fits (s : SeatView) (steps : List Step) : Type 0 where
   pub counted : s.count ≡ submits_by s.conn.0 steps
   pub said : 0 < s.count → IsSaid steps (last_id s) s.words
 
 -- ---- a cluster
 
--- its system and trace, the ledger's book, how many seats sat and stood, and how many requests those submitted that stood
+-- its system and trace, the ledger's book, how many seats sat and stood, and how many requests those submitted that
+-- stood
 pub record ClusterView : Type 0 where
   pub history : HistoryView
   pub book : ℕ
@@ -80,15 +83,16 @@ abbrev pub IsKnown : Option Last → Standing → Type 0
 IsKnown None standing = standing ≡ Closed
 IsKnown (Some last) standing = Unit {0}
 
--- The history is in a world in which each seat that sat has opened a connection, and of each open one something is known.
+-- The history is in a world in which each seat that sat has opened a connection, and of each open one something is
+-- known.
 pub record IsSeated (lasts : List (ℕ × Last)) (sat : ℕ) (h : HistoryView) : Type 0 where
   pub world : World
   pub shows : IsIn h world
   pub opened : world.opened ≡ sat
   pub known : (i : ℕ) → IsKnown (last_of lasts i) (world.standing i)
 
--- What each cluster is. Of the ledger's parts, `parts` are here, and each of the others is out with a seat; `requests` is the book as a
--- number.
+-- What each cluster is. Of the ledger's parts, `parts` are here, and each of the others is out with a seat; `requests`
+-- is the book as a number.
 pub record IsCluster (all parts requests : ℕ) (lasts : List (ℕ × Last)) (c : ClusterView) : Type 0 where
   pub booked : c.book ≡ submits c.history.steps
   pub counted : requests ≡ c.book
@@ -96,7 +100,7 @@ pub record IsCluster (all parts requests : ℕ) (lasts : List (ℕ × Last)) (c 
   pub sits : c.sat ≤ length c.history.steps
   pub within : length c.history.steps ≤ c.history.max_steps
   pub most : c.history.max_steps < all
-  pub few : c.history.max_steps ≤ 2 ^ 62
+  pub few : c.history.max_steps ≤ GREATEST_STEPS
   pub are_lasts : AreLasts lasts c.history.steps
   pub seated : has_failed c.history ≡ false → IsSeated lasts c.sat c.history
 

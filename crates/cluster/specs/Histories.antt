@@ -1,5 +1,5 @@
 -- A system beside the trace of the steps that it made.
-use Rattle.std.specs.Prelude.{◌≡◌, ℕ, ◌<◌, ◌≤◌, ◌^◌, Bool, true, false, List, [], ◌∷◌, ◌++◌, length, ◌⊎◌}
+use Rattle.std.specs.Prelude.{◌≡◌, ℕ, ◌<◌, ◌≤◌, Bool, true, false, List, [], ◌∷◌, ◌++◌, length, ◌⊎◌}
 use Rattle.execution_order.specs.Entries.{rows_by_stamp}
 use Rattle.journal.specs.declared.step.Step.{Step}
 use Rattle.journal.specs.declared.step.Step.TheVariants.{Open, Submit, Deliver, Take, Run, Settle, Collect, Close}
@@ -13,6 +13,7 @@ use Rattle.world.specs.Steps.{OwnFault, Steps, Refused}
 use Rattle.world.specs.Steps as world
 use Rattle.world.specs.World.{World}
 use Rattle.world_laws.specs.Headline.{IsOneThread, rows_of}
+use Rattle.journal.specs.declared.trace.TheConstants.{GREATEST_STEPS}
 
 -- the system, at most how many steps may be made, and the trace: those that were made, as they are stored
 pub record HistoryView : Type 0 where
@@ -28,8 +29,8 @@ has_failed h = h.system.parts.store.failed
 abbrev pub IsIn : HistoryView → World → Type 0
 IsIn h w = ShowsHistory h.system h.steps w
 
--- The system shows the world of its own trace; and what the shards hold together and the replies to all that was executed are those of one
--- thread that runs the executed requests, sorted by their final stamps, on one map.
+-- The system shows the world of its own trace; and what the shards hold together and the replies to all that was
+-- executed are those of one thread that runs the executed requests, sorted by their final stamps, on one map.
 pub record IsLawful (h : HistoryView) : Type 0 where
   pub world : World
   pub shows : IsIn h world
@@ -37,15 +38,15 @@ pub record IsLawful (h : HistoryView) : Type 0 where
 
 -- what each history is: it is lawful, unless a worker's start was refused
 pub record IsHistory (h : HistoryView) : Type 0 where
-  pub few : h.max_steps ≤ 2 ^ 62
+  pub few : h.max_steps ≤ GREATEST_STEPS
   pub within : length h.steps ≤ h.max_steps
   pub max_steps : has_failed h ≡ false → h.system.max_steps ≡ h.max_steps
   pub lawful : has_failed h ≡ false → IsLawful h
 
 -- ---- a step
 
--- The step was made, answered so, and is the last of the trace: whatever world the history was in, the step is accepted there, and the
--- history is in the world after it. A Run stands there with the ids that starved.
+-- The step was made, answered so, and is the last of the trace: whatever world the history was in, the step is accepted
+-- there, and the history is in the world after it. A Run stands there with the ids that starved.
 pub record IsMade (old : HistoryView) (step : Step) (effect : Effect) (new : HistoryView) : Type 0 where
   pub lived : has_failed old ≡ false
   pub lives : has_failed new ≡ false

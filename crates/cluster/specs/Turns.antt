@@ -10,7 +10,8 @@ use Rattle.system.specs.declared.effect.Effect.TheVariants.{Made}
 use Rattle.world.specs.Steps.{NoLayer, Refused}
 use Rattle.world.specs.World.{World}
 
--- in this world a turn is this step: the first of Settle, Run, Take and Deliver that isn't refused, of the packet that is picked
+-- in this world a turn is this step: the first of Settle, Run, Take and Deliver that isn't refused, of the packet that
+-- is picked
 abbrev pub IsTurn : (ℕ → ℕ) → World → Step → Type 0
 IsTurn pick w Settle = Unit {0}
 IsTurn pick w (Run starved) = Refused w Settle NoLayer

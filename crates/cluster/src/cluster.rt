@@ -1,6 +1,6 @@
 //! The cluster, its seats and its answers. No other module makes or changes a seat or an answer.
 
-ghost use Rattle.std.specs.Prelude.{◌≡◌, ◌≤◌, ◌<◌, ◌^◌, ◌++◌, ◌+◌, ◌∷◌, [], ◌⊎◌, false, length, true, Some, None};
+ghost use Rattle.std.specs.Prelude.{◌≡◌, ◌≤◌, ◌<◌, ◌++◌, ◌+◌, ◌∷◌, [], ◌⊎◌, false, length, true, Some, None};
 ghost use Rattle.std.specs.Prelude.{IfOk, IfErr, OnOk, OnErr, IfSome, IfNone, option_copied, IsTrue, ◌↔◌, ℕ};
 ghost use Rattle.cluster.specs.Answers.{shown_outcome, IsReplied};
 ghost use Rattle.cluster.specs.Clusters.{IsNew, SameBook, Fits, next_id, last_id, IsForeign, IsSubmitFault, IsCollectFault, IsCloseFault};
@@ -17,6 +17,7 @@ ghost use Rattle.router.specs.declared.outcome.Outcome.{Outcome};
 ghost use Rattle.system.specs.System.{IsQuiet};
 ghost use Rattle.system.specs.declared.effect.Effect.{Effect};
 ghost use Rattle.system_view.specs.Connections.{outcome_shown};
+ghost use Rattle.journal.specs.declared.trace.TheConstants.{GREATEST_STEPS};
 
 use super::history::History;
 use super::pick::Pick;
@@ -36,15 +37,16 @@ use std::sync::ledger::{Blank, Book, Ledger, Share};
 use system::{Effect, StepFault, System};
 use thiserror::Error;
 
-/// What is known of a connection's requests: how many it has submitted, and where in the trace's bytes the last Submit begins.
+/// What is known of a connection's requests: how many it has submitted, and where in the trace's bytes the last Submit
+/// begins.
 #[derive(Clone, Copy, Debug)]
 pub struct Last {
     pub count: u64,
     pub place: usize,
 }
 
-/// The right to one connection of a cluster. Contracts see its connection, its floor, how many requests it has submitted, and the words of
-/// the last one. It goes to its own cluster alone, whose ledger it has a part of.
+/// The right to one connection of a cluster. Contracts see its connection, its floor, how many requests it has
+/// submitted, and the words of the last one. It goes to its own cluster alone, whose ledger it has a part of.
 #[derive(Drop)]
 pub struct Seat<L: Ledger> {
     conn: ConnId,
@@ -73,7 +75,8 @@ impl<L: Ledger> Seat<L> {
         self.conn
     }
 
-    /// The clock of the final stamp of its last request that addressed a group, or 0. Each later one has a greater stamp.
+    /// The clock of the final stamp of its last request that addressed a group, or 0. Each later one has a greater
+    /// stamp.
     pub fn floor(&self) -> u64
         ensures { result ≡ self.now.floor }
     {
@@ -95,7 +98,8 @@ impl<L: Ledger> Seat<L> {
     }
 }
 
-/// What a seat collected: the id and the words of its request, the reply, and the final stamp of a request that addressed a group.
+/// What a seat collected: the id and the words of its request, the reply, and the final stamp of a request that
+/// addressed a group.
 #[derive(Drop)]
 pub struct Answer {
     id: RequestId,
@@ -141,8 +145,8 @@ impl Answer {
     }
 }
 
-/// What is told of a cluster that is closed: how many requests were submitted, and of those that addressed a group how many were executed
-/// and how many starved.
+/// What is told of a cluster that is closed: how many requests were submitted, and of those that addressed a group how
+/// many were executed and how many starved.
 #[derive(Clone, Copy, Debug, PartialEq, Eq)]
 pub struct Closing {
     pub requests: u64,
@@ -150,7 +154,8 @@ pub struct Closing {
     pub starved: u64,
 }
 
-/// Why a cluster isn't closed. Nothing was changed. Where several apply it is the first of `Failed`, `SeatsOut` and `NotQuiet`.
+/// Why a cluster isn't closed. Nothing was changed. Where several apply it is the first of `Failed`, `SeatsOut` and
+/// `NotQuiet`.
 #[derive(Clone, Copy, Debug, Drop, PartialEq, Eq, Error)]
 pub enum CloseFault {
     /// Not as many seats stood as sat.
@@ -168,8 +173,8 @@ pub enum CloseFault {
 
 /// A system with the trace of its steps, and the book of its seats.
 ///
-/// Unless a worker's start was refused, the system shows the world of the trace. The book of the ledger is the number of Submits in the
-/// trace, and each seat's share of it is the number of its own.
+/// Unless a worker's start was refused, the system shows the world of the trace. The book of the ledger is the number
+/// of Submits in the trace, and each seat's share of it is the number of its own.
 #[derive(Drop)]
 pub struct Cluster<L: Ledger> {
     alloc: Global,
@@ -201,8 +206,8 @@ impl<L: Ledger> Model for Cluster<L> {
 }
 
 impl<L: Ledger> Cluster<L> {
-    /// A cluster without seats, whose system has made no step and makes `max_steps` at most. Keys lie as the table says, and each shard
-    /// hashes them by a copy of `hasher`. The only error is want of memory.
+    /// A cluster without seats, whose system has made no step and makes `max_steps` at most. Keys lie as the table
+    /// says, and each shard hashes them by a copy of `hasher`. The only error is want of memory.
     ///
     /// The blank ledger has more parts than steps are ever made, so each seat gets one.
     pub fn new(
@@ -216,7 +221,7 @@ impl<L: Ledger> Cluster<L> {
         requires parts { blank.parts ≡ L.parts }
         requires enough { max_steps < blank.parts }
         requires some { 1 ≤ max_steps }
-        requires few { max_steps ≤ 2 ^ 62 }
+        requires few { max_steps ≤ GREATEST_STEPS }
         ensures { IfOk result (IsNew max_steps) }
     {
         let history = History::new(alloc, table, max_steps, hasher)?;
@@ -235,7 +240,8 @@ impl<L: Ledger> Cluster<L> {
         })
     }
 
-    /// Opens a connection, and gives the seat that has it. The errors are `Failed`, `Exhausted` and `Memory`; they change nothing but room.
+    /// Opens a connection, and gives the seat that has it. The errors are `Failed`, `Exhausted` and `Memory`; they
+    /// change nothing but room.
     pub fn sit(&mut self) -> Result<Seat<L>, StepFault>
         ensures opened { IfOk result (λ seat. IsMade self.old.history Step.Open (Effect.Opened seat.conn) self.new.history) }
         ensures seat { IfOk result (λ seat. seat ≡ record { conn = record { 0 = self.old.sat + 1 }; floor = 0; count = 0; words = [] }) }
@@ -274,8 +280,8 @@ impl<L: Ledger> Cluster<L> {
 
     /// Submits a request of these words, and gives its id. The seat counts it and keeps a copy of the words.
     ///
-    /// The errors change nothing but room: `Busy` where the seat hasn't collected its last outcome, `NoConn` where its connection isn't
-    /// open or the seat is not as the trace has it, `Failed`, `Exhausted` and `Memory`.
+    /// The errors change nothing but room: `Busy` where the seat hasn't collected its last outcome, `NoConn` where its
+    /// connection isn't open or the seat is not as the trace has it, `Failed`, `Exhausted` and `Memory`.
     pub fn submit(&mut self, seat: &mut Seat<L>, words: Request) -> Result<RequestId, StepFault>
         ensures submitted { IfOk result (λ id.
             IsMade self.old.history (Step.Submit seat.old.conn words) (Effect.Submitted id) self.new.history) }
@@ -315,11 +321,11 @@ impl<L: Ledger> Cluster<L> {
         Ok(id)
     }
 
-    /// Makes a turn: the first of Settle, Run, Take and Deliver that applies, the last with the packet that is picked. Says whether one
-    /// was made; none is where nothing is under way.
+    /// Makes a turn: the first of Settle, Run, Take and Deliver that applies, the last with the packet that is picked.
+    /// Says whether one was made; none is where nothing is under way.
     ///
-    /// The errors are `Failed`, `Exhausted` and `Memory`. They change nothing but room, unless a worker's start is refused now: then the
-    /// trace and the rows stand, no step is made any more, and nothing else is said.
+    /// The errors are `Failed`, `Exhausted` and `Memory`. They change nothing but room, unless a worker's start is
+    /// refused now: then the trace and the rows stand, no step is made any more, and nothing else is said.
     pub fn turn<P: Pick, W: Workers>(
         &mut self,
         pick: &P,
@@ -337,8 +343,9 @@ impl<L: Ledger> Cluster<L> {
 
     /// Collects what came of the seat's last request, if its outcome is there; else no step is made.
     ///
-    /// The errors change nothing but room: `NoConn` where the seat's connection isn't open, the seat is not as the trace has it, or the
-    /// outcome's stamp isn't above the seat's floor; `Failed`, `Exhausted`, and `Memory` for the copy of the words.
+    /// The errors change nothing but room: `NoConn` where the seat's connection isn't open, the seat is not as the
+    /// trace has it, or the outcome's stamp isn't above the seat's floor; `Failed`, `Exhausted`, and `Memory` for the
+    /// copy of the words.
     pub fn collect(&mut self, seat: &mut Seat<L>) -> Result<Option<Answer>, StepFault>
         ensures none { IfOk result (λ answer. IfNone answer (waiting self.old.history.system.parts.router seat.old.conn.0 ≡ None)) }
         ensures unasked { IfOk result (λ answer. IfNone answer ((self.new ≡ self.old) × (seat.new ≡ seat.old))) }
@@ -399,8 +406,8 @@ impl<L: Ledger> Cluster<L> {
         Ok(Some(outcome.reply))
     }
 
-    /// Takes a seat back, and closes its connection. What it has under way still runs, and its outcome is dropped. Where the Close is
-    /// refused, for want of memory or since no step may be made, the trace gains none.
+    /// Takes a seat back, and closes its connection. What it has under way still runs, and its outcome is dropped.
+    /// Where the Close is refused, for want of memory or since no step may be made, the trace gains none.
     pub fn stand(&mut self, seat: Seat<L>)
         ensures stood { self.new.stood ≡ self.old.stood + 1 }
         ensures back { self.new.back ≡ self.old.back + seat.count }
@@ -414,8 +421,8 @@ impl<L: Ledger> Cluster<L> {
         self.stood += 1;
     }
 
-    /// What is told of the cluster when it is closed: all seats have stood, and nothing is under way. It takes no memory and changes
-    /// nothing.
+    /// What is told of the cluster when it is closed: all seats have stood, and nothing is under way. It takes no
+    /// memory and changes nothing.
     pub fn closing(&mut self) -> Result<Closing, CloseFault>
         ensures seats { OnOk result (self.old.stood ≡ self.old.sat) }
         ensures share { OnOk result (self.old.back ≡ self.old.book) }
@@ -472,8 +479,8 @@ impl<L: Ledger> Cluster<L> {
     }
 }
 
-/// Whether the seat is as the trace has it: what is known of its connection is its count, and where the last of its Submits lies the trace
-/// has the seat's words.
+/// Whether the seat is as the trace has it: what is known of its connection is its count, and where the last of its
+/// Submits lies the trace has the seat's words.
 fn fits<L: Ledger>(history: &History, lasts: &BTreeMap<u64, Last>, seat: &Seat<L>) -> bool
     requires lasts { AreLasts lasts.now.entries history.now.steps }
     requires seated { (sat : ℕ) × (has_failed history.now ≡ false → IsSeated lasts.now.entries sat history.now) }
@@ -503,7 +510,7 @@ fn make_submit(
 ) -> Result<RequestId, StepFault>
     requires known { (last : Last) × (last_of lasts.old.entries conn.0 ≡ Some last) }
     requires counted { count ≡ submits_by conn.0 history.old.steps }
-    requires few { count ≤ 2 ^ 62 }
+    requires few { count ≤ GREATEST_STEPS }
     ensures made { IfOk result (λ id. IsMade history.old (Step.Submit conn words) (Effect.Submitted id) history.new) }
     ensures id { IfOk result (λ id. id ≡ record { conn = conn; seq = count + 1 }) }
     ensures noted { OnOk result (IsPut lasts.old.entries conn.0

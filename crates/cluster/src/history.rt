@@ -1,6 +1,6 @@
 //! A system beside the trace of the steps that it made.
 
-ghost use Rattle.std.specs.Prelude.{◌≡◌, ◌≤◌, ◌^◌, ◌++◌, true, false, [], ◌∷◌, List, length, IfOk, IfErr, OnOk, OnErr, IsTrue, ◌↔◌};
+ghost use Rattle.std.specs.Prelude.{◌≡◌, ◌≤◌, ◌++◌, true, false, [], ◌∷◌, List, length, IfOk, IfErr, OnOk, OnErr, IsTrue, ◌↔◌};
 ghost use Rattle.cluster.specs.Histories.{has_failed, IsLawful, IsMade, IsUnchanged, IsFault, IsLeft, IsNoRun, IsUnanswered};
 ghost use Rattle.cluster.specs.Turns.{TurnsOn, Delivers, IsTurnFault};
 ghost use Rattle.journal.specs.Codes.{steps_size};
@@ -9,6 +9,7 @@ ghost use Rattle.journal.specs.declared.request_ids.RequestIds.{RequestIds};
 ghost use Rattle.system.specs.System.{IsQuiet};
 ghost use Rattle.system.specs.declared.effect.Effect.{Effect};
 ghost use Rattle.system.specs.declared.fault.StepFault.{StepFault};
+ghost use Rattle.journal.specs.declared.trace.TheConstants.{GREATEST_STEPS};
 
 use super::pick::Pick;
 use journal::{RequestIds, Step, Trace};
@@ -20,8 +21,8 @@ use std::marker::Model;
 use std::num::NonZeroUsize;
 use system::{Effect, Progress, StepFault, System};
 
-/// A system, and the trace of all steps that it made. Contracts see both, and that the system shows the world of its trace, unless a
-/// worker's start was refused.
+/// A system, and the trace of all steps that it made. Contracts see both, and that the system shows the world of its
+/// trace, unless a worker's start was refused.
 #[derive(Drop)]
 pub(super) struct History {
     alloc: Global,
@@ -46,7 +47,8 @@ impl Model for History {
 }
 
 impl History {
-    /// No step was made. Keys lie as the table says, and each shard hashes them by a copy of `hasher`. The only error is want of memory.
+    /// No step was made. Keys lie as the table says, and each shard hashes them by a copy of `hasher`. The only error
+    /// is want of memory.
     pub fn new(
         alloc: Global,
         table: Table,
@@ -54,7 +56,7 @@ impl History {
         hasher: ShardHasher,
     ) -> Result<Self, AllocError>
         requires some { 1 ≤ max_steps }
-        requires few { max_steps ≤ 2 ^ 62 }
+        requires few { max_steps ≤ GREATEST_STEPS }
         ensures steps { IfOk result (λ h. h.steps ≡ []) }
         ensures max_steps { IfOk result (λ h. h.max_steps ≡ max_steps) }
         ensures lives { IfOk result (λ h. has_failed h ≡ false) }
@@ -91,8 +93,8 @@ impl History {
         let _ = &self.system;
     }
 
-    /// Makes a step that runs no layer, and puts it behind those of the trace. Answers what it came to, and at which place of the trace's
-    /// bytes it begins.
+    /// Makes a step that runs no layer, and puts it behind those of the trace. Answers what it came to, and at which
+    /// place of the trace's bytes it begins.
     pub fn make(&mut self, step: Step) -> Result<(Effect, usize), StepFault>
         requires { IsNoRun step }
         ensures made { IfOk result (λ made. IsMade self.old step made.0 self.new) }
@@ -131,7 +133,8 @@ impl History {
         }
     }
 
-    /// Runs the layer that was taken, by these workers, and puts the Run behind the steps of the trace with the ids that starved.
+    /// Runs the layer that was taken, by these workers, and puts the Run behind the steps of the trace with the ids
+    /// that starved.
     pub fn run<W: Workers>(
         &mut self,
         workers: &W,
@@ -162,8 +165,8 @@ impl History {
         Ok(())
     }
 
-    /// Makes a turn: the first of Settle, Run, Take and Deliver that applies, or none where nothing is under way. Says whether one was
-    /// made.
+    /// Makes a turn: the first of Settle, Run, Take and Deliver that applies, or none where nothing is under way. Says
+    /// whether one was made.
     pub fn turn<P: Pick, W: Workers>(
         &mut self,
         pick: &P,

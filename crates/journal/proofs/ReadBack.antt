@@ -18,6 +18,7 @@ use Rattle.journal.specs.Codes.{IdFits, StepFits}
 use Rattle.journal.specs.TraceText.{word_text, id_text, step_name, step_args, joined, step_line, first_line, max_line, end_line, trace_text}
 use Rattle.journal.specs.TraceText.{word_in, cut_at, id_of, id_in, all_in, parts_in, named, step_in, IsStepLine, HasNoLf, Spells}
 use Rattle.journal.proofs.TextLaws.{number_in-decimal}
+use Rattle.journal.specs.declared.trace.TheConstants.{GREATEST_STEPS}
 
 -- ---- bytes above a space
 
@@ -218,7 +219,7 @@ numbered-no-lf : (name : List ℕ) (n : ℕ) → AllByRecursion (λ b. 31 < b) n
 numbered-no-lf name n all h = no-lf (name ++ decimal n) (all_append (λ b. 31 < b) name (decimal n) all
     (weaker (λ b. 47 < b) (λ b. 31 < b) (decimal n) (λ b high. omega arith) (decimal-digits n h)))
 
-pub written-spells : (max : ℕ) (steps : List Step) → 1 ≤ max → max ≤ 2 ^ 62 → length steps < 2 ^ 64 → AllByRecursion StepFits steps
+pub written-spells : (max : ℕ) (steps : List Step) → 1 ≤ max → max ≤ GREATEST_STEPS → length steps < 2 ^ 64 → AllByRecursion StepFits steps
     → Spells (trace_text max steps) max steps
 written-spells max steps least greatest few fit = record {
   lines = first_line ∷ max_line max ∷ (map step_line steps ++ end_line (length steps) ∷ []);

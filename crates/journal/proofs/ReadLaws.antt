@@ -1,5 +1,5 @@
 -- How a trace's text is read line by line: which lines a trace has, and what a fault's line is.
-use Rattle.std.proofs.Common.{◌≡◌, ◌≢◌, ℕ, suc, ◌+◌, ◌≤◌, ◌^◌, List, [], ◌∷◌, ◌++◌, length, Bool, true, false, refl, ap, sym, subst, ◌∙◌}
+use Rattle.std.proofs.Common.{◌≡◌, ◌≢◌, ℕ, suc, ◌+◌, ◌≤◌, List, [], ◌∷◌, ◌++◌, length, Bool, true, false, refl, ap, sym, subst, ◌∙◌}
 use Rattle.std.proofs.Common.{arith, Option, Some, None, inl, inr, ◌⊎◌, ◌==◌, length-append, MatchOption}
 use Rattle.std.specs.List.{flat_map, AllZip}
 use Rattle.std.proofs.lemmas.List.{append_assoc, append-nil}
@@ -10,6 +10,7 @@ use Rattle.journal.specs.declared.step.Step.{Step}
 use Rattle.journal.specs.TraceText.{cut_at, step_in, first_line, max_line, end_line, ended, IsStepLine, AreLines, HasNoLf, Spells, Begins}
 use Rattle.journal.specs.TraceText.{IsBad}
 use Rattle.journal.specs.TraceReading.{IsRead, IsLine}
+use Rattle.journal.specs.declared.trace.TheConstants.{GREATEST_STEPS}
 
 -- ---- lines and their ends
 
@@ -100,7 +101,7 @@ counted : (body : List (List ℕ)) (steps : List Step) (max k : ℕ) → AllZip 
     (first_line ∷ max_line max ∷ body) + 1
 counted body steps max k z e = omega (arith, zip-length body steps z)
 
-begun : (max : ℕ) (body : List (List ℕ)) (steps : List Step) → 1 ≤ max → max ≤ 2 ^ 62 → AllZip IsStepLine body steps → Begins
+begun : (max : ℕ) (body : List (List ℕ)) (steps : List Step) → 1 ≤ max → max ≤ GREATEST_STEPS → AllZip IsStepLine body steps → Begins
     (first_line ∷ max_line max ∷ body)
 begun max body steps least greatest z = record {
   max = max;
@@ -278,7 +279,7 @@ max-open text rest is none = record {
 }
 
 pub max-bad : (text rest line behind : List ℕ) → IsLine text first_line rest → IsLine rest line behind
-    → ((max : ℕ) → 1 ≤ max → max ≤ 2 ^ 62 → line ≡ max_line max → ⊥) → IsBad text 2
+    → ((max : ℕ) → 1 ≤ max → max ≤ GREATEST_STEPS → line ≡ max_line max → ⊥) → IsBad text 2
 max-bad text rest line behind is next_is none = record {
   before = first_line ∷ [];
   no_lf = (is.no_lf, tt);
@@ -293,7 +294,7 @@ max-bad text rest line behind is next_is none = record {
 }
 
 pub head-read : (text rest behind : List ℕ) (max : ℕ) → IsLine text first_line rest → IsLine rest (max_line max) behind → 1 ≤ max
-    → max ≤ 2 ^ 62 → IsRead text behind max []
+    → max ≤ GREATEST_STEPS → IsRead text behind max []
 head-read text rest behind max is next_is least greatest = record {
   least = least;
   greatest = greatest;

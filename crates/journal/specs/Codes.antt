@@ -8,6 +8,7 @@ use Rattle.packing.specs.Codes.{number_code, number_at, words_code, words_at, ma
 use Rattle.journal.specs.declared.step.Step.{Step}
 use Rattle.journal.specs.declared.step.Step.TheVariants.{Open, Submit, Deliver, Take, Run, Settle, Collect, Close}
 use Rattle.journal.specs.Views.{RowView}
+use Rattle.journal.specs.declared.trace.TheConstants.{GREATEST_STEPS}
 
 -- ---- ids
 
@@ -105,7 +106,7 @@ steps_in count bytes = (many step_at count bytes).0
 -- the bytes are these steps, one behind another
 pub record AreSteps (steps : List Step) (max count : ℕ) (bytes : List ℕ) : Type 0 where
   pub least : 1 ≤ max
-  pub greatest : max ≤ 2 ^ 62
+  pub greatest : max ≤ GREATEST_STEPS
   pub counted : count ≡ length steps
   pub coded : bytes ≡ flat_map step_code steps
   pub fit : AllByRecursion StepFits steps

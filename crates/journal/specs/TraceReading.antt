@@ -1,13 +1,14 @@
 -- How far a trace's text is read.
-use Rattle.std.specs.Prelude.{◌≡◌, ◌≤◌, ℕ, ◌^◌, List, ◌∷◌, ◌++◌}
+use Rattle.std.specs.Prelude.{◌≡◌, ◌≤◌, ℕ, List, ◌∷◌, ◌++◌}
 use Rattle.std.specs.List.{flat_map, AllZip, AllByRecursion}
 use Rattle.journal.specs.declared.step.Step.{Step}
 use Rattle.journal.specs.TraceText.{first_line, max_line, ended, IsStepLine, HasNoLf}
+use Rattle.journal.specs.declared.trace.TheConstants.{GREATEST_STEPS}
 
 -- the text is the first lines of a trace with these steps, and then the rest
 pub record IsRead (text rest : List ℕ) (max : ℕ) (steps : List Step) : Type 0 where
   pub least : 1 ≤ max
-  pub greatest : max ≤ 2 ^ 62
+  pub greatest : max ≤ GREATEST_STEPS
   pub body : List (List ℕ)
   pub each : AllZip IsStepLine body steps
   pub no_lf : AllByRecursion HasNoLf (first_line ∷ max_line max ∷ body)

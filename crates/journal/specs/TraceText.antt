@@ -9,6 +9,7 @@ use Rattle.journal.specs.declared.fault.TraceFault.{TraceFault}
 use Rattle.journal.specs.declared.fault.TraceFault.TheVariants.{Bad, Memory}
 use Rattle.journal.specs.declared.step.Step.{Step}
 use Rattle.journal.specs.declared.step.Step.TheVariants.{Open, Submit, Deliver, Take, Run, Settle, Collect, Close}
+use Rattle.journal.specs.declared.trace.TheConstants.{GREATEST_STEPS}
 
 -- ---- what is written
 
@@ -152,7 +153,7 @@ IsStepLine line step = step_in line ≡ Some step
 -- these are the lines of a trace
 pub record AreLines (lines : List (List ℕ)) (max : ℕ) (steps : List Step) : Type 0 where
   pub least : 1 ≤ max
-  pub greatest : max ≤ 2 ^ 62
+  pub greatest : max ≤ GREATEST_STEPS
   pub body : List (List ℕ)
   pub each : AllZip IsStepLine body steps
   pub whole : lines ≡ first_line ∷ max_line max ∷ (body ++ end_line (length steps) ∷ [])
@@ -174,8 +175,8 @@ pub record Begins (lines : List (List ℕ)) : Type 0 where
   pub more : List (List ℕ)
   pub are : AreLines (lines ++ more) max steps
 
--- The text begins with so many lines of some trace. A whole line behind them is none that a trace has there, and the lines alone
--- are no trace where nothing stands behind them. The fault is told of the line behind them, counted from 1.
+-- The text begins with so many lines of some trace. A whole line behind them is none that a trace has there, and the
+-- lines alone are no trace where nothing stands behind them. The fault is told of the line behind them, counted from 1.
 pub record IsBad (text : List ℕ) (line : ℕ) : Type 0 where
   pub before : List (List ℕ)
   pub no_lf : AllByRecursion HasNoLf before

@@ -2,7 +2,8 @@
 
 ghost use Rattle.std.specs.Prelude.{◌≡◌, ℕ, ◌+◌, ◌≤◌, ◌<◌, ◌^◌, ◌++◌, List, length, vec_len, vec_capacity, MatchOption, IfOk, IsOk, OnOk};
 ghost use Rattle.std.specs.Prelude.{OnErr, IfSome};
-ghost use Rattle.journal.specs.Codes.{id_at, ids_code, ids_at, submit_at, step_code, step_at, step_size, IdsFit, StepFits, head_code, HeadFits};
+ghost use Rattle.journal.specs.Codes.{id_at, ids_code, ids_at, submit_at, step_code, step_at, step_size};
+ghost use Rattle.journal.specs.Codes.{IdsFit, StepFits, head_code, HeadFits};
 ghost use Rattle.journal.specs.declared.step.Step.{Step};
 ghost use Rattle.skeen_core.specs.declared.request.RequestId.{RequestId};
 
@@ -84,7 +85,8 @@ fn take_ids(alloc: Global, bytes: &[u8]) -> Result<(Vec<RequestId>, &[u8]), Allo
     Ok((ids, rest))
 }
 
-/// How many bytes a Run takes at most, at which at most so many requests starved; `None` where that may be 2^64 or more.
+/// How many bytes a Run takes at most, at which at most so many requests starved; `None` where that may be 2^64 or
+/// more.
 pub fn size_of_run(starved: usize) -> Option<usize>
     ensures { IfSome result (λ size. (ids : List RequestId) → length ids ≤ starved → step_size (Step.Run ids) ≤ size) }
 {

@@ -25,5 +25,5 @@ pub use request_ids::RequestIds;
 pub use row::Row;
 pub use rows::Rows;
 pub use step::Step;
-pub use trace::{Steps, Trace};
+pub use trace::{GREATEST_STEPS, Steps, Trace};
 pub use writer::write_trace;

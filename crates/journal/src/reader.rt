@@ -8,10 +8,8 @@ ghost use Rattle.journal.specs.TraceReading.{IsLine, IsRead};
 use super::fault::TraceFault;
 use super::lines::step_in;
 use super::parts::{cut_at, number_in};
-use super::trace::Trace;
+use super::trace::{GREATEST_STEPS, Trace};
 use std::alloc::{AllocError, Global};
-
-const GREATEST_MAX: u64 = 1 << 62;
 
 /// The trace that the text spells. It is `Bad` at the first line that no trace has there: where the end is missing,
 /// at the line behind the last, and where something follows it, at the line behind the end. Any bytes can be read.
@@ -25,7 +23,7 @@ pub fn read_trace(alloc: Global, text: &[u8]) -> Result<Trace, TraceFault>
 /// The greatest number of steps, from the first two lines, and what stands behind them.
 fn read_head(text: &[u8]) -> Result<(u64, &[u8]), TraceFault>
     ensures { MatchResult result
-        (λ r. (1 ≤ r.0) × (r.0 ≤ 2 ^ 62) × IsRead text.now r.1.now r.0 [])
+        (λ r. (1 ≤ r.0) × (r.0 ≤ GREATEST_STEPS) × IsRead text.now r.1.now r.0 [])
         (λ fault. IsFaultOf text.now fault) }
 {
     let Some((line, rest)) = next_line(text) else {
@@ -46,7 +44,7 @@ fn read_head(text: &[u8]) -> Result<(u64, &[u8]), TraceFault>
 /// The trace whose first two lines were read.
 fn read_steps(alloc: Global, max: u64, text: &[u8]) -> Result<Trace, TraceFault>
     requires least { 1 ≤ max }
-    requires greatest { max ≤ 2 ^ 62 }
+    requires greatest { max ≤ GREATEST_STEPS }
     ensures { (whole : List ℕ) → IsRead whole text.now max []
         → MatchResult result (λ trace. Spells whole trace.max trace.steps) (λ fault. IsFaultOf whole fault) }
 {
@@ -100,11 +98,11 @@ fn next_line(text: &[u8]) -> Option<(&[u8], &[u8])>
 /// The greatest number of steps that this line gives.
 fn max_in(line: &[u8]) -> Option<u64>
     ensures { MatchOption result
-        ((max : ℕ) → 1 ≤ max → max ≤ 2 ^ 62 → line.now ≡ max_line max → ⊥)
-        (λ max. (line.now ≡ max_line max) × (1 ≤ max) × (max ≤ 2 ^ 62)) }
+        ((max : ℕ) → 1 ≤ max → max ≤ GREATEST_STEPS → line.now ≡ max_line max → ⊥)
+        (λ max. (line.now ≡ max_line max) × (1 ≤ max) × (max ≤ GREATEST_STEPS)) }
 {
     match number_behind(line, b"max ") {
-        Some(max) if 1 <= max && max <= GREATEST_MAX => Some(max),
+        Some(max) if 1 <= max && max <= GREATEST_STEPS => Some(max),
         _ => None,
     }
 }

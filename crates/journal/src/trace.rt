@@ -13,8 +13,11 @@ use skeen_core::ConnId;
 use std::alloc::{AllocError, Global};
 use std::marker::Model;
 
-/// The steps that were made, in order, and at most how many may be made, from 1 to 2^62. They are kept for good.
-/// Contracts see beside them how many more bytes fit without memory.
+/// At most so many steps may be made, so that no clock and no number of a connection or a request passes 64 bits.
+pub const GREATEST_STEPS: u64 = 1 << 62;
+
+/// The steps that were made, in order, and at most how many may be made, from 1 to [`GREATEST_STEPS`]. They are kept
+/// for good. Contracts see beside them how many more bytes fit without memory.
 #[derive(Drop)]
 pub struct Trace {
     max: u64,
@@ -43,7 +46,7 @@ impl Trace {
     /// No step was made, and at most `max` may be. It takes no memory.
     pub fn new(alloc: Global, max: u64) -> Self
         requires least { 1 ≤ max }
-        requires greatest { max ≤ 2 ^ 62 }
+        requires greatest { max ≤ GREATEST_STEPS }
         ensures max { result.max ≡ max }
         ensures steps { result.steps ≡ [] }
     {
@@ -54,11 +57,11 @@ impl Trace {
         }
     }
 
-    /// At most how many steps may be made: from 1 to 2^62.
+    /// At most how many steps may be made: from 1 to [`GREATEST_STEPS`].
     pub fn max(&self) -> u64
         ensures max { result ≡ self.now.max }
         ensures least { 1 ≤ result }
-        ensures greatest { result ≤ 2 ^ 62 }
+        ensures greatest { result ≤ GREATEST_STEPS }
     {
         self.max
     }
@@ -98,8 +101,8 @@ impl Trace {
         Ok(())
     }
 
-    /// Takes the room for a Run at which at most so many requests starved, so that its `push` can't fail. The only error
-    /// is want of memory, which changes nothing.
+    /// Takes the room for a Run at which at most so many requests starved, so that its `push` can't fail. The only
+    /// error is want of memory, which changes nothing.
     pub fn reserve_run(&mut self, starved: usize) -> Result<(), AllocError>
         ensures max { self.new.max ≡ self.old.max }
         ensures steps { self.new.steps ≡ self.old.steps }

@@ -10,7 +10,8 @@ use Rattle.router.specs.declared.connection.Standing.TheVariants.{Idle, Waiting}
 use Rattle.router.specs.declared.connection.Connection.{Connection}
 use Rattle.router.specs.declared.outcome.Outcome.{Outcome}
 
--- how many connections were opened, and those that are kept: each that is open, and each closed one whose request is under way
+-- how many connections were opened, and those that are kept: each that is open, and each closed one whose request is
+-- under way
 pub record RouterView : Type 0 where
   pub opened : ℕ
   pub kept : List (ℕ × Connection)
@@ -56,7 +57,8 @@ once_settled v clock outcome = cond v.is_open (Some (settled_with v clock outcom
 
 -- ---- what the calls do
 
--- the outcome that waits for the connection is handed out, if one does, and then the connection is idle; else nothing changes
+-- the outcome that waits for the connection is handed out, if one does, and then the connection is idle; else nothing
+-- changes
 pub record Collects (old : RouterView) (c : ℕ) (outcome : Option Outcome) (new : RouterView) : Type 0 where
   pub was : Connection
   pub kept : connection old c ≡ Some was

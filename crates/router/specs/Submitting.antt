@@ -25,8 +25,8 @@ abbrev pub groups_by : Layout → Result Command Refusal → List ℕ
 groups_by table (Ok command) = groups_of table command
 groups_by table (Err refusal) = []
 
--- how the connection stands once the words were read: refused words and a command that looks at no key are answered at once, and
--- any other command waits
+-- how the connection stands once the words were read: refused words and a command that looks at no key are answered at
+-- once, and any other command waits
 abbrev pub StandsBy : RequestId → List (List ℕ) → Result Command Refusal → Standing → Type 0
 StandsBy id words (Err refusal) (Answered o) = answer_of o ≡ record { id = id; reply = ErrorLine (refusal_text refusal); stamp = None }
 StandsBy id words (Err refusal) standing = ⊥

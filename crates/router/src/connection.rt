@@ -7,7 +7,8 @@ use super::outcome::Outcome;
 use command_table::Command;
 use resp::Request;
 
-/// A request that waits to be taken: its words, for the row that it will have, and the command that they say, to be run.
+/// A request that waits to be taken: its words, for the row that it will have, and the command that they say, to be
+/// run.
 #[derive(Drop)]
 pub struct Pending {
     pub words: Request,

@@ -1,6 +1,6 @@
 //! The router.
 
-ghost use Rattle.std.specs.Prelude.{◌≡◌, ℕ, ◌==◌, cond, ◌<◌, ◌+◌, ◌^◌, [], Some, None, false, Ok, IfOk, OnOk, OnErr, IfErr, IsSome, IfSome};
+ghost use Rattle.std.specs.Prelude.{◌≡◌, ℕ, ◌==◌, cond, ◌<◌, ◌+◌, [], Some, None, false, Ok, IfOk, OnOk, OnErr, IfErr, IsSome, IfSome};
 ghost use Rattle.std.specs.Prelude.{IfNone, ◌≢◌, option_map, option_copied};
 ghost use Rattle.router.specs.Connection.{just_opened, with_standing};
 ghost use Rattle.router.specs.Router.{connection, is_open, waiting, pending_at, once_settled, once_closed, Changes, Collects, Closes};
@@ -25,8 +25,11 @@ use std::collections::BTreeMap;
 use std::marker::Model;
 use std::mem;
 
-/// All connections and their requests. A contract sees how many connections were opened, and each connection that is kept: whether it
-/// is open, how many requests it has submitted, its floor, and how its request stands.
+/// Connections, and the requests of each, are numbered from 1 to this, so that no number passes 64 bits.
+pub const GREATEST_NUMBER: u64 = 1 << 62;
+
+/// All connections and their requests. A contract sees how many connections were opened, and each connection that is
+/// kept: whether it is open, how many requests it has submitted, its floor, and how its request stands.
 ///
 /// A connection that is closed and has nothing under way leaves nothing behind.
 #[derive(Drop)]
@@ -63,10 +66,11 @@ impl Router {
 
     /// Opens the next connection and gives its number. The only error is want of memory, which changes nothing.
     pub fn open(&mut self) -> Result<ConnId, AllocError>
-        requires { self.old.opened < 2 ^ 62 }
+        requires { self.old.opened < GREATEST_NUMBER }
         ensures number { IfOk result (λ c. c.0 ≡ self.old.opened + 1) }
         ensures opened { OnOk result (self.new.opened ≡ self.old.opened + 1) }
-        ensures at { OnOk result ((d : ℕ) → connection self.new d ≡ cond (d == self.new.opened) (Some just_opened) (connection self.old d)) }
+        ensures at { OnOk result ((d : ℕ) →
+            connection self.new d ≡ cond (d == self.new.opened) (Some just_opened) (connection self.old d)) }
         ensures unchanged { OnErr result (self.new ≡ self.old) }
     {
         let number = self.opened + 1;
@@ -89,18 +93,18 @@ impl Router {
         }
     }
 
-    /// A connection submits a request of these words. Refused words and a command that looks at no key have their outcome at once
-    /// and address no group; any other request waits to be taken.
+    /// A connection submits a request of these words. Refused words and a command that looks at no key have their
+    /// outcome at once and address no group; any other request waits to be taken.
     ///
-    /// Errors, with nothing changed: `NoConn`, the connection isn't open; `Busy`, it hasn't collected the outcome of its last request;
-    /// `Memory`.
+    /// Errors, with nothing changed: `NoConn`, the connection isn't open; `Busy`, it hasn't collected the outcome of
+    /// its last request; `Memory`.
     pub fn submit(
         &mut self,
         table: &Table,
         conn: ConnId,
         words: Request,
     ) -> Result<Submission, SubmitFault>
-        requires { (v : Connection) → connection self.old conn.0 ≡ Some v → v.seq < 2 ^ 62 }
+        requires { (v : Connection) → connection self.old conn.0 ≡ Some v → v.seq < GREATEST_NUMBER }
         ensures submitted { IfOk result (λ s. Submits table.now conn.0 words self.old s self.new) }
         ensures refused { IfErr result (IsRefused (connection self.old conn.0)) }
         ensures unchanged { OnErr result (self.new ≡ self.old) }
@@ -123,8 +127,8 @@ impl Router {
         Ok(Submission { id, floor, groups })
     }
 
-    /// Whether the connection may submit: it is open and has collected the outcome of its last request. `Busy` and `NoConn` say why it
-    /// may not.
+    /// Whether the connection may submit: it is open and has collected the outcome of its last request. `Busy` and
+    /// `NoConn` say why it may not.
     pub fn may_submit(&self, conn: ConnId) -> Result<(), SubmitFault>
         ensures may { OnOk result (IsIdle (connection self.now conn.0)) }
         ensures may_not { IfErr result (λ e. (e ≢ SubmitFault.Memory) × IsRefused (connection self.now conn.0) e) }
@@ -144,7 +148,8 @@ impl Router {
         }
     }
 
-    /// Takes out the words and the command of a request that waits to be taken; none where this request doesn't. It takes no memory.
+    /// Takes out the words and the command of a request that waits to be taken; none where this request doesn't. It
+    /// takes no memory.
     pub fn take(&mut self, id: RequestId) -> Option<Pending>
         ensures taken { result ≡ pending_at (connection self.old id.conn.0) id.seq }
         ensures changes { IfSome result (λ p. (v : Connection) × (connection self.old id.conn.0 ≡ Some v)
@@ -159,8 +164,9 @@ impl Router {
         }
     }
 
-    /// A request that was taken has its outcome. It goes to its connection, whose floor is now the clock of the request's stamp. Where
-    /// the connection was closed, the outcome is dropped, and the router forgets the connection. It takes no memory.
+    /// A request that was taken has its outcome. It goes to its connection, whose floor is now the clock of the
+    /// request's stamp. Where the connection was closed, the outcome is dropped, and the router forgets the connection.
+    /// It takes no memory.
     pub fn settle(&mut self, stamp: Stamp, outcome: Outcome)
         requires { (v : Connection) × (connection self.old outcome.id.conn.0 ≡ Some v) }
         ensures { (v : Connection) × (connection self.old outcome.id.conn.0 ≡ Some v)
@@ -215,7 +221,8 @@ impl Router {
         }
     }
 
-    /// Closes a connection. A request of it that is under way still runs, and its outcome is dropped. It takes no memory.
+    /// Closes a connection. A request of it that is under way still runs, and its outcome is dropped. It takes no
+    /// memory.
     pub fn close(&mut self, conn: ConnId) -> Result<(), NoConn>
         ensures closed { OnOk result (Closes self.old conn.0 self.new) }
         ensures refused { OnErr result (is_open (connection self.old conn.0) ≡ false) }

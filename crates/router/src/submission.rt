@@ -4,8 +4,8 @@ use groups::Groups;
 use skeen_core::RequestId;
 use thiserror::Error;
 
-/// A request that was submitted: its id, the floor above which each proposal for it has to stand, and the groups that it
-/// addresses. A request that addresses none has its outcome already.
+/// A request that was submitted: its id, the floor above which each proposal for it has to stand, and the groups that
+/// it addresses. A request that addresses none has its outcome already.
 #[derive(Clone, Copy, Debug)]
 pub struct Submission {
     pub id: RequestId,

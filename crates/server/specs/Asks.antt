@@ -1,5 +1,5 @@
--- What a seat asks of a shared cluster, and what it is answered. The cluster under the lock is another one each time it is taken, so a
--- clause says that there was such a cluster, and not which.
+-- What a seat asks of a shared cluster, and what it is answered. The cluster under the lock is another one each time it
+-- is taken, so a clause says that there was such a cluster, and not which.
 use Rattle.std.specs.Prelude.{◌≡◌, ℕ, ◌+◌, List, [], ◌⊎◌, Option, Some, None}
 use Rattle.cluster.specs.Clusters.{SeatView, last_id, IsForeign, IsBelow}
 use Rattle.cluster.specs.Histories.{HistoryView, IsLawful, IsMade, IsRefused, IsFault}
@@ -33,9 +33,10 @@ pub record IsNewSeat (s : SeatView) : Type 0 where
 abbrev pub submitted : SeatView → List (List ℕ) → SeatView
 submitted s words = record { conn = s.conn; floor = s.floor; count = s.count + 1; words = words }
 
--- What came of the seat's last request: the seat's connection collected it as the last step of a lawful history. It is the outcome of the
--- seat's last id, which the history has with the seat's words; it is a row of that history, or the request starved, or it is the reply to
--- words that address no group. Its stamp is above the seat's floor, and becomes it.
+-- What came of the seat's last request: the seat's connection collected it as the last step of a lawful history. It is
+-- the outcome of the seat's last id, which the history has with the seat's words; it is a row of that history, or the
+-- request starved, or it is the reply to words that address no group. Its stamp is above the seat's floor, and becomes
+-- it.
 pub record IsAnswered (old : SeatView) (o : Outcome) (new : SeatView) : Type 0 where
   pub before : HistoryView
   pub after : HistoryView
@@ -110,8 +111,8 @@ IsStopped Exhausted = (h : HistoryView) × IsFault h Take step.Exhausted
 IsStopped Failed = (h : HistoryView) × IsFault h Take step.Failed
 IsStopped NoConn = ⊥
 
--- Why an ask is refused, and what that leaves of the seat: the request isn't submitted and the seat is as before, or it was submitted and
--- what came of it isn't given.
+-- Why an ask is refused, and what that leaves of the seat: the request isn't submitted and the seat is as before, or it
+-- was submitted and what came of it isn't given.
 abbrev pub IsAskFault : SeatView → List (List ℕ) → AskFault → SeatView → Type 0
 IsAskFault old words fault new =
     (IsSubmitFault old words fault × (new ≡ old)) ⊎ (IsCollectFault (submitted old words) fault × (new ≡ submitted old words))

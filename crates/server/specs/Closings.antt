@@ -9,8 +9,8 @@ use Rattle.cluster.specs.declared.cluster.Closing.{Closing}
 use Rattle.journal.specs.TraceText.{trace_text}
 use Rattle.system.specs.System.{IsQuiet}
 
--- The cluster was lawful and quiet, as many seats stood as sat, and what those submitted that stood is all that was submitted. These are
--- the numbers of its requests, of its rows and of those that starved.
+-- The cluster was lawful and quiet, as many seats stood as sat, and what those submitted that stood is all that was
+-- submitted. These are the numbers of its requests, of its rows and of those that starved.
 pub record IsClosed (closing : Closing) : Type 0 where
   pub cluster : ClusterView
   pub lawful : IsLawful cluster.history

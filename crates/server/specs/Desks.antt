@@ -7,8 +7,8 @@ use Rattle.server.specs.declared.fault.AskFault.TheVariants as fault
 use Rattle.serving.specs.Answers.{Answer}
 use Rattle.serving.specs.declared.door.DoorFault.TheVariants.{Memory, Ended}
 
--- The reply is that of what came of these words, which the seat asked as its next request; or there was no memory, and the seat is as
--- before; or the connection ends, for the reason for which the ask was refused.
+-- The reply is that of what came of these words, which the seat asked as its next request; or there was no memory, and
+-- the seat is as before; or the connection ends, for the reason for which the ask was refused.
 abbrev pub Asks : SeatView → List (List ℕ) → Answer AskFault → SeatView → Type 0
 Asks old words (Ok reply) new = IsReplied (submitted old words) reply new
 Asks old words (Err Memory) new = new ≡ old

@@ -5,6 +5,7 @@ ghost use Rattle.server.specs.Options.{InRange};
 
 use clap::error::ErrorKind;
 use clap::{Arg, ArgMatches, Command, value_parser};
+use journal::GREATEST_STEPS;
 use std::alloc::{AllocError, Global};
 use std::num::NonZeroUsize;
 use thiserror::Error;
@@ -14,9 +15,6 @@ const PORT: u16 = 7379;
 const CONNECTIONS: u64 = 64;
 
 const MAX_STEPS: u64 = 1_000_000;
-
-/// The greatest number of steps that may be asked for: 2^62.
-const GREATEST_MAX_STEPS: u64 = 1 << 62;
 
 /// The greatest number of workers that may be asked for.
 const GREATEST_WORKERS: usize = 64;
@@ -32,7 +30,7 @@ pub struct Options<'a> {
     pub workers: NonZeroUsize,
     /// How many connections it serves, one or more.
     pub connections: u64,
-    /// At most how many steps it makes, from 1 to 2^62.
+    /// At most how many steps it makes, from 1 to [`GREATEST_STEPS`].
     pub max_steps: u64,
     /// The file that the trace is written to, if one is asked for.
     pub trace: Option<&'a str>,
@@ -70,8 +68,8 @@ impl From<clap::Error> for OptionsFault {
 }
 
 impl OptionsFault {
-    /// Prints the text where it belongs, and gives the program's status: 0 for help that was asked for, 2 for words that say no options, 7
-    /// for want of memory.
+    /// Prints the text where it belongs, and gives the program's status: 0 for help that was asked for, 2 for words
+    /// that say no options, 7 for want of memory.
     pub fn tell<R: Print + Eprint>(&self, rt: &R) -> u8 {
         match self {
             OptionsFault::Words(error) => {
@@ -156,7 +154,7 @@ fn options_of<'a>(matches: &ArgMatches<'a>) -> Result<Options<'a>, OptionsFault>
     if connections == 0 {
         return Err(OptionsFault::Range("connections"));
     }
-    if max_steps == 0 || max_steps > GREATEST_MAX_STEPS {
+    if max_steps == 0 || max_steps > GREATEST_STEPS {
         return Err(OptionsFault::Range("max-steps"));
     }
     Ok(Options {

@@ -25,8 +25,8 @@ pub enum AskFault {
     #[error("a worker could not be started")]
     Failed,
 
-    /// 5: the seat's connection isn't open or has a request under way, or the seat is not as the cluster has it. The seat's count tells
-    /// whether the request was submitted.
+    /// 5: the seat's connection isn't open or has a request under way, or the seat is not as the cluster has it. The
+    /// seat's count tells whether the request was submitted.
     #[error("the seat is not one of this server")]
     NoConn,
 }

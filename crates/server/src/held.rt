@@ -69,7 +69,8 @@ impl<L: Ledger> Held<L> {
         }
     }
 
-    /// What came of the seat's last request, with its words, if it is there. A want of memory is no refusal: it is not there yet.
+    /// What came of the seat's last request, with its words, if it is there. A want of memory is no refusal: it is not
+    /// there yet.
     pub fn collect(&mut self, seat: &mut Seat<L>) -> Result<Option<Answer>, AskFault>
         ensures answered { IfOk result (λ answer. IfSome answer (λ a. IsAnswered seat.old (shown_outcome a) seat.new)) }
         ensures words { IfOk result (λ answer. IfSome answer (λ a. a.words ≡ seat.old.words)) }
@@ -103,7 +104,8 @@ impl<L: Ledger> Held<L> {
         !self.cluster.system().has_failed() && trace.len() as u64 == trace.max()
     }
 
-    /// The reply alone of what came of the seat's last request, if it is there. A want of memory is no refusal: it is not there yet.
+    /// The reply alone of what came of the seat's last request, if it is there. A want of memory is no refusal: it is
+    /// not there yet.
     pub fn collect_reply(&mut self, seat: &mut Seat<L>) -> Result<Option<Reply>, AskFault>
         ensures answered { IfOk result (λ reply. IfSome reply (λ r. IsReplied seat.old (content r) seat.new)) }
         ensures unasked { IfOk result (λ reply. IfNone reply (seat.new ≡ seat.old)) }

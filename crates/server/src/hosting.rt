@@ -63,9 +63,10 @@ impl From<AllocError> for HostFault {
 
 /// Serves as many connections as the options say, and gives the program's status.
 ///
-/// `listening ADDRESS` is written to `out` before the first connection, and at the end `closed requests=R executed=E starved=S`. What went
-/// wrong is told on standard error: 4 the network, 5 a refused close, 6 the trace wasn't written, 7 there was no memory, or the driver's
-/// thread could not be started. What goes wrong with one connection ends that one alone.
+/// `listening ADDRESS` is written to `out` before the first connection, and at the end
+/// `closed requests=R executed=E starved=S`. What went wrong is told on standard error: 4 the network, 5 a refused
+/// close, 6 the trace wasn't written, 7 there was no memory, or the driver's thread could not be started. What goes
+/// wrong with one connection ends that one alone.
 pub fn host<R, W: Write>(
     rt: &R,
     listener: &TcpListener,
@@ -156,7 +157,8 @@ fn drive_by_crew<L: Ledger, R: Threads + Wait>(
     let _ = shared.drive(rt, &First, &crew, &Open);
 }
 
-/// Serves all connections, and makes the turns that are left. With several workers a thread beside them drives the cluster.
+/// Serves all connections, and makes the turns that are left. With several workers a thread beside them drives the
+/// cluster.
 fn serve_beside_driver<L: Ledger + Send + Sync, R>(
     rt: &R,
     listener: &TcpListener,
@@ -187,7 +189,8 @@ where
     })
 }
 
-/// Serves so many connections, each on a thread of its own. A thread that has ended is joined when the next connection comes.
+/// Serves so many connections, each on a thread of its own. A thread that has ended is joined when the next connection
+/// comes.
 fn serve_connections<L: Ledger + Send + Sync, R>(
     rt: &R,
     listener: &TcpListener,

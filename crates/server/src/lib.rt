@@ -1,7 +1,8 @@
 //! A server of many connections over one cluster.
 //!
-//! `Shared` is a cluster under a lock; a `Desk` is what stands behind a connection and asks its requests of it. `host` serves the
-//! connections that come to a listener, a thread each, and `read_options` reads the words that the program is started with.
+//! `Shared` is a cluster under a lock; a `Desk` is what stands behind a connection and asks its requests of it. `host`
+//! serves the connections that come to a listener, a thread each, and `read_options` reads the words that the program
+//! is started with.
 #![tactic(auto)]
 
 mod command_line;

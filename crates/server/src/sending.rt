@@ -1,5 +1,5 @@
-//! That a system can go to another thread, part by part, and that threads may share a cluster under its lock: the functions do nothing, and
-//! their contracts say it.
+//! That a system can go to another thread, part by part, and that threads may share a cluster under its lock: the
+//! functions do nothing, and their contracts say it.
 
 ghost use denote.Param.Send.{IsSend, IsSync};
 ghost use Rattle.router.specs.contracts.router.Router as router_type;
@@ -90,7 +90,8 @@ pub(crate) fn system_sends()
     rows_sends();
 }
 
-/// What a user with threads of its own needs: a `&` to a shared cluster may go to another thread. It does nothing; its contract says it.
+/// What a user with threads of its own needs: a `&` to a shared cluster may go to another thread. It does nothing; its
+/// contract says it.
 pub fn shared_syncs<L: Ledger>()
     ensures { IsSync (shared_type.the_row L.row L.Ledger) }
 {

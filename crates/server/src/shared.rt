@@ -1,14 +1,15 @@
 //! A cluster under one lock, for any number of threads.
 //!
-//! What a call does to the cluster no clause can say, since the cluster is another one each time the lock is taken. A clause says what
-//! was true of the cluster that was found: it was lawful, and what a seat was answered came from it.
+//! What a call does to the cluster no clause can say, since the cluster is another one each time the lock is taken. A
+//! clause says what was true of the cluster that was found: it was lawful, and what a seat was answered came from it.
 
-ghost use Rattle.std.specs.Prelude.{◌≡◌, ◌≤◌, ◌<◌, ◌^◌, IfOk, IfErr, IfSome, IfNone, OnOk, OnErr};
+ghost use Rattle.std.specs.Prelude.{◌≡◌, ◌≤◌, ◌<◌, IfOk, IfErr, IfSome, IfNone, OnOk, OnErr};
 ghost use Rattle.cluster.specs.Answers.{shown_outcome};
 ghost use Rattle.resp.specs.Content.{content};
 ghost use Rattle.server.specs.Asks.{submitted, IsNewSeat, IsAnswered, IsReplied, IsSitFault, IsSubmitFault, IsCollectFault, IsAskFault};
 ghost use Rattle.server.specs.Asks.{IsStopped};
 ghost use Rattle.server.specs.Closings.{IsClosed, IsCloseFault, IsWritten};
+ghost use Rattle.journal.specs.declared.trace.TheConstants.{GREATEST_STEPS};
 
 use crate::fault::AskFault;
 use crate::held::{Held, Turn};
@@ -36,8 +37,8 @@ pub struct Shared<L: Ledger> {
 }
 
 impl<L: Ledger> Shared<L> {
-    /// A cluster without seats, whose system has made no step and makes `max_steps` at most. Keys lie as the table says, and each shard
-    /// hashes them by a copy of `hasher`. The only error is want of memory.
+    /// A cluster without seats, whose system has made no step and makes `max_steps` at most. Keys lie as the table
+    /// says, and each shard hashes them by a copy of `hasher`. The only error is want of memory.
     pub fn new(
         alloc: Global,
         table: Table,
@@ -49,7 +50,7 @@ impl<L: Ledger> Shared<L> {
         requires parts { blank.parts ≡ L.parts }
         requires enough { max_steps < blank.parts }
         requires some { 1 ≤ max_steps }
-        requires few { max_steps ≤ 2 ^ 62 }
+        requires few { max_steps ≤ GREATEST_STEPS }
     {
         let cluster = Cluster::new(alloc, table, max_steps, hasher, blank)?;
         Ok(Shared {
@@ -76,7 +77,8 @@ impl<L: Ledger> Shared<L> {
         &self.turnstile
     }
 
-    /// Submits a request of these words, and waits until another thread that drives the cluster has brought what came of it.
+    /// Submits a request of these words, and waits until another thread that drives the cluster has brought what came
+    /// of it.
     pub fn ask<R: Wait>(
         &self,
         rt: &R,
@@ -96,8 +98,8 @@ impl<L: Ledger> Shared<L> {
         }
     }
 
-    /// Submits a request of these words, and makes turns until what came of it is there. It gives the reply alone. Each turn brings the
-    /// oldest packet on, or a layer with one worker.
+    /// Submits a request of these words, and makes turns until what came of it is there. It gives the reply alone. Each
+    /// turn brings the oldest packet on, or a layer with one worker.
     pub fn ask_turning<R: Wait>(
         &self,
         rt: &R,
@@ -173,7 +175,8 @@ impl<L: Ledger> Shared<L> {
         self.held.lock(rt).write_trace(out)
     }
 
-    /// What is told of the cluster when it is closed: all seats have stood, and nothing is under way. It changes nothing.
+    /// What is told of the cluster when it is closed: all seats have stood, and nothing is under way. It changes
+    /// nothing.
     pub fn close<R: Wait>(&self, rt: &R) -> Result<Closing, CloseFault>
         ensures closed { IfOk result IsClosed }
         ensures refused { IfErr result IsCloseFault }

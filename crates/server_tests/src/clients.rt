@@ -34,8 +34,8 @@ pub(crate) enum Does<'a> {
 /// A client, by its number from 0, and what it does next.
 pub(crate) type Act<'a> = (usize, Does<'a>);
 
-/// Has so many clients act in order. A client connects when it first acts, and the numbers say in which order they do. Gives what came of
-/// the first act that came out otherwise. At the end the clients that are left connect and leave.
+/// Has so many clients act in order. A client connects when it first acts, and the numbers say in which order they do.
+/// Gives what came of the first act that came out otherwise. At the end the clients that are left connect and leave.
 pub(crate) fn follow<R: Net<Stream = TcpStream>>(
     rt: &R,
     alloc: Global,

@@ -64,7 +64,8 @@ where
     (status, printed)
 }
 
-/// Hosts at a listener on two shards, beside so many clients that act in order. How the host ended, and what `follow` tells of the clients.
+/// Hosts at a listener on two shards, beside so many clients that act in order. How the host ended, and what `follow`
+/// tells of the clients.
 pub(crate) fn beside<R>(
     rt: &R,
     listener: &TcpListener,
@@ -101,8 +102,8 @@ pub(crate) fn last_line(text: &[u8]) -> &str {
     }
 }
 
-/// Has so many clients act in order beside a server. All comes out as the acts say, and the server ends by status 0 with a last line that
-/// begins so.
+/// Has so many clients act in order beside a server. All comes out as the acts say, and the server ends by status 0
+/// with a last line that begins so.
 pub(crate) fn serve_acts<R>(
     rt: &R,
     workers: usize,

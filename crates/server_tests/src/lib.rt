@@ -1,5 +1,5 @@
-//! The server as those meet it who use it: a shared cluster and its threads, connections over sockets, and the words that it is started
-//! with.
+//! The server as those meet it who use it: a shared cluster and its threads, connections over sockets, and the words
+//! that it is started with.
 #![tactic(auto)]
 
 #[cfg(test)]

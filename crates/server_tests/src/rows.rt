@@ -1,7 +1,8 @@
 //! Rows through a shared cluster, asked by two threads beside one that drives.
 
-ghost use Rattle.std.specs.Prelude.{◌≡◌, ◌<◌, ◌≤◌, ◌^◌};
+ghost use Rattle.std.specs.Prelude.{◌≡◌, ◌<◌, ◌≤◌};
 ghost use Rattle.std.specs.Thread.{IsSync};
+ghost use Rattle.journal.specs.declared.trace.TheConstants.{GREATEST_STEPS};
 
 use crate::hosting::TWO_SHARDS;
 use cluster::{CloseFault, Closing, First, Seat};
@@ -47,7 +48,7 @@ fn text(alloc: Global, reply: &Reply) -> Result<String, AllocError> {
 /// A cluster over two shards that makes so many steps at most.
 fn shared<L: Ledger>(alloc: Global, most: u64, blank: Blank) -> Result<Shared<L>, Fail>
     requires ledger { (blank.name ≡ L.name) × (blank.parts ≡ L.parts) × (most < blank.parts) }
-    requires most { (1 ≤ most) × (most ≤ 2 ^ 62) }
+    requires most { (1 ≤ most) × (most ≤ GREATEST_STEPS) }
 {
     let table = Table::from_toml(alloc, TWO_SHARDS)?;
     Ok(Shared::new(alloc, table, most, ShardHasher::Fixed, blank)?)
@@ -56,7 +57,8 @@ fn shared<L: Ledger>(alloc: Global, most: u64, blank: Blank) -> Result<Shared<L>
 /// Requests and the replies that are wanted for them.
 type Rows<'a> = &'a [(&'a str, &'a str)];
 
-/// Asks the requests in order at a seat of its own. Gives the first reply that isn't the wanted one. Another thread drives the cluster.
+/// Asks the requests in order at a seat of its own. Gives the first reply that isn't the wanted one. Another thread
+/// drives the cluster.
 fn ask_rows<L: Ledger, R: Wait>(
     rt: &R,
     alloc: Global,
@@ -231,7 +233,7 @@ fn asks_turning<L: Ledger, R: Wait + Abort>(
     blank: Blank,
 ) -> Result<(), Fail>
     requires ledger { (blank.name ≡ L.name) × (blank.parts ≡ L.parts) × (most < blank.parts) }
-    requires most { (1 ≤ most) × (most ≤ 2 ^ 62) }
+    requires most { (1 ≤ most) × (most ≤ GREATEST_STEPS) }
 {
     let shared: Shared<L> = shared(alloc, most, blank)?;
     let mut seat = shared.sit(rt)?;
@@ -264,7 +266,7 @@ fn asks_turning<L: Ledger, R: Wait + Abort>(
 
 /// Asks of a new cluster that makes so many steps at most.
 fn turn_within<R: Wait + Abort>(rt: &R, alloc: Global, most: u64) -> Result<(), Fail>
-    requires { (1 ≤ most) × (most ≤ 2 ^ 62) }
+    requires { (1 ≤ most) × (most ≤ GREATEST_STEPS) }
 {
     let blank = Blank::new(most + 1);
     asks_turning::<Brand, R>(rt, alloc, most, blank)

@@ -1,5 +1,5 @@
 -- The test of what may come tells whether it may.
-use Rattle.std.proofs.Common.{◌≡◌, ◌≢◌, ◌↔◌, IsTrue, ℕ, ◌^◌, ◌==◌, ◌&&◌, ◌||◌, nat_le, not, Bool, true, false, cond, List, [], ◌∷◌, inl}
+use Rattle.std.proofs.Common.{◌≡◌, ◌≢◌, ◌↔◌, IsTrue, ℕ, ◌==◌, ◌&&◌, ◌||◌, nat_le, not, Bool, true, false, cond, List, [], ◌∷◌, inl}
 use Rattle.std.proofs.Common.{inr, Option, Some, None, refl, sym, ap, ◌∙◌, eqb-true, eq-eqb, ne_eqb}
 use Rattle.std.proofs.lemmas.Bool.{both_ways, cases_Bool, or_cases, and_parts, and_from, leb-true, le-leb}
 use Rattle.skeen_core.specs.declared.request.RequestId.{RequestId}
@@ -15,6 +15,7 @@ use Rattle.skeen_core.specs.Kept.{state_of, clock_in}
 use Rattle.skeen_core.specs.Coming.{is_clock, agrees, is_single, body_may_come}
 use Rattle.skeen_core.proofs.Ids.{same_id-true, eq-same_id}
 use Rattle.skeen_core.proofs.Finite.{heard-state_of}
+use Rattle.skeen_core.specs.declared.coming.TheConstants.{GREATEST_CLOCK}
 
 clock_is : (o : Option ℕ) (n : ℕ) → is_clock o n ≡ true → o ≡ Some n
 clock_is None n e = absurd (both_ways _ refl e)
@@ -76,14 +77,14 @@ not_eq a b e same = both_ways _ (ap not (eq-eqb a b same)) e
 
 body_may : (me c : ℕ) (ss : List Started) (ps : List Heard) (id : RequestId) (body : Body) → body_may_come me ps id body ≡ true
     → BodyMayCome me (state_of c ss ps) id body
-body_may me c ss ps id (Start floor groups) e = let parts = and_parts _ (nat_le floor (2 ^ 62)) e in
-    (parts.0, leb-true floor (2 ^ 62) parts.1)
+body_may me c ss ps id (Start floor groups) e = let parts = and_parts _ (nat_le floor GREATEST_CLOCK) e in
+    (parts.0, leb-true floor GREATEST_CLOCK parts.1)
 body_may me c ss ps id (Proposal from n) e =
-    let first = and_parts (not (from == me)) (nat_le n (2 ^ 62) && (is_single ps ps id from n && agrees (clock_in ps id from) n)) e in
-    let second = and_parts (nat_le n (2 ^ 62)) (is_single ps ps id from n && agrees (clock_in ps id from) n) first.1 in
+    let first = and_parts (not (from == me)) (nat_le n GREATEST_CLOCK && (is_single ps ps id from n && agrees (clock_in ps id from) n)) e in
+    let second = and_parts (nat_le n GREATEST_CLOCK) (is_single ps ps id from n && agrees (clock_in ps id from) n) first.1 in
     let third = and_parts (is_single ps ps id from n) (agrees (clock_in ps id from) n) second.1 in (
       not_eq from me first.0,
-      leb-true n (2 ^ 62) second.0,
+      leb-true n GREATEST_CLOCK second.0,
       λ i is. let it = stands ps i from n (sym (heard-state_of c ss ps i from) ∙ is) in
           sym it.2 ∙ single_at ps ps id from n third.0 it.0 it.1 (ap (λ j. clock_in ps j from) it.2
           ∙ sym (heard-state_of c ss ps i from) ∙ is),
@@ -92,18 +93,18 @@ body_may me c ss ps id (Proposal from n) e =
 
 may_body : (me c : ℕ) (ss : List Started) (ps : List Heard) (id : RequestId) (body : Body) → BodyMayCome me (state_of c ss ps) id body
     → body_may_come me ps id body ≡ true
-may_body me c ss ps id (Start floor groups) m = and_from _ _ m.0 (le-leb floor (2 ^ 62) m.1)
+may_body me c ss ps id (Start floor groups) m = and_from _ _ m.0 (le-leb floor GREATEST_CLOCK m.1)
 may_body me c ss ps id (Proposal from n) m =
-    and_from _ _ (ap not (ne_eqb from me m.0)) (and_from _ _ (le-leb n (2 ^ 62) m.1) (and_from _ _
+    and_from _ _ (ap not (ne_eqb from me m.0)) (and_from _ _ (le-leb n GREATEST_CLOCK m.1) (and_from _ _
     (at_single ps ps id from n (λ i is. m.2 i (heard-state_of c ss ps i from ∙ is)))
     (all_agree (clock_in ps id from) n (λ k is. m.3 k (heard-state_of c ss ps id from ∙ is)))))
 
 pub may_come_is : (me c : ℕ) (ss : List Started) (ps : List Heard) (p : Packet) (r : Bool)
-    → r ≡ (p.to == me && (nat_le c (2 ^ 62) && body_may_come me ps p.id p.body)) →
+    → r ≡ (p.to == me && (nat_le c GREATEST_CLOCK && body_may_come me ps p.id p.body)) →
     IsTrue r ↔ MayCome (record { me = me; state = state_of c ss ps }) p
 may_come_is me c ss ps p r is = (
-  λ e. let first = and_parts (p.to == me) (nat_le c (2 ^ 62) && body_may_come me ps p.id p.body) (sym is ∙ e) in
-      let second = and_parts (nat_le c (2 ^ 62)) (body_may_come me ps p.id p.body) first.1 in
-      record { to = eqb-true p.to me first.0; clock = leb-true c (2 ^ 62) second.0; body = body_may me c ss ps p.id p.body second.1 },
-  λ m. is ∙ and_from _ _ (eq-eqb p.to me m.to) (and_from _ _ (le-leb c (2 ^ 62) m.clock) (may_body me c ss ps p.id p.body m.body)),
+  λ e. let first = and_parts (p.to == me) (nat_le c GREATEST_CLOCK && body_may_come me ps p.id p.body) (sym is ∙ e) in
+      let second = and_parts (nat_le c GREATEST_CLOCK) (body_may_come me ps p.id p.body) first.1 in
+      record { to = eqb-true p.to me first.0; clock = leb-true c GREATEST_CLOCK second.0; body = body_may me c ss ps p.id p.body second.1 },
+  λ m. is ∙ and_from _ _ (eq-eqb p.to me m.to) (and_from _ _ (le-leb c GREATEST_CLOCK m.clock) (may_body me c ss ps p.id p.body m.body)),
 )

@@ -1,5 +1,5 @@
 -- The test of what may come.
-use Rattle.std.specs.Prelude.{ℕ, ◌^◌, Bool, true, false, not, nat_le, ◌==◌, ◌&&◌, ◌||◌, List, [], ◌∷◌, Option, Some, None}
+use Rattle.std.specs.Prelude.{ℕ, Bool, true, false, not, nat_le, ◌==◌, ◌&&◌, ◌||◌, List, [], ◌∷◌, Option, Some, None}
 use Rattle.groups.specs.GroupSet.{has}
 use Rattle.skeen_core.specs.Request.{same_id}
 use Rattle.skeen_core.specs.Kept.{clock_in}
@@ -7,6 +7,7 @@ use Rattle.skeen_core.specs.declared.request.RequestId.{RequestId}
 use Rattle.skeen_core.specs.declared.packet.Body.{Body}
 use Rattle.skeen_core.specs.declared.packet.Body.TheVariants.{Start, Proposal}
 use Rattle.skeen_core.specs.declared.kept.Heard.{Heard}
+use Rattle.skeen_core.specs.declared.coming.TheConstants.{GREATEST_CLOCK}
 
 abbrev pub is_clock : Option ℕ → ℕ → Bool
 is_clock None n = false
@@ -22,6 +23,6 @@ is_single all [] id from n = true
 is_single all (p ∷ ps) id from n = (same_id p.id id || not (is_clock (clock_in all p.id from) n)) && is_single all ps id from n
 
 abbrev pub body_may_come : ℕ → List Heard → RequestId → Body → Bool
-body_may_come me ps id (Start floor groups) = has groups me && nat_le floor (2 ^ 62)
+body_may_come me ps id (Start floor groups) = has groups me && nat_le floor GREATEST_CLOCK
 body_may_come me ps id (Proposal from n) =
-    not (from == me) && (nat_le n (2 ^ 62) && (is_single ps ps id from n && agrees (clock_in ps id from) n))
+    not (from == me) && (nat_le n GREATEST_CLOCK && (is_single ps ps id from n && agrees (clock_in ps id from) n))

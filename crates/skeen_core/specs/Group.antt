@@ -3,7 +3,7 @@
 -- other addressees; when it has all proposals it takes the greatest, and delivers messages in timestamp order once no
 -- message that it still waits for could come before. The floor is this project's own addition; at 0 it changes nothing.
 use Rattle.std.specs.FinMap.{FinMap, get, insert, retain_keys, empty}
-use Rattle.std.specs.Prelude.{◌≡◌, ◌≢◌, ℕ, suc, ◌≤◌, ◌^◌, Bool, true, false, cond, not, List, [], ◌∷◌, ◌||◌, ◌==◌, max, length, ◌⊎◌, Option}
+use Rattle.std.specs.Prelude.{◌≡◌, ◌≢◌, ℕ, suc, ◌≤◌, Bool, true, false, cond, not, List, [], ◌∷◌, ◌||◌, ◌==◌, max, length, ◌⊎◌, Option}
 use Rattle.std.specs.Prelude.{Some, None, IsSome}
 use Rattle.groups.specs.GroupSet.{has}
 use Rattle.skeen_core.specs.Order.{In}
@@ -15,6 +15,7 @@ use Rattle.skeen_core.specs.declared.packet.Packet.{Packet}
 use Rattle.skeen_core.specs.declared.packet.Body.{Body}
 use Rattle.skeen_core.specs.declared.packet.Body.TheVariants.{Start, Proposal}
 use Rattle.skeen_core.specs.declared.packet.Delivered.{Delivered}
+use Rattle.skeen_core.specs.declared.coming.TheConstants.{GREATEST_CLOCK}
 
 pub record GroupState : Type 0 where
   pub clock : ℕ
@@ -140,14 +141,14 @@ Receives me grp id (Proposal from n) sent ds new =
 -- a Start names this group; a Proposal comes from another group, with a stamp that this group has for no other request,
 -- and that it has for this request if it has one from there
 abbrev pub BodyMayCome : ℕ → GroupState → RequestId → Body → Type 0
-BodyMayCome me grp id (Start floor groups) = (has groups me ≡ true) × (floor ≤ 2 ^ 62)
+BodyMayCome me grp id (Start floor groups) = (has groups me ≡ true) × (floor ≤ GREATEST_CLOCK)
 BodyMayCome me grp id (Proposal from n) =
-    (from ≢ me) × (n ≤ 2 ^ 62) × ((i : RequestId) → heard grp i from ≡ Some n → i ≡ id)
+    (from ≢ me) × (n ≤ GREATEST_CLOCK) × ((i : RequestId) → heard grp i from ≡ Some n → i ≡ id)
     × ((m : ℕ) → heard grp id from ≡ Some m → m ≡ n)
 
 pub record MayCome (g : GroupView) (p : Packet) : Type 0 where
   pub to : p.to ≡ g.me
-  pub clock : g.state.clock ≤ 2 ^ 62
+  pub clock : g.state.clock ≤ GREATEST_CLOCK
   pub body : BodyMayCome g.me g.state p.id p.body
 
 -- ---- what is kept

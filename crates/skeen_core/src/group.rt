@@ -5,6 +5,7 @@ ghost use Rattle.std.specs.FinMap.{len};
 ghost use Rattle.skeen_core.specs.Group.{fresh, lift, MayCome, BodyMayCome, Receives};
 ghost use Rattle.skeen_core.specs.Due.{PlacesDiffer, IsDue};
 ghost use Rattle.skeen_core.specs.Kept.{starts_left, clocks_left};
+ghost use Rattle.skeen_core.specs.declared.coming.TheConstants.{GREATEST_CLOCK};
 
 use super::due::due;
 use super::kept::{Heard, Started, clock_of, final_stamp, has_id, place_of};
@@ -95,7 +96,7 @@ impl Group {
         floor: u64,
         groups: Groups,
     ) -> Result<(Vec<Packet>, Vec<Delivered>), AllocError>
-        requires clock { self.old.state.clock ≤ 2 ^ 62 }
+        requires clock { self.old.state.clock ≤ GREATEST_CLOCK }
         requires body { BodyMayCome self.old.me self.old.state id (Body.Start floor groups) }
         ensures me { self.new.me ≡ self.old.me }
         ensures rule { IfOk result (λ out. Receives self.old.me self.old.state id (Body.Start floor groups)

@@ -1,5 +1,5 @@
 -- What the parts refuse the world refuses, and what they ask of their numbers holds.
-use Rattle.std.proofs.Common.{◌≡◌, ◌≢◌, ℕ, ◌<◌, ◌^◌, true, false, List, [], ◌∷◌, length, inl, inr, Option, Some, None, refl, sym}
+use Rattle.std.proofs.Common.{◌≡◌, ◌≢◌, ℕ, ◌<◌, true, false, List, [], ◌∷◌, length, inl, inr, Option, Some, None, refl, sym}
 use Rattle.std.proofs.Common.{◌∙◌, subst, arith}
 use Rattle.std.proofs.lemmas.Bool.{both_ways}
 use Rattle.delivery.specs.Queues.{queue_of}
@@ -24,10 +24,11 @@ use Rattle.system_view.specs.Connections.{ShowsOpen, ShowsClosed, ShowsKept, Sho
 use Rattle.world.specs.Steps.{OwnFault, Busy, NoConn, NoPacket, InFlight, NoLayer, Refused, IsBusy, IsInFlight}
 use Rattle.world.specs.World.{World, Closed, Idle, NoneTaken}
 use Rattle.world_laws.proofs.Bounds.{bounded_world}
+use Rattle.router.specs.declared.router.TheConstants.{GREATEST_NUMBER}
 
 -- ---- numbers
 
-pub few_opened : (p : Parts) → Lives p → p.router.opened < 2 ^ 62
+pub few_opened : (p : Parts) → Lives p → p.router.opened < GREATEST_NUMBER
 few_opened p lives =
     let bounded = bounded_world p.store.table lives.history lives.world lives.at.leads in
     let opened = bounded.connections in
@@ -35,7 +36,7 @@ few_opened p lives =
     let few = lives.few in
     omega arith
 
-pub few_asked : (p : Parts) → Lives p → (c : ℕ) (v : Connection) → connection p.router c ≡ Some v → v.seq < 2 ^ 62
+pub few_asked : (p : Parts) → Lives p → (c : ℕ) (v : Connection) → connection p.router c ≡ Some v → v.seq < GREATEST_NUMBER
 few_asked p lives c v kept =
     let bounded = bounded_world p.store.table lives.history lives.world lives.at.leads in
     let asked = bounded.requests c in

@@ -43,8 +43,8 @@ EachHasEnded p = (h : List Step) (w : World) → IsAt p h w → (effects : List 
 
 -- ---- what can be done
 
--- No world that the system shows refuses the step; so whatever `step` refuses it for is no fault of the step's own: it is Exhausted, Memory
--- or Failed.
+-- No world that the system shows refuses the step; so whatever `step` refuses it for is no fault of the step's own: it
+-- is Exhausted, Memory or Failed.
 pub record MayBeMade (s : SystemView) (step : Step) : Type 0 where
   pub not_refused : RefusesNot s.parts step
   pub no_own_fault : (may_refuse : Bool) (fault : StepFault) (new : SystemView) → IsRefused may_refuse s step fault new →
@@ -58,7 +58,7 @@ SomeMayBeMade HasRun s = MayBeMade s Settle
 
 -- ---- how many steps there can be
 
--- whatever history led here, it has no more steps that bring packets, take layers, run or settle them than its submitted requests allow:
--- k * k + 3 for each request of k groups
+-- whatever history led here, it has no more steps that bring packets, take layers, run or settle them than its
+-- submitted requests allow: k * k + 3 for each request of k groups
 abbrev pub TurnsAreFew : Parts → Type 0
 TurnsAreFew p = (h : List Step) (w : World) → IsAt p h w → turns h ≤ allowances p.store.table h

@@ -1,5 +1,5 @@
 -- When a step is refused.
-use Rattle.std.specs.Prelude.{◌≡◌, ◌<◌, ◌^◌, true, List, length}
+use Rattle.std.specs.Prelude.{◌≡◌, ◌<◌, true, List, length}
 use Rattle.journal.specs.declared.step.Step.{Step}
 use Rattle.system.specs.Parts.{IsAt}
 use Rattle.system.specs.declared.fault.StepFault.{StepFault}
@@ -8,13 +8,14 @@ use Rattle.system.specs.declared.parts.Parts.{Parts}
 use Rattle.world.specs.Steps.{OwnFault, Refused}
 use Rattle.world.specs.Steps as world
 use Rattle.world.specs.World.{World}
+use Rattle.journal.specs.declared.trace.TheConstants.{GREATEST_STEPS}
 
 -- some history led here, of so few steps that no number has grown too large
 pub record Lives (p : Parts) : Type 0 where
   pub history : List Step
   pub world : World
   pub at : IsAt p history world
-  pub few : length history < 2 ^ 62
+  pub few : length history < GREATEST_STEPS
 
 -- in each world that the parts show the step is refused so
 abbrev pub Refuses : Parts → Step → OwnFault → Type 0

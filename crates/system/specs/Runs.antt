@@ -22,8 +22,8 @@ all_stored [] effects = []
 all_stored (step ∷ steps) [] = []
 all_stored (step ∷ steps) (effect ∷ effects) = stored step effect ∷ all_stored steps effects
 
--- whatever world the system showed, these steps are made there one after another with these effects, and then the system shows the world
--- of that history and these steps
+-- whatever world the system showed, these steps are made there one after another with these effects, and then the
+-- system shows the world of that history and these steps
 abbrev pub LeadsTo : SystemView → List Step → List Effect → SystemView → Type 0
 LeadsTo old steps effects new = (h : List Step) (w : World) → IsAt old.parts h w →
     (w' : World) × Makes old.parts.store.table w (all_stored steps effects) (map effect_shown effects) w'

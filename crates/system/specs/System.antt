@@ -1,5 +1,5 @@
 -- The system as contracts see it.
-use Rattle.std.specs.Prelude.{◌≡◌, ℕ, suc, ◌<◌, ◌≤◌, ◌^◌, Bool, true, false, List, [], length, ◌⊎◌}
+use Rattle.std.specs.Prelude.{◌≡◌, ℕ, suc, ◌<◌, ◌≤◌, Bool, true, false, List, [], length, ◌⊎◌}
 use Rattle.delivery.specs.Queues.{queue_of}
 use Rattle.delivery.specs.Ready.{IsReady}
 use Rattle.journal.specs.declared.step.Step.{Step}
@@ -17,6 +17,7 @@ use Rattle.world.specs.Steps.{opening}
 use Rattle.world.specs.World.{World}
 use Rattle.world_laws.specs.Headline.{IsOneThread, rows_of}
 use Rattle.execution_order.specs.Entries.{rows_by_stamp}
+use Rattle.journal.specs.declared.trace.TheConstants.{GREATEST_STEPS}
 
 -- how many steps may be made, how many were, and the parts
 pub record SystemView : Type 0 where
@@ -33,7 +34,7 @@ pub record ShowsHistory (s : SystemView) (h : List Step) (w : World) : Type 0 wh
 pub record IsSystem (s : SystemView) : Type 0 where
   pub is_table : IsTable s.parts.store.table
   pub within : s.steps ≤ s.max_steps
-  pub few : s.max_steps ≤ 2 ^ 62
+  pub few : s.max_steps ≤ GREATEST_STEPS
   pub shows : s.parts.store.failed ≡ false → (h : List Step) × (w : World) × ShowsHistory s h w
 
 -- a new system: nothing has happened
@@ -84,8 +85,8 @@ pub record IsQuiet (p : Parts) : Type 0 where
   pub layer : p.stage ≡ Free
   pub none_ready : (d : Delivered) → ¬ IsReady (queue_of p.multicast.queues) d
 
--- The headline: whatever history led here, what the shards hold together, and the replies to all that was executed, are those of one thread
--- that runs the executed requests, sorted by their final stamps, on one map.
+-- The headline: whatever history led here, what the shards hold together, and the replies to all that was executed, are
+-- those of one thread that runs the executed requests, sorted by their final stamps, on one map.
 abbrev pub ObeysOneThread : SystemView → Type 0
 ObeysOneThread s = (h : List Step) (w : World) → IsAt s.parts h w →
     IsOneThread (joined s.parts.store.maps) (rows_by_stamp (rows_of w.ended))

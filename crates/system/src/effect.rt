@@ -13,7 +13,8 @@ pub enum Effect {
     /// The id of the request that was submitted.
     Submitted(RequestId),
 
-    /// The requests of the layer that starved, in the order of the layer. A run that is told to let these starve comes to the same.
+    /// The requests of the layer that starved, in the order of the layer. A run that is told to let these starve comes
+    /// to the same.
     Ran(RequestIds),
 
     /// The outcome that waited for the connection, if one did.

@@ -9,8 +9,8 @@ use router::SubmitFault;
 use std::alloc::AllocError;
 use thiserror::Error;
 
-/// Why a step wasn't made. Each reason has its number, from 1. Nothing was changed, but by 8. Where several apply it is the first of 8,
-/// 6, the step's own (1 to 5) and 7.
+/// Why a step wasn't made. Each reason has its number, from 1. Nothing was changed, but by 8. Where several apply it is
+/// the first of 8, 6, the step's own (1 to 5) and 7.
 #[derive(Clone, Copy, Debug, Drop, Error)]
 pub enum StepFault {
     /// 1: the connection has a request whose outcome it hasn't collected.

@@ -1,8 +1,8 @@
 //! The system: connections, groups, queues and shards as one machine of eight steps.
 //!
-//! It knows no thread and no socket. Whoever has it chooses the steps: which connection asks, which packet comes next, when a layer is
-//! taken, run and settled. Contracts say that it shows the world of the steps that were made, and so all that holds of every such world
-//! holds of it: the replies and the contents are those of one thread on one map.
+//! It knows no thread and no socket. Whoever has it chooses the steps: which connection asks, which packet comes next,
+//! when a layer is taken, run and settled. Contracts say that it shows the world of the steps that were made, and so
+//! all that holds of every such world holds of it: the replies and the contents are those of one thread on one map.
 #![tactic(auto)]
 
 mod effect;

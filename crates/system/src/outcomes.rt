@@ -29,7 +29,8 @@ pub(super) fn note_starved(ended: &[Ended], starved: &mut Vec<RequestId>, all: &
     }
 }
 
-/// Adds a row for each executed request of a layer. The only error is want of memory, and then the rows are as they were.
+/// Adds a row for each executed request of a layer. The only error is want of memory, and then the rows are as they
+/// were.
 pub(super) fn add_rows(
     rows: &mut Rows,
     ended: &[Ended],

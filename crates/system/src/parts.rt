@@ -23,8 +23,8 @@ use skeen_core::{ConnId, RequestId};
 use std::alloc::{AllocError, Global};
 use std::mem;
 
-/// The connections, the groups with their packets and queues, the shards, the layer that is under way, the rows of what was executed in
-/// settled layers, and the ids of what starved.
+/// The connections, the groups with their packets and queues, the shards, the layer that is under way, the rows of what
+/// was executed in settled layers, and the ids of what starved.
 #[derive(Drop)]
 pub struct Parts {
     pub router: Router,
@@ -103,7 +103,8 @@ impl Parts {
         Ok(Effect::Made)
     }
 
-    /// All ready requests are taken as the next layer: their commands and words out of the router, and they themselves out of the queues.
+    /// All ready requests are taken as the next layer: their commands and words out of the router, and they themselves
+    /// out of the queues.
     fn take(&mut self, alloc: Global) -> Result<Effect, StepFault>
         requires { Lives self.old }
         ensures made { IfOk result (λ effect. Makes self.old Step.Take effect self.new) }

@@ -1,6 +1,6 @@
 //! The system.
 
-ghost use Rattle.std.specs.Prelude.{◌≡◌, ◌<◌, ◌≤◌, ◌^◌, ◌++◌, List, length, [], IfOk, IfErr, OnOk, OnErr, IsTrue, ◌↔◌, option_copied};
+ghost use Rattle.std.specs.Prelude.{◌≡◌, ◌<◌, ◌≤◌, ◌++◌, List, length, [], IfOk, IfErr, OnOk, OnErr, IsTrue, ◌↔◌, option_copied};
 ghost use Rattle.system.specs.System.{IsNew, IsStep, IsRefused, IsQuiet, ObeysOneThread};
 ghost use Rattle.system.specs.Runs.{Runs};
 ghost use Rattle.system.specs.Endings.{EachHasEnded, SomeMayBeMade, TurnsAreFew};
@@ -11,6 +11,7 @@ ghost use Rattle.shard_maps.specs.Joined.{joined};
 ghost use Rattle.system.specs.Parts.{IsAt, progress_of, to_run};
 ghost use Rattle.system_view.specs.Layers.{AreRows};
 ghost use Rattle.world.specs.World.{World};
+ghost use Rattle.journal.specs.declared.trace.TheConstants.{GREATEST_STEPS};
 
 use super::effect::Effect;
 use super::fault::StepFault;
@@ -26,10 +27,11 @@ use skeen_core::{ConnId, RequestId};
 use std::alloc::{AllocError, Global};
 use std::marker::Model;
 
-/// A store on several shards as one machine. Contracts see how many steps were made, how many may be, and what the parts show.
+/// A store on several shards as one machine. Contracts see how many steps were made, how many may be, and what the
+/// parts show.
 ///
-/// For some history of as many steps, which its effects give, it shows the world of that history; but not once a worker's start was
-/// refused.
+/// For some history of as many steps, which its effects give, it shows the world of that history; but not once a
+/// worker's start was refused.
 #[derive(Drop)]
 pub struct System {
     alloc: Global,
@@ -55,18 +57,18 @@ impl Model for System {
 }
 
 impl System {
-    /// A system in which nothing has happened, whose keys lie as the table says. Keys are hashed with the fixed seed. The only error is
-    /// want of memory.
+    /// A system in which nothing has happened, whose keys lie as the table says. Keys are hashed with the fixed seed.
+    /// The only error is want of memory.
     pub fn new(alloc: Global, table: Table, max_steps: u64) -> Result<Self, AllocError>
         requires some { 1 ≤ max_steps }
-        requires few { max_steps ≤ 2 ^ 62 }
+        requires few { max_steps ≤ GREATEST_STEPS }
         ensures { IfOk result (IsNew table max_steps) }
     {
         System::with_hasher(alloc, table, max_steps, ShardHasher::Fixed)
     }
 
-    /// A system in which nothing has happened, each of whose shards hashes its keys by a copy of `hasher`. The only error is want of
-    /// memory.
+    /// A system in which nothing has happened, each of whose shards hashes its keys by a copy of `hasher`. The only
+    /// error is want of memory.
     pub fn with_hasher(
         alloc: Global,
         table: Table,
@@ -74,7 +76,7 @@ impl System {
         hasher: ShardHasher,
     ) -> Result<Self, AllocError>
         requires some { 1 ≤ max_steps }
-        requires few { max_steps ≤ 2 ^ 62 }
+        requires few { max_steps ≤ GREATEST_STEPS }
         ensures { IfOk result (IsNew table max_steps) }
     {
         let multicast = Multicast::new(alloc, table.shards())?;
@@ -97,9 +99,10 @@ impl System {
 
     /// Makes a step and answers what it came to.
     ///
-    /// Where the system showed the world of a history, it now shows the world of that history and this step. `StepFault` says why a step
-    /// isn't made; then all is as before, but that room may have been taken, and but for a refused start of a worker: the system makes no
-    /// step any more. With workers that start no thread that never happens.
+    /// Where the system showed the world of a history, it now shows the world of that history and this step.
+    /// `StepFault` says why a step isn't made; then all is as before, but that room may have been taken, and but for a
+    /// refused start of a worker: the system makes no step any more. With workers that start no thread that never
+    /// happens.
     pub fn step<W: Workers>(
         &mut self,
         step: Step,
@@ -125,12 +128,12 @@ impl System {
         }
     }
 
-    /// Makes the steps one after another, up to the first that isn't made. It answers the effect of each that was, and why the next one
-    /// wasn't.
+    /// Makes the steps one after another, up to the first that isn't made. It answers the effect of each that was, and
+    /// why the next one wasn't.
     ///
-    /// Where the system showed the world of a history, it now shows the world of that history and the steps that were made. The replies
-    /// and the contents are those of one thread that runs the executed requests, sorted by their final stamps, on one map. Where there is
-    /// no memory for the list of effects no step is made; the fault is Memory.
+    /// Where the system showed the world of a history, it now shows the world of that history and the steps that were
+    /// made. The replies and the contents are those of one thread that runs the executed requests, sorted by their
+    /// final stamps, on one map. Where there is no memory for the list of effects no step is made; the fault is Memory.
     pub fn run<W: Workers>(
         &mut self,
         steps: Vec<Step>,
@@ -177,7 +180,8 @@ impl System {
         }
     }
 
-    /// How many requests the layer has that was taken and is to be run; 0 where none is. No more can starve in the next run.
+    /// How many requests the layer has that was taken and is to be run; 0 where none is. No more can starve in the next
+    /// run.
     pub fn to_run(&self) -> usize
         ensures { result ≡ to_run self.now.parts.stage }
     {
@@ -218,8 +222,8 @@ impl System {
         self.parts.store.dump(self.alloc, out)
     }
 
-    /// The rows of all that was executed, in the order of execution, those of a layer that isn't settled included. The only error is
-    /// want of memory.
+    /// The rows of all that was executed, in the order of execution, those of a layer that isn't settled included. The
+    /// only error is want of memory.
     pub fn into_rows(self) -> Result<Rows, AllocError>
         ensures { IfOk result (λ rows. (h : List Step) (w : World) → IsAt self.parts h w → AreRows w.ended rows) }
     {
@@ -246,9 +250,10 @@ impl System {
 
     /// It does nothing: its contract says that what is under way can be brought to an end.
     ///
-    /// Where the system is quiet each request that was submitted to groups was executed or starved. Where it isn't, one of Deliver(0),
-    /// Take, Run and Settle is made by `step`, or refused as `Exhausted`, `Memory` or `Failed` alone; `progress` tells which. And of these
-    /// four there are never more steps than k * k + 3 for each submitted request of k groups.
+    /// Where the system is quiet each request that was submitted to groups was executed or starved. Where it isn't, one
+    /// of Deliver(0), Take, Run and Settle is made by `step`, or refused as `Exhausted`, `Memory` or `Failed` alone;
+    /// `progress` tells which. And of these four there are never more steps than k * k + 3 for each submitted request
+    /// of k groups.
     pub fn ends(&self)
         ensures ended { IsQuiet self.now.parts → EachHasEnded self.now.parts }
         ensures goes_on { ¬ IsQuiet self.now.parts → SomeMayBeMade (progress_of self.now.parts.stage) self.now }

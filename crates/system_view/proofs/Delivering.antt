@@ -1,5 +1,5 @@
 -- A packet that comes in the system comes in the world, and may come.
-use Rattle.std.proofs.Common.{◌≡◌, ℕ, zero, suc, ◌<◌, ◌≤◌, ◌^◌, ◌==◌, true, false, cond, List, [], ◌∷◌, ◌++◌, inl, inr}
+use Rattle.std.proofs.Common.{◌≡◌, ℕ, zero, suc, ◌<◌, ◌≤◌, ◌==◌, true, false, cond, List, [], ◌∷◌, ◌++◌, inl, inr}
 use Rattle.std.proofs.Common.{length, remove, slice_get, Some, refl, sym, ap, ◌∙◌, subst, eqb-true, eq-eqb, ltb-true}
 use Rattle.std.proofs.Common.{append-nil, append_assoc}
 use Rattle.std.proofs.Math.Seq.{append_snoc}
@@ -24,6 +24,7 @@ use Rattle.world.specs.World.{World, Request}
 use Rattle.world_laws.proofs.ConditionLaws.{packets_may_come, deliveries_may_append}
 use Rattle.world_laws.proofs.Worlds.{good_world}
 use Rattle.world_laws.proofs.OrderLaws.{packets_go_to_addressed}
+use Rattle.journal.specs.declared.trace.TheConstants.{GREATEST_STEPS}
 
 -- what stands at a place stands in the list
 pub stands : {X : Type 0} (xs : List X) (k : ℕ) (x : X) → slice_get xs k ≡ Some x → In x xs
@@ -110,7 +111,7 @@ module _ (t : Layout) (v : MulticastView) (w : World) (shows : ShowsMulticast t 
   )
 
 module _ (t : Layout) (v : MulticastView) (w : World) (steps : List Step) (leads : Leads t opening steps w)
-    (few : length steps ≤ 2 ^ 62) (shows : ShowsMulticast t v w) where
+    (few : length steps ≤ GREATEST_STEPS) (shows : ShowsMulticast t v w) where
   -- each packet under way may come, and what is delivered then may be appended
   pub may_be_delivered : (k : ℕ) (p : Packet) → slice_get v.packets k ≡ Some p → MayBeDelivered v p
   may_be_delivered k p found =

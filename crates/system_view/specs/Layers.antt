@@ -72,7 +72,8 @@ pub record ShowsStore (t : Layout) (s : StoreState) (w : World) : Type 0 where
 
 -- ---- the rows
 
--- the row that is kept of an executed request: its id, its final stamp, words that say its command, and its reply's text
+-- the row that is kept of an executed request: its id, its final stamp, words that say its command, and its reply's
+-- text
 pub record IsRow (executed : Row) (kept : RowView) : Type 0 where
   pub id : kept.id ≡ executed.entry.id
   pub stamp : kept.stamp ≡ executed.entry.stamp

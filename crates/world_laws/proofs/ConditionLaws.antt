@@ -1,5 +1,5 @@
 -- What callees ask follows from what every world is like.
-use Rattle.std.proofs.Common.{◌≡◌, ℕ, ◌^◌, ◌≤◌, ◌==◌, true, List, [], ◌∷◌, ◌++◌, inl, inr, length, refl, sym, ap, ◌∙◌, subst, arith}
+use Rattle.std.proofs.Common.{◌≡◌, ℕ, ◌≤◌, ◌==◌, true, List, [], ◌∷◌, ◌++◌, inl, inr, length, refl, sym, ap, ◌∙◌, subst, arith}
 use Rattle.std.proofs.Common.{eqb-true, eq-eqb, append_assoc}
 use Rattle.std.proofs.lemmas.Bool.{cases_Bool}
 use Rattle.delivery.specs.Queues.{is_above_last, MayAppend, IsSound}
@@ -30,10 +30,11 @@ use Rattle.world_laws.proofs.OrderLaws.{known_final, differ_good}
 use Rattle.world_laws.proofs.Worlds.{keeps_deliver, run_is_pending, good_world}
 use Rattle.std.proofs.lemmas.Bool.{cond-true, cond-false}
 use Rattle.skeen_core.proofs.Lawful.{some_same}
+use Rattle.journal.specs.declared.trace.TheConstants.{GREATEST_STEPS}
 
 -- ---- a group receives
 
-body_may_come : (t : Layout) (w : World) (n to : ℕ) (id : RequestId) (body : Body) → WorldGood t w → Bounded w n → n ≤ 2 ^ 62 →
+body_may_come : (t : Layout) (w : World) (n to : ℕ) (id : RequestId) (body : Body) → WorldGood t w → Bounded w n → n ≤ GREATEST_STEPS →
     BodyGood w.asked w.proposed to id body → BodyMayCome to (w.group to) id body
 body_may_come t w n to id (Start floor groups) good bounded few body =
     let low = bounded.floors id body.0.0 body.0.1 in let same = body.0.2 in
@@ -46,7 +47,7 @@ body_may_come t w n to id (Proposal from m) good bounded few body =
       λ k e. some_same k m (sym ((good.skeen.groups to).heard id from k e) ∙ body.0),
     )
 
-pub packet_may_come : (t : Layout) (w : World) (n : ℕ) (p : Packet) → WorldGood t w → Bounded w n → n ≤ 2 ^ 62 → In p w.packets →
+pub packet_may_come : (t : Layout) (w : World) (n : ℕ) (p : Packet) → WorldGood t w → Bounded w n → n ≤ GREATEST_STEPS → In p w.packets →
     MayCome (record { me = p.to; state = w.group p.to }) p
 packet_may_come t w n p good bounded few there = record {
   to = refl;

@@ -1,6 +1,6 @@
 -- What the calls of a group, of its queue, of the shards and of the router ask of whoever calls them in these steps,
 -- as far as the world says it.
-use Rattle.std.specs.Prelude.{◌≡◌, ℕ, ◌^◌, ◌≤◌, true, List, ◌∷◌, ◌++◌, ◌⊎◌, length, Some}
+use Rattle.std.specs.Prelude.{◌≡◌, ℕ, ◌≤◌, true, List, ◌∷◌, ◌++◌, ◌⊎◌, length, Some}
 use Rattle.delivery.specs.Queues.{MayAppend, IsSound}
 use Rattle.groups.specs.GroupSet.{has}
 use Rattle.journal.specs.declared.step.Step.{Step}
@@ -15,12 +15,13 @@ use Rattle.world.specs.Steps.{at, opening, Effect, floor_of, Comes, Steps, Leads
 use Rattle.world.specs.World.{World, Request, Standing, Closed, Idle, Waiting, Answered, Ended, Taken, HasRun}
 use Rattle.world_laws.specs.Good.{Pending, Bounded}
 use Rattle.world_laws.specs.Order.{OfEveryWorld, HasFinal}
+use Rattle.journal.specs.declared.trace.TheConstants.{GREATEST_STEPS}
 
 -- ---- a group receives
 
 -- each packet under way may come to its group
 abbrev pub PacketsMayCome : Type 0
-PacketsMayCome = (t : Layout) (steps : List Step) (w : World) → Leads t opening steps w → length steps ≤ 2 ^ 62 →
+PacketsMayCome = (t : Layout) (steps : List Step) (w : World) → Leads t opening steps w → length steps ≤ GREATEST_STEPS →
     (p : Packet) → In p w.packets →
     MayCome (record { me = p.to; state = w.group p.to }) p
 

@@ -19,7 +19,8 @@ returns-then-is_empty c front said back split here =
 pub returns-then-start-lies : goal.returns-then-start-lies
 returns-then-start-lies c front said back split here =
     let same = ap (λ v. v.steps) c.self.view_is ∙ split in
-    let within = lies-within front back c.args.conn said c.self.inside.bytes.items (c.self.invariant.coded ∙ ap (flat_map step_code) same) in
+    let coded = c.self.invariant.coded ∙ ap (flat_map step_code) same in
+    let within = lies-within front back c.args.conn said c.self.inside.bytes.items coded in
     let slice = ap length c.as_slice-lies.ensures.value in
     let long = c.self.inside.bytes.small in
     let len = c.self.inside.bytes.ok.0 in
@@ -38,4 +39,5 @@ returns c front said back split here =
     let lies = lies-at front back c.args.conn said c.self.inside.bytes.items c.saturating_add-start.result coded start in
     let slice = c.as_slice-lies.ensures.value in
     words-tell _ said _ _ _ _ c.as_bytes-words.ensures (omega (arith, eqb-false _ 0 (sym c.is_empty.ensures ∙ c.if-is_empty.false))) fit
-    (take_rest c.as_slice-lies.result.now c.saturating_add-start.result ∙ ap (drop c.saturating_add-start.result) slice ∙ lies) c.starts_with.ensures.value
+    (take_rest c.as_slice-lies.result.now c.saturating_add-start.result ∙ ap (drop c.saturating_add-start.result) slice ∙ lies)
+    c.starts_with.ensures.value

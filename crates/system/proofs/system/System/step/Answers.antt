@@ -41,7 +41,8 @@ invariant_of-self-in-Err g c =
 pub returns-in-Ok-clause-made : goal.returns-in-Ok-clause-made
 returns-in-Ok-clause-made g c =
     let old = was c.self.inside in
-    subst (λ s. IsStep s c.args.step c.in-Ok.effect (record { max_steps = c.self.inside.max_steps; steps = c.self.inside.steps + 1; parts = c.make.new.self }))
+    subst (λ s. IsStep s c.args.step c.in-Ok.effect
+    (record { max_steps = c.self.inside.max_steps; steps = c.self.inside.steps + 1; parts = c.make.new.self }))
     c.self.view_is
     (made_so old c.args.step c.in-Ok.effect c.make.new.self c.self.invariant (sym c.has_failed.ensures ∙ c.if-has_failed.false)
     (below c.self.inside c.self.invariant c.if-self.false) c.in-Ok.ensures.made)
