@@ -1,4 +1,5 @@
--- A command's effect is its case, since a case looks at the command's own keys alone; and what follows for two commands.
+-- A command's effect is its case, since a case looks at the command's own keys alone; and what follows for two
+-- commands.
 use Rattle.std.proofs.Common.{◌≡◌, ℕ, List, Bool, true, false, cond, refl, ap, sym, ◌∙◌}
 use Rattle.command_bodies.specs.Command.{case_of, effect_of, AnswersCommute, ContentsCommute}
 use Rattle.command_bodies.specs.LocalCommand.{local_reply}

@@ -22,8 +22,8 @@ case_of (Hash c) = hash_command_case c
 case_of (variant.Set c) = set_command_case c
 case_of (Local c) = λ m. (m, local_reply c)
 
--- what a command does to the map of all keys: its case on what the map has at its own keys, which is then put back in their place.
--- A command for all keys has the whole map
+-- what a command does to the map of all keys: its case on what the map has at its own keys, which is then put back in
+-- their place. A command for all keys has the whole map
 abbrev pub effect_of : Command → Case
 effect_of command m = if is_whole command then case_of command m else one (keys_of command) (case_of command) m
 

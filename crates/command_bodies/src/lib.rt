@@ -1,8 +1,8 @@
 //! Every command's body behind one contract.
 //!
-//! `execute` runs a command over any keyspace that covers its keys: it takes the part of the map at the command's keys, does there
-//! what the Redis command reference says of the command, and puts the part back. A server of one map and one of many shards run
-//! the same bodies. `local` answers the commands that look at no key.
+//! `execute` runs a command over any keyspace that covers its keys: it takes the part of the map at the command's keys,
+//! does there what the Redis command reference says of the command, and puts the part back. A server of one map and one
+//! of many shards run the same bodies. `local` answers the commands that look at no key.
 #![tactic(auto)]
 
 mod local_commands;
@@ -28,8 +28,9 @@ use string_commands::run_string_command;
 
 /// Runs a command. The keyspace has to cover each of its keys.
 ///
-/// The command answers and the keyspace is left as its effect says, which is taken at its keys alone. `Starved` comes only where
-/// the command takes memory, as a SET of a key that isn't there; the keyspace then has the contents that it had before.
+/// The command answers and the keyspace is left as its effect says, which is taken at its keys alone. `Starved` comes
+/// only where the command takes memory, as a SET of a key that isn't there; the keyspace then has the contents that it
+/// had before.
 pub fn execute<K: Keyspace>(
     alloc: Global,
     keyspace: &mut K,
@@ -46,8 +47,8 @@ pub fn execute<K: Keyspace>(
 
 /// Runs a command by its family, and leaves its case.
 ///
-/// Each family's clause speaks of cases. That a command's effect is its case is one fact on top, which holds of every body: so here
-/// the prover works arm by arm with no help, and `execute` has no arm.
+/// Each family's clause speaks of cases. That a command's effect is its case is one fact on top, which holds of every
+/// body: so here the prover works arm by arm with no help, and `execute` has no arm.
 fn run<K: Keyspace>(alloc: Global, keyspace: &mut K, command: Command) -> Result<Reply, Starved>
     requires { All (λ key. IsTrue (K.covered keyspace.old key)) (keys_of command) }
     ensures done { Does (case_of command)
@@ -65,8 +66,8 @@ fn run<K: Keyspace>(alloc: Global, keyspace: &mut K, command: Command) -> Result
     }
 }
 
-/// That commands with no key in common can change places: each answers what it would have answered first, and both leave the same
-/// map in either order. It is for commands that name their keys, which those for all keys do not.
+/// That commands with no key in common can change places: each answers what it would have answered first, and both
+/// leave the same map in either order. It is for commands that name their keys, which those for all keys do not.
 pub fn commands_commute()
     ensures answers { AnswersCommute }
     ensures contents { ContentsCommute }

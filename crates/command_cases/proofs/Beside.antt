@@ -1,4 +1,5 @@
--- What a change at one key leaves at another, and changes at two keys in either order. `beside` is the set that bodies of two keys name.
+-- What a change at one key leaves at another, and changes at two keys in either order. `beside` is the set that bodies
+-- of two keys name.
 use Rattle.std.proofs.Common.{◌≡◌, ℕ, List, Bool, true, false, cond, Option, Some, None, refl, sym, ap, ◌∙◌}
 use Rattle.std.specs.FinMap.{get, insert, remove}
 use Rattle.std.specs.Str.{bytes_eq}

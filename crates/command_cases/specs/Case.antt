@@ -27,6 +27,7 @@ one keys case m = (put_back m keys (case (restrict m keys)).0, (case (restrict m
 abbrev pub IsLocal : List Bytes → Case → Type 0
 IsLocal keys case = (m : Map) → one keys case m ≡ case m
 
--- a body has done the case: it left the case's map and answered what the case says; or it answered nothing and left the map
+-- a body has done the case: it left the case's map and answered what the case says; or it answered nothing and left the
+-- map
 abbrev pub Does : {E : Type 0} → Case → Map → Map → Result Reply E → Type 0
 Does case old new result = MatchResult result (λ reply. (new, content reply) ≡ case old) (λ _. new ≡ old)

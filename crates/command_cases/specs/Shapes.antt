@@ -1,5 +1,5 @@
--- The shapes that cases have, each by where its keys stand. A case of one of these shapes looks at its own keys alone, whatever
--- its step; a case of one key has the shape `at_key`.
+-- The shapes that cases have, each by where its keys stand. A case of one of these shapes looks at its own keys alone,
+-- whatever its step; a case of one key has the shape `at_key`.
 use Rattle.std.specs.Prelude.{Bool, List, [], ◌∷◌, map, Option, if◌then◌else◌}
 use Rattle.std.specs.FinMap.{get, insert}
 use Rattle.command_cases.specs.Case.{Case}

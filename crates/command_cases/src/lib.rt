@@ -1,8 +1,8 @@
 //! What the families of commands share: what it means that a body does its command's case.
 //!
-//! A case says what a command does to a map and what it answers. A body is proved to do its case on all that its keyspace holds; a
-//! case looks only at its command's keys, and from that alone it follows that commands with no key in common can change places.
-//! The crates of the families and `command_bodies` cite these words.
+//! A case says what a command does to a map and what it answers. A body is proved to do its case on all that its
+//! keyspace holds; a case looks only at its command's keys, and from that alone it follows that commands with no key in
+//! common can change places. The crates of the families and `command_bodies` cite these words.
 #![tactic(auto)]
 
 mod replies;
@@ -25,10 +25,11 @@ impl From<AllocError> for Starved {
     }
 }
 
-/// Runs a command of a family by the body that its row names, with the allocator, the keyspace and the command's fields.
+/// Runs a command of a family by the body that its row names, with the allocator, the keyspace and the command's
+/// fields.
 ///
-/// It is for `command_table::command_rows`: after the family it takes the type of the family's commands, the allocator, the
-/// keyspace and the command.
+/// It is for `command_table::command_rows`: after the family it takes the type of the family's commands, the allocator,
+/// the keyspace and the command.
 #[macro_export]
 macro_rules! body_rows {
     ([$family:ident, $alloc:expr, $keyspace:expr, $command:expr] $((
@@ -40,8 +41,8 @@ macro_rules! body_rows {
     };
 }
 
-/// That commands with no key in common can change places: each answers what it would have answered first, and both leave the same
-/// map in either order.
+/// That commands with no key in common can change places: each answers what it would have answered first, and both
+/// leave the same map in either order.
 ///
 /// It holds of any two cases, by what it means to take a case on its keys alone; nothing of a command is used.
 pub fn apart_commute()

@@ -21,8 +21,8 @@ abbrev pub reading : List Word → Reading
 reading [] = Err Unknown
 reading (name ∷ words) = unwrap_or (reading_among rows (lower name) words) (Err Unknown)
 
--- the first word names a row, and what is told of the command is what that row tells: its name, which of the words are its keys,
--- and whether it is for all keys
+-- the first word names a row, and what is told of the command is what that row tells: its name, which of the words are
+-- its keys, and whether it is for all keys
 abbrev pub IsTold : List Word → Command → Type 0
 IsTold [] c = ⊥
 IsTold (name ∷ words) c = (r : Row) × (row_of rows (lower name) ≡ Some r) × (told_of c ≡ row_told r (name ∷ words))

@@ -14,7 +14,8 @@ use Rattle.command_table.specs.Words.{Word, integer_word, pairs_of}
 abbrev pub Reading : Type 0
 Reading = Result Command Refusal
 
--- a command's name in lower case, how many words it takes, which of them are keys, and what the words after the name say
+-- a command's name in lower case, how many words it takes, which of them are keys, and what the words after the name
+-- say
 pub record Row : Type 0 where
   pub name : Word
   pub arity : Arity

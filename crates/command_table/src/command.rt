@@ -13,7 +13,8 @@ use crate::string_commands::StringCommand;
 use crate::told::Told;
 use std::alloc::{AllocError, Global};
 
-/// A command with the words that it was given, as `read` makes it. Contracts compare commands by the bytes of their words.
+/// A command with the words that it was given, as `read` makes it. Contracts compare commands by the bytes of their
+/// words.
 #[derive(Drop)]
 pub enum Command {
     /// On keys of any type.

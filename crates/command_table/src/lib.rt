@@ -1,8 +1,9 @@
-//! The table of commands: which commands there are, how a request is read as one of them, and which of its words are keys.
+//! The table of commands: which commands there are, how a request is read as one of them, and which of its words are
+//! keys.
 //!
-//! The rows stand once, in `command_rows!`, by the Redis command reference: a command's name, how many words it takes, and where
-//! its keys stand among them. `read` makes a command of a request; the bodies of the commands are in the crates above, which
-//! dispatch by the same rows.
+//! The rows stand once, in `command_rows!`, by the Redis command reference: a command's name, how many words it takes,
+//! and where its keys stand among them. `read` makes a command of a request; the bodies of the commands are in the
+//! crates above, which dispatch by the same rows.
 #![tactic(auto)]
 
 mod arity;

@@ -1,8 +1,8 @@
 //! How a request is read as a command.
 //!
-//! The name is looked for first, then the words are counted, then the words behind the name are read from left to right; no key
-//! is looked at. The rows are the Redis command reference's; that order is this project's own, since releases of Redis differ.
-//! Whoever has a request from the decoder, or from words of its own, calls `read`.
+//! The name is looked for first, then the words are counted, then the words behind the name are read from left to
+//! right; no key is looked at. The rows are the Redis command reference's; that order is this project's own, since
+//! releases of Redis differ. Whoever has a request from the decoder, or from words of its own, calls `read`.
 
 ghost use Rattle.std.specs.Prelude.{◌≡◌, Err, IfOk, unwrap_or};
 ghost use Rattle.command_table.specs.declared.refusal.Refusal.TheVariants.{Unknown};
@@ -23,9 +23,9 @@ use resp::Request;
 
 /// The command that the request's words say, the first of which is its name in any mix of upper and lower case.
 ///
-/// Errors, in the order in which they are looked for: `Unknown`, no command has the name; `Arity`, it takes another number of
-/// words; `Syntax` and `NotInteger`, a word behind the name is none that may stand there. The words are moved into the command
-/// with the memory that they lie in. No memory is taken, so `Memory` is never answered.
+/// Errors, in the order in which they are looked for: `Unknown`, no command has the name; `Arity`, it takes another
+/// number of words; `Syntax` and `NotInteger`, a word behind the name is none that may stand there. The words are moved
+/// into the command with the memory that they lie in. No memory is taken, so `Memory` is never answered.
 pub fn read(request: Request) -> Result<Command, Refusal>
     ensures reading { result ≡ reading request }
     ensures told { IfOk result (λ command. IsTold request command) }
@@ -43,7 +43,8 @@ fn in_lower_case(mut name: Vec<u8>) -> Vec<u8>
     name
 }
 
-/// Reads the words behind a name in lower case by the table's row. The names of the table are text, so other bytes name no row.
+/// Reads the words behind a name in lower case by the table's row. The names of the table are text, so other bytes name
+/// no row.
 fn read_named(name: &[u8], words: Vec<Vec<u8>>) -> Result<Command, Refusal>
     ensures { result ≡ unwrap_or (reading_among rows name.now (texts_of words.items)) (Err Unknown) }
 {

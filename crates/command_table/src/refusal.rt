@@ -49,8 +49,8 @@ impl fmt::Display for CommandName {
     }
 }
 
-/// Why a request cannot be read as a command. Nothing was changed, and nothing was looked at but the request's words. Each reason has its
-/// number, from 1.
+/// Why a request cannot be read as a command. Nothing was changed, and nothing was looked at but the request's words.
+/// Each reason has its number, from 1.
 #[derive(Debug, Drop, Error)]
 pub enum Refusal {
     /// 1: no command has this name.
@@ -69,7 +69,8 @@ pub enum Refusal {
     #[error("ERR value is not an integer or out of range")]
     NotInteger,
 
-    /// 5: there is no memory to read the request. `read` takes none; a caller that copies a request first may answer it.
+    /// 5: there is no memory to read the request. `read` takes none; a caller that copies a request first may answer
+    /// it.
     #[error("ERR out of memory")]
     Memory,
 }

@@ -1,15 +1,15 @@
 //! The rows of the table, and the macros that expand them in the functions of a family.
 //!
-//! A row stands once, here. `command_rows!` hands the rows of a family to a macro of the caller's, which writes an arm for each:
-//! the crate of a family's bodies dispatches by them too.
+//! A row stands once, here. `command_rows!` hands the rows of a family to a macro of the caller's, which writes an arm
+//! for each: the crate of a family's bodies dispatches by them too.
 
-/// Hands the rows of a family, `local`, `keys`, `strings`, `lists`, `hashes` or `sets`, to the macro named after it, with the words after
-/// that in brackets.
+/// Hands the rows of a family, `local`, `keys`, `strings`, `lists`, `hashes` or `sets`, to the macro named after it,
+/// with the words after that in brackets.
 ///
-/// A row has the command's name in lower case; how many words it takes, its name included; its key span, which is the first key,
-/// the last one and the step between them by word, the name being word 0 and -1 the last word, or `none`, or `whole` where it is
-/// for all keys there are; its variant with its fields, the keys first; the name of the function that reads its words; and the
-/// name of its body.
+/// A row has the command's name in lower case; how many words it takes, its name included; its key span, which is the
+/// first key, the last one and the step between them by word, the name being word 0 and -1 the last word, or `none`, or
+/// `whole` where it is for all keys there are; its variant with its fields, the keys first; the name of the function
+/// that reads its words; and the name of its body.
 #[macro_export]
 macro_rules! command_rows {
     (local, $emit:ident, $($argument:tt)*) => {

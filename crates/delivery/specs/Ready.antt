@@ -1,5 +1,5 @@
--- Which delivered requests are ready, and what a layer takes from the queues. `queue g` is what the group g has delivered and
--- no layer has taken yet, oldest first.
+-- Which delivered requests are ready, and what a layer takes from the queues. `queue g` is what the group g has
+-- delivered and no layer has taken yet, oldest first.
 use Rattle.std.specs.Prelude.{◌≡◌, ℕ, true, cond, List, [], ◌∷◌}
 use Rattle.groups.specs.GroupSet.{has}
 use Rattle.skeen_core.specs.Order.{In}

@@ -1,12 +1,14 @@
 -- Entries that are lent, put in order, are the map that they say; and entries that are added one after another.
-use Rattle.std.proofs.Common.{◌≡◌, ℕ, zero, suc, ◌+◌, ◌≤◌, List, [], ◌∷◌, ◌++◌, take, map, length, Bool, true, false, cond, not, T, Option, Some, None}
+use Rattle.std.proofs.Common.{◌≡◌, ℕ, zero, suc, ◌+◌, ◌≤◌, List, [], ◌∷◌, ◌++◌, take, map, length, Bool}
+use Rattle.std.proofs.Common.{true, false, cond, not, T, Option, Some, None}
 use Rattle.std.proofs.Common.{Bor, arith, refl, sym, ap, subst, ◌∙◌, ◌&&◌}
 use Rattle.std.proofs.lemmas.Cmp.{nat_list_cmp_total}
 use Rattle.std.proofs.lemmas.Map.Keys.{IsDistinct-head, IsDistinct-tail}
 use Rattle.std.specs.BTreeMap.{insert_entry}
 use Rattle.std.specs.Cmp.Lexicographic.{slice_cmp}
 use Rattle.std.specs.FinMap as finite
-use Rattle.std.specs.FinMap.{get, insert, entries, from_entries, from_sorted, find, is_sorted, put, get-from_entries, get-from_sorted, entries-from_sorted}
+use Rattle.std.specs.FinMap.{get, insert, entries, from_entries, from_sorted, find, is_sorted, put}
+use Rattle.std.specs.FinMap.{get-from_entries, get-from_sorted, entries-from_sorted}
 use Rattle.std.specs.FinMap.{entries-insert, get-entries, same_entries_map}
 use Rattle.std.specs.List.{IsDistinct, AllByRecursion, slice_get}
 use Rattle.std.specs.List.Sorted.{IsStrictlySortedBy}
@@ -51,7 +53,8 @@ get-with_entries m (e ∷ es) q =
     ∙ or_else-cond (eq_by_cmp order q e.0) e.1 (find order q es) (get m q)
 
 -- entries may be put in order before they are added
-pub with_entries-entries : (m : Map) (es : List (Bytes × Value)) → with_entries m es ≡ with_entries m (entries {R = order} (from_entries es))
+pub with_entries-entries : (m : Map) (es : List (Bytes × Value)) →
+    with_entries m es ≡ with_entries m (entries {R = order} (from_entries es))
 with_entries-entries m es =
     same (with_entries m es) (with_entries m (entries {R = order} (from_entries es))) (λ q.
     get-with_entries m es q

@@ -1,5 +1,5 @@
--- More requests executed behind others: their rows stand behind the others' rows, and the whole is in order where the new ones touch
--- none of the others with a greater stamp.
+-- More requests executed behind others: their rows stand behind the others' rows, and the whole is in order where the
+-- new ones touch none of the others with a greater stamp.
 use Rattle.std.proofs.Common.{◌≡◌, List, [], ◌∷◌, ◌++◌, false, ◌⊎◌, inl, inr, refl, sym, ap, ◌∙◌}
 use Rattle.command_bodies.proofs.Turns.{in_turn-append}
 use Rattle.command_bodies.specs.Command.{effect_of}

@@ -1,4 +1,5 @@
--- Sorting the requests by their stamps, the first one after the others: each moves right past requests that it doesn't touch.
+-- Sorting the requests by their stamps, the first one after the others: each moves right past requests that it doesn't
+-- touch.
 use Rattle.std.proofs.Common.{◌≡◌, List, [], ◌∷◌, Bool, true, false, cond, inl, inr, refl, sym, ap, ◌∙◌}
 use Rattle.std.proofs.lemmas.Bool.{both_ways}
 use Rattle.command_bodies.proofs.Turns.{pair}

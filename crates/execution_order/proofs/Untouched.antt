@@ -1,4 +1,5 @@
--- Requests that share no group can change places: their keys are apart, and a whole command shares a group with each other request.
+-- Requests that share no group can change places: their keys are apart, and a whole command shares a group with each
+-- other request.
 use Rattle.std.proofs.Common.{◌≡◌, ℕ, ◌||◌, ◌&&◌, nat_lt, List, true, false, slice_index_or, refl, sym, ap, ◌∙◌, subst}
 use Rattle.std.proofs.lemmas.Bool.{and_parts}
 use Rattle.std.proofs.lemmas.List.Folds.{Any-from_list_any}

@@ -1,5 +1,5 @@
--- What the commands on hashes do, by the Redis command reference. A hash is the list of its pairs of a field and its value, in
--- order of insertion; a key that is missing counts as a hash with no pairs.
+-- What the commands on hashes do, by the Redis command reference. A hash is the list of its pairs of a field and its
+-- value, in order of insertion; a key that is missing counts as a hash with no pairs.
 use Rattle.std.specs.Prelude.{◌≡◌, ℕ, ◌-◌, ◌<◌, ℤ, List, [], map, length, codes, Option, Some, None, Result, Ok, Err, IsSome, IsOk, is_some}
 use Rattle.std.specs.Prelude.{if◌then◌else◌, true, false}
 use Rattle.std.specs.FinMap.{get}
@@ -24,8 +24,8 @@ use Rattle.values.specs.declared.Value.TheVariants as kind
 abbrev pub HashPairs : Type 0
 HashPairs = List (Bytes × Bytes)
 
--- a command that wants a hash: what it does is by the pairs, and by what the key has, which it may keep. A value of another kind
--- stays, and the answer is that it is of the wrong kind
+-- a command that wants a hash: what it does is by the pairs, and by what the key has, which it may keep. A value of
+-- another kind stays, and the answer is that it is of the wrong kind
 abbrev pub at_hash : (HashPairs → Option Value → Option Value × Content) → Step
 at_hash step None = step [] None
 at_hash step (Some (kind.Hash pairs)) = step pairs (Some (kind.Hash pairs))
@@ -156,8 +156,8 @@ some_pairs (Some (kind.Str text)) = []
 some_pairs (Some (kind.List items)) = []
 some_pairs (Some (kind.Set members)) = []
 
--- where a command on hashes takes memory: for the copies of the texts that it answers, for an array of some replies, for a field
--- that isn't there, for the text of a sum
+-- where a command on hashes takes memory: for the copies of the texts that it answers, for an array of some replies,
+-- for a field that isn't there, for the text of a sum
 abbrev pub HashCommandTakesMemory : HashCommand → Map → Type 0
 HashCommandTakesMemory (Hlen key) m = ⊥
 HashCommandTakesMemory (Hget key field) m = IsSome (field_value (some_pairs (get m key)) field)

@@ -49,8 +49,8 @@ pub(crate) fn hvals<K: Keyspace>(alloc: Global, keyspace: &K, key: Text) -> Resu
     }
 }
 
-/// `HGETALL key`: the fields and their values by turns, in order of insertion; an error where the key holds a value of another
-/// type. <https://redis.io/docs/latest/commands/hgetall/>
+/// `HGETALL key`: the fields and their values by turns, in order of insertion; an error where the key holds a value of
+/// another type. <https://redis.io/docs/latest/commands/hgetall/>
 #[tactic(auto, using(keyspace::proofs::Changes::changes, resp::proofs::Contents::content_of))]
 pub(crate) fn hgetall<K: Keyspace>(alloc: Global, keyspace: &K, key: Text) -> Result<Reply, Starved>
     requires { IsTrue (K.covered keyspace.now key) }
@@ -65,8 +65,8 @@ pub(crate) fn hgetall<K: Keyspace>(alloc: Global, keyspace: &K, key: Text) -> Re
     }
 }
 
-/// `HMGET key field [field ..]`: the value of each field, or null, in order of the words; an error where the key holds a value of
-/// another type. <https://redis.io/docs/latest/commands/hmget/>
+/// `HMGET key field [field ..]`: the value of each field, or null, in order of the words; an error where the key holds
+/// a value of another type. <https://redis.io/docs/latest/commands/hmget/>
 #[tactic(auto, using(keyspace::proofs::Changes::changes))]
 pub(crate) fn hmget<K: Keyspace>(
     alloc: Global,

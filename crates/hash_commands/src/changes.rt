@@ -1,7 +1,7 @@
 //! HDEL, HSETNX, HSET and HMSET.
 //!
-//! A hash that is there is taken out of the keyspace, changed and put back; the key keeps its place meanwhile, with the empty
-//! string, so that putting it back takes no memory.
+//! A hash that is there is taken out of the keyspace, changed and put back; the key keeps its place meanwhile, with the
+//! empty string, so that putting it back takes no memory.
 
 ghost use Rattle.std.specs.Prelude.{◌≡◌, ℕ, ◌-◌, IsTrue, IsSome, IsOk, OnOk, OnErr, MatchResult, None, is_some, length};
 ghost use Rattle.std.specs.FinMap as map;
@@ -23,8 +23,8 @@ use std::alloc::{AllocError, Global};
 use texts::{Pairs, Text, Texts};
 use values::{HashValue, Value};
 
-/// `HDEL key field [field ..]`: removes the fields, and says how many were there; a field that is named twice is one field. A hash
-/// that becomes empty goes with its key; an error where the key holds a value of another type.
+/// `HDEL key field [field ..]`: removes the fields, and says how many were there; a field that is named twice is one
+/// field. A hash that becomes empty goes with its key; an error where the key holds a value of another type.
 ///
 /// It takes no memory. <https://redis.io/docs/latest/commands/hdel/>
 #[tactic(auto, using(keyspace::proofs::Changes::changes))]
@@ -60,8 +60,8 @@ pub(crate) fn hdel<K: Keyspace>(
     Ok(count_reply(removed))
 }
 
-/// `HSETNX key field value`: sets the field where it isn't there; 1 where it was set, 0 where the field was there; an error where
-/// the key holds a value of another type.
+/// `HSETNX key field value`: sets the field where it isn't there; 1 where it was set, 0 where the field was there; an
+/// error where the key holds a value of another type.
 ///
 /// Memory is taken only for a field that isn't there. <https://redis.io/docs/latest/commands/hsetnx/>
 #[tactic(auto, using(keyspace::proofs::Changes::changes))]
@@ -93,8 +93,8 @@ pub(crate) fn hsetnx<K: Keyspace>(
     Ok(truth_reply(true))
 }
 
-/// `HSET key field value [field value ..]`: sets the fields one after another, and says how many were new. A field that is there
-/// keeps its place; an error where the key holds a value of another type.
+/// `HSET key field value [field value ..]`: sets the fields one after another, and says how many were new. A field that
+/// is there keeps its place; an error where the key holds a value of another type.
 ///
 /// All fields are set, or none where there is no memory. <https://redis.io/docs/latest/commands/hset/>
 pub(crate) fn hset<K: Keyspace>(

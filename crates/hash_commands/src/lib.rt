@@ -1,7 +1,7 @@
 //! The bodies of the commands on hashes.
 //!
-//! What each does is the Redis command reference's: <https://redis.io/docs/latest/commands/?group=hash>. `command_bodies` runs
-//! them.
+//! What each does is the Redis command reference's: <https://redis.io/docs/latest/commands/?group=hash>.
+//! `command_bodies` runs them.
 #![tactic(auto)]
 
 mod arrays;

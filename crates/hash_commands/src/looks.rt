@@ -80,8 +80,8 @@ pub(crate) fn hexists<K: Keyspace>(
     }
 }
 
-/// `HSTRLEN key field`: the length of the field's value, 0 where it is missing; an error where the key holds a value of another
-/// type.
+/// `HSTRLEN key field`: the length of the field's value, 0 where it is missing; an error where the key holds a value of
+/// another type.
 ///
 /// It takes no memory. <https://redis.io/docs/latest/commands/hstrlen/>
 #[tactic(auto, using(keyspace::proofs::Changes::changes))]

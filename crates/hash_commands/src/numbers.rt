@@ -21,7 +21,8 @@ use values::{HashValue, Value};
 /// where the key holds a value of another type, where the field's value is no integer, and where the sum doesn't fit 64 bits with
 /// sign.
 ///
-/// Memory is taken for the text of the sum, and for a field that isn't there. <https://redis.io/docs/latest/commands/hincrby/>
+/// Memory is taken for the text of the sum, and for a field that isn't there.
+/// <https://redis.io/docs/latest/commands/hincrby/>
 #[tactic(auto, using(keyspace::proofs::Changes::changes, resp::proofs::Contents::content_of))]
 pub(crate) fn hincrby<K: Keyspace>(
     alloc: Global,

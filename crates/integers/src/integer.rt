@@ -5,7 +5,8 @@ ghost use Rattle.integers.specs.Integer.{integer_of, IsIntegerText};
 
 use itoa::Buffer;
 
-/// The number that this text is, where it is the text of an integer of 64 bits with sign, with no leading zero and no plus sign.
+/// The number that this text is, where it is the text of an integer of 64 bits with sign, with no leading zero and no
+/// plus sign.
 ///
 /// It takes no memory, and its work is linear in the text.
 pub fn read_integer(text: &[u8]) -> Option<i64>

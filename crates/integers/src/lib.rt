@@ -1,9 +1,9 @@
 //! Integers in words and in stored strings, and the range rule.
 //!
-//! An integer text is the one that std prints of a number of 64 bits with sign: `0`, or an optional `-`, a digit from 1 to 9 and
-//! further digits. Words of commands and stored strings are read by the one `read_integer`; a number is stored as the same text by
-//! `number_text` and `set_number`, and `add_to` adds to one that is stored. Places that count from either end of a string or a list
-//! are taken by the one `range_of`.
+//! An integer text is the one that std prints of a number of 64 bits with sign: `0`, or an optional `-`, a digit from 1
+//! to 9 and further digits. Words of commands and stored strings are read by the one `read_integer`; a number is stored
+//! as the same text by `number_text` and `set_number`, and `add_to` adds to one that is stored. Places that count from
+//! either end of a string or a list are taken by the one `range_of`.
 #![tactic(auto)]
 
 mod integer;

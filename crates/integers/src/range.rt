@@ -3,7 +3,8 @@
 ghost use Rattle.std.specs.Prelude.{◌≡◌, ℕ, ◌≤◌, ◌<◌, nat_le, nat_lt, ◌&&◌, pos, int_le};
 ghost use Rattle.integers.specs.Range.{place, is_in_range};
 
-/// The places from `start` to `end`, both included, of something of this length: those from the first result to before the second.
+/// The places from `start` to `end`, both included, of something of this length: those from the first result to before
+/// the second.
 ///
 /// A start or an end below 0 has the length added once. Where no place lies between them the two results are equal.
 pub fn range_of(start: i64, end: i64, len: usize) -> (usize, usize)

@@ -15,8 +15,8 @@ pub enum SumFault {
     Overflow,
 }
 
-/// The number that the text is and `by` together; `NotInteger` where the text is no integer, `Overflow` where the sum is none of 64
-/// bits with sign.
+/// The number that the text is and `by` together; `NotInteger` where the text is no integer, `Overflow` where the sum
+/// is none of 64 bits with sign.
 ///
 /// It is for commands that count in a stored string. It takes no memory.
 pub fn add_to(text: &[u8], by: i64) -> Result<i64, SumFault>

@@ -31,7 +31,8 @@ type_reply (Some value) = SimpleText (type_name value)
 abbrev pub type_step : Step
 type_step there = (there, type_reply there)
 
--- RENAME: the value of the first key moves to the second, whatever was there. Equal names are one key, which keeps its value
+-- RENAME: the value of the first key moves to the second, whatever was there. Equal names are one key, which keeps its
+-- value
 abbrev pub rename_step : (equal : Bool) → StepOfTwo
 rename_step equal None there = ((None, there), no_such_key)
 rename_step true (Some value) there = ((Some value, there), ok)

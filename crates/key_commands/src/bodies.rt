@@ -37,10 +37,12 @@ pub(crate) fn del<K: Keyspace>(
     Ok(count_reply(removed))
 }
 
-/// `RENAME key newkey`: moves the value to the new key, in place of a value of any type; an error where the key is missing.
+/// `RENAME key newkey`: moves the value to the new key, in place of a value of any type; an error where the key is
+/// missing.
 ///
-/// The key keeps its place, with the empty string, until the new one has the value. So where there is no memory for the new key,
-/// the value goes back. Memory is taken only for a key that isn't there. <https://redis.io/docs/latest/commands/rename/>
+/// The key keeps its place, with the empty string, until the new one has the value. So where there is no memory for the
+/// new key, the value goes back. Memory is taken only for a key that isn't there.
+/// <https://redis.io/docs/latest/commands/rename/>
 #[tactic(auto, using(keyspace::proofs::Changes::changes, command_cases::proofs::Beside::beside))]
 pub(crate) fn rename<K: Keyspace>(
     alloc: Global,

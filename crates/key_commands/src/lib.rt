@@ -1,7 +1,7 @@
 //! The bodies of the commands on keys of any type.
 //!
-//! What each does is the Redis command reference's: <https://redis.io/docs/latest/commands/?group=generic>. `command_bodies` runs
-//! them.
+//! What each does is the Redis command reference's: <https://redis.io/docs/latest/commands/?group=generic>.
+//! `command_bodies` runs them.
 #![tactic(auto)]
 
 mod bodies;

@@ -14,8 +14,8 @@ use std::alloc::Global;
 use texts::Text;
 use values::Value;
 
-/// `RENAMENX key newkey`: moves the value to the new key where that isn't there, and says whether it did; an error where the key is
-/// missing. Equal names are a new key that is there.
+/// `RENAMENX key newkey`: moves the value to the new key where that isn't there, and says whether it did; an error
+/// where the key is missing. Equal names are a new key that is there.
 ///
 /// The value is held as RENAME holds it. Memory is taken only where the value moves.
 /// <https://redis.io/docs/latest/commands/renamenx/>

@@ -23,7 +23,8 @@ fn keys(alloc: Global, table: &Table) -> Result<Vec<String>, Fail> {
     Ok(keys)
 }
 
-/// Two layers of 64 requests: each sets its key, then every second one removes it. What was answered, and what is there then.
+/// Two layers of 64 requests: each sets its key, then every second one removes it. What was answered, and what is there
+/// then.
 fn answers<W: Workers>(
     rt: &impl Abort,
     alloc: Global,

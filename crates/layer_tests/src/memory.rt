@@ -1,6 +1,7 @@
 //! What becomes of a layer where one allocation fails.
 //!
-//! Where all succeed these tests say no more than others do. They are meant to be run with each allocation failing in turn.
+//! Where all succeed these tests say no more than others do. They are meant to be run with each allocation failing in
+//! turn.
 
 use crate::jobs::{job, layer, table_of, text};
 use crate::trouble::Trouble;
@@ -12,7 +13,8 @@ use std::num::NonZeroUsize;
 use std::process::Abort;
 use std::test::Fail;
 
-/// What is there before, `before` shown in hexadecimal below. Of four shards `a` lies on 0, `b` on 1, `z` on 2 and `x` on 3.
+/// What is there before, `before` shown in hexadecimal below. Of four shards `a` lies on 0, `b` on 1, `z` on 2 and `x`
+/// on 3.
 const SET_BEFORE: [&str; 3] = ["SET a before", "SET z before", "SET x before"];
 
 /// The layer.

@@ -22,8 +22,8 @@ use Rattle.values.specs.Value.{list_value}
 use Rattle.values.specs.declared.Value.{Value}
 use Rattle.values.specs.declared.Value.TheVariants as kind
 
--- a command that wants a list: what it does is by the items at the key, if there is a list. A value of another kind stays, and the
--- answer is that it is of the wrong kind
+-- a command that wants a list: what it does is by the items at the key, if there is a list. A value of another kind
+-- stays, and the answer is that it is of the wrong kind
 abbrev pub at_list : (Option (List Bytes) → Option Value × Content) → Step
 at_list step None = step None
 at_list step (Some (kind.List items)) = step (Some items)
@@ -129,8 +129,8 @@ abbrev pub trim_step : ℤ → ℤ → Option (List Bytes) → Option Value × C
 trim_step start end None = (None, ok)
 trim_step start end (Some items) = (list_value (range_items start end items), ok)
 
--- the list without the items that are equal to this one: the first so many from the head, or from the tail for a number below 0,
--- or all for 0
+-- the list without the items that are equal to this one: the first so many from the head, or from the tail for a number
+-- below 0, or all for 0
 abbrev pub without_counted : ℤ → Bytes → List Bytes → List Bytes
 without_counted (pos zero) item items = without_equal Head item (length items) items
 without_counted (pos (suc n)) item items = without_equal Head item (suc n) items
@@ -152,8 +152,8 @@ abbrev pub insert_beside : Side → List Bytes → Bytes → Option ℕ → Opti
 insert_beside side items item None = (Some (kind.List items), Number (negsuc 0))
 insert_beside side items item (Some p) = (Some (kind.List (insert items (beside side p) item)), count (suc (length items)))
 
--- LINSERT: the item goes beside the first one from the head that is equal to the pivot; the new length, -1 where none is equal, 0
--- where there is no list
+-- LINSERT: the item goes beside the first one from the head that is equal to the pivot; the new length, -1 where none
+-- is equal, 0 where there is no list
 abbrev pub insert_step : Side → Bytes → Bytes → Option (List Bytes) → Option Value × Content
 insert_step side pivot item None = (None, count 0)
 insert_step side pivot item (Some items) = insert_beside side items item (position (bytes_eq pivot) items)
@@ -162,8 +162,8 @@ insert_step side pivot item (Some items) = insert_beside side items item (positi
 abbrev pub at_both : List Bytes → Option Value × Option Value
 at_both items = (Some (kind.List items), Some (kind.List items))
 
--- LMOVE, RPOPLPUSH: the item at one end of the first list goes to an end of the second; equal names are one list, which is turned.
--- Where the first is missing the answer is null, whatever is at the second
+-- LMOVE, RPOPLPUSH: the item at one end of the first list goes to an end of the second; equal names are one list, which
+-- is turned. Where the first is missing the answer is null, whatever is at the second
 abbrev pub move_step : (equal : Bool) (taken put : End) → StepOfTwo
 move_step equal taken put None there = ((None, there), Nothing)
 move_step equal taken put (Some (kind.Str text)) there = ((Some (kind.Str text), there), wrong_type)

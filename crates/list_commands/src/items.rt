@@ -21,8 +21,8 @@ use std::alloc::Global;
 use texts::{End, Text};
 use values::{ListValue, Value};
 
-/// `LSET key place item`: puts the item in the place of the one that is there; an error where the key is missing or the place is
-/// none of the list's.
+/// `LSET key place item`: puts the item in the place of the one that is there; an error where the key is missing or the
+/// place is none of the list's.
 ///
 /// It takes no memory. <https://redis.io/docs/latest/commands/lset/>
 #[tactic(auto, using(keyspace::proofs::Changes::changes))]
@@ -61,7 +61,8 @@ fn index_out_of_range_reply() -> Reply
     Reply::Error(ErrorText::Fixed("ERR index out of range"))
 }
 
-/// `LTRIM key start end`: keeps the items from the start to the end, both included; either counts from the end where it is below 0.
+/// `LTRIM key start end`: keeps the items from the start to the end, both included; either counts from the end where it
+/// is below 0.
 ///
 /// It takes no memory. <https://redis.io/docs/latest/commands/ltrim/>
 pub(crate) fn ltrim<K: Keyspace>(
@@ -106,8 +107,8 @@ fn keep_range(list: ListValue, start: i64, end: i64) -> Option<ListValue>
     list.keep(from, to)
 }
 
-/// `LREM key count item`: removes the items that are equal to this one, and says how many: the first so many from the head, or from
-/// the tail for a count below 0, or all for 0.
+/// `LREM key count item`: removes the items that are equal to this one, and says how many: the first so many from the
+/// head, or from the tail for a count below 0, or all for 0.
 ///
 /// It takes no memory. <https://redis.io/docs/latest/commands/lrem/>
 #[tactic(auto, using(keyspace::proofs::Changes::changes))]
@@ -151,8 +152,8 @@ fn remove_counted(list: ListValue, count: i64, item: &[u8]) -> (usize, Option<Li
     }
 }
 
-/// `LINSERT key BEFORE|AFTER pivot item`: inserts the item beside the first one that is equal to the pivot, and says the new length;
-/// -1 where there is none, 0 where the key is missing.
+/// `LINSERT key BEFORE|AFTER pivot item`: inserts the item beside the first one that is equal to the pivot, and says
+/// the new length; -1 where there is none, 0 where the key is missing.
 ///
 /// <https://redis.io/docs/latest/commands/linsert/>
 #[tactic(auto, using(keyspace::proofs::Changes::changes, resp::proofs::Contents::content_of))]

@@ -1,7 +1,7 @@
 //! LMOVE and RPOPLPUSH.
 //!
-//! The item's copy, which one of list and reply needs, goes to the list, and the item itself to the reply. So all memory is taken
-//! before the item leaves its list, and nothing has to be undone.
+//! The item's copy, which one of list and reply needs, goes to the list, and the item itself to the reply. So all
+//! memory is taken before the item leaves its list, and nothing has to be undone.
 
 ghost use Rattle.std.specs.Prelude.{◌≡◌, [], ◌∷◌, true, false, IsTrue, IsSome, IfOk, OnOk, OnErr};
 ghost use Rattle.std.specs.FinMap as map;
@@ -41,8 +41,8 @@ pub(crate) fn rpoplpush<K: Keyspace>(
     lmove(alloc, keyspace, from, to, End::Tail, End::Head)
 }
 
-/// `LMOVE source destination LEFT|RIGHT LEFT|RIGHT`: moves the item at one end of the first list to an end of the second, and answers
-/// it; null where the first is missing. Equal names turn the list.
+/// `LMOVE source destination LEFT|RIGHT LEFT|RIGHT`: moves the item at one end of the first list to an end of the
+/// second, and answers it; null where the first is missing. Equal names turn the list.
 ///
 /// <https://redis.io/docs/latest/commands/lmove/>
 #[tactic(auto, using(keyspace::proofs::Changes::changes, resp::proofs::Contents::content_of))]

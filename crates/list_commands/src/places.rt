@@ -89,7 +89,8 @@ pub(crate) fn place_in(place: i64, len: usize) -> Option<usize>
     }
 }
 
-/// `LRANGE key start end`: the items from the start to the end, both included; either counts from the end where it is below 0.
+/// `LRANGE key start end`: the items from the start to the end, both included; either counts from the end where it is
+/// below 0.
 ///
 /// The items are copied into the reply. <https://redis.io/docs/latest/commands/lrange/>
 #[tactic(auto, using(keyspace::proofs::Changes::changes, resp::proofs::Contents::content_of))]

@@ -9,8 +9,8 @@ use Rattle.skeen_core.specs.declared.packet.Delivered.{Delivered}
 use Rattle.skeen_core.specs.declared.packet.Packet.{Packet}
 use Rattle.skeen_core.specs.declared.request.RequestId.{RequestId}
 
--- the groups by their numbers, the packets under way in order of sending, each group's queue, and how many more packets fit without
--- memory
+-- the groups by their numbers, the packets under way in order of sending, each group's queue, and how many more packets
+-- fit without memory
 pub record MulticastView : Type 0 where
   pub groups : List GroupView
   pub packets : List Packet
@@ -63,8 +63,8 @@ abbrev pub sends_at_most : Body → ℕ
 sends_at_most (Start floor groups) = length groups
 sends_at_most (Proposal from clock) = 0
 
--- The packet at a place has come to its group, which has done with it what its rule says. What it sends goes behind all that is under way,
--- and what it delivers behind its queue.
+-- The packet at a place has come to its group, which has done with it what its rule says. What it sends goes behind all
+-- that is under way, and what it delivers behind its queue.
 pub record Delivers (old : MulticastView) (place : ℕ) (new : MulticastView) : Type 0 where
   pub packet : Packet
   pub sent : List Packet

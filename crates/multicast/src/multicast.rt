@@ -30,8 +30,9 @@ pub enum DeliverFault {
     Memory,
 }
 
-/// The groups of all shards, the packets under way between them, and the queue of each group. Contracts see the groups by their
-/// numbers, the packets in order of sending, the queues oldest first, and how many more packets fit without memory.
+/// The groups of all shards, the packets under way between them, and the queue of each group. Contracts see the groups
+/// by their numbers, the packets in order of sending, the queues oldest first, and how many more packets fit without
+/// memory.
 #[derive(Drop)]
 pub struct Multicast {
     alloc: Global,
@@ -55,8 +56,8 @@ impl Model for Multicast {
 }
 
 impl Multicast {
-    /// The first `count` groups, at most 64: each is new, no packet is under way, and the queues are empty. The only error is want of
-    /// memory.
+    /// The first `count` groups, at most 64: each is new, no packet is under way, and the queues are empty. The only
+    /// error is want of memory.
     pub fn new(alloc: Global, count: u8) -> Result<Self, AllocError>
         requires { count ≤ 64 }
         ensures count { IfOk result (λ m. length m.groups ≡ count) }
@@ -121,8 +122,8 @@ impl Multicast {
         }
     }
 
-    /// The packet at this place comes to its group: what the group sends goes behind all packets, and what it delivers behind its
-    /// queue. A refusal changes nothing but the room.
+    /// The packet at this place comes to its group: what the group sends goes behind all packets, and what it delivers
+    /// behind its queue. A refusal changes nothing but the room.
     ///
     /// The packet may come to its group, and what that group delivers then may be appended to its queue.
     pub fn deliver(&mut self, place: usize) -> Result<(), DeliverFault>
@@ -150,7 +151,8 @@ impl Multicast {
         Ok(())
     }
 
-    /// All requests that are ready, ascending by their stamps. The only error is want of memory; where none is ready none is wanted.
+    /// All requests that are ready, ascending by their stamps. The only error is want of memory; where none is ready
+    /// none is wanted.
     pub fn ready(&self) -> Result<Vec<Delivered>, AllocError>
         ensures layer { IfOk result (λ layer. IsLayer (queue_of self.now.queues) layer.items) }
         ensures succeeds { ((d : Delivered) → ¬ IsReady (queue_of self.now.queues) d) → IsOk result }

@@ -11,7 +11,8 @@ pub record IsRange (range : Range) : Type 0 where
   pub ordered : range.from ≤ range.to
   pub slots : range.to < SLOTS
 
--- the number of shards, and ranges of slots with the shard that each names: integers, whether or not there are such shards
+-- the number of shards, and ranges of slots with the shard that each names: integers, whether or not there are such
+-- shards
 pub record Document : Type 0 where
   pub shards : ℤ
   pub ranges : List Range

@@ -1,7 +1,8 @@
 //! What becomes of a call in which one allocation fails.
 //!
-//! Where all succeed these tests say no more than others do. They are meant to be run with each allocation failing in turn: what that
-//! call was asked for isn't begun, and the next one does all of it. Where the allocation is the test's own, the test begins anew.
+//! Where all succeed these tests say no more than others do. They are meant to be run with each allocation failing in
+//! turn: what that call was asked for isn't begun, and the next one does all of it. Where the allocation is the test's
+//! own, the test begins anew.
 
 use crate::traces::{CROSSING, LAYER_OF_TWO, Row, STARVED, TABLE};
 use command_table::read;
@@ -148,8 +149,8 @@ fn a_store_on_one_map_is_dumped_where_memory_fails(rt: HostRuntime) -> Result<()
     Ok(())
 }
 
-/// The report comes whole. Where there was no memory for it, or for a worker's thread, nothing was written, and then it comes at the
-/// second call.
+/// The report comes whole. Where there was no memory for it, or for a worker's thread, nothing was written, and then it
+/// comes at the second call.
 fn shown<W: Workers>(
     rt: &impl Abort,
     alloc: Global,

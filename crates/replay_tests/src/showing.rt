@@ -11,7 +11,8 @@ use std::test::Fail;
 use std::thread::Threads;
 use test_support::Sink;
 
-/// The trace ends with this status and this report, by 1, 2 and 8 workers that take turns, and by as many that are threads.
+/// The trace ends with this status and this report, by 1, 2 and 8 workers that take turns, and by as many that are
+/// threads.
 pub(crate) fn assert_shown<R>(
     rt: &R,
     alloc: Global,

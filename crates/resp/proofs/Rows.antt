@@ -1,4 +1,5 @@
--- The definition of a reply's text, read against replies whose bytes are known from the RESP2 specification and from Redis.
+-- The definition of a reply's text, read against replies whose bytes are known from the RESP2 specification and from
+-- Redis.
 use Rattle.std.specs.Fmt.{digits}
 use Rattle.std.proofs.Common.{◌≡◌, pos, negsuc, [], ◌∷◌, codes, refl, Bor, List, ℕ}
 use Rattle.resp.specs.declared.reply.ErrorText.TheVariants.{Arity}

@@ -13,8 +13,8 @@ use crate::reply::{ErrorText, Reply};
 use itoa::Buffer;
 use std::alloc::AllocError;
 
-/// Appends the reply's text. With `AllocError`, where the room of `out` is less than all of it needs and there is no memory
-/// for more, `out` is as it was.
+/// Appends the reply's text. With `AllocError`, where the room of `out` is less than all of it needs and there is no
+/// memory for more, `out` is as it was.
 pub fn write_reply(reply: &Reply, out: &mut Vec<u8>) -> Result<(), AllocError>
     ensures ok { OnOk result (out.new.items ≡ out.old.items ++ text (content reply.now)) }
     ensures err { OnErr result (out.new.items ≡ out.old.items) }

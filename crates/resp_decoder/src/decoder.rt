@@ -17,10 +17,10 @@ use std::mem;
 
 /// Takes bytes in pieces of any size and gives the requests that they are.
 ///
-/// Contracts see the limits, the bytes that were fed and neither handed out nor dropped, the fault that was answered, how
-/// far the bytes are read, and what they take in memory. However the input is cut, no byte is looked at a second time
-/// but those of a count or a length that has
-/// come in part. What is held is bounded by the open request and one piece; a count or a length alone takes no room.
+/// Contracts see the limits, the bytes that were fed and neither handed out nor dropped, the fault that was answered,
+/// how far the bytes are read, and what they take in memory. However the input is cut, no byte is looked at a second
+/// time but those of a count or a length that has come in part. What is held is bounded by the open request and one
+/// piece; a count or a length alone takes no room.
 #[derive(Drop)]
 pub struct Decoder {
     limits: Limits,

@@ -29,8 +29,8 @@ pub enum Fault {
     Memory,
 }
 
-/// Appends the error line of a fault, which ends a connection. With `AllocError`, where the room of `out` is less than the
-/// line needs and there is no memory for more, `out` is as it was.
+/// Appends the error line of a fault, which ends a connection. With `AllocError`, where the room of `out` is less than
+/// the line needs and there is no memory for more, `out` is as it was.
 pub fn fault_line(fault: Fault, out: &mut Vec<u8>) -> Result<(), AllocError>
     ensures ok { OnOk result (out.new.items ≡ out.old.items ++ fault_text fault) }
     ensures err { OnErr result (out.new.items ≡ out.old.items) }

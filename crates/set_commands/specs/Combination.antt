@@ -1,4 +1,5 @@
--- Intersection, union and difference of sets, each set the ascending list of its members, and what it means to be a member of one.
+-- Intersection, union and difference of sets, each set the ascending list of its members, and what it means to be a
+-- member of one.
 use Rattle.std.specs.Prelude.{◌≡◌, Bool, not, ◌&&◌, List, [], ◌∷◌, Option, Some, None, map}
 use Rattle.std.specs.Borrow.{Bor}
 use Rattle.std.specs.List.{filter, flat_map, list_all, list_any}

@@ -1,5 +1,5 @@
--- What the commands on sets do, by the Redis command reference. A set is the ascending list of its members; a key that is missing
--- counts as a set with no members.
+-- What the commands on sets do, by the Redis command reference. A set is the ascending list of its members; a key that
+-- is missing counts as a set with no members.
 use Rattle.std.specs.Prelude.{◌-◌, ◌<◌, Bool, true, false, List, [], ◌∷◌, map, length, Option, Some, None, IsSome, IsTrue, ⊤, if◌then◌else◌}
 use Rattle.std.specs.FinMap.{get}
 use Rattle.std.specs.Option.{option_map}
@@ -21,8 +21,8 @@ use Rattle.values.specs.Value.{set_value}
 use Rattle.values.specs.declared.Value.{Value}
 use Rattle.values.specs.declared.Value.TheVariants as kind
 
--- a command that wants a set: what it does is by the members, and by what the key has, which it may keep. A value of another kind
--- stays, and the answer is that it is of the wrong kind
+-- a command that wants a set: what it does is by the members, and by what the key has, which it may keep. A value of
+-- another kind stays, and the answer is that it is of the wrong kind
 abbrev pub at_set : (Members → Option Value → Option Value × Content) → Step
 at_set step None = step [] None
 at_set step (Some (kind.Set members)) = step members (Some (kind.Set members))
@@ -86,8 +86,8 @@ is_set (Some (kind.Str text)) = false
 is_set (Some (kind.List items)) = false
 is_set (Some (kind.Hash pairs)) = false
 
--- SMOVE from a set with these members, by the members at the target, unless it holds a value of another kind: the member goes from
--- the one to the other, where both are one key it stays; whether it was there
+-- SMOVE from a set with these members, by the members at the target, unless it holds a value of another kind: the
+-- member goes from the one to the other, where both are one key it stays; whether it was there
 abbrev pub move_member : Bool → Bytes → Members → Option Value → Option Members → (Option Value × Option Value) × Content
 move_member same member members target None = ((Some (kind.Set members), target), wrong_type)
 move_member same member members target (Some others) =
@@ -131,7 +131,8 @@ abbrev pub stored : Option Value → Option Members → Option Value × Content
 stored target None = (target, wrong_type)
 stored target (Some members) = (set_value members, count (length members))
 
--- SINTERSTORE, SUNIONSTORE, SDIFFSTORE: the combination of the sources is at the target, whatever was there; how many members it has
+-- SINTERSTORE, SUNIONSTORE, SDIFFSTORE: the combination of the sources is at the target, whatever was there; how many
+-- members it has
 abbrev pub stored_step : Combination → Option Value → List (Option Value) → Option Value × Content
 stored_step how target values = stored target (option_map (combined how) (sets_at values))
 
@@ -150,8 +151,8 @@ set_command_case (Sinterstore target sources) = at_target target sources (stored
 set_command_case (Sunionstore target sources) = at_target target sources (stored_step Union)
 set_command_case (Sdiffstore target sources) = at_target target sources (stored_step Difference)
 
--- where a command on sets takes memory: for a set that grows, for an array of replies, for copies of the members that it answers, for
--- a list of the sets that are combined
+-- where a command on sets takes memory: for a set that grows, for an array of replies, for copies of the members that
+-- it answers, for a list of the sets that are combined
 abbrev pub SetCommandTakesMemory : SetCommand → Map → Type 0
 SetCommandTakesMemory (Sadd key members) m = IsSome (members_there (get m key))
 SetCommandTakesMemory (Srem key members) m = ⊥

@@ -1,7 +1,7 @@
 //! SINTER, SUNION and SDIFF, and the commands that store what these answer.
 //!
-//! All sets are read before anything changes, and the result is made once: its members are moved to the reply, or to a set, which is
-//! moved to the target.
+//! All sets are read before anything changes, and the result is made once: its members are moved to the reply, or to a
+//! set, which is moved to the target.
 
 ghost use Rattle.std.specs.Prelude.{◌≡◌, All, IsTrue, IfOk, MatchResult, length};
 ghost use Rattle.std.specs.Option.{option_map};
@@ -24,8 +24,8 @@ use std::alloc::{AllocError, Global};
 use texts::{Text, Texts};
 use values::{SetValue, Value};
 
-/// `SINTER key [key ..]`: the members that are in each of the sets, ascending; an error where a key holds a value of another type.
-/// <https://redis.io/docs/latest/commands/sinter/>
+/// `SINTER key [key ..]`: the members that are in each of the sets, ascending; an error where a key holds a value of
+/// another type. <https://redis.io/docs/latest/commands/sinter/>
 pub(crate) fn sinter<K: Keyspace>(
     alloc: Global,
     keyspace: &K,
@@ -52,8 +52,8 @@ pub(crate) fn sunion<K: Keyspace>(
     answer(alloc, keyspace, Combination::Union, &keys)
 }
 
-/// `SDIFF key [key ..]`: the members of the first set that are in none of the others, ascending; an error where a key holds a value
-/// of another type. <https://redis.io/docs/latest/commands/sdiff/>
+/// `SDIFF key [key ..]`: the members of the first set that are in none of the others, ascending; an error where a key
+/// holds a value of another type. <https://redis.io/docs/latest/commands/sdiff/>
 pub(crate) fn sdiff<K: Keyspace>(alloc: Global, keyspace: &K, keys: Texts) -> Result<Reply, Starved>
     requires { All (λ key. IsTrue (K.covered keyspace.now key)) keys }
     ensures done { Does (at_each keys (combined_answer Difference))
@@ -62,10 +62,9 @@ pub(crate) fn sdiff<K: Keyspace>(alloc: Global, keyspace: &K, keys: Texts) -> Re
     answer(alloc, keyspace, Combination::Difference, &keys)
 }
 
-/// `SINTERSTORE target key [key ..]`: the set that SINTER answers of the keys is put at the target, in place of a value of any
-/// type; the number of its members. An empty one removes the target; an error, and no change, where a key after the target holds
-/// a value of another type.
-/// <https://redis.io/docs/latest/commands/sinterstore/>
+/// `SINTERSTORE target key [key ..]`: the set that SINTER answers of the keys is put at the target, in place of a value
+/// of any type; the number of its members. An empty one removes the target; an error, and no change, where a key after
+/// the target holds a value of another type. <https://redis.io/docs/latest/commands/sinterstore/>
 pub(crate) fn sinterstore<K: Keyspace>(
     alloc: Global,
     keyspace: &mut K,
@@ -81,10 +80,9 @@ pub(crate) fn sinterstore<K: Keyspace>(
     store(alloc, keyspace, Combination::Intersection, target, &sources)
 }
 
-/// `SUNIONSTORE target key [key ..]`: the set that SUNION answers of the keys is put at the target, in place of a value of any
-/// type; the number of its members. An empty one removes the target; an error, and no change, where a key after the target holds
-/// a value of another type.
-/// <https://redis.io/docs/latest/commands/sunionstore/>
+/// `SUNIONSTORE target key [key ..]`: the set that SUNION answers of the keys is put at the target, in place of a value
+/// of any type; the number of its members. An empty one removes the target; an error, and no change, where a key after
+/// the target holds a value of another type. <https://redis.io/docs/latest/commands/sunionstore/>
 pub(crate) fn sunionstore<K: Keyspace>(
     alloc: Global,
     keyspace: &mut K,
@@ -100,10 +98,9 @@ pub(crate) fn sunionstore<K: Keyspace>(
     store(alloc, keyspace, Combination::Union, target, &sources)
 }
 
-/// `SDIFFSTORE target key [key ..]`: the set that SDIFF answers of the keys is put at the target, in place of a value of any
-/// type; the number of its members. An empty one removes the target; an error, and no change, where a key after the target holds
-/// a value of another type.
-/// <https://redis.io/docs/latest/commands/sdiffstore/>
+/// `SDIFFSTORE target key [key ..]`: the set that SDIFF answers of the keys is put at the target, in place of a value
+/// of any type; the number of its members. An empty one removes the target; an error, and no change, where a key after
+/// the target holds a value of another type. <https://redis.io/docs/latest/commands/sdiffstore/>
 pub(crate) fn sdiffstore<K: Keyspace>(
     alloc: Global,
     keyspace: &mut K,

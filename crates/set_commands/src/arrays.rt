@@ -38,8 +38,8 @@ pub(crate) fn smembers<K: Keyspace>(
     }
 }
 
-/// `SMISMEMBER key member [member ..]`: whether each is a member, in order of the words; an error where the key holds a value of
-/// another type. <https://redis.io/docs/latest/commands/smismember/>
+/// `SMISMEMBER key member [member ..]`: whether each is a member, in order of the words; an error where the key holds a
+/// value of another type. <https://redis.io/docs/latest/commands/smismember/>
 #[tactic(auto, using(keyspace::proofs::Changes::changes))]
 pub(crate) fn smismember<K: Keyspace>(
     alloc: Global,

@@ -1,7 +1,7 @@
 //! SADD and SREM.
 //!
-//! A set that is there is taken out of the keyspace, changed and put back; the key keeps its place meanwhile, with the empty
-//! string, so that putting it back takes no memory.
+//! A set that is there is taken out of the keyspace, changed and put back; the key keeps its place meanwhile, with the
+//! empty string, so that putting it back takes no memory.
 
 ghost use Rattle.std.specs.Prelude.{◌≡◌, IsTrue, IsSome, IsOk, OnErr, None};
 ghost use Rattle.std.specs.FinMap as map;
@@ -18,7 +18,8 @@ use std::alloc::Global;
 use texts::{Text, Texts};
 use values::{SetValue, Value};
 
-/// `SADD key member [member ..]`: adds the members, and says how many were new; an error where the key holds a value of another type.
+/// `SADD key member [member ..]`: adds the members, and says how many were new; an error where the key holds a value of
+/// another type.
 ///
 /// All members are added, or none where there is no memory. <https://redis.io/docs/latest/commands/sadd/>
 #[tactic(auto, using(keyspace::proofs::Changes::changes))]
@@ -73,8 +74,8 @@ fn add_new_set<K: Keyspace>(
     Ok(count_reply(added))
 }
 
-/// `SREM key member [member ..]`: removes the members, and says how many were there; a member that is named twice is one member. A
-/// set that becomes empty goes with its key; an error where the key holds a value of another type.
+/// `SREM key member [member ..]`: removes the members, and says how many were there; a member that is named twice is
+/// one member. A set that becomes empty goes with its key; an error where the key holds a value of another type.
 ///
 /// It takes no memory. <https://redis.io/docs/latest/commands/srem/>
 #[tactic(auto, using(keyspace::proofs::Changes::changes))]

@@ -58,8 +58,8 @@ pub(crate) fn combine_as_set(
     SetValue::from_members(alloc, members)
 }
 
-/// The members that are in each of these sets: two of like size are walked side by side; else the smallest is walked, and the others
-/// are asked.
+/// The members that are in each of these sets: two of like size are walked side by side; else the smallest is walked,
+/// and the others are asked.
 #[tactic(auto, using(crate::proofs::Kept::both_kept))]
 fn intersection(alloc: Global, sets: &[Option<&SetValue>]) -> Result<Texts, AllocError>
     ensures common { IfOk result (λ members. members ≡ intersection (found_sets sets.now)) }
@@ -85,8 +85,8 @@ fn pair<'a>(sets: &[Option<&'a SetValue>]) -> Option<(&'a SetValue, &'a SetValue
     Some((first, second))
 }
 
-/// Whether it is cheaper to walk two sets of these sizes side by side than to look the members of the one up in the other, which takes
-/// as many steps a member as the size has binary digits.
+/// Whether it is cheaper to walk two sets of these sizes side by side than to look the members of the one up in the
+/// other, which takes as many steps a member as the size has binary digits.
 fn are_alike(one: usize, other: usize) -> bool
     requires one { 0 < one }
     requires other { 0 < other }

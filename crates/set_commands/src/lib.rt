@@ -1,7 +1,7 @@
 //! The bodies of the commands on sets.
 //!
-//! What each does is the Redis command reference's: <https://redis.io/docs/latest/commands/?group=set>. `command_bodies` runs
-//! them.
+//! What each does is the Redis command reference's: <https://redis.io/docs/latest/commands/?group=set>.
+//! `command_bodies` runs them.
 #![tactic(auto)]
 
 mod algebra;

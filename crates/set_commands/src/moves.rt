@@ -1,6 +1,7 @@
 //! SMOVE.
 //!
-//! The target gets a copy of the member. So all memory is taken before the source changes, and nothing has to be undone.
+//! The target gets a copy of the member. So all memory is taken before the source changes, and nothing has to be
+//! undone.
 
 ghost use Rattle.std.specs.Prelude.{◌≡◌, [], ◌∷◌, false, IsTrue, IsSome, IfOk, OnOk, OnErr};
 ghost use Rattle.std.specs.FinMap as map;
@@ -20,8 +21,8 @@ use std::alloc::{AllocError, Global};
 use texts::{Text, Texts};
 use values::{SetValue, Value};
 
-/// `SMOVE source destination member`: moves the member from the first set to the second; 1 where it was in the first, equal names
-/// included, which change nothing; 0 where it wasn't, or the first is missing, whatever is at the second.
+/// `SMOVE source destination member`: moves the member from the first set to the second; 1 where it was in the first,
+/// equal names included, which change nothing; 0 where it wasn't, or the first is missing, whatever is at the second.
 ///
 /// <https://redis.io/docs/latest/commands/smove/>
 #[tactic(auto, using(keyspace::proofs::Changes::changes))]
@@ -85,7 +86,8 @@ fn move_apart<K: Keyspace>(
     Ok(())
 }
 
-/// Adds a member to the set at a key, or makes a new one where the key is missing; nothing changes where there is no memory.
+/// Adds a member to the set at a key, or makes a new one where the key is missing; nothing changes where there is no
+/// memory.
 #[tactic(auto, using(keyspace::proofs::Changes::changes))]
 fn put_member<K: Keyspace>(
     alloc: Global,

@@ -1,5 +1,5 @@
--- The requests of a layer dealt to parts by a plan in which each place stands once, and what they gave, put in their places: each place
--- has what its own request gave.
+-- The requests of a layer dealt to parts by a plan in which each place stands once, and what they gave, put in their
+-- places: each place has what its own request gave.
 use Rattle.std.proofs.Common.{◌≡◌, ℕ, zero, suc, ◌+◌, ◌<◌, ◌≤◌, ◌==◌, ◌⊎◌, inl, inr, nat_lt, List, [], ◌∷◌, ◌++◌, map, length, Bool, true}
 use Rattle.std.proofs.Common.{false, cond, Option, Some, None, slice_get, slice_set, is_some, append_assoc, arith, refl, sym, ap, ◌∙◌}
 use Rattle.std.proofs.Common.{subst, eqb-true, eq-eqb, ne_eqb, ltb-true, lt-ltb}

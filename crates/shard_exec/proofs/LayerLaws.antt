@@ -1,4 +1,5 @@
--- A layer whose requests were run each over its own shards: what holds of the row, of what is told and of the last stamps.
+-- A layer whose requests were run each over its own shards: what holds of the row, of what is told and of the last
+-- stamps.
 use Rattle.std.proofs.Common.{◌≡◌, ℕ, zero, suc, ◌+◌, ◌<◌, ◌⊎◌, List, slice_set, is_some, eq-eqb, [], ◌∷◌, ◌++◌, map, length, Bool, true}
 use Rattle.std.proofs.Common.{false, Option, Some, None, inl, inr, refl, sym, ap, ◌∙◌, subst}
 use Rattle.std.proofs.lemmas.Bool.{or_left, or_right}

@@ -35,8 +35,8 @@ is_named skip id = list_any (same_id id) skip
 abbrev pub outcomes_of_ended : List Ended → List (Option Content)
 outcomes_of_ended done = map (λ e. outcome e.reply) done
 
--- A request that starved was to be skipped, or its command takes memory on what the shards of its groups had; and one that was to be
--- skipped starved.
+-- A request that starved was to be skipped, or its command takes memory on what the shards of its groups had; and one
+-- that was to be skipped starved.
 pub record MayStarve (maps : List Map) (skip : List RequestId) (j : Job) (e : Ended) : Type 0 where
   pub skipped : is_named skip j.id ≡ true → outcome e.reply ≡ None
   pub starved : is_named skip j.id ≡ false → outcome e.reply ≡ None → TakesMemory j.command (union (span_at maps j.groups))
@@ -45,8 +45,9 @@ pub record MayStarve (maps : List Map) (skip : List RequestId) (j : Job) (e : En
 abbrev pub IsOf : Job → Ended → Type 0
 IsOf j e = (e.id ≡ j.id) × (e.stamp ≡ j.stamp)
 
--- The requests of a layer were run over the shards: each over those of its groups, which comes to the same as one after another on the
--- joined map, in the order of the layer, the starved ones skipped. Other shards are as they were, and each shard has only its own keys.
+-- The requests of a layer were run over the shards: each over those of its groups, which comes to the same as one after
+-- another on the joined map, in the order of the layer, the starved ones skipped. Other shards are as they were, and
+-- each shard has only its own keys.
 pub record IsDone (table : Layout) (old : List Map) (skip : List RequestId) (layer : List Job) (done : List Ended) (new : List Map)
     : Type 0 where
   pub told : AllZip IsOf layer done

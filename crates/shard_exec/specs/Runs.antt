@@ -23,8 +23,8 @@ pub record IsReady (table : Layout) (w : Work) : Type 0 where
 abbrev pub outcome : Option Reply → Option Content
 outcome reply = option_map content reply
 
--- The request was run over its shards, or it starved and they are as they were. One that is to be skipped starves; another one only
--- where its command takes memory on what its shards have.
+-- The request was run over its shards, or it starved and they are as they were. One that is to be skipped starves;
+-- another one only where its command takes memory on what its shards have.
 pub record HasRun (table : Layout) (w : Work) (r : Ran) : Type 0 where
   pub place : r.place ≡ w.place
   pub id : r.id ≡ w.job.id

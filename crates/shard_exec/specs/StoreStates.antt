@@ -10,7 +10,8 @@ use Rattle.skeen_core.specs.contracts.stamp.Stamp as stamp
 use Rattle.skeen_core.specs.declared.stamp.Stamp.{Stamp}
 use Rattle.values.specs.contracts.Value as value
 
--- where keys lie, the map of each shard, its last stamp (none before the first), and whether a worker's start was refused once
+-- where keys lie, the map of each shard, its last stamp (none before the first), and whether a worker's start was
+-- refused once
 pub record StoreState : Type 0 where
   pub table : Layout
   pub maps : List Map

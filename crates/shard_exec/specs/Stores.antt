@@ -29,8 +29,8 @@ pub record HasRunLayer (old : StoreState) (skip : List RequestId) (layer : List 
   pub table : new.table ≡ old.table
   pub goes_on : new.failed ≡ false
 
--- Why it was not: the first that applies. Stale and Memory hand it back with nothing changed, and an empty layer needs no memory. Failed
--- comes where the store has failed before, and then changes nothing, or where a start was refused.
+-- Why it was not: the first that applies. Stale and Memory hand it back with nothing changed, and an empty layer needs
+-- no memory. Failed comes where the store has failed before, and then changes nothing, or where a start was refused.
 abbrev pub HasFailed : Bool → StoreState → List Job → ExecFault → StoreState → Type 0
 HasFailed may_refuse old layer (Stale back) new = (old.failed ≡ false) × (AreFresh old.lasts layer → ⊥) × (back ≡ layer) × (new ≡ old)
 HasFailed may_refuse old layer (Memory back) new =

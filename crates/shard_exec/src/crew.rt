@@ -28,7 +28,8 @@ impl Promise<Vec<Ran>> for RunOfPart {
 
 pub type Child = PromisedHandle<Vec<Ran>, RunOfPart>;
 
-/// So many workers, each on a thread of its own. The last part is run on the caller's thread, so one part starts no thread.
+/// So many workers, each on a thread of its own. The last part is run on the caller's thread, so one part starts no
+/// thread.
 #[derive(Drop)]
 pub struct Crew<'r, R> {
     rt: &'r R,

@@ -28,7 +28,8 @@ pub struct DealtRoom {
 }
 
 impl DealtRoom {
-    /// The room for this layer with these workers; none where there would be one part only, which the caller runs itself.
+    /// The room for this layer with these workers; none where there would be one part only, which the caller runs
+    /// itself.
     pub fn reserve<W: Workers>(
         alloc: Global,
         layer: &Layer,

@@ -20,8 +20,8 @@ use shards::{Shard, ShardHasher};
 use skeen_core::{RequestId, Stamp};
 use std::alloc::Global;
 
-/// Runs the requests of a layer, each over the shards of its groups, and tells what became of each. With `Refused` the shards that were
-/// taken out are lost, and empty ones stand in their places.
+/// Runs the requests of a layer, each over the shards of its groups, and tells what became of each. With `Refused` the
+/// shards that were taken out are lost, and empty ones stand in their places.
 pub fn run_layer_over<W: Workers>(
     alloc: Global,
     table: &Table,

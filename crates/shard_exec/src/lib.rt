@@ -1,7 +1,8 @@
 //! The executor: the store of shards, and the workers that run a layer of requests over it.
 //!
-//! The requests of a layer share no group, so each can be run over the shards of its groups while others run over theirs. The store
-//! moves these shards out, hands them to the workers with the requests, and puts them back. It knows no thread: `Crew` alone starts any.
+//! The requests of a layer share no group, so each can be run over the shards of its groups while others run over
+//! theirs. The store moves these shards out, hands them to the workers with the requests, and puts them back. It knows
+//! no thread: `Crew` alone starts any.
 #![tactic(auto)]
 
 mod crew;

@@ -14,7 +14,8 @@ use skeen_core::Stamp;
 use std::alloc::Global;
 use std::mem;
 
-/// Takes the shards of these groups out of the row, each leaving an empty one, into `span`, which has the room. It takes no memory.
+/// Takes the shards of these groups out of the row, each leaving an empty one, into `span`, which has the room. It
+/// takes no memory.
 pub fn take_shards(
     alloc: Global,
     hasher: ShardHasher,

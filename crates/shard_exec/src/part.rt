@@ -27,8 +27,8 @@ impl Part {
         Part { works, rans }
     }
 
-    /// Runs the requests in their order, and gives their shards back with what they answer. It takes memory only for the replies and
-    /// the keys and values that the requests write.
+    /// Runs the requests in their order, and gives their shards back with what they answer. It takes memory only for
+    /// the replies and the keys and values that the requests write.
     pub fn run(self, alloc: Global, table: &Table, gate: &(dyn Gate + Sync)) -> Vec<Ran>
         requires { IsReadyPart table.now self }
         ensures { HasRunPart table.now self result }

@@ -27,8 +27,8 @@ use std::marker::Model;
 
 /// The shards of a table, and the stamp of the last request that addressed each.
 ///
-/// Contracts see the table, the map of each shard, the last stamps, and whether a worker's start was refused once: then nothing is run
-/// any more. Each shard has only keys that the table places there.
+/// Contracts see the table, the map of each shard, the last stamps, and whether a worker's start was refused once: then
+/// nothing is run any more. Each shard has only keys that the table places there.
 #[derive(Drop)]
 pub struct Store {
     table: Table,
@@ -106,8 +106,8 @@ impl Store {
         dump.write(out)
     }
 
-    /// Whether each request of the layer addresses the groups that the table gives its command: the condition of `run_layer`, for callers
-    /// that can't prove it.
+    /// Whether each request of the layer addresses the groups that the table gives its command: the condition of
+    /// `run_layer`, for callers that can't prove it.
     pub fn may_run(&self, layer: &Layer) -> bool
         ensures may { OnTrue result (AddressTheirGroups self.now.table layer.now) }
         ensures may_not { OnFalse result (AddressTheirGroups self.now.table layer.now → ⊥) }
@@ -115,11 +115,11 @@ impl Store {
         address_their_groups(&self.table, layer.jobs())
     }
 
-    /// Runs the requests of a layer, each over the shards of its groups, by these workers, and tells what became of each, in the order of
-    /// the layer. The gate is told of each request that is run.
+    /// Runs the requests of a layer, each over the shards of its groups, by these workers, and tells what became of
+    /// each, in the order of the layer. The gate is told of each request that is run.
     ///
-    /// Those named in `skip` are not run and count as starved. A request for whose execution there is no memory starves: it changes
-    /// nothing but the last stamps of its shards. `ExecFault` says why a layer is not run.
+    /// Those named in `skip` are not run and count as starved. A request for whose execution there is no memory
+    /// starves: it changes nothing but the last stamps of its shards. `ExecFault` says why a layer is not run.
     pub fn run_layer<W: Workers>(
         &mut self,
         alloc: Global,

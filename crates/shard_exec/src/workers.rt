@@ -24,8 +24,8 @@ pub struct Room {
 
 /// Those that run the parts of a layer.
 ///
-/// It is one call over a type with no parameter, and the gate is a `dyn`: what is moved into a thread may not rest on a bound of the
-/// impl or of its method.
+/// It is one call over a type with no parameter, and the gate is a `dyn`: what is moved into a thread may not rest on a
+/// bound of the impl or of its method.
 pub trait Workers {
     ghost use Rattle.std.specs.Prelude.{ℕ, Bool};
     ghost use Rattle.shard_exec.specs.declared.workers.Room.{Room};
@@ -47,8 +47,8 @@ pub trait Workers {
     fn reserve(&self, alloc: Global, parts: usize) -> Result<Room, AllocError>
         ensures { IfOk result (λ room. has_room room parts) };
 
-    /// Runs the parts, each with its requests in their order, and gives for each part what its requests gave, in the order of the
-    /// parts. The gate is told of each request that is run.
+    /// Runs the parts, each with its requests in their order, and gives for each part what its requests gave, in the
+    /// order of the parts. The gate is told of each request that is run.
     fn run_parts(
         &self,
         alloc: Global,

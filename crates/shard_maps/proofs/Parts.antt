@@ -1,5 +1,5 @@
--- What is run in parts, each part a list, and read again in the order that it had: in whatever way it was dealt to the parts, each
--- has the result that belongs to it.
+-- What is run in parts, each part a list, and read again in the order that it had: in whatever way it was dealt to the
+-- parts, each has the result that belongs to it.
 use Rattle.std.proofs.Common.{◌≡◌, ℕ, zero, suc, List, [], ◌∷◌, length, Option, Some, slice_get, slice_index_or, arith, refl, ◌∙◌, subst}
 use Rattle.std.proofs.lemmas.Option.{slice_get_within}
 use Rattle.std.specs.List.{AllZip}

@@ -1,4 +1,5 @@
--- One command run over its shards, the others left: the shards have only their own keys again, and the joined map is the command's.
+-- One command run over its shards, the others left: the shards have only their own keys again, and the joined map is
+-- the command's.
 use Rattle.std.proofs.Common.{◌≡◌, ℕ, ◌==◌, List, [], ◌∷◌, map, drop, true, false, cond, Some, None, slice_index_or, inl, inr, refl, sym}
 use Rattle.std.proofs.Common.{ap, ◌∙◌, subst, eqb-true, eq-eqb}
 use Rattle.std.proofs.lemmas.Bool.{or_cases}

@@ -1,5 +1,5 @@
--- The union of a span whose shards have only their own keys, each shard once: what it has at a key, and that what the shards have is
--- the union, divided among them.
+-- The union of a span whose shards have only their own keys, each shard once: what it has at a key, and that what the
+-- shards have is the union, divided among them.
 use Rattle.std.proofs.Common.{◌≡◌, ℕ, ◌==◌, List, [], ◌∷◌, map, true, false, cond, None, inl, inr, refl, sym, ap, ◌∙◌, subst, eqb-true}
 use Rattle.std.proofs.Common.{eq-eqb, ne_eqb, lt_irrefl}
 use Rattle.std.proofs.lemmas.Bool.{cases_eq, cases_Bool, or_parts, or_left, or_right, both_ways}

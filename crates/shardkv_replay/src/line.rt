@@ -10,8 +10,8 @@ const PACE: u64 = 64;
 /// The least time between two lines, and before the first one, in milliseconds.
 const PAUSE: u64 = 100;
 
-/// A line `shardkv-replay: STEPS of ALL steps` that is written over and over in its place, and is gone at the end. Where it is off nothing
-/// is written at all.
+/// A line `shardkv-replay: STEPS of ALL steps` that is written over and over in its place, and is gone at the end.
+/// Where it is off nothing is written at all.
 #[derive(Drop)]
 pub(crate) struct Line<'a, C, O> {
     clock: &'a C,

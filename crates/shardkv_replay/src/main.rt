@@ -1,11 +1,13 @@
 //! `shardkv-replay`: the report of a trace.
 //!
-//! `--table FILE --trace FILE [--workers N]` names the table of the shards, the trace of a run over them, and how many workers run each
-//! layer's requests. The report goes to standard output, and what went wrong to standard error. The statuses: 0 where the report agrees
-//! with one thread on one map, 1 where it differs; 2 for the words; 3 for the table; 4 for the trace; 5 where a step is refused, or a
-//! worker's thread can't be started; 6 where memory was wanting; 7 where a read or a write failed.
+//! `--table FILE --trace FILE [--workers N]` names the table of the shards, the trace of a run over them, and how many
+//! workers run each layer's requests. The report goes to standard output, and what went wrong to standard error. The
+//! statuses: 0 where the report agrees with one thread on one map, 1 where it differs; 2 for the words; 3 for the
+//! table; 4 for the trace; 5 where a step is refused, or a worker's thread can't be started; 6 where memory was
+//! wanting; 7 where a read or a write failed.
 //!
-//! Where standard error is a terminal, a line on it tells how many of the steps are made, and is gone before the report is written.
+//! Where standard error is a terminal, a line on it tells how many of the steps are made, and is gone before the report
+//! is written.
 #![tactic(auto)]
 
 mod line;
@@ -66,7 +68,8 @@ fn words<R: env::Env + AllocGlobal>(rt: &R) -> io::Result<Vec<String>> {
     Ok(env::args(rt)?.collect(rt.alloc())?)
 }
 
-/// Writes the report, and answers whether it agrees. One worker needs no thread; of several, each has a thread while a layer is run.
+/// Writes the report, and answers whether it agrees. One worker needs no thread; of several, each has a thread while a
+/// layer is run.
 fn report<R: Threads + Wait + AllocGlobal, P: Progress, O: Write>(
     rt: &R,
     table: &[u8],

@@ -1,7 +1,7 @@
 //! How the keys of a shard are hashed.
 //!
-//! It is one type for both kinds of seed, and no parameter of the shards: what is moved into a thread may not rest on a bound of a
-//! trait's impl, and the workers are such impls.
+//! It is one type for both kinds of seed, and no parameter of the shards: what is moved into a thread may not rest on a
+//! bound of a trait's impl, and the workers are such impls.
 
 use std::hash::{BuildHasher, DefaultHasher, FoldHasher, Hasher, RandomState};
 

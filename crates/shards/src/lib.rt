@@ -1,7 +1,8 @@
 //! The shards of the store, and some of them as one keyspace.
 //!
-//! A `Shard` is the map of one shard. The executor moves the shards that a request addresses out of the store and runs the request over
-//! a `Span` of them: a keyspace whose map is the union of theirs. Where a key lies is the placement table's word.
+//! A `Shard` is the map of one shard. The executor moves the shards that a request addresses out of the store and runs
+//! the request over a `Span` of them: a keyspace whose map is the union of theirs. Where a key lies is the placement
+//! table's word.
 #![tactic(auto)]
 
 mod hasher;

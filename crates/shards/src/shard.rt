@@ -41,8 +41,8 @@ impl Shard {
         }
     }
 
-    /// Adds all of its keys with their values to a dump. With `AllocError`, where there is no memory for the list of them, some have
-    /// been added.
+    /// Adds all of its keys with their values to a dump. With `AllocError`, where there is no memory for the list of
+    /// them, some have been added.
     pub fn add_to<'a>(&'a self, dump: &mut Dump<'a>) -> Result<(), AllocError>
         ensures { OnOk result (dump.new ≡ with_entries dump.old (map.entries self.now)) }
     {

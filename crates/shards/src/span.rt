@@ -13,8 +13,9 @@ use placement::Table;
 use std::marker::{Brand, Model, PhantomData};
 use values::Value;
 
-/// Which shards a span is of, and the table that places keys on them. It is for proofs alone, and stands in the type: whatever is done
-/// to a span, it stays one of these shards. Whoever makes a span passes `Brand` and says there which they are.
+/// Which shards a span is of, and the table that places keys on them. It is for proofs alone, and stands in the type:
+/// whatever is done to a span, it stays one of these shards. Whoever makes a span passes `Brand` and says there which
+/// they are.
 pub trait SpanFrame {
     ghost use Rattle.std.specs.Prelude.{ℕ, List};
     ghost use Rattle.placement.specs.Layout.{Layout};
@@ -34,8 +35,8 @@ impl SpanFrame for Brand {
 
 /// Shards that were moved out of the store, each with its number, as one keyspace.
 ///
-/// Contracts see the list of their maps with their numbers. Its contents are the union of the maps, and it covers the keys that the table
-/// places on one of the shards. The numbers ascend.
+/// Contracts see the list of their maps with their numbers. Its contents are the union of the maps, and it covers the
+/// keys that the table places on one of the shards. The numbers ascend.
 pub struct Span<F: SpanFrame> {
     table: Table,
     shards: Vec<(GroupId, Shard)>,

@@ -1,4 +1,5 @@
--- What a store does with a command, and with a list of them. `in_turn` and `solo_from` are handed on from `command_bodies`.
+-- What a store does with a command, and with a list of them. `in_turn` and `solo_from` are handed on from
+-- `command_bodies`.
 use Rattle.std.specs.Prelude.{◌≡◌, ◌⊎◌, List, [], ◌∷◌, ◌++◌}
 use Rattle.command_bodies.specs.Command.{effect_of, TakesMemory}
 pub use Rattle.command_bodies.specs.InTurn.{in_turn, solo_from}

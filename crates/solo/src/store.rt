@@ -50,8 +50,8 @@ impl<S: BuildHasher> Solo<S> {
         }
     }
 
-    /// Runs the command and gives its reply, or `ERR out of memory` where it takes memory and there is none, which leaves
-    /// every key as it was.
+    /// Runs the command and gives its reply, or `ERR out of memory` where it takes memory and there is none, which
+    /// leaves every key as it was.
     pub fn run(&mut self, command: Command) -> Reply
         ensures { IsStepOrStarves command self.old (content result) self.new }
     {
@@ -63,8 +63,8 @@ impl<S: BuildHasher> Solo<S> {
 
     /// Runs the commands one after another and gives their replies.
     ///
-    /// With `AllocError` there was no memory for one of them that takes some, and those before it have been run; or there was
-    /// none for the list of replies, and none of them has. A run of no commands is never refused.
+    /// With `AllocError` there was no memory for one of them that takes some, and those before it have been run; or
+    /// there was none for the list of replies, and none of them has. A run of no commands is never refused.
     pub fn run_all(&mut self, commands: Vec<Command>) -> Result<Vec<Reply>, AllocError>
         ensures ok { IfOk result (λ replies. (self.new, map content replies.items) ≡ solo_from self.old commands.items) }
         ensures err { OnErr result (RunsBeginning commands.items self.old self.new) }
@@ -79,7 +79,8 @@ impl<S: BuildHasher> Solo<S> {
         Ok(replies)
     }
 
-    /// Runs the command and gives its reply; `Starved`, and every key is as it was, where it takes memory and there is none.
+    /// Runs the command and gives its reply; `Starved`, and every key is as it was, where it takes memory and there is
+    /// none.
     pub fn try_run(&mut self, command: Command) -> Result<Reply, Starved>
         ensures does { Does (effect_of command) self.old self.new result }
         ensures starves { OnErr result (TakesMemory command self.old) }

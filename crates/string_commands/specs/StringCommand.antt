@@ -29,8 +29,8 @@ use Rattle.values.specs.declared.Value.{Value}
 use Rattle.values.specs.declared.Value.TheVariants as kind
 use Rattle.values.specs.declared.Value.TheVariants.{Str}
 
--- a command that wants a string: what it does is by the string at the key, if there is one. A value of another kind stays, and
--- the answer is that it is of the wrong kind
+-- a command that wants a string: what it does is by the string at the key, if there is one. A value of another kind
+-- stays, and the answer is that it is of the wrong kind
 abbrev pub at_string : (Option Bytes → Option Value × Content) → Step
 at_string step None = step None
 at_string step (Some (kind.Str text)) = step (Some text)
@@ -187,8 +187,8 @@ Grows step before = room before < room (step before).0
 abbrev pub missing_among : Map → List Bytes → List Bytes
 missing_among m keys = filter (λ key. not (is_some (get m key))) keys
 
--- where a command on strings takes memory: GET copies a string that isn't empty, GETRANGE one that is there, and MGET makes a list; the
--- others add a key that isn't there, or make its string longer than it was
+-- where a command on strings takes memory: GET copies a string that isn't empty, GETRANGE one that is there, and MGET
+-- makes a list; the others add a key that isn't there, or make its string longer than it was
 abbrev pub StringCommandTakesMemory : StringCommand → Map → Type 0
 StringCommandTakesMemory (Get key) m = 1 < room (get m key)
 StringCommandTakesMemory (Set key value condition) m = (get m key ≡ None) × IsTrue (is_admitted condition false)

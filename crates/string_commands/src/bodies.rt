@@ -33,7 +33,8 @@ pub(crate) fn get<K: Keyspace>(alloc: Global, keyspace: &K, key: Text) -> Result
     }
 }
 
-/// `SET key value [NX | XX]`: puts the string at the key, in place of a value of any type; null where the condition forbids it.
+/// `SET key value [NX | XX]`: puts the string at the key, in place of a value of any type; null where the condition
+/// forbids it.
 ///
 /// The value is stored as it was handed in. Memory is taken only for a key that isn't there.
 /// <https://redis.io/docs/latest/commands/set/>
@@ -66,7 +67,8 @@ pub(crate) fn set<K: Keyspace>(
     Ok(ok_reply())
 }
 
-/// `SETNX key value`: puts the string at the key where it isn't there; 1 where it was put, 0 where the key has a value of any type.
+/// `SETNX key value`: puts the string at the key where it isn't there; 1 where it was put, 0 where the key has a value
+/// of any type.
 ///
 /// Memory is taken only for a key that isn't there. <https://redis.io/docs/latest/commands/setnx/>
 #[tactic(auto, using(keyspace::proofs::Changes::changes))]

@@ -48,8 +48,9 @@ pub(crate) fn decr<K: Keyspace>(
     incrby(alloc, keyspace, key, -1)
 }
 
-/// `INCRBY key by`: adds to the number that the string says, and gives the sum; a missing key counts as 0. An error where the key
-/// holds a value of another type, where its string is no integer, and where the sum doesn't fit 64 bits with sign.
+/// `INCRBY key by`: adds to the number that the string says, and gives the sum; a missing key counts as 0. An error
+/// where the key holds a value of another type, where its string is no integer, and where the sum doesn't fit 64 bits
+/// with sign.
 ///
 /// Memory is taken only for a key that isn't there, and where the sum's text is longer than the string.
 /// <https://redis.io/docs/latest/commands/incrby/>
@@ -76,8 +77,8 @@ pub(crate) fn incrby<K: Keyspace>(
     }
 }
 
-/// `DECRBY key by`: as INCRBY with the opposite number. The least number of 64 bits has none: it is refused before the key is
-/// looked at. <https://redis.io/docs/latest/commands/decrby/>
+/// `DECRBY key by`: as INCRBY with the opposite number. The least number of 64 bits has none: it is refused before the
+/// key is looked at. <https://redis.io/docs/latest/commands/decrby/>
 #[tactic(auto, using(keyspace::proofs::Changes::changes))]
 pub(crate) fn decrby<K: Keyspace>(
     alloc: Global,

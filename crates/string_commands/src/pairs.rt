@@ -1,7 +1,7 @@
 //! MSET and MSETNX: several keys at once, all or none.
 //!
-//! Each key that isn't there gets the empty string first, which alone takes memory; where there is none the keys go again. Then
-//! each key gets its value, which takes none.
+//! Each key that isn't there gets the empty string first, which alone takes memory; where there is none the keys go
+//! again. Then each key gets its value, which takes none.
 
 ghost use Rattle.std.specs.Prelude.{◌≡◌, ◌<◌, ◌++◌, ℕ, List, [], ◌∷◌, true, false, length, is_some, All, IsTrue, IsSome, None, IfOk};
 ghost use Rattle.std.specs.Prelude.{OnOk, OnErr};
@@ -22,9 +22,9 @@ use std::alloc::{AllocError, Global};
 use texts::{Pairs, Text, Texts};
 use values::Value;
 
-/// `MSET key value [key value ..]`: puts each value at its key, in place of a value of any type; of a key that is named twice, the last
-/// value. All are put, or none where there is no memory, which is taken only where one of the keys isn't there.
-/// <https://redis.io/docs/latest/commands/mset/>
+/// `MSET key value [key value ..]`: puts each value at its key, in place of a value of any type; of a key that is named
+/// twice, the last value. All are put, or none where there is no memory, which is taken only where one of the keys
+/// isn't there. <https://redis.io/docs/latest/commands/mset/>
 pub(crate) fn mset<K: Keyspace>(
     alloc: Global,
     keyspace: &mut K,

@@ -30,7 +30,8 @@ pub(crate) fn strlen<K: Keyspace>(_alloc: Global, keyspace: &K, key: Text) -> Re
     })
 }
 
-/// `GETRANGE key start end`: the bytes of the string from start to end, both included, each of which counts from the end below 0.
+/// `GETRANGE key start end`: the bytes of the string from start to end, both included, each of which counts from the
+/// end below 0.
 ///
 /// They are copied once, into the reply. <https://redis.io/docs/latest/commands/getrange/>
 #[tactic(auto, using(keyspace::proofs::Changes::changes, resp::proofs::Contents::content_of))]

@@ -12,8 +12,8 @@ use std::alloc::Global;
 use texts::Text;
 use values::Value;
 
-/// `GETSET key value`: puts the string at the key, and gives the string that was there, or null; an error where the key holds a
-/// value of another type.
+/// `GETSET key value`: puts the string at the key, and gives the string that was there, or null; an error where the key
+/// holds a value of another type.
 ///
 /// Neither string is copied. Memory is taken only for a key that isn't there.
 /// <https://redis.io/docs/latest/commands/getset/>
@@ -47,8 +47,8 @@ pub(crate) fn getset<K: Keyspace>(
     }
 }
 
-/// `GETDEL key`: removes the key, and gives the string that was there, or null; an error where the key holds a value of another
-/// type.
+/// `GETDEL key`: removes the key, and gives the string that was there, or null; an error where the key holds a value of
+/// another type.
 ///
 /// The string is not copied, and no memory is taken. <https://redis.io/docs/latest/commands/getdel/>
 #[tactic(auto, using(keyspace::proofs::Changes::changes, resp::proofs::Contents::content_of))]

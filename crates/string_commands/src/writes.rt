@@ -21,8 +21,9 @@ use values::Value;
 /// The greatest length of a string that is written into.
 const GREATEST_LENGTH: usize = 536870912;
 
-/// `APPEND key tail`: puts the tail behind the string, and gives the new length; a missing key counts as the empty string. An error
-/// where the key holds a value of another type, and where the string would be longer than 536,870,912 bytes.
+/// `APPEND key tail`: puts the tail behind the string, and gives the new length; a missing key counts as the empty
+/// string. An error where the key holds a value of another type, and where the string would be longer than 536,870,912
+/// bytes.
 ///
 /// Memory is taken only for a key that isn't there, and where the string gets longer.
 /// <https://redis.io/docs/latest/commands/append/>
@@ -52,10 +53,10 @@ pub(crate) fn append<K: Keyspace>(
     }
 }
 
-/// `SETRANGE key offset value`: writes the value over the string, from the offset on, and gives the new length. What then lies
-/// between the string's old end and the offset becomes zero bytes. A missing key counts as the empty string; an empty value changes
-/// nothing. An error where the offset is below 0, before the key is looked at; where the key holds a value of another type; and
-/// where the value would end behind 536,870,912 bytes.
+/// `SETRANGE key offset value`: writes the value over the string, from the offset on, and gives the new length. What
+/// then lies between the string's old end and the offset becomes zero bytes. A missing key counts as the empty string;
+/// an empty value changes nothing. An error where the offset is below 0, before the key is looked at; where the key
+/// holds a value of another type; and where the value would end behind 536,870,912 bytes.
 ///
 /// Memory is taken only for a key that isn't there, and where the string gets longer.
 /// <https://redis.io/docs/latest/commands/setrange/>

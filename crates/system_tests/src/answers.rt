@@ -49,10 +49,10 @@ pub(crate) fn follow<W: Workers>(
     Ok(())
 }
 
-/// What the words at the left of a line are answered. They are a list of steps, which are run in one call, or look at something:
-/// `steps`, `packets`, `quiet`, `rows` (how many there are), `row PLACE` (in the order of execution), `sorted PLACE` (in the order of
-/// stamps), `starved` or `waits CONN`. `drain` delivers all packets and tells how many there were. `ask CONN WORD ..` makes all steps from
-/// a request's submit to its collect.
+/// What the words at the left of a line are answered. They are a list of steps, which are run in one call, or look at
+/// something: `steps`, `packets`, `quiet`, `rows` (how many there are), `row PLACE` (in the order of execution),
+/// `sorted PLACE` (in the order of stamps), `starved` or `waits CONN`. `drain` delivers all packets and tells how many
+/// there were. `ask CONN WORD ..` makes all steps from a request's submit to its collect.
 pub(crate) fn answer<W: Workers>(
     rt: &impl Abort,
     alloc: Global,
@@ -76,8 +76,8 @@ pub(crate) fn answer<W: Workers>(
     }
 }
 
-/// What the steps came to, with `; ` between, and behind them the fault of the one that wasn't made. Where none was made, nothing may
-/// have changed, unless a worker couldn't be started.
+/// What the steps came to, with `; ` between, and behind them the fault of the one that wasn't made. Where none was
+/// made, nothing may have changed, unless a worker couldn't be started.
 fn made<W: Workers>(
     rt: &impl Abort,
     alloc: Global,

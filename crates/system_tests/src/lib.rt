@@ -1,7 +1,8 @@
 //! The system as whoever drives it meets it: steps go in, and what each came to is looked at.
 //!
-//! A script is a text of lines `STEPS => ANSWERS`, and a test follows it line by line. The answers that the scripts want follow from
-//! the rules alone: how groups agree on stamps, which requests a layer has, and what the commands answer.
+//! A script is a text of lines `STEPS => ANSWERS`, and a test follows it line by line. The answers that the scripts
+//! want follow from the rules alone: how groups agree on stamps, which requests a layer has, and what the commands
+//! answer.
 #![tactic(auto)]
 
 #[cfg(test)]

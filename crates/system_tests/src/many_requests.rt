@@ -206,8 +206,8 @@ fn is_counted(places: &[usize]) -> bool {
     true
 }
 
-/// Looks whether the replies are those of one store that runs the executed requests in the order of these places, which are ascending
-/// by stamp.
+/// Looks whether the replies are those of one store that runs the executed requests in the order of these places, which
+/// are ascending by stamp.
 fn look_at_rows(
     rt: &impl Abort,
     alloc: Global,

@@ -25,8 +25,8 @@ fn keys(alloc: Global, table: &Table) -> Result<Vec<String>, Trouble> {
     Ok(keys)
 }
 
-/// Sets all keys by one request, gets all by one, and removes all by one. Each such request has 64 Starts and, from each group to each
-/// other one, a proposal. Its stamp is of the last group.
+/// Sets all keys by one request, gets all by one, and removes all by one. Each such request has 64 Starts and, from
+/// each group to each other one, a proposal. Its stamp is of the last group.
 fn script(alloc: Global, keys: &[String]) -> Result<String, Trouble> {
     let mut pairs = String::new(alloc);
     let mut names = String::new(alloc);

@@ -1,6 +1,7 @@
 //! What becomes of a run in which one allocation fails.
 //!
-//! Where all succeed these tests say no more than others do. They are meant to be run with each allocation failing in turn.
+//! Where all succeed these tests say no more than others do. They are meant to be run with each allocation failing in
+//! turn.
 
 use crate::answers::{answer, discard, follow, state};
 use crate::steps::{first_word, step_of};
@@ -103,8 +104,8 @@ submit 1 SET a 2 => Exhausted
 submit 2 SET a 2 => Exhausted
 take => Exhausted";
 
-/// Makes the steps of each line, and again where there was no memory for it. What is given is a script again: what each step came to,
-/// and in each run the requests that starved.
+/// Makes the steps of each line, and again where there was no memory for it. What is given is a script again: what each
+/// step came to, and in each run the requests that starved.
 fn followed<W: Workers>(
     rt: &impl Abort,
     alloc: Global,
@@ -184,8 +185,8 @@ fn push_made(alloc: Global, text: &mut String, said: &str, effect: Effect) -> Re
     Ok(())
 }
 
-/// Follows the script in a new system. Where no request starved, all is as if memory had always been there; where one did, all is as
-/// in a run that is told to let it starve.
+/// Follows the script in a new system. Where no request starved, all is as if memory had always been there; where one
+/// did, all is as in a run that is told to let it starve.
 fn attempt<W: Workers>(
     rt: &impl Abort,
     alloc: Global,

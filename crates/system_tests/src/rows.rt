@@ -1,12 +1,13 @@
-//! Scripts on small systems, followed by workers of every kind. With two shards `a`, `b` and `y` lie on shard 0, and `c`, `d`, `x` and
-//! `z` on shard 1.
+//! Scripts on small systems, followed by workers of every kind. With two shards `a`, `b` and `y` lie on shard 0, and
+//! `c`, `d`, `x` and `z` on shard 1.
 
 use crate::answers::{Row, follow_row};
 use shard_exec::{Crew, InTurn};
 use std::num::NonZeroUsize;
 use std::test::Fail;
 
-/// Two requests of both groups cross: each group gets another one first, and yet both deliver the second, then the first.
+/// Two requests of both groups cross: each group gets another one first, and yet both deliver the second, then the
+/// first.
 const CROSSING: Row = Row {
     shards: 2,
     max_steps: 1000,
@@ -214,8 +215,8 @@ open => opened 2
 ask 2 SET d 1 => 2.1 at 1.3 +OK|",
 };
 
-/// A key lies where the part in its braces lies, if it has such a part. Each of the 64 shards has 16 slots: `a` has slot 140, the key
-/// with nothing between its braces 396, and the one with no closing brace 33.
+/// A key lies where the part in its braces lies, if it has such a part. Each of the 64 shards has 16 slots: `a` has
+/// slot 140, the key with nothing between its braces 396, and the one with no closing brace 33.
 const TAGS: Row = Row {
     shards: 64,
     max_steps: 1000,
@@ -314,7 +315,8 @@ collect 2 => 2.1 at 1.1 +OK|
 ask 1 GET a => 1.2 at 2.0 $-1|",
 };
 
-/// A connection is closed while its request is under way: the request is run and has its row, and nobody gets its reply.
+/// A connection is closed while its request is under way: the request is run and has its row, and nobody gets its
+/// reply.
 const CLOSED_UNDER_WAY: Row = Row {
     shards: 2,
     max_steps: 1000,

@@ -20,8 +20,8 @@ pub(crate) fn steps_of(alloc: Global, list: &str) -> Result<Vec<Step>, Trouble> 
     Ok(steps)
 }
 
-/// The step that these words say: `open`, `submit CONN WORD ..`, `deliver PLACE`, `take`, `run`, `run CONN.SEQ ..` where these requests
-/// are to starve, `settle`, `collect CONN` or `close CONN`.
+/// The step that these words say: `open`, `submit CONN WORD ..`, `deliver PLACE`, `take`, `run`, `run CONN.SEQ ..`
+/// where these requests are to starve, `settle`, `collect CONN` or `close CONN`.
 pub(crate) fn step_of(alloc: Global, words: &str) -> Result<Step, Trouble> {
     let (name, rest) = first_word(words);
     match name {

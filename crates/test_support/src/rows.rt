@@ -19,8 +19,8 @@ pub fn bytes_of(alloc: Global, row: &str) -> Result<Vec<u8>, AllocError>
     Ok(bytes)
 }
 
-/// The bytes of requests as a client sends them: a list parted by `; `, with words parted by blanks, of which `''` is the
-/// empty one. `AllocError` where there is no memory for them.
+/// The bytes of requests as a client sends them: a list parted by `; `, with words parted by blanks, of which `''` is
+/// the empty one. `AllocError` where there is no memory for them.
 pub fn requests_of(alloc: Global, row: &str) -> Result<Vec<u8>, AllocError> {
     let mut bytes = Vec::new(alloc);
     for request in row.split("; ") {

@@ -4,7 +4,8 @@ use crate::NEVER;
 use std::io;
 use std::io::{ErrorKind, Read};
 
-/// Gives its bytes in pieces of at most `piece`. The read of number `fails_at`, from 0, fails by `kind` and takes nothing.
+/// Gives its bytes in pieces of at most `piece`. The read of number `fails_at`, from 0, fails by `kind` and takes
+/// nothing.
 #[derive(Drop)]
 pub struct Source<'a> {
     pub bytes: &'a [u8],

@@ -1,7 +1,8 @@
 //! Byte strings, and lists of them, as contracts see them.
 //!
-//! A `Vec` in a clause is its items together with where it lies in memory. The types here are seen as their bytes alone, so that
-//! a contract can compare a command, a value or a request by `≡`. Keys, words and values of every crate above are of these types.
+//! A `Vec` in a clause is its items together with where it lies in memory. The types here are seen as their bytes
+//! alone, so that a contract can compare a command, a value or a request by `≡`. Keys, words and values of every crate
+//! above are of these types.
 #![tactic(auto)]
 
 mod pairs;

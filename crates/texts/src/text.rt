@@ -73,8 +73,8 @@ impl Text {
         Ok(())
     }
 
-    /// Writes these bytes over the string, from `offset` on. Memory is taken only where the string gets longer; what then lies
-    /// between its old end and `offset` becomes zero bytes.
+    /// Writes these bytes over the string, from `offset` on. Memory is taken only where the string gets longer; what
+    /// then lies between its old end and `offset` becomes zero bytes.
     ///
     /// `AllocError` where there is no memory for the longer string, which then stays as it was.
     pub fn write_at(&mut self, offset: usize, more: &[u8]) -> Result<(), AllocError>

@@ -18,8 +18,8 @@ slice_range-turned xs s e le within =
     take-append-le (e - s) (drop s (take e xs)) (take s (take e xs)) (omega arith)
     ∙ take_all (e - s) (drop s (take e xs)) (omega arith) ∙ sym (between_is xs s e)
 
--- a list turned so far: the items from i on, then those before them that stay; with so many removals left, what stays of all is
--- what shall
+-- a list turned so far: the items from i on, then those before them that stay; with so many removals left, what stays
+-- of all is what shall
 pub record IsTurned {A : Type 0} (test : A → Bool) (most : ℕ) (xs : List A) (i left : ℕ) (ys : List A) : Type 0 where
   pub stay : List A
   pub there : ys ≡ drop i xs ++ stay

@@ -5,7 +5,8 @@ use Rattle.string_commands.specs.Held.{held}
 use Rattle.texts.specs.Texts.{texts_of}
 use Rattle.string_commands.proofs.pairs.hold_all.Given as goal
 
--- the keys that are left, held from here, give what all keys give from the start; and without all keys the map is as at the start
+-- the keys that are left, held from here, give what all keys give from the start; and without all keys the map is as at
+-- the start
 abbrev pub invariant-loop-key : goal.invariant-loop-key
 invariant-loop-key g l =
     let contents = g.K.Keyspace.contents in

@@ -5,7 +5,8 @@ use Rattle.keyspace.specs.Map.{among}
 use Rattle.texts.specs.Texts.{firsts, pairs_of, texts_of}
 use Rattle.string_commands.proofs.pairs.replace_all.Given as goal
 
--- what is left of the turns, last first, leaves from here what all pairs leave from the start; each of its keys is there
+-- what is left of the turns, last first, leaves from here what all pairs leave from the start; each of its keys is
+-- there
 abbrev pub invariant-loop-key : goal.invariant-loop-key
 invariant-loop-key g l =
     let contents = g.K.Keyspace.contents in
