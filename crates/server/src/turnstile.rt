@@ -8,14 +8,14 @@ use std::thread;
 /// What the turnstile keeps while no one passes. No connection has this number.
 const NO_ONE: u64 = 0;
 
-/// How often the one who looks out looks before it goes to sleep: about a tenth of a millisecond.
+/// How often the one who looks out looks before it goes to sleep.
 const LOOKS: u32 = 200;
 
 /// Connections that make their own turns would take the cluster's lock from each other step by step. So one at a time
 /// passes: it answers what it has read, and leaves before it reads or writes.
 ///
-/// Of those who wait one looks out, and the others sleep. Who leaves wakes one of them, which looks out next: so it is
-/// awake when its turn comes, and no one waits for it to wake up.
+/// Of those who wait one looks out for a while, and the others sleep. Who leaves wakes one of them, which looks out next:
+/// so the next one is awake when its turn comes, unless that takes longer than it looks.
 ///
 /// It guards nothing. Who passes takes the cluster's lock inside, and no one who holds that lock waits here.
 #[derive(Drop)]
