@@ -9,7 +9,7 @@ use Rattle.journal.specs.declared.step.Step.TheVariants.{Open, Submit, Deliver, 
 use Rattle.system.proofs.Lasting.{still_at}
 use Rattle.system.specs.Parts.{stored}
 use Rattle.system.specs.Refusing.{Refuses}
-use Rattle.system.specs.System.{SystemView, ShowsHistory, IsStep, IsKept, ObeysOneThread}
+use Rattle.system.specs.System.{SystemView, ShowsHistory, IsStep, IsSameButRoom, ObeysOneThread}
 use Rattle.system.specs.System as system
 use Rattle.system.specs.declared.effect.Effect.{Effect}
 use Rattle.system.specs.declared.fault.StepFault.{StepFault}
@@ -124,8 +124,8 @@ history_still old new is still =
           };
     }
 
-pub kept_same : (old new : SystemView) → new ≡ old → IsKept old new
-kept_same old new same = subst (λ s. IsKept old s) (sym same) (record {
+pub kept_same : (old new : SystemView) → new ≡ old → IsSameButRoom old new
+kept_same old new same = subst (λ s. IsSameButRoom old s) (sym same) (record {
   max_steps = refl;
   steps = refl;
   parts = record {
@@ -150,10 +150,10 @@ there h step fault is lives refuses =
 -- what a refused step tells of the system
 pub record IsTold (old : HistoryView) (step : Step) (fault : StepFault) (new : SystemView) : Type 0 where
   pub why : IsFault old step fault
-  pub kept : IsKept old.system new
+  pub kept : IsSameButRoom old.system new
 
 told : (old : HistoryView) (new : SystemView) (step : Step) (own : OwnFault) (fault : StepFault) → IsHistory old → has_failed old ≡ false →
-    (IsRefused old step own → IsFault old step fault) → Refuses old.system.parts step own → IsKept old.system new →
+    (IsRefused old step own → IsFault old step fault) → Refuses old.system.parts step own → IsSameButRoom old.system new →
     IsTold old step fault new
 told old new step own fault is lives why refuses kept = record { why = why (there old step own is lives refuses); kept = kept }
 
@@ -174,7 +174,7 @@ told_of old new step Failed is lives (inl failed) = absurd (both_ways _ lives fa
 told_of old new step Failed is lives (inr failed) = absurd (both_ways _ refl failed.1)
 
 -- what it leaves, where only room has changed
-pub left_so : (old : HistoryView) (s : SystemView) (most : ℕ) (steps : List Step) → IsKept old.system s → most ≡ old.max_steps →
+pub left_so : (old : HistoryView) (s : SystemView) (most : ℕ) (steps : List Step) → IsSameButRoom old.system s → most ≡ old.max_steps →
     steps ≡ old.steps → IsUnchanged old (history s most steps)
 left_so old s most steps kept same stays = record { system = kept; max_steps = same; steps = stays }
 

@@ -503,7 +503,8 @@ cluster_turned all parts requests lasts h h' book sat stood back pick may (Err f
 -- ---- none
 
 pub cluster_new : (all parts : ℕ) (lasts : List (ℕ × Last)) (h : HistoryView) (book most back : ℕ) → parts ≡ all → lasts ≡ [] → book ≡ 0 →
-    h.steps ≡ [] → h.max_steps ≡ most → most < all → most ≤ GREATEST_STEPS → IsLawful h → IsCluster all parts 0 lasts (cluster h book 0 0 back)
+    h.steps ≡ [] → h.max_steps ≡ most → most < all → most ≤ GREATEST_STEPS → IsLawful h →
+    IsCluster all parts 0 lasts (cluster h book 0 0 back)
 cluster_new all parts lasts h book most back whole nothing zero' none same enough few lawful =
     let leads = subst (λ hs. Leads h.system.parts.store.table opening hs lawful.world) none lawful.shows.at.leads in
     let steps = ap length none in

@@ -5,7 +5,7 @@ use Rattle.journal.specs.declared.step.Step.{Step}
 use Rattle.journal.specs.declared.step.Step.TheVariants.{Open, Submit, Deliver, Take, Run, Settle, Collect, Close}
 use Rattle.shard_maps.specs.Joined.{joined}
 use Rattle.system.specs.Parts.{effect_shown}
-use Rattle.system.specs.System.{SystemView, ShowsHistory, IsKept}
+use Rattle.system.specs.System.{SystemView, ShowsHistory, IsSameButRoom}
 use Rattle.system.specs.declared.effect.Effect.{Effect}
 use Rattle.system.specs.declared.fault.StepFault.{StepFault}
 use Rattle.system.specs.declared.fault.StepFault.TheVariants.{Busy, NoConn, NoPacket, InFlight, NoLayer, Exhausted, Memory, Failed}
@@ -59,7 +59,7 @@ pub record IsMade (old : HistoryView) (step : Step) (effect : Effect) (new : His
 
 -- nothing has changed but room
 pub record IsUnchanged (old new : HistoryView) : Type 0 where
-  pub system : IsKept old.system new.system
+  pub system : IsSameButRoom old.system new.system
   pub max_steps : new.max_steps ≡ old.max_steps
   pub steps : new.steps ≡ old.steps
 

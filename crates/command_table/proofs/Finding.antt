@@ -7,7 +7,7 @@ use Rattle.std.proofs.lemmas.Bool.{and_parts}
 use Rattle.std.proofs.lemmas.Bool.Decides.{nat_tests}
 use Rattle.std.proofs.lemmas.Slice.Eq.{bytes_eq-Decides}
 use Rattle.std.proofs.lemmas.Str.{IsUtf8-from_ascii}
-use Rattle.command_table.specs.Row.{Row, row_of, row_reading, reading_among}
+use Rattle.command_table.specs.CommandRow.{CommandRow, row_of, row_reading, reading_among}
 use Rattle.command_table.specs.Words.{Word}
 
 -- each byte is below 128
@@ -23,7 +23,7 @@ IsAscii-name (b ∷ bs) h zero = below b 128 (and_parts _ _ h).0
 IsAscii-name (b ∷ bs) h (suc i) = IsAscii-name bs (and_parts _ _ h).1 i
 
 -- rows whose names are ASCII have no name that isn't text
-pub none_of_bytes : (rs : List Row) (n : Word) → list_all (λ r. is_ascii_name r.name) rs ≡ true → ¬ IsUtf8 n → row_of rs n ≡ None
+pub none_of_bytes : (rs : List CommandRow) (n : Word) → list_all (λ r. is_ascii_name r.name) rs ≡ true → ¬ IsUtf8 n → row_of rs n ≡ None
 none_of_bytes [] n h not_text = refl
 none_of_bytes (r ∷ rs) n h not_text =
     let parts = and_parts (is_ascii_name r.name) (list_all (λ x. is_ascii_name x.name) rs) h in
@@ -35,7 +35,7 @@ none_of_bytes (r ∷ rs) n h not_text =
     ] refl
 
 -- where the first rows have no row of this name the others are looked through
-pub row-after : (rs qs : List Row) (n : Word) → row_of rs n ≡ None → row_of (rs ++ qs) n ≡ row_of qs n
+pub row-after : (rs qs : List CommandRow) (n : Word) → row_of rs n ≡ None → row_of (rs ++ qs) n ≡ row_of qs n
 row-after [] qs n none = refl
 row-after (r ∷ rs) qs n none =
     elim (bytes_eq n r.name)
@@ -45,7 +45,7 @@ row-after (r ∷ rs) qs n none =
     ] none
 
 -- what the first rows say of words all of them say
-pub reading-before : (rs qs : List Row) (n : Word) (words : List Word) (read : _) → reading_among rs n words ≡ Some read →
+pub reading-before : (rs qs : List CommandRow) (n : Word) (words : List Word) (read : _) → reading_among rs n words ≡ Some read →
     reading_among (rs ++ qs) n words ≡ Some read
 reading-before [] qs n words read e = absurd cc
 reading-before (r ∷ rs) qs n words read e =

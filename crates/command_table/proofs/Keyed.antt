@@ -16,7 +16,7 @@ use Rattle.command_table.specs.Keyed.{IsKeyed, NamesKeys}
 use Rattle.command_table.specs.KeySpan.{KeySpan, NoKeys, AllThereAre, Between, ToLastWord, stepped, keys_in}
 use Rattle.command_table.specs.LocalCommands.{local_rows, ping_row, echo_row}
 use Rattle.command_table.specs.Reading.{rows, reading}
-use Rattle.command_table.specs.Row.{Row, Reading, row_told, row_reading, reading_among, row_of}
+use Rattle.command_table.specs.CommandRow.{CommandRow, Reading, row_told, row_reading, reading_among, row_of}
 use Rattle.command_table.specs.SetCommands.{set_rows}
 use Rattle.command_table.specs.StringCommands.{string_rows}
 use Rattle.command_table.specs.Telling.{KeysTold, All, These, named, is_all}
@@ -53,7 +53,7 @@ takes_a_key (Between first last) n = nat_le first last && nat_lt first n
 takes_a_key (ToLastWord first step) n = nat_lt first n
 
 -- that of a row, by the least number of words that it admits
-abbrev takes_keys : Row → Bool
+abbrev takes_keys : CommandRow → Bool
 takes_keys r = takes_a_key r.keys (least r.arity)
 
 -- all keys, or one at least
@@ -102,25 +102,25 @@ keyed-told (variant.List c) some = names-told (variant.List c) some
 keyed-told (variant.Hash c) some = names-told (variant.Hash c) some
 keyed-told (variant.Set c) some = names-told (variant.Set c) some
 
-keyed-read : (r : Row) (ws : List Word) (read : Reading) → IfOk read (λ c. told_of c ≡ row_told r ([] ∷ ws)) →
+keyed-read : (r : CommandRow) (ws : List Word) (read : Reading) → IfOk read (λ c. told_of c ≡ row_told r ([] ∷ ws)) →
     AreSome (keys_in r.keys ([] ∷ ws))
     → IfOk read IsKeyed
 keyed-read r ws (Ok c) told some = keyed-told c (subst (λ t. AreSome t.keys) (sym told) some)
 keyed-read r ws (Err refused) told some = tt
 
 -- each command that the row reads is keyed
-abbrev Keys : Row → Type 0
+abbrev Keys : CommandRow → Type 0
 Keys r = (ws : List Word) → admits r.arity (length ws + 1) ≡ true → IfOk (r.reading ws) IsKeyed
 
-keys_of_row : (r : Row) → Tells r → takes_keys r ≡ true → Keys r
+keys_of_row : (r : CommandRow) → Tells r → takes_keys r ≡ true → Keys r
 keys_of_row r tells takes ws a = keyed-read r ws (r.reading ws) (tells [] ws a)
     (some-keys r.keys (least r.arity) ([] ∷ ws) takes (omega (arith, least-admitted r.arity (length ws + 1) a)))
 
-abbrev AllKeyed : List Row → Type 0
+abbrev AllKeyed : List CommandRow → Type 0
 AllKeyed [] = Unit {0}
 AllKeyed (r ∷ rs) = Keys r × AllKeyed rs
 
-all_take_keys : (rs : List Row) → AllTell rs → list_all takes_keys rs ≡ true → AllKeyed rs
+all_take_keys : (rs : List CommandRow) → AllTell rs → list_all takes_keys rs ≡ true → AllKeyed rs
 all_take_keys [] tell takes = tt
 all_take_keys (r ∷ rs) tell takes =
     let parts = and_parts (takes_keys r) (list_all takes_keys rs) takes in
@@ -132,7 +132,7 @@ ping_keyed [] a = (refl, refl)
 ping_keyed (w ∷ []) a = (refl, refl)
 ping_keyed (w ∷ v ∷ ws) a = tt
 
-AllKeyed-append : (rs qs : List Row) → AllKeyed rs → AllKeyed qs → AllKeyed (rs ++ qs)
+AllKeyed-append : (rs qs : List CommandRow) → AllKeyed rs → AllKeyed qs → AllKeyed (rs ++ qs)
 AllKeyed-append [] qs a b = b
 AllKeyed-append (r ∷ rs) qs a b = (a.0, AllKeyed-append rs qs a.1 b)
 
@@ -144,13 +144,13 @@ all_keyed =
     (AllKeyed-append list_rows (hash_rows ++ set_rows) (all_take_keys list_rows list_tell refl)
     (AllKeyed-append hash_rows set_rows (all_take_keys hash_rows hash_tell refl) (all_take_keys set_rows set_tell refl)))))
 
-keyed_by_row : (r : Row) → Keys r → (ws : List Word) → IfOk (row_reading r ws) IsKeyed
+keyed_by_row : (r : CommandRow) → Keys r → (ws : List Word) → IfOk (row_reading r ws) IsKeyed
 keyed_by_row r keys ws =
     elim (admits r.arity (length ws + 1))
     as (λ b. admits r.arity (length ws + 1) ≡ b → IfOk (if b then r.reading ws else Err (refusal.Arity r.name)) IsKeyed)
     [ true ↦ λ a. keys ws a | false ↦ λ a. tt ] refl
 
-keyed_among : (rs : List Row) → AllKeyed rs → (n : Word) (ws : List Word) →
+keyed_among : (rs : List CommandRow) → AllKeyed rs → (n : Word) (ws : List Word) →
     IfOk (unwrap_or (reading_among rs n ws) (Err refusal.Unknown)) IsKeyed
 keyed_among [] keys n ws = tt
 keyed_among (r ∷ rs) keys n ws =

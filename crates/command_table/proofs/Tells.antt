@@ -27,8 +27,8 @@ use Rattle.command_table.specs.declared.list_commands.Side.{Side}
 use Rattle.texts.specs.declared.text_list.End.{End}
 use Rattle.command_table.specs.LocalCommands.{local_rows, ping_row, echo_row}
 use Rattle.command_table.specs.Reading.{rows, reading, IsTold}
-use Rattle.command_table.specs.Row.{Row, Reading, pairs_reading, then_reading, integer_reading, row_of, row_reading, row_told}
-use Rattle.command_table.specs.Row.{reading_among}
+use Rattle.command_table.specs.CommandRow.{CommandRow, Reading, pairs_reading, then_reading, integer_reading, row_of, row_reading, row_told}
+use Rattle.command_table.specs.CommandRow.{reading_among}
 use Rattle.command_table.specs.SetCommands.{set_rows, sadd_row, srem_row, sismember_row, smismember_row, scard_row, smembers_row}
 use Rattle.command_table.specs.SetCommands.{smove_row, sinter_row, sunion_row, sdiff_row, sinterstore_row, sunionstore_row, sdiffstore_row}
 use Rattle.command_table.specs.StringCommands.{string_rows, get_row, set_row, setnx_row, getset_row, getdel_row, mget_row, strlen_row}
@@ -51,48 +51,48 @@ stepped-two (w ∷ []) h = absurd cc
 stepped-two (w ∷ v ∷ ws) h = ap (λ t. w ∷ t) (stepped-two ws (grind (arith, nat_tests)))
 
 -- what this row tells of the words is told of the command that is read, if one is
-abbrev IsToldIn : Row → List Word → Reading → Type 0
+abbrev IsToldIn : CommandRow → List Word → Reading → Type 0
 IsToldIn r words read = IfOk read (λ c. told_of c ≡ row_told r words)
 
 -- a row tells of each command that it reads
-abbrev pub Tells : Row → Type 0
+abbrev pub Tells : CommandRow → Type 0
 Tells r = (name : Word) (ws : List Word) → admits r.arity (length ws + 1) ≡ true → IsToldIn r (name ∷ ws) (r.reading ws)
 
-with_row : (r : Row) (words : List Word) (read : Reading) → IsToldIn r words read →
-    IfOk read (λ c. (q : Row) × (Some r ≡ Some q) × (told_of c ≡ row_told q words))
+with_row : (r : CommandRow) (words : List Word) (read : Reading) → IsToldIn r words read →
+    IfOk read (λ c. (q : CommandRow) × (Some r ≡ Some q) × (told_of c ≡ row_told q words))
 with_row r words (Ok c) e = (r, refl, e)
 with_row r words (Err refused) e = tt
 
-abbrev pub AllTell : List Row → Type 0
+abbrev pub AllTell : List CommandRow → Type 0
 AllTell [] = Unit {0}
 AllTell (r ∷ rs) = Tells r × AllTell rs
 
 -- the command that is read, if one is, has the row's name and these keys
-abbrev pub IsToldAs : Row → KeysTold → Reading → Type 0
+abbrev pub IsToldAs : CommandRow → KeysTold → Reading → Type 0
 IsToldAs r keys read = IfOk read (λ c. told_of c ≡ record { name = r.name; keys = keys })
 
-with_keys : (r : Row) (keys : KeysTold) (name : Word) (ws : List Word) (read : Reading) → keys_in r.keys (name ∷ ws) ≡ keys →
+with_keys : (r : CommandRow) (keys : KeysTold) (name : Word) (ws : List Word) (read : Reading) → keys_in r.keys (name ∷ ws) ≡ keys →
     IsToldAs r keys read
     → IsToldIn r (name ∷ ws) read
 with_keys r keys name ws read span made = subst (λ k. IsToldAs r k read) (sym span) made
 
 -- Each kind of key span, whatever row has it: what is left to show is that the command that is made holds these keys.
 -- No keys, or all there are
-pub tells-none : (r : Row) → r.keys ≡ NoKeys → ((ws : List Word) → IsToldAs r (These []) (r.reading ws)) → Tells r
+pub tells-none : (r : CommandRow) → r.keys ≡ NoKeys → ((ws : List Word) → IsToldAs r (These []) (r.reading ws)) → Tells r
 tells-none r span made name ws a = with_keys r (These []) name ws _ (ap (λ s. keys_in s (name ∷ ws)) span) (made ws)
 
-pub tells-whole : (r : Row) → r.keys ≡ AllThereAre → ((ws : List Word) → IsToldAs r All (r.reading ws)) → Tells r
+pub tells-whole : (r : CommandRow) → r.keys ≡ AllThereAre → ((ws : List Word) → IsToldAs r All (r.reading ws)) → Tells r
 tells-whole r span made name ws a = with_keys r All name ws _ (ap (λ s. keys_in s (name ∷ ws)) span) (made ws)
 
 -- the first word
-pub tells-one : (r : Row) → r.keys ≡ Between 1 1 → admits r.arity 1 ≡ false
+pub tells-one : (r : CommandRow) → r.keys ≡ Between 1 1 → admits r.arity 1 ≡ false
     → ((key : Word) (ws : List Word) → IsToldAs r (These (key ∷ [])) (r.reading (key ∷ ws))) → Tells r
 tells-one r span few made name [] a = absurd cc
 tells-one r span few made name (key ∷ ws) a =
     with_keys r (These (key ∷ [])) name (key ∷ ws) _ (ap (λ s. keys_in s (name ∷ key ∷ ws)) span) (made key ws)
 
 -- the first two words
-pub tells-two : (r : Row) → r.keys ≡ Between 1 2 → admits r.arity 1 ≡ false → admits r.arity 2 ≡ false
+pub tells-two : (r : CommandRow) → r.keys ≡ Between 1 2 → admits r.arity 1 ≡ false → admits r.arity 2 ≡ false
     → ((key other : Word) (ws : List Word) → IsToldAs r (These (key ∷ other ∷ [])) (r.reading (key ∷ other ∷ ws))) → Tells r
 tells-two r span none few made name [] a = absurd cc
 tells-two r span none few made name (key ∷ []) a = absurd cc
@@ -101,12 +101,12 @@ tells-two r span none few made name (key ∷ other ∷ ws) a =
     (made key other ws)
 
 -- each word
-pub tells-each : (r : Row) → r.keys ≡ ToLastWord 1 1 → ((ws : List Word) → IsToldAs r (These ws) (r.reading ws)) → Tells r
+pub tells-each : (r : CommandRow) → r.keys ≡ ToLastWord 1 1 → ((ws : List Word) → IsToldAs r (These ws) (r.reading ws)) → Tells r
 tells-each r span made name ws a =
     with_keys r (These ws) name ws _ (ap (λ s. keys_in s (name ∷ ws)) span ∙ ap These (stepped-one ws)) (made ws)
 
 -- each word, the first of which is a target and the others its sources
-pub tells-target : (r : Row) → r.keys ≡ ToLastWord 1 1 → admits r.arity 1 ≡ false
+pub tells-target : (r : CommandRow) → r.keys ≡ ToLastWord 1 1 → admits r.arity 1 ≡ false
     → ((target : Word) (sources : List Word) → IsToldAs r (These (target ∷ sources)) (r.reading (target ∷ sources))) → Tells r
 tells-target r span few made name [] a = absurd cc
 tells-target r span few made name (target ∷ sources) a =
@@ -114,7 +114,7 @@ tells-target r span few made name (target ∷ sources) a =
     (ap (λ s. keys_in s (name ∷ target ∷ sources)) span ∙ ap These (stepped-one (target ∷ sources))) (made target sources)
 
 -- every second word, of pairs
-pub tells-pairs : (r : Row) (make : List (Word × Word) → Command) → r.keys ≡ ToLastWord 1 2 →
+pub tells-pairs : (r : CommandRow) (make : List (Word × Word) → Command) → r.keys ≡ ToLastWord 1 2 →
     ((ws : List Word) → r.reading ws ≡ pairs_reading r.name make ws)
     → ((pairs : List (Word × Word)) → told_of (make pairs) ≡ record { name = r.name; keys = These (firsts pairs) }) → Tells r
 tells-pairs r make span reads made name ws a =
@@ -136,8 +136,8 @@ set_tells key value (Ok condition) = refl
 set_tells key value (Err refused) = tt
 
 -- a word that should be an integer, whatever it is
-integer_tells : (r : Row) (key : Word) (o : Result ℤ Refusal) (make : ℤ → Reading) → ((n : ℤ) → IsToldAs r (These (key ∷ [])) (make n))
-    → IsToldAs r (These (key ∷ [])) (then_reading o make)
+integer_tells : (r : CommandRow) (key : Word) (o : Result ℤ Refusal) (make : ℤ → Reading)
+    → ((n : ℤ) → IsToldAs r (These (key ∷ [])) (make n)) → IsToldAs r (These (key ∷ [])) (then_reading o make)
 integer_tells r key (Ok n) make made = made n
 integer_tells r key (Err refused) make made = tt
 
@@ -307,7 +307,7 @@ list_tell = (
   ),
 )
 
-pairs_tell : (r : Row) (keys : KeysTold) (name : Word) (make : List (Word × Word) → HashCommand) →
+pairs_tell : (r : CommandRow) (keys : KeysTold) (name : Word) (make : List (Word × Word) → HashCommand) →
     ((pairs : List (Word × Word)) → IsToldAs r keys (Ok (Hash (make pairs))))
     → (pairs : Option (List (Word × Word))) → IsToldAs r keys (with_pairs name make pairs)
 pairs_tell r keys name make made (Some pairs) = made pairs
@@ -397,7 +397,7 @@ set_tell = (
   ),
 )
 
-AllTell-append : (rs qs : List Row) → AllTell rs → AllTell qs → AllTell (rs ++ qs)
+AllTell-append : (rs qs : List CommandRow) → AllTell rs → AllTell qs → AllTell (rs ++ qs)
 AllTell-append [] qs a b = b
 AllTell-append (r ∷ rs) qs a b = (a.0, AllTell-append rs qs a.1 b)
 
@@ -408,23 +408,23 @@ all_tell =
     (AllTell-append string_rows (list_rows ++ hash_rows ++ set_rows) string_tell
     (AllTell-append list_rows (hash_rows ++ set_rows) list_tell (AllTell-append hash_rows set_rows hash_tell set_tell))))
 
-told_by_row : (r : Row) → Tells r → (name : Word) (ws : List Word) → IsToldIn r (name ∷ ws) (row_reading r ws)
+told_by_row : (r : CommandRow) → Tells r → (name : Word) (ws : List Word) → IsToldIn r (name ∷ ws) (row_reading r ws)
 told_by_row r tells name ws =
     elim (admits r.arity (length ws + 1))
     as (λ b. admits r.arity (length ws + 1) ≡ b → IsToldIn r (name ∷ ws) (if b then r.reading ws else Err (refusal.Arity r.name)))
     [ true ↦ λ a. tells name ws a | false ↦ λ a. tt ] refl
 
 -- the row that these words name tells of the command
-abbrev IsToldAmong : List Row → Word → List Word → Command → Type 0
-IsToldAmong rs n words c = (r : Row) × (row_of rs n ≡ Some r) × (told_of c ≡ row_told r words)
+abbrev IsToldAmong : List CommandRow → Word → List Word → Command → Type 0
+IsToldAmong rs n words c = (r : CommandRow) × (row_of rs n ≡ Some r) × (told_of c ≡ row_told r words)
 
-told_among : (rs : List Row) → AllTell rs → (n name : Word) (ws : List Word) →
+told_among : (rs : List CommandRow) → AllTell rs → (n name : Word) (ws : List Word) →
     IfOk (unwrap_or (reading_among rs n ws) (Err refusal.Unknown)) (IsToldAmong rs n (name ∷ ws))
 told_among [] tell n name ws = tt
 told_among (r ∷ rs) tell n name ws =
     elim (bytes_eq n r.name)
     as (λ b. IfOk (unwrap_or (option_map (λ x. row_reading x ws) (if b then Some r else row_of rs n)) (Err refusal.Unknown))
-    (λ c. (q : Row) × ((if b then Some r else row_of rs n) ≡ Some q) × (told_of c ≡ row_told q (name ∷ ws))))
+    (λ c. (q : CommandRow) × ((if b then Some r else row_of rs n) ≡ Some q) × (told_of c ≡ row_told q (name ∷ ws))))
     [ true ↦ with_row r _ _ (told_by_row r tell.0 name ws) | false ↦ told_among rs tell.1 n name ws ]
 
 -- the table tells of each command that it reads

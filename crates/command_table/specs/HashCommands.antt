@@ -7,7 +7,7 @@ use Rattle.command_table.specs.declared.hash_commands.HashCommand.TheVariants.{H
 use Rattle.command_table.specs.declared.hash_commands.HashCommand.TheVariants.{Hdel, Hsetnx, Hset, Hmset, Hincrby}
 use Rattle.command_table.specs.declared.refusal.Refusal.TheVariants.{Arity}
 use Rattle.command_table.specs.KeySpan.{Between}
-use Rattle.command_table.specs.Row.{Row, Reading, integer_reading}
+use Rattle.command_table.specs.CommandRow.{CommandRow, Reading, integer_reading}
 use Rattle.command_table.specs.Telling.{Telling, These, named}
 use Rattle.command_table.specs.Words.{Word, word, pairs_of}
 
@@ -29,10 +29,10 @@ hash_command_told (Hincrby key field by) = record { name = codes "hincrby"; keys
 abbrev pub hash_command_keys : HashCommand → List Word
 hash_command_keys c = named (hash_command_told c).keys
 
-abbrev pub hlen_row : Row
+abbrev pub hlen_row : CommandRow
 hlen_row = record { name = codes "hlen"; arity = Exactly 2; keys = Between 1 1; reading = λ words. Ok (Hash (Hlen (word words 0))) }
 
-abbrev pub hget_row : Row
+abbrev pub hget_row : CommandRow
 hget_row = record {
   name = codes "hget";
   arity = Exactly 3;
@@ -41,7 +41,7 @@ hget_row = record {
       λ words. Ok (Hash (Hget (word words 0) (word words 1)));
 }
 
-abbrev pub hexists_row : Row
+abbrev pub hexists_row : CommandRow
 hexists_row = record {
   name = codes "hexists";
   arity = Exactly 3;
@@ -50,7 +50,7 @@ hexists_row = record {
       λ words. Ok (Hash (Hexists (word words 0) (word words 1)));
 }
 
-abbrev pub hstrlen_row : Row
+abbrev pub hstrlen_row : CommandRow
 hstrlen_row = record {
   name = codes "hstrlen";
   arity = Exactly 3;
@@ -59,13 +59,13 @@ hstrlen_row = record {
       λ words. Ok (Hash (Hstrlen (word words 0) (word words 1)));
 }
 
-abbrev pub hkeys_row : Row
+abbrev pub hkeys_row : CommandRow
 hkeys_row = record { name = codes "hkeys"; arity = Exactly 2; keys = Between 1 1; reading = λ words. Ok (Hash (Hkeys (word words 0))) }
 
-abbrev pub hvals_row : Row
+abbrev pub hvals_row : CommandRow
 hvals_row = record { name = codes "hvals"; arity = Exactly 2; keys = Between 1 1; reading = λ words. Ok (Hash (Hvals (word words 0))) }
 
-abbrev pub hgetall_row : Row
+abbrev pub hgetall_row : CommandRow
 hgetall_row = record {
   name = codes "hgetall";
   arity = Exactly 2;
@@ -75,7 +75,7 @@ hgetall_row = record {
 }
 
 -- the words after the key are fields
-abbrev pub hmget_row : Row
+abbrev pub hmget_row : CommandRow
 hmget_row = record {
   name = codes "hmget";
   arity = AtLeast 3;
@@ -84,7 +84,7 @@ hmget_row = record {
       λ words. Ok (Hash (Hmget (word words 0) (drop 1 words)));
 }
 
-abbrev pub hdel_row : Row
+abbrev pub hdel_row : CommandRow
 hdel_row = record {
   name = codes "hdel";
   arity = AtLeast 3;
@@ -93,7 +93,7 @@ hdel_row = record {
       λ words. Ok (Hash (Hdel (word words 0) (drop 1 words)));
 }
 
-abbrev pub hsetnx_row : Row
+abbrev pub hsetnx_row : CommandRow
 hsetnx_row = record {
   name = codes "hsetnx";
   arity = Exactly 4;
@@ -112,7 +112,7 @@ with_pairs name make (Some pairs) = Ok (Hash (make pairs))
 with_pairs name make None = Err (Arity name)
 
 -- the words after the key are fields and their values by turns
-abbrev pub hset_row : Row
+abbrev pub hset_row : CommandRow
 hset_row = record {
   name = codes "hset";
   arity = AtLeast 4;
@@ -121,7 +121,7 @@ hset_row = record {
       λ words. with_pairs (codes "hset") (Hset (word words 0)) (whole_pairs (drop 1 words));
 }
 
-abbrev pub hmset_row : Row
+abbrev pub hmset_row : CommandRow
 hmset_row = record {
   name = codes "hmset";
   arity = AtLeast 4;
@@ -133,10 +133,10 @@ hmset_row = record {
 abbrev pub hincrby_reading : List Word → Reading
 hincrby_reading words = integer_reading (word words 2) (λ by. Ok (Hash (Hincrby (word words 0) (word words 1) by)))
 
-abbrev pub hincrby_row : Row
+abbrev pub hincrby_row : CommandRow
 hincrby_row = record { name = codes "hincrby"; arity = Exactly 4; keys = Between 1 1; reading = hincrby_reading }
 
-abbrev pub hash_rows : List Row
+abbrev pub hash_rows : List CommandRow
 hash_rows =
     hlen_row ∷ hget_row ∷ hexists_row ∷ hstrlen_row ∷ hkeys_row ∷ hvals_row ∷ hgetall_row ∷ hmget_row ∷ hdel_row ∷ hsetnx_row
     ∷ hset_row ∷ hmset_row ∷ hincrby_row ∷ []

@@ -9,7 +9,7 @@ pub mod ListCommands
 pub mod LocalCommands
 pub mod Reading
 pub mod Refusal
-pub mod Row
+pub mod CommandRow
 pub mod SetCommands
 pub mod StringCommands
 pub mod Telling

@@ -10,7 +10,7 @@ use Rattle.command_table.specs.declared.list_commands.Side.TheVariants.{Before, 
 use Rattle.command_table.specs.declared.refusal.Refusal.{Refusal}
 use Rattle.command_table.specs.declared.refusal.Refusal.TheVariants.{Syntax}
 use Rattle.command_table.specs.KeySpan.{Between}
-use Rattle.command_table.specs.Row.{Row, Reading}
+use Rattle.command_table.specs.CommandRow.{CommandRow, Reading}
 use Rattle.command_table.specs.Telling.{Telling, These, named}
 use Rattle.command_table.specs.Words.{Word, word, is_word, integer_word}
 use Rattle.texts.specs.declared.text_list.End.{End}
@@ -75,16 +75,16 @@ lmove_with from to (Ok taken) (Ok put) = Ok (variant.List (Lmove from to taken p
 lmove_with from to (Ok taken) (Err refusal) = Err refusal
 lmove_with from to (Err refusal) put = Err refusal
 
-abbrev pub llen_row : Row
+abbrev pub llen_row : CommandRow
 llen_row = record { name = codes "llen"; arity = Exactly 2; keys = Between 1 1; reading = λ words. Ok (variant.List (Llen (word words 0))) }
 
-abbrev pub lpop_row : Row
+abbrev pub lpop_row : CommandRow
 lpop_row = record { name = codes "lpop"; arity = Exactly 2; keys = Between 1 1; reading = λ words. Ok (variant.List (Lpop (word words 0))) }
 
-abbrev pub rpop_row : Row
+abbrev pub rpop_row : CommandRow
 rpop_row = record { name = codes "rpop"; arity = Exactly 2; keys = Between 1 1; reading = λ words. Ok (variant.List (Rpop (word words 0))) }
 
-abbrev pub lpush_row : Row
+abbrev pub lpush_row : CommandRow
 lpush_row =
     record {
       name = codes "lpush";
@@ -94,7 +94,7 @@ lpush_row =
           λ words. Ok (variant.List (Lpush (word words 0) (drop 1 words)));
     }
 
-abbrev pub rpush_row : Row
+abbrev pub rpush_row : CommandRow
 rpush_row =
     record {
       name = codes "rpush";
@@ -104,7 +104,7 @@ rpush_row =
           λ words. Ok (variant.List (Rpush (word words 0) (drop 1 words)));
     }
 
-abbrev pub lpushx_row : Row
+abbrev pub lpushx_row : CommandRow
 lpushx_row =
     record {
       name = codes "lpushx";
@@ -114,7 +114,7 @@ lpushx_row =
           λ words. Ok (variant.List (Lpushx (word words 0) (drop 1 words)));
     }
 
-abbrev pub rpushx_row : Row
+abbrev pub rpushx_row : CommandRow
 rpushx_row =
     record {
       name = codes "rpushx";
@@ -124,7 +124,7 @@ rpushx_row =
           λ words. Ok (variant.List (Rpushx (word words 0) (drop 1 words)));
     }
 
-abbrev pub lindex_row : Row
+abbrev pub lindex_row : CommandRow
 lindex_row = record {
   name = codes "lindex";
   arity = Exactly 3;
@@ -132,7 +132,7 @@ lindex_row = record {
   reading = λ words. lindex_with (word words 0) (integer_word (word words 1));
 }
 
-abbrev pub lset_row : Row
+abbrev pub lset_row : CommandRow
 lset_row = record {
   name = codes "lset";
   arity = Exactly 4;
@@ -140,7 +140,7 @@ lset_row = record {
   reading = λ words. lset_with (word words 0) (word words 2) (integer_word (word words 1));
 }
 
-abbrev pub lrange_row : Row
+abbrev pub lrange_row : CommandRow
 lrange_row = record {
   name = codes "lrange";
   arity = Exactly 4;
@@ -148,7 +148,7 @@ lrange_row = record {
   reading = λ words. lrange_with (word words 0) (integer_word (word words 1)) (integer_word (word words 2));
 }
 
-abbrev pub ltrim_row : Row
+abbrev pub ltrim_row : CommandRow
 ltrim_row = record {
   name = codes "ltrim";
   arity = Exactly 4;
@@ -156,7 +156,7 @@ ltrim_row = record {
   reading = λ words. ltrim_with (word words 0) (integer_word (word words 1)) (integer_word (word words 2));
 }
 
-abbrev pub lrem_row : Row
+abbrev pub lrem_row : CommandRow
 lrem_row = record {
   name = codes "lrem";
   arity = Exactly 4;
@@ -164,7 +164,7 @@ lrem_row = record {
   reading = λ words. lrem_with (word words 0) (word words 2) (integer_word (word words 1));
 }
 
-abbrev pub linsert_row : Row
+abbrev pub linsert_row : CommandRow
 linsert_row = record {
   name = codes "linsert";
   arity = Exactly 5;
@@ -172,7 +172,7 @@ linsert_row = record {
   reading = λ words. linsert_with (word words 0) (word words 2) (word words 3) (side_of (word words 1));
 }
 
-abbrev pub lmove_row : Row
+abbrev pub lmove_row : CommandRow
 lmove_row = record {
   name = codes "lmove";
   arity = Exactly 5;
@@ -180,7 +180,7 @@ lmove_row = record {
   reading = λ words. lmove_with (word words 0) (word words 1) (end_of (word words 2)) (end_of (word words 3));
 }
 
-abbrev pub rpoplpush_row : Row
+abbrev pub rpoplpush_row : CommandRow
 rpoplpush_row = record {
   name = codes "rpoplpush";
   arity = Exactly 3;
@@ -188,7 +188,7 @@ rpoplpush_row = record {
   reading = λ words. Ok (variant.List (Rpoplpush (word words 0) (word words 1)));
 }
 
-abbrev pub list_rows : List Row
+abbrev pub list_rows : List CommandRow
 list_rows =
     llen_row
     ∷ lpop_row

@@ -6,7 +6,7 @@ use Rattle.command_table.specs.declared.local_commands.LocalCommand.{LocalComman
 use Rattle.command_table.specs.declared.local_commands.LocalCommand.TheVariants.{Ping, Echo}
 use Rattle.command_table.specs.declared.refusal.Refusal.TheVariants.{Arity}
 use Rattle.command_table.specs.KeySpan.{NoKeys}
-use Rattle.command_table.specs.Row.{Row, Reading}
+use Rattle.command_table.specs.CommandRow.{CommandRow, Reading}
 use Rattle.command_table.specs.Telling.{Telling, These}
 use Rattle.command_table.specs.Words.{Word, word}
 
@@ -20,11 +20,11 @@ ping_reading [] = Ok (Local (Ping None))
 ping_reading (w ∷ []) = Ok (Local (Ping (Some w)))
 ping_reading (w ∷ v ∷ ws) = Err (Arity (codes "ping"))
 
-abbrev pub ping_row : Row
+abbrev pub ping_row : CommandRow
 ping_row = record { name = codes "ping"; arity = AtLeast 1; keys = NoKeys; reading = ping_reading }
 
-abbrev pub echo_row : Row
+abbrev pub echo_row : CommandRow
 echo_row = record { name = codes "echo"; arity = Exactly 2; keys = NoKeys; reading = λ words. Ok (Local (Echo (word words 0))) }
 
-abbrev pub local_rows : List Row
+abbrev pub local_rows : List CommandRow
 local_rows = ping_row ∷ echo_row ∷ []

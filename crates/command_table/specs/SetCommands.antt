@@ -6,7 +6,7 @@ use Rattle.command_table.specs.declared.set_commands.SetCommand.{SetCommand}
 use Rattle.command_table.specs.declared.set_commands.SetCommand.TheVariants.{Sadd, Srem, Sismember, Smismember, Scard, Smembers, Smove}
 use Rattle.command_table.specs.declared.set_commands.SetCommand.TheVariants.{Sinter, Sunion, Sdiff, Sinterstore, Sunionstore, Sdiffstore}
 use Rattle.command_table.specs.KeySpan.{Between, ToLastWord}
-use Rattle.command_table.specs.Row.{Row}
+use Rattle.command_table.specs.CommandRow.{CommandRow}
 use Rattle.command_table.specs.Telling.{Telling, These, named}
 use Rattle.command_table.specs.Words.{Word, word}
 
@@ -29,7 +29,7 @@ abbrev pub set_command_keys : SetCommand → List Word
 set_command_keys c = named (set_command_told c).keys
 
 -- the words after the key are members
-abbrev pub sadd_row : Row
+abbrev pub sadd_row : CommandRow
 sadd_row = record {
   name = codes "sadd";
   arity = AtLeast 3;
@@ -37,7 +37,7 @@ sadd_row = record {
   reading = λ words. Ok (variant.Set (Sadd (word words 0) (drop 1 words)));
 }
 
-abbrev pub srem_row : Row
+abbrev pub srem_row : CommandRow
 srem_row = record {
   name = codes "srem";
   arity = AtLeast 3;
@@ -45,7 +45,7 @@ srem_row = record {
   reading = λ words. Ok (variant.Set (Srem (word words 0) (drop 1 words)));
 }
 
-abbrev pub sismember_row : Row
+abbrev pub sismember_row : CommandRow
 sismember_row = record {
   name = codes "sismember";
   arity = Exactly 3;
@@ -53,7 +53,7 @@ sismember_row = record {
   reading = λ words. Ok (variant.Set (Sismember (word words 0) (word words 1)));
 }
 
-abbrev pub smismember_row : Row
+abbrev pub smismember_row : CommandRow
 smismember_row = record {
   name = codes "smismember";
   arity = AtLeast 3;
@@ -61,7 +61,7 @@ smismember_row = record {
   reading = λ words. Ok (variant.Set (Smismember (word words 0) (drop 1 words)));
 }
 
-abbrev pub scard_row : Row
+abbrev pub scard_row : CommandRow
 scard_row = record {
   name = codes "scard";
   arity = Exactly 2;
@@ -69,7 +69,7 @@ scard_row = record {
   reading = λ words. Ok (variant.Set (Scard (word words 0)));
 }
 
-abbrev pub smembers_row : Row
+abbrev pub smembers_row : CommandRow
 smembers_row = record {
   name = codes "smembers";
   arity = Exactly 2;
@@ -77,7 +77,7 @@ smembers_row = record {
   reading = λ words. Ok (variant.Set (Smembers (word words 0)));
 }
 
-abbrev pub smove_row : Row
+abbrev pub smove_row : CommandRow
 smove_row = record {
   name = codes "smove";
   arity = Exactly 4;
@@ -86,17 +86,17 @@ smove_row = record {
 }
 
 -- each word is a key
-abbrev pub sinter_row : Row
+abbrev pub sinter_row : CommandRow
 sinter_row = record { name = codes "sinter"; arity = AtLeast 2; keys = ToLastWord 1 1; reading = λ words. Ok (variant.Set (Sinter words)) }
 
-abbrev pub sunion_row : Row
+abbrev pub sunion_row : CommandRow
 sunion_row = record { name = codes "sunion"; arity = AtLeast 2; keys = ToLastWord 1 1; reading = λ words. Ok (variant.Set (Sunion words)) }
 
-abbrev pub sdiff_row : Row
+abbrev pub sdiff_row : CommandRow
 sdiff_row = record { name = codes "sdiff"; arity = AtLeast 2; keys = ToLastWord 1 1; reading = λ words. Ok (variant.Set (Sdiff words)) }
 
 -- the first word is the target, the others are the sources
-abbrev pub sinterstore_row : Row
+abbrev pub sinterstore_row : CommandRow
 sinterstore_row = record {
   name = codes "sinterstore";
   arity = AtLeast 3;
@@ -104,7 +104,7 @@ sinterstore_row = record {
   reading = λ words. Ok (variant.Set (Sinterstore (word words 0) (drop 1 words)));
 }
 
-abbrev pub sunionstore_row : Row
+abbrev pub sunionstore_row : CommandRow
 sunionstore_row = record {
   name = codes "sunionstore";
   arity = AtLeast 3;
@@ -112,7 +112,7 @@ sunionstore_row = record {
   reading = λ words. Ok (variant.Set (Sunionstore (word words 0) (drop 1 words)));
 }
 
-abbrev pub sdiffstore_row : Row
+abbrev pub sdiffstore_row : CommandRow
 sdiffstore_row = record {
   name = codes "sdiffstore";
   arity = AtLeast 3;
@@ -120,7 +120,7 @@ sdiffstore_row = record {
   reading = λ words. Ok (variant.Set (Sdiffstore (word words 0) (drop 1 words)));
 }
 
-abbrev pub set_rows : List Row
+abbrev pub set_rows : List CommandRow
 set_rows =
     sadd_row ∷ srem_row ∷ sismember_row ∷ smismember_row ∷ scard_row ∷ smembers_row ∷ smove_row ∷ sinter_row ∷ sunion_row ∷ sdiff_row
     ∷ sinterstore_row ∷ sunionstore_row ∷ sdiffstore_row ∷ []

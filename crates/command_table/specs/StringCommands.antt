@@ -12,7 +12,7 @@ use Rattle.command_table.specs.declared.string_commands.StringCommand.TheVariant
 use Rattle.command_table.specs.declared.string_commands.StringCommand.TheVariants.{Incr, Decr, Incrby, Decrby, Append, Setrange, Mset}
 use Rattle.command_table.specs.declared.string_commands.StringCommand.TheVariants.{Msetnx}
 use Rattle.command_table.specs.KeySpan.{Between, ToLastWord}
-use Rattle.command_table.specs.Row.{Row, Reading, integer_reading, pairs_reading}
+use Rattle.command_table.specs.CommandRow.{CommandRow, Reading, integer_reading, pairs_reading}
 use Rattle.command_table.specs.Telling.{Telling, These, named}
 use Rattle.command_table.specs.Words.{Word, word, is_word}
 use Rattle.texts.specs.Texts.{firsts}
@@ -67,13 +67,13 @@ set_with key value (Err refusal) = Err refusal
 abbrev pub set_reading : List Word → Reading
 set_reading words = set_with (word words 0) (word words 1) (options_condition (drop 2 words))
 
-abbrev pub get_row : Row
+abbrev pub get_row : CommandRow
 get_row = record { name = codes "get"; arity = Exactly 2; keys = Between 1 1; reading = λ words. Ok (Str (Get (word words 0))) }
 
-abbrev pub set_row : Row
+abbrev pub set_row : CommandRow
 set_row = record { name = codes "set"; arity = AtLeast 3; keys = Between 1 1; reading = set_reading }
 
-abbrev pub setnx_row : Row
+abbrev pub setnx_row : CommandRow
 setnx_row = record {
   name = codes "setnx";
   arity = Exactly 3;
@@ -82,7 +82,7 @@ setnx_row = record {
       λ words. Ok (Str (Setnx (word words 0) (word words 1)));
 }
 
-abbrev pub getset_row : Row
+abbrev pub getset_row : CommandRow
 getset_row = record {
   name = codes "getset";
   arity = Exactly 3;
@@ -90,13 +90,13 @@ getset_row = record {
   reading = λ words. Ok (Str (Getset (word words 0) (word words 1)));
 }
 
-abbrev pub getdel_row : Row
+abbrev pub getdel_row : CommandRow
 getdel_row = record { name = codes "getdel"; arity = Exactly 2; keys = Between 1 1; reading = λ words. Ok (Str (Getdel (word words 0))) }
 
-abbrev pub mget_row : Row
+abbrev pub mget_row : CommandRow
 mget_row = record { name = codes "mget"; arity = AtLeast 2; keys = ToLastWord 1 1; reading = λ words. Ok (Str (Mget words)) }
 
-abbrev pub strlen_row : Row
+abbrev pub strlen_row : CommandRow
 strlen_row = record { name = codes "strlen"; arity = Exactly 2; keys = Between 1 1; reading = λ words. Ok (Str (Strlen (word words 0))) }
 
 -- the start is read before the end
@@ -104,28 +104,28 @@ abbrev pub getrange_reading : List Word → Reading
 getrange_reading words =
     integer_reading (word words 1) (λ start. integer_reading (word words 2) (λ end. Ok (Str (Getrange (word words 0) start end))))
 
-abbrev pub getrange_row : Row
+abbrev pub getrange_row : CommandRow
 getrange_row = record { name = codes "getrange"; arity = Exactly 4; keys = Between 1 1; reading = getrange_reading }
 
-abbrev pub incr_row : Row
+abbrev pub incr_row : CommandRow
 incr_row = record { name = codes "incr"; arity = Exactly 2; keys = Between 1 1; reading = λ words. Ok (Str (Incr (word words 0))) }
 
-abbrev pub decr_row : Row
+abbrev pub decr_row : CommandRow
 decr_row = record { name = codes "decr"; arity = Exactly 2; keys = Between 1 1; reading = λ words. Ok (Str (Decr (word words 0))) }
 
 abbrev pub incrby_reading : List Word → Reading
 incrby_reading words = integer_reading (word words 1) (λ by. Ok (Str (Incrby (word words 0) by)))
 
-abbrev pub incrby_row : Row
+abbrev pub incrby_row : CommandRow
 incrby_row = record { name = codes "incrby"; arity = Exactly 3; keys = Between 1 1; reading = incrby_reading }
 
 abbrev pub decrby_reading : List Word → Reading
 decrby_reading words = integer_reading (word words 1) (λ by. Ok (Str (Decrby (word words 0) by)))
 
-abbrev pub decrby_row : Row
+abbrev pub decrby_row : CommandRow
 decrby_row = record { name = codes "decrby"; arity = Exactly 3; keys = Between 1 1; reading = decrby_reading }
 
-abbrev pub append_row : Row
+abbrev pub append_row : CommandRow
 append_row = record {
   name = codes "append";
   arity = Exactly 3;
@@ -136,11 +136,11 @@ append_row = record {
 abbrev pub setrange_reading : List Word → Reading
 setrange_reading words = integer_reading (word words 1) (λ offset. Ok (Str (Setrange (word words 0) offset (word words 2))))
 
-abbrev pub setrange_row : Row
+abbrev pub setrange_row : CommandRow
 setrange_row = record { name = codes "setrange"; arity = Exactly 4; keys = Between 1 1; reading = setrange_reading }
 
 -- the words are keys and their values by turns
-abbrev pub mset_row : Row
+abbrev pub mset_row : CommandRow
 mset_row = record {
   name = codes "mset";
   arity = AtLeast 3;
@@ -148,7 +148,7 @@ mset_row = record {
   reading = pairs_reading (codes "mset") (λ pairs. Str (Mset pairs));
 }
 
-abbrev pub msetnx_row : Row
+abbrev pub msetnx_row : CommandRow
 msetnx_row = record {
   name = codes "msetnx";
   arity = AtLeast 3;
@@ -156,7 +156,7 @@ msetnx_row = record {
   reading = pairs_reading (codes "msetnx") (λ pairs. Str (Msetnx pairs));
 }
 
-abbrev pub string_rows : List Row
+abbrev pub string_rows : List CommandRow
 string_rows =
     get_row ∷ set_row ∷ setnx_row ∷ getset_row ∷ getdel_row ∷ mget_row ∷ strlen_row
     ∷ getrange_row ∷ incr_row ∷ decr_row ∷ incrby_row ∷ decrby_row ∷ append_row ∷ setrange_row

@@ -5,7 +5,7 @@ ghost use Rattle.command_table.specs.HashCommands.{hash_command_told, hash_rows,
 ghost use Rattle.command_table.specs.HashCommands.{hkeys_row, hvals_row, hgetall_row, hmget_row, hdel_row, hsetnx_row, hset_row, hmset_row};
 ghost use Rattle.command_table.specs.HashCommands.{hincrby_row};
 ghost use Rattle.command_table.specs.Held.{told_held};
-ghost use Rattle.command_table.specs.Row.{row_of, reading_among};
+ghost use Rattle.command_table.specs.CommandRow.{row_of, reading_among};
 ghost use Rattle.command_table.specs.Words.{texts_of};
 
 use crate::arity::Arity;

@@ -4,7 +4,7 @@ ghost use Rattle.std.specs.Prelude.{◌≡◌, length, MatchResult, Some, None};
 ghost use Rattle.command_table.specs.Held.{told_held};
 ghost use Rattle.command_table.specs.KeyCommands.{key_command_told, key_rows, del_row, unlink_row, exists_row, type_row, rename_row};
 ghost use Rattle.command_table.specs.KeyCommands.{renamenx_row, dbsize_row, flushall_reading};
-ghost use Rattle.command_table.specs.Row.{row_of, reading_among};
+ghost use Rattle.command_table.specs.CommandRow.{row_of, reading_among};
 ghost use Rattle.command_table.specs.Words.{texts_of};
 
 use crate::arity::Arity;

@@ -6,7 +6,7 @@ ghost use Rattle.command_table.specs.ListCommands.{list_command_told, list_rows,
 ghost use Rattle.command_table.specs.ListCommands.{llen_row, lpop_row, rpop_row, lpush_row, rpush_row, lpushx_row, rpushx_row};
 ghost use Rattle.command_table.specs.ListCommands.{lindex_row, lset_row, lrange_row, ltrim_row, lrem_row};
 ghost use Rattle.command_table.specs.ListCommands.{linsert_row, lmove_row, rpoplpush_row};
-ghost use Rattle.command_table.specs.Row.{row_of, reading_among};
+ghost use Rattle.command_table.specs.CommandRow.{row_of, reading_among};
 ghost use Rattle.command_table.specs.Words.{texts_of};
 
 use crate::arity::Arity;

@@ -8,7 +8,7 @@ ghost use Rattle.std.specs.Prelude.{◌≡◌, Err, IfOk, unwrap_or};
 ghost use Rattle.command_table.specs.declared.refusal.Refusal.TheVariants.{Unknown};
 ghost use Rattle.command_table.specs.Keyed.{IsKeyed};
 ghost use Rattle.command_table.specs.Reading.{reading, rows, IsTold};
-ghost use Rattle.command_table.specs.Row.{reading_among};
+ghost use Rattle.command_table.specs.CommandRow.{reading_among};
 ghost use Rattle.command_table.specs.Words.{lower, texts_of};
 
 use crate::command::Command;

@@ -2,7 +2,7 @@
 
 ghost use Rattle.std.specs.Prelude.{◌≡◌, ◌≤◌, length, MatchResult, Some, None};
 ghost use Rattle.command_table.specs.Held.{told_held};
-ghost use Rattle.command_table.specs.Row.{row_of, reading_among};
+ghost use Rattle.command_table.specs.CommandRow.{row_of, reading_among};
 ghost use Rattle.command_table.specs.SetCommands.{set_command_told, set_rows};
 ghost use Rattle.command_table.specs.SetCommands.{sadd_row, srem_row, sismember_row, smismember_row, scard_row, smembers_row};
 ghost use Rattle.command_table.specs.SetCommands.{smove_row, sinter_row, sunion_row, sdiff_row};

@@ -7,7 +7,7 @@ ghost use Rattle.command_table.specs.StringCommands.{mget_row, strlen_row, getra
 ghost use Rattle.command_table.specs.StringCommands.{incr_row, decr_row, incrby_row, decrby_row, append_row, setrange_row, mset_row};
 ghost use Rattle.command_table.specs.StringCommands.{msetnx_row};
 ghost use Rattle.command_table.specs.StringCommands.{options_condition, is_option};
-ghost use Rattle.command_table.specs.Row.{row_of, reading_among};
+ghost use Rattle.command_table.specs.CommandRow.{row_of, reading_among};
 ghost use Rattle.command_table.specs.Words.{texts_of};
 ghost use Rattle.std.specs.List.{list_all};
 

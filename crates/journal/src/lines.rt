@@ -1,6 +1,7 @@
 //! The steps of a trace's lines.
 
-ghost use Rattle.std.specs.Prelude.{◌≡◌, ◌∷◌, [], ◌<◌, length, map, IfOk, MatchOption, option_map};
+ghost use Rattle.std.specs.Prelude.{◌≡◌, ◌∷◌, [], ◌<◌, length, IfOk, MatchOption, option_map};
+ghost use Rattle.texts.specs.Texts.{texts_of};
 ghost use Rattle.journal.specs.TraceText.{alone, all_in, id_in, only_number, parts_in, run_in, step_in, submit_in, word_in};
 
 use super::parts::{cut_at, id_in, number_in, word_in};
@@ -70,7 +71,7 @@ fn only_number(mut args: Args<'_>) -> Option<u64>
 
 /// The words that the parts are; `AllocError` where there is no memory for them.
 fn words_in(alloc: Global, mut args: Args<'_>) -> Result<Option<Vec<Vec<u8>>>, AllocError>
-    ensures { IfOk result (λ r. option_map (λ ws. map (λ w. w.items) ws.items) r ≡ all_in word_in args.entry) }
+    ensures { IfOk result (λ r. option_map (λ ws. texts_of ws.items) r ≡ all_in word_in args.entry) }
 {
     let mut words = Vec::new(alloc);
     while let Some(arg) = args.next() {

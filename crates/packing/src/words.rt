@@ -1,6 +1,7 @@
 //! Words, and the words of a request.
 
-ghost use Rattle.std.specs.Prelude.{◌≡◌, ℕ, ◌+◌, ◌≤◌, ◌<◌, ◌^◌, ◌++◌, List, length, map, vec_len, vec_capacity, MatchOption, IfOk};
+ghost use Rattle.std.specs.Prelude.{◌≡◌, ℕ, ◌+◌, ◌≤◌, ◌<◌, ◌^◌, ◌++◌, List, length, vec_len, vec_capacity, MatchOption, IfOk};
+ghost use Rattle.texts.specs.Texts.{texts_of};
 ghost use Rattle.packing.specs.Codes.{word_code, word_at, words_code, words_at, WordFits, WordsFit};
 
 use crate::number::{number_size, put_bytes, put_number, take_number};
@@ -58,7 +59,7 @@ pub fn take_word(bytes: &[u8]) -> (&[u8], &[u8])
 /// for it. Bytes that no words begin give some words too.
 #[tactic(auto, unfolding(crate::specs::Codes::words_at))]
 pub fn take_words(alloc: Global, bytes: &[u8]) -> Result<(Vec<Vec<u8>>, &[u8]), AllocError>
-    ensures words { IfOk result (λ r. map (λ w. w.items) r.0.items ≡ (words_at bytes.now).0) }
+    ensures words { IfOk result (λ r. texts_of r.0.items ≡ (words_at bytes.now).0) }
     ensures rest { IfOk result (λ r. r.1.now ≡ (words_at bytes.now).1) }
 {
     let (count, mut rest) = take_number(bytes);

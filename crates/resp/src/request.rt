@@ -3,6 +3,7 @@
 //! RESP2 sends a request as an array of bulk strings. The decoder makes requests, and the table of commands reads them.
 
 ghost use Rattle.std.specs.Prelude.{◌≡◌, ◌<◌, length, map, slice_get, Some, IfOk};
+ghost use Rattle.texts.specs.Texts.{texts_of};
 
 use std::alloc::{AllocError, Global};
 use std::marker::Model;
@@ -15,11 +16,12 @@ pub struct Request {
 }
 
 impl Model for Request {
-    ghost use Rattle.std.specs.Prelude.{ℕ, List, map, length, ◌<◌};
+    ghost use Rattle.std.specs.Prelude.{List, length, ◌<◌};
+    ghost use Rattle.texts.specs.Texts.{Bytes, texts_of};
 
-    ghost Value = { List (List ℕ) };
+    ghost Value = { List Bytes };
 
-    ghost view = { λ r. map (λ w. w.items) r.words.items };
+    ghost view = { λ r. texts_of r.words.items };
 
     ghost invariant = { λ r. 0 < length r.words.items };
 }
@@ -28,7 +30,7 @@ impl Request {
     /// The request of these words, of which there is at least one. It takes no memory.
     pub fn from_words(words: Vec<Vec<u8>>) -> Self
         requires { 0 < length words.items }
-        ensures { result ≡ map (λ w. w.items) words.items }
+        ensures { result ≡ texts_of words.items }
     {
         Request { words }
     }
@@ -73,7 +75,7 @@ impl Request {
 
     /// The words, given back with the memory that they lie in.
     pub fn into_words(self) -> Vec<Vec<u8>>
-        ensures words { map (λ w. w.items) result.items ≡ self }
+        ensures words { texts_of result.items ≡ self }
         ensures some { 0 < length result.items }
     {
         self.words
@@ -82,7 +84,7 @@ impl Request {
 
 /// Copies of these words, in their order.
 fn copies_of(alloc: Global, words: &[Vec<u8>]) -> Result<Vec<Vec<u8>>, AllocError>
-    ensures { IfOk result (λ copies. map (λ w. w.items) copies.items ≡ map (λ w. w.items) words.now) }
+    ensures { IfOk result (λ copies. texts_of copies.items ≡ texts_of words.now) }
 {
     let mut copies = Vec::with_capacity(alloc, words.len())?;
     for word in words {

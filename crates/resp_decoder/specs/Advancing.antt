@@ -1,6 +1,7 @@
 -- How far the held bytes are read, and what reading on does.
-use Rattle.std.specs.Prelude.{◌≡◌, ◌≢◌, ℕ, zero, suc, vec_capacity, ◌+◌, ◌<◌, ◌≤◌, List, [], ◌++◌, length, map, drop, Result, Ok, Err, Some}
+use Rattle.std.specs.Prelude.{◌≡◌, ◌≢◌, ℕ, zero, suc, vec_capacity, ◌+◌, ◌<◌, ◌≤◌, List, [], ◌++◌, length, drop, Result, Ok, Err, Some}
 use Rattle.std.specs.List.{AllByRecursion}
+use Rattle.texts.specs.Texts.{texts_of}
 use Rattle.resp_decoder.specs.declared.fault.Fault.{Fault}
 use Rattle.resp_decoder.specs.declared.fault.Fault.TheVariants.{Memory}
 use Rattle.resp_decoder.specs.declared.limits.Limits.{Limits}
@@ -14,7 +15,7 @@ use Rattle.resp_decoder.specs.Parsing.{head_at, word_at}
 
 -- the words that have come of the open request
 abbrev pub words_of : Progress → List (List ℕ)
-words_of p = map (λ w. w.items) p.words.items
+words_of p = texts_of p.words.items
 
 -- the bytes that are held: those of the open request, and those of the buffer that are not read
 abbrev pub held_bytes : Progress → List ℕ → List ℕ

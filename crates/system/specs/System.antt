@@ -57,7 +57,7 @@ pub record IsStep (old : SystemView) (step : Step) (effect : Effect) (new : Syst
   pub makes : Makes old.parts step effect new.parts
 
 -- all is as before but room
-pub record IsKept (old new : SystemView) : Type 0 where
+pub record IsSameButRoom (old new : SystemView) : Type 0 where
   pub max_steps : new.max_steps ≡ old.max_steps
   pub steps : new.steps ≡ old.steps
   pub parts : Keeps old.parts new.parts
@@ -66,7 +66,7 @@ pub record Refuses (old : SystemView) (step : Step) (fault : StepFault) (new : S
   pub lived : old.parts.store.failed ≡ false
   pub left : old.steps < old.max_steps
   pub why : IsFault old.parts step fault
-  pub kept : IsKept old new
+  pub kept : IsSameButRoom old new
 
 -- why it was not made
 abbrev pub IsRefused : Bool → SystemView → Step → StepFault → SystemView → Type 0

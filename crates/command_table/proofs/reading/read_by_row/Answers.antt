@@ -4,7 +4,7 @@ use Rattle.command_table.specs.KeyCommands.{key_rows}
 use Rattle.command_table.specs.ListCommands.{list_rows}
 use Rattle.command_table.specs.LocalCommands.{local_rows}
 use Rattle.command_table.specs.Reading.{rows}
-use Rattle.command_table.specs.Row.{row_of, row_reading, reading_among}
+use Rattle.command_table.specs.CommandRow.{row_of, row_reading, reading_among}
 use Rattle.command_table.specs.SetCommands.{set_rows}
 use Rattle.command_table.specs.StringCommands.{string_rows}
 use Rattle.command_table.specs.Words.{texts_of}

@@ -1,7 +1,7 @@
 use Rattle.std.proofs.Common.{Err, unwrap_or, option_map, refl, sym, ap}
 use Rattle.command_table.specs.declared.refusal.Refusal.TheVariants.{Unknown}
 use Rattle.command_table.specs.Reading.{rows}
-use Rattle.command_table.specs.Row.{row_reading}
+use Rattle.command_table.specs.CommandRow.{row_reading}
 use Rattle.command_table.specs.Words.{texts_of}
 use Rattle.command_table.proofs.Finding.{none_of_bytes}
 use Rattle.command_table.proofs.reading.read_named.Goals as goal

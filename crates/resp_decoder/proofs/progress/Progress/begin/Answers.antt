@@ -1,6 +1,7 @@
-use Rattle.std.proofs.Common.{◌-◌, length, map, Err, refl, sym, ap, ◌∙◌, arith}
+use Rattle.std.proofs.Common.{◌-◌, length, Err, refl, sym, ap, ◌∙◌, arith}
 use Rattle.std.proofs.lemmas.Result.{err_from_is_err_and}
 use Rattle.std.proofs.lemmas.List.{take_rest}
+use Rattle.texts.specs.Texts.{texts_of}
 use Rattle.resp_decoder.specs.declared.progress.Progress.{Progress}
 use Rattle.resp_decoder.proofs.Steps.{passes_item, passes_head}
 use Rattle.resp_decoder.proofs.Wants.{stops_at_head, wants_at_head}
@@ -16,7 +17,7 @@ overflow_sub-self c =
     (passes_head c.args.limits c.args.buffer.now c.args.self.now c.loop-count.self new c.in_ok-count.count c.unwrap_or-count.result
     c.in_ok-count.rest.now c.loop-count.invariant.0
     (rw take_rest at c.in_ok-count.ensures) c.unwrap_or-count.ensures c.if-count-gt0.true
-    (ap (map (λ w. w.items)) c.in_ok-self.ensures.items ∙ sym (c.loop-count.invariant.0.sound.idle c.loop-count.invariant.0.idle)) refl
+    (ap texts_of c.in_ok-self.ensures.items ∙ sym (c.loop-count.invariant.0.sound.idle c.loop-count.invariant.0.idle)) refl
     refl).rest_fits
 
 pub returns-then-count-gt0-clause-begins : goal.returns-then-count-gt0-clause-begins
@@ -29,7 +30,7 @@ returns-then-count-gt0-clause-begins c =
     (passes_head c.args.limits c.args.buffer.now c.args.self.now c.loop-count.self new c.in_ok-count.count c.unwrap_or-count.result
     c.in_ok-count.rest.now c.loop-count.invariant.0
     (rw take_rest at c.in_ok-count.ensures) c.unwrap_or-count.ensures c.if-count-gt0.true
-    (ap (map (λ w. w.items)) c.in_ok-self.ensures.items ∙ sym (c.loop-count.invariant.0.sound.idle c.loop-count.invariant.0.idle)) refl
+    (ap texts_of c.in_ok-self.ensures.items ∙ sym (c.loop-count.invariant.0.sound.idle c.loop-count.invariant.0.idle)) refl
     refl).begun
 
 pub overflow_sub-self-in-loop-count : goal.overflow_sub-self-in-loop-count

@@ -1,6 +1,7 @@
-use Rattle.std.proofs.Common.{◌≡◌, ◌++◌, ◌∷◌, [], map, Err, ◌≤◌, refl, sym, ap, subst, ◌∙◌}
+use Rattle.std.proofs.Common.{◌≡◌, ◌++◌, ◌∷◌, [], Err, ◌≤◌, refl, sym, ap, subst, ◌∙◌}
 use Rattle.std.proofs.lemmas.Result.{err_from_is_err_and}
 use Rattle.std.proofs.lemmas.List.{take_rest, map_push}
+use Rattle.texts.specs.Texts.{texts_of}
 use Rattle.resp_decoder.specs.Advancing.{words_of}
 use Rattle.resp_decoder.specs.declared.progress.TheConstants.{FIRST_WORDS}
 use Rattle.resp_decoder.specs.declared.progress.Progress.{Progress}
@@ -17,8 +18,8 @@ overflow_sub-self c =
 pub loop-self-preserved : goal.loop-self-preserved
 loop-self-preserved c =
     let pushed = c.push_reserved.ensures.items ∙ ap (λ xs. xs ++ c.in_ok-copy.copy ∷ []) c.in_ok-reserve.ensures.items in
-    let words_is : map (λ w. w.items) c.push_reserved.new.self.items ≡ words_of c.loop-self.self ++ c.in_ok-word.word.now ∷ [] =
-    ap (map (λ w. w.items)) pushed ∙ map_push (λ w. w.items) c.loop-self.self.words.items c.in_ok-copy.copy
+    let words_is : texts_of c.push_reserved.new.self.items ≡ words_of c.loop-self.self ++ c.in_ok-word.word.now ∷ [] =
+    ap texts_of pushed ∙ map_push (λ w. w.items) c.loop-self.self.words.items c.in_ok-copy.copy
     ∙ ap (λ w. words_of c.loop-self.self ++ w ∷ []) c.in_ok-copy.ensures.items in
     let step = fill_step c.args.bulk c.args.buffer.now c.args.self.now c.loop-self.self _ c.in_ok-word.word.now c.in_ok-word.rest.now
     c.ranges.bulk.fits c.loop-self.invariant.0 c.loop-self.invariant.1 c.loop-self-test.true
@@ -46,7 +47,7 @@ returns-in_err-reserve-clause-ended c =
 
 pub returns-in_err-reserve-clause-little : goal.returns-in_err-reserve-clause-little
 returns-in_err-reserve-clause-little c = λ none.
-    let before : words_of c.loop-self.self ≡ [] = ap (map (λ w. w.items)) (sym c.in_err-reserve.ensures.items) ∙ none in
+    let before : words_of c.loop-self.self ≡ [] = ap texts_of (sym c.in_err-reserve.ensures.items) ∙ none in
     subst (λ n. n ≤ FIRST_WORDS) (sym c.in_err-reserve.ensures.err) (c.loop-self.invariant.2 before)
 
 pub returns-clause-little : goal.returns-clause-little

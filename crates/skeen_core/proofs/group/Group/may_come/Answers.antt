@@ -12,7 +12,8 @@ returns-then-self-le-GREATEST_CLOCK c =
     let g = c.self.inside in
     let p = c.args.packet.now in
     let body = body_may_come g.id g.proposals.items p.id p.body in
-    let is : c.body_may_come.result ≡ (p.to == g.id && (nat_le g.clock GREATEST_CLOCK && body_may_come g.id g.proposals.items p.id p.body)) =
+    let is : c.body_may_come.result ≡
+    (p.to == g.id && (nat_le g.clock GREATEST_CLOCK && body_may_come g.id g.proposals.items p.id p.body)) =
     elim c.if-eq.branch [
       | then-eq w ↦
           c.body_may_come.ensures ∙ ap (λ l. body_may_come g.id l p.id p.body) c.as_slice.ensures.value

@@ -16,27 +16,27 @@ Reading = Result Command Refusal
 
 -- a command's name in lower case, how many words it takes, which of them are keys, and what the words after the name
 -- say
-pub record Row : Type 0 where
+pub record CommandRow : Type 0 where
   pub name : Word
   pub arity : Arity
   pub keys : KeySpan
   pub reading : List Word → Reading
 
 -- what a row tells of the command that these words say, the first of which is a name in any case
-abbrev pub row_told : Row → List Word → Telling
+abbrev pub row_told : CommandRow → List Word → Telling
 row_told r words = record { name = r.name; keys = keys_in r.keys words }
 
 -- the row of this name
-abbrev pub row_of : List Row → Word → Option Row
+abbrev pub row_of : List CommandRow → Word → Option CommandRow
 row_of [] name = None
 row_of (r ∷ rs) name = if bytes_eq name r.name then Some r else row_of rs name
 
 -- what a row says of the words after the name: how many there are is looked at first
-abbrev pub row_reading : Row → List Word → Reading
+abbrev pub row_reading : CommandRow → List Word → Reading
 row_reading r words = if admits r.arity (length words + 1) then r.reading words else Err (refusal.Arity r.name)
 
 -- what these rows say of a name and the words after it; None where no row has the name
-abbrev pub reading_among : List Row → Word → List Word → Option Reading
+abbrev pub reading_among : List CommandRow → Word → List Word → Option Reading
 reading_among rows name words = option_map (λ r. row_reading r words) (row_of rows name)
 
 -- what the words say where they are pairs; an odd number of words is a wrong one
