@@ -8,8 +8,6 @@
 mod cluster;
 mod history;
 mod pick;
-#[cfg(test)]
-mod tests;
 
 pub use cluster::{Answer, CloseFault, Closing, Cluster, Seat};
 pub use pick::{First, Pick};

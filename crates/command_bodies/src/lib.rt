@@ -6,8 +6,6 @@
 #![tactic(auto)]
 
 mod local_commands;
-#[cfg(test)]
-mod tests;
 
 ghost use Rattle.std.specs.Prelude.{◌≡◌, All, IsTrue, OnErr};
 ghost use Rattle.command_bodies.specs.Command.{case_of, effect_of, TakesMemory, AnswersCommute, ContentsCommute};

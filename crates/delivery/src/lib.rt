@@ -9,8 +9,6 @@ mod laws;
 mod queue;
 mod queues;
 mod search;
-#[cfg(test)]
-mod tests;
 
 pub use laws::laws_of_layers;
 pub use queues::Queues;

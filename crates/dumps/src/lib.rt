@@ -6,7 +6,5 @@
 
 mod dump;
 mod line;
-#[cfg(test)]
-mod tests;
 
 pub use dump::Dump;

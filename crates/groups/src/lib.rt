@@ -11,6 +11,3 @@ mod iter;
 pub use group_id::GroupId;
 pub use group_set::Groups;
 pub use iter::Iter;
-
-#[cfg(test)]
-mod tests;

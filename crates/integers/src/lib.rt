@@ -10,8 +10,6 @@ mod integer;
 mod printed;
 mod range;
 mod sum;
-#[cfg(test)]
-mod tests;
 
 pub use integer::read_integer;
 pub use printed::{number_text, set_number};

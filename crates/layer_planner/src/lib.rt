@@ -7,8 +7,6 @@
 mod job;
 mod layer;
 mod part;
-#[cfg(test)]
-mod tests;
 
 pub use job::Job;
 pub use layer::Layer;

@@ -12,4 +12,8 @@ mod many;
 #[cfg(test)]
 mod memory;
 #[cfg(test)]
+mod parts;
+#[cfg(test)]
+mod queues;
+#[cfg(test)]
 mod trouble;

@@ -10,9 +10,8 @@ mod fault;
 mod layout;
 mod slots;
 mod table;
-#[cfg(test)]
-mod tests;
 
 pub use fault::TableFault;
 pub use groups::{GroupId, Groups};
+pub use slots::{hash_of, slot_of, tag_of};
 pub use table::Table;

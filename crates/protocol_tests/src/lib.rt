@@ -6,4 +6,8 @@ mod decoder;
 #[cfg(test)]
 mod group;
 #[cfg(test)]
+mod rows;
+#[cfg(test)]
 mod trace;
+#[cfg(test)]
+mod written;

@@ -95,6 +95,3 @@ fn workers_in(text: Option<&str>) -> Result<u8, OptionsFault>
         _ => Err(OptionsFault::Workers),
     }
 }
-
-#[cfg(test)]
-mod tests;

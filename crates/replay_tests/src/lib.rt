@@ -8,6 +8,8 @@
 #[cfg(test)]
 mod memory;
 #[cfg(test)]
+mod options;
+#[cfg(test)]
 mod refusals;
 #[cfg(test)]
 mod reports;

@@ -17,4 +17,6 @@ mod sockets;
 #[cfg(test)]
 mod trouble;
 #[cfg(test)]
+mod turns;
+#[cfg(test)]
 mod words;

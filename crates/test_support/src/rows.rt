@@ -34,17 +34,3 @@ pub fn requests_of(alloc: Global, row: &str) -> Result<Vec<u8>, AllocError> {
     }
     Ok(bytes)
 }
-
-#[cfg(test)]
-mod tests {
-    use super::*;
-    use std::test::Fail;
-
-    #[test]
-    fn requests_are_written_as_arrays(rt: HostRuntime) -> Result<(), Fail> {
-        let sent = requests_of(rt.alloc(), "SET a ''; PING")?;
-        let want = bytes_of(rt.alloc(), "*3|$3|SET|$1|a|$0||*1|$4|PING|")?;
-        assert_eq!(rt; sent.as_slice(), want.as_slice());
-        Ok(())
-    }
-}

@@ -14,8 +14,6 @@ mod list_value;
 mod member_tree;
 mod pair_table;
 mod set_value;
-#[cfg(test)]
-mod tests;
 
 pub use hash_value::HashValue;
 pub use items::Items;

@@ -1,4 +1,0 @@
-use Rattle.cluster.proofs.tests.seats_ask_and_stand.Given as goal
-
-abbrev pub ghosts-two_seats_ask : goal.ghosts-two_seats_ask
-ghosts-two_seats_ask g a = record { name = a.blank.name; parts = a.blank.parts }

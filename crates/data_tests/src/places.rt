@@ -1,0 +1,239 @@
+//! Places known from outside, tables as a user writes them, and the groups of requests in the words of a user.
+
+use command_table::{Command, read};
+use placement::{GroupId, Table, TableFault, hash_of, slot_of, tag_of};
+use resp::Request;
+use std::alloc::Global;
+use std::test::Fail;
+
+const TWO_SHARDS: &str = "shards = 2
+
+[[range]]
+from = 0
+to = 511
+shard = 0
+
+[[range]]
+from = 512
+to = 1023
+shard = 1
+";
+
+#[test]
+fn hashes_as_published(rt: HostRuntime) {
+    for (text, want) in [
+        ("", 0xcbf29ce484222325),
+        ("a", 0xaf63dc4c8601ec8c),
+        ("b", 0xaf63df4c8601f1a5),
+        ("foobar", 0x85944171f73967e8),
+    ] {
+        assert_eq!(rt; hash_of(text.as_bytes()), want, "`{text}`");
+    }
+}
+
+#[test]
+fn tags_are_those_of_redis_cluster(rt: HostRuntime) {
+    for (key, tag) in [
+        ("{user1000}.following", "user1000"),
+        ("foo{}{bar}", "foo{}{bar}"),
+        ("foo{{bar}}zap", "{bar"),
+        ("foo{bar}{zap}", "bar"),
+        ("}foo{bar", "}foo{bar"),
+    ] {
+        assert_eq!(rt; tag_of(key.as_bytes()), tag.as_bytes(), "`{key}`");
+    }
+}
+
+#[test]
+fn keys_lie_in_their_slots(rt: HostRuntime) {
+    for (key, slot) in [
+        ("", 805),
+        ("a", 140),
+        ("b", 421),
+        ("c", 1010),
+        ("d", 883),
+        ("x", 775),
+        ("y", 340),
+        ("z", 621),
+        ("{a}1", 140),
+        ("x{a}", 140),
+        ("{}a", 396),
+        ("{a", 33),
+    ] {
+        assert_eq!(rt; slot_of(key.as_bytes()), slot, "`{key}`");
+    }
+}
+
+#[test]
+fn reads_a_table(rt: HostRuntime) -> Result<(), Fail> {
+    let table = Table::from_toml(rt.alloc(), TWO_SHARDS)?;
+    assert_eq!(rt; table.shards(), 2);
+    let copy = table;
+    assert!(rt; copy == table);
+    for (key, shard) in [
+        ("a", 0),
+        ("b", 0),
+        ("y", 0),
+        ("c", 1),
+        ("d", 1),
+        ("x", 1),
+        ("z", 1),
+        ("", 1),
+    ] {
+        assert_eq!(rt;
+            copy.shard_of(key.as_bytes()),
+            GroupId::new(shard),
+            "`{key}`"
+        );
+    }
+    Ok(())
+}
+
+/// A line of `TWO_SHARDS`, what it is replaced by, and why the text is then refused.
+#[rattlefmt::skip]
+const REFUSED: [(&str, &str, TableFault); 28] = [
+    ("from = 512", "from = 513", TableFault::Missing),
+    ("from = 512", "from = 511", TableFault::Twice),
+    ("shard = 1", "shard = 2", TableFault::Shard),
+    ("shards = 2", "shards = \"2\"", TableFault::Toml),
+    ("shards = 2", "shards = 0", TableFault::Shard),
+    ("shards = 2", "shards = 65", TableFault::Shard),
+    ("shards = 2", "shards = -1", TableFault::Shard),
+    ("shards = 2", "shards = 9223372036854775807", TableFault::Shard),
+    ("shards = 2", "shards = 9223372036854775808", TableFault::Toml),
+    ("shards = 2", "shards =", TableFault::Toml),
+    ("shards = 2", "shards = 2\nname = \"a\"", TableFault::Toml),
+    ("shards = 2", "", TableFault::Toml),
+    ("to = 1023", "to = 1024", TableFault::Toml),
+    ("to = 1023", "to = 1023.0", TableFault::Toml),
+    ("from = 0", "from = 512", TableFault::Toml),
+    ("from = 0", "from = -1", TableFault::Toml),
+    ("shard = 1", "shard = -9223372036854775809", TableFault::Toml),
+    ("from = 0", "", TableFault::Toml),
+    ("shard = 1", "shard = 1\nname = \"a\"", TableFault::Toml),
+    ("shard = 1", "shard = -1", TableFault::Shard),
+    // The first fault is told: Toml, Shard, Twice, Missing.
+    ("from = 512\nto = 1023\nshard = 1", "from = 511\nto = 1024\nshard = 2", TableFault::Toml),
+    ("from = 512\nto = 1023\nshard = 1", "from = 511\nto = 1023\nshard = 2", TableFault::Shard),
+    ("from = 512\nto = 1023", "from = 511\nto = 1022", TableFault::Twice),
+    (TWO_SHARDS, "", TableFault::Toml),
+    (TWO_SHARDS, "shards = 2\nrange = []", TableFault::Missing),
+    (TWO_SHARDS, "shards = 0\nrange = []", TableFault::Shard),
+    (TWO_SHARDS, "shards = 2\nrange = [1]", TableFault::Toml),
+    (TWO_SHARDS, "shards = 2\nrange = { from = 0, to = 1023, shard = 0 }", TableFault::Toml),
+];
+
+#[test]
+fn refuses_what_is_no_table(rt: HostRuntime) -> Result<(), Fail> {
+    let alloc = rt.alloc();
+    for (old, new, want) in REFUSED {
+        let (before, behind) = TWO_SHARDS.split_once(old).ok_or("no such line")?;
+        let text = format!(in alloc; "{before}{new}{behind}")?;
+        match Table::from_toml(alloc, text.as_str()) {
+            Ok(_) => assert!(rt; false, "read: {text}"),
+            Err(fault) => assert_eq!(rt; fault, want, "at {text}"),
+        }
+    }
+    Ok(())
+}
+
+#[test]
+fn reads_inline_tables_over_several_lines(rt: HostRuntime) -> Result<(), Fail> {
+    let text = "shards = 1\nrange = [{\n  from = 0,\n  to = 1023,\n  shard = 0,\n}]";
+    assert_eq!(rt; Table::from_toml(rt.alloc(), text)?.shards(), 1);
+    Ok(())
+}
+
+#[test]
+fn reads_a_hundred_thousand_ranges(rt: HostRuntime) -> Result<(), Fail> {
+    let mut text = String::from_str(rt.alloc(), "shards = 1\nrange = [\n")?;
+    for number in 0..100_000u32 {
+        let slot = number % 1024;
+        write!(text, "{{ from = {slot}, to = {slot}, shard = 0 }},\n")?;
+    }
+    text.push(']')?;
+    match Table::from_toml(rt.alloc(), text.as_str()) {
+        Ok(_) => assert!(rt; false, "slots are in many ranges"),
+        Err(fault) => assert_eq!(rt; fault, TableFault::Twice),
+    }
+    Ok(())
+}
+
+#[test]
+fn addresses_the_shards_of_the_keys(rt: HostRuntime) -> Result<(), Fail> {
+    let alloc = rt.alloc();
+    let text = table_of_64_shards(alloc)?;
+    let table = Table::from_toml(alloc, text.as_str())?;
+    for (words, want) in [
+        (&["GET", ""][..], &[50u8][..]),
+        (&["DEL", "c", "a"], &[8, 63]),
+        (&["DEL", "z", "a", "b", "{a}1", "z"], &[8, 26, 38]),
+        (&["SET", "y", "a"], &[21]),
+        (&["PING"], &[]),
+        (&["ECHO", "a"], &[]),
+    ] {
+        let numbers = groups_addressed(alloc, &table, words)?;
+        assert_eq!(rt; numbers.as_slice(), want, "{words:?}");
+    }
+    Ok(())
+}
+
+// A table of 64 shards, with 16 slots each.
+fn table_of_64_shards(alloc: Global) -> Result<String, Fail> {
+    let mut text = String::from_str(alloc, "shards = 64\n")?;
+    for shard in 0..64u16 {
+        let (from, to) = (16 * shard, 16 * shard + 15);
+        write!(
+            text,
+            "[[range]]\nfrom = {from}\nto = {to}\nshard = {shard}\n"
+        )?;
+    }
+    Ok(text)
+}
+
+// The numbers of the groups that these words address.
+fn groups_addressed(alloc: Global, table: &Table, words: &[&str]) -> Result<Vec<u8>, Fail> {
+    let command = command(alloc, words)?;
+    let groups = table.groups(&command);
+    discard(command);
+    let mut numbers = Vec::new(alloc);
+    for group in groups.iter() {
+        numbers.push(group.number())?;
+    }
+    Ok(numbers)
+}
+
+// Lets a value go. What that takes for each kind of command is seen here alone.
+fn discard<T: Drop>(_value: T) {}
+
+// The command of these words.
+fn command(alloc: Global, words: &[&str]) -> Result<Command, Fail> {
+    let mut copies = Vec::new(alloc);
+    for word in words {
+        copies.push(Vec::from_slice(alloc, word.as_bytes())?)?;
+    }
+    if copies.is_empty() {
+        return Err("no words".into());
+    }
+    Ok(read(Request::from_words(copies))?)
+}
+
+#[test]
+fn says_why_a_text_is_refused(rt: HostRuntime) -> Result<(), Fail> {
+    for (fault, want) in [
+        (
+            TableFault::Toml,
+            "not a TOML document of `shards` and tables `range` of `from`, `to` and `shard`",
+        ),
+        (TableFault::Missing, "a slot is in no range"),
+        (TableFault::Twice, "a slot is in two ranges"),
+        (
+            TableFault::Shard,
+            "`shards` is not 1 to 64, or a `shard` is not below it",
+        ),
+        (TableFault::Memory, "out of memory"),
+    ] {
+        assert_eq!(rt; fault.to_string(rt.alloc())?.as_str(), want);
+    }
+    Ok(())
+}

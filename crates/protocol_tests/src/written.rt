@@ -1,0 +1,43 @@
+//! Replies of every kind as they are written, and the words of a request.
+
+use resp::{ErrorText, Reply, Request, write_reply};
+use std::alloc::{AllocError, Global};
+use std::test::Fail;
+
+fn every_kind(alloc: Global) -> Result<Reply, AllocError> {
+    let mut inner = Vec::new(alloc);
+    inner.push(Reply::Int(-10))?;
+    inner.push(Reply::Null)?;
+    let mut replies = Vec::new(alloc);
+    replies.push(Reply::Simple("OK"))?;
+    replies.push(Reply::Error(ErrorText::Arity("get")))?;
+    replies.push(Reply::Array(inner))?;
+    replies.push(Reply::Bulk(Vec::from_slice(alloc, b"a\r\nb")?))?;
+    Ok(Reply::Array(replies))
+}
+
+#[test]
+fn writes_every_kind_behind_what_is_there(rt: HostRuntime) -> Result<(), Fail> {
+    let mut out = Vec::from_slice(rt.alloc(), b"+PONG\r\n")?;
+    write_reply(&every_kind(rt.alloc())?, &mut out)?;
+    write_reply(&Reply::out_of_memory(), &mut out)?;
+    let want = "+PONG\r\n*4\r\n+OK\r\n-ERR wrong number of arguments for 'get' command\r\n\
+        *2\r\n:-10\r\n$-1\r\n$4\r\na\r\nb\r\n-ERR out of memory\r\n";
+    assert_eq!(rt; out.as_slice(), want.as_bytes());
+    Ok(())
+}
+
+#[test]
+fn keeps_the_words_of_a_request(rt: HostRuntime) -> Result<(), Fail> {
+    let large = Vec::from_elem(rt.alloc(), b'x', 2_000_000)?;
+    let words: &[&[u8]] = &[b"SET", b"a", b"", &large];
+    let request = Request::copy_of(rt.alloc(), words)?;
+    assert_eq!(rt; request.len(), 4);
+    assert_eq!(rt; request.word(3).len(), 2_000_000);
+    assert_eq!(rt; request.word(1), b"a".as_slice());
+    let copy = request.try_clone(rt.alloc())?;
+    assert!(rt; copy.word(3) == large.as_slice());
+    let again = Request::from_words(copy.into_words());
+    assert_eq!(rt; again.word(0), b"SET".as_slice());
+    Ok(())
+}
