@@ -17,9 +17,6 @@ mod steps;
 
 pub use fault::ReplayFault;
 pub use progress::{Progress, Unwatched};
-pub use report::Report;
+pub use report::{Report, compared};
 pub use shown::{ShowFault, show, told, told_watched};
 pub use steps::replay;
-
-#[cfg(test)]
-mod tests;

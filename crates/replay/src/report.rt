@@ -42,8 +42,9 @@ pub(super) fn report_of(alloc: Global, system: System) -> Result<Report, AllocEr
 }
 
 /// The report of these rows, these lines of starved requests and this dump, once one store on one map has run the rows'
-/// requests. The only error is want of memory.
-pub(super) fn compared(
+/// requests in the order of their stamps: it agrees where that store gives the replies of the rows and leaves the dump.
+/// The only error is want of memory.
+pub fn compared(
     alloc: Global,
     rows: &Rows,
     starved: &[u8],

@@ -1,405 +1,311 @@
-//! That each command answers where there is memory for it, over the one table.
+//! That each command answers where there is memory for it, request after request on one store.
+//!
+//! A line is a request and, behind ` = `, its reply, both as in the rows of `test_support`.
 
-use command_bodies::execute;
-use command_table::read;
-use keyspace::Plain;
-use resp::{Reply, Request, write_reply};
+use crate::store::{END, empty_store};
 use std::alloc::Global;
-use std::hash::{BuildHasherDefault, FoldHasher};
 use std::process::Abort;
 use std::test::Fail;
+use test_support::{bytes_of, requests_of};
 
-/// The RESP2 text of the reply to these words.
-fn answer(
-    rt: &impl Abort,
-    alloc: Global,
-    keyspace: &mut Plain<BuildHasherDefault<FoldHasher>>,
-    words: &[&str],
-) -> Result<Vec<u8>, Fail> {
-    let mut request = Vec::new(alloc);
-    for word in words {
-        request.push(word.as_bytes().to_vec(alloc)?)?;
+/// Has an empty store answer these lines in turn.
+fn answer_in_turn(rt: &impl Abort, alloc: Global, lines: &str) -> Result<(), Fail> {
+    let mut store = empty_store(alloc);
+    for line in lines.split('\n') {
+        let (request, reply) = line.split_once(" = ").ok_or("a line has no reply")?;
+        let input = requests_of(alloc, request)?;
+        let mut output = Vec::new(alloc);
+        let ending = store.serve(&mut input.as_slice(), &mut output);
+        assert_eq!(rt; ending, END, "{line}");
+        assert_eq!(rt;
+            output.as_slice(),
+            bytes_of(alloc, reply)?.as_slice(),
+            "{line}"
+        );
     }
-    assert!(rt; request.len() > 0);
-    let reply = match read(Request::from_words(request)) {
-        Ok(command) => execute(alloc, keyspace, command)?,
-        Err(refusal) => Reply::Error(refusal.text()),
-    };
-    let mut text = Vec::new(alloc);
-    write_reply(&reply, &mut text)?;
-    Ok(text)
+    Ok(())
 }
+
+/// The commands that came first.
+const FIRST: &str = "SET a 1 = +OK|
+GET a = $1|1|
+SET a 2 NX = $-1|
+SETNX a 3 = :0|
+SETNX b 3 = :1|
+RENAME a b = +OK|
+RENAME a b = -ERR no such key|
+RENAME b b = +OK|
+GET b = $1|1|
+RENAME b a = +OK|
+GET b = $-1|
+DEL a b a = :1|
+GET a = $-1|
+PING = +PONG|
+ECHO hi = $2|hi|";
 
 #[test]
 fn commands_answer_in_turn(rt: HostRuntime) -> Result<(), Fail> {
-    let mut keyspace = Plain::new(rt.alloc(), BuildHasherDefault::<FoldHasher>::new());
-    let rows: [(&[&str], &str); 15] = [
-        (&["SET", "a", "1"], "+OK\r\n"),
-        (&["GET", "a"], "$1\r\n1\r\n"),
-        (&["SET", "a", "2", "NX"], "$-1\r\n"),
-        (&["SETNX", "a", "3"], ":0\r\n"),
-        (&["SETNX", "b", "3"], ":1\r\n"),
-        (&["RENAME", "a", "b"], "+OK\r\n"),
-        (&["RENAME", "a", "b"], "-ERR no such key\r\n"),
-        (&["RENAME", "b", "b"], "+OK\r\n"),
-        (&["GET", "b"], "$1\r\n1\r\n"),
-        (&["RENAME", "b", "a"], "+OK\r\n"),
-        (&["GET", "b"], "$-1\r\n"),
-        (&["DEL", "a", "b", "a"], ":1\r\n"),
-        (&["GET", "a"], "$-1\r\n"),
-        (&["PING"], "+PONG\r\n"),
-        (&["ECHO", "hi"], "$2\r\nhi\r\n"),
-    ];
-    for (words, reply) in rows {
-        let text = answer(&rt, rt.alloc(), &mut keyspace, words)?;
-        assert_eq!(rt; text.as_slice(), reply.as_bytes(), "{words:?}");
-    }
-    Ok(())
+    answer_in_turn(&rt, rt.alloc(), FIRST)
 }
+
+/// Lists.
+const LISTS: &str = "RPUSH a 1 2 1 3 1 = :5|
+LREM a -2 1 = :2|
+LMOVE a a LEFT RIGHT = $1|1|
+LINSERT a AFTER 3 x = :4|
+LRANGE a 0 -1 = *4|$1|2|$1|3|$1|x|$1|1|
+LINSERT a BEFORE 9 y = :-1|
+LTRIM a 5 9 = +OK|
+LLEN a = :0|
+RENAME a z = -ERR no such key|
+LINSERT a BEFORE 9 y = :0|
+SET b v = +OK|
+LMOVE a b LEFT LEFT = $-1|
+LPUSH c 1 = :1|
+LMOVE c b LEFT LEFT = -WRONGTYPE Operation against a key holding the wrong kind of value|
+LPOP b = -WRONGTYPE Operation against a key holding the wrong kind of value|
+RPUSHX b 1 = -WRONGTYPE Operation against a key holding the wrong kind of value|
+LPUSHX a 1 = :0|
+LPUSHX c 2 3 = :3|
+GET c = -WRONGTYPE Operation against a key holding the wrong kind of value|
+LINDEX c 0 = $1|3|
+LINDEX c -1 = $1|1|
+LINDEX c -3 = $1|3|
+LINDEX c -4 = $-1|
+LINDEX c 3 = $-1|
+LINDEX c -9223372036854775808 = $-1|
+LINDEX c 9223372036854775808 = -ERR value is not an integer or out of range|
+LSET c -2 x = +OK|
+LSET c 3 x = -ERR index out of range|
+LSET a 0 x = -ERR no such key|
+LRANGE c -2 9 = *2|$1|x|$1|1|
+LRANGE c 2 1 = *0|
+RPOPLPUSH c d = $1|1|
+RPOPLPUSH c d = $1|x|
+LRANGE d 0 -1 = *2|$1|x|$1|1|
+RPOP c = $1|3|
+RPOP c = $-1|
+RPUSHX c 1 = :0|
+LMOVE d d UP RIGHT = -ERR syntax error|
+LINSERT d behind x y = -ERR syntax error|
+LINSERT d before 1 1 = :3|
+LREM d 1 1 = :1|
+LREM d -9223372036854775808 1 = :1|
+LREM d 0 x = :1|
+LPOP d = $-1|
+SETNX d 1 = :1|
+GET d = $1|1|";
 
 #[test]
 fn commands_on_lists_answer_in_turn(rt: HostRuntime) -> Result<(), Fail> {
-    let mut keyspace = Plain::new(rt.alloc(), BuildHasherDefault::<FoldHasher>::new());
-    let wrong_type = "-WRONGTYPE Operation against a key holding the wrong kind of value\r\n";
-    let rows: [(&[&str], &str); 46] = [
-        (&["RPUSH", "a", "1", "2", "1", "3", "1"], ":5\r\n"),
-        (&["LREM", "a", "-2", "1"], ":2\r\n"),
-        (&["LMOVE", "a", "a", "LEFT", "RIGHT"], "$1\r\n1\r\n"),
-        (&["LINSERT", "a", "AFTER", "3", "x"], ":4\r\n"),
-        (
-            &["LRANGE", "a", "0", "-1"],
-            "*4\r\n$1\r\n2\r\n$1\r\n3\r\n$1\r\nx\r\n$1\r\n1\r\n",
-        ),
-        (&["LINSERT", "a", "BEFORE", "9", "y"], ":-1\r\n"),
-        (&["LTRIM", "a", "5", "9"], "+OK\r\n"),
-        (&["LLEN", "a"], ":0\r\n"),
-        (&["RENAME", "a", "z"], "-ERR no such key\r\n"),
-        (&["LINSERT", "a", "BEFORE", "9", "y"], ":0\r\n"),
-        (&["SET", "b", "v"], "+OK\r\n"),
-        (&["LMOVE", "a", "b", "LEFT", "LEFT"], "$-1\r\n"),
-        (&["LPUSH", "c", "1"], ":1\r\n"),
-        (&["LMOVE", "c", "b", "LEFT", "LEFT"], wrong_type),
-        (&["LPOP", "b"], wrong_type),
-        (&["RPUSHX", "b", "1"], wrong_type),
-        (&["LPUSHX", "a", "1"], ":0\r\n"),
-        (&["LPUSHX", "c", "2", "3"], ":3\r\n"),
-        (&["GET", "c"], wrong_type),
-        (&["LINDEX", "c", "0"], "$1\r\n3\r\n"),
-        (&["LINDEX", "c", "-1"], "$1\r\n1\r\n"),
-        (&["LINDEX", "c", "-3"], "$1\r\n3\r\n"),
-        (&["LINDEX", "c", "-4"], "$-1\r\n"),
-        (&["LINDEX", "c", "3"], "$-1\r\n"),
-        (&["LINDEX", "c", "-9223372036854775808"], "$-1\r\n"),
-        (
-            &["LINDEX", "c", "9223372036854775808"],
-            "-ERR value is not an integer or out of range\r\n",
-        ),
-        (&["LSET", "c", "-2", "x"], "+OK\r\n"),
-        (&["LSET", "c", "3", "x"], "-ERR index out of range\r\n"),
-        (&["LSET", "a", "0", "x"], "-ERR no such key\r\n"),
-        (&["LRANGE", "c", "-2", "9"], "*2\r\n$1\r\nx\r\n$1\r\n1\r\n"),
-        (&["LRANGE", "c", "2", "1"], "*0\r\n"),
-        (&["RPOPLPUSH", "c", "d"], "$1\r\n1\r\n"),
-        (&["RPOPLPUSH", "c", "d"], "$1\r\nx\r\n"),
-        (&["LRANGE", "d", "0", "-1"], "*2\r\n$1\r\nx\r\n$1\r\n1\r\n"),
-        (&["RPOP", "c"], "$1\r\n3\r\n"),
-        (&["RPOP", "c"], "$-1\r\n"),
-        (&["RPUSHX", "c", "1"], ":0\r\n"),
-        (&["LMOVE", "d", "d", "UP", "RIGHT"], "-ERR syntax error\r\n"),
-        (
-            &["LINSERT", "d", "behind", "x", "y"],
-            "-ERR syntax error\r\n",
-        ),
-        (&["LINSERT", "d", "before", "1", "1"], ":3\r\n"),
-        (&["LREM", "d", "1", "1"], ":1\r\n"),
-        (&["LREM", "d", "-9223372036854775808", "1"], ":1\r\n"),
-        (&["LREM", "d", "0", "x"], ":1\r\n"),
-        (&["LPOP", "d"], "$-1\r\n"),
-        (&["SETNX", "d", "1"], ":1\r\n"),
-        (&["GET", "d"], "$1\r\n1\r\n"),
-    ];
-    for (words, reply) in rows {
-        let text = answer(&rt, rt.alloc(), &mut keyspace, words)?;
-        assert_eq!(rt; text.as_slice(), reply.as_bytes(), "{words:?}");
-    }
-    Ok(())
+    answer_in_turn(&rt, rt.alloc(), LISTS)
 }
+
+/// Keys and strings.
+const STRINGS: &str = "DBSIZE = :0|
+SET a 10 = +OK|
+SET text hello = +OK|
+STRLEN text = :5|
+STRLEN none = :0|
+GETRANGE text 1 -2 = $3|ell|
+GETRANGE text -100 100 = $5|hello|
+GETRANGE text 3 1 = $0||
+GETRANGE none 0 -1 = $0||
+GETSET text world = $5|hello|
+GETSET other x = $-1|
+GETDEL other = $1|x|
+GETDEL other = $-1|
+MGET text none text = *3|$5|world|$-1|$5|world|
+EXISTS a none a = :2|
+TYPE a = +string|
+TYPE none = +none|
+RENAMENX a text = :0|
+RENAMENX a a = :0|
+RENAMENX a b = :1|
+UNLINK b a b = :1|
+DBSIZE = :1|
+FLUSHALL async = +OK|
+DBSIZE = :0|";
 
 #[test]
 fn keys_and_strings_answer_in_turn(rt: HostRuntime) -> Result<(), Fail> {
-    let mut keyspace = Plain::new(rt.alloc(), BuildHasherDefault::<FoldHasher>::new());
-    let rows: [(&[&str], &str); 24] = [
-        (&["DBSIZE"], ":0\r\n"),
-        (&["SET", "a", "10"], "+OK\r\n"),
-        (&["SET", "text", "hello"], "+OK\r\n"),
-        (&["STRLEN", "text"], ":5\r\n"),
-        (&["STRLEN", "none"], ":0\r\n"),
-        (&["GETRANGE", "text", "1", "-2"], "$3\r\nell\r\n"),
-        (&["GETRANGE", "text", "-100", "100"], "$5\r\nhello\r\n"),
-        (&["GETRANGE", "text", "3", "1"], "$0\r\n\r\n"),
-        (&["GETRANGE", "none", "0", "-1"], "$0\r\n\r\n"),
-        (&["GETSET", "text", "world"], "$5\r\nhello\r\n"),
-        (&["GETSET", "other", "x"], "$-1\r\n"),
-        (&["GETDEL", "other"], "$1\r\nx\r\n"),
-        (&["GETDEL", "other"], "$-1\r\n"),
-        (
-            &["MGET", "text", "none", "text"],
-            "*3\r\n$5\r\nworld\r\n$-1\r\n$5\r\nworld\r\n",
-        ),
-        (&["EXISTS", "a", "none", "a"], ":2\r\n"),
-        (&["TYPE", "a"], "+string\r\n"),
-        (&["TYPE", "none"], "+none\r\n"),
-        (&["RENAMENX", "a", "text"], ":0\r\n"),
-        (&["RENAMENX", "a", "a"], ":0\r\n"),
-        (&["RENAMENX", "a", "b"], ":1\r\n"),
-        (&["UNLINK", "b", "a", "b"], ":1\r\n"),
-        (&["DBSIZE"], ":1\r\n"),
-        (&["FLUSHALL", "async"], "+OK\r\n"),
-        (&["DBSIZE"], ":0\r\n"),
-    ];
-    for (words, reply) in rows {
-        let text = answer(&rt, rt.alloc(), &mut keyspace, words)?;
-        assert_eq!(rt; text.as_slice(), reply.as_bytes(), "{words:?}");
-    }
-    Ok(())
+    answer_in_turn(&rt, rt.alloc(), STRINGS)
 }
+
+/// Strings that are numbers.
+const NUMBERS: &str = "SET a 9223372036854775807 = +OK|
+INCR a = -ERR increment or decrement would overflow|
+GET a = $19|9223372036854775807|
+DECRBY a -9223372036854775808 = -ERR increment or decrement would overflow|
+INCR b = :1|
+INCRBY b +1 = -ERR value is not an integer or out of range|
+INCRBY b 41 = :42|
+DECRBY b 50 = :-8|
+DECR b = :-9|
+DECR b = :-10|
+GET b = $3|-10|
+DECR c = :-1|
+SET d 01 = +OK|
+INCR d = -ERR value is not an integer or out of range|
+GET d = $2|01|
+RPUSH e 1 = :1|
+INCR e = -WRONGTYPE Operation against a key holding the wrong kind of value|
+DECRBY e -9223372036854775808 = -ERR increment or decrement would overflow|";
 
 #[test]
 fn numbers_in_strings_answer_in_turn(rt: HostRuntime) -> Result<(), Fail> {
-    let mut keyspace = Plain::new(rt.alloc(), BuildHasherDefault::<FoldHasher>::new());
-    let overflow = "-ERR increment or decrement would overflow\r\n";
-    let no_integer = "-ERR value is not an integer or out of range\r\n";
-    let wrong_type = "-WRONGTYPE Operation against a key holding the wrong kind of value\r\n";
-    let rows: [(&[&str], &str); 18] = [
-        (&["SET", "a", "9223372036854775807"], "+OK\r\n"),
-        (&["INCR", "a"], overflow),
-        (&["GET", "a"], "$19\r\n9223372036854775807\r\n"),
-        (&["DECRBY", "a", "-9223372036854775808"], overflow),
-        (&["INCR", "b"], ":1\r\n"),
-        (&["INCRBY", "b", "+1"], no_integer),
-        (&["INCRBY", "b", "41"], ":42\r\n"),
-        (&["DECRBY", "b", "50"], ":-8\r\n"),
-        (&["DECR", "b"], ":-9\r\n"),
-        (&["DECR", "b"], ":-10\r\n"),
-        (&["GET", "b"], "$3\r\n-10\r\n"),
-        (&["DECR", "c"], ":-1\r\n"),
-        (&["SET", "d", "01"], "+OK\r\n"),
-        (&["INCR", "d"], no_integer),
-        (&["GET", "d"], "$2\r\n01\r\n"),
-        (&["RPUSH", "e", "1"], ":1\r\n"),
-        (&["INCR", "e"], wrong_type),
-        (&["DECRBY", "e", "-9223372036854775808"], overflow),
-    ];
-    for (words, reply) in rows {
-        let text = answer(&rt, rt.alloc(), &mut keyspace, words)?;
-        assert_eq!(rt; text.as_slice(), reply.as_bytes(), "{words:?}");
-    }
-    Ok(())
+    answer_in_turn(&rt, rt.alloc(), NUMBERS)
 }
+
+/// Sets, one at a time.
+const SETS: &str = "SADD a m b m = :2|
+SADD a b x = :1|
+SADD a x = :0|
+SMEMBERS a = *3|$1|b|$1|m|$1|x|
+SMEMBERS none = *0|
+SCARD a = :3|
+SCARD none = :0|
+SISMEMBER a m = :1|
+SISMEMBER a q = :0|
+SISMEMBER none m = :0|
+SMISMEMBER a m q m = *3|:1|:0|:1|
+SMISMEMBER none m = *1|:0|
+TYPE a = +set|
+GET a = -WRONGTYPE Operation against a key holding the wrong kind of value|
+LPUSH a m = -WRONGTYPE Operation against a key holding the wrong kind of value|
+HGET a m = -WRONGTYPE Operation against a key holding the wrong kind of value|
+SREM a m q m = :1|
+SREM a b x = :2|
+SREM a b = :0|
+EXISTS a = :0|
+SET a v = +OK|
+SADD a m = -WRONGTYPE Operation against a key holding the wrong kind of value|
+SREM a m = -WRONGTYPE Operation against a key holding the wrong kind of value|
+SISMEMBER a m = -WRONGTYPE Operation against a key holding the wrong kind of value|
+SMISMEMBER a m = -WRONGTYPE Operation against a key holding the wrong kind of value|
+SCARD a = -WRONGTYPE Operation against a key holding the wrong kind of value|
+SMEMBERS a = -WRONGTYPE Operation against a key holding the wrong kind of value|
+SADD c m = :1|
+RENAME a c = +OK|
+TYPE c = +string|";
 
 #[test]
 fn commands_on_sets_answer_in_turn(rt: HostRuntime) -> Result<(), Fail> {
-    let mut keyspace = Plain::new(rt.alloc(), BuildHasherDefault::<FoldHasher>::new());
-    let wrong_type = "-WRONGTYPE Operation against a key holding the wrong kind of value\r\n";
-    let rows: [(&[&str], &str); 30] = [
-        (&["SADD", "a", "m", "b", "m"], ":2\r\n"),
-        (&["SADD", "a", "b", "x"], ":1\r\n"),
-        (&["SADD", "a", "x"], ":0\r\n"),
-        (
-            &["SMEMBERS", "a"],
-            "*3\r\n$1\r\nb\r\n$1\r\nm\r\n$1\r\nx\r\n",
-        ),
-        (&["SMEMBERS", "none"], "*0\r\n"),
-        (&["SCARD", "a"], ":3\r\n"),
-        (&["SCARD", "none"], ":0\r\n"),
-        (&["SISMEMBER", "a", "m"], ":1\r\n"),
-        (&["SISMEMBER", "a", "q"], ":0\r\n"),
-        (&["SISMEMBER", "none", "m"], ":0\r\n"),
-        (
-            &["SMISMEMBER", "a", "m", "q", "m"],
-            "*3\r\n:1\r\n:0\r\n:1\r\n",
-        ),
-        (&["SMISMEMBER", "none", "m"], "*1\r\n:0\r\n"),
-        (&["TYPE", "a"], "+set\r\n"),
-        (&["GET", "a"], wrong_type),
-        (&["LPUSH", "a", "m"], wrong_type),
-        (&["HGET", "a", "m"], wrong_type),
-        (&["SREM", "a", "m", "q", "m"], ":1\r\n"),
-        (&["SREM", "a", "b", "x"], ":2\r\n"),
-        (&["SREM", "a", "b"], ":0\r\n"),
-        (&["EXISTS", "a"], ":0\r\n"),
-        (&["SET", "a", "v"], "+OK\r\n"),
-        (&["SADD", "a", "m"], wrong_type),
-        (&["SREM", "a", "m"], wrong_type),
-        (&["SISMEMBER", "a", "m"], wrong_type),
-        (&["SMISMEMBER", "a", "m"], wrong_type),
-        (&["SCARD", "a"], wrong_type),
-        (&["SMEMBERS", "a"], wrong_type),
-        (&["SADD", "c", "m"], ":1\r\n"),
-        (&["RENAME", "a", "c"], "+OK\r\n"),
-        (&["TYPE", "c"], "+string\r\n"),
-    ];
-    for (words, reply) in rows {
-        let text = answer(&rt, rt.alloc(), &mut keyspace, words)?;
-        assert_eq!(rt; text.as_slice(), reply.as_bytes(), "{words:?}");
-    }
-    Ok(())
+    answer_in_turn(&rt, rt.alloc(), SETS)
 }
+
+/// Strings that are written into.
+const WRITES: &str = "SETRANGE b 3 x = :4|
+GET b = $4|\0\0\0x|
+SETRANGE b -1 x = -ERR offset is out of range|
+SETRANGE b 1 yz = :4|
+GET b = $4|\0yzx|
+SETRANGE b 3 12 = :5|
+SETRANGE b 9 '' = :5|
+SETRANGE b 536870912 x = -ERR string exceeds maximum allowed size|
+GET b = $5|\0yz12|
+SETRANGE c 9 '' = :0|
+SETRANGE c 536870912 x = -ERR string exceeds maximum allowed size|
+EXISTS c = :0|
+APPEND c ab = :2|
+APPEND c '' = :2|
+APPEND c cd = :4|
+GET c = $4|abcd|
+RPUSH e 1 = :1|
+APPEND e 1 = -WRONGTYPE Operation against a key holding the wrong kind of value|
+SETRANGE e 0 '' = -WRONGTYPE Operation against a key holding the wrong kind of value|
+SETRANGE e -1 '' = -ERR offset is out of range|";
 
 #[test]
 fn writes_into_strings_answer_in_turn(rt: HostRuntime) -> Result<(), Fail> {
-    let mut keyspace = Plain::new(rt.alloc(), BuildHasherDefault::<FoldHasher>::new());
-    let bad_offset = "-ERR offset is out of range\r\n";
-    let too_long = "-ERR string exceeds maximum allowed size\r\n";
-    let wrong_type = "-WRONGTYPE Operation against a key holding the wrong kind of value\r\n";
-    let rows: [(&[&str], &str); 20] = [
-        (&["SETRANGE", "b", "3", "x"], ":4\r\n"),
-        (&["GET", "b"], "$4\r\n\0\0\0x\r\n"),
-        (&["SETRANGE", "b", "-1", "x"], bad_offset),
-        (&["SETRANGE", "b", "1", "yz"], ":4\r\n"),
-        (&["GET", "b"], "$4\r\n\0yzx\r\n"),
-        (&["SETRANGE", "b", "3", "12"], ":5\r\n"),
-        (&["SETRANGE", "b", "9", ""], ":5\r\n"),
-        (&["SETRANGE", "b", "536870912", "x"], too_long),
-        (&["GET", "b"], "$5\r\n\0yz12\r\n"),
-        (&["SETRANGE", "c", "9", ""], ":0\r\n"),
-        (&["SETRANGE", "c", "536870912", "x"], too_long),
-        (&["EXISTS", "c"], ":0\r\n"),
-        (&["APPEND", "c", "ab"], ":2\r\n"),
-        (&["APPEND", "c", ""], ":2\r\n"),
-        (&["APPEND", "c", "cd"], ":4\r\n"),
-        (&["GET", "c"], "$4\r\nabcd\r\n"),
-        (&["RPUSH", "e", "1"], ":1\r\n"),
-        (&["APPEND", "e", "1"], wrong_type),
-        (&["SETRANGE", "e", "0", ""], wrong_type),
-        (&["SETRANGE", "e", "-1", ""], bad_offset),
-    ];
-    for (words, reply) in rows {
-        let text = answer(&rt, rt.alloc(), &mut keyspace, words)?;
-        assert_eq!(rt; text.as_slice(), reply.as_bytes(), "{words:?}");
-    }
-    Ok(())
+    answer_in_turn(&rt, rt.alloc(), WRITES)
 }
+
+/// Members that move from set to set.
+const MOVES: &str = "SADD a m = :1|
+SMOVE a a m = :1|
+SMOVE a a n = :0|
+SMOVE y a m = :0|
+SMEMBERS a = *1|$1|m|
+SMOVE a b n = :0|
+EXISTS b = :0|
+SMOVE a b m = :1|
+EXISTS a = :0|
+SMEMBERS b = *1|$1|m|
+SADD c m x = :2|
+SMOVE c b x = :1|
+SMOVE c b m = :1|
+SMEMBERS b = *2|$1|m|$1|x|
+SET s v = +OK|
+SMOVE y s m = :0|
+SMOVE s b m = -WRONGTYPE Operation against a key holding the wrong kind of value|
+SMOVE b s q = -WRONGTYPE Operation against a key holding the wrong kind of value|
+SMOVE b s m = -WRONGTYPE Operation against a key holding the wrong kind of value|
+SCARD b = :2|";
 
 #[test]
 fn members_move_between_sets(rt: HostRuntime) -> Result<(), Fail> {
-    let mut keyspace = Plain::new(rt.alloc(), BuildHasherDefault::<FoldHasher>::new());
-    let wrong_type = "-WRONGTYPE Operation against a key holding the wrong kind of value\r\n";
-    let rows: [(&[&str], &str); 20] = [
-        (&["SADD", "a", "m"], ":1\r\n"),
-        (&["SMOVE", "a", "a", "m"], ":1\r\n"),
-        (&["SMOVE", "a", "a", "n"], ":0\r\n"),
-        (&["SMOVE", "y", "a", "m"], ":0\r\n"),
-        (&["SMEMBERS", "a"], "*1\r\n$1\r\nm\r\n"),
-        (&["SMOVE", "a", "b", "n"], ":0\r\n"),
-        (&["EXISTS", "b"], ":0\r\n"),
-        (&["SMOVE", "a", "b", "m"], ":1\r\n"),
-        (&["EXISTS", "a"], ":0\r\n"),
-        (&["SMEMBERS", "b"], "*1\r\n$1\r\nm\r\n"),
-        (&["SADD", "c", "m", "x"], ":2\r\n"),
-        (&["SMOVE", "c", "b", "x"], ":1\r\n"),
-        (&["SMOVE", "c", "b", "m"], ":1\r\n"),
-        (&["SMEMBERS", "b"], "*2\r\n$1\r\nm\r\n$1\r\nx\r\n"),
-        (&["SET", "s", "v"], "+OK\r\n"),
-        (&["SMOVE", "y", "s", "m"], ":0\r\n"),
-        (&["SMOVE", "s", "b", "m"], wrong_type),
-        (&["SMOVE", "b", "s", "q"], wrong_type),
-        (&["SMOVE", "b", "s", "m"], wrong_type),
-        (&["SCARD", "b"], ":2\r\n"),
-    ];
-    for (words, reply) in rows {
-        let text = answer(&rt, rt.alloc(), &mut keyspace, words)?;
-        assert_eq!(rt; text.as_slice(), reply.as_bytes(), "{words:?}");
-    }
-    Ok(())
+    answer_in_turn(&rt, rt.alloc(), MOVES)
 }
+
+/// Several keys or fields at once.
+const SEVERAL: &str = "MSET a 1 c 2 a 3 = +OK|
+GET a = $1|3|
+GET c = $1|2|
+MSET a 1 c = -ERR wrong number of arguments for 'mset' command|
+MSETNX d 1 c 4 = :0|
+EXISTS d = :0|
+MSETNX d 1 e 4 = :1|
+RPUSH f 1 = :1|
+MSET f 2 d 5 = +OK|
+MGET f d = *2|$1|2|$1|5|
+HINCRBY h n 5 = :5|
+HINCRBY h n -7 = :-2|
+HINCRBY h m 9223372036854775807 = :9223372036854775807|
+HINCRBY h m 1 = -ERR increment or decrement would overflow|
+HSET h t x = :1|
+HINCRBY h t 1 = -ERR hash value is not an integer|
+HVALS h = *3|$2|-2|$19|9223372036854775807|$1|x|";
 
 #[test]
 fn several_keys_and_fields_answer_in_turn(rt: HostRuntime) -> Result<(), Fail> {
-    let mut keyspace = Plain::new(rt.alloc(), BuildHasherDefault::<FoldHasher>::new());
-    let odd = "-ERR wrong number of arguments for 'mset' command\r\n";
-    let no_integer = "-ERR hash value is not an integer\r\n";
-    let rows: [(&[&str], &str); 17] = [
-        (&["MSET", "a", "1", "c", "2", "a", "3"], "+OK\r\n"),
-        (&["GET", "a"], "$1\r\n3\r\n"),
-        (&["GET", "c"], "$1\r\n2\r\n"),
-        (&["MSET", "a", "1", "c"], odd),
-        (&["MSETNX", "d", "1", "c", "4"], ":0\r\n"),
-        (&["EXISTS", "d"], ":0\r\n"),
-        (&["MSETNX", "d", "1", "e", "4"], ":1\r\n"),
-        (&["RPUSH", "f", "1"], ":1\r\n"),
-        (&["MSET", "f", "2", "d", "5"], "+OK\r\n"),
-        (&["MGET", "f", "d"], "*2\r\n$1\r\n2\r\n$1\r\n5\r\n"),
-        (&["HINCRBY", "h", "n", "5"], ":5\r\n"),
-        (&["HINCRBY", "h", "n", "-7"], ":-2\r\n"),
-        (
-            &["HINCRBY", "h", "m", "9223372036854775807"],
-            ":9223372036854775807\r\n",
-        ),
-        (
-            &["HINCRBY", "h", "m", "1"],
-            "-ERR increment or decrement would overflow\r\n",
-        ),
-        (&["HSET", "h", "t", "x"], ":1\r\n"),
-        (&["HINCRBY", "h", "t", "1"], no_integer),
-        (
-            &["HVALS", "h"],
-            "*3\r\n$2\r\n-2\r\n$19\r\n9223372036854775807\r\n$1\r\nx\r\n",
-        ),
-    ];
-    for (words, reply) in rows {
-        let text = answer(&rt, rt.alloc(), &mut keyspace, words)?;
-        assert_eq!(rt; text.as_slice(), reply.as_bytes(), "{words:?}");
-    }
-    Ok(())
+    answer_in_turn(&rt, rt.alloc(), SEVERAL)
 }
+
+/// Sets that are combined.
+const COMBINED: &str = "SADD a m n = :2|
+SADD b n o = :2|
+SINTER a b = *1|$1|n|
+SINTER a = *2|$1|m|$1|n|
+SINTER a none = *0|
+SINTER none a = *0|
+SUNION b none a = *3|$1|m|$1|n|$1|o|
+SUNION none = *0|
+SDIFF a b = *1|$1|m|
+SDIFF b a = *1|$1|o|
+SDIFF a none = *2|$1|m|$1|n|
+SDIFF none a = *0|
+SDIFF a a = *0|
+SET s v = +OK|
+SINTER none s = -WRONGTYPE Operation against a key holding the wrong kind of value|
+SUNION s a = -WRONGTYPE Operation against a key holding the wrong kind of value|
+SDIFF a s = -WRONGTYPE Operation against a key holding the wrong kind of value|
+SDIFFSTORE s a s = -WRONGTYPE Operation against a key holding the wrong kind of value|
+GET s = $1|v|
+SUNIONSTORE s a b = :3|
+SMEMBERS s = *3|$1|m|$1|n|$1|o|
+SDIFFSTORE s s a = :1|
+SMEMBERS s = *1|$1|o|
+SINTERSTORE new a b = :1|
+SMEMBERS new = *1|$1|n|
+SREM a n = :1|
+SET z old = +OK|
+SINTERSTORE z a b = :0|
+EXISTS z = :0|
+SUNIONSTORE a none = :0|
+EXISTS a = :0|";
 
 #[test]
 fn sets_are_combined(rt: HostRuntime) -> Result<(), Fail> {
-    let mut keyspace = Plain::new(rt.alloc(), BuildHasherDefault::<FoldHasher>::new());
-    let wrong_type = "-WRONGTYPE Operation against a key holding the wrong kind of value\r\n";
-    let rows: [(&[&str], &str); 31] = [
-        (&["SADD", "a", "m", "n"], ":2\r\n"),
-        (&["SADD", "b", "n", "o"], ":2\r\n"),
-        (&["SINTER", "a", "b"], "*1\r\n$1\r\nn\r\n"),
-        (&["SINTER", "a"], "*2\r\n$1\r\nm\r\n$1\r\nn\r\n"),
-        (&["SINTER", "a", "none"], "*0\r\n"),
-        (&["SINTER", "none", "a"], "*0\r\n"),
-        (
-            &["SUNION", "b", "none", "a"],
-            "*3\r\n$1\r\nm\r\n$1\r\nn\r\n$1\r\no\r\n",
-        ),
-        (&["SUNION", "none"], "*0\r\n"),
-        (&["SDIFF", "a", "b"], "*1\r\n$1\r\nm\r\n"),
-        (&["SDIFF", "b", "a"], "*1\r\n$1\r\no\r\n"),
-        (&["SDIFF", "a", "none"], "*2\r\n$1\r\nm\r\n$1\r\nn\r\n"),
-        (&["SDIFF", "none", "a"], "*0\r\n"),
-        (&["SDIFF", "a", "a"], "*0\r\n"),
-        (&["SET", "s", "v"], "+OK\r\n"),
-        (&["SINTER", "none", "s"], wrong_type),
-        (&["SUNION", "s", "a"], wrong_type),
-        (&["SDIFF", "a", "s"], wrong_type),
-        (&["SDIFFSTORE", "s", "a", "s"], wrong_type),
-        (&["GET", "s"], "$1\r\nv\r\n"),
-        (&["SUNIONSTORE", "s", "a", "b"], ":3\r\n"),
-        (
-            &["SMEMBERS", "s"],
-            "*3\r\n$1\r\nm\r\n$1\r\nn\r\n$1\r\no\r\n",
-        ),
-        (&["SDIFFSTORE", "s", "s", "a"], ":1\r\n"),
-        (&["SMEMBERS", "s"], "*1\r\n$1\r\no\r\n"),
-        (&["SINTERSTORE", "new", "a", "b"], ":1\r\n"),
-        (&["SMEMBERS", "new"], "*1\r\n$1\r\nn\r\n"),
-        (&["SREM", "a", "n"], ":1\r\n"),
-        (&["SET", "z", "old"], "+OK\r\n"),
-        (&["SINTERSTORE", "z", "a", "b"], ":0\r\n"),
-        (&["EXISTS", "z"], ":0\r\n"),
-        (&["SUNIONSTORE", "a", "none"], ":0\r\n"),
-        (&["EXISTS", "a"], ":0\r\n"),
-    ];
-    for (words, reply) in rows {
-        let text = answer(&rt, rt.alloc(), &mut keyspace, words)?;
-        assert_eq!(rt; text.as_slice(), reply.as_bytes(), "{words:?}");
-    }
-    Ok(())
+    answer_in_turn(&rt, rt.alloc(), COMBINED)
 }

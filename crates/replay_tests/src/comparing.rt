@@ -1,8 +1,8 @@
 //! That the comparison with one thread on one map is really made.
 
-use crate::report::compared;
 use groups::GroupId;
 use journal::Rows;
+use replay::compared;
 use resp::{Reply, Request};
 use skeen_core::{ConnId, RequestId, Stamp};
 use std::alloc::{AllocError, Global};
