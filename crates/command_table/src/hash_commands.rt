@@ -14,7 +14,9 @@ use crate::command_rows;
 use crate::refusal::{CommandName, Refusal};
 use crate::rows::{keys_of_span, read_rows, told_rows};
 use crate::told::{Keys, Told};
-use crate::words::{first_and_rest, integer_word, only_word, three_words, two_words};
+use crate::words::{
+    begins_with_one_of, first_and_rest, integer_word, only_word, three_words, two_words,
+};
 use texts::{Pairs, Text, Texts};
 
 /// A command on hashes.
@@ -79,6 +81,9 @@ pub(crate) fn read_hash_command(
         (λ read. reading_among hash_rows name.now (texts_of words.items) ≡ Some read)
         (λ back. (row_of hash_rows name.now ≡ None) × (back ≡ words)) }
 {
+    if !begins_with_one_of(name, b"h") {
+        return Err(words);
+    }
     command_rows!(hashes, read_rows, name, words)
 }
 

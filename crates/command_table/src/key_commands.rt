@@ -13,7 +13,7 @@ use crate::command_rows;
 use crate::refusal::{CommandName, Refusal};
 use crate::rows::{keys_of_span, read_rows, told_rows};
 use crate::told::{Keys, Told};
-use crate::words::{is_word, only_word, two_words};
+use crate::words::{begins_with_one_of, is_word, only_word, two_words};
 use texts::{Text, Texts};
 
 /// A command on keys of any type.
@@ -63,6 +63,9 @@ pub(crate) fn read_key_command(
         (λ read. reading_among key_rows name.now (texts_of words.items) ≡ Some read)
         (λ back. (row_of key_rows name.now ≡ None) × (back ≡ words)) }
 {
+    if !begins_with_one_of(name, b"detrfu") {
+        return Err(words);
+    }
     command_rows!(keys, read_rows, name, words)
 }
 

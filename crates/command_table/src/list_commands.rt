@@ -15,7 +15,9 @@ use crate::command_rows;
 use crate::refusal::{CommandName, Refusal};
 use crate::rows::{keys_of_span, read_rows, told_rows};
 use crate::told::{Keys, Told};
-use crate::words::{first_and_rest, integer_word, is_word, only_word, two_words};
+use crate::words::{
+    begins_with_one_of, first_and_rest, integer_word, is_word, only_word, two_words,
+};
 use texts::{End, Text, Texts};
 
 /// A command on lists.
@@ -146,6 +148,9 @@ pub(crate) fn read_list_command(
         (λ read. reading_among list_rows name.now (texts_of words.items) ≡ Some read)
         (λ back. (row_of list_rows name.now ≡ None) × (back ≡ words)) }
 {
+    if !begins_with_one_of(name, b"lr") {
+        return Err(words);
+    }
     command_rows!(lists, read_rows, name, words)
 }
 

@@ -15,7 +15,7 @@ use crate::command_rows;
 use crate::refusal::{CommandName, Refusal};
 use crate::rows::{keys_of_span, read_rows, told_rows};
 use crate::told::{Keys, Told};
-use crate::words::{first_and_rest, only_word, three_words, two_words};
+use crate::words::{begins_with_one_of, first_and_rest, only_word, three_words, two_words};
 use texts::{Text, Texts};
 
 /// A command on sets.
@@ -80,6 +80,9 @@ pub(crate) fn read_set_command(
         (λ read. reading_among set_rows name.now (texts_of words.items) ≡ Some read)
         (λ back. (row_of set_rows name.now ≡ None) × (back ≡ words)) }
 {
+    if !begins_with_one_of(name, b"s") {
+        return Err(words);
+    }
     command_rows!(sets, read_rows, name, words)
 }
 

@@ -17,7 +17,9 @@ use crate::command_rows;
 use crate::refusal::{CommandName, Refusal};
 use crate::rows::{keys_of_span, read_rows, told_rows};
 use crate::told::{Keys, Told};
-use crate::words::{has_word, integer_word, is_word, only_word, three_words, two_words};
+use crate::words::{
+    begins_with_one_of, has_word, integer_word, is_word, only_word, three_words, two_words,
+};
 use texts::{Pairs, Text, Texts};
 
 /// A command on strings.
@@ -146,6 +148,9 @@ pub(crate) fn read_string_command(
         (λ read. reading_among string_rows name.now (texts_of words.items) ≡ Some read)
         (λ back. (row_of string_rows name.now ≡ None) × (back ≡ words)) }
 {
+    if !begins_with_one_of(name, b"gsmida") {
+        return Err(words);
+    }
     command_rows!(strings, read_rows, name, words)
 }
 

@@ -25,15 +25,21 @@ const ONE: InTurn = InTurn(NonZeroUsize::MIN);
 /// What stands in a buffer already.
 const BEFORE: &[u8] = b"before ";
 
+/// What is read a second time, after a call that found no memory.
+fn read_again(rt: &impl Abort, alloc: Global, text: &str) -> Trace {
+    match read_trace(alloc, text.as_bytes()) {
+        Ok(trace) => trace,
+        Err(_) => panic!(rt; "no memory for a second time"),
+    }
+}
+
 /// The trace of a text that spells one.
 fn trace_of(rt: &impl Abort, alloc: Global, text: &str) -> Result<Trace, AllocError> {
-    for _ in 0..2 {
-        match read_trace(alloc, text.as_bytes()) {
-            Ok(trace) => return Ok(trace),
-            Err(fault) => assert_eq!(rt; fault, TraceFault::Memory),
-        }
+    match read_trace(alloc, text.as_bytes()) {
+        Ok(trace) => Ok(trace),
+        Err(TraceFault::Memory) => Ok(read_again(rt, alloc, text)),
+        Err(TraceFault::Bad { line }) => panic!(rt; "bad at line {line}"),
     }
-    panic!(rt; "no memory for a second time")
 }
 
 /// The buffer has behind `BEFORE` this text and nothing else.

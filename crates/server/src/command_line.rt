@@ -97,37 +97,34 @@ pub fn read_options<'a>(alloc: Global, words: &'a [String]) -> Result<Options<'a
     options_of(&matches)
 }
 
+/// An option that takes a file.
+fn file<'a>(alloc: Global, name: &'a str, help: &'a str) -> Arg<'a> {
+    Arg::new(alloc, name)
+        .long(name)
+        .value_name("FILE")
+        .help(help)
+}
+
+/// An option that takes a number.
+fn number<'a>(alloc: Global, name: &'a str, help: &'a str) -> Arg<'a> {
+    Arg::new(alloc, name)
+        .long(name)
+        .value_name("N")
+        .value_parser(value_parser!(u64))
+        .help(help)
+}
+
 /// The command line.
 fn command<'a>(alloc: Global) -> Result<Command<'a>, AllocError> {
-    let table = Arg::new(alloc, "table")
-        .long("table")
-        .value_name("FILE")
-        .required(true)
-        .help("The placement table");
-    let port = Arg::new(alloc, "port")
-        .long("port")
-        .value_name("N")
-        .value_parser(value_parser!(u16))
-        .help("The port on 127.0.0.1, 0 for any free one [default: 7379]");
-    let workers = Arg::new(alloc, "workers")
-        .long("workers")
-        .value_name("N")
-        .value_parser(value_parser!(u64))
-        .help("How many workers, 1 to 64 [default: 1]");
-    let connections = Arg::new(alloc, "connections")
-        .long("connections")
-        .value_name("N")
-        .value_parser(value_parser!(u64))
-        .help("How many connections are served, at least 1 [default: 64]");
-    let max_steps = Arg::new(alloc, "max-steps")
-        .long("max-steps")
-        .value_name("N")
-        .value_parser(value_parser!(u64))
-        .help("At most how many steps are made, 1 to 2^62 [default: 1000000]");
-    let trace = Arg::new(alloc, "trace")
-        .long("trace")
-        .value_name("FILE")
-        .help("The file that the trace is written to");
+    let table = file(alloc, "table", "The placement table").required(true);
+    let port = "The port on 127.0.0.1, 0 for any free one [default: 7379]";
+    let port = number(alloc, "port", port).value_parser(value_parser!(u16));
+    let workers = number(alloc, "workers", "How many workers, 1 to 64 [default: 1]");
+    let connections = "How many connections are served, at least 1 [default: 64]";
+    let connections = number(alloc, "connections", connections);
+    let max_steps = "At most how many steps are made, 1 to 2^62 [default: 1000000]";
+    let max_steps = number(alloc, "max-steps", max_steps);
+    let trace = file(alloc, "trace", "The file that the trace is written to");
     Command::new(alloc, "shardkv-server")
         .arg(table)?
         .arg(port)?
