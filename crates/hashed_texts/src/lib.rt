@@ -4,13 +4,15 @@
 //! its keys as these, and a hash of `values` its fields; both look them up by borrowed bytes.
 #![tactic(auto)]
 
-ghost use Rattle.std.specs.Prelude.{◌≡◌, [], ◌∷◌};
-ghost use Rattle.std.proofs.Common.{ap};
-ghost use Rattle.std.specs.Cmp.{on_equiv, on_per, partial_equiv_from_equiv};
-ghost use Rattle.std.specs.Cmp.Lexicographic.{bytes_decides, nat_list_eq_equiv};
+ghost use Rattle.std.specs.Prelude.{◌≡◌, [], ◌∷◌, Some};
+ghost use Rattle.std.proofs.Common.{ap, refl};
+ghost use Rattle.std.specs.Cmp.{on_equiv, on_per, on_po, on_total, partial_equiv_from_equiv};
+ghost use Rattle.std.specs.Cmp.Lexicographic.{bytes_decides, nat_list_cmp_total, nat_list_eq_equiv, slice_cmp, texts_po, texts_ties};
+ghost use Rattle.std.specs.Ordering.{nat_cmp};
 ghost use Rattle.std.specs.Str.{bytes_eq};
 
 use indexmap::Equivalent;
+use std::cmp::Ordering;
 use std::hash::{Hash, Hasher};
 
 /// A byte string as a key of an `IndexMap`.
@@ -37,6 +39,30 @@ impl PartialEq for HashedText {
 
 impl Eq for HashedText {
     ghost laws = { on_equiv (λ x. x.bytes.items) nat_list_eq_equiv };
+}
+
+impl PartialOrd for HashedText {
+    ghost partial_cmp = { λ x y. Some (slice_cmp nat_cmp x.bytes.items y.bytes.items) };
+
+    ghost laws = { on_po (λ x. x.bytes.items) texts_po };
+
+    fn partial_cmp(&self, other: &HashedText) -> Option<Ordering> {
+        Some(self.cmp(other))
+    }
+}
+
+impl Ord for HashedText {
+    ghost cmp = { λ x y. slice_cmp nat_cmp x.bytes.items y.bytes.items };
+
+    ghost total = { on_total (λ x. x.bytes.items) nat_list_cmp_total };
+
+    ghost matches_partial_cmp = { λ x y. refl };
+
+    ghost matches_eq = { λ x y. texts_ties x.bytes.items y.bytes.items };
+
+    fn cmp(&self, other: &HashedText) -> Ordering {
+        self.bytes.as_slice().cmp(other.bytes.as_slice())
+    }
 }
 
 impl Hash for HashedText {
