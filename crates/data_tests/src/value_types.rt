@@ -113,21 +113,23 @@ fn sets_ascend(rt: HostRuntime) -> Result<(), Fail> {
     let alloc = rt.alloc();
     let made = SetValue::from_members(alloc, texts(alloc, "m c m a")?)?;
     let mut set = made.ok_or("no set")?;
-    assert_eq!(rt; set.insert_all(alloc, texts(alloc, "z a b b m ab")?)?, 3);
+    assert_eq!(rt; set.insert_all(texts(alloc, "z a b b m ab")?)?, 3);
     assert!(rt; set.insert(text(alloc, "B")?)?);
     assert!(rt; !set.insert(text(alloc, "a")?)?);
-    let all = shown(alloc, set.members())?;
+    let all = shown(alloc, set.members(alloc)?)?;
+    assert_eq!(rt; all.as_slice(), b"B a ab b c m z".as_slice());
+    set.order()?;
+    let all = shown(alloc, set.members(alloc)?)?;
+    assert_eq!(rt; all.as_slice(), b"B a ab b c m z".as_slice());
+    let all = shown(alloc, set.in_any_order())?;
     assert_eq!(rt; all.as_slice(), b"B a ab b c m z".as_slice());
     let (removed, left) = set.remove_all(&texts(alloc, "z q a")?);
     assert_eq!(rt; removed, 2);
     let left = left.ok_or("no set")?;
     assert_eq!(rt;
-        shown(alloc, left.members())?.as_slice(),
+        shown(alloc, left.members(alloc)?)?.as_slice(),
         b"B ab b c m".as_slice()
     );
-    let moved = left.into_members(alloc)?;
-    assert_eq!(rt; moved.len(), 5);
-    let again = SetValue::from_members(alloc, moved)?.ok_or("no set")?;
-    assert_eq!(rt; Value::Set(again).type_name(), "set");
+    assert_eq!(rt; Value::Set(left).type_name(), "set");
     Ok(())
 }

@@ -1,26 +1,26 @@
--- Members that are kept ascend as before, and what it is to be a member of what is kept or joined.
-use Rattle.std.proofs.Common.{◌≡◌, Bool, true, false, cond, not, ◌&&◌, ◌||◌, List, [], ◌∷◌, ◌++◌, Option, Some, None}
-use Rattle.std.proofs.Common.{refl, sym, ap, subst, ◌∙◌, append_assoc}
+-- Members that are kept ascend as before, what it is to be a member of what is kept or joined, and what is gathered in
+-- any order.
+use Rattle.std.proofs.Common.{◌≡◌, ℕ, Bool, true, false, cond, not, ◌&&◌, ◌||◌, List, [], ◌∷◌, ◌++◌}
+use Rattle.std.proofs.Common.{refl, sym, ap, subst, ◌∙◌}
 use Rattle.std.proofs.lemmas.Cmp.{nat_list_cmp_total, nat_list_eq_equiv}
-use Rattle.std.proofs.lemmas.List.{append-nil}
-use Rattle.std.proofs.lemmas.List.Kept.{IsStrictlySortedBy-filter}
 use Rattle.std.proofs.lemmas.List.Folds.{list_any-append}
-use Rattle.std.proofs.lemmas.Map.Lookups.{btree_set_from_contains, exact_bytes}
+use Rattle.std.proofs.lemmas.List.Kept.{IsStrictlySortedBy-dedup, IsStrictlySortedBy-filter}
+use Rattle.std.proofs.lemmas.List.Sorted.{IsPermutation-map, list_any-IsPermutation}
 use Rattle.std.proofs.lemmas.Map.Made.{is_member-filter}
 use Rattle.std.proofs.lemmas.Map.Text.{is_eq-slice_cmp}
 use Rattle.std.proofs.lemmas.Slice.Eq.{bytes_eq-Decides}
-use Rattle.std.specs.Borrow.{Bor}
+use Rattle.std.specs.Cmp.{on_total}
 use Rattle.std.specs.Cmp.Lexicographic.{slice_cmp}
-use Rattle.std.specs.List.{AllByRecursion, filter, flat_map, list_any}
-use Rattle.std.specs.List.Sorted.{IsStrictlySortedBy}
-use Rattle.std.specs.Ordering.{match_ordering, ordering_reverse, nat_cmp, is_eq}
+use Rattle.std.specs.Global.{Vec}
+use Rattle.std.specs.List.{AllByRecursion, dedup, dedup_from, filter, flat_map}
+use Rattle.std.specs.List.Sorted.{IsPermutation, IsSorted}
+use Rattle.std.specs.Ordering.{nat_cmp}
 use Rattle.std.specs.Str.{bytes_eq}
-use Rattle.std.specs.declared.cmp.Ordering.{Ordering}
-use Rattle.std.specs.declared.cmp.Ordering.TheVariants.{Less, Equal, Greater}
 use Rattle.set_commands.specs.Combination.{Members, intersection, is_in_all, is_in_each, is_in_some}
 use Rattle.set_commands.specs.Combination.{IntersectionMembers, UnionMembers, DifferenceMembers}
-use Rattle.texts.specs.Texts.{Bytes}
-use Rattle.values.specs.SetValue.{IsAscending, is_member, with_member, with_members}
+use Rattle.texts.specs.Texts.{Bytes, texts_of}
+use Rattle.values.proofs.MembersAlike.{all-alike, ascending-all, ascending-alike, member-of_all, nothing-ascends, strictly-mapped}
+use Rattle.values.specs.SetValue.{IsAscending, is_member, with_members}
 
 -- a member of a set is equal to the string that it is found by
 respects : (test : Bytes → Bool) (q x : Bytes) → bytes_eq q x ≡ true → test q ≡ test x
@@ -36,71 +36,17 @@ intersection_members first others member = members-kept (is_in_each others) firs
 pub difference_members : DifferenceMembers
 difference_members first others member = members-kept (λ m. not (is_in_some others m)) first member
 
-or-swap : (a b c : Bool) → (a || (b || c)) ≡ (b || (a || c))
-or-swap true true c = refl
-or-swap true false c = refl
-or-swap false b c = refl
-
-or-twice : (a c : Bool) → (a || c) ≡ (a || (a || c))
-or-twice true c = refl
-or-twice false c = refl
-
--- a member at its place in the order
-member-placed : (o : Ordering) (q x m : Bytes) (xs : Members) → slice_cmp nat_cmp m x ≡ o
-    → is_member (with_member xs m) q ≡ (bytes_eq q m || is_member xs q)
-    → is_member (match_ordering o (m ∷ x ∷ xs) (x ∷ xs) (x ∷ with_member xs m)) q ≡ (bytes_eq q m || is_member (x ∷ xs) q)
-member-placed Less q x m xs e rest = refl
-member-placed Equal q x m xs e rest =
-    let same : m ≡ x = (bytes_eq-Decides m x).0 (sym (is_eq-slice_cmp m x) ∙ ap is_eq e) in
-    or-twice (bytes_eq q x) (is_member xs q) ∙ ap (λ t. bytes_eq q t || (bytes_eq q x || is_member xs q)) (sym same)
-member-placed Greater q x m xs e rest =
-    ap (λ b. bytes_eq q x || b) rest ∙ or-swap (bytes_eq q x) (bytes_eq q m) (is_member xs q)
-
-member-with : (members : Members) (m q : Bytes) → is_member (with_member members m) q ≡ (bytes_eq q m || is_member members q)
-member-with [] m q = refl
-member-with (x ∷ xs) m q = member-placed (slice_cmp nat_cmp m x) q x m xs refl (member-with xs m q)
-
-or-nothing : (a : Bool) → a ≡ (a || false)
-or-nothing true = refl
-or-nothing false = refl
-
-member-with_each : (members more : Members) (q : Bytes)
-    → is_member (with_members members more) q ≡ (is_member more q || is_member members q)
-member-with_each members [] q = refl
-member-with_each members (m ∷ more) q =
-    member-with_each (with_member members m) more q
-    ∙ ap (λ b. is_member more q || b) (member-with members m q)
-    ∙ or-swap (is_member more q) (bytes_eq q m) (is_member members q)
-    ∙ or-joins (bytes_eq q m) (is_member more q) (is_member members q)
-  where
-    or-joins : (a b c : Bool) → (a || (b || c)) ≡ ((a || b) || c)
-    or-joins true b c = refl
-    or-joins false b c = refl
-
-member-of_all : (sets : List Members) (q : Bytes) → is_member (flat_map (λ members. members) sets) q ≡ is_in_some sets q
-member-of_all [] q = refl
-member-of_all (set ∷ sets) q =
-    list_any-append (bytes_eq q) set (flat_map (λ members. members) sets) ∙ ap (λ b. is_member set q || b) (member-of_all sets q)
+member-of_sets : (sets : List Members) (q : Bytes) → is_member (flat_map (λ members. members) sets) q ≡ is_in_some sets q
+member-of_sets [] q = refl
+member-of_sets (set ∷ sets) q =
+    list_any-append (bytes_eq q) set (flat_map (λ members. members) sets) ∙ ap (λ b. is_member set q || b) (member-of_sets sets q)
 
 pub union_members : UnionMembers
 union_members sets q =
-    member-with_each [] (flat_map (λ members. members) sets) q
-    ∙ sym (or-nothing (is_member (flat_map (λ members. members) sets) q)) ∙ member-of_all sets q
+    member-of_all (flat_map (λ members. members) sets) q ∙ member-of_sets sets q
 
 pub ascending-kept : (test : Bytes → Bool) (members : Members) → IsAscending members → IsAscending (filter test members)
 ascending-kept test members up = IsStrictlySortedBy-filter (slice_cmp nat_cmp) test members up
-
--- ascending lists with the same members are one list
-pub ascending-alike : (xs ys : Members) → IsAscending xs → IsAscending ys → ((q : Bytes) → is_member xs q ≡ is_member ys q) → xs ≡ ys
-ascending-alike xs ys up high same =
-    btree_set_from_contains nat_list_cmp_total (record { keys = xs })
-    (record { keys = ys }) up high (λ q. seen xs q ∙ same q ∙ sym (seen ys q))
-    exact_bytes
-  where
-    seen : (members : Members) (q : Bytes) → list_any (λ x. is_eq (slice_cmp nat_cmp q x)) members ≡ is_member members q
-    seen [] q = refl
-    seen (x ∷ xs) q =
-        ap (λ b. b || list_any (λ x. is_eq (slice_cmp nat_cmp q x)) xs) (is_eq-slice_cmp q x) ∙ ap (λ b. bytes_eq q x || b) (seen xs q)
 
 and-swap : (a b c : Bool) → (b && (a && c)) ≡ (a && (b && c))
 and-swap true b c = refl
@@ -136,93 +82,73 @@ intersection-kept (first ∷ before) after set up =
     one [] up = up.0
     one (first ∷ before) up = one before up.1
 
--- a string below each of these members is none of them
-below-absent : (q : Bytes) (xs : Members) → AllByRecursion (λ x. slice_cmp nat_cmp q x ≡ Less) xs → is_member xs q ≡ false
-below-absent q [] below = refl
-below-absent q (x ∷ xs) below =
-    ap (λ b. b || is_member xs q) (sym (is_eq-slice_cmp q x) ∙ ap is_eq below.0) ∙ below-absent q xs below.1
+-- what is kept of members that are read in any order
+pub kept-in_order : (test : Bytes → Bool) (read : List Bytes) (set : Members) → with_members [] read ≡ set
+    → with_members [] (filter test read) ≡ filter test set
+kept-in_order test read set e =
+    ascending-alike (with_members [] (filter test read)) (filter test set) (ascending-all (filter test read))
+    (ascending-kept test set (subst IsAscending e (ascending-all read)))
+    (λ q.
+    member-of_all (filter test read) q ∙ members-kept test read q
+    ∙ ap (λ b. b && test q) (sym (member-of_all read q) ∙ ap (λ ms. is_member ms q) e)
+    ∙ sym (members-kept test set q))
 
--- a string below the first of members that ascend is below each
-below-first : (q x : Bytes) (xs : Members) → slice_cmp nat_cmp q x ≡ Less → AllByRecursion (λ z. slice_cmp nat_cmp x z ≡ Less) xs
-    → AllByRecursion (λ z. slice_cmp nat_cmp q z ≡ Less) xs
-below-first q x [] less above = tt
-below-first q x (z ∷ xs) less above = (nat_list_cmp_total.trans q x z less above.0, below-first q x xs less above.1)
-
--- members above a string are kept without it as with it
-above-kept : (q : Bytes) (ys xs : Members) → AllByRecursion (λ x. slice_cmp nat_cmp q x ≡ Less) xs
-    → filter (is_member (q ∷ ys)) xs ≡ filter (is_member ys) xs
-above-kept q ys [] above = refl
-above-kept q ys (x ∷ xs) above =
-    ap (λ b. cond (b || is_member ys x) (x ∷ filter (is_member (q ∷ ys)) xs) (filter (is_member (q ∷ ys)) xs))
-    (sym (is_eq-slice_cmp x q) ∙ ap is_eq (nat_list_cmp_total.antisymm x q ∙ ap ordering_reverse above.0))
-    ∙ ap (λ rest. cond (is_member ys x) (x ∷ rest) rest) (above-kept q ys xs above.1)
-
--- two sets side by side: the first member of the one is below the other's
-pub walked-Less : (x y : Bytes) (xs ys : Members) → slice_cmp nat_cmp x y ≡ Less → IsAscending (y ∷ ys)
-    → filter (is_member (y ∷ ys)) (x ∷ xs) ≡ filter (is_member (y ∷ ys)) xs
-unfolding IsStrictlySortedBy
-walked-Less x y xs ys less up =
-    ap (λ b. cond b (x ∷ filter (is_member (y ∷ ys)) xs) (filter (is_member (y ∷ ys)) xs))
-    (below-absent x (y ∷ ys) (less, below-first x y ys less up.0))
-
--- it is above the other's
-pub walked-Greater : (x y : Bytes) (xs ys : Members) → slice_cmp nat_cmp x y ≡ Greater → IsAscending (x ∷ xs)
-    → filter (is_member (y ∷ ys)) (x ∷ xs) ≡ filter (is_member ys) (x ∷ xs)
-unfolding IsStrictlySortedBy
-walked-Greater x y xs ys greater up =
-    let less : slice_cmp nat_cmp y x ≡ Less = nat_list_cmp_total.antisymm y x ∙ ap ordering_reverse greater in
-    above-kept y ys (x ∷ xs) (less, below-first y x xs less up.0)
-
--- both sets have it
-pub walked-Equal : (x y : Bytes) (xs ys : Members) → slice_cmp nat_cmp x y ≡ Equal → IsAscending (x ∷ xs)
-    → filter (is_member (y ∷ ys)) (x ∷ xs) ≡ x ∷ filter (is_member ys) xs
-unfolding IsStrictlySortedBy
-walked-Equal x y xs ys equal up =
-    let same : y ≡ x = sym (exact_bytes x y equal) in
-    ap (λ b. cond (b || is_member ys x) (x ∷ filter (is_member (y ∷ ys)) xs) (filter (is_member (y ∷ ys)) xs))
-    (sym (is_eq-slice_cmp x y) ∙ ap is_eq equal)
-    ∙ ap (λ l. x ∷ l) (above-kept y ys xs (subst (λ z. AllByRecursion (λ w. slice_cmp nat_cmp z w ≡ Less) xs) (sym same) up.0))
-
--- what is left of a set whose first member may be taken out; none is left where there is no first
-abbrev pub ahead : Option (Bor Bytes) → Members → Members
-ahead None members = []
-ahead (Some member) members = member.now ∷ members
-
--- both sets have it, and go on behind it
-pub walked-on : (kept now xs ys after others all : Members) (x y : Bytes) → slice_cmp nat_cmp x y ≡ Equal → IsAscending (x ∷ xs)
-    → now ≡ kept ++ x ∷ [] → after ≡ xs → others ≡ ys → kept ++ filter (is_member (y ∷ ys)) (x ∷ xs) ≡ all
-    → now ++ filter (is_member others) after ≡ all
-walked-on kept now xs ys after others all x y equal up pushed left right before =
-    ap (λ l. l ++ filter (is_member others) after) pushed
-    ∙ ap (λ l. (kept ++ x ∷ []) ++ filter (is_member l) after) right
-    ∙ ap (λ l. (kept ++ x ∷ []) ++ filter (is_member ys) l) left
-    ∙ append_assoc kept (x ∷ []) (filter (is_member ys) xs)
-    ∙ ap (λ l. kept ++ l) (sym (walked-Equal x y xs ys equal up)) ∙ before
-
-pub nothing-kept : (xs : Members) → filter (is_member []) xs ≡ []
-nothing-kept [] = refl
-nothing-kept (x ∷ xs) = nothing-kept xs
-
-pub pair-kept : (xs ys : Members) → filter (is_member ys) xs ≡ filter (is_in_each (ys ∷ [])) xs
-pair-kept [] ys = refl
-pair-kept (x ∷ xs) ys =
-    ap (λ rest. cond (is_member ys x) (x ∷ rest) rest) (pair-kept xs ys)
-    ∙ ap (λ b. cond b (x ∷ filter (is_in_each (ys ∷ [])) xs) (filter (is_in_each (ys ∷ [])) xs)) (and-true (is_member ys x))
+-- a set among others may be read in any order
+pub joined-in_order : (done more rest : List Bytes) (set : Members) → with_members [] more ≡ set
+    → with_members [] ((done ++ more) ++ rest) ≡ with_members [] (done ++ (set ++ rest))
+joined-in_order done more rest set e = all-alike ((done ++ more) ++ rest) (done ++ (set ++ rest)) same
   where
-    and-true : (b : Bool) → b ≡ (b && true)
-    and-true true = refl
-    and-true false = refl
+    or-joins : (a b c : Bool) → ((a || b) || c) ≡ (a || (b || c))
+    or-joins true b c = refl
+    or-joins false b c = refl
 
-pub rest-ascends : (x : Bytes) (xs : Members) → IsAscending (x ∷ xs) → IsAscending xs
-unfolding IsStrictlySortedBy
-rest-ascends x xs up = up.1
+    same : (q : Bytes) → is_member ((done ++ more) ++ rest) q ≡ is_member (done ++ (set ++ rest)) q
+    same q =
+        list_any-append (bytes_eq q) (done ++ more) rest
+        ∙ ap (λ b. b || is_member rest q) (list_any-append (bytes_eq q) done more)
+        ∙ or-joins (is_member done q) (is_member more q) (is_member rest q)
+        ∙ ap (λ b. is_member done q || (b || is_member rest q)) (sym (member-of_all more q) ∙ ap (λ ms. is_member ms q) e)
+        ∙ ap (λ b. is_member done q || b) (sym (list_any-append (bytes_eq q) set rest))
+        ∙ sym (list_any-append (bytes_eq q) done (set ++ rest))
 
-pub nothing-ascends : IsAscending []
-unfolding IsStrictlySortedBy
-nothing-ascends = tt
+-- two texts are the same
+abbrev pub same_text : Vec ℕ → Vec ℕ → Bool
+same_text x y = bytes_eq x.items y.items
+
+-- what stands twice in a row is there as when it stands once
+any-dedup_from : (q : Bytes) (k : Vec ℕ) (xs : List (Vec ℕ)) → is_member (texts_of (dedup_from same_text k xs)) q ≡ is_member (texts_of (k ∷ xs)) q
+any-dedup_from q k [] = refl
+any-dedup_from q k (x ∷ xs) = by (same_text x k) refl (any-dedup_from q k xs) (any-dedup_from q x xs)
+  where
+    twice : (a c : Bool) → (a || c) ≡ (a || (a || c))
+    twice true c = refl
+    twice false c = refl
+
+    by : (b : Bool) → same_text x k ≡ b → is_member (texts_of (dedup_from same_text k xs)) q ≡ is_member (texts_of (k ∷ xs)) q
+        → is_member (texts_of (dedup_from same_text x xs)) q ≡ is_member (texts_of (x ∷ xs)) q
+        → is_member (texts_of (cond b (dedup_from same_text k xs) (k ∷ dedup_from same_text x xs))) q ≡ is_member (texts_of (k ∷ x ∷ xs)) q
+    by true e old new =
+        old ∙ twice (bytes_eq q k.items) (is_member (texts_of xs) q)
+        ∙ ap (λ t. bytes_eq q k.items || (bytes_eq q t || is_member (texts_of xs) q)) (sym ((bytes_eq-Decides x.items k.items).0 e))
+    by false e old new = ap (λ b. bytes_eq q k.items || b) new
+
+any-dedup : (q : Bytes) (xs : List (Vec ℕ)) → is_member (texts_of (dedup same_text xs)) q ≡ is_member (texts_of xs) q
+any-dedup q [] = refl
+any-dedup q (x ∷ xs) = any-dedup_from q x xs
+
+-- texts that are sorted, and of which each is kept once
+pub sorted-once : (texts sorted once : List (Vec ℕ)) → IsPermutation texts sorted
+    → IsSorted (λ x y. slice_cmp nat_cmp x.items y.items) sorted → once ≡ dedup same_text sorted
+    → texts_of once ≡ with_members [] (texts_of texts)
+sorted-once texts sorted once p up is =
+    ap texts_of is
+    ∙ ascending-alike (texts_of (dedup same_text sorted)) (with_members [] (texts_of texts))
+    (strictly-mapped (λ t. t.items) (dedup same_text sorted)
+    (IsStrictlySortedBy-dedup (on_total (λ t. t.items) nat_list_cmp_total) (λ x y. sym (is_eq-slice_cmp x.items y.items)) sorted up))
+    (ascending-all (texts_of texts))
+    (λ q.
+    any-dedup q sorted
+    ∙ sym (list_any-IsPermutation (bytes_eq q) (texts_of texts) (texts_of sorted) (IsPermutation-map (λ t. t.items) texts sorted p))
+    ∙ sym (member-of_all (texts_of texts) q))
 
 pub ruleset kept = (ascending-kept, nothing-ascends)
-
-pub ruleset walked = (walked-Less, walked-Greater, walked-Equal, rest-ascends, nothing-ascends, nothing-kept, append-nil)
-
-pub ruleset both_kept = (pair-kept)

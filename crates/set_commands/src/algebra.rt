@@ -16,7 +16,7 @@ ghost use Rattle.set_commands.specs.declared.combine.Combination.TheVariants.{In
 ghost use Rattle.values.specs.declared.Value.TheVariants as kind;
 
 use crate::combine::{Combination, combine, combine_as_set};
-use crate::sets::find_sets;
+use crate::sets::{find_sets, order_walked};
 use command_cases::{Starved, count_reply, wrong_type_reply};
 use keyspace::Keyspace;
 use resp::Reply;
@@ -28,12 +28,13 @@ use values::{SetValue, Value};
 /// another type. <https://redis.io/docs/latest/commands/sinter/>
 pub(crate) fn sinter<K: Keyspace>(
     alloc: Global,
-    keyspace: &K,
+    keyspace: &mut K,
     keys: Texts,
 ) -> Result<Reply, Starved>
-    requires { All (λ key. IsTrue (K.covered keyspace.now key)) keys }
+    requires { All (λ key. IsTrue (K.covered keyspace.old key)) keys }
     ensures done { Does (at_each keys (combined_answer Intersection))
-        (K.contents keyspace.now) (K.contents keyspace.now) result }
+        (K.contents keyspace.old) (K.contents keyspace.new) result }
+    ensures covers { K.covered keyspace.new ≡ K.covered keyspace.old }
 {
     answer(alloc, keyspace, Combination::Intersection, &keys)
 }
@@ -42,22 +43,28 @@ pub(crate) fn sinter<K: Keyspace>(
 /// <https://redis.io/docs/latest/commands/sunion/>
 pub(crate) fn sunion<K: Keyspace>(
     alloc: Global,
-    keyspace: &K,
+    keyspace: &mut K,
     keys: Texts,
 ) -> Result<Reply, Starved>
-    requires { All (λ key. IsTrue (K.covered keyspace.now key)) keys }
+    requires { All (λ key. IsTrue (K.covered keyspace.old key)) keys }
     ensures done { Does (at_each keys (combined_answer Union))
-        (K.contents keyspace.now) (K.contents keyspace.now) result }
+        (K.contents keyspace.old) (K.contents keyspace.new) result }
+    ensures covers { K.covered keyspace.new ≡ K.covered keyspace.old }
 {
     answer(alloc, keyspace, Combination::Union, &keys)
 }
 
 /// `SDIFF key [key ..]`: the members of the first set that are in none of the others, ascending; an error where a key
 /// holds a value of another type. <https://redis.io/docs/latest/commands/sdiff/>
-pub(crate) fn sdiff<K: Keyspace>(alloc: Global, keyspace: &K, keys: Texts) -> Result<Reply, Starved>
-    requires { All (λ key. IsTrue (K.covered keyspace.now key)) keys }
+pub(crate) fn sdiff<K: Keyspace>(
+    alloc: Global,
+    keyspace: &mut K,
+    keys: Texts,
+) -> Result<Reply, Starved>
+    requires { All (λ key. IsTrue (K.covered keyspace.old key)) keys }
     ensures done { Does (at_each keys (combined_answer Difference))
-        (K.contents keyspace.now) (K.contents keyspace.now) result }
+        (K.contents keyspace.old) (K.contents keyspace.new) result }
+    ensures covers { K.covered keyspace.new ≡ K.covered keyspace.old }
 {
     answer(alloc, keyspace, Combination::Difference, &keys)
 }
@@ -120,14 +127,16 @@ pub(crate) fn sdiffstore<K: Keyspace>(
 #[tactic(auto, using(crate::proofs::Found::found))]
 fn answer<K: Keyspace>(
     alloc: Global,
-    keyspace: &K,
+    keyspace: &mut K,
     how: Combination,
     keys: &Texts,
 ) -> Result<Reply, Starved>
-    requires { All (λ key. IsTrue (K.covered keyspace.now key)) keys.now }
-    ensures { Does (at_each keys.now (combined_answer how))
-        (K.contents keyspace.now) (K.contents keyspace.now) result }
+    requires { All (λ key. IsTrue (K.covered keyspace.old key)) keys.now }
+    ensures done { Does (at_each keys.now (combined_answer how))
+        (K.contents keyspace.old) (K.contents keyspace.new) result }
+    ensures covers { K.covered keyspace.new ≡ K.covered keyspace.old }
 {
+    order_walked(alloc, keyspace, how, keys);
     let Some(sets) = find_sets(alloc, keyspace, keys)? else {
         return Ok(wrong_type_reply());
     };

@@ -11,6 +11,7 @@ ghost use Rattle.set_commands.specs.Combination.{found_members};
 ghost use Rattle.set_commands.specs.SetCommand.{looks_at_set, smembers_answer, sismember_answer, smismember_answer};
 ghost use Rattle.set_commands.specs.SetCommand.{members_there, some_members};
 
+use crate::sets::order_set;
 use command_cases::{Starved, truth_reply, wrong_type_reply};
 use keyspace::Keyspace;
 use resp::Reply;
@@ -23,14 +24,16 @@ use values::{SetValue, Value};
 #[tactic(auto, using(keyspace::proofs::Changes::changes, resp::proofs::Contents::content_of))]
 pub(crate) fn smembers<K: Keyspace>(
     alloc: Global,
-    keyspace: &K,
+    keyspace: &mut K,
     key: Text,
 ) -> Result<Reply, Starved>
-    requires { IsTrue (K.covered keyspace.now key) }
+    requires { IsTrue (K.covered keyspace.old key) }
     ensures done { Does (at_key key (looks_at_set smembers_answer))
-        (K.contents keyspace.now) (K.contents keyspace.now) result }
-    ensures starves { OnErr result (0 < length (some_members (map.get (K.contents keyspace.now) key))) }
+        (K.contents keyspace.old) (K.contents keyspace.new) result }
+    ensures starves { OnErr result (0 < length (some_members (map.get (K.contents keyspace.old) key))) }
+    ensures covers { K.covered keyspace.new ≡ K.covered keyspace.old }
 {
+    order_set(alloc, keyspace, key.as_slice());
     match keyspace.look(key.as_slice()) {
         None => Ok(Reply::Array(Vec::new(alloc))),
         Some(Value::Set(set)) => Ok(members_reply(alloc, set)?),
@@ -75,7 +78,7 @@ fn members_reply(alloc: Global, set: &SetValue) -> Result<Reply, AllocError>
     ensures starves { OnErr result (0 < length set.now) }
 {
     let mut replies = Vec::with_capacity(alloc, set.len())?;
-    let mut members = set.members();
+    let mut members = set.members(alloc)?;
     while let Some(member) = members.next() {
         replies.push(bulk_copy(alloc, member)?)?;
     }

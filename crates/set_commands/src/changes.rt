@@ -3,7 +3,7 @@
 //! A set that is there is taken out of the keyspace, changed and put back; the key keeps its place meanwhile, with the
 //! empty string, so that putting it back takes no memory.
 
-ghost use Rattle.std.specs.Prelude.{◌≡◌, IsTrue, IsSome, IsOk, OnErr, None};
+ghost use Rattle.std.specs.Prelude.{◌≡◌, ◌<◌, length, IsTrue, IsSome, IsOk, OnErr, None};
 ghost use Rattle.std.specs.FinMap as map;
 ghost use Rattle.command_cases.specs.Case.{Does, at_key};
 ghost use Rattle.keyspace.specs.Map.{set};
@@ -44,7 +44,7 @@ pub(crate) fn sadd<K: Keyspace>(
     else {
         unreachable!();
     };
-    let done = set.insert_all(alloc, members);
+    let done = set.insert_all(members);
     put_back(keyspace, key.as_slice(), set);
     let added = done?;
     Ok(count_reply(added))
@@ -112,10 +112,11 @@ pub(crate) fn srem<K: Keyspace>(
 }
 
 /// Puts a set in the place of what the key has.
-#[tactic(auto, using(keyspace::proofs::Changes::changes))]
+#[tactic(auto, using(keyspace::proofs::Changes::changes, values::proofs::MembersSeen::members))]
 fn put_back<K: Keyspace>(keyspace: &mut K, key: &[u8], members: SetValue)
     requires covered { IsTrue (K.covered keyspace.old key.now) }
     requires there { IsSome (map.get (K.contents keyspace.old) key.now) }
+    requires some { 0 < length members }
     ensures put { K.contents keyspace.new ≡ map.insert (K.contents keyspace.old) key.now (kind.Set members) }
     ensures left { K.contents keyspace.new ≡ set (K.contents keyspace.old) key.now (set_value members) }
     ensures covers { K.covered keyspace.new ≡ K.covered keyspace.old }

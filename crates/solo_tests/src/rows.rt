@@ -192,6 +192,53 @@ fn a_thousand_words_are_taken(rt: HostRuntime) -> Result<(), Fail> {
     Ok(())
 }
 
+/// The numbers from a thousand on in a mixed order, a space before each; all but the first `kept`.
+fn mixed_numbers(alloc: Global, kept: u32) -> Result<String, Fail> {
+    let mut numbers = String::new(alloc);
+    for place in 0..1000u32 {
+        let number = place * 617 % 1000;
+        if number >= kept {
+            write!(numbers, " {}", 1000 + number)?;
+        }
+    }
+    Ok(numbers)
+}
+
+/// The first `count` numbers from a thousand on as an array of texts, ascending.
+fn listed_numbers(alloc: Global, count: u16) -> Result<Vec<u8>, Fail> {
+    let mut listed = bytes_of(alloc, format!(in alloc; "*{count}|")?.as_str())?;
+    for number in 0..count {
+        let item = format!(in alloc; "$4\r\n{}\r\n", 1000 + u32::from(number))?;
+        listed.extend_from_slice(item.as_bytes())?;
+    }
+    Ok(listed)
+}
+
+#[test]
+fn a_thousand_members_come_in_order(rt: HostRuntime) -> Result<(), Fail> {
+    let alloc = rt.alloc();
+    let all = mixed_numbers(alloc, 0)?;
+    let most = mixed_numbers(alloc, 40)?;
+    let row = format!(in alloc;
+        "SADD s{all}; SMEMBERS s; SMEMBERS s; SUNION s s; SINTER s s; SDIFFSTORE t s u; SMEMBERS t; \
+        SREM s{most}; SMEMBERS s; SINTER t s; SADD s 0999; SISMEMBER s 1039; SISMEMBER s 1040; SDIFF t s t; SCARD s"
+    )?;
+    let whole = listed_numbers(alloc, 1000)?;
+    let some = listed_numbers(alloc, 40)?;
+    let mut replies = bytes_of(alloc, ":1000|")?;
+    for _ in 0..4 {
+        replies.extend_from_slice(&whole)?;
+    }
+    replies.extend_from_slice(&bytes_of(alloc, ":1000|")?)?;
+    replies.extend_from_slice(&whole)?;
+    replies.extend_from_slice(&bytes_of(alloc, ":960|")?)?;
+    replies.extend_from_slice(&some)?;
+    replies.extend_from_slice(&some)?;
+    replies.extend_from_slice(&bytes_of(alloc, ":1|:1|:0|*0|:41|")?)?;
+    expect(&rt, alloc, &requests_of(alloc, row.as_str())?, &replies);
+    Ok(())
+}
+
 /// Requests and their replies; `@` at the end stands for a value of more than a mebibyte.
 type Large = (&'static str, &'static str);
 

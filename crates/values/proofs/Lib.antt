@@ -1,4 +1,5 @@
 pub mod Mapped
 pub mod Lists
 pub mod PairsSeen
+pub mod MembersAlike
 pub mod MembersSeen

@@ -1,68 +1,64 @@
--- What a tree of members does, seen as a list of byte strings.
-use Rattle.std.proofs.Common.{◌≡◌, ℕ, Bool, true, false, cond, not, ◌||◌, List, [], ◌∷◌, ◌++◌, refl, sym, ap, ◌∙◌, append_assoc}
+-- What a table of members does, seen as the ascending list of their bytes.
+use Rattle.std.proofs.Common.{◌≡◌, ℕ, suc, ◌<◌, Bool, true, false, cond, ◌||◌, List, [], ◌∷◌, ◌++◌, length, map, get_or}
+use Rattle.std.proofs.Common.{Option, Some, None, refl, sym, ap, subst, ◌∙◌, append_assoc, arith, ◌≤◌}
 use Rattle.std.proofs.lemmas.Bool.{true≢false}
 use Rattle.std.proofs.lemmas.Cmp.{nat_list_eq_equiv, nat_list_cmp_total}
-use Rattle.std.proofs.lemmas.List.{append-nil, map-append}
+use Rattle.std.proofs.lemmas.List.{append-nil, get_or_default, map-append}
+use Rattle.std.proofs.lemmas.Grind.{common_steps}
+use Rattle.std.proofs.lemmas.List.Folds.{list_any_none}
+use Rattle.std.proofs.lemmas.List.Kept.{IsStrictlySortedBy-dedup}
+use Rattle.std.proofs.lemmas.List.Quantifiers.{position-Some}
+use Rattle.std.proofs.lemmas.List.Sums.{fails_before_first}
+use Rattle.std.proofs.lemmas.List.Sorted.{IsPermutation-map, IsPermutation-swap_remove, IsPermutation-to_front, list_any-IsPermutation}
+use Rattle.std.proofs.lemmas.Map.Keys.{IsDistinct-IsPermutation}
 use Rattle.std.proofs.lemmas.Map.Text.{is_eq-slice_cmp}
-use Rattle.std.specs.BTreeSet as tree
+use Rattle.std.proofs.lemmas.Slice.Eq.{bytes_eq-Decides}
+use Rattle.std.specs.Cmp.{on_total}
 use Rattle.std.specs.Cmp.Lexicographic.{slice_cmp}
-use Rattle.std.specs.Global.{Vec}
-use Rattle.std.specs.List.{AllByRecursion, list_any}
-use Rattle.std.specs.List.Sorted.{IsStrictlySortedBy}
+use Rattle.std.specs.List.{AllByRecursion, IsDistinct, dedup, dedup_from, list_any, position, position_or_len, swap_remove}
+use Rattle.std.specs.List.Sorted.{IsPermutation, IsSorted, IsStrictlySortedBy}
 use Rattle.std.specs.Ordering.{match_ordering, ordering_reverse, nat_cmp, is_eq}
 use Rattle.std.specs.declared.cmp.Ordering.{Ordering}
 use Rattle.std.specs.declared.cmp.Ordering.TheVariants.{Less, Equal, Greater}
-use Rattle.std.specs.Set.{remove_key}
+use Rattle.std.specs.Option.{option_map_or}
 use Rattle.std.specs.Str.{bytes_eq}
-use Rattle.texts.specs.Texts.{Bytes, texts_of}
-use Rattle.values.specs.SetValue.{IsAscending, is_member, with_member, without_member, with_members}
+use Rattle.hashed_texts.specs.declared.HashedText.{HashedText}
+use Rattle.indexmap.proofs.MapLemmas.{swap_remove-default}
+use Rattle.indexmap.specs.IndexSet.{insert_key, swap_remove_by}
+use Rattle.texts.specs.Texts.{Bytes}
+use Rattle.values.proofs.MembersAlike.{strictly-mapped, all-alike, ascending-all, member-of_all, with-there}
+use Rattle.values.specs.ListValue.{nonempty}
+use Rattle.values.specs.SetValue.{IsAscending, is_member, members_seen, with_member, without_member, with_members}
 
--- the order of two members of a tree
-abbrev pub by_bytes : Vec ℕ → Vec ℕ → Ordering
-by_bytes x y = slice_cmp nat_cmp x.items y.items
+-- the bytes of a member
+abbrev pub bytes_of : HashedText → Bytes
+bytes_of key = key.bytes.items
 
--- the test by which a tree is searched for these bytes
-abbrev pub is_here : Bytes → Vec ℕ → Bool
-is_here q x = is_eq (slice_cmp nat_cmp q x.items)
+-- the test of two members of a table
+abbrev pub same_member : HashedText → HashedText → Bool
+same_member x y = bytes_eq x.bytes.items y.bytes.items
 
-pub member-seen : (q : Bytes) (ks : List (Vec ℕ)) → list_any (is_here q) ks ≡ is_member (texts_of ks) q
-member-seen q [] = refl
-member-seen q (k ∷ ks) =
-    ap (λ b. b || list_any (is_here q) ks) (is_eq-slice_cmp q k.items) ∙ ap (λ b. bytes_eq q k.items || b) (member-seen q ks)
+-- the test by which a table is searched for these bytes
+abbrev pub is_here : Bytes → HashedText → Bool
+is_here q x = bytes_eq q x.bytes.items
 
-texts-match : (o : Ordering) (xs ys zs : List (Vec ℕ))
-    → texts_of (match_ordering o xs ys zs) ≡ match_ordering o (texts_of xs) (texts_of ys) (texts_of zs)
-texts-match Less xs ys zs = refl
-texts-match Equal xs ys zs = refl
-texts-match Greater xs ys zs = refl
+any-mapped : (q : Bytes) (keys : List HashedText) → list_any (is_here q) keys ≡ is_member (map bytes_of keys) q
+any-mapped q [] = refl
+any-mapped q (k ∷ keys) = ap (λ b. is_here q k || b) (any-mapped q keys)
 
-texts-cond : (b : Bool) (xs ys : List (Vec ℕ)) → texts_of (cond b xs ys) ≡ cond b (texts_of xs) (texts_of ys)
-texts-cond true xs ys = refl
-texts-cond false xs ys = refl
+pub member-seen : (q : Bytes) (keys : List HashedText) → list_any (is_here q) keys ≡ is_member (members_seen keys) q
+member-seen q keys = any-mapped q keys ∙ sym (member-of_all (map bytes_of keys) q)
 
-pub insert-seen : (k : Vec ℕ) (ks : List (Vec ℕ)) → texts_of (tree.insert_key by_bytes ks k) ≡ with_member (texts_of ks) k.items
-insert-seen k [] = refl
-insert-seen k (x ∷ xs) =
-    texts-match (by_bytes k x) (k ∷ x ∷ xs) (x ∷ xs) (x ∷ tree.insert_key by_bytes xs k)
-    ∙ ap (λ rest. match_ordering (by_bytes k x) (k.items ∷ x.items ∷ texts_of xs) (x.items ∷ texts_of xs) (x.items ∷ rest))
-    (insert-seen k xs)
+pub seen-ascends : (keys : List HashedText) → IsAscending (members_seen keys)
+seen-ascends keys = ascending-all (map bytes_of keys)
 
-pub remove-seen : (q : Bytes) (ks : List (Vec ℕ)) → texts_of (remove_key (is_here q) ks) ≡ without_member (texts_of ks) q
-remove-seen q [] = refl
-remove-seen q (k ∷ ks) =
-    texts-cond (is_here q k) ks (k ∷ remove_key (is_here q) ks)
-    ∙ ap (λ b. cond b (texts_of ks) (k.items ∷ texts_of (remove_key (is_here q) ks))) (is_eq-slice_cmp q k.items)
-    ∙ ap (λ rest. cond (bytes_eq q k.items) (texts_of ks) (k.items ∷ rest)) (remove-seen q ks)
+-- of two that are not both false
+neither : (a b : Bool) → (a || b) ≡ false → (a ≡ false) × (b ≡ false)
+neither true b e = absurd (true≢false e)
+neither false b e = (refl, e)
 
-pub ascending-seen : (ks : List (Vec ℕ)) → IsStrictlySortedBy by_bytes ks → IsAscending (texts_of ks)
-unfolding IsStrictlySortedBy
-ascending-seen [] h = h
-ascending-seen (k ∷ ks) h = (below ks h.0, ascending-seen ks h.1)
-  where
-    below : (xs : List (Vec ℕ)) → AllByRecursion (λ y. by_bytes k y ≡ Less) xs
-        → AllByRecursion (λ y. slice_cmp nat_cmp k.items y ≡ Less) (texts_of xs)
-    below [] h = h
-    below (x ∷ xs) h = (h.0, below xs h.1)
+bytes_eq-flips : (x y : Bytes) → bytes_eq x y ≡ bytes_eq y x
+bytes_eq-flips x y = nat_list_eq_equiv.symm x y
 
 -- a member that wasn't there goes as it came
 without-at : (q x : Bytes) (o : Ordering) (xs : List Bytes) → slice_cmp nat_cmp q x ≡ o → bytes_eq q x ≡ false
@@ -78,10 +74,6 @@ without-with [] q absent = ap (λ b. cond b [] (q ∷ [])) (nat_list_eq_equiv.re
 without-with (x ∷ xs) q absent =
     let parts = neither (bytes_eq q x) (is_member xs q) absent in
     without-at q x (slice_cmp nat_cmp q x) xs refl parts.0 (without-with xs q parts.1)
-  where
-    neither : (a b : Bool) → (a || b) ≡ false → (a ≡ false) × (b ≡ false)
-    neither true b e = absurd (true≢false e)
-    neither false b e = (refl, e)
 
 -- members put one after another, and then one more
 pub with_members-pushed : (ms more : List Bytes) (q : Bytes) → with_members ms (more ++ q ∷ []) ≡ with_member (with_members ms more) q
@@ -121,20 +113,167 @@ with_members-ascending members up = in_order [] members (none_there members) up
     none_there [] = tt
     none_there (m ∷ more) = (tt, none_there more)
 
-pub with_members-pushed_seen : (ms : List Bytes) (first : List (Vec ℕ)) (last : Vec ℕ)
-    → with_members ms (texts_of (first ++ last ∷ [])) ≡ with_member (with_members ms (texts_of first)) last.items
-with_members-pushed_seen ms first last = ap (with_members ms) (map-append (λ t. t.items) first (last ∷ []))
-    ∙ with_members-pushed ms (texts_of first) last.items
+-- members that change places are the same set
+pub all-permuted : (all more : List Bytes) → IsPermutation all more → with_members [] all ≡ with_members [] more
+all-permuted all more p = all-alike all more (λ q. list_any-IsPermutation (bytes_eq q) all more p)
 
--- the same, of one that was new
-pub without-with_new : (ms : List Bytes) (q : Bytes) (new : Bool) → new ≡ not (is_member ms q) → new ≡ true
-    → without_member (with_member ms q) q ≡ ms
-without-with_new ms q new e yet = without-with ms q (absent (is_member ms q) (sym e ∙ yet))
+pub seen-permuted : (keys more : List HashedText) → IsPermutation keys more → members_seen keys ≡ members_seen more
+seen-permuted keys more p = all-permuted (map bytes_of keys) (map bytes_of more) (IsPermutation-map bytes_of keys more p)
+
+-- a member that is inserted
+pub insert-seen : (k : HashedText) (keys : List HashedText)
+    → members_seen (insert_key same_member keys k) ≡ with_member (members_seen keys) k.bytes.items
+insert-seen k keys = by (list_any (same_member k) keys) refl
   where
-    absent : (there : Bool) → not there ≡ true → there ≡ false
-    absent true e = absurd (true≢false (sym e))
-    absent false e = refl
+    by : (b : Bool) → list_any (same_member k) keys ≡ b
+        → members_seen (cond b keys (keys ++ k ∷ [])) ≡ with_member (members_seen keys) k.bytes.items
+    by true there = sym (with-there (members_seen keys) k.bytes.items (seen-ascends keys) (sym (member-seen k.bytes.items keys) ∙ there))
+    by false absent =
+        ap (with_members []) (map-append bytes_of keys (k ∷ []))
+        ∙ with_members-pushed [] (map bytes_of keys) k.bytes.items
 
-pub ruleset seen = (ascending-seen)
+-- a string that is no member is not there to be removed
+pub without-absent : (ms : List Bytes) (q : Bytes) → is_member ms q ≡ false → without_member ms q ≡ ms
+without-absent [] q absent = refl
+without-absent (x ∷ xs) q absent =
+    let parts = neither (bytes_eq q x) (is_member xs q) absent in
+    ap (λ b. cond b xs (x ∷ without_member xs q)) parts.0 ∙ ap (λ l. x ∷ l) (without-absent xs q parts.1)
 
-pub ruleset members = (without-with, without-with_new, with_members-pushed_seen, with_members-ascending)
+none-there : (test : HashedText → Bool) (keys : List HashedText) → position test keys ≡ None → list_any test keys ≡ false
+none-there test keys e =
+    let outside : length keys ≤ position_or_len test keys = grind (arith, common_steps) in
+    list_any_none test keys (λ i d within. fails_before_first test keys i d (omega (arith, outside, within)))
+
+-- members that differ from one are not it
+apart-absent : (k : HashedText) (keys : List HashedText) → AllByRecursion (λ y. same_member k y ≡ false) keys
+    → list_any (is_here k.bytes.items) keys ≡ false
+apart-absent k [] apart = refl
+apart-absent k (y ∷ keys) apart =
+    ap (λ b. b || list_any (is_here k.bytes.items) keys) apart.0 ∙ apart-absent k keys apart.1
+
+-- a member that goes, before the others, which are as they were put without it
+gone : (k : HashedText) (keys rest : List HashedText) → IsDistinct same_member keys → IsPermutation keys (k ∷ rest)
+    → members_seen rest ≡ without_member (members_seen keys) k.bytes.items
+unfolding IsDistinct
+gone k keys rest distinct p =
+    let apart = IsDistinct-IsPermutation same_member (λ x y. bytes_eq-flips x.bytes.items y.bytes.items) keys (k ∷ rest) p distinct in
+    let absent : is_member (members_seen rest) k.bytes.items ≡ false =
+    sym (member-seen k.bytes.items rest) ∙ apart-absent k rest apart.0 in
+    let last : members_seen keys ≡ with_member (members_seen rest) k.bytes.items =
+    seen-permuted keys (k ∷ rest) p
+    ∙ sym (all-permuted (map bytes_of rest ++ k.bytes.items ∷ []) (k.bytes.items ∷ map bytes_of rest)
+    (IsPermutation-to_front (map bytes_of rest) k.bytes.items))
+    ∙ with_members-pushed [] (map bytes_of rest) k.bytes.items in
+    sym (ap (λ ms. without_member ms k.bytes.items) last ∙ without-with (members_seen rest) k.bytes.items absent)
+
+-- a member that is removed
+pub remove-seen : (q : Bytes) (keys : List HashedText) → IsDistinct same_member keys
+    → members_seen (swap_remove_by (is_here q) keys) ≡ without_member (members_seen keys) q
+remove-seen q [] distinct = refl
+remove-seen q (x ∷ xs) distinct = by (position (is_here q) (x ∷ xs)) refl
+  where
+    keys : List HashedText
+    keys = x ∷ xs
+
+    by : (o : Option ℕ) → position (is_here q) keys ≡ o
+        → members_seen (option_map_or (λ i. swap_remove keys i x) o keys) ≡ without_member (members_seen keys) q
+    by None e =
+        sym (without-absent (members_seen keys) q (sym (member-seen q keys) ∙ none-there (is_here q) keys e))
+    by (Some i) e =
+        let found = position-Some (is_here q) keys i x e in
+        let k : HashedText = get_or keys i x in
+        let is : q ≡ k.bytes.items = (bytes_eq-Decides q k.bytes.items).0 found.1 in
+        ap members_seen (swap_remove-default keys i x k (omega arith))
+        ∙ gone k keys (swap_remove keys i k) distinct (IsPermutation-swap_remove keys i k found.0 (get_or_default keys i x k found.0))
+        ∙ ap (without_member (members_seen keys)) (sym is)
+
+-- a list in order in which no string stands twice ascends
+distinct-kept : {A : Type 0} (f : A → Bytes) (x : A) (xs : List A) → IsDistinct bytes_eq (f x ∷ map f xs)
+    → dedup_from (λ a b. bytes_eq (f a) (f b)) x xs ≡ x ∷ xs
+unfolding IsDistinct
+distinct-kept f x [] distinct = refl
+distinct-kept f x (y ∷ ys) distinct =
+    ap (λ b. cond b (dedup_from (λ a b. bytes_eq (f a) (f b)) x ys) (x ∷ dedup_from (λ a b. bytes_eq (f a) (f b)) y ys))
+    (bytes_eq-flips (f y) (f x) ∙ distinct.0.0)
+    ∙ ap (λ l. x ∷ l) (distinct-kept f y ys distinct.1)
+
+distinct-whole : {A : Type 0} (f : A → Bytes) (xs : List A) → IsDistinct bytes_eq (map f xs)
+    → dedup (λ a b. bytes_eq (f a) (f b)) xs ≡ xs
+distinct-whole f [] distinct = refl
+distinct-whole f (x ∷ xs) distinct = distinct-kept f x xs distinct
+
+pub sorted-ascends : {A : Type 0} (f : A → Bytes) (xs : List A) → IsSorted (λ a b. slice_cmp nat_cmp (f a) (f b)) xs
+    → IsDistinct bytes_eq (map f xs) → IsAscending (map f xs)
+sorted-ascends f xs sorted distinct =
+    strictly-mapped f xs
+    (subst (IsStrictlySortedBy (λ a b. slice_cmp nat_cmp (f a) (f b))) (distinct-whole f xs distinct)
+    (IsStrictlySortedBy-dedup (on_total f nat_list_cmp_total) (λ a b. sym (is_eq-slice_cmp (f a) (f b))) xs sorted))
+
+-- members in order are the set that they are put into
+pub ordered-seen : (all more : List Bytes) → IsPermutation all more → IsAscending more → more ≡ with_members [] all
+ordered-seen all more p up = sym (with_members-ascending more up) ∙ sym (all-permuted all more p)
+
+-- a set of some keys has a member
+pub some-seen : (keys : List HashedText) → 0 < length keys → 0 < length (members_seen keys)
+some-seen [] some = some
+some-seen (k ∷ keys) some =
+    by (members_seen (k ∷ keys))
+    (sym (member-seen k.bytes.items (k ∷ keys)) ∙ ap (λ b. b || list_any (is_here k.bytes.items) keys) (nat_list_eq_equiv.refl k.bytes.items))
+  where
+    by : (ms : List Bytes) → is_member ms k.bytes.items ≡ true → 0 < length ms
+    by [] e = absurd (true≢false (sym e))
+    by (m ∷ ms) e = omega arith
+
+-- one member more
+longer : (ms : List Bytes) (q : Bytes) → is_member ms q ≡ false → length (with_member ms q) ≡ suc (length ms)
+longer [] q absent = refl
+longer (x ∷ xs) q absent =
+    let parts = neither (bytes_eq q x) (is_member xs q) absent in
+    by (slice_cmp nat_cmp q x) refl parts.0 (longer xs q parts.1)
+  where
+    by : (o : Ordering) → slice_cmp nat_cmp q x ≡ o → bytes_eq q x ≡ false → length (with_member xs q) ≡ suc (length xs)
+        → length (match_ordering o (q ∷ x ∷ xs) (x ∷ xs) (x ∷ with_member xs q)) ≡ suc (suc (length xs))
+    by Less e apart rest = refl
+    by Equal e apart rest = absurd (true≢false (sym (sym (is_eq-slice_cmp q x) ∙ ap is_eq e) ∙ apart))
+    by Greater e apart rest = ap suc rest
+
+-- as many members as keys, since none lies there twice
+pub length-seen : (keys : List HashedText) → IsDistinct same_member keys → length (members_seen keys) ≡ length keys
+unfolding IsDistinct
+length-seen [] distinct = refl
+length-seen (k ∷ keys) distinct =
+    let last : members_seen (k ∷ keys) ≡ with_member (members_seen keys) k.bytes.items =
+    sym (all-permuted (map bytes_of keys ++ k.bytes.items ∷ []) (k.bytes.items ∷ map bytes_of keys)
+    (IsPermutation-to_front (map bytes_of keys) k.bytes.items))
+    ∙ with_members-pushed [] (map bytes_of keys) k.bytes.items in
+    ap length last
+    ∙ longer (members_seen keys) k.bytes.items (sym (member-seen k.bytes.items keys) ∙ apart-absent k keys distinct.0)
+    ∙ ap suc (length-seen keys distinct.1)
+
+pub nonempty-some : {A : Type 0} (xs : List A) → 0 < length xs → nonempty xs ≡ Some xs
+nonempty-some [] some = absurd (omega arith)
+nonempty-some (x ∷ xs) some = refl
+
+pub distinct-mapped : (keys : List HashedText) → IsDistinct same_member keys → IsDistinct bytes_eq (map bytes_of keys)
+unfolding IsDistinct
+distinct-mapped [] h = h
+distinct-mapped (k ∷ keys) h = (apart keys h.0, distinct-mapped keys h.1)
+  where
+    apart : (more : List HashedText) → AllByRecursion (λ y. same_member k y ≡ false) more
+        → AllByRecursion (λ y. bytes_eq k.bytes.items y ≡ false) (map bytes_of more)
+    apart [] h = h
+    apart (m ∷ more) h = (h.0, apart more h.1)
+
+-- borrowed members that are sorted
+pub sorted-seen : {A : Type 0} (f : A → Bytes) (keys : List HashedText) (members sorted : List A) → map f members ≡ map bytes_of keys
+    → IsDistinct bytes_eq (map bytes_of keys) → IsPermutation members sorted
+    → IsSorted (λ a b. slice_cmp nat_cmp (f a) (f b)) sorted → map f sorted ≡ members_seen keys
+sorted-seen f keys members sorted lent distinct p up =
+    let moved : IsPermutation (map bytes_of keys) (map f sorted) =
+    subst (λ l. IsPermutation l (map f sorted)) lent (IsPermutation-map f members sorted p) in
+    ordered-seen (map bytes_of keys) (map f sorted) moved
+    (sorted-ascends f sorted up (IsDistinct-IsPermutation bytes_eq bytes_eq-flips (map bytes_of keys) (map f sorted) moved distinct))
+
+pub ruleset seen = (seen-ascends, length-seen, some-seen, nonempty-some)
+
+pub ruleset members = (with_members-ascending, some-seen, nonempty-some)

@@ -1,6 +1,7 @@
 -- What an iterator over a value has left.
 use Rattle.std.specs.Prelude.{List, [], ◌∷◌, map, Option, Some, None}
 use Rattle.std.specs.Borrow.{Bor}
+use Rattle.std.specs.Vec.Iter.{into_iter_items}
 use Rattle.std.specs.VecDeque.Iter.{deque_iter_rest}
 use Rattle.texts.specs.Texts.{Bytes, texts_of, by_turns}
 use Rattle.values.specs.HashValue.{pairs_seen}
@@ -18,4 +19,5 @@ left (rest.Texts texts) = texts_of (deque_iter_rest texts)
 left (rest.Fields pairs) = map (λ pair. pair.0) (pairs_seen pairs)
 left (rest.Values pairs) = map (λ pair. pair.1) (pairs_seen pairs)
 left (rest.Both pairs) = by_turns (pairs_seen pairs)
-left (rest.Members members) = texts_of members
+left (rest.Members members) = map (λ member. member.now) (into_iter_items members)
+left (rest.Keys keys) = map (λ key. key.bytes.items) keys

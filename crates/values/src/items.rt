@@ -3,9 +3,10 @@
 ghost use Rattle.std.specs.Iterator.{YieldsFirstRef, item_count};
 
 use hashed_texts::HashedText;
-use indexmap::map;
-use std::collections::{btree_set, vec_deque};
+use indexmap::{map, set};
+use std::collections::vec_deque;
 use std::marker::Model;
+use std::vec;
 
 /// Items of a list, fields or values of a hash, or members of a set, in order. Contracts see the list of those that are
 /// left.
@@ -25,7 +26,10 @@ pub(crate) enum Rest<'a> {
 
     /// Fields and values by turns.
     Both(map::Iter<'a, HashedText, Vec<u8>>),
-    Members(btree_set::Iter<'a, Vec<u8>>),
+    Members(vec::IntoIter<&'a [u8]>),
+
+    /// Members as they lie in their table.
+    Keys(set::Iter<'a, HashedText>),
 }
 
 impl<'a> Model for Items<'a> {
@@ -67,9 +71,10 @@ impl<'a> Iterator for Items<'a> {
                 self.value = Some(value.as_slice());
                 Some(field.bytes.as_slice())
             }
-            Rest::Members(members) => {
-                let member = members.next()?;
-                Some(member.as_slice())
+            Rest::Members(members) => members.next(),
+            Rest::Keys(keys) => {
+                let key = keys.next()?;
+                Some(key.bytes.as_slice())
             }
         }
     }

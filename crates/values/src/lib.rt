@@ -11,7 +11,7 @@ ghost use Rattle.values.specs.Value.{type_name};
 mod hash_value;
 mod items;
 mod list_value;
-mod member_tree;
+mod member_table;
 mod pair_table;
 mod set_value;
 

@@ -1,38 +1,43 @@
 //! The value of a key that is a set.
 
-ghost use Rattle.std.specs.Prelude.{◌≡◌, ◌+◌, ◌<◌, ◌≤◌, [], length, reverse, not};
-ghost use Rattle.std.specs.Prelude.{false, IsTrue, IfOk, OnOk, OnErr};
-ghost use Rattle.std.specs.BTreeSet.{btree_set_len};
-ghost use Rattle.texts.specs.Texts.{texts_of};
+ghost use Rattle.std.specs.Prelude.{◌≡◌, ◌+◌, ◌<◌, [], length, not};
+ghost use Rattle.std.specs.Prelude.{false, IfOk, OnOk, OnErr};
 ghost use Rattle.values.specs.ListValue.{nonempty};
-ghost use Rattle.values.specs.SetValue.{IsAscending, is_member, with_member, without_member, with_members, without_members};
+ghost use Rattle.values.specs.SetValue.{IsAscending, is_member, members_seen};
+ghost use Rattle.values.specs.SetValue.{with_member, without_member, with_members, without_members};
 
 use crate::items::{Items, Rest};
-use crate::member_tree::{
-    MemberTree, contains, insert, insert_all_or_none, insert_each, into_list, remove, remove_each,
+use crate::member_table::{
+    MemberTable, ascending, contains, give_back, insert, insert_each, order, remove, remove_each,
 };
+use indexmap::IndexSet;
 use std::alloc::{AllocError, Global};
-use std::collections::BTreeSet;
 use std::marker::Model;
 use texts::{Text, Texts};
 
 /// A set of at least one byte string. Contracts see the list of its members, ascending by their bytes.
 ///
-/// A member is looked up, inserted and removed in logarithmic time.
+/// A member is looked up, inserted and removed in constant time on average. The members lie in any order until one is
+/// asked for: `members` takes time for sorting them, unless `order` did so and none was inserted or removed since.
 #[derive(Drop)]
 pub struct SetValue {
-    members: MemberTree,
+    members: Box<MemberTable>,
+
+    /// Whether the members ascend as they lie in the table.
+    is_ordered: bool,
 }
 
 impl Model for SetValue {
-    ghost use Rattle.std.specs.Prelude.{List, ◌<◌, length};
-    ghost use Rattle.texts.specs.Texts.{Bytes, texts_of};
+    ghost use Rattle.std.specs.Prelude.{List, ◌<◌, IsTrue, length, map};
+    ghost use Rattle.texts.specs.Texts.{Bytes};
+    ghost use Rattle.values.specs.SetValue.{IsAscending, members_seen};
 
     ghost Value = { List Bytes };
 
-    ghost view = { λ s. texts_of s.members.keys };
+    ghost view = { λ s. members_seen s.members.value.keys };
 
-    ghost invariant = { λ s. 0 < length s.members.keys };
+    ghost invariant = { λ s. (0 < length s.members.value.keys)
+        × (IsTrue s.is_ordered → IsAscending (map (λ key. key.bytes.items) s.members.value.keys)) };
 }
 
 impl SetValue {
@@ -45,9 +50,13 @@ impl SetValue {
         ensures made { IfOk result (λ set. set ≡ nonempty (with_members [] members)) }
         ensures ascending { IsAscending members → IfOk result (λ set. set ≡ nonempty members) }
     {
-        let mut there = BTreeSet::new(alloc);
-        insert_each(&mut there, members.into_vec())?;
-        Ok(at_least_one(there))
+        let members = members.into_vec();
+        let mut table: MemberTable = IndexSet::with_capacity(alloc, members.len())?;
+        insert_each(&mut table, members);
+        let Ok(members) = Box::new(alloc, table) else {
+            return Err(AllocError);
+        };
+        Ok(at_least_one(members))
     }
 
     /// The number of members.
@@ -68,28 +77,48 @@ impl SetValue {
     }
 
     /// The members in ascending order, to be read one after another.
-    pub fn members(&self) -> Items<'_>
-        ensures { result ≡ self.now }
+    ///
+    /// `AllocError` where there is no memory for a list of them.
+    pub fn members(&self, alloc: Global) -> Result<Items<'_>, AllocError>
+        ensures { IfOk result (λ members. members ≡ self.now) }
+    {
+        let members = ascending(alloc, &self.members, self.is_ordered)?;
+        Ok(Items {
+            value: None,
+            rest: Rest::Members(members.into_iter()),
+        })
+    }
+
+    /// The members in any order, to be read one after another. It takes no memory.
+    pub fn in_any_order(&self) -> Items<'_>
+        ensures { with_members [] result ≡ self.now }
     {
         Items {
             value: None,
-            rest: Rest::Members(self.members.iter()),
+            rest: Rest::Keys(self.members.iter()),
         }
     }
 
-    /// The members in ascending order, moved out; no string is copied.
+    /// Puts the members in order as they lie in memory, so that `members` has not to sort them.
     ///
-    /// `AllocError` where there is no memory for the list.
-    pub fn into_members(self, alloc: Global) -> Result<Texts, AllocError>
-        ensures { IfOk result (λ members. members ≡ self) }
+    /// `AllocError` where there is no memory for that. The set is the same, whichever comes.
+    #[tactic(auto, using(crate::proofs::MembersSeen::seen))]
+    pub fn order(&mut self) -> Result<(), AllocError>
+        ensures same { self.new ≡ self.old }
+        ensures some { 0 < length self.new }
     {
-        let members = into_list(alloc, self.members)?;
-        Ok(Texts::from(members))
+        if self.is_ordered {
+            return Ok(());
+        }
+        order(&mut self.members)?;
+        self.is_ordered = true;
+        Ok(())
     }
 
     /// Inserts a member, and says whether it was new.
     ///
     /// `AllocError`, and no change, where there is no memory for a new one.
+    #[tactic(auto, using(crate::proofs::MembersSeen::seen))]
     pub fn insert(&mut self, member: Text) -> Result<bool, AllocError>
         ensures added { IfOk result (λ added. added ≡ not (is_member self.old member)) }
         ensures ok { OnOk result (self.new ≡ with_member self.old member) }
@@ -97,20 +126,24 @@ impl SetValue {
         ensures absent { OnErr result (is_member self.old member ≡ false) }
         ensures err { OnErr result (self.new ≡ self.old) }
     {
+        self.is_ordered = false;
         insert(&mut self.members, member.into_vec())
     }
 
-    /// Inserts these members, all of them, and gives how many were new; or inserts none, and `AllocError`.
-    ///
-    /// All but the last are copied, so that they can be taken back.
-    pub fn insert_all(&mut self, alloc: Global, members: Texts) -> Result<usize, AllocError>
+    /// Inserts these members, all of them, and gives how many were new; or inserts none, and `AllocError`. No string is
+    /// copied.
+    #[tactic(auto, using(crate::proofs::MembersSeen::seen))]
+    pub fn insert_all(&mut self, members: Texts) -> Result<usize, AllocError>
         ensures ok { OnOk result (self.new ≡ with_members self.old members) }
         ensures some { 0 < length self.new }
         ensures added { IfOk result (λ added. length self.new ≡ length self.old + added) }
         ensures err { OnErr result (self.new ≡ self.old) }
     {
+        let members = members.into_vec();
         let before = self.members.len();
-        insert_all_or_none(alloc, &mut self.members, members.into_vec())?;
+        self.members.reserve(members.len())?;
+        self.is_ordered = false;
+        insert_each(&mut self.members, members);
         Ok(self.members.len() - before)
     }
 
@@ -118,30 +151,39 @@ impl SetValue {
     pub fn remove(self, member: &[u8]) -> Option<Self>
         ensures { result ≡ nonempty (without_member self member.now) }
     {
-        let SetValue { mut members } = self;
+        let SetValue { mut members, .. } = self;
         remove(&mut members, member);
         at_least_one(members)
     }
 
     /// Removes these members, and gives how many were there and what is left. It takes no memory.
+    #[tactic(auto, using(crate::proofs::MembersSeen::seen))]
     pub fn remove_all(self, members: &Texts) -> (usize, Option<Self>)
         ensures left { result.1 ≡ nonempty (without_members self members.now) }
         ensures removed { result.0 + length (without_members self members.now) ≡ length self }
     {
-        let SetValue { members: mut there } = self;
+        let SetValue {
+            members: mut there,
+            ..
+        } = self;
         let before = there.len();
         remove_each(&mut there, members.as_slice());
         (before - there.len(), at_least_one(there))
     }
 }
 
-/// These members as a set, if there are any.
-fn at_least_one(members: MemberTree) -> Option<SetValue>
-    ensures { result ≡ nonempty (texts_of members.keys) }
+/// These members as a set, if there are any, in a table that is not much too large for them.
+#[tactic(auto, using(crate::proofs::MembersSeen::seen))]
+fn at_least_one(mut members: Box<MemberTable>) -> Option<SetValue>
+    ensures { result ≡ nonempty (members_seen members.value.keys) }
 {
     if members.is_empty() {
         None
     } else {
-        Some(SetValue { members })
+        give_back(&mut members);
+        Some(SetValue {
+            members,
+            is_ordered: false,
+        })
     }
 }

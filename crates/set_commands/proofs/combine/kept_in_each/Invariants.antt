@@ -8,7 +8,7 @@ use Rattle.set_commands.proofs.combine.kept_in_each.Given as goal
 abbrev pub invariant-loop-member : goal.invariant-loop-member
 invariant-loop-member l =
     texts_of l.kept.items ++ filter (is_in_all (found_sets l.before) (found_sets l.after)) l.members
-    ≡ filter (is_in_all (found_sets l.before) (found_sets l.after)) l.set
+    ≡ filter (is_in_all (found_sets l.before) (found_sets l.after)) l.initial.members
 
 abbrev pub decreases-loop-member : goal.decreases-loop-member
 decreases-loop-member l = length l.members

@@ -1,12 +1,14 @@
-use Rattle.std.proofs.Common.{◌≡◌, sym, subst, rules, not}
+use Rattle.std.proofs.Common.{◌≡◌, [], ap, not, ◌∙◌, rules}
 use Rattle.std.specs.List.{filter}
-use Rattle.set_commands.proofs.Kept.{ascending-kept}
+use Rattle.set_commands.proofs.Kept.{kept-in_order}
 use Rattle.set_commands.specs.Combination.{found_sets, is_in_some}
-use Rattle.values.specs.SetValue.{IsAscending}
+use Rattle.texts.specs.Texts.{texts_of}
+use Rattle.values.specs.SetValue.{with_members}
 use Rattle.set_commands.proofs.combine.kept_in_none.Goals as goal
 
-pub returns-clause-ascending : goal.returns-clause-ascending
-returns-clause-ascending c =
-    let kept : c.from.result ≡ filter (λ member. not (is_in_some (found_sets c.args.others.now) member)) c.args.set.now = search rules in
-    subst IsAscending (sym kept)
-    (ascending-kept (λ member. not (is_in_some (found_sets c.args.others.now) member)) c.args.set.now c.len.ensures.ascending)
+pub returns : goal.returns
+returns c =
+    let read = c.in_any_order-members.result in
+    let kept : texts_of c.loop-member.kept.items ≡ filter (λ member. not (is_in_some (found_sets c.args.others.now) member)) read = search rules in
+    ap (with_members []) kept
+    ∙ kept-in_order (λ member. not (is_in_some (found_sets c.args.others.now) member)) read c.args.set.now c.in_any_order-members.ensures

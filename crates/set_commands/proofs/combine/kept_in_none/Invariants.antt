@@ -8,7 +8,7 @@ use Rattle.set_commands.proofs.combine.kept_in_none.Given as goal
 abbrev pub invariant-loop-member : goal.invariant-loop-member
 invariant-loop-member l =
     texts_of l.kept.items ++ filter (λ member. not (is_in_some (found_sets l.others) member)) l.members
-    ≡ filter (λ member. not (is_in_some (found_sets l.others) member)) l.set
+    ≡ filter (λ member. not (is_in_some (found_sets l.others) member)) l.initial.members
 
 abbrev pub decreases-loop-member : goal.decreases-loop-member
 decreases-loop-member l = length l.members
