@@ -1,5 +1,5 @@
 -- Rows, found by their names.
-use Rattle.std.proofs.Common.{◌≡◌, ℕ, zero, suc, ◌<◌, Bool, true, false, List, [], ◌∷◌, ◌++◌, Some, None, option_map, refl, sym, ap}
+use Rattle.std.proofs.Common.{◌≡◌, ℕ, zero, suc, ◌<◌, Bool, true, false, List, [], ◌∷◌, Some, None, refl, sym}
 use Rattle.std.proofs.Common.{subst, nat_lt, if◌then◌else◌, arith}
 use Rattle.std.specs.List.{list_all}
 use Rattle.std.specs.Str.{bytes_eq, IsUtf8, IsAscii}
@@ -7,7 +7,7 @@ use Rattle.std.proofs.lemmas.Bool.{and_parts}
 use Rattle.std.proofs.lemmas.Bool.Decides.{nat_tests}
 use Rattle.std.proofs.lemmas.Slice.Eq.{bytes_eq-Decides}
 use Rattle.std.proofs.lemmas.Str.{IsUtf8-from_ascii}
-use Rattle.command_table.specs.CommandRow.{CommandRow, row_of, row_reading, reading_among}
+use Rattle.command_table.specs.CommandRow.{CommandRow, row_of}
 use Rattle.command_table.specs.Words.{Word}
 
 -- each byte is below 128
@@ -33,25 +33,3 @@ none_of_bytes (r ∷ rs) n h not_text =
           (IsUtf8-from_ascii r.name (IsAscii-name r.name parts.0))))
       | false ↦ λ e. none_of_bytes rs n parts.1 not_text
     ] refl
-
--- where the first rows have no row of this name the others are looked through
-pub row-after : (rs qs : List CommandRow) (n : Word) → row_of rs n ≡ None → row_of (rs ++ qs) n ≡ row_of qs n
-row-after [] qs n none = refl
-row-after (r ∷ rs) qs n none =
-    elim (bytes_eq n r.name)
-    as (λ b. (if b then Some r else row_of rs n) ≡ None → (if b then Some r else row_of (rs ++ qs) n) ≡ row_of qs n) [
-      | true ↦ λ e. absurd cc
-      | false ↦ λ e. row-after rs qs n e
-    ] none
-
--- what the first rows say of words all of them say
-pub reading-before : (rs qs : List CommandRow) (n : Word) (words : List Word) (read : _) → reading_among rs n words ≡ Some read →
-    reading_among (rs ++ qs) n words ≡ Some read
-reading-before [] qs n words read e = absurd cc
-reading-before (r ∷ rs) qs n words read e =
-    elim (bytes_eq n r.name)
-    as (λ b. option_map (λ q. row_reading q words) (if b then Some r else row_of rs n) ≡ Some read →
-    option_map (λ q. row_reading q words) (if b then Some r else row_of (rs ++ qs) n) ≡ Some read) [
-      | true ↦ λ here. here
-      | false ↦ λ there. reading-before rs qs n words read there
-    ] e

@@ -1,5 +1,5 @@
 -- A row of the table of commands, in the terms of the Redis command reference, and how rows are used.
-use Rattle.std.specs.Prelude.{◌+◌, List, [], ◌∷◌, Option, Some, None, Result, Ok, Err, ℤ, ◌%◌, ◌==◌, if◌then◌else◌, length, option_map}
+use Rattle.std.specs.Prelude.{◌+◌, List, [], ◌∷◌, Bool, Option, Some, None, is_some, Result, Ok, Err, ℤ, ◌%◌, ◌==◌, if◌then◌else◌, length, option_map}
 use Rattle.std.specs.Str.{bytes_eq}
 use Rattle.command_table.specs.declared.arity.Arity.{Arity}
 use Rattle.command_table.specs.declared.command.Command.{Command}
@@ -30,6 +30,10 @@ row_told r words = record { name = r.name; keys = keys_in r.keys words }
 abbrev pub row_of : List CommandRow → Word → Option CommandRow
 row_of [] name = None
 row_of (r ∷ rs) name = if bytes_eq name r.name then Some r else row_of rs name
+
+-- one of the rows has this name
+abbrev pub has_row : List CommandRow → Word → Bool
+has_row rows name = is_some (row_of rows name)
 
 -- what a row says of the words after the name: how many there are is looked at first
 abbrev pub row_reading : CommandRow → List Word → Reading

@@ -1,7 +1,6 @@
 -- The words of a request.
-use Rattle.std.specs.Prelude.{ℕ, ℤ, Bool, false, nat_eq, List, [], ◌∷◌, map, slice_index_or, Option, Some, None, Result, Ok, Err}
+use Rattle.std.specs.Prelude.{ℕ, ℤ, Bool, List, [], map, slice_index_or, Option, Some, None, Result, Ok, Err}
 use Rattle.std.specs.Char.{to_ascii_lowercase}
-use Rattle.std.specs.List.{list_any}
 use Rattle.std.specs.Str.{bytes_eq}
 use Rattle.command_table.specs.declared.refusal.Refusal.{Refusal}
 use Rattle.command_table.specs.declared.refusal.Refusal.TheVariants.{NotInteger}
@@ -20,11 +19,6 @@ lower w = map to_ascii_lowercase w
 -- the word is this text, which is in lower case, without regard to case
 abbrev pub is_word : Word → Word → Bool
 is_word text w = bytes_eq (lower w) text
-
--- the word begins with one of these letters
-abbrev pub begins_with_one_of : List ℕ → Word → Bool
-begins_with_one_of letters [] = false
-begins_with_one_of letters (first ∷ rest) = list_any (λ letter. nat_eq letter first) letters
 
 -- the word at a place; the empty one where there is none
 abbrev pub word : List Word → ℕ → Word

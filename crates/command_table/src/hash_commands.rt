@@ -1,22 +1,21 @@
 //! Commands on hashes.
 
-ghost use Rattle.std.specs.Prelude.{◌≡◌, ◌≤◌, length, MatchResult, Some, None};
+ghost use Rattle.std.specs.Prelude.{◌≡◌, ◌≤◌, length, Err, unwrap_or};
+ghost use Rattle.command_table.specs.declared.refusal.Refusal.TheVariants.{Unknown};
 ghost use Rattle.command_table.specs.HashCommands.{hash_command_told, hash_rows, whole_pairs, hlen_row, hget_row, hexists_row, hstrlen_row};
 ghost use Rattle.command_table.specs.HashCommands.{hkeys_row, hvals_row, hgetall_row, hmget_row, hdel_row, hsetnx_row, hset_row, hmset_row};
 ghost use Rattle.command_table.specs.HashCommands.{hincrby_row};
 ghost use Rattle.command_table.specs.Held.{told_held};
-ghost use Rattle.command_table.specs.CommandRow.{row_of, reading_among};
+ghost use Rattle.command_table.specs.CommandRow.{has_row, reading_among};
 ghost use Rattle.command_table.specs.Words.{texts_of};
 
 use crate::arity::Arity;
 use crate::command::Command;
 use crate::command_rows;
 use crate::refusal::{CommandName, Refusal};
-use crate::rows::{keys_of_span, read_rows, told_rows};
+use crate::rows::{keys_of_span, names_row, read_rows, told_rows};
 use crate::told::{Keys, Told};
-use crate::words::{
-    begins_with_one_of, first_and_rest, integer_word, only_word, three_words, two_words,
-};
+use crate::words::{first_and_rest, integer_word, only_word, three_words, two_words};
 use texts::{Pairs, Text, Texts};
 
 /// A command on hashes.
@@ -71,19 +70,17 @@ impl HashCommand {
     }
 }
 
-/// Reads the words after a name by the row that has it; `Err` gives the words back where none of these rows has it.
-pub(crate) fn read_hash_command(
-    name: &str,
-    words: Vec<Vec<u8>>,
-) -> Result<Result<Command, Refusal>, Vec<Vec<u8>>>
-    ensures { MatchResult
-        result
-        (λ read. reading_among hash_rows name.now (texts_of words.items) ≡ Some read)
-        (λ back. (row_of hash_rows name.now ≡ None) × (back ≡ words)) }
+/// Whether one of these rows has the name.
+pub(crate) fn names_hash_command(name: &str) -> bool
+    ensures { result ≡ has_row hash_rows name.now }
 {
-    if !begins_with_one_of(name, b"h") {
-        return Err(words);
-    }
+    command_rows!(hashes, names_row, name)
+}
+
+/// Reads the words after a name by the row that has it; a name that none of these rows has is unknown.
+pub(crate) fn read_hash_command(name: &str, words: Vec<Vec<u8>>) -> Result<Command, Refusal>
+    ensures { result ≡ unwrap_or (reading_among hash_rows name.now (texts_of words.items)) (Err Unknown) }
+{
     command_rows!(hashes, read_rows, name, words)
 }
 

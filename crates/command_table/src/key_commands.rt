@@ -1,19 +1,20 @@
 //! Commands on keys of any type.
 
-ghost use Rattle.std.specs.Prelude.{◌≡◌, length, MatchResult, Some, None};
+ghost use Rattle.std.specs.Prelude.{◌≡◌, length, Err, unwrap_or};
+ghost use Rattle.command_table.specs.declared.refusal.Refusal.TheVariants.{Unknown};
 ghost use Rattle.command_table.specs.Held.{told_held};
 ghost use Rattle.command_table.specs.KeyCommands.{key_command_told, key_rows, del_row, unlink_row, exists_row, type_row, rename_row};
 ghost use Rattle.command_table.specs.KeyCommands.{renamenx_row, dbsize_row, flushall_reading};
-ghost use Rattle.command_table.specs.CommandRow.{row_of, reading_among};
+ghost use Rattle.command_table.specs.CommandRow.{has_row, reading_among};
 ghost use Rattle.command_table.specs.Words.{texts_of};
 
 use crate::arity::Arity;
 use crate::command::Command;
 use crate::command_rows;
 use crate::refusal::{CommandName, Refusal};
-use crate::rows::{keys_of_span, read_rows, told_rows};
+use crate::rows::{keys_of_span, names_row, read_rows, told_rows};
 use crate::told::{Keys, Told};
-use crate::words::{begins_with_one_of, is_word, only_word, two_words};
+use crate::words::{is_word, only_word, two_words};
 use texts::{Text, Texts};
 
 /// A command on keys of any type.
@@ -53,19 +54,17 @@ impl KeyCommand {
     }
 }
 
-/// Reads the words after a name by the row that has it; `Err` gives the words back where none of these rows has it.
-pub(crate) fn read_key_command(
-    name: &str,
-    words: Vec<Vec<u8>>,
-) -> Result<Result<Command, Refusal>, Vec<Vec<u8>>>
-    ensures { MatchResult
-        result
-        (λ read. reading_among key_rows name.now (texts_of words.items) ≡ Some read)
-        (λ back. (row_of key_rows name.now ≡ None) × (back ≡ words)) }
+/// Whether one of these rows has the name.
+pub(crate) fn names_key_command(name: &str) -> bool
+    ensures { result ≡ has_row key_rows name.now }
 {
-    if !begins_with_one_of(name, b"detrfu") {
-        return Err(words);
-    }
+    command_rows!(keys, names_row, name)
+}
+
+/// Reads the words after a name by the row that has it; a name that none of these rows has is unknown.
+pub(crate) fn read_key_command(name: &str, words: Vec<Vec<u8>>) -> Result<Command, Refusal>
+    ensures { result ≡ unwrap_or (reading_among key_rows name.now (texts_of words.items)) (Err Unknown) }
+{
     command_rows!(keys, read_rows, name, words)
 }
 

@@ -1,23 +1,22 @@
 //! Commands on lists.
 
-ghost use Rattle.std.specs.Prelude.{◌≡◌, ◌≤◌, length, MatchResult, Some, None};
+ghost use Rattle.std.specs.Prelude.{◌≡◌, ◌≤◌, length, Err, unwrap_or};
+ghost use Rattle.command_table.specs.declared.refusal.Refusal.TheVariants.{Unknown};
 ghost use Rattle.command_table.specs.Held.{told_held};
 ghost use Rattle.command_table.specs.ListCommands.{list_command_told, list_rows, side_of, end_of};
 ghost use Rattle.command_table.specs.ListCommands.{llen_row, lpop_row, rpop_row, lpush_row, rpush_row, lpushx_row, rpushx_row};
 ghost use Rattle.command_table.specs.ListCommands.{lindex_row, lset_row, lrange_row, ltrim_row, lrem_row};
 ghost use Rattle.command_table.specs.ListCommands.{linsert_row, lmove_row, rpoplpush_row};
-ghost use Rattle.command_table.specs.CommandRow.{row_of, reading_among};
+ghost use Rattle.command_table.specs.CommandRow.{has_row, reading_among};
 ghost use Rattle.command_table.specs.Words.{texts_of};
 
 use crate::arity::Arity;
 use crate::command::Command;
 use crate::command_rows;
 use crate::refusal::{CommandName, Refusal};
-use crate::rows::{keys_of_span, read_rows, told_rows};
+use crate::rows::{keys_of_span, names_row, read_rows, told_rows};
 use crate::told::{Keys, Told};
-use crate::words::{
-    begins_with_one_of, first_and_rest, integer_word, is_word, only_word, two_words,
-};
+use crate::words::{first_and_rest, integer_word, is_word, only_word, two_words};
 use texts::{End, Text, Texts};
 
 /// A command on lists.
@@ -138,19 +137,17 @@ impl ListCommand {
     }
 }
 
-/// Reads the words after a name by the row that has it; `Err` gives the words back where none of these rows has it.
-pub(crate) fn read_list_command(
-    name: &str,
-    words: Vec<Vec<u8>>,
-) -> Result<Result<Command, Refusal>, Vec<Vec<u8>>>
-    ensures { MatchResult
-        result
-        (λ read. reading_among list_rows name.now (texts_of words.items) ≡ Some read)
-        (λ back. (row_of list_rows name.now ≡ None) × (back ≡ words)) }
+/// Whether one of these rows has the name.
+pub(crate) fn names_list_command(name: &str) -> bool
+    ensures { result ≡ has_row list_rows name.now }
 {
-    if !begins_with_one_of(name, b"lr") {
-        return Err(words);
-    }
+    command_rows!(lists, names_row, name)
+}
+
+/// Reads the words after a name by the row that has it; a name that none of these rows has is unknown.
+pub(crate) fn read_list_command(name: &str, words: Vec<Vec<u8>>) -> Result<Command, Refusal>
+    ensures { result ≡ unwrap_or (reading_among list_rows name.now (texts_of words.items)) (Err Unknown) }
+{
     command_rows!(lists, read_rows, name, words)
 }
 

@@ -1,16 +1,17 @@
 //! Commands that look at no key.
 
-ghost use Rattle.std.specs.Prelude.{◌≡◌, length, MatchResult, Some, None};
+ghost use Rattle.std.specs.Prelude.{◌≡◌, length, Err, unwrap_or};
+ghost use Rattle.command_table.specs.declared.refusal.Refusal.TheVariants.{Unknown};
 ghost use Rattle.command_table.specs.Held.{told_held};
 ghost use Rattle.command_table.specs.LocalCommands.{local_command_told, local_rows, ping_reading, echo_row};
-ghost use Rattle.command_table.specs.CommandRow.{row_of, reading_among};
+ghost use Rattle.command_table.specs.CommandRow.{has_row, reading_among};
 ghost use Rattle.command_table.specs.Words.{texts_of};
 
 use crate::arity::Arity;
 use crate::command::Command;
 use crate::command_rows;
 use crate::refusal::{CommandName, Refusal};
-use crate::rows::{keys_of_span, read_rows, told_rows};
+use crate::rows::{keys_of_span, names_row, read_rows, told_rows};
 use crate::told::{Keys, Told};
 use crate::words::only_word;
 use texts::Text;
@@ -34,15 +35,16 @@ impl LocalCommand {
     }
 }
 
-/// Reads the words after a name by the row that has it; `Err` gives the words back where none of these rows has it.
-pub(crate) fn read_local_command(
-    name: &str,
-    words: Vec<Vec<u8>>,
-) -> Result<Result<Command, Refusal>, Vec<Vec<u8>>>
-    ensures { MatchResult
-        result
-        (λ read. reading_among local_rows name.now (texts_of words.items) ≡ Some read)
-        (λ back. (row_of local_rows name.now ≡ None) × (back ≡ words)) }
+/// Whether one of these rows has the name.
+pub(crate) fn names_local_command(name: &str) -> bool
+    ensures { result ≡ has_row local_rows name.now }
+{
+    command_rows!(local, names_row, name)
+}
+
+/// Reads the words after a name by the row that has it; a name that none of these rows has is unknown.
+pub(crate) fn read_local_command(name: &str, words: Vec<Vec<u8>>) -> Result<Command, Refusal>
+    ensures { result ≡ unwrap_or (reading_among local_rows name.now (texts_of words.items)) (Err Unknown) }
 {
     command_rows!(local, read_rows, name, words)
 }

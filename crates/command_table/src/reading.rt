@@ -12,13 +12,13 @@ ghost use Rattle.command_table.specs.CommandRow.{reading_among};
 ghost use Rattle.command_table.specs.Words.{lower, texts_of};
 
 use crate::command::Command;
-use crate::hash_commands::read_hash_command;
-use crate::key_commands::read_key_command;
-use crate::list_commands::read_list_command;
-use crate::local_commands::read_local_command;
+use crate::hash_commands::{names_hash_command, read_hash_command};
+use crate::key_commands::{names_key_command, read_key_command};
+use crate::list_commands::{names_list_command, read_list_command};
+use crate::local_commands::{names_local_command, read_local_command};
 use crate::refusal::Refusal;
 use crate::set_commands::read_set_command;
-use crate::string_commands::read_string_command;
+use crate::string_commands::{names_string_command, read_string_command};
 use resp::Request;
 
 /// The command that the request's words say, the first of which is its name in any mix of upper and lower case.
@@ -54,32 +54,22 @@ fn read_named(name: &[u8], words: Vec<Vec<u8>>) -> Result<Command, Refusal>
     }
 }
 
-/// Reads the words behind a name by the row of the first family that has it.
+/// Reads the words behind a name by the row of the family that has it. A family is asked for the name alone first: what
+/// reads by rows makes a temporary for each of them, also where none has the name.
 fn read_by_row(name: &str, words: Vec<Vec<u8>>) -> Result<Command, Refusal>
     ensures { result ≡ unwrap_or (reading_among rows name.now (texts_of words.items)) (Err Unknown) }
 {
-    let words = match read_local_command(name, words) {
-        Ok(read) => return read,
-        Err(words) => words,
-    };
-    let words = match read_key_command(name, words) {
-        Ok(read) => return read,
-        Err(words) => words,
-    };
-    let words = match read_string_command(name, words) {
-        Ok(read) => return read,
-        Err(words) => words,
-    };
-    let words = match read_list_command(name, words) {
-        Ok(read) => return read,
-        Err(words) => words,
-    };
-    let words = match read_hash_command(name, words) {
-        Ok(read) => return read,
-        Err(words) => words,
-    };
-    match read_set_command(name, words) {
-        Ok(read) => read,
-        Err(_) => Err(Refusal::Unknown),
+    if names_local_command(name) {
+        read_local_command(name, words)
+    } else if names_key_command(name) {
+        read_key_command(name, words)
+    } else if names_string_command(name) {
+        read_string_command(name, words)
+    } else if names_list_command(name) {
+        read_list_command(name, words)
+    } else if names_hash_command(name) {
+        read_hash_command(name, words)
+    } else {
+        read_set_command(name, words)
     }
 }

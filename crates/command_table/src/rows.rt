@@ -105,18 +105,30 @@ macro_rules! command_rows {
     };
 }
 
-/// Reads these words by the row of this name; gives the words back where no row has it.
+/// Whether a row has this name.
+macro_rules! names_row {
+    ([$name:expr] $((
+        $text:literal, $arity:ident($number:literal), $span:tt, $variant:ident { $($field:ident),* }, $read:ident, $body:ident
+    ),)*) => {
+        match $name {
+            $($text => true,)*
+            _ => false,
+        }
+    };
+}
+
+/// Reads these words by the row of this name; a name that no row has is unknown.
 macro_rules! read_rows {
     ([$name:expr, $words:expr] $((
         $text:literal, $arity:ident($number:literal), $span:tt, $variant:ident { $($field:ident),* }, $read:ident, $body:ident
     ),)*) => {
         match $name {
-            $($text => Ok(if Arity::$arity($number).admits($words.len() + 1) {
+            $($text => if Arity::$arity($number).admits($words.len() + 1) {
                 $read($words)
             } else {
                 Err(Refusal::Arity(CommandName::of($text)))
-            }),)*
-            _ => Err($words),
+            },)*
+            _ => Err(Refusal::Unknown),
         }
     };
 }
@@ -144,5 +156,6 @@ macro_rules! keys_of_span {
 }
 
 pub(crate) use keys_of_span;
+pub(crate) use names_row;
 pub(crate) use read_rows;
 pub(crate) use told_rows;

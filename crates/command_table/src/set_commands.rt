@@ -1,8 +1,9 @@
 //! Commands on sets.
 
-ghost use Rattle.std.specs.Prelude.{◌≡◌, ◌≤◌, length, MatchResult, Some, None};
+ghost use Rattle.std.specs.Prelude.{◌≡◌, ◌≤◌, length, Err, unwrap_or};
+ghost use Rattle.command_table.specs.declared.refusal.Refusal.TheVariants.{Unknown};
 ghost use Rattle.command_table.specs.Held.{told_held};
-ghost use Rattle.command_table.specs.CommandRow.{row_of, reading_among};
+ghost use Rattle.command_table.specs.CommandRow.{reading_among};
 ghost use Rattle.command_table.specs.SetCommands.{set_command_told, set_rows};
 ghost use Rattle.command_table.specs.SetCommands.{sadd_row, srem_row, sismember_row, smismember_row, scard_row, smembers_row};
 ghost use Rattle.command_table.specs.SetCommands.{smove_row, sinter_row, sunion_row, sdiff_row};
@@ -15,7 +16,7 @@ use crate::command_rows;
 use crate::refusal::{CommandName, Refusal};
 use crate::rows::{keys_of_span, read_rows, told_rows};
 use crate::told::{Keys, Told};
-use crate::words::{begins_with_one_of, first_and_rest, only_word, three_words, two_words};
+use crate::words::{first_and_rest, only_word, three_words, two_words};
 use texts::{Text, Texts};
 
 /// A command on sets.
@@ -70,19 +71,10 @@ impl SetCommand {
     }
 }
 
-/// Reads the words after a name by the row that has it; `Err` gives the words back where none of these rows has it.
-pub(crate) fn read_set_command(
-    name: &str,
-    words: Vec<Vec<u8>>,
-) -> Result<Result<Command, Refusal>, Vec<Vec<u8>>>
-    ensures { MatchResult
-        result
-        (λ read. reading_among set_rows name.now (texts_of words.items) ≡ Some read)
-        (λ back. (row_of set_rows name.now ≡ None) × (back ≡ words)) }
+/// Reads the words after a name by the row that has it; a name that none of these rows has is unknown.
+pub(crate) fn read_set_command(name: &str, words: Vec<Vec<u8>>) -> Result<Command, Refusal>
+    ensures { result ≡ unwrap_or (reading_among set_rows name.now (texts_of words.items)) (Err Unknown) }
 {
-    if !begins_with_one_of(name, b"s") {
-        return Err(words);
-    }
     command_rows!(sets, read_rows, name, words)
 }
 

@@ -1,13 +1,14 @@
 //! Commands on strings.
 
-ghost use Rattle.std.specs.Prelude.{◌≡◌, ◌<◌, ◌≤◌, length, slice_get, MatchResult, Some, None};
+ghost use Rattle.std.specs.Prelude.{◌≡◌, ◌<◌, ◌≤◌, length, slice_get, Err, unwrap_or};
+ghost use Rattle.command_table.specs.declared.refusal.Refusal.TheVariants.{Unknown};
 ghost use Rattle.command_table.specs.Held.{told_held};
 ghost use Rattle.command_table.specs.StringCommands.{string_command_told, string_rows, get_row, set_row, setnx_row, getset_row, getdel_row};
 ghost use Rattle.command_table.specs.StringCommands.{mget_row, strlen_row, getrange_row};
 ghost use Rattle.command_table.specs.StringCommands.{incr_row, decr_row, incrby_row, decrby_row, append_row, setrange_row, mset_row};
 ghost use Rattle.command_table.specs.StringCommands.{msetnx_row};
 ghost use Rattle.command_table.specs.StringCommands.{options_condition, is_option};
-ghost use Rattle.command_table.specs.CommandRow.{row_of, reading_among};
+ghost use Rattle.command_table.specs.CommandRow.{has_row, reading_among};
 ghost use Rattle.command_table.specs.Words.{texts_of};
 ghost use Rattle.std.specs.List.{list_all};
 
@@ -15,11 +16,9 @@ use crate::arity::Arity;
 use crate::command::Command;
 use crate::command_rows;
 use crate::refusal::{CommandName, Refusal};
-use crate::rows::{keys_of_span, read_rows, told_rows};
+use crate::rows::{keys_of_span, names_row, read_rows, told_rows};
 use crate::told::{Keys, Told};
-use crate::words::{
-    begins_with_one_of, has_word, integer_word, is_word, only_word, three_words, two_words,
-};
+use crate::words::{has_word, integer_word, is_word, only_word, three_words, two_words};
 use texts::{Pairs, Text, Texts};
 
 /// A command on strings.
@@ -138,19 +137,17 @@ impl StringCommand {
     }
 }
 
-/// Reads the words after a name by the row that has it; `Err` gives the words back where none of these rows has it.
-pub(crate) fn read_string_command(
-    name: &str,
-    words: Vec<Vec<u8>>,
-) -> Result<Result<Command, Refusal>, Vec<Vec<u8>>>
-    ensures { MatchResult
-        result
-        (λ read. reading_among string_rows name.now (texts_of words.items) ≡ Some read)
-        (λ back. (row_of string_rows name.now ≡ None) × (back ≡ words)) }
+/// Whether one of these rows has the name.
+pub(crate) fn names_string_command(name: &str) -> bool
+    ensures { result ≡ has_row string_rows name.now }
 {
-    if !begins_with_one_of(name, b"gsmida") {
-        return Err(words);
-    }
+    command_rows!(strings, names_row, name)
+}
+
+/// Reads the words after a name by the row that has it; a name that none of these rows has is unknown.
+pub(crate) fn read_string_command(name: &str, words: Vec<Vec<u8>>) -> Result<Command, Refusal>
+    ensures { result ≡ unwrap_or (reading_among string_rows name.now (texts_of words.items)) (Err Unknown) }
+{
     command_rows!(strings, read_rows, name, words)
 }
 

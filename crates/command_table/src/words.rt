@@ -3,7 +3,7 @@
 ghost use Rattle.std.specs.List.{list_any};
 ghost use Rattle.std.specs.Char.{to_ascii_lowercase};
 ghost use Rattle.std.specs.Prelude.{◌≡◌, ◌<◌, [], ◌∷◌, length, map};
-ghost use Rattle.command_table.specs.Words.{begins_with_one_of, integer_word, is_word, texts_of};
+ghost use Rattle.command_table.specs.Words.{integer_word, is_word, texts_of};
 
 use crate::refusal::Refusal;
 use integers::read_integer;
@@ -15,16 +15,6 @@ pub(crate) fn is_word(word: &[u8], text: &[u8]) -> bool
     ensures { result ≡ is_word text.now word.now }
 {
     word.eq_ignore_ascii_case(text)
-}
-
-/// Whether the word begins with one of these letters.
-pub(crate) fn begins_with_one_of(word: &str, letters: &[u8]) -> bool
-    ensures { result ≡ begins_with_one_of letters.now word.now }
-{
-    match word.as_bytes().first() {
-        Some(first) => letters.iter().any(|letter| letter == first),
-        None => false,
-    }
 }
 
 /// Whether one of the words is this one, which is in lower case, without regard to the case of ASCII letters.
