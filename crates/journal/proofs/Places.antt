@@ -1,5 +1,5 @@
 -- Where a step lies among the bytes of a trace, and how many bytes a Run takes at most.
-use Rattle.std.proofs.Common.{◌≡◌, ℕ, suc, ◌+◌, ◌-◌, ◌*◌, ◌<◌, ◌≤◌, ◌^◌, List, [], ◌∷◌, ◌++◌, length, take, drop, refl, ap, sym, ◌∙◌, arith}
+use Rattle.std.proofs.Common.{◌≡◌, ℕ, ◌+◌, ◌-◌, ◌*◌, ◌<◌, ◌≤◌, ◌^◌, List, [], ◌∷◌, ◌++◌, length, take, drop, refl, ap, sym, ◌∙◌, arith}
 use Rattle.std.proofs.Common.{⊎_elim, length-append, ◌==◌, Bool, IsTrue, subst}
 use Rattle.std.specs.List.{flat_map, AllByRecursion, starts_with}
 use Rattle.std.proofs.lemmas.Bool.Decides.{Decides-eqb}
@@ -14,7 +14,7 @@ use Rattle.packing.specs.CodeLaws.{number_code-one, number_code-four, number_cod
 use Rattle.packing.specs.Packed.{ArePacked}
 use Rattle.journal.specs.declared.step.Step.{Step}
 use Rattle.journal.specs.declared.step.Step.TheVariants.{Submit, Run}
-use Rattle.journal.specs.Codes.{id_code, ids_code, step_code, step_size, steps_size, steps_in, StepFits, AreSteps}
+use Rattle.journal.specs.Codes.{id_code, step_code, step_size, steps_size, steps_in, StepFits, AreSteps}
 use Rattle.journal.proofs.CodeLaws.{steps_in-codes, length-id_code, length-ids_code}
 
 -- ---- a Run

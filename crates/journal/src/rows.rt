@@ -8,8 +8,8 @@ ghost use Rattle.journal.specs.Codes.{end_before};
 
 use super::codes::{put_head, size_of_head};
 use super::row::{Row, row_of};
-use packing::{put_words, words_size};
-use resp::{Reply, Request, write_reply};
+use packing::{PackedRequest, put_bytes};
+use resp::{Reply, write_reply};
 use skeen_core::{RequestId, Stamp};
 use std::alloc::{AllocError, Global};
 use std::marker::Model;
@@ -59,16 +59,15 @@ impl Rows {
         &mut self,
         id: RequestId,
         stamp: &Stamp,
-        words: &Request,
+        words: &PackedRequest,
         reply: &Reply,
     ) -> Result<(), AllocError>
         ensures pushed { let row = row_view id stamp.now words.now (text (content reply.now))
             in OnOk result (self.new ≡ self.old ++ row ∷ []) }
         ensures unchanged { OnErr result (self.new ≡ self.old) }
     {
-        let Some(words_size) = words_size(words) else {
-            return Err(AllocError);
-        };
+        let bytes = words.as_bytes();
+        let words_size = bytes.len();
         let head_size = size_of_head(id, stamp, words_size);
         let Some(size) = words_size.checked_add(head_size) else {
             return Err(AllocError);
@@ -77,7 +76,7 @@ impl Rows {
         self.bytes.reserve(size)?;
         let start = self.bytes.len();
         put_head(id, stamp, words_size, &mut self.bytes);
-        put_words(words, &mut self.bytes);
+        put_bytes(bytes, &mut self.bytes);
         match write_reply(reply, &mut self.bytes) {
             Ok(()) => {
                 self.ends.push_reserved(self.bytes.len());

@@ -21,3 +21,7 @@ some_packed (word ∷ words) bytes coded fit = (coded, fit)
 
 pub packed_some : (words : List (List ℕ)) (bytes : List ℕ) → bytes ≡ words_code words → WordsFit words → ArePacked (words_at bytes).0 bytes
 packed_some words bytes coded fit = rw (packed_read words bytes coded fit) (some_packed words bytes coded fit)
+
+pub packed_fits : (words : List (List ℕ)) (bytes : List ℕ) → bytes ≡ words_code words → WordsFit words
+    → (bytes ≡ words_code (words_at bytes).0) × WordsFit (words_at bytes).0
+packed_fits words bytes coded fit = rw (packed_read words bytes coded fit) (coded, fit)

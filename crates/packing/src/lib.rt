@@ -6,8 +6,10 @@
 
 mod number;
 mod packed;
+mod packed_request;
 mod words;
 
-pub use number::{number_size, put_number, take_number};
+pub use number::{number_size, put_bytes, put_number, take_number};
 pub use packed::PackedWords;
+pub use packed_request::PackedRequest;
 pub use words::{put_words, take_word, take_words, words_size};

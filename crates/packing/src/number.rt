@@ -43,8 +43,8 @@ pub fn put_number(number: u64, out: &mut Vec<u8>)
     }
 }
 
-/// Appends these bytes, for which there is room.
-pub(super) fn put_bytes(bytes: &[u8], out: &mut Vec<u8>)
+/// Appends these bytes, for which there is room, and says nothing of their length.
+pub fn put_bytes(bytes: &[u8], out: &mut Vec<u8>)
     requires { vec_len out.old + length bytes.now ≤ vec_capacity out.old }
     ensures items { out.new.items ≡ out.old.items ++ bytes.now }
     ensures len { vec_len out.new ≡ vec_len out.old + length bytes.now }

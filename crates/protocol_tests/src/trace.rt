@@ -2,6 +2,7 @@
 
 use groups::GroupId;
 use journal::{Rows, Step, Trace, TraceFault, read_back, read_trace, write_trace};
+use packing::PackedRequest;
 use resp::{Reply, Request};
 use skeen_core::{ConnId, RequestId, Stamp};
 use std::alloc::{AllocError, Global};
@@ -139,7 +140,8 @@ fn rows_are_kept_and_taken_back(rt: HostRuntime) -> Result<(), Fail> {
             clock: seq,
             group: GroupId::new(63),
         };
-        rows.push(id, &stamp, &get(rt.alloc())?, &Reply::Int(-1))?;
+        let words = PackedRequest::copy_of(rt.alloc(), &get(rt.alloc())?)?;
+        rows.push(id, &stamp, &words, &Reply::Int(-1))?;
     }
     rows.truncate(299);
     assert_eq!(rt; rows.len(), 299);

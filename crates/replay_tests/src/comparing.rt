@@ -2,6 +2,7 @@
 
 use groups::GroupId;
 use journal::Rows;
+use packing::PackedRequest;
 use replay::compared;
 use resp::{Reply, Request};
 use skeen_core::{ConnId, RequestId, Stamp};
@@ -21,7 +22,7 @@ fn rows_of(alloc: Global, reply: &Reply) -> Result<Rows, AllocError> {
         clock: 1,
         group: GroupId::new(0),
     };
-    rows.push(id, &stamp, &request, reply)?;
+    rows.push(id, &stamp, &PackedRequest::copy_of(alloc, &request)?, reply)?;
     Ok(rows)
 }
 

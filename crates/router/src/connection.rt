@@ -5,13 +5,13 @@ ghost use Rattle.router.specs.Connection.{is_under_way};
 
 use super::outcome::Outcome;
 use command_table::Command;
-use resp::Request;
+use packing::PackedRequest;
 
 /// A request that waits to be taken: its words, for the row that it will have, and the command that they say, to be
 /// run.
 #[derive(Drop)]
 pub struct Pending {
-    pub words: Request,
+    pub words: PackedRequest,
     pub command: Command,
 }
 

@@ -17,6 +17,7 @@ use super::submission::{NoConn, Submission, SubmitFault};
 use command_bodies::local;
 use command_table::{Command, read};
 use groups::Groups;
+use packing::PackedRequest;
 use placement::Table;
 use resp::{Reply, Request};
 use skeen_core::{ConnId, RequestId, Stamp};
@@ -110,7 +111,7 @@ impl Router {
         ensures unchanged { OnErr result (self.new ≡ self.old) }
     {
         let Idle { seq, floor } = self.idle(conn)?;
-        let Ok(copy) = words.try_clone(self.alloc) else {
+        let Ok(copy) = PackedRequest::copy_of(self.alloc, &words) else {
             return Err(SubmitFault::Memory);
         };
         let id = RequestId { conn, seq: seq + 1 };
@@ -307,22 +308,27 @@ struct Idle {
 }
 
 /// How a connection stands that submits these words, and the groups that they address.
-fn standing_of(table: &Table, id: RequestId, words: Request, copy: Request) -> (Standing, Groups)
+fn standing_of(
+    table: &Table,
+    id: RequestId,
+    words: Request,
+    copy: PackedRequest,
+) -> (Standing, Groups)
     requires { copy ≡ words }
     ensures standing { StandsBy id words (reading words) result.0 }
     ensures groups { result.1 ≡ groups_by table.now (reading words) }
 {
-    match read(copy) {
+    match read(words) {
         Err(refusal) => (answered(id, Reply::Error(refusal.text())), Groups::empty()),
         Ok(command) => {
             let groups = table.groups(&command);
-            (standing_with(id, words, command), groups)
+            (standing_with(id, copy, command), groups)
         }
     }
 }
 
 /// How a connection stands whose words say this command.
-fn standing_with(id: RequestId, words: Request, command: Command) -> Standing
+fn standing_with(id: RequestId, words: PackedRequest, command: Command) -> Standing
     requires { reading words ≡ Ok command }
     ensures { StandsBy id words (reading words) result }
 {

@@ -7,7 +7,7 @@ ghost use Rattle.system_view.specs.Taking.{IsTaking};
 ghost use Rattle.world.specs.World.{World};
 
 use layer_planner::Job;
-use resp::Request;
+use packing::PackedRequest;
 use router::{Pending, Router};
 use skeen_core::{Delivered, Stamp};
 
@@ -17,7 +17,7 @@ pub(super) fn take_all(
     router: &mut Router,
     ready: &[Delivered],
     jobs: &mut Vec<Job>,
-    words: &mut Vec<Request>,
+    words: &mut Vec<PackedRequest>,
 )
     requires waits { (t : Layout) × (w : World) × IsTaking t w [] ready.now router.old }
     requires no_jobs { (jobs.old.items ≡ []) × (length ready.now ≤ vec_capacity jobs.old) }

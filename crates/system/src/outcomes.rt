@@ -8,7 +8,8 @@ ghost use Rattle.world.specs.World.{World, Ended as EndedThere};
 ghost use Rattle.system.specs.Outcomes.{BeginsWith};
 
 use journal::Rows;
-use resp::{Reply, Request};
+use packing::PackedRequest;
+use resp::Reply;
 use router::{Outcome, Router};
 use shard_exec::Ended;
 use skeen_core::{RequestId, Stamp};
@@ -34,7 +35,7 @@ pub(super) fn note_starved(ended: &[Ended], starved: &mut Vec<RequestId>, all: &
 pub(super) fn add_rows(
     rows: &mut Rows,
     ended: &[Ended],
-    words: &[Request],
+    words: &[PackedRequest],
 ) -> Result<(), AllocError>
     requires { (es : List EndedThere) × AreEnded es ended.now words.now }
     ensures added { OnOk result ((settled es : List EndedThere) → AreEnded es ended.now words.now → AreRows settled rows.old
@@ -52,7 +53,7 @@ pub(super) fn add_rows(
 }
 
 /// Adds the row of a request, if it was executed. The only error is want of memory, and then the rows are as they were.
-fn add_row(rows: &mut Rows, request: &Ended, words: &Request) -> Result<(), AllocError>
+fn add_row(rows: &mut Rows, request: &Ended, words: &PackedRequest) -> Result<(), AllocError>
     ensures grown { OnOk result (BeginsWith rows.old rows.new) }
     ensures added { OnOk result ((settled : List EndedThere) (e : EndedThere) → IsEnded e request.now words.now → AreRows settled rows.old
         → AreRows (settled ++ e ∷ []) rows.new) }

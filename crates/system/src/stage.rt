@@ -1,21 +1,21 @@
 //! The layer that is under way.
 
 use layer_planner::Layer;
-use resp::Request;
+use packing::PackedRequest;
 use shard_exec::Ended;
 
 /// A layer that was taken: its requests, and beside each its words.
 #[derive(Drop)]
 pub struct TakenLayer {
     pub layer: Layer,
-    pub words: Vec<Request>,
+    pub words: Vec<PackedRequest>,
 }
 
 /// A layer that was run: what became of each request, and beside each its words.
 #[derive(Drop)]
 pub struct RanLayer {
     pub ended: Vec<Ended>,
-    pub words: Vec<Request>,
+    pub words: Vec<PackedRequest>,
 }
 
 /// How far the layer is that is under way, if one is.

@@ -14,17 +14,20 @@ invariant_of-self-in-Ok c =
     let words = c.args.words.now in let reply = text (content c.args.reply.now) in
     let row = row_view c.args.id c.args.stamp.now words reply in
     let bytes = c.self.inside.bytes.items in let ends = c.self.inside.ends.items in let rows = rows_in bytes ends in
-    let size = c.in-Some.ensures.0 in
+    let code = c.as_bytes-bytes.ensures.code in
+    let size : length c.as_bytes-bytes.result.now ≡ length (words_code words) = ap length code in
+    let copied : c.put_bytes.new.out.items ≡ c.put_head.new.out.items ++ words_code words
+    = c.put_bytes.ensures.items ∙ ap (λ b. c.put_head.new.out.items ++ b) code in
     let head : c.put_head.new.out.items ≡ bytes ++ head_code c.args.id c.args.stamp.now (length (words_code words))
     = c.put_head.ensures.items ∙ rw (c.in_ok-reserve-2.ensures.items, size) refl in
     let put : c.write_reply.new.out.items ≡ bytes ++ row_code row
-    = rw (c.in-Ok.ensures.ok, c.put_words.ensures.items, head, row_code-is row) (simp append_assoc) in
+    = rw (c.in-Ok.ensures.ok, copied, head, row_code-is row) (simp append_assoc) in
     let ended : c.push_reserved.new.self.items ≡ ends ++ c.len.result ∷ [] = c.push_reserved.ensures.items ∙ ap
     (λ es. es ++ c.len.result ∷ []) c.in_ok-reserve.ensures.items in
     let stop : c.len.result ≡ length c.write_reply.new.out.items = c.len.ensures ∙ c.write_reply.new.out.ok.0 in
     let fits : RowFits row = record {
       head = c.size_of_head-head_size.ensures.fits;
-      words = c.in-Some.ensures.1;
+      words = c.as_bytes-bytes.ensures.fit;
       size = omega
           (arith, size);
     } in
@@ -38,17 +41,20 @@ returns-in-Ok-clause-pushed c =
     let words = c.args.words.now in let reply = text (content c.args.reply.now) in
     let row = row_view c.args.id c.args.stamp.now words reply in
     let bytes = c.self.inside.bytes.items in let ends = c.self.inside.ends.items in let rows = rows_in bytes ends in
-    let size = c.in-Some.ensures.0 in
+    let code = c.as_bytes-bytes.ensures.code in
+    let size : length c.as_bytes-bytes.result.now ≡ length (words_code words) = ap length code in
+    let copied : c.put_bytes.new.out.items ≡ c.put_head.new.out.items ++ words_code words
+    = c.put_bytes.ensures.items ∙ ap (λ b. c.put_head.new.out.items ++ b) code in
     let head : c.put_head.new.out.items ≡ bytes ++ head_code c.args.id c.args.stamp.now (length (words_code words))
     = c.put_head.ensures.items ∙ rw (c.in_ok-reserve-2.ensures.items, size) refl in
     let put : c.write_reply.new.out.items ≡ bytes ++ row_code row
-    = rw (c.in-Ok.ensures.ok, c.put_words.ensures.items, head, row_code-is row) (simp append_assoc) in
+    = rw (c.in-Ok.ensures.ok, copied, head, row_code-is row) (simp append_assoc) in
     let ended : c.push_reserved.new.self.items ≡ ends ++ c.len.result ∷ [] = c.push_reserved.ensures.items ∙ ap
     (λ es. es ++ c.len.result ∷ []) c.in_ok-reserve.ensures.items in
     let stop : c.len.result ≡ length c.write_reply.new.out.items = c.len.ensures ∙ c.write_reply.new.out.ok.0 in
     let fits : RowFits row = record {
       head = c.size_of_head-head_size.ensures.fits;
-      words = c.in-Some.ensures.1;
+      words = c.as_bytes-bytes.ensures.fit;
       size = omega
           (arith, size);
     } in

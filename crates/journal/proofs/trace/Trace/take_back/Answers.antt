@@ -1,4 +1,4 @@
-use Rattle.std.proofs.Common.{ap, sym, ◌∙◌}
+use Rattle.std.proofs.Common.{ap, ◌∙◌}
 use Rattle.journal.proofs.Places.{takes_back_of}
 use Rattle.journal.proofs.trace.Trace.take_back.Goals as goal
 
