@@ -35,7 +35,8 @@ pub struct Desk<'a, L: Ledger, R: Wait> {
 impl<'a, L: Ledger, R: Wait> Desk<'a, L, R> {
     /// The desk of this seat, whose requests are brought on by those who make the turns.
     pub fn new(rt: &'a R, shared: &'a Shared<L>, seat: Seat<L>, turns: Turns) -> Self
-        ensures { result.seat ≡ seat }
+        ensures seat { result.seat ≡ seat }
+        ensures turns { result.turns ≡ turns }
     {
         Desk {
             rt,

@@ -2,6 +2,7 @@
 
 ghost use Rattle.std.specs.Prelude.{◌≡◌, ◌<◌};
 ghost use Rattle.server.specs.Options.{InRange};
+ghost use Rattle.server.specs.declared.hosting.HostFault.TheVariants as host_fault;
 
 use crate::command_line::Options;
 use crate::desk::{Desk, Turns};
@@ -56,6 +57,8 @@ impl HostFault {
 }
 
 impl From<AllocError> for HostFault {
+    ghost from_gives = { λ _ fault. fault ≡ host_fault.Memory };
+
     fn from(_error: AllocError) -> HostFault {
         HostFault::Memory
     }
