@@ -95,6 +95,8 @@ impl History {
 
     /// Makes a step that runs no layer, and puts it behind those of the trace. Answers what it came to, and at which
     /// place of the trace's bytes it begins.
+    // Inlined as far down as the step is looked at, since each caller knows which step it makes.
+    #[inline(always)]
     pub fn make(&mut self, step: Step) -> Result<(Effect, usize), StepFault>
         requires { IsNoRun step }
         ensures made { IfOk result (λ made. IsMade self.old step made.0 self.new) }
@@ -119,6 +121,7 @@ impl History {
     }
 
     /// Makes a step that answers nothing: a packet comes, a layer is taken or settled, or a connection is closed.
+    #[inline(always)]
     pub fn make_unanswered(&mut self, step: Step) -> Result<(), StepFault>
         requires { IsUnanswered step }
         ensures made { OnOk result (IsMade self.old step Effect.Made self.new) }

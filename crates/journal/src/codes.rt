@@ -112,6 +112,7 @@ fn size_of_step(step: &Step) -> Option<usize>
 }
 
 /// Takes the room for a step. The only error is want of memory, which changes nothing.
+#[inline(always)]
 pub fn reserve_step(step: &Step, out: &mut Vec<u8>) -> Result<(), AllocError>
     ensures items { out.new.items ≡ out.old.items }
     ensures len { vec_len out.new ≡ vec_len out.old }
@@ -129,6 +130,7 @@ pub fn reserve_step(step: &Step, out: &mut Vec<u8>) -> Result<(), AllocError>
 
 /// Appends a step, for which there is room.
 #[tactic(auto, unfolding(crate::specs::Codes::step_code))]
+#[inline(always)]
 pub fn put_step(step: &Step, out: &mut Vec<u8>)
     requires { vec_len out.old + length (step_code step.now) ≤ vec_capacity out.old }
     ensures items { out.new.items ≡ out.old.items ++ step_code step.now }

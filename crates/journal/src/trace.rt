@@ -89,6 +89,7 @@ impl Trace {
     }
 
     /// Adds a step behind the others. It can't fail where there is room, and want of memory changes nothing.
+    #[inline(always)]
     pub fn push(&mut self, step: &Step) -> Result<(), AllocError>
         ensures max { self.new.max ≡ self.old.max }
         ensures steps { OnOk result (self.new.steps ≡ self.old.steps ++ step.now ∷ []) }

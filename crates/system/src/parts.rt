@@ -37,6 +37,8 @@ pub struct Parts {
 
 impl Parts {
     /// Makes the step, or says why it isn't made.
+    // Whoever makes a step knows which, so only that step's code is left where this is inlined; each step is a call.
+    #[inline(always)]
     pub fn make<W: Workers>(
         &mut self,
         alloc: Global,
@@ -74,6 +76,7 @@ impl Parts {
     }
 
     /// A connection submits a request of these words; a Start goes to each of its groups.
+    #[inline(never)]
     fn submit(&mut self, conn: ConnId, words: Request) -> Result<Effect, StepFault>
         requires { Lives self.old }
         ensures made { IfOk result (λ effect. Makes self.old (Step.Submit conn words) effect self.new) }
@@ -92,6 +95,7 @@ impl Parts {
     }
 
     /// The packet at this place comes to its group.
+    #[inline(never)]
     fn deliver(&mut self, place: u64) -> Result<Effect, StepFault>
         requires { Lives self.old }
         ensures made { IfOk result (λ effect. Makes self.old (Step.Deliver place) effect self.new) }
@@ -105,6 +109,7 @@ impl Parts {
 
     /// All ready requests are taken as the next layer: their commands and words out of the router, and they themselves
     /// out of the queues.
+    #[inline(never)]
     fn take(&mut self, alloc: Global) -> Result<Effect, StepFault>
         requires { Lives self.old }
         ensures made { IfOk result (λ effect. Makes self.old Step.Take effect self.new) }
@@ -137,6 +142,7 @@ impl Parts {
     }
 
     /// Runs the layer that was taken, but for the requests of `skip`, which count as starved.
+    #[inline(never)]
     fn run<W: Workers>(
         &mut self,
         alloc: Global,
@@ -179,6 +185,7 @@ impl Parts {
     }
 
     /// The outcomes of the layer that was run go to their connections, and each executed request gets its row.
+    #[inline(never)]
     fn settle(&mut self) -> Result<Effect, StepFault>
         requires { Lives self.old }
         ensures made { IfOk result (λ effect. Makes self.old Step.Settle effect self.new) }
@@ -219,6 +226,7 @@ impl Parts {
     }
 
     /// Collects the outcome that waits for a connection, if one does. It takes no memory.
+    #[inline(never)]
     fn collect(&mut self, conn: ConnId) -> Result<Effect, StepFault>
         requires { Lives self.old }
         ensures made { IfOk result (λ effect. Makes self.old (Step.Collect conn) effect self.new) }

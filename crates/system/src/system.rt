@@ -103,6 +103,7 @@ impl System {
     /// `StepFault` says why a step isn't made; then all is as before, but that room may have been taken, and but for a
     /// refused start of a worker: the system makes no step any more. With workers that start no thread that never
     /// happens.
+    #[inline(always)]
     pub fn step<W: Workers>(
         &mut self,
         step: Step,
