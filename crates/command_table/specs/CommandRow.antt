@@ -1,5 +1,6 @@
 -- A row of the table of commands, in the terms of the Redis command reference, and how rows are used.
-use Rattle.std.specs.Prelude.{◌+◌, List, [], ◌∷◌, Bool, Option, Some, None, is_some, Result, Ok, Err, ℤ, ◌%◌, ◌==◌, if◌then◌else◌, length, option_map}
+use Rattle.std.specs.Prelude.{◌+◌, List, [], ◌∷◌, Bool, Option, Some, None, is_some, Result, Ok, Err, ℤ, ◌%◌, ◌==◌}
+use Rattle.std.specs.Prelude.{if◌then◌else◌, length, option_map}
 use Rattle.std.specs.Str.{bytes_eq}
 use Rattle.command_table.specs.declared.arity.Arity.{Arity}
 use Rattle.command_table.specs.declared.command.Command.{Command}

@@ -116,7 +116,9 @@ abbrev pub same_text : Vec ℕ → Vec ℕ → Bool
 same_text x y = bytes_eq x.items y.items
 
 -- what stands twice in a row is there as when it stands once
-any-dedup_from : (q : Bytes) (k : Vec ℕ) (xs : List (Vec ℕ)) → is_member (texts_of (dedup_from same_text k xs)) q ≡ is_member (texts_of (k ∷ xs)) q
+any-dedup_from :
+    (q : Bytes) (k : Vec ℕ) (xs : List (Vec ℕ)) →
+    is_member (texts_of (dedup_from same_text k xs)) q ≡ is_member (texts_of (k ∷ xs)) q
 any-dedup_from q k [] = refl
 any-dedup_from q k (x ∷ xs) = by (same_text x k) refl (any-dedup_from q k xs) (any-dedup_from q x xs)
   where

@@ -218,7 +218,8 @@ pub some-seen : (keys : List HashedText) → 0 < length keys → 0 < length (mem
 some-seen [] some = some
 some-seen (k ∷ keys) some =
     by (members_seen (k ∷ keys))
-    (sym (member-seen k.bytes.items (k ∷ keys)) ∙ ap (λ b. b || list_any (is_here k.bytes.items) keys) (nat_list_eq_equiv.refl k.bytes.items))
+    (sym (member-seen k.bytes.items (k ∷ keys))
+    ∙ ap (λ b. b || list_any (is_here k.bytes.items) keys) (nat_list_eq_equiv.refl k.bytes.items))
   where
     by : (ms : List Bytes) → is_member ms k.bytes.items ≡ true → 0 < length ms
     by [] e = absurd (true≢false (sym e))

@@ -9,6 +9,8 @@ use Rattle.set_commands.proofs.combine.kept_in_none.Goals as goal
 pub returns : goal.returns
 returns c =
     let read = c.in_any_order-members.result in
-    let kept : texts_of c.loop-member.kept.items ≡ filter (λ member. not (is_in_some (found_sets c.args.others.now) member)) read = search rules in
+    let kept : texts_of c.loop-member.kept.items
+    ≡ filter (λ member. not (is_in_some (found_sets c.args.others.now) member)) read =
+    search rules in
     ap (with_members []) kept
     ∙ kept-in_order (λ member. not (is_in_some (found_sets c.args.others.now) member)) read c.args.set.now c.in_any_order-members.ensures

@@ -10,7 +10,8 @@ order_set-requires g c =
     let texts = c.as_slice.result.now in
     let within : c.loop-i.i < length texts =
     omega (arith, c.loop-i-test.true, c.len-i-end.ensures, length-map texts (λ (t : Vec ℕ). t.items), ap length c.as_slice.ensures) in
-    let here = covered_item covered c.args.keys.now texts c.loop-i.i c.index-as_slice-i.result c.as_slice.ensures within c.index-as_slice-i.is
-    c.requires in
+    let here =
+    covered_item covered c.args.keys.now texts c.loop-i.i c.index-as_slice-i.result c.as_slice.ensures within
+    c.index-as_slice-i.is c.requires in
     subst (λ test. IsTrue (test c.as_slice-then-walks.result.now)) (sym c.loop-i.invariant.1)
     (subst (λ key. IsTrue (covered key)) (sym c.as_slice-then-walks.ensures.value) here)
