@@ -174,17 +174,12 @@ impl Router {
             × Changes self.old self.new outcome.id.conn.0 (once_settled v stamp.clock outcome) }
     {
         let conn = outcome.id.conn;
-        let Some(&Connection { is_open, seq, .. }) = self.kept.get(&conn.0) else {
+        let Some(connection) = self.kept.get_mut(&conn.0) else {
             unreachable!()
         };
-        if is_open {
-            let now = Connection {
-                is_open,
-                seq,
-                floor: stamp.clock,
-                standing: Standing::Answered(outcome),
-            };
-            self.put(conn, now);
+        if connection.is_open {
+            connection.floor = stamp.clock;
+            discard(mem::replace(&mut connection.standing, Standing::Answered(outcome)));
         } else {
             self.forget(conn);
             discard(outcome);
@@ -207,12 +202,15 @@ impl Router {
         ensures refused { OnErr result (is_open (connection self.old conn.0) ≡ false) }
         ensures unchanged { OnErr result (self.new ≡ self.old) }
     {
-        if !self.is_open(conn) {
+        let Some(connection) = self.kept.get(&conn.0) else {
+            return Err(NoConn);
+        };
+        if !connection.is_open {
             return Err(NoConn);
         }
-        if self.waits(conn).is_none() {
+        let Standing::Answered(_) = &connection.standing else {
             return Ok(None);
-        }
+        };
         let Some(connection) = self.kept.get_mut(&conn.0) else {
             unreachable!()
         };
