@@ -1,7 +1,7 @@
 -- A layer whose requests were run each over its own shards: what holds of the row, of what is told and of the last
 -- stamps.
-use Rattle.std.proofs.Common.{◌≡◌, ℕ, zero, suc, ◌+◌, ◌<◌, ◌⊎◌, List, slice_set, is_some, eq-eqb, [], ◌∷◌, ◌++◌, map, length, Bool, true}
-use Rattle.std.proofs.Common.{false, Option, Some, None, inl, inr, refl, sym, ap, ◌∙◌, subst}
+use Rattle.std.proofs.Common.{◌≡◌, ℕ, zero, suc, ◌+◌, ◌<◌, ◌⊎◌, List, slice_set, is_some, eq-eqb, [], ◌∷◌, map, length, true}
+use Rattle.std.proofs.Common.{Option, Some, None, inl, inr, refl, sym, ap, ◌∙◌, subst}
 use Rattle.std.proofs.lemmas.Bool.{or_left, or_right}
 use Rattle.std.proofs.Math.ListN.{replicate}
 use Rattle.std.specs.Cmp.Lexicographic.{slice_cmp}
@@ -10,19 +10,17 @@ use Rattle.std.specs.Ordering.{nat_cmp}
 use Rattle.std.specs.List.{AllZip, AllByRecursion}
 use Rattle.groups.specs.GroupSet.{has}
 use Rattle.command_bodies.specs.Command.{TakesMemory}
-use Rattle.command_table.specs.declared.command.Command.{Command}
 use Rattle.keyspace.specs.Map.{Map}
 use Rattle.layer_planner.specs.declared.job.Job.{Job}
 use Rattle.layer_planner.specs.Layers as planner
 use Rattle.placement.specs.Groups.{groups_of}
 use Rattle.placement.specs.Layout.{Layout, IsTable}
-use Rattle.resp.specs.Content.{Content}
 use Rattle.shard_maps.proofs.Layers.{PairsApart, ShareNoGroup-map, layer_in_turn}
 use Rattle.shard_maps.proofs.PutBack.{layer_taken_out, layer_ran, groups_of-below}
 use Rattle.shard_maps.proofs.Spans.{numbers-span_at}
-use Rattle.shard_maps.specs.Joined.{joined, map_of_shard, HasKeysOf, HasOwnKeys, union, Span, numbers, span_at, SpanHasOwnKeys, SpanRan}
+use Rattle.shard_maps.specs.Joined.{map_of_shard, HasKeysOf, HasOwnKeys, union, Span, numbers, span_at, SpanHasOwnKeys, SpanRan}
 use Rattle.shard_maps.specs.Layer as layers
-use Rattle.shard_maps.specs.Rows.{taken_out_each, emptied, emptied_each, put_spans}
+use Rattle.shard_maps.specs.Rows.{taken_out, taken_out_each, emptied, emptied_each, put_span, put_spans}
 use Rattle.skeen_core.specs.declared.request.RequestId.{RequestId}
 use Rattle.skeen_core.specs.declared.stamp.Stamp.{Stamp}
 use Rattle.skeen_core.specs.Order.{In}
@@ -31,7 +29,7 @@ use Rattle.shard_exec.specs.declared.work.Work.{Work}
 use Rattle.shard_exec.specs.declared.work.Ran.{Ran}
 use Rattle.std.specs.Option.{IfSome}
 use Rattle.shard_exec.specs.Dealing.{InPlaces}
-use Rattle.shard_exec.specs.Layers.{commands_of, AddressTheirGroups, is_named, outcomes_of_ended, MayStarve, IsOf, IsDone, IsInside, IsWork}
+use Rattle.shard_exec.specs.Layers.{commands_of, AddressTheirGroups, outcomes_of_ended, MayStarve, IsOf, IsDone, IsInside, IsWork}
 use Rattle.shard_exec.specs.Layers.{AreWorks, ended_of}
 use Rattle.shard_exec.specs.Runs.{IsReady, outcome, HasRun}
 use Rattle.shard_exec.specs.Stamps.{raise, raised, raised_by}
@@ -290,3 +288,26 @@ in_places skip at (j ∷ js) (s ∷ spans) (x ∷ works) w = (w.0.place, in_plac
 pub fits_still : {X : Type 0} (P : ℕ → X → Type 0) (n m : ℕ) (o : Option X) → n ≡ m → IfSome o (P n) → IfSome o (P m)
 fits_still P n m None e h = tt
 fits_still P n m (Some x) e h = subst (λ k. P k x) e h
+
+-- ---- a request that is alone in its layer
+
+pub alone_taken : (table : Layout) (maps : List Map) (skip : List RequestId) (j : Job) (w : Work) → j.groups ≡ groups_of table j.command
+    → IsWork skip 0 j (taken_out empty maps j.groups) w → AreWorks skip 0 (j ∷ []) (spans_each maps (j ∷ [])) (w ∷ [])
+alone_taken table maps skip j w a is =
+    subst (λ (s : List Span). AreWorks skip 0 (j ∷ []) s (w ∷ []))
+    (taken_as_they_were table maps (j ∷ []) (a, tt) ((λ k i. absurd i), tt)) (is, tt)
+
+pub alone_ran : (table : Layout) (maps : List Map) (skip : List RequestId) (j : Job) (w : Work) (r : Ran)
+    → j.groups ≡ groups_of table j.command → IsWork skip 0 j (taken_out empty maps j.groups) w → HasRun table w r
+    → AllZip (RanFor table maps skip) (j ∷ []) (r ∷ [])
+alone_ran table maps skip j w r a is run =
+    all_ran table maps skip 0 (j ∷ []) (w ∷ []) (r ∷ []) (alone_taken table maps skip j w a is) (run, tt)
+
+pub alone_done : (table : Layout) (maps : List Map) (skip : List RequestId) (j : Job) (w : Work) (r : Ran) (new : List Map)
+    → IsTable table → length maps ≡ table.shards → HasOwnKeys table maps → j.groups ≡ groups_of table j.command
+    → IsWork skip 0 j (taken_out empty maps j.groups) w → HasRun table w r
+    → new ≡ put_span (emptied empty maps j.groups) r.shards.items
+    → IsDone table maps skip (j ∷ []) (ended_of r ∷ []) new
+alone_done table maps skip j w r new t long own a is run row =
+    subst (IsDone table maps skip (j ∷ []) (ended_of r ∷ [])) (sym row)
+    (layer_done table maps skip (j ∷ []) (r ∷ []) t long own (a, tt) ((λ k i. absurd i), tt) (alone_ran table maps skip j w r a is run))

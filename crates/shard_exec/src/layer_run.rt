@@ -1,19 +1,21 @@
-//! A layer run over the row of shards, by whatever workers there are.
+//! A layer run over the row of shards: by whatever workers there are, or alone where it has one request.
 
-ghost use Rattle.std.specs.Prelude.{◌≡◌, length, true, IfOk, IfSome, OnErr};
+ghost use Rattle.std.specs.Prelude.{◌≡◌, [], ◌∷◌, length, true, IfOk, IfSome, OnErr};
 ghost use Rattle.layer_planner.specs.Layers.{ShareNoGroup};
+ghost use Rattle.placement.specs.Groups.{groups_of};
 ghost use Rattle.placement.specs.Layout.{IsTable};
 ghost use Rattle.shard_maps.specs.Joined.{HasOwnKeys};
 ghost use Rattle.shard_exec.specs.DealtRooms.{FitsDealt};
 ghost use Rattle.shard_exec.specs.Layers.{AddressTheirGroups, IsDone};
-ghost use Rattle.shard_exec.specs.Rooms.{FitsLayer};
+ghost use Rattle.shard_exec.specs.Rooms.{FitsGroups, FitsLayer};
 ghost use Rattle.shard_exec.specs.Stamps.{raised};
 
 use crate::dealt_room::DealtRoom;
 use crate::layer_room::LayerRoom;
-use crate::taking::{put_layer, take_layer};
+use crate::taking::{put_layer, put_ran, take_layer, take_work};
 use crate::works::run_works;
 use crate::{Ended, Gate, Refused, Workers};
+use groups::GroupId;
 use layer_planner::Job;
 use placement::Table;
 use shards::{Shard, ShardHasher};
@@ -63,4 +65,34 @@ pub fn run_layer_over<W: Workers>(
         Err(refused) => return Err(refused),
     };
     Ok(put_layer(row, lasts, rans, done))
+}
+
+/// Runs a request that is alone in its layer over the shards of its groups, which `span` has room for, and tells what
+/// became of it. It takes no memory but the command's own.
+pub fn run_alone(
+    alloc: Global,
+    table: &Table,
+    hasher: ShardHasher,
+    row: &mut Vec<Shard>,
+    lasts: &mut Vec<Option<Stamp>>,
+    job: Job,
+    skip: &[RequestId],
+    gate: &(dyn Gate + Sync),
+    span: Vec<(GroupId, Shard)>,
+) -> Ended
+    requires is_table { IsTable table.now }
+    requires shards { length row.old.items ≡ table.now.shards }
+    requires lasts { length lasts.old.items ≡ table.now.shards }
+    requires own { HasOwnKeys table.now row.old.items }
+    requires groups { job.groups ≡ groups_of table.now job.command }
+    requires room { FitsGroups job span }
+    ensures done { IsDone table.now row.old.items skip.now (job ∷ []) (result ∷ []) row.new.items }
+    ensures lasts { lasts.new.items ≡ raised lasts.old.items (job ∷ []) }
+    ensures shards { length row.new.items ≡ length row.old.items }
+    ensures stamps { length lasts.new.items ≡ length lasts.old.items }
+    ensures own { HasOwnKeys table.now row.new.items }
+{
+    let work = take_work(alloc, hasher, row, job, 0, skip, span);
+    let ran = work.run(alloc, table, gate);
+    put_ran(row, lasts, ran)
 }

@@ -15,7 +15,7 @@ ghost use Rattle.shard_exec.specs.Stores.{empty_store, HasRunLayer, HasFailed, I
 
 use crate::dealt_room::DealtRoom;
 use crate::layer_room::LayerRoom;
-use crate::layer_run::run_layer_over;
+use crate::layer_run::{run_alone, run_layer_over};
 use crate::{Ended, ExecFault, Gate, Workers};
 use dumps::Dump;
 use layer_planner::{Job, Layer};
@@ -136,8 +136,12 @@ impl Store {
             Ok(layer) => layer,
             Err(fault) => return Err(fault),
         };
-        if layer.is_empty() {
-            return Ok(Vec::new(alloc));
+        match layer.len() {
+            0 => return Ok(Vec::new(alloc)),
+            1 => return self
+                .run_lone(alloc, layer, skip, gate)
+                .map_err(ExecFault::Memory),
+            _ => {}
         }
         let Ok(room) = LayerRoom::reserve(alloc, layer.jobs()) else {
             return Err(ExecFault::Memory(layer));
@@ -162,6 +166,47 @@ impl Store {
             Ok(done) => Ok(done),
             Err(_) => Err(fail(&mut self.failed)),
         }
+    }
+
+    /// Runs a layer of one request, which was admitted, on the caller's thread. It is handed back, with nothing changed,
+    /// where there is no memory.
+    fn run_lone(
+        &mut self,
+        alloc: Global,
+        layer: Layer,
+        skip: &[RequestId],
+        gate: &(dyn Gate + Sync),
+    ) -> Result<Vec<Ended>, Layer>
+        requires lone { length layer ≡ 1 }
+        requires groups { AddressTheirGroups self.old.table layer }
+        requires lives { self.old.failed ≡ false }
+        requires fresh { AreFresh self.old.lasts layer }
+        ensures done { IfOk result (λ done. HasRunLayer self.old skip.now layer done.items self.new) }
+        ensures back { IfErr result (λ back. back ≡ layer) }
+        ensures unchanged { OnErr result (self.new ≡ self.old) }
+    {
+        let groups = layer.jobs()[0].groups.len();
+        let Ok(span) = Vec::with_capacity(alloc, groups) else {
+            return Err(layer);
+        };
+        let Ok(mut done) = Vec::with_capacity(alloc, 1) else {
+            return Err(layer);
+        };
+        let Some(job) = layer.into_jobs().pop() else {
+            unreachable!()
+        };
+        done.push_reserved(run_alone(
+            alloc,
+            &self.table,
+            self.hasher,
+            &mut self.shards,
+            &mut self.lasts,
+            job,
+            skip,
+            gate,
+            span,
+        ));
+        Ok(done)
     }
 }
 

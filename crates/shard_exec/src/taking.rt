@@ -50,8 +50,8 @@ pub fn take_layer(
     works
 }
 
-/// Takes the shards of one request out of the row.
-fn take_work(
+/// Takes the shards of one request out of the row. It takes no memory.
+pub fn take_work(
     alloc: Global,
     hasher: ShardHasher,
     row: &mut Vec<Shard>,
@@ -108,8 +108,8 @@ pub fn put_layer(
     done
 }
 
-/// Puts the shards of one request back.
-fn put_ran(row: &mut Vec<Shard>, lasts: &mut Vec<Option<Stamp>>, ran: Ran) -> Ended
+/// Puts the shards of one request back into the row, with its stamp as their last one, and tells what became of it.
+pub fn put_ran(row: &mut Vec<Shard>, lasts: &mut Vec<Option<Stamp>>, ran: Ran) -> Ended
     requires inside { AllByRecursion (λ s. s.0 < length row.old.items) ran.shards.items }
     requires lasts { length lasts.old.items ≡ length row.old.items }
     ensures row { row.new.items ≡ put_span row.old.items ran.shards.items }
