@@ -1,6 +1,8 @@
 //! The parts of the system, and what each kind of step does to them.
 
 ghost use Rattle.std.specs.Prelude.{◌≡◌, ◌≢◌, ◌<◌, ◌^◌, List, length, true, IfOk, IfErr, OnOk, OnErr};
+ghost use Rattle.router.specs.Router.{connection};
+ghost use Rattle.router.specs.Submitting.{IsRefused};
 ghost use Rattle.system.specs.Parts.{IsAt, Makes, Keeps};
 ghost use Rattle.system_view.specs.Layers.{AreRows};
 ghost use Rattle.world.specs.World.{World};
@@ -17,7 +19,7 @@ use journal::{RequestIds, Rows, Step};
 use layer_planner::Layer;
 use multicast::Multicast;
 use resp::Request;
-use router::Router;
+use router::{Router, SubmitFault};
 use shard_exec::{ExecFault, Gate, Store, Workers};
 use skeen_core::{ConnId, RequestId};
 use std::alloc::{AllocError, Global};
@@ -84,12 +86,14 @@ impl Parts {
         ensures no_failure { IfErr result (λ fault. fault ≢ StepFault.Failed) }
         ensures keeps { OnErr result (Keeps self.old self.new) }
     {
-        if let Err(refused) = self.router.may_submit(conn) {
-            return Err(StepFault::from(refused));
-        }
         let groups = usize::from(self.store.table().shards());
-        self.multicast.reserve(groups)?;
-        let sent = self.router.submit(self.store.table(), conn, words)?;
+        let Ok(()) = self.multicast.reserve(groups) else {
+            return Err(StepFault::from(unsent(&self.router, conn)));
+        };
+        let sent = match self.router.submit(self.store.table(), conn, words) {
+            Ok(sent) => sent,
+            Err(refused) => return Err(StepFault::from(refused)),
+        };
         self.multicast.start(sent.id, sent.floor, sent.groups);
         Ok(Effect::Submitted(sent.id))
     }
@@ -252,6 +256,16 @@ impl Parts {
             Ok(()) => Ok(Effect::Made),
             Err(_) => Err(StepFault::NoConn),
         }
+    }
+}
+
+/// Why a connection submits nothing where there is no memory: what the connection itself is refused for comes first.
+fn unsent(router: &Router, conn: ConnId) -> SubmitFault
+    ensures { IsRefused (connection router.now conn.0) result }
+{
+    match router.may_submit(conn) {
+        Ok(()) => SubmitFault::Memory,
+        Err(refused) => refused,
     }
 }
 

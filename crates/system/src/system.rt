@@ -4,10 +4,13 @@ ghost use Rattle.std.specs.Prelude.{◌≡◌, ◌<◌, ◌≤◌, ◌++◌, Lis
 ghost use Rattle.system.specs.System.{IsNew, IsStep, IsRefused, IsQuiet, ObeysOneThread};
 ghost use Rattle.system.specs.Runs.{Runs};
 ghost use Rattle.system.specs.Endings.{EachHasEnded, SomeMayBeMade, TurnsAreFew};
+ghost use Rattle.delivery.specs.Queues.{queue_of};
+ghost use Rattle.delivery.specs.Ready.{IsReady};
 ghost use Rattle.router.specs.Router.{waiting};
 ghost use Rattle.dumps.specs.Dump.{dump_text};
 ghost use Rattle.journal.specs.declared.step.Step.{Step};
 ghost use Rattle.shard_maps.specs.Joined.{joined};
+ghost use Rattle.skeen_core.specs.declared.packet.Delivered.{Delivered};
 ghost use Rattle.system.specs.Parts.{IsAt, progress_of, to_run};
 ghost use Rattle.system_view.specs.Layers.{AreRows};
 ghost use Rattle.world.specs.World.{World};
@@ -234,6 +237,14 @@ impl System {
         }
         parts.add_ran()?;
         Ok(parts.rows)
+    }
+
+    /// Whether some request is ready: it stands at the head of the queue of each of its groups, and a Take would take it.
+    /// It takes no memory.
+    pub fn has_ready(&self) -> bool
+        ensures { IsTrue result ↔ ((d : Delivered) × IsReady (queue_of self.now.parts.multicast.queues) d) }
+    {
+        self.parts.multicast.has_ready()
     }
 
     /// Whether nothing is under way: no packet, no layer, and no request that is ready. It takes no memory.
