@@ -1,7 +1,7 @@
 -- Which turn it is, by how far the layer is.
 use Rattle.std.proofs.Common.{◌≡◌, ℕ, suc, ◌≤◌, List, [], ◌∷◌, ◌++◌, length, Result, Ok, Err, IfOk, refl, sym, ap, ◌∙◌, subst, arith}
 use Rattle.cluster.proofs.Histories.{in_still, failed_still}
-use Rattle.cluster.specs.Histories.{HistoryView, IsLawful, IsMade, IsUnchanged, IsRefused}
+use Rattle.cluster.specs.Histories.{HistoryView, has_failed, IsLawful, IsMade, IsUnchanged, IsRefused}
 use Rattle.cluster.specs.Turns.{TurnsOn, Delivers}
 use Rattle.delivery.specs.Queues.{queue_of}
 use Rattle.delivery.specs.Ready.{QueueOf, IsReady}
@@ -24,7 +24,7 @@ use Rattle.world.specs.Steps as world
 use Rattle.world.specs.World.{World, Ended, NoneTaken, Taken}
 use Rattle.world_laws.specs.Good.{Asked}
 use Rattle.keyspace.specs.Map.{Map}
-use Rattle.std.proofs.Common.{Option, Some, None}
+use Rattle.std.proofs.Common.{false, Option, Some, None}
 use Rattle.resp.specs.Content.{Content}
 
 -- ---- how far the layer is
@@ -73,6 +73,24 @@ takes pick old new lawful is made =
       turn = (subst NothingToSettle none tt, subst NothingToRun none tt);
     }
 
+unchanged : (h : HistoryView) → IsUnchanged h h
+unchanged h = record {
+  system = record {
+    max_steps = refl;
+    steps = refl;
+    parts = record {
+      router = refl;
+      multicast = record { groups = refl; packets = refl; queues = refl };
+      store = refl;
+      stage = refl;
+      rows = refl;
+      starved = refl;
+    };
+  };
+  max_steps = refl;
+  steps = refl;
+}
+
 -- what is made of a history in which only room has changed
 pub made_after : (old mid new : HistoryView) (s : Step) (e : Effect) → IsUnchanged old mid → IsMade mid s e new → IsMade old s e new
 made_after old mid new s e still made =
@@ -110,6 +128,23 @@ delivers pick old mid new is refused still came =
         came.picked ∙ ap (λ ps. pick (length ps)) packets,
       );
     }
+
+-- the same where the Take isn't tried, since no request is ready
+pub delivers_next : (pick : ℕ → ℕ) (old new : HistoryView) → progress_of old.system.parts.stage ≡ progress.Free →
+    ((d : Delivered) → ¬ IsReady (queue_of old.system.parts.multicast.queues) d) → (has_failed old ≡ false → IsLawful old) →
+    Delivers pick old new → TurnsOn pick old new
+delivers_next pick old new is none_ready lawful came =
+    let was = lawful came.made.lived in
+    let queues : queue_of old.system.parts.multicast.queues ≡ was.world.queue = λ k g. was.shows.at.shows.multicast.queues g k in
+    let refused : IsRefused old step.Take NoLayer = record {
+      world = was.world;
+      shows = was.shows;
+      refused = (
+        none_taken _ was.world is was.shows.at.shows.stage,
+        subst (λ (q : QueueOf). (d : Delivered) → ¬ IsReady q d) queues none_ready,
+      );
+    } in
+    delivers pick old old new is refused (unchanged old) came
 
 pub quiet : (old mid : HistoryView) → progress_of old.system.parts.stage ≡ progress.Free → IsRefused old step.Take NoLayer →
     IsUnchanged old mid → mid.system.parts.multicast.packets ≡ [] → IsQuiet old.system.parts

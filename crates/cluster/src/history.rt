@@ -1,11 +1,15 @@
 //! A system beside the trace of the steps that it made.
 
 ghost use Rattle.std.specs.Prelude.{◌≡◌, ◌≤◌, ◌++◌, true, false, [], ◌∷◌, List, length, IfOk, IfErr, OnOk, OnErr, IsTrue, ◌↔◌};
+ghost use Rattle.std.specs.Bool.{OnTrue};
 ghost use Rattle.cluster.specs.Histories.{has_failed, IsLawful, IsMade, IsUnchanged, IsFault, IsLeft, IsNoRun, IsUnanswered};
 ghost use Rattle.cluster.specs.Turns.{TurnsOn, Delivers, IsTurnFault};
+ghost use Rattle.delivery.specs.Queues.{queue_of};
+ghost use Rattle.delivery.specs.Ready.{IsReady};
 ghost use Rattle.journal.specs.Codes.{steps_size};
 ghost use Rattle.journal.specs.declared.step.Step.{Step};
 ghost use Rattle.journal.specs.declared.request_ids.RequestIds.{RequestIds};
+ghost use Rattle.skeen_core.specs.declared.packet.Delivered.{Delivered};
 ghost use Rattle.system.specs.System.{IsQuiet};
 ghost use Rattle.system.specs.declared.effect.Effect.{Effect};
 ghost use Rattle.system.specs.declared.fault.StepFault.{StepFault};
@@ -191,12 +195,25 @@ impl History {
                 Ok(()) => Ok(true),
                 Err(fault) => Err(fault),
             },
-            Progress::Free => match self.make_unanswered(Step::Take) {
-                Ok(()) => Ok(true),
-                Err(StepFault::NoLayer) => self.deliver(pick),
-                Err(fault) => Err(fault),
-            },
+            Progress::Free => {
+                // A Take would be refused, which is seen here for less than it takes to try.
+                if self.delivers_next() {
+                    return self.deliver(pick);
+                }
+                match self.make_unanswered(Step::Take) {
+                    Ok(()) => Ok(true),
+                    Err(StepFault::NoLayer) => self.deliver(pick),
+                    Err(fault) => Err(fault),
+                }
+            }
         }
+    }
+
+    /// Whether a packet is under way and no request is ready. It takes no memory.
+    fn delivers_next(&self) -> bool
+        ensures { OnTrue result ((d : Delivered) → ¬ IsReady (queue_of self.now.system.parts.multicast.queues) d) }
+    {
+        self.system.packets() != 0 && !self.system.has_ready()
     }
 
     /// Makes the Deliver of the packet that is picked, if one is under way. Says whether one was.
