@@ -225,8 +225,9 @@ impl<L: Ledger> Shared<L> {
         ensures refused { IfErr result (IsCollectFault seat.old) }
         ensures unchanged { OnErr result (seat.new ≡ seat.old) }
     {
+        let mut may_wait = true;
         for _ in rt.forever() {
-            match self.turn_or_collect(rt, seat) {
+            match self.turn_or_collect(rt, seat, &mut may_wait) {
                 Ok(Some(reply)) => return Ok(reply),
                 Ok(None) => {}
                 Err(fault) => return Err(fault),
@@ -236,10 +237,14 @@ impl<L: Ledger> Shared<L> {
     }
 
     /// Collects what came of the seat's last request, or makes a turn where it isn't there: one step, or none.
+    ///
+    /// It is looked for where it may wait: it is there at once, or comes with a Settle. Where another thread made that
+    /// Settle it is found once nothing is under way, or after the next one that is made here.
     fn turn_or_collect<R: Wait>(
         &self,
         rt: &R,
         seat: &mut Seat<L>,
+        may_wait: &mut bool,
     ) -> Result<Option<Reply>, AskFault>
         ensures replied { IfOk result (λ reply. IfSome reply (λ r. IsReplied seat.old (content r) seat.new)) }
         ensures unasked { IfOk result (λ reply. IfNone reply (seat.new ≡ seat.old)) }
@@ -247,11 +252,14 @@ impl<L: Ledger> Shared<L> {
         ensures unchanged { OnErr result (seat.new ≡ seat.old) }
     {
         let mut held = self.held.lock(rt);
-        if held.cluster.system().waits(seat.conn()).is_none() {
+        if !*may_wait || held.cluster.system().waits(seat.conn()).is_none() {
             match held.turn(&First, &InTurn(NonZeroUsize::MIN), &Open) {
-                // Nothing comes any more: the seat is told why.
+                // Nothing comes any more: it is there, or the seat is told why.
                 Ok(Turn::Quiet) => {}
-                Ok(_) => return Ok(None),
+                Ok(turn) => {
+                    *may_wait = turn != Turn::Made { settled: false };
+                    return Ok(None);
+                }
                 Err(fault) => return Err(fault),
             }
         }
