@@ -18,7 +18,7 @@ use Rattle.resp.specs.Content.{content}
 use Rattle.resp.specs.declared.reply.Reply.{Reply}
 use Rattle.router.specs.declared.outcome.Outcome as kept
 use Rattle.server.specs.Asks.{submitted, IsAnswered, IsReplied, IsCollectFault, IsAskFault}
-use Rattle.server.specs.declared.fault.AskFault.{AskFault}
+use Rattle.server.specs.declared.held.AskFault.{AskFault}
 use Rattle.server.specs.Closings.{IsClosed, IsCloseFault, IsWritten}
 use Rattle.system.specs.System.{IsQuiet}
 use Rattle.system.specs.declared.effect.Effect.TheVariants.{Collected}

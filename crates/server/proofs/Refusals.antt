@@ -1,59 +1,55 @@
--- What a seat is told where a step isn't made.
-use Rattle.std.proofs.Common.{◌≡◌, ℕ, List, Bool, true, inl, inr, Some, subst}
+-- What is told of a step that is refused.
+use Rattle.std.proofs.Common.{◌≡◌, ◌≢◌, ℕ, List, Bool, true, false, inl, inr, Some, Result, Ok, Err, IfErr, refl, subst}
 use Rattle.cluster.specs.Clusters.{SeatView}
 use Rattle.cluster.specs.Clusters as cluster
-use Rattle.cluster.specs.Histories.{HistoryView, IsFault, has_failed}
-use Rattle.cluster.specs.Turns.{IsTurnFault}
+use Rattle.cluster.specs.Histories.{HistoryView, has_failed, IsLawful, IsFault}
 use Rattle.journal.specs.declared.step.Step.TheVariants.{Open}
-use Rattle.server.specs.Asks.{told, lasting, IsSitFault, IsSubmitFault, IsCollectFault, IsStopped}
-use Rattle.server.specs.declared.fault.AskFault.{AskFault}
-use Rattle.server.specs.declared.fault.AskFault.TheVariants.{Exhausted, Failed, NoConn}
+use Rattle.server.specs.Asks.{told, unless_memory, lasting, Refuses, IsShutOr, RefusesSit, RefusesSubmit, RefusesCollect}
+use Rattle.server.specs.Asks.{IsSitFault, IsSubmitFault, IsCollectFault}
+use Rattle.server.specs.declared.fault.FaultKind.{FaultKind}
+use Rattle.server.specs.declared.fault.FaultKind.TheVariants.{Closed, Memory, Exhausted, Failed, NoConn}
+use Rattle.server.specs.declared.held.AskFault.{AskFault}
 use Rattle.system.specs.declared.fault.StepFault.{StepFault}
 use Rattle.system.specs.declared.fault.StepFault.TheVariants as step
 
-pub sit_fault : (h : HistoryView) (f : StepFault) → IsFault h Open f → IsSitFault (told f)
-sit_fault h step.Busy w = absurd w.refused
-sit_fault h step.NoConn w = absurd w.refused
-sit_fault h step.NoPacket w = absurd w.refused
-sit_fault h step.InFlight w = absurd w.refused
-sit_fault h step.NoLayer w = absurd w.refused
-sit_fault h step.Exhausted w = (h, w)
-sit_fault h step.Memory w = tt
-sit_fault h step.Failed w = (h, w)
+-- ---- behind the lock
 
-pub submit_fault : (h : HistoryView) (s : SeatView) (words : List (List ℕ)) (f : StepFault) → cluster.IsSubmitFault h s words f
-    → IsSubmitFault s words (told f)
-submit_fault h s words step.Busy w = (h, inr w)
-submit_fault h s words step.NoConn w = (h, inl w)
-submit_fault h s words step.NoPacket w = absurd w.refused
-submit_fault h s words step.InFlight w = absurd w.refused
-submit_fault h s words step.NoLayer w = absurd w.refused
-submit_fault h s words step.Exhausted w = (h, w)
-submit_fault h s words step.Memory w = tt
-submit_fault h s words step.Failed w = (h, w)
+pub open_refuses : (shut : Bool) (h : HistoryView) (IsWhy : StepFault → Type 0) (own : StepFault) (kind : FaultKind) → shut ≡ false
+    → (has_failed h ≡ false → IsLawful h) → IsWhy own → kind ≡ told own → IsShutOr shut (Refuses h IsWhy kind) kind
+open_refuses true h IsWhy own kind shut lawful refused is = cc
+open_refuses false h IsWhy own kind shut lawful refused is = record { lawful = lawful; own = own; is = cc; why = refused }
 
-pub collect_fault : (h : HistoryView) (s : SeatView) (f : StepFault) (a : AskFault) → cluster.IsCollectFault h s f → lasting f ≡ Some a
-    → IsCollectFault s a
-collect_fault h s step.Busy a w is = absurd w.refused
-collect_fault h s step.NoConn a w is = let same : NoConn ≡ a = cc in subst (IsCollectFault s) same (h, w)
-collect_fault h s step.NoPacket a w is = absurd w.refused
-collect_fault h s step.InFlight a w is = absurd w.refused
-collect_fault h s step.NoLayer a w is = absurd w.refused
-collect_fault h s step.Exhausted a w is = let same : Exhausted ≡ a = cc in subst (IsCollectFault s) same (h, w)
-collect_fault h s step.Memory a w is = cc
-collect_fault h s step.Failed a w is = let same : Failed ≡ a = cc in subst (IsCollectFault s) same (h, w)
+kept_by_lasting : (k kind : FaultKind) → unless_memory k ≡ Some kind → (k ≡ kind) × (kind ≢ Memory)
+kept_by_lasting Closed kind is = (cc, λ same. cc)
+kept_by_lasting Memory kind is = cc
+kept_by_lasting Exhausted kind is = (cc, λ same. cc)
+kept_by_lasting Failed kind is = (cc, λ same. cc)
+kept_by_lasting NoConn kind is = (cc, λ same. cc)
 
-failed_in : (b : Bool) (old new : HistoryView) → IsTurnFault b old step.Failed new → (h : HistoryView) × (has_failed h ≡ true)
-failed_in b old new (inl before) = (old, before.0)
-failed_in b old new (inr now) = (new, now.1.failed)
+pub refuses_lasting : (h : HistoryView) (IsWhy : StepFault → Type 0) (own : StepFault) (kind : FaultKind)
+    → (has_failed h ≡ false → IsLawful h) → IsWhy own → lasting own ≡ Some kind → (kind ≢ Memory) × Refuses h IsWhy kind
+refuses_lasting h IsWhy own kind lawful refused is =
+    let kept = kept_by_lasting (told own) kind is in
+    (kept.1, record { lawful = lawful; own = own; is = kept.0; why = refused })
 
-pub turn_fault : (b : Bool) (old new : HistoryView) (f : StepFault) (a : AskFault) → IsTurnFault b old f new → lasting f ≡ Some a
-    → IsStopped a
-turn_fault b old new step.Busy a w is = absurd w
-turn_fault b old new step.NoConn a w is = absurd w
-turn_fault b old new step.NoPacket a w is = absurd w
-turn_fault b old new step.InFlight a w is = absurd w
-turn_fault b old new step.NoLayer a w is = absurd w
-turn_fault b old new step.Exhausted a w is = let same : Exhausted ≡ a = cc in subst IsStopped same (old, (w.0, w.1))
-turn_fault b old new step.Memory a w is = cc
-turn_fault b old new step.Failed a w is = let same : Failed ≡ a = cc in subst IsStopped same (failed_in b old new w)
+-- no more steps may be made where nothing was collected
+pub refuses_exhausted : (h now : HistoryView) (s : SeatView) → now ≡ h → (has_failed h ≡ false → IsLawful h)
+    → IsFault now Open step.Exhausted → Refuses h (cluster.IsCollectFault h s) Exhausted
+refuses_exhausted h now s same lawful refused =
+    record { lawful = lawful; own = step.Exhausted; is = refl; why = subst (λ k. IsFault k Open step.Exhausted) same refused }
+
+-- ---- of a shared cluster
+
+pub found_sit : {X : Type 0} (r : Result X AskFault) (shut : Bool) (h : HistoryView) → IfErr r (RefusesSit shut h) → IfErr r IsSitFault
+found_sit (Ok seat) shut h refused = tt
+found_sit (Err fault) shut h refused = (shut, h, refused)
+
+pub found_submit : {X : Type 0} (r : Result X AskFault) (shut : Bool) (h : HistoryView) (s : SeatView) (words : List (List ℕ))
+    → IfErr r (RefusesSubmit shut h s words) → IfErr r (IsSubmitFault s words)
+found_submit (Ok done) shut h s words refused = tt
+found_submit (Err fault) shut h s words refused = (shut, h, refused)
+
+pub found_collect : {X : Type 0} (r : Result X AskFault) (h : HistoryView) (s : SeatView) → IfErr r (RefusesCollect h s)
+    → IfErr r (IsCollectFault s)
+found_collect (Ok got) h s refused = tt
+found_collect (Err fault) h s refused = inl (h, refused)

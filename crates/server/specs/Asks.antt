@@ -1,20 +1,23 @@
 -- What a seat asks of a shared cluster, and what it is answered. The cluster under the lock is another one each time it
 -- is taken, so a clause says that there was such a cluster, and not which.
-use Rattle.std.specs.Prelude.{◌≡◌, ℕ, ◌+◌, List, [], ◌⊎◌, Option, Some, None}
-use Rattle.cluster.specs.Clusters.{SeatView, last_id, IsForeign, IsBelow}
-use Rattle.cluster.specs.Histories.{HistoryView, IsLawful, IsMade, IsRefused, IsFault}
+use Rattle.std.specs.Prelude.{◌≡◌, ◌≢◌, ℕ, ◌+◌, Bool, true, false, List, [], ◌⊎◌, Option, Some, None}
+use Rattle.cluster.specs.Clusters.{SeatView, last_id}
+use Rattle.cluster.specs.Clusters as cluster
+use Rattle.cluster.specs.Histories.{HistoryView, has_failed, IsLawful, IsMade, IsFault}
 use Rattle.cluster.specs.Outcomes.{ComesFrom, IsAbove, raised}
 use Rattle.cluster.specs.Submits.{IsSaid}
-use Rattle.journal.specs.declared.step.Step.TheVariants.{Open, Submit, Take, Collect}
+use Rattle.cluster.specs.Turns.{IsTurnFault}
+use Rattle.journal.specs.declared.step.Step.TheVariants.{Open, Collect}
 use Rattle.resp.specs.Content.{Content}
 use Rattle.router.specs.declared.outcome.Outcome as kept
-use Rattle.server.specs.declared.fault.AskFault.{AskFault}
-use Rattle.server.specs.declared.fault.AskFault.TheVariants.{Closed, Memory, Exhausted, Failed, NoConn}
+use Rattle.server.specs.declared.fault.AskStep.TheVariants as asked
+use Rattle.server.specs.declared.fault.FaultKind.{FaultKind}
+use Rattle.server.specs.declared.fault.FaultKind.TheVariants.{Closed, Memory, Exhausted, Failed, NoConn}
+use Rattle.server.specs.declared.held.AskFault.{AskFault}
 use Rattle.system.specs.declared.effect.Effect.TheVariants.{Opened, Collected}
 use Rattle.system.specs.declared.fault.StepFault.{StepFault}
 use Rattle.system.specs.declared.fault.StepFault.TheVariants as step
 use Rattle.system_view.specs.Connections.{outcome_shown}
-use Rattle.world.specs.Steps as world
 use Rattle.world.specs.World.{Outcome}
 
 -- ---- a seat
@@ -57,7 +60,7 @@ IsReplied old reply new = (o : Outcome) × (o.reply ≡ reply) × IsAnswered old
 -- ---- refusals
 
 -- what a seat is told where a step isn't made
-abbrev pub told : StepFault → AskFault
+abbrev pub told : StepFault → FaultKind
 told step.Exhausted = Exhausted
 told step.Memory = Memory
 told step.Failed = Failed
@@ -68,48 +71,60 @@ told step.InFlight = NoConn
 told step.NoLayer = NoConn
 
 -- the same where it isn't want of memory, after which the step is tried again
-abbrev pub unless_memory : AskFault → Option AskFault
+abbrev pub unless_memory : FaultKind → Option FaultKind
 unless_memory Memory = None
-unless_memory fault = Some fault
+unless_memory kind = Some kind
 
-abbrev pub lasting : StepFault → Option AskFault
+abbrev pub lasting : StepFault → Option FaultKind
 lasting fault = unless_memory (told fault)
 
--- why no seat is given
+-- A cluster refuses a step for a fault of the step's own, and it is told so. The cluster is lawful, unless a worker's
+-- start was refused.
+pub record Refuses (h : HistoryView) (IsWhy : StepFault → Type 0) (kind : FaultKind) : Type 0 where
+  pub lawful : has_failed h ≡ false → IsLawful h
+  pub own : StepFault
+  pub is : told own ≡ kind
+  pub why : IsWhy own
+
+-- what is locked is shut, or its cluster refuses
+abbrev pub IsShutOr : Bool → Type 0 → FaultKind → Type 0
+IsShutOr true refuses kind = kind ≡ Closed
+IsShutOr false refuses kind = refuses
+
+-- ---- refusals of what is locked: whether it is shut, and its cluster's history
+
+abbrev pub RefusesSit : Bool → HistoryView → AskFault → Type 0
+RefusesSit shut h fault = (fault.step ≡ asked.Sit) × IsShutOr shut (Refuses h (IsFault h Open) fault.kind) fault.kind
+
+abbrev pub RefusesSubmit : Bool → HistoryView → SeatView → List (List ℕ) → AskFault → Type 0
+RefusesSubmit shut h s words fault =
+    (fault.step ≡ asked.Submit s.conn s.count) × IsShutOr shut (Refuses h (cluster.IsSubmitFault h s words) fault.kind) fault.kind
+
+-- want of memory isn't told: it is tried again
+abbrev pub RefusesCollect : HistoryView → SeatView → AskFault → Type 0
+RefusesCollect h s fault =
+    (fault.step ≡ asked.Collect s.conn s.count) × (fault.kind ≢ Memory) × Refuses h (cluster.IsCollectFault h s) fault.kind
+
+abbrev pub RefusesTurn : Bool → HistoryView → AskFault → Type 0
+RefusesTurn may_refuse h fault =
+    (fault.step ≡ asked.Turn) × (fault.kind ≢ Memory)
+    × Refuses h (λ own. (new : HistoryView) × IsTurnFault may_refuse h own new) fault.kind
+
+-- ---- the same of a shared cluster, which was such a one when it was locked
+
 abbrev pub IsSitFault : AskFault → Type 0
-IsSitFault Closed = Unit {0}
-IsSitFault Memory = Unit {0}
-IsSitFault Exhausted = (h : HistoryView) × IsFault h Open step.Exhausted
-IsSitFault Failed = (h : HistoryView) × IsFault h Open step.Failed
-IsSitFault NoConn = ⊥
+IsSitFault fault = (shut : Bool) × (h : HistoryView) × RefusesSit shut h fault
 
--- in a history the seat isn't as the trace has it, its connection isn't open, or it has a request under way
-abbrev pub IsStranger : SeatView → List (List ℕ) → Type 0
-IsStranger s words = (h : HistoryView) × (IsForeign h s ⊎ IsRefused h (Submit s.conn words) world.Busy)
-
--- why a seat's request isn't submitted
 abbrev pub IsSubmitFault : SeatView → List (List ℕ) → AskFault → Type 0
-IsSubmitFault s words Closed = Unit {0}
-IsSubmitFault s words Memory = Unit {0}
-IsSubmitFault s words Exhausted = (h : HistoryView) × IsFault h (Submit s.conn words) step.Exhausted
-IsSubmitFault s words Failed = (h : HistoryView) × IsFault h (Submit s.conn words) step.Failed
-IsSubmitFault s words NoConn = IsStranger s words
-
--- why what came of a seat's request isn't given
-abbrev pub IsCollectFault : SeatView → AskFault → Type 0
-IsCollectFault s Closed = ⊥
-IsCollectFault s Memory = ⊥
-IsCollectFault s Exhausted = (h : HistoryView) × IsFault h (Collect s.conn) step.Exhausted
-IsCollectFault s Failed = (h : HistoryView) × IsFault h (Collect s.conn) step.Failed
-IsCollectFault s NoConn = (h : HistoryView) × (IsForeign h s ⊎ IsBelow h s)
+IsSubmitFault s words fault = (shut : Bool) × (h : HistoryView) × RefusesSubmit shut h s words fault
 
 -- why no turn is made any more
 abbrev pub IsStopped : AskFault → Type 0
-IsStopped Closed = ⊥
-IsStopped Memory = ⊥
-IsStopped Exhausted = (h : HistoryView) × IsFault h Take step.Exhausted
-IsStopped Failed = (h : HistoryView) × IsFault h Take step.Failed
-IsStopped NoConn = ⊥
+IsStopped fault = (may_refuse : Bool) × (h : HistoryView) × RefusesTurn may_refuse h fault
+
+-- why what came of a seat's request isn't given: it isn't collected, or no turn is made any more
+abbrev pub IsCollectFault : SeatView → AskFault → Type 0
+IsCollectFault s fault = ((h : HistoryView) × RefusesCollect h s fault) ⊎ IsStopped fault
 
 -- Why an ask is refused, and what that leaves of the seat: the request isn't submitted and the seat is as before, or it
 -- was submitted and what came of it isn't given.

@@ -2,8 +2,8 @@
 use Rattle.std.specs.Prelude.{◌≡◌, ◌≢◌, ℕ, List, Ok, Err}
 use Rattle.cluster.specs.Clusters.{SeatView}
 use Rattle.server.specs.Asks.{submitted, IsReplied, IsAskFault}
-use Rattle.server.specs.declared.fault.AskFault.{AskFault}
-use Rattle.server.specs.declared.fault.AskFault.TheVariants as fault
+use Rattle.server.specs.declared.fault.FaultKind.TheVariants as kind
+use Rattle.server.specs.declared.held.AskFault.{AskFault}
 use Rattle.serving.specs.Answers.{Answer}
 use Rattle.serving.specs.declared.door.DoorFault.TheVariants.{Memory, Ended}
 
@@ -12,4 +12,4 @@ use Rattle.serving.specs.declared.door.DoorFault.TheVariants.{Memory, Ended}
 abbrev pub Asks : SeatView → List (List ℕ) → Answer AskFault → SeatView → Type 0
 Asks old words (Ok reply) new = IsReplied (submitted old words) reply new
 Asks old words (Err Memory) new = new ≡ old
-Asks old words (Err (Ended reason)) new = (reason ≢ fault.Memory) × IsAskFault old words reason new
+Asks old words (Err (Ended reason)) new = (reason.kind ≢ kind.Memory) × IsAskFault old words reason new

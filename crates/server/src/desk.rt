@@ -4,7 +4,8 @@ ghost use Rattle.std.specs.Prelude.{◌≡◌, IfOk, IfErr};
 ghost use Rattle.resp.specs.Content.{content};
 ghost use Rattle.server.specs.Asks.{submitted, IsReplied, IsAskFault};
 
-use crate::fault::AskFault;
+use crate::fault::FaultKind;
+use crate::held::AskFault;
 use crate::shared::Shared;
 use cluster::Seat;
 use resp::{Reply, Request};
@@ -76,11 +77,12 @@ impl<'a, L: Ledger, R: Wait> Door for Desk<'a, L, R> {
     ghost asks = { λ old words answer new. Asks old.seat words answer new.seat };
 
     fn ask(&mut self, request: Request) -> Result<Reply, DoorFault<AskFault>> {
-        let asked = self.asked(request);
-        match asked {
+        match self.asked(request) {
             Ok(reply) => Ok(reply),
-            Err(AskFault::Memory) => Err(DoorFault::Memory),
-            Err(fault) => Err(DoorFault::Ended(fault)),
+            Err(fault) => match fault.kind() {
+                FaultKind::Memory => Err(DoorFault::Memory),
+                _ => Err(DoorFault::Ended(fault)),
+            },
         }
     }
 

@@ -3,12 +3,13 @@
 ghost use Rattle.std.specs.Prelude.{◌≡◌};
 ghost use Rattle.server.specs.Asks.{told, lasting};
 
+use skeen_core::ConnId;
 use system::StepFault;
 use thiserror::Error;
 
-/// Why a request isn't answered, or a seat isn't given. Each reason has its number, from 1.
+/// Why a request isn't answered, or a seat isn't given. Each kind has its number, from 1.
 #[derive(Clone, Copy, Debug, Drop, PartialEq, Eq, Error)]
-pub enum AskFault {
+pub enum FaultKind {
     /// 1: the cluster is shut. Nothing was submitted.
     #[error("the server is shut")]
     Closed,
@@ -31,28 +32,44 @@ pub enum AskFault {
     NoConn,
 }
 
+/// The step that was not made: of a seat, its connection and how many requests it had submitted.
+#[derive(Clone, Copy, Debug, Drop, PartialEq, Eq)]
+pub enum AskStep {
+    /// A seat was to be given.
+    Sit,
+
+    /// The seat's next request was to be submitted.
+    Submit(ConnId, u64),
+
+    /// What came of the seat's last request was to be collected.
+    Collect(ConnId, u64),
+
+    /// A packet or a layer was to be brought on.
+    Turn,
+}
+
 /// What a seat is told where a step isn't made.
-pub(crate) fn told(fault: StepFault) -> AskFault
+pub(crate) fn told(fault: StepFault) -> FaultKind
     ensures { result ≡ told fault }
 {
     match fault {
-        StepFault::Exhausted => AskFault::Exhausted,
-        StepFault::Memory => AskFault::Memory,
-        StepFault::Failed => AskFault::Failed,
+        StepFault::Exhausted => FaultKind::Exhausted,
+        StepFault::Memory => FaultKind::Memory,
+        StepFault::Failed => FaultKind::Failed,
         StepFault::Busy
         | StepFault::NoConn
         | StepFault::NoPacket
         | StepFault::InFlight
-        | StepFault::NoLayer => AskFault::NoConn,
+        | StepFault::NoLayer => FaultKind::NoConn,
     }
 }
 
 /// What a seat is told where a step isn't made; none for want of memory, after which the step is tried again.
-pub(crate) fn lasting(fault: StepFault) -> Option<AskFault>
+pub(crate) fn lasting(fault: StepFault) -> Option<FaultKind>
     ensures { result ≡ lasting fault }
 {
     match told(fault) {
-        AskFault::Memory => None,
-        fault => Some(fault),
+        FaultKind::Memory => None,
+        kind => Some(kind),
     }
 }

@@ -1,15 +1,15 @@
-//! What the lock guards: a cluster, and whether it is shut.
+//! What the lock guards: a cluster, and whether it is shut. No other module makes a fault of an ask.
 
 ghost use Rattle.std.specs.Prelude.{◌≡◌, true, OnErr, OnOk, IfOk, IfErr, IfSome, IfNone};
 ghost use Rattle.cluster.specs.Answers.{shown_outcome};
 ghost use Rattle.resp.specs.Content.{content};
-ghost use Rattle.server.specs.Asks.{submitted, IsNewSeat, IsAnswered, IsReplied, IsSitFault, IsSubmitFault, IsCollectFault, IsStopped};
+ghost use Rattle.server.specs.Asks.{submitted, IsNewSeat, IsAnswered, IsReplied, RefusesSit, RefusesSubmit, RefusesCollect, RefusesTurn};
 ghost use Rattle.server.specs.Closings.{IsClosed, IsCloseFault, IsWritten};
 ghost use Rattle.cluster.specs.Histories.{IsFault};
 ghost use Rattle.journal.specs.declared.step.Step.{Step};
 ghost use Rattle.system.specs.declared.fault.StepFault.{StepFault};
 
-use crate::fault::{AskFault, lasting, told};
+use crate::fault::{AskStep, FaultKind, lasting, told};
 use cluster::{Answer, CloseFault, Closing, Cluster, Pick, Seat};
 use journal::write_trace;
 use resp::{Reply, Request};
@@ -17,6 +17,32 @@ use shard_exec::{Gate, Workers};
 use std::alloc::AllocError;
 use std::sync::ledger::Ledger;
 use system::Progress;
+use thiserror::Error;
+
+/// Why a request isn't answered, or a seat isn't given: the kind of fault, and the step that was not made. It can't be
+/// made up, since only what the lock guards makes one, where a step is refused.
+#[derive(Debug, Drop, PartialEq, Eq, Error)]
+#[error("{kind}")]
+pub struct AskFault {
+    kind: FaultKind,
+    step: AskStep,
+}
+
+impl AskFault {
+    /// The kind of fault.
+    pub fn kind(&self) -> FaultKind
+        ensures { result ≡ self.now.kind }
+    {
+        self.kind
+    }
+
+    /// The step that was not made.
+    pub fn step(&self) -> AskStep
+        ensures { result ≡ self.now.step }
+    {
+        self.step
+    }
+}
 
 /// A cluster, and whether it is shut: then no one sits or asks any more.
 #[derive(Drop)]
@@ -40,32 +66,48 @@ impl<L: Ledger> Held<L> {
     /// Opens a connection, and gives the seat that has it.
     pub fn sit(&mut self) -> Result<Seat<L>, AskFault>
         ensures seat { IfOk result IsNewSeat }
-        ensures refused { IfErr result IsSitFault }
+        ensures refused { IfErr result (RefusesSit self.old.shut self.old.cluster.history) }
     {
+        let step = AskStep::Sit;
         if self.shut {
-            return Err(AskFault::Closed);
+            return Err(AskFault {
+                kind: FaultKind::Closed,
+                step,
+            });
         }
+        self.cluster.lawful();
         match self.cluster.sit() {
             Ok(seat) => {
                 self.cluster.lawful();
                 Ok(seat)
             }
-            Err(fault) => Err(told(fault)),
+            Err(fault) => Err(AskFault {
+                kind: told(fault),
+                step,
+            }),
         }
     }
 
     /// Submits a request of these words.
     pub fn submit(&mut self, seat: &mut Seat<L>, words: Request) -> Result<(), AskFault>
         ensures submitted { OnOk result (seat.new ≡ submitted seat.old words) }
-        ensures refused { IfErr result (IsSubmitFault seat.old words) }
+        ensures refused { IfErr result (RefusesSubmit self.old.shut self.old.cluster.history seat.old words) }
         ensures unchanged { OnErr result (seat.new ≡ seat.old) }
     {
+        let step = AskStep::Submit(seat.conn(), seat.count());
         if self.shut {
-            return Err(AskFault::Closed);
+            return Err(AskFault {
+                kind: FaultKind::Closed,
+                step,
+            });
         }
+        self.cluster.lawful();
         match self.cluster.submit(seat, words) {
             Ok(_) => Ok(()),
-            Err(fault) => Err(told(fault)),
+            Err(fault) => Err(AskFault {
+                kind: told(fault),
+                step,
+            }),
         }
     }
 
@@ -75,9 +117,11 @@ impl<L: Ledger> Held<L> {
         ensures answered { IfOk result (λ answer. IfSome answer (λ a. IsAnswered seat.old (shown_outcome a) seat.new)) }
         ensures words { IfOk result (λ answer. IfSome answer (λ a. a.words ≡ seat.old.words)) }
         ensures unasked { IfOk result (λ answer. IfNone answer (seat.new ≡ seat.old)) }
-        ensures refused { IfErr result (IsCollectFault seat.old) }
+        ensures refused { IfErr result (RefusesCollect self.old.cluster.history seat.old) }
         ensures unchanged { OnErr result (seat.new ≡ seat.old) }
     {
+        let step = AskStep::Collect(seat.conn(), seat.count());
+        self.cluster.lawful();
         match self.cluster.collect(seat) {
             Ok(Some(answer)) => {
                 self.cluster.lawful();
@@ -85,12 +129,15 @@ impl<L: Ledger> Held<L> {
             }
             Ok(None) => {
                 if self.is_exhausted() {
-                    return Err(AskFault::Exhausted);
+                    return Err(AskFault {
+                        kind: FaultKind::Exhausted,
+                        step,
+                    });
                 }
                 Ok(None)
             }
             Err(fault) => match lasting(fault) {
-                Some(fault) => Err(fault),
+                Some(kind) => Err(AskFault { kind, step }),
                 None => Ok(None),
             },
         }
@@ -109,9 +156,11 @@ impl<L: Ledger> Held<L> {
     pub fn collect_reply(&mut self, seat: &mut Seat<L>) -> Result<Option<Reply>, AskFault>
         ensures answered { IfOk result (λ reply. IfSome reply (λ r. IsReplied seat.old (content r) seat.new)) }
         ensures unasked { IfOk result (λ reply. IfNone reply (seat.new ≡ seat.old)) }
-        ensures refused { IfErr result (IsCollectFault seat.old) }
+        ensures refused { IfErr result (RefusesCollect self.old.cluster.history seat.old) }
         ensures unchanged { OnErr result (seat.new ≡ seat.old) }
     {
+        let step = AskStep::Collect(seat.conn(), seat.count());
+        self.cluster.lawful();
         match self.cluster.collect_reply(seat) {
             Ok(Some(reply)) => {
                 self.cluster.lawful();
@@ -119,7 +168,7 @@ impl<L: Ledger> Held<L> {
             }
             Ok(None) => Ok(None),
             Err(fault) => match lasting(fault) {
-                Some(fault) => Err(fault),
+                Some(kind) => Err(AskFault { kind, step }),
                 None => Ok(None),
             },
         }
@@ -132,14 +181,16 @@ impl<L: Ledger> Held<L> {
         workers: &W,
         gate: &(dyn Gate + Sync),
     ) -> Result<Turn, AskFault>
-        ensures { IfErr result IsStopped }
+        ensures refused { IfErr result (RefusesTurn W.may_refuse self.old.cluster.history) }
     {
+        let step = AskStep::Turn;
         let settled = self.cluster.system().progress() == Progress::HasRun;
+        self.cluster.lawful();
         match self.cluster.turn(pick, workers, gate) {
             Ok(true) => Ok(Turn::Made { settled }),
             Ok(false) => Ok(Turn::Quiet),
             Err(fault) => match lasting(fault) {
-                Some(fault) => Err(fault),
+                Some(kind) => Err(AskFault { kind, step }),
                 None => Ok(Turn::Starved),
             },
         }

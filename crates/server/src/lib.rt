@@ -16,7 +16,8 @@ mod turnstile;
 
 pub use command_line::{Options, OptionsFault, read_options};
 pub use desk::{Desk, Turns};
-pub use fault::AskFault;
+pub use fault::{AskStep, FaultKind};
+pub use held::AskFault;
 pub use hosting::host;
 pub use sending::shared_syncs;
 pub use shared::Shared;

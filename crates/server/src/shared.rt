@@ -11,8 +11,7 @@ ghost use Rattle.server.specs.Asks.{IsStopped};
 ghost use Rattle.server.specs.Closings.{IsClosed, IsCloseFault, IsWritten};
 ghost use Rattle.journal.specs.declared.trace.TheConstants.{GREATEST_STEPS};
 
-use crate::fault::AskFault;
-use crate::held::{Held, Turn};
+use crate::held::{AskFault, Held, Turn};
 use crate::turnstile::Turnstile;
 use cluster::{Answer, CloseFault, Closing, Cluster, First, Pick, Seat};
 use placement::Table;

@@ -8,7 +8,7 @@ use crate::hosting::TWO_SHARDS;
 use cluster::{CloseFault, Closing, First, Seat};
 use placement::Table;
 use resp::{Reply, Request, write_reply};
-use server::{AskFault, Shared, shared_syncs};
+use server::{AskFault, FaultKind, Shared, shared_syncs};
 use shard_exec::{InTurn, Open};
 use shards::ShardHasher;
 use std::alloc::{AllocError, Global};
@@ -71,31 +71,26 @@ fn ask_rows<L: Ledger, R: Wait>(
     let mut other = None;
     for (words, wanted) in rows {
         match ask_row(rt, alloc, shared, &mut seat, words) {
-            Ok(reply) if reply.as_str() == *wanted => {}
-            Ok(reply) => other = Some(reply),
-            Err(_) => other = Some(String::new(alloc)),
+            Some(reply) if reply.as_str() == *wanted => {}
+            Some(reply) => other = Some(reply),
+            None => other = Some(String::new(alloc)),
         }
     }
     shared.stand(rt, seat);
     other
 }
 
-/// The text of the reply to one request.
+/// The text of the reply to one request; none where it isn't answered.
 fn ask_row<L: Ledger, R: Wait>(
     rt: &R,
     alloc: Global,
     shared: &Shared<L>,
     seat: &mut Seat<L>,
     words: &str,
-) -> Result<String, AskFault> {
-    let Ok(request) = request(alloc, words) else {
-        return Err(AskFault::Memory);
-    };
-    let answer = shared.ask(rt, seat, request)?;
-    match text(alloc, answer.reply()) {
-        Ok(text) => Ok(text),
-        Err(_) => Err(AskFault::Memory),
-    }
+) -> Option<String> {
+    let request = request(alloc, words).ok()?;
+    let answer = shared.ask(rt, seat, request).ok()?;
+    text(alloc, answer.reply()).ok()
 }
 
 /// Two threads ask their rows, and then the cluster is shut. The first replies of each that aren't the wanted ones.
@@ -250,11 +245,11 @@ fn asks_turning<L: Ledger, R: Wait + Abort>(
     assert_eq!(rt; shared.close(rt), Err(CloseFault::SeatsOut));
     shared.shut(rt);
     let refused = shared.ask_turning(rt, &mut seat, request(alloc, "PING")?);
-    assert!(rt; matches!(refused, Err(AskFault::Closed)));
+    assert!(rt; matches!(refused, Err(fault) if fault.kind() == FaultKind::Closed));
     assert_eq!(rt; seat.count(), 5);
     shared.stand(rt, seat);
     let refused = shared.sit(rt);
-    assert!(rt; matches!(refused, Err(AskFault::Closed)));
+    assert!(rt; matches!(refused, Err(fault) if fault.kind() == FaultKind::Closed));
     let closing = Closing {
         requests: 5,
         executed: 3,
@@ -291,10 +286,11 @@ fn three_steps<L: Ledger, R: Wait + Abort>(rt: &R, alloc: Global, blank: Blank) 
     let mut seat = shared.sit(rt)?;
     for _ in 0..2 {
         let refused = shared.ask_turning(rt, &mut seat, request(alloc, "SET a 1")?);
-        assert!(rt; matches!(refused, Err(AskFault::Exhausted)));
+        assert!(rt; matches!(refused, Err(fault) if fault.kind() == FaultKind::Exhausted));
         assert_eq!(rt; seat.count(), 1);
     }
-    assert_eq!(rt; driven(rt, &shared), Err(AskFault::Exhausted));
+    let stopped = driven(rt, &shared);
+    assert!(rt; matches!(stopped, Err(fault) if fault.kind() == FaultKind::Exhausted));
     shared.stand(rt, seat);
     assert_eq!(rt; shared.close(rt), Err(CloseFault::NotQuiet));
     let mut trace = Vec::new(alloc);

@@ -1,10 +1,14 @@
-use Rattle.std.proofs.Common.{◌∙◌, sym}
-use Rattle.server.proofs.Refusals.{collect_fault}
+use Rattle.std.proofs.Common.{◌∙◌, ap, sym}
 use Rattle.server.proofs.Collecting.{answered_of}
+use Rattle.cluster.specs.Clusters.{IsCollectFault}
+use Rattle.server.proofs.Refusals.{refuses_lasting, refuses_exhausted}
 use Rattle.server.proofs.held.Held.collect.Goals as goal
 
 pub returns-then-is_exhausted-clause-refused : goal.returns-then-is_exhausted-clause-refused
-returns-then-is_exhausted-clause-refused g c = (c.collect.new.self.history, c.is_exhausted.ensures c.if-is_exhausted.true)
+returns-then-is_exhausted-clause-refused g c =
+    let unasked = rw c.in-Ok-None.field-0-is at c.in-Ok-None.ensures.unasked in
+    (cc, λ same. cc, refuses_exhausted c.args.self.now.cluster.history c.collect.new.self.history c.args.seat.now
+    (ap (λ k. k.history) unasked.0) c.lawful.ensures.lawful (c.is_exhausted.ensures c.if-is_exhausted.true))
 
 pub returns-in-Ok-Some-clause-answered : goal.returns-in-Ok-Some-clause-answered
 returns-in-Ok-Some-clause-answered g c =
@@ -17,9 +21,11 @@ returns-in-Ok-Some-clause-answered g c =
     (rw c.in-Ok-Some.field-0-is at told.from)
     (rw c.in-Ok-Some.field-0-is at told.above)
     (rw c.in-Ok-Some.field-0-is at told.seat)
-    c.lawful.ensures.lawful
+    c.lawful-in-Ok-Some.ensures.lawful
 
 pub returns-in-Some-clause-refused : goal.returns-in-Some-clause-refused
 returns-in-Some-clause-refused g c =
-    collect_fault c.args.self.now.cluster.history c.args.seat.now c.in-Err.fault c.in-Some.fault c.in-Err.ensures.refused
-    (sym c.lasting.ensures ∙ c.in-Some.is)
+    let h = c.args.self.now.cluster.history in
+    let refused = refuses_lasting h (IsCollectFault h c.args.seat.now) c.in-Err.fault c.in-Some.kind c.lawful.ensures.lawful
+        c.in-Err.ensures.refused (sym c.lasting.ensures ∙ c.in-Some.is) in
+    (cc, refused.0, refused.1)

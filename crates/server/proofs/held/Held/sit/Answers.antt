@@ -1,5 +1,7 @@
-use Rattle.std.proofs.Common.{ap}
-use Rattle.server.proofs.Refusals.{sit_fault}
+use Rattle.std.proofs.Common.{ap, refl}
+use Rattle.cluster.specs.Histories.{IsFault}
+use Rattle.journal.specs.declared.step.Step.TheVariants.{Open}
+use Rattle.server.proofs.Refusals.{open_refuses}
 use Rattle.server.proofs.held.Held.sit.Goals as goal
 
 pub returns-in-Ok-clause-seat : goal.returns-in-Ok-clause-seat
@@ -10,7 +12,7 @@ returns-in-Ok-clause-seat g c =
       before = c.args.self.now.cluster.history;
       after = c.sit.new.self.history;
       opened = opened;
-      lawful = c.lawful.ensures.lawful opened.lives;
+      lawful = c.lawful-in-Ok.ensures.lawful opened.lives;
       floor = ap (λ s. s.floor) seat;
       count = ap (λ s. s.count) seat;
       words = ap (λ s. s.words) seat;
@@ -18,4 +20,6 @@ returns-in-Ok-clause-seat g c =
 
 pub returns-in-Err-clause-refused : goal.returns-in-Err-clause-refused
 returns-in-Err-clause-refused g c =
-    rw c.told.ensures (sit_fault c.args.self.now.cluster.history c.in-Err.fault c.in-Err.ensures.refused)
+    let h = c.args.self.now.cluster.history in
+    (refl, open_refuses c.args.self.now.shut h (IsFault h Open) c.in-Err.fault c.told.result c.if-self.false c.lawful.ensures.lawful
+    c.in-Err.ensures.refused c.told.ensures)

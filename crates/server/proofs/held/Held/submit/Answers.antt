@@ -1,6 +1,9 @@
-use Rattle.server.proofs.Refusals.{submit_fault}
+use Rattle.cluster.specs.Clusters.{IsSubmitFault}
+use Rattle.server.proofs.Refusals.{open_refuses}
 use Rattle.server.proofs.held.Held.submit.Goals as goal
 
 pub returns-in-Err-clause-refused : goal.returns-in-Err-clause-refused
 returns-in-Err-clause-refused g c =
-    rw c.told.ensures (submit_fault c.args.self.now.cluster.history c.args.seat.now c.args.words c.in-Err.fault c.in-Err.ensures.refused)
+    let h = c.args.self.now.cluster.history in
+    (cc, open_refuses c.args.self.now.shut h (IsSubmitFault h c.args.seat.now c.args.words) c.in-Err.fault c.told.result c.if-self.false
+    c.lawful.ensures.lawful c.in-Err.ensures.refused c.told.ensures)
