@@ -6,9 +6,12 @@ use Rattle.server.proofs.held.Held.collect.Goals as goal
 
 pub returns-then-is_exhausted-clause-refused : goal.returns-then-is_exhausted-clause-refused
 returns-then-is_exhausted-clause-refused g c =
-    let unasked = rw c.in-Ok-None.field-0-is at c.in-Ok-None.ensures.unasked in
-    (cc, λ same. cc, refuses_exhausted c.args.self.now.cluster.history c.collect.new.self.history c.args.seat.now
-    (ap (λ k. k.history) unasked.0) c.lawful.ensures.lawful (c.is_exhausted.ensures c.if-is_exhausted.true))
+    let unasked = rw c.in-Ok-None.field-0-is at c.in-Ok-None.ensures.unasked in (
+      cc,
+      λ same. cc,
+      refuses_exhausted c.args.self.now.cluster.history c.collect.new.self.history c.args.seat.now
+          (ap (λ k. k.history) unasked.0) c.lawful.ensures.lawful (c.is_exhausted.ensures c.if-is_exhausted.true),
+    )
 
 pub returns-in-Ok-Some-clause-answered : goal.returns-in-Ok-Some-clause-answered
 returns-in-Ok-Some-clause-answered g c =
@@ -27,5 +30,5 @@ pub returns-in-Some-clause-refused : goal.returns-in-Some-clause-refused
 returns-in-Some-clause-refused g c =
     let h = c.args.self.now.cluster.history in
     let refused = refuses_lasting h (IsCollectFault h c.args.seat.now) c.in-Err.fault c.in-Some.kind c.lawful.ensures.lawful
-        c.in-Err.ensures.refused (sym c.lasting.ensures ∙ c.in-Some.is) in
+    c.in-Err.ensures.refused (sym c.lasting.ensures ∙ c.in-Some.is) in
     (cc, refused.0, refused.1)

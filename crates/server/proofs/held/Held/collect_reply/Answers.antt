@@ -14,5 +14,5 @@ pub returns-in-Some-clause-refused : goal.returns-in-Some-clause-refused
 returns-in-Some-clause-refused g c =
     let h = c.args.self.now.cluster.history in
     let refused = refuses_lasting h (IsCollectFault h c.args.seat.now) c.in-Err.fault c.in-Some.kind c.lawful.ensures.lawful
-        c.in-Err.ensures.refused (sym c.lasting.ensures ∙ c.in-Some.is) in
+    c.in-Err.ensures.refused (sym c.lasting.ensures ∙ c.in-Some.is) in
     (cc, refused.0, refused.1)

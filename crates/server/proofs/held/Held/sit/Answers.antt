@@ -20,6 +20,8 @@ returns-in-Ok-clause-seat g c =
 
 pub returns-in-Err-clause-refused : goal.returns-in-Err-clause-refused
 returns-in-Err-clause-refused g c =
-    let h = c.args.self.now.cluster.history in
-    (refl, open_refuses c.args.self.now.shut h (IsFault h Open) c.in-Err.fault c.told.result c.if-self.false c.lawful.ensures.lawful
-    c.in-Err.ensures.refused c.told.ensures)
+    let h = c.args.self.now.cluster.history in (
+      refl,
+      open_refuses c.args.self.now.shut h (IsFault h Open) c.in-Err.fault c.told.result c.if-self.false c.lawful.ensures.lawful
+          c.in-Err.ensures.refused c.told.ensures,
+    )

@@ -8,5 +8,5 @@ pub returns-in-Some : goal.returns-in-Some
 returns-in-Some g c =
     let h = c.args.self.now.cluster.history in
     let refused = refuses_lasting h (λ own. (new : HistoryView) × IsTurnFault g.W.Workers.may_refuse h own new) c.in-Err.fault
-        c.in-Some.kind c.lawful.ensures.lawful (c.turn.new.self.history, c.in-Err.ensures.refused) (sym c.lasting.ensures ∙ c.in-Some.is) in
+    c.in-Some.kind c.lawful.ensures.lawful (c.turn.new.self.history, c.in-Err.ensures.refused) (sym c.lasting.ensures ∙ c.in-Some.is) in
     record { refused = (refl, refused.0, refused.1) }
