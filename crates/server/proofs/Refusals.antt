@@ -1,5 +1,5 @@
 -- What is told of a step that is refused.
-use Rattle.std.proofs.Common.{◌≡◌, ◌≢◌, ℕ, List, Bool, true, false, inl, inr, Some, Result, Ok, Err, IfErr, refl, subst}
+use Rattle.std.proofs.Common.{◌≡◌, ◌≢◌, ℕ, List, Bool, true, false, inl, Some, Result, Ok, Err, IfErr, refl, subst}
 use Rattle.cluster.specs.Clusters.{SeatView}
 use Rattle.cluster.specs.Clusters as cluster
 use Rattle.cluster.specs.Histories.{HistoryView, has_failed, IsLawful, IsFault}
