@@ -1,7 +1,7 @@
 -- That each command that is read names keys, or is one that looks at none.
-use Rattle.std.proofs.Common.{◌≡◌, ℕ, zero, suc, ◌+◌, ◌-◌, ◌<◌, ◌≤◌, ◌++◌, ◌&&◌, ◌==◌, nat_le, nat_lt, Bool, true, false, List, [], ◌∷◌}
+use Rattle.std.proofs.Common.{◌≡◌, ℕ, zero, suc, ◌+◌, ◌-◌, ◌<◌, ◌≤◌, ◌++◌, ◌&&◌, nat_le, nat_lt, Bool, true, false, List, [], ◌∷◌}
 use Rattle.std.proofs.Common.{length, take, drop, Some, Ok, Err, IfOk, unwrap_or, option_map, if◌then◌else◌, inl, inr, refl, sym, ap, subst}
-use Rattle.std.proofs.Common.{◌∙◌, arith}
+use Rattle.std.proofs.Common.{arith}
 use Rattle.std.proofs.lemmas.Bool.{and_parts}
 use Rattle.std.proofs.lemmas.Bool.Decides.{nat_tests}
 use Rattle.std.proofs.lemmas.List.{length-drop}
@@ -14,7 +14,7 @@ use Rattle.command_table.specs.KeyCommands.{key_rows}
 use Rattle.command_table.specs.ListCommands.{list_rows}
 use Rattle.command_table.specs.Keyed.{IsKeyed, NamesKeys}
 use Rattle.command_table.specs.KeySpan.{KeySpan, NoKeys, AllThereAre, Between, ToLastWord, stepped, keys_in}
-use Rattle.command_table.specs.LocalCommands.{local_rows, ping_row, echo_row}
+use Rattle.command_table.specs.LocalCommands.{local_rows, ping_row}
 use Rattle.command_table.specs.Reading.{rows, reading}
 use Rattle.command_table.specs.CommandRow.{CommandRow, Reading, row_told, row_reading, reading_among, row_of}
 use Rattle.command_table.specs.SetCommands.{set_rows}

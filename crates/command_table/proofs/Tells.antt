@@ -27,7 +27,7 @@ use Rattle.command_table.specs.declared.list_commands.Side.{Side}
 use Rattle.texts.specs.declared.text_list.End.{End}
 use Rattle.command_table.specs.LocalCommands.{local_rows, ping_row, echo_row}
 use Rattle.command_table.specs.Reading.{rows, reading, IsTold}
-use Rattle.command_table.specs.CommandRow.{CommandRow, Reading, pairs_reading, then_reading, integer_reading, row_of, row_reading, row_told}
+use Rattle.command_table.specs.CommandRow.{CommandRow, Reading, pairs_reading, then_reading, row_of, row_reading, row_told}
 use Rattle.command_table.specs.CommandRow.{reading_among}
 use Rattle.command_table.specs.SetCommands.{set_rows, sadd_row, srem_row, sismember_row, smismember_row, scard_row, smembers_row}
 use Rattle.command_table.specs.SetCommands.{smove_row, sinter_row, sunion_row, sdiff_row, sinterstore_row, sunionstore_row, sdiffstore_row}
@@ -168,7 +168,10 @@ key_tell = (
             tells-two renamenx_row refl refl refl (λ from to ws. refl),
             (
               tells-whole dbsize_row refl (λ ws. refl),
-              (tells-whole flushall_row refl flushall_tells, tt),
+              (
+                tells-whole flushall_row refl flushall_tells,
+                tt,
+              ),
             ),
           ),
         ),
@@ -183,33 +186,32 @@ string_tell = (
   (
     tells-one set_row refl refl (λ key ws. set_tells key (word ws 0) (options_condition (drop 1 ws))),
     (
-      tells-one setnx_row refl refl (λ key ws. refl),
+      tells-one incr_row refl refl (λ key ws. refl),
       (
-        tells-one getset_row refl refl (λ key ws. refl),
+        tells-each mget_row refl (λ keys. refl),
         (
-          tells-one getdel_row refl refl (λ key ws. refl),
+          tells-pairs mset_row (λ pairs. Str (Mset pairs)) refl (λ ws. refl) (λ pairs. refl),
           (
-            tells-each mget_row refl (λ keys. refl),
+            tells-one setnx_row refl refl (λ key ws. refl),
             (
-              tells-one strlen_row refl refl (λ key ws. refl),
+              tells-one getset_row refl refl (λ key ws. refl),
               (
-                tells-one getrange_row refl refl (λ key ws. integer_tells getrange_row key (integer_word (word ws 0)) _ (λ start.
-                    integer_tells getrange_row key (integer_word (word ws 1)) _ (λ end. refl))),
+                tells-one getdel_row refl refl (λ key ws. refl),
                 (
-                  tells-one incr_row refl refl (λ key ws. refl),
+                  tells-one strlen_row refl refl (λ key ws. refl),
                   (
-                    tells-one decr_row refl refl (λ key ws. refl),
+                    tells-one getrange_row refl refl (λ key ws. integer_tells getrange_row key (integer_word (word ws 0)) _
+                        (λ start. integer_tells getrange_row key (integer_word (word ws 1)) _ (λ end. refl))),
                     (
-                      tells-one incrby_row refl refl (λ key ws. integer_tells incrby_row key (integer_word (word ws 0)) _ (λ by. refl)),
+                      tells-one decr_row refl refl (λ key ws. refl),
                       (
-                        tells-one decrby_row refl refl (λ key ws. integer_tells decrby_row key (integer_word (word ws 0)) _ (λ by. refl)),
+                        tells-one incrby_row refl refl (λ key ws. integer_tells incrby_row key (integer_word (word ws 0)) _ (λ by. refl)),
                         (
-                          tells-one append_row refl refl (λ key ws. refl),
+                          tells-one decrby_row refl refl (λ key ws. integer_tells decrby_row key (integer_word (word ws 0)) _ (λ by. refl)),
                           (
-                            tells-one setrange_row refl refl
-                                (λ key ws. integer_tells setrange_row key (integer_word (word ws 0)) _ (λ offset. refl)),
+                            tells-one append_row refl refl (λ key ws. refl),
                             (
-                              tells-pairs mset_row (λ pairs. Str (Mset pairs)) refl (λ ws. refl) (λ pairs. refl),
+                              tells-one setrange_row refl refl (λ key ws. integer_tells setrange_row key (integer_word (word ws 0)) _ (λ offset. refl)),
                               (
                                 tells-pairs msetnx_row (λ pairs. Str (Msetnx pairs)) refl (λ ws. refl) (λ pairs. refl),
                                 tt,
@@ -263,25 +265,25 @@ lmove_tells from to (Err refused) b = tt
 
 pub list_tell : AllTell list_rows
 list_tell = (
-  tells-one llen_row refl refl (λ key ws. refl),
+  tells-one lpush_row refl refl (λ key ws. refl),
   (
-    tells-one lpop_row refl refl (λ key ws. refl),
+    tells-one rpush_row refl refl (λ key ws. refl),
     (
-      tells-one rpop_row refl refl (λ key ws. refl),
+      tells-one lpop_row refl refl (λ key ws. refl),
       (
-        tells-one lpush_row refl refl (λ key ws. refl),
+        tells-one rpop_row refl refl (λ key ws. refl),
         (
-          tells-one rpush_row refl refl (λ key ws. refl),
+          tells-one lrange_row refl refl (λ key ws. lrange_tells key (integer_word (word ws 0)) (integer_word (word ws 1))),
           (
-            tells-one lpushx_row refl refl (λ key ws. refl),
+            tells-one llen_row refl refl (λ key ws. refl),
             (
-              tells-one rpushx_row refl refl (λ key ws. refl),
+              tells-one lpushx_row refl refl (λ key ws. refl),
               (
-                tells-one lindex_row refl refl (λ key ws. lindex_tells key (integer_word (word ws 0))),
+                tells-one rpushx_row refl refl (λ key ws. refl),
                 (
-                  tells-one lset_row refl refl (λ key ws. lset_tells key (word ws 1) (integer_word (word ws 0))),
+                  tells-one lindex_row refl refl (λ key ws. lindex_tells key (integer_word (word ws 0))),
                   (
-                    tells-one lrange_row refl refl (λ key ws. lrange_tells key (integer_word (word ws 0)) (integer_word (word ws 1))),
+                    tells-one lset_row refl refl (λ key ws. lset_tells key (word ws 1) (integer_word (word ws 0))),
                     (
                       tells-one ltrim_row refl refl (λ key ws. ltrim_tells key (integer_word (word ws 0)) (integer_word (word ws 1))),
                       (
@@ -289,9 +291,11 @@ list_tell = (
                         (
                           tells-one linsert_row refl refl (λ key ws. linsert_tells key (word ws 1) (word ws 2) (side_of (word ws 0))),
                           (
-                            tells-two lmove_row refl refl refl
-                                (λ from to ws. lmove_tells from to (end_of (word ws 0)) (end_of (word ws 1))),
-                            (tells-two rpoplpush_row refl refl refl (λ from to ws. refl), tt),
+                            tells-two lmove_row refl refl refl (λ from to ws. lmove_tells from to (end_of (word ws 0)) (end_of (word ws 1))),
+                            (
+                              tells-two rpoplpush_row refl refl refl (λ from to ws. refl),
+                              tt,
+                            ),
                           ),
                         ),
                       ),
@@ -315,34 +319,33 @@ pairs_tell r keys name make made None = tt
 
 pub hash_tell : AllTell hash_rows
 hash_tell = (
-  tells-one hlen_row refl refl (λ key ws. refl),
+  tells-one hset_row refl refl (λ key ws. pairs_tell hset_row (These (key ∷ [])) (codes "hset") (Hset key)
+      (λ pairs. refl) (whole_pairs ws)),
   (
     tells-one hget_row refl refl (λ key ws. refl),
     (
-      tells-one hexists_row refl refl (λ key ws. refl),
+      tells-one hmget_row refl refl (λ key ws. refl),
       (
-        tells-one hstrlen_row refl refl (λ key ws. refl),
+        tells-one hgetall_row refl refl (λ key ws. refl),
         (
-          tells-one hkeys_row refl refl (λ key ws. refl),
+          tells-one hdel_row refl refl (λ key ws. refl),
           (
-            tells-one hvals_row refl refl (λ key ws. refl),
+            tells-one hincrby_row refl refl (λ key ws. integer_tells hincrby_row key (integer_word (word ws 1)) _ (λ by. refl)),
             (
-              tells-one hgetall_row refl refl (λ key ws. refl),
+              tells-one hlen_row refl refl (λ key ws. refl),
               (
-                tells-one hmget_row refl refl (λ key ws. refl),
+                tells-one hexists_row refl refl (λ key ws. refl),
                 (
-                  tells-one hdel_row refl refl (λ key ws. refl),
+                  tells-one hstrlen_row refl refl (λ key ws. refl),
                   (
-                    tells-one hsetnx_row refl refl (λ key ws. refl),
+                    tells-one hkeys_row refl refl (λ key ws. refl),
                     (
-                      tells-one hset_row refl refl (λ key ws. pairs_tell hset_row (These (key ∷ [])) (codes "hset") (Hset key)
-                          (λ pairs. refl) (whole_pairs ws)),
+                      tells-one hvals_row refl refl (λ key ws. refl),
                       (
-                        tells-one hmset_row refl refl (λ key ws. pairs_tell hmset_row (These (key ∷ [])) (codes "hmset") (Hmset key)
-                            (λ pairs. refl) (whole_pairs ws)),
+                        tells-one hsetnx_row refl refl (λ key ws. refl),
                         (
-                          tells-one hincrby_row refl refl
-                              (λ key ws. integer_tells hincrby_row key (integer_word (word ws 1)) _ (λ by. refl)),
+                          tells-one hmset_row refl refl (λ key ws. pairs_tell hmset_row (These (key ∷ [])) (codes "hmset") (Hmset key)
+                              (λ pairs. refl) (whole_pairs ws)),
                           tt,
                         ),
                       ),
@@ -383,7 +386,10 @@ set_tell = (
                       tells-target sinterstore_row refl refl (λ target sources. refl),
                       (
                         tells-target sunionstore_row refl refl (λ target sources. refl),
-                        (tells-target sdiffstore_row refl refl (λ target sources. refl), tt),
+                        (
+                          tells-target sdiffstore_row refl refl (λ target sources. refl),
+                          tt,
+                        ),
                       ),
                     ),
                   ),

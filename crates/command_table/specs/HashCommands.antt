@@ -138,5 +138,5 @@ hincrby_row = record { name = codes "hincrby"; arity = Exactly 4; keys = Between
 
 abbrev pub hash_rows : List CommandRow
 hash_rows =
-    hlen_row ∷ hget_row ∷ hexists_row ∷ hstrlen_row ∷ hkeys_row ∷ hvals_row ∷ hgetall_row ∷ hmget_row ∷ hdel_row ∷ hsetnx_row
-    ∷ hset_row ∷ hmset_row ∷ hincrby_row ∷ []
+    hset_row ∷ hget_row ∷ hmget_row ∷ hgetall_row ∷ hdel_row ∷ hincrby_row ∷ hlen_row ∷ hexists_row ∷ hstrlen_row ∷ hkeys_row
+    ∷ hvals_row ∷ hsetnx_row ∷ hmset_row ∷ []

@@ -190,19 +190,5 @@ rpoplpush_row = record {
 
 abbrev pub list_rows : List CommandRow
 list_rows =
-    llen_row
-    ∷ lpop_row
-    ∷ rpop_row
-    ∷ lpush_row
-    ∷ rpush_row
-    ∷ lpushx_row
-    ∷ rpushx_row
-    ∷ lindex_row
-    ∷ lset_row
-    ∷ lrange_row
-    ∷ ltrim_row
-    ∷ lrem_row
-    ∷ linsert_row
-    ∷ lmove_row
-    ∷ rpoplpush_row
-    ∷ []
+    lpush_row ∷ rpush_row ∷ lpop_row ∷ rpop_row ∷ lrange_row ∷ llen_row ∷ lpushx_row ∷ rpushx_row ∷ lindex_row ∷ lset_row
+    ∷ ltrim_row ∷ lrem_row ∷ linsert_row ∷ lmove_row ∷ rpoplpush_row ∷ []

@@ -158,6 +158,5 @@ msetnx_row = record {
 
 abbrev pub string_rows : List CommandRow
 string_rows =
-    get_row ∷ set_row ∷ setnx_row ∷ getset_row ∷ getdel_row ∷ mget_row ∷ strlen_row
-    ∷ getrange_row ∷ incr_row ∷ decr_row ∷ incrby_row ∷ decrby_row ∷ append_row ∷ setrange_row
-    ∷ mset_row ∷ msetnx_row ∷ []
+    get_row ∷ set_row ∷ incr_row ∷ mget_row ∷ mset_row ∷ setnx_row ∷ getset_row ∷ getdel_row ∷ strlen_row ∷ getrange_row
+    ∷ decr_row ∷ incrby_row ∷ decrby_row ∷ append_row ∷ setrange_row ∷ msetnx_row ∷ []

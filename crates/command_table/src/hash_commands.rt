@@ -15,7 +15,7 @@ use crate::command_rows;
 use crate::refusal::{CommandName, Refusal};
 use crate::rows::{keys_of_span, names_row, read_rows, told_rows};
 use crate::told::{Keys, Told};
-use crate::words::{first_and_rest, integer_word, only_word, three_words, two_words};
+use crate::words::{first_and_rest, has_letter, integer_word, only_word, three_words, two_words};
 use texts::{Pairs, Text, Texts};
 
 /// A command on hashes.
@@ -74,7 +74,7 @@ impl HashCommand {
 pub(crate) fn names_hash_command(name: &str) -> bool
     ensures { result ≡ has_row hash_rows name.now }
 {
-    command_rows!(hashes, names_row, name)
+    has_letter(name, 0, b"h") && command_rows!(hashes, names_row, name)
 }
 
 /// Reads the words after a name by the row that has it; a name that none of these rows has is unknown.

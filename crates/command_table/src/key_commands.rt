@@ -14,7 +14,7 @@ use crate::command_rows;
 use crate::refusal::{CommandName, Refusal};
 use crate::rows::{keys_of_span, names_row, read_rows, told_rows};
 use crate::told::{Keys, Told};
-use crate::words::{is_word, only_word, two_words};
+use crate::words::{has_letter, is_word, only_word, two_words};
 use texts::{Text, Texts};
 
 /// A command on keys of any type.
@@ -58,7 +58,7 @@ impl KeyCommand {
 pub(crate) fn names_key_command(name: &str) -> bool
     ensures { result ≡ has_row key_rows name.now }
 {
-    command_rows!(keys, names_row, name)
+    has_letter(name, 0, b"detrfu") && command_rows!(keys, names_row, name)
 }
 
 /// Reads the words after a name by the row that has it; a name that none of these rows has is unknown.

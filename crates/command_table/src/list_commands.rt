@@ -16,7 +16,7 @@ use crate::command_rows;
 use crate::refusal::{CommandName, Refusal};
 use crate::rows::{keys_of_span, names_row, read_rows, told_rows};
 use crate::told::{Keys, Told};
-use crate::words::{first_and_rest, integer_word, is_word, only_word, two_words};
+use crate::words::{first_and_rest, has_letter, integer_word, is_word, only_word, two_words};
 use texts::{End, Text, Texts};
 
 /// A command on lists.
@@ -141,7 +141,7 @@ impl ListCommand {
 pub(crate) fn names_list_command(name: &str) -> bool
     ensures { result ≡ has_row list_rows name.now }
 {
-    command_rows!(lists, names_row, name)
+    has_letter(name, 0, b"lr") && command_rows!(lists, names_row, name)
 }
 
 /// Reads the words after a name by the row that has it; a name that none of these rows has is unknown.

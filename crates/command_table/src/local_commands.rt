@@ -13,7 +13,7 @@ use crate::command_rows;
 use crate::refusal::{CommandName, Refusal};
 use crate::rows::{keys_of_span, names_row, read_rows, told_rows};
 use crate::told::{Keys, Told};
-use crate::words::only_word;
+use crate::words::{has_letter, only_word};
 use texts::Text;
 
 /// A command that looks at no key.
@@ -39,7 +39,7 @@ impl LocalCommand {
 pub(crate) fn names_local_command(name: &str) -> bool
     ensures { result ≡ has_row local_rows name.now }
 {
-    command_rows!(local, names_row, name)
+    has_letter(name, 0, b"pe") && command_rows!(local, names_row, name)
 }
 
 /// Reads the words after a name by the row that has it; a name that none of these rows has is unknown.

@@ -1,7 +1,8 @@
 //! The rows of the table, and the macros that expand them in the functions of a family.
 //!
-//! A row stands once, here. `command_rows!` hands the rows of a family to a macro of the caller's, which writes an arm
-//! for each: the crate of a family's bodies dispatches by them too.
+//! A row stands once, here. A name is compared with those of its family in their order, so rows that are asked for most
+//! stand first. `command_rows!` hands the rows of a family to a macro of the caller's, which writes an arm for each: the
+//! crate of a family's bodies dispatches by them too.
 
 /// Hands the rows of a family, `local`, `keys`, `strings`, `lists`, `hashes` or `sets`, to the macro named after it,
 /// with the words after that in brackets.
@@ -34,34 +35,34 @@ macro_rules! command_rows {
         $emit! { [$($argument)*]
             ("get", Exactly(2), (1, 1, 1), Get { key }, read_get, get),
             ("set", AtLeast(3), (1, 1, 1), Set { key, value, condition }, read_set, set),
+            ("incr", Exactly(2), (1, 1, 1), Incr { key }, read_incr, incr),
+            ("mget", AtLeast(2), (1, -1, 1), Mget { keys }, read_mget, mget),
+            ("mset", AtLeast(3), (1, -1, 2), Mset { pairs }, read_mset, mset),
             ("setnx", Exactly(3), (1, 1, 1), Setnx { key, value }, read_setnx, setnx),
             ("getset", Exactly(3), (1, 1, 1), Getset { key, value }, read_getset, getset),
             ("getdel", Exactly(2), (1, 1, 1), Getdel { key }, read_getdel, getdel),
-            ("mget", AtLeast(2), (1, -1, 1), Mget { keys }, read_mget, mget),
             ("strlen", Exactly(2), (1, 1, 1), Strlen { key }, read_strlen, strlen),
             ("getrange", Exactly(4), (1, 1, 1), Getrange { key, start, end }, read_getrange, getrange),
-            ("incr", Exactly(2), (1, 1, 1), Incr { key }, read_incr, incr),
             ("decr", Exactly(2), (1, 1, 1), Decr { key }, read_decr, decr),
             ("incrby", Exactly(3), (1, 1, 1), Incrby { key, by }, read_incrby, incrby),
             ("decrby", Exactly(3), (1, 1, 1), Decrby { key, by }, read_decrby, decrby),
             ("append", Exactly(3), (1, 1, 1), Append { key, tail }, read_append, append),
             ("setrange", Exactly(4), (1, 1, 1), Setrange { key, offset, value }, read_setrange, setrange),
-            ("mset", AtLeast(3), (1, -1, 2), Mset { pairs }, read_mset, mset),
             ("msetnx", AtLeast(3), (1, -1, 2), Msetnx { pairs }, read_msetnx, msetnx),
         }
     };
     (lists, $emit:ident, $($argument:tt)*) => {
         $emit! { [$($argument)*]
-            ("llen", Exactly(2), (1, 1, 1), Llen { key }, read_llen, llen),
-            ("lpop", Exactly(2), (1, 1, 1), Lpop { key }, read_lpop, lpop),
-            ("rpop", Exactly(2), (1, 1, 1), Rpop { key }, read_rpop, rpop),
             ("lpush", AtLeast(3), (1, 1, 1), Lpush { key, items }, read_lpush, lpush),
             ("rpush", AtLeast(3), (1, 1, 1), Rpush { key, items }, read_rpush, rpush),
+            ("lpop", Exactly(2), (1, 1, 1), Lpop { key }, read_lpop, lpop),
+            ("rpop", Exactly(2), (1, 1, 1), Rpop { key }, read_rpop, rpop),
+            ("lrange", Exactly(4), (1, 1, 1), Lrange { key, start, end }, read_lrange, lrange),
+            ("llen", Exactly(2), (1, 1, 1), Llen { key }, read_llen, llen),
             ("lpushx", AtLeast(3), (1, 1, 1), Lpushx { key, items }, read_lpushx, lpushx),
             ("rpushx", AtLeast(3), (1, 1, 1), Rpushx { key, items }, read_rpushx, rpushx),
             ("lindex", Exactly(3), (1, 1, 1), Lindex { key, place }, read_lindex, lindex),
             ("lset", Exactly(4), (1, 1, 1), Lset { key, place, item }, read_lset, lset),
-            ("lrange", Exactly(4), (1, 1, 1), Lrange { key, start, end }, read_lrange, lrange),
             ("ltrim", Exactly(4), (1, 1, 1), Ltrim { key, start, end }, read_ltrim, ltrim),
             ("lrem", Exactly(4), (1, 1, 1), Lrem { key, count, item }, read_lrem, lrem),
             ("linsert", Exactly(5), (1, 1, 1), Linsert { key, side, pivot, item }, read_linsert, linsert),
@@ -71,19 +72,19 @@ macro_rules! command_rows {
     };
     (hashes, $emit:ident, $($argument:tt)*) => {
         $emit! { [$($argument)*]
-            ("hlen", Exactly(2), (1, 1, 1), Hlen { key }, read_hlen, hlen),
+            ("hset", AtLeast(4), (1, 1, 1), Hset { key, pairs }, read_hset, hset),
             ("hget", Exactly(3), (1, 1, 1), Hget { key, field }, read_hget, hget),
+            ("hmget", AtLeast(3), (1, 1, 1), Hmget { key, fields }, read_hmget, hmget),
+            ("hgetall", Exactly(2), (1, 1, 1), Hgetall { key }, read_hgetall, hgetall),
+            ("hdel", AtLeast(3), (1, 1, 1), Hdel { key, fields }, read_hdel, hdel),
+            ("hincrby", Exactly(4), (1, 1, 1), Hincrby { key, field, by }, read_hincrby, hincrby),
+            ("hlen", Exactly(2), (1, 1, 1), Hlen { key }, read_hlen, hlen),
             ("hexists", Exactly(3), (1, 1, 1), Hexists { key, field }, read_hexists, hexists),
             ("hstrlen", Exactly(3), (1, 1, 1), Hstrlen { key, field }, read_hstrlen, hstrlen),
             ("hkeys", Exactly(2), (1, 1, 1), Hkeys { key }, read_hkeys, hkeys),
             ("hvals", Exactly(2), (1, 1, 1), Hvals { key }, read_hvals, hvals),
-            ("hgetall", Exactly(2), (1, 1, 1), Hgetall { key }, read_hgetall, hgetall),
-            ("hmget", AtLeast(3), (1, 1, 1), Hmget { key, fields }, read_hmget, hmget),
-            ("hdel", AtLeast(3), (1, 1, 1), Hdel { key, fields }, read_hdel, hdel),
             ("hsetnx", Exactly(4), (1, 1, 1), Hsetnx { key, field, value }, read_hsetnx, hsetnx),
-            ("hset", AtLeast(4), (1, 1, 1), Hset { key, pairs }, read_hset, hset),
             ("hmset", AtLeast(4), (1, 1, 1), Hmset { key, pairs }, read_hmset, hmset),
-            ("hincrby", Exactly(4), (1, 1, 1), Hincrby { key, field, by }, read_hincrby, hincrby),
         }
     };
     (sets, $emit:ident, $($argument:tt)*) => {

@@ -18,7 +18,9 @@ use crate::command_rows;
 use crate::refusal::{CommandName, Refusal};
 use crate::rows::{keys_of_span, names_row, read_rows, told_rows};
 use crate::told::{Keys, Told};
-use crate::words::{has_word, integer_word, is_word, only_word, three_words, two_words};
+use crate::words::{
+    has_letter, has_word, integer_word, is_word, only_word, three_words, two_words,
+};
 use texts::{Pairs, Text, Texts};
 
 /// A command on strings.
@@ -141,7 +143,9 @@ impl StringCommand {
 pub(crate) fn names_string_command(name: &str) -> bool
     ensures { result ≡ has_row string_rows name.now }
 {
-    command_rows!(strings, names_row, name)
+    has_letter(name, 0, b"gsmida")
+        && has_letter(name, 1, b"egtnps")
+        && command_rows!(strings, names_row, name)
 }
 
 /// Reads the words after a name by the row that has it; a name that none of these rows has is unknown.

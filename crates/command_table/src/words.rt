@@ -3,7 +3,7 @@
 ghost use Rattle.std.specs.List.{list_any};
 ghost use Rattle.std.specs.Char.{to_ascii_lowercase};
 ghost use Rattle.std.specs.Prelude.{◌≡◌, ◌<◌, [], ◌∷◌, length, map};
-ghost use Rattle.command_table.specs.Words.{integer_word, is_word, texts_of};
+ghost use Rattle.command_table.specs.Words.{has_letter, integer_word, is_word, texts_of};
 
 use crate::refusal::Refusal;
 use integers::read_integer;
@@ -15,6 +15,19 @@ pub(crate) fn is_word(word: &[u8], text: &[u8]) -> bool
     ensures { result ≡ is_word text.now word.now }
 {
     word.eq_ignore_ascii_case(text)
+}
+
+/// Whether the word has one of these letters at this place, counted from 0.
+#[inline]
+pub(crate) fn has_letter(word: &str, place: usize, letters: &[u8]) -> bool
+    ensures { result ≡ has_letter place letters.now word.now }
+{
+    let bytes = word.as_bytes();
+    if place >= bytes.len() {
+        return false;
+    }
+    let found = bytes[place];
+    letters.iter().any(|letter| *letter == found)
 }
 
 /// Whether one of the words is this one, which is in lower case, without regard to the case of ASCII letters.

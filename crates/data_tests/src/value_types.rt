@@ -94,7 +94,7 @@ fn hashes_keep_the_order_of_their_fields(rt: HostRuntime) -> Result<(), Fail> {
     assert!(rt; hash.insert(text(alloc, "a")?, text(alloc, "9")?)?.is_some());
     let all = shown(alloc, hash.fields_and_values())?;
     assert_eq!(rt; all.as_slice(), b"a 9 b 4 c 7 d 6 e 8".as_slice());
-    let (removed, left) = hash.remove_all(&texts(alloc, "b x e b")?);
+    let (removed, left) = hash.remove_all(texts(alloc, "b x e b")?);
     assert_eq!(rt; removed, 2);
     let left = left.ok_or("no hash")?;
     assert_eq!(rt;
@@ -105,6 +105,24 @@ fn hashes_keep_the_order_of_their_fields(rt: HostRuntime) -> Result<(), Fail> {
         shown(alloc, left.values())?.as_slice(),
         b"9 7 6".as_slice()
     );
+    Ok(())
+}
+
+#[test]
+fn hashes_lose_many_fields_at_once(rt: HostRuntime) -> Result<(), Fail> {
+    let alloc = rt.alloc();
+    let twelve = "a 1 b 2 c 3 d 4 e 5 f 6 g 7 h 8 i 9 j 10 k 11 l 12";
+    let made = HashValue::from_pairs(alloc, pairs(&rt, alloc, twelve)?)?;
+    let hash = made.ok_or("no hash")?;
+    let (removed, left) = hash.remove_all(texts(alloc, "l b x b d f h j k c y")?);
+    assert_eq!(rt; removed, 8);
+    let left = left.ok_or("no hash")?;
+    let all = shown(alloc, left.fields_and_values())?;
+    assert_eq!(rt; all.as_slice(), b"a 1 e 5 g 7 i 9".as_slice());
+    assert_eq!(rt; left.get(b"i"), Some(b"9".as_slice()));
+    let (removed, left) = left.remove_all(texts(alloc, "i g e a i g e a q")?);
+    assert_eq!(rt; removed, 4);
+    assert!(rt; left.is_none());
     Ok(())
 }
 

@@ -26,7 +26,7 @@ use values::{HashValue, Value};
 /// `HDEL key field [field ..]`: removes the fields, and says how many were there; a field that is named twice is one
 /// field. A hash that becomes empty goes with its key; an error where the key holds a value of another type.
 ///
-/// It takes no memory. <https://redis.io/docs/latest/commands/hdel/>
+/// It needs no memory. <https://redis.io/docs/latest/commands/hdel/>
 #[tactic(auto, using(keyspace::proofs::Changes::changes))]
 pub(crate) fn hdel<K: Keyspace>(
     alloc: Global,
@@ -48,7 +48,7 @@ pub(crate) fn hdel<K: Keyspace>(
     let Value::Hash(hash) = keyspace.replace(key.as_slice(), Value::Str(Text::empty(alloc))) else {
         unreachable!();
     };
-    let (removed, left) = hash.remove_all(&fields);
+    let (removed, left) = hash.remove_all(fields);
     match left {
         Some(hash) => {
             keyspace.replace(key.as_slice(), Value::Hash(hash));

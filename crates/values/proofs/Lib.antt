@@ -1,5 +1,6 @@
 pub mod Mapped
 pub mod Lists
 pub mod PairsSeen
+pub mod PairsLeft
 pub mod MembersAlike
 pub mod MembersSeen

@@ -1,7 +1,9 @@
 -- What the calls of a list do, on lists of anything.
 use Rattle.std.proofs.Common.{◌≡◌, ℕ, suc, zero, ◌+◌, ◌-◌, ◌<◌, ◌≤◌, Bool, true, false, cond, ltb, Some, None, List, [], ◌∷◌, ◌++◌, length}
-use Rattle.std.proofs.Common.{take, drop, get_or, refl, sym, ap, ◌∙◌, arith, append_assoc, drop-cons, add-one}
-use Rattle.std.proofs.lemmas.List.{take-append-le, take_all, drop_all, append-nil, length-take, length-drop}
+use Rattle.std.proofs.Common.{take, drop, reverse, get_or, refl, sym, ap, ◌∙◌, arith, append_assoc, drop-cons, add-one}
+use Rattle.std.proofs.Math.Seq.{drop-append_seam, take-append_seam}
+use Rattle.std.proofs.lemmas.List.{take-append-le, take_all, drop_all, append-nil, length-append, length-take, length-drop, length-reverse}
+use Rattle.std.proofs.lemmas.List.{reverse-append, reverse-reverse}
 use Rattle.std.proofs.lemmas.Slice.{between_is}
 use Rattle.std.proofs.lemmas.List.Sums.{position_or_len_is}
 use Rattle.std.proofs.lemmas.Bool.{lt-ltb}
@@ -78,6 +80,29 @@ turned_all test most xs i left ys h all =
     let none = drop_all i xs all in
     h.there ∙ ap (λ l. l ++ h.stay) none ∙ sym (append-nil h.stay) ∙ ap (λ l. h.stay ++ l) (sym (without_first-nil test left))
     ∙ ap (λ l. h.stay ++ without_first test left l) (sym none) ∙ h.rest
+
+-- where no more is to be removed, the items that were not reached go behind those that stay
+pub turned_back : {A : Type 0} (test : A → Bool) (most : ℕ) (xs : List A) (i : ℕ) (ys : List A)
+    → IsTurned test most xs i 0 ys → drop (length xs - i) ys ++ take (length xs - i) ys ≡ without_first test most xs
+turned_back test most xs i ys h =
+    let front = drop i xs in
+    ap (λ n. drop n ys ++ take n ys) (sym (length-drop i xs)) ∙ ap (λ l. drop (length front) l ++ take (length front) l) h.there
+    ∙ ap (λ l. l ++ take (length front) (front ++ h.stay)) (drop-append_seam front h.stay)
+    ∙ ap (λ l. h.stay ++ l) (take-append_seam front h.stay) ∙ h.rest
+
+-- the same of a list that is turned the other way
+pub turned_forth : {A : Type 0} (test : A → Bool) (most : ℕ) (xs : List A) (i : ℕ) (ys : List A)
+    → IsTurned test most xs i 0 (reverse ys)
+    → drop (length ys - (length xs - i)) ys ++ take (length ys - (length xs - i)) ys ≡ reverse (without_first test most xs)
+turned_forth test most xs i ys h =
+    let front = drop i xs in
+    let stay = reverse h.stay in
+    let lies : ys ≡ stay ++ reverse front = sym (reverse-reverse ys) ∙ ap reverse h.there ∙ reverse-append front h.stay in
+    let many : length ys - (length xs - i) ≡ length stay =
+    omega (arith, ap length lies, length-append stay (reverse front), length-reverse front, length-drop i xs) in
+    ap (λ n. drop n ys ++ take n ys) many ∙ ap (λ l. drop (length stay) l ++ take (length stay) l) lies
+    ∙ ap (λ l. l ++ take (length stay) (stay ++ reverse front)) (drop-append_seam stay (reverse front))
+    ∙ ap (λ l. reverse front ++ l) (take-append_seam stay (reverse front)) ∙ sym (reverse-append h.stay front) ∙ ap reverse h.rest
 
 pub nothing_long : {A : Type 0} (xs : List A) → length xs ≡ 0 → xs ≡ []
 nothing_long [] e = refl

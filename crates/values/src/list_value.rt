@@ -157,7 +157,8 @@ impl ListValue {
     }
 
     /// Takes out the items that are equal to this one: those nearest to this end, at most so many. It gives their
-    /// number and what is left. It takes no memory, and time for the whole list.
+    /// number and what is left. It takes no memory, and time for the items that it passes until
+    /// it has removed so many.
     pub fn remove_equal(self, end: End, item: &[u8], most: usize) -> (usize, Option<Self>)
         ensures left { result.1 ≡ nonempty (without_equal end item.now most self) }
         ensures removed { result.0 + length (without_equal end item.now most self) ≡ length self }
@@ -240,17 +241,23 @@ fn push_head(texts: &mut VecDeque<Vec<u8>>, mut items: Vec<Vec<u8>>) -> Result<(
     Ok(())
 }
 
-/// Takes out the first items that are equal to this one, at most so many, by turning the list once round.
+/// Takes out the first items that are equal to this one, at most so many, by turning the list on as far as they lie, and
+/// then the shorter way round.
 fn remove_from_head(texts: &mut VecDeque<Vec<u8>>, item: &[u8], most: usize)
     ensures left { texts_of texts.new.items ≡ without_equal Head item.now most (texts_of texts.old.items) }
     ensures bound { length texts.new.items ≤ length texts.old.items }
 {
+    let count = texts.len();
     let mut left = most;
-    for _turn in 0..texts.len() {
+    for turn in 0..count {
+        if left == 0 {
+            texts.rotate_left(count - turn);
+            return;
+        }
         let Some(text) = texts.pop_front() else {
             return;
         };
-        if left > 0 && item == text.as_slice() {
+        if item == text.as_slice() {
             left -= 1;
         } else {
             texts.push_back_reserved(text);
@@ -258,17 +265,23 @@ fn remove_from_head(texts: &mut VecDeque<Vec<u8>>, item: &[u8], most: usize)
     }
 }
 
-/// Takes out the last items that are equal to this one, at most so many, by turning the list once round.
+/// Takes out the last items that are equal to this one, at most so many, by turning the list back as far as they lie, and
+/// then the shorter way round.
 fn remove_from_tail(texts: &mut VecDeque<Vec<u8>>, item: &[u8], most: usize)
     ensures left { texts_of texts.new.items ≡ without_equal Tail item.now most (texts_of texts.old.items) }
     ensures bound { length texts.new.items ≤ length texts.old.items }
 {
+    let count = texts.len();
     let mut left = most;
-    for _turn in 0..texts.len() {
+    for turn in 0..count {
+        if left == 0 {
+            texts.rotate_right(count - turn);
+            return;
+        }
         let Some(text) = texts.pop_back() else {
             return;
         };
-        if left > 0 && item == text.as_slice() {
+        if item == text.as_slice() {
             left -= 1;
         } else {
             texts.push_front_reserved(text);

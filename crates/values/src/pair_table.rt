@@ -1,12 +1,15 @@
 //! The table that a hash keeps its pairs in, seen as the list of their bytes.
 
-ghost use Rattle.std.specs.Prelude.{◌≡◌, ◌+◌, ◌≤◌, length, None};
+ghost use Rattle.std.specs.Prelude.{◌≡◌, ◌+◌, ◌≤◌, length, not, None};
 ghost use Rattle.std.specs.Prelude.{IfOk, OnOk, OnErr};
+ghost use Rattle.std.specs.List.{filter};
 ghost use Rattle.std.specs.Option.{option_map};
 ghost use Rattle.indexmap.specs.IndexMap.{index_map_len, spare};
 ghost use Rattle.texts.specs.Texts.{texts_of, pairs_of};
 ghost use Rattle.values.specs.HashValue.{pairs_seen, field_value, with_field, without_field, with_fields, without_fields};
+ghost use Rattle.values.specs.SetValue.{is_member, members_seen};
 
+use crate::member_table::{self, MemberTable};
 use hashed_texts::{HashedSlice, HashedText};
 use indexmap::IndexMap;
 use std::alloc::AllocError;
@@ -15,6 +18,9 @@ use texts::Text;
 
 /// Fields and their values in one hashed table, in order of insertion. Its seed is fixed.
 pub(crate) type PairTable = IndexMap<HashedText, Vec<u8>, BuildHasherDefault<FoldHasher>>;
+
+/// So many fields are removed one after another, each by a walk over the pairs after it.
+const FEW_FIELDS: usize = 8;
 
 /// The value of a field.
 pub(crate) fn look_up<'a>(pairs: &'a PairTable, field: &[u8]) -> Option<&'a [u8]>
@@ -71,8 +77,38 @@ pub(crate) fn insert_each(pairs: &mut PairTable, mut turns: Vec<Vec<u8>>)
     }
 }
 
-/// Removes these fields, where they are there.
-pub(crate) fn remove_each(pairs: &mut PairTable, fields: &[Vec<u8>])
+/// Removes these fields, where they are there. The others keep their order, so a removal goes over the pairs after it:
+/// where fields and pairs are many, and there is memory for a table of the fields, all of them go in one walk.
+pub(crate) fn remove_each(pairs: &mut PairTable, fields: Vec<Vec<u8>>)
+    ensures left { pairs_seen pairs.new.entries
+        ≡ without_fields (pairs_seen pairs.old.entries) (texts_of fields.items) }
+    ensures bound { index_map_len pairs.new ≤ index_map_len pairs.old }
+{
+    if fields.len() > FEW_FIELDS && pairs.len() > FEW_FIELDS {
+        let table = MemberTable::with_capacity(*fields.allocator(), fields.len());
+        if let Ok(mut gone) = table {
+            member_table::insert_each(&mut gone, fields);
+            return keep_others(pairs, &gone);
+        }
+    }
+    remove_in_turn(pairs, fields.as_slice());
+}
+
+/// Keeps the pairs whose fields are not among these, in one walk.
+fn keep_others(pairs: &mut PairTable, gone: &MemberTable)
+    ensures kept { pairs.new.entries
+        ≡ filter (λ e. not (is_member (members_seen gone.now.keys) e.0.bytes.items)) pairs.old.entries }
+    ensures bound { index_map_len pairs.new ≤ index_map_len pairs.old }
+{
+    pairs.retain(
+        |field: &HashedText, value: &mut Vec<u8>| -> bool
+            ensures { (result ≡ not (is_member (members_seen gone.entry.now.keys) field.now.bytes.items)) × (value.new ≡ value.old) }
+        { !member_table::contains(gone, field.bytes.as_slice()) },
+    );
+}
+
+/// Removes these fields one after another, where they are there. It takes no memory.
+fn remove_in_turn(pairs: &mut PairTable, fields: &[Vec<u8>])
     ensures left { pairs_seen pairs.new.entries
         ≡ without_fields (pairs_seen pairs.old.entries) (texts_of fields.now) }
     ensures bound { index_map_len pairs.new ≤ index_map_len pairs.old }

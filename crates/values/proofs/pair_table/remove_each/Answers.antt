@@ -1,23 +1,21 @@
-use Rattle.std.proofs.Common.{◌≡◌, ◌+◌, ◌∷◌, drop, ap, sym, ◌∙◌, arith}
+use Rattle.std.proofs.Common.{◌≡◌, not, [], ap, sym, ◌∙◌}
 use Rattle.texts.specs.Texts.{texts_of}
-use Rattle.values.proofs.Mapped.{map-drop_turn}
-use Rattle.values.specs.HashValue.{pairs_seen, without_field, without_fields}
+use Rattle.values.specs.HashValue.{pairs_seen}
+use Rattle.values.specs.SetValue.{is_member, members_seen, with_members}
+use Rattle.values.proofs.MembersAlike.{member-of_all}
+use Rattle.values.proofs.PairsLeft.{stays, without-each, kept-seen, filter-alike}
+use Rattle.values.proofs.PairsSeen.{distinct-seen}
 use Rattle.values.proofs.pair_table.remove_each.Goals as goal
 
-pub loop-field-preserved : goal.loop-field-preserved
-loop-field-preserved c =
-    let fields = c.args.fields.now in
-    let i = c.loop-field.field-index in
-    let field = c.as_slice.result.now in
-    let rest = texts_of (drop (i + 1) fields) in
-    let seen = pairs_seen c.loop-field.pairs.entries in
-    let turn : texts_of (drop i fields) ≡ field ∷ rest =
-    map-drop_turn (λ t. t.items) fields i c.field-item.result c.loop-field-test.true c.field-item.is
-    ∙ ap (λ t. t ∷ rest) (sym c.as_slice.ensures.value) in
-    let removed : pairs_seen c.remove.new.pairs.entries ≡ without_field seen field =
-    c.remove.ensures.left in
-    record {
-      left =
-          ap (λ ps. without_fields ps rest) removed ∙ ap (without_fields seen) (sym turn) ∙ c.loop-field.invariant.left;
-      bound = omega (arith, c.remove.ensures.bound, c.loop-field.invariant.bound);
-    }
+-- the table of the fields has them as its members
+pub returns-in-Ok-clause-left : goal.returns-in-Ok-clause-left
+returns-in-Ok-clause-left c =
+    let pairs = c.args.pairs.now.entries in
+    let fields = texts_of c.args.fields.items in
+    let members = members_seen c.insert_each.new.there.keys in
+    let all : members ≡ with_members [] fields =
+    c.insert_each.ensures.joined ∙ ap (λ keys. with_members (members_seen keys) fields) c.in-Ok.ensures.empty in
+    ap pairs_seen c.keep_others.ensures.kept ∙ kept-seen (stays members) pairs
+    ∙ filter-alike (stays members) (stays fields)
+    (λ p. ap (λ ms. not (is_member ms p.0)) all ∙ ap not (member-of_all fields p.0)) (pairs_seen pairs)
+    ∙ sym (without-each fields (pairs_seen pairs) (distinct-seen pairs c.len-then-len-gt-FEW_FIELDS.ensures.unique))

@@ -2,7 +2,7 @@ use Rattle.std.proofs.Common.{◌≡◌, ◌≤◌, drop}
 use Rattle.indexmap.specs.IndexMap.{index_map_len}
 use Rattle.texts.specs.Texts.{texts_of}
 use Rattle.values.specs.HashValue.{pairs_seen, without_fields}
-use Rattle.values.proofs.pair_table.remove_each.Given as goal
+use Rattle.values.proofs.pair_table.remove_in_turn.Given as goal
 
 -- what the fields that are left take away, from here, is what all of them take away from the start
 abbrev pub invariant-loop-field : goal.invariant-loop-field
