@@ -1,3 +1,4 @@
+pub mod Changed
 pub mod Local
 pub mod Apart
 pub mod Beside

@@ -1,4 +1,5 @@
 pub mod Case
+pub mod Changes
 pub mod Commute
 pub mod Replies
 pub mod Shapes

@@ -1,12 +1,13 @@
 //! Byte strings as the keys of hashed tables, handed to the hasher in one write.
 //!
 //! A `Vec<u8>` is hashed byte by byte, which for long keys costs more than all the rest of a look-up. `keyspace` keeps
-//! its keys as these, and a hash of `values` its fields; both look them up by borrowed bytes.
+//! its keys as these, and a hash of `values` its fields; both look them up by borrowed bytes. A short key lies inside the
+//! table's entry, so that a look-up reads no memory behind it.
 #![tactic(auto)]
 
 ghost use Rattle.std.specs.Prelude.{◌≡◌, [], ◌∷◌, Some};
 ghost use Rattle.std.proofs.Common.{ap, refl};
-ghost use Rattle.std.specs.Cmp.{on_equiv, on_per, on_po, on_total, partial_equiv_from_equiv};
+ghost use Rattle.std.specs.Cmp.{on_equiv, on_per, partial_equiv_from_equiv};
 ghost use Rattle.std.specs.Cmp.Lexicographic.{bytes_decides, nat_list_cmp_total, nat_list_eq_equiv, slice_cmp, texts_po, texts_ties};
 ghost use Rattle.std.specs.Ordering.{nat_cmp};
 ghost use Rattle.std.specs.Str.{bytes_eq};
@@ -14,11 +15,73 @@ ghost use Rattle.std.specs.Str.{bytes_eq};
 use indexmap::Equivalent;
 use std::cmp::Ordering;
 use std::hash::{Hash, Hasher};
+use std::marker::Model;
 
-/// A byte string as a key of an `IndexMap`.
+/// So many bytes lie inside a key: as many as leave it 32 bytes long, two keys to a line of the cache.
+pub const INLINE_BYTES: usize = 30;
+
+const _: () = prove!(size_of::<HashedText>() == 32);
+
+/// A byte string as a key of an `IndexMap`. Contracts see its bytes.
 #[derive(Drop)]
 pub struct HashedText {
-    pub bytes: Vec<u8>,
+    place: Place,
+}
+
+/// Where the bytes of a key lie.
+#[derive(Drop)]
+enum Place {
+    /// Inside the key; what comes after the first `len` counts for nothing.
+    Inline { len: u8, bytes: [u8; INLINE_BYTES] },
+
+    /// In memory of their own.
+    Heap(Vec<u8>),
+}
+
+impl Model for HashedText {
+    ghost use Rattle.std.specs.Prelude.{ℕ, List};
+
+    ghost Value = { List ℕ };
+
+    ghost use Rattle.hashed_texts.specs.Places.{bytes_at, IsWithin};
+
+    ghost view = { λ k. bytes_at k.place };
+
+    ghost invariant = { λ k. IsWithin k.place };
+}
+
+impl HashedText {
+    /// The bytes, to be read.
+    pub fn as_slice(&self) -> &[u8]
+        ensures { result.now ≡ self.now }
+    {
+        match &self.place {
+            Place::Inline { len, bytes } => &bytes[..*len as usize],
+            Place::Heap(bytes) => bytes.as_slice(),
+        }
+    }
+}
+
+impl From<Vec<u8>> for HashedText {
+    ghost from_gives = { λ bytes k. k ≡ bytes.items };
+
+    /// The key with these bytes. It takes no memory: that of a short string is given back, and that of a long one kept.
+    fn from(bytes: Vec<u8>) -> HashedText {
+        let len = bytes.len();
+        if len > INLINE_BYTES {
+            return HashedText {
+                place: Place::Heap(bytes),
+            };
+        }
+        let mut inside = [0; INLINE_BYTES];
+        inside[..len].copy_from_slice(bytes.as_slice());
+        HashedText {
+            place: Place::Inline {
+                len: len as u8,
+                bytes: inside,
+            },
+        }
+    }
 }
 
 /// Borrowed bytes by which such a key is looked up.
@@ -28,23 +91,23 @@ pub struct HashedSlice<'a> {
 }
 
 impl PartialEq for HashedText {
-    ghost eq = { λ x y. bytes_eq x.bytes.items y.bytes.items };
+    ghost eq = { bytes_eq };
 
-    ghost laws = { on_per (λ x. x.bytes.items) (partial_equiv_from_equiv nat_list_eq_equiv) };
+    ghost laws = { partial_equiv_from_equiv nat_list_eq_equiv };
 
     fn eq(&self, other: &HashedText) -> bool {
-        self.bytes.as_slice() == other.bytes.as_slice()
+        self.as_slice() == other.as_slice()
     }
 }
 
 impl Eq for HashedText {
-    ghost laws = { on_equiv (λ x. x.bytes.items) nat_list_eq_equiv };
+    ghost laws = { nat_list_eq_equiv };
 }
 
 impl PartialOrd for HashedText {
-    ghost partial_cmp = { λ x y. Some (slice_cmp nat_cmp x.bytes.items y.bytes.items) };
+    ghost partial_cmp = { λ x y. Some (slice_cmp nat_cmp x y) };
 
-    ghost laws = { on_po (λ x. x.bytes.items) texts_po };
+    ghost laws = { texts_po };
 
     fn partial_cmp(&self, other: &HashedText) -> Option<Ordering> {
         Some(self.cmp(other))
@@ -52,26 +115,26 @@ impl PartialOrd for HashedText {
 }
 
 impl Ord for HashedText {
-    ghost cmp = { λ x y. slice_cmp nat_cmp x.bytes.items y.bytes.items };
+    ghost cmp = { slice_cmp nat_cmp };
 
-    ghost total = { on_total (λ x. x.bytes.items) nat_list_cmp_total };
+    ghost total = { nat_list_cmp_total };
 
     ghost matches_partial_cmp = { λ x y. refl };
 
-    ghost matches_eq = { λ x y. texts_ties x.bytes.items y.bytes.items };
+    ghost matches_eq = { texts_ties };
 
     fn cmp(&self, other: &HashedText) -> Ordering {
-        self.bytes.as_slice().cmp(other.bytes.as_slice())
+        self.as_slice().cmp(other.as_slice())
     }
 }
 
 impl Hash for HashedText {
-    ghost hash_input = { λ k. k.bytes.items ∷ [] };
+    ghost hash_input = { λ k. k ∷ [] };
 
-    ghost respects_eq = { λ x y h. ap (λ b. b ∷ []) ((bytes_decides x.bytes.items y.bytes.items).0 h) };
+    ghost respects_eq = { λ x y h. ap (λ b. b ∷ []) ((bytes_decides x y).0 h) };
 
     fn hash<H: Hasher>(&self, state: &mut H) {
-        state.write(self.bytes.as_slice());
+        state.write(self.as_slice());
     }
 }
 
@@ -100,13 +163,13 @@ impl<'a> Hash for HashedSlice<'a> {
 }
 
 impl<'a> Equivalent<HashedText> for HashedSlice<'a> {
-    ghost equivalent = { λ q k. bytes_eq q.bytes.now k.bytes.items };
+    ghost equivalent = { λ q k. bytes_eq q.bytes.now k };
 
-    ghost respects_hash = { λ q k h. ap (λ b. b ∷ []) ((bytes_decides q.bytes.now k.bytes.items).0 h) };
+    ghost respects_hash = { λ q k h. ap (λ b. b ∷ []) ((bytes_decides q.bytes.now k).0 h) };
 
-    ghost respects_eq = { λ q x y. nat_list_eq_equiv.congr q.bytes.now x.bytes.items y.bytes.items };
+    ghost respects_eq = { λ q x y. nat_list_eq_equiv.congr q.bytes.now x y };
 
     fn equivalent(&self, key: &HashedText) -> bool {
-        self.bytes == key.bytes.as_slice()
+        self.bytes == key.as_slice()
     }
 }

@@ -11,7 +11,9 @@ mod tests;
 
 ghost use Rattle.std.specs.Prelude.{◌≡◌, ℕ, List, Bool, IsTrue, IsSome, OnOk, OnErr, IfOk, IfErr, pos, min};
 ghost use Rattle.std.specs.FinMap as map;
-ghost use Rattle.std.specs.Option.{option_copied};
+ghost use Rattle.std.specs.Borrow.{sem};
+ghost use Rattle.std.specs.Option.{option_copied, option_copied_mut};
+ghost use Rattle.keyspace.specs.Lends.{lends_value};
 ghost use Rattle.keyspace.specs.Map.{Map, set};
 
 pub use listed::Listed;
@@ -36,6 +38,12 @@ pub trait Keyspace {
     fn look(&self, key: &[u8]) -> Option<&Value>
         requires { IsTrue (covered self.now key.now) }
         ensures { option_copied result ≡ map.get (contents self.now) key.now };
+
+    /// The value at the key, to be changed where it lies.
+    fn look_mut(&mut self, key: &[u8]) -> Option<&mut Value>
+        requires { IsTrue (covered self.old key.now) }
+        ensures* writes_back { sem 𝓛 (lends_value Self.row contents covered self.entry key.now result) }
+        ensures value { option_copied_mut result ≡ map.get (contents self.old) key.now };
 
     /// Removes the key and gives its value.
     fn take(&mut self, key: &[u8]) -> Option<Value>

@@ -60,6 +60,10 @@ impl<S: BuildHasher> Keyspace for Plain<S> {
         self.entries.get(HashedSlice { bytes: key })
     }
 
+    fn look_mut(&mut self, key: &[u8]) -> Option<&mut Value> {
+        self.entries.get_mut(HashedSlice { bytes: key })
+    }
+
     fn take(&mut self, key: &[u8]) -> Option<Value> {
         let taken = self.entries.swap_remove(HashedSlice { bytes: key });
         give_back(&mut self.entries);
@@ -67,13 +71,15 @@ impl<S: BuildHasher> Keyspace for Plain<S> {
     }
 
     fn put(&mut self, key: Vec<u8>, value: Value) -> Result<Option<Value>, (Vec<u8>, Value)> {
-        match self.entries.insert(HashedText { bytes: key }, value) {
-            Ok(before) => Ok(before),
-            Err(refused) => {
-                let (key, value) = refused.value;
-                Err((key.bytes, value))
-            }
+        let bytes = key.as_slice();
+        if let Some(there) = self.entries.get_mut(HashedSlice { bytes }) {
+            return Ok(Some(std::mem::replace(there, value)));
         }
+        if self.entries.reserve(1).is_err() {
+            return Err((key, value));
+        }
+        let owned = HashedText::from(key);
+        Ok(self.entries.insert(owned, value).unwrap())
     }
 
     fn replace(&mut self, key: &[u8], value: Value) -> Value {
@@ -92,14 +98,12 @@ impl<S: BuildHasher> Keyspace for Plain<S> {
 }
 
 impl<S: BuildHasher> Listed for Plain<S> {
-    ghost use Rattle.keyspace.specs.Plain.{listed};
-
-    ghost listed = { λ p. listed p.entries.entries };
+    ghost listed = { λ p. p.entries.entries };
 
     fn entry(&self, place: usize) -> Option<(&[u8], &Value)> {
         if place < self.entries.len() {
             let (key, value) = self.entries.get_index(place)?;
-            Some((key.bytes.as_slice(), value))
+            Some((key.as_slice(), value))
         } else {
             None
         }

@@ -1,2 +1,3 @@
+mod Lent
 pub mod Unions
 pub mod Sizes

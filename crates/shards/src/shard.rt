@@ -65,6 +65,10 @@ impl Keyspace for Shard {
         self.keys.look(key)
     }
 
+    fn look_mut(&mut self, key: &[u8]) -> Option<&mut Value> {
+        self.keys.look_mut(key)
+    }
+
     fn take(&mut self, key: &[u8]) -> Option<Value> {
         self.keys.take(key)
     }

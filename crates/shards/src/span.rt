@@ -146,6 +146,16 @@ impl<F: SpanFrame> Keyspace for Span<F> {
         self.shards[index].1.look(key)
     }
 
+    fn look_mut(&mut self, key: &[u8]) -> Option<&mut Value> {
+        let index = self.index_of(key);
+        let shard = &mut self.shards[index].1;
+        // Told apart, since what a loan leaves is known just where something was lent.
+        match shard.look_mut(key) {
+            Some(value) => Some(value),
+            None => None,
+        }
+    }
+
     fn take(&mut self, key: &[u8]) -> Option<Value> {
         let index = self.index_of(key);
         self.shards[index].1.take(key)

@@ -3,7 +3,7 @@ use Rattle.std.proofs.Common.{◌≡◌, ℕ, suc, ◌<◌, Bool, true, false, c
 use Rattle.std.proofs.Common.{Option, Some, None, refl, sym, ap, subst, ◌∙◌, append_assoc, arith, ◌≤◌}
 use Rattle.std.proofs.lemmas.Bool.{true≢false}
 use Rattle.std.proofs.lemmas.Cmp.{nat_list_eq_equiv, nat_list_cmp_total}
-use Rattle.std.proofs.lemmas.List.{append-nil, get_or_default, map-append}
+use Rattle.std.proofs.lemmas.List.{append-nil, get_or_default, map-id}
 use Rattle.std.proofs.lemmas.Grind.{common_steps}
 use Rattle.std.proofs.lemmas.List.Folds.{list_any_none}
 use Rattle.std.proofs.lemmas.List.Kept.{IsStrictlySortedBy-dedup}
@@ -22,7 +22,6 @@ use Rattle.std.specs.declared.cmp.Ordering.{Ordering}
 use Rattle.std.specs.declared.cmp.Ordering.TheVariants.{Less, Equal, Greater}
 use Rattle.std.specs.Option.{option_map_or}
 use Rattle.std.specs.Str.{bytes_eq}
-use Rattle.hashed_texts.specs.declared.HashedText.{HashedText}
 use Rattle.indexmap.proofs.MapLemmas.{swap_remove-default}
 use Rattle.indexmap.specs.IndexSet.{insert_key, swap_remove_by}
 use Rattle.texts.specs.Texts.{Bytes}
@@ -30,27 +29,11 @@ use Rattle.values.proofs.MembersAlike.{strictly-mapped, all-alike, ascending-all
 use Rattle.values.specs.ListValue.{nonempty}
 use Rattle.values.specs.SetValue.{IsAscending, is_member, members_seen, with_member, without_member, with_members}
 
--- the bytes of a member
-abbrev pub bytes_of : HashedText → Bytes
-bytes_of key = key.bytes.items
+pub member-seen : (q : Bytes) (keys : List Bytes) → list_any (bytes_eq q) keys ≡ is_member (members_seen keys) q
+member-seen q keys = sym (member-of_all keys q)
 
--- the test of two members of a table
-abbrev pub same_member : HashedText → HashedText → Bool
-same_member x y = bytes_eq x.bytes.items y.bytes.items
-
--- the test by which a table is searched for these bytes
-abbrev pub is_here : Bytes → HashedText → Bool
-is_here q x = bytes_eq q x.bytes.items
-
-any-mapped : (q : Bytes) (keys : List HashedText) → list_any (is_here q) keys ≡ is_member (map bytes_of keys) q
-any-mapped q [] = refl
-any-mapped q (k ∷ keys) = ap (λ b. is_here q k || b) (any-mapped q keys)
-
-pub member-seen : (q : Bytes) (keys : List HashedText) → list_any (is_here q) keys ≡ is_member (members_seen keys) q
-member-seen q keys = any-mapped q keys ∙ sym (member-of_all (map bytes_of keys) q)
-
-pub seen-ascends : (keys : List HashedText) → IsAscending (members_seen keys)
-seen-ascends keys = ascending-all (map bytes_of keys)
+pub seen-ascends : (keys : List Bytes) → IsAscending (members_seen keys)
+seen-ascends keys = ascending-all keys
 
 -- of two that are not both false
 neither : (a b : Bool) → (a || b) ≡ false → (a ≡ false) × (b ≡ false)
@@ -117,20 +100,19 @@ with_members-ascending members up = in_order [] members (none_there members) up
 pub all-permuted : (all more : List Bytes) → IsPermutation all more → with_members [] all ≡ with_members [] more
 all-permuted all more p = all-alike all more (λ q. list_any-IsPermutation (bytes_eq q) all more p)
 
-pub seen-permuted : (keys more : List HashedText) → IsPermutation keys more → members_seen keys ≡ members_seen more
-seen-permuted keys more p = all-permuted (map bytes_of keys) (map bytes_of more) (IsPermutation-map bytes_of keys more p)
+pub seen-permuted : (keys more : List Bytes) → IsPermutation keys more → members_seen keys ≡ members_seen more
+seen-permuted keys more p = all-permuted keys more p
 
 -- a member that is inserted
-pub insert-seen : (k : HashedText) (keys : List HashedText)
-    → members_seen (insert_key same_member keys k) ≡ with_member (members_seen keys) k.bytes.items
-insert-seen k keys = by (list_any (same_member k) keys) refl
+pub insert-seen : (k : Bytes) (keys : List Bytes)
+    → members_seen (insert_key bytes_eq keys k) ≡ with_member (members_seen keys) k
+insert-seen k keys = by (list_any (bytes_eq k) keys) refl
   where
-    by : (b : Bool) → list_any (same_member k) keys ≡ b
-        → members_seen (cond b keys (keys ++ k ∷ [])) ≡ with_member (members_seen keys) k.bytes.items
-    by true there = sym (with-there (members_seen keys) k.bytes.items (seen-ascends keys) (sym (member-seen k.bytes.items keys) ∙ there))
+    by : (b : Bool) → list_any (bytes_eq k) keys ≡ b
+        → members_seen (cond b keys (keys ++ k ∷ [])) ≡ with_member (members_seen keys) k
+    by true there = sym (with-there (members_seen keys) k (seen-ascends keys) (sym (member-seen k keys) ∙ there))
     by false absent =
-        ap (with_members []) (map-append bytes_of keys (k ∷ []))
-        ∙ with_members-pushed [] (map bytes_of keys) k.bytes.items
+        with_members-pushed [] keys k
 
 -- a string that is no member is not there to be removed
 pub without-absent : (ms : List Bytes) (q : Bytes) → is_member ms q ≡ false → without_member ms q ≡ ms
@@ -139,50 +121,50 @@ without-absent (x ∷ xs) q absent =
     let parts = neither (bytes_eq q x) (is_member xs q) absent in
     ap (λ b. cond b xs (x ∷ without_member xs q)) parts.0 ∙ ap (λ l. x ∷ l) (without-absent xs q parts.1)
 
-none-there : (test : HashedText → Bool) (keys : List HashedText) → position test keys ≡ None → list_any test keys ≡ false
+none-there : (test : Bytes → Bool) (keys : List Bytes) → position test keys ≡ None → list_any test keys ≡ false
 none-there test keys e =
     let outside : length keys ≤ position_or_len test keys = grind (arith, common_steps) in
     list_any_none test keys (λ i d within. fails_before_first test keys i d (omega (arith, outside, within)))
 
 -- members that differ from one are not it
-apart-absent : (k : HashedText) (keys : List HashedText) → AllByRecursion (λ y. same_member k y ≡ false) keys
-    → list_any (is_here k.bytes.items) keys ≡ false
+apart-absent : (k : Bytes) (keys : List Bytes) → AllByRecursion (λ y. bytes_eq k y ≡ false) keys
+    → list_any (bytes_eq k) keys ≡ false
 apart-absent k [] apart = refl
 apart-absent k (y ∷ keys) apart =
-    ap (λ b. b || list_any (is_here k.bytes.items) keys) apart.0 ∙ apart-absent k keys apart.1
+    ap (λ b. b || list_any (bytes_eq k) keys) apart.0 ∙ apart-absent k keys apart.1
 
 -- a member that goes, before the others, which are as they were put without it
-gone : (k : HashedText) (keys rest : List HashedText) → IsDistinct same_member keys → IsPermutation keys (k ∷ rest)
-    → members_seen rest ≡ without_member (members_seen keys) k.bytes.items
+gone : (k : Bytes) (keys rest : List Bytes) → IsDistinct bytes_eq keys → IsPermutation keys (k ∷ rest)
+    → members_seen rest ≡ without_member (members_seen keys) k
 unfolding IsDistinct
 gone k keys rest distinct p =
-    let apart = IsDistinct-IsPermutation same_member (λ x y. bytes_eq-flips x.bytes.items y.bytes.items) keys (k ∷ rest) p distinct in
-    let absent : is_member (members_seen rest) k.bytes.items ≡ false =
-    sym (member-seen k.bytes.items rest) ∙ apart-absent k rest apart.0 in
-    let last : members_seen keys ≡ with_member (members_seen rest) k.bytes.items =
+    let apart = IsDistinct-IsPermutation bytes_eq (λ x y. bytes_eq-flips x y) keys (k ∷ rest) p distinct in
+    let absent : is_member (members_seen rest) k ≡ false =
+    sym (member-seen k rest) ∙ apart-absent k rest apart.0 in
+    let last : members_seen keys ≡ with_member (members_seen rest) k =
     seen-permuted keys (k ∷ rest) p
-    ∙ sym (all-permuted (map bytes_of rest ++ k.bytes.items ∷ []) (k.bytes.items ∷ map bytes_of rest)
-    (IsPermutation-to_front (map bytes_of rest) k.bytes.items))
-    ∙ with_members-pushed [] (map bytes_of rest) k.bytes.items in
-    sym (ap (λ ms. without_member ms k.bytes.items) last ∙ without-with (members_seen rest) k.bytes.items absent)
+    ∙ sym (all-permuted (rest ++ k ∷ []) (k ∷ rest)
+    (IsPermutation-to_front rest k))
+    ∙ with_members-pushed [] rest k in
+    sym (ap (λ ms. without_member ms k) last ∙ without-with (members_seen rest) k absent)
 
 -- a member that is removed
-pub remove-seen : (q : Bytes) (keys : List HashedText) → IsDistinct same_member keys
-    → members_seen (swap_remove_by (is_here q) keys) ≡ without_member (members_seen keys) q
+pub remove-seen : (q : Bytes) (keys : List Bytes) → IsDistinct bytes_eq keys
+    → members_seen (swap_remove_by (bytes_eq q) keys) ≡ without_member (members_seen keys) q
 remove-seen q [] distinct = refl
-remove-seen q (x ∷ xs) distinct = by (position (is_here q) (x ∷ xs)) refl
+remove-seen q (x ∷ xs) distinct = by (position (bytes_eq q) (x ∷ xs)) refl
   where
-    keys : List HashedText
+    keys : List Bytes
     keys = x ∷ xs
 
-    by : (o : Option ℕ) → position (is_here q) keys ≡ o
+    by : (o : Option ℕ) → position (bytes_eq q) keys ≡ o
         → members_seen (option_map_or (λ i. swap_remove keys i x) o keys) ≡ without_member (members_seen keys) q
     by None e =
-        sym (without-absent (members_seen keys) q (sym (member-seen q keys) ∙ none-there (is_here q) keys e))
+        sym (without-absent (members_seen keys) q (sym (member-seen q keys) ∙ none-there (bytes_eq q) keys e))
     by (Some i) e =
-        let found = position-Some (is_here q) keys i x e in
-        let k : HashedText = get_or keys i x in
-        let is : q ≡ k.bytes.items = (bytes_eq-Decides q k.bytes.items).0 found.1 in
+        let found = position-Some (bytes_eq q) keys i x e in
+        let k : Bytes = get_or keys i x in
+        let is : q ≡ k = (bytes_eq-Decides q k).0 found.1 in
         ap members_seen (swap_remove-default keys i x k (omega arith))
         ∙ gone k keys (swap_remove keys i k) distinct (IsPermutation-swap_remove keys i k found.0 (get_or_default keys i x k found.0))
         ∙ ap (without_member (members_seen keys)) (sym is)
@@ -209,19 +191,25 @@ sorted-ascends f xs sorted distinct =
     (subst (IsStrictlySortedBy (λ a b. slice_cmp nat_cmp (f a) (f b))) (distinct-whole f xs distinct)
     (IsStrictlySortedBy-dedup (on_total f nat_list_cmp_total) (λ a b. sym (is_eq-slice_cmp (f a) (f b))) xs sorted))
 
+-- keys of a table that are sorted ascend, since none stands there twice
+pub in_order-ascends : (keys : List Bytes) → IsSorted (slice_cmp nat_cmp) keys → IsDistinct bytes_eq keys → IsAscending keys
+in_order-ascends keys sorted distinct =
+    subst IsAscending (map-id keys)
+    (sorted-ascends (λ x. x) keys sorted (subst (IsDistinct bytes_eq) (sym (map-id keys)) distinct))
+
 -- members in order are the set that they are put into
 pub ordered-seen : (all more : List Bytes) → IsPermutation all more → IsAscending more → more ≡ with_members [] all
 ordered-seen all more p up = sym (with_members-ascending more up) ∙ sym (all-permuted all more p)
 
 -- a set of some keys has a member
-pub some-seen : (keys : List HashedText) → 0 < length keys → 0 < length (members_seen keys)
+pub some-seen : (keys : List Bytes) → 0 < length keys → 0 < length (members_seen keys)
 some-seen [] some = some
 some-seen (k ∷ keys) some =
     by (members_seen (k ∷ keys))
-    (sym (member-seen k.bytes.items (k ∷ keys))
-    ∙ ap (λ b. b || list_any (is_here k.bytes.items) keys) (nat_list_eq_equiv.refl k.bytes.items))
+    (sym (member-seen k (k ∷ keys))
+    ∙ ap (λ b. b || list_any (bytes_eq k) keys) (nat_list_eq_equiv.refl k))
   where
-    by : (ms : List Bytes) → is_member ms k.bytes.items ≡ true → 0 < length ms
+    by : (ms : List Bytes) → is_member ms k ≡ true → 0 < length ms
     by [] e = absurd (true≢false (sym e))
     by (m ∷ ms) e = omega arith
 
@@ -239,41 +227,31 @@ longer (x ∷ xs) q absent =
     by Greater e apart rest = ap suc rest
 
 -- as many members as keys, since none lies there twice
-pub length-seen : (keys : List HashedText) → IsDistinct same_member keys → length (members_seen keys) ≡ length keys
+pub length-seen : (keys : List Bytes) → IsDistinct bytes_eq keys → length (members_seen keys) ≡ length keys
 unfolding IsDistinct
 length-seen [] distinct = refl
 length-seen (k ∷ keys) distinct =
-    let last : members_seen (k ∷ keys) ≡ with_member (members_seen keys) k.bytes.items =
-    sym (all-permuted (map bytes_of keys ++ k.bytes.items ∷ []) (k.bytes.items ∷ map bytes_of keys)
-    (IsPermutation-to_front (map bytes_of keys) k.bytes.items))
-    ∙ with_members-pushed [] (map bytes_of keys) k.bytes.items in
+    let last : members_seen (k ∷ keys) ≡ with_member (members_seen keys) k =
+    sym (all-permuted (keys ++ k ∷ []) (k ∷ keys)
+    (IsPermutation-to_front keys k))
+    ∙ with_members-pushed [] keys k in
     ap length last
-    ∙ longer (members_seen keys) k.bytes.items (sym (member-seen k.bytes.items keys) ∙ apart-absent k keys distinct.0)
+    ∙ longer (members_seen keys) k (sym (member-seen k keys) ∙ apart-absent k keys distinct.0)
     ∙ ap suc (length-seen keys distinct.1)
 
 pub nonempty-some : {A : Type 0} (xs : List A) → 0 < length xs → nonempty xs ≡ Some xs
 nonempty-some [] some = absurd (omega arith)
 nonempty-some (x ∷ xs) some = refl
 
-pub distinct-mapped : (keys : List HashedText) → IsDistinct same_member keys → IsDistinct bytes_eq (map bytes_of keys)
-unfolding IsDistinct
-distinct-mapped [] h = h
-distinct-mapped (k ∷ keys) h = (apart keys h.0, distinct-mapped keys h.1)
-  where
-    apart : (more : List HashedText) → AllByRecursion (λ y. same_member k y ≡ false) more
-        → AllByRecursion (λ y. bytes_eq k.bytes.items y ≡ false) (map bytes_of more)
-    apart [] h = h
-    apart (m ∷ more) h = (h.0, apart more h.1)
-
 -- borrowed members that are sorted
-pub sorted-seen : {A : Type 0} (f : A → Bytes) (keys : List HashedText) (members sorted : List A) → map f members ≡ map bytes_of keys
-    → IsDistinct bytes_eq (map bytes_of keys) → IsPermutation members sorted
+pub sorted-seen : {A : Type 0} (f : A → Bytes) (keys : List Bytes) (members sorted : List A) → map f members ≡ keys
+    → IsDistinct bytes_eq keys → IsPermutation members sorted
     → IsSorted (λ a b. slice_cmp nat_cmp (f a) (f b)) sorted → map f sorted ≡ members_seen keys
 sorted-seen f keys members sorted lent distinct p up =
-    let moved : IsPermutation (map bytes_of keys) (map f sorted) =
+    let moved : IsPermutation keys (map f sorted) =
     subst (λ l. IsPermutation l (map f sorted)) lent (IsPermutation-map f members sorted p) in
-    ordered-seen (map bytes_of keys) (map f sorted) moved
-    (sorted-ascends f sorted up (IsDistinct-IsPermutation bytes_eq bytes_eq-flips (map bytes_of keys) (map f sorted) moved distinct))
+    ordered-seen keys (map f sorted) moved
+    (sorted-ascends f sorted up (IsDistinct-IsPermutation bytes_eq bytes_eq-flips keys (map f sorted) moved distinct))
 
 pub ruleset seen = (seen-ascends, length-seen, some-seen, nonempty-some)
 

@@ -7,7 +7,6 @@ use Rattle.std.specs.Global.{Vec}
 use Rattle.std.specs.List.{IsDistinct, AllByRecursion, filter}
 use Rattle.std.specs.Map.{keys_of}
 use Rattle.std.specs.Str.{bytes_eq}
-use Rattle.hashed_texts.specs.declared.HashedText.{HashedText}
 use Rattle.texts.specs.Texts.{Bytes}
 use Rattle.values.specs.HashValue.{pairs_seen, without_field, without_fields}
 use Rattle.values.specs.SetValue.{is_member}
@@ -79,13 +78,13 @@ without-each (field ∷ fields) pairs distinct =
     ∙ neither-one (bytes_eq p.0 field) (is_member fields p.0)) pairs
 
 -- what is kept of a table's entries, seen as pairs
-pub kept-seen : (test : Bytes × Bytes → Bool) (es : List (HashedText × Vec ℕ))
-    → pairs_seen (filter (λ e. test (e.0.bytes.items, e.1.items)) es) ≡ filter test (pairs_seen es)
+pub kept-seen : (test : Bytes × Bytes → Bool) (es : List (Bytes × Vec ℕ))
+    → pairs_seen (filter (λ e. test (e.0, e.1.items)) es) ≡ filter test (pairs_seen es)
 kept-seen test [] = refl
 kept-seen test (e ∷ es) =
-    elim (test (e.0.bytes.items, e.1.items))
-    as (λ b. pairs_seen (cond b (e ∷ filter (λ f. test (f.0.bytes.items, f.1.items)) es) (filter (λ f. test (f.0.bytes.items, f.1.items)) es))
-    ≡ cond b ((e.0.bytes.items, e.1.items) ∷ filter test (pairs_seen es)) (filter test (pairs_seen es))) [
-      | true ↦ ap (λ l. (e.0.bytes.items, e.1.items) ∷ l) (kept-seen test es)
+    elim (test (e.0, e.1.items))
+    as (λ b. pairs_seen (cond b (e ∷ filter (λ f. test (f.0, f.1.items)) es) (filter (λ f. test (f.0, f.1.items)) es))
+    ≡ cond b ((e.0, e.1.items) ∷ filter test (pairs_seen es)) (filter test (pairs_seen es))) [
+      | true ↦ ap (λ l. (e.0, e.1.items) ∷ l) (kept-seen test es)
       | false ↦ kept-seen test es
     ]

@@ -5,57 +5,48 @@ use Rattle.std.specs.List.{IsDistinct, AllByRecursion}
 use Rattle.std.specs.Map.{lookup, remove_entry, keys_of}
 use Rattle.std.specs.Option.{option_map}
 use Rattle.std.specs.Str.{bytes_eq}
-use Rattle.hashed_texts.specs.declared.HashedText.{HashedText}
 use Rattle.indexmap.specs.IndexMap.{insert_entry}
 use Rattle.texts.specs.Texts.{Bytes, pairs_of, by_turns}
 use Rattle.values.specs.HashValue.{pairs_seen, field_value, with_field, without_field}
-
--- the test of two fields of a table
-abbrev pub same_field : HashedText → HashedText → Bool
-same_field x y = bytes_eq x.bytes.items y.bytes.items
-
--- the test by which a table is searched for these bytes
-abbrev pub is_field : Bytes → HashedText → Bool
-is_field q x = bytes_eq q x.bytes.items
 
 option_map-cond : {A B : Type 0} (f : A → B) (b : Bool) (x y : Option A)
     → option_map f (cond b x y) ≡ cond b (option_map f x) (option_map f y)
 option_map-cond f true x y = refl
 option_map-cond f false x y = refl
 
-pub lookup-seen : (q : Bytes) (es : List (HashedText × Vec ℕ)) → option_map (λ v. v.items) (lookup (is_field q) es)
+pub lookup-seen : (q : Bytes) (es : List (Bytes × Vec ℕ)) → option_map (λ v. v.items) (lookup (bytes_eq q) es)
     ≡ field_value (pairs_seen es) q
 lookup-seen q [] = refl
 lookup-seen q (e ∷ es) =
-    option_map-cond (λ v. v.items) (is_field q e.0) (Some e.1) (lookup (is_field q) es)
-    ∙ ap (cond (is_field q e.0) (Some e.1.items)) (lookup-seen q es)
+    option_map-cond (λ v. v.items) (bytes_eq q e.0) (Some e.1) (lookup (bytes_eq q) es)
+    ∙ ap (cond (bytes_eq q e.0) (Some e.1.items)) (lookup-seen q es)
 
-seen-cond : (b : Bool) (xs ys : List (HashedText × Vec ℕ)) → pairs_seen (cond b xs ys) ≡ cond b (pairs_seen xs) (pairs_seen ys)
+seen-cond : (b : Bool) (xs ys : List (Bytes × Vec ℕ)) → pairs_seen (cond b xs ys) ≡ cond b (pairs_seen xs) (pairs_seen ys)
 seen-cond true xs ys = refl
 seen-cond false xs ys = refl
 
-pub insert-seen : (k : HashedText) (v : Vec ℕ) (es : List (HashedText × Vec ℕ))
-    → pairs_seen (insert_entry same_field es k v) ≡ with_field (pairs_seen es) k.bytes.items v.items
+pub insert-seen : (k : Bytes) (v : Vec ℕ) (es : List (Bytes × Vec ℕ))
+    → pairs_seen (insert_entry bytes_eq es k v) ≡ with_field (pairs_seen es) k v.items
 insert-seen k v [] = refl
 insert-seen k v (e ∷ es) =
-    seen-cond (same_field k e.0) ((e.0, v) ∷ es) (e ∷ insert_entry same_field es k v)
-    ∙ ap (λ rest. cond (same_field k e.0) ((e.0.bytes.items, v.items) ∷ pairs_seen es) ((e.0.bytes.items, e.1.items) ∷ rest))
+    seen-cond (bytes_eq k e.0) ((e.0, v) ∷ es) (e ∷ insert_entry bytes_eq es k v)
+    ∙ ap (λ rest. cond (bytes_eq k e.0) ((e.0, v.items) ∷ pairs_seen es) ((e.0, e.1.items) ∷ rest))
     (insert-seen k v es)
 
-pub remove-seen : (q : Bytes) (es : List (HashedText × Vec ℕ)) → pairs_seen (remove_entry (is_field q) es) ≡ without_field (pairs_seen es) q
+pub remove-seen : (q : Bytes) (es : List (Bytes × Vec ℕ)) → pairs_seen (remove_entry (bytes_eq q) es) ≡ without_field (pairs_seen es) q
 remove-seen q [] = refl
 remove-seen q (e ∷ es) =
-    seen-cond (is_field q e.0) es (e ∷ remove_entry (is_field q) es)
-    ∙ ap (λ rest. cond (is_field q e.0) (pairs_seen es) ((e.0.bytes.items, e.1.items) ∷ rest)) (remove-seen q es)
+    seen-cond (bytes_eq q e.0) es (e ∷ remove_entry (bytes_eq q) es)
+    ∙ ap (λ rest. cond (bytes_eq q e.0) (pairs_seen es) ((e.0, e.1.items) ∷ rest)) (remove-seen q es)
 
-pub distinct-seen : (es : List (HashedText × Vec ℕ)) → IsDistinct same_field (keys_of es)
+pub distinct-seen : (es : List (Bytes × Vec ℕ)) → IsDistinct bytes_eq (keys_of es)
     → IsDistinct bytes_eq (map (λ p. p.0) (pairs_seen es))
 unfolding IsDistinct
 distinct-seen [] h = h
 distinct-seen (e ∷ es) h = (apart es h.0, distinct-seen es h.1)
   where
-    apart : (fs : List (HashedText × Vec ℕ)) → AllByRecursion (λ y. same_field e.0 y ≡ false) (keys_of fs)
-        → AllByRecursion (λ y. bytes_eq e.0.bytes.items y ≡ false) (map (λ p. p.0) (pairs_seen fs))
+    apart : (fs : List (Bytes × Vec ℕ)) → AllByRecursion (λ y. bytes_eq e.0 y ≡ false) (keys_of fs)
+        → AllByRecursion (λ y. bytes_eq e.0 y ≡ false) (map (λ p. p.0) (pairs_seen fs))
     apart [] h = h
     apart (f ∷ fs) h = (h.0, apart fs h.1)
 

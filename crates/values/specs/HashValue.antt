@@ -3,13 +3,12 @@ use Rattle.std.specs.Prelude.{ℕ, List, [], ◌∷◌, map, Option}
 use Rattle.std.specs.Global.{Vec}
 use Rattle.std.specs.Map.{lookup, remove_entry}
 use Rattle.std.specs.Str.{bytes_eq}
-use Rattle.hashed_texts.specs.declared.HashedText.{HashedText}
 use Rattle.indexmap.specs.IndexMap.{insert_entry}
 use Rattle.texts.specs.Texts.{Bytes}
 
 -- the pairs that these entries of a table are
-abbrev pub pairs_seen : List (HashedText × Vec ℕ) → List (Bytes × Bytes)
-pairs_seen entries = map (λ e. (e.0.bytes.items, e.1.items)) entries
+abbrev pub pairs_seen : List (Bytes × Vec ℕ) → List (Bytes × Bytes)
+pairs_seen entries = map (λ e. (e.0, e.1.items)) entries
 
 -- the value of a field, if it is there
 abbrev pub field_value : List (Bytes × Bytes) → Bytes → Option Bytes

@@ -20,4 +20,4 @@ left (rest.Fields pairs) = map (λ pair. pair.0) (pairs_seen pairs)
 left (rest.Values pairs) = map (λ pair. pair.1) (pairs_seen pairs)
 left (rest.Both pairs) = by_turns (pairs_seen pairs)
 left (rest.Members members) = map (λ member. member.now) (into_iter_items members)
-left (rest.Keys keys) = map (λ key. key.bytes.items) keys
+left (rest.Keys keys) = keys

@@ -1,5 +1,5 @@
 -- What the calls of a set leave: a list of members that ascend byte by byte, a string before those that it begins.
-use Rattle.std.specs.Prelude.{Bool, List, [], ◌∷◌, map}
+use Rattle.std.specs.Prelude.{Bool, List, [], ◌∷◌}
 use Rattle.std.specs.BTreeSet as tree
 use Rattle.std.specs.Cmp.Lexicographic.{slice_cmp}
 use Rattle.std.specs.List.{list_any}
@@ -7,7 +7,6 @@ use Rattle.std.specs.List.Sorted.{IsStrictlySortedBy}
 use Rattle.std.specs.Ordering.{nat_cmp}
 use Rattle.std.specs.Set.{remove_key}
 use Rattle.std.specs.Str.{bytes_eq}
-use Rattle.hashed_texts.specs.declared.HashedText.{HashedText}
 use Rattle.texts.specs.Texts.{Bytes}
 
 -- each member is below those after it
@@ -37,5 +36,5 @@ without_members members [] = members
 without_members members (member ∷ more) = without_members (without_member members member) more
 
 -- the members that these keys of a table are, in whatever order they lie there
-abbrev pub members_seen : List HashedText → List Bytes
-members_seen keys = with_members [] (map (λ key. key.bytes.items) keys)
+abbrev pub members_seen : List Bytes → List Bytes
+members_seen keys = with_members [] keys

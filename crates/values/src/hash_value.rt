@@ -84,7 +84,7 @@ impl HashValue {
         ensures { option_map (λ pair. (pair.0.now, pair.1.now)) result ≡ slice_get self.now place }
     {
         match self.pairs.get_index(place) {
-            Some((field, value)) => Some((field.bytes.as_slice(), value.as_slice())),
+            Some((field, value)) => Some((field.as_slice(), value.as_slice())),
             None => None,
         }
     }

@@ -60,7 +60,7 @@ impl<'a> Iterator for Items<'a> {
             }
             Rest::Fields(pairs) => {
                 let (field, _) = pairs.next()?;
-                Some(field.bytes.as_slice())
+                Some(field.as_slice())
             }
             Rest::Values(pairs) => {
                 let (_, value) = pairs.next()?;
@@ -69,12 +69,12 @@ impl<'a> Iterator for Items<'a> {
             Rest::Both(pairs) => {
                 let (field, value) = pairs.next()?;
                 self.value = Some(value.as_slice());
-                Some(field.bytes.as_slice())
+                Some(field.as_slice())
             }
             Rest::Members(members) => members.next(),
             Rest::Keys(keys) => {
                 let key = keys.next()?;
-                Some(key.bytes.as_slice())
+                Some(key.as_slice())
             }
         }
     }

@@ -37,7 +37,8 @@ pub(crate) fn insert(there: &mut MemberTable, member: Vec<u8>) -> Result<bool, A
     ensures absent { OnErr result (is_member (members_seen there.old.keys) member.items ≡ false) }
     ensures err { OnErr result (members_seen there.new.keys ≡ members_seen there.old.keys) }
 {
-    let Ok(new) = there.insert(HashedText { bytes: member }) else {
+    let key = HashedText::from(member);
+    let Ok(new) = there.insert(key) else {
         return Err(AllocError);
     };
     Ok(new)
@@ -91,7 +92,7 @@ pub(crate) fn remove_each(there: &mut MemberTable, members: &[Vec<u8>])
 /// Puts the members in ascending order as they lie in the table. Where there is no memory for that they stay as they
 /// lie.
 pub(crate) fn order(there: &mut MemberTable) -> Result<(), AllocError>
-    ensures ok { OnOk result (IsAscending (map (λ key. key.bytes.items) there.new.keys)) }
+    ensures ok { OnOk result (IsAscending there.new.keys) }
     ensures same { members_seen there.new.keys ≡ members_seen there.old.keys }
     ensures len { index_set_len there.new ≡ index_set_len there.old }
     ensures err { OnErr result (there.new.keys ≡ there.old.keys) }
@@ -106,7 +107,7 @@ pub(crate) fn ascending(
     there: &MemberTable,
     is_ordered: bool,
 ) -> Result<Vec<&[u8]>, AllocError>
-    requires { IsTrue is_ordered → IsAscending (map (λ key. key.bytes.items) there.now.keys) }
+    requires { IsTrue is_ordered → IsAscending there.now.keys }
     ensures { IfOk result (λ members. map (λ member. member.now) members.items ≡ members_seen there.now.keys) }
 {
     let mut members = borrowed(alloc, there)?;
@@ -120,12 +121,12 @@ pub(crate) fn ascending(
 /// The members as they lie in the table, borrowed.
 fn borrowed(alloc: Global, there: &MemberTable) -> Result<Vec<&[u8]>, AllocError>
     ensures lent { IfOk result (λ members. map (λ member. member.now) members.items
-        ≡ map (λ key. key.bytes.items) there.now.keys) }
-    ensures distinct { IsDistinct bytes_eq (map (λ key. key.bytes.items) there.now.keys) }
+        ≡ there.now.keys) }
+    ensures distinct { IsDistinct bytes_eq there.now.keys }
 {
     let mut members = Vec::with_capacity(alloc, there.len())?;
     for member in there.as_slice() {
-        members.push_reserved(member.bytes.as_slice());
+        members.push_reserved(member.as_slice());
     }
     Ok(members)
 }

@@ -47,7 +47,8 @@ pub(crate) fn insert(
     ensures absent { OnErr result (field_value (pairs_seen pairs.old.entries) field.items ≡ None) }
     ensures err { OnErr result (pairs_seen pairs.new.entries ≡ pairs_seen pairs.old.entries) }
 {
-    match pairs.insert(HashedText { bytes: field }, value) {
+    let key = HashedText::from(field);
+    match pairs.insert(key, value) {
         Ok(Some(before)) => Ok(Some(Text::from(before))),
         Ok(None) => Ok(None),
         Err(_) => Err(AllocError),
@@ -97,13 +98,13 @@ pub(crate) fn remove_each(pairs: &mut PairTable, fields: Vec<Vec<u8>>)
 /// Keeps the pairs whose fields are not among these, in one walk.
 fn keep_others(pairs: &mut PairTable, gone: &MemberTable)
     ensures kept { pairs.new.entries
-        ≡ filter (λ e. not (is_member (members_seen gone.now.keys) e.0.bytes.items)) pairs.old.entries }
+        ≡ filter (λ e. not (is_member (members_seen gone.now.keys) e.0)) pairs.old.entries }
     ensures bound { index_map_len pairs.new ≤ index_map_len pairs.old }
 {
     pairs.retain(
         |field: &HashedText, value: &mut Vec<u8>| -> bool
-            ensures { (result ≡ not (is_member (members_seen gone.entry.now.keys) field.now.bytes.items)) × (value.new ≡ value.old) }
-        { !member_table::contains(gone, field.bytes.as_slice()) },
+            ensures { (result ≡ not (is_member (members_seen gone.entry.now.keys) field.now)) × (value.new ≡ value.old) }
+        { !member_table::contains(gone, field.as_slice()) },
     );
 }
 

@@ -37,7 +37,7 @@ impl Model for SetValue {
     ghost view = { λ s. members_seen s.members.value.keys };
 
     ghost invariant = { λ s. (0 < length s.members.value.keys)
-        × (IsTrue s.is_ordered → IsAscending (map (λ key. key.bytes.items) s.members.value.keys)) };
+        × (IsTrue s.is_ordered → IsAscending s.members.value.keys) };
 }
 
 impl SetValue {
