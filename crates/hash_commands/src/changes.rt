@@ -1,12 +1,13 @@
 //! HDEL, HSETNX, HSET and HMSET.
 //!
-//! A hash that is there is taken out of the keyspace, changed and put back; the key keeps its place meanwhile, with the
-//! empty string, so that putting it back takes no memory.
+//! Fields are set in a hash where it lies. HDEL takes it out of the keyspace and puts back what is left; the key keeps
+//! its place meanwhile, with the empty string, so that putting it back takes no memory.
 
-ghost use Rattle.std.specs.Prelude.{◌≡◌, ℕ, ◌-◌, IsTrue, IsSome, IsOk, OnOk, OnErr, MatchResult, None, is_some, length};
+ghost use Rattle.std.specs.Prelude.{◌≡◌, ℕ, ◌-◌, IsTrue, IsSome, IsOk, OnOk, OnErr, MatchResult, None, Some, is_some, length};
 ghost use Rattle.std.specs.FinMap as map;
 ghost use Rattle.std.specs.Prelude.{IfOk, [], ◌∷◌};
 ghost use Rattle.command_cases.specs.Case.{Does, at_key};
+ghost use Rattle.command_cases.specs.Changes.{Changes};
 ghost use Rattle.hash_commands.specs.HashCommand.{changes_hash, hdel_change, hsetnx_step, set_change, hset_step, hmset_step};
 ghost use Rattle.hash_commands.specs.HashCommand.{pairs_there, some_pairs};
 ghost use Rattle.hash_commands.specs.SetAnswer.{set_answer};
@@ -14,7 +15,6 @@ ghost use Rattle.keyspace.specs.Map.{set};
 ghost use Rattle.resp.specs.Content.{content};
 ghost use Rattle.values.specs.HashValue.{field_value, with_field};
 ghost use Rattle.values.specs.Value.{hash_value};
-ghost use Rattle.values.specs.declared.Value.TheVariants as kind;
 
 use command_cases::{Starved, count_reply, ok_reply, truth_reply, wrong_type_reply};
 use keyspace::Keyspace;
@@ -165,18 +165,21 @@ fn set_fields<K: Keyspace>(
     ensures starves { OnErr result (IsSome (pairs_there (map.get (K.contents keyspace.old) key))) }
     ensures covers { K.covered keyspace.new ≡ K.covered keyspace.old }
 {
-    match keyspace.look(key.as_slice()) {
-        None => return set_new_hash(alloc, keyspace, key, pairs, answer),
-        Some(Value::Hash(_)) => {}
-        Some(_) => return Ok(wrong_type_reply()),
+    match keyspace.look_mut(key.as_slice()) {
+        None => set_new_hash(alloc, keyspace, key, pairs, answer),
+        Some(value) => set_in_place(value, pairs, answer),
     }
-    let Value::Hash(mut hash) = keyspace.replace(key.as_slice(), Value::Str(Text::empty(alloc)))
-    else {
-        unreachable!();
+}
+
+/// Sets the fields of a hash where it lies, all of them, or none where there is no memory.
+fn set_in_place(value: &mut Value, pairs: Pairs, answer: SetAnswer) -> Result<Reply, Starved>
+    ensures done { Changes (changes_hash (set_change (set_answer answer) pairs)) value.old value.new result }
+    ensures starves { OnErr result (IsSome (pairs_there (Some value.old))) }
+{
+    let Value::Hash(hash) = value else {
+        return Ok(wrong_type_reply());
     };
-    let set = hash.insert_all(pairs);
-    put_back(keyspace, key.as_slice(), hash);
-    let added = set?;
+    let added = hash.insert_all(pairs)?;
     Ok(answer.reply(added))
 }
 
@@ -221,16 +224,22 @@ pub(crate) fn set_field<K: Keyspace>(
     ensures err { OnErr result (K.contents keyspace.new ≡ K.contents keyspace.old) }
     ensures covers { K.covered keyspace.new ≡ K.covered keyspace.old }
 {
-    if keyspace.look(key.as_slice()).is_none() {
-        return set_first_field(alloc, keyspace, key, field, value);
+    match keyspace.look_mut(key.as_slice()) {
+        None => set_first_field(alloc, keyspace, key, field, value),
+        Some(there) => set_there(there, field, value),
     }
-    let Value::Hash(mut hash) = keyspace.replace(key.as_slice(), Value::Str(Text::empty(alloc)))
-    else {
+}
+
+/// Sets one field of a hash where it lies; nothing changes where there is no memory.
+fn set_there(there: &mut Value, field: Text, value: Text) -> Result<(), Starved>
+    requires { IsSome (pairs_there (Some there.old)) }
+    ensures ok { OnOk result (Some there.new ≡ hash_value (with_field (some_pairs (Some there.old)) field value)) }
+    ensures err { OnErr result (there.new ≡ there.old) }
+{
+    let Value::Hash(hash) = there else {
         unreachable!();
     };
-    let set = hash.insert(field, value);
-    put_back(keyspace, key.as_slice(), hash);
-    set?;
+    hash.insert(field, value)?;
     Ok(())
 }
 
@@ -268,16 +277,4 @@ fn hash_of_one(alloc: Global, field: Text, value: Text) -> Result<HashValue, All
         unreachable!();
     };
     Ok(hash)
-}
-
-/// Puts a hash in the place of what the key has.
-#[tactic(auto, using(keyspace::proofs::Changes::changes))]
-fn put_back<K: Keyspace>(keyspace: &mut K, key: &[u8], hash: HashValue)
-    requires covered { IsTrue (K.covered keyspace.old key.now) }
-    requires there { IsSome (map.get (K.contents keyspace.old) key.now) }
-    ensures put { K.contents keyspace.new ≡ map.insert (K.contents keyspace.old) key.now (kind.Hash hash) }
-    ensures left { K.contents keyspace.new ≡ set (K.contents keyspace.old) key.now (hash_value hash) }
-    ensures covers { K.covered keyspace.new ≡ K.covered keyspace.old }
-{
-    keyspace.replace(key, Value::Hash(hash));
 }

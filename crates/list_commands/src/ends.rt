@@ -1,8 +1,9 @@
 //! The commands at the ends of a list: LPUSH, RPUSH, LPUSHX, RPUSHX, LPOP and RPOP.
 
-ghost use Rattle.std.specs.Prelude.{◌≡◌, IsTrue, IsOk, OnErr, None};
+ghost use Rattle.std.specs.Prelude.{◌≡◌, IsTrue, IsOk, OnErr, None, Some};
 ghost use Rattle.std.specs.FinMap as map;
 ghost use Rattle.command_cases.specs.Case.{Does, at_key};
+ghost use Rattle.command_cases.specs.Changes.{Changes};
 ghost use Rattle.list_commands.specs.ListCommand.{at_list, is_list, may_be_list, pop_step, push_step, push_there_step};
 ghost use Rattle.resp.specs.Content.{content};
 ghost use Rattle.texts.specs.declared.text_list.End.TheVariants.{Head, Tail};
@@ -72,7 +73,7 @@ pub(crate) fn pop<K: Keyspace>(alloc: Global, keyspace: &mut K, key: &[u8], end:
 ///
 /// <https://redis.io/docs/latest/commands/lpush/>
 pub(crate) fn lpush<K: Keyspace>(
-    alloc: Global,
+    _alloc: Global,
     keyspace: &mut K,
     key: Text,
     items: Texts,
@@ -83,14 +84,14 @@ pub(crate) fn lpush<K: Keyspace>(
     ensures starves { OnErr result (IsTrue (may_be_list (map.get (K.contents keyspace.old) key))) }
     ensures covers { K.covered keyspace.new ≡ K.covered keyspace.old }
 {
-    push(alloc, keyspace, key, End::Head, items)
+    push(keyspace, key, End::Head, items)
 }
 
 /// `RPUSH key item [item ..]`: pushes the items at the tail in turn, and says the new length.
 ///
 /// <https://redis.io/docs/latest/commands/rpush/>
 pub(crate) fn rpush<K: Keyspace>(
-    alloc: Global,
+    _alloc: Global,
     keyspace: &mut K,
     key: Text,
     items: Texts,
@@ -101,14 +102,14 @@ pub(crate) fn rpush<K: Keyspace>(
     ensures starves { OnErr result (IsTrue (may_be_list (map.get (K.contents keyspace.old) key))) }
     ensures covers { K.covered keyspace.new ≡ K.covered keyspace.old }
 {
-    push(alloc, keyspace, key, End::Tail, items)
+    push(keyspace, key, End::Tail, items)
 }
 
 /// `LPUSHX key item [item ..]`: as LPUSH where the key is there; 0 where it is missing.
 ///
 /// <https://redis.io/docs/latest/commands/lpushx/>
 pub(crate) fn lpushx<K: Keyspace>(
-    alloc: Global,
+    _alloc: Global,
     keyspace: &mut K,
     key: Text,
     items: Texts,
@@ -119,14 +120,14 @@ pub(crate) fn lpushx<K: Keyspace>(
     ensures starves { OnErr result (IsTrue (is_list (map.get (K.contents keyspace.old) key))) }
     ensures covers { K.covered keyspace.new ≡ K.covered keyspace.old }
 {
-    push_there(alloc, keyspace, key.as_slice(), End::Head, items)
+    push_there(keyspace, key.as_slice(), End::Head, items)
 }
 
 /// `RPUSHX key item [item ..]`: as RPUSH where the key is there; 0 where it is missing.
 ///
 /// <https://redis.io/docs/latest/commands/rpushx/>
 pub(crate) fn rpushx<K: Keyspace>(
-    alloc: Global,
+    _alloc: Global,
     keyspace: &mut K,
     key: Text,
     items: Texts,
@@ -137,27 +138,20 @@ pub(crate) fn rpushx<K: Keyspace>(
     ensures starves { OnErr result (IsTrue (is_list (map.get (K.contents keyspace.old) key))) }
     ensures covers { K.covered keyspace.new ≡ K.covered keyspace.old }
 {
-    push_there(alloc, keyspace, key.as_slice(), End::Tail, items)
+    push_there(keyspace, key.as_slice(), End::Tail, items)
 }
 
 /// Pushes the items at this end of the list at a key, all of them or none; a missing key gets a new list.
-fn push<K: Keyspace>(
-    alloc: Global,
-    keyspace: &mut K,
-    key: Text,
-    end: End,
-    items: Texts,
-) -> Result<Reply, Starved>
+fn push<K: Keyspace>(keyspace: &mut K, key: Text, end: End, items: Texts) -> Result<Reply, Starved>
     requires { IsTrue (K.covered keyspace.old key) }
     ensures done { Does (at_key key (at_list (push_step end items)))
         (K.contents keyspace.old) (K.contents keyspace.new) result }
     ensures starves { OnErr result (IsTrue (may_be_list (map.get (K.contents keyspace.old) key))) }
     ensures covers { K.covered keyspace.new ≡ K.covered keyspace.old }
 {
-    if keyspace.look(key.as_slice()).is_none() {
-        push_new(keyspace, key, end, items)
-    } else {
-        push_there(alloc, keyspace, key.as_slice(), end, items)
+    match keyspace.look_mut(key.as_slice()) {
+        None => push_new(keyspace, key, end, items),
+        Some(value) => push_on(value, end, items),
     }
 }
 
@@ -188,7 +182,6 @@ fn push_new<K: Keyspace>(
 /// Pushes the items at this end of the list at a key, all of them or none; 0 where the key is missing.
 #[tactic(auto, using(keyspace::proofs::Changes::changes))]
 fn push_there<K: Keyspace>(
-    alloc: Global,
     keyspace: &mut K,
     key: &[u8],
     end: End,
@@ -200,15 +193,21 @@ fn push_there<K: Keyspace>(
     ensures starves { OnErr result (IsTrue (is_list (map.get (K.contents keyspace.old) key.now))) }
     ensures covers { K.covered keyspace.new ≡ K.covered keyspace.old }
 {
-    match keyspace.look(key) {
-        None => return Ok(count_reply(0)),
-        Some(Value::List(_)) => {}
-        Some(_) => return Ok(wrong_type_reply()),
+    match keyspace.look_mut(key) {
+        None => Ok(count_reply(0)),
+        Some(value) => push_on(value, end, items),
     }
-    let mut list = take_list(alloc, keyspace, key);
-    let pushed = list.push_all(end, items);
-    let length = list.len();
-    keyspace.replace(key, Value::List(list));
-    pushed?;
-    Ok(count_reply(length))
+}
+
+/// Pushes the items at this end of a list where it lies, all of them or none.
+fn push_on(value: &mut Value, end: End, items: Texts) -> Result<Reply, Starved>
+    ensures done { Changes (at_list (push_step end items)) value.old value.new result }
+    ensures there { Changes (at_list (push_there_step end items)) value.old value.new result }
+    ensures starves { OnErr result (IsTrue (is_list (Some value.old))) }
+{
+    let Value::List(list) = value else {
+        return Ok(wrong_type_reply());
+    };
+    list.push_all(end, items)?;
+    Ok(count_reply(list.len()))
 }

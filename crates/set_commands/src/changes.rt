@@ -1,15 +1,13 @@
 //! SADD and SREM.
 //!
-//! A set that is there is taken out of the keyspace, changed and put back; the key keeps its place meanwhile, with the
-//! empty string, so that putting it back takes no memory.
+//! Members are added to a set where it lies. SREM takes it out of the keyspace and puts back what is left; the key keeps
+//! its place meanwhile, with the empty string, so that putting it back takes no memory.
 
-ghost use Rattle.std.specs.Prelude.{◌≡◌, ◌<◌, length, IsTrue, IsSome, IsOk, OnErr, None};
+ghost use Rattle.std.specs.Prelude.{◌≡◌, IsTrue, IsSome, IsOk, OnErr, None, Some};
 ghost use Rattle.std.specs.FinMap as map;
 ghost use Rattle.command_cases.specs.Case.{Does, at_key};
-ghost use Rattle.keyspace.specs.Map.{set};
+ghost use Rattle.command_cases.specs.Changes.{Changes};
 ghost use Rattle.set_commands.specs.SetCommand.{changes_set, sadd_change, srem_change, members_there};
-ghost use Rattle.values.specs.Value.{set_value};
-ghost use Rattle.values.specs.declared.Value.TheVariants as kind;
 
 use command_cases::{Starved, count_reply, wrong_type_reply};
 use keyspace::Keyspace;
@@ -35,18 +33,21 @@ pub(crate) fn sadd<K: Keyspace>(
     ensures starves { OnErr result (IsSome (members_there (map.get (K.contents keyspace.old) key))) }
     ensures covers { K.covered keyspace.new ≡ K.covered keyspace.old }
 {
-    match keyspace.look(key.as_slice()) {
-        None => return add_new_set(alloc, keyspace, key, members),
-        Some(Value::Set(_)) => {}
-        Some(_) => return Ok(wrong_type_reply()),
+    match keyspace.look_mut(key.as_slice()) {
+        None => add_new_set(alloc, keyspace, key, members),
+        Some(value) => add_in_place(value, members),
     }
-    let Value::Set(mut set) = keyspace.replace(key.as_slice(), Value::Str(Text::empty(alloc)))
-    else {
-        unreachable!();
+}
+
+/// Adds the members to a set where it lies, all of them, or none where there is no memory.
+fn add_in_place(value: &mut Value, members: Texts) -> Result<Reply, Starved>
+    ensures done { Changes (changes_set (sadd_change members)) value.old value.new result }
+    ensures starves { OnErr result (IsSome (members_there (Some value.old))) }
+{
+    let Value::Set(set) = value else {
+        return Ok(wrong_type_reply());
     };
-    let done = set.insert_all(members);
-    put_back(keyspace, key.as_slice(), set);
-    let added = done?;
+    let added = set.insert_all(members)?;
     Ok(count_reply(added))
 }
 
@@ -109,17 +110,4 @@ pub(crate) fn srem<K: Keyspace>(
         }
     }
     Ok(count_reply(removed))
-}
-
-/// Puts a set in the place of what the key has.
-#[tactic(auto, using(keyspace::proofs::Changes::changes, values::proofs::MembersSeen::members))]
-fn put_back<K: Keyspace>(keyspace: &mut K, key: &[u8], members: SetValue)
-    requires covered { IsTrue (K.covered keyspace.old key.now) }
-    requires there { IsSome (map.get (K.contents keyspace.old) key.now) }
-    requires some { 0 < length members }
-    ensures put { K.contents keyspace.new ≡ map.insert (K.contents keyspace.old) key.now (kind.Set members) }
-    ensures left { K.contents keyspace.new ≡ set (K.contents keyspace.old) key.now (set_value members) }
-    ensures covers { K.covered keyspace.new ≡ K.covered keyspace.old }
-{
-    keyspace.replace(key, Value::Set(members));
 }

@@ -1,9 +1,11 @@
 //! GET, SET and SETNX.
 
-ghost use Rattle.std.specs.Prelude.{◌≡◌, ◌<◌, IsTrue, None, false, OnErr};
+ghost use Rattle.std.specs.Prelude.{◌≡◌, ◌<◌, IsTrue, None, Some, false, OnErr};
 ghost use Rattle.std.specs.FinMap as map;
 ghost use Rattle.command_cases.specs.Case.{Does, at_key};
+ghost use Rattle.resp.specs.Content.{content};
 ghost use Rattle.string_commands.specs.StringCommand.{get_step, set_step, setnx_step, is_admitted, room};
+ghost use Rattle.values.specs.declared.Value.TheVariants as kind;
 
 use command_cases::{Starved, ok_reply, truth_reply, wrong_type_reply};
 use command_table::Condition;
@@ -36,8 +38,8 @@ pub(crate) fn get<K: Keyspace>(alloc: Global, keyspace: &K, key: Text) -> Result
 /// `SET key value [NX | XX]`: puts the string at the key, in place of a value of any type; null where the condition
 /// forbids it.
 ///
-/// The value is stored as it was handed in. Memory is taken only for a key that isn't there.
-/// <https://redis.io/docs/latest/commands/set/>
+/// A string that is as long is written over, in its own memory; else the value is stored as it was handed in. Memory is
+/// taken only for a key that isn't there. <https://redis.io/docs/latest/commands/set/>
 #[tactic(auto, using(keyspace::proofs::Changes::changes, resp::proofs::Contents::content_of))]
 pub(crate) fn set<K: Keyspace>(
     _alloc: Global,
@@ -53,18 +55,55 @@ pub(crate) fn set<K: Keyspace>(
         ((map.get (K.contents keyspace.old) key ≡ None) × IsTrue (is_admitted condition false)) }
     ensures covers { K.covered keyspace.new ≡ K.covered keyspace.old }
 {
-    let admitted = match condition {
-        Condition::Always => true,
-        Condition::IfAbsent => keyspace.look(key.as_slice()).is_none(),
-        Condition::IfPresent => keyspace.look(key.as_slice()).is_some(),
-    };
-    if !admitted {
-        return Ok(Reply::Null);
+    match keyspace.look_mut(key.as_slice()) {
+        Some(there) => Ok(set_there(there, value, condition)),
+        None => {
+            if !is_admitted(condition, false) {
+                return Ok(Reply::Null);
+            }
+            let Ok(_) = keyspace.put(key.into_vec(), Value::Str(value)) else {
+                return Err(Starved);
+            };
+            Ok(ok_reply())
+        }
     }
-    let Ok(_) = keyspace.put(key.into_vec(), Value::Str(value)) else {
-        return Err(Starved);
-    };
-    Ok(ok_reply())
+}
+
+/// Whether a SET under this condition takes place, by whether the key is there.
+fn is_admitted(condition: Condition, there: bool) -> bool
+    ensures { result ≡ is_admitted condition there }
+{
+    match condition {
+        Condition::Always => true,
+        Condition::IfAbsent => !there,
+        Condition::IfPresent => there,
+    }
+}
+
+/// Puts the string of a SET in the place of a value, unless the condition forbids it.
+#[tactic(auto, using(resp::proofs::Contents::content_of))]
+fn set_there(there: &mut Value, value: Text, condition: Condition) -> Reply
+    ensures { (Some there.new, content result) ≡ set_step value condition (Some there.old) }
+{
+    if !is_admitted(condition, true) {
+        return Reply::Null;
+    }
+    write_over(there, value);
+    ok_reply()
+}
+
+/// Puts a string in the place of a value. It takes no memory: a string that is as long is written over.
+fn write_over(there: &mut Value, value: Text)
+    ensures { there.new ≡ kind.Str value }
+{
+    match there {
+        Value::Str(text) if text.len() == value.len() => {
+            let Ok(()) = text.set(value.as_slice()) else {
+                unreachable!();
+            };
+        }
+        _ => *there = Value::Str(value),
+    }
 }
 
 /// `SETNX key value`: puts the string at the key where it isn't there; 1 where it was put, 0 where the key has a value

@@ -5,7 +5,6 @@
 #![tactic(auto)]
 
 mod bodies;
-mod held;
 mod many;
 mod numbers;
 mod pairs;

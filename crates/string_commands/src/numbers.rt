@@ -1,15 +1,12 @@
 //! INCR, DECR, INCRBY and DECRBY: numbers that are stored as their texts.
 
-ghost use Rattle.std.specs.Prelude.{◌≡◌, ◌<◌, pos, negsuc, Some, None, IsTrue, IfOk, OnOk, OnErr};
+ghost use Rattle.std.specs.Prelude.{◌≡◌, pos, negsuc, Some, None, IsTrue, OnErr};
 ghost use Rattle.std.specs.FinMap as map;
-ghost use Rattle.std.specs.Fmt.{signed_decimal};
 ghost use Rattle.command_cases.specs.Case.{Does, at_key};
-ghost use Rattle.resp.specs.Content.{Number, content};
-ghost use Rattle.string_commands.specs.Held.{is_string};
-ghost use Rattle.string_commands.specs.StringCommand.{incrby_step, decrby_step, no_number, Grows, room};
-ghost use Rattle.values.specs.declared.Value.TheVariants as kind;
+ghost use Rattle.command_cases.specs.Changes.{Changes};
+ghost use Rattle.resp.specs.Content.{content};
+ghost use Rattle.string_commands.specs.StringCommand.{incrby_step, decrby_step, no_number, Grows};
 
-use crate::held::take_text;
 use command_cases::{Starved, would_overflow_reply, wrong_type_reply};
 use integers::{SumFault, add_to, number_text, set_number};
 use keyspace::Keyspace;
@@ -67,13 +64,9 @@ pub(crate) fn incrby<K: Keyspace>(
     ensures starves { OnErr result (Grows (incrby_step by) (map.get (K.contents keyspace.old) key)) }
     ensures covers { K.covered keyspace.new ≡ K.covered keyspace.old }
 {
-    match keyspace.look(key.as_slice()) {
+    match keyspace.look_mut(key.as_slice()) {
         None => put_number(alloc, keyspace, key, by),
-        Some(Value::Str(text)) => match add_to(text.as_slice(), by) {
-            Ok(sum) => change_number(alloc, keyspace, key.as_slice(), sum),
-            Err(fault) => Ok(no_number_reply(fault)),
-        },
-        Some(_) => Ok(wrong_type_reply()),
+        Some(value) => change_number(value, by),
     }
 }
 
@@ -132,27 +125,20 @@ fn put_number<K: Keyspace>(
     Ok(Reply::Int(number))
 }
 
-/// Makes the string at a key the text of a number, and answers the number.
-#[tactic(auto, using(keyspace::proofs::Changes::changes, resp::proofs::Contents::content_of))]
-fn change_number<K: Keyspace>(
-    alloc: Global,
-    keyspace: &mut K,
-    key: &[u8],
-    number: i64,
-) -> Result<Reply, Starved>
-    requires covered { IsTrue (K.covered keyspace.old key.now) }
-    requires there { IsTrue (is_string (map.get (K.contents keyspace.old) key.now)) }
-    ensures answer { IfOk result (λ reply. content reply ≡ Number number) }
-    ensures ok { OnOk result
-        (K.contents keyspace.new ≡ map.insert (K.contents keyspace.old) key.now (kind.Str (signed_decimal number))) }
-    ensures err { OnErr result (K.contents keyspace.new ≡ K.contents keyspace.old) }
-    ensures starves { OnErr result
-        (room (map.get (K.contents keyspace.old) key.now) < room (Some (kind.Str (signed_decimal number)))) }
-    ensures covers { K.covered keyspace.new ≡ K.covered keyspace.old }
+/// Adds to the number that a string says, where it lies, and answers the sum.
+#[tactic(auto, using(resp::proofs::Contents::content_of))]
+fn change_number(value: &mut Value, by: i64) -> Result<Reply, Starved>
+    ensures done { Changes (incrby_step by) value.old value.new result }
+    ensures starves { OnErr result (Grows (incrby_step by) (Some value.old)) }
 {
-    let mut text = take_text(alloc, keyspace, key);
-    let set = set_number(&mut text, number);
-    keyspace.replace(key, Value::Str(text));
-    set?;
-    Ok(Reply::Int(number))
+    let Value::Str(text) = value else {
+        return Ok(wrong_type_reply());
+    };
+    match add_to(text.as_slice(), by) {
+        Ok(sum) => {
+            set_number(text, sum)?;
+            Ok(Reply::Int(sum))
+        }
+        Err(fault) => Ok(no_number_reply(fault)),
+    }
 }

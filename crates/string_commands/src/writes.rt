@@ -1,16 +1,13 @@
 //! APPEND and SETRANGE, which write into a string.
 
-ghost use Rattle.std.specs.Prelude.{◌≡◌, ◌+◌, ◌^◌, ◌<◌, ◌++◌, length as length_of, nat_le, None, IsTrue, IfOk, OnOk, OnErr};
+ghost use Rattle.std.specs.Prelude.{◌≡◌, ◌+◌, nat_le, None, Some, IsTrue, OnErr};
 ghost use Rattle.std.specs.FinMap as map;
 ghost use Rattle.command_cases.specs.Case.{Does, at_key};
+ghost use Rattle.command_cases.specs.Changes.{Changes};
 ghost use Rattle.resp.specs.Content.{content};
-ghost use Rattle.string_commands.specs.Held.{is_string, text_at};
 ghost use Rattle.string_commands.specs.StringCommand.{at_string, append_string, setrange_string, setrange_step, Grows};
 ghost use Rattle.string_commands.specs.StringCommand.{too_long, bad_offset};
-ghost use Rattle.texts.specs.Writes.{written_at};
-ghost use Rattle.values.specs.declared.Value.TheVariants as kind;
 
-use crate::held::take_text;
 use command_cases::{Starved, count_reply, wrong_type_reply};
 use keyspace::Keyspace;
 use resp::{ErrorText, Reply};
@@ -29,7 +26,7 @@ const GREATEST_LENGTH: usize = 536870912;
 /// <https://redis.io/docs/latest/commands/append/>
 #[tactic(auto, using(keyspace::proofs::Changes::changes, resp::proofs::Contents::content_of))]
 pub(crate) fn append<K: Keyspace>(
-    alloc: Global,
+    _alloc: Global,
     keyspace: &mut K,
     key: Text,
     tail: Text,
@@ -40,16 +37,9 @@ pub(crate) fn append<K: Keyspace>(
     ensures starves { OnErr result (Grows (at_string (append_string tail)) (map.get (K.contents keyspace.old) key)) }
     ensures covers { K.covered keyspace.new ≡ K.covered keyspace.old }
 {
-    match keyspace.look(key.as_slice()) {
+    match keyspace.look_mut(key.as_slice()) {
         None => put_tail(keyspace, key, tail),
-        Some(Value::Str(text)) => {
-            if !is_short(text.len(), tail.len()) {
-                return Ok(too_long_reply());
-            }
-            let length = extend_text(alloc, keyspace, key.as_slice(), tail.as_slice())?;
-            Ok(count_reply(length))
-        }
-        Some(_) => Ok(wrong_type_reply()),
+        Some(value) => extend(value, tail.as_slice()),
     }
 }
 
@@ -96,19 +86,9 @@ fn set_from<K: Keyspace>(
         (Grows (at_string (setrange_string offset value)) (map.get (K.contents keyspace.old) key)) }
     ensures covers { K.covered keyspace.new ≡ K.covered keyspace.old }
 {
-    match keyspace.look(key.as_slice()) {
+    match keyspace.look_mut(key.as_slice()) {
         None => put_padded(alloc, keyspace, key, offset, value.as_slice()),
-        Some(Value::Str(text)) => {
-            if value.len() == 0 {
-                return Ok(count_reply(text.len()));
-            }
-            if !is_short(offset, value.len()) {
-                return Ok(too_long_reply());
-            }
-            let length = write_text(alloc, keyspace, key.as_slice(), offset, value.as_slice())?;
-            Ok(count_reply(length))
-        }
-        Some(_) => Ok(wrong_type_reply()),
+        Some(there) => write_over(there, offset, value.as_slice()),
     }
 }
 
@@ -187,56 +167,37 @@ fn put_padded<K: Keyspace>(
     Ok(count_reply(length))
 }
 
-/// Puts the tail behind the string at a key, and gives the new length.
-#[tactic(auto, using(keyspace::proofs::Changes::changes))]
-fn extend_text<K: Keyspace>(
-    alloc: Global,
-    keyspace: &mut K,
-    key: &[u8],
-    tail: &[u8],
-) -> Result<usize, Starved>
-    requires covered { IsTrue (K.covered keyspace.old key.now) }
-    requires there { IsTrue (is_string (map.get (K.contents keyspace.old) key.now)) }
-    ensures length { IfOk result (λ length. length ≡ length_of (text_at (K.contents keyspace.old) key.now ++ tail.now)) }
-    ensures ok { OnOk result (K.contents keyspace.new ≡ map.insert (K.contents keyspace.old) key.now
-        (kind.Str (text_at (K.contents keyspace.old) key.now ++ tail.now))) }
-    ensures err { OnErr result (K.contents keyspace.new ≡ K.contents keyspace.old) }
-    ensures starves { OnErr result (0 < length_of tail.now) }
-    ensures covers { K.covered keyspace.new ≡ K.covered keyspace.old }
+/// Puts the tail of an APPEND behind a string where it lies, and gives the new length.
+#[tactic(auto, using(resp::proofs::Contents::content_of))]
+fn extend(value: &mut Value, tail: &[u8]) -> Result<Reply, Starved>
+    ensures done { Changes (at_string (append_string tail.now)) value.old value.new result }
+    ensures starves { OnErr result (Grows (at_string (append_string tail.now)) (Some value.old)) }
 {
-    let mut text = take_text(alloc, keyspace, key);
-    let appended = text.append(tail);
-    let length = text.len();
-    keyspace.replace(key, Value::Str(text));
-    appended?;
-    Ok(length)
+    let Value::Str(text) = value else {
+        return Ok(wrong_type_reply());
+    };
+    if !is_short(text.len(), tail.len()) {
+        return Ok(too_long_reply());
+    }
+    text.append(tail)?;
+    Ok(count_reply(text.len()))
 }
 
-/// Writes the value over the string at a key, from a place on, and gives the new length.
-#[tactic(auto, using(keyspace::proofs::Changes::changes))]
-fn write_text<K: Keyspace>(
-    alloc: Global,
-    keyspace: &mut K,
-    key: &[u8],
-    offset: usize,
-    value: &[u8],
-) -> Result<usize, Starved>
-    requires covered { IsTrue (K.covered keyspace.old key.now) }
-    requires there { IsTrue (is_string (map.get (K.contents keyspace.old) key.now)) }
-    requires end { offset + length_of value.now < 2 ^ 64 }
-    ensures length { IfOk result (λ length.
-        length ≡ length_of (written_at (text_at (K.contents keyspace.old) key.now) offset value.now)) }
-    ensures ok { OnOk result (K.contents keyspace.new ≡ map.insert (K.contents keyspace.old) key.now
-        (kind.Str (written_at (text_at (K.contents keyspace.old) key.now) offset value.now))) }
-    ensures err { OnErr result (K.contents keyspace.new ≡ K.contents keyspace.old) }
-    ensures starves { OnErr result
-        (length_of (text_at (K.contents keyspace.old) key.now) < offset + length_of value.now) }
-    ensures covers { K.covered keyspace.new ≡ K.covered keyspace.old }
+/// Writes the bytes of a SETRANGE over a string where it lies, from a place on, and gives the new length.
+#[tactic(auto, using(resp::proofs::Contents::content_of))]
+fn write_over(value: &mut Value, offset: usize, bytes: &[u8]) -> Result<Reply, Starved>
+    ensures done { Changes (at_string (setrange_string offset bytes.now)) value.old value.new result }
+    ensures starves { OnErr result (Grows (at_string (setrange_string offset bytes.now)) (Some value.old)) }
 {
-    let mut text = take_text(alloc, keyspace, key);
-    let written = text.write_at(offset, value);
-    let length = text.len();
-    keyspace.replace(key, Value::Str(text));
-    written?;
-    Ok(length)
+    let Value::Str(text) = value else {
+        return Ok(wrong_type_reply());
+    };
+    if bytes.len() == 0 {
+        return Ok(count_reply(text.len()));
+    }
+    if !is_short(offset, bytes.len()) {
+        return Ok(too_long_reply());
+    }
+    text.write_at(offset, bytes)?;
+    Ok(count_reply(text.len()))
 }
