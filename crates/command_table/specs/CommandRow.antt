@@ -1,5 +1,5 @@
 -- A row of the table of commands, in the terms of the Redis command reference, and how rows are used.
-use Rattle.std.specs.Prelude.{◌+◌, List, [], ◌∷◌, Bool, Option, Some, None, is_some, Result, Ok, Err, ℤ, ◌%◌, ◌==◌}
+use Rattle.std.specs.Prelude.{◌+◌, List, [], ◌∷◌, Option, Some, None, Result, Ok, Err, ℤ, ◌%◌, ◌==◌}
 use Rattle.std.specs.Prelude.{if◌then◌else◌, length, option_map}
 use Rattle.std.specs.Str.{bytes_eq}
 use Rattle.command_table.specs.declared.arity.Arity.{Arity}
@@ -32,13 +32,14 @@ abbrev pub row_of : List CommandRow → Word → Option CommandRow
 row_of [] name = None
 row_of (r ∷ rs) name = if bytes_eq name r.name then Some r else row_of rs name
 
--- one of the rows has this name
-abbrev pub has_row : List CommandRow → Word → Bool
-has_row rows name = is_some (row_of rows name)
-
 -- what a row says of the words after the name: how many there are is looked at first
 abbrev pub row_reading : CommandRow → List Word → Reading
 row_reading r words = if admits r.arity (length words + 1) then r.reading words else Err (refusal.Arity r.name)
+
+-- why words are refused of which a row takes another number, or that no row has
+abbrev pub refusal_of : Option CommandRow → Refusal
+refusal_of (Some r) = refusal.Arity r.name
+refusal_of None = refusal.Unknown
 
 -- what these rows say of a name and the words after it; None where no row has the name
 abbrev pub reading_among : List CommandRow → Word → List Word → Option Reading

@@ -1,5 +1,6 @@
 pub mod Arity
 pub mod Command
+pub mod Families
 pub mod HashCommands
 pub mod Held
 pub mod KeyCommands

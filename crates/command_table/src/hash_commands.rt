@@ -6,16 +6,16 @@ ghost use Rattle.command_table.specs.HashCommands.{hash_command_told, hash_rows,
 ghost use Rattle.command_table.specs.HashCommands.{hkeys_row, hvals_row, hgetall_row, hmget_row, hdel_row, hsetnx_row, hset_row, hmset_row};
 ghost use Rattle.command_table.specs.HashCommands.{hincrby_row};
 ghost use Rattle.command_table.specs.Held.{told_held};
-ghost use Rattle.command_table.specs.CommandRow.{has_row, reading_among};
+ghost use Rattle.command_table.specs.CommandRow.{reading_among, refusal_of, row_of};
 ghost use Rattle.command_table.specs.Words.{texts_of};
 
 use crate::arity::Arity;
 use crate::command::Command;
 use crate::command_rows;
 use crate::refusal::{CommandName, Refusal};
-use crate::rows::{keys_of_span, names_row, read_rows, told_rows};
+use crate::rows::{keys_of_span, read_rows, refusal_rows, told_rows};
 use crate::told::{Keys, Told};
-use crate::words::{first_and_rest, has_letter, integer_word, only_word, three_words, two_words};
+use crate::words::{first_and_rest, integer_word, only_word, three_words, two_words};
 use texts::{Pairs, Text, Texts};
 
 /// A command on hashes.
@@ -70,18 +70,19 @@ impl HashCommand {
     }
 }
 
-/// Whether one of these rows has the name.
-pub(crate) fn names_hash_command(name: &str) -> bool
-    ensures { result ≡ has_row hash_rows name.now }
-{
-    has_letter(name, 0, b"h") && command_rows!(hashes, names_row, name)
-}
-
 /// Reads the words after a name by the row that has it; a name that none of these rows has is unknown.
 pub(crate) fn read_hash_command(name: &str, words: Vec<Vec<u8>>) -> Result<Command, Refusal>
     ensures { result ≡ unwrap_or (reading_among hash_rows name.now (texts_of words.items)) (Err Unknown) }
 {
-    command_rows!(hashes, read_rows, name, words)
+    command_rows!(hashes, read_rows, name, words, refusal_of_hash_command)
+}
+
+/// Why words after this name are refused that its row doesn't take.
+#[inline(never)]
+fn refusal_of_hash_command(name: &str) -> Refusal
+    ensures { result ≡ refusal_of (row_of hash_rows name.now) }
+{
+    command_rows!(hashes, refusal_rows, name)
 }
 
 /// `HLEN key`.

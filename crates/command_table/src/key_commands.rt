@@ -5,16 +5,16 @@ ghost use Rattle.command_table.specs.declared.refusal.Refusal.TheVariants.{Unkno
 ghost use Rattle.command_table.specs.Held.{told_held};
 ghost use Rattle.command_table.specs.KeyCommands.{key_command_told, key_rows, del_row, unlink_row, exists_row, type_row, rename_row};
 ghost use Rattle.command_table.specs.KeyCommands.{renamenx_row, dbsize_row, flushall_reading};
-ghost use Rattle.command_table.specs.CommandRow.{has_row, reading_among};
+ghost use Rattle.command_table.specs.CommandRow.{reading_among, refusal_of, row_of};
 ghost use Rattle.command_table.specs.Words.{texts_of};
 
 use crate::arity::Arity;
 use crate::command::Command;
 use crate::command_rows;
 use crate::refusal::{CommandName, Refusal};
-use crate::rows::{keys_of_span, names_row, read_rows, told_rows};
+use crate::rows::{keys_of_span, read_rows, refusal_rows, told_rows};
 use crate::told::{Keys, Told};
-use crate::words::{has_letter, is_word, only_word, two_words};
+use crate::words::{is_word, only_word, two_words};
 use texts::{Text, Texts};
 
 /// A command on keys of any type.
@@ -54,18 +54,19 @@ impl KeyCommand {
     }
 }
 
-/// Whether one of these rows has the name.
-pub(crate) fn names_key_command(name: &str) -> bool
-    ensures { result ≡ has_row key_rows name.now }
-{
-    has_letter(name, 0, b"detrfu") && command_rows!(keys, names_row, name)
-}
-
 /// Reads the words after a name by the row that has it; a name that none of these rows has is unknown.
 pub(crate) fn read_key_command(name: &str, words: Vec<Vec<u8>>) -> Result<Command, Refusal>
     ensures { result ≡ unwrap_or (reading_among key_rows name.now (texts_of words.items)) (Err Unknown) }
 {
-    command_rows!(keys, read_rows, name, words)
+    command_rows!(keys, read_rows, name, words, refusal_of_key_command)
+}
+
+/// Why words after this name are refused that its row doesn't take.
+#[inline(never)]
+fn refusal_of_key_command(name: &str) -> Refusal
+    ensures { result ≡ refusal_of (row_of key_rows name.now) }
+{
+    command_rows!(keys, refusal_rows, name)
 }
 
 /// `DEL key [key ..]`.

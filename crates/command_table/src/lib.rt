@@ -8,6 +8,7 @@
 
 mod arity;
 mod command;
+mod family;
 mod hash_commands;
 mod key_commands;
 mod list_commands;

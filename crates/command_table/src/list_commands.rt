@@ -7,16 +7,16 @@ ghost use Rattle.command_table.specs.ListCommands.{list_command_told, list_rows,
 ghost use Rattle.command_table.specs.ListCommands.{llen_row, lpop_row, rpop_row, lpush_row, rpush_row, lpushx_row, rpushx_row};
 ghost use Rattle.command_table.specs.ListCommands.{lindex_row, lset_row, lrange_row, ltrim_row, lrem_row};
 ghost use Rattle.command_table.specs.ListCommands.{linsert_row, lmove_row, rpoplpush_row};
-ghost use Rattle.command_table.specs.CommandRow.{has_row, reading_among};
+ghost use Rattle.command_table.specs.CommandRow.{reading_among, refusal_of, row_of};
 ghost use Rattle.command_table.specs.Words.{texts_of};
 
 use crate::arity::Arity;
 use crate::command::Command;
 use crate::command_rows;
 use crate::refusal::{CommandName, Refusal};
-use crate::rows::{keys_of_span, names_row, read_rows, told_rows};
+use crate::rows::{keys_of_span, read_rows, refusal_rows, told_rows};
 use crate::told::{Keys, Told};
-use crate::words::{first_and_rest, has_letter, integer_word, is_word, only_word, two_words};
+use crate::words::{first_and_rest, integer_word, is_word, only_word, two_words};
 use texts::{End, Text, Texts};
 
 /// A command on lists.
@@ -137,18 +137,19 @@ impl ListCommand {
     }
 }
 
-/// Whether one of these rows has the name.
-pub(crate) fn names_list_command(name: &str) -> bool
-    ensures { result ≡ has_row list_rows name.now }
-{
-    has_letter(name, 0, b"lr") && command_rows!(lists, names_row, name)
-}
-
 /// Reads the words after a name by the row that has it; a name that none of these rows has is unknown.
 pub(crate) fn read_list_command(name: &str, words: Vec<Vec<u8>>) -> Result<Command, Refusal>
     ensures { result ≡ unwrap_or (reading_among list_rows name.now (texts_of words.items)) (Err Unknown) }
 {
-    command_rows!(lists, read_rows, name, words)
+    command_rows!(lists, read_rows, name, words, refusal_of_list_command)
+}
+
+/// Why words after this name are refused that its row doesn't take.
+#[inline(never)]
+fn refusal_of_list_command(name: &str) -> Refusal
+    ensures { result ≡ refusal_of (row_of list_rows name.now) }
+{
+    command_rows!(lists, refusal_rows, name)
 }
 
 /// `LLEN key`.

@@ -4,16 +4,16 @@ ghost use Rattle.std.specs.Prelude.{◌≡◌, length, Err, unwrap_or};
 ghost use Rattle.command_table.specs.declared.refusal.Refusal.TheVariants.{Unknown};
 ghost use Rattle.command_table.specs.Held.{told_held};
 ghost use Rattle.command_table.specs.LocalCommands.{local_command_told, local_rows, ping_reading, echo_row};
-ghost use Rattle.command_table.specs.CommandRow.{has_row, reading_among};
+ghost use Rattle.command_table.specs.CommandRow.{reading_among, refusal_of, row_of};
 ghost use Rattle.command_table.specs.Words.{texts_of};
 
 use crate::arity::Arity;
 use crate::command::Command;
 use crate::command_rows;
 use crate::refusal::{CommandName, Refusal};
-use crate::rows::{keys_of_span, names_row, read_rows, told_rows};
+use crate::rows::{keys_of_span, read_rows, refusal_rows, told_rows};
 use crate::told::{Keys, Told};
-use crate::words::{has_letter, only_word};
+use crate::words::only_word;
 use texts::Text;
 
 /// A command that looks at no key.
@@ -35,18 +35,19 @@ impl LocalCommand {
     }
 }
 
-/// Whether one of these rows has the name.
-pub(crate) fn names_local_command(name: &str) -> bool
-    ensures { result ≡ has_row local_rows name.now }
-{
-    has_letter(name, 0, b"pe") && command_rows!(local, names_row, name)
-}
-
 /// Reads the words after a name by the row that has it; a name that none of these rows has is unknown.
 pub(crate) fn read_local_command(name: &str, words: Vec<Vec<u8>>) -> Result<Command, Refusal>
     ensures { result ≡ unwrap_or (reading_among local_rows name.now (texts_of words.items)) (Err Unknown) }
 {
-    command_rows!(local, read_rows, name, words)
+    command_rows!(local, read_rows, name, words, refusal_of_local_command)
+}
+
+/// Why words after this name are refused that its row doesn't take.
+#[inline(never)]
+fn refusal_of_local_command(name: &str) -> Refusal
+    ensures { result ≡ refusal_of (row_of local_rows name.now) }
+{
+    command_rows!(local, refusal_rows, name)
 }
 
 /// `PING [word]`.

@@ -12,13 +12,14 @@ ghost use Rattle.command_table.specs.CommandRow.{reading_among};
 ghost use Rattle.command_table.specs.Words.{lower, texts_of};
 
 use crate::command::Command;
-use crate::hash_commands::{names_hash_command, read_hash_command};
-use crate::key_commands::{names_key_command, read_key_command};
-use crate::list_commands::{names_list_command, read_list_command};
-use crate::local_commands::{names_local_command, read_local_command};
+use crate::family::{Family, family_of};
+use crate::hash_commands::read_hash_command;
+use crate::key_commands::read_key_command;
+use crate::list_commands::read_list_command;
+use crate::local_commands::read_local_command;
 use crate::refusal::Refusal;
 use crate::set_commands::read_set_command;
-use crate::string_commands::{names_string_command, read_string_command};
+use crate::string_commands::read_string_command;
 use resp::Request;
 
 /// The command that the request's words say, the first of which is its name in any mix of upper and lower case.
@@ -44,32 +45,27 @@ fn in_lower_case(mut name: Vec<u8>) -> Vec<u8>
 }
 
 /// Reads the words behind a name in lower case by the table's row. The names of the table are text, so other bytes name
-/// no row.
+/// no row. It returns at once for those: a value from one of two branches would be moved once more.
 fn read_named(name: &[u8], words: Vec<Vec<u8>>) -> Result<Command, Refusal>
     ensures { result ≡ unwrap_or (reading_among rows name.now (texts_of words.items)) (Err Unknown) }
 {
-    match std::str::from_utf8(name) {
-        Ok(name) => read_by_row(name, words),
-        Err(_) => Err(Refusal::Unknown),
-    }
+    let name = match std::str::from_utf8(name) {
+        Ok(name) => name,
+        Err(_) => return Err(Refusal::Unknown),
+    };
+    read_by_row(name, words)
 }
 
-/// Reads the words behind a name by the row of the family that has it. A family is asked for the name alone first: what
-/// reads by rows makes a temporary for each of them, also where none has the name.
+/// Reads the words behind a name by the rows of its family.
 fn read_by_row(name: &str, words: Vec<Vec<u8>>) -> Result<Command, Refusal>
     ensures { result ≡ unwrap_or (reading_among rows name.now (texts_of words.items)) (Err Unknown) }
 {
-    if names_local_command(name) {
-        read_local_command(name, words)
-    } else if names_key_command(name) {
-        read_key_command(name, words)
-    } else if names_string_command(name) {
-        read_string_command(name, words)
-    } else if names_list_command(name) {
-        read_list_command(name, words)
-    } else if names_hash_command(name) {
-        read_hash_command(name, words)
-    } else {
-        read_set_command(name, words)
+    match family_of(name) {
+        Family::Local => read_local_command(name, words),
+        Family::Key => read_key_command(name, words),
+        Family::Str => read_string_command(name, words),
+        Family::List => read_list_command(name, words),
+        Family::Hash => read_hash_command(name, words),
+        Family::Set => read_set_command(name, words),
     }
 }

@@ -106,30 +106,27 @@ macro_rules! command_rows {
     };
 }
 
-/// Whether a row has this name.
-macro_rules! names_row {
+/// Reads these words by the row of this name, where it takes as many; else they are refused, by the caller's function.
+macro_rules! read_rows {
+    ([$name:expr, $words:expr, $refusal:ident] $((
+        $text:literal, $arity:ident($number:literal), $span:tt, $variant:ident { $($field:ident),* }, $read:ident, $body:ident
+    ),)*) => {{
+        let count = $words.len() + 1;
+        match $name {
+            $($text if Arity::$arity($number).admits(count) => $read($words),)*
+            _ => Err($refusal($name)),
+        }
+    }};
+}
+
+/// Why words are refused that the row of this name doesn't take: how many there are, or that no row has the name.
+macro_rules! refusal_rows {
     ([$name:expr] $((
         $text:literal, $arity:ident($number:literal), $span:tt, $variant:ident { $($field:ident),* }, $read:ident, $body:ident
     ),)*) => {
         match $name {
-            $($text => true,)*
-            _ => false,
-        }
-    };
-}
-
-/// Reads these words by the row of this name; a name that no row has is unknown.
-macro_rules! read_rows {
-    ([$name:expr, $words:expr] $((
-        $text:literal, $arity:ident($number:literal), $span:tt, $variant:ident { $($field:ident),* }, $read:ident, $body:ident
-    ),)*) => {
-        match $name {
-            $($text => if Arity::$arity($number).admits($words.len() + 1) {
-                $read($words)
-            } else {
-                Err(Refusal::Arity(CommandName::of($text)))
-            },)*
-            _ => Err(Refusal::Unknown),
+            $($text => Refusal::Arity(CommandName::of($text)),)*
+            _ => Refusal::Unknown,
         }
     };
 }
@@ -157,6 +154,6 @@ macro_rules! keys_of_span {
 }
 
 pub(crate) use keys_of_span;
-pub(crate) use names_row;
 pub(crate) use read_rows;
+pub(crate) use refusal_rows;
 pub(crate) use told_rows;

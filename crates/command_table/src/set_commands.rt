@@ -3,7 +3,7 @@
 ghost use Rattle.std.specs.Prelude.{◌≡◌, ◌≤◌, length, Err, unwrap_or};
 ghost use Rattle.command_table.specs.declared.refusal.Refusal.TheVariants.{Unknown};
 ghost use Rattle.command_table.specs.Held.{told_held};
-ghost use Rattle.command_table.specs.CommandRow.{reading_among};
+ghost use Rattle.command_table.specs.CommandRow.{reading_among, refusal_of, row_of};
 ghost use Rattle.command_table.specs.SetCommands.{set_command_told, set_rows};
 ghost use Rattle.command_table.specs.SetCommands.{sadd_row, srem_row, sismember_row, smismember_row, scard_row, smembers_row};
 ghost use Rattle.command_table.specs.SetCommands.{smove_row, sinter_row, sunion_row, sdiff_row};
@@ -14,7 +14,7 @@ use crate::arity::Arity;
 use crate::command::Command;
 use crate::command_rows;
 use crate::refusal::{CommandName, Refusal};
-use crate::rows::{keys_of_span, read_rows, told_rows};
+use crate::rows::{keys_of_span, read_rows, refusal_rows, told_rows};
 use crate::told::{Keys, Told};
 use crate::words::{first_and_rest, only_word, three_words, two_words};
 use texts::{Text, Texts};
@@ -75,7 +75,15 @@ impl SetCommand {
 pub(crate) fn read_set_command(name: &str, words: Vec<Vec<u8>>) -> Result<Command, Refusal>
     ensures { result ≡ unwrap_or (reading_among set_rows name.now (texts_of words.items)) (Err Unknown) }
 {
-    command_rows!(sets, read_rows, name, words)
+    command_rows!(sets, read_rows, name, words, refusal_of_set_command)
+}
+
+/// Why words after this name are refused that its row doesn't take.
+#[inline(never)]
+fn refusal_of_set_command(name: &str) -> Refusal
+    ensures { result ≡ refusal_of (row_of set_rows name.now) }
+{
+    command_rows!(sets, refusal_rows, name)
 }
 
 /// `SADD key member [member ..]`.

@@ -8,7 +8,7 @@ ghost use Rattle.command_table.specs.StringCommands.{mget_row, strlen_row, getra
 ghost use Rattle.command_table.specs.StringCommands.{incr_row, decr_row, incrby_row, decrby_row, append_row, setrange_row, mset_row};
 ghost use Rattle.command_table.specs.StringCommands.{msetnx_row};
 ghost use Rattle.command_table.specs.StringCommands.{options_condition, is_option};
-ghost use Rattle.command_table.specs.CommandRow.{has_row, reading_among};
+ghost use Rattle.command_table.specs.CommandRow.{reading_among, refusal_of, row_of};
 ghost use Rattle.command_table.specs.Words.{texts_of};
 ghost use Rattle.std.specs.List.{list_all};
 
@@ -16,11 +16,9 @@ use crate::arity::Arity;
 use crate::command::Command;
 use crate::command_rows;
 use crate::refusal::{CommandName, Refusal};
-use crate::rows::{keys_of_span, names_row, read_rows, told_rows};
+use crate::rows::{keys_of_span, read_rows, refusal_rows, told_rows};
 use crate::told::{Keys, Told};
-use crate::words::{
-    has_letter, has_word, integer_word, is_word, only_word, three_words, two_words,
-};
+use crate::words::{has_word, integer_word, is_word, only_word, three_words, two_words};
 use texts::{Pairs, Text, Texts};
 
 /// A command on strings.
@@ -139,20 +137,19 @@ impl StringCommand {
     }
 }
 
-/// Whether one of these rows has the name.
-pub(crate) fn names_string_command(name: &str) -> bool
-    ensures { result ≡ has_row string_rows name.now }
-{
-    has_letter(name, 0, b"gsmida")
-        && has_letter(name, 1, b"egtnps")
-        && command_rows!(strings, names_row, name)
-}
-
 /// Reads the words after a name by the row that has it; a name that none of these rows has is unknown.
 pub(crate) fn read_string_command(name: &str, words: Vec<Vec<u8>>) -> Result<Command, Refusal>
     ensures { result ≡ unwrap_or (reading_among string_rows name.now (texts_of words.items)) (Err Unknown) }
 {
-    command_rows!(strings, read_rows, name, words)
+    command_rows!(strings, read_rows, name, words, refusal_of_string_command)
+}
+
+/// Why words after this name are refused that its row doesn't take.
+#[inline(never)]
+fn refusal_of_string_command(name: &str) -> Refusal
+    ensures { result ≡ refusal_of (row_of string_rows name.now) }
+{
+    command_rows!(strings, refusal_rows, name)
 }
 
 /// `GET key`.
