@@ -1,7 +1,8 @@
 //! The words that the server is started with.
 
 ghost use Rattle.std.specs.Prelude.{◌≡◌, ◌≤◌, IfOk};
-ghost use Rattle.server.specs.Options.{InRange};
+ghost use Rattle.server.specs.Options.{HasStatus, InRange, TellsRefusal};
+ghost use Rattle.server.specs.declared.command_line.OptionsFault.TheVariants as options_fault;
 
 use clap::error::ErrorKind;
 use clap::{Arg, ArgMatches, Command, value_parser};
@@ -53,12 +54,16 @@ pub enum OptionsFault {
 }
 
 impl From<AllocError> for OptionsFault {
+    ghost from_gives = { λ _ fault. fault ≡ options_fault.Memory };
+
     fn from(_error: AllocError) -> OptionsFault {
         OptionsFault::Memory
     }
 }
 
 impl From<clap::Error> for OptionsFault {
+    ghost from_gives = { λ error fault. TellsRefusal error fault };
+
     fn from(error: clap::Error) -> OptionsFault {
         match error.kind() {
             ErrorKind::OutOfMemory => OptionsFault::Memory,
@@ -70,7 +75,9 @@ impl From<clap::Error> for OptionsFault {
 impl OptionsFault {
     /// Prints the text where it belongs, and gives the program's status: 0 for help that was asked for, 2 for words
     /// that say no options, 7 for want of memory.
-    pub fn tell<R: Print + Eprint>(&self, rt: &R) -> u8 {
+    pub fn tell<R: Print + Eprint>(&self, rt: &R) -> u8
+        ensures { HasStatus self.now result }
+    {
         match self {
             OptionsFault::Words(error) => {
                 let _ = error.print(rt);

@@ -1,12 +1,13 @@
 //! What the lock guards: a cluster, and whether it is shut. No other module makes a fault of an ask.
 
-ghost use Rattle.std.specs.Prelude.{◌≡◌, true, OnErr, OnOk, IfOk, IfErr, IfSome, IfNone};
+ghost use Rattle.std.specs.Prelude.{◌≡◌, ◌+◌, ◌⊎◌, true, OnErr, OnOk, IfOk, IfErr, IfSome, IfNone};
 ghost use Rattle.cluster.specs.Answers.{shown_outcome};
 ghost use Rattle.resp.specs.Content.{content};
 ghost use Rattle.server.specs.Asks.{submitted, IsNewSeat, IsAnswered, IsReplied, RefusesSit, RefusesSubmit, RefusesCollect, RefusesTurn};
 ghost use Rattle.server.specs.Closings.{IsClosed, IsCloseFault, IsWritten};
-ghost use Rattle.cluster.specs.Histories.{IsFault};
+ghost use Rattle.cluster.specs.Histories.{IsFault, IsMade, IsUnchanged};
 ghost use Rattle.journal.specs.declared.step.Step.{Step};
+ghost use Rattle.system.specs.declared.effect.Effect.{Effect};
 ghost use Rattle.system.specs.declared.fault.StepFault.{StepFault};
 
 use crate::fault::{AskStep, FaultKind, lasting, told};
@@ -67,6 +68,7 @@ impl<L: Ledger> Held<L> {
     pub fn sit(&mut self) -> Result<Seat<L>, AskFault>
         ensures seat { IfOk result IsNewSeat }
         ensures refused { IfErr result (RefusesSit self.old.shut self.old.cluster.history) }
+        ensures shut { self.new.shut ≡ self.old.shut }
     {
         let step = AskStep::Sit;
         if self.shut {
@@ -93,6 +95,7 @@ impl<L: Ledger> Held<L> {
         ensures submitted { OnOk result (seat.new ≡ submitted seat.old words) }
         ensures refused { IfErr result (RefusesSubmit self.old.shut self.old.cluster.history seat.old words) }
         ensures unchanged { OnErr result (seat.new ≡ seat.old) }
+        ensures shut { self.new.shut ≡ self.old.shut }
     {
         let step = AskStep::Submit(seat.conn(), seat.count());
         if self.shut {
@@ -119,6 +122,7 @@ impl<L: Ledger> Held<L> {
         ensures unasked { IfOk result (λ answer. IfNone answer (seat.new ≡ seat.old)) }
         ensures refused { IfErr result (RefusesCollect self.old.cluster.history seat.old) }
         ensures unchanged { OnErr result (seat.new ≡ seat.old) }
+        ensures shut { self.new.shut ≡ self.old.shut }
     {
         let step = AskStep::Collect(seat.conn(), seat.count());
         self.cluster.lawful();
@@ -158,6 +162,7 @@ impl<L: Ledger> Held<L> {
         ensures unasked { IfOk result (λ reply. IfNone reply (seat.new ≡ seat.old)) }
         ensures refused { IfErr result (RefusesCollect self.old.cluster.history seat.old) }
         ensures unchanged { OnErr result (seat.new ≡ seat.old) }
+        ensures shut { self.new.shut ≡ self.old.shut }
     {
         let step = AskStep::Collect(seat.conn(), seat.count());
         self.cluster.lawful();
@@ -182,6 +187,7 @@ impl<L: Ledger> Held<L> {
         gate: &(dyn Gate + Sync),
     ) -> Result<Turn, AskFault>
         ensures refused { IfErr result (RefusesTurn W.may_refuse self.old.cluster.history) }
+        ensures shut { self.new.shut ≡ self.old.shut }
     {
         let step = AskStep::Turn;
         let settled = self.cluster.system().progress() == Progress::HasRun;
@@ -196,10 +202,30 @@ impl<L: Ledger> Held<L> {
         }
     }
 
+    /// Shuts: no one sits or asks any more.
+    pub fn shut(&mut self)
+        ensures shut { self.new.shut ≡ true }
+        ensures rest { self.new.cluster ≡ self.old.cluster }
+    {
+        self.shut = true;
+    }
+
+    /// Takes a seat back, and closes its connection, where a step may be made and there is memory for it.
+    pub fn stand(&mut self, seat: Seat<L>)
+        ensures stood { self.new.cluster.stood ≡ self.old.cluster.stood + 1 }
+        ensures back { self.new.cluster.back ≡ self.old.cluster.back + seat.count }
+        ensures closed { IsMade self.old.cluster.history (Step.Close seat.conn) Effect.Made self.new.cluster.history
+            ⊎ IsUnchanged self.old.cluster.history self.new.cluster.history }
+        ensures shut { self.new.shut ≡ self.old.shut }
+    {
+        self.cluster.stand(seat);
+    }
+
     /// What is told of the cluster when it is closed.
     pub fn close(&mut self) -> Result<Closing, CloseFault>
         ensures closed { IfOk result IsClosed }
         ensures refused { IfErr result IsCloseFault }
+        ensures same { self.new ≡ self.old }
     {
         self.cluster.lawful();
         self.cluster.closing()

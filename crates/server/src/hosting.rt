@@ -1,7 +1,7 @@
 //! Serving the connections that come to a listener, each on a thread of its own.
 
-ghost use Rattle.std.specs.Prelude.{◌≡◌, ◌<◌};
-ghost use Rattle.server.specs.Options.{InRange};
+ghost use Rattle.std.specs.Prelude.{◌≡◌, ◌<◌, ◌≤◌};
+ghost use Rattle.server.specs.Options.{InRange, IsEndStatus};
 ghost use Rattle.server.specs.declared.hosting.HostFault.TheVariants as host_fault;
 
 use crate::command_line::Options;
@@ -46,7 +46,10 @@ enum HostFault {
 
 impl HostFault {
     /// The program's status.
-    fn status(&self) -> u8 {
+    fn status(&self) -> u8
+        ensures least { 4 ≤ result }
+        ensures most { result ≤ 7 }
+    {
         match self {
             HostFault::Network => 4,
             HostFault::Close(_) => 5,
@@ -80,6 +83,7 @@ pub fn host<R, W: Write>(
 where
     R: Threads + Wait + AllocGlobal + Files + RandomSource + Eprint + Sync,
     requires { InRange options.now }
+    ensures { IsEndStatus result }
 {
     let blank = Blank::new(options.max_steps + 1);
     match serve_all::<Brand, R, W>(rt, listener, options, table, out, blank) {

@@ -157,13 +157,13 @@ impl<L: Ledger> Shared<L> {
 
     /// Shuts the cluster: no one sits or asks any more.
     pub fn shut<R: Wait>(&self, rt: &R) {
-        self.held.lock(rt).shut = true;
+        self.held.lock(rt).shut();
         self.work.notify_all();
     }
 
     /// Takes a seat back, and closes its connection. What it has under way still runs, and its outcome is dropped.
     pub fn stand<R: Wait>(&self, rt: &R, seat: Seat<L>) {
-        self.held.lock(rt).cluster.stand(seat);
+        self.held.lock(rt).stand(seat);
     }
 
     /// Appends the text of the trace. With `AllocError`, where there is no memory for all of it, `out` is as it was.
