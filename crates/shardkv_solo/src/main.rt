@@ -10,11 +10,14 @@ use serving::{ServeFault, Served};
 use solo::Solo;
 use std::convert::Infallible;
 use std::hash::{BuildHasherDefault, FoldHasher};
+use std::mem;
 use std::process::ExitCode;
 
 fn main(rt: HostRuntime) -> ExitCode {
     let mut store = Solo::new(rt.alloc(), BuildHasherDefault::<FoldHasher>::new());
     let served = store.serve(&mut rt.stdin(), &mut rt.stdout());
+    // The process ends: the system takes its memory back whole, and no key is let go one by one before.
+    mem::forget(store);
     let (status, fault) = status_of(served);
     if let Some(fault) = fault {
         let _ = eprintln!(rt; "shardkv-solo: {fault}");
