@@ -68,14 +68,9 @@ pub text-Int-written : (old out shown : List ℕ) (reply : Reply) (n : ℤ) → 
 text-Int-written old out shown reply n is same goes =
     goes ∙ append_assoc old (colon ∷ shown) crlf ∙ rw (is, text-Int n, same) refl
 
-pub text-Bulk-written : (old begun more out shown : List ℕ) (reply : Reply) (bytes : Vec ℕ) (n : ℕ) → reply ≡ Bulk bytes
-    → n ≡ length bytes.items → shown ≡ bytes.items → begun ≡ old ++ dollar ∷ decimal n ++ crlf
-    → more ≡ begun ++ shown → out ≡ more ++ crlf → out ≡ old ++ text (content reply)
-text-Bulk-written old begun more out shown reply bytes n is counted same begins goes ends =
-    let line = dollar ∷ decimal n in
-    ends ∙ ap (λ l. l ++ crlf) (goes ∙ ap (λ l. l ++ shown) (begins ∙ append_assoc old line crlf) ∙ append_assoc old (line ++ crlf) shown)
-    ∙ append_assoc old ((line ++ crlf) ++ shown) crlf
-    ∙ rw (is, text-Bulk bytes, counted, same) refl
+pub text-Bulk-written : (old out shown : List ℕ) (reply : Reply) (bytes : Vec ℕ) → reply ≡ Bulk bytes → shown ≡ bytes.items
+    → out ≡ old ++ dollar ∷ decimal (length shown) ++ crlf ++ shown ++ crlf → out ≡ old ++ text (content reply)
+text-Bulk-written old out shown reply bytes is same goes = goes ∙ rw (is, text-Bulk bytes, same) (simp append_assoc)
 
 -- ---- parts of an array's text are no longer than it
 

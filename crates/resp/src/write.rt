@@ -5,7 +5,7 @@
 
 ghost use Rattle.std.specs.Prelude.{◌≡◌, ◌<◌, ◌≤◌, ◌+◌, ◌∷◌, ◌++◌, ℕ, List, length, vec_len, vec_capacity, OnOk, OnErr};
 ghost use Rattle.std.specs.Fmt.{decimal};
-ghost use Rattle.resp.specs.Ascii.{minus};
+ghost use Rattle.resp.specs.Ascii.{dollar, minus};
 ghost use Rattle.resp.specs.Content.{content, error_text};
 ghost use Rattle.resp.specs.Text.{crlf, text};
 
@@ -40,11 +40,7 @@ fn put(reply: &Reply, out: &mut Vec<u8>) -> Result<(), AllocError>
         Reply::Simple(line) => put_line(b'+', line.as_bytes(), out)?,
         Reply::Error(line) => put_error(line, out)?,
         Reply::Int(n) => put_line(b':', Buffer::new().format(*n).as_bytes(), out)?,
-        Reply::Bulk(bytes) => {
-            put_length(b'$', bytes.len(), out)?;
-            out.extend_from_slice(bytes)?;
-            out.extend_from_slice(b"\r\n")?;
-        }
+        Reply::Bulk(bytes) => put_bulk(bytes, out)?,
         Reply::Null => out.extend_from_slice(b"$-1\r\n")?,
         Reply::Array(replies) => {
             put_length(b'*', replies.len(), out)?;
@@ -80,10 +76,41 @@ fn put_line(kind: u8, line: &[u8], out: &mut Vec<u8>) -> Result<(), AllocError>
     ensures capacity { vec_capacity out.old ≤ vec_capacity out.new }
     ensures full { OnErr result (vec_capacity out.old < vec_len out.old + length (kind ∷ line.now ++ crlf)) }
 {
-    out.push(kind)?;
+    out.reserve(line.len() + 3)?;
+    out.push_reserved(kind);
     out.extend_from_slice(line)?;
-    out.extend_from_slice(b"\r\n")?;
+    put_line_end(out);
     Ok(())
+}
+
+/// Appends a bulk string: the line that says how long it is, and its bytes on a line of their own.
+fn put_bulk(bytes: &[u8], out: &mut Vec<u8>) -> Result<(), AllocError>
+    ensures ok { OnOk result (out.new.items ≡ out.old.items ++ dollar ∷ decimal (length bytes.now) ++ crlf ++ bytes.now ++ crlf) }
+    ensures err { OnErr result ((more : List ℕ) × (out.new.items ≡ out.old.items ++ more)) }
+    ensures capacity { vec_capacity out.old ≤ vec_capacity out.new }
+    ensures full { OnErr result (vec_capacity out.old
+        < vec_len out.old + length (dollar ∷ decimal (length bytes.now) ++ crlf ++ bytes.now ++ crlf)) }
+{
+    let mut buffer = Buffer::new();
+    let digits = buffer.format(bytes.len()).as_bytes();
+    out.reserve(digits.len() + bytes.len() + 5)?;
+    out.push_reserved(b'$');
+    out.extend_from_slice(digits)?;
+    put_line_end(out);
+    out.extend_from_slice(bytes)?;
+    put_line_end(out);
+    Ok(())
+}
+
+/// Appends CR LF, for which there is room.
+fn put_line_end(out: &mut Vec<u8>)
+    requires { vec_len out.old + 2 ≤ vec_capacity out.old }
+    ensures items { out.new.items ≡ out.old.items ++ crlf }
+    ensures len { vec_len out.new ≡ vec_len out.old + 2 }
+    ensures capacity { vec_capacity out.new ≡ vec_capacity out.old }
+{
+    out.push_reserved(b'\r');
+    out.push_reserved(b'\n');
 }
 
 /// Appends the line that says how long a bulk string or an array is.

@@ -18,16 +18,14 @@ returns-in_ok-put_line-in-Int-clause-ok t c =
     let shown : c.as_bytes-in-Int.result.now ≡ signed_decimal c.in-Int.n = search rules in
     text-Int-written _ _ _ _ c.in-Int.n c.in-Int.is shown c.in_ok-put_line-in-Int.ensures.ok
 
-pub returns-in_ok-extend_from_slice-in-Bulk-2-clause-ok : goal.returns-in_ok-extend_from_slice-in-Bulk-2-clause-ok
-returns-in_ok-extend_from_slice-in-Bulk-2-clause-ok t c =
-    text-Bulk-written _ _ _ _ _ _ c.in-Bulk.bytes c.len.result c.in-Bulk.is (c.len.ensures ∙ sym c.deref.ensures.len
-    ∙ ap length c.deref.ensures.value) c.deref.ensures.value
-    c.in_ok-put_length-in-Bulk.ensures.ok c.in_ok-extend_from_slice-in-Bulk.ensures.items c.in_ok-extend_from_slice-in-Bulk-2.ensures.items
+pub returns-in_ok-put_bulk-in-Bulk-clause-ok : goal.returns-in_ok-put_bulk-in-Bulk-clause-ok
+returns-in_ok-put_bulk-in-Bulk-clause-ok t c =
+    text-Bulk-written _ _ _ _ c.in-Bulk.bytes c.in-Bulk.is c.deref.ensures.value c.in_ok-put_bulk-in-Bulk.ensures.ok
 
 pub returns-in_err-put_length-in-Array-clause-full : goal.returns-in_err-put_length-in-Array-clause-full
 returns-in_err-put_length-in-Array-clause-full t c =
-    let counted : c.len-in-Array.result ≡ length c.in-Array.replies.items = omega (arith, c.len-in-Array.ensures, c.in-Array.replies.ok) in
-    let fits = array_head_fits c.args.reply.now c.in-Array.replies c.len-in-Array.result c.in-Array.is counted in
+    let counted : c.len.result ≡ length c.in-Array.replies.items = omega (arith, c.len.ensures, c.in-Array.replies.ok) in
+    let fits = array_head_fits c.args.reply.now c.in-Array.replies c.len.result c.in-Array.is counted in
     let fails : vec_capacity c.args.out.now < vec_len c.args.out.now + length (reply_text c.args.reply.now) =
     omega (arith, c.in_err-put_length-in-Array.ensures.full, fits) in
     search (rules, fails)
@@ -35,11 +33,11 @@ returns-in_err-put_length-in-Array-clause-full t c =
 pub returns-in_err-put-in-Array-clause-full : goal.returns-in_err-put-in-Array-clause-full
 returns-in_err-put-in-Array-clause-full t c =
     let items = c.deref-reply-items.ensures.value in
-    let counted : c.len-in-Array.result ≡ length c.in-Array.replies.items = omega (arith, c.len-in-Array.ensures, c.in-Array.replies.ok) in
+    let counted : c.len.result ≡ length c.in-Array.replies.items = omega (arith, c.len.ensures, c.in-Array.replies.ok) in
     let within : c.loop-reply.reply-index < length c.in-Array.replies.items = omega (arith, ap length items) in
-    let fits = array_item_fits c.args.out.now.items c.put_length-in-Array.new.out.items c.loop-reply.out.items c.args.reply.now
+    let fits = array_item_fits c.args.out.now.items c.put_length.new.out.items c.loop-reply.out.items c.args.reply.now
     c.reply-item.result
-    c.in-Array.replies c.len-in-Array.result c.loop-reply.reply-index c.in-Array.is counted within (rw items at c.reply-item.is)
+    c.in-Array.replies c.len.result c.loop-reply.reply-index c.in-Array.is counted within (rw items at c.reply-item.is)
     c.in_ok-put_length-in-Array.ensures.ok (rw items at c.loop-reply.invariant.texts) in
     let fails : vec_capacity c.args.out.now < vec_len c.args.out.now + length (reply_text c.args.reply.now) =
     omega (
@@ -55,8 +53,8 @@ returns-in_err-put-in-Array-clause-full t c =
 
 pub returns-after-loop-reply-clause-ok : goal.returns-after-loop-reply-clause-ok
 returns-after-loop-reply-clause-ok t c =
-    text-Array-written _ _ _ _ c.in-Array.replies c.loop-reply.reply-index c.len-in-Array.result c.in-Array.is
-    (c.len-in-Array.ensures ∙ sym c.deref-reply-items.ensures.len ∙ ap length c.deref-reply-items.ensures.value)
+    text-Array-written _ _ _ _ c.in-Array.replies c.loop-reply.reply-index c.len.result c.in-Array.is
+    (c.len.ensures ∙ sym c.deref-reply-items.ensures.len ∙ ap length c.deref-reply-items.ensures.value)
     c.in_ok-put_length-in-Array.ensures.ok
     (rw c.deref-reply-items.ensures.value at c.loop-reply.invariant.texts)
     (omega (arith, ap length c.deref-reply-items.ensures.value))
