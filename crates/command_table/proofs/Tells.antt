@@ -211,7 +211,8 @@ string_tell = (
                           (
                             tells-one append_row refl refl (λ key ws. refl),
                             (
-                              tells-one setrange_row refl refl (λ key ws. integer_tells setrange_row key (integer_word (word ws 0)) _ (λ offset. refl)),
+                              tells-one setrange_row refl refl
+                                  (λ key ws. integer_tells setrange_row key (integer_word (word ws 0)) _ (λ offset. refl)),
                               (
                                 tells-pairs msetnx_row (λ pairs. Str (Msetnx pairs)) refl (λ ws. refl) (λ pairs. refl),
                                 tt,
@@ -291,7 +292,8 @@ list_tell = (
                         (
                           tells-one linsert_row refl refl (λ key ws. linsert_tells key (word ws 1) (word ws 2) (side_of (word ws 0))),
                           (
-                            tells-two lmove_row refl refl refl (λ from to ws. lmove_tells from to (end_of (word ws 0)) (end_of (word ws 1))),
+                            tells-two lmove_row refl refl refl
+                                (λ from to ws. lmove_tells from to (end_of (word ws 0)) (end_of (word ws 1))),
                             (
                               tells-two rpoplpush_row refl refl refl (λ from to ws. refl),
                               tt,

@@ -73,7 +73,8 @@ pub fn show<W: Workers, O: Write>(
     writer: &mut O,
 ) -> u8
     ensures shown { result ≡ 0 → IsShown table.now trace.now (O.contents writer.old) (O.contents writer.new) }
-    ensures fault { result ≢ 0 → (fault : ShowFault) × (result ≡ spec.status_of fault) × IsShowFault W.may_refuse table.now trace.now fault }
+    ensures fault { result ≢ 0 → (fault : ShowFault) × (result ≡ spec.status_of fault)
+        × IsShowFault W.may_refuse table.now trace.now fault }
 {
     match told(alloc, table, trace, workers, writer) {
         Ok(true) => 0,

@@ -9,12 +9,15 @@ use Rattle.hash_commands.proofs.changes.set_fields.Goals as goal
 pub returns-in-Some-clause-done : goal.returns-in-Some-clause-done
 returns-in-Some-clause-done g c =
     let changed = c.set_in_place in
-    done_lent c.args.key (changes_hash (set_change (set_answer c.args.answer) c.args.pairs)) (g.K.Keyspace.contents c.args.keyspace.now) _ changed.new.value changed.result c.as_slice.ensures c.in-Some.is
-    c.look_mut.ensures.value (lent c.in-Some.is (c.look_mut.follows.holds changed.new.value)).0 changed.ensures.done
+    let old = g.K.Keyspace.contents c.args.keyspace.now in
+    done_lent c.args.key (changes_hash (set_change (set_answer c.args.answer) c.args.pairs)) old _ changed.new.value changed.result
+    c.as_slice.ensures c.in-Some.is c.look_mut.ensures.value
+    (lent c.in-Some.is (c.look_mut.follows.holds changed.new.value)).0 changed.ensures.done
 
 pub returns-in-Some-clause-starves : goal.returns-in-Some-clause-starves
 returns-in-Some-clause-starves g c =
-    let there = lent_there c.args.key (g.K.Keyspace.contents c.args.keyspace.now) c.as_slice.ensures c.in-Some.is c.look_mut.ensures.value in
+    let old = g.K.Keyspace.contents c.args.keyspace.now in
+    let there = lent_there c.args.key old c.as_slice.ensures c.in-Some.is c.look_mut.ensures.value in
     subst (λ t. OnErr c.set_in_place.result (IsSome (pairs_there t))) (sym there) c.set_in_place.ensures.starves
 
 pub returns-in-Some-clause-covers : goal.returns-in-Some-clause-covers

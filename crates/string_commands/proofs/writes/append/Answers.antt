@@ -10,13 +10,16 @@ returns-in-Some-clause-done g c =
     let changed = c.extend in
     let before = c.in-Some.value.now in
     let same_bytes = c.as_slice-in-Some.ensures in
-    let done = subst (λ bytes. Changes (at_string (append_string bytes)) before changed.new.value changed.result) same_bytes changed.ensures.done in
-    done_lent c.args.key (at_string (append_string c.args.tail)) (g.K.Keyspace.contents c.args.keyspace.now) _ changed.new.value changed.result
+    let done = subst (λ bytes. Changes (at_string (append_string bytes)) before changed.new.value changed.result)
+    same_bytes changed.ensures.done in
+    let old = g.K.Keyspace.contents c.args.keyspace.now in
+    done_lent c.args.key (at_string (append_string c.args.tail)) old _ changed.new.value changed.result
     c.as_slice.ensures c.in-Some.is c.look_mut.ensures.value (lent c.in-Some.is (c.look_mut.follows.holds changed.new.value)).0 done
 
 pub returns-in-Some-clause-starves : goal.returns-in-Some-clause-starves
 returns-in-Some-clause-starves g c =
-    let there = lent_there c.args.key (g.K.Keyspace.contents c.args.keyspace.now) c.as_slice.ensures c.in-Some.is c.look_mut.ensures.value in
+    let old = g.K.Keyspace.contents c.args.keyspace.now in
+    let there = lent_there c.args.key old c.as_slice.ensures c.in-Some.is c.look_mut.ensures.value in
     let starves = subst (λ bytes. OnErr c.extend.result (Grows (at_string (append_string bytes)) (Some c.in-Some.value.now)))
     c.as_slice-in-Some.ensures c.extend.ensures.starves in
     subst (λ t. OnErr c.extend.result (Grows (at_string (append_string c.args.tail)) t)) (sym there) starves

@@ -10,15 +10,18 @@ returns-in-Some-clause-done g c =
     let changed = c.write_over in
     let before = c.in-Some.there.now in
     let same_bytes = c.as_slice-in-Some.ensures in
-    let done = subst (λ bytes. Changes (at_string (setrange_string c.args.offset bytes)) before changed.new.value changed.result) same_bytes changed.ensures.done in
-    done_lent c.args.key (at_string (setrange_string c.args.offset c.args.value)) (g.K.Keyspace.contents c.args.keyspace.now) _ changed.new.value changed.result
+    let done = subst (λ bytes. Changes (at_string (setrange_string c.args.offset bytes)) before changed.new.value changed.result)
+    same_bytes changed.ensures.done in
+    let old = g.K.Keyspace.contents c.args.keyspace.now in
+    done_lent c.args.key (at_string (setrange_string c.args.offset c.args.value)) old _ changed.new.value changed.result
     c.as_slice.ensures c.in-Some.is c.look_mut.ensures.value (lent c.in-Some.is (c.look_mut.follows.holds changed.new.value)).0 done
 
 pub returns-in-Some-clause-starves : goal.returns-in-Some-clause-starves
 returns-in-Some-clause-starves g c =
-    let there = lent_there c.args.key (g.K.Keyspace.contents c.args.keyspace.now) c.as_slice.ensures c.in-Some.is c.look_mut.ensures.value in
-    let starves = subst (λ bytes. OnErr c.write_over.result (Grows (at_string (setrange_string c.args.offset bytes)) (Some c.in-Some.there.now)))
-    c.as_slice-in-Some.ensures c.write_over.ensures.starves in
+    let old = g.K.Keyspace.contents c.args.keyspace.now in
+    let there = lent_there c.args.key old c.as_slice.ensures c.in-Some.is c.look_mut.ensures.value in
+    let starves = subst (λ bytes. OnErr c.write_over.result (Grows (at_string (setrange_string c.args.offset bytes))
+    (Some c.in-Some.there.now))) c.as_slice-in-Some.ensures c.write_over.ensures.starves in
     subst (λ t. OnErr c.write_over.result (Grows (at_string (setrange_string c.args.offset c.args.value)) t)) (sym there) starves
 
 pub returns-in-Some-clause-covers : goal.returns-in-Some-clause-covers
