@@ -12,11 +12,8 @@ use denote.Struct.Struct.{Struct}
 use denote.Struct.Declared as declared
 use Rattle.std.specs.contracts.net.tcp.TcpStream as TcpStream
 use Rattle.std.specs.contracts.num.NonZeroUsize as NonZeroUsize
-use Rattle.std.specs.contracts.sync.Mutex as Mutex
-use Rattle.std.specs.contracts.vec.Vec as Vec
-use Rattle.std.specs.contracts.alloc.Global as Global
-use Rattle.std.specs.contracts.impls.GlobalAllocator.TheImpl.{ghosts}
 use Rattle.server.specs.contracts.desk.Turns as Turns
+use Rattle.server.specs.contracts.endings.Endings as Endings
 use denote.Struct.Tuple.{TupleAt, type_at}
 use Rattle.std.proofs.Crossing.{crosses}
 use Rattle.std.proofs.MapsCrossing as maps
@@ -59,8 +56,8 @@ turns_send = search (sendable, crosses) depth 40 fits 3000
 u64_send : IsSend (u64-field).row
 u64_send = search sendable depth 20
 
-ended_sync : IsSync (Mutex.the_row (Vec.the_row (u64-field).row Global.the_row ghosts))
-ended_sync = search (sendable, crosses) depth 40 fits 3000
+endings_sync : IsSync Endings.the_row
+endings_sync = search (sendable, crosses) depth 40 fits 3000
 
 workers_send : IsSend NonZeroUsize.the_row
 workers_send = search (sendable, crosses) depth 40 fits 3000
@@ -70,7 +67,7 @@ module _ (δ : Ty) (ν : Sym) (L R : RattleType) (g : Ghosts L.Denot) where
   abbrev pub served : (ℓ₁ : Lifetime) (κ₁ : Lft) (ℓ₂ : Lifetime) (κ₂ : Lft) (ℓ₃ : Lifetime) (κ₃ : Lft) → List RattleType
   served ℓ₁ κ₁ ℓ₂ κ₂ ℓ₃ κ₃ =
       ShrRef ℓ₁ κ₁ (param 1 R) ∷ ShrRef ℓ₂ κ₂ (Shared.the_row (param 0 L) g) ∷ TcpStream.the_row ∷ Turns.the_row
-      ∷ ShrRef ℓ₃ κ₃ (Mutex.the_row (Vec.the_row (u64-field).row Global.the_row ghosts)) ∷ (u64-field).row ∷ []
+      ∷ ShrRef ℓ₃ κ₃ Endings.the_row ∷ (u64-field).row ∷ []
 
   pub served_send : (ℓ₁ : Lifetime) (κ₁ : Lft) (ℓ₂ : Lifetime) (κ₂ : Lft) (ℓ₃ : Lifetime) (κ₃ : Lft) → IsSync R → IsSend System.the_row
       → IsSend (param 1 (arg δ no (TupleAt ν (served ℓ₁ κ₁ ℓ₂ κ₂ ℓ₃ κ₃))))
@@ -85,7 +82,7 @@ module _ (δ : Ty) (ν : Sym) (L R : RattleType) (g : Ghosts L.Denot) where
             (
               turns_send,
               (
-                shr_send ℓ₃ κ₃ (Mutex.the_row (Vec.the_row (u64-field).row Global.the_row ghosts)) ended_sync,
+                shr_send ℓ₃ κ₃ Endings.the_row endings_sync,
                 (u64_send, tt),
               ),
             ),

@@ -6,6 +6,7 @@ ghost use Rattle.server.specs.declared.hosting.HostFault.TheVariants as host_fau
 
 use crate::command_line::Options;
 use crate::desk::{Desk, Turns};
+use crate::endings::Endings;
 use crate::sending::{syncs, system_sends};
 use crate::shared::Shared;
 use cluster::{CloseFault, First};
@@ -18,16 +19,25 @@ use std::alloc::AllocError;
 use std::collections::BTreeMap;
 use std::fs;
 use std::hash::RandomState;
-use std::io::{ErrorKind, Write};
+use std::io::{self, ErrorKind, Write};
 use std::marker::Brand;
 use std::net::{TcpListener, TcpStream};
 use std::num::NonZeroUsize;
 use std::random::RandomSource;
 use std::rt::Files;
+use std::sync::Wait;
 use std::sync::ledger::{Blank, Ledger};
-use std::sync::{Mutex, Wait};
 use std::thread::{self, JoinHandle, Threads};
 use thiserror::Error;
+
+// Linux's numbers of the faults by which there is no room for a connection: ENFILE, EMFILE, ENOBUFS and ENOMEM.
+const TOO_MANY_IN_SYSTEM: i32 = 23;
+
+const TOO_MANY_OPEN: i32 = 24;
+
+const NO_BUFFERS: i32 = 105;
+
+const NO_MEMORY: i32 = 12;
 
 /// Why the server doesn't end well. Each reason has its status.
 #[derive(Clone, Copy, Debug, Drop, PartialEq, Eq, Error)]
@@ -197,7 +207,7 @@ where
 }
 
 /// Serves so many connections, each on a thread of its own. A thread that has ended is joined when the next connection
-/// comes.
+/// comes, or is waited for.
 fn serve_connections<L: Ledger + Send + Sync, R>(
     rt: &R,
     listener: &TcpListener,
@@ -209,23 +219,23 @@ where
     R: Threads + Wait + AllocGlobal + Sync,
 {
     let alloc = rt.alloc();
-    let ended = Mutex::new(Vec::new(alloc));
-    let ended = &ended;
+    let endings = Endings::new(alloc);
+    let endings = &endings;
     thread::scope(thread::scope_env(), rt, |scope| {
         system_sends();
         syncs::<R>();
         let mut threads = BTreeMap::new(alloc);
         for number in 0..connections {
-            let Some(stream) = accepted(listener) else {
+            let Some(stream) = accepted(rt, listener, endings, &mut threads) else {
                 return Err(HostFault::Network);
             };
-            join_ended(rt, ended, &mut threads);
-            if ended.lock(rt).reserve(threads.len() + 1).is_err() {
+            endings.join(rt, &mut threads);
+            if endings.reserve(rt, threads.len() + 1).is_err() {
                 continue;
             }
             let served = scope.spawn(move || {
                 serve_connection(rt, shared, &stream, turns);
-                let _ = ended.lock(rt).push(number);
+                endings.tell(rt, number);
             });
             if let Ok(thread) = served {
                 let _ = threads.insert(number, thread);
@@ -235,33 +245,38 @@ where
     })
 }
 
-/// The next connection.
-fn accepted(listener: &TcpListener) -> Option<TcpStream> {
+/// The next connection. Where the system has no room for it, it waits at the listener until one of those that are
+/// served has ended; so who opens many connections keeps others from opening theirs, and ends nothing.
+fn accepted<R: Threads + Wait>(
+    rt: &R,
+    listener: &TcpListener,
+    endings: &Endings,
+    threads: &mut BTreeMap<u64, JoinHandle<()>>,
+) -> Option<TcpStream> {
     for _ in 0..u64::MAX {
-        match listener.accept() {
+        let fault = match listener.accept() {
             Ok((stream, _)) => return Some(stream),
-            Err(fault) => match fault.kind() {
-                ErrorKind::Interrupted | ErrorKind::ConnectionAborted => {}
-                _ => return None,
-            },
+            Err(fault) => fault,
+        };
+        if wants_room(&fault) && !threads.is_empty() {
+            endings.wait(rt);
+            endings.join(rt, threads);
+            continue;
+        }
+        match fault.kind() {
+            ErrorKind::Interrupted | ErrorKind::ConnectionAborted => {}
+            _ => return None,
         }
     }
     None
 }
 
-/// Joins the threads that have ended.
-fn join_ended<R: Threads + Wait>(
-    rt: &R,
-    ended: &Mutex<Vec<u64>>,
-    threads: &mut BTreeMap<u64, JoinHandle<()>>,
-) {
-    let mut numbers = ended.lock(rt);
-    for number in numbers.iter() {
-        if let Some(thread) = threads.remove(number) {
-            thread.join(rt);
-        }
-    }
-    numbers.clear();
+/// Whether a connection isn't taken since there are too many, of the process or of the system, or no memory for it.
+fn wants_room(fault: &io::Error) -> bool {
+    matches!(
+        fault.raw_os_error(),
+        Some(TOO_MANY_IN_SYSTEM | TOO_MANY_OPEN | NO_BUFFERS | NO_MEMORY)
+    )
 }
 
 /// Serves one connection, at a seat of its own.

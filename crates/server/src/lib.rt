@@ -7,12 +7,14 @@
 
 mod command_line;
 mod desk;
+mod endings;
 mod fault;
 mod held;
 mod hosting;
 mod sending;
 mod shared;
 mod turnstile;
+mod waiting;
 
 pub use command_line::{Options, OptionsFault, read_options};
 pub use desk::{Desk, Turns};

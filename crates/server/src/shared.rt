@@ -13,6 +13,7 @@ ghost use Rattle.journal.specs.declared.trace.TheConstants.{GREATEST_STEPS};
 
 use crate::held::{AskFault, Held, Turn};
 use crate::turnstile::Turnstile;
+use crate::waiting::Waiting;
 use cluster::{Answer, CloseFault, Closing, Cluster, First, Pick, Seat};
 use placement::Table;
 use resp::{Reply, Request};
@@ -23,6 +24,10 @@ use std::num::NonZeroUsize;
 use std::sync::ledger::{Blank, Ledger};
 use std::sync::{Condvar, Mutex, Wait};
 use std::thread;
+use system::System;
+
+/// The requests of a layer share no shard, of which there are no more.
+const GREATEST_LAYER: usize = 64;
 
 /// A cluster under a lock. Each accepted step is one holding of the lock.
 #[derive(Drop)]
@@ -31,7 +36,7 @@ pub struct Shared<L: Ledger> {
     // A request was submitted, or the cluster is shut.
     work: Condvar,
     // Outcomes went to their connections, or no turn is made any more.
-    done: Condvar,
+    done: Waiting,
     turnstile: Turnstile,
 }
 
@@ -58,7 +63,7 @@ impl<L: Ledger> Shared<L> {
                 shut: false,
             }),
             work: Condvar::new(),
-            done: Condvar::new(),
+            done: Waiting::new(),
             turnstile: Turnstile::new(),
         })
     }
@@ -147,7 +152,7 @@ impl<L: Ledger> Shared<L> {
                 Ok(true) => {}
                 Ok(false) => return Ok(()),
                 Err(fault) => {
-                    self.done.notify_all();
+                    self.done.wake_all();
                     return Err(fault);
                 }
             }
@@ -207,7 +212,7 @@ impl<L: Ledger> Shared<L> {
                 Err(fault) => return Err(fault),
             }
             if held.cluster.system().waits(seat.conn()).is_none() {
-                held = self.done.wait(rt, held);
+                held = self.done.wait(rt, seat.conn(), held);
                 continue;
             }
             // There was no memory to collect it.
@@ -276,10 +281,11 @@ impl<L: Ledger> Shared<L> {
         ensures { IfErr result IsStopped }
     {
         let mut held = self.held.lock(rt);
+        let rows = held.cluster.system().rows().len();
         match held.turn(pick, workers, gate) {
             Ok(Turn::Made { settled }) => {
                 if settled {
-                    self.done.notify_all();
+                    self.wake_settled(held.cluster.system(), rows);
                 }
             }
             Ok(Turn::Starved) => thread::yield_now(),
@@ -292,5 +298,19 @@ impl<L: Ledger> Shared<L> {
             Err(fault) => return Err(fault),
         }
         Ok(true)
+    }
+
+    /// Wakes the seats whose outcomes came by the last Settle, before which there were so many rows. Who starved in its
+    /// layer is among the last that starved.
+    fn wake_settled(&self, system: &System, rows: usize) {
+        let all = system.rows();
+        for place in rows..all.len() {
+            if let Some(row) = all.row(place) {
+                self.done.wake(row.id().conn);
+            }
+        }
+        for id in system.starved().iter().rev().take(GREATEST_LAYER) {
+            self.done.wake(id.conn);
+        }
     }
 }

@@ -1,0 +1,48 @@
+//! Where seats wait for what comes of their requests.
+
+use skeen_core::ConnId;
+use std::array;
+use std::sync::{Condvar, MutexGuard, Wait};
+
+/// How many places there are to wait at.
+const PLACES: u64 = 64;
+
+/// Places for seats that wait: a connection's is its number's rest by [`PLACES`]. So an outcome wakes its own seat, and
+/// beside it only those whose connections have the same rest, of which there are none among 64 that came in a row.
+///
+/// A place guards nothing. Who wakes one holds the lock by which a seat goes to sleep, so that no seat misses it.
+#[derive(Drop)]
+pub(crate) struct Waiting {
+    places: [Condvar; PLACES as usize],
+}
+
+impl Waiting {
+    /// Places at which no one waits.
+    pub fn new() -> Self {
+        Waiting {
+            places: array::from_fn(|_| Condvar::new()),
+        }
+    }
+
+    /// Waits at the connection's place, and lets the lock go meanwhile. It may end without a call.
+    pub fn wait<'b, R: Wait, T>(
+        &self,
+        rt: &R,
+        conn: ConnId,
+        guard: MutexGuard<'b, T>,
+    ) -> MutexGuard<'b, T> {
+        self.places[(conn.0 % PLACES) as usize].wait(rt, guard)
+    }
+
+    /// Wakes the seat of this connection, if it waits.
+    pub fn wake(&self, conn: ConnId) {
+        self.places[(conn.0 % PLACES) as usize].notify_all();
+    }
+
+    /// Wakes all.
+    pub fn wake_all(&self) {
+        for place in &self.places {
+            place.notify_all();
+        }
+    }
+}
