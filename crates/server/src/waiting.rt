@@ -10,7 +10,8 @@ const PLACES: u64 = 64;
 /// Places for seats that wait: a connection's is its number's rest by [`PLACES`]. So an outcome wakes its own seat, and
 /// beside it only those whose connections have the same rest, of which there are none among 64 that came in a row.
 ///
-/// A place guards nothing. Who wakes one holds the lock by which a seat goes to sleep, so that no seat misses it.
+/// A place guards nothing. What a seat waits for changes under the lock that it lets go of when it goes to sleep, so it
+/// misses no call that comes after the change.
 #[derive(Drop)]
 pub(crate) struct Waiting {
     places: [Condvar; PLACES as usize],
