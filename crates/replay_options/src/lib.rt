@@ -1,14 +1,23 @@
 //! The words of the command line of `shardkv-replay`.
 #![tactic(auto)]
 
-ghost use Rattle.std.specs.Prelude.{◌≡◌, ◌≤◌, IfOk};
+ghost use Rattle.std.specs.Prelude.{◌≡◌, ◌≤◌, IfOk, map};
+ghost use Rattle.clap.specs.Words.{app_of, found_of, rows_of};
+ghost use Rattle.replay_options.specs.Options.{AreSaid, AreSaidBy, line};
 ghost use Rattle.replay_options.specs.declared.OptionsFault.TheVariants as options_fault;
 
 use clap::error::ErrorKind;
-use clap::{Arg, ArgAction, Command};
+use clap::{ArgMatches, Command};
+use command_lines::{number_in, value_in, valued};
 use std::alloc::{AllocError, Global};
 use std::convert::AsStr;
 use thiserror::Error;
+
+/// The workers where the words name none.
+const WORKERS: u64 = 1;
+
+/// The greatest number of workers that may be asked for.
+const GREATEST_WORKERS: u64 = 64;
 
 /// What the words ask for.
 #[derive(Clone, Copy, Debug, Drop)]
@@ -48,14 +57,15 @@ impl From<AllocError> for OptionsFault {
 }
 
 /// Reads the words, of which the first is the program's name: `--table FILE --trace FILE`, and `--workers N` from 1 to 64.
+///
+/// What they say is what `clap` finds in them by the command line's options, each of which takes a value; where they
+/// name no workers there is one.
 pub fn options<'a, S: AsStr>(alloc: Global, words: &'a [S]) -> Result<Asked<'a>, OptionsFault>
     ensures least { IfOk result (λ options. 1 ≤ options.workers) }
     ensures most { IfOk result (λ options. options.workers ≤ 64) }
+    ensures said { IfOk result (AreSaid (map S.text words.now)) }
 {
-    let line = Command::new(alloc, "shardkv-replay")
-        .arg(valued(alloc, "table"))?
-        .arg(valued(alloc, "trace"))?
-        .arg(valued(alloc, "workers"))?;
+    let line = line(alloc)?;
     let found = match line.try_get_matches_from(words) {
         Ok(found) => found,
         Err(fault) if matches!(fault.kind(), ErrorKind::OutOfMemory) => {
@@ -63,35 +73,45 @@ pub fn options<'a, S: AsStr>(alloc: Global, words: &'a [S]) -> Result<Asked<'a>,
         }
         Err(_) => return Err(OptionsFault::Usage),
     };
-    let Some(table) = found.get_str("table") else {
-        return Err(OptionsFault::Usage);
-    };
-    let Some(trace) = found.get_str("trace") else {
-        return Err(OptionsFault::Usage);
-    };
-    let workers = workers_in(found.get_str("workers"))?;
-    Ok(Asked {
-        table,
-        trace,
-        workers,
-    })
+    asked_in(&found)
 }
 
-/// An option of this name that takes a value.
-fn valued<'a>(alloc: Global, name: &'a str) -> Arg<'a> {
-    Arg::new(alloc, name).long(name).action(ArgAction::Set)
-}
-
-/// The number of workers that the text says; 1 where there is none.
-fn workers_in(text: Option<&str>) -> Result<u8, OptionsFault>
-    ensures least { IfOk result (λ workers. 1 ≤ workers) }
-    ensures most { IfOk result (λ workers. workers ≤ 64) }
+/// The command line.
+fn line<'a>(alloc: Global) -> Result<Command<'a>, AllocError>
+    ensures { IfOk result (λ command. app_of command ≡ line) }
 {
-    let Some(text) = text else {
-        return Ok(1);
+    let table = valued(alloc, "table", "FILE", "The placement table");
+    let trace = valued(alloc, "trace", "FILE", "The trace");
+    let workers = valued(
+        alloc,
+        "workers",
+        "N",
+        "How many workers, 1 to 64 [default: 1]",
+    );
+    Command::new(alloc, "shardkv-replay")
+        .arg(table)?
+        .arg(trace)?
+        .arg(workers)
+}
+
+/// What the options that were given ask for.
+fn asked_in<'a>(found: &ArgMatches<'a>) -> Result<Asked<'a>, OptionsFault>
+    ensures least { IfOk result (λ options. 1 ≤ options.workers) }
+    ensures most { IfOk result (λ options. options.workers ≤ 64) }
+    ensures said { IfOk result (AreSaidBy (rows_of (found_of found.now))) }
+{
+    let Some(table) = value_in(found, "table") else {
+        return Err(OptionsFault::Usage);
     };
-    match text.parse::<u8>() {
-        Ok(workers) if workers >= 1 && workers <= 64 => Ok(workers),
+    let Some(trace) = value_in(found, "trace") else {
+        return Err(OptionsFault::Usage);
+    };
+    match number_in(found, "workers", WORKERS) {
+        Some(workers) if workers >= 1 && workers <= GREATEST_WORKERS => Ok(Asked {
+            table,
+            trace,
+            workers: workers as u8,
+        }),
         _ => Err(OptionsFault::Workers),
     }
 }
