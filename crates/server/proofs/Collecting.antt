@@ -19,7 +19,7 @@ use Rattle.resp.specs.declared.reply.Reply.{Reply}
 use Rattle.router.specs.declared.outcome.Outcome as kept
 use Rattle.server.specs.Asks.{submitted, IsAnswered, IsReplied, IsCollectFault, IsAskFault}
 use Rattle.server.specs.declared.held.AskFault.{AskFault}
-use Rattle.server.specs.Closings.{IsClosed, IsCloseFault, IsWritten}
+use Rattle.server.specs.Closings.{Closes, Writes, IsClosed, IsCloseFault, IsWritten}
 use Rattle.system.specs.System.{IsQuiet}
 use Rattle.system.specs.declared.effect.Effect.TheVariants.{Collected}
 use Rattle.system_view.specs.Connections.{outcome_shown}
@@ -68,9 +68,8 @@ replied_of before after old new reply h lawful = (
 pub closed_of : (k : ClusterView) (r : Result Closing CloseFault) → OnOk r (k.stood ≡ k.sat) → OnOk r (k.back ≡ k.book)
     → OnOk r (IsQuiet k.history.system.parts) → OnOk r (IsLawful k.history) → IfOk r (λ closing. closing.requests ≡ submits k.history.steps)
     → IfOk r (λ closing. closing.executed ≡ length k.history.system.parts.rows)
-    → IfOk r (λ closing. closing.starved ≡ length k.history.system.parts.starved.items) → k.book ≡ submits k.history.steps → IfOk r IsClosed
+    → IfOk r (λ closing. closing.starved ≡ length k.history.system.parts.starved.items) → k.book ≡ submits k.history.steps → IfOk r (Closes k)
 closed_of k (Ok closing) seats share quiet lawful requests executed starved book = record {
-  cluster = k;
   lawful = lawful;
   quiet = quiet;
   stood = seats;
@@ -81,14 +80,25 @@ closed_of k (Ok closing) seats share quiet lawful requests executed starved book
 }
 closed_of k (Err fault) seats share quiet lawful requests executed starved book = tt
 
-pub close_fault_of : (k : ClusterView) (r : Result Closing CloseFault) → IfErr r (cluster.IsCloseFault k) → IfErr r IsCloseFault
-close_fault_of k (Ok closing) refused = tt
-close_fault_of k (Err fault) refused = (k, refused)
-
 pub written_of : {E : Type 0} (h : HistoryView) (r : Result Unit E) (before after : List ℕ) → (has_failed h ≡ false → IsLawful h)
-    → OnOk r (after ≡ before ++ trace_text h.max_steps h.steps) → OnOk r (IsWritten before after)
-written_of h (Ok done) before after lawful text = record { history = h; lawful = lawful; text = text }
+    → OnOk r (after ≡ before ++ trace_text h.max_steps h.steps) → OnOk r (Writes h before after)
+written_of h (Ok done) before after lawful text = record { lawful = lawful; text = text }
 written_of h (Err fault) before after lawful text = tt
+
+-- ---- the same of a shared cluster
+
+pub found_closed : (k : ClusterView) (r : Result Closing CloseFault) → IfOk r (Closes k) → IfOk r IsClosed
+found_closed k (Ok closing) closes = (k, closes)
+found_closed k (Err fault) closes = tt
+
+pub found_close_fault : (k : ClusterView) (r : Result Closing CloseFault) → IfErr r (cluster.IsCloseFault k) → IfErr r IsCloseFault
+found_close_fault k (Ok closing) refused = tt
+found_close_fault k (Err fault) refused = (k, refused)
+
+pub found_written : {E : Type 0} (h : HistoryView) (r : Result Unit E) (before after : List ℕ) → OnOk r (Writes h before after)
+    → OnOk r (IsWritten before after)
+found_written h (Ok done) before after written = (h, written)
+found_written h (Err fault) before after written = tt
 
 -- what is refused once the request was submitted
 pub waited_fault : {X : Type 0} (old mid : SeatView) (words : List (List ℕ)) (r : Result X AskFault) (new : SeatView)

@@ -9,24 +9,32 @@ use Rattle.cluster.specs.declared.cluster.Closing.{Closing}
 use Rattle.journal.specs.TraceText.{trace_text}
 use Rattle.system.specs.System.{IsQuiet}
 
--- The cluster was lawful and quiet, as many seats stood as sat, and what those submitted that stood is all that was
+-- This cluster is lawful and quiet, as many seats stood as sat, and what those submitted that stood is all that was
 -- submitted. These are the numbers of its requests, of its rows and of those that starved.
-pub record IsClosed (closing : Closing) : Type 0 where
-  pub cluster : ClusterView
-  pub lawful : IsLawful cluster.history
-  pub quiet : IsQuiet cluster.history.system.parts
-  pub stood : cluster.stood ≡ cluster.sat
-  pub back : cluster.back ≡ submits cluster.history.steps
-  pub requests : closing.requests ≡ submits cluster.history.steps
-  pub executed : closing.executed ≡ length cluster.history.system.parts.rows
-  pub starved : closing.starved ≡ length cluster.history.system.parts.starved.items
+pub record Closes (c : ClusterView) (closing : Closing) : Type 0 where
+  pub lawful : IsLawful c.history
+  pub quiet : IsQuiet c.history.system.parts
+  pub stood : c.stood ≡ c.sat
+  pub back : c.back ≡ submits c.history.steps
+  pub requests : closing.requests ≡ submits c.history.steps
+  pub executed : closing.executed ≡ length c.history.system.parts.rows
+  pub starved : closing.starved ≡ length c.history.system.parts.starved.items
+
+-- The text of this history's trace was appended. It is lawful, unless a worker's start was refused.
+pub record Writes (h : HistoryView) (before after : List ℕ) : Type 0 where
+  pub lawful : has_failed h ≡ false → IsLawful h
+  pub text : after ≡ before ++ trace_text h.max_steps h.steps
+
+-- ---- the same of a shared cluster, which was such a one when it was locked
+
+-- a cluster was closed
+abbrev pub IsClosed : Closing → Type 0
+IsClosed closing = (c : ClusterView) × Closes c closing
 
 -- a cluster wasn't closed, for this reason
 abbrev pub IsCloseFault : CloseFault → Type 0
 IsCloseFault fault = (c : ClusterView) × cluster.IsCloseFault c fault
 
--- The text of a trace was appended: of a lawful cluster, unless a worker's start was refused.
-pub record IsWritten (before after : List ℕ) : Type 0 where
-  pub history : HistoryView
-  pub lawful : has_failed history ≡ false → IsLawful history
-  pub text : after ≡ before ++ trace_text history.max_steps history.steps
+-- the text of a trace was appended
+abbrev pub IsWritten : List ℕ → List ℕ → Type 0
+IsWritten before after = (h : HistoryView) × Writes h before after

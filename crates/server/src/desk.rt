@@ -18,9 +18,14 @@ use std::sync::ledger::Ledger;
 pub enum Turns {
     /// The thread that asks.
     Own,
-    /// A thread that drives the cluster.
+    /// The thread that asks, but for requests that combine whole sets: a thread that drives the cluster makes theirs,
+    /// with workers that may run several at once.
     Driver,
 }
+
+/// How the names begin of the commands that combine whole sets: they do much, and touch several shards, so that several
+/// of them come to be ready at once.
+const COMBINE_SETS: [&[u8]; 3] = [b"sinter", b"sunion", b"sdiff"];
 
 /// A seat at a shared cluster, which asks what its connection requests.
 ///
@@ -52,13 +57,13 @@ impl<'a, L: Ledger, R: Wait> Desk<'a, L, R> {
         ensures replied { IfOk result (λ reply. IsReplied (submitted self.old.seat request) (content reply) self.new.seat) }
         ensures refused { IfErr result (λ fault. IsAskFault self.old.seat request fault self.new.seat) }
     {
-        match self.turns {
-            Turns::Own => {
-                self.shared.turnstile().enter(self.rt, self.seat.conn());
-                self.shared.ask_turning(self.rt, &mut self.seat, request)
-            }
-            Turns::Driver => self.shared.ask_driven(self.rt, &mut self.seat, request),
+        let conn = self.seat.conn();
+        if self.turns == Turns::Driver && combines_sets(request.word(0)) {
+            self.shared.turnstile().leave(self.rt, conn);
+            return self.shared.ask_driven(self.rt, &mut self.seat, request);
         }
+        self.shared.turnstile().enter(self.rt, conn);
+        self.shared.ask_turning(self.rt, &mut self.seat, request)
     }
 
     /// The seat, given back.
@@ -67,6 +72,18 @@ impl<'a, L: Ledger, R: Wait> Desk<'a, L, R> {
     {
         self.seat
     }
+}
+
+/// Whether a command of this name combines whole sets.
+fn combines_sets(name: &[u8]) -> bool {
+    for beginning in COMBINE_SETS {
+        if let Some(head) = name.get(..beginning.len())
+            && head.eq_ignore_ascii_case(beginning)
+        {
+            return true;
+        }
+    }
+    false
 }
 
 impl<'a, L: Ledger, R: Wait> Door for Desk<'a, L, R> {

@@ -4,7 +4,9 @@ ghost use Rattle.std.specs.Prelude.{◌≡◌, ◌+◌, ◌⊎◌, true, OnErr, 
 ghost use Rattle.cluster.specs.Answers.{shown_outcome};
 ghost use Rattle.resp.specs.Content.{content};
 ghost use Rattle.server.specs.Asks.{submitted, IsNewSeat, IsAnswered, IsReplied, RefusesSit, RefusesSubmit, RefusesCollect, RefusesTurn};
-ghost use Rattle.server.specs.Closings.{IsClosed, IsCloseFault, IsWritten};
+ghost use Rattle.server.specs.Closings.{Closes, Writes};
+ghost use Rattle.server.specs.Turning.{GoesOn};
+ghost use Rattle.cluster.specs.Clusters.{IsCloseFault};
 ghost use Rattle.cluster.specs.Histories.{IsFault, IsMade, IsUnchanged};
 ghost use Rattle.journal.specs.declared.step.Step.{Step};
 ghost use Rattle.system.specs.declared.effect.Effect.{Effect};
@@ -186,6 +188,7 @@ impl<L: Ledger> Held<L> {
         workers: &W,
         gate: &(dyn Gate + Sync),
     ) -> Result<Turn, AskFault>
+        ensures made { IfOk result (GoesOn (P.picks pick.now) self.old.cluster.history self.new.cluster.history) }
         ensures refused { IfErr result (RefusesTurn W.may_refuse self.old.cluster.history) }
         ensures shut { self.new.shut ≡ self.old.shut }
     {
@@ -223,8 +226,8 @@ impl<L: Ledger> Held<L> {
 
     /// What is told of the cluster when it is closed.
     pub fn close(&mut self) -> Result<Closing, CloseFault>
-        ensures closed { IfOk result IsClosed }
-        ensures refused { IfErr result IsCloseFault }
+        ensures closed { IfOk result (Closes self.old.cluster) }
+        ensures refused { IfErr result (IsCloseFault self.old.cluster) }
         ensures same { self.new ≡ self.old }
     {
         self.cluster.lawful();
@@ -233,7 +236,7 @@ impl<L: Ledger> Held<L> {
 
     /// Appends the text of the trace.
     pub fn write_trace(&self, out: &mut Vec<u8>) -> Result<(), AllocError>
-        ensures written { OnOk result (IsWritten out.old.items out.new.items) }
+        ensures written { OnOk result (Writes self.now.cluster.history out.old.items out.new.items) }
         ensures unchanged { OnErr result (out.new.items ≡ out.old.items) }
     {
         self.cluster.lawful();

@@ -1,10 +1,10 @@
 //! Serving the connections that come to a listener, each on a thread of its own.
 
 ghost use Rattle.std.specs.Prelude.{◌≡◌, ◌<◌, ◌≤◌};
-ghost use Rattle.server.specs.Options.{InRange, IsEndStatus};
+ghost use Rattle.server.specs.Ends.{IsEndStatus};
+ghost use Rattle.server_options.specs.Options.{InRange};
 ghost use Rattle.server.specs.declared.hosting.HostFault.TheVariants as host_fault;
 
-use crate::command_line::Options;
 use crate::desk::{Desk, Turns};
 use crate::endings::Endings;
 use crate::sending::{syncs, system_sends};
@@ -12,6 +12,7 @@ use crate::shared::Shared;
 use cluster::{CloseFault, First};
 use placement::Table;
 use resp_decoder::Limits;
+use server_options::Options;
 use serving::{Door, serve};
 use shard_exec::{Crew, InTurn, Open};
 use shards::ShardHasher;

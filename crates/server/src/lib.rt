@@ -1,11 +1,9 @@
 //! A server of many connections over one cluster.
 //!
 //! `Shared` is a cluster under a lock; a `Desk` is what stands behind a connection and asks its requests of it. `host`
-//! serves the connections that come to a listener, a thread each, and `read_options` reads the words that the program
-//! is started with.
+//! serves the connections that come to a listener, a thread each.
 #![tactic(auto)]
 
-mod command_line;
 mod desk;
 mod endings;
 mod fault;
@@ -16,7 +14,6 @@ mod shared;
 mod turnstile;
 mod waiting;
 
-pub use command_line::{Options, OptionsFault, read_options};
 pub use desk::{Desk, Turns};
 pub use fault::{AskStep, FaultKind};
 pub use held::AskFault;

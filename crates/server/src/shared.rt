@@ -35,7 +35,7 @@ pub struct Shared<L: Ledger> {
     held: Mutex<Held<L>>,
     // A request was submitted, or the cluster is shut.
     work: Condvar,
-    // Outcomes went to their connections, or no turn is made any more.
+    // Outcomes went to seats that wait for them, or no turn is made any more.
     done: Waiting,
     turnstile: Turnstile,
 }
@@ -257,10 +257,12 @@ impl<L: Ledger> Shared<L> {
     {
         let mut held = self.held.lock(rt);
         if !*may_wait || held.cluster.system().waits(seat.conn()).is_none() {
+            let rows = held.cluster.system().rows().len();
             match held.turn(&First, &InTurn(NonZeroUsize::MIN), &Open) {
                 // Nothing comes any more: it is there, or the seat is told why.
                 Ok(Turn::Quiet) => {}
                 Ok(turn) => {
+                    self.wake_settled(turn, held.cluster.system(), rows);
                     *may_wait = turn != Turn::Made { settled: false };
                     return Ok(None);
                 }
@@ -283,11 +285,6 @@ impl<L: Ledger> Shared<L> {
         let mut held = self.held.lock(rt);
         let rows = held.cluster.system().rows().len();
         match held.turn(pick, workers, gate) {
-            Ok(Turn::Made { settled }) => {
-                if settled {
-                    self.wake_settled(held.cluster.system(), rows);
-                }
-            }
             Ok(Turn::Starved) => thread::yield_now(),
             Ok(Turn::Quiet) => {
                 if held.shut {
@@ -295,14 +292,18 @@ impl<L: Ledger> Shared<L> {
                 }
                 let _ = self.work.wait(rt, held);
             }
+            Ok(turn) => self.wake_settled(turn, held.cluster.system(), rows),
             Err(fault) => return Err(fault),
         }
         Ok(true)
     }
 
-    /// Wakes the seats whose outcomes came by the last Settle, before which there were so many rows. Who starved in its
-    /// layer is among the last that starved.
-    fn wake_settled(&self, system: &System, rows: usize) {
+    /// Wakes the seats that wait for outcomes which this turn brought, before which there were so many rows. Who starved
+    /// in its layer is among the last that starved.
+    fn wake_settled(&self, turn: Turn, system: &System, rows: usize) {
+        if turn != (Turn::Made { settled: true }) || self.done.is_empty() {
+            return;
+        }
         let all = system.rows();
         for place in rows..all.len() {
             if let Some(row) = all.row(place) {

@@ -2,6 +2,7 @@
 
 use skeen_core::ConnId;
 use std::array;
+use std::sync::atomic::{AtomicU64, Ordering};
 use std::sync::{Condvar, MutexGuard, Wait};
 
 /// How many places there are to wait at.
@@ -15,6 +16,8 @@ const PLACES: u64 = 64;
 #[derive(Drop)]
 pub(crate) struct Waiting {
     places: [Condvar; PLACES as usize],
+    /// How many wait. Who holds the lock that they let go of finds each of them counted.
+    seats: AtomicU64,
 }
 
 impl Waiting {
@@ -22,6 +25,7 @@ impl Waiting {
     pub fn new() -> Self {
         Waiting {
             places: array::from_fn(|_| Condvar::new()),
+            seats: AtomicU64::new(0),
         }
     }
 
@@ -32,7 +36,15 @@ impl Waiting {
         conn: ConnId,
         guard: MutexGuard<'b, T>,
     ) -> MutexGuard<'b, T> {
-        self.places[(conn.0 % PLACES) as usize].wait(rt, guard)
+        self.seats.fetch_add(1, Ordering::AcqRel);
+        let guard = self.places[(conn.0 % PLACES) as usize].wait(rt, guard);
+        self.seats.fetch_sub(1, Ordering::AcqRel);
+        guard
+    }
+
+    /// Whether no one waits.
+    pub fn is_empty(&self) -> bool {
+        self.seats.load(Ordering::Acquire) == 0
     }
 
     /// Wakes the seat of this connection, if it waits.

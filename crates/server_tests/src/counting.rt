@@ -3,13 +3,16 @@
 use std::alloc::{AllocError, Global};
 use test_support::requests_of;
 
-/// So many rounds: an INCR of `a`, two more on `c`, the digit to `b` and `d` at once, and both of these read.
+/// So many rounds: an INCR of `a`, two more on `c`, the one member that `y` and `z` share put at `x`, the digit to `b` and
+/// `d` at once, and both of these read.
 pub(crate) fn count_requests(
     alloc: Global,
     rounds: usize,
     digit: usize,
 ) -> Result<Vec<u8>, AllocError> {
-    let round = format!(in alloc; "INCR a; INCRBY c 2; MSET b {digit} d {digit}; MGET d b")?;
+    let round = format!(in alloc;
+        "INCR a; INCRBY c 2; SINTERSTORE x y z; MSET b {digit} d {digit}; MGET d b"
+    )?;
     let round = requests_of(alloc, round.as_str())?;
     let mut requests = Vec::new(alloc);
     for _ in 0..rounds {
@@ -30,7 +33,7 @@ pub(crate) fn are_counted(rounds: usize, replies: &[u8]) -> bool {
             (Some(ones), Some(twos)) if sums.0 < ones && sums.1 < twos => sums = (ones, twos),
             _ => return false,
         }
-        for line in ["+OK", "*2", "$1"] {
+        for line in [":1", "+OK", "*2", "$1"] {
             if lines.next() != Some(line) {
                 return false;
             }

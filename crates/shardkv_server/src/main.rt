@@ -10,7 +10,8 @@
 mod tests;
 
 use placement::{Table, TableFault};
-use server::{Options, host, read_options};
+use server::host;
+use server_options::{Options, read_options};
 use std::fs::Files;
 use std::io::ErrorKind;
 use std::net::{IpAddr, Ipv4Addr, Net, SocketAddr, TcpListener};

@@ -1,0 +1,56 @@
+-- What the words of the command line say.
+use Rattle.std.specs.Int.NonZero.{non_zero_usize_get}
+use Rattle.std.specs.Prelude.{◌≡◌, ◌≤◌, pos, true, List, Some, option_map, codes}
+use Rattle.clap.specs.Words.{App, Row, Rule, Text, first_of, matches_of, new_app, with_rule}
+use Rattle.clap.specs.declared.builder.value_parser.ValueParser.{ValueParser}
+use Rattle.clap.specs.declared.builder.value_parser.ValueParser.TheVariants as parser
+use Rattle.command_lines.specs.Options.{SaysOr, option_named}
+use Rattle.journal.specs.declared.trace.TheConstants.{GREATEST_STEPS}
+use Rattle.server_options.specs.declared.options.Options.{Options}
+use Rattle.server_options.specs.declared.options.TheConstants.{PORT, WORKERS, CONNECTIONS, MAX_STEPS}
+
+-- the numbers are in their ranges; the port's is that of its type, and workers are one or more by theirs
+pub record InRange (o : Options) : Type 0 where
+  pub few_workers : non_zero_usize_get o.workers ≤ 64
+  pub some_connections : 1 ≤ o.connections
+  pub some_steps : 1 ≤ o.max_steps
+  pub few_steps : o.max_steps ≤ GREATEST_STEPS
+
+-- ---- the command line
+
+-- one whose value is read so
+abbrev pub number_named : ValueParser → Text → Rule
+number_named reader name = record (option_named name) { parser = Some reader }
+
+-- numbers of 16 and of 64 bits
+abbrev pub a_u16 : ValueParser
+a_u16 = parser.Signed (pos 0) (pos 65535)
+
+abbrev pub a_u64 : ValueParser
+a_u64 = parser.Unsigned 0 18446744073709551615
+
+-- its options
+abbrev pub line : App
+line =
+    with_rule (with_rule (with_rule (with_rule (with_rule (with_rule (new_app (codes "shardkv-server"))
+    (record (option_named (codes "table")) { required = true }))
+    (number_named a_u16 (codes "port")))
+    (number_named a_u64 (codes "workers")))
+    (number_named a_u64 (codes "connections")))
+    (number_named a_u64 (codes "max-steps")))
+    (option_named (codes "trace"))
+
+-- ---- what it says
+
+-- these rows of options and their values say so
+pub record AreSaidBy (rows : List Row) (o : Options) : Type 0 where
+  pub table : first_of (codes "table") rows ≡ Some o.table.now
+  pub port : SaysOr PORT (first_of (codes "port") rows) o.port
+  pub workers : SaysOr WORKERS (first_of (codes "workers") rows) (non_zero_usize_get o.workers)
+  pub connections : SaysOr CONNECTIONS (first_of (codes "connections") rows) o.connections
+  pub max_steps : SaysOr MAX_STEPS (first_of (codes "max-steps") rows) o.max_steps
+  pub trace : first_of (codes "trace") rows ≡ option_map (λ path. path.now) o.trace
+
+-- the words say so, by the values that clap finds in them
+abbrev pub AreSaid : List Text → Options → Type 0
+AreSaid words o = AreSaidBy (matches_of line words) o

@@ -1,0 +1,168 @@
+//! What the server is to do, read from the words that it is started with.
+
+ghost use Rattle.std.specs.Prelude.{◌≡◌, ◌≤◌, true, false, IfOk, IfErr, map};
+ghost use Rattle.clap.specs.Words.{app_of, first_of, found_of, rows_of, rule_of, takes};
+ghost use Rattle.command_lines.specs.Options.{SaysOr};
+ghost use Rattle.server_options.specs.Faults.{IsOwn};
+ghost use Rattle.server_options.specs.Options.{InRange, AreSaid, AreSaidBy, number_named, a_u16, a_u64, line};
+
+use crate::fault::OptionsFault;
+use clap::{Arg, ArgMatches, Command, value_parser};
+use command_lines::{number_in, value_in, valued};
+use journal::GREATEST_STEPS;
+use std::alloc::{AllocError, Global};
+use std::convert::AsStr;
+use std::num::NonZeroUsize;
+
+/// The port where the words name none.
+const PORT: u16 = 7379;
+
+/// The workers where the words name none.
+const WORKERS: u64 = 1;
+
+/// The connections where the words name none.
+const CONNECTIONS: u64 = 64;
+
+/// The steps where the words name none.
+const MAX_STEPS: u64 = 1_000_000;
+
+/// The greatest number of workers that may be asked for.
+const GREATEST_WORKERS: u64 = 64;
+
+/// What the server is to do.
+#[derive(Clone, Copy, Debug)]
+pub struct Options<'a> {
+    /// The file with the placement table.
+    pub table: &'a str,
+    /// The port that it listens at; 0 for any free one.
+    pub port: u16,
+    /// How many workers run a layer, from 1 to 64.
+    pub workers: NonZeroUsize,
+    /// How many connections it serves, one or more.
+    pub connections: u64,
+    /// At most how many steps it makes, from 1 to [`GREATEST_STEPS`].
+    pub max_steps: u64,
+    /// The file that the trace is written to, if one is asked for.
+    pub trace: Option<&'a str>,
+}
+
+/// Reads the words that the server is started with; the first of them is its name.
+///
+/// What they say is what `clap` finds in them by the command line's options, each of which takes a value; an option that
+/// they don't name has its default.
+pub fn read_options<'a, S: AsStr>(
+    alloc: Global,
+    words: &'a [S],
+) -> Result<Options<'a>, OptionsFault>
+    ensures range { IfOk result InRange }
+    ensures said { IfOk result (AreSaid (map S.text words.now)) }
+    ensures refused { IfErr result (λ fault. takes line (map S.text words.now) ≡ true → IsOwn fault) }
+{
+    let command = command(alloc)?;
+    let matches = match command.try_get_matches_from(words) {
+        Ok(matches) => matches,
+        Err(error) => return Err(OptionsFault::from(error)),
+    };
+    options_of(&matches)
+}
+
+/// An option that takes a number.
+fn number<'a>(alloc: Global, name: &'a str, help: &'a str) -> Arg<'a>
+    ensures rule { rule_of result ≡ number_named a_u64 name.entry.now }
+    ensures local { result.global ≡ false }
+{
+    valued(alloc, name, "N", help).value_parser(value_parser!(u64))
+}
+
+/// An option that takes a number of 16 bits.
+fn short_number<'a>(alloc: Global, name: &'a str, help: &'a str) -> Arg<'a>
+    ensures rule { rule_of result ≡ number_named a_u16 name.entry.now }
+    ensures local { result.global ≡ false }
+{
+    valued(alloc, name, "N", help).value_parser(value_parser!(u16))
+}
+
+/// An option that has to be given.
+fn needed<'a>(option: Arg<'a>) -> Arg<'a>
+    ensures rule { rule_of result ≡ record (rule_of option.entry) { required = true } }
+    ensures local { result.global ≡ option.entry.global }
+{
+    option.required(true)
+}
+
+/// The command line.
+fn command<'a>(alloc: Global) -> Result<Command<'a>, AllocError>
+    ensures { IfOk result (λ command. app_of command ≡ line) }
+{
+    let table = valued(alloc, "table", "FILE", "The placement table");
+    let port = "The port on 127.0.0.1, 0 for any free one [default: 7379]";
+    let port = short_number(alloc, "port", port);
+    let workers = number(alloc, "workers", "How many workers, 1 to 64 [default: 1]");
+    let connections = "How many connections are served, at least 1 [default: 64]";
+    let connections = number(alloc, "connections", connections);
+    let max_steps = "At most how many steps are made, 1 to 2^62 [default: 1000000]";
+    let max_steps = number(alloc, "max-steps", max_steps);
+    let trace = valued(
+        alloc,
+        "trace",
+        "FILE",
+        "The file that the trace is written to",
+    );
+    Command::new(alloc, "shardkv-server")
+        .arg(needed(table))?
+        .arg(port)?
+        .arg(workers)?
+        .arg(connections)?
+        .arg(max_steps)?
+        .arg(trace)
+}
+
+/// The options that were given, and the defaults of those that were not.
+fn options_of<'a>(matches: &ArgMatches<'a>) -> Result<Options<'a>, OptionsFault>
+    ensures range { IfOk result InRange }
+    ensures said { IfOk result (AreSaidBy (rows_of (found_of matches.now))) }
+    ensures refused { IfErr result IsOwn }
+{
+    let Some(table) = value_in(matches, "table") else {
+        return Err(OptionsFault::Range("table"));
+    };
+    let port = number_up_to(matches, "port", u64::from(PORT), u64::from(u16::MAX))?;
+    let workers = number_up_to(matches, "workers", WORKERS, GREATEST_WORKERS)?;
+    let Some(workers) = NonZeroUsize::new(workers as usize) else {
+        return Err(OptionsFault::Range("workers"));
+    };
+    let connections = number_up_to(matches, "connections", CONNECTIONS, u64::MAX)?;
+    if connections == 0 {
+        return Err(OptionsFault::Range("connections"));
+    }
+    let max_steps = number_up_to(matches, "max-steps", MAX_STEPS, GREATEST_STEPS)?;
+    if max_steps == 0 {
+        return Err(OptionsFault::Range("max-steps"));
+    }
+    let trace = value_in(matches, "trace");
+    Ok(Options {
+        table,
+        port: port as u16,
+        workers,
+        connections,
+        max_steps,
+        trace,
+    })
+}
+
+/// The number that the option of this name was given, or its default: at most `most`.
+fn number_up_to(
+    matches: &ArgMatches<'_>,
+    name: &'static str,
+    default: u64,
+    most: u64,
+) -> Result<u64, OptionsFault>
+    ensures said { IfOk result (SaysOr default (first_of name.now (rows_of (found_of matches.now)))) }
+    ensures most { IfOk result (λ number. number ≤ most) }
+    ensures refused { IfErr result IsOwn }
+{
+    match number_in(matches, name, default) {
+        Some(number) if number <= most => Ok(number),
+        _ => Err(OptionsFault::Range(name)),
+    }
+}
