@@ -1,5 +1,5 @@
 -- Options with values, and the numbers that values say.
-use Rattle.std.specs.Prelude.{◌≡◌, ◌<◌, ◌^◌, ℕ, Option, Some, None}
+use Rattle.std.specs.Prelude.{◌≡◌, ◌<◌, ◌^◌, ◌⊎◌, ℕ, Option, Some, None}
 use Rattle.std.specs.Str.Parse.{IsNumeral, digits_value, without_leading_plus}
 use Rattle.clap.specs.Words.{Rule, Text, new_rule}
 
@@ -20,3 +20,8 @@ SaysOr default (Some text) n = Says text n
 abbrev pub IsNoNumber : Option Text → Type 0
 IsNoNumber None = ⊥
 IsNoNumber (Some text) = (n : ℕ) → Says text n → n < 2 ^ 64 → ⊥
+
+-- the option's number, given or by default, isn't within these bounds, or its value says none
+abbrev pub IsOutside : ℕ → ℕ → ℕ → Option Text → Type 0
+IsOutside default least most value =
+    IsNoNumber value ⊎ ((n : ℕ) × SaysOr default value n × ((n < least) ⊎ (most < n)))

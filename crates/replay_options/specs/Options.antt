@@ -1,9 +1,14 @@
 -- What the words of the command line say.
-use Rattle.std.specs.Prelude.{◌≡◌, List, Some, codes}
-use Rattle.clap.specs.Words.{App, Row, Text, first_of, matches_of, new_app, with_rule}
-use Rattle.command_lines.specs.Options.{SaysOr, option_named}
+use Rattle.std.specs.Prelude.{◌≡◌, ◌≢◌, ◌⊎◌, false, ⊤, List, Some, None, codes}
+use Rattle.clap.specs.Words.{App, Row, Text, first_of, matches_of, new_app, takes, with_rule}
+use Rattle.clap.specs.Values.{kind_of}
+use Rattle.clap.specs.declared.error.Error.{Error}
+use Rattle.clap.specs.declared.error.kind.ErrorKind.TheVariants.{OutOfMemory}
+use Rattle.command_lines.specs.Options.{SaysOr, IsOutside, option_named}
 use Rattle.replay_options.specs.declared.Asked.{Asked}
-use Rattle.replay_options.specs.declared.TheConstants.{WORKERS}
+use Rattle.replay_options.specs.declared.OptionsFault.{OptionsFault}
+use Rattle.replay_options.specs.declared.OptionsFault.TheVariants.{Usage, Workers, Memory}
+use Rattle.replay_options.specs.declared.TheConstants.{WORKERS, GREATEST_WORKERS}
 
 -- the command line's options
 abbrev pub line : App
@@ -22,3 +27,22 @@ pub record AreSaidBy (rows : List Row) (asked : Asked) : Type 0 where
 -- the words say so, by the values that clap finds in them
 abbrev pub AreSaid : List Text → Asked → Type 0
 AreSaid words asked = AreSaidBy (matches_of line words) asked
+
+-- ---- why it says nothing
+
+-- a file isn't named, or the number of workers isn't 1 to 64
+abbrev pub Lacks : List Row → OptionsFault → Type 0
+Lacks rows Usage = (first_of (codes "table") rows ≡ None) ⊎ (first_of (codes "trace") rows ≡ None)
+Lacks rows Workers = IsOutside WORKERS 1 GREATEST_WORKERS (first_of (codes "workers") rows)
+Lacks rows Memory = ⊥
+
+-- what is told where clap refuses the words: want of memory as such
+abbrev pub TellsRefusal : Error → OptionsFault → Type 0
+TellsRefusal error fault =
+    ((kind_of error ≡ OutOfMemory) × (fault ≡ Memory)) ⊎ ((kind_of error ≢ OutOfMemory) × (fault ≡ Usage))
+
+-- clap refuses the words, or they lack something, or there is no memory
+abbrev pub IsRefusal : List Text → OptionsFault → Type 0
+IsRefusal words Usage = (takes line words ≡ false) ⊎ Lacks (matches_of line words) Usage
+IsRefusal words Workers = Lacks (matches_of line words) Workers
+IsRefusal words Memory = ⊤

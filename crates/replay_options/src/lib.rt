@@ -1,9 +1,9 @@
 //! The words of the command line of `shardkv-replay`.
 #![tactic(auto)]
 
-ghost use Rattle.std.specs.Prelude.{◌≡◌, ◌≤◌, IfOk, map};
+ghost use Rattle.std.specs.Prelude.{◌≡◌, ◌≤◌, IfOk, IfErr, map};
 ghost use Rattle.clap.specs.Words.{app_of, found_of, rows_of};
-ghost use Rattle.replay_options.specs.Options.{AreSaid, AreSaidBy, line};
+ghost use Rattle.replay_options.specs.Options.{AreSaid, AreSaidBy, IsRefusal, Lacks, TellsRefusal, line};
 ghost use Rattle.replay_options.specs.declared.OptionsFault.TheVariants as options_fault;
 
 use clap::error::ErrorKind;
@@ -64,16 +64,24 @@ pub fn options<'a, S: AsStr>(alloc: Global, words: &'a [S]) -> Result<Asked<'a>,
     ensures least { IfOk result (λ options. 1 ≤ options.workers) }
     ensures most { IfOk result (λ options. options.workers ≤ 64) }
     ensures said { IfOk result (AreSaid (map S.text words.now)) }
+    ensures refused { IfErr result (IsRefusal (map S.text words.now)) }
 {
     let line = line(alloc)?;
     let found = match line.try_get_matches_from(words) {
         Ok(found) => found,
-        Err(fault) if matches!(fault.kind(), ErrorKind::OutOfMemory) => {
-            return Err(OptionsFault::Memory);
-        }
-        Err(_) => return Err(OptionsFault::Usage),
+        Err(error) => return Err(refusal_of(&error)),
     };
     asked_in(&found)
+}
+
+/// What is told where `clap` refuses the words.
+fn refusal_of(error: &clap::Error) -> OptionsFault
+    ensures { TellsRefusal error.now result }
+{
+    match error.kind() {
+        ErrorKind::OutOfMemory => OptionsFault::Memory,
+        _ => OptionsFault::Usage,
+    }
 }
 
 /// The command line.
@@ -99,6 +107,7 @@ fn asked_in<'a>(found: &ArgMatches<'a>) -> Result<Asked<'a>, OptionsFault>
     ensures least { IfOk result (λ options. 1 ≤ options.workers) }
     ensures most { IfOk result (λ options. options.workers ≤ 64) }
     ensures said { IfOk result (AreSaidBy (rows_of (found_of found.now))) }
+    ensures refused { IfErr result (Lacks (rows_of (found_of found.now))) }
 {
     let Some(table) = value_in(found, "table") else {
         return Err(OptionsFault::Usage);

@@ -1,5 +1,5 @@
 -- What is told where words say no options.
-use Rattle.std.specs.Prelude.{◌≡◌, ◌≢◌, ℕ, ⊤}
+use Rattle.std.specs.Prelude.{◌≡◌, ◌≢◌, ◌⊎◌, ℕ}
 use Rattle.clap.specs.declared.error.Error.{Error}
 use Rattle.clap.specs.declared.error.kind.ErrorKind.TheVariants.{DisplayHelp, DisplayVersion, OutOfMemory}
 use Rattle.clap.specs.Values.{kind_of}
@@ -7,15 +7,9 @@ use Rattle.server_options.specs.declared.fault.OptionsFault.{OptionsFault}
 use Rattle.server_options.specs.declared.fault.OptionsFault.TheVariants.{Words, Range, Memory}
 
 -- what is told where the command line refuses the words: want of memory as such, and all else with its text
-pub record TellsRefusal (error : Error) (fault : OptionsFault) : Type 0 where
-  pub memory : kind_of error ≡ OutOfMemory → fault ≡ Memory
-  pub words : kind_of error ≢ OutOfMemory → fault ≡ Words error
-
--- why words that clap takes say no options: a number is out of its range, or there is no memory
-abbrev pub IsOwn : OptionsFault → Type 0
-IsOwn (Words error) = ⊥
-IsOwn (Range name) = ⊤
-IsOwn Memory = ⊤
+abbrev pub TellsRefusal : Error → OptionsFault → Type 0
+TellsRefusal error fault =
+    ((kind_of error ≡ OutOfMemory) × (fault ≡ Memory)) ⊎ ((kind_of error ≢ OutOfMemory) × (fault ≡ Words error))
 
 -- the program's status where the words say no options: 0 for help that was asked for, else 2, and 7 for want of memory
 abbrev pub HasStatus : OptionsFault → ℕ → Type 0

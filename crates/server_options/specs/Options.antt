@@ -1,13 +1,15 @@
 -- What the words of the command line say.
 use Rattle.std.specs.Int.NonZero.{non_zero_usize_get}
-use Rattle.std.specs.Prelude.{◌≡◌, ◌≤◌, pos, true, List, Some, option_map, codes}
-use Rattle.clap.specs.Words.{App, Row, Rule, Text, first_of, matches_of, new_app, with_rule}
+use Rattle.std.specs.Prelude.{◌≡◌, ◌≤◌, ◌⊎◌, ⊤, pos, true, false, List, Some, None, option_map, codes}
+use Rattle.clap.specs.Words.{App, Row, Rule, Text, first_of, matches_of, new_app, takes, with_rule}
 use Rattle.clap.specs.declared.builder.value_parser.ValueParser.{ValueParser}
 use Rattle.clap.specs.declared.builder.value_parser.ValueParser.TheVariants as parser
-use Rattle.command_lines.specs.Options.{SaysOr, option_named}
+use Rattle.command_lines.specs.Options.{SaysOr, IsOutside, option_named}
 use Rattle.journal.specs.declared.trace.TheConstants.{GREATEST_STEPS}
+use Rattle.server_options.specs.declared.fault.OptionsFault.{OptionsFault}
+use Rattle.server_options.specs.declared.fault.OptionsFault.TheVariants.{Words, Range, Memory}
 use Rattle.server_options.specs.declared.options.Options.{Options}
-use Rattle.server_options.specs.declared.options.TheConstants.{PORT, WORKERS, CONNECTIONS, MAX_STEPS}
+use Rattle.server_options.specs.declared.options.TheConstants.{PORT, WORKERS, CONNECTIONS, MAX_STEPS, GREATEST_WORKERS}
 
 -- the numbers are in their ranges; the port's is that of its type, and workers are one or more by theirs
 pub record InRange (o : Options) : Type 0 where
@@ -54,3 +56,25 @@ pub record AreSaidBy (rows : List Row) (o : Options) : Type 0 where
 -- the words say so, by the values that clap finds in them
 abbrev pub AreSaid : List Text → Options → Type 0
 AreSaid words o = AreSaidBy (matches_of line words) o
+
+-- ---- why they say nothing
+
+-- the table's file isn't named, or the number of the option that is told is out of its bounds
+abbrev pub IsOutOfBounds : List Row → Text → Type 0
+IsOutOfBounds rows name =
+    ((name ≡ codes "table") × (first_of (codes "table") rows ≡ None))
+    ⊎ (((name ≡ codes "port") × IsOutside PORT 0 65535 (first_of (codes "port") rows))
+    ⊎ (((name ≡ codes "workers") × IsOutside WORKERS 1 GREATEST_WORKERS (first_of (codes "workers") rows))
+    ⊎ (((name ≡ codes "connections") × IsOutside CONNECTIONS 1 18446744073709551615 (first_of (codes "connections") rows))
+    ⊎ ((name ≡ codes "max-steps") × IsOutside MAX_STEPS 1 GREATEST_STEPS (first_of (codes "max-steps") rows)))))
+
+abbrev pub Lacks : List Row → OptionsFault → Type 0
+Lacks rows (Words error) = ⊥
+Lacks rows (Range name) = IsOutOfBounds rows name.now
+Lacks rows Memory = ⊥
+
+-- clap refuses the words, or they say a number that is out of its bounds, or there is no memory
+abbrev pub IsRefusal : List Text → OptionsFault → Type 0
+IsRefusal words (Words error) = takes line words ≡ false
+IsRefusal words (Range name) = IsOutOfBounds (matches_of line words) name.now
+IsRefusal words Memory = ⊤

@@ -1,10 +1,10 @@
 //! What the server is to do, read from the words that it is started with.
 
 ghost use Rattle.std.specs.Prelude.{◌≡◌, ◌≤◌, true, false, IfOk, IfErr, map};
-ghost use Rattle.clap.specs.Words.{app_of, first_of, found_of, rows_of, rule_of, takes};
-ghost use Rattle.command_lines.specs.Options.{SaysOr};
-ghost use Rattle.server_options.specs.Faults.{IsOwn};
-ghost use Rattle.server_options.specs.Options.{InRange, AreSaid, AreSaidBy, number_named, a_u16, a_u64, line};
+ghost use Rattle.clap.specs.Words.{app_of, first_of, found_of, rows_of, rule_of};
+ghost use Rattle.command_lines.specs.Options.{SaysOr, IsOutside};
+ghost use Rattle.server_options.specs.Options.{InRange, AreSaid, AreSaidBy, IsRefusal, Lacks, number_named, a_u16, a_u64, line};
+ghost use Rattle.server_options.specs.declared.fault.OptionsFault.TheVariants as options_fault;
 
 use crate::fault::OptionsFault;
 use clap::{Arg, ArgMatches, Command, value_parser};
@@ -56,7 +56,7 @@ pub fn read_options<'a, S: AsStr>(
 ) -> Result<Options<'a>, OptionsFault>
     ensures range { IfOk result InRange }
     ensures said { IfOk result (AreSaid (map S.text words.now)) }
-    ensures refused { IfErr result (λ fault. takes line (map S.text words.now) ≡ true → IsOwn fault) }
+    ensures refused { IfErr result (IsRefusal (map S.text words.now)) }
 {
     let command = command(alloc)?;
     let matches = match command.try_get_matches_from(words) {
@@ -121,24 +121,18 @@ fn command<'a>(alloc: Global) -> Result<Command<'a>, AllocError>
 fn options_of<'a>(matches: &ArgMatches<'a>) -> Result<Options<'a>, OptionsFault>
     ensures range { IfOk result InRange }
     ensures said { IfOk result (AreSaidBy (rows_of (found_of matches.now))) }
-    ensures refused { IfErr result IsOwn }
+    ensures refused { IfErr result (Lacks (rows_of (found_of matches.now))) }
 {
     let Some(table) = value_in(matches, "table") else {
         return Err(OptionsFault::Range("table"));
     };
-    let port = number_up_to(matches, "port", u64::from(PORT), u64::from(u16::MAX))?;
-    let workers = number_up_to(matches, "workers", WORKERS, GREATEST_WORKERS)?;
+    let port = number_within(matches, "port", u64::from(PORT), 0, u64::from(u16::MAX))?;
+    let workers = number_within(matches, "workers", WORKERS, 1, GREATEST_WORKERS)?;
     let Some(workers) = NonZeroUsize::new(workers as usize) else {
-        return Err(OptionsFault::Range("workers"));
+        unreachable!()
     };
-    let connections = number_up_to(matches, "connections", CONNECTIONS, u64::MAX)?;
-    if connections == 0 {
-        return Err(OptionsFault::Range("connections"));
-    }
-    let max_steps = number_up_to(matches, "max-steps", MAX_STEPS, GREATEST_STEPS)?;
-    if max_steps == 0 {
-        return Err(OptionsFault::Range("max-steps"));
-    }
+    let connections = number_within(matches, "connections", CONNECTIONS, 1, u64::MAX)?;
+    let max_steps = number_within(matches, "max-steps", MAX_STEPS, 1, GREATEST_STEPS)?;
     let trace = value_in(matches, "trace");
     Ok(Options {
         table,
@@ -150,19 +144,22 @@ fn options_of<'a>(matches: &ArgMatches<'a>) -> Result<Options<'a>, OptionsFault>
     })
 }
 
-/// The number that the option of this name was given, or its default: at most `most`.
-fn number_up_to(
+/// The number that the option of this name was given, or its default: within these bounds, both included.
+fn number_within(
     matches: &ArgMatches<'_>,
     name: &'static str,
     default: u64,
+    least: u64,
     most: u64,
 ) -> Result<u64, OptionsFault>
     ensures said { IfOk result (SaysOr default (first_of name.now (rows_of (found_of matches.now)))) }
+    ensures least { IfOk result (λ number. least ≤ number) }
     ensures most { IfOk result (λ number. number ≤ most) }
-    ensures refused { IfErr result IsOwn }
+    ensures refused { IfErr result (λ fault. (fault ≡ options_fault.Range name.entry)
+        × IsOutside default least most (first_of name.now (rows_of (found_of matches.now)))) }
 {
     match number_in(matches, name, default) {
-        Some(number) if number <= most => Ok(number),
+        Some(number) if number >= least && number <= most => Ok(number),
         _ => Err(OptionsFault::Range(name)),
     }
 }

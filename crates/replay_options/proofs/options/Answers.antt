@@ -1,17 +1,30 @@
-use Rattle.std.proofs.Common.{◌≡◌, refl, subst, true, List, map}
-use Rattle.std.proofs.lemmas.Result.{IfOk-weaker}
-use Rattle.clap.specs.Words.{App, HasMatchesOf, Row, app_of, is_simple}
+use Rattle.std.proofs.Common.{◌≡◌, ◌∙◌, refl, ap, subst, true, List, map}
+use Rattle.std.proofs.lemmas.Result.{IfErr-weaker, IfOk-weaker}
+use Rattle.clap.specs.Words.{App, HasMatchesOf, Row, is_simple, takes}
 use Rattle.clap.proofs.OnLiterals.{clap_on_literals}
-use Rattle.replay_options.specs.Options.{AreSaidBy, line}
+use Rattle.replay_options.proofs.Refusals.{told_refusal, lacking}
+use Rattle.replay_options.specs.Options.{AreSaidBy, Lacks, line}
 use Rattle.replay_options.proofs.options.Goals as goal
 
 line_is_simple : is_simple line ≡ true
 unfolding clap_on_literals
 line_is_simple = refl
 
+pub returns-in-Err-clause-refused : goal.returns-in-Err-clause-refused
+returns-in-Err-clause-refused g c =
+    told_refusal (map g.S.AsStr.text c.args.words.now) c.in-Err.error c.refusal_of.result
+    (λ taken. c.in-Err.ensures.passes (ap (λ (app : App). takes app (map g.S.AsStr.text c.args.words.now)) c.in_ok-line.ensures ∙ taken))
+    c.refusal_of.ensures
+
 pub returns-clause-said : goal.returns-clause-said
 returns-clause-said g c =
     let words = map g.S.AsStr.text c.args.words.now in
-    let line_is : app_of c.in_ok-line.line ≡ line = c.in_ok-line.ensures in
-    let found = subst (λ (app : App). HasMatchesOf app words c.in-Ok.found) line_is c.in-Ok.ensures.matches in
+    let found = subst (λ (app : App). HasMatchesOf app words c.in-Ok.found) c.in_ok-line.ensures c.in-Ok.ensures.matches in
     IfOk-weaker c.asked_in.result _ _ (λ o said. subst (λ (rows : List Row). AreSaidBy rows o) (found line_is_simple).0 said) c.asked_in.ensures.said
+
+pub returns-clause-refused : goal.returns-clause-refused
+returns-clause-refused g c =
+    let words = map g.S.AsStr.text c.args.words.now in
+    let found = subst (λ (app : App). HasMatchesOf app words c.in-Ok.found) c.in_ok-line.ensures c.in-Ok.ensures.matches in
+    IfErr-weaker c.asked_in.result _ _
+    (λ f lacks. lacking words f (subst (λ (rows : List Row). Lacks rows f) (found line_is_simple).0 lacks)) c.asked_in.ensures.refused

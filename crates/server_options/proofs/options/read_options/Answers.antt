@@ -1,24 +1,30 @@
-use Rattle.std.proofs.Common.{◌≡◌, ◌∙◌, refl, sym, ap, subst, true, List, map}
-use Rattle.std.proofs.lemmas.Result.{IfOk-weaker}
-use Rattle.clap.specs.Words.{App, HasMatchesOf, Row, app_of, is_simple, takes}
+use Rattle.std.proofs.Common.{◌≡◌, ◌∙◌, refl, ap, subst, true, List, map}
+use Rattle.std.proofs.lemmas.Result.{IfErr-weaker, IfOk-weaker}
+use Rattle.clap.specs.Words.{App, HasMatchesOf, Row, is_simple, takes}
 use Rattle.clap.proofs.OnLiterals.{clap_on_literals}
-use Rattle.server_options.specs.Faults.{IsOwn}
-use Rattle.server_options.specs.Options.{AreSaidBy, line}
+use Rattle.server_options.proofs.Refusals.{told_refusal, lacking}
+use Rattle.server_options.specs.Options.{AreSaidBy, Lacks, line}
 use Rattle.server_options.proofs.options.read_options.Goals as goal
 
 line_is_simple : is_simple line ≡ true
 unfolding clap_on_literals
 line_is_simple = refl
 
+pub returns-in-Err-clause-refused : goal.returns-in-Err-clause-refused
+returns-in-Err-clause-refused g c =
+    told_refusal (map g.S.AsStr.text c.args.words.now) c.in-Err.error c.from.result
+    (λ taken. c.in-Err.ensures.passes (ap (λ (app : App). takes app (map g.S.AsStr.text c.args.words.now)) c.in_ok-command.ensures ∙ taken))
+    c.from.ensures
+
 pub returns-clause-said : goal.returns-clause-said
 returns-clause-said g c =
     let words = map g.S.AsStr.text c.args.words.now in
-    let line_is : app_of c.in_ok-command.command ≡ line = c.in_ok-command.ensures in
-    let found = subst (λ (app : App). HasMatchesOf app words c.in-Ok.matches) line_is c.in-Ok.ensures.matches in
+    let found = subst (λ (app : App). HasMatchesOf app words c.in-Ok.matches) c.in_ok-command.ensures c.in-Ok.ensures.matches in
     IfOk-weaker c.options_of.result _ _ (λ o said. subst (λ (rows : List Row). AreSaidBy rows o) (found line_is_simple).0 said) c.options_of.ensures.said
 
-pub returns-in-Err-clause-refused : goal.returns-in-Err-clause-refused
-returns-in-Err-clause-refused g c = λ taken.
+pub returns-clause-refused : goal.returns-clause-refused
+returns-clause-refused g c =
     let words = map g.S.AsStr.text c.args.words.now in
-    let line_takes = ap (λ (app : App). takes app words) c.in_ok-command.ensures ∙ taken in
-    subst IsOwn (sym (c.from.ensures.memory (c.in-Err.ensures.passes line_takes))) tt
+    let found = subst (λ (app : App). HasMatchesOf app words c.in-Ok.matches) c.in_ok-command.ensures c.in-Ok.ensures.matches in
+    IfErr-weaker c.options_of.result _ _
+    (λ f lacks. lacking words f (subst (λ (rows : List Row). Lacks rows f) (found line_is_simple).0 lacks)) c.options_of.ensures.refused
