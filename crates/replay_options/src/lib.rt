@@ -1,8 +1,8 @@
 //! The words of the command line of `shardkv-replay`.
 #![tactic(auto)]
 
-ghost use Rattle.std.specs.Prelude.{◌≡◌, ◌≤◌, IfOk, IfErr, map};
-ghost use Rattle.clap.specs.Words.{app_of, found_of, rows_of};
+ghost use Rattle.std.specs.Prelude.{◌≡◌, ◌≤◌, [], IfOk, IfErr, OnOk, map};
+ghost use Rattle.clap.specs.Words.{app_of, fault_of, found_of, rows_of};
 ghost use Rattle.replay_options.specs.Options.{AreSaid, AreSaidBy, IsRefusal, Lacks, TellsRefusal, line};
 ghost use Rattle.replay_options.specs.declared.OptionsFault.TheVariants as options_fault;
 
@@ -64,6 +64,7 @@ pub fn options<'a, S: AsStr>(alloc: Global, words: &'a [S]) -> Result<Asked<'a>,
     ensures least { IfOk result (λ options. 1 ≤ options.workers) }
     ensures most { IfOk result (λ options. options.workers ≤ 64) }
     ensures said { IfOk result (AreSaid (map S.text words.now)) }
+    ensures taken { OnOk result (fault_of line (map S.text words.now) ≡ []) }
     ensures refused { IfErr result (IsRefusal (map S.text words.now)) }
 {
     let line = line(alloc)?;
