@@ -19,6 +19,7 @@ ghost use Rattle.system.specs.declared.effect.Effect.{Effect};
 ghost use Rattle.system_view.specs.Connections.{outcome_shown};
 ghost use Rattle.journal.specs.declared.trace.TheConstants.{GREATEST_STEPS};
 
+use super::closing::Closing;
 use super::history::History;
 use super::pick::Pick;
 use journal::{Step, Trace};
@@ -143,15 +144,6 @@ impl Answer {
     {
         self.stamp.as_ref()
     }
-}
-
-/// What is told of a cluster that is closed: how many requests were submitted, and of those that addressed a group how
-/// many were executed and how many starved.
-#[derive(Clone, Copy, Debug, PartialEq, Eq)]
-pub struct Closing {
-    pub requests: u64,
-    pub executed: u64,
-    pub starved: u64,
 }
 
 /// Why a cluster isn't closed. Nothing was changed. Where several apply it is the first of `Failed`, `SeatsOut` and

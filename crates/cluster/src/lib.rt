@@ -5,9 +5,11 @@
 //! than the cluster's calls, and is compared with the trace when it comes back. It knows no lock and no thread.
 #![tactic(auto)]
 
+mod closing;
 mod cluster;
 mod history;
 mod pick;
 
-pub use cluster::{Answer, CloseFault, Closing, Cluster, Seat};
+pub use closing::Closing;
+pub use cluster::{Answer, CloseFault, Cluster, Seat};
 pub use pick::{First, Pick};

@@ -11,7 +11,7 @@ use Rattle.cluster.specs.Outcomes.{ComesFrom, IsAbove, raised}
 use Rattle.cluster.specs.Submits.{IsSaid, submits}
 use Rattle.cluster.specs.declared.cluster.Answer.{Answer}
 use Rattle.cluster.specs.declared.cluster.CloseFault.{CloseFault}
-use Rattle.cluster.specs.declared.cluster.Closing.{Closing}
+use Rattle.cluster.specs.declared.closing.Closing.{Closing}
 use Rattle.journal.specs.TraceText.{trace_text}
 use Rattle.journal.specs.declared.step.Step.TheVariants.{Collect}
 use Rattle.resp.specs.Content.{content}

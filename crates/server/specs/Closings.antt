@@ -5,7 +5,7 @@ use Rattle.cluster.specs.Clusters as cluster
 use Rattle.cluster.specs.Histories.{HistoryView, has_failed, IsLawful}
 use Rattle.cluster.specs.Submits.{submits}
 use Rattle.cluster.specs.declared.cluster.CloseFault.{CloseFault}
-use Rattle.cluster.specs.declared.cluster.Closing.{Closing}
+use Rattle.cluster.specs.declared.closing.Closing.{Closing}
 use Rattle.journal.specs.TraceText.{trace_text}
 use Rattle.system.specs.System.{IsQuiet}
 

@@ -144,7 +144,9 @@ where
     let _ = writeln!(
         out,
         "closed requests={} executed={} starved={}",
-        closing.requests, closing.executed, closing.starved
+        closing.requests(),
+        closing.executed(),
+        closing.starved()
     );
     let _ = out.flush();
     Ok(())

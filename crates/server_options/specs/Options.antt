@@ -1,7 +1,7 @@
 -- What the words of the command line say.
 use Rattle.std.specs.Int.NonZero.{non_zero_usize_get}
 use Rattle.std.specs.Prelude.{◌≡◌, ◌≤◌, ◌⊎◌, ⊤, pos, true, false, List, Some, None, option_map, codes}
-use Rattle.clap.specs.Words.{App, Row, Rule, Text, first_of, matches_of, new_app, takes, with_rule}
+use Rattle.clap.specs.Words.{App, IsAmong, Row, Rule, Text, fault_of, first_of, kind_of, matches_of, new_app, takes, with_rule}
 use Rattle.clap.specs.declared.builder.value_parser.ValueParser.{ValueParser}
 use Rattle.clap.specs.declared.builder.value_parser.ValueParser.TheVariants as parser
 use Rattle.command_lines.specs.Options.{SaysOr, IsOutside, option_named}
@@ -73,8 +73,9 @@ Lacks rows (Words error) = ⊥
 Lacks rows (Range name) = IsOutOfBounds rows name.now
 Lacks rows Memory = ⊥
 
--- clap refuses the words, or they say a number that is out of its bounds, or there is no memory
+-- clap refuses the words, by a kind of error that it finds in them, or they say a number that is out of its bounds, or
+-- there is no memory
 abbrev pub IsRefusal : List Text → OptionsFault → Type 0
-IsRefusal words (Words error) = takes line words ≡ false
+IsRefusal words (Words error) = (takes line words ≡ false) × IsAmong (kind_of error) (fault_of line words)
 IsRefusal words (Range name) = IsOutOfBounds (matches_of line words) name.now
 IsRefusal words Memory = ⊤

@@ -1,7 +1,7 @@
 //! What the server is to do, read from the words that it is started with.
 
-ghost use Rattle.std.specs.Prelude.{◌≡◌, ◌≤◌, true, false, IfOk, IfErr, map};
-ghost use Rattle.clap.specs.Words.{app_of, first_of, found_of, rows_of, rule_of};
+ghost use Rattle.std.specs.Prelude.{◌≡◌, ◌≤◌, true, false, [], IfOk, IfErr, OnOk, map};
+ghost use Rattle.clap.specs.Words.{app_of, fault_of, first_of, found_of, rows_of, rule_of};
 ghost use Rattle.command_lines.specs.Options.{SaysOr, IsOutside};
 ghost use Rattle.server_options.specs.Options.{InRange, AreSaid, AreSaidBy, IsRefusal, Lacks, number_named, a_u16, a_u64, line};
 ghost use Rattle.server_options.specs.declared.fault.OptionsFault.TheVariants as options_fault;
@@ -56,6 +56,7 @@ pub fn read_options<'a, S: AsStr>(
 ) -> Result<Options<'a>, OptionsFault>
     ensures range { IfOk result InRange }
     ensures said { IfOk result (AreSaid (map S.text words.now)) }
+    ensures taken { OnOk result (fault_of line (map S.text words.now) ≡ []) }
     ensures refused { IfErr result (IsRefusal (map S.text words.now)) }
 {
     let command = command(alloc)?;

@@ -5,7 +5,8 @@ ghost use Rattle.std.specs.Thread.{IsSync};
 ghost use Rattle.journal.specs.declared.trace.TheConstants.{GREATEST_STEPS};
 
 use crate::hosting::TWO_SHARDS;
-use cluster::{CloseFault, Closing, First, Seat};
+use crate::turns::numbers_of;
+use cluster::{CloseFault, First, Seat};
 use placement::Table;
 use resp::{Reply, Request, write_reply};
 use server::{AskFault, FaultKind, Shared, shared_syncs};
@@ -117,14 +118,14 @@ fn driven<L: Ledger, R: Wait>(rt: &R, shared: &Shared<L>) -> Result<(), AskFault
     shared.drive(rt, &First, &InTurn(NonZeroUsize::MIN), &Open)
 }
 
-/// Two threads ask their rows beside one that drives. So it is to close.
+/// Two threads ask their rows beside one that drives. The cluster is to close with these numbers.
 fn two_ask<L: Ledger + Send + Sync, R: Threads + Wait + Abort + Sync>(
     rt: &R,
     alloc: Global,
     blank: Blank,
     one: Rows<'_>,
     two: Rows<'_>,
-    closing: Closing,
+    numbers: (u64, u64, u64),
 ) -> Result<(), Fail>
     requires { (blank.name ≡ L.name) × (blank.parts ≡ L.parts) × (1000 < blank.parts) }
 {
@@ -140,7 +141,7 @@ fn two_ask<L: Ledger + Send + Sync, R: Threads + Wait + Abort + Sync>(
     assert_eq!(rt; first, None);
     assert_eq!(rt; second, None);
     assert_eq!(rt; ended, Ok(()));
-    assert_eq!(rt; shared.close(rt), Ok(closing));
+    assert_eq!(rt; shared.close(rt).map(numbers_of), Ok(numbers));
     Ok(())
 }
 
@@ -159,12 +160,7 @@ fn ask_both<R: Threads + Wait + Abort + Sync>(
     executed: u64,
 ) -> Result<(), Fail> {
     let blank = Blank::new(MOST + 1);
-    let closing = Closing {
-        requests,
-        executed,
-        starved: 0,
-    };
-    two_ask::<Brand, R>(rt, alloc, blank, one, two, closing)
+    two_ask::<Brand, R>(rt, alloc, blank, one, two, (requests, executed, 0))
 }
 
 #[test]
@@ -250,12 +246,7 @@ fn asks_turning<L: Ledger, R: Wait + Abort>(
     shared.stand(rt, seat);
     let refused = shared.sit(rt);
     assert!(rt; matches!(refused, Err(fault) if fault.kind() == FaultKind::Closed));
-    let closing = Closing {
-        requests: 5,
-        executed: 3,
-        starved: 0,
-    };
-    assert_eq!(rt; shared.close(rt), Ok(closing));
+    assert_eq!(rt; shared.close(rt).map(numbers_of), Ok((5, 3, 0)));
     Ok(())
 }
 

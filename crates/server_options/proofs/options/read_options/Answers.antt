@@ -1,6 +1,7 @@
-use Rattle.std.proofs.Common.{◌≡◌, ◌∙◌, refl, ap, subst, true, List, map}
+use Rattle.std.proofs.Common.{◌≡◌, ◌∙◌, refl, ap, subst, true, List, [], map}
 use Rattle.std.proofs.lemmas.Result.{IfErr-weaker, IfOk-weaker}
-use Rattle.clap.specs.Words.{App, HasMatchesOf, Row, is_simple, takes}
+use Rattle.clap.specs.Words.{App, HasKind, HasMatchesOf, Row, fault_of, is_simple, is_simple_and_free, takes}
+use Rattle.clap.proofs.BuiltLemmas.{on_ok_always}
 use Rattle.clap.proofs.OnLiterals.{clap_on_literals}
 use Rattle.server_options.proofs.Refusals.{told_refusal, lacking}
 use Rattle.server_options.specs.Options.{AreSaidBy, Lacks, line}
@@ -10,11 +11,23 @@ line_is_simple : is_simple line ≡ true
 unfolding clap_on_literals
 line_is_simple = refl
 
+line_is_free : is_simple_and_free line ≡ true
+unfolding clap_on_literals
+line_is_free = refl
+
 pub returns-in-Err-clause-refused : goal.returns-in-Err-clause-refused
 returns-in-Err-clause-refused g c =
-    told_refusal (map g.S.AsStr.text c.args.words.now) c.in-Err.error c.from.result
-    (λ taken. c.in-Err.ensures.passes (ap (λ (app : App). takes app (map g.S.AsStr.text c.args.words.now)) c.in_ok-command.ensures ∙ taken))
-    c.from.ensures
+    let words = map g.S.AsStr.text c.args.words.now in
+    let passes = ap (λ (app : App). takes app words) c.in_ok-command.ensures in
+    let kinds = subst (λ (app : App). is_simple_and_free app ≡ true → HasKind (fault_of app words) c.in-Err.error)
+    c.in_ok-command.ensures c.in-Err.ensures.kinds line_is_free in
+    told_refusal words c.in-Err.error c.from.result (λ taken. c.in-Err.ensures.passes (passes ∙ taken)) kinds c.from.ensures
+
+pub returns-clause-taken : goal.returns-clause-taken
+returns-clause-taken g c =
+    let words = map g.S.AsStr.text c.args.words.now in
+    on_ok_always c.options_of.result
+    (subst (λ (app : App). is_simple_and_free app ≡ true → fault_of app words ≡ []) c.in_ok-command.ensures c.in-Ok.ensures.kinds line_is_free)
 
 pub returns-clause-said : goal.returns-clause-said
 returns-clause-said g c =
