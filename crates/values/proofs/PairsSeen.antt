@@ -1,9 +1,10 @@
 -- What a table of fields does, seen as a list of pairs.
-use Rattle.std.proofs.Common.{◌≡◌, ℕ, Bool, true, false, cond, List, [], ◌∷◌, length, map, ◌≤◌, arith, Option, Some, refl, ap, ◌∙◌}
+use Rattle.std.proofs.Common.{◌≡◌, ℕ, Bool, true, false, cond, List, [], ◌∷◌, length, map, ◌≤◌, arith, Option, Some, refl, sym, ap, ◌∙◌}
+use Rattle.std.proofs.lemmas.Bool.{true≢false}
 use Rattle.std.specs.Global.{Vec}
 use Rattle.std.specs.List.{IsDistinct, AllByRecursion}
-use Rattle.std.specs.Map.{lookup, remove_entry, keys_of}
-use Rattle.std.specs.Option.{option_map}
+use Rattle.std.specs.Map.{lookup, remove_entry, set_value, keys_of}
+use Rattle.std.specs.Option.{IsSome, option_map}
 use Rattle.std.specs.Str.{bytes_eq}
 use Rattle.indexmap.specs.IndexMap.{insert_entry}
 use Rattle.texts.specs.Texts.{Bytes, pairs_of, by_turns}
@@ -32,6 +33,19 @@ insert-seen k v (e ∷ es) =
     seen-cond (bytes_eq k e.0) ((e.0, v) ∷ es) (e ∷ insert_entry bytes_eq es k v)
     ∙ ap (λ rest. cond (bytes_eq k e.0) ((e.0, v.items) ∷ pairs_seen es) ((e.0, e.1.items) ∷ rest))
     (insert-seen k v es)
+
+-- a value that is written at a field that is there
+pub set-seen : (q : Bytes) (w : Vec ℕ) (es : List (Bytes × Vec ℕ)) → IsSome (lookup (bytes_eq q) es)
+    → pairs_seen (set_value (bytes_eq q) es w) ≡ with_field (pairs_seen es) q w.items
+set-seen q w [] there = absurd (true≢false (sym there))
+set-seen q w (e ∷ es) there = by (bytes_eq q e.0) (λ h. set-seen q w es h) there
+  where
+    by : (b : Bool) → (IsSome (lookup (bytes_eq q) es) → pairs_seen (set_value (bytes_eq q) es w) ≡ with_field (pairs_seen es) q w.items)
+        → IsSome (cond b (Some e.1) (lookup (bytes_eq q) es))
+        → pairs_seen (cond b ((e.0, w) ∷ es) (e ∷ set_value (bytes_eq q) es w))
+        ≡ cond b ((e.0, w.items) ∷ pairs_seen es) ((e.0, e.1.items) ∷ with_field (pairs_seen es) q w.items)
+    by true rest here = refl
+    by false rest there = ap (λ pairs. (e.0, e.1.items) ∷ pairs) (rest there)
 
 pub remove-seen : (q : Bytes) (es : List (Bytes × Vec ℕ)) → pairs_seen (remove_entry (bytes_eq q) es) ≡ without_field (pairs_seen es) q
 remove-seen q [] = refl

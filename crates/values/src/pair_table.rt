@@ -1,7 +1,7 @@
 //! The table that a hash keeps its pairs in, seen as the list of their bytes.
 
 ghost use Rattle.std.specs.Prelude.{◌≡◌, ◌+◌, ◌≤◌, length, not, None};
-ghost use Rattle.std.specs.Prelude.{IfOk, OnOk, OnErr};
+ghost use Rattle.std.specs.Prelude.{false, IsTrue, IfOk, OnOk, OnErr};
 ghost use Rattle.std.specs.List.{filter};
 ghost use Rattle.std.specs.Option.{option_map};
 ghost use Rattle.indexmap.specs.IndexMap.{index_map_len, spare};
@@ -55,6 +55,40 @@ pub(crate) fn insert(
     }
 }
 
+/// Sets a field; takes memory only for a new one. A value as long as the one before is copied over it: so what was
+/// handed in is free for what comes next while it lies in the cache, and the memory of the old one isn't waited for.
+fn set(pairs: &mut PairTable, field: Vec<u8>, value: Vec<u8>) -> Result<(), AllocError>
+    ensures ok { OnOk result
+        (pairs_seen pairs.new.entries ≡ with_field (pairs_seen pairs.old.entries) field.items value.items) }
+    ensures bound { index_map_len pairs.old ≤ index_map_len pairs.new }
+    ensures spare { spare pairs.old ≤ spare pairs.new + 1 }
+    ensures room { OnErr result (spare pairs.old ≡ 0) }
+{
+    if overwrite(pairs, field.as_slice(), value.as_slice()) {
+        return Ok(());
+    }
+    insert(pairs, field, value)?;
+    Ok(())
+}
+
+/// Copies a value over that of the field, where the field is there and has one as long.
+fn overwrite(pairs: &mut PairTable, field: &[u8], value: &[u8]) -> bool
+    ensures written { IsTrue result
+        → pairs_seen pairs.new.entries ≡ with_field (pairs_seen pairs.old.entries) field.now value.now }
+    ensures other { result ≡ false → pairs_seen pairs.new.entries ≡ pairs_seen pairs.old.entries }
+    ensures bound { index_map_len pairs.new ≡ index_map_len pairs.old }
+    ensures spare { spare pairs.new ≡ spare pairs.old }
+{
+    let Some(there) = pairs.get_mut(HashedSlice { bytes: field }) else {
+        return false;
+    };
+    if there.len() != value.len() {
+        return false;
+    }
+    there.as_mut_slice().copy_from_slice(value);
+    true
+}
+
 /// Removes a field, where it is there. The others keep their order.
 pub(crate) fn remove(pairs: &mut PairTable, field: &[u8])
     ensures left { pairs_seen pairs.new.entries ≡ without_field (pairs_seen pairs.old.entries) field.now }
@@ -72,7 +106,7 @@ pub(crate) fn insert_each(pairs: &mut PairTable, mut turns: Vec<Vec<u8>>)
 {
     turns.reverse();
     while let (Some(field), Some(value)) = (turns.pop(), turns.pop()) {
-        let Ok(_) = insert(pairs, field, value) else {
+        let Ok(()) = set(pairs, field, value) else {
             return;
         };
     }

@@ -30,7 +30,7 @@ loop-field-preserved c =
     ap (λ l. reverse (texts_of l)) c.in-Some-Some.ensures.items ∙ reverse-map_pushed (λ t. t.items) between field
     ∙ ap (λ l. field.items ∷ reverse (texts_of l)) c.in-Some-Some.ensures'.items
     ∙ ap (λ l. field.items ∷ l) (reverse-map_pushed (λ t. t.items) after value) in
-    let set_here : pairs_seen c.insert.new.pairs.entries ≡ with_field seen field.items value.items =
+    let set_here : pairs_seen c.set.new.pairs.entries ≡ with_field seen field.items value.items =
     c.in-Ok.ensures.ok in
     record {
       set =
