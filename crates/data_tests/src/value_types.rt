@@ -134,10 +134,10 @@ fn sets_ascend(rt: HostRuntime) -> Result<(), Fail> {
     assert_eq!(rt; set.insert_all(texts(alloc, "z a b b m ab")?)?, 3);
     assert!(rt; set.insert(text(alloc, "B")?)?);
     assert!(rt; !set.insert(text(alloc, "a")?)?);
-    let all = shown(alloc, set.members(alloc)?)?;
+    let all = shown(alloc, set.members(alloc))?;
     assert_eq!(rt; all.as_slice(), b"B a ab b c m z".as_slice());
     set.order()?;
-    let all = shown(alloc, set.members(alloc)?)?;
+    let all = shown(alloc, set.members(alloc))?;
     assert_eq!(rt; all.as_slice(), b"B a ab b c m z".as_slice());
     let all = shown(alloc, set.in_any_order())?;
     assert_eq!(rt; all.as_slice(), b"B a ab b c m z".as_slice());
@@ -145,7 +145,7 @@ fn sets_ascend(rt: HostRuntime) -> Result<(), Fail> {
     assert_eq!(rt; removed, 2);
     let left = left.ok_or("no set")?;
     assert_eq!(rt;
-        shown(alloc, left.members(alloc)?)?.as_slice(),
+        shown(alloc, left.members(alloc))?.as_slice(),
         b"B ab b c m".as_slice()
     );
     assert_eq!(rt; Value::Set(left).type_name(), "set");

@@ -33,7 +33,7 @@ fn put_value(alloc: Global, value: &Value, out: &mut Vec<u8>) -> Result<(), Allo
         Value::Str(text) => put_text(alloc, text.as_slice(), out),
         Value::List(items) => put_texts(alloc, items.range(0, items.len()), out),
         Value::Hash(pairs) => put_texts(alloc, pairs.fields_and_values(), out),
-        Value::Set(members) => put_texts(alloc, members.members(alloc)?, out),
+        Value::Set(members) => put_texts(alloc, members.members(alloc), out),
     }
 }
 

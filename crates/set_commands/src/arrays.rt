@@ -78,7 +78,7 @@ fn members_reply(alloc: Global, set: &SetValue) -> Result<Reply, AllocError>
     ensures starves { OnErr result (0 < length set.now) }
 {
     let mut replies = Vec::with_capacity(alloc, set.len())?;
-    let mut members = set.members(alloc)?;
+    let mut members = set.members(alloc);
     while let Some(member) = members.next() {
         replies.push(bulk_copy(alloc, member)?)?;
     }
