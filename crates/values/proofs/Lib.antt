@@ -4,3 +4,4 @@ pub mod PairsSeen
 pub mod PairsLeft
 pub mod MembersAlike
 pub mod MembersSeen
+pub mod MembersAfter

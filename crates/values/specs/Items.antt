@@ -5,6 +5,7 @@ use Rattle.std.specs.Vec.Iter.{into_iter_items}
 use Rattle.std.specs.VecDeque.Iter.{deque_iter_rest}
 use Rattle.texts.specs.Texts.{Bytes, texts_of, by_turns}
 use Rattle.values.specs.HashValue.{pairs_seen}
+use Rattle.values.specs.SetValue.{members_after, members_seen}
 use Rattle.values.specs.declared.items.Rest.{Rest}
 use Rattle.values.specs.declared.items.Rest.TheVariants as rest
 
@@ -21,3 +22,4 @@ left (rest.Values pairs) = map (λ pair. pair.1) (pairs_seen pairs)
 left (rest.Both pairs) = by_turns (pairs_seen pairs)
 left (rest.Members members) = map (λ member. member.now) (into_iter_items members)
 left (rest.Keys keys) = keys
+left (rest.Least least) = members_after least.after (members_seen least.keys.now)

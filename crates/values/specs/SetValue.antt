@@ -1,10 +1,11 @@
 -- What the calls of a set leave: a list of members that ascend byte by byte, a string before those that it begins.
-use Rattle.std.specs.Prelude.{Bool, List, [], ◌∷◌}
+use Rattle.std.specs.Prelude.{Bool, true, List, [], ◌∷◌, Option, Some, None}
 use Rattle.std.specs.BTreeSet as tree
+use Rattle.std.specs.Borrow.{Bor}
 use Rattle.std.specs.Cmp.Lexicographic.{slice_cmp}
-use Rattle.std.specs.List.{list_any}
+use Rattle.std.specs.List.{filter, list_any}
 use Rattle.std.specs.List.Sorted.{IsStrictlySortedBy}
-use Rattle.std.specs.Ordering.{nat_cmp}
+use Rattle.std.specs.Ordering.{is_lt, nat_cmp}
 use Rattle.std.specs.Set.{remove_key}
 use Rattle.std.specs.Str.{bytes_eq}
 use Rattle.texts.specs.Texts.{Bytes}
@@ -38,3 +39,17 @@ without_members members (member ∷ more) = without_members (without_member memb
 -- the members that these keys of a table are, in whatever order they lie there
 abbrev pub members_seen : List Bytes → List Bytes
 members_seen keys = with_members [] keys
+
+-- whether the string is above this one, if there is one
+abbrev pub is_above : Option (Bor Bytes) → Bytes → Bool
+is_above None text = true
+is_above (Some after) text = is_lt (slice_cmp nat_cmp after.now text)
+
+-- whether the string is below this one, if there is one
+abbrev pub is_below : Option (Bor Bytes) → Bytes → Bool
+is_below None text = true
+is_below (Some before) text = is_lt (slice_cmp nat_cmp text before.now)
+
+-- the members above this string, or all of them where there is none
+abbrev pub members_after : Option (Bor Bytes) → List Bytes → List Bytes
+members_after after members = filter (is_above after) members

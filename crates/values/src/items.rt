@@ -2,6 +2,7 @@
 
 ghost use Rattle.std.specs.Iterator.{YieldsFirstRef, item_count};
 
+use crate::member_table::least_after;
 use hashed_texts::HashedText;
 use indexmap::{map, set};
 use std::collections::vec_deque;
@@ -30,6 +31,19 @@ pub(crate) enum Rest<'a> {
 
     /// Members as they lie in their table.
     Keys(set::Iter<'a, HashedText>),
+
+    /// Members in ascending order, with no list of them.
+    Least(LeastMembers<'a>),
+}
+
+/// Members in ascending order, of which each is looked for among all keys of the table. That takes no memory, and for
+/// all of them time for their square.
+#[derive(Drop)]
+pub(crate) struct LeastMembers<'a> {
+    pub(crate) keys: &'a [HashedText],
+
+    /// The member that was given last.
+    pub(crate) after: Option<&'a [u8]>,
 }
 
 impl<'a> Model for Items<'a> {
@@ -75,6 +89,11 @@ impl<'a> Iterator for Items<'a> {
             Rest::Keys(keys) => {
                 let key = keys.next()?;
                 Some(key.as_slice())
+            }
+            Rest::Least(least) => {
+                let member = least_after(least.keys, least.after)?;
+                least.after = Some(member);
+                Some(member)
             }
         }
     }

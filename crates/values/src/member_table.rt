@@ -1,12 +1,12 @@
 //! The table that a set keeps its members in, seen as the ascending list of their bytes.
 
-ghost use Rattle.std.specs.Prelude.{◌≡◌, ◌+◌, ◌≤◌, length, map, not};
-ghost use Rattle.std.specs.Prelude.{false, IsTrue, IfOk, OnOk, OnErr};
+ghost use Rattle.std.specs.Prelude.{◌≡◌, ◌+◌, ◌≤◌, ◌&&◌, [], ◌∷◌, length, map, not};
+ghost use Rattle.std.specs.Prelude.{false, Some, IfOk, MatchOption, OnOk, OnErr};
 ghost use Rattle.std.specs.List.{IsDistinct};
 ghost use Rattle.std.specs.Str.{bytes_eq};
 ghost use Rattle.indexmap.specs.IndexSet.{index_set_len, spare};
 ghost use Rattle.texts.specs.Texts.{texts_of};
-ghost use Rattle.values.specs.SetValue.{IsAscending, is_member, members_seen};
+ghost use Rattle.values.specs.SetValue.{IsAscending, is_above, is_below, is_member, members_after, members_seen};
 ghost use Rattle.values.specs.SetValue.{with_member, without_member, with_members, without_members};
 
 use hashed_texts::{HashedSlice, HashedText};
@@ -101,19 +101,11 @@ pub(crate) fn order(there: &mut MemberTable) -> Result<(), AllocError>
     Ok(())
 }
 
-/// The members in ascending order, borrowed; they are sorted where they don't lie so.
-pub(crate) fn ascending(
-    alloc: Global,
-    there: &MemberTable,
-    is_ordered: bool,
-) -> Result<Vec<&[u8]>, AllocError>
-    requires { IsTrue is_ordered → IsAscending there.now.keys }
+/// The members in ascending order, borrowed, in a list of their own.
+pub(crate) fn ascending(alloc: Global, there: &MemberTable) -> Result<Vec<&[u8]>, AllocError>
     ensures { IfOk result (λ members. map (λ member. member.now) members.items ≡ members_seen there.now.keys) }
 {
     let mut members = borrowed(alloc, there)?;
-    if is_ordered {
-        return Ok(members);
-    }
     members.sort()?;
     Ok(members)
 }
@@ -129,4 +121,42 @@ fn borrowed(alloc: Global, there: &MemberTable) -> Result<Vec<&[u8]>, AllocError
         members.push_reserved(member.as_slice());
     }
     Ok(members)
+}
+
+/// The least of these members above `after`, or of all of them where that is `None`. It takes time for one walk over
+/// them, and no memory.
+pub(crate) fn least_after<'a>(keys: &'a [HashedText], after: Option<&'a [u8]>) -> Option<&'a [u8]>
+    ensures { MatchOption result
+        (members_after after.entry (members_seen keys.now) ≡ [])
+        (λ member. members_after after.entry (members_seen keys.now)
+        ≡ member.now ∷ members_after (Some member) (members_seen keys.now)) }
+{
+    let mut least: Option<&'a [u8]> = None;
+    for key in keys {
+        let member = key.as_slice();
+        if is_above(member, after) && is_below(member, least) {
+            least = Some(member);
+        }
+    }
+    least
+}
+
+/// Whether a member is above the other, if there is one.
+fn is_above(member: &[u8], other: Option<&[u8]>) -> bool
+    ensures { result ≡ is_above other.entry member.now }
+{
+    match other {
+        Some(other) => other < member,
+        None => true,
+    }
+}
+
+/// Whether a member is below the other, if there is one.
+fn is_below(member: &[u8], other: Option<&[u8]>) -> bool
+    ensures { result ≡ is_below other.entry member.now }
+{
+    match other {
+        Some(other) => member < other,
+        None => true,
+    }
 }

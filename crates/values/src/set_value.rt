@@ -6,7 +6,7 @@ ghost use Rattle.values.specs.ListValue.{nonempty};
 ghost use Rattle.values.specs.SetValue.{IsAscending, is_member, members_seen};
 ghost use Rattle.values.specs.SetValue.{with_member, without_member, with_members, without_members};
 
-use crate::items::{Items, Rest};
+use crate::items::{Items, LeastMembers, Rest};
 use crate::member_table::{
     MemberTable, ascending, contains, give_back, insert, insert_each, order, remove, remove_each,
 };
@@ -78,15 +78,33 @@ impl SetValue {
 
     /// The members in ascending order, to be read one after another.
     ///
-    /// `AllocError` where there is no memory for a list of them.
-    pub fn members(&self, alloc: Global) -> Result<Items<'_>, AllocError>
-        ensures { IfOk result (λ members. members ≡ self.now) }
+    /// Where they don't lie in order and there is no memory for a list of them, each is looked for among all of them when
+    /// it is read. To read them all then takes time for the square of their number.
+    #[tactic(auto, using(crate::proofs::MembersAfter::read))]
+    pub fn members(&self, alloc: Global) -> Items<'_>
+        ensures { result ≡ self.now }
     {
-        let members = ascending(alloc, &self.members, self.is_ordered)?;
-        Ok(Items {
+        if self.is_ordered {
+            let keys = self.members.iter();
+            return Items {
+                value: None,
+                rest: Rest::Keys(keys),
+            };
+        }
+        let Ok(members) = ascending(alloc, &self.members) else {
+            let least = LeastMembers {
+                keys: self.members.as_slice(),
+                after: None,
+            };
+            return Items {
+                value: None,
+                rest: Rest::Least(least),
+            };
+        };
+        Items {
             value: None,
             rest: Rest::Members(members.into_iter()),
-        })
+        }
     }
 
     /// The members in any order, to be read one after another. It takes no memory.

@@ -1,11 +1,5 @@
-use Rattle.std.proofs.Common.{◌∙◌, sym}
-use Rattle.values.proofs.MembersSeen.{sorted-seen, with_members-ascending}
+use Rattle.values.proofs.MembersSeen.{sorted-seen}
 use Rattle.values.proofs.member_table.ascending.Goals as goal
-
-pub returns-then-is_ordered : goal.returns-then-is_ordered
-returns-then-is_ordered c =
-    c.in_ok-members.ensures.lent
-    ∙ sym (with_members-ascending c.args.there.now.keys (c.requires c.if-is_ordered.true))
 
 pub returns : goal.returns
 returns c =
