@@ -138,3 +138,34 @@ fn reads_two_thousand_pieces_and_large_words(rt: HostRuntime) -> Result<(), Fail
     assert_eq!(rt; shown(rt.alloc(), &decoded)?.len(), 2_000_003);
     Ok(())
 }
+
+/// What is fed, and the second words that are seen ahead, each behind a space.
+#[rattlefmt::skip]
+const AHEAD: [(&str, &str); 7] = [
+    ("*2|$3|GET|$1|a|*1|$4|PING|*3|$3|SET|$2|bc|$1|d|", " a  bc"),
+    ("*0|*2|$3|GET|$1|a|", "  a"),
+    ("*2|$3|GET|$1|a|*2|$3|GET|$1|b", " a"),
+    ("*2|$3|GET|$1|a|*2|$3|GETX", " a"),
+    ("*-1|*2|$3|GET|$1|a|", ""),
+    ("*16|$1|a|$1|b|$0||$0||$0||$0||$0||$0||$0||$0||$0||$0||$0||$0||$0||$0||", " b"),
+    ("*17|$1|a|$1|b|$0||$0||$0||$0||$0||$0||$0||$0||$0||$0||$0||$0||$0||$0||$0||", ""),
+];
+
+#[test]
+fn sees_the_second_words_ahead(rt: HostRuntime) -> Result<(), Fail> {
+    for (fed, seen) in AHEAD {
+        let mut decoder = Decoder::new(rt.alloc(), Limits::DEFAULT);
+        decoder.feed(&bytes_of(rt.alloc(), fed)?)?;
+        let mut ahead = decoder.ahead();
+        let mut words = Vec::new(rt.alloc());
+        for _ in 0..10u8 {
+            let Some(word) = ahead.next() else {
+                break;
+            };
+            words.push(b' ')?;
+            words.extend_from_slice(word)?;
+        }
+        assert_eq!(rt; words.as_slice(), seen.as_bytes(), "at {fed:?}");
+    }
+    Ok(())
+}

@@ -5,6 +5,7 @@
 ghost use Rattle.std.specs.Prelude.{◌≡◌, ◌≢◌, ◌<◌, ◌≤◌, ◌+◌, ◌*◌, ◌↔◌, length};
 ghost use Rattle.std.specs.Prelude.{IsTrue, IsSome, IsOk, OnOk, OnErr, IfOk, IfErr, IfSome, IfNone};
 
+use crate::ahead::Ahead;
 use crate::buffer::{KEPT_ROOM, give_up_front};
 use crate::fault::Fault;
 use crate::limits::Limits;
@@ -122,6 +123,14 @@ impl Decoder {
         ensures { IsTrue result ↔ (0 < length self.now.held.bytes) }
     {
         self.progress.left > 0 || self.progress.start < self.buffer.len()
+    }
+
+    /// The requests that are held, to be looked at before they are taken. Where one has come in part nothing is seen.
+    pub fn ahead(&self) -> Ahead<'_> {
+        Ahead {
+            limits: self.limits,
+            bytes: &self.buffer[self.progress.start..],
+        }
     }
 
     /// Keeps the fault, and gives all else up.

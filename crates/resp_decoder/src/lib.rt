@@ -5,6 +5,7 @@
 //! every input. The rules are those of the RESP2 specification; the serving loops stand on this crate.
 #![tactic(auto)]
 
+mod ahead;
 mod buffer;
 mod decoder;
 mod fault;
@@ -14,6 +15,7 @@ mod parsing;
 mod pieces;
 mod progress;
 
+pub use ahead::Ahead;
 pub use decoder::Decoder;
 pub use fault::{Fault, fault_line};
 pub use laws::{known_texts, one_decoding, one_fault};

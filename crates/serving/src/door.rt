@@ -1,6 +1,10 @@
 //! What stands behind a connection and answers its requests.
 
 use resp::{Reply, Request};
+use resp_decoder::Ahead;
+
+/// A door is told what comes next once for so many requests.
+pub const TOLD_AT_ONCE: usize = 32;
 
 /// Why a door gives no reply.
 #[derive(Clone, Copy, Debug, Drop, PartialEq, Eq)]
@@ -30,4 +34,8 @@ pub trait Door {
     /// Told before each read and each write, which may take long: a door lets go here of what others wait for. It
     /// changes nothing of what the door answers.
     fn rest(&self) {}
+
+    /// Told what comes next, before each `TOLD_AT_ONCE` requests that are held are asked: a door may read here what these
+    /// will need, so that memory is waited for once for several of them. It changes nothing of what the door answers.
+    fn expect(&self, _ahead: Ahead<'_>) {}
 }

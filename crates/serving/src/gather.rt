@@ -3,7 +3,7 @@
 ghost use Rattle.std.specs.Prelude.{◌≡◌, None, vec_capacity};
 ghost use Rattle.serving.specs.Gathers.{Gathers, AddsReply, AddsLine};
 
-use crate::door::{Door, DoorFault};
+use crate::door::{Door, DoorFault, TOLD_AT_ONCE};
 use resp::{Reply, Request, write_reply};
 use resp_decoder::{Decoder, Fault, fault_line};
 
@@ -43,7 +43,15 @@ pub(crate) fn gather<D: Door>(
 {
     replies.clear();
     replies.shrink_to(KEPT_ROOM);
+    let mut told: usize = 0;
     while replies.len() <= GATHERED {
+        told = match told.checked_sub(1) {
+            Some(left) => left,
+            None => {
+                door.expect(decoder.ahead());
+                TOLD_AT_ONCE - 1
+            }
+        };
         let taken = match decoder.next() {
             Ok(taken) => taken,
             Err(fault) => return gather_line(fault, replies),

@@ -14,5 +14,5 @@ mod send;
 mod tests;
 
 pub use connection::serve;
-pub use door::{Door, DoorFault};
+pub use door::{Door, DoorFault, TOLD_AT_ONCE};
 pub use outcome::{ServeFault, Served};

@@ -4,7 +4,7 @@
 use crate::gather::{Pause, gather};
 use crate::{Door, DoorFault, ServeFault, Served, serve};
 use resp::{Reply, Request};
-use resp_decoder::{Decoder, Fault, Limits};
+use resp_decoder::{Ahead, Decoder, Fault, Limits};
 use std::alloc::Global;
 use std::cell::Cell;
 use std::io;
@@ -239,6 +239,57 @@ fn has_the_door_rest_before_each_read_and_write(rt: HostRuntime) -> Result<(), F
         writer.inner.taken.as_slice(),
         b"$1\r\na\r\n$1\r\nb\r\n$1\r\nc\r\n".as_slice()
     );
+    Ok(())
+}
+
+/// Echoes, and counts how often it is told what comes next, and of how many requests with the second word `b`.
+#[derive(Drop)]
+struct Told<'a> {
+    echo: Echo,
+    calls: &'a Cell<u32>,
+    requests: &'a Cell<u32>,
+}
+
+impl Door for Told<'_> {
+    type Reason = &'static str;
+
+    ghost asks = { λ _ _ _ _. Unit {0} };
+
+    fn ask(&mut self, request: Request) -> Result<Reply, DoorFault<&'static str>> {
+        self.echo.ask(request)
+    }
+
+    fn expect(&self, mut ahead: Ahead<'_>) {
+        self.calls.set(self.calls.get().saturating_add(1));
+        for _ in 0..100u8 {
+            if ahead.next() == Some(b"b".as_slice()) {
+                self.requests.set(self.requests.get().saturating_add(1));
+            }
+        }
+    }
+}
+
+#[test]
+fn tells_the_door_what_comes_next_once_for_thirty_two_requests(rt: HostRuntime) -> Result<(), Fail> {
+    let input = bytes_of(rt.alloc(), "*2|$1|a|$1|b|")?.repeat(rt.alloc(), 70)?;
+    let (calls, requests) = (&Cell::new(0), &Cell::new(0));
+    let echo = Echo { alloc: rt.alloc() };
+    let mut door = Told {
+        echo,
+        calls,
+        requests,
+    };
+    let mut reader = Source::new(&input, NEVER);
+    let mut writer = Sink::new(rt.alloc(), NEVER);
+    let served = serve(
+        rt.alloc(),
+        Limits::DEFAULT,
+        &mut reader,
+        &mut writer,
+        &mut door,
+    );
+    assert_eq!(rt; served, Ok(Served::End));
+    assert_eq!(rt; (calls.get(), requests.get()), (3, 70 + 38 + 6));
     Ok(())
 }
 

@@ -5,7 +5,7 @@ ghost use Rattle.solo.specs.Connection.{ServesInTurn};
 use crate::store::Solo;
 use command_table::read;
 use resp::{Reply, Request};
-use resp_decoder::Limits;
+use resp_decoder::{Ahead, Limits};
 use serving::{Door, DoorFault, ServeFault, Served, serve};
 use std::convert::Infallible;
 use std::hash::BuildHasher;
@@ -27,6 +27,10 @@ impl<S: BuildHasher> Door for Solo<S> {
             Ok(reply) => Ok(reply),
             Err(_) => Err(DoorFault::Memory),
         }
+    }
+
+    fn expect(&self, ahead: Ahead<'_>) {
+        self.read_ahead(ahead);
     }
 }
 

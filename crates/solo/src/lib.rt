@@ -5,6 +5,7 @@
 #![tactic(auto)]
 
 mod connection;
+mod reading_ahead;
 mod store;
 
 pub use store::Solo;

@@ -8,12 +8,14 @@ ghost use Rattle.command_cases.specs.Case.{Does};
 ghost use Rattle.dumps.specs.Dump.{dump_text};
 ghost use Rattle.solo.specs.Solo.{solo_from, IsStepOrStarves, RunsBeginning};
 
+use crate::reading_ahead::Sight;
 use command_bodies::execute;
 use command_cases::Starved;
 use command_table::Command;
 use dumps::Dump;
 use keyspace::Plain;
 use resp::Reply;
+use resp_decoder::Ahead;
 use std::alloc::{AllocError, Global};
 use std::hash::BuildHasher;
 use std::marker::Model;
@@ -23,6 +25,7 @@ use std::marker::Model;
 pub struct Solo<S: BuildHasher> {
     alloc: Global,
     keys: Plain<S>,
+    sight: Sight,
 }
 
 impl<S: BuildHasher> Model for Solo<S> {
@@ -47,6 +50,7 @@ impl<S: BuildHasher> Solo<S> {
         Solo {
             alloc,
             keys: Plain::new(alloc, hasher),
+            sight: Sight::new(),
         }
     }
 
@@ -98,6 +102,11 @@ impl<S: BuildHasher> Solo<S> {
         let mut dump = Dump::new(self.alloc);
         dump.add_all(&self.keys)?;
         dump.write(out)
+    }
+
+    /// Reads what lies at the keys that come next, so that it is waited for once.
+    pub(crate) fn read_ahead(&self, ahead: Ahead<'_>) {
+        self.sight.read_ahead(&self.keys, ahead);
     }
 
     /// The allocator that the keys lie in.

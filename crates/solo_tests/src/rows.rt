@@ -239,6 +239,26 @@ fn a_thousand_members_come_in_order(rt: HostRuntime) -> Result<(), Fail> {
     Ok(())
 }
 
+#[test]
+fn five_thousand_keys_are_set_and_read(rt: HostRuntime) -> Result<(), Fail> {
+    let alloc = rt.alloc();
+    let mut requests = String::new(alloc);
+    let mut replies = String::new(alloc);
+    write!(requests, "SET empty ''; RPUSH list a")?;
+    write!(replies, "+OK\r\n:1\r\n")?;
+    for key in 1000..6000u32 {
+        write!(requests, "; SET {key} v{key}")?;
+        write!(replies, "+OK\r\n")?;
+    }
+    for key in 1000..6000u32 {
+        write!(requests, "; GET {key}; PING; GET empty; LLEN list")?;
+        write!(replies, "$5\r\nv{key}\r\n+PONG\r\n$0\r\n\r\n:1\r\n")?;
+    }
+    let input = requests_of(alloc, requests.as_str())?;
+    expect(&rt, alloc, &input, replies.as_bytes());
+    Ok(())
+}
+
 /// Requests and their replies; `@` at the end stands for a value of more than a mebibyte.
 type Large = (&'static str, &'static str);
 
