@@ -270,7 +270,9 @@ impl Door for Told<'_> {
 }
 
 #[test]
-fn tells_the_door_what_comes_next_once_for_thirty_two_requests(rt: HostRuntime) -> Result<(), Fail> {
+fn tells_the_door_what_comes_next_once_for_thirty_two_requests(
+    rt: HostRuntime,
+) -> Result<(), Fail> {
     let input = bytes_of(rt.alloc(), "*2|$1|a|$1|b|")?.repeat(rt.alloc(), 70)?;
     let (calls, requests) = (&Cell::new(0), &Cell::new(0));
     let echo = Echo { alloc: rt.alloc() };
