@@ -151,21 +151,38 @@ const AHEAD: [(&str, &str); 7] = [
     ("*17|$1|a|$1|b|$0||$0||$0||$0||$0||$0||$0||$0||$0||$0||$0||$0||$0||$0||$0||", ""),
 ];
 
+/// The second words that a decoder shows ahead, each behind a space.
+fn seen_ahead(alloc: Global, decoder: &Decoder) -> Result<Vec<u8>, AllocError> {
+    let mut ahead = decoder.ahead();
+    let mut seen = Vec::new(alloc);
+    for _ in 0..10u8 {
+        let Some(word) = ahead.next() else {
+            break;
+        };
+        seen.push(b' ')?;
+        seen.extend_from_slice(word)?;
+    }
+    Ok(seen)
+}
+
 #[test]
 fn sees_the_second_words_ahead(rt: HostRuntime) -> Result<(), Fail> {
-    for (fed, seen) in AHEAD {
+    for (fed, words) in AHEAD {
         let mut decoder = Decoder::new(rt.alloc(), Limits::DEFAULT);
         decoder.feed(&bytes_of(rt.alloc(), fed)?)?;
-        let mut ahead = decoder.ahead();
-        let mut words = Vec::new(rt.alloc());
-        for _ in 0..10u8 {
-            let Some(word) = ahead.next() else {
-                break;
-            };
-            words.push(b' ')?;
-            words.extend_from_slice(word)?;
-        }
-        assert_eq!(rt; words.as_slice(), seen.as_bytes(), "at {fed:?}");
+        let seen = seen_ahead(rt.alloc(), &decoder)?;
+        assert_eq!(rt; seen.as_slice(), words.as_bytes(), "at {fed:?}");
     }
+    Ok(())
+}
+
+#[test]
+fn sees_behind_a_request_that_is_open(rt: HostRuntime) -> Result<(), Fail> {
+    let mut decoder = Decoder::new(rt.alloc(), Limits::DEFAULT);
+    decoder.feed(&bytes_of(rt.alloc(), "*3|$3|SET|$1|a|$2")?)?;
+    assert!(rt; decoder.next()?.is_none());
+    decoder.feed(&bytes_of(rt.alloc(), "|xy|*2|$3|GET|$1|b|*2|$3|GET|$1|c|")?)?;
+    let seen = seen_ahead(rt.alloc(), &decoder)?;
+    assert_eq!(rt; seen.as_slice(), b" b c".as_slice());
     Ok(())
 }

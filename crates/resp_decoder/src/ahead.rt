@@ -10,11 +10,24 @@ const GREATEST_COUNT: u64 = 16;
 /// The requests that a decoder holds, as far as they are whole and have few words.
 #[derive(Clone, Copy)]
 pub struct Ahead<'a> {
-    pub(crate) limits: Limits,
-    pub(crate) bytes: &'a [u8],
+    limits: Limits,
+    bytes: &'a [u8],
 }
 
 impl<'a> Ahead<'a> {
+    /// The requests behind the open one, which lacks so many words that are to come at the front of these bytes.
+    pub(crate) fn behind_open(bytes: &'a [u8], lacking: u64, limits: Limits) -> Self {
+        let behind = if lacking <= GREATEST_COUNT {
+            behind_words(bytes, lacking, limits.bulk)
+        } else {
+            None
+        };
+        Ahead {
+            limits,
+            bytes: behind.unwrap_or(&[]),
+        }
+    }
+
     /// The second word of the next request, or the empty one where it has no second; `None` where no more is seen. It
     /// takes no memory, and time for the lines of the request alone.
     #[allow(clippy::should_implement_trait)]

@@ -125,12 +125,10 @@ impl Decoder {
         self.progress.left > 0 || self.progress.start < self.buffer.len()
     }
 
-    /// The requests that are held, to be looked at before they are taken. Where one has come in part nothing is seen.
+    /// The requests that are held, to be looked at before they are taken, but for one of which words were taken already.
     pub fn ahead(&self) -> Ahead<'_> {
-        Ahead {
-            limits: self.limits,
-            bytes: &self.buffer[self.progress.start..],
-        }
+        let unread = &self.buffer[self.progress.start..];
+        Ahead::behind_open(unread, self.progress.left, self.limits)
     }
 
     /// Keeps the fault, and gives all else up.

@@ -85,8 +85,9 @@ fn answer_held<W: Write, D: Door>(
     ensures { AnswersHeld D.asks decoder.old.held decoder.new.held door.old door.new
         (W.contents writer.old) (W.contents writer.new) result }
 {
+    let mut told = 0;
     loop {
-        let pause = gather(decoder, door, replies);
+        let pause = gather(decoder, door, replies, &mut told);
         door.rest();
         let Ok(()) = send(writer, replies.as_slice()) else {
             return Err(ServeFault::Write);

@@ -33,25 +33,20 @@ pub(crate) enum Pause<E> {
 }
 
 /// Empties `replies` and gathers in it the replies to the requests held, until the decoder waits or enough is gathered.
+/// Of `told` more of these the door knows already.
 pub(crate) fn gather<D: Door>(
     decoder: &mut Decoder,
     door: &mut D,
     replies: &mut Vec<u8>,
+    told: &mut usize,
 ) -> Pause<D::Reason>
     requires { decoder.old.held.fault ≡ None }
     ensures { Gathers D.asks decoder.old.held decoder.new.held door.old door.new replies.new.items result }
 {
     replies.clear();
     replies.shrink_to(KEPT_ROOM);
-    let mut told: usize = 0;
     while replies.len() <= GATHERED {
-        told = match told.checked_sub(1) {
-            Some(left) => left,
-            None => {
-                door.expect(decoder.ahead());
-                TOLD_AT_ONCE - 1
-            }
-        };
+        tell(decoder, door, told);
         let taken = match decoder.next() {
             Ok(taken) => taken,
             Err(fault) => return gather_line(fault, replies),
@@ -64,6 +59,17 @@ pub(crate) fn gather<D: Door>(
         }
     }
     Pause::Full
+}
+
+/// Tells the door what comes next, unless it knows that already.
+fn tell<D: Door>(decoder: &Decoder, door: &D, told: &mut usize) {
+    *told = match told.checked_sub(1) {
+        Some(left) => left,
+        None => {
+            door.expect(decoder.ahead());
+            TOLD_AT_ONCE - 1
+        }
+    };
 }
 
 /// Has the door answer a request, and adds the reply: the door's own, or that there was no memory. The pause where

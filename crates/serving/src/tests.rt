@@ -242,10 +242,11 @@ fn has_the_door_rest_before_each_read_and_write(rt: HostRuntime) -> Result<(), F
     Ok(())
 }
 
-/// Echoes, and counts how often it is told what comes next, and of how many requests with the second word `b`.
+/// Answers each request by more than is gathered at once, and counts how often it is told what comes next, and of how
+/// many requests with the second word `b`.
 #[derive(Drop)]
 struct Told<'a> {
-    echo: Echo,
+    alloc: Global,
     calls: &'a Cell<u32>,
     requests: &'a Cell<u32>,
 }
@@ -255,8 +256,11 @@ impl Door for Told<'_> {
 
     ghost asks = { λ _ _ _ _. Unit {0} };
 
-    fn ask(&mut self, request: Request) -> Result<Reply, DoorFault<&'static str>> {
-        self.echo.ask(request)
+    fn ask(&mut self, _request: Request) -> Result<Reply, DoorFault<&'static str>> {
+        match vec![in self.alloc; b'x'; 70_000] {
+            Ok(bytes) => Ok(Reply::Bulk(bytes)),
+            Err(_) => Err(DoorFault::Memory),
+        }
     }
 
     fn expect(&self, mut ahead: Ahead<'_>) {
@@ -275,9 +279,8 @@ fn tells_the_door_what_comes_next_once_for_thirty_two_requests(
 ) -> Result<(), Fail> {
     let input = bytes_of(rt.alloc(), "*2|$1|a|$1|b|")?.repeat(rt.alloc(), 70)?;
     let (calls, requests) = (&Cell::new(0), &Cell::new(0));
-    let echo = Echo { alloc: rt.alloc() };
     let mut door = Told {
-        echo,
+        alloc: rt.alloc(),
         calls,
         requests,
     };
@@ -335,7 +338,7 @@ fn gives_back_the_room_of_large_replies(rt: HostRuntime) -> Result<(), Fail> {
     let mut decoder = Decoder::new(alloc, Limits::DEFAULT);
     let mut replies = Vec::with_capacity(alloc, 4_000_000)?;
     replies.push(1u8)?;
-    let pause = gather(&mut decoder, &mut Echo { alloc }, &mut replies);
+    let pause = gather(&mut decoder, &mut Echo { alloc }, &mut replies, &mut 0);
     assert!(rt; matches!(pause, Pause::Waits));
     assert!(rt; replies.is_empty());
     assert!(rt; replies.capacity() <= 1_048_576);

@@ -14,6 +14,9 @@ use values::Value;
 /// The table of so few keys lies in the processor's cache, with what it holds.
 const FEW_KEYS: i64 = 4096;
 
+/// A longer word isn't looked for: it may be no key, and to hash it takes time.
+const LONGEST_KEY: usize = 1024;
+
 /// What was read ahead, at which no one looks: it is kept so that no reading is left out as needless.
 #[derive(Drop)]
 pub(crate) struct Sight {
@@ -44,7 +47,9 @@ fn words_of(mut ahead: Ahead<'_>) -> [&[u8]; TOLD_AT_ONCE] {
         let Some(word) = ahead.next() else {
             break;
         };
-        words[place] = word;
+        if word.len() <= LONGEST_KEY {
+            words[place] = word;
+        }
     }
     words
 }
