@@ -14,8 +14,8 @@ use values::Value;
 /// The table of so few keys lies in the processor's cache, with what it holds.
 const FEW_KEYS: i64 = 4096;
 
-/// A longer word isn't looked for: it may be no key, and to hash it takes time.
-const LONGEST_KEY: usize = 1024;
+/// Where a longer word comes no more are looked for: to hash and to compare it takes as long as is won.
+const LONGEST_KEY: usize = 32;
 
 /// What was read ahead, at which no one looks: it is kept so that no reading is left out as needless.
 #[derive(Drop)]
@@ -40,28 +40,31 @@ impl Sight {
     }
 }
 
-/// The second words of the requests that come next, as many as are told of at once.
+/// The second words of the requests that come next, as many as are told of at once, up to one that is long.
 fn words_of(mut ahead: Ahead<'_>) -> [&[u8]; TOLD_AT_ONCE] {
     let mut words: [&[u8]; TOLD_AT_ONCE] = [&[]; TOLD_AT_ONCE];
     for place in 0..TOLD_AT_ONCE {
         let Some(word) = ahead.next() else {
             break;
         };
-        if word.len() <= LONGEST_KEY {
-            words[place] = word;
+        if word.len() > LONGEST_KEY {
+            break;
         }
+        words[place] = word;
     }
     words
 }
 
-/// The values at these keys, of which nothing is read yet.
+/// The values at these keys, of which nothing is read yet. An empty word may be no key, and isn't looked for.
 fn values_at<'a, S: BuildHasher>(
     keys: &'a Plain<S>,
     words: [&[u8]; TOLD_AT_ONCE],
 ) -> [Option<&'a Value>; TOLD_AT_ONCE] {
     let mut values: [Option<&'a Value>; TOLD_AT_ONCE] = [None; TOLD_AT_ONCE];
     for place in 0..TOLD_AT_ONCE {
-        values[place] = keys.look(words[place]);
+        if !words[place].is_empty() {
+            values[place] = keys.look(words[place]);
+        }
     }
     values
 }
