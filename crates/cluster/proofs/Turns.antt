@@ -19,7 +19,7 @@ use Rattle.system.specs.declared.stage.Progress.TheVariants as progress
 use Rattle.system.specs.declared.stage.Stage.{Stage}
 use Rattle.system.specs.declared.stage.Stage.TheVariants as stage
 use Rattle.system_view.specs.Layers.{AreJobs}
-use Rattle.world.specs.Steps.{Steps, NoLayer, Refused, NothingToRun, NothingToSettle, RunInTurn, starved_among, if_starved}
+use Rattle.world.specs.Steps.{Steps, NoLayer, NothingToRun, NothingToSettle, RunInTurn, starved_among, if_starved}
 use Rattle.world.specs.Steps as world
 use Rattle.world.specs.World.{World, Ended, NoneTaken, Taken}
 use Rattle.world_laws.specs.Good.{Asked}

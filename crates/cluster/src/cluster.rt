@@ -1,17 +1,16 @@
 //! The cluster, its seats and its answers. No other module makes or changes a seat or an answer.
 
-ghost use Rattle.std.specs.Prelude.{◌≡◌, ◌≤◌, ◌<◌, ◌++◌, ◌+◌, ◌∷◌, [], ◌⊎◌, false, length, true, Some, None};
+ghost use Rattle.std.specs.Prelude.{◌≡◌, ◌≤◌, ◌<◌, ◌+◌, [], ◌⊎◌, false, length, true, Some, None};
 ghost use Rattle.std.specs.Prelude.{IfOk, IfErr, OnOk, OnErr, IfSome, IfNone, option_copied, IsTrue, ◌↔◌, ℕ};
 ghost use Rattle.cluster.specs.Answers.{shown_outcome, IsReplied};
 ghost use Rattle.cluster.specs.Clusters.{IsNew, SameBook, Fits, next_id, last_id, IsForeign, IsSubmitFault, IsCollectFault, IsCloseFault};
 ghost use Rattle.cluster.specs.Clusters.{last_of, AreLasts, IsPut, IsSeated, CanCollect, HasClosed};
-ghost use Rattle.cluster.specs.Histories.{has_failed, IsLawful, IsMade, IsUnchanged, IsFault, IsLeft};
+ghost use Rattle.cluster.specs.Histories.{has_failed, IsLawful, IsMade, IsUnchanged, IsFault};
 ghost use Rattle.cluster.specs.Outcomes.{ComesFrom, IsAbove, raised};
 ghost use Rattle.cluster.specs.Submits.{submits, submits_by, IsSaid};
 ghost use Rattle.journal.specs.Codes.{steps_size};
 ghost use Rattle.cluster.specs.Turns.{TurnsOn, IsTurnFault};
 ghost use Rattle.journal.specs.declared.step.Step.{Step};
-ghost use Rattle.resp.specs.Content.{content};
 ghost use Rattle.router.specs.Router.{waiting};
 ghost use Rattle.router.specs.declared.outcome.Outcome.{Outcome};
 ghost use Rattle.system.specs.System.{IsQuiet};

@@ -1,6 +1,6 @@
 //! A system beside the trace of the steps that it made.
 
-ghost use Rattle.std.specs.Prelude.{◌≡◌, ◌≤◌, ◌++◌, true, false, [], ◌∷◌, List, length, IfOk, IfErr, OnOk, OnErr, IsTrue, ◌↔◌};
+ghost use Rattle.std.specs.Prelude.{◌≡◌, ◌≤◌, true, false, [], IfOk, IfErr, OnOk, OnErr};
 ghost use Rattle.std.specs.Bool.{OnTrue};
 ghost use Rattle.cluster.specs.Histories.{has_failed, IsLawful, IsMade, IsUnchanged, IsFault, IsLeft, IsNoRun, IsUnanswered};
 ghost use Rattle.cluster.specs.Turns.{TurnsOn, Delivers, IsTurnFault};

@@ -1,6 +1,6 @@
 //! How the ready requests are found. Each is looked for at the head of the queue of its first group, so that it is
 //! found once.
-ghost use Rattle.std.specs.Prelude.{◌≡◌, ◌<◌, length, IsOk, OnOk};
+ghost use Rattle.std.specs.Prelude.{◌≡◌, ◌<◌, length, OnOk};
 ghost use Rattle.std.specs.List.{insert};
 ghost use Rattle.delivery.specs.Queues.{requests_of, queue_of};
 ghost use Rattle.delivery.specs.Search.{head_of, is_named, heads_each, is_first, ready_at, count_before};

@@ -1,6 +1,6 @@
 -- Entries that are lent, put in order, are the map that they say; and entries that are added one after another.
-use Rattle.std.proofs.Common.{◌≡◌, ℕ, zero, suc, ◌+◌, ◌≤◌, List, [], ◌∷◌, ◌++◌, take, map, length, Bool}
-use Rattle.std.proofs.Common.{true, false, cond, not, T, Option, Some, None}
+use Rattle.std.proofs.Common.{◌≡◌, ℕ, zero, suc, ◌≤◌, List, [], ◌∷◌, take, length, Bool}
+use Rattle.std.proofs.Common.{true, false, cond, T, Option, Some, None}
 use Rattle.std.proofs.Common.{Bor, arith, refl, sym, ap, subst, ◌∙◌, ◌&&◌}
 use Rattle.std.proofs.lemmas.Cmp.{nat_list_cmp_total}
 use Rattle.std.proofs.lemmas.Map.Keys.{IsDistinct-head, IsDistinct-tail}

@@ -1,5 +1,5 @@
 //! A set of groups in one word. The bit of a group's number is 1 where the group is in the set.
-ghost use Rattle.std.specs.Prelude.{◌≡◌, ℕ, ◌+◌, ◌<◌, ◌≤◌, ◌^◌, List, [], ◌∷◌, ◌==◌, length, true, MatchOption, IsTrue, ◌↔◌};
+ghost use Rattle.std.specs.Prelude.{◌≡◌, ℕ, ◌<◌, ◌≤◌, ◌^◌, List, [], ◌∷◌, ◌==◌, length, true, MatchOption, IsTrue, ◌↔◌};
 ghost use Rattle.groups.specs.GroupSet.{has, with_group, chosen, IsGroupSet};
 
 use super::group_id::GroupId;

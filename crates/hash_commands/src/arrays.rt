@@ -2,12 +2,12 @@
 //!
 //! The room for the reply is taken first, and each text is copied once.
 
-ghost use Rattle.std.specs.Prelude.{◌≡◌, ◌<◌, IsTrue, IsSome, IsOk, IfOk, OnErr, length};
+ghost use Rattle.std.specs.Prelude.{◌≡◌, ◌<◌, IsTrue, IsSome, IfOk, OnErr, length};
 ghost use Rattle.std.specs.FinMap as map;
 ghost use Rattle.std.specs.Option.{option_copied};
 ghost use Rattle.command_cases.specs.Case.{Does, at_key};
 ghost use Rattle.hash_commands.specs.HashCommand.{looks_at_hash, hkeys_answer, hvals_answer, hgetall_answer, hmget_answer, hget_answer};
-ghost use Rattle.hash_commands.specs.HashCommand.{some_pairs, pairs_there, bulk_texts, found_pairs};
+ghost use Rattle.hash_commands.specs.HashCommand.{some_pairs, pairs_there, found_pairs};
 ghost use Rattle.resp.specs.Content.{BulkText, content};
 
 use command_cases::{Starved, wrong_type_reply};

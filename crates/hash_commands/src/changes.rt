@@ -3,9 +3,9 @@
 //! Fields are set in a hash where it lies. HDEL takes it out of the keyspace and puts back what is left; the key keeps
 //! its place meanwhile, with the empty string, so that putting it back takes no memory.
 
-ghost use Rattle.std.specs.Prelude.{◌≡◌, ℕ, ◌-◌, IsTrue, IsSome, IsOk, OnOk, OnErr, MatchResult, None, Some, is_some, length};
+ghost use Rattle.std.specs.Prelude.{◌≡◌, ◌-◌, IsTrue, IsSome, IsOk, OnOk, OnErr, None, Some};
 ghost use Rattle.std.specs.FinMap as map;
-ghost use Rattle.std.specs.Prelude.{IfOk, [], ◌∷◌};
+ghost use Rattle.std.specs.Prelude.{IfOk, []};
 ghost use Rattle.command_cases.specs.Case.{Does, at_key};
 ghost use Rattle.command_cases.specs.Changes.{Changes};
 ghost use Rattle.hash_commands.specs.HashCommand.{changes_hash, hdel_change, hsetnx_step, set_change, hset_step, hmset_step};

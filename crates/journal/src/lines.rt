@@ -1,6 +1,6 @@
 //! The steps of a trace's lines.
 
-ghost use Rattle.std.specs.Prelude.{◌≡◌, ◌∷◌, [], ◌<◌, length, IfOk, MatchOption, option_map};
+ghost use Rattle.std.specs.Prelude.{◌≡◌, ◌∷◌, [], ◌<◌, IfOk, MatchOption, option_map};
 ghost use Rattle.texts.specs.Texts.{texts_of};
 ghost use Rattle.journal.specs.TraceText.{alone, all_in, id_in, only_number, parts_in, run_in, step_in, submit_in, word_in};
 

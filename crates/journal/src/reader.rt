@@ -2,7 +2,7 @@
 
 ghost use Rattle.std.specs.Prelude.{◌≡◌, ◌↔◌, ℕ, ◌≤◌, ◌<◌, ◌^◌, [], ◌∷◌, ◌++◌, true, false, IfOk, List, decimal, IsTrue, MatchOption};
 ghost use Rattle.std.specs.Prelude.{MatchResult};
-ghost use Rattle.journal.specs.TraceText.{first_line, max_line, end_line, HasNoLf, step_in, Spells, IsFaultOf};
+ghost use Rattle.journal.specs.TraceText.{max_line, end_line, HasNoLf, step_in, Spells, IsFaultOf};
 ghost use Rattle.journal.specs.TraceReading.{IsLine, IsRead};
 
 use super::fault::TraceFault;

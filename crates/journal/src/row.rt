@@ -26,7 +26,7 @@ impl<'a> Model for Row<'a> {
 
     ghost Value = { RowView };
 
-    ghost use Rattle.packing.specs.Codes.{words_at, words_code, WordsFit};
+    ghost use Rattle.packing.specs.Codes.{words_at};
     ghost use Rattle.journal.specs.Codes.{RowWords};
 
     ghost view = { λ r. record { id = r.id; stamp = r.stamp; words = (words_at r.words.now).0; reply = r.reply.now } };

@@ -1,6 +1,6 @@
 //! What each executed request came to, kept for good.
 
-ghost use Rattle.std.specs.Prelude.{◌≡◌, ◌+◌, ◌≤◌, ◌<◌, ◌++◌, [], ◌∷◌, length, take, slice_get, OnOk, OnErr, IsOk};
+ghost use Rattle.std.specs.Prelude.{◌≡◌, ◌+◌, ◌≤◌, ◌<◌, ◌++◌, [], ◌∷◌, length, take, slice_get, OnOk, OnErr};
 ghost use Rattle.resp.specs.Content.{content};
 ghost use Rattle.resp.specs.Text.{text};
 ghost use Rattle.journal.specs.Views.{row_view};

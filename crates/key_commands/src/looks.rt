@@ -1,6 +1,6 @@
 //! EXISTS and TYPE, which change nothing.
 
-ghost use Rattle.std.specs.Prelude.{◌≡◌, All, IsTrue, IsOk};
+ghost use Rattle.std.specs.Prelude.{All, IsTrue, IsOk};
 ghost use Rattle.command_cases.specs.Case.{Does, at_key};
 ghost use Rattle.key_commands.specs.KeyCommand.{exists_case, type_step};
 

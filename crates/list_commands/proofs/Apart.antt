@@ -1,12 +1,12 @@
 -- A change at one key, then one at another.
-use Rattle.std.proofs.Common.{◌≡◌, ℕ, IsTrue, List, Bool, true, false, cond, Option, Some, None, refl, sym, ap, ◌∙◌}
-use Rattle.std.specs.FinMap.{get, insert, remove}
+use Rattle.std.proofs.Common.{◌≡◌, IsTrue, List, false, Option, Some, None, refl, sym, ap, ◌∙◌}
+use Rattle.std.specs.FinMap.{get, insert}
 use Rattle.std.specs.Str.{bytes_eq}
 use Rattle.command_cases.proofs.Beside.{get-insert_beside, set-insert_beside}
 use Rattle.command_cases.specs.Case.{Step, at_key}
 use Rattle.command_cases.specs.Shapes.{at_two, set_two}
 use Rattle.keyspace.proofs.Changes.{set-set}
-use Rattle.keyspace.proofs.Gets.{same, same_bytes, bytes_eq-swap, get-insert, get-set}
+use Rattle.keyspace.proofs.Gets.{bytes_eq-swap}
 use Rattle.keyspace.specs.Map.{Map, set}
 use Rattle.list_commands.specs.ListCommand.{at_list, is_list, items_there, may_be_list, move_step, pop_step}
 use Rattle.resp.specs.Content.{Content}

@@ -3,7 +3,7 @@
 //! The item's copy, which one of list and reply needs, goes to the list, and the item itself to the reply. So all
 //! memory is taken before the item leaves its list, and nothing has to be undone.
 
-ghost use Rattle.std.specs.Prelude.{◌≡◌, [], ◌∷◌, true, false, IsTrue, IsSome, IfOk, OnOk, OnErr};
+ghost use Rattle.std.specs.Prelude.{◌≡◌, [], ◌∷◌, true, false, IsTrue, IfOk, OnOk, OnErr};
 ghost use Rattle.std.specs.FinMap as map;
 ghost use Rattle.std.specs.Str.{bytes_eq};
 ghost use Rattle.command_cases.specs.Case.{Does};

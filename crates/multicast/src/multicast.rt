@@ -1,6 +1,6 @@
 //! The groups, their packets and their queues, as one.
 
-ghost use Rattle.std.specs.Prelude.{◌≡◌, ℕ, ◌+◌, ◌<◌, ◌≤◌, ◌++◌, [], length, slice_get, true, option_copied, Some, None, IfOk, IfErr, OnOk};
+ghost use Rattle.std.specs.Prelude.{◌≡◌, ℕ, ◌+◌, ◌<◌, ◌≤◌, ◌++◌, [], length, slice_get, true, option_copied, Some, IfOk, IfErr, OnOk};
 ghost use Rattle.std.specs.Prelude.{OnErr, IsOk, IsTrue, ◌↔◌};
 ghost use Rattle.std.specs.FinMap.{len};
 ghost use Rattle.delivery.specs.Queues.{queue_of, room_of, IsSound};

@@ -1,6 +1,6 @@
 //! Numbers below 2^64, in one, five or nine bytes.
 
-ghost use Rattle.std.specs.Prelude.{◌≡◌, ℕ, ◌+◌, ◌≤◌, ◌<◌, ◌^◌, ◌++◌, List, length, vec_len, vec_capacity};
+ghost use Rattle.std.specs.Prelude.{◌≡◌, ◌+◌, ◌≤◌, ◌<◌, ◌++◌, length, vec_len, vec_capacity};
 ghost use Rattle.packing.specs.Codes.{number_code, number_at};
 
 /// The byte before a number of four bytes. Below it a number is its own one byte.

@@ -1,6 +1,6 @@
 //! Words, and the words of a request.
 
-ghost use Rattle.std.specs.Prelude.{◌≡◌, ℕ, ◌+◌, ◌≤◌, ◌<◌, ◌^◌, ◌++◌, List, length, vec_len, vec_capacity, MatchOption, IfOk};
+ghost use Rattle.std.specs.Prelude.{◌≡◌, ◌+◌, ◌≤◌, ◌<◌, ◌^◌, ◌++◌, length, vec_len, vec_capacity, MatchOption, IfOk};
 ghost use Rattle.texts.specs.Texts.{texts_of};
 ghost use Rattle.packing.specs.Codes.{word_code, word_at, words_code, words_at, WordFits, WordsFit};
 

@@ -4,7 +4,7 @@
 ghost use Rattle.std.specs.Prelude.{◌≡◌, ◌≤◌, ◌<◌, ◌^◌};
 ghost use Rattle.resp_decoder.specs.declared.fault.Fault.TheVariants.{Memory};
 ghost use Rattle.resp_decoder.specs.declared.parsing.Stop.TheVariants.{Bad};
-ghost use Rattle.resp_decoder.specs.Parsing.{Gives, NoValue, rest_only, byte_at, line_at, some_at, word_at};
+ghost use Rattle.resp_decoder.specs.Parsing.{Gives, rest_only, byte_at, line_at, some_at, word_at};
 ghost use Rattle.resp_decoder.specs.Parsing.{extended, number_on, number_at, minus_one_at, count_at, head_at};
 
 use crate::fault::Fault;

@@ -3,11 +3,10 @@
 //! The words of the open request are kept as they come, so that no word is looked at a second time. The grammar is that
 //! of the RESP2 specification; the decoder reads on by `advance`.
 
-ghost use Rattle.std.specs.Prelude.{◌≡◌, ◌<◌, ◌≤◌, ◌+◌, [], length, drop, IsErrOf, OnErr};
+ghost use Rattle.std.specs.Prelude.{◌≡◌, ◌<◌, ◌≤◌, [], length, drop, IsErrOf, OnErr};
 ghost use Rattle.std.specs.List.{AllByRecursion};
 ghost use Rattle.resp_decoder.specs.declared.fault.Fault.TheVariants as faults;
 ghost use Rattle.resp_decoder.specs.declared.parsing.Stop.TheVariants as stops;
-ghost use Rattle.resp_decoder.specs.Texts.{IsShort};
 ghost use Rattle.resp_decoder.specs.Advancing.{words_of, held_bytes, IsSound, TakesLittle, Begins, Moves, Fills};
 ghost use Rattle.resp_decoder.specs.Advancing.{Advances, WantsMemory, StandsHead};
 

@@ -3,7 +3,7 @@
 ghost use Rattle.std.specs.Prelude.{◌≡◌, ℕ, ◌==◌, cond, ◌<◌, ◌+◌, [], Some, None, false, Ok, IfOk, OnOk, OnErr, IfErr, IsSome, IfSome};
 ghost use Rattle.std.specs.Prelude.{IfNone, ◌≢◌, option_map, option_copied};
 ghost use Rattle.router.specs.Connection.{just_opened, with_standing};
-ghost use Rattle.router.specs.Router.{connection, is_open, waiting, pending_at, once_settled, once_closed, Changes, Collects, Closes};
+ghost use Rattle.router.specs.Router.{connection, is_open, waiting, pending_at, once_settled, Changes, Collects, Closes};
 ghost use Rattle.router.specs.declared.connection.Standing.{Standing};
 ghost use Rattle.router.specs.declared.connection.Standing.TheVariants.{Answered};
 ghost use Rattle.router.specs.Submitting.{Submits, IsRefused, IsIdle, IsIdleAt, StandsBy, groups_by};

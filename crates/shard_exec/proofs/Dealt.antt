@@ -2,12 +2,11 @@
 -- places: each place has what its own request gave.
 use Rattle.std.proofs.Common.{◌≡◌, ℕ, zero, suc, ◌+◌, ◌<◌, ◌≤◌, ◌==◌, ◌⊎◌, inl, inr, nat_lt, List, [], ◌∷◌, ◌++◌, map, length, Bool, true}
 use Rattle.std.proofs.Common.{false, cond, Option, Some, None, slice_get, slice_set, is_some, append_assoc, arith, refl, sym, ap, ◌∙◌}
-use Rattle.std.proofs.Common.{subst, eqb-true, eq-eqb, ne_eqb, ltb-true, lt-ltb}
+use Rattle.std.proofs.Common.{subst, eq-eqb, ne_eqb, ltb-true, lt-ltb}
 use Rattle.std.proofs.lemmas.Bool.{cases_eq}
 use Rattle.std.proofs.lemmas.List.{length-set, append-nil}
 use Rattle.std.proofs.lemmas.List.Sums.{sum_by-append}
 use Rattle.std.proofs.lemmas.Option.{slice_get_within}
-use Rattle.std.proofs.Math.ListN.{replicate}
 use Rattle.std.specs.Option.{IsSome}
 use Rattle.std.specs.List.{AllZip, AllByRecursion, concat, count_by}
 use Rattle.layer_planner.specs.PartLaws.{each_place_once}

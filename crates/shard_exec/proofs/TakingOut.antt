@@ -1,8 +1,7 @@
 -- One shard more taken out of the row.
-use Rattle.std.proofs.Common.{◌≡◌, ℕ, List, [], ◌∷◌, ◌++◌, slice_index_or, slice_set, true, refl, sym, ap, ◌∙◌, subst}
+use Rattle.std.proofs.Common.{◌≡◌, ℕ, List, [], ◌∷◌, ◌++◌, slice_index_or, slice_set, sym, ap, ◌∙◌}
 use Rattle.std.proofs.Math.Seq.{append_snoc}
 use Rattle.std.specs.FinMap.{empty}
-use Rattle.groups.specs.GroupSet.{has}
 use Rattle.keyspace.specs.Map.{Map}
 use Rattle.shard_maps.specs.Joined.{Span}
 use Rattle.shard_maps.specs.Rows.{taken_out, emptied}

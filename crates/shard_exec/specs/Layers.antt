@@ -1,6 +1,5 @@
 -- A layer that is run over the store: what it needs, and what comes of it.
-use Rattle.std.specs.Prelude.{◌≡◌, ℕ, ◌<◌, ◌≤◌, ◌+◌, Bool, true, false, ◌||◌, List, [], ◌∷◌, map, length, Option, None, vec_capacity}
-use Rattle.std.specs.Global.{Vec}
+use Rattle.std.specs.Prelude.{◌≡◌, ℕ, ◌<◌, ◌+◌, Bool, true, false, List, [], ◌∷◌, map, Option, None}
 use Rattle.std.specs.List.{AllZip, AllByRecursion, list_any}
 use Rattle.command_bodies.specs.Command.{TakesMemory}
 use Rattle.command_table.specs.declared.command.Command.{Command}
@@ -14,7 +13,6 @@ use Rattle.shard_maps.specs.Joined.{joined, Span, union, span_at, HasOwnKeys}
 use Rattle.shard_maps.specs.Layer.{LayerRan, AnsweredInTurn}
 use Rattle.skeen_core.specs.Request.{same_id}
 use Rattle.skeen_core.specs.declared.request.RequestId.{RequestId}
-use Rattle.skeen_core.specs.declared.stamp.Stamp.{Stamp}
 use Rattle.shard_exec.specs.declared.done.Ended.{Ended}
 use Rattle.shard_exec.specs.declared.work.Work.{Work}
 use Rattle.shard_exec.specs.declared.work.Ran.{Ran}

@@ -1,5 +1,5 @@
 -- Parts of a layer, and the room for what they give.
-use Rattle.std.specs.Prelude.{◌≡◌, ℕ, ◌≤◌, List, [], vec_capacity}
+use Rattle.std.specs.Prelude.{◌≡◌, ℕ, ◌≤◌, [], vec_capacity}
 use Rattle.std.specs.Global.{Vec}
 use Rattle.std.specs.List.{AllZip, AllByRecursion}
 use Rattle.placement.specs.Layout.{Layout}

@@ -1,9 +1,6 @@
 -- A request that is run over the shards of its groups, and what comes of it.
-use Rattle.std.specs.Prelude.{◌≡◌, ℕ, Bool, true, false, List, Option, None, option_map}
-use Rattle.std.specs.Global.{Vec}
-use Rattle.std.specs.List.{AllZip, AllByRecursion}
+use Rattle.std.specs.Prelude.{◌≡◌, true, false, Option, None, option_map}
 use Rattle.command_bodies.specs.Command.{TakesMemory}
-use Rattle.layer_planner.specs.declared.job.Job.{Job}
 use Rattle.placement.specs.Groups.{groups_of}
 use Rattle.placement.specs.Layout.{Layout, IsTable}
 use Rattle.resp.specs.Content.{Content, content}

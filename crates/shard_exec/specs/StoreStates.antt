@@ -1,5 +1,5 @@
 -- The store as contracts see it.
-use Rattle.std.specs.Prelude.{◌≡◌, ℕ, Bool, List, length, Option, refl}
+use Rattle.std.specs.Prelude.{◌≡◌, Bool, List, length, Option, refl}
 use Rattle.std.specs.Coded.{Coded, code_by, coded×, coded_list, coded_option, coded_bool, coded_ℕ}
 use Rattle.std.specs.FinMap.{code}
 use Rattle.keyspace.specs.Map.{Map}

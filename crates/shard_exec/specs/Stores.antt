@@ -1,12 +1,9 @@
 -- The store as contracts see it, and what `run_layer` does to it.
-use Rattle.std.specs.Prelude.{◌≡◌, ℕ, Bool, true, false, List, [], length, Option, None, ◌⊎◌}
-use Rattle.std.specs.List.{AllZip}
+use Rattle.std.specs.Prelude.{◌≡◌, Bool, true, false, List, [], Option, None, ◌⊎◌}
 use Rattle.std.specs.FinMap.{empty}
 use Rattle.std.proofs.Math.ListN.{replicate}
-use Rattle.keyspace.specs.Map.{Map}
 use Rattle.layer_planner.specs.declared.job.Job.{Job}
-use Rattle.placement.specs.Layout.{Layout, IsTable}
-use Rattle.shard_maps.specs.Joined.{HasOwnKeys}
+use Rattle.placement.specs.Layout.{Layout}
 use Rattle.skeen_core.specs.declared.request.RequestId.{RequestId}
 use Rattle.skeen_core.specs.declared.stamp.Stamp.{Stamp}
 use Rattle.shard_exec.specs.declared.done.Ended.{Ended}

@@ -1,6 +1,6 @@
 //! Workers that are threads of their own.
 
-ghost use Rattle.std.specs.Prelude.{◌≡◌, ℕ, Bool, true, [], IfOk, IfSome, OnErr, IsOk, length, ◌≤◌, vec_capacity, map};
+ghost use Rattle.std.specs.Prelude.{◌≡◌, true, [], IfOk, IfSome, length, ◌≤◌, vec_capacity};
 ghost use Rattle.std.specs.List.{AllZip, AllByRecursion};
 ghost use Rattle.shard_exec.specs.Parts.{IsReadyPart, HasRunPart, HasRoom};
 

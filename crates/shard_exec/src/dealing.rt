@@ -1,7 +1,7 @@
 //! The requests of a layer, dealt to parts by a plan, and what they gave, in the order of the layer again.
 
-ghost use Rattle.std.specs.Prelude.{◌≡◌, ℕ, ◌<◌, ◌≤◌, ◌∷◌, [], length, slice_get, slice_set, Some, None, vec_capacity};
-ghost use Rattle.std.specs.List.{AllZip, AllByRecursion};
+ghost use Rattle.std.specs.Prelude.{◌≡◌, ◌<◌, ◌≤◌, [], length, slice_get, slice_set, Some, None, vec_capacity};
+ghost use Rattle.std.specs.List.{AllByRecursion};
 ghost use Rattle.shard_exec.specs.Dealing.{CanTake, Took, left_at, placed};
 
 use crate::{Part, Ran, Work};

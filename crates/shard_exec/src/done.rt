@@ -1,7 +1,5 @@
 //! What comes of a layer.
 
-ghost use Rattle.std.specs.Prelude.{◌≡◌};
-
 use layer_planner::Layer;
 use resp::Reply;
 use skeen_core::{RequestId, Stamp};

@@ -1,6 +1,6 @@
 //! The memory that a layer needs, taken before any shard is moved.
 
-ghost use Rattle.std.specs.Prelude.{◌≡◌, IfOk, length};
+ghost use Rattle.std.specs.Prelude.{IfOk};
 ghost use Rattle.std.specs.List.{AllZip};
 ghost use Rattle.shard_exec.specs.Rooms.{FitsGroups, FitsLayer};
 

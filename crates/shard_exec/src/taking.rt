@@ -1,9 +1,8 @@
 //! A layer's requests with their shards, taken out of the row, and put back with what they gave.
 
-ghost use Rattle.std.specs.Prelude.{◌≡◌, ℕ, ◌<◌, ◌≤◌, ◌+◌, [], length, map, true, vec_capacity};
+ghost use Rattle.std.specs.Prelude.{◌≡◌, ◌<◌, ◌≤◌, [], length, map, vec_capacity};
 ghost use Rattle.std.specs.FinMap.{empty};
 ghost use Rattle.std.specs.List.{AllZip, AllByRecursion};
-ghost use Rattle.groups.specs.GroupSet.{has};
 ghost use Rattle.shard_maps.specs.Joined.{numbers};
 ghost use Rattle.shard_maps.specs.Rows.{taken_out, emptied, taken_out_each, emptied_each, put_span, put_spans};
 ghost use Rattle.shard_exec.specs.Layers.{is_named, IsWork, AreWorks, IsInside, ended_of};

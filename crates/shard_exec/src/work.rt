@@ -1,6 +1,6 @@
 //! One request, with the shards of its groups moved out of the store.
 
-ghost use Rattle.std.specs.Prelude.{◌≡◌, All, IsTrue, OnErr, IfErr};
+ghost use Rattle.std.specs.Prelude.{◌≡◌, All, IsTrue, OnErr};
 ghost use Rattle.command_bodies.specs.Command.{effect_of, TakesMemory};
 ghost use Rattle.command_cases.specs.Case.{Does};
 ghost use Rattle.command_table.specs.Command.{keys_of};

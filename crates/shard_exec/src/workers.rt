@@ -1,9 +1,9 @@
 //! The workers that run the parts of a layer, and those that take turns on the caller's thread.
 
-ghost use Rattle.std.specs.Prelude.{◌≡◌, ℕ, Bool, true, false, [], IfOk, OnErr, IsOk, length, ◌≤◌, vec_capacity};
+ghost use Rattle.std.specs.Prelude.{◌≡◌, ℕ, Bool, true, false, [], IfOk, OnErr, length, ◌≤◌, vec_capacity};
 ghost use Rattle.std.specs.Int.NonZero.{non_zero_usize_get};
 ghost use Rattle.std.specs.List.{AllZip, AllByRecursion};
-ghost use Rattle.shard_exec.specs.Parts.{IsReadyPart, HasRunPart, HasRoom};
+ghost use Rattle.shard_exec.specs.Parts.{IsReadyPart, HasRunPart};
 
 use crate::crew::Child;
 use crate::{Gate, Part, Ran};

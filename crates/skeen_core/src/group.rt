@@ -1,6 +1,6 @@
 //! One group: what it does with the packets that come to it. The system hands it each packet that is for it, sends what
 //! it sends, and puts what it delivers in its queue.
-ghost use Rattle.std.specs.Prelude.{◌≡◌, ◌+◌, ◌≤◌, ◌^◌, ◌++◌, [], ◌∷◌, length, IfOk, OnErr, OnOk};
+ghost use Rattle.std.specs.Prelude.{◌≡◌, ◌+◌, ◌≤◌, [], length, IfOk, OnErr};
 ghost use Rattle.std.specs.FinMap.{len};
 ghost use Rattle.skeen_core.specs.Group.{fresh, lift, MayCome, BodyMayCome, Receives};
 ghost use Rattle.skeen_core.specs.Due.{PlacesDiffer, IsDue};

@@ -1,6 +1,6 @@
 //! What a group keeps of its requests: who has started, and which proposals have come. Each in a list in order of
 //! coming, which is searched from the front.
-ghost use Rattle.std.specs.Prelude.{◌≡◌, ℕ, ◌<◌, length, slice_get, MatchOption, Some, None};
+ghost use Rattle.std.specs.Prelude.{◌≡◌, ◌<◌, length, MatchOption, Some, None};
 ghost use Rattle.skeen_core.specs.Stamp.{final};
 ghost use Rattle.skeen_core.specs.Group.{has_id};
 ghost use Rattle.skeen_core.specs.Kept.{groups_in, clock_in, names, ids_of, StandsAt};

@@ -1,6 +1,5 @@
 //! The packets under way, in order of sending. Which one is taken out next is the caller's choice.
-ghost use Rattle.skeen_core.specs.declared.packet.Body.{Body};
-ghost use Rattle.std.specs.Prelude.{◌≡◌, ◌+◌, ◌≤◌, ◌<◌, ◌++◌, [], ◌∷◌, length, remove, slice_get, ◌==◌, OnOk, OnErr, IsOk, MatchOption};
+ghost use Rattle.std.specs.Prelude.{◌≡◌, ◌+◌, ◌≤◌, ◌<◌, ◌++◌, [], ◌∷◌, length, remove, slice_get, ◌==◌, OnOk, OnErr, IsOk};
 ghost use Rattle.std.specs.Prelude.{option_copied};
 
 use super::packet::Packet;

@@ -31,7 +31,7 @@ use Rattle.system_view.proofs.Received.{shows_received}
 use Rattle.system_view.proofs.Submits.{shows_submit}
 use Rattle.system_view.specs.Connections.{ShowsConnections}
 use Rattle.system_view.specs.Multicast.{ShowsMulticast}
-use Rattle.world.specs.Steps.{Made as WorldMade, next_id, starts, asks, answered, multicast, submitted, submitted_to, floor_of, Comes}
+use Rattle.world.specs.Steps.{Made as WorldMade, next_id, starts, asks, multicast, submitted, submitted_to, floor_of, Comes}
 use Rattle.world.specs.Steps as world
 use Rattle.world.specs.World.{World, Request}
 use Rattle.world_laws.proofs.Worlds.{good_world}

@@ -1,6 +1,6 @@
 //! The parts of the system, and what each kind of step does to them.
 
-ghost use Rattle.std.specs.Prelude.{◌≡◌, ◌≢◌, ◌<◌, ◌^◌, List, length, true, IfOk, IfErr, OnOk, OnErr};
+ghost use Rattle.std.specs.Prelude.{◌≡◌, ◌≢◌, ◌<◌, List, true, IfOk, IfErr, OnOk, OnErr};
 ghost use Rattle.router.specs.Router.{connection};
 ghost use Rattle.router.specs.Submitting.{IsRefused};
 ghost use Rattle.system.specs.Parts.{IsAt, Makes, Keeps};

@@ -1,6 +1,6 @@
 -- Which words address groups: those of each command that looks at keys.
-use Rattle.std.proofs.Common.{◌≡◌, ℕ, ◌<◌, ◌||◌, ◌&&◌, ◌==◌, Bool, true, false, List, [], ◌∷◌, inl, inr, length, nat_lt, Result, Ok, Err}
-use Rattle.std.proofs.Common.{IfOk, IsTrue, Contains, refl, sym, ap, ◌∙◌, subst, arith, eq-eqb}
+use Rattle.std.proofs.Common.{◌≡◌, ℕ, ◌<◌, ◌||◌, ◌&&◌, true, false, List, [], ◌∷◌, inl, inr, length, nat_lt, Result, Ok, Err}
+use Rattle.std.proofs.Common.{IfOk, Contains, refl, sym, ap, ◌∙◌, subst, arith, eq-eqb}
 use Rattle.std.proofs.lemmas.Bool.{both_ways, and_parts}
 use Rattle.command_table.proofs.Keyed.{keyed_if}
 use Rattle.command_table.specs.Command.{keys_of, is_whole}

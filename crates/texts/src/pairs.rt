@@ -1,6 +1,6 @@
 //! A list of pairs of byte strings.
 
-ghost use Rattle.std.specs.Prelude.{◌≡◌, ◌<◌, ◌%◌, length, map, slice_get, Some};
+ghost use Rattle.std.specs.Prelude.{◌≡◌, ◌<◌, ◌%◌, length, slice_get, Some};
 ghost use Rattle.texts.specs.Texts.{texts_of, pairs_of, firsts, by_turns};
 
 use std::marker::Model;

@@ -1,6 +1,6 @@
 -- Lists of byte strings seen through their bytes.
-use Rattle.std.proofs.Common.{◌≡◌, ℕ, ◌+◌, ◌-◌, ◌<◌, ◌≤◌, Bool, List, [], ◌∷◌, ◌++◌, length, map, take, drop, reverse, get_or, refl, sym}
-use Rattle.std.proofs.Common.{ap, ◌∙◌, arith, add-one, suc, drop-cons}
+use Rattle.std.proofs.Common.{◌≡◌, ℕ, ◌+◌, ◌-◌, ◌<◌, List, [], ◌∷◌, ◌++◌, length, map, take, drop, reverse, get_or, refl, sym}
+use Rattle.std.proofs.Common.{ap, ◌∙◌, add-one, suc, drop-cons}
 use Rattle.std.proofs.lemmas.List.{map-append, map-set, take-map, drop-map, reverse-append, append-nil, length-map}
 use Rattle.std.specs.Prelude.{insert, slice_range}
 

@@ -15,7 +15,7 @@ use Rattle.std.specs.declared.cmp.Ordering.{Ordering}
 use Rattle.std.specs.declared.cmp.Ordering.TheVariants.{Less, Equal, Greater}
 use Rattle.texts.specs.Texts.{Bytes}
 use Rattle.values.proofs.MembersAlike.{below-first}
-use Rattle.values.proofs.MembersSeen.{seen-ascends, with_members-ascending}
+use Rattle.values.proofs.MembersSeen.{with_members-ascending}
 use Rattle.values.specs.Items.{lent}
 use Rattle.values.specs.SetValue.{IsAscending, is_above, is_below, members_after, with_member}
 

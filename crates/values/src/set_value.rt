@@ -28,7 +28,7 @@ pub struct SetValue {
 }
 
 impl Model for SetValue {
-    ghost use Rattle.std.specs.Prelude.{List, ◌<◌, IsTrue, length, map};
+    ghost use Rattle.std.specs.Prelude.{List, ◌<◌, IsTrue, length};
     ghost use Rattle.texts.specs.Texts.{Bytes};
     ghost use Rattle.values.specs.SetValue.{IsAscending, members_seen};
 

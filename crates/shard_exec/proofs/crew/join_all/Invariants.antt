@@ -1,5 +1,5 @@
-use Rattle.std.proofs.Common.{◌≡◌, ℕ, ◌+◌, ◌≤◌, length, ◌++◌, vec_capacity}
-use Rattle.std.specs.List.{AllZip, AllByRecursion}
+use Rattle.std.proofs.Common.{◌+◌, ◌≤◌, length, ◌++◌, vec_capacity}
+use Rattle.std.specs.List.{AllZip}
 use Rattle.shard_exec.specs.Parts.{HasRunPart}
 use Rattle.shard_exec.proofs.crew.join_all.Given as goal
 

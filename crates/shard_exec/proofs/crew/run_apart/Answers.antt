@@ -1,7 +1,7 @@
-use Rattle.std.proofs.Common.{rules, arith, ◌≡◌, ◌++◌, ◌∷◌, [], length, vec_capacity, ◌≤◌, subst, sym, ap, ◌∙◌}
-use Rattle.std.specs.List.{AllZip, AllByRecursion}
-use Rattle.shard_exec.specs.Parts.{IsReadyPart, HasRunPart}
-use Rattle.shard_exec.proofs.Zips.{zip_push, zip_length, zip_then, all_last}
+use Rattle.std.proofs.Common.{rules, ◌≡◌, ◌++◌, ◌∷◌, [], length, subst, sym}
+use Rattle.std.specs.List.{AllZip}
+use Rattle.shard_exec.specs.Parts.{HasRunPart}
+use Rattle.shard_exec.proofs.Zips.{zip_push, zip_length, zip_then}
 use Rattle.shard_exec.proofs.crew.run_apart.Goals as goal
 
 pub join_all-all-requires-clause-room : goal.join_all-all-requires-clause-room

@@ -1,4 +1,4 @@
-use Rattle.std.proofs.Common.{◌≡◌, ℕ, ◌+◌, ◌≤◌, length, ◌++◌, vec_capacity}
+use Rattle.std.proofs.Common.{◌≡◌, ◌+◌, ◌≤◌, length, ◌++◌, vec_capacity}
 use Rattle.std.specs.List.{AllZip, AllByRecursion}
 use Rattle.shard_exec.specs.Parts.{IsReadyPart}
 use Rattle.shard_exec.proofs.crew.start_all.Given as goal

@@ -1,4 +1,4 @@
-use Rattle.std.proofs.Common.{◌≡◌, ℕ, ◌<◌, length}
+use Rattle.std.proofs.Common.{◌≡◌, ◌<◌, length}
 use Rattle.std.specs.List.{AllByRecursion}
 use Rattle.shard_exec.specs.Dealing.{placed}
 use Rattle.shard_exec.proofs.dealing.place_rans.Given as goal

@@ -1,4 +1,4 @@
-use Rattle.std.proofs.Common.{◌≡◌, ℕ, ◌+◌, ◌≤◌, length, ◌++◌, drop, vec_capacity}
+use Rattle.std.proofs.Common.{◌≡◌, ◌+◌, ◌≤◌, length, ◌++◌, drop, vec_capacity}
 use Rattle.shard_exec.specs.Dealing.{CanTake, Took, left_at}
 use Rattle.shard_exec.proofs.dealing.take_works.Given as goal
 

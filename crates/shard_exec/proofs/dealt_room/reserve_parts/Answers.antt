@@ -1,4 +1,4 @@
-use Rattle.std.proofs.Common.{arith, ◌≡◌, ◌++◌, ◌∷◌, [], sym, ap, ◌∙◌, subst, take, length, ◌≤◌, vec_capacity}
+use Rattle.std.proofs.Common.{◌++◌, ◌∷◌, [], sym, ap, ◌∙◌, subst, take, length, ◌≤◌, vec_capacity}
 use Rattle.std.specs.List.{AllZip}
 use Rattle.std.proofs.lemmas.List.{take_more}
 use Rattle.shard_exec.specs.DealtRooms.{FitsPlaces}

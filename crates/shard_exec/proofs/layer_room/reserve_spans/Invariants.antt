@@ -1,4 +1,4 @@
-use Rattle.std.proofs.Common.{◌≡◌, take}
+use Rattle.std.proofs.Common.{take}
 use Rattle.std.specs.List.{AllZip}
 use Rattle.shard_exec.specs.Rooms.{FitsGroups}
 use Rattle.shard_exec.proofs.layer_room.reserve_spans.Given as goal

@@ -1,14 +1,11 @@
-use Rattle.std.proofs.Common.{rules, arith, ◌≡◌, List, length, map, refl, sym, ap, ◌∙◌, subst}
+use Rattle.std.proofs.Common.{arith, ◌≡◌, List, length, map, sym, ap, ◌∙◌, subst}
 use Rattle.std.specs.FinMap.{empty}
-use Rattle.std.specs.List.{AllZip, AllByRecursion}
-use Rattle.keyspace.specs.Map.{Map}
 use Rattle.shard_maps.proofs.Rows.{length-emptied_each}
-use Rattle.shard_maps.specs.Joined.{HasOwnKeys, Span}
-use Rattle.shard_maps.specs.Rows.{emptied_each, put_spans}
+use Rattle.shard_maps.specs.Joined.{HasOwnKeys}
+use Rattle.shard_maps.specs.Rows.{put_spans}
 use Rattle.shard_exec.specs.DealtRooms.{FitsDealt}
 use Rattle.shard_exec.specs.declared.done.Ended.{Ended}
 use Rattle.shard_exec.specs.Layers.{AreWorks, IsDone, ended_of}
-use Rattle.shard_exec.specs.Stamps.{raised, raised_by}
 use Rattle.shard_exec.proofs.Zips.{zip_length}
 use Rattle.shard_exec.proofs.LayerLaws.{all_inside, taken_as_they_were, all_ready, all_ran, layer_done, raised_same, all_below, own_left}
 use Rattle.shard_exec.proofs.LayerLaws.{works_length, in_places, fits_still}

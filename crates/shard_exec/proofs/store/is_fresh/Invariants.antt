@@ -1,4 +1,4 @@
-use Rattle.std.proofs.Common.{◌≡◌, ℕ, true, ◌<◌, length}
+use Rattle.std.proofs.Common.{◌≡◌, ℕ, true}
 use Rattle.groups.specs.GroupSet.{has}
 use Rattle.shard_exec.specs.Stamps.{is_above, last_of}
 use Rattle.shard_exec.proofs.store.is_fresh.Given as goal

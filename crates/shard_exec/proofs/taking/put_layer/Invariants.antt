@@ -1,4 +1,4 @@
-use Rattle.std.proofs.Common.{◌≡◌, ℕ, ◌+◌, ◌<◌, ◌≤◌, length, ◌++◌, map, vec_capacity}
+use Rattle.std.proofs.Common.{◌≡◌, ◌+◌, ◌<◌, ◌≤◌, length, ◌++◌, map, vec_capacity}
 use Rattle.std.specs.List.{AllByRecursion}
 use Rattle.shard_maps.specs.Rows.{put_spans}
 use Rattle.shard_exec.specs.Layers.{ended_of}

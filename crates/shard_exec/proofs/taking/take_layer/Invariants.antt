@@ -1,4 +1,4 @@
-use Rattle.std.proofs.Common.{◌≡◌, ℕ, ◌+◌, ◌≤◌, length, ◌++◌, map, vec_capacity}
+use Rattle.std.proofs.Common.{◌≡◌, ◌+◌, ◌≤◌, length, ◌++◌, map, vec_capacity}
 use Rattle.std.specs.FinMap.{empty}
 use Rattle.std.specs.List.{AllZip, AllByRecursion}
 use Rattle.shard_maps.specs.Rows.{taken_out_each, emptied_each}

@@ -1,5 +1,5 @@
-use Rattle.std.proofs.Common.{rules, arith, ◌≡◌, ◌++◌, ◌∷◌, [], length, vec_capacity, ◌≤◌, subst, sym, ap, ◌∙◌}
-use Rattle.std.specs.List.{AllZip, AllByRecursion}
+use Rattle.std.proofs.Common.{rules, [], subst}
+use Rattle.std.specs.List.{AllZip}
 use Rattle.std.proofs.lemmas.List.{append-nil}
 use Rattle.shard_exec.specs.Parts.{HasRunPart}
 use Rattle.shard_exec.proofs.Zips.{none_left}

@@ -1,4 +1,4 @@
-use Rattle.std.proofs.Common.{◌≡◌, ℕ, ◌+◌, ◌≤◌, length, ◌++◌, vec_capacity}
+use Rattle.std.proofs.Common.{◌+◌, ◌≤◌, length, ◌++◌, vec_capacity}
 use Rattle.std.specs.List.{AllZip, AllByRecursion}
 use Rattle.shard_exec.specs.Parts.{IsReadyPart, HasRunPart}
 use Rattle.shard_exec.proofs.workers.run_in_turn.Given as goal

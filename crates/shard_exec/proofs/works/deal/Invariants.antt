@@ -1,5 +1,5 @@
-use Rattle.std.proofs.Common.{◌≡◌, ℕ, ◌+◌, ◌≤◌, ◌<◌, length, ◌++◌, map, drop, Some, vec_capacity}
-use Rattle.std.specs.List.{AllZip, AllByRecursion, concat}
+use Rattle.std.proofs.Common.{◌≡◌, ◌+◌, ◌≤◌, length, ◌++◌, drop, vec_capacity}
+use Rattle.std.specs.List.{AllZip, concat}
 use Rattle.shard_exec.specs.Dealing.{CanTake, Took, all_works}
 use Rattle.shard_exec.specs.DealtRooms.{FitsPlaces}
 use Rattle.shard_exec.proofs.works.deal.Given as goal

@@ -1,4 +1,4 @@
-use Rattle.std.proofs.Common.{arith, ap, ◌≡◌, length, vec_capacity}
+use Rattle.std.proofs.Common.{arith, ap, length}
 use Rattle.shard_exec.proofs.Dealt.{took_length}
 use Rattle.shard_exec.proofs.works.deal_part.Goals as goal
 

@@ -1,5 +1,5 @@
-use Rattle.std.proofs.Common.{◌≡◌, ℕ, ◌+◌, ◌≤◌, ◌<◌, length, ◌++◌, map, drop, Some, vec_capacity}
-use Rattle.std.specs.List.{AllZip, AllByRecursion, concat}
+use Rattle.std.proofs.Common.{◌≡◌, ◌+◌, ◌≤◌, length, ◌++◌, map, Some, vec_capacity}
+use Rattle.std.specs.List.{AllByRecursion}
 use Rattle.std.specs.Option.{IsSome}
 use Rattle.shard_exec.proofs.works.in_order.Given as goal
 

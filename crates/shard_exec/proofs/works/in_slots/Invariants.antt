@@ -1,5 +1,4 @@
-use Rattle.std.proofs.Common.{◌≡◌, ℕ, ◌+◌, ◌≤◌, ◌<◌, length, ◌++◌, map, drop, Some, vec_capacity}
-use Rattle.std.specs.List.{AllZip, AllByRecursion, concat}
+use Rattle.std.proofs.Common.{◌≡◌, ◌+◌, ◌≤◌, length, ◌++◌, map, Some, vec_capacity}
 use Rattle.shard_exec.proofs.works.in_slots.Given as goal
 
 abbrev pub invariant-loop-work : goal.invariant-loop-work

@@ -1,4 +1,4 @@
-use Rattle.std.proofs.Common.{◌≡◌, length, ◌++◌, sym, ap, ◌∙◌, subst}
+use Rattle.std.proofs.Common.{length, sym, ap, ◌∙◌, subst}
 use Rattle.shard_exec.specs.Dealing.{placed, all_rans, AreInside}
 use Rattle.shard_exec.proofs.Dealt.{placed_more, all_first}
 use Rattle.shard_exec.proofs.works.place_all.Goals as goal

@@ -1,5 +1,4 @@
-use Rattle.std.proofs.Common.{◌≡◌, ℕ, ◌+◌, ◌≤◌, ◌<◌, length, ◌++◌, map, drop, Some, vec_capacity}
-use Rattle.std.specs.List.{AllZip, AllByRecursion, concat}
+use Rattle.std.proofs.Common.{◌≡◌, length}
 use Rattle.shard_exec.specs.Dealing.{placed, all_rans, AreInside}
 use Rattle.shard_exec.proofs.works.place_all.Given as goal
 

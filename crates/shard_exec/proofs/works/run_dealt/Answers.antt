@@ -1,10 +1,8 @@
-use Rattle.std.proofs.Common.{arith, ◌≡◌, ◌<◌, ◌≤◌, List, length, map, Some, None, vec_capacity, sym, ap, ◌∙◌, subst}
-use Rattle.std.proofs.Math.ListN.{replicate}
+use Rattle.std.proofs.Common.{arith, ◌≡◌, length, sym, ap, ◌∙◌, subst}
 use Rattle.std.proofs.lemmas.List.{length-replicate}
 use Rattle.std.specs.List.{AllZip, AllByRecursion, concat}
 use Rattle.layer_planner.specs.Parts.{dealt}
-use Rattle.shard_exec.specs.Dealing.{CanTake, Took, placed, all_works, all_rans, AreInside, HasGiven}
-use Rattle.shard_exec.specs.Runs.{IsReady, HasRun}
+use Rattle.shard_exec.specs.Dealing.{CanTake, Took, placed, all_works, all_rans, HasGiven}
 use Rattle.shard_exec.proofs.Dealt.{can_deal, ready_parts, ready_taken, taken_at, dealt_whole, gave_within, all_given, given_full}
 use Rattle.shard_exec.proofs.Dealt.{given_run}
 use Rattle.shard_exec.proofs.Zips.{zip_length}

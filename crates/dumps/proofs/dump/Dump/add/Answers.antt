@@ -1,4 +1,4 @@
-use Rattle.std.proofs.Common.{refl, ap, sym, ◌∙◌}
+use Rattle.std.proofs.Common.{ap, ◌∙◌}
 use Rattle.std.specs.FinMap.{insert}
 use Rattle.dumps.proofs.Orders.{map_of_lent-insert}
 use Rattle.dumps.proofs.dump.Dump.add.Goals as goal

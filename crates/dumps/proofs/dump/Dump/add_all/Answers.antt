@@ -1,4 +1,4 @@
-use Rattle.std.proofs.Common.{◌≡◌, ◌≤◌, None, suc, ◌+◌, arith, take, length, ap, sym, ◌∙◌}
+use Rattle.std.proofs.Common.{◌≡◌, None, suc, ◌+◌, arith, take, ap, sym, ◌∙◌}
 use Rattle.std.proofs.lemmas.List.{take_all}
 use Rattle.std.specs.FinMap.{entries, insert}
 use Rattle.std.specs.List.{slice_get}

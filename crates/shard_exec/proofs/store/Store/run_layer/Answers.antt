@@ -1,6 +1,5 @@
-use Rattle.std.proofs.Common.{rules, arith, ◌≡◌, length, refl, sym, ap, ◌∙◌, subst}
-use Rattle.std.specs.List.{AllByRecursion}
-use Rattle.shard_exec.specs.Layers.{IsInside, AddressTheirGroups}
+use Rattle.std.proofs.Common.{length, sym, ap, ◌∙◌, subst}
+use Rattle.shard_exec.specs.Layers.{AddressTheirGroups}
 use Rattle.shard_exec.proofs.LayerLaws.{all_inside}
 use Rattle.shard_exec.proofs.store.Store.run_layer.Goals as goal
 

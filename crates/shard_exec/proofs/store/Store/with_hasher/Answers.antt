@@ -1,8 +1,6 @@
-use Rattle.std.proofs.Common.{rules, arith, ◌≡◌, None, length, refl, sym, ap, ◌∙◌, subst}
-use Rattle.std.proofs.Math.ListN.{replicate}
+use Rattle.std.proofs.Common.{arith, ◌≡◌, length, sym, ap, ◌∙◌, subst}
 use Rattle.std.proofs.lemmas.List.{length-replicate}
 use Rattle.shard_maps.specs.Joined.{HasOwnKeys}
-use Rattle.shard_exec.specs.StoreStates.{IsStore}
 use Rattle.shard_exec.proofs.LayerLaws.{own_none}
 use Rattle.shard_exec.proofs.store.Store.with_hasher.Goals as goal
 

@@ -1,17 +1,15 @@
-use Rattle.std.proofs.Common.{◌≡◌, ℕ, zero, suc, ◌<◌, List, [], ◌∷◌, length, get_or, arith, true, Option, Some, None, Result, Ok, Err}
+use Rattle.std.proofs.Common.{◌≡◌, ℕ, zero, suc, ◌<◌, List, [], ◌∷◌, length, get_or, arith, None, Result, Ok, Err}
 use Rattle.std.proofs.Common.{subst, sym, ap, ◌∙◌, refl}
 use Rattle.std.proofs.lemmas.Bool.{both_ways}
-use Rattle.std.specs.Option.{option_map}
 use Rattle.std.specs.Result.{OnErr, result_ok}
 use Rattle.command_table.specs.Command.{keys_of}
 use Rattle.groups.specs.GroupSet.{IsAscending, has}
 use Rattle.placement.proofs.Addressed.{has-groups_of-key}
 use Rattle.placement.specs.Layout.{shard_of}
-use Rattle.resp.specs.Content.{content}
 use Rattle.resp.specs.declared.reply.Reply.{Reply}
 use Rattle.shard_maps.proofs.PutBack.{IsAscending-groups_of}
 use Rattle.shard_maps.proofs.Runs.{SpanRan-done}
-use Rattle.shard_maps.specs.Joined.{numbers, union, SpanRan}
+use Rattle.shard_maps.specs.Joined.{numbers, SpanRan}
 use Rattle.shard_maps.specs.Layer.{outcome_of}
 use Rattle.shard_exec.specs.Runs.{outcome}
 use Rattle.shard_exec.proofs.work.Work.run.Goals as goal
