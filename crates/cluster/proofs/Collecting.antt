@@ -22,11 +22,11 @@ use Rattle.router.specs.declared.connection.Connection.{Connection}
 use Rattle.router.specs.declared.connection.Standing.{Standing}
 use Rattle.router.specs.declared.connection.Standing.TheVariants as router
 use Rattle.router.specs.declared.outcome.Outcome as kept
-use Rattle.skeen_core.proofs.Lawful.{some_same}
-use Rattle.skeen_core.proofs.Lists.{In-append}
-use Rattle.skeen_core.specs.Order.{In}
-use Rattle.skeen_core.specs.declared.request.ConnId.{ConnId}
-use Rattle.skeen_core.specs.declared.request.RequestId.{RequestId}
+use Rattle.groups.proofs.Options.{some_same}
+use Rattle.groups.proofs.Lists.{In-append}
+use Rattle.groups.specs.Order.{In}
+use Rattle.groups.specs.declared.request.ConnId.{ConnId}
+use Rattle.groups.specs.declared.request.RequestId.{RequestId}
 use Rattle.system.specs.Parts.{effect_shown}
 use Rattle.system.specs.declared.effect.Effect.{Effect}
 use Rattle.system.specs.declared.effect.Effect.TheVariants as effect

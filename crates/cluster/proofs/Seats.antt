@@ -16,13 +16,13 @@ use Rattle.cluster.specs.declared.cluster.Last.{Last}
 use Rattle.journal.specs.Codes.{steps_size}
 use Rattle.journal.specs.declared.step.Step.{Step}
 use Rattle.journal.specs.declared.step.Step.TheVariants.{Open, Submit, Deliver, Take, Run, Settle, Collect, Close}
-use Rattle.skeen_core.specs.declared.request.ConnId.{ConnId}
+use Rattle.groups.specs.declared.request.ConnId.{ConnId}
 use Rattle.system.specs.Parts.{effect_shown}
 use Rattle.system.specs.declared.effect.Effect.{Effect}
 use Rattle.system.specs.declared.fault.StepFault.{StepFault}
 use Rattle.system.specs.declared.fault.StepFault.TheVariants as fault
 use Rattle.system.specs.declared.effect.Effect.TheVariants.{Opened, Submitted, Made}
-use Rattle.skeen_core.specs.declared.request.RequestId.{RequestId}
+use Rattle.groups.specs.declared.request.RequestId.{RequestId}
 use Rattle.world.specs.Steps.{at, opening, Leads}
 use Rattle.world.specs.Steps as world
 use Rattle.world.specs.World.{World, Standing, Closed, Idle}

@@ -3,8 +3,8 @@ use Rattle.std.proofs.Common.{◌≡◌, ℕ, List, Some, None, inl, refl}
 use Rattle.cluster.specs.Clusters.{SeatView, IsSubmitFault}
 use Rattle.cluster.specs.Histories.{HistoryView, IsIn, IsMade, IsFault}
 use Rattle.journal.specs.declared.step.Step.TheVariants.{Submit}
-use Rattle.skeen_core.specs.declared.request.ConnId.{ConnId}
-use Rattle.skeen_core.specs.declared.request.RequestId.{RequestId}
+use Rattle.groups.specs.declared.request.ConnId.{ConnId}
+use Rattle.groups.specs.declared.request.RequestId.{RequestId}
 use Rattle.system.specs.Parts.{effect_shown}
 use Rattle.system.specs.declared.effect.Effect.{Effect}
 use Rattle.system.specs.declared.effect.Effect.TheVariants.{Opened, Submitted, Ran, Collected, Made}

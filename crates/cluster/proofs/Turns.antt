@@ -10,7 +10,7 @@ use Rattle.journal.specs.declared.step.Step.TheVariants as step
 use Rattle.layer_planner.specs.declared.job.Job.{Job}
 use Rattle.placement.specs.Layout.{Layout}
 use Rattle.skeen_core.specs.declared.packet.Delivered.{Delivered}
-use Rattle.skeen_core.specs.declared.request.RequestId.{RequestId}
+use Rattle.groups.specs.declared.request.RequestId.{RequestId}
 use Rattle.system.specs.Parts.{ShowsStage, progress_of, to_run, effect_shown, stored}
 use Rattle.system.specs.System.{SystemView, IsQuiet, IsStep}
 use Rattle.system.specs.declared.effect.Effect.{Effect}

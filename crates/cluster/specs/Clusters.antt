@@ -13,8 +13,8 @@ use Rattle.journal.specs.declared.step.Step.{Step}
 use Rattle.journal.specs.declared.step.Step.TheVariants.{Submit, Collect, Close}
 use Rattle.router.specs.Router.{waiting}
 use Rattle.router.specs.declared.outcome.Outcome.{Outcome}
-use Rattle.skeen_core.specs.declared.request.ConnId.{ConnId}
-use Rattle.skeen_core.specs.declared.request.RequestId.{RequestId}
+use Rattle.groups.specs.declared.request.ConnId.{ConnId}
+use Rattle.groups.specs.declared.request.RequestId.{RequestId}
 use Rattle.system.specs.System.{IsQuiet}
 use Rattle.system.specs.declared.effect.Effect.TheVariants.{Made}
 use Rattle.system.specs.declared.fault.StepFault.{StepFault}

@@ -5,9 +5,9 @@ use Rattle.journal.specs.Views.{RowView}
 use Rattle.placement.specs.Layout.{Layout}
 use Rattle.resp.specs.Content.{out_of_memory}
 use Rattle.resp.specs.Text.{text}
-use Rattle.skeen_core.specs.Order.{In}
-use Rattle.skeen_core.specs.declared.request.RequestId.{RequestId}
-use Rattle.skeen_core.specs.declared.stamp.Stamp.{Stamp}
+use Rattle.groups.specs.Order.{In}
+use Rattle.groups.specs.declared.request.RequestId.{RequestId}
+use Rattle.groups.specs.declared.stamp.Stamp.{Stamp}
 use Rattle.system.specs.declared.parts.Parts.{Parts}
 use Rattle.world.specs.World.{Outcome}
 use Rattle.world_laws.specs.Collecting.{reply_at_once}

@@ -5,14 +5,14 @@ use Rattle.std.specs.List.{insert}
 use Rattle.std.proofs.lemmas.Bool.{or_cases, both_ways, cases_Bool, cases_lt, and_parts, and_from}
 use Rattle.std.proofs.lemmas.List.{get_or_past}
 use Rattle.groups.specs.GroupSet.{has}
-use Rattle.skeen_core.specs.Order.{In}
-use Rattle.skeen_core.specs.Stamp.{stamp_lt}
+use Rattle.groups.specs.Order.{In}
+use Rattle.groups.specs.Stamp.{stamp_lt}
 use Rattle.skeen_core.specs.Group.{Ascending}
-use Rattle.skeen_core.specs.declared.stamp.Stamp.{Stamp}
-use Rattle.skeen_core.specs.declared.request.RequestId.{RequestId}
+use Rattle.groups.specs.declared.stamp.Stamp.{Stamp}
+use Rattle.groups.specs.declared.request.RequestId.{RequestId}
 use Rattle.skeen_core.specs.declared.packet.Delivered.{Delivered}
-use Rattle.skeen_core.proofs.Ids.{same_id-true, same_id-refl}
-use Rattle.skeen_core.proofs.Stamps.{lt_trans, le_antisym}
+use Rattle.groups.proofs.Ids.{same_id-true, same_id-refl}
+use Rattle.groups.proofs.Stamps.{lt_trans, le_antisym}
 use Rattle.delivery.specs.Ready.{IsReady, IsLayer}
 use Rattle.delivery.specs.Queues.{queue_of, IsSound}
 use Rattle.delivery.specs.Search.{head_of, is_named, heads_each, is_first, if_ready, ready_at, count_before}

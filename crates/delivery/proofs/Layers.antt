@@ -2,13 +2,13 @@
 use Rattle.std.proofs.Common.{◌≡◌, ℕ, true, false, cond, drop, List, [], ◌∷◌, refl, sym, ap, ◌∙◌, subst, inl, inr}
 use Rattle.std.proofs.lemmas.Bool.{or_cases, both_ways, cases_Bool}
 use Rattle.groups.specs.GroupSet.{has}
-use Rattle.skeen_core.specs.Order.{In}
-use Rattle.skeen_core.specs.Request.{same_id}
+use Rattle.groups.specs.Order.{In}
+use Rattle.groups.specs.Request.{same_id}
 use Rattle.skeen_core.specs.Group.{Ascending, has_id}
-use Rattle.skeen_core.specs.declared.request.RequestId.{RequestId}
+use Rattle.groups.specs.declared.request.RequestId.{RequestId}
 use Rattle.skeen_core.specs.declared.packet.Delivered.{Delivered}
-use Rattle.skeen_core.proofs.Ids.{same_id-true}
-use Rattle.skeen_core.proofs.Stamps.{lt_irrefl}
+use Rattle.groups.proofs.Ids.{same_id-true}
+use Rattle.groups.proofs.Stamps.{lt_irrefl}
 use Rattle.skeen_core.proofs.Lawful.{id_there}
 use Rattle.delivery.specs.Ready.{QueueOf, IsReady, left_in}
 use Rattle.delivery.specs.Queues.{IsSound}

@@ -2,13 +2,13 @@
 use Rattle.std.proofs.Common.{◌≡◌, ◌≢◌, ℕ, Bool, true, false, cond, drop, List, [], ◌∷◌, ◌++◌, refl, sym, ap, ◌∙◌, subst, inl, inr, ◌⊎◌}
 use Rattle.std.proofs.lemmas.Bool.{cases_eq}
 use Rattle.groups.specs.GroupSet.{has}
-use Rattle.skeen_core.specs.Order.{In}
-use Rattle.skeen_core.specs.Stamp.{stamp_lt}
+use Rattle.groups.specs.Order.{In}
+use Rattle.groups.specs.Stamp.{stamp_lt}
 use Rattle.skeen_core.specs.Group.{Ascending}
-use Rattle.skeen_core.specs.declared.stamp.Stamp.{Stamp}
+use Rattle.groups.specs.declared.stamp.Stamp.{Stamp}
 use Rattle.skeen_core.specs.declared.packet.Delivered.{Delivered}
-use Rattle.skeen_core.proofs.Stamps.{lt_trans}
-use Rattle.skeen_core.proofs.Lists.{In-end}
+use Rattle.groups.proofs.Stamps.{lt_trans}
+use Rattle.groups.proofs.Lists.{In-end}
 use Rattle.delivery.specs.Ready.{QueueOf}
 use Rattle.delivery.specs.Queues.{is_above_last, MayAppend, IsSound}
 use Rattle.delivery.specs.Taking.{popped}

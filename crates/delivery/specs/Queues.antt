@@ -1,10 +1,10 @@
 -- The queues as contracts see them, what may be appended, and what every state of the queues is like.
 use Rattle.std.specs.Prelude.{◌≡◌, ℕ, Bool, true, List, [], ◌∷◌, map, slice_index, slice_index_or}
 use Rattle.groups.specs.GroupSet.{has}
-use Rattle.skeen_core.specs.Order.{In}
-use Rattle.skeen_core.specs.Stamp.{stamp_lt}
+use Rattle.groups.specs.Order.{In}
+use Rattle.groups.specs.Stamp.{stamp_lt}
 use Rattle.skeen_core.specs.Group.{Ascending}
-use Rattle.skeen_core.specs.declared.stamp.Stamp.{Stamp}
+use Rattle.groups.specs.declared.stamp.Stamp.{Stamp}
 use Rattle.skeen_core.specs.declared.packet.Delivered.{Delivered}
 use Rattle.delivery.specs.Ready.{QueueOf}
 

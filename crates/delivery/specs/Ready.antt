@@ -2,7 +2,7 @@
 -- delivered and no layer has taken yet, oldest first.
 use Rattle.std.specs.Prelude.{◌≡◌, ℕ, true, cond, List, [], ◌∷◌}
 use Rattle.groups.specs.GroupSet.{has}
-use Rattle.skeen_core.specs.Order.{In}
+use Rattle.groups.specs.Order.{In}
 use Rattle.skeen_core.specs.Group.{Ascending, has_id}
 use Rattle.skeen_core.specs.declared.packet.Delivered.{Delivered}
 

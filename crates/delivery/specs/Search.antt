@@ -1,9 +1,9 @@
 -- How the ready requests are found: a request is looked for at the head of the queue of its first group.
 use Rattle.std.specs.Prelude.{ℕ, suc, Bool, true, false, cond, ◌&&◌, ◌==◌, List, [], ◌∷◌, Option, Some, None}
-use Rattle.skeen_core.specs.Request.{same_id}
-use Rattle.skeen_core.specs.Stamp.{stamp_lt}
-use Rattle.skeen_core.specs.declared.stamp.Stamp.{Stamp}
-use Rattle.skeen_core.specs.declared.request.RequestId.{RequestId}
+use Rattle.groups.specs.Request.{same_id}
+use Rattle.groups.specs.Stamp.{stamp_lt}
+use Rattle.groups.specs.declared.stamp.Stamp.{Stamp}
+use Rattle.groups.specs.declared.request.RequestId.{RequestId}
 use Rattle.skeen_core.specs.declared.packet.Delivered.{Delivered}
 use Rattle.delivery.specs.Queues.{queue_of}
 

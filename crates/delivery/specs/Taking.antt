@@ -1,7 +1,7 @@
 -- What becomes of the queues when requests are popped, and what holds of a layer.
 use Rattle.std.specs.Prelude.{◌≡◌, ℕ, true, false, cond, List, [], ◌∷◌, drop}
 use Rattle.groups.specs.GroupSet.{has}
-use Rattle.skeen_core.specs.Order.{In}
+use Rattle.groups.specs.Order.{In}
 use Rattle.skeen_core.specs.declared.packet.Delivered.{Delivered}
 use Rattle.delivery.specs.Ready.{QueueOf, IsReady, IsLayer, left_in}
 use Rattle.delivery.specs.Queues.{IsSound}

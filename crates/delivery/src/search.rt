@@ -6,8 +6,8 @@ ghost use Rattle.delivery.specs.Queues.{requests_of, queue_of};
 ghost use Rattle.delivery.specs.Search.{head_of, is_named, heads_each, is_first, ready_at, count_before};
 
 use super::queue::Queue;
-use groups::{GroupId, Groups};
-use skeen_core::{Delivered, RequestId, Stamp};
+use groups::{GroupId, Groups, RequestId, Stamp};
+use skeen_core::Delivered;
 use std::alloc::AllocError;
 
 /// Whether the queue of the group has that request at its head.

@@ -8,8 +8,8 @@ use Rattle.command_bodies.specs.InTurn.{solo_from}
 use Rattle.keyspace.specs.Map.{Map}
 use Rattle.placement.specs.Layout.{Layout, IsTable}
 use Rattle.resp.specs.Content.{Content}
-use Rattle.skeen_core.specs.Order.{In}
-use Rattle.skeen_core.specs.Stamp.{stamp_lt}
+use Rattle.groups.specs.Order.{In}
+use Rattle.groups.specs.Stamp.{stamp_lt}
 use Rattle.execution_order.proofs.Sorting.{In-sort, entries-rows_by_stamp}
 use Rattle.execution_order.proofs.Untouched.{untouched_commute, Touch-swap}
 use Rattle.execution_order.specs.Entries.{Entry, Row, commands_of, entries_of, replies_of, rows_from, insert_by, by_stamp, rows_by_stamp}

@@ -3,9 +3,9 @@ use Rattle.std.proofs.Common.{◌≡◌, List, [], ◌∷◌, Bool, true, false,
 use Rattle.std.proofs.lemmas.List.Sorted.{IsPermutation-refl, IsPermutation-trans, IsPermutation-append_comm, IsPermutation-append_left}
 use Rattle.std.proofs.lemmas.List.Sorted.{IsPermutation-append_right}
 use Rattle.std.specs.List.Sorted.{IsPermutation}
-use Rattle.skeen_core.proofs.Stamps.{lt_asym, le_trans}
-use Rattle.skeen_core.specs.Order.{In}
-use Rattle.skeen_core.specs.Stamp.{stamp_lt}
+use Rattle.groups.proofs.Stamps.{lt_asym, le_trans}
+use Rattle.groups.specs.Order.{In}
+use Rattle.groups.specs.Stamp.{stamp_lt}
 use Rattle.execution_order.specs.Entries.{Entry, Row, entries_of, insert_by, sort_by, by_stamp, rows_by_stamp, AscendsByStamp}
 use Rattle.execution_order.specs.Laws.{SortingAscends}
 

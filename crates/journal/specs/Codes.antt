@@ -2,8 +2,8 @@
 use Rattle.std.specs.Prelude.{◌≡◌, ℕ, ◌+◌, ◌-◌, ◌<◌, ◌≤◌, ◌^◌, List, [], ◌∷◌, ◌++◌, length, take, drop, map, ◌==◌, slice_index}
 use Rattle.std.specs.Prelude.{if◌then◌else◌}
 use Rattle.std.specs.List.{flat_map, AllByRecursion}
-use Rattle.skeen_core.specs.declared.request.RequestId.{RequestId}
-use Rattle.skeen_core.specs.declared.stamp.Stamp.{Stamp}
+use Rattle.groups.specs.declared.request.RequestId.{RequestId}
+use Rattle.groups.specs.declared.stamp.Stamp.{Stamp}
 use Rattle.packing.specs.Codes.{number_code, number_at, words_code, words_at, many, WordsFit}
 use Rattle.journal.specs.declared.step.Step.{Step}
 use Rattle.journal.specs.declared.step.Step.TheVariants.{Open, Submit, Deliver, Take, Run, Settle, Collect, Close}

@@ -4,7 +4,7 @@ use Rattle.std.specs.Prelude.{Option, Some, None, option_map, option_and_then, c
 use Rattle.std.specs.List.{flat_map, fold, AllZip, AllByRecursion}
 use Rattle.std.specs.Result.{result_ok}
 use Rattle.hex.specs.Hex.{encode_lower, decode_of}
-use Rattle.skeen_core.specs.declared.request.RequestId.{RequestId}
+use Rattle.groups.specs.declared.request.RequestId.{RequestId}
 use Rattle.journal.specs.declared.fault.TraceFault.{TraceFault}
 use Rattle.journal.specs.declared.fault.TraceFault.TheVariants.{Bad, Memory}
 use Rattle.journal.specs.declared.step.Step.{Step}

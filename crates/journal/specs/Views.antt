@@ -1,7 +1,7 @@
 -- What contracts see of a journal.
 use Rattle.std.specs.Prelude.{ℕ, List}
-use Rattle.skeen_core.specs.declared.request.RequestId.{RequestId}
-use Rattle.skeen_core.specs.declared.stamp.Stamp.{Stamp}
+use Rattle.groups.specs.declared.request.RequestId.{RequestId}
+use Rattle.groups.specs.declared.stamp.Stamp.{Stamp}
 use Rattle.journal.specs.declared.step.Step.{Step}
 
 -- what an executed request came to: its id, its final stamp, its words, and the bytes that its client got

@@ -5,13 +5,13 @@ ghost use Rattle.std.specs.Prelude.{OnErr, IfSome};
 ghost use Rattle.journal.specs.Codes.{id_at, ids_code, ids_at, submit_at, step_code, step_at, step_size};
 ghost use Rattle.journal.specs.Codes.{IdsFit, StepFits, head_code, HeadFits};
 ghost use Rattle.journal.specs.declared.step.Step.{Step};
-ghost use Rattle.skeen_core.specs.declared.request.RequestId.{RequestId};
+ghost use Rattle.groups.specs.declared.request.RequestId.{RequestId};
 
 use super::request_ids::RequestIds;
 use super::step::Step;
+use groups::{ConnId, RequestId, Stamp};
 use packing::{number_size, put_number, put_words, take_number, take_words, words_size};
 use resp::Request;
-use skeen_core::{ConnId, RequestId, Stamp};
 use std::alloc::{AllocError, Global};
 
 /// The byte that begins a step of each kind.

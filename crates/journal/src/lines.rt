@@ -7,8 +7,8 @@ ghost use Rattle.journal.specs.TraceText.{alone, all_in, id_in, only_number, par
 use super::parts::{cut_at, id_in, number_in, word_in};
 use super::request_ids::RequestIds;
 use super::step::Step;
+use groups::{ConnId, RequestId};
 use resp::Request;
-use skeen_core::{ConnId, RequestId};
 use std::alloc::{AllocError, Global};
 use std::marker::Model;
 

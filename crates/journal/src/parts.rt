@@ -4,9 +4,9 @@
 ghost use Rattle.std.specs.Prelude.{◌≡◌, IfOk, option_map};
 ghost use Rattle.journal.specs.TraceText.{number_in, word_in, cut_at, id_in};
 
+use groups::{ConnId, RequestId};
 use hex::FromHexError;
 use itoa::Buffer;
-use skeen_core::{ConnId, RequestId};
 use std::alloc::{AllocError, Global};
 
 /// What stands before the first such byte, and what behind it, if there is one.

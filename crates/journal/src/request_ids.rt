@@ -2,7 +2,7 @@
 
 ghost use Rattle.std.specs.Prelude.{◌≡◌};
 
-use skeen_core::RequestId;
+use groups::RequestId;
 use std::marker::Model;
 
 /// Some requests, by their ids. Contracts see the list.
@@ -13,7 +13,7 @@ pub struct RequestIds {
 
 impl Model for RequestIds {
     ghost use Rattle.std.specs.Prelude.{List};
-    ghost use Rattle.skeen_core.specs.declared.request.RequestId.{RequestId};
+    ghost use Rattle.groups.specs.declared.request.RequestId.{RequestId};
 
     ghost Value = { List RequestId };
 

@@ -4,10 +4,9 @@ ghost use Rattle.std.specs.Prelude.{◌≡◌, ◌<◌, length, slice_get, Some,
 ghost use Rattle.journal.specs.Codes.{row_of, RowIsIn};
 
 use super::codes::take_id;
-use groups::GroupId;
+use groups::{GroupId, RequestId, Stamp};
 use packing::{take_number, take_word, take_words};
 use resp::Request;
-use skeen_core::{RequestId, Stamp};
 use std::alloc::{AllocError, Global};
 use std::marker::Model;
 

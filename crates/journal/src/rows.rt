@@ -8,9 +8,9 @@ ghost use Rattle.journal.specs.Codes.{end_before};
 
 use super::codes::{put_head, size_of_head};
 use super::row::{Row, row_of};
+use groups::{RequestId, Stamp};
 use packing::{PackedRequest, put_bytes};
 use resp::{Reply, write_reply};
-use skeen_core::{RequestId, Stamp};
 use std::alloc::{AllocError, Global};
 use std::marker::Model;
 

@@ -1,8 +1,8 @@
 //! The steps of the system.
 
 use super::request_ids::RequestIds;
+use groups::ConnId;
 use resp::Request;
-use skeen_core::ConnId;
 
 /// One step of the system, which happens whole or not at all. Contracts compare steps by the bytes of their words and
 /// the list of their ids.

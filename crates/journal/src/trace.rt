@@ -4,12 +4,12 @@ ghost use Rattle.std.specs.Prelude.{◌≡◌, ℕ, ◌≤◌, ◌<◌, ◌^◌,
 ghost use Rattle.std.specs.List.{AllByRecursion};
 ghost use Rattle.journal.specs.Codes.{step_size, steps_size, StepFits};
 ghost use Rattle.journal.specs.declared.step.Step.{Step};
-ghost use Rattle.skeen_core.specs.declared.request.RequestId.{RequestId};
+ghost use Rattle.groups.specs.declared.request.RequestId.{RequestId};
 
 use super::codes::{put_step, reserve_step, size_of_run, take_step};
 use super::step::Step;
+use groups::ConnId;
 use packing::{PackedWords, number_size};
-use skeen_core::ConnId;
 use std::alloc::{AllocError, Global};
 use std::marker::Model;
 

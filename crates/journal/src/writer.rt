@@ -6,9 +6,9 @@ ghost use Rattle.journal.specs.TraceText.{word_text, id_text, step_line, ended, 
 
 use super::step::Step;
 use super::trace::{Steps, Trace};
+use groups::RequestId;
 use itoa::Buffer;
 use resp::Request;
-use skeen_core::RequestId;
 use std::alloc::{AllocError, Global};
 
 /// Appends the trace's text, which spells the trace. With `AllocError`, where there is no memory for all of it, `out`

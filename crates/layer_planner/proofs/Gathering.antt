@@ -3,7 +3,7 @@ use Rattle.std.proofs.Common.{◌≡◌, ℕ, ◌==◌, ◌||◌, Bool, true, fa
 use Rattle.std.proofs.lemmas.Bool.{both_ways}
 use Rattle.groups.specs.GroupSet.{has, with_group}
 use Rattle.groups.specs.GroupSetLaws.{has-with}
-use Rattle.skeen_core.specs.Order.{In}
+use Rattle.groups.specs.Order.{In}
 use Rattle.layer_planner.specs.Layers.{Apart, ShareNoGroup}
 use Rattle.layer_planner.specs.declared.job.Job.{Job}
 

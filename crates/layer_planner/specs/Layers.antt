@@ -1,7 +1,7 @@
 -- Layers: lists of jobs that share no group.
 use Rattle.std.specs.Prelude.{◌≡◌, ℕ, true, false, List, [], ◌∷◌}
 use Rattle.groups.specs.GroupSet.{has}
-use Rattle.skeen_core.specs.Order.{In}
+use Rattle.groups.specs.Order.{In}
 use Rattle.layer_planner.specs.declared.job.Job.{Job}
 
 -- no group is in both sets

@@ -1,8 +1,7 @@
 //! A request that is to be run.
 
 use command_table::Command;
-use groups::Groups;
-use skeen_core::{RequestId, Stamp};
+use groups::{Groups, RequestId, Stamp};
 
 /// A delivered request with its command: its id, its final stamp, and the groups on which its keys lie.
 #[derive(Drop)]

@@ -2,10 +2,10 @@
 
 use crate::jobs::{job, layer, run, text, two_shards};
 use crate::trouble::Trouble;
+use groups::RequestId;
 use layer_planner::Layer;
 use placement::Table;
 use shard_exec::{Crew, ExecFault, Gate, InTurn, Open, Part, Ran, Refused, Room, Store, Workers};
-use skeen_core::RequestId;
 use std::alloc::{AllocError, Global};
 use std::num::NonZeroUsize;
 use std::sync::atomic::{AtomicBool, Ordering};

@@ -2,11 +2,11 @@
 
 use crate::trouble::Trouble;
 use command_table::read;
+use groups::{ConnId, RequestId, Stamp};
 use layer_planner::{Job, Layer};
 use placement::{GroupId, Table};
 use resp::{Request, write_reply};
 use shard_exec::{Ended, Gate, InTurn, Open, Store, Workers};
-use skeen_core::{ConnId, RequestId, Stamp};
 use std::alloc::Global;
 use std::process::Abort;
 

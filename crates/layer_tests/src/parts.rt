@@ -2,9 +2,8 @@
 ghost use Rattle.std.specs.Prelude.{◌<◌};
 
 use command_table::{Command, LocalCommand};
-use groups::{GroupId, Groups};
+use groups::{ConnId, GroupId, Groups, RequestId, Stamp};
 use layer_planner::{Job, Layer, plan};
-use skeen_core::{ConnId, RequestId, Stamp};
 use std::alloc::{AllocError, Global};
 use std::num::NonZeroUsize;
 use std::test::Fail;

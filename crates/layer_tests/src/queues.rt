@@ -1,12 +1,12 @@
 //! Two requests of which the second waits behind the first.
 ghost use Rattle.std.specs.Prelude.{◌≡◌, true, false, length, IfOk};
 ghost use Rattle.groups.specs.GroupSet.{has};
-ghost use Rattle.skeen_core.specs.Request.{same_id};
-ghost use Rattle.skeen_core.specs.Stamp.{stamp_lt};
+ghost use Rattle.groups.specs.Request.{same_id};
+ghost use Rattle.groups.specs.Stamp.{stamp_lt};
 
 use delivery::Queues;
-use groups::{GroupId, Groups};
-use skeen_core::{ConnId, Delivered, RequestId, Stamp};
+use groups::{ConnId, GroupId, Groups, RequestId, Stamp};
+use skeen_core::Delivered;
 use std::alloc::{AllocError, Global};
 use std::test::Fail;
 

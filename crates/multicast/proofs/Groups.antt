@@ -3,7 +3,7 @@ use Rattle.std.proofs.Common.{◌≡◌, ℕ, zero, suc, ◌<◌, ◌≤◌, ◌
 use Rattle.std.proofs.Common.{[], ◌∷◌, length, slice_get, slice_set}
 use Rattle.std.proofs.Common.{slice_index_or, Option, Some, None, inl, inr, refl, sym, ap, ◌∙◌, arith, eq-eqb, eqb-true, ne_eqb}
 use Rattle.std.proofs.lemmas.Bool.{cases_lt, cases_Bool, both_ways}
-use Rattle.skeen_core.proofs.Lawful.{some_same}
+use Rattle.groups.proofs.Options.{some_same}
 use Rattle.std.specs.FinMap.{get}
 use Rattle.multicast.specs.Multicast.{at, group_of, starts_to, sends_at_most}
 use Rattle.skeen_core.specs.Group.{GroupState, GroupView, fresh, next_clock, tell, ReceivesStart, Receives}
@@ -11,7 +11,7 @@ use Rattle.skeen_core.specs.declared.packet.Body.{Body}
 use Rattle.skeen_core.specs.declared.packet.Body.TheVariants.{Start, Proposal}
 use Rattle.skeen_core.specs.declared.packet.Delivered.{Delivered}
 use Rattle.skeen_core.specs.declared.packet.Packet.{Packet}
-use Rattle.skeen_core.specs.declared.request.RequestId.{RequestId}
+use Rattle.groups.specs.declared.request.RequestId.{RequestId}
 
 -- what stands at a place, and beyond the last
 pub found : {X : Type 0} (xs : List X) (g : ℕ) (x d : X) → slice_get xs g ≡ Some x → slice_index_or xs g d ≡ x

@@ -7,7 +7,7 @@ use Rattle.skeen_core.specs.declared.packet.Body.{Body}
 use Rattle.skeen_core.specs.declared.packet.Body.TheVariants.{Start, Proposal}
 use Rattle.skeen_core.specs.declared.packet.Delivered.{Delivered}
 use Rattle.skeen_core.specs.declared.packet.Packet.{Packet}
-use Rattle.skeen_core.specs.declared.request.RequestId.{RequestId}
+use Rattle.groups.specs.declared.request.RequestId.{RequestId}
 
 -- the groups by their numbers, the packets under way in order of sending, each group's queue, and how many more packets
 -- fit without memory

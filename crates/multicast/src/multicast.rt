@@ -12,8 +12,8 @@ ghost use Rattle.multicast.specs.Multicast.{at, group_of, sends_at_most, IsSame,
 ghost use Rattle.multicast.specs.Multicast.{LosesLayer};
 
 use delivery::Queues;
-use groups::{GroupId, Groups};
-use skeen_core::{Body, Delivered, Group, Links, Packet, RequestId};
+use groups::{GroupId, Groups, RequestId};
+use skeen_core::{Body, Delivered, Group, Links, Packet};
 use std::alloc::{AllocError, Global};
 use std::marker::Model;
 use thiserror::Error;

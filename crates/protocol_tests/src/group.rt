@@ -1,8 +1,8 @@
 //! What happens packet by packet, with the clocks worked out by hand from the rule.
 ghost use Rattle.std.specs.Prelude.{◌<◌};
 
-use groups::{GroupId, Groups};
-use skeen_core::{Body, ConnId, Delivered, Group, Links, Packet, RequestId, Stamp};
+use groups::{ConnId, GroupId, Groups, RequestId, Stamp};
+use skeen_core::{Body, Delivered, Group, Links, Packet};
 use std::alloc::Global;
 use std::process::Abort;
 use std::test::Fail;

@@ -1,10 +1,9 @@
 //! What no clause says: known texts, and that the calls succeed where there is memory.
 
-use groups::GroupId;
+use groups::{ConnId, GroupId, RequestId, Stamp};
 use journal::{Rows, Step, Trace, TraceFault, read_back, read_trace, write_trace};
 use packing::PackedRequest;
 use resp::{Reply, Request};
-use skeen_core::{ConnId, RequestId, Stamp};
 use std::alloc::{AllocError, Global};
 use std::test::Fail;
 

@@ -14,11 +14,11 @@ use Rattle.replay.specs.Replay.{IsRefusal, IsRefusedAt, StandsAt, IsFaultOf, IsR
 use Rattle.replay.specs.declared.fault.ReplayFault.{ReplayFault}
 use Rattle.replay.specs.declared.fault.ReplayFault.TheVariants as replay
 use Rattle.std.specs.Option.{MatchOption}
-use Rattle.skeen_core.proofs.Ids.{same_id-true}
-use Rattle.skeen_core.specs.Order.{In}
-use Rattle.skeen_core.specs.Request.{same_id}
+use Rattle.groups.proofs.Ids.{same_id-true}
+use Rattle.groups.specs.Order.{In}
+use Rattle.groups.specs.Request.{same_id}
 use Rattle.skeen_core.specs.declared.packet.Delivered.{Delivered}
-use Rattle.skeen_core.specs.declared.request.RequestId.{RequestId}
+use Rattle.groups.specs.declared.request.RequestId.{RequestId}
 use Rattle.system.proofs.Histories.{leads_more}
 use Rattle.system.specs.Parts.{StarvesNamed, effect_shown, stored}
 use Rattle.system.specs.System.{SystemView, IsStep, IsRefused}

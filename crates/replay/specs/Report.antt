@@ -12,8 +12,8 @@ use Rattle.hex.specs.Hex.{encode_lower}
 use Rattle.journal.specs.TraceText.{id_text}
 use Rattle.keyspace.specs.Map.{Map}
 use Rattle.resp.specs.Text.{text}
-use Rattle.skeen_core.specs.declared.request.RequestId.{RequestId}
-use Rattle.skeen_core.specs.declared.stamp.Stamp.{Stamp}
+use Rattle.groups.specs.declared.request.RequestId.{RequestId}
+use Rattle.groups.specs.declared.stamp.Stamp.{Stamp}
 use Rattle.world.specs.Steps.{starved_among}
 use Rattle.world.specs.World.{World}
 use Rattle.world_laws.specs.Headline.{rows_of}

@@ -6,9 +6,9 @@ ghost use Rattle.journal.specs.TraceText.{id_text};
 ghost use Rattle.replay.specs.Report.{line_of, starved_line, stamp_text};
 
 use command_table::{Command, name};
+use groups::{RequestId, Stamp};
 use itoa::Buffer;
 use journal::Row;
-use skeen_core::{RequestId, Stamp};
 use std::alloc::{AllocError, Global};
 
 /// Appends the line of an executed request, which is this command.

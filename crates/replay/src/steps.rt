@@ -4,7 +4,7 @@ ghost use Rattle.std.specs.Prelude.{◌≡◌, ℕ, ◌++◌, ◌∷◌, List, [
 ghost use Rattle.std.specs.List.{AllByRecursion};
 ghost use Rattle.journal.specs.declared.step.Step.{Step};
 ghost use Rattle.placement.specs.Layout.{Layout};
-ghost use Rattle.skeen_core.specs.declared.request.RequestId.{RequestId};
+ghost use Rattle.groups.specs.declared.request.RequestId.{RequestId};
 ghost use Rattle.system.specs.declared.effect.Effect.{Effect};
 ghost use Rattle.world.specs.Steps.{names};
 ghost use Rattle.replay.specs.Replay.{IsReport, IsFaultOf, IsRefusalOf, StandsAt, named_in};
@@ -12,10 +12,10 @@ ghost use Rattle.replay.specs.Replay.{IsReport, IsFaultOf, IsRefusalOf, StandsAt
 use crate::fault::ReplayFault;
 use crate::progress::{Progress, Unwatched};
 use crate::report::{Report, report_of};
+use groups::RequestId;
 use journal::{Step, Steps, Trace};
 use placement::Table;
 use shard_exec::{Open, Workers};
-use skeen_core::RequestId;
 use std::alloc::{AllocError, Global};
 use system::{Effect, StepFault, System};
 

@@ -1,11 +1,10 @@
 //! That the comparison with one thread on one map is really made.
 
-use groups::GroupId;
+use groups::{ConnId, GroupId, RequestId, Stamp};
 use journal::Rows;
 use packing::PackedRequest;
 use replay::compared;
 use resp::{Reply, Request};
-use skeen_core::{ConnId, RequestId, Stamp};
 use std::alloc::{AllocError, Global};
 use std::test::Fail;
 

@@ -5,8 +5,8 @@ use Rattle.router.specs.declared.connection.Connection.{Connection}
 use Rattle.router.specs.declared.connection.Standing.{Standing}
 use Rattle.router.specs.declared.connection.Standing.TheVariants.{Idle, Waiting, Taken, Answered}
 use Rattle.router.specs.declared.outcome.Outcome.{Outcome}
-use Rattle.skeen_core.specs.declared.request.RequestId.{RequestId}
-use Rattle.skeen_core.specs.declared.stamp.Stamp.{Stamp}
+use Rattle.groups.specs.declared.request.RequestId.{RequestId}
+use Rattle.groups.specs.declared.stamp.Stamp.{Stamp}
 
 -- what became of a request: what it is answered, and its final stamp if it addressed a group
 pub record Answer : Type 0 where

@@ -18,7 +18,7 @@ use Rattle.router.specs.declared.submission.Submission.{Submission}
 use Rattle.router.specs.declared.submission.SubmitFault.{SubmitFault}
 use Rattle.router.specs.declared.submission.SubmitFault.TheVariants.{Busy, NoConn, Memory}
 use Rattle.router.specs.declared.router.Idle.{Idle as Known}
-use Rattle.skeen_core.specs.declared.request.RequestId.{RequestId}
+use Rattle.groups.specs.declared.request.RequestId.{RequestId}
 
 -- the groups that words address: those of the command that they say
 abbrev pub groups_by : Layout → Result Command Refusal → List ℕ

@@ -1,7 +1,7 @@
 //! What becomes of a request.
 
+use groups::{RequestId, Stamp};
 use resp::Reply;
-use skeen_core::{RequestId, Stamp};
 
 /// What became of a request: its reply, and its final stamp. A request that addressed no group has no stamp.
 #[derive(Drop)]

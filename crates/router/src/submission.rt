@@ -1,7 +1,6 @@
 //! What a submit answers.
 
-use groups::Groups;
-use skeen_core::RequestId;
+use groups::{Groups, RequestId};
 use thiserror::Error;
 
 /// A request that was submitted: its id, the floor above which each proposal for it has to stand, and the groups that

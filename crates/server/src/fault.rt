@@ -3,7 +3,7 @@
 ghost use Rattle.std.specs.Prelude.{◌≡◌};
 ghost use Rattle.server.specs.Asks.{told, lasting};
 
-use skeen_core::ConnId;
+use groups::ConnId;
 use system::StepFault;
 use thiserror::Error;
 

@@ -1,6 +1,6 @@
 //! A turnstile, which one connection passes at a time.
 
-use skeen_core::ConnId;
+use groups::ConnId;
 use std::sync::atomic::{AtomicBool, AtomicU64, Ordering};
 use std::sync::{Condvar, Mutex, Wait};
 use std::thread;

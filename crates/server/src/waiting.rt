@@ -1,6 +1,6 @@
 //! Where seats wait for what comes of their requests.
 
-use skeen_core::ConnId;
+use groups::ConnId;
 use std::array;
 use std::sync::atomic::{AtomicU64, Ordering};
 use std::sync::{Condvar, MutexGuard, Wait};

@@ -13,7 +13,7 @@ use Rattle.layer_planner.specs.PartLaws.{each_place_once}
 use Rattle.layer_planner.specs.Parts.{dealt}
 use Rattle.placement.specs.Layout.{Layout}
 use Rattle.shard_maps.proofs.Parts.{AllZip-from_places}
-use Rattle.skeen_core.specs.Order.{In}
+use Rattle.groups.specs.Order.{In}
 use Rattle.shard_exec.specs.declared.part.Part.{Part}
 use Rattle.shard_exec.specs.declared.work.Work.{Work}
 use Rattle.shard_exec.specs.declared.work.Ran.{Ran}

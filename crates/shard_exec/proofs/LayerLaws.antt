@@ -21,9 +21,9 @@ use Rattle.shard_maps.proofs.Spans.{numbers-span_at}
 use Rattle.shard_maps.specs.Joined.{map_of_shard, HasKeysOf, HasOwnKeys, union, Span, numbers, span_at, SpanHasOwnKeys, SpanRan}
 use Rattle.shard_maps.specs.Layer as layers
 use Rattle.shard_maps.specs.Rows.{taken_out, taken_out_each, emptied, emptied_each, put_span, put_spans}
-use Rattle.skeen_core.specs.declared.request.RequestId.{RequestId}
-use Rattle.skeen_core.specs.declared.stamp.Stamp.{Stamp}
-use Rattle.skeen_core.specs.Order.{In}
+use Rattle.groups.specs.declared.request.RequestId.{RequestId}
+use Rattle.groups.specs.declared.stamp.Stamp.{Stamp}
+use Rattle.groups.specs.Order.{In}
 use Rattle.values.specs.declared.Value.{Value}
 use Rattle.shard_exec.specs.declared.work.Work.{Work}
 use Rattle.shard_exec.specs.declared.work.Ran.{Ran}

@@ -11,8 +11,8 @@ use Rattle.placement.specs.Layout.{Layout}
 use Rattle.resp.specs.Content.{Content}
 use Rattle.shard_maps.specs.Joined.{joined, Span, union, span_at, HasOwnKeys}
 use Rattle.shard_maps.specs.Layer.{LayerRan, AnsweredInTurn}
-use Rattle.skeen_core.specs.Request.{same_id}
-use Rattle.skeen_core.specs.declared.request.RequestId.{RequestId}
+use Rattle.groups.specs.Request.{same_id}
+use Rattle.groups.specs.declared.request.RequestId.{RequestId}
 use Rattle.shard_exec.specs.declared.done.Ended.{Ended}
 use Rattle.shard_exec.specs.declared.work.Work.{Work}
 use Rattle.shard_exec.specs.declared.work.Ran.{Ran}

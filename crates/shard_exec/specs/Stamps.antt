@@ -4,8 +4,8 @@ use Rattle.std.specs.List.{AllByRecursion}
 use Rattle.groups.specs.GroupSet.{has}
 use Rattle.layer_planner.specs.declared.job.Job.{Job}
 use Rattle.shard_maps.specs.Joined.{numbers}
-use Rattle.skeen_core.specs.Stamp.{stamp_lt}
-use Rattle.skeen_core.specs.declared.stamp.Stamp.{Stamp}
+use Rattle.groups.specs.Stamp.{stamp_lt}
+use Rattle.groups.specs.declared.stamp.Stamp.{Stamp}
 use Rattle.shard_exec.specs.declared.work.Ran.{Ran}
 
 -- the last stamp of a shard; none before the first

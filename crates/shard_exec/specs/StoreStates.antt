@@ -6,8 +6,8 @@ use Rattle.keyspace.specs.Map.{Map}
 use Rattle.placement.specs.contracts.table.Table as table
 use Rattle.placement.specs.Layout.{Layout, IsTable}
 use Rattle.shard_maps.specs.Joined.{HasOwnKeys}
-use Rattle.skeen_core.specs.contracts.stamp.Stamp as stamp
-use Rattle.skeen_core.specs.declared.stamp.Stamp.{Stamp}
+use Rattle.groups.specs.contracts.stamp.Stamp as stamp
+use Rattle.groups.specs.declared.stamp.Stamp.{Stamp}
 use Rattle.values.specs.contracts.Value as value
 
 -- where keys lie, the map of each shard, its last stamp (none before the first), and whether a worker's start was

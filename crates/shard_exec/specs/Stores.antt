@@ -4,8 +4,8 @@ use Rattle.std.specs.FinMap.{empty}
 use Rattle.std.proofs.Math.ListN.{replicate}
 use Rattle.layer_planner.specs.declared.job.Job.{Job}
 use Rattle.placement.specs.Layout.{Layout}
-use Rattle.skeen_core.specs.declared.request.RequestId.{RequestId}
-use Rattle.skeen_core.specs.declared.stamp.Stamp.{Stamp}
+use Rattle.groups.specs.declared.request.RequestId.{RequestId}
+use Rattle.groups.specs.declared.stamp.Stamp.{Stamp}
 use Rattle.shard_exec.specs.declared.done.Ended.{Ended}
 use Rattle.shard_exec.specs.declared.done.ExecFault.{ExecFault}
 use Rattle.shard_exec.specs.declared.done.ExecFault.TheVariants.{Stale, Memory, Failed}

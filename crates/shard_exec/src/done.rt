@@ -1,8 +1,8 @@
 //! What comes of a layer.
 
+use groups::{RequestId, Stamp};
 use layer_planner::Layer;
 use resp::Reply;
-use skeen_core::{RequestId, Stamp};
 
 /// A request that was run, with its reply, or that starved: then there is none.
 #[derive(Drop)]

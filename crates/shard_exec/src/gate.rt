@@ -1,6 +1,6 @@
 //! What stands round each request's execution: for tests that watch or hold it.
 
-use skeen_core::RequestId;
+use groups::RequestId;
 
 /// Is told of each request before it is run and when it has run, by the worker that runs it.
 ///

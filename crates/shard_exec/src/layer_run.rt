@@ -15,11 +15,10 @@ use crate::layer_room::LayerRoom;
 use crate::taking::{put_layer, put_ran, take_layer, take_work};
 use crate::works::run_works;
 use crate::{Ended, Gate, Refused, Workers};
-use groups::GroupId;
+use groups::{GroupId, RequestId, Stamp};
 use layer_planner::Job;
 use placement::Table;
 use shards::{Shard, ShardHasher};
-use skeen_core::{RequestId, Stamp};
 use std::alloc::Global;
 
 /// Runs the requests of a layer, each over the shards of its groups, and tells what became of each. With `Refused` the

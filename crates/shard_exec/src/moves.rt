@@ -8,9 +8,8 @@ ghost use Rattle.shard_maps.specs.Joined.{numbers};
 ghost use Rattle.shard_maps.specs.Rows.{taken_out, emptied, put_span};
 ghost use Rattle.shard_exec.specs.Stamps.{raise};
 
-use groups::{GroupId, Groups};
+use groups::{GroupId, Groups, Stamp};
 use shards::{Shard, ShardHasher};
-use skeen_core::Stamp;
 use std::alloc::Global;
 use std::mem;
 

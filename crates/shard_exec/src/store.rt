@@ -18,10 +18,10 @@ use crate::layer_room::LayerRoom;
 use crate::layer_run::{run_alone, run_layer_over};
 use crate::{Ended, ExecFault, Gate, Workers};
 use dumps::Dump;
+use groups::{RequestId, Stamp};
 use layer_planner::{Job, Layer};
 use placement::Table;
 use shards::{Shard, ShardHasher};
-use skeen_core::{RequestId, Stamp};
 use std::alloc::{AllocError, Global};
 use std::marker::Model;
 

@@ -11,10 +11,9 @@ ghost use Rattle.shard_exec.specs.Stamps.{raise, raised_by};
 
 use crate::moves::{put_back, take_shards};
 use crate::{Ended, Ran, Work};
-use groups::GroupId;
+use groups::{GroupId, RequestId, Stamp};
 use layer_planner::Job;
 use shards::{Shard, ShardHasher};
-use skeen_core::{RequestId, Stamp};
 use std::alloc::Global;
 
 /// Takes the shards of each request out of the row. It takes no memory.

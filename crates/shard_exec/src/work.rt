@@ -12,12 +12,11 @@ use crate::Gate;
 use command_bodies::execute;
 use command_cases::Starved;
 use command_table::Command;
-use groups::GroupId;
+use groups::{GroupId, RequestId, Stamp};
 use layer_planner::Job;
 use placement::Table;
 use resp::Reply;
 use shards::{Shard, Span, SpanFrame};
-use skeen_core::{RequestId, Stamp};
 use std::alloc::Global;
 use std::marker::Brand;
 

@@ -13,7 +13,7 @@ use Rattle.keyspace.specs.Map.{Map}
 use Rattle.placement.specs.Groups.{groups_of}
 use Rattle.placement.specs.Layout.{Layout, IsTable, shard_of}
 use Rattle.resp.specs.Content.{Content}
-use Rattle.skeen_core.specs.Order.{In}
+use Rattle.groups.specs.Order.{In}
 use Rattle.shard_maps.proofs.Joins.{get-joined}
 use Rattle.shard_maps.proofs.Rows.{picked-alike}
 use Rattle.shard_maps.proofs.Steps.{at_member, span_is_joined}

@@ -13,7 +13,7 @@ use Rattle.keyspace.specs.Map.{Map}
 use Rattle.placement.specs.Groups.{groups_of, has_key_on}
 use Rattle.placement.specs.Layout.{Layout}
 use Rattle.resp.specs.Content.{Content}
-use Rattle.skeen_core.specs.Order.{In}
+use Rattle.groups.specs.Order.{In}
 use Rattle.shard_maps.proofs.Layers.{layer_in_turn}
 use Rattle.shard_maps.proofs.Parts.{AllZip-gathered}
 use Rattle.shard_maps.proofs.Rows.{length-put_span, at-put_spans, picked-alike, picked-put_span, at-emptied, taken_out-picked}

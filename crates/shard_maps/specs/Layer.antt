@@ -11,7 +11,7 @@ use Rattle.placement.specs.Groups.{groups_of}
 use Rattle.placement.specs.Layout.{Layout}
 use Rattle.resp.specs.Content.{Content, content}
 use Rattle.resp.specs.declared.reply.Reply.{Reply}
-use Rattle.skeen_core.specs.Order.{In}
+use Rattle.groups.specs.Order.{In}
 use Rattle.shard_maps.specs.Joined.{map_of_shard, Span, span_at, SpanRan}
 use Rattle.shard_maps.specs.Rows.{put_spans, emptied_each}
 

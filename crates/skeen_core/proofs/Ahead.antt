@@ -4,15 +4,15 @@ use Rattle.std.proofs.Common.{refl, sym, ap, ◌∙◌, subst, arith, eqb-true, 
 use Rattle.std.proofs.lemmas.Bool.{both_ways, cases_Bool, and_parts}
 use Rattle.std.specs.FinMap.{get}
 use Rattle.groups.specs.GroupSet.{has}
-use Rattle.skeen_core.specs.declared.stamp.Stamp.{Stamp}
-use Rattle.skeen_core.specs.declared.request.RequestId.{RequestId}
+use Rattle.groups.specs.declared.stamp.Stamp.{Stamp}
+use Rattle.groups.specs.declared.request.RequestId.{RequestId}
 use Rattle.skeen_core.specs.declared.packet.Packet.{Packet}
 use Rattle.skeen_core.specs.declared.packet.Body.{Body}
 use Rattle.skeen_core.specs.declared.packet.Body.TheVariants.{Start, Proposal}
 use Rattle.skeen_core.specs.declared.packet.Delivered.{Delivered}
-use Rattle.skeen_core.specs.Order.{In}
-use Rattle.skeen_core.specs.Stamp.{stamp_lt, final}
-use Rattle.skeen_core.specs.Request.{same_id}
+use Rattle.groups.specs.Order.{In}
+use Rattle.groups.specs.Stamp.{stamp_lt, final}
+use Rattle.groups.specs.Request.{same_id}
 use Rattle.skeen_core.specs.Group.{GroupState, fresh, heard, or_zero, own_at, next_clock, with_start, with_proposal, final_of, lifted}
 use Rattle.skeen_core.specs.Group.{MayGo, Ascending, Delivers, Delivering, has_id, without, tell, ReceivesStart, Receives, BodyMayCome}
 use Rattle.skeen_core.specs.Group.{MayCome}
@@ -20,9 +20,9 @@ use Rattle.skeen_core.specs.Lawful.{Sound, Lawful}
 use Rattle.skeen_core.specs.Due.{place_by}
 use Rattle.skeen_core.specs.Runs.{Receipt, ReceivesInTurn, log, ClockNeverFalls, TellsAtMost, ClockIsAboveStamps, DeliveriesAscend}
 use Rattle.skeen_core.specs.Runs.{DeliveredIsForgotten, RepeatsChangeNothing, RuleDetermines}
-use Rattle.skeen_core.proofs.Ids.{same_id-true, same_id-refl}
-use Rattle.skeen_core.proofs.Lists.{In-append}
-use Rattle.skeen_core.proofs.Stamps.{lt_irrefl, lt_asym, lt_le, le_lt, lt_from_clocks, final_above, final_within}
+use Rattle.groups.proofs.Ids.{same_id-true, same_id-refl}
+use Rattle.groups.proofs.Lists.{In-append}
+use Rattle.groups.proofs.Stamps.{lt_irrefl, lt_asym, lt_le, le_lt, lt_from_clocks, final_above, final_within}
 use Rattle.skeen_core.proofs.Finite.{heard-with_start, heard-with_proposal, started-without, heard-without}
 use Rattle.skeen_core.proofs.Lawful.{None≢Some, same_final, lift_grows, lawful_fresh, SameBut, but_start, but_proposal, own_stays}
 use Rattle.skeen_core.proofs.Lawful.{sound_start, sound_proposal, lawful_without, without_none, same_proposal, same_lifted, id_there}

@@ -3,14 +3,14 @@ use Rattle.std.proofs.Common.{◌≡◌, ℕ, ◌==◌, ◌&&◌, ◌||◌, Bool
 use Rattle.std.proofs.Common.{is_some, length, refl, sym, ap, ◌∙◌, subst, eq-eqb}
 use Rattle.std.proofs.lemmas.Bool.{both_ways, or_cases, and_parts}
 use Rattle.std.specs.FinMap.{get}
-use Rattle.skeen_core.specs.declared.request.RequestId.{RequestId}
+use Rattle.groups.specs.declared.request.RequestId.{RequestId}
 use Rattle.skeen_core.specs.declared.kept.Started.{Started}
 use Rattle.skeen_core.specs.declared.kept.Heard.{Heard}
-use Rattle.skeen_core.specs.Order.{In}
-use Rattle.skeen_core.specs.Request.{same_id}
+use Rattle.groups.specs.Order.{In}
+use Rattle.groups.specs.Request.{same_id}
 use Rattle.skeen_core.specs.Group.{heard, EachOnce, CountsKept}
 use Rattle.skeen_core.specs.Kept.{state_of, clock_in, names, ids_of, IsKept}
-use Rattle.skeen_core.proofs.Ids.{same_id-true, eq-same_id, same_id-sym}
+use Rattle.groups.proofs.Ids.{same_id-true, eq-same_id, same_id-sym}
 use Rattle.skeen_core.proofs.Finite.{heard-state_of}
 
 some_either : (b : Bool) (n : ℕ) (o : Option ℕ) → IsSome o → IsSome (cond b (Some n) o)

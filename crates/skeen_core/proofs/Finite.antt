@@ -3,14 +3,14 @@ use Rattle.std.proofs.Common.{◌≡◌, ℕ, ◌+◌, ◌==◌, ◌&&◌, lengt
 use Rattle.std.proofs.Common.{None, refl, sym, ap, ◌∙◌}
 use Rattle.std.specs.FinMap.{get, insert, find, len, len-empty, len-insert, get-empty, get-insert, get-retain_keys, get-from_entries}
 use Rattle.std.specs.FinMap.{same_map}
-use Rattle.skeen_core.specs.declared.request.RequestId.{RequestId}
+use Rattle.groups.specs.declared.request.RequestId.{RequestId}
 use Rattle.skeen_core.specs.declared.packet.Delivered.{Delivered}
 use Rattle.skeen_core.specs.declared.kept.Started.{Started}
 use Rattle.skeen_core.specs.declared.kept.Heard.{Heard}
-use Rattle.skeen_core.specs.Request.{same_id, id_cmp, Source, source_cmp}
+use Rattle.groups.specs.Request.{same_id, id_cmp, Source, source_cmp}
 use Rattle.skeen_core.specs.Group.{GroupState, fresh, heard, next_clock, with_start, with_proposal, without, has_id}
 use Rattle.skeen_core.specs.Kept.{starts_of, clocks_of, state_of, groups_in, clock_in, Once}
-use Rattle.skeen_core.proofs.Ids.{id_total, source_total, id_antisym, source_antisym, id_tied, source_tied}
+use Rattle.groups.proofs.Ids.{id_total, source_total, id_antisym, source_antisym, id_tied, source_tied}
 
 -- ---- the rule's changes
 

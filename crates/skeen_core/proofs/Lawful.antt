@@ -4,16 +4,17 @@ use Rattle.std.proofs.Common.{sym, ap, ◌∙◌, subst, arith, inl, inr, eqb-tr
 use Rattle.std.proofs.lemmas.Bool.{both_ways, cases_Bool, and_parts, or_cases}
 use Rattle.std.specs.FinMap.{get}
 use Rattle.groups.specs.GroupSet.{has}
-use Rattle.skeen_core.specs.declared.stamp.Stamp.{Stamp}
-use Rattle.skeen_core.specs.declared.request.RequestId.{RequestId}
+use Rattle.groups.specs.declared.stamp.Stamp.{Stamp}
+use Rattle.groups.specs.declared.request.RequestId.{RequestId}
 use Rattle.skeen_core.specs.declared.packet.Delivered.{Delivered}
-use Rattle.skeen_core.specs.Order.{In}
-use Rattle.skeen_core.specs.Stamp.{stamp_lt, final}
-use Rattle.skeen_core.specs.Request.{same_id}
+use Rattle.groups.specs.Order.{In}
+use Rattle.groups.specs.Stamp.{stamp_lt, final}
+use Rattle.groups.specs.Request.{same_id}
 use Rattle.skeen_core.specs.Group.{GroupState, fresh, heard, or_zero, next_clock, with_start, with_proposal, final_of, lift, lifted, MayGo}
 use Rattle.skeen_core.specs.Group.{Delivers, has_id, without}
 use Rattle.skeen_core.specs.Lawful.{Sound, Lawful}
-use Rattle.skeen_core.proofs.Ids.{same_id-true, eq-same_id}
+use Rattle.groups.proofs.Ids.{same_id-true, eq-same_id}
+use Rattle.groups.proofs.Options.{some_same}
 use Rattle.skeen_core.proofs.Finite.{started-fresh, heard-fresh, started-with_start, heard-with_start, heard-with_proposal, started-without}
 use Rattle.skeen_core.proofs.Finite.{heard-without, same_state}
 
@@ -85,9 +86,6 @@ tops_lifted me old new id sound but i gs s there settled = elim (cases_Bool (sam
       let before = sound.tops i gs s (sym (but.started i e) ∙ there) (sym (same_final new old i gs (λ g. but.heard i g e)) ∙ settled) in
       let grown = but.clock in let lifts = lift_grows new.clock (final_of new id (get new.started id)) in omega arith
 ]
-
-pub some_same : {X : Type 0} (x y : X) → Some x ≡ Some y → x ≡ y
-some_same x y e = cc
 
 -- ---- a Start
 

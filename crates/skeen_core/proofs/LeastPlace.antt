@@ -3,16 +3,16 @@ use Rattle.std.proofs.Common.{◌≡◌, ℕ, ◌+◌, ◌<◌, ◌≤◌, Bool,
 use Rattle.std.proofs.Common.{MatchOption, length, take, get_or, refl, sym, ap, ◌∙◌, subst, arith}
 use Rattle.std.proofs.lemmas.Bool.{both_ways, cases_Bool}
 use Rattle.std.proofs.lemmas.List.{take_more}
-use Rattle.skeen_core.specs.declared.stamp.Stamp.{Stamp}
+use Rattle.groups.specs.declared.stamp.Stamp.{Stamp}
 use Rattle.skeen_core.specs.declared.packet.Delivered.{Delivered}
 use Rattle.skeen_core.specs.declared.kept.Started.{Started}
-use Rattle.skeen_core.specs.Order.{In}
-use Rattle.skeen_core.specs.Stamp.{stamp_lt}
+use Rattle.groups.specs.Order.{In}
+use Rattle.groups.specs.Stamp.{stamp_lt}
 use Rattle.skeen_core.specs.Group.{Ascending}
 use Rattle.skeen_core.specs.Due.{place_by, place, is_above, is_before, NoneAbove, IsNext, PlacesDiffer, BelowOpen, delivered_as, settled_as}
 use Rattle.skeen_core.specs.Due.{settled, IsOf, IsDue}
-use Rattle.skeen_core.proofs.Lists.{In-left, In-last, In-end}
-use Rattle.skeen_core.proofs.Stamps.{lt_irrefl, lt_asym, lt_trans, le_trans, le_lt, le_antisym}
+use Rattle.groups.proofs.Lists.{In-left, In-last, In-end}
+use Rattle.groups.proofs.Stamps.{lt_irrefl, lt_asym, lt_trans, le_trans, le_lt, le_antisym}
 
 -- ---- the search for the least place
 

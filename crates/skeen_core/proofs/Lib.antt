@@ -1,8 +1,5 @@
-pub mod Stamps
-pub mod Ids
 pub mod Finite
 pub mod Lawful
-pub mod Lists
 pub mod LeastPlace
 pub mod Representation
 pub mod Steps

@@ -2,18 +2,18 @@
 use Rattle.std.proofs.Common.{◌≡◌, ◌≢◌, ◌↔◌, IsTrue, ℕ, ◌==◌, ◌&&◌, ◌||◌, nat_le, not, Bool, true, false, cond, List, [], ◌∷◌, inl}
 use Rattle.std.proofs.Common.{inr, Option, Some, None, refl, sym, ap, ◌∙◌, eqb-true, eq-eqb, ne_eqb}
 use Rattle.std.proofs.lemmas.Bool.{both_ways, cases_Bool, or_cases, and_parts, and_from, leb-true, le-leb}
-use Rattle.skeen_core.specs.declared.request.RequestId.{RequestId}
+use Rattle.groups.specs.declared.request.RequestId.{RequestId}
 use Rattle.skeen_core.specs.declared.packet.Packet.{Packet}
 use Rattle.skeen_core.specs.declared.packet.Body.{Body}
 use Rattle.skeen_core.specs.declared.packet.Body.TheVariants.{Start, Proposal}
 use Rattle.skeen_core.specs.declared.kept.Started.{Started}
 use Rattle.skeen_core.specs.declared.kept.Heard.{Heard}
-use Rattle.skeen_core.specs.Order.{In}
-use Rattle.skeen_core.specs.Request.{same_id}
+use Rattle.groups.specs.Order.{In}
+use Rattle.groups.specs.Request.{same_id}
 use Rattle.skeen_core.specs.Group.{BodyMayCome, MayCome}
 use Rattle.skeen_core.specs.Kept.{state_of, clock_in}
 use Rattle.skeen_core.specs.Coming.{is_clock, agrees, is_single, body_may_come}
-use Rattle.skeen_core.proofs.Ids.{same_id-true, eq-same_id}
+use Rattle.groups.proofs.Ids.{same_id-true, eq-same_id}
 use Rattle.skeen_core.proofs.Finite.{heard-state_of}
 use Rattle.skeen_core.specs.declared.coming.TheConstants.{GREATEST_CLOCK}
 

@@ -4,25 +4,26 @@ use Rattle.std.proofs.Common.{IsSome, ◌⊎◌, length, get_or, set, refl, sym,
 use Rattle.std.proofs.lemmas.Bool.{both_ways, cases_Bool, and_parts}
 use Rattle.std.specs.FinMap.{get}
 use Rattle.groups.specs.GroupSet.{has}
-use Rattle.skeen_core.specs.declared.stamp.Stamp.{Stamp}
-use Rattle.skeen_core.specs.declared.request.RequestId.{RequestId}
+use Rattle.groups.specs.declared.stamp.Stamp.{Stamp}
+use Rattle.groups.specs.declared.request.RequestId.{RequestId}
 use Rattle.skeen_core.specs.declared.packet.Delivered.{Delivered}
 use Rattle.skeen_core.specs.declared.kept.Started.{Started}
 use Rattle.skeen_core.specs.declared.kept.Heard.{Heard}
-use Rattle.skeen_core.specs.Order.{In}
-use Rattle.skeen_core.specs.Stamp.{stamp_lt, final}
-use Rattle.skeen_core.specs.Request.{same_id}
+use Rattle.groups.specs.Order.{In}
+use Rattle.groups.specs.Stamp.{stamp_lt, final}
+use Rattle.groups.specs.Request.{same_id}
 use Rattle.skeen_core.specs.Group.{GroupState, heard, or_zero, next_clock, with_start, with_proposal, final_of, lift, lifted, MayGo}
 use Rattle.skeen_core.specs.Group.{Delivers, Delivering, has_id, without}
 use Rattle.skeen_core.specs.Lawful.{Sound, Lawful}
 use Rattle.skeen_core.specs.Kept.{state_of, groups_in, clock_in, Once, Keeps, IsKept, starts_left, clocks_left}
 use Rattle.skeen_core.specs.Due.{place_by, place, PlacesDiffer, BelowOpen, delivered_as, IsDue}
-use Rattle.skeen_core.proofs.Ids.{same_id-true, same_id-refl, eq-same_id, ne-same_id, same_id-sym}
-use Rattle.skeen_core.proofs.Lists.{In-end, In-get, In-filter}
-use Rattle.skeen_core.proofs.Stamps.{final_proposed}
+use Rattle.groups.proofs.Ids.{same_id-true, same_id-refl, eq-same_id, ne-same_id, same_id-sym}
+use Rattle.groups.proofs.Lists.{In-end, In-get, In-filter}
+use Rattle.groups.proofs.Stamps.{final_proposed}
 use Rattle.skeen_core.proofs.Finite.{started-with_start, heard-with_start, heard-with_proposal, started-without, heard-without, same_state}
 use Rattle.skeen_core.proofs.Finite.{started-state_of, heard-state_of}
-use Rattle.skeen_core.proofs.Lawful.{None≢Some, some_same, delivers_none, without_none, lawful_without, lawful_fresh}
+use Rattle.groups.proofs.Options.{some_same}
+use Rattle.skeen_core.proofs.Lawful.{None≢Some, delivers_none, without_none, lawful_without, lawful_fresh}
 
 -- ---- what stands in a list is found in it
 

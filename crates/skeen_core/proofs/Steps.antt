@@ -4,13 +4,13 @@ use Rattle.std.proofs.Common.{is_some, get_or, set, take, length-append, ◌-◌
 use Rattle.std.proofs.lemmas.Bool.{both_ways}
 use Rattle.std.specs.FinMap.{get}
 use Rattle.groups.specs.GroupSet.{has}
-use Rattle.skeen_core.specs.declared.stamp.Stamp.{Stamp}
-use Rattle.skeen_core.specs.declared.request.RequestId.{RequestId}
+use Rattle.groups.specs.declared.stamp.Stamp.{Stamp}
+use Rattle.groups.specs.declared.request.RequestId.{RequestId}
 use Rattle.skeen_core.specs.declared.packet.Packet.{Packet}
 use Rattle.skeen_core.specs.declared.packet.Delivered.{Delivered}
 use Rattle.skeen_core.specs.declared.kept.Started.{Started}
 use Rattle.skeen_core.specs.declared.kept.Heard.{Heard}
-use Rattle.skeen_core.specs.Stamp.{final}
+use Rattle.groups.specs.Stamp.{final}
 use Rattle.skeen_core.specs.Group.{GroupState, heard, with_start, with_proposal, final_of, lift, lifted, Delivering, tell, ReceivesStart}
 use Rattle.skeen_core.specs.Lawful.{Sound}
 use Rattle.skeen_core.specs.Kept.{state_of, groups_in, clock_in, StandsAt, Keeps, IsKept, starts_left, clocks_left}

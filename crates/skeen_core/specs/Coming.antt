@@ -1,9 +1,9 @@
 -- The test of what may come.
 use Rattle.std.specs.Prelude.{ℕ, Bool, true, false, not, nat_le, ◌==◌, ◌&&◌, ◌||◌, List, [], ◌∷◌, Option, Some, None}
 use Rattle.groups.specs.GroupSet.{has}
-use Rattle.skeen_core.specs.Request.{same_id}
+use Rattle.groups.specs.Request.{same_id}
 use Rattle.skeen_core.specs.Kept.{clock_in}
-use Rattle.skeen_core.specs.declared.request.RequestId.{RequestId}
+use Rattle.groups.specs.declared.request.RequestId.{RequestId}
 use Rattle.skeen_core.specs.declared.packet.Body.{Body}
 use Rattle.skeen_core.specs.declared.packet.Body.TheVariants.{Start, Proposal}
 use Rattle.skeen_core.specs.declared.kept.Heard.{Heard}

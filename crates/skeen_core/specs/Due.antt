@@ -1,9 +1,9 @@
 -- The started requests in a list, by their places.
 use Rattle.std.specs.Prelude.{◌≡◌, ℕ, Bool, true, false, List, Option, Some, None}
-use Rattle.skeen_core.specs.Order.{In}
-use Rattle.skeen_core.specs.Stamp.{stamp_lt}
+use Rattle.groups.specs.Order.{In}
+use Rattle.groups.specs.Stamp.{stamp_lt}
 use Rattle.skeen_core.specs.Group.{Ascending}
-use Rattle.skeen_core.specs.declared.stamp.Stamp.{Stamp}
+use Rattle.groups.specs.declared.stamp.Stamp.{Stamp}
 use Rattle.skeen_core.specs.declared.packet.Delivered.{Delivered}
 use Rattle.skeen_core.specs.declared.kept.Started.{Started}
 

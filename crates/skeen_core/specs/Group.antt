@@ -6,11 +6,11 @@ use Rattle.std.specs.FinMap.{FinMap, get, insert, retain_keys, empty}
 use Rattle.std.specs.Prelude.{◌≡◌, ◌≢◌, ℕ, suc, ◌≤◌, Bool, true, false, cond, not, List, [], ◌∷◌, ◌||◌, ◌==◌, max, length, ◌⊎◌, Option}
 use Rattle.std.specs.Prelude.{Some, None, IsSome}
 use Rattle.groups.specs.GroupSet.{has}
-use Rattle.skeen_core.specs.Order.{In}
-use Rattle.skeen_core.specs.Request.{same_id, id_cmp, source_cmp}
-use Rattle.skeen_core.specs.Stamp.{stamp_lt, final}
-use Rattle.skeen_core.specs.declared.stamp.Stamp.{Stamp}
-use Rattle.skeen_core.specs.declared.request.RequestId.{RequestId}
+use Rattle.groups.specs.Order.{In}
+use Rattle.groups.specs.Request.{same_id, id_cmp, source_cmp}
+use Rattle.groups.specs.Stamp.{stamp_lt, final}
+use Rattle.groups.specs.declared.stamp.Stamp.{Stamp}
+use Rattle.groups.specs.declared.request.RequestId.{RequestId}
 use Rattle.skeen_core.specs.declared.packet.Packet.{Packet}
 use Rattle.skeen_core.specs.declared.packet.Body.{Body}
 use Rattle.skeen_core.specs.declared.packet.Body.TheVariants.{Start, Proposal}

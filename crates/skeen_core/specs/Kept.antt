@@ -3,13 +3,13 @@ use Rattle.std.specs.Prelude.{◌≡◌, ℕ, ◌<◌, length, slice_index_or, L
 use Rattle.std.specs.Prelude.{filter, ◌==◌, ◌&&◌}
 use Rattle.std.specs.Coded.{Coded, code_by, coded×, coded_ℕ, coded_list}
 use Rattle.std.specs.FinMap.{FinMap, from_entries, code}
-use Rattle.skeen_core.specs.Request.{same_id, id_cmp, Source, source_cmp}
-use Rattle.skeen_core.specs.Order.{In}
-use Rattle.skeen_core.specs.Stamp.{final}
+use Rattle.groups.specs.Request.{same_id, id_cmp, Source, source_cmp}
+use Rattle.groups.specs.Order.{In}
+use Rattle.groups.specs.Stamp.{final}
 use Rattle.skeen_core.specs.Group.{GroupState, GroupView, has_id}
 use Rattle.skeen_core.specs.Lawful.{Lawful}
 use Rattle.skeen_core.specs.declared.packet.Delivered.{Delivered}
-use Rattle.skeen_core.specs.declared.request.RequestId.{RequestId}
+use Rattle.groups.specs.declared.request.RequestId.{RequestId}
 use Rattle.skeen_core.specs.declared.kept.Started.{Started}
 use Rattle.skeen_core.specs.declared.kept.Heard.{Heard}
 

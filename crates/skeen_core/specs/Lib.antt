@@ -1,6 +1,3 @@
-pub mod Order
-pub mod Stamp
-pub mod Request
 pub mod Group
 pub mod Lawful
 pub mod Kept

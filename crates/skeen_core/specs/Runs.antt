@@ -1,11 +1,11 @@
 -- What one group does with a list of packets, and what holds of every such run.
 use Rattle.std.specs.Prelude.{◌≡◌, ℕ, ◌≤◌, List, [], ◌∷◌, ◌++◌, Some, None, IsSome}
 use Rattle.std.specs.FinMap.{get}
-use Rattle.skeen_core.specs.Order.{In}
-use Rattle.skeen_core.specs.Stamp.{final}
+use Rattle.groups.specs.Order.{In}
+use Rattle.groups.specs.Stamp.{final}
 use Rattle.skeen_core.specs.Group.{GroupState, fresh, heard, Ascending, Receives, MayCome}
-use Rattle.skeen_core.specs.declared.stamp.Stamp.{Stamp}
-use Rattle.skeen_core.specs.declared.request.RequestId.{RequestId}
+use Rattle.groups.specs.declared.stamp.Stamp.{Stamp}
+use Rattle.groups.specs.declared.request.RequestId.{RequestId}
 use Rattle.skeen_core.specs.declared.packet.Packet.{Packet}
 use Rattle.skeen_core.specs.declared.packet.Body.{Body}
 use Rattle.skeen_core.specs.declared.packet.Body.TheVariants.{Start, Proposal}

@@ -4,8 +4,7 @@ ghost use Rattle.skeen_core.specs.Coming.{is_clock, agrees, is_single, body_may_
 
 use super::kept::{Heard, clock_of};
 use super::packet::Body;
-use super::request::RequestId;
-use groups::GroupId;
+use groups::{GroupId, RequestId};
 
 /// No clock in a packet, or of a group that receives one, is above this.
 pub const GREATEST_CLOCK: u64 = 1 << 62;

@@ -4,8 +4,7 @@ ghost use Rattle.skeen_core.specs.Due.{place, is_above, is_before, settled, None
 
 use super::kept::Started;
 use super::packet::Delivered;
-use super::stamp::Stamp;
-use groups::GroupId;
+use groups::{GroupId, Stamp};
 use std::alloc::{AllocError, Global};
 
 /// Where the request stands: at its final stamp if that is known, else at the proposal of the group `me`.

@@ -1,14 +1,12 @@
 //! What a group keeps of its requests: who has started, and which proposals have come. Each in a list in order of
 //! coming, which is searched from the front.
 ghost use Rattle.std.specs.Prelude.{◌≡◌, ◌<◌, length, MatchOption, Some, None};
-ghost use Rattle.skeen_core.specs.Stamp.{final};
+ghost use Rattle.groups.specs.Stamp.{final};
 ghost use Rattle.skeen_core.specs.Group.{has_id};
 ghost use Rattle.skeen_core.specs.Kept.{groups_in, clock_in, names, ids_of, StandsAt};
 
 use super::packet::Delivered;
-use super::request::RequestId;
-use super::stamp::Stamp;
-use groups::{GroupId, Groups};
+use groups::{GroupId, Groups, RequestId, Stamp};
 
 /// A request that has started, with the group's own proposal for it. Its final stamp is there once all its groups have
 /// proposed.

@@ -13,8 +13,6 @@ mod kept;
 mod laws;
 mod links;
 mod packet;
-mod request;
-mod stamp;
 mod tell;
 
 pub use coming::GREATEST_CLOCK;
@@ -22,5 +20,3 @@ pub use group::Group;
 pub use laws::laws_of_one_group;
 pub use links::Links;
 pub use packet::{Body, Delivered, Packet};
-pub use request::{ConnId, RequestId};
-pub use stamp::Stamp;

@@ -1,7 +1,5 @@
 //! What goes between the router and the groups, and what a group hands to its queue. Plain data that is copied.
-use super::request::RequestId;
-use super::stamp::Stamp;
-use groups::{GroupId, Groups};
+use groups::{GroupId, Groups, RequestId, Stamp};
 
 /// A packet about one request, on its way to one group.
 #[derive(Clone, Copy, Debug, PartialEq, Eq)]

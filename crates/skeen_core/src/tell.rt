@@ -3,8 +3,7 @@ ghost use Rattle.std.specs.Prelude.{◌≡◌, IfOk};
 ghost use Rattle.skeen_core.specs.Group.{tell};
 
 use super::packet::{Body, Packet};
-use super::request::RequestId;
-use groups::{GroupId, Groups};
+use groups::{GroupId, Groups, RequestId};
 use std::alloc::{AllocError, Global};
 
 /// The proposals of the group `me` for one request, to the other groups of it, ascending. The only error is want of

@@ -7,7 +7,7 @@ use Rattle.multicast.specs.Multicast.{MulticastView}
 use Rattle.router.specs.Connection.{just_opened}
 use Rattle.router.specs.Router.{RouterView, connection, Collects, Closes}
 use Rattle.router.specs.declared.outcome.Outcome as kept
-use Rattle.skeen_core.specs.declared.request.ConnId.{ConnId}
+use Rattle.groups.specs.declared.request.ConnId.{ConnId}
 use Rattle.system.proofs.Histories.{leads_more}
 use Rattle.system.proofs.Rest.{KeepsAsked, stage_same, rows_same, store_same, multicast_same}
 use Rattle.system.specs.Parts.{Shows, IsAt, Makes, stored, effect_shown}

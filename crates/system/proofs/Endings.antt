@@ -9,10 +9,10 @@ use Rattle.journal.specs.Views.{RowView}
 use Rattle.journal.specs.declared.step.Step.{Step}
 use Rattle.journal.specs.declared.step.Step.TheVariants as steps
 use Rattle.resp.specs.Content.{Content}
-use Rattle.skeen_core.specs.Order.{In}
+use Rattle.groups.specs.Order.{In}
 use Rattle.skeen_core.specs.declared.packet.Delivered.{Delivered}
 use Rattle.skeen_core.specs.declared.packet.Packet.{Packet}
-use Rattle.skeen_core.specs.declared.request.RequestId.{RequestId}
+use Rattle.groups.specs.declared.request.RequestId.{RequestId}
 use Rattle.system.proofs.Refusals.{take_memory}
 use Rattle.system.proofs.Submitted.{was_asked}
 use Rattle.system.specs.Endings.{IsExecuted, HasStarved, EachHasEnded, MayBeMade, SomeMayBeMade, TurnsAreFew}

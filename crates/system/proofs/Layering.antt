@@ -17,16 +17,16 @@ use Rattle.keyspace.specs.Map.{Map}
 use Rattle.resp.specs.declared.reply.Reply.{Reply}
 use Rattle.shard_exec.specs.Layers.{AddressTheirGroups, IsOf, MayStarve, is_named}
 use Rattle.shard_exec.specs.Runs.{outcome}
-use Rattle.skeen_core.proofs.Ids.{same_id-refl, same_id-sym}
-use Rattle.skeen_core.specs.Order.{In}
-use Rattle.skeen_core.specs.Request.{same_id}
+use Rattle.groups.proofs.Ids.{same_id-refl, same_id-sym}
+use Rattle.groups.specs.Order.{In}
+use Rattle.groups.specs.Request.{same_id}
 use Rattle.std.proofs.lemmas.Bool.{or_right}
 use Rattle.shard_exec.specs.Stamps.{AreFresh}
 use Rattle.shard_exec.specs.StoreStates.{StoreState}
 use Rattle.shard_exec.specs.Stores.{HasRunLayer}
 use Rattle.shard_exec.specs.declared.done.Ended as run
 use Rattle.skeen_core.specs.declared.packet.Delivered.{Delivered}
-use Rattle.skeen_core.specs.declared.request.RequestId.{RequestId}
+use Rattle.groups.specs.declared.request.RequestId.{RequestId}
 use Rattle.system.proofs.Connecting.{makes_to}
 use Rattle.system.proofs.Rest.{store_same, multicast_same}
 use Rattle.system.specs.Parts.{IsAt, Makes, ShowsStage, ShowsRows}

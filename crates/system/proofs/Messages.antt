@@ -14,12 +14,12 @@ use Rattle.placement.specs.Layout.{Layout, IsTable}
 use Rattle.router.specs.Router.{RouterView}
 use Rattle.router.specs.Submitting.{Submits, groups_by}
 use Rattle.router.specs.declared.submission.Submission.{Submission}
-use Rattle.skeen_core.proofs.Ids.{same_id-true}
-use Rattle.skeen_core.specs.Request.{same_id}
+use Rattle.groups.proofs.Ids.{same_id-true}
+use Rattle.groups.specs.Request.{same_id}
 use Rattle.skeen_core.specs.declared.packet.Body.TheVariants.{Start}
 use Rattle.skeen_core.specs.declared.packet.Packet.{Packet}
-use Rattle.skeen_core.specs.declared.request.ConnId.{ConnId}
-use Rattle.skeen_core.specs.declared.request.RequestId.{RequestId}
+use Rattle.groups.specs.declared.request.ConnId.{ConnId}
+use Rattle.groups.specs.declared.request.RequestId.{RequestId}
 use Rattle.system.proofs.Connecting.{by_messages, makes_to}
 use Rattle.system.proofs.Rest.{KeepsAsked, multicast_same}
 use Rattle.system.specs.Parts.{Shows, Makes}

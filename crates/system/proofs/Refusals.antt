@@ -14,7 +14,7 @@ use Rattle.router.specs.declared.connection.Standing.TheVariants as router
 use Rattle.router.specs.declared.submission.SubmitFault.{SubmitFault}
 use Rattle.router.specs.declared.submission.SubmitFault.TheVariants as submit
 use Rattle.skeen_core.specs.declared.packet.Delivered.{Delivered}
-use Rattle.skeen_core.specs.declared.request.ConnId.{ConnId}
+use Rattle.groups.specs.declared.request.ConnId.{ConnId}
 use Rattle.system.specs.Faults.{of_submit}
 use Rattle.system.specs.Parts.{IsAt, ShowsStage}
 use Rattle.system.specs.Refusing.{Lives, Refuses, RefusesNot, IsFault}

@@ -5,9 +5,9 @@ use Rattle.layer_planner.specs.declared.job.Job.{Job}
 use Rattle.multicast.specs.Multicast.{MulticastView}
 use Rattle.placement.specs.Layout.{Layout}
 use Rattle.shard_exec.specs.StoreStates.{StoreState}
-use Rattle.skeen_core.specs.Order.{In}
+use Rattle.groups.specs.Order.{In}
 use Rattle.skeen_core.specs.declared.packet.Delivered.{Delivered}
-use Rattle.skeen_core.specs.declared.request.RequestId.{RequestId}
+use Rattle.groups.specs.declared.request.RequestId.{RequestId}
 use Rattle.system.specs.Parts.{ShowsStage, ShowsRows}
 use Rattle.system.specs.declared.stage.Stage.{Stage}
 use Rattle.system.specs.declared.stage.Stage.TheVariants.{Free, Taken, HasRun}

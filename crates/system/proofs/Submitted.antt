@@ -7,10 +7,10 @@ use Rattle.journal.specs.declared.step.Step.{Step}
 use Rattle.journal.specs.declared.step.Step.TheVariants.{Open, Submit, Deliver, Take, Run, Settle, Collect, Close}
 use Rattle.placement.specs.Groups.{groups_of}
 use Rattle.placement.specs.Layout.{Layout}
-use Rattle.skeen_core.proofs.Ids.{same_id-refl}
-use Rattle.skeen_core.specs.Request.{same_id}
-use Rattle.skeen_core.specs.declared.request.ConnId.{ConnId}
-use Rattle.skeen_core.specs.declared.request.RequestId.{RequestId}
+use Rattle.groups.proofs.Ids.{same_id-refl}
+use Rattle.groups.specs.Request.{same_id}
+use Rattle.groups.specs.declared.request.ConnId.{ConnId}
+use Rattle.groups.specs.declared.request.RequestId.{RequestId}
 use Rattle.system.specs.Endings.{AsksGroups}
 use Rattle.world.specs.Steps.{Effect, Steps, Makes, next_id, floor_of, submitted, submitted_to}
 use Rattle.world.specs.Steps as world

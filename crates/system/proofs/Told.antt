@@ -8,7 +8,7 @@ use Rattle.resp.specs.Text.{text}
 use Rattle.resp.specs.declared.reply.Reply.{Reply}
 use Rattle.shard_exec.specs.Runs.{outcome}
 use Rattle.shard_exec.specs.declared.done.Ended as run
-use Rattle.skeen_core.proofs.Lawful.{some_same}
+use Rattle.groups.proofs.Options.{some_same}
 use Rattle.system_view.proofs.Running.{rows_starved, rows_executed}
 use Rattle.system_view.specs.Layers.{IsEnded, AreEnded, AreRows}
 use Rattle.world.specs.Steps.{reply_of}

@@ -7,8 +7,8 @@ use Rattle.journal.specs.declared.step.Step.{Step}
 use Rattle.journal.specs.declared.step.Step.TheVariants.{Deliver, Take, Run, Settle}
 use Rattle.placement.specs.Groups.{groups_of}
 use Rattle.placement.specs.Layout.{Layout}
-use Rattle.skeen_core.specs.Order.{In}
-use Rattle.skeen_core.specs.declared.request.RequestId.{RequestId}
+use Rattle.groups.specs.Order.{In}
+use Rattle.groups.specs.declared.request.RequestId.{RequestId}
 use Rattle.system.specs.Faults.{own_fault}
 use Rattle.system.specs.Parts.{IsAt}
 use Rattle.system.specs.Refusing.{RefusesNot}

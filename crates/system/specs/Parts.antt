@@ -3,7 +3,7 @@ use Rattle.std.specs.Prelude.{◌≡◌, ℕ, true, List, [], ◌∷◌, ◌++�
 use Rattle.journal.specs.declared.step.Step.{Step}
 use Rattle.journal.specs.declared.step.Step.TheVariants.{Run}
 use Rattle.multicast.specs.Multicast.{IsSame}
-use Rattle.skeen_core.specs.Order.{In}
+use Rattle.groups.specs.Order.{In}
 use Rattle.skeen_core.specs.declared.packet.Delivered.{Delivered}
 use Rattle.system.specs.declared.effect.Effect.{Effect}
 use Rattle.system.specs.declared.effect.Effect.TheVariants.{Opened, Submitted, Ran, Collected, Made}

@@ -1,8 +1,8 @@
 //! What a step answers.
 
+use groups::{ConnId, RequestId};
 use journal::RequestIds;
 use router::Outcome;
-use skeen_core::{ConnId, RequestId};
 
 /// What a step that was made answers.
 #[derive(Drop)]

@@ -6,10 +6,11 @@ ghost use Rattle.system_view.specs.Layers.{AreJobs};
 ghost use Rattle.system_view.specs.Taking.{IsTaking};
 ghost use Rattle.world.specs.World.{World};
 
+use groups::Stamp;
 use layer_planner::Job;
 use packing::PackedRequest;
 use router::{Pending, Router};
-use skeen_core::{Delivered, Stamp};
+use skeen_core::Delivered;
 
 /// Takes the ready requests out of the router: the command of each with its id, its stamp and its groups, and beside it
 /// its words. There is room for all of them.

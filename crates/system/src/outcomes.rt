@@ -7,12 +7,12 @@ ghost use Rattle.system_view.specs.Settling.{IsSettling};
 ghost use Rattle.world.specs.World.{World, Ended as EndedThere};
 ghost use Rattle.system.specs.Outcomes.{BeginsWith};
 
+use groups::{RequestId, Stamp};
 use journal::Rows;
 use packing::PackedRequest;
 use resp::Reply;
 use router::{Outcome, Router};
 use shard_exec::Ended;
-use skeen_core::{RequestId, Stamp};
 use std::alloc::AllocError;
 
 /// Puts the ids of those that starved into an empty list, and behind all that starved before. There is room in both.

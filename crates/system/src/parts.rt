@@ -15,13 +15,13 @@ use super::fault::StepFault;
 use super::jobs::take_all;
 use super::outcomes::{add_rows, note_starved, settle_all};
 use super::stage::{RanLayer, Stage, TakenLayer};
+use groups::{ConnId, RequestId};
 use journal::{RequestIds, Rows, Step};
 use layer_planner::Layer;
 use multicast::Multicast;
 use resp::Request;
 use router::{Router, SubmitFault};
 use shard_exec::{ExecFault, Gate, Store, Workers};
-use skeen_core::{ConnId, RequestId};
 use std::alloc::{AllocError, Global};
 use std::mem;
 

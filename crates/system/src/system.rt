@@ -20,13 +20,13 @@ use super::effect::Effect;
 use super::fault::StepFault;
 use super::parts::Parts;
 use super::stage::{Progress, Stage};
+use groups::{ConnId, RequestId};
 use journal::{Rows, Step};
 use multicast::Multicast;
 use placement::Table;
 use router::{Outcome, Router};
 use shard_exec::{Gate, Store, Workers};
 use shards::ShardHasher;
-use skeen_core::{ConnId, RequestId};
 use std::alloc::{AllocError, Global};
 use std::marker::Model;
 

@@ -1,9 +1,9 @@
 //! Steps in words.
 
 use crate::trouble::Trouble;
+use groups::{ConnId, RequestId};
 use journal::{RequestIds, Step};
 use resp::Request;
-use skeen_core::{ConnId, RequestId};
 use std::alloc::Global;
 
 /// The first word, and what stands behind the blank that ends it.

@@ -1,10 +1,10 @@
 //! What steps come to, and what is there then, as text. In replies `|` stands for CR LF.
 
 use crate::trouble::Trouble;
+use groups::{RequestId, Stamp};
 use journal::{Row, Rows};
 use resp::write_reply;
 use router::Outcome;
-use skeen_core::{RequestId, Stamp};
 use std::alloc::Global;
 use system::Effect;
 

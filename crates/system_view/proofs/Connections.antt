@@ -10,8 +10,8 @@ use Rattle.router.specs.declared.connection.Pending.{Pending}
 use Rattle.router.specs.declared.connection.Standing.{Standing}
 use Rattle.router.specs.declared.connection.Standing.TheVariants as router
 use Rattle.router.specs.declared.outcome.Outcome as kept
-use Rattle.skeen_core.proofs.Lawful.{some_same}
-use Rattle.skeen_core.specs.declared.request.RequestId.{RequestId}
+use Rattle.groups.proofs.Options.{some_same}
+use Rattle.groups.specs.declared.request.RequestId.{RequestId}
 use Rattle.system_view.specs.Connections.{outcome_shown, Waits, InLayer, id_of, ShowsOpen, ShowsClosed, ShowsKept}
 use Rattle.system_view.specs.Connections.{ShowsConnection, IsKeptFor, ShowsConnections}
 use Rattle.world.specs.Steps.{Collects as WorldCollects, at, final_clock_of, floor_of, Collected}

@@ -10,8 +10,9 @@ use Rattle.layer_planner.specs.declared.job.Job.{Job}
 use Rattle.placement.specs.Layout.{Layout}
 use Rattle.router.specs.Router.{RouterView, connection, pending_at}
 use Rattle.router.specs.declared.connection.Pending.{Pending}
-use Rattle.skeen_core.proofs.Lawful.{None≢Some, some_same}
-use Rattle.skeen_core.specs.Order.{In}
+use Rattle.groups.proofs.Options.{some_same}
+use Rattle.skeen_core.proofs.Lawful.{None≢Some}
+use Rattle.groups.specs.Order.{In}
 use Rattle.skeen_core.specs.declared.packet.Delivered.{Delivered}
 use Rattle.system_view.proofs.Taking.{WasTaken, take_pending, take_next}
 use Rattle.system_view.specs.Connections.{Waits}

@@ -32,15 +32,15 @@ use Rattle.shard_exec.specs.Stores.{HasRunLayer}
 use Rattle.shard_exec.specs.declared.done.Ended as run
 use Rattle.shard_maps.specs.Joined.{joined}
 use Rattle.shard_maps.specs.Layer.{AnsweredInTurn}
-use Rattle.skeen_core.proofs.Ids.{same_id-refl, ne-same_id}
-use Rattle.skeen_core.proofs.Lawful.{some_same}
-use Rattle.skeen_core.proofs.Lists.{In-left, In-right}
+use Rattle.groups.proofs.Ids.{same_id-refl, ne-same_id}
+use Rattle.groups.proofs.Options.{some_same}
+use Rattle.groups.proofs.Lists.{In-left, In-right}
 use Rattle.skeen_core.specs.Group.{EachOnce, has_id}
-use Rattle.skeen_core.specs.Order.{In}
-use Rattle.skeen_core.specs.Stamp.{stamp_lt}
+use Rattle.groups.specs.Order.{In}
+use Rattle.groups.specs.Stamp.{stamp_lt}
 use Rattle.skeen_core.specs.declared.packet.Delivered.{Delivered}
-use Rattle.skeen_core.specs.declared.request.RequestId.{RequestId}
-use Rattle.skeen_core.specs.declared.stamp.Stamp.{Stamp}
+use Rattle.groups.specs.declared.request.RequestId.{RequestId}
+use Rattle.groups.specs.declared.stamp.Stamp.{Stamp}
 use Rattle.system_view.specs.Connections.{InLayer, id_of, ShowsOpen, ShowsClosed, ShowsConnection}
 use Rattle.system_view.specs.Connections.{IsSettled, ShowsConnections}
 use Rattle.system_view.specs.Layers.{IsJob, AreJobs, AreEnded, if_none, starved_of, ShowsStore, IsRow, AreRows}

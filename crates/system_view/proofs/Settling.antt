@@ -12,14 +12,14 @@ use Rattle.router.specs.declared.outcome.Outcome as kept
 use Rattle.journal.specs.declared.step.Step.{Step}
 use Rattle.shard_exec.specs.Runs.{outcome}
 use Rattle.shard_exec.specs.declared.done.Ended as run
-use Rattle.skeen_core.proofs.Ids.{same_id-true}
-use Rattle.skeen_core.proofs.Lawful.{some_same}
-use Rattle.skeen_core.proofs.Lists.{In-right}
+use Rattle.groups.proofs.Ids.{same_id-true}
+use Rattle.groups.proofs.Options.{some_same}
+use Rattle.groups.proofs.Lists.{In-right}
 use Rattle.skeen_core.specs.Group.{EachOnce, has_id}
-use Rattle.skeen_core.specs.Order.{In}
-use Rattle.skeen_core.specs.Request.{same_id}
-use Rattle.skeen_core.specs.declared.request.RequestId.{RequestId}
-use Rattle.skeen_core.specs.declared.stamp.Stamp.{Stamp}
+use Rattle.groups.specs.Order.{In}
+use Rattle.groups.specs.Request.{same_id}
+use Rattle.groups.specs.declared.request.RequestId.{RequestId}
+use Rattle.groups.specs.declared.stamp.Stamp.{Stamp}
 use Rattle.system_view.proofs.Connections.{Alike, connection_alike, each_of, kept_else, kept_at, StandsUnderWay}
 use Rattle.system_view.proofs.Connections.{stands_under_way}
 use Rattle.system_view.specs.Connections.{outcome_shown, id_of, ShowsConnection, ShowsKept, IsSettled, IsKeptFor}

@@ -25,9 +25,9 @@ use Rattle.router.specs.declared.connection.Standing.{Standing}
 use Rattle.router.specs.declared.connection.Standing.TheVariants as router
 use Rattle.router.specs.declared.outcome.Outcome as kept
 use Rattle.router.specs.declared.submission.Submission.{Submission}
-use Rattle.skeen_core.proofs.Ids.{same_id-true, eq-same_id}
-use Rattle.skeen_core.specs.Request.{same_id}
-use Rattle.skeen_core.specs.declared.request.RequestId.{RequestId}
+use Rattle.groups.proofs.Ids.{same_id-true, eq-same_id}
+use Rattle.groups.specs.Request.{same_id}
+use Rattle.groups.specs.declared.request.RequestId.{RequestId}
 use Rattle.system_view.proofs.Connections.{Alike, each_of, kept_here, kept_open}
 use Rattle.system_view.specs.Connections.{Addresses, outcome_shown, id_of, ShowsOpen, ShowsConnection, ShowsConnections}
 use Rattle.world.specs.Steps.{next_id as world_id, asks, final_clock, final_clock_of, floor_of, answered, multicast}

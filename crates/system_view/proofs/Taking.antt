@@ -14,14 +14,15 @@ use Rattle.router.specs.declared.connection.Connection.{Connection}
 use Rattle.router.specs.declared.connection.Pending.{Pending}
 use Rattle.router.specs.declared.connection.Standing.{Standing}
 use Rattle.router.specs.declared.connection.Standing.TheVariants as router
-use Rattle.skeen_core.proofs.Lawful.{id_there, named, some_same}
-use Rattle.skeen_core.proofs.Lists.{In-left, In-right}
-use Rattle.skeen_core.proofs.Stamps.{lt_irrefl}
+use Rattle.groups.proofs.Options.{some_same}
+use Rattle.skeen_core.proofs.Lawful.{id_there, named}
+use Rattle.groups.proofs.Lists.{In-left, In-right}
+use Rattle.groups.proofs.Stamps.{lt_irrefl}
 use Rattle.skeen_core.specs.Group.{has_id}
-use Rattle.skeen_core.specs.Order.{In}
-use Rattle.skeen_core.specs.Stamp.{stamp_lt}
+use Rattle.groups.specs.Order.{In}
+use Rattle.groups.specs.Stamp.{stamp_lt}
 use Rattle.skeen_core.specs.declared.packet.Delivered.{Delivered}
-use Rattle.skeen_core.specs.declared.request.RequestId.{RequestId}
+use Rattle.groups.specs.declared.request.RequestId.{RequestId}
 use Rattle.system_view.proofs.Connections.{Alike, connection_alike, each_of, kept_here, kept_at, StandsUnderWay}
 use Rattle.system_view.proofs.Connections.{stands_under_way}
 use Rattle.system_view.specs.Connections.{Waits, InLayer, id_of, ShowsOpen, ShowsClosed, ShowsConnection, ShowsKept}

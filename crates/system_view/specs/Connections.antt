@@ -14,7 +14,7 @@ use Rattle.router.specs.declared.connection.Pending.{Pending}
 use Rattle.router.specs.declared.connection.Standing.{Standing}
 use Rattle.router.specs.declared.connection.Standing.TheVariants as router
 use Rattle.router.specs.declared.outcome.Outcome as kept
-use Rattle.skeen_core.specs.declared.request.RequestId.{RequestId}
+use Rattle.groups.specs.declared.request.RequestId.{RequestId}
 use Rattle.world.specs.Steps.{floor_of}
 use Rattle.world.specs.World.{World, Request, Outcome, Closed, Idle, Waiting, Answered, Ended, Layer, NoneTaken, Taken}
 use Rattle.world.specs.World.{HasRun}

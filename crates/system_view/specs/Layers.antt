@@ -14,10 +14,10 @@ use Rattle.shard_exec.specs.Stamps.{last_of}
 use Rattle.shard_exec.specs.StoreStates.{StoreState}
 use Rattle.shard_exec.specs.declared.done.Ended as run
 use Rattle.shard_maps.specs.Joined.{joined}
-use Rattle.skeen_core.specs.Order.{In}
+use Rattle.groups.specs.Order.{In}
 use Rattle.skeen_core.specs.declared.packet.Delivered.{Delivered}
-use Rattle.skeen_core.specs.declared.request.RequestId.{RequestId}
-use Rattle.skeen_core.specs.declared.stamp.Stamp.{Stamp}
+use Rattle.groups.specs.declared.request.RequestId.{RequestId}
+use Rattle.groups.specs.declared.stamp.Stamp.{Stamp}
 use Rattle.world.specs.World.{World, Request, Ended}
 use Rattle.world_laws.specs.Good.{Asked}
 use Rattle.world_laws.specs.Headline.{rows_of}

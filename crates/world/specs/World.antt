@@ -7,8 +7,8 @@ use Rattle.resp.specs.Content.{Content}
 use Rattle.skeen_core.specs.Group.{GroupState}
 use Rattle.skeen_core.specs.declared.packet.Delivered.{Delivered}
 use Rattle.skeen_core.specs.declared.packet.Packet.{Packet}
-use Rattle.skeen_core.specs.declared.request.RequestId.{RequestId}
-use Rattle.skeen_core.specs.declared.stamp.Stamp.{Stamp}
+use Rattle.groups.specs.declared.request.RequestId.{RequestId}
+use Rattle.groups.specs.declared.stamp.Stamp.{Stamp}
 
 -- a request that addresses groups: each proposal for it stands above the floor
 pub record Request : Type 0 where

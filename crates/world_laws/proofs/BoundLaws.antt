@@ -14,17 +14,17 @@ use Rattle.journal.specs.declared.step.Step.{Step}
 use Rattle.journal.specs.declared.step.Step.TheVariants.{Open, Submit, Deliver, Take, Run, Settle, Collect, Close}
 use Rattle.placement.specs.Groups.{groups_of}
 use Rattle.placement.specs.Layout.{Layout}
-use Rattle.skeen_core.proofs.Ids.{same_id-true}
+use Rattle.groups.proofs.Ids.{same_id-true}
 use Rattle.skeen_core.proofs.Lawful.{None≢Some}
-use Rattle.skeen_core.proofs.Lists.{In-left, In-right, In-append}
+use Rattle.groups.proofs.Lists.{In-left, In-right, In-append}
 use Rattle.skeen_core.specs.Group.{GroupState, next_clock, tell, ReceivesStart, Receives, EachOnce}
-use Rattle.skeen_core.specs.Order.{In}
-use Rattle.skeen_core.specs.Request.{same_id}
+use Rattle.groups.specs.Order.{In}
+use Rattle.groups.specs.Request.{same_id}
 use Rattle.skeen_core.specs.declared.packet.Body.{Body}
 use Rattle.skeen_core.specs.declared.packet.Body.TheVariants.{Start, Proposal}
 use Rattle.skeen_core.specs.declared.packet.Delivered.{Delivered}
 use Rattle.skeen_core.specs.declared.packet.Packet.{Packet}
-use Rattle.skeen_core.specs.declared.request.RequestId.{RequestId}
+use Rattle.groups.specs.declared.request.RequestId.{RequestId}
 use Rattle.world.specs.Steps.{starts, opening, Effect, next_id, floor_of, multicast, submitted_to, submitted, Comes, Takes, RunsLayer}
 use Rattle.world.specs.Steps.{Settles, Collects, Steps, Makes}
 use Rattle.world.specs.World.{World, Request, Standing, Closed, Idle, Waiting, Answered, Layer, NoneTaken, Taken, HasRun, Proposals}

@@ -16,15 +16,15 @@ use Rattle.resp.specs.Content.{Content}
 use Rattle.skeen_core.proofs.Lawful.{None≢Some}
 use Rattle.skeen_core.specs.Group.{GroupState, heard, next_clock, with_start, with_proposal, final_of, lift, lifted, ReceivesStart}
 use Rattle.skeen_core.specs.Group.{Receives}
-use Rattle.skeen_core.specs.Order.{In}
-use Rattle.skeen_core.specs.Request.{same_id}
-use Rattle.skeen_core.specs.Stamp.{final}
+use Rattle.groups.specs.Order.{In}
+use Rattle.groups.specs.Request.{same_id}
+use Rattle.groups.specs.Stamp.{final}
 use Rattle.skeen_core.specs.declared.packet.Body.{Body}
 use Rattle.skeen_core.specs.declared.packet.Body.TheVariants.{Start, Proposal}
 use Rattle.skeen_core.specs.declared.packet.Delivered.{Delivered}
 use Rattle.skeen_core.specs.declared.packet.Packet.{Packet}
-use Rattle.skeen_core.specs.declared.request.RequestId.{RequestId}
-use Rattle.skeen_core.specs.declared.stamp.Stamp.{Stamp}
+use Rattle.groups.specs.declared.request.RequestId.{RequestId}
+use Rattle.groups.specs.declared.stamp.Stamp.{Stamp}
 use Rattle.world.specs.Steps.{at, opening, Effect, next_id, clock_of, final_clock, final_clock_of, floor_of, multicast, answered}
 use Rattle.world.specs.Steps.{submitted_to, submitted, hears, Comes, Collects, Steps, Makes, Leads}
 use Rattle.world.specs.World.{World, Request, Standing, Closed, Idle, Waiting, Answered, Proposals}

@@ -12,8 +12,8 @@ use Rattle.placement.specs.Groups.{groups_of}
 use Rattle.placement.specs.Layout.{Layout}
 use Rattle.resp.specs.Content.{ErrorLine}
 use Rattle.skeen_core.specs.Group.{EachOnce}
-use Rattle.skeen_core.specs.Order.{In}
-use Rattle.skeen_core.specs.declared.request.RequestId.{RequestId}
+use Rattle.groups.specs.Order.{In}
+use Rattle.groups.specs.declared.request.RequestId.{RequestId}
 use Rattle.world.specs.Steps.{at, opening, Effect, Opened, Submitted, Ran, Collected, Made, answered, submitted_to, submitted, settled}
 use Rattle.world.specs.Steps.{Collects, Steps, Makes}
 use Rattle.world.specs.World.{World, Outcome, Standing, Closed, Idle, Waiting, Answered, Ended}

@@ -6,16 +6,16 @@ use Rattle.delivery.specs.Queues.{is_above_last, MayAppend, IsSound}
 use Rattle.groups.specs.GroupSet.{has}
 use Rattle.placement.specs.Groups.{groups_of}
 use Rattle.placement.specs.Layout.{Layout}
-use Rattle.skeen_core.proofs.Lists.{In-left, In-right}
+use Rattle.groups.proofs.Lists.{In-left, In-right}
 use Rattle.skeen_core.specs.Group.{Ascending, BodyMayCome, MayCome}
-use Rattle.skeen_core.specs.Order.{In}
-use Rattle.skeen_core.specs.Stamp.{stamp_lt, final}
+use Rattle.groups.specs.Order.{In}
+use Rattle.groups.specs.Stamp.{stamp_lt, final}
 use Rattle.skeen_core.specs.declared.packet.Body.{Body}
 use Rattle.skeen_core.specs.declared.packet.Body.TheVariants.{Start, Proposal}
 use Rattle.skeen_core.specs.declared.packet.Delivered.{Delivered}
 use Rattle.skeen_core.specs.declared.packet.Packet.{Packet}
-use Rattle.skeen_core.specs.declared.request.RequestId.{RequestId}
-use Rattle.skeen_core.specs.declared.stamp.Stamp.{Stamp}
+use Rattle.groups.specs.declared.request.RequestId.{RequestId}
+use Rattle.groups.specs.declared.stamp.Stamp.{Stamp}
 use Rattle.world.specs.Steps.{at, Effect, Comes}
 use Rattle.world.specs.World.{World, Request, Ended, Taken}
 use Rattle.world_laws.specs.Good.{BodyGood, log_of, delivered_of, all_delivered, all_taken, Touching, TakenGood, WorldGood, Bounded}
@@ -29,7 +29,7 @@ use Rattle.world_laws.proofs.Lists.{rising_cross}
 use Rattle.world_laws.proofs.OrderLaws.{known_final, differ_good}
 use Rattle.world_laws.proofs.Worlds.{keeps_deliver, run_is_pending, good_world}
 use Rattle.std.proofs.lemmas.Bool.{cond-true, cond-false}
-use Rattle.skeen_core.proofs.Lawful.{some_same}
+use Rattle.groups.proofs.Options.{some_same}
 use Rattle.journal.specs.declared.trace.TheConstants.{GREATEST_STEPS}
 
 -- ---- a group receives

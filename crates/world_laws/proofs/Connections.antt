@@ -2,12 +2,12 @@
 use Rattle.std.proofs.Common.{◌≡◌, ℕ, suc, ◌≤◌, ◌<◌, ◌==◌, false, List, [], ◌∷◌, ◌++◌, ◌⊎◌, inl, inr, Option, Some, None, refl, sym, ap}
 use Rattle.std.proofs.Common.{◌∙◌, subst, arith, eqb-true, eq-eqb, append-nil}
 use Rattle.std.proofs.lemmas.Bool.{both_ways, cases_Bool}
-use Rattle.skeen_core.proofs.Ids.{same_id-true, eq-same_id}
-use Rattle.skeen_core.proofs.Lists.{In-left, In-right}
-use Rattle.skeen_core.specs.Order.{In}
-use Rattle.skeen_core.specs.Request.{same_id}
+use Rattle.groups.proofs.Ids.{same_id-true, eq-same_id}
+use Rattle.groups.proofs.Lists.{In-left, In-right}
+use Rattle.groups.specs.Order.{In}
+use Rattle.groups.specs.Request.{same_id}
 use Rattle.skeen_core.specs.declared.packet.Delivered.{Delivered}
-use Rattle.skeen_core.specs.declared.request.RequestId.{RequestId}
+use Rattle.groups.specs.declared.request.RequestId.{RequestId}
 use Rattle.world.specs.Steps.{at, asks, outcome_of, given, settled}
 use Rattle.world.specs.World.{Request, Outcome, Standing, Closed, Idle, Waiting, Answered, Ended, Layer, NoneTaken, Taken, HasRun}
 use Rattle.world_laws.specs.Good.{Asked, Named, Pending, OutcomeGood, ConnectionsGood}

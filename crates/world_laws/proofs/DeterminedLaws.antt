@@ -5,17 +5,17 @@ use Rattle.journal.specs.declared.step.Step.TheVariants.{Open, Submit, Deliver, 
 use Rattle.keyspace.specs.Map.{Map}
 use Rattle.skeen_core.proofs.Ahead.{rule_determines, same_ascending}
 use Rattle.skeen_core.specs.Group.{Receives}
-use Rattle.skeen_core.specs.Order.{In}
+use Rattle.groups.specs.Order.{In}
 use Rattle.skeen_core.specs.declared.packet.Delivered.{Delivered}
 use Rattle.skeen_core.specs.declared.packet.Packet.{Packet}
-use Rattle.skeen_core.specs.declared.request.RequestId.{RequestId}
+use Rattle.groups.specs.declared.request.RequestId.{RequestId}
 use Rattle.world.specs.Steps.{Effect, Ran, starved_among, after_all, map_after, ended_as, RunInTurn, received, taken, settled, Comes, Takes}
 use Rattle.world.specs.Steps.{RunsLayer, Settles, Collects, Makes, Busy, NoConn, NoPacket, InFlight, NoLayer, IsBusy, IsInFlight}
 use Rattle.world.specs.Steps.{NothingToRun, NothingToSettle}
 use Rattle.world.specs.World.{World, Request, Standing, Closed, Idle, Waiting, Answered, Ended, Layer, NoneTaken, Taken, HasRun}
 use Rattle.world_laws.specs.Determined.{StepsDetermine, HistoriesDetermine, RefusedIsNotAccepted}
 use Rattle.world_laws.specs.Good.{Asked}
-use Rattle.skeen_core.proofs.Lawful.{some_same}
+use Rattle.groups.proofs.Options.{some_same}
 
 -- ---- one world
 

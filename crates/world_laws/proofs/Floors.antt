@@ -7,12 +7,12 @@ use Rattle.journal.specs.declared.step.Step.{Step}
 use Rattle.journal.specs.declared.step.Step.TheVariants.{Open, Submit, Deliver, Take, Run, Settle, Collect, Close}
 use Rattle.placement.specs.Groups.{groups_of}
 use Rattle.placement.specs.Layout.{Layout}
-use Rattle.skeen_core.proofs.Lists.{In-right}
-use Rattle.skeen_core.proofs.Stamps.{final_within}
-use Rattle.skeen_core.specs.Order.{In}
-use Rattle.skeen_core.specs.Stamp.{final}
-use Rattle.skeen_core.specs.declared.request.RequestId.{RequestId}
-use Rattle.skeen_core.specs.declared.stamp.Stamp.{Stamp}
+use Rattle.groups.proofs.Lists.{In-right}
+use Rattle.groups.proofs.Stamps.{final_within}
+use Rattle.groups.specs.Order.{In}
+use Rattle.groups.specs.Stamp.{final}
+use Rattle.groups.specs.declared.request.RequestId.{RequestId}
+use Rattle.groups.specs.declared.stamp.Stamp.{Stamp}
 use Rattle.world.specs.Steps.{Effect, next_id, clock_of, final_clock, final_clock_of, floor_of, submitted_to, submitted, Collects, Steps}
 use Rattle.world.specs.World.{World, Request, Standing, Closed, Idle, Waiting, Answered, Ended, HasRun}
 use Rattle.world_laws.specs.Conditions.{SettledIsLast, FloorsAreFinal, IsFree, FloorsStay}

@@ -7,21 +7,21 @@ use Rattle.std.specs.FinMap.{get}
 use Rattle.groups.specs.GroupSet.{has}
 use Rattle.skeen_core.proofs.Ahead.{Ahead, ahead_start, ahead_proposal, ahead_delivers, ascending_append, below_now}
 use Rattle.skeen_core.proofs.Finite.{started-with_start, heard-with_start, heard-with_proposal}
-use Rattle.skeen_core.proofs.Ids.{same_id-true}
+use Rattle.groups.proofs.Ids.{same_id-true}
 use Rattle.skeen_core.proofs.Lawful.{lift_grows, sound_start, sound_proposal, lawful_without, kept_heard, kept_started}
-use Rattle.skeen_core.proofs.Lists.{In-append}
-use Rattle.skeen_core.proofs.Stamps.{final_within}
+use Rattle.groups.proofs.Lists.{In-append}
+use Rattle.groups.proofs.Stamps.{final_within}
 use Rattle.skeen_core.specs.Group.{GroupState, heard, next_clock, with_start, with_proposal, final_of, lifted, Ascending, Delivers, without}
 use Rattle.skeen_core.specs.Lawful.{Sound}
-use Rattle.skeen_core.specs.Order.{In}
-use Rattle.skeen_core.specs.Request.{same_id}
+use Rattle.groups.specs.Order.{In}
+use Rattle.groups.specs.Request.{same_id}
 use Rattle.skeen_core.specs.declared.packet.Delivered.{Delivered}
-use Rattle.skeen_core.specs.declared.request.RequestId.{RequestId}
+use Rattle.groups.specs.declared.request.RequestId.{RequestId}
 use Rattle.world.specs.Steps.{hears}
 use Rattle.world.specs.World.{Request, Proposals}
 use Rattle.world_laws.specs.Good.{Asked, Addressed, Known, Among, GroupGood}
 use Rattle.std.proofs.lemmas.Bool.{cond-true, cond-false}
-use Rattle.skeen_core.proofs.Lawful.{some_same}
+use Rattle.groups.proofs.Options.{some_same}
 
 -- ---- more is submitted and proposed
 

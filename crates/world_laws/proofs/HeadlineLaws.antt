@@ -11,9 +11,9 @@ use Rattle.placement.specs.Groups.{groups_of}
 use Rattle.placement.specs.Layout.{Layout}
 use Rattle.resp.specs.Content.{Content}
 use Rattle.skeen_core.proofs.Lawful.{None≢Some}
-use Rattle.skeen_core.proofs.Stamps.{lt_asym}
-use Rattle.skeen_core.specs.Order.{In}
-use Rattle.skeen_core.specs.Stamp.{stamp_lt}
+use Rattle.groups.proofs.Stamps.{lt_asym}
+use Rattle.groups.specs.Order.{In}
+use Rattle.groups.specs.Stamp.{stamp_lt}
 use Rattle.world.specs.Steps.{map_after, after_all}
 use Rattle.world.specs.World.{World, Ended}
 use Rattle.world_laws.specs.Good.{Rising, RepliesOn, RepliesInTurn, WorldGood}
@@ -21,7 +21,7 @@ use Rattle.world_laws.specs.Headline.{with_row, rows_of, IsOneThread, Headline, 
 use Rattle.world_laws.specs.Order.{TouchingByStamp}
 use Rattle.world_laws.proofs.OrderLaws.{ended_as_submitted, touching_good}
 use Rattle.world_laws.proofs.Worlds.{good_world}
-use Rattle.skeen_core.proofs.Lawful.{some_same}
+use Rattle.groups.proofs.Options.{some_same}
 
 -- ---- in the order of execution
 

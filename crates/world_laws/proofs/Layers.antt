@@ -9,21 +9,21 @@ use Rattle.groups.specs.GroupSet.{has}
 use Rattle.keyspace.specs.Map.{Map}
 use Rattle.placement.specs.Layout.{Layout}
 use Rattle.skeen_core.proofs.Lawful.{id_there}
-use Rattle.skeen_core.proofs.Lists.{In-left, In-right, In-append}
-use Rattle.skeen_core.proofs.Stamps.{lt_irrefl}
+use Rattle.groups.proofs.Lists.{In-left, In-right, In-append}
+use Rattle.groups.proofs.Stamps.{lt_irrefl}
 use Rattle.skeen_core.specs.Group.{GroupState, Ascending, has_id}
-use Rattle.skeen_core.specs.Order.{In}
-use Rattle.skeen_core.specs.Stamp.{stamp_lt, final}
+use Rattle.groups.specs.Order.{In}
+use Rattle.groups.specs.Stamp.{stamp_lt, final}
 use Rattle.skeen_core.specs.declared.packet.Delivered.{Delivered}
 use Rattle.skeen_core.specs.declared.packet.Packet.{Packet}
-use Rattle.skeen_core.specs.declared.request.RequestId.{RequestId}
+use Rattle.groups.specs.declared.request.RequestId.{RequestId}
 use Rattle.world.specs.Steps.{names, map_after, after_all, RunInTurn}
 use Rattle.world.specs.World.{Request, Ended, NoneTaken, Taken, HasRun, Proposals}
 use Rattle.world_laws.specs.Good.{Rising, Asked, Known, SkeenGood, AskedGood, delivered_of, all_delivered, all_taken, Touching, TakenGood}
 use Rattle.world_laws.specs.Good.{RepliesOn, RepliesInTurn, RunGood}
 use Rattle.world_laws.proofs.Groups.{AskedMore}
 use Rattle.world_laws.proofs.Lists.{rising_append, rising_cross, rising_left}
-use Rattle.skeen_core.proofs.Lawful.{some_same}
+use Rattle.groups.proofs.Options.{some_same}
 
 -- ---- Take
 

@@ -1,8 +1,8 @@
 -- Lists: rising ones, and one without one of its elements.
 use Rattle.std.proofs.Common.{◌≡◌, ℕ, zero, suc, List, [], ◌∷◌, ◌++◌, inl, inr, Some, slice_get, refl, sym, ap, subst}
 use Rattle.std.specs.List.{remove}
-use Rattle.skeen_core.specs.Order.{In}
-use Rattle.skeen_core.proofs.Lists.{In-left, In-right, In-append}
+use Rattle.groups.specs.Order.{In}
+use Rattle.groups.proofs.Lists.{In-left, In-right, In-append}
 use Rattle.world_laws.specs.Good.{Rising}
 
 -- ---- rising lists

@@ -10,16 +10,16 @@ use Rattle.groups.specs.GroupSet.{has}
 use Rattle.journal.specs.declared.step.Step.TheVariants.{Open, Submit, Deliver, Take, Run, Settle, Collect, Close}
 use Rattle.placement.specs.Groups.{groups_of}
 use Rattle.placement.specs.Layout.{Layout}
-use Rattle.skeen_core.proofs.Lists.{In-left, In-right}
-use Rattle.skeen_core.proofs.Stamps.{final_above, final_within, lt_from_clocks}
+use Rattle.groups.proofs.Lists.{In-left, In-right}
+use Rattle.groups.proofs.Stamps.{final_above, final_within, lt_from_clocks}
 use Rattle.skeen_core.specs.Group.{heard, EachOnce}
-use Rattle.skeen_core.specs.Order.{In}
-use Rattle.skeen_core.specs.Stamp.{final}
+use Rattle.groups.specs.Order.{In}
+use Rattle.groups.specs.Stamp.{final}
 use Rattle.skeen_core.specs.declared.packet.Body.{Body}
 use Rattle.skeen_core.specs.declared.packet.Body.TheVariants.{Start, Proposal}
 use Rattle.skeen_core.specs.declared.packet.Delivered.{Delivered}
-use Rattle.skeen_core.specs.declared.request.RequestId.{RequestId}
-use Rattle.skeen_core.specs.declared.stamp.Stamp.{Stamp}
+use Rattle.groups.specs.declared.request.RequestId.{RequestId}
+use Rattle.groups.specs.declared.stamp.Stamp.{Stamp}
 use Rattle.world.specs.Steps.{Effect, submitted_to, submitted, Comes, Collects}
 use Rattle.world.specs.World.{World, Request, Standing, Closed, Idle, Waiting, Answered, Ended, Proposals}
 use Rattle.world_laws.specs.Good.{Rising, Asked, Known, BodyGood, bit, starts_of, addresses, log_of, delivered_of, all_delivered, taken_in}
@@ -35,7 +35,7 @@ use Rattle.world_laws.proofs.Lists.{rising_left}
 use Rattle.world_laws.proofs.Requests.{final_is_proposed}
 use Rattle.world_laws.proofs.Worlds.{good_world}
 use Rattle.std.proofs.lemmas.Bool.{cond-false}
-use Rattle.skeen_core.proofs.Lawful.{some_same}
+use Rattle.groups.proofs.Options.{some_same}
 
 -- ---- final stamps
 

@@ -5,23 +5,23 @@ use Rattle.std.proofs.lemmas.Bool.{both_ways, cases_Bool, or_cases, and_parts, a
 use Rattle.std.specs.FinMap.{get}
 use Rattle.groups.specs.GroupSet.{has}
 use Rattle.skeen_core.proofs.Finite.{started-with_start, heard-with_start, heard-with_proposal}
-use Rattle.skeen_core.proofs.Ids.{same_id-true, same_id-refl}
+use Rattle.groups.proofs.Ids.{same_id-true, same_id-refl}
 use Rattle.skeen_core.proofs.Lawful.{some_is, named, still_started, still_heard, stays_started}
-use Rattle.skeen_core.proofs.Lists.{In-left, In-right, In-append}
+use Rattle.groups.proofs.Lists.{In-left, In-right, In-append}
 use Rattle.skeen_core.specs.Group.{GroupState, heard, next_clock, with_start, with_proposal, lifted, Delivering, has_id, tell}
-use Rattle.skeen_core.specs.Order.{In}
-use Rattle.skeen_core.specs.Request.{same_id}
+use Rattle.groups.specs.Order.{In}
+use Rattle.groups.specs.Request.{same_id}
 use Rattle.skeen_core.specs.declared.packet.Body.TheVariants.{Start, Proposal}
 use Rattle.skeen_core.specs.declared.packet.Delivered.{Delivered}
 use Rattle.skeen_core.specs.declared.packet.Packet.{Packet}
-use Rattle.skeen_core.specs.declared.request.RequestId.{RequestId}
+use Rattle.groups.specs.declared.request.RequestId.{RequestId}
 use Rattle.world.specs.Steps.{hears}
 use Rattle.world.specs.World.{Request, Proposals}
 use Rattle.world_laws.specs.Good.{Asked}
 use Rattle.world_laws.specs.Quiet.{IsOut, told_by, GroupOwes}
 use Rattle.world_laws.proofs.Groups.{by_test}
 use Rattle.std.proofs.lemmas.Bool.{cond-true, cond-false}
-use Rattle.skeen_core.proofs.Lawful.{some_same}
+use Rattle.groups.proofs.Options.{some_same}
 
 -- ---- delivered ones
 

@@ -4,12 +4,12 @@ use Rattle.std.proofs.Common.{arith, eqb-true, eq-eqb}
 use Rattle.std.proofs.lemmas.Bool.{both_ways, cases_Bool, and_right, or_parts, or_left, or_right}
 use Rattle.groups.specs.GroupSet.{has, IsAscending}
 use Rattle.skeen_core.specs.Group.{tell}
-use Rattle.skeen_core.specs.Order.{In}
-use Rattle.skeen_core.specs.Request.{same_id}
+use Rattle.groups.specs.Order.{In}
+use Rattle.groups.specs.Request.{same_id}
 use Rattle.skeen_core.specs.declared.packet.Body.{Body}
 use Rattle.skeen_core.specs.declared.packet.Body.TheVariants.{Start, Proposal}
 use Rattle.skeen_core.specs.declared.packet.Packet.{Packet}
-use Rattle.skeen_core.specs.declared.request.RequestId.{RequestId}
+use Rattle.groups.specs.declared.request.RequestId.{RequestId}
 use Rattle.world.specs.Steps.{starts}
 use Rattle.world.specs.World.{Request, Proposals}
 use Rattle.world_laws.specs.Good.{Asked, Among, BodyGood, PacketGood, bit, starts_it, starts_of}

@@ -10,16 +10,16 @@ use Rattle.groups.specs.GroupSetLaws.{has-chosen}
 use Rattle.journal.specs.declared.step.Step.TheVariants.{Take}
 use Rattle.placement.specs.Layout.{Layout}
 use Rattle.skeen_core.proofs.Lawful.{None≢Some}
-use Rattle.skeen_core.proofs.Lists.{In-right, In-append}
-use Rattle.skeen_core.proofs.Stamps.{final_above, final_within, lt_irrefl, lt_trans}
+use Rattle.groups.proofs.Lists.{In-right, In-append}
+use Rattle.groups.proofs.Stamps.{final_above, final_within, lt_irrefl, lt_trans}
 use Rattle.skeen_core.specs.Due.{place_by}
 use Rattle.skeen_core.specs.Group.{heard, or_zero, own_at, Ascending}
-use Rattle.skeen_core.specs.Order.{In}
-use Rattle.skeen_core.specs.Stamp.{stamp_lt, later_of, final}
+use Rattle.groups.specs.Order.{In}
+use Rattle.groups.specs.Stamp.{stamp_lt, later_of, final}
 use Rattle.skeen_core.specs.declared.packet.Delivered.{Delivered}
 use Rattle.skeen_core.specs.declared.packet.Packet.{Packet}
-use Rattle.skeen_core.specs.declared.request.RequestId.{RequestId}
-use Rattle.skeen_core.specs.declared.stamp.Stamp.{Stamp}
+use Rattle.groups.specs.declared.request.RequestId.{RequestId}
+use Rattle.groups.specs.declared.stamp.Stamp.{Stamp}
 use Rattle.world.specs.Steps.{OwnFault, Busy, NoConn, NoPacket, InFlight, NoLayer, IsInFlight, NothingToRun, NothingToSettle, Refused}
 use Rattle.world.specs.World.{World, Request, Ended, Layer, NoneTaken, Taken, HasRun}
 use Rattle.world_laws.specs.Good.{Known, GroupGood, bit, starts_of, addresses, log_of, Named, all_delivered, all_taken, WorldGood}
@@ -28,7 +28,7 @@ use Rattle.world_laws.proofs.ConditionLaws.{delivered_same}
 use Rattle.world_laws.proofs.Layers.{ascending_cross, ascending_right, known_some}
 use Rattle.world_laws.proofs.Owed.{Owes, owes_world}
 use Rattle.world_laws.proofs.Worlds.{good_world}
-use Rattle.skeen_core.proofs.Lawful.{some_same}
+use Rattle.groups.proofs.Options.{some_same}
 
 -- ---- what was delivered isn't started
 

@@ -4,24 +4,24 @@ use Rattle.std.proofs.Common.{ap, ◌∙◌, subst, arith, eqb-true}
 use Rattle.std.proofs.lemmas.Bool.{both_ways, cases_Bool, cases_eq, and_parts}
 use Rattle.groups.specs.GroupSet.{has, IsAscending}
 use Rattle.placement.specs.Layout.{Layout}
-use Rattle.skeen_core.proofs.Ids.{same_id-true, same_id-refl}
+use Rattle.groups.proofs.Ids.{same_id-true, same_id-refl}
 use Rattle.skeen_core.proofs.Lawful.{None≢Some}
-use Rattle.skeen_core.proofs.Lists.{In-append}
-use Rattle.skeen_core.proofs.Stamps.{final_within, final_proposed}
+use Rattle.groups.proofs.Lists.{In-append}
+use Rattle.groups.proofs.Stamps.{final_within, final_proposed}
 use Rattle.skeen_core.specs.Group.{GroupState}
-use Rattle.skeen_core.specs.Request.{same_id}
-use Rattle.skeen_core.specs.Stamp.{final}
+use Rattle.groups.specs.Request.{same_id}
+use Rattle.groups.specs.Stamp.{final}
 use Rattle.skeen_core.specs.declared.packet.Delivered.{Delivered}
 use Rattle.skeen_core.specs.declared.packet.Packet.{Packet}
-use Rattle.skeen_core.specs.declared.request.RequestId.{RequestId}
-use Rattle.skeen_core.specs.declared.stamp.Stamp.{Stamp}
+use Rattle.groups.specs.declared.request.RequestId.{RequestId}
+use Rattle.groups.specs.declared.stamp.Stamp.{Stamp}
 use Rattle.world.specs.Steps.{at, asks, starts}
 use Rattle.world.specs.World.{Request, Proposals}
 use Rattle.world_laws.specs.Good.{Asked, Among, bit, addresses, SkeenGood, ShapedFor, Under, AskedGood, TakenGood}
 use Rattle.world_laws.proofs.Groups.{AskedMore, known_more, group_grows, by_test}
 use Rattle.world_laws.proofs.Packets.{body_more, starts_of-append, starts_of-new, starts_good}
 use Rattle.std.proofs.lemmas.Bool.{cond-true, cond-false}
-use Rattle.skeen_core.proofs.Lawful.{some_same}
+use Rattle.groups.proofs.Options.{some_same}
 use Rattle.world_laws.proofs.Values.{same_request, at_here}
 
 -- ---- small facts

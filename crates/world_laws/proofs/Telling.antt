@@ -13,11 +13,11 @@ use Rattle.journal.specs.declared.step.Step.TheVariants.{Open, Submit, Deliver, 
 use Rattle.placement.specs.Groups.{groups_of}
 use Rattle.placement.specs.Layout.{Layout}
 use Rattle.resp.specs.Content.{Content, ErrorLine}
-use Rattle.skeen_core.proofs.Ids.{same_id-true}
+use Rattle.groups.proofs.Ids.{same_id-true}
 use Rattle.skeen_core.proofs.Lawful.{None≢Some}
-use Rattle.skeen_core.specs.Request.{same_id}
-use Rattle.skeen_core.specs.declared.request.ConnId.{ConnId}
-use Rattle.skeen_core.specs.declared.request.RequestId.{RequestId}
+use Rattle.groups.specs.Request.{same_id}
+use Rattle.groups.specs.declared.request.ConnId.{ConnId}
+use Rattle.groups.specs.declared.request.RequestId.{RequestId}
 use Rattle.world.specs.Steps.{at, opening, Effect, Submitted, Collected, next_id, floor_of, multicast, answered, submitted_to, submitted}
 use Rattle.world.specs.Steps.{outcome_of, Collects, Steps, Makes}
 use Rattle.world.specs.World.{World, Request, Outcome, Standing, Closed, Idle, Waiting, Answered, Ended}

@@ -1,7 +1,7 @@
 -- Values by their parts: what two constructors or two records have in common.
 use Rattle.std.proofs.Common.{◌≡◌, ℕ, ◌==◌, refl, eq-eqb, Some}
 use Rattle.std.proofs.lemmas.Bool.{cond-true}
-use Rattle.skeen_core.specs.declared.request.RequestId.{RequestId}
+use Rattle.groups.specs.declared.request.RequestId.{RequestId}
 use Rattle.world.specs.Steps.{at, Collected}
 use Rattle.world.specs.World.{Outcome, Standing, Closed, Idle, Waiting, Answered}
 

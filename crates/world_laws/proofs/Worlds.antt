@@ -17,14 +17,14 @@ use Rattle.resp.specs.Content.{Content}
 use Rattle.skeen_core.proofs.Ahead.{going_fresh}
 use Rattle.skeen_core.proofs.Finite.{started-fresh, heard-fresh}
 use Rattle.skeen_core.proofs.Lawful.{None≢Some}
-use Rattle.skeen_core.proofs.Lists.{In-left, In-right}
+use Rattle.groups.proofs.Lists.{In-left, In-right}
 use Rattle.skeen_core.specs.Group.{GroupState, fresh}
-use Rattle.skeen_core.specs.Order.{In}
-use Rattle.skeen_core.specs.Stamp.{final}
+use Rattle.groups.specs.Order.{In}
+use Rattle.groups.specs.Stamp.{final}
 use Rattle.skeen_core.specs.declared.packet.Delivered.{Delivered}
 use Rattle.skeen_core.specs.declared.packet.Packet.{Packet}
-use Rattle.skeen_core.specs.declared.request.RequestId.{RequestId}
-use Rattle.skeen_core.specs.declared.stamp.Stamp.{Stamp}
+use Rattle.groups.specs.declared.request.RequestId.{RequestId}
+use Rattle.groups.specs.declared.stamp.Stamp.{Stamp}
 use Rattle.world.specs.Steps.{opening, Effect, Opens, next_id, clock_of, final_clock, final_clock_of, floor_of, multicast, answered}
 use Rattle.world.specs.Steps.{submitted_to, submitted, Submits, received, Comes, Takes, RunsLayer, Settles, Collects, Closes, Steps, Makes}
 use Rattle.world.specs.Steps.{Leads}
@@ -39,7 +39,7 @@ use Rattle.world_laws.proofs.Lists.{split_at}
 use Rattle.world_laws.proofs.Receipts.{packet_comes, among_comes}
 use Rattle.world_laws.proofs.Requests.{asks_more, skeen_multicast, next_is_new, Rested, requests_multicast, requests_counted}
 use Rattle.world_laws.proofs.Requests.{requests_proposed, taken_more}
-use Rattle.skeen_core.proofs.Lawful.{some_same}
+use Rattle.groups.proofs.Options.{some_same}
 use Rattle.world_laws.proofs.Values.{idle_open, idle_not_waiting, closed_not_answered}
 
 -- ---- the opening

@@ -12,9 +12,9 @@ use Rattle.placement.specs.Groups.{groups_of}
 use Rattle.placement.specs.Layout.{Layout}
 use Rattle.resp.specs.Content.{Content, ErrorLine}
 use Rattle.skeen_core.specs.Group.{EachOnce}
-use Rattle.skeen_core.specs.Order.{In}
-use Rattle.skeen_core.specs.declared.request.ConnId.{ConnId}
-use Rattle.skeen_core.specs.declared.request.RequestId.{RequestId}
+use Rattle.groups.specs.Order.{In}
+use Rattle.groups.specs.declared.request.ConnId.{ConnId}
+use Rattle.groups.specs.declared.request.RequestId.{RequestId}
 use Rattle.world.specs.Steps.{opening, Effect, Submitted, Collected, outcome_of, Steps, Makes}
 use Rattle.world.specs.World.{World, Request, Outcome, Ended}
 

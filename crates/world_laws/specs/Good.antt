@@ -10,15 +10,15 @@ use Rattle.placement.specs.Groups.{groups_of}
 use Rattle.placement.specs.Layout.{Layout}
 use Rattle.skeen_core.proofs.Ahead.{Going}
 use Rattle.skeen_core.specs.Group.{GroupState, heard}
-use Rattle.skeen_core.specs.Order.{In}
-use Rattle.skeen_core.specs.Request.{same_id}
-use Rattle.skeen_core.specs.Stamp.{stamp_lt, final}
+use Rattle.groups.specs.Order.{In}
+use Rattle.groups.specs.Request.{same_id}
+use Rattle.groups.specs.Stamp.{stamp_lt, final}
 use Rattle.skeen_core.specs.declared.packet.Body.{Body}
 use Rattle.skeen_core.specs.declared.packet.Body.TheVariants.{Start, Proposal}
 use Rattle.skeen_core.specs.declared.packet.Delivered.{Delivered}
 use Rattle.skeen_core.specs.declared.packet.Packet.{Packet}
-use Rattle.skeen_core.specs.declared.request.RequestId.{RequestId}
-use Rattle.skeen_core.specs.declared.stamp.Stamp.{Stamp}
+use Rattle.groups.specs.declared.request.RequestId.{RequestId}
+use Rattle.groups.specs.declared.stamp.Stamp.{Stamp}
 use Rattle.world.specs.Steps.{map_after, after_all, outcome_of}
 use Rattle.world.specs.World.{World, Request, Outcome, Standing, Closed, Waiting, Answered, Ended, Layer, NoneTaken, Taken, HasRun}
 use Rattle.world.specs.World.{Proposals}

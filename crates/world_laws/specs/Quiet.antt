@@ -5,11 +5,11 @@ use Rattle.delivery.specs.Ready.{IsReady}
 use Rattle.groups.specs.GroupSet.{has}
 use Rattle.journal.specs.declared.step.Step.TheVariants.{Deliver, Take, Run, Settle}
 use Rattle.skeen_core.specs.Group.{GroupState, heard}
-use Rattle.skeen_core.specs.Order.{In}
+use Rattle.groups.specs.Order.{In}
 use Rattle.skeen_core.specs.declared.packet.Body.TheVariants.{Proposal}
 use Rattle.skeen_core.specs.declared.packet.Delivered.{Delivered}
 use Rattle.skeen_core.specs.declared.packet.Packet.{Packet}
-use Rattle.skeen_core.specs.declared.request.RequestId.{RequestId}
+use Rattle.groups.specs.declared.request.RequestId.{RequestId}
 use Rattle.world.specs.Steps.{OwnFault, NoPacket, NoLayer, Refused}
 use Rattle.world.specs.World.{World, Request, NoneTaken, Proposals}
 use Rattle.world_laws.specs.Good.{Asked, Named}

@@ -2,7 +2,7 @@ use Rattle.std.proofs.Common.{◌+◌, length, drop, get_or, arith, ap, length-a
 use Rattle.std.specs.List.{flat_map}
 use Rattle.std.proofs.lemmas.List.{take_all, append_assoc, append-nil}
 use Rattle.std.proofs.lemmas.Option.{slice_get-get_or}
-use Rattle.skeen_core.specs.declared.request.RequestId.{RequestId}
+use Rattle.groups.specs.declared.request.RequestId.{RequestId}
 use Rattle.packing.specs.CodeLaws.{take_codes, drop_codes}
 use Rattle.journal.specs.Codes.{id_code}
 use Rattle.journal.proofs.CodeLaws.{length-ids_code, length-id_code, id_code-is, ids_code-is}

@@ -2,7 +2,7 @@ use Rattle.std.proofs.Common.{◌+◌, length, take, get_or, arith, ap, subst, �
 use Rattle.std.specs.List.{flat_map, AllByRecursion}
 use Rattle.std.proofs.lemmas.List.{take_all}
 use Rattle.std.proofs.lemmas.Option.{slice_get-get_or}
-use Rattle.skeen_core.specs.declared.request.RequestId.{RequestId}
+use Rattle.groups.specs.declared.request.RequestId.{RequestId}
 use Rattle.packing.specs.CodeLaws.{take_codes, all_one, size_rest}
 use Rattle.journal.specs.Codes.{id_code, IdFits}
 use Rattle.journal.proofs.CodeLaws.{length-ids_code, length-id_code}

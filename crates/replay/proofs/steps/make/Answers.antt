@@ -1,6 +1,6 @@
 use Rattle.std.proofs.Common.{◌≡◌, true, List, subst}
 use Rattle.std.specs.List.{AllByRecursion}
-use Rattle.skeen_core.specs.declared.request.RequestId.{RequestId}
+use Rattle.groups.specs.declared.request.RequestId.{RequestId}
 use Rattle.system.specs.declared.effect.Effect.TheVariants as effect
 use Rattle.world.specs.Steps.{names}
 use Rattle.replay.proofs.Making.{stands_next, named_all}

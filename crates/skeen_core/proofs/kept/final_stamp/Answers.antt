@@ -1,8 +1,8 @@
 use Rattle.std.proofs.Common.{◌≡◌, cond, sym, ap, ◌∙◌, rules, false}
-use Rattle.skeen_core.specs.declared.stamp.Stamp.{Stamp}
-use Rattle.skeen_core.specs.Stamp.{stamp_lt, final}
+use Rattle.groups.specs.declared.stamp.Stamp.{Stamp}
+use Rattle.groups.specs.Stamp.{stamp_lt, final}
 use Rattle.skeen_core.specs.Kept.{clock_in}
-use Rattle.skeen_core.proofs.Stamps.{final_begun, final_missing, final_passed, final_ended}
+use Rattle.groups.proofs.Stamps.{final_begun, final_missing, final_passed, final_ended}
 use Rattle.skeen_core.proofs.kept.final_stamp.Goals as goal
 
 pub loop-group-init : goal.loop-group-init

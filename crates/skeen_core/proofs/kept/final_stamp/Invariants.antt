@@ -1,5 +1,5 @@
 use Rattle.std.proofs.Common.{◌≡◌, option_map}
-use Rattle.skeen_core.specs.Stamp.{later, final}
+use Rattle.groups.specs.Stamp.{later, final}
 use Rattle.skeen_core.specs.Kept.{clock_in}
 use Rattle.skeen_core.proofs.kept.final_stamp.Given as goal
 

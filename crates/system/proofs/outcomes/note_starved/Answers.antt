@@ -6,7 +6,7 @@ use Rattle.std.proofs.lemmas.List.{drop_all}
 use Rattle.std.specs.Option.{is_some}
 use Rattle.resp.specs.declared.reply.Reply.{Reply}
 use Rattle.shard_exec.specs.declared.done.Ended as run
-use Rattle.skeen_core.specs.declared.request.RequestId.{RequestId}
+use Rattle.groups.specs.declared.request.RequestId.{RequestId}
 use Rattle.system_view.specs.Layers.{if_none, starved_of}
 use Rattle.system.proofs.outcomes.note_starved.Goals.{then-is_none, else-is_none}
 use Rattle.system.proofs.outcomes.note_starved.Goals as goal

@@ -1,7 +1,7 @@
 use Rattle.std.proofs.Common.{◌≡◌, ◌+◌, suc, arith, subst, refl}
 use Rattle.command_table.specs.Reading.{reading}
 use Rattle.router.specs.Submitting.{StandsBy, next_id}
-use Rattle.skeen_core.specs.declared.request.RequestId.{RequestId}
+use Rattle.groups.specs.declared.request.RequestId.{RequestId}
 use Rattle.router.proofs.router.Router.submit.Goals as goal
 
 pub returns-clause-submitted : goal.returns-clause-submitted

@@ -3,11 +3,11 @@ use Rattle.std.proofs.Common.{rules, ◌+◌, ◌<◌, ◌≤◌, ◌≡◌, [],
 use Rattle.std.proofs.Common.{length, take, ◌-◌}
 use Rattle.std.specs.FinMap.{len}
 use Rattle.skeen_core.specs.declared.packet.Body.TheVariants.{Proposal}
-use Rattle.skeen_core.specs.Stamp.{final}
+use Rattle.groups.specs.Stamp.{final}
 use Rattle.skeen_core.specs.Group.{GroupView, BodyMayCome, Receives, lift}
 use Rattle.skeen_core.specs.Kept.{state_of, groups_in, clock_in, StandsAt, IsKept}
 use Rattle.skeen_core.proofs.Finite.{heard-state_of, len-started}
-use Rattle.skeen_core.proofs.Lawful.{some_same}
+use Rattle.groups.proofs.Options.{some_same}
 use Rattle.skeen_core.proofs.Representation.{own_heard, settled_at}
 use Rattle.skeen_core.proofs.Steps.{ToldMade, SetMade, told_early, told_differ, told_delivers, told_waits, told_again, comes_as, none_of}
 use Rattle.skeen_core.proofs.Steps.{some_of, written_back, got_back, popped}

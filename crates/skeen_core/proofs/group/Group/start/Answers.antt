@@ -2,7 +2,7 @@
 use Rattle.std.proofs.Common.{rules, ◌≤◌, length, ◌+◌, [], ◌∷◌, ◌++◌, arith, sym, ap, ◌∙◌, subst, refl}
 use Rattle.std.specs.FinMap.{get, len}
 use Rattle.skeen_core.specs.declared.packet.Body.TheVariants.{Start}
-use Rattle.skeen_core.specs.Stamp.{final}
+use Rattle.groups.specs.Stamp.{final}
 use Rattle.skeen_core.specs.Group.{GroupView, BodyMayCome, ReceivesStart, lift}
 use Rattle.skeen_core.specs.Kept.{state_of, groups_in, clock_in}
 use Rattle.skeen_core.proofs.Finite.{len-started}

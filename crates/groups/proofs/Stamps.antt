@@ -4,8 +4,8 @@ use Rattle.std.proofs.Common.{subst, arith, ◌⊎◌, inl, inr, eqb-true}
 use Rattle.std.proofs.lemmas.Bool.{or_cases, both_ways}
 use Rattle.std.proofs.lemmas.Bool.Decides.{nat_tests}
 use Rattle.groups.specs.GroupSet.{has}
-use Rattle.skeen_core.specs.declared.stamp.Stamp.{Stamp}
-use Rattle.skeen_core.specs.Stamp.{stamp_lt, later, later_of, final}
+use Rattle.groups.specs.declared.stamp.Stamp.{Stamp}
+use Rattle.groups.specs.Stamp.{stamp_lt, later, later_of, final}
 
 -- ---- the order
 

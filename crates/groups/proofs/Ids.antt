@@ -6,8 +6,8 @@ use Rattle.std.specs.declared.cmp.Ordering.{Ordering}
 use Rattle.std.specs.declared.cmp.Ordering.TheVariants.{Less, Equal, Greater}
 use Rattle.std.specs.Cmp.{IsTotalOrder, on_total, then_total, nat_cmp_total, unsigned_tied}
 use Rattle.std.specs.FinMap.{IsAntisymmetric}
-use Rattle.skeen_core.specs.declared.request.RequestId.{RequestId}
-use Rattle.skeen_core.specs.Request.{same_id, id_cmp, Source, source_cmp}
+use Rattle.groups.specs.declared.request.RequestId.{RequestId}
+use Rattle.groups.specs.Request.{same_id, id_cmp, Source, source_cmp}
 
 pub same_id-true : (i j : RequestId) → same_id i j ≡ true → i ≡ j
 same_id-true i j h =

@@ -1,7 +1,7 @@
 -- What stands in a list that is made from others.
 use Rattle.std.proofs.Common.{◌≡◌, ℕ, zero, suc, ◌<◌, Bool, true, false, cond, List, [], ◌∷◌, ◌++◌, ◌⊎◌, inl, inr, length, get_or, filter}
 use Rattle.std.proofs.Common.{refl, ap, ◌∙◌, arith}
-use Rattle.skeen_core.specs.Order.{In}
+use Rattle.groups.specs.Order.{In}
 
 pub In-left : {X : Type 0} (x : X) (xs ys : List X) → In x xs → In x (xs ++ ys)
 In-left x [] ys h = absurd h

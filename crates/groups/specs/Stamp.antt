@@ -1,7 +1,7 @@
 -- Stamps and the final stamp of a request, as in the total order that Guerraoui and Schiper give of Skeen's algorithm:
 -- each addressed process proposes a timestamp, the greatest is the message's own, and processes break ties.
 use Rattle.std.specs.Prelude.{ℕ, Bool, cond, nat_lt, ◌==◌, ◌&&◌, ◌||◌, List, [], ◌∷◌, Option, Some, None}
-use Rattle.skeen_core.specs.declared.stamp.Stamp.{Stamp}
+use Rattle.groups.specs.declared.stamp.Stamp.{Stamp}
 
 -- by the clocks, and at one clock by the groups
 abbrev pub stamp_lt : Stamp → Stamp → Bool

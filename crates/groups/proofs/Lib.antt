@@ -1,0 +1,4 @@
+pub mod Ids
+pub mod Lists
+pub mod Options
+pub mod Stamps
