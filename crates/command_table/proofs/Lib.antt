@@ -1,3 +1,4 @@
 pub mod Finding
 pub mod Keyed
+pub mod RowHeads
 pub mod Tells

@@ -36,11 +36,6 @@ row_of (r ∷ rs) name = if bytes_eq name r.name then Some r else row_of rs name
 abbrev pub row_reading : CommandRow → List Word → Reading
 row_reading r words = if admits r.arity (length words + 1) then r.reading words else Err (refusal.Arity r.name)
 
--- why words are refused of which a row takes another number, or that no row has
-abbrev pub refusal_of : Option CommandRow → Refusal
-refusal_of (Some r) = refusal.Arity r.name
-refusal_of None = refusal.Unknown
-
 -- what these rows say of a name and the words after it; None where no row has the name
 abbrev pub reading_among : List CommandRow → Word → List Word → Option Reading
 reading_among rows name words = option_map (λ r. row_reading r words) (row_of rows name)

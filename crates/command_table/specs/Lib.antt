@@ -11,6 +11,7 @@ pub mod LocalCommands
 pub mod Reading
 pub mod Refusal
 pub mod CommandRow
+pub mod RowHeads
 pub mod SetCommands
 pub mod StringCommands
 pub mod Telling

@@ -57,7 +57,7 @@ pub fn name(command: &Command) -> &'static str
     told(command).name
 }
 
-/// Whether the command is for all keys there are, and so names none. None of these commands is.
+/// Whether the command is for all keys there are, and so names none.
 pub fn is_whole(command: &Command) -> bool
     ensures { result ≡ is_whole command.now }
 {

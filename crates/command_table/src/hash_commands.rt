@@ -1,19 +1,21 @@
 //! Commands on hashes.
 
-ghost use Rattle.std.specs.Prelude.{◌≡◌, ◌≤◌, length, Err, unwrap_or};
+ghost use Rattle.std.specs.Prelude.{◌≡◌, ◌+◌, ◌<◌, ◌≤◌, length, Err, unwrap_or, IsTrue};
 ghost use Rattle.command_table.specs.declared.refusal.Refusal.TheVariants.{Unknown};
 ghost use Rattle.command_table.specs.HashCommands.{hash_command_told, hash_rows, whole_pairs, hlen_row, hget_row, hexists_row, hstrlen_row};
 ghost use Rattle.command_table.specs.HashCommands.{hkeys_row, hvals_row, hgetall_row, hmget_row, hdel_row, hsetnx_row, hset_row, hmset_row};
 ghost use Rattle.command_table.specs.HashCommands.{hincrby_row};
 ghost use Rattle.command_table.specs.Held.{told_held};
-ghost use Rattle.command_table.specs.CommandRow.{reading_among, refusal_of, row_of};
+ghost use Rattle.command_table.specs.CommandRow.{reading_among};
+ghost use Rattle.command_table.specs.RowHeads.{admits_at, reading_at};
 ghost use Rattle.command_table.specs.Words.{texts_of};
 
 use crate::arity::Arity;
 use crate::command::Command;
 use crate::command_rows;
 use crate::refusal::{CommandName, Refusal};
-use crate::rows::{keys_of_span, read_rows, refusal_rows, told_rows};
+use crate::row_heads::{RowHead, place_of};
+use crate::rows::{head_rows, keys_of_span, read_rows, told_rows};
 use crate::told::{Keys, Told};
 use crate::words::{first_and_rest, integer_word, only_word, three_words, two_words};
 use texts::{Pairs, Text, Texts};
@@ -70,19 +72,27 @@ impl HashCommand {
     }
 }
 
+/// The heads of the rows.
+const HEADS: &[RowHead] = command_rows!(hashes, head_rows,);
+
 /// Reads the words after a name by the row that has it; a name that none of these rows has is unknown.
 pub(crate) fn read_hash_command(name: &str, words: Vec<Vec<u8>>) -> Result<Command, Refusal>
     ensures { result ≡ unwrap_or (reading_among hash_rows name.now (texts_of words.items)) (Err Unknown) }
 {
-    command_rows!(hashes, read_rows, name, words, refusal_of_hash_command)
+    let place = match place_of(HEADS, name, words.len() + 1) {
+        Ok(place) => place,
+        Err(refused) => return Err(refused),
+    };
+    read_hash_row(place, words)
 }
 
-/// Why words after this name are refused that its row doesn't take.
-#[inline(never)]
-fn refusal_of_hash_command(name: &str) -> Refusal
-    ensures { result ≡ refusal_of (row_of hash_rows name.now) }
+/// Reads the words after a name by the row at this place, which takes as many.
+fn read_hash_row(place: usize, words: Vec<Vec<u8>>) -> Result<Command, Refusal>
+    requires there { place < length hash_rows }
+    requires taken { IsTrue (admits_at hash_rows place (length words.items + 1)) }
+    ensures { result ≡ reading_at hash_rows place (texts_of words.items) }
 {
-    command_rows!(hashes, refusal_rows, name)
+    command_rows!(hashes, read_rows, place, words)
 }
 
 /// `HLEN key`.

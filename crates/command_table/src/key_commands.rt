@@ -1,18 +1,20 @@
 //! Commands on keys of any type.
 
-ghost use Rattle.std.specs.Prelude.{◌≡◌, length, Err, unwrap_or};
+ghost use Rattle.std.specs.Prelude.{◌≡◌, ◌+◌, ◌<◌, length, Err, unwrap_or, IsTrue};
 ghost use Rattle.command_table.specs.declared.refusal.Refusal.TheVariants.{Unknown};
 ghost use Rattle.command_table.specs.Held.{told_held};
 ghost use Rattle.command_table.specs.KeyCommands.{key_command_told, key_rows, del_row, unlink_row, exists_row, type_row, rename_row};
 ghost use Rattle.command_table.specs.KeyCommands.{renamenx_row, dbsize_row, flushall_reading};
-ghost use Rattle.command_table.specs.CommandRow.{reading_among, refusal_of, row_of};
+ghost use Rattle.command_table.specs.CommandRow.{reading_among};
+ghost use Rattle.command_table.specs.RowHeads.{admits_at, reading_at};
 ghost use Rattle.command_table.specs.Words.{texts_of};
 
 use crate::arity::Arity;
 use crate::command::Command;
 use crate::command_rows;
-use crate::refusal::{CommandName, Refusal};
-use crate::rows::{keys_of_span, read_rows, refusal_rows, told_rows};
+use crate::refusal::Refusal;
+use crate::row_heads::{RowHead, place_of};
+use crate::rows::{head_rows, keys_of_span, read_rows, told_rows};
 use crate::told::{Keys, Told};
 use crate::words::{is_word, only_word, two_words};
 use texts::{Text, Texts};
@@ -54,19 +56,27 @@ impl KeyCommand {
     }
 }
 
+/// The heads of the rows.
+const HEADS: &[RowHead] = command_rows!(keys, head_rows,);
+
 /// Reads the words after a name by the row that has it; a name that none of these rows has is unknown.
 pub(crate) fn read_key_command(name: &str, words: Vec<Vec<u8>>) -> Result<Command, Refusal>
     ensures { result ≡ unwrap_or (reading_among key_rows name.now (texts_of words.items)) (Err Unknown) }
 {
-    command_rows!(keys, read_rows, name, words, refusal_of_key_command)
+    let place = match place_of(HEADS, name, words.len() + 1) {
+        Ok(place) => place,
+        Err(refused) => return Err(refused),
+    };
+    read_key_row(place, words)
 }
 
-/// Why words after this name are refused that its row doesn't take.
-#[inline(never)]
-fn refusal_of_key_command(name: &str) -> Refusal
-    ensures { result ≡ refusal_of (row_of key_rows name.now) }
+/// Reads the words after a name by the row at this place, which takes as many.
+fn read_key_row(place: usize, words: Vec<Vec<u8>>) -> Result<Command, Refusal>
+    requires there { place < length key_rows }
+    requires taken { IsTrue (admits_at key_rows place (length words.items + 1)) }
+    ensures { result ≡ reading_at key_rows place (texts_of words.items) }
 {
-    command_rows!(keys, refusal_rows, name)
+    command_rows!(keys, read_rows, place, words)
 }
 
 /// `DEL key [key ..]`.

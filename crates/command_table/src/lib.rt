@@ -15,6 +15,7 @@ mod list_commands;
 mod local_commands;
 mod reading;
 mod refusal;
+mod row_heads;
 mod rows;
 mod set_commands;
 mod string_commands;

@@ -1,20 +1,22 @@
 //! Commands on lists.
 
-ghost use Rattle.std.specs.Prelude.{◌≡◌, ◌≤◌, length, Err, unwrap_or};
+ghost use Rattle.std.specs.Prelude.{◌≡◌, ◌+◌, ◌<◌, ◌≤◌, length, Err, unwrap_or, IsTrue};
 ghost use Rattle.command_table.specs.declared.refusal.Refusal.TheVariants.{Unknown};
 ghost use Rattle.command_table.specs.Held.{told_held};
 ghost use Rattle.command_table.specs.ListCommands.{list_command_told, list_rows, side_of, end_of};
 ghost use Rattle.command_table.specs.ListCommands.{llen_row, lpop_row, rpop_row, lpush_row, rpush_row, lpushx_row, rpushx_row};
 ghost use Rattle.command_table.specs.ListCommands.{lindex_row, lset_row, lrange_row, ltrim_row, lrem_row};
 ghost use Rattle.command_table.specs.ListCommands.{linsert_row, lmove_row, rpoplpush_row};
-ghost use Rattle.command_table.specs.CommandRow.{reading_among, refusal_of, row_of};
+ghost use Rattle.command_table.specs.CommandRow.{reading_among};
+ghost use Rattle.command_table.specs.RowHeads.{admits_at, reading_at};
 ghost use Rattle.command_table.specs.Words.{texts_of};
 
 use crate::arity::Arity;
 use crate::command::Command;
 use crate::command_rows;
-use crate::refusal::{CommandName, Refusal};
-use crate::rows::{keys_of_span, read_rows, refusal_rows, told_rows};
+use crate::refusal::Refusal;
+use crate::row_heads::{RowHead, place_of};
+use crate::rows::{head_rows, keys_of_span, read_rows, told_rows};
 use crate::told::{Keys, Told};
 use crate::words::{first_and_rest, integer_word, is_word, only_word, two_words};
 use texts::{End, Text, Texts};
@@ -137,19 +139,27 @@ impl ListCommand {
     }
 }
 
+/// The heads of the rows.
+const HEADS: &[RowHead] = command_rows!(lists, head_rows,);
+
 /// Reads the words after a name by the row that has it; a name that none of these rows has is unknown.
 pub(crate) fn read_list_command(name: &str, words: Vec<Vec<u8>>) -> Result<Command, Refusal>
     ensures { result ≡ unwrap_or (reading_among list_rows name.now (texts_of words.items)) (Err Unknown) }
 {
-    command_rows!(lists, read_rows, name, words, refusal_of_list_command)
+    let place = match place_of(HEADS, name, words.len() + 1) {
+        Ok(place) => place,
+        Err(refused) => return Err(refused),
+    };
+    read_list_row(place, words)
 }
 
-/// Why words after this name are refused that its row doesn't take.
-#[inline(never)]
-fn refusal_of_list_command(name: &str) -> Refusal
-    ensures { result ≡ refusal_of (row_of list_rows name.now) }
+/// Reads the words after a name by the row at this place, which takes as many.
+fn read_list_row(place: usize, words: Vec<Vec<u8>>) -> Result<Command, Refusal>
+    requires there { place < length list_rows }
+    requires taken { IsTrue (admits_at list_rows place (length words.items + 1)) }
+    ensures { result ≡ reading_at list_rows place (texts_of words.items) }
 {
-    command_rows!(lists, refusal_rows, name)
+    command_rows!(lists, read_rows, place, words)
 }
 
 /// `LLEN key`.

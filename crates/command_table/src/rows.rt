@@ -106,27 +106,29 @@ macro_rules! command_rows {
     };
 }
 
-/// Reads these words by the row of this name, where it takes as many; else they are refused, by the caller's function.
-macro_rules! read_rows {
-    ([$name:expr, $words:expr, $refusal:ident] $((
-        $text:literal, $arity:ident($number:literal), $span:tt, $variant:ident { $($field:ident),* }, $read:ident, $body:ident
-    ),)*) => {{
-        let count = $words.len() + 1;
-        match $name {
-            $($text if Arity::$arity($number).admits(count) => $read($words),)*
-            _ => Err($refusal($name)),
-        }
-    }};
-}
-
-/// Why words are refused that the row of this name doesn't take: how many there are, or that no row has the name.
-macro_rules! refusal_rows {
-    ([$name:expr] $((
+/// The heads of these rows, in their order.
+macro_rules! head_rows {
+    ([] $((
         $text:literal, $arity:ident($number:literal), $span:tt, $variant:ident { $($field:ident),* }, $read:ident, $body:ident
     ),)*) => {
-        match $name {
-            $($text => Refusal::Arity(CommandName::of($text)),)*
-            _ => Refusal::Unknown,
+        &[$(RowHead { name: $text, arity: Arity::$arity($number) }),*]
+    };
+}
+
+/// Reads these words by the row at this place among these rows, 20 at most.
+macro_rules! read_rows {
+    ([$place:expr, $words:expr] $($rows:tt)*) => {
+        read_rows!(@ [$place, $words] [0 1 2 3 4 5 6 7 8 9 10 11 12 13 14 15 16 17 18 19] [] $($rows)*)
+    };
+    (@ [$place:expr, $words:expr] [$next:literal $($later:literal)*] [$($arm:tt)*] (
+        $text:literal, $arity:ident($number:literal), $span:tt, $variant:ident { $($field:ident),* }, $read:ident, $body:ident
+    ), $($rows:tt)*) => {
+        read_rows!(@ [$place, $words] [$($later)*] [$($arm)* ($next, $read)] $($rows)*)
+    };
+    (@ [$place:expr, $words:expr] [$($later:literal)*] [$(($number:literal, $read:ident))*]) => {
+        match $place {
+            $($number => $read($words),)*
+            _ => unreachable!(),
         }
     };
 }
@@ -153,7 +155,7 @@ macro_rules! keys_of_span {
     ((1, -1, 2), $pairs:ident) => { Keys::Firsts($pairs) };
 }
 
+pub(crate) use head_rows;
 pub(crate) use keys_of_span;
 pub(crate) use read_rows;
-pub(crate) use refusal_rows;
 pub(crate) use told_rows;

@@ -1,9 +1,10 @@
 //! Commands on sets.
 
-ghost use Rattle.std.specs.Prelude.{◌≡◌, ◌≤◌, length, Err, unwrap_or};
+ghost use Rattle.std.specs.Prelude.{◌≡◌, ◌+◌, ◌<◌, ◌≤◌, length, Err, unwrap_or, IsTrue};
 ghost use Rattle.command_table.specs.declared.refusal.Refusal.TheVariants.{Unknown};
 ghost use Rattle.command_table.specs.Held.{told_held};
-ghost use Rattle.command_table.specs.CommandRow.{reading_among, refusal_of, row_of};
+ghost use Rattle.command_table.specs.CommandRow.{reading_among};
+ghost use Rattle.command_table.specs.RowHeads.{admits_at, reading_at};
 ghost use Rattle.command_table.specs.SetCommands.{set_command_told, set_rows};
 ghost use Rattle.command_table.specs.SetCommands.{sadd_row, srem_row, sismember_row, smismember_row, scard_row, smembers_row};
 ghost use Rattle.command_table.specs.SetCommands.{smove_row, sinter_row, sunion_row, sdiff_row};
@@ -13,8 +14,9 @@ ghost use Rattle.command_table.specs.Words.{texts_of};
 use crate::arity::Arity;
 use crate::command::Command;
 use crate::command_rows;
-use crate::refusal::{CommandName, Refusal};
-use crate::rows::{keys_of_span, read_rows, refusal_rows, told_rows};
+use crate::refusal::Refusal;
+use crate::row_heads::{RowHead, place_of};
+use crate::rows::{head_rows, keys_of_span, read_rows, told_rows};
 use crate::told::{Keys, Told};
 use crate::words::{first_and_rest, only_word, three_words, two_words};
 use texts::{Text, Texts};
@@ -71,19 +73,27 @@ impl SetCommand {
     }
 }
 
+/// The heads of the rows.
+const HEADS: &[RowHead] = command_rows!(sets, head_rows,);
+
 /// Reads the words after a name by the row that has it; a name that none of these rows has is unknown.
 pub(crate) fn read_set_command(name: &str, words: Vec<Vec<u8>>) -> Result<Command, Refusal>
     ensures { result ≡ unwrap_or (reading_among set_rows name.now (texts_of words.items)) (Err Unknown) }
 {
-    command_rows!(sets, read_rows, name, words, refusal_of_set_command)
+    let place = match place_of(HEADS, name, words.len() + 1) {
+        Ok(place) => place,
+        Err(refused) => return Err(refused),
+    };
+    read_set_row(place, words)
 }
 
-/// Why words after this name are refused that its row doesn't take.
-#[inline(never)]
-fn refusal_of_set_command(name: &str) -> Refusal
-    ensures { result ≡ refusal_of (row_of set_rows name.now) }
+/// Reads the words after a name by the row at this place, which takes as many.
+fn read_set_row(place: usize, words: Vec<Vec<u8>>) -> Result<Command, Refusal>
+    requires there { place < length set_rows }
+    requires taken { IsTrue (admits_at set_rows place (length words.items + 1)) }
+    ensures { result ≡ reading_at set_rows place (texts_of words.items) }
 {
-    command_rows!(sets, refusal_rows, name)
+    command_rows!(sets, read_rows, place, words)
 }
 
 /// `SADD key member [member ..]`.

@@ -1,6 +1,6 @@
 //! Commands on strings.
 
-ghost use Rattle.std.specs.Prelude.{◌≡◌, ◌<◌, ◌≤◌, length, Err, unwrap_or};
+ghost use Rattle.std.specs.Prelude.{◌≡◌, ◌+◌, ◌<◌, ◌≤◌, length, Err, unwrap_or, IsTrue};
 ghost use Rattle.command_table.specs.declared.refusal.Refusal.TheVariants.{Unknown};
 ghost use Rattle.command_table.specs.Held.{told_held};
 ghost use Rattle.command_table.specs.StringCommands.{string_command_told, string_rows, get_row, set_row, setnx_row, getset_row, getdel_row};
@@ -8,7 +8,8 @@ ghost use Rattle.command_table.specs.StringCommands.{mget_row, strlen_row, getra
 ghost use Rattle.command_table.specs.StringCommands.{incr_row, decr_row, incrby_row, decrby_row, append_row, setrange_row, mset_row};
 ghost use Rattle.command_table.specs.StringCommands.{msetnx_row};
 ghost use Rattle.command_table.specs.StringCommands.{options_condition, is_option};
-ghost use Rattle.command_table.specs.CommandRow.{reading_among, refusal_of, row_of};
+ghost use Rattle.command_table.specs.CommandRow.{reading_among};
+ghost use Rattle.command_table.specs.RowHeads.{admits_at, reading_at};
 ghost use Rattle.command_table.specs.Words.{texts_of};
 ghost use Rattle.std.specs.List.{list_all};
 
@@ -16,7 +17,8 @@ use crate::arity::Arity;
 use crate::command::Command;
 use crate::command_rows;
 use crate::refusal::{CommandName, Refusal};
-use crate::rows::{keys_of_span, read_rows, refusal_rows, told_rows};
+use crate::row_heads::{RowHead, place_of};
+use crate::rows::{head_rows, keys_of_span, read_rows, told_rows};
 use crate::told::{Keys, Told};
 use crate::words::{has_word, integer_word, is_word, only_word, three_words, two_words};
 use texts::{Pairs, Text, Texts};
@@ -137,19 +139,27 @@ impl StringCommand {
     }
 }
 
+/// The heads of the rows.
+const HEADS: &[RowHead] = command_rows!(strings, head_rows,);
+
 /// Reads the words after a name by the row that has it; a name that none of these rows has is unknown.
 pub(crate) fn read_string_command(name: &str, words: Vec<Vec<u8>>) -> Result<Command, Refusal>
     ensures { result ≡ unwrap_or (reading_among string_rows name.now (texts_of words.items)) (Err Unknown) }
 {
-    command_rows!(strings, read_rows, name, words, refusal_of_string_command)
+    let place = match place_of(HEADS, name, words.len() + 1) {
+        Ok(place) => place,
+        Err(refused) => return Err(refused),
+    };
+    read_string_row(place, words)
 }
 
-/// Why words after this name are refused that its row doesn't take.
-#[inline(never)]
-fn refusal_of_string_command(name: &str) -> Refusal
-    ensures { result ≡ refusal_of (row_of string_rows name.now) }
+/// Reads the words after a name by the row at this place, which takes as many.
+fn read_string_row(place: usize, words: Vec<Vec<u8>>) -> Result<Command, Refusal>
+    requires there { place < length string_rows }
+    requires taken { IsTrue (admits_at string_rows place (length words.items + 1)) }
+    ensures { result ≡ reading_at string_rows place (texts_of words.items) }
 {
-    command_rows!(strings, refusal_rows, name)
+    command_rows!(strings, read_rows, place, words)
 }
 
 /// `GET key`.

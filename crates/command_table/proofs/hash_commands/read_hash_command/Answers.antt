@@ -1,6 +1,17 @@
-use Rattle.std.proofs.Common.{rules, tests}
-use Rattle.std.proofs.lemmas.List.{length-map}
+use Rattle.std.proofs.Common.{sym, ◌∙◌}
+use Rattle.command_table.specs.HashCommands.{hash_rows}
+use Rattle.command_table.proofs.RowHeads.{is_there, is_refused}
 use Rattle.command_table.proofs.hash_commands.read_hash_command.Goals as goal
 
-pub returns-in_default : goal.returns-in_default
-returns-in_default c = search (rules, tests, length-map)
+pub returns-in-Err : goal.returns-in-Err
+returns-in-Err c = is_refused hash_rows c.args.name.now c.args.words c.len.result c.in-Err.refused c.len.ensures c.in-Err.ensures
+
+pub read_hash_row-requires : goal.read_hash_row-requires
+read_hash_row-requires c =
+    let found = is_there hash_rows c.args.name.now c.args.words c.len.result c.in-Ok.place c.len.ensures c.in-Ok.ensures in
+    record { there = found.0; taken = found.1 }
+
+pub returns : goal.returns
+returns c =
+    let found = is_there hash_rows c.args.name.now c.args.words c.len.result c.in-Ok.place c.len.ensures c.in-Ok.ensures in
+    c.read_hash_row.ensures ∙ sym found.2
