@@ -31,7 +31,8 @@ pub returns-clause-said : goal.returns-clause-said
 returns-clause-said g c =
     let words = map g.S.AsStr.text c.args.words.now in
     let found = subst (λ (app : App). HasMatchesOf app words c.in-Ok.found) c.in_ok-line.ensures c.in-Ok.ensures.matches in
-    IfOk-weaker c.asked_in.result _ _ (λ o said. subst (λ (rows : List Row). AreSaidBy rows o) (found line_is_simple).0 said) c.asked_in.ensures.said
+    IfOk-weaker c.asked_in.result _ _
+    (λ o said. subst (λ (rows : List Row). AreSaidBy rows o) (found line_is_simple).0 said) c.asked_in.ensures.said
 
 pub returns-clause-refused : goal.returns-clause-refused
 returns-clause-refused g c =

@@ -27,13 +27,15 @@ pub returns-clause-taken : goal.returns-clause-taken
 returns-clause-taken g c =
     let words = map g.S.AsStr.text c.args.words.now in
     on_ok_always c.options_of.result
-    (subst (λ (app : App). is_simple_and_free app ≡ true → fault_of app words ≡ []) c.in_ok-command.ensures c.in-Ok.ensures.kinds line_is_free)
+    (subst (λ (app : App). is_simple_and_free app ≡ true → fault_of app words ≡ [])
+    c.in_ok-command.ensures c.in-Ok.ensures.kinds line_is_free)
 
 pub returns-clause-said : goal.returns-clause-said
 returns-clause-said g c =
     let words = map g.S.AsStr.text c.args.words.now in
     let found = subst (λ (app : App). HasMatchesOf app words c.in-Ok.matches) c.in_ok-command.ensures c.in-Ok.ensures.matches in
-    IfOk-weaker c.options_of.result _ _ (λ o said. subst (λ (rows : List Row). AreSaidBy rows o) (found line_is_simple).0 said) c.options_of.ensures.said
+    IfOk-weaker c.options_of.result _ _
+    (λ o said. subst (λ (rows : List Row). AreSaidBy rows o) (found line_is_simple).0 said) c.options_of.ensures.said
 
 pub returns-clause-refused : goal.returns-clause-refused
 returns-clause-refused g c =
