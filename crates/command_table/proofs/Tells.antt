@@ -11,7 +11,6 @@ use Rattle.command_table.specs.declared.hash_commands.HashCommand.{HashCommand}
 use Rattle.command_table.specs.declared.hash_commands.HashCommand.TheVariants.{Hset, Hmset}
 use Rattle.command_table.specs.declared.refusal.Refusal.{Refusal}
 use Rattle.command_table.specs.declared.key_commands.KeyCommand.TheVariants.{Flushall}
-use Rattle.command_table.specs.declared.string_commands.Condition.{Condition}
 use Rattle.command_table.specs.Arity.{admits}
 use Rattle.command_table.specs.Command.{told_of}
 use Rattle.command_table.specs.HashCommands.{hash_rows, hlen_row, hget_row, hexists_row, hstrlen_row, hkeys_row, hvals_row, hgetall_row}
@@ -20,19 +19,16 @@ use Rattle.command_table.specs.KeyCommands.{key_rows, del_row, unlink_row, exist
 use Rattle.command_table.specs.KeyCommands.{flushall_row}
 use Rattle.command_table.specs.KeySpan.{NoKeys, AllThereAre, Between, ToLastWord, stepped, keys_in}
 use Rattle.command_table.specs.ListCommands.{list_rows, llen_row, lpop_row, rpop_row, lpush_row, rpush_row, lpushx_row, rpushx_row}
-use Rattle.command_table.specs.ListCommands.{lindex_row, lset_row, lrange_row, ltrim_row, lrem_row, lindex_with, lset_with, lrange_with}
-use Rattle.command_table.specs.ListCommands.{ltrim_with, lrem_with}
-use Rattle.command_table.specs.ListCommands.{linsert_row, lmove_row, rpoplpush_row, linsert_with, lmove_with, side_of, end_of}
-use Rattle.command_table.specs.declared.list_commands.Side.{Side}
-use Rattle.texts.specs.declared.text_list.End.{End}
+use Rattle.command_table.specs.ListCommands.{lindex_row, lset_row, lrange_row, ltrim_row, lrem_row}
+use Rattle.command_table.specs.ListCommands.{linsert_row, lmove_row, rpoplpush_row, side_of, end_of}
 use Rattle.command_table.specs.LocalCommands.{local_rows, ping_row, echo_row}
 use Rattle.command_table.specs.Reading.{rows, reading, IsTold}
-use Rattle.command_table.specs.CommandRow.{CommandRow, Reading, pairs_reading, then_reading, row_of, row_reading, row_told}
+use Rattle.command_table.specs.CommandRow.{CommandRow, Reading, pairs_reading, then_reading, integer_reading, row_of, row_reading, row_told}
 use Rattle.command_table.specs.CommandRow.{reading_among}
 use Rattle.command_table.specs.SetCommands.{set_rows, sadd_row, srem_row, sismember_row, smismember_row, scard_row, smembers_row}
 use Rattle.command_table.specs.SetCommands.{smove_row, sinter_row, sunion_row, sdiff_row, sinterstore_row, sunionstore_row, sdiffstore_row}
 use Rattle.command_table.specs.StringCommands.{string_rows, get_row, set_row, setnx_row, getset_row, getdel_row, mget_row, strlen_row}
-use Rattle.command_table.specs.StringCommands.{getrange_row, set_with, options_condition}
+use Rattle.command_table.specs.StringCommands.{getrange_row, options_condition}
 use Rattle.command_table.specs.StringCommands.{incr_row, decr_row, incrby_row, decrby_row, append_row, setrange_row, mset_row, msetnx_row}
 use Rattle.command_table.specs.declared.string_commands.StringCommand.TheVariants.{Mset, Msetnx}
 use Rattle.command_table.specs.Telling.{KeysTold, All, These}
@@ -131,15 +127,16 @@ ping_tells [] = refl
 ping_tells (w ∷ []) = refl
 ping_tells (w ∷ v ∷ ws) = tt
 
-set_tells : (key value : Word) (o : Result Condition Refusal) → IsToldAs set_row (These (key ∷ [])) (set_with key value o)
-set_tells key value (Ok condition) = refl
-set_tells key value (Err refused) = tt
+-- words of which some may be refused, whatever they say
+then_tells : {A : Type 0} (r : CommandRow) (keys : KeysTold) (o : Result A Refusal) (make : A → Reading) →
+    ((said : A) → IsToldAs r keys (make said)) → IsToldAs r keys (then_reading o make)
+then_tells r keys (Ok said) make made = made said
+then_tells r keys (Err refused) make made = tt
 
 -- a word that should be an integer, whatever it is
-integer_tells : (r : CommandRow) (key : Word) (o : Result ℤ Refusal) (make : ℤ → Reading)
-    → ((n : ℤ) → IsToldAs r (These (key ∷ [])) (make n)) → IsToldAs r (These (key ∷ [])) (then_reading o make)
-integer_tells r key (Ok n) make made = made n
-integer_tells r key (Err refused) make made = tt
+integer_tells : (r : CommandRow) (key w : Word) (make : ℤ → Reading) →
+    ((n : ℤ) → IsToldAs r (These (key ∷ [])) (make n)) → IsToldAs r (These (key ∷ [])) (integer_reading w make)
+integer_tells r key w make made = then_tells r (These (key ∷ [])) (integer_word w) make made
 
 flushall_asked : (asked : Bool) → IsToldAs flushall_row All (if asked then Ok (Key Flushall) else Err refusal.Syntax)
 flushall_asked true = refl
@@ -184,7 +181,7 @@ pub string_tell : AllTell string_rows
 string_tell = (
   tells-one get_row refl refl (λ key ws. refl),
   (
-    tells-one set_row refl refl (λ key ws. set_tells key (word ws 0) (options_condition (drop 1 ws))),
+    tells-one set_row refl refl (λ key ws. then_tells set_row (These (key ∷ [])) (options_condition (drop 1 ws)) _ (λ condition. refl)),
     (
       tells-one incr_row refl refl (λ key ws. refl),
       (
@@ -200,19 +197,19 @@ string_tell = (
                 (
                   tells-one strlen_row refl refl (λ key ws. refl),
                   (
-                    tells-one getrange_row refl refl (λ key ws. integer_tells getrange_row key (integer_word (word ws 0)) _
-                        (λ start. integer_tells getrange_row key (integer_word (word ws 1)) _ (λ end. refl))),
+                    tells-one getrange_row refl refl (λ key ws. integer_tells getrange_row key (word ws 0) _
+                        (λ start. integer_tells getrange_row key (word ws 1) _ (λ end. refl))),
                     (
                       tells-one decr_row refl refl (λ key ws. refl),
                       (
-                        tells-one incrby_row refl refl (λ key ws. integer_tells incrby_row key (integer_word (word ws 0)) _ (λ by. refl)),
+                        tells-one incrby_row refl refl (λ key ws. integer_tells incrby_row key (word ws 0) _ (λ by. refl)),
                         (
-                          tells-one decrby_row refl refl (λ key ws. integer_tells decrby_row key (integer_word (word ws 0)) _ (λ by. refl)),
+                          tells-one decrby_row refl refl (λ key ws. integer_tells decrby_row key (word ws 0) _ (λ by. refl)),
                           (
                             tells-one append_row refl refl (λ key ws. refl),
                             (
                               tells-one setrange_row refl refl
-                                  (λ key ws. integer_tells setrange_row key (integer_word (word ws 0)) _ (λ offset. refl)),
+                                  (λ key ws. integer_tells setrange_row key (word ws 0) _ (λ offset. refl)),
                               (
                                 tells-pairs msetnx_row (λ pairs. Str (Msetnx pairs)) refl (λ ws. refl) (λ pairs. refl),
                                 tt,
@@ -233,37 +230,6 @@ string_tell = (
   ),
 )
 
-lindex_tells : (key : Word) (n : Result ℤ Refusal) → IsToldAs lindex_row (These (key ∷ [])) (lindex_with key n)
-lindex_tells key (Ok place) = refl
-lindex_tells key (Err refused) = tt
-
-lset_tells : (key item : Word) (n : Result ℤ Refusal) → IsToldAs lset_row (These (key ∷ [])) (lset_with key item n)
-lset_tells key item (Ok place) = refl
-lset_tells key item (Err refused) = tt
-
-lrange_tells : (key : Word) (a b : Result ℤ Refusal) → IsToldAs lrange_row (These (key ∷ [])) (lrange_with key a b)
-lrange_tells key (Ok start) (Ok end) = refl
-lrange_tells key (Ok start) (Err refused) = tt
-lrange_tells key (Err refused) b = tt
-
-ltrim_tells : (key : Word) (a b : Result ℤ Refusal) → IsToldAs ltrim_row (These (key ∷ [])) (ltrim_with key a b)
-ltrim_tells key (Ok start) (Ok end) = refl
-ltrim_tells key (Ok start) (Err refused) = tt
-ltrim_tells key (Err refused) b = tt
-
-lrem_tells : (key item : Word) (n : Result ℤ Refusal) → IsToldAs lrem_row (These (key ∷ [])) (lrem_with key item n)
-lrem_tells key item (Ok count) = refl
-lrem_tells key item (Err refused) = tt
-
-linsert_tells : (key pivot item : Word) (o : Result Side Refusal) → IsToldAs linsert_row (These (key ∷ [])) (linsert_with key pivot item o)
-linsert_tells key pivot item (Ok side) = refl
-linsert_tells key pivot item (Err refused) = tt
-
-lmove_tells : (from to : Word) (a b : Result End Refusal) → IsToldAs lmove_row (These (from ∷ to ∷ [])) (lmove_with from to a b)
-lmove_tells from to (Ok taken) (Ok put) = refl
-lmove_tells from to (Ok taken) (Err refused) = tt
-lmove_tells from to (Err refused) b = tt
-
 pub list_tell : AllTell list_rows
 list_tell = (
   tells-one lpush_row refl refl (λ key ws. refl),
@@ -274,7 +240,8 @@ list_tell = (
       (
         tells-one rpop_row refl refl (λ key ws. refl),
         (
-          tells-one lrange_row refl refl (λ key ws. lrange_tells key (integer_word (word ws 0)) (integer_word (word ws 1))),
+          tells-one lrange_row refl refl (λ key ws. integer_tells lrange_row key (word ws 0) _
+              (λ start. integer_tells lrange_row key (word ws 1) _ (λ end. refl))),
           (
             tells-one llen_row refl refl (λ key ws. refl),
             (
@@ -282,18 +249,21 @@ list_tell = (
               (
                 tells-one rpushx_row refl refl (λ key ws. refl),
                 (
-                  tells-one lindex_row refl refl (λ key ws. lindex_tells key (integer_word (word ws 0))),
+                  tells-one lindex_row refl refl (λ key ws. integer_tells lindex_row key (word ws 0) _ (λ place. refl)),
                   (
-                    tells-one lset_row refl refl (λ key ws. lset_tells key (word ws 1) (integer_word (word ws 0))),
+                    tells-one lset_row refl refl (λ key ws. integer_tells lset_row key (word ws 0) _ (λ place. refl)),
                     (
-                      tells-one ltrim_row refl refl (λ key ws. ltrim_tells key (integer_word (word ws 0)) (integer_word (word ws 1))),
+                      tells-one ltrim_row refl refl (λ key ws. integer_tells ltrim_row key (word ws 0) _
+                          (λ start. integer_tells ltrim_row key (word ws 1) _ (λ end. refl))),
                       (
-                        tells-one lrem_row refl refl (λ key ws. lrem_tells key (word ws 1) (integer_word (word ws 0))),
+                        tells-one lrem_row refl refl (λ key ws. integer_tells lrem_row key (word ws 0) _ (λ count. refl)),
                         (
-                          tells-one linsert_row refl refl (λ key ws. linsert_tells key (word ws 1) (word ws 2) (side_of (word ws 0))),
+                          tells-one linsert_row refl refl (λ key ws. then_tells linsert_row (These (key ∷ []))
+                              (side_of (word ws 0)) _ (λ side. refl)),
                           (
                             tells-two lmove_row refl refl refl
-                                (λ from to ws. lmove_tells from to (end_of (word ws 0)) (end_of (word ws 1))),
+                                (λ from to ws. then_tells lmove_row (These (from ∷ to ∷ [])) (end_of (word ws 0)) _
+                                (λ taken. then_tells lmove_row (These (from ∷ to ∷ [])) (end_of (word ws 1)) _ (λ put. refl))),
                             (
                               tells-two rpoplpush_row refl refl refl (λ from to ws. refl),
                               tt,
@@ -332,7 +302,7 @@ hash_tell = (
         (
           tells-one hdel_row refl refl (λ key ws. refl),
           (
-            tells-one hincrby_row refl refl (λ key ws. integer_tells hincrby_row key (integer_word (word ws 1)) _ (λ by. refl)),
+            tells-one hincrby_row refl refl (λ key ws. integer_tells hincrby_row key (word ws 1) _ (λ by. refl)),
             (
               tells-one hlen_row refl refl (λ key ws. refl),
               (

@@ -44,10 +44,11 @@ reading_among rows name words = option_map (λ r. row_reading r words) (row_of r
 abbrev pub pairs_reading : Word → (List (Word × Word) → Command) → List Word → Reading
 pairs_reading name make words = if length words % 2 == 0 then Ok (make (pairs_of words)) else Err (refusal.Arity name)
 
--- what the words say, by the integer that one of them is; a word that isn't one is refused
-abbrev pub then_reading : Result ℤ Refusal → (ℤ → Reading) → Reading
-then_reading (Ok n) make = make n
+-- what the words say, by what some of them say, unless those are refused
+abbrev pub then_reading : {A : Type 0} → Result A Refusal → (A → Reading) → Reading
+then_reading (Ok said) make = make said
 then_reading (Err refused) make = Err refused
 
+-- what the words say, by the integer that one of them is; a word that isn't one is refused
 abbrev pub integer_reading : Word → (ℤ → Reading) → Reading
 integer_reading w make = then_reading (integer_word w) make

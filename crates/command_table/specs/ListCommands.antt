@@ -1,5 +1,5 @@
 -- The commands on lists: what is told of each, what their words say, and their rows.
-use Rattle.std.specs.Prelude.{ℤ, List, [], ◌∷◌, drop, Result, Ok, Err, if◌then◌else◌, codes}
+use Rattle.std.specs.Prelude.{List, [], ◌∷◌, drop, Result, Ok, Err, if◌then◌else◌, codes}
 use Rattle.command_table.specs.declared.arity.Arity.TheVariants.{Exactly, AtLeast}
 use Rattle.command_table.specs.declared.command.Command.TheVariants as variant
 use Rattle.command_table.specs.declared.list_commands.ListCommand.{ListCommand}
@@ -10,9 +10,9 @@ use Rattle.command_table.specs.declared.list_commands.Side.TheVariants.{Before, 
 use Rattle.command_table.specs.declared.refusal.Refusal.{Refusal}
 use Rattle.command_table.specs.declared.refusal.Refusal.TheVariants.{Syntax}
 use Rattle.command_table.specs.KeySpan.{Between}
-use Rattle.command_table.specs.CommandRow.{CommandRow, Reading}
+use Rattle.command_table.specs.CommandRow.{CommandRow, Reading, then_reading, integer_reading}
 use Rattle.command_table.specs.Telling.{Telling, These, named}
-use Rattle.command_table.specs.Words.{Word, word, is_word, integer_word}
+use Rattle.command_table.specs.Words.{Word, word, is_word}
 use Rattle.texts.specs.declared.text_list.End.{End}
 use Rattle.texts.specs.declared.text_list.End.TheVariants.{Head, Tail}
 
@@ -43,37 +43,6 @@ side_of w = if is_word (codes "before") w then Ok Before else if is_word (codes 
 -- the end of a list that the word names, LEFT or RIGHT
 abbrev pub end_of : Word → Result End Refusal
 end_of w = if is_word (codes "left") w then Ok Head else if is_word (codes "right") w then Ok Tail else Err Syntax
-
-abbrev pub lindex_with : Word → Result ℤ Refusal → Reading
-lindex_with key (Ok place) = Ok (variant.List (Lindex key place))
-lindex_with key (Err refusal) = Err refusal
-
-abbrev pub lset_with : Word → Word → Result ℤ Refusal → Reading
-lset_with key item (Ok place) = Ok (variant.List (Lset key place item))
-lset_with key item (Err refusal) = Err refusal
-
-abbrev pub lrange_with : Word → Result ℤ Refusal → Result ℤ Refusal → Reading
-lrange_with key (Ok start) (Ok end) = Ok (variant.List (Lrange key start end))
-lrange_with key (Ok start) (Err refusal) = Err refusal
-lrange_with key (Err refusal) end = Err refusal
-
-abbrev pub ltrim_with : Word → Result ℤ Refusal → Result ℤ Refusal → Reading
-ltrim_with key (Ok start) (Ok end) = Ok (variant.List (Ltrim key start end))
-ltrim_with key (Ok start) (Err refusal) = Err refusal
-ltrim_with key (Err refusal) end = Err refusal
-
-abbrev pub lrem_with : Word → Word → Result ℤ Refusal → Reading
-lrem_with key item (Ok count) = Ok (variant.List (Lrem key count item))
-lrem_with key item (Err refusal) = Err refusal
-
-abbrev pub linsert_with : Word → Word → Word → Result Side Refusal → Reading
-linsert_with key pivot item (Ok side) = Ok (variant.List (Linsert key side pivot item))
-linsert_with key pivot item (Err refusal) = Err refusal
-
-abbrev pub lmove_with : Word → Word → Result End Refusal → Result End Refusal → Reading
-lmove_with from to (Ok taken) (Ok put) = Ok (variant.List (Lmove from to taken put))
-lmove_with from to (Ok taken) (Err refusal) = Err refusal
-lmove_with from to (Err refusal) put = Err refusal
 
 abbrev pub llen_row : CommandRow
 llen_row = record { name = codes "llen"; arity = Exactly 2; keys = Between 1 1; reading = λ words. Ok (variant.List (Llen (word words 0))) }
@@ -129,7 +98,7 @@ lindex_row = record {
   name = codes "lindex";
   arity = Exactly 3;
   keys = Between 1 1;
-  reading = λ words. lindex_with (word words 0) (integer_word (word words 1));
+  reading = λ words. integer_reading (word words 1) (λ place. Ok (variant.List (Lindex (word words 0) place)));
 }
 
 abbrev pub lset_row : CommandRow
@@ -137,23 +106,31 @@ lset_row = record {
   name = codes "lset";
   arity = Exactly 4;
   keys = Between 1 1;
-  reading = λ words. lset_with (word words 0) (word words 2) (integer_word (word words 1));
+  reading = λ words. integer_reading (word words 1) (λ place. Ok (variant.List (Lset (word words 0) place (word words 2))));
 }
+
+abbrev pub lrange_reading : List Word → Reading
+lrange_reading words =
+    integer_reading (word words 1) (λ start. integer_reading (word words 2) (λ end. Ok (variant.List (Lrange (word words 0) start end))))
 
 abbrev pub lrange_row : CommandRow
 lrange_row = record {
   name = codes "lrange";
   arity = Exactly 4;
   keys = Between 1 1;
-  reading = λ words. lrange_with (word words 0) (integer_word (word words 1)) (integer_word (word words 2));
+  reading = lrange_reading;
 }
+
+abbrev pub ltrim_reading : List Word → Reading
+ltrim_reading words =
+    integer_reading (word words 1) (λ start. integer_reading (word words 2) (λ end. Ok (variant.List (Ltrim (word words 0) start end))))
 
 abbrev pub ltrim_row : CommandRow
 ltrim_row = record {
   name = codes "ltrim";
   arity = Exactly 4;
   keys = Between 1 1;
-  reading = λ words. ltrim_with (word words 0) (integer_word (word words 1)) (integer_word (word words 2));
+  reading = ltrim_reading;
 }
 
 abbrev pub lrem_row : CommandRow
@@ -161,23 +138,32 @@ lrem_row = record {
   name = codes "lrem";
   arity = Exactly 4;
   keys = Between 1 1;
-  reading = λ words. lrem_with (word words 0) (word words 2) (integer_word (word words 1));
+  reading = λ words. integer_reading (word words 1) (λ count. Ok (variant.List (Lrem (word words 0) count (word words 2))));
 }
+
+abbrev pub linsert_reading : List Word → Reading
+linsert_reading words =
+    then_reading (side_of (word words 1)) (λ side. Ok (variant.List (Linsert (word words 0) side (word words 2) (word words 3))))
 
 abbrev pub linsert_row : CommandRow
 linsert_row = record {
   name = codes "linsert";
   arity = Exactly 5;
   keys = Between 1 1;
-  reading = λ words. linsert_with (word words 0) (word words 2) (word words 3) (side_of (word words 1));
+  reading = linsert_reading;
 }
+
+abbrev pub lmove_reading : List Word → Reading
+lmove_reading words =
+    then_reading (end_of (word words 2))
+    (λ taken. then_reading (end_of (word words 3)) (λ put. Ok (variant.List (Lmove (word words 0) (word words 1) taken put))))
 
 abbrev pub lmove_row : CommandRow
 lmove_row = record {
   name = codes "lmove";
   arity = Exactly 5;
   keys = Between 1 2;
-  reading = λ words. lmove_with (word words 0) (word words 1) (end_of (word words 2)) (end_of (word words 3));
+  reading = lmove_reading;
 }
 
 abbrev pub rpoplpush_row : CommandRow

@@ -12,7 +12,7 @@ use Rattle.command_table.specs.declared.string_commands.StringCommand.TheVariant
 use Rattle.command_table.specs.declared.string_commands.StringCommand.TheVariants.{Incr, Decr, Incrby, Decrby, Append, Setrange, Mset}
 use Rattle.command_table.specs.declared.string_commands.StringCommand.TheVariants.{Msetnx}
 use Rattle.command_table.specs.KeySpan.{Between, ToLastWord}
-use Rattle.command_table.specs.CommandRow.{CommandRow, Reading, integer_reading, pairs_reading}
+use Rattle.command_table.specs.CommandRow.{CommandRow, Reading, then_reading, integer_reading, pairs_reading}
 use Rattle.command_table.specs.Telling.{Telling, These, named}
 use Rattle.command_table.specs.Words.{Word, word, is_word}
 use Rattle.texts.specs.Texts.{firsts}
@@ -60,12 +60,9 @@ abbrev pub options_condition : List Word → Result Condition Refusal
 options_condition options =
     if list_all is_option options then condition_of (list_any is_nx options) (list_any is_xx options) else Err Syntax
 
-abbrev pub set_with : Word → Word → Result Condition Refusal → Reading
-set_with key value (Ok condition) = Ok (Str (Set key value condition))
-set_with key value (Err refusal) = Err refusal
-
 abbrev pub set_reading : List Word → Reading
-set_reading words = set_with (word words 0) (word words 1) (options_condition (drop 2 words))
+set_reading words =
+    then_reading (options_condition (drop 2 words)) (λ condition. Ok (Str (Set (word words 0) (word words 1) condition)))
 
 abbrev pub get_row : CommandRow
 get_row = record { name = codes "get"; arity = Exactly 2; keys = Between 1 1; reading = λ words. Ok (Str (Get (word words 0))) }

@@ -19,14 +19,14 @@ pub(crate) enum Family {
 }
 
 /// The family whose rows alone may have this name.
-pub(crate) fn family_of(name: &str) -> Family
+pub(crate) fn family_of(name: &[u8]) -> Family
     ensures { row_of rows name.now ≡ row_of (rows_of result) name.now }
 {
     family_by_letters(name)
 }
 
 /// The family by the first letters of the name, in which names of two families differ.
-fn family_by_letters(name: &str) -> Family
+fn family_by_letters(name: &[u8]) -> Family
     ensures { result ≡ family_by_letters name.now }
 {
     if has_letter(name, 0, b"gima") {

@@ -76,7 +76,7 @@ impl HashCommand {
 const HEADS: &[RowHead] = command_rows!(hashes, head_rows,);
 
 /// Reads the words after a name by the row that has it; a name that none of these rows has is unknown.
-pub(crate) fn read_hash_command(name: &str, words: Vec<Vec<u8>>) -> Result<Command, Refusal>
+pub(crate) fn read_hash_command(name: &[u8], words: Vec<Vec<u8>>) -> Result<Command, Refusal>
     ensures { result ≡ unwrap_or (reading_among hash_rows name.now (texts_of words.items)) (Err Unknown) }
 {
     let place = match place_of(HEADS, name, words.len() + 1) {

@@ -41,7 +41,7 @@ impl LocalCommand {
 const HEADS: &[RowHead] = command_rows!(local, head_rows,);
 
 /// Reads the words after a name by the row that has it; a name that none of these rows has is unknown.
-pub(crate) fn read_local_command(name: &str, words: Vec<Vec<u8>>) -> Result<Command, Refusal>
+pub(crate) fn read_local_command(name: &[u8], words: Vec<Vec<u8>>) -> Result<Command, Refusal>
     ensures { result ≡ unwrap_or (reading_among local_rows name.now (texts_of words.items)) (Err Unknown) }
 {
     let place = match place_of(HEADS, name, words.len() + 1) {

@@ -34,7 +34,7 @@ pub fn read(request: Request) -> Result<Command, Refusal>
 {
     let mut words = request.into_words();
     let name = in_lower_case(words.remove(0));
-    read_named(&name, words)
+    read_by_row(&name, words)
 }
 
 fn in_lower_case(mut name: Vec<u8>) -> Vec<u8>
@@ -44,20 +44,8 @@ fn in_lower_case(mut name: Vec<u8>) -> Vec<u8>
     name
 }
 
-/// Reads the words behind a name in lower case by the table's row. The names of the table are text, so other bytes name
-/// no row. It returns at once for those: a value from one of two branches would be moved once more.
-fn read_named(name: &[u8], words: Vec<Vec<u8>>) -> Result<Command, Refusal>
-    ensures { result ≡ unwrap_or (reading_among rows name.now (texts_of words.items)) (Err Unknown) }
-{
-    let name = match std::str::from_utf8(name) {
-        Ok(name) => name,
-        Err(_) => return Err(Refusal::Unknown),
-    };
-    read_by_row(name, words)
-}
-
-/// Reads the words behind a name by the rows of its family.
-fn read_by_row(name: &str, words: Vec<Vec<u8>>) -> Result<Command, Refusal>
+/// Reads the words behind a name in lower case by the rows of its family.
+fn read_by_row(name: &[u8], words: Vec<Vec<u8>>) -> Result<Command, Refusal>
     ensures { result ≡ unwrap_or (reading_among rows name.now (texts_of words.items)) (Err Unknown) }
 {
     match family_of(name) {

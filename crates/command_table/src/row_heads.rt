@@ -14,12 +14,12 @@ pub(crate) struct RowHead {
 }
 
 /// The place among rows with these heads of the one of this name, where it takes so many words.
-pub(crate) fn place_of(heads: &[RowHead], name: &str, words: usize) -> Result<usize, Refusal>
+pub(crate) fn place_of(heads: &[RowHead], name: &[u8], words: usize) -> Result<usize, Refusal>
     ensures { result ≡ place_from 0 (heads_held heads.now) name.now words }
 {
     for place in 0..heads.len() {
         let head = heads[place];
-        if name == head.name {
+        if name == head.name.as_bytes() {
             if head.arity.admits(words) {
                 return Ok(place);
             }

@@ -77,7 +77,7 @@ impl SetCommand {
 const HEADS: &[RowHead] = command_rows!(sets, head_rows,);
 
 /// Reads the words after a name by the row that has it; a name that none of these rows has is unknown.
-pub(crate) fn read_set_command(name: &str, words: Vec<Vec<u8>>) -> Result<Command, Refusal>
+pub(crate) fn read_set_command(name: &[u8], words: Vec<Vec<u8>>) -> Result<Command, Refusal>
     ensures { result ≡ unwrap_or (reading_among set_rows name.now (texts_of words.items)) (Err Unknown) }
 {
     let place = match place_of(HEADS, name, words.len() + 1) {

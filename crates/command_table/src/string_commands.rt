@@ -143,7 +143,7 @@ impl StringCommand {
 const HEADS: &[RowHead] = command_rows!(strings, head_rows,);
 
 /// Reads the words after a name by the row that has it; a name that none of these rows has is unknown.
-pub(crate) fn read_string_command(name: &str, words: Vec<Vec<u8>>) -> Result<Command, Refusal>
+pub(crate) fn read_string_command(name: &[u8], words: Vec<Vec<u8>>) -> Result<Command, Refusal>
     ensures { result ≡ unwrap_or (reading_among string_rows name.now (texts_of words.items)) (Err Unknown) }
 {
     let place = match place_of(HEADS, name, words.len() + 1) {

@@ -19,14 +19,13 @@ pub(crate) fn is_word(word: &[u8], text: &[u8]) -> bool
 
 /// Whether the word has one of these letters at this place, counted from 0.
 #[inline]
-pub(crate) fn has_letter(word: &str, place: usize, letters: &[u8]) -> bool
+pub(crate) fn has_letter(word: &[u8], place: usize, letters: &[u8]) -> bool
     ensures { result ≡ has_letter place letters.now word.now }
 {
-    let bytes = word.as_bytes();
-    if place >= bytes.len() {
+    if place >= word.len() {
         return false;
     }
-    let found = bytes[place];
+    let found = word[place];
     letters.iter().any(|letter| *letter == found)
 }
 

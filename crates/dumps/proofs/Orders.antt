@@ -1,6 +1,6 @@
 -- Entries that are lent, put in order, are the map that they say; and entries that are added one after another.
 use Rattle.std.proofs.Common.{◌≡◌, ℕ, zero, suc, ◌≤◌, List, [], ◌∷◌, take, length, Bool}
-use Rattle.std.proofs.Common.{true, false, cond, T, Option, Some, None}
+use Rattle.std.proofs.Common.{true, false, cond, T, Some, None}
 use Rattle.std.proofs.Common.{Bor, arith, refl, sym, ap, subst, ◌∙◌, ◌&&◌}
 use Rattle.std.proofs.lemmas.Cmp.{nat_list_cmp_total}
 use Rattle.std.proofs.lemmas.Map.Keys.{IsDistinct-head, IsDistinct-tail}
@@ -14,12 +14,13 @@ use Rattle.std.specs.List.{IsDistinct, AllByRecursion, slice_get}
 use Rattle.std.specs.List.Sorted.{IsStrictlySortedBy}
 use Rattle.std.specs.Map.{keys_of}
 use Rattle.std.specs.FinMap.Entries.{below_all, by_order}
-use Rattle.std.specs.Ordering.{nat_cmp, eq_by_cmp, is_lt, match_ordering}
+use Rattle.std.specs.Ordering.{nat_cmp, is_lt, match_ordering}
 use Rattle.std.specs.declared.cmp.Ordering.{Ordering}
 use Rattle.std.specs.declared.cmp.Ordering.TheVariants.{Less, Equal, Greater}
 use Rattle.std.specs.Str.{bytes_eq}
 use Rattle.dumps.specs.Dump.{Lent, lent, map_of_lent}
 use Rattle.keyspace.proofs.Gets.{same, same_bytes, bytes_eq-swap, get-insert}
+use Rattle.keyspace.proofs.Parts.{or_else, or_else-none, get-with_entries}
 use Rattle.keyspace.specs.Map.{Map, with_entries}
 use Rattle.texts.specs.Texts.{Bytes}
 use Rattle.values.specs.declared.Value.{Value}
@@ -29,28 +30,6 @@ abbrev order : Bytes → Bytes → Ordering
 order = slice_cmp nat_cmp
 
 -- ---- with_entries, look-up by look-up
-
-or_else : Option Value → Option Value → Option Value
-or_else None d = d
-or_else (Some v) d = Some v
-
-or_else-cond : (b : Bool) (v : Value) (o d : Option Value) → cond b (Some v) (or_else o d) ≡ or_else (cond b (Some v) o) d
-unfolding or_else
-or_else-cond true v o d = refl
-or_else-cond false v o d = refl
-
-or_else-none : (o : Option Value) → or_else o None ≡ o
-unfolding or_else
-or_else-none None = refl
-or_else-none (Some v) = refl
-
-get-with_entries : (m : Map) (es : List (Bytes × Value)) (q : Bytes) → get (with_entries m es) q ≡ or_else (find order q es) (get m q)
-unfolding or_else
-get-with_entries m [] q = refl
-get-with_entries m (e ∷ es) q =
-    finite.get-insert nat_list_cmp_total (with_entries m es) e.0 e.1 q
-    ∙ ap (cond (eq_by_cmp order q e.0) (Some e.1)) (get-with_entries m es q)
-    ∙ or_else-cond (eq_by_cmp order q e.0) e.1 (find order q es) (get m q)
 
 -- entries may be put in order before they are added
 pub with_entries-entries : (m : Map) (es : List (Bytes × Value)) →

@@ -11,7 +11,8 @@ use Rattle.keyspace.proofs.Gets.{same, same_bytes, bytes_eq-refl, get-set, get-r
 use Rattle.keyspace.specs.Map.{Map, among, restrict, without, with_entries, put_back, set, AreApart}
 use Rattle.values.specs.declared.Value.{Value}
 
-or_else : Option Value → Option Value → Option Value
+-- what is said, or the default where nothing is
+pub or_else : Option Value → Option Value → Option Value
 or_else None d = d
 or_else (Some v) d = Some v
 
@@ -20,7 +21,7 @@ unfolding or_else
 or_else-cond true v o d = refl
 or_else-cond false v o d = refl
 
-or_else-none : (o : Option Value) → or_else o None ≡ o
+pub or_else-none : (o : Option Value) → or_else o None ≡ o
 unfolding or_else
 or_else-none None = refl
 or_else-none (Some v) = refl
@@ -31,7 +32,8 @@ unfolding or_else
 or_else-parts true o p = or_else-none o
 or_else-parts false o p = refl
 
-get-with_entries : (m : Map) (es : List (List ℕ × Value)) (q : List ℕ)
+-- with entries put in, a key has its first entry, or what it had
+pub get-with_entries : (m : Map) (es : List (List ℕ × Value)) (q : List ℕ)
     → get (with_entries m es) q ≡ or_else (find (slice_cmp nat_cmp) q es) (get m q)
 unfolding or_else
 get-with_entries m [] q = refl

@@ -10,8 +10,6 @@ mod comparing;
 #[cfg(test)]
 mod memory;
 #[cfg(test)]
-mod options;
-#[cfg(test)]
 mod refusals;
 #[cfg(test)]
 mod reports;
@@ -21,5 +19,7 @@ mod showing;
 mod traces;
 #[cfg(test)]
 mod watching;
+#[cfg(test)]
+mod words;
 #[cfg(test)]
 mod writes;

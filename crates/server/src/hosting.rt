@@ -2,7 +2,7 @@
 
 ghost use Rattle.std.specs.Prelude.{◌≡◌, ◌<◌, ◌≤◌};
 ghost use Rattle.server.specs.Ends.{IsEndStatus};
-ghost use Rattle.server_options.specs.Options.{InRange};
+ghost use Rattle.options.specs.Server.{InRange};
 ghost use Rattle.server.specs.declared.hosting.HostFault.TheVariants as host_fault;
 
 use crate::desk::{Desk, Turns};
@@ -12,7 +12,7 @@ use crate::shared::Shared;
 use cluster::{CloseFault, First};
 use placement::Table;
 use resp_decoder::Limits;
-use server_options::Options;
+use options::server::Options;
 use serving::{Door, serve};
 use shard_exec::{Crew, InTurn, Open};
 use shards::ShardHasher;

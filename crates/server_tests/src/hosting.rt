@@ -1,13 +1,13 @@
 //! A server over two shards, and clients beside it.
 
 ghost use Rattle.std.specs.Prelude.{IfOk};
-ghost use Rattle.server_options.specs.Options.{InRange};
+ghost use Rattle.options.specs.Server.{InRange};
 
 use crate::clients::{Act, follow};
 use placement::Table;
 use replay::show;
 use server::host;
-use server_options::Options;
+use options::server::Options;
 use shard_exec::InTurn;
 use std::fs;
 use std::net::{Net, TcpListener, TcpStream};

@@ -2,7 +2,7 @@
 
 use crate::clients::Does::{Asks, Ends, Gets, Unlists};
 use crate::hosting::beside;
-use server_options::read_options;
+use options::server::read_options;
 use std::net::TcpListener;
 use std::test::Fail;
 

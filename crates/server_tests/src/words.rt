@@ -1,6 +1,6 @@
 //! The words that the server is started with, good and bad.
 
-use server_options::{Options, read_options};
+use options::server::{Options, read_options};
 use std::alloc::{AllocError, Global};
 use std::process::Abort;
 use std::test::Fail;

@@ -14,7 +14,7 @@ mod line;
 
 use line::Line;
 use replay::{Progress, ShowFault, told_watched};
-use replay_options::{OptionsFault, options};
+use options::replay::{OptionsFault, read_options};
 use shard_exec::{Crew, InTurn};
 use std::io::{self, ErrorKind, IsTerminal, Write};
 use std::num::NonZeroUsize;
@@ -28,7 +28,7 @@ fn main(rt: HostRuntime) -> ExitCode {
         Ok(words) => words,
         Err(fault) => return ExitCode::from(status_of_read(&fault, 2)),
     };
-    let asked = match options(rt.alloc(), words.as_slice()) {
+    let asked = match read_options(rt.alloc(), words.as_slice()) {
         Ok(asked) => asked,
         Err(fault) => {
             let _ = eprintln!(rt; "shardkv-replay: {fault}");

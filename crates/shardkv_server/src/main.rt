@@ -11,7 +11,7 @@ mod tests;
 
 use placement::{Table, TableFault};
 use server::host;
-use server_options::{Options, read_options};
+use options::server::{Options, read_options};
 use std::fs::Files;
 use std::io::ErrorKind;
 use std::net::{IpAddr, Ipv4Addr, Net, SocketAddr, TcpListener};

@@ -1,7 +1,7 @@
 //! What ends the server before it serves: a table that is none, and a port that is taken.
 
 use crate::opened;
-use server_options::Options;
+use options::server::Options;
 use std::net::TcpListener;
 use std::num::NonZeroUsize;
 use std::test::Fail;

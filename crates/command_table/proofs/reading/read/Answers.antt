@@ -14,7 +14,7 @@ returns-clause-reading c =
     rw whole (cc)
 
 pub returns-clause-told : goal.returns-clause-told
-returns-clause-told c = told_if c.args.request c.read_named.result (returns-clause-reading c)
+returns-clause-told c = told_if c.args.request c.read_by_row.result (returns-clause-reading c)
 
 pub returns-clause-keyed : goal.returns-clause-keyed
-returns-clause-keyed c = keyed_if c.args.request c.read_named.result (returns-clause-reading c)
+returns-clause-keyed c = keyed_if c.args.request c.read_by_row.result (returns-clause-reading c)

@@ -1,6 +1,5 @@
 use Rattle.std.proofs.Common.{[], ap, sym, ◌∙◌, ◌++◌}
 use Rattle.std.proofs.lemmas.List.{append-nil}
-use Rattle.std.specs.FinMap.{entries}
 use Rattle.std.specs.List.{flat_map}
 use Rattle.dumps.specs.Dump.{entry_line, lent, dump_text}
 use Rattle.dumps.proofs.Orders.{entries-lent}

@@ -1,0 +1,2 @@
+mod ReplayRefusals
+mod ServerRefusals
