@@ -1,19 +1,18 @@
 //! What the store answers, row by row.
 
-use crate::store::{BAD_LENGTH, END, Ending, INSIDE, empty_store};
-use command_table::read;
+use crate::store::{BAD_LENGTH, END, Ending, INSIDE, Row, answers, came, each_answers, empty_store};
+use command_table::{Command, read};
 use resp::{Request, write_reply};
 use resp_decoder::Fault;
 use serving::Served;
 use std::alloc::{AllocError, Global};
 use std::io::Read;
-use std::process::Abort;
 use std::test::Fail;
-use test_support::{bytes_of, requests_of};
+use test_support::{bytes_of, requests_of, same_bytes};
 
 /// Requests on an empty store, and their replies.
 #[rattlefmt::skip]
-const COMMANDS: [(&str, &str); 11] = [
+const COMMANDS: [Row; 11] = [
     ("SET a 1; GET a; DEL a a; GET a", "+OK|$1|1|:1|$-1|"),
     ("PING hi; PING x y", "$2|hi|-ERR wrong number of arguments for 'ping' command|"),
     ("ECHO ''; FOO", "$0||-ERR unknown command|"),
@@ -29,18 +28,7 @@ const COMMANDS: [(&str, &str); 11] = [
 
 #[test]
 fn commands_answer(rt: HostRuntime) -> Result<(), Fail> {
-    for (requests, replies) in COMMANDS {
-        let input = requests_of(rt.alloc(), requests)?;
-        let mut output = Vec::new(rt.alloc());
-        let ending = empty_store(rt.alloc()).serve(&mut input.as_slice(), &mut output);
-        assert_eq!(rt; ending, END, "{requests}");
-        assert_eq!(rt;
-            output.as_slice(),
-            bytes_of(rt.alloc(), replies)?.as_slice(),
-            "{requests}"
-        );
-    }
-    Ok(())
+    each_answers(rt.alloc(), &COMMANDS)
 }
 
 const STAR: Ending = Ok(Served::Protocol(Fault::ExpectedStar));
@@ -70,14 +58,10 @@ const STREAMS: [(&str, &str, Ending); 12] = [
 fn bytes_are_read_as_requests(rt: HostRuntime) -> Result<(), Fail> {
     for (input, replies, ending) in STREAMS {
         let bytes = bytes_of(rt.alloc(), input)?;
+        let wanted = bytes_of(rt.alloc(), replies)?;
         let mut output = Vec::new(rt.alloc());
         let ended = empty_store(rt.alloc()).serve(&mut bytes.as_slice(), &mut output);
-        assert_eq!(rt; ended, ending, "{input}");
-        assert_eq!(rt;
-            output.as_slice(),
-            bytes_of(rt.alloc(), replies)?.as_slice(),
-            "{input}"
-        );
+        came(input, (&ended, &output), (&ending, &wanted))?;
     }
     Ok(())
 }
@@ -86,19 +70,24 @@ fn bytes_are_read_as_requests(rt: HostRuntime) -> Result<(), Fail> {
 fn a_request_may_be_cut_anywhere(rt: HostRuntime) -> Result<(), Fail> {
     let input = bytes_of(rt.alloc(), "*3|$3|SET|$1|a|$1|1|")?;
     for cut in 0..=input.len() {
+        let line = format!(in rt.alloc(); "cut after {cut}")?;
         let (first, second) = input.split_at(cut);
         let mut output = Vec::new(rt.alloc());
         let ended = empty_store(rt.alloc()).serve(&mut first.chain(second), &mut output);
-        assert_eq!(rt; ended, END, "cut after {cut}");
-        assert_eq!(rt; output.as_slice(), b"+OK\r\n".as_slice(), "cut after {cut}");
+        came(line.as_str(), (&ended, &output), (&END, b"+OK\r\n"))?;
     }
     Ok(())
 }
 
+/// The command of these words.
+fn command(alloc: Global, words: &[&[u8]]) -> Result<Command, Fail> {
+    Ok(read(Request::copy_of(alloc, words)?)?)
+}
+
 #[test]
 fn a_run_gives_a_reply_for_each_command(rt: HostRuntime) -> Result<(), Fail> {
-    let mut store = empty_store(rt.alloc());
-    let mut commands = Vec::new(rt.alloc());
+    let alloc = rt.alloc();
+    let mut store = empty_store(alloc);
     let rows: [&[&[u8]]; 5] = [
         &[b"SET", b"a", b"1"],
         &[b"GET", b"a"],
@@ -106,28 +95,28 @@ fn a_run_gives_a_reply_for_each_command(rt: HostRuntime) -> Result<(), Fail> {
         &[b"GET", b"a"],
         &[b"PING"],
     ];
+    let mut commands = Vec::new(alloc);
     for words in rows {
-        let read = read(Request::copy_of(rt.alloc(), words)?);
-        commands.push(read.map_err(|_| "a refusal")?)?;
+        commands.push(command(alloc, words)?)?;
     }
-    let mut output = Vec::new(rt.alloc());
+    let mut output = Vec::new(alloc);
     for reply in &store.run_all(commands)? {
         write_reply(reply, &mut output)?;
     }
-    let last = read(Request::copy_of(rt.alloc(), &[b"ECHO", b"hi"])?);
-    write_reply(&store.run(last.map_err(|_| "a refusal")?), &mut output)?;
-    let replies = bytes_of(rt.alloc(), "+OK|$1|1|:1|$-1|+PONG|$2|hi|")?;
-    assert_eq!(rt; output.as_slice(), replies.as_slice());
-    Ok(())
+    write_reply(&store.run(command(alloc, &[b"ECHO", b"hi"])?), &mut output)?;
+    let replies = bytes_of(alloc, "+OK|$1|1|:1|$-1|+PONG|$2|hi|")?;
+    same_bytes("the run", &output, &replies)
 }
 
-/// Has the store answer this input, and looks at its replies.
-fn expect(rt: &impl Abort, alloc: Global, input: &[u8], replies: &[u8]) {
-    let mut output = Vec::new(alloc);
-    let mut input = input;
-    let ending = empty_store(alloc).serve(&mut input, &mut output);
-    assert_eq!(rt; ending, END);
-    assert!(rt; output.as_slice() == replies);
+/// Has an empty store answer this input, and looks at its replies.
+fn expect(alloc: Global, input: &[u8], replies: &[u8]) -> Result<(), Fail> {
+    answers(
+        &mut empty_store(alloc),
+        alloc,
+        "all requests",
+        input,
+        replies,
+    )
 }
 
 #[test]
@@ -144,25 +133,7 @@ fn two_thousand_keys_are_kept(rt: HostRuntime) -> Result<(), Fail> {
         input.extend_from_slice(&requests_of(rt.alloc(), row.as_str())?)?;
         replies.extend_from_slice(b"$1\r\n1\r\n:1\r\n$-1\r\n")?;
     }
-    expect(&rt, rt.alloc(), &input, &replies);
-    Ok(())
-}
-
-#[test]
-fn a_value_of_two_million_bytes_comes_back(rt: HostRuntime) -> Result<(), Fail> {
-    let mut value = bytes_of(rt.alloc(), "$2000000|")?;
-    for _ in 0..2000 {
-        value.extend_from_slice(&[b'x'; 1000])?;
-    }
-    value.extend_from_slice(b"\r\n")?;
-    let mut input = bytes_of(rt.alloc(), "*3|$3|SET|$1|a|")?;
-    input.extend_from_slice(&value)?;
-    input.extend_from_slice(&requests_of(rt.alloc(), "GET a; GET a")?)?;
-    let mut replies = bytes_of(rt.alloc(), "+OK|")?;
-    replies.extend_from_slice(&value)?;
-    replies.extend_from_slice(&value)?;
-    expect(&rt, rt.alloc(), &input, &replies);
-    Ok(())
+    expect(rt.alloc(), &input, &replies)
 }
 
 #[test]
@@ -188,8 +159,7 @@ fn a_thousand_words_are_taken(rt: HostRuntime) -> Result<(), Fail> {
         replies.extend_from_slice(&listed)?;
     }
     replies.extend_from_slice(&bytes_of(alloc, ":1000|:1|")?)?;
-    expect(&rt, alloc, &input, &replies);
-    Ok(())
+    expect(alloc, &input, &replies)
 }
 
 /// The numbers from a thousand on in a mixed order, a space before each; all but the first `kept`.
@@ -235,8 +205,7 @@ fn a_thousand_members_come_in_order(rt: HostRuntime) -> Result<(), Fail> {
     replies.extend_from_slice(&some)?;
     replies.extend_from_slice(&some)?;
     replies.extend_from_slice(&bytes_of(alloc, ":1|:1|:0|*0|:41|")?)?;
-    expect(&rt, alloc, &requests_of(alloc, row.as_str())?, &replies);
-    Ok(())
+    expect(alloc, &requests_of(alloc, row.as_str())?, &replies)
 }
 
 #[test]
@@ -255,23 +224,35 @@ fn five_thousand_keys_are_set_and_read(rt: HostRuntime) -> Result<(), Fail> {
         write!(replies, "$5\r\nv{key}\r\n+PONG\r\n$0\r\n\r\n:1\r\n")?;
     }
     let input = requests_of(alloc, requests.as_str())?;
-    expect(&rt, alloc, &input, replies.as_bytes());
-    Ok(())
+    expect(alloc, &input, replies.as_bytes())
 }
 
-/// Requests and their replies; `@` at the end stands for a value of more than a mebibyte.
-type Large = (&'static str, &'static str);
-
+/// Requests and their replies; `@` at the end stands for a large value.
 #[rattlefmt::skip]
-const LARGE_STRINGS: [Large; 6] = [
+const LARGE_STRINGS: [Row; 6] = [
     ("SET a @", "+OK|"), ("APPEND a @", ":2200000|"), ("SETRANGE a 2200000 @", ":3300000|"), ("GETRANGE a 1100000 2199999", "@"),
     ("MSET b @", "+OK|"), ("MGET b", "*1|@"),
 ];
 
 #[rattlefmt::skip]
-const LARGE_ITEMS: [Large; 6] = [
+const LARGE_ITEMS: [Row; 6] = [
     ("RPUSH l @", ":1|"), ("LRANGE l 0 -1", "*1|@"), ("HSET h f @", ":1|"), ("HGET h f", "@"), ("SADD s @", ":1|"), ("SMEMBERS s", "*1|@"),
 ];
+
+const LARGEST: [Row; 3] = [("SET a @", "+OK|"), ("GET a", "@"), ("GET a", "@")];
+
+const MANY: [Row; 300] = [("ECHO @", "@"); 300];
+
+/// A value of so many thousand bytes, as it is sent and answered.
+fn large_value(alloc: Global, thousands: u32) -> Result<Vec<u8>, Fail> {
+    let head = format!(in alloc; "${thousands}000\r\n")?;
+    let mut value = Vec::from_slice(alloc, head.as_bytes())?;
+    for _ in 0..thousands {
+        value.extend_from_slice(&[b'x'; 1000])?;
+    }
+    value.extend_from_slice(b"\r\n")?;
+    Ok(value)
+}
 
 /// Appends these bytes, with the value in place of the mark at their end, if it stands there.
 fn append(out: &mut Vec<u8>, bytes: &[u8], mark: &[u8], value: &[u8]) -> Result<(), AllocError> {
@@ -284,34 +265,36 @@ fn append(out: &mut Vec<u8>, bytes: &[u8], mark: &[u8], value: &[u8]) -> Result<
     }
 }
 
-fn answer_large(rt: &impl Abort, alloc: Global, rows: &[Large]) -> Result<(), Fail> {
-    let mut value = bytes_of(alloc, "$1100000|")?;
-    for _ in 0..1100 {
-        value.extend_from_slice(&[b'x'; 1000])?;
-    }
-    value.extend_from_slice(b"\r\n")?;
+/// Has an empty store answer these rows at once, with a value of so many thousand bytes.
+fn answer_large(alloc: Global, thousands: u32, rows: &[Row]) -> Result<(), Fail> {
+    let value = large_value(alloc, thousands)?;
     let mut input = Vec::new(alloc);
     let mut replies = Vec::new(alloc);
     for row in rows {
         let (request, reply) = *row;
-        append(
-            &mut input,
-            &requests_of(alloc, request)?,
-            b"$1\r\n@\r\n",
-            &value,
-        )?;
+        let sent = requests_of(alloc, request)?;
+        append(&mut input, &sent, b"$1\r\n@\r\n", &value)?;
         append(&mut replies, &bytes_of(alloc, reply)?, b"@", &value)?;
     }
-    expect(rt, alloc, &input, &replies);
-    Ok(())
+    expect(alloc, &input, &replies)
 }
 
 #[test]
 fn large_strings_are_written_and_read(rt: HostRuntime) -> Result<(), Fail> {
-    answer_large(&rt, rt.alloc(), &LARGE_STRINGS)
+    answer_large(rt.alloc(), 1100, &LARGE_STRINGS)
 }
 
 #[test]
 fn large_items_are_written_and_read(rt: HostRuntime) -> Result<(), Fail> {
-    answer_large(&rt, rt.alloc(), &LARGE_ITEMS)
+    answer_large(rt.alloc(), 1100, &LARGE_ITEMS)
+}
+
+#[test]
+fn a_value_of_two_million_bytes_comes_back(rt: HostRuntime) -> Result<(), Fail> {
+    answer_large(rt.alloc(), 2000, &LARGEST)
+}
+
+#[test]
+fn many_replies_are_all_written(rt: HostRuntime) -> Result<(), Fail> {
+    answer_large(rt.alloc(), 1, &MANY)
 }

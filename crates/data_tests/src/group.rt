@@ -4,8 +4,8 @@ ghost use Rattle.std.specs.Prelude.{◌<◌};
 use groups::{ConnId, GroupId, Groups, RequestId, Stamp};
 use skeen_core::{Body, Delivered, Group, Links, Packet};
 use std::alloc::Global;
-use std::process::Abort;
 use std::test::Fail;
+use test_support::{holds, same, same_count, same_number};
 
 /// The only request of a connection.
 fn request(conn: u64) -> RequestId {
@@ -65,29 +65,42 @@ struct Wanted<'a> {
     kept: usize,
 }
 
-/// Hands the packet to the group and looks at what it does. Where memory is refused nothing has changed, and the packet
-/// is handed to it again.
+/// The group has this clock and keeps so many requests.
+fn shows(name: &str, group: &Group, clock: u64, kept: usize) -> Result<(), Fail> {
+    same_number(name, group.clock(), clock)?;
+    same_count(name, group.kept(), kept)
+}
+
+/// What the group sends and delivers for a packet. Where memory is refused nothing has changed, and the packet is handed
+/// to it again.
+fn received(
+    name: &str,
+    alloc: Global,
+    group: &mut Group,
+    packet: Packet,
+) -> Result<(Vec<Packet>, Vec<Delivered>), Fail> {
+    let (clock, kept) = (group.clock(), group.kept());
+    holds(name, group.may_come(&packet))?;
+    if let Ok(done) = group.receive(alloc, packet) {
+        return Ok(done);
+    }
+    shows(name, group, clock, kept)?;
+    holds(name, group.may_come(&packet))?;
+    Ok(group.receive(alloc, packet)?)
+}
+
+/// Hands the packet to the group and looks at what it does.
 fn step(
-    rt: &impl Abort,
+    name: &str,
     alloc: Global,
     group: &mut Group,
     packet: Packet,
     wanted: Wanted,
 ) -> Result<Vec<Packet>, Fail> {
-    let (clock, kept) = (group.clock(), group.kept());
-    assert!(rt; group.may_come(&packet));
-    let (sent, delivered) = match group.receive(alloc, packet) {
-        Ok(done) => done,
-        Err(_) => {
-            assert_eq!(rt; (group.clock(), group.kept()), (clock, kept));
-            assert!(rt; group.may_come(&packet));
-            group.receive(alloc, packet)?
-        }
-    };
-    assert_eq!(rt; sent.as_slice(), wanted.sends);
-    assert_eq!(rt; delivered.as_slice(), wanted.delivers);
-    assert_eq!(rt; group.clock(), wanted.clock);
-    assert_eq!(rt; group.kept(), wanted.kept);
+    let (sent, delivered) = received(name, alloc, group, packet)?;
+    same(name, &sent.as_slice(), &wanted.sends)?;
+    same(name, &delivered.as_slice(), &wanted.delivers)?;
+    shows(name, group, wanted.clock, wanted.kept)?;
     Ok(sent)
 }
 
@@ -109,11 +122,18 @@ impl Pair {
     }
 
     /// Sends a packet. Where memory is refused nothing has changed, and it is sent again.
-    fn send(&mut self, rt: &impl Abort, packet: Packet) -> Result<(), Fail> {
+    fn send(&mut self, packet: Packet) -> Result<(), Fail> {
         let len = self.links.len();
         if self.links.send(Packet { ..packet }).is_err() {
-            assert_eq!(rt; self.links.len(), len);
+            same_count("packets", self.links.len(), len)?;
             self.links.send(Packet { ..packet })?;
+        }
+        Ok(())
+    }
+
+    fn send_all(&mut self, packets: &[Packet]) -> Result<(), Fail> {
+        for packet in packets {
+            self.send(*packet)?;
         }
         Ok(())
     }
@@ -121,7 +141,7 @@ impl Pair {
     /// Takes out the packet at this place, hands it to its group, and sends what that one sends.
     fn deliver(
         &mut self,
-        rt: &impl Abort,
+        name: &str,
         alloc: Global,
         place: usize,
         wanted: Wanted,
@@ -132,13 +152,28 @@ impl Pair {
         } else {
             &mut self.one
         };
-        let sent = step(rt, alloc, group, Packet { ..packet }, wanted)?;
-        for packet in sent.as_slice() {
-            self.send(rt, *packet)?;
+        let sent = step(name, alloc, group, Packet { ..packet }, wanted)?;
+        self.send_all(&sent)
+    }
+
+    /// Delivers the packets of these rows in turn.
+    fn deliver_each(&mut self, alloc: Global, rows: &[Row]) -> Result<(), Fail> {
+        for row in rows {
+            let (name, place, sends, delivers, clock, kept) = *row;
+            let wanted = Wanted {
+                sends,
+                delivers,
+                clock,
+                kept,
+            };
+            self.deliver(name, alloc, place, wanted)?;
         }
         Ok(())
     }
 }
+
+/// A packet in words, the place from which it is taken, and what it must lead to.
+type Row<'a> = (&'a str, usize, &'a [Packet], &'a [Delivered], u64, usize);
 
 #[test]
 fn one_group_packet_by_packet(rt: HostRuntime) -> Result<(), Fail> {
@@ -149,26 +184,21 @@ fn one_group_packet_by_packet(rt: HostRuntime) -> Result<(), Fail> {
     let told = [proposal(1, a, 0, 1)];
     let two = [delivered(b, 2, 0, alone), delivered(a, 5, 1, both())];
     let last = [delivered(c, 8, 0, alone)];
-    let rows: [(Packet, &[Packet], &[Delivered], u64, usize); 5] = [
-        (start(0, a, 0, both()), &told, &[], 1, 1),
-        (start(0, a, 0, both()), &[], &[], 1, 1),
-        (start(0, b, 0, alone), &[], &[], 2, 2),
-        (proposal(0, a, 1, 5), &[], &two, 5, 0),
-        (start(0, c, 7, alone), &[], &last, 8, 0),
+    let rows: [(&str, Packet, &[Packet], &[Delivered], u64, usize); 5] = [
+        ("Start a", start(0, a, 0, both()), &told, &[], 1, 1),
+        ("Start a again", start(0, a, 0, both()), &[], &[], 1, 1),
+        ("Start b", start(0, b, 0, alone), &[], &[], 2, 2),
+        ("a's proposal", proposal(0, a, 1, 5), &[], &two, 5, 0),
+        ("Start c", start(0, c, 7, alone), &[], &last, 8, 0),
     ];
-    for (packet, sends, delivers, clock, kept) in rows {
-        let _ = step(
-            &rt,
-            alloc,
-            &mut group,
-            packet,
-            Wanted {
-                sends,
-                delivers,
-                clock,
-                kept,
-            },
-        )?;
+    for (name, packet, sends, delivers, clock, kept) in rows {
+        let wanted = Wanted {
+            sends,
+            delivers,
+            clock,
+            kept,
+        };
+        let _ = step(name, alloc, &mut group, packet, wanted)?;
     }
     Ok(())
 }
@@ -178,69 +208,40 @@ fn crossing_requests_come_in_one_order(rt: HostRuntime) -> Result<(), Fail> {
     let alloc = rt.alloc();
     let mut pair = Pair::new(alloc);
     let (x, y) = (1, 2);
-    for packet in [
+    pair.send_all(&[
         start(0, x, 0, both()),
         start(1, x, 0, both()),
         start(0, y, 0, both()),
         start(1, y, 0, both()),
-    ] {
-        pair.send(&rt, packet)?;
-    }
+    ])?;
     let in_order = [delivered(y, 2, 0, both()), delivered(x, 2, 1, both())];
-    let rows: [(usize, &[Packet], &[Delivered], u64, usize); 8] = [
-        (0, &[proposal(1, x, 0, 1)], &[], 1, 1),
-        (2, &[proposal(0, y, 1, 1)], &[], 1, 1),
-        (1, &[proposal(1, y, 0, 2)], &[], 2, 2),
-        (0, &[proposal(0, x, 1, 2)], &[], 2, 2),
-        (0, &[], &[], 2, 2),
-        (0, &[], &[], 2, 2),
-        (0, &[], &in_order, 2, 0),
-        (0, &[], &in_order, 2, 0),
+    let rows: [Row; 8] = [
+        ("Start x at 0", 0, &[proposal(1, x, 0, 1)], &[], 1, 1),
+        ("Start y at 1", 2, &[proposal(0, y, 1, 1)], &[], 1, 1),
+        ("Start y at 0", 1, &[proposal(1, y, 0, 2)], &[], 2, 2),
+        ("Start x at 1", 0, &[proposal(0, x, 1, 2)], &[], 2, 2),
+        ("x's proposal at 1", 0, &[], &[], 2, 2),
+        ("y's proposal at 0", 0, &[], &[], 2, 2),
+        ("y's proposal at 1", 0, &[], &in_order, 2, 0),
+        ("x's proposal at 0", 0, &[], &in_order, 2, 0),
     ];
-    for (place, sends, delivers, clock, kept) in rows {
-        pair.deliver(
-            &rt,
-            alloc,
-            place,
-            Wanted {
-                sends,
-                delivers,
-                clock,
-                kept,
-            },
-        )?;
-    }
-    assert!(rt; pair.links.is_empty());
-    Ok(())
+    pair.deliver_each(alloc, &rows)?;
+    holds("no packet is left", pair.links.is_empty())
 }
 
 #[test]
 fn a_proposal_may_come_before_its_start(rt: HostRuntime) -> Result<(), Fail> {
     let alloc = rt.alloc();
     let mut pair = Pair::new(alloc);
-    pair.send(&rt, start(0, 1, 0, both()))?;
-    pair.send(&rt, start(1, 1, 0, both()))?;
+    pair.send_all(&[start(0, 1, 0, both()), start(1, 1, 0, both())])?;
     let last = [delivered(1, 1, 1, both())];
-    let rows: [(usize, &[Packet], &[Delivered], u64, usize); 4] = [
-        (0, &[proposal(1, 1, 0, 1)], &[], 1, 1),
-        (1, &[], &[], 0, 1),
-        (0, &[proposal(0, 1, 1, 1)], &last, 1, 0),
-        (0, &[], &last, 1, 0),
+    let rows: [Row; 4] = [
+        ("Start at 0", 0, &[proposal(1, 1, 0, 1)], &[], 1, 1),
+        ("the proposal at 1", 1, &[], &[], 0, 1),
+        ("Start at 1", 0, &[proposal(0, 1, 1, 1)], &last, 1, 0),
+        ("the proposal at 0", 0, &[], &last, 1, 0),
     ];
-    for (place, sends, delivers, clock, kept) in rows {
-        pair.deliver(
-            &rt,
-            alloc,
-            place,
-            Wanted {
-                sends,
-                delivers,
-                clock,
-                kept,
-            },
-        )?;
-    }
-    Ok(())
+    pair.deliver_each(alloc, &rows)
 }
 
 #[test]
@@ -255,7 +256,8 @@ fn a_floor_lifts_the_proposal(rt: HostRuntime) -> Result<(), Fail> {
         clock: 6,
         kept: 0,
     };
-    let _ = step(&rt, alloc, &mut group, start(1, 1, 5, alone), wanted)?;
+    let packet = start(1, 1, 5, alone);
+    let _ = step("a Start with a floor", alloc, &mut group, packet, wanted)?;
     Ok(())
 }
 
@@ -273,14 +275,18 @@ fn a_start_for_64_groups_is_told_to_63(rt: HostRuntime) -> Result<(), Fail> {
         clock: 1,
         kept: 1,
     };
-    let _ = step(
-        &rt,
-        alloc,
-        &mut group,
-        start(0, 1, 0, Groups::all(64)),
-        wanted,
-    )?;
+    let packet = start(0, 1, 0, Groups::all(64));
+    let _ = step("a Start for all", alloc, &mut group, packet, wanted)?;
     Ok(())
+}
+
+/// The packet at this place is the Start of this connection; it is taken, and so many are left.
+fn takes(links: &mut Links, place: usize, conn: u64, left: usize) -> Result<(), Fail> {
+    let named = links.packet(place).ok_or("no packet at that place")?.id;
+    same("the request at a place", &named, &request(conn))?;
+    let taken = links.take(place).ok_or("no packet at that place")?;
+    same("a packet taken out", &taken, &start(0, conn, 0, both()))?;
+    same_count("packets left", links.len(), left)
 }
 
 #[test]
@@ -293,13 +299,7 @@ fn links_keep_the_order_of_sending(rt: HostRuntime) -> Result<(), Fail> {
         links.send(start(0, conn, 0, both()))?;
     }
     for (place, conn, left) in [(1, 2, 3), (1, 3, 2), (1, 4, 1), (0, 1, 0)] {
-        assert_eq!(rt;
-            links.packet(place).map(|packet| packet.id),
-            Some(request(conn))
-        );
-        assert_eq!(rt; links.take(place), Some(start(0, conn, 0, both())));
-        assert_eq!(rt; links.len(), left);
+        takes(&mut links, place, conn, left)?;
     }
-    assert_eq!(rt; links.take(0), None);
-    Ok(())
+    holds("no packet is left", links.take(0).is_none())
 }
