@@ -23,9 +23,11 @@ fn shown(alloc: Global, decoded: &Decoded) -> Result<Vec<u8>, AllocError> {
     Ok(out)
 }
 
-/// The bytes of a stream, its requests and the fault behind them.
+/// The bytes of a stream, and its requests and the fault behind them.
+type Row = (&'static str, &'static str);
+
 #[rattlefmt::skip]
-const ROWS: [(&str, &str); 16] = [
+const ROWS: [Row; 16] = [
     ("*1|$4|PiNG|", "[PiNG];"),
     ("*3|$3|SET|$0||$0||", "[SET][][];"),
     ("*0|*-1|*1|$4|PING|", "[PING];"),
@@ -51,17 +53,28 @@ fn decodes(alloc: Global, line: &str, pieces: &[&[u8]], want: &[u8]) -> Result<(
     same_bytes(line, &got, want)
 }
 
-#[test]
-fn reads_rows_wherever_they_are_cut(rt: HostRuntime) -> Result<(), Fail> {
-    for (row, want) in ROWS {
-        let stream = bytes_of(rt.alloc(), row)?;
-        for cut in 0..stream.len() {
-            let line = format!(in rt.alloc(); "{row} cut at {cut}")?;
-            let pieces: &[&[u8]] = &[&stream[..cut], &stream[cut..]];
-            decodes(rt.alloc(), line.as_str(), pieces, want.as_bytes())?;
-        }
+/// The stream is decoded so wherever it is cut.
+fn decodes_cut(alloc: Global, row: &str, want: &str) -> Result<(), Fail> {
+    let stream = bytes_of(alloc, row)?;
+    for cut in 0..stream.len() {
+        let line = format!(in alloc; "{row} cut at {cut}")?;
+        let pieces: &[&[u8]] = &[&stream[..cut], &stream[cut..]];
+        decodes(alloc, line.as_str(), pieces, want.as_bytes())?;
     }
     Ok(())
+}
+
+fn decodes_each(alloc: Global, rows: &[Row]) -> Result<(), Fail> {
+    for row in rows {
+        let (stream, want) = *row;
+        decodes_cut(alloc, stream, want)?;
+    }
+    Ok(())
+}
+
+#[test]
+fn reads_rows_wherever_they_are_cut(rt: HostRuntime) -> Result<(), Fail> {
+    decodes_each(rt.alloc(), &ROWS)
 }
 
 #[test]
@@ -71,12 +84,17 @@ fn waits_until_the_last_byte(rt: HostRuntime) -> Result<(), Fail> {
     holds("nothing is fed", !decoder.pending())?;
     for (place, byte) in stream.iter().enumerate() {
         same("pending before", &decoder.pending(), &(place > 0))?;
-        decoder.feed(&[*byte])?;
-        holds("pending behind", decoder.pending())?;
-        let line = format!(in rt.alloc(); "after byte {place}")?;
-        same(line.as_str(), &decoder.next()?.is_some(), &(place == 26))?;
+        takes_byte(rt.alloc(), &mut decoder, place, *byte)?;
     }
     holds("all is read", !decoder.pending())
+}
+
+/// The decoder is fed the byte of this place, and has a request with the last one alone.
+fn takes_byte(alloc: Global, decoder: &mut Decoder, place: usize, byte: u8) -> Result<(), Fail> {
+    decoder.feed(&[byte])?;
+    holds("pending behind", decoder.pending())?;
+    let line = format!(in alloc; "after byte {place}")?;
+    same(line.as_str(), &decoder.next()?.is_some(), &(place == 26))
 }
 
 #[test]
@@ -148,7 +166,7 @@ fn reads_two_thousand_pieces_and_large_words(rt: HostRuntime) -> Result<(), Fail
 
 /// What is fed, and the second words that are seen ahead, each behind a space.
 #[rattlefmt::skip]
-const AHEAD: [(&str, &str); 7] = [
+const AHEAD: [Row; 7] = [
     ("*2|$3|GET|$1|a|*1|$4|PING|*3|$3|SET|$2|bc|$1|d|", " a  bc"),
     ("*0|*2|$3|GET|$1|a|", "  a"),
     ("*2|$3|GET|$1|a|*2|$3|GET|$1|b", " a"),
@@ -172,15 +190,25 @@ fn seen_ahead(alloc: Global, decoder: &Decoder) -> Result<Vec<u8>, AllocError> {
     Ok(seen)
 }
 
-#[test]
-fn sees_the_second_words_ahead(rt: HostRuntime) -> Result<(), Fail> {
-    for (fed, words) in AHEAD {
-        let mut decoder = Decoder::new(rt.alloc(), Limits::DEFAULT);
-        decoder.feed(&bytes_of(rt.alloc(), fed)?)?;
-        let seen = seen_ahead(rt.alloc(), &decoder)?;
-        same_bytes(fed, &seen, words.as_bytes())?;
+/// A decoder that is fed so shows these words.
+fn shows_ahead(alloc: Global, fed: &str, words: &str) -> Result<(), Fail> {
+    let mut decoder = Decoder::new(alloc, Limits::DEFAULT);
+    decoder.feed(&bytes_of(alloc, fed)?)?;
+    let seen = seen_ahead(alloc, &decoder)?;
+    same_bytes(fed, &seen, words.as_bytes())
+}
+
+fn shows_each_ahead(alloc: Global, rows: &[Row]) -> Result<(), Fail> {
+    for row in rows {
+        let (fed, words) = *row;
+        shows_ahead(alloc, fed, words)?;
     }
     Ok(())
+}
+
+#[test]
+fn sees_the_second_words_ahead(rt: HostRuntime) -> Result<(), Fail> {
+    shows_each_ahead(rt.alloc(), &AHEAD)
 }
 
 #[test]

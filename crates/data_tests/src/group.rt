@@ -175,6 +175,24 @@ impl Pair {
 /// A packet in words, the place from which it is taken, and what it must lead to.
 type Row<'a> = (&'a str, usize, &'a [Packet], &'a [Delivered], u64, usize);
 
+/// A packet in words, the packet, and what it must lead to.
+type Step<'a> = (&'a str, Packet, &'a [Packet], &'a [Delivered], u64, usize);
+
+/// Hands the packets of these rows to the group in turn.
+fn step_each(alloc: Global, group: &mut Group, rows: &[Step]) -> Result<(), Fail> {
+    for row in rows {
+        let (name, packet, sends, delivers, clock, kept) = *row;
+        let wanted = Wanted {
+            sends,
+            delivers,
+            clock,
+            kept,
+        };
+        let _ = step(name, alloc, group, packet, wanted)?;
+    }
+    Ok(())
+}
+
 #[test]
 fn one_group_packet_by_packet(rt: HostRuntime) -> Result<(), Fail> {
     let alloc = rt.alloc();
@@ -184,23 +202,14 @@ fn one_group_packet_by_packet(rt: HostRuntime) -> Result<(), Fail> {
     let told = [proposal(1, a, 0, 1)];
     let two = [delivered(b, 2, 0, alone), delivered(a, 5, 1, both())];
     let last = [delivered(c, 8, 0, alone)];
-    let rows: [(&str, Packet, &[Packet], &[Delivered], u64, usize); 5] = [
+    let rows: [Step; 5] = [
         ("Start a", start(0, a, 0, both()), &told, &[], 1, 1),
         ("Start a again", start(0, a, 0, both()), &[], &[], 1, 1),
         ("Start b", start(0, b, 0, alone), &[], &[], 2, 2),
         ("a's proposal", proposal(0, a, 1, 5), &[], &two, 5, 0),
         ("Start c", start(0, c, 7, alone), &[], &last, 8, 0),
     ];
-    for (name, packet, sends, delivers, clock, kept) in rows {
-        let wanted = Wanted {
-            sends,
-            delivers,
-            clock,
-            kept,
-        };
-        let _ = step(name, alloc, &mut group, packet, wanted)?;
-    }
-    Ok(())
+    step_each(alloc, &mut group, &rows)
 }
 
 #[test]
@@ -298,8 +307,9 @@ fn links_keep_the_order_of_sending(rt: HostRuntime) -> Result<(), Fail> {
     for conn in 1..5 {
         links.send(start(0, conn, 0, both()))?;
     }
-    for (place, conn, left) in [(1, 2, 3), (1, 3, 2), (1, 4, 1), (0, 1, 0)] {
-        takes(&mut links, place, conn, left)?;
-    }
+    takes(&mut links, 1, 2, 3)?;
+    takes(&mut links, 1, 3, 2)?;
+    takes(&mut links, 1, 4, 1)?;
+    takes(&mut links, 0, 1, 0)?;
     holds("no packet is left", links.take(0).is_none())
 }

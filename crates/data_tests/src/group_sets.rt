@@ -33,18 +33,27 @@ fn holds_just(alloc: Global, line: &str, put_in: &[u8], want: &[u8]) -> Result<(
     same(line, &groups, &set(want))
 }
 
-#[test]
-fn sets_come_ascending_and_once(rt: HostRuntime) -> Result<(), Fail> {
-    let cases: [(&str, &[u8], &[u8]); 4] = [
-        ("none", &[], &[]),
-        ("the last", &[63], &[63]),
-        ("one twice", &[5, 0, 63, 5, 1], &[0, 1, 5, 63]),
-        ("about the middle", &[31, 32, 33, 32], &[31, 32, 33]),
-    ];
-    for (line, put_in, want) in cases {
-        holds_just(rt.alloc(), line, put_in, want)?;
+/// A case in words, the numbers, and the elements.
+type Case = (&'static str, &'static [u8], &'static [u8]);
+
+const CASES: [Case; 4] = [
+    ("none", &[], &[]),
+    ("the last", &[63], &[63]),
+    ("one twice", &[5, 0, 63, 5, 1], &[0, 1, 5, 63]),
+    ("about the middle", &[31, 32, 33, 32], &[31, 32, 33]),
+];
+
+fn each_holds_just(alloc: Global, cases: &[Case]) -> Result<(), Fail> {
+    for case in cases {
+        let (line, put_in, want) = *case;
+        holds_just(alloc, line, put_in, want)?;
     }
     Ok(())
+}
+
+#[test]
+fn sets_come_ascending_and_once(rt: HostRuntime) -> Result<(), Fail> {
+    each_holds_just(rt.alloc(), &CASES)
 }
 
 /// The set of the first `count` groups has `len` elements, of which the least is this one.

@@ -28,12 +28,17 @@ const HASHES: [(&str, u64); 4] = [
     ("foobar", 0x85944171f73967e8),
 ];
 
-#[test]
-fn hashes_as_published() -> Result<(), Fail> {
-    for (text, want) in HASHES {
+fn each_has_hash(rows: &[(&str, u64)]) -> Result<(), Fail> {
+    for row in rows {
+        let (text, want) = *row;
         same_number(text, hash_of(text.as_bytes()), want)?;
     }
     Ok(())
+}
+
+#[test]
+fn hashes_as_published() -> Result<(), Fail> {
+    each_has_hash(&HASHES)
 }
 
 /// Keys and their tags.
@@ -45,12 +50,17 @@ const TAGS: [(&str, &str); 5] = [
     ("}foo{bar", "}foo{bar"),
 ];
 
-#[test]
-fn tags_are_those_of_redis_cluster() -> Result<(), Fail> {
-    for (key, tag) in TAGS {
+fn each_has_tag(rows: &[(&str, &str)]) -> Result<(), Fail> {
+    for row in rows {
+        let (key, tag) = *row;
         same_bytes(key, tag_of(key.as_bytes()), tag.as_bytes())?;
     }
     Ok(())
+}
+
+#[test]
+fn tags_are_those_of_redis_cluster() -> Result<(), Fail> {
+    each_has_tag(&TAGS)
 }
 
 /// Keys and their slots.
@@ -60,12 +70,17 @@ const SLOTS: [(&str, usize); 12] = [
     ("{}a", 396), ("{a", 33),
 ];
 
-#[test]
-fn keys_lie_in_their_slots() -> Result<(), Fail> {
-    for (key, slot) in SLOTS {
+fn each_lies_in_slot(rows: &[(&str, usize)]) -> Result<(), Fail> {
+    for row in rows {
+        let (key, slot) = *row;
         same_count(key, slot_of(key.as_bytes()), slot)?;
     }
     Ok(())
+}
+
+#[test]
+fn keys_lie_in_their_slots() -> Result<(), Fail> {
+    each_lies_in_slot(&SLOTS)
 }
 
 /// Keys, and the number of the shard of two where each lies.
@@ -74,21 +89,28 @@ const IN_TWO: [(&str, u64); 8] = [
     ("a", 0), ("b", 0), ("y", 0), ("c", 1), ("d", 1), ("x", 1), ("z", 1), ("", 1),
 ];
 
+fn each_lies_in_shard(table: &Table, rows: &[(&str, u64)]) -> Result<(), Fail> {
+    for row in rows {
+        let (key, shard) = *row;
+        same_number(key, table.shard_of(key.as_bytes()).number().into(), shard)?;
+    }
+    Ok(())
+}
+
 #[test]
 fn reads_a_table(rt: HostRuntime) -> Result<(), Fail> {
     let table = Table::from_toml(rt.alloc(), TWO_SHARDS)?;
     same_number("shards", table.shards().into(), 2)?;
     let copy = table;
     holds("a copy is the same", copy == table)?;
-    for (key, shard) in IN_TWO {
-        same_number(key, copy.shard_of(key.as_bytes()).number().into(), shard)?;
-    }
-    Ok(())
+    each_lies_in_shard(&copy, &IN_TWO)
 }
 
 /// A line of `TWO_SHARDS`, what it is replaced by, and why the text is then refused.
+type Refused = (&'static str, &'static str, TableFault);
+
 #[rattlefmt::skip]
-const REFUSED: [(&str, &str, TableFault); 28] = [
+const REFUSED: [Refused; 28] = [
     ("from = 512", "from = 513", TableFault::Missing),
     ("from = 512", "from = 511", TableFault::Twice),
     ("shard = 1", "shard = 2", TableFault::Shard),
@@ -128,14 +150,24 @@ fn refused(alloc: Global, line: &str, text: &str, want: &TableFault) -> Result<(
     }
 }
 
-#[test]
-fn refuses_what_is_no_table(rt: HostRuntime) -> Result<(), Fail> {
-    for (old, new, want) in REFUSED {
-        let (before, behind) = TWO_SHARDS.split_once(old).ok_or("no such line")?;
-        let text = format!(in rt.alloc(); "{before}{new}{behind}")?;
-        refused(rt.alloc(), text.as_str(), text.as_str(), &want)?;
+/// The table with another line is refused so.
+fn other_is_refused(alloc: Global, table: &str, row: &Refused) -> Result<(), Fail> {
+    let (old, new, want) = row;
+    let (before, behind) = table.split_once(*old).ok_or("no such line")?;
+    let text = format!(in alloc; "{before}{new}{behind}")?;
+    refused(alloc, text.as_str(), text.as_str(), want)
+}
+
+fn each_is_refused(alloc: Global, rows: &[Refused]) -> Result<(), Fail> {
+    for row in rows {
+        other_is_refused(alloc, TWO_SHARDS, row)?;
     }
     Ok(())
+}
+
+#[test]
+fn refuses_what_is_no_table(rt: HostRuntime) -> Result<(), Fail> {
+    each_is_refused(rt.alloc(), &REFUSED)
 }
 
 #[test]
@@ -163,15 +195,19 @@ const ADDRESSED: [(&str, &[u8]); 6] = [
     ("GET ", &[50]), ("DEL c a", &[8, 63]), ("DEL z a b {a}1 z", &[8, 26, 38]), ("SET y a", &[21]), ("PING", &[]), ("ECHO a", &[]),
 ];
 
+fn addresses_each(alloc: Global, table: &Table, rows: &[(&str, &[u8])]) -> Result<(), Fail> {
+    for row in rows {
+        let (line, want) = *row;
+        same_bytes(line, &groups_addressed(alloc, table, line)?, want)?;
+    }
+    Ok(())
+}
+
 #[test]
 fn addresses_the_shards_of_the_keys(rt: HostRuntime) -> Result<(), Fail> {
     let text = table_of_64_shards(rt.alloc())?;
     let table = Table::from_toml(rt.alloc(), text.as_str())?;
-    for (line, want) in ADDRESSED {
-        let numbers = groups_addressed(rt.alloc(), &table, line)?;
-        same_bytes(line, &numbers, want)?;
-    }
-    Ok(())
+    addresses_each(rt.alloc(), &table, &ADDRESSED)
 }
 
 // A table of 64 shards, with 16 slots each.
@@ -224,10 +260,15 @@ const FAULTS: [(TableFault, &str); 5] = [
     (TableFault::Memory, "out of memory"),
 ];
 
-#[test]
-fn says_why_a_text_is_refused(rt: HostRuntime) -> Result<(), Fail> {
-    for (fault, want) in FAULTS {
-        same_text(want, fault.to_string(rt.alloc())?.as_str(), want)?;
+fn each_says(alloc: Global, rows: &[(TableFault, &str)]) -> Result<(), Fail> {
+    for row in rows {
+        let (fault, want) = row;
+        same_text(want, fault.to_string(alloc)?.as_str(), want)?;
     }
     Ok(())
+}
+
+#[test]
+fn says_why_a_text_is_refused(rt: HostRuntime) -> Result<(), Fail> {
+    each_says(rt.alloc(), &FAULTS)
 }

@@ -39,8 +39,10 @@ fn written_again(alloc: Global, text: &str) -> Result<Vec<u8>, TraceFault> {
 }
 
 /// A name, a text, and how it is written.
+type Known = (&'static str, &'static str, &'static str);
+
 #[rattlefmt::skip]
-const KNOWN: [(&str, &str, &str); 3] = [
+const KNOWN: [Known; 3] = [
     ("two that cross", CROSSING, CROSSING),
     ("one that starves", STARVED, STARVED),
     (
@@ -50,14 +52,19 @@ const KNOWN: [(&str, &str, &str); 3] = [
     ),
 ];
 
-#[test]
-fn known_texts_are_read_and_written(rt: HostRuntime) -> Result<(), Fail> {
-    for (name, text, written) in KNOWN {
-        let again = written_again(rt.alloc(), text)?;
-        let want = format!(in rt.alloc(); "before {written}")?;
+fn each_is_written(alloc: Global, texts: &[Known]) -> Result<(), Fail> {
+    for known in texts {
+        let (name, text, written) = *known;
+        let again = written_again(alloc, text)?;
+        let want = format!(in alloc; "before {written}")?;
         same_bytes(name, &again, want.as_bytes())?;
     }
     Ok(())
+}
+
+#[test]
+fn known_texts_are_read_and_written(rt: HostRuntime) -> Result<(), Fail> {
+    each_is_written(rt.alloc(), &KNOWN)
 }
 
 /// The text is bad at this line.
@@ -69,37 +76,43 @@ fn bad_at(alloc: Global, name: &str, text: &[u8], line: u64) -> Result<(), Fail>
     }
 }
 
+/// Each beginning of the text is bad where it ends.
+fn beginnings_are_bad(alloc: Global, text: &[u8]) -> Result<(), Fail> {
+    for end in 0..text.len() {
+        let name = format!(in alloc; "the first {end} bytes")?;
+        let part = &text[..end];
+        bad_at(alloc, name.as_str(), part, line_behind(part))?;
+    }
+    Ok(())
+}
+
 #[test]
 fn a_beginning_is_bad_where_it_ends(rt: HostRuntime) -> Result<(), Fail> {
-    let text = CROSSING.as_bytes();
-    for end in 0..text.len() {
-        let name = format!(in rt.alloc(); "the first {end} bytes")?;
-        let part = &text[..end];
-        bad_at(rt.alloc(), name.as_str(), part, line_behind(part))?;
+    beginnings_are_bad(rt.alloc(), CROSSING.as_bytes())
+}
+
+/// The text with any one byte in place of its own is bad in that byte's line.
+fn other_bytes_are_bad(alloc: Global, text: &[u8]) -> Result<(), Fail> {
+    for place in 0..text.len() {
+        let name = format!(in alloc; "another byte at {place}")?;
+        let mut other = Vec::from_slice(alloc, text)?;
+        other[place] = b'#';
+        let line = line_behind(&text[..place]);
+        bad_at(alloc, name.as_str(), &other, line)?;
     }
     Ok(())
 }
 
 #[test]
 fn another_byte_is_bad_in_its_line(rt: HostRuntime) -> Result<(), Fail> {
-    let text = CROSSING.as_bytes();
-    for place in 0..text.len() {
-        let name = format!(in rt.alloc(); "another byte at {place}")?;
-        let mut other = Vec::from_slice(rt.alloc(), text)?;
-        other[place] = b'#';
-        bad_at(
-            rt.alloc(),
-            name.as_str(),
-            &other,
-            line_behind(&text[..place]),
-        )?;
-    }
-    Ok(())
+    other_bytes_are_bad(rt.alloc(), CROSSING.as_bytes())
 }
 
-/// Other texts, and the line at which each is bad.
+/// A text, and the line at which it is bad.
+type Bad = (&'static str, u64);
+
 #[rattlefmt::skip]
-const OTHERS: [(&str, u64); 19] = [
+const OTHERS: [Bad; 19] = [
     ("", 1),
     ("shardkv-trace 2\n", 1),
     ("shardkv-trace 1\nmax 0\nend 0\n", 2),
@@ -121,12 +134,17 @@ const OTHERS: [(&str, u64); 19] = [
     ("shardkv-trace 1\r\nmax 7\r\nend 0\r\n", 1),
 ];
 
-#[test]
-fn other_texts_are_bad_at_the_first_other_line(rt: HostRuntime) -> Result<(), Fail> {
-    for (text, line) in OTHERS {
-        bad_at(rt.alloc(), text, text.as_bytes(), line)?;
+fn each_is_bad(alloc: Global, texts: &[Bad]) -> Result<(), Fail> {
+    for bad in texts {
+        let (text, line) = *bad;
+        bad_at(alloc, text, text.as_bytes(), line)?;
     }
     Ok(())
+}
+
+#[test]
+fn other_texts_are_bad_at_the_first_other_line(rt: HostRuntime) -> Result<(), Fail> {
+    each_is_bad(rt.alloc(), &OTHERS)
 }
 
 fn get(alloc: Global) -> Result<Request, AllocError> {
@@ -153,16 +171,22 @@ fn is_row(alloc: Global, row: &Row, seq: u64) -> Result<(), Fail> {
     same_bytes("the second of them", request.word(1), b"a")
 }
 
+/// Adds the row of this number.
+fn add(alloc: Global, rows: &mut Rows, seq: u64) -> Result<(), Fail> {
+    let stamp = Stamp {
+        clock: seq,
+        group: GroupId::new(63),
+    };
+    let words = PackedRequest::copy_of(alloc, &get(alloc)?)?;
+    rows.push(request_of(seq), &stamp, &words, &Reply::Int(-1))?;
+    Ok(())
+}
+
 #[test]
 fn rows_are_kept_and_taken_back(rt: HostRuntime) -> Result<(), Fail> {
     let mut rows = Rows::new(rt.alloc());
     for seq in 0..300 {
-        let stamp = Stamp {
-            clock: seq,
-            group: GroupId::new(63),
-        };
-        let words = PackedRequest::copy_of(rt.alloc(), &get(rt.alloc())?)?;
-        rows.push(request_of(seq), &stamp, &words, &Reply::Int(-1))?;
+        add(rt.alloc(), &mut rows, seq)?;
     }
     rows.truncate(299);
     same_count("rows", rows.len(), 299)?;

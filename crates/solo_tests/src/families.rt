@@ -98,11 +98,11 @@ const AT_A_SET: [&str; 12] = [
 
 /// What puts a value of another kind at `k`, and the commands that are then refused.
 #[rattlefmt::skip]
-const REFUSED: [([&str; 3], &[&str]); 4] = [
-    (["LPUSH k 1", "HSET k f 1", "SADD k m"], &AT_A_STRING),
-    (["SET k v", "HSET k f 1", "SADD k m"], &AT_A_LIST),
-    (["SET k v", "LPUSH k 1", "SADD k m"], &AT_A_HASH),
-    (["SET k v", "LPUSH k 1", "HSET k f 1"], &AT_A_SET),
+const REFUSED: [(&str, &[&str]); 12] = [
+    ("LPUSH k 1", &AT_A_STRING), ("HSET k f 1", &AT_A_STRING), ("SADD k m", &AT_A_STRING),
+    ("SET k v", &AT_A_LIST), ("HSET k f 1", &AT_A_LIST), ("SADD k m", &AT_A_LIST),
+    ("SET k v", &AT_A_HASH), ("LPUSH k 1", &AT_A_HASH), ("SADD k m", &AT_A_HASH),
+    ("SET k v", &AT_A_SET), ("LPUSH k 1", &AT_A_SET), ("HSET k f 1", &AT_A_SET),
 ];
 
 const WRONG_KIND: &[u8] = b"-WRONGTYPE Operation against a key holding the wrong kind of value\r\n";
@@ -116,15 +116,24 @@ fn refuses_last(alloc: Global, row: &str) -> Result<(), Fail> {
     holds(row, output.ends_with(WRONG_KIND))
 }
 
-#[test]
-fn another_kind_is_refused(rt: HostRuntime) -> Result<(), Fail> {
-    for (puts, commands) in REFUSED {
-        for put in puts {
-            for command in commands {
-                let row = format!(in rt.alloc(); "{put}; {command}")?;
-                refuses_last(rt.alloc(), row.as_str())?;
-            }
-        }
+/// Each command is refused where this request came before.
+fn refuses_behind(alloc: Global, put: &str, commands: &[&str]) -> Result<(), Fail> {
+    for command in commands {
+        let row = format!(in alloc; "{put}; {command}")?;
+        refuses_last(alloc, row.as_str())?;
     }
     Ok(())
+}
+
+fn refuses_each(alloc: Global, rows: &[(&str, &[&str])]) -> Result<(), Fail> {
+    for row in rows {
+        let (put, commands) = *row;
+        refuses_behind(alloc, put, commands)?;
+    }
+    Ok(())
+}
+
+#[test]
+fn another_kind_is_refused(rt: HostRuntime) -> Result<(), Fail> {
+    refuses_each(rt.alloc(), &REFUSED)
 }

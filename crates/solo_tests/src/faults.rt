@@ -14,25 +14,35 @@ const READ: Ending = Err(ServeFault::Read);
 
 const WRITE: Ending = Err(ServeFault::Write);
 
-#[test]
-fn replies_stand_where_a_read_fails(rt: HostRuntime) -> Result<(), Fail> {
-    let alloc = rt.alloc();
+/// How many bytes are read, and the replies that then stand.
+type Given = (usize, &'static str);
+
+#[rattlefmt::skip]
+const GIVEN: [Given; 5] = [(0, ""), (26, ""), (27, "+OK|"), (46, "+OK|"), (47, "+OK|$1|1|")];
+
+/// Just the replies of this row stand where a read fails.
+fn stand_behind(alloc: Global, row: &Given) -> Result<(), Fail> {
+    let (given, replies) = *row;
+    let line = format!(in alloc; "behind {given}")?;
     let input = requests_of(alloc, INPUT)?;
-    for (given, line, replies) in [
-        (0, "behind 0", ""),
-        (26, "behind 26", ""),
-        (27, "behind 27", "+OK|"),
-        (46, "behind 46", "+OK|"),
-        (47, "behind 47", "+OK|$1|1|"),
-    ] {
-        let mut reader = Source::new(&input, 1);
-        reader.fails_at = given;
-        let mut output = Vec::new(alloc);
-        let ended = empty_store(alloc).serve(&mut reader, &mut output);
-        let wanted = bytes_of(alloc, replies)?;
-        came(line, (&ended, &output), (&READ, &wanted))?;
+    let mut reader = Source::new(&input, 1);
+    reader.fails_at = given;
+    let mut output = Vec::new(alloc);
+    let ended = empty_store(alloc).serve(&mut reader, &mut output);
+    let wanted = bytes_of(alloc, replies)?;
+    came(line.as_str(), (&ended, &output), (&READ, &wanted))
+}
+
+fn each_stands_behind(alloc: Global, rows: &[Given]) -> Result<(), Fail> {
+    for row in rows {
+        stand_behind(alloc, row)?;
     }
     Ok(())
+}
+
+#[test]
+fn replies_stand_where_a_read_fails(rt: HostRuntime) -> Result<(), Fail> {
+    each_stands_behind(rt.alloc(), &GIVEN)
 }
 
 /// Only these replies are taken by a writer of bytes, with room for so many, whose write of number `fails_at` fails.

@@ -1,5 +1,6 @@
 //! Requests as a user writes them, read against the rows of the Redis command reference.
 
+use crate::store::Row;
 use command_table::{
     Command, Condition, Refusal, StringCommand, is_whole, key_at, key_count, keys, name, read,
 };
@@ -42,9 +43,25 @@ fn refused(alloc: Global, line: &str, read: &Read, want: &str) -> Result<(), Fai
     }
 }
 
+/// The line is refused with this text.
+fn refuses(alloc: Global, line: &str, want: &str) -> Result<(), Fail> {
+    let read = read_line(alloc, line)?;
+    let checked = refused(alloc, line, &read, want);
+    discard(read);
+    checked
+}
+
+fn refuses_each(alloc: Global, rows: &[Row]) -> Result<(), Fail> {
+    for row in rows {
+        let (line, want) = *row;
+        refuses(alloc, line, want)?;
+    }
+    Ok(())
+}
+
 /// Lines, and the text with which each is refused.
 #[rattlefmt::skip]
-const REFUSED: [(&str, &str); 17] = [
+const REFUSED: [Row; 17] = [
     ("FOO", "ERR unknown command"),
     ("", "ERR unknown command"),
     ("g\u{e9}t a", "ERR unknown command"),
@@ -66,13 +83,7 @@ const REFUSED: [(&str, &str); 17] = [
 
 #[test]
 fn refuses_what_the_table_refuses(rt: HostRuntime) -> Result<(), Fail> {
-    for (line, want) in REFUSED {
-        let read = read_line(rt.alloc(), line)?;
-        let checked = refused(rt.alloc(), line, &read, want);
-        discard(read);
-        checked?;
-    }
-    Ok(())
+    refuses_each(rt.alloc(), &REFUSED)
 }
 
 #[test]
@@ -90,43 +101,60 @@ fn says_why_a_request_is_refused(rt: HostRuntime) -> Result<(), Fail> {
 #[test]
 fn takes_no_name_that_is_no_text(rt: HostRuntime) -> Result<(), Fail> {
     let read = read(Request::copy_of(rt.alloc(), &[b"\xffget", b"a"])?);
-    let checked = refused(
-        rt.alloc(),
-        "a byte of no text",
-        &read,
-        "ERR unknown command",
-    );
+    let want = "ERR unknown command";
+    let checked = refused(rt.alloc(), "a name that is no text", &read, want);
     discard(read);
     checked
 }
 
-/// The command is none for all keys; it has this name and, behind it, these keys.
-fn tells(alloc: Global, line: &str, command: &Command, want: &str) -> Result<(), Fail> {
-    same(line, &is_whole(command), &false)?;
+/// The name of the command and, behind it, its keys.
+fn told(alloc: Global, command: &Command) -> Result<Vec<u8>, AllocError> {
     let mut told = name(command).as_bytes().to_vec(alloc)?;
-    let listed = keys(alloc, command)?;
-    same_count(line, listed.len(), key_count(command))?;
-    if let Some(first) = listed.first() {
-        same_bytes(line, key_at(command, 0), first)?;
-    }
-    for key in &listed {
+    for key in &keys(alloc, command)? {
         told.push(b' ')?;
         told.extend_from_slice(key)?;
     }
-    same_bytes(line, &told, want.as_bytes())
+    Ok(told)
 }
 
-/// It was read as a command with this name and these keys.
-fn told(alloc: Global, line: &str, read: &Read, want: &str) -> Result<(), Fail> {
-    match read {
-        Ok(command) => tells(alloc, line, command, want),
-        Err(_) => Err("it was refused".into()),
+/// So many keys are told as there are, and the first one is the first.
+fn counts_keys(alloc: Global, line: &str, command: &Command) -> Result<(), Fail> {
+    let listed = keys(alloc, command)?;
+    same_count(line, listed.len(), key_count(command))?;
+    match listed.first() {
+        Some(first) => same_bytes(line, key_at(command, 0), first),
+        None => Ok(()),
     }
+}
+
+/// The line was read as a command with this name and these keys, which is none for all keys.
+fn tells(alloc: Global, line: &str, read: &Read, want: &str) -> Result<(), Fail> {
+    let Ok(command) = read else {
+        return Err("it was refused".into());
+    };
+    same(line, &is_whole(command), &false)?;
+    counts_keys(alloc, line, command)?;
+    same_bytes(line, &told(alloc, command)?, want.as_bytes())
+}
+
+fn tells_line(alloc: Global, line: &str, want: &str) -> Result<(), Fail> {
+    let read = read_line(alloc, line)?;
+    let checked = tells(alloc, line, &read, want);
+    discard(read);
+    checked
+}
+
+fn tells_each(alloc: Global, rows: &[Row]) -> Result<(), Fail> {
+    for row in rows {
+        let (line, want) = *row;
+        tells_line(alloc, line, want)?;
+    }
+    Ok(())
 }
 
 /// Lines, and each command's name and keys.
 #[rattlefmt::skip]
-const TOLD: [(&str, &str); 14] = [
+const TOLD: [Row; 14] = [
     ("PiNG", "ping"),
     ("ping hi", "ping"),
     ("ECHO ", "echo"),
@@ -145,16 +173,10 @@ const TOLD: [(&str, &str); 14] = [
 
 #[test]
 fn tells_name_and_keys(rt: HostRuntime) -> Result<(), Fail> {
-    for (line, want) in TOLD {
-        let read = read_line(rt.alloc(), line)?;
-        let checked = told(rt.alloc(), line, &read, want);
-        discard(read);
-        checked?;
-    }
-    Ok(())
+    tells_each(rt.alloc(), &TOLD)
 }
 
-/// It was read as a SET with this condition.
+/// The line was read as a SET with this condition.
 fn sets(line: &str, read: &Read, want: Condition) -> Result<(), Fail> {
     match read {
         Ok(Command::Str(StringCommand::Set { condition, .. })) => same(line, condition, &want),
@@ -162,17 +184,17 @@ fn sets(line: &str, read: &Read, want: Condition) -> Result<(), Fail> {
     }
 }
 
+/// The line is read as a SET with this condition.
+fn sets_line(alloc: Global, line: &str, want: Condition) -> Result<(), Fail> {
+    let read = read_line(alloc, line)?;
+    let checked = sets(line, &read, want);
+    discard(read);
+    checked
+}
+
 #[test]
 fn reads_the_options_of_set(rt: HostRuntime) -> Result<(), Fail> {
-    for (line, want) in [
-        ("SET a 1", Condition::Always),
-        ("SET a 1 nx NX", Condition::IfAbsent),
-        ("set a 1 Xx", Condition::IfPresent),
-    ] {
-        let read = read_line(rt.alloc(), line)?;
-        let checked = sets(line, &read, want);
-        discard(read);
-        checked?;
-    }
-    Ok(())
+    sets_line(rt.alloc(), "SET a 1", Condition::Always)?;
+    sets_line(rt.alloc(), "SET a 1 nx NX", Condition::IfAbsent)?;
+    sets_line(rt.alloc(), "set a 1 Xx", Condition::IfPresent)
 }
