@@ -5,6 +5,7 @@ use keyspace::{Keyspace, Plain};
 use std::alloc::{AllocError, Global};
 use std::hash::{BuildHasherDefault, FoldHasher};
 use std::test::Fail;
+use test_support::{same_bytes, same_count};
 use texts::{End, Pairs, Text, Texts};
 use values::{HashValue, ListValue, SetValue, Value};
 
@@ -25,38 +26,46 @@ fn texts(alloc: Global, words: &[&str]) -> Result<Vec<Vec<u8>>, Fail> {
     Ok(texts)
 }
 
-#[test]
-fn each_kind_of_value(rt: HostRuntime) -> Result<(), Fail> {
-    let alloc = rt.alloc();
+/// A map with each kind of value.
+fn filled(alloc: Global) -> Result<Keys, Fail> {
     let mut keys = Plain::new(alloc, BuildHasherDefault::<FoldHasher>::new());
     let text = Text::copy_of(alloc, b"1")?;
     put(alloc, &mut keys, b"c", Value::Str(text))?;
     put(alloc, &mut keys, b"", Value::Str(Text::empty(alloc)))?;
-    let items = Texts::from(texts(alloc, &["b", "", "a"])?);
-    let Some(list) = ListValue::from_pushes(End::Tail, items) else {
-        panic!(rt; "there is one")
-    };
-    put(alloc, &mut keys, b"bc", Value::List(list))?;
-    let turns = texts(alloc, &["g", "2", "f", "jk"])?;
-    assert!(rt; turns.len() % 2 == 0);
-    let pairs = Pairs::from_turns(turns);
-    let Some(hash) = HashValue::from_pairs(alloc, pairs)? else {
-        panic!(rt; "there is one")
-    };
-    put(alloc, &mut keys, b"b", Value::Hash(hash))?;
-    let members = Texts::from(texts(alloc, &["n", "m", "n"])?);
-    let Some(set) = SetValue::from_members(alloc, members)? else {
-        panic!(rt; "there is one")
-    };
-    put(alloc, &mut keys, b"\xff", Value::Set(set))?;
+    put(alloc, &mut keys, b"bc", list(alloc)?)?;
+    put(alloc, &mut keys, b"b", hash(alloc)?)?;
+    put(alloc, &mut keys, b"\xff", set(alloc)?)?;
+    Ok(keys)
+}
 
+fn list(alloc: Global) -> Result<Value, Fail> {
+    let items = Texts::from(texts(alloc, &["b", "", "a"])?);
+    let list = ListValue::from_pushes(End::Tail, items).ok_or("no list")?;
+    Ok(Value::List(list))
+}
+
+fn hash(alloc: Global) -> Result<Value, Fail> {
+    let turns = texts(alloc, &["g", "2", "f", "jk"])?;
+    same_count("what is left over", turns.len() % 2, 0)?;
+    let hash = HashValue::from_pairs(alloc, Pairs::from_turns(turns))?.ok_or("no hash")?;
+    Ok(Value::Hash(hash))
+}
+
+fn set(alloc: Global) -> Result<Value, Fail> {
+    let members = Texts::from(texts(alloc, &["n", "m", "n"])?);
+    let set = SetValue::from_members(alloc, members)?.ok_or("no set")?;
+    Ok(Value::Set(set))
+}
+
+#[test]
+fn each_kind_of_value(rt: HostRuntime) -> Result<(), Fail> {
+    let alloc = rt.alloc();
+    let keys = filled(alloc)?;
     let mut dump = Dump::new(alloc);
     dump.add_all(&keys)?;
     let mut out = b"before ".to_vec(alloc)?;
     dump.write(&mut out)?;
-    assert_eq!(rt;
-        out.as_slice(),
-        b"before key - string -\nkey 62 hash 67 32 66 6a6b\nkey 6263 list 62 - 61\nkey 63 string 31\nkey ff set 6d 6e\n".as_slice()
-    );
-    Ok(())
+    let want =
+        b"before key - string -\nkey 62 hash 67 32 66 6a6b\nkey 6263 list 62 - 61\nkey 63 string 31\nkey ff set 6d 6e\n";
+    same_bytes("the dump", &out, want)
 }

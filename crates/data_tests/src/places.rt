@@ -1,10 +1,11 @@
 //! Places known from outside, tables as a user writes them, and the groups of requests in the words of a user.
 
 use command_table::{Command, read};
-use placement::{GroupId, Table, TableFault, hash_of, slot_of, tag_of};
+use placement::{Table, TableFault, hash_of, slot_of, tag_of};
 use resp::Request;
 use std::alloc::Global;
 use std::test::Fail;
+use test_support::{holds, same, same_bytes, same_count, same_number, same_text};
 
 const TWO_SHARDS: &str = "shards = 2
 
@@ -19,79 +20,97 @@ to = 1023
 shard = 1
 ";
 
-#[test]
-fn hashes_as_published(rt: HostRuntime) {
-    for (text, want) in [
-        ("", 0xcbf29ce484222325),
-        ("a", 0xaf63dc4c8601ec8c),
-        ("b", 0xaf63df4c8601f1a5),
-        ("foobar", 0x85944171f73967e8),
-    ] {
-        assert_eq!(rt; hash_of(text.as_bytes()), want, "`{text}`");
+/// Texts and their hashes.
+const HASHES: [(&str, u64); 4] = [
+    ("", 0xcbf29ce484222325),
+    ("a", 0xaf63dc4c8601ec8c),
+    ("b", 0xaf63df4c8601f1a5),
+    ("foobar", 0x85944171f73967e8),
+];
+
+fn each_has_hash(rows: &[(&str, u64)]) -> Result<(), Fail> {
+    for row in rows {
+        let (text, want) = *row;
+        same_number(text, hash_of(text.as_bytes()), want)?;
     }
+    Ok(())
 }
 
 #[test]
-fn tags_are_those_of_redis_cluster(rt: HostRuntime) {
-    for (key, tag) in [
-        ("{user1000}.following", "user1000"),
-        ("foo{}{bar}", "foo{}{bar}"),
-        ("foo{{bar}}zap", "{bar"),
-        ("foo{bar}{zap}", "bar"),
-        ("}foo{bar", "}foo{bar"),
-    ] {
-        assert_eq!(rt; tag_of(key.as_bytes()), tag.as_bytes(), "`{key}`");
+fn hashes_as_published() -> Result<(), Fail> {
+    each_has_hash(&HASHES)
+}
+
+/// Keys and their tags.
+const TAGS: [(&str, &str); 5] = [
+    ("{user1000}.following", "user1000"),
+    ("foo{}{bar}", "foo{}{bar}"),
+    ("foo{{bar}}zap", "{bar"),
+    ("foo{bar}{zap}", "bar"),
+    ("}foo{bar", "}foo{bar"),
+];
+
+fn each_has_tag(rows: &[(&str, &str)]) -> Result<(), Fail> {
+    for row in rows {
+        let (key, tag) = *row;
+        same_bytes(key, tag_of(key.as_bytes()), tag.as_bytes())?;
     }
+    Ok(())
 }
 
 #[test]
-fn keys_lie_in_their_slots(rt: HostRuntime) {
-    for (key, slot) in [
-        ("", 805),
-        ("a", 140),
-        ("b", 421),
-        ("c", 1010),
-        ("d", 883),
-        ("x", 775),
-        ("y", 340),
-        ("z", 621),
-        ("{a}1", 140),
-        ("x{a}", 140),
-        ("{}a", 396),
-        ("{a", 33),
-    ] {
-        assert_eq!(rt; slot_of(key.as_bytes()), slot, "`{key}`");
+fn tags_are_those_of_redis_cluster() -> Result<(), Fail> {
+    each_has_tag(&TAGS)
+}
+
+/// Keys and their slots.
+#[rattlefmt::skip]
+const SLOTS: [(&str, usize); 12] = [
+    ("", 805), ("a", 140), ("b", 421), ("c", 1010), ("d", 883), ("x", 775), ("y", 340), ("z", 621), ("{a}1", 140), ("x{a}", 140),
+    ("{}a", 396), ("{a", 33),
+];
+
+fn each_lies_in_slot(rows: &[(&str, usize)]) -> Result<(), Fail> {
+    for row in rows {
+        let (key, slot) = *row;
+        same_count(key, slot_of(key.as_bytes()), slot)?;
     }
+    Ok(())
+}
+
+#[test]
+fn keys_lie_in_their_slots() -> Result<(), Fail> {
+    each_lies_in_slot(&SLOTS)
+}
+
+/// Keys, and the number of the shard of two where each lies.
+#[rattlefmt::skip]
+const IN_TWO: [(&str, u64); 8] = [
+    ("a", 0), ("b", 0), ("y", 0), ("c", 1), ("d", 1), ("x", 1), ("z", 1), ("", 1),
+];
+
+fn each_lies_in_shard(table: &Table, rows: &[(&str, u64)]) -> Result<(), Fail> {
+    for row in rows {
+        let (key, shard) = *row;
+        same_number(key, table.shard_of(key.as_bytes()).number().into(), shard)?;
+    }
+    Ok(())
 }
 
 #[test]
 fn reads_a_table(rt: HostRuntime) -> Result<(), Fail> {
     let table = Table::from_toml(rt.alloc(), TWO_SHARDS)?;
-    assert_eq!(rt; table.shards(), 2);
+    same_number("shards", table.shards().into(), 2)?;
     let copy = table;
-    assert!(rt; copy == table);
-    for (key, shard) in [
-        ("a", 0),
-        ("b", 0),
-        ("y", 0),
-        ("c", 1),
-        ("d", 1),
-        ("x", 1),
-        ("z", 1),
-        ("", 1),
-    ] {
-        assert_eq!(rt;
-            copy.shard_of(key.as_bytes()),
-            GroupId::new(shard),
-            "`{key}`"
-        );
-    }
-    Ok(())
+    holds("a copy is the same", copy == table)?;
+    each_lies_in_shard(&copy, &IN_TWO)
 }
 
 /// A line of `TWO_SHARDS`, what it is replaced by, and why the text is then refused.
+type Refused = (&'static str, &'static str, TableFault);
+
 #[rattlefmt::skip]
-const REFUSED: [(&str, &str, TableFault); 28] = [
+const REFUSED: [Refused; 28] = [
     ("from = 512", "from = 513", TableFault::Missing),
     ("from = 512", "from = 511", TableFault::Twice),
     ("shard = 1", "shard = 2", TableFault::Shard),
@@ -123,25 +142,39 @@ const REFUSED: [(&str, &str, TableFault); 28] = [
     (TWO_SHARDS, "shards = 2\nrange = { from = 0, to = 1023, shard = 0 }", TableFault::Toml),
 ];
 
-#[test]
-fn refuses_what_is_no_table(rt: HostRuntime) -> Result<(), Fail> {
-    let alloc = rt.alloc();
-    for (old, new, want) in REFUSED {
-        let (before, behind) = TWO_SHARDS.split_once(old).ok_or("no such line")?;
-        let text = format!(in alloc; "{before}{new}{behind}")?;
-        match Table::from_toml(alloc, text.as_str()) {
-            Ok(_) => assert!(rt; false, "read: {text}"),
-            Err(fault) => assert_eq!(rt; fault, want, "at {text}"),
-        }
+/// The text is refused by this fault.
+fn refused(alloc: Global, line: &str, text: &str, want: &TableFault) -> Result<(), Fail> {
+    match Table::from_toml(alloc, text) {
+        Ok(_) => Err("it was read".into()),
+        Err(fault) => same(line, &fault, want),
+    }
+}
+
+/// The table with another line is refused so.
+fn other_is_refused(alloc: Global, table: &str, row: &Refused) -> Result<(), Fail> {
+    let (old, new, want) = row;
+    let (before, behind) = table.split_once(*old).ok_or("no such line")?;
+    let text = format!(in alloc; "{before}{new}{behind}")?;
+    refused(alloc, text.as_str(), text.as_str(), want)
+}
+
+fn each_is_refused(alloc: Global, rows: &[Refused]) -> Result<(), Fail> {
+    for row in rows {
+        other_is_refused(alloc, TWO_SHARDS, row)?;
     }
     Ok(())
 }
 
 #[test]
+fn refuses_what_is_no_table(rt: HostRuntime) -> Result<(), Fail> {
+    each_is_refused(rt.alloc(), &REFUSED)
+}
+
+#[test]
 fn reads_inline_tables_over_several_lines(rt: HostRuntime) -> Result<(), Fail> {
     let text = "shards = 1\nrange = [{\n  from = 0,\n  to = 1023,\n  shard = 0,\n}]";
-    assert_eq!(rt; Table::from_toml(rt.alloc(), text)?.shards(), 1);
-    Ok(())
+    let table = Table::from_toml(rt.alloc(), text)?;
+    same_number("shards", table.shards().into(), 1)
 }
 
 #[test]
@@ -152,30 +185,29 @@ fn reads_a_hundred_thousand_ranges(rt: HostRuntime) -> Result<(), Fail> {
         write!(text, "{{ from = {slot}, to = {slot}, shard = 0 }},\n")?;
     }
     text.push(']')?;
-    match Table::from_toml(rt.alloc(), text.as_str()) {
-        Ok(_) => assert!(rt; false, "slots are in many ranges"),
-        Err(fault) => assert_eq!(rt; fault, TableFault::Twice),
+    let line = "slots in many ranges";
+    refused(rt.alloc(), line, text.as_str(), &TableFault::Twice)
+}
+
+/// Requests, and the groups of 64 that each addresses.
+#[rattlefmt::skip]
+const ADDRESSED: [(&str, &[u8]); 6] = [
+    ("GET ", &[50]), ("DEL c a", &[8, 63]), ("DEL z a b {a}1 z", &[8, 26, 38]), ("SET y a", &[21]), ("PING", &[]), ("ECHO a", &[]),
+];
+
+fn addresses_each(alloc: Global, table: &Table, rows: &[(&str, &[u8])]) -> Result<(), Fail> {
+    for row in rows {
+        let (line, want) = *row;
+        same_bytes(line, &groups_addressed(alloc, table, line)?, want)?;
     }
     Ok(())
 }
 
 #[test]
 fn addresses_the_shards_of_the_keys(rt: HostRuntime) -> Result<(), Fail> {
-    let alloc = rt.alloc();
-    let text = table_of_64_shards(alloc)?;
-    let table = Table::from_toml(alloc, text.as_str())?;
-    for (words, want) in [
-        (&["GET", ""][..], &[50u8][..]),
-        (&["DEL", "c", "a"], &[8, 63]),
-        (&["DEL", "z", "a", "b", "{a}1", "z"], &[8, 26, 38]),
-        (&["SET", "y", "a"], &[21]),
-        (&["PING"], &[]),
-        (&["ECHO", "a"], &[]),
-    ] {
-        let numbers = groups_addressed(alloc, &table, words)?;
-        assert_eq!(rt; numbers.as_slice(), want, "{words:?}");
-    }
-    Ok(())
+    let text = table_of_64_shards(rt.alloc())?;
+    let table = Table::from_toml(rt.alloc(), text.as_str())?;
+    addresses_each(rt.alloc(), &table, &ADDRESSED)
 }
 
 // A table of 64 shards, with 16 slots each.
@@ -191,9 +223,9 @@ fn table_of_64_shards(alloc: Global) -> Result<String, Fail> {
     Ok(text)
 }
 
-// The numbers of the groups that these words address.
-fn groups_addressed(alloc: Global, table: &Table, words: &[&str]) -> Result<Vec<u8>, Fail> {
-    let command = command(alloc, words)?;
+// The numbers of the groups that the words of this line address.
+fn groups_addressed(alloc: Global, table: &Table, line: &str) -> Result<Vec<u8>, Fail> {
+    let command = command(alloc, line)?;
     let groups = table.groups(&command);
     discard(command);
     let mut numbers = Vec::new(alloc);
@@ -206,34 +238,37 @@ fn groups_addressed(alloc: Global, table: &Table, words: &[&str]) -> Result<Vec<
 // Lets a value go. What that takes for each kind of command is seen here alone.
 fn discard<T: Drop>(_value: T) {}
 
-// The command of these words.
-fn command(alloc: Global, words: &[&str]) -> Result<Command, Fail> {
-    let mut copies = Vec::new(alloc);
-    for word in words {
-        copies.push(Vec::from_slice(alloc, word.as_bytes())?)?;
+// The command of the words that stand in the line, one space apart.
+fn command(alloc: Global, line: &str) -> Result<Command, Fail> {
+    let mut words = Vec::new(alloc);
+    for word in line.split(' ') {
+        words.push(Vec::from_slice(alloc, word.as_bytes())?)?;
     }
-    if copies.is_empty() {
+    if words.is_empty() {
         return Err("no words".into());
     }
-    Ok(read(Request::from_words(copies))?)
+    Ok(read(Request::from_words(words))?)
+}
+
+/// Faults, and the text of each.
+#[rattlefmt::skip]
+const FAULTS: [(TableFault, &str); 5] = [
+    (TableFault::Toml, "not a TOML document of `shards` and tables `range` of `from`, `to` and `shard`"),
+    (TableFault::Missing, "a slot is in no range"),
+    (TableFault::Twice, "a slot is in two ranges"),
+    (TableFault::Shard, "`shards` is not 1 to 64, or a `shard` is not below it"),
+    (TableFault::Memory, "out of memory"),
+];
+
+fn each_says(alloc: Global, rows: &[(TableFault, &str)]) -> Result<(), Fail> {
+    for row in rows {
+        let (fault, want) = row;
+        same_text(want, fault.to_string(alloc)?.as_str(), want)?;
+    }
+    Ok(())
 }
 
 #[test]
 fn says_why_a_text_is_refused(rt: HostRuntime) -> Result<(), Fail> {
-    for (fault, want) in [
-        (
-            TableFault::Toml,
-            "not a TOML document of `shards` and tables `range` of `from`, `to` and `shard`",
-        ),
-        (TableFault::Missing, "a slot is in no range"),
-        (TableFault::Twice, "a slot is in two ranges"),
-        (
-            TableFault::Shard,
-            "`shards` is not 1 to 64, or a `shard` is not below it",
-        ),
-        (TableFault::Memory, "out of memory"),
-    ] {
-        assert_eq!(rt; fault.to_string(rt.alloc())?.as_str(), want);
-    }
-    Ok(())
+    each_says(rt.alloc(), &FAULTS)
 }

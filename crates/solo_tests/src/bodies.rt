@@ -2,26 +2,16 @@
 //!
 //! A line is a request and, behind ` = `, its reply, both as in the rows of `test_support`.
 
-use crate::store::{END, empty_store};
+use crate::store::{answers_row, empty_store};
 use std::alloc::Global;
-use std::process::Abort;
 use std::test::Fail;
-use test_support::{bytes_of, requests_of};
 
 /// Has an empty store answer these lines in turn.
-fn answer_in_turn(rt: &impl Abort, alloc: Global, lines: &str) -> Result<(), Fail> {
+fn answer_in_turn(alloc: Global, lines: &str) -> Result<(), Fail> {
     let mut store = empty_store(alloc);
     for line in lines.split('\n') {
         let (request, reply) = line.split_once(" = ").ok_or("a line has no reply")?;
-        let input = requests_of(alloc, request)?;
-        let mut output = Vec::new(alloc);
-        let ending = store.serve(&mut input.as_slice(), &mut output);
-        assert_eq!(rt; ending, END, "{line}");
-        assert_eq!(rt;
-            output.as_slice(),
-            bytes_of(alloc, reply)?.as_slice(),
-            "{line}"
-        );
+        answers_row(&mut store, alloc, request, reply)?;
     }
     Ok(())
 }
@@ -45,7 +35,7 @@ ECHO hi = $2|hi|";
 
 #[test]
 fn commands_answer_in_turn(rt: HostRuntime) -> Result<(), Fail> {
-    answer_in_turn(&rt, rt.alloc(), FIRST)
+    answer_in_turn(rt.alloc(), FIRST)
 }
 
 /// Lists.
@@ -98,7 +88,7 @@ GET d = $1|1|";
 
 #[test]
 fn commands_on_lists_answer_in_turn(rt: HostRuntime) -> Result<(), Fail> {
-    answer_in_turn(&rt, rt.alloc(), LISTS)
+    answer_in_turn(rt.alloc(), LISTS)
 }
 
 /// Keys and strings.
@@ -129,7 +119,7 @@ DBSIZE = :0|";
 
 #[test]
 fn keys_and_strings_answer_in_turn(rt: HostRuntime) -> Result<(), Fail> {
-    answer_in_turn(&rt, rt.alloc(), STRINGS)
+    answer_in_turn(rt.alloc(), STRINGS)
 }
 
 /// Strings that are numbers.
@@ -154,7 +144,7 @@ DECRBY e -9223372036854775808 = -ERR increment or decrement would overflow|";
 
 #[test]
 fn numbers_in_strings_answer_in_turn(rt: HostRuntime) -> Result<(), Fail> {
-    answer_in_turn(&rt, rt.alloc(), NUMBERS)
+    answer_in_turn(rt.alloc(), NUMBERS)
 }
 
 /// Sets, one at a time.
@@ -191,7 +181,7 @@ TYPE c = +string|";
 
 #[test]
 fn commands_on_sets_answer_in_turn(rt: HostRuntime) -> Result<(), Fail> {
-    answer_in_turn(&rt, rt.alloc(), SETS)
+    answer_in_turn(rt.alloc(), SETS)
 }
 
 /// Strings that are written into.
@@ -218,7 +208,7 @@ SETRANGE e -1 '' = -ERR offset is out of range|";
 
 #[test]
 fn writes_into_strings_answer_in_turn(rt: HostRuntime) -> Result<(), Fail> {
-    answer_in_turn(&rt, rt.alloc(), WRITES)
+    answer_in_turn(rt.alloc(), WRITES)
 }
 
 /// Members that move from set to set.
@@ -245,7 +235,7 @@ SCARD b = :2|";
 
 #[test]
 fn members_move_between_sets(rt: HostRuntime) -> Result<(), Fail> {
-    answer_in_turn(&rt, rt.alloc(), MOVES)
+    answer_in_turn(rt.alloc(), MOVES)
 }
 
 /// Several keys or fields at once.
@@ -269,7 +259,7 @@ HVALS h = *3|$2|-2|$19|9223372036854775807|$1|x|";
 
 #[test]
 fn several_keys_and_fields_answer_in_turn(rt: HostRuntime) -> Result<(), Fail> {
-    answer_in_turn(&rt, rt.alloc(), SEVERAL)
+    answer_in_turn(rt.alloc(), SEVERAL)
 }
 
 /// Sets that are combined.
@@ -307,5 +297,5 @@ EXISTS a = :0|";
 
 #[test]
 fn sets_are_combined(rt: HostRuntime) -> Result<(), Fail> {
-    answer_in_turn(&rt, rt.alloc(), COMBINED)
+    answer_in_turn(rt.alloc(), COMBINED)
 }

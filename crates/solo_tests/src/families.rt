@@ -1,13 +1,9 @@
 //! What each family of commands answers, row by row.
 
-use crate::store::{END, empty_store};
+use crate::store::{END, Row, each_answers, empty_store};
 use std::alloc::Global;
-use std::process::Abort;
 use std::test::Fail;
-use test_support::{bytes_of, requests_of};
-
-/// Requests on an empty store, and their replies.
-type Row = (&'static str, &'static str);
+use test_support::{holds, requests_of, same};
 
 #[rattlefmt::skip]
 const STRINGS: [Row; 8] = [
@@ -47,46 +43,29 @@ const TYPES: [Row; 1] = [
     ("SET t v; LPUSH l 1; HSET h f 1; SADD s m; TYPE t; TYPE l; TYPE h; TYPE s; TYPE none", "+OK|:1|:1|:1|+string|+list|+hash|+set|+none|"),
 ];
 
-/// Has an empty store answer each row, and looks at its replies.
-fn answer(rt: &impl Abort, alloc: Global, rows: &[Row]) -> Result<(), Fail> {
-    for row in rows {
-        let (requests, replies) = *row;
-        let input = requests_of(alloc, requests)?;
-        let mut output = Vec::new(alloc);
-        let ending = empty_store(alloc).serve(&mut input.as_slice(), &mut output);
-        assert_eq!(rt; ending, END, "{requests}");
-        assert_eq!(rt;
-            output.as_slice(),
-            bytes_of(alloc, replies)?.as_slice(),
-            "{requests}"
-        );
-    }
-    Ok(())
-}
-
 #[test]
 fn strings_answer(rt: HostRuntime) -> Result<(), Fail> {
-    answer(&rt, rt.alloc(), &STRINGS)
+    each_answers(rt.alloc(), &STRINGS)
 }
 
 #[test]
 fn lists_answer(rt: HostRuntime) -> Result<(), Fail> {
-    answer(&rt, rt.alloc(), &LISTS)
+    each_answers(rt.alloc(), &LISTS)
 }
 
 #[test]
 fn hashes_answer(rt: HostRuntime) -> Result<(), Fail> {
-    answer(&rt, rt.alloc(), &HASHES)
+    each_answers(rt.alloc(), &HASHES)
 }
 
 #[test]
 fn sets_answer(rt: HostRuntime) -> Result<(), Fail> {
-    answer(&rt, rt.alloc(), &SETS)
+    each_answers(rt.alloc(), &SETS)
 }
 
 #[test]
 fn types_are_told(rt: HostRuntime) -> Result<(), Fail> {
-    answer(&rt, rt.alloc(), &TYPES)
+    each_answers(rt.alloc(), &TYPES)
 }
 
 /// Commands that want a string at `k`.
@@ -117,34 +96,44 @@ const AT_A_SET: [&str; 12] = [
     "SINTERSTORE a k", "SUNIONSTORE a k", "SDIFFSTORE a k",
 ];
 
-/// Has each command asked of an empty store where a request has put a value of another kind at `k`.
-fn refused_where(rt: &impl Abort, alloc: Global, put: &str, commands: &[&str]) -> Result<(), Fail> {
+/// What puts a value of another kind at `k`, and the commands that are then refused.
+#[rattlefmt::skip]
+const REFUSED: [(&str, &[&str]); 12] = [
+    ("LPUSH k 1", &AT_A_STRING), ("HSET k f 1", &AT_A_STRING), ("SADD k m", &AT_A_STRING),
+    ("SET k v", &AT_A_LIST), ("HSET k f 1", &AT_A_LIST), ("SADD k m", &AT_A_LIST),
+    ("SET k v", &AT_A_HASH), ("LPUSH k 1", &AT_A_HASH), ("SADD k m", &AT_A_HASH),
+    ("SET k v", &AT_A_SET), ("LPUSH k 1", &AT_A_SET), ("HSET k f 1", &AT_A_SET),
+];
+
+const WRONG_KIND: &[u8] = b"-WRONGTYPE Operation against a key holding the wrong kind of value\r\n";
+
+/// The last of these requests is refused by an empty store.
+fn refuses_last(alloc: Global, row: &str) -> Result<(), Fail> {
+    let input = requests_of(alloc, row)?;
+    let mut output = Vec::new(alloc);
+    let ending = empty_store(alloc).serve(&mut input.as_slice(), &mut output);
+    same(row, &ending, &END)?;
+    holds(row, output.ends_with(WRONG_KIND))
+}
+
+/// Each command is refused where this request came before.
+fn refuses_behind(alloc: Global, put: &str, commands: &[&str]) -> Result<(), Fail> {
     for command in commands {
         let row = format!(in alloc; "{put}; {command}")?;
-        let input = requests_of(alloc, row.as_str())?;
-        let mut output = Vec::new(alloc);
-        let ending = empty_store(alloc).serve(&mut input.as_slice(), &mut output);
-        assert_eq!(rt; ending, END, "{row}");
-        let refusal = b"-WRONGTYPE Operation against a key holding the wrong kind of value\r\n";
-        assert!(rt; output.as_slice().ends_with(refusal.as_slice()), "{row}");
+        refuses_last(alloc, row.as_str())?;
+    }
+    Ok(())
+}
+
+fn refuses_each(alloc: Global, rows: &[(&str, &[&str])]) -> Result<(), Fail> {
+    for row in rows {
+        let (put, commands) = *row;
+        refuses_behind(alloc, put, commands)?;
     }
     Ok(())
 }
 
 #[test]
 fn another_kind_is_refused(rt: HostRuntime) -> Result<(), Fail> {
-    let alloc = rt.alloc();
-    for put in ["LPUSH k 1", "HSET k f 1", "SADD k m"] {
-        refused_where(&rt, alloc, put, &AT_A_STRING)?;
-    }
-    for put in ["SET k v", "HSET k f 1", "SADD k m"] {
-        refused_where(&rt, alloc, put, &AT_A_LIST)?;
-    }
-    for put in ["SET k v", "LPUSH k 1", "SADD k m"] {
-        refused_where(&rt, alloc, put, &AT_A_HASH)?;
-    }
-    for put in ["SET k v", "LPUSH k 1", "HSET k f 1"] {
-        refused_where(&rt, alloc, put, &AT_A_SET)?;
-    }
-    Ok(())
+    refuses_each(rt.alloc(), &REFUSED)
 }

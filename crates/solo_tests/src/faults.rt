@@ -1,69 +1,66 @@
 //! What is written where a read or a write fails.
 
-use crate::store::empty_store;
+use crate::store::{Ending, came, empty_store};
 use serving::ServeFault;
+use std::alloc::Global;
 use std::test::Fail;
 use test_support::{NEVER, Sink, Source, bytes_of, requests_of};
 
-#[test]
-fn replies_stand_where_a_read_fails(rt: HostRuntime) -> Result<(), Fail> {
-    let input = requests_of(rt.alloc(), "SET a 1; GET a; PING")?;
-    for (given, replies) in [
-        (0, ""),
-        (26, ""),
-        (27, "+OK|"),
-        (46, "+OK|"),
-        (47, "+OK|$1|1|"),
-    ] {
-        let mut output = Vec::new(rt.alloc());
-        let mut reader = Source::new(&input, 1);
-        reader.fails_at = given;
-        let ended = empty_store(rt.alloc()).serve(&mut reader, &mut output);
-        assert_eq!(rt; ended, Err(ServeFault::Read), "behind {given}");
-        assert_eq!(rt;
-            output.as_slice(),
-            bytes_of(rt.alloc(), replies)?.as_slice(),
-            "behind {given}"
-        );
+const INPUT: &str = "SET a 1; GET a; PING";
+
+const REPLIES: &str = "+OK|$1|1|+PONG|";
+
+const READ: Ending = Err(ServeFault::Read);
+
+const WRITE: Ending = Err(ServeFault::Write);
+
+/// How many bytes are read, and the replies that then stand.
+type Given = (usize, &'static str);
+
+#[rattlefmt::skip]
+const GIVEN: [Given; 5] = [(0, ""), (26, ""), (27, "+OK|"), (46, "+OK|"), (47, "+OK|$1|1|")];
+
+/// Just the replies of this row stand where a read fails.
+fn stand_behind(alloc: Global, row: &Given) -> Result<(), Fail> {
+    let (given, replies) = *row;
+    let line = format!(in alloc; "behind {given}")?;
+    let input = requests_of(alloc, INPUT)?;
+    let mut reader = Source::new(&input, 1);
+    reader.fails_at = given;
+    let mut output = Vec::new(alloc);
+    let ended = empty_store(alloc).serve(&mut reader, &mut output);
+    let wanted = bytes_of(alloc, replies)?;
+    came(line.as_str(), (&ended, &output), (&READ, &wanted))
+}
+
+fn each_stands_behind(alloc: Global, rows: &[Given]) -> Result<(), Fail> {
+    for row in rows {
+        stand_behind(alloc, row)?;
     }
     Ok(())
+}
+
+#[test]
+fn replies_stand_where_a_read_fails(rt: HostRuntime) -> Result<(), Fail> {
+    each_stands_behind(rt.alloc(), &GIVEN)
+}
+
+/// Only these replies are taken by a writer of bytes, with room for so many, whose write of number `fails_at` fails.
+fn stands(alloc: Global, replies: &[u8], room: usize, fails_at: usize) -> Result<(), Fail> {
+    let input = requests_of(alloc, INPUT)?;
+    let line = format!(in alloc; "after {}", replies.len())?;
+    let mut output = Sink::new(alloc, 1);
+    (output.room, output.fails_at) = (room, fails_at);
+    let ended = empty_store(alloc).serve(&mut input.as_slice(), &mut output);
+    came(line.as_str(), (&ended, &output.taken), (&WRITE, replies))
 }
 
 #[test]
 fn a_beginning_stands_where_a_write_fails(rt: HostRuntime) -> Result<(), Fail> {
-    let input = requests_of(rt.alloc(), "SET a 1; GET a; PING")?;
-    let replies = bytes_of(rt.alloc(), "+OK|$1|1|+PONG|")?;
+    let replies = bytes_of(rt.alloc(), REPLIES)?;
     for written in 0..replies.len() {
-        for (room, fails_at) in [(written, NEVER), (NEVER, written)] {
-            let mut output = Sink::new(rt.alloc(), 1);
-            (output.room, output.fails_at) = (room, fails_at);
-            let ended = empty_store(rt.alloc()).serve(&mut input.as_slice(), &mut output);
-            assert_eq!(rt; ended, Err(ServeFault::Write), "after {written}");
-            assert_eq!(rt;
-                output.taken.as_slice(),
-                &replies[..written],
-                "after {written}"
-            );
-        }
+        stands(rt.alloc(), &replies[..written], written, NEVER)?;
+        stands(rt.alloc(), &replies[..written], NEVER, written)?;
     }
-    Ok(())
-}
-
-#[test]
-fn many_replies_are_all_written(rt: HostRuntime) -> Result<(), Fail> {
-    let mut reply = Vec::from_slice(rt.alloc(), b"$1000\r\n")?;
-    reply.extend_from_slice(&[b'x'; 1000])?;
-    reply.extend_from_slice(b"\r\n")?;
-    let mut input = Vec::new(rt.alloc());
-    let mut replies = Vec::new(rt.alloc());
-    for _ in 0..300u32 {
-        input.extend_from_slice(b"*2\r\n$4\r\nECHO\r\n")?;
-        input.extend_from_slice(&reply)?;
-        replies.extend_from_slice(&reply)?;
-    }
-    let mut output = Vec::new(rt.alloc());
-    let ended = empty_store(rt.alloc()).serve(&mut input.as_slice(), &mut output);
-    assert!(rt; ended.is_ok());
-    assert!(rt; output.as_slice() == replies.as_slice());
     Ok(())
 }

@@ -10,6 +10,8 @@ mod families;
 #[cfg(test)]
 mod faults;
 #[cfg(test)]
+mod many;
+#[cfg(test)]
 mod rows;
 #[cfg(test)]
 mod store;

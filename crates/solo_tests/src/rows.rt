@@ -1,19 +1,18 @@
 //! What the store answers, row by row.
 
-use crate::store::{BAD_LENGTH, END, Ending, INSIDE, empty_store};
-use command_table::read;
-use resp::{Request, write_reply};
+use crate::store::{BAD_LENGTH, END, Ending, INSIDE, Row, came, each_answers, empty_store};
+use command_table::{Command, read};
+use resp::{Reply, Request, write_reply};
 use resp_decoder::Fault;
 use serving::Served;
-use std::alloc::{AllocError, Global};
+use std::alloc::Global;
 use std::io::Read;
-use std::process::Abort;
 use std::test::Fail;
-use test_support::{bytes_of, requests_of};
+use test_support::{bytes_of, same_bytes};
 
 /// Requests on an empty store, and their replies.
 #[rattlefmt::skip]
-const COMMANDS: [(&str, &str); 11] = [
+const COMMANDS: [Row; 11] = [
     ("SET a 1; GET a; DEL a a; GET a", "+OK|$1|1|:1|$-1|"),
     ("PING hi; PING x y", "$2|hi|-ERR wrong number of arguments for 'ping' command|"),
     ("ECHO ''; FOO", "$0||-ERR unknown command|"),
@@ -29,18 +28,7 @@ const COMMANDS: [(&str, &str); 11] = [
 
 #[test]
 fn commands_answer(rt: HostRuntime) -> Result<(), Fail> {
-    for (requests, replies) in COMMANDS {
-        let input = requests_of(rt.alloc(), requests)?;
-        let mut output = Vec::new(rt.alloc());
-        let ending = empty_store(rt.alloc()).serve(&mut input.as_slice(), &mut output);
-        assert_eq!(rt; ending, END, "{requests}");
-        assert_eq!(rt;
-            output.as_slice(),
-            bytes_of(rt.alloc(), replies)?.as_slice(),
-            "{requests}"
-        );
-    }
-    Ok(())
+    each_answers(rt.alloc(), &COMMANDS)
 }
 
 const STAR: Ending = Ok(Served::Protocol(Fault::ExpectedStar));
@@ -50,8 +38,10 @@ const DOLLAR: Ending = Ok(Served::Protocol(Fault::ExpectedDollar));
 const LINE_END: Ending = Ok(Served::Protocol(Fault::ExpectedCrlf));
 
 /// The bytes that are read, the replies, and how serving ends.
+type Stream = (&'static str, &'static str, Ending);
+
 #[rattlefmt::skip]
-const STREAMS: [(&str, &str, Ending); 12] = [
+const STREAMS: [Stream; 12] = [
     ("*1|$4|PiNG|", "+PONG|", END),
     ("*3|$3|SET|$0||$0||*2|$3|GET|$0||*2|$3|GET|$1|a|", "+OK|$0||$-1|", END),
     ("*0|*-1|*1|$4|PING|", "+PONG|", END),
@@ -66,20 +56,33 @@ const STREAMS: [(&str, &str, Ending); 12] = [
     ("*1|$4|PINGxx", "-ERR Protocol error: expected CRLF|", LINE_END),
 ];
 
-#[test]
-fn bytes_are_read_as_requests(rt: HostRuntime) -> Result<(), Fail> {
-    for (input, replies, ending) in STREAMS {
-        let bytes = bytes_of(rt.alloc(), input)?;
-        let mut output = Vec::new(rt.alloc());
-        let ended = empty_store(rt.alloc()).serve(&mut bytes.as_slice(), &mut output);
-        assert_eq!(rt; ended, ending, "{input}");
-        assert_eq!(rt;
-            output.as_slice(),
-            bytes_of(rt.alloc(), replies)?.as_slice(),
-            "{input}"
-        );
+fn is_served(alloc: Global, stream: &Stream) -> Result<(), Fail> {
+    let (input, replies, ending) = stream;
+    let bytes = bytes_of(alloc, input)?;
+    let wanted = bytes_of(alloc, replies)?;
+    let mut output = Vec::new(alloc);
+    let ended = empty_store(alloc).serve(&mut bytes.as_slice(), &mut output);
+    came(input, (&ended, &output), (ending, &wanted))
+}
+
+fn each_is_served(alloc: Global, streams: &[Stream]) -> Result<(), Fail> {
+    for stream in streams {
+        is_served(alloc, stream)?;
     }
     Ok(())
+}
+
+#[test]
+fn bytes_are_read_as_requests(rt: HostRuntime) -> Result<(), Fail> {
+    each_is_served(rt.alloc(), &STREAMS)
+}
+
+/// SET is answered where the input is cut so.
+fn answers_cut(alloc: Global, first: &[u8], second: &[u8]) -> Result<(), Fail> {
+    let line = format!(in alloc; "cut after {}", first.len())?;
+    let mut output = Vec::new(alloc);
+    let ended = empty_store(alloc).serve(&mut first.chain(second), &mut output);
+    came(line.as_str(), (&ended, &output), (&END, b"+OK\r\n"))
 }
 
 #[test]
@@ -87,231 +90,51 @@ fn a_request_may_be_cut_anywhere(rt: HostRuntime) -> Result<(), Fail> {
     let input = bytes_of(rt.alloc(), "*3|$3|SET|$1|a|$1|1|")?;
     for cut in 0..=input.len() {
         let (first, second) = input.split_at(cut);
-        let mut output = Vec::new(rt.alloc());
-        let ended = empty_store(rt.alloc()).serve(&mut first.chain(second), &mut output);
-        assert_eq!(rt; ended, END, "cut after {cut}");
-        assert_eq!(rt; output.as_slice(), b"+OK\r\n".as_slice(), "cut after {cut}");
+        answers_cut(rt.alloc(), first, second)?;
     }
     Ok(())
 }
+
+/// The command of these words.
+fn command(alloc: Global, words: &[&[u8]]) -> Result<Command, Fail> {
+    Ok(read(Request::copy_of(alloc, words)?)?)
+}
+
+fn commands(alloc: Global, rows: &[&[&[u8]]]) -> Result<Vec<Command>, Fail> {
+    let mut commands = Vec::new(alloc);
+    for words in rows {
+        commands.push(command(alloc, words)?)?;
+    }
+    Ok(commands)
+}
+
+/// The replies are these.
+fn are(alloc: Global, replies: &[Reply], row: &str) -> Result<(), Fail> {
+    let mut output = Vec::new(alloc);
+    for reply in replies {
+        write_reply(reply, &mut output)?;
+    }
+    same_bytes("the replies", &output, &bytes_of(alloc, row)?)
+}
+
+const RUN: [&[&[u8]]; 5] = [
+    &[b"SET", b"a", b"1"],
+    &[b"GET", b"a"],
+    &[b"DEL", b"a", b"a"],
+    &[b"GET", b"a"],
+    &[b"PING"],
+];
 
 #[test]
 fn a_run_gives_a_reply_for_each_command(rt: HostRuntime) -> Result<(), Fail> {
-    let mut store = empty_store(rt.alloc());
-    let mut commands = Vec::new(rt.alloc());
-    let rows: [&[&[u8]]; 5] = [
-        &[b"SET", b"a", b"1"],
-        &[b"GET", b"a"],
-        &[b"DEL", b"a", b"a"],
-        &[b"GET", b"a"],
-        &[b"PING"],
-    ];
-    for words in rows {
-        let read = read(Request::copy_of(rt.alloc(), words)?);
-        commands.push(read.map_err(|_| "a refusal")?)?;
-    }
-    let mut output = Vec::new(rt.alloc());
-    for reply in &store.run_all(commands)? {
-        write_reply(reply, &mut output)?;
-    }
-    let last = read(Request::copy_of(rt.alloc(), &[b"ECHO", b"hi"])?);
-    write_reply(&store.run(last.map_err(|_| "a refusal")?), &mut output)?;
-    let replies = bytes_of(rt.alloc(), "+OK|$1|1|:1|$-1|+PONG|$2|hi|")?;
-    assert_eq!(rt; output.as_slice(), replies.as_slice());
-    Ok(())
-}
-
-/// Has the store answer this input, and looks at its replies.
-fn expect(rt: &impl Abort, alloc: Global, input: &[u8], replies: &[u8]) {
-    let mut output = Vec::new(alloc);
-    let mut input = input;
-    let ending = empty_store(alloc).serve(&mut input, &mut output);
-    assert_eq!(rt; ending, END);
-    assert!(rt; output.as_slice() == replies);
+    let commands = commands(rt.alloc(), &RUN)?;
+    let replies = empty_store(rt.alloc()).run_all(commands)?;
+    are(rt.alloc(), &replies, "+OK|$1|1|:1|$-1|+PONG|")
 }
 
 #[test]
-fn two_thousand_keys_are_kept(rt: HostRuntime) -> Result<(), Fail> {
-    let mut input = Vec::new(rt.alloc());
-    let mut replies = Vec::new(rt.alloc());
-    for key in 1000..3000u32 {
-        let row = format!(in rt.alloc(); "SET {key} 1")?;
-        input.extend_from_slice(&requests_of(rt.alloc(), row.as_str())?)?;
-        replies.extend_from_slice(b"+OK\r\n")?;
-    }
-    for key in 1000..3000u32 {
-        let row = format!(in rt.alloc(); "GET {key}; DEL {key} a b c d e f g h; GET {key}")?;
-        input.extend_from_slice(&requests_of(rt.alloc(), row.as_str())?)?;
-        replies.extend_from_slice(b"$1\r\n1\r\n:1\r\n$-1\r\n")?;
-    }
-    expect(&rt, rt.alloc(), &input, &replies);
-    Ok(())
-}
-
-#[test]
-fn a_value_of_two_million_bytes_comes_back(rt: HostRuntime) -> Result<(), Fail> {
-    let mut value = bytes_of(rt.alloc(), "$2000000|")?;
-    for _ in 0..2000 {
-        value.extend_from_slice(&[b'x'; 1000])?;
-    }
-    value.extend_from_slice(b"\r\n")?;
-    let mut input = bytes_of(rt.alloc(), "*3|$3|SET|$1|a|")?;
-    input.extend_from_slice(&value)?;
-    input.extend_from_slice(&requests_of(rt.alloc(), "GET a; GET a")?)?;
-    let mut replies = bytes_of(rt.alloc(), "+OK|")?;
-    replies.extend_from_slice(&value)?;
-    replies.extend_from_slice(&value)?;
-    expect(&rt, rt.alloc(), &input, &replies);
-    Ok(())
-}
-
-#[test]
-fn a_thousand_words_are_taken(rt: HostRuntime) -> Result<(), Fail> {
-    let alloc = rt.alloc();
-    let mut numbers = String::new(alloc);
-    let mut pairs = String::new(alloc);
-    let mut listed = bytes_of(alloc, "*1000|")?;
-    for number in 1000..2000u32 {
-        write!(numbers, " {number}")?;
-        write!(pairs, " {number} {number}")?;
-        let item = format!(in alloc; "$4\r\n{number}\r\n")?;
-        listed.extend_from_slice(item.as_bytes())?;
-    }
-    let row = format!(in alloc;
-        "MSET{pairs}; MGET{numbers}; HSET h{pairs}; HMGET h{numbers}; \
-        RPUSH l{numbers}; LRANGE l 0 -1; SADD s{numbers}; SMEMBERS s; DEL{numbers}; MSETNX{pairs}"
-    )?;
-    let input = requests_of(alloc, row.as_str())?;
-    let mut replies = Vec::new(alloc);
-    for written in ["+OK|", ":1000|", ":1000|", ":1000|"] {
-        replies.extend_from_slice(&bytes_of(alloc, written)?)?;
-        replies.extend_from_slice(&listed)?;
-    }
-    replies.extend_from_slice(&bytes_of(alloc, ":1000|:1|")?)?;
-    expect(&rt, alloc, &input, &replies);
-    Ok(())
-}
-
-/// The numbers from a thousand on in a mixed order, a space before each; all but the first `kept`.
-fn mixed_numbers(alloc: Global, kept: u32) -> Result<String, Fail> {
-    let mut numbers = String::new(alloc);
-    for place in 0..1000u32 {
-        let number = place * 617 % 1000;
-        if number >= kept {
-            write!(numbers, " {}", 1000 + number)?;
-        }
-    }
-    Ok(numbers)
-}
-
-/// The first `count` numbers from a thousand on as an array of texts, ascending.
-fn listed_numbers(alloc: Global, count: u16) -> Result<Vec<u8>, Fail> {
-    let mut listed = bytes_of(alloc, format!(in alloc; "*{count}|")?.as_str())?;
-    for number in 0..count {
-        let item = format!(in alloc; "$4\r\n{}\r\n", 1000 + u32::from(number))?;
-        listed.extend_from_slice(item.as_bytes())?;
-    }
-    Ok(listed)
-}
-
-#[test]
-fn a_thousand_members_come_in_order(rt: HostRuntime) -> Result<(), Fail> {
-    let alloc = rt.alloc();
-    let all = mixed_numbers(alloc, 0)?;
-    let most = mixed_numbers(alloc, 40)?;
-    let row = format!(in alloc;
-        "SADD s{all}; SMEMBERS s; SMEMBERS s; SUNION s s; SINTER s s; SDIFFSTORE t s u; SMEMBERS t; \
-        SREM s{most}; SMEMBERS s; SINTER t s; SADD s 0999; SISMEMBER s 1039; SISMEMBER s 1040; SDIFF t s t; SCARD s"
-    )?;
-    let whole = listed_numbers(alloc, 1000)?;
-    let some = listed_numbers(alloc, 40)?;
-    let mut replies = bytes_of(alloc, ":1000|")?;
-    for _ in 0..4 {
-        replies.extend_from_slice(&whole)?;
-    }
-    replies.extend_from_slice(&bytes_of(alloc, ":1000|")?)?;
-    replies.extend_from_slice(&whole)?;
-    replies.extend_from_slice(&bytes_of(alloc, ":960|")?)?;
-    replies.extend_from_slice(&some)?;
-    replies.extend_from_slice(&some)?;
-    replies.extend_from_slice(&bytes_of(alloc, ":1|:1|:0|*0|:41|")?)?;
-    expect(&rt, alloc, &requests_of(alloc, row.as_str())?, &replies);
-    Ok(())
-}
-
-#[test]
-fn five_thousand_keys_are_set_and_read(rt: HostRuntime) -> Result<(), Fail> {
-    let alloc = rt.alloc();
-    let mut requests = String::new(alloc);
-    let mut replies = String::new(alloc);
-    write!(requests, "SET empty ''; RPUSH list a")?;
-    write!(replies, "+OK\r\n:1\r\n")?;
-    for key in 1000..6000u32 {
-        write!(requests, "; SET {key} v{key}")?;
-        write!(replies, "+OK\r\n")?;
-    }
-    for key in 1000..6000u32 {
-        write!(requests, "; GET {key}; PING; GET empty; LLEN list")?;
-        write!(replies, "$5\r\nv{key}\r\n+PONG\r\n$0\r\n\r\n:1\r\n")?;
-    }
-    let input = requests_of(alloc, requests.as_str())?;
-    expect(&rt, alloc, &input, replies.as_bytes());
-    Ok(())
-}
-
-/// Requests and their replies; `@` at the end stands for a value of more than a mebibyte.
-type Large = (&'static str, &'static str);
-
-#[rattlefmt::skip]
-const LARGE_STRINGS: [Large; 6] = [
-    ("SET a @", "+OK|"), ("APPEND a @", ":2200000|"), ("SETRANGE a 2200000 @", ":3300000|"), ("GETRANGE a 1100000 2199999", "@"),
-    ("MSET b @", "+OK|"), ("MGET b", "*1|@"),
-];
-
-#[rattlefmt::skip]
-const LARGE_ITEMS: [Large; 6] = [
-    ("RPUSH l @", ":1|"), ("LRANGE l 0 -1", "*1|@"), ("HSET h f @", ":1|"), ("HGET h f", "@"), ("SADD s @", ":1|"), ("SMEMBERS s", "*1|@"),
-];
-
-/// Appends these bytes, with the value in place of the mark at their end, if it stands there.
-fn append(out: &mut Vec<u8>, bytes: &[u8], mark: &[u8], value: &[u8]) -> Result<(), AllocError> {
-    match bytes.strip_suffix(mark) {
-        Some(before) => {
-            out.extend_from_slice(before)?;
-            out.extend_from_slice(value)
-        }
-        None => out.extend_from_slice(bytes),
-    }
-}
-
-fn answer_large(rt: &impl Abort, alloc: Global, rows: &[Large]) -> Result<(), Fail> {
-    let mut value = bytes_of(alloc, "$1100000|")?;
-    for _ in 0..1100 {
-        value.extend_from_slice(&[b'x'; 1000])?;
-    }
-    value.extend_from_slice(b"\r\n")?;
-    let mut input = Vec::new(alloc);
-    let mut replies = Vec::new(alloc);
-    for row in rows {
-        let (request, reply) = *row;
-        append(
-            &mut input,
-            &requests_of(alloc, request)?,
-            b"$1\r\n@\r\n",
-            &value,
-        )?;
-        append(&mut replies, &bytes_of(alloc, reply)?, b"@", &value)?;
-    }
-    expect(rt, alloc, &input, &replies);
-    Ok(())
-}
-
-#[test]
-fn large_strings_are_written_and_read(rt: HostRuntime) -> Result<(), Fail> {
-    answer_large(&rt, rt.alloc(), &LARGE_STRINGS)
-}
-
-#[test]
-fn large_items_are_written_and_read(rt: HostRuntime) -> Result<(), Fail> {
-    answer_large(&rt, rt.alloc(), &LARGE_ITEMS)
+fn a_command_gives_its_reply(rt: HostRuntime) -> Result<(), Fail> {
+    let command = command(rt.alloc(), &[b"ECHO", b"hi"])?;
+    let reply = empty_store(rt.alloc()).run(command);
+    are(rt.alloc(), &[reply], "$2|hi|")
 }

@@ -3,6 +3,7 @@
 use resp::{ErrorText, Reply, Request, write_reply};
 use std::alloc::{AllocError, Global};
 use std::test::Fail;
+use test_support::{same_bytes, same_count};
 
 fn every_kind(alloc: Global) -> Result<Reply, AllocError> {
     let mut inner = Vec::new(alloc);
@@ -23,8 +24,7 @@ fn writes_every_kind_behind_what_is_there(rt: HostRuntime) -> Result<(), Fail> {
     write_reply(&Reply::out_of_memory(), &mut out)?;
     let want = "+PONG\r\n*4\r\n+OK\r\n-ERR wrong number of arguments for 'get' command\r\n\
         *2\r\n:-10\r\n$-1\r\n$4\r\na\r\nb\r\n-ERR out of memory\r\n";
-    assert_eq!(rt; out.as_slice(), want.as_bytes());
-    Ok(())
+    same_bytes("every kind", &out, want.as_bytes())
 }
 
 #[test]
@@ -32,12 +32,12 @@ fn keeps_the_words_of_a_request(rt: HostRuntime) -> Result<(), Fail> {
     let large = Vec::from_elem(rt.alloc(), b'x', 2_000_000)?;
     let words: &[&[u8]] = &[b"SET", b"a", b"", &large];
     let request = Request::copy_of(rt.alloc(), words)?;
-    assert_eq!(rt; request.len(), 4);
-    assert_eq!(rt; request.word(3).len(), 2_000_000);
-    assert_eq!(rt; request.word(1), b"a".as_slice());
+    same_count("words", request.len(), 4)?;
+    same_count("bytes of the last word", request.word(3).len(), 2_000_000)?;
+    same_bytes("the second word", request.word(1), b"a")?;
     let copy = request.try_clone(rt.alloc())?;
-    assert!(rt; copy.word(3) == large.as_slice());
+    same_count("words of the copy", copy.len(), 4)?;
+    same_bytes("the last word of the copy", copy.word(3), &large)?;
     let again = Request::from_words(copy.into_words());
-    assert_eq!(rt; again.word(0), b"SET".as_slice());
-    Ok(())
+    same_bytes("the first word again", again.word(0), b"SET")
 }

@@ -4,7 +4,7 @@ use resp::Request;
 use resp_decoder::{Decoded, Decoder, Fault, Limits, decode_all, fault_line};
 use std::alloc::{AllocError, Global};
 use std::test::Fail;
-use test_support::bytes_of;
+use test_support::{bytes_of, holds, same, same_bytes, same_count};
 
 /// The words of each request in brackets, and the fault behind the requests.
 fn shown(alloc: Global, decoded: &Decoded) -> Result<Vec<u8>, AllocError> {
@@ -23,9 +23,11 @@ fn shown(alloc: Global, decoded: &Decoded) -> Result<Vec<u8>, AllocError> {
     Ok(out)
 }
 
-/// The bytes of a stream, its requests and the fault behind them.
+/// The bytes of a stream, and its requests and the fault behind them.
+type Row = (&'static str, &'static str);
+
 #[rattlefmt::skip]
-const ROWS: [(&str, &str); 16] = [
+const ROWS: [Row; 16] = [
     ("*1|$4|PiNG|", "[PiNG];"),
     ("*3|$3|SET|$0||$0||", "[SET][][];"),
     ("*0|*-1|*1|$4|PING|", "[PING];"),
@@ -44,36 +46,55 @@ const ROWS: [(&str, &str); 16] = [
     ("*1|$4|PING|*1|$4|PINGxx", "[PING];expected CRLF"),
 ];
 
-#[test]
-fn reads_rows_wherever_they_are_cut(rt: HostRuntime) -> Result<(), Fail> {
-    for (row, want) in ROWS {
-        let stream = bytes_of(rt.alloc(), row)?;
-        for cut in 0..stream.len() {
-            let pieces: &[&[u8]] = &[&stream[..cut], &stream[cut..]];
-            let decoded = decode_all(rt.alloc(), Limits::DEFAULT, pieces)?;
-            assert_eq!(rt;
-                shown(rt.alloc(), &decoded)?.as_slice(),
-                want.as_bytes(),
-                "{row} cut at {cut}"
-            );
-        }
+/// These pieces are decoded as this text shows.
+fn decodes(alloc: Global, line: &str, pieces: &[&[u8]], want: &[u8]) -> Result<(), Fail> {
+    let decoded = decode_all(alloc, Limits::DEFAULT, pieces)?;
+    let got = shown(alloc, &decoded)?;
+    same_bytes(line, &got, want)
+}
+
+/// The stream is decoded so wherever it is cut.
+fn decodes_cut(alloc: Global, row: &str, want: &str) -> Result<(), Fail> {
+    let stream = bytes_of(alloc, row)?;
+    for cut in 0..stream.len() {
+        let line = format!(in alloc; "{row} cut at {cut}")?;
+        let pieces: &[&[u8]] = &[&stream[..cut], &stream[cut..]];
+        decodes(alloc, line.as_str(), pieces, want.as_bytes())?;
     }
     Ok(())
+}
+
+fn decodes_each(alloc: Global, rows: &[Row]) -> Result<(), Fail> {
+    for row in rows {
+        let (stream, want) = *row;
+        decodes_cut(alloc, stream, want)?;
+    }
+    Ok(())
+}
+
+#[test]
+fn reads_rows_wherever_they_are_cut(rt: HostRuntime) -> Result<(), Fail> {
+    decodes_each(rt.alloc(), &ROWS)
 }
 
 #[test]
 fn waits_until_the_last_byte(rt: HostRuntime) -> Result<(), Fail> {
     let stream = bytes_of(rt.alloc(), "*3|$3|SET|$1|a|$1|1|")?;
     let mut decoder = Decoder::new(rt.alloc(), Limits::DEFAULT);
-    assert!(rt; !decoder.pending());
-    for (i, b) in stream.iter().enumerate() {
-        assert_eq!(rt; decoder.pending(), i > 0);
-        decoder.feed(&[*b])?;
-        assert!(rt; decoder.pending());
-        assert_eq!(rt; decoder.next()?.is_some(), i == 26, "after byte {i}");
+    holds("nothing is fed", !decoder.pending())?;
+    for (place, byte) in stream.iter().enumerate() {
+        same("pending before", &decoder.pending(), &(place > 0))?;
+        takes_byte(rt.alloc(), &mut decoder, place, *byte)?;
     }
-    assert!(rt; !decoder.pending());
-    Ok(())
+    holds("all is read", !decoder.pending())
+}
+
+/// The decoder is fed the byte of this place, and has a request with the last one alone.
+fn takes_byte(alloc: Global, decoder: &mut Decoder, place: usize, byte: u8) -> Result<(), Fail> {
+    decoder.feed(&[byte])?;
+    holds("pending behind", decoder.pending())?;
+    let line = format!(in alloc; "after byte {place}")?;
+    same(line.as_str(), &decoder.next()?.is_some(), &(place == 26))
 }
 
 #[test]
@@ -81,8 +102,7 @@ fn appends_an_error_line(rt: HostRuntime) -> Result<(), Fail> {
     let mut out = bytes_of(rt.alloc(), "+OK|")?;
     fault_line(Fault::ExpectedStar, &mut out)?;
     let want = bytes_of(rt.alloc(), "+OK|-ERR Protocol error: expected '*'|")?;
-    assert_eq!(rt; out.as_slice(), want.as_slice());
-    Ok(())
+    same_bytes("behind a reply", &out, &want)
 }
 
 /// What a decoder answers, asked once more where there was no memory.
@@ -96,6 +116,13 @@ fn retried(decoder: &mut Decoder) -> Result<Option<Request>, Fault> {
     }
 }
 
+/// The request is ECHO hi.
+fn echoes(request: &Request) -> Result<(), Fail> {
+    same_count("words", request.len(), 2)?;
+    same_bytes("the first word", request.word(0), b"ECHO")?;
+    same_bytes("the second word", request.word(1), b"hi")
+}
+
 /// It passes as well where any one allocation fails: nothing that was held is lost.
 #[test]
 fn goes_on_where_memory_was_refused(rt: HostRuntime) -> Result<(), Fail> {
@@ -104,22 +131,21 @@ fn goes_on_where_memory_was_refused(rt: HostRuntime) -> Result<(), Fail> {
         b"*0\r\n*2\r\n$4\r\nECHO\r\n$2\r\nh",
         b"i\r\n*0\r\n*1\r\n$4\r\nPING\r\n",
     ];
-    for (i, piece) in pieces.iter().enumerate() {
+    for (place, piece) in pieces.iter().enumerate() {
         if decoder.feed(piece).is_err() {
             decoder.feed(piece)?;
         }
-        let answer = retried(&mut decoder)?;
-        assert_eq!(rt; answer.is_some(), i == 1);
-        if let Some(request) = answer {
-            assert_eq!(rt; request.len(), 2);
-            assert_eq!(rt; request.word(0), b"ECHO".as_slice());
-            assert_eq!(rt; request.word(1), b"hi".as_slice());
+        match retried(&mut decoder)? {
+            None => same_count("a piece without a request", place, 0)?,
+            Some(request) => {
+                same_count("the piece with a request", place, 1)?;
+                echoes(&request)?;
+            }
         }
     }
-    let last = retried(&mut decoder)?;
-    assert_eq!(rt; last.map(|request| request.len()), Some(1));
-    assert!(rt; !decoder.pending());
-    Ok(())
+    let last = retried(&mut decoder)?.ok_or("the last request")?;
+    same_count("words of the last request", last.len(), 1)?;
+    holds("all is read", !decoder.pending())
 }
 
 #[test]
@@ -135,13 +161,12 @@ fn reads_two_thousand_pieces_and_large_words(rt: HostRuntime) -> Result<(), Fail
     }
     let decoded = decode_all(rt.alloc(), Limits::DEFAULT, &pieces)?;
     // `[`, the word, `]` and `;`.
-    assert_eq!(rt; shown(rt.alloc(), &decoded)?.len(), 2_000_003);
-    Ok(())
+    same_count("bytes", shown(rt.alloc(), &decoded)?.len(), 2_000_003)
 }
 
 /// What is fed, and the second words that are seen ahead, each behind a space.
 #[rattlefmt::skip]
-const AHEAD: [(&str, &str); 7] = [
+const AHEAD: [Row; 7] = [
     ("*2|$3|GET|$1|a|*1|$4|PING|*3|$3|SET|$2|bc|$1|d|", " a  bc"),
     ("*0|*2|$3|GET|$1|a|", "  a"),
     ("*2|$3|GET|$1|a|*2|$3|GET|$1|b", " a"),
@@ -165,24 +190,33 @@ fn seen_ahead(alloc: Global, decoder: &Decoder) -> Result<Vec<u8>, AllocError> {
     Ok(seen)
 }
 
-#[test]
-fn sees_the_second_words_ahead(rt: HostRuntime) -> Result<(), Fail> {
-    for (fed, words) in AHEAD {
-        let mut decoder = Decoder::new(rt.alloc(), Limits::DEFAULT);
-        decoder.feed(&bytes_of(rt.alloc(), fed)?)?;
-        let seen = seen_ahead(rt.alloc(), &decoder)?;
-        assert_eq!(rt; seen.as_slice(), words.as_bytes(), "at {fed:?}");
+/// A decoder that is fed so shows these words.
+fn shows_ahead(alloc: Global, fed: &str, words: &str) -> Result<(), Fail> {
+    let mut decoder = Decoder::new(alloc, Limits::DEFAULT);
+    decoder.feed(&bytes_of(alloc, fed)?)?;
+    let seen = seen_ahead(alloc, &decoder)?;
+    same_bytes(fed, &seen, words.as_bytes())
+}
+
+fn shows_each_ahead(alloc: Global, rows: &[Row]) -> Result<(), Fail> {
+    for row in rows {
+        let (fed, words) = *row;
+        shows_ahead(alloc, fed, words)?;
     }
     Ok(())
+}
+
+#[test]
+fn sees_the_second_words_ahead(rt: HostRuntime) -> Result<(), Fail> {
+    shows_each_ahead(rt.alloc(), &AHEAD)
 }
 
 #[test]
 fn sees_behind_a_request_that_is_open(rt: HostRuntime) -> Result<(), Fail> {
     let mut decoder = Decoder::new(rt.alloc(), Limits::DEFAULT);
     decoder.feed(&bytes_of(rt.alloc(), "*3|$3|SET|$1|a|$2")?)?;
-    assert!(rt; decoder.next()?.is_none());
+    holds("a request is open", decoder.next()?.is_none())?;
     decoder.feed(&bytes_of(rt.alloc(), "|xy|*2|$3|GET|$1|b|*2|$3|GET|$1|c|")?)?;
     let seen = seen_ahead(rt.alloc(), &decoder)?;
-    assert_eq!(rt; seen.as_slice(), b" b c".as_slice());
-    Ok(())
+    same_bytes("behind it", &seen, b" b c")
 }

@@ -1,0 +1,227 @@
+//! What no clause says: known texts, and that the calls succeed where there is memory.
+
+use groups::{ConnId, GroupId, RequestId, Stamp};
+use journal::{Row, Rows, Step, Trace, TraceFault, read_back, read_trace, write_trace};
+use packing::PackedRequest;
+use resp::{Reply, Request};
+use std::alloc::{AllocError, Global};
+use std::test::Fail;
+use test_support::{holds, same, same_bytes, same_count, same_number};
+
+/// Two requests that cross, each of both groups.
+const CROSSING: &str = "shardkv-trace 1\nmax 1000\nopen\nopen\nsubmit 1 4d534554 61 31 63 32\n\
+    submit 2 4d534554 61 33 63 34\ndeliver 0\ndeliver 2\ndeliver 1\ndeliver 0\ndeliver 0\ndeliver 0\ndeliver 0\n\
+    deliver 0\ntake\nrun\nsettle\ntake\nrun\nsettle\ncollect 1\ncollect 2\nend 20\n";
+
+/// The first request starves.
+const STARVED: &str =
+    "shardkv-trace 1\nmax 50\nopen\nsubmit 1 4d534554 61 31 63 32\ndeliver 0\ndeliver 0\n\
+    deliver 0\ndeliver 0\ntake\nrun 1.1\nsettle\ncollect 1\nsubmit 1 474554 61\ndeliver 0\ntake\nrun\nsettle\n\
+    collect 1\nend 16\n";
+
+/// The line in which the byte behind these stands, counted from 1.
+fn line_behind(text: &[u8]) -> u64 {
+    let mut line: u64 = 1;
+    for byte in text {
+        if *byte == b'\n' {
+            line = line.wrapping_add(1);
+        }
+    }
+    line
+}
+
+/// The text of the trace that this text spells.
+fn written_again(alloc: Global, text: &str) -> Result<Vec<u8>, TraceFault> {
+    let trace = read_trace(alloc, text.as_bytes())?;
+    let mut out = Vec::from_slice(alloc, b"before ")?;
+    write_trace(&trace, &mut out)?;
+    Ok(out)
+}
+
+/// A name, a text, and how it is written.
+type Known = (&'static str, &'static str, &'static str);
+
+#[rattlefmt::skip]
+const KNOWN: [Known; 3] = [
+    ("two that cross", CROSSING, CROSSING),
+    ("one that starves", STARVED, STARVED),
+    (
+        "either case",
+        "shardkv-trace 1\nmax 4611686018427387904\nsubmit 18446744073709551615 4D5e -\nend 1\n",
+        "shardkv-trace 1\nmax 4611686018427387904\nsubmit 18446744073709551615 4d5e -\nend 1\n",
+    ),
+];
+
+fn each_is_written(alloc: Global, texts: &[Known]) -> Result<(), Fail> {
+    for known in texts {
+        let (name, text, written) = *known;
+        let again = written_again(alloc, text)?;
+        let want = format!(in alloc; "before {written}")?;
+        same_bytes(name, &again, want.as_bytes())?;
+    }
+    Ok(())
+}
+
+#[test]
+fn known_texts_are_read_and_written(rt: HostRuntime) -> Result<(), Fail> {
+    each_is_written(rt.alloc(), &KNOWN)
+}
+
+/// The text is bad at this line.
+fn bad_at(alloc: Global, name: &str, text: &[u8], line: u64) -> Result<(), Fail> {
+    match read_trace(alloc, text) {
+        Ok(_) => Err("it was read".into()),
+        Err(TraceFault::Bad { line: at }) => same_number(name, at, line),
+        Err(fault) => Err(fault.into()),
+    }
+}
+
+/// Each beginning of the text is bad where it ends.
+fn beginnings_are_bad(alloc: Global, text: &[u8]) -> Result<(), Fail> {
+    for end in 0..text.len() {
+        let name = format!(in alloc; "the first {end} bytes")?;
+        let part = &text[..end];
+        bad_at(alloc, name.as_str(), part, line_behind(part))?;
+    }
+    Ok(())
+}
+
+#[test]
+fn a_beginning_is_bad_where_it_ends(rt: HostRuntime) -> Result<(), Fail> {
+    beginnings_are_bad(rt.alloc(), CROSSING.as_bytes())
+}
+
+/// The text with any one byte in place of its own is bad in that byte's line.
+fn other_bytes_are_bad(alloc: Global, text: &[u8]) -> Result<(), Fail> {
+    for place in 0..text.len() {
+        let name = format!(in alloc; "another byte at {place}")?;
+        let mut other = Vec::from_slice(alloc, text)?;
+        other[place] = b'#';
+        let line = line_behind(&text[..place]);
+        bad_at(alloc, name.as_str(), &other, line)?;
+    }
+    Ok(())
+}
+
+#[test]
+fn another_byte_is_bad_in_its_line(rt: HostRuntime) -> Result<(), Fail> {
+    other_bytes_are_bad(rt.alloc(), CROSSING.as_bytes())
+}
+
+/// A text, and the line at which it is bad.
+type Bad = (&'static str, u64);
+
+#[rattlefmt::skip]
+const OTHERS: [Bad; 19] = [
+    ("", 1),
+    ("shardkv-trace 2\n", 1),
+    ("shardkv-trace 1\nmax 0\nend 0\n", 2),
+    ("shardkv-trace 1\nmax 4611686018427387905\nend 0\n", 2),
+    ("shardkv-trace 1\nmax 07\nend 0\n", 2),
+    ("shardkv-trace 1\nmax 7\nend 1\n", 3),
+    ("shardkv-trace 1\nmax 7\nopen\nend 0\n", 4),
+    ("shardkv-trace 1\nmax 7\nend 0\n\n", 4),
+    ("shardkv-trace 1\nmax 7\nend 0\nopen", 4),
+    ("shardkv-trace 1\nmax 7\nOpen\nend 1\n", 3),
+    ("shardkv-trace 1\nmax 7\nopen \nend 1\n", 3),
+    ("shardkv-trace 1\nmax 7\ndeliver 00\nend 1\n", 3),
+    ("shardkv-trace 1\nmax 7\ndeliver 18446744073709551616\nend 1\n", 3),
+    ("shardkv-trace 1\nmax 7\nsubmit 1\nend 1\n", 3),
+    ("shardkv-trace 1\nmax 7\nsubmit 1 \nend 1\n", 3),
+    ("shardkv-trace 1\nmax 7\nsubmit 1 616\nend 1\n", 3),
+    ("shardkv-trace 1\nmax 7\nrun 1\nend 1\n", 3),
+    ("shardkv-trace 1\nmax 7\nrun 1.1.1\nend 1\n", 3),
+    ("shardkv-trace 1\r\nmax 7\r\nend 0\r\n", 1),
+];
+
+fn each_is_bad(alloc: Global, texts: &[Bad]) -> Result<(), Fail> {
+    for bad in texts {
+        let (text, line) = *bad;
+        bad_at(alloc, text, text.as_bytes(), line)?;
+    }
+    Ok(())
+}
+
+#[test]
+fn other_texts_are_bad_at_the_first_other_line(rt: HostRuntime) -> Result<(), Fail> {
+    each_is_bad(rt.alloc(), &OTHERS)
+}
+
+fn get(alloc: Global) -> Result<Request, AllocError> {
+    let words: &[&[u8]] = &[b"GET", b"a", b""];
+    Request::copy_of(alloc, words)
+}
+
+/// The name of the request of this number.
+fn request_of(seq: u64) -> RequestId {
+    RequestId {
+        conn: ConnId(1 << 40),
+        seq,
+    }
+}
+
+/// The row is that of this number.
+fn is_row(alloc: Global, row: &Row, seq: u64) -> Result<(), Fail> {
+    same("its request", &row.id(), &request_of(seq))?;
+    same_number("its clock", row.stamp().clock, seq)?;
+    same_count("its words", row.word_count(), 3)?;
+    same_bytes("its reply", row.reply(), b":-1\r\n")?;
+    let request = row.request(alloc)?;
+    same_count("words that are read", request.len(), 3)?;
+    same_bytes("the second of them", request.word(1), b"a")
+}
+
+/// Adds the row of this number.
+fn add(alloc: Global, rows: &mut Rows, seq: u64) -> Result<(), Fail> {
+    let stamp = Stamp {
+        clock: seq,
+        group: GroupId::new(63),
+    };
+    let words = PackedRequest::copy_of(alloc, &get(alloc)?)?;
+    rows.push(request_of(seq), &stamp, &words, &Reply::Int(-1))?;
+    Ok(())
+}
+
+#[test]
+fn rows_are_kept_and_taken_back(rt: HostRuntime) -> Result<(), Fail> {
+    let mut rows = Rows::new(rt.alloc());
+    for seq in 0..300 {
+        add(rt.alloc(), &mut rows, seq)?;
+    }
+    rows.truncate(299);
+    same_count("rows", rows.len(), 299)?;
+    holds("the row that was taken back", rows.row(299).is_none())?;
+    match rows.row(298) {
+        Some(row) => is_row(rt.alloc(), &row, 298),
+        None => Err("no last row".into()),
+    }
+}
+
+#[test]
+fn a_reserved_step_is_added(rt: HostRuntime) -> Result<(), Fail> {
+    let mut trace = Trace::new(rt.alloc(), 7);
+    let step = Step::Submit {
+        conn: ConnId(1),
+        words: get(rt.alloc())?,
+    };
+    trace.reserve(&step)?;
+    trace.push(&step)?;
+    trace.push(&Step::Deliver { place: 1000 })?;
+    holds_both(rt.alloc(), &read_back(rt.alloc(), &trace)?)
+}
+
+/// A trace of a Submit and the Deliver of place 1000.
+fn holds_both(alloc: Global, trace: &Trace) -> Result<(), Fail> {
+    same_number("its most", trace.max(), 7)?;
+    same_count("its steps", trace.len(), 2)?;
+    let mut steps = trace.steps();
+    same_count("steps to come", steps.len(), 2)?;
+    let first = steps.next(alloc)?;
+    holds("a Submit", matches!(&first, Some(Step::Submit { .. })))?;
+    let second = steps.next(alloc)?;
+    holds(
+        "a Deliver",
+        matches!(&second, Some(Step::Deliver { place: 1000 })),
+    )?;
+    holds("no more", steps.next(alloc)?.is_none())
+}

@@ -1,0 +1,201 @@
+//! Many requests, and large ones.
+
+use crate::store::{Row, answers, empty_store};
+use std::alloc::{AllocError, Global};
+use std::test::Fail;
+use test_support::{bytes_of, requests_of};
+
+/// A first number and one behind the last, and requests and replies in which `[..]` stands for its inside once for each
+/// number, which `@` in it is: in the requests in an order that goes on by `step` and comes round, and in the replies
+/// ascending.
+struct Numbered {
+    first: u32,
+    end: u32,
+    step: u32,
+    requests: &'static str,
+    replies: &'static str,
+}
+
+/// Appends this form once for each number.
+fn append_each(out: &mut String, form: &str, numbers: (u32, u32), step: u32) -> Result<(), Fail> {
+    let (first, end) = numbers;
+    for place in first..end {
+        let number = first + (place - first).wrapping_mul(step) % (end - first);
+        for (part, text) in form.split('@').enumerate() {
+            if part > 0 {
+                write!(out, "{number}")?;
+            }
+            out.push_str(text)?;
+        }
+    }
+    Ok(())
+}
+
+/// What the text says with each number in its place.
+fn filled(alloc: Global, text: &str, numbers: (u32, u32), step: u32) -> Result<String, Fail> {
+    let mut filled = String::new(alloc);
+    for (place, part) in text.split(['[', ']']).enumerate() {
+        if place % 2 == 1 {
+            append_each(&mut filled, part, numbers, step)?;
+        } else {
+            filled.push_str(part)?;
+        }
+    }
+    Ok(filled)
+}
+
+/// Has an empty store answer these in turn.
+fn answer_numbered(alloc: Global, rows: &[Numbered]) -> Result<(), Fail> {
+    let mut store = empty_store(alloc);
+    for row in rows {
+        let numbers = (row.first, row.end);
+        let requests = filled(alloc, row.requests, numbers, row.step)?;
+        let replies = filled(alloc, row.replies, numbers, 1)?;
+        let input = requests_of(alloc, requests.as_str())?;
+        let wanted = bytes_of(alloc, replies.as_str())?;
+        answers(&mut store, alloc, row.requests, &input, &wanted)?;
+    }
+    Ok(())
+}
+
+const TWO_THOUSAND: [Numbered; 1] = [Numbered {
+    first: 1000,
+    end: 3000,
+    step: 1,
+    requests: "PING[; SET @ 1][; GET @; DEL @ a b c d e f g h; GET @]",
+    replies: "+PONG|[+OK|][$1|1|:1|$-1|]",
+}];
+
+#[test]
+fn two_thousand_keys_are_kept(rt: HostRuntime) -> Result<(), Fail> {
+    answer_numbered(rt.alloc(), &TWO_THOUSAND)
+}
+
+const WORDS: [Numbered; 1] = [Numbered {
+    first: 1000,
+    end: 2000,
+    step: 1,
+    requests: "MSET[ @ @]; MGET[ @]; HSET h[ @ @]; HMGET h[ @]; RPUSH l[ @]; LRANGE l 0 -1; SADD s[ @]; SMEMBERS s; DEL[ @]; \
+        MSETNX[ @ @]",
+    replies: "+OK|*1000|[$4|@|]:1000|*1000|[$4|@|]:1000|*1000|[$4|@|]:1000|*1000|[$4|@|]:1000|:1|",
+}];
+
+#[test]
+fn a_thousand_words_are_taken(rt: HostRuntime) -> Result<(), Fail> {
+    answer_numbered(rt.alloc(), &WORDS)
+}
+
+/// The members come in a mixed order; all but the first 40 of them are taken out again.
+const MEMBERS: [Numbered; 3] = [
+    Numbered {
+        first: 1000,
+        end: 2000,
+        step: 617,
+        requests: "SADD s[ @]; SMEMBERS s; SMEMBERS s; SUNION s s; SINTER s s; SDIFFSTORE t s u; SMEMBERS t",
+        replies: ":1000|*1000|[$4|@|]*1000|[$4|@|]*1000|[$4|@|]*1000|[$4|@|]:1000|*1000|[$4|@|]",
+    },
+    Numbered {
+        first: 1040,
+        end: 2000,
+        step: 617,
+        requests: "SREM s[ @]",
+        replies: ":960|",
+    },
+    Numbered {
+        first: 1000,
+        end: 1040,
+        step: 1,
+        requests: "SMEMBERS s; SINTER t s; SADD s 0999; SISMEMBER s 1039; SISMEMBER s 1040; SDIFF t s t; SCARD s",
+        replies: "*40|[$4|@|]*40|[$4|@|]:1|:1|:0|*0|:41|",
+    },
+];
+
+#[test]
+fn a_thousand_members_come_in_order(rt: HostRuntime) -> Result<(), Fail> {
+    answer_numbered(rt.alloc(), &MEMBERS)
+}
+
+const FIVE_THOUSAND: [Numbered; 1] = [Numbered {
+    first: 1000,
+    end: 6000,
+    step: 1,
+    requests: "SET empty ''; RPUSH list a[; SET @ v@][; GET @; PING; GET empty; LLEN list]",
+    replies: "+OK|:1|[+OK|][$5|v@|+PONG|$0||:1|]",
+}];
+
+#[test]
+fn five_thousand_keys_are_set_and_read(rt: HostRuntime) -> Result<(), Fail> {
+    answer_numbered(rt.alloc(), &FIVE_THOUSAND)
+}
+
+/// Requests and their replies; `@` at the end stands for a large value.
+#[rattlefmt::skip]
+const LARGE_STRINGS: [Row; 6] = [
+    ("SET a @", "+OK|"), ("APPEND a @", ":2200000|"), ("SETRANGE a 2200000 @", ":3300000|"), ("GETRANGE a 1100000 2199999", "@"),
+    ("MSET b @", "+OK|"), ("MGET b", "*1|@"),
+];
+
+#[rattlefmt::skip]
+const LARGE_ITEMS: [Row; 6] = [
+    ("RPUSH l @", ":1|"), ("LRANGE l 0 -1", "*1|@"), ("HSET h f @", ":1|"), ("HGET h f", "@"), ("SADD s @", ":1|"), ("SMEMBERS s", "*1|@"),
+];
+
+const LARGEST: [Row; 3] = [("SET a @", "+OK|"), ("GET a", "@"), ("GET a", "@")];
+
+const ECHOES: [Row; 300] = [("ECHO @", "@"); 300];
+
+/// A value of so many thousand bytes, as it is sent and answered.
+fn large_value(alloc: Global, thousands: u32) -> Result<Vec<u8>, Fail> {
+    let head = format!(in alloc; "${thousands}000\r\n")?;
+    let mut value = Vec::from_slice(alloc, head.as_bytes())?;
+    for _ in 0..thousands {
+        value.extend_from_slice(&[b'x'; 1000])?;
+    }
+    value.extend_from_slice(b"\r\n")?;
+    Ok(value)
+}
+
+/// Appends these bytes, with the value in place of the mark at their end, if it stands there.
+fn append(out: &mut Vec<u8>, bytes: &[u8], mark: &[u8], value: &[u8]) -> Result<(), AllocError> {
+    match bytes.strip_suffix(mark) {
+        Some(before) => {
+            out.extend_from_slice(before)?;
+            out.extend_from_slice(value)
+        }
+        None => out.extend_from_slice(bytes),
+    }
+}
+
+/// Has an empty store answer these rows at once, with a value of so many thousand bytes.
+fn answer_large(alloc: Global, thousands: u32, rows: &[Row]) -> Result<(), Fail> {
+    let value = large_value(alloc, thousands)?;
+    let mut input = Vec::new(alloc);
+    let mut replies = Vec::new(alloc);
+    for row in rows {
+        let (request, reply) = *row;
+        let sent = requests_of(alloc, request)?;
+        append(&mut input, &sent, b"$1\r\n@\r\n", &value)?;
+        append(&mut replies, &bytes_of(alloc, reply)?, b"@", &value)?;
+    }
+    answers(&mut empty_store(alloc), alloc, "all", &input, &replies)
+}
+
+#[test]
+fn large_strings_are_written_and_read(rt: HostRuntime) -> Result<(), Fail> {
+    answer_large(rt.alloc(), 1100, &LARGE_STRINGS)
+}
+
+#[test]
+fn large_items_are_written_and_read(rt: HostRuntime) -> Result<(), Fail> {
+    answer_large(rt.alloc(), 1100, &LARGE_ITEMS)
+}
+
+#[test]
+fn a_value_of_two_million_bytes_comes_back(rt: HostRuntime) -> Result<(), Fail> {
+    answer_large(rt.alloc(), 2000, &LARGEST)
+}
+
+#[test]
+fn many_replies_are_all_written(rt: HostRuntime) -> Result<(), Fail> {
+    answer_large(rt.alloc(), 1, &ECHOES)
+}
