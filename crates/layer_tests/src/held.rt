@@ -1,6 +1,6 @@
 //! That a crew of two really runs two requests at once, and what a refused start leaves.
 
-use crate::jobs::{job, layer, run, text, two_shards};
+use crate::jobs::{ONE, layer_of, run, run_or_not, same_answers, two_shards};
 use crate::trouble::Trouble;
 use groups::RequestId;
 use layer_planner::Layer;
@@ -8,10 +8,12 @@ use placement::Table;
 use shard_exec::{Crew, ExecFault, Gate, InTurn, Open, Part, Ran, Refused, Room, Store, Workers};
 use std::alloc::{AllocError, Global};
 use std::num::NonZeroUsize;
+use std::process::Abort;
 use std::sync::atomic::{AtomicBool, Ordering};
 use std::test::Fail;
 use std::thread;
 use std::time::{Clock, Duration};
+use test_support::holds;
 
 /// Holds the first request until the second one has entered too, for 10,000 turns of one millisecond at most.
 #[derive(Drop)]
@@ -49,46 +51,42 @@ fn holding<'r, R>(clock: &'r R, turns: u32) -> Held<'r, R> {
     }
 }
 
-/// `SET a 1` on the one shard and `SET c 2` on the other.
+/// The layer of `SET a 1` on the one shard and `SET c 2` on the other.
 fn two_requests(alloc: Global, table: &Table) -> Result<Layer, Trouble> {
-    let mut jobs = Vec::new(alloc);
-    jobs.push(job(alloc, table, 1, 1, "SET a 1")?)?;
-    jobs.push(job(alloc, table, 2, 1, "SET c 2")?)?;
-    layer(jobs)
+    layer_of(alloc, table, 1, &["SET a 1", "SET c 2"])
+}
+
+/// Runs both, the first of them held for so many turns. Whether the second entered too late for it.
+fn missed<R: Abort + Clock, W: Workers>(
+    rt: &R,
+    alloc: Global,
+    turns: u32,
+    workers: &W,
+) -> Result<bool, Fail>
+where
+    R: Sync,
+{
+    let table = two_shards(alloc)?;
+    let mut store = Store::new(alloc, table)?;
+    let gate = holding(rt, turns);
+    let requests = two_requests(alloc, &table)?;
+    let done = run(rt, alloc, &mut store, requests, workers, &gate)?;
+    same_answers(alloc, done.as_slice(), "+OK\r\n +OK\r\n ")?;
+    Ok(gate.missed.load(Ordering::SeqCst))
 }
 
 #[test]
 fn a_crew_of_two_runs_both_at_once(rt: HostRuntime) -> Result<(), Fail> {
-    let alloc = rt.alloc();
-    let table = two_shards(alloc)?;
-    let mut store = Store::new(alloc, table)?;
-    let gate = holding(&rt, 10_000);
     let two = NonZeroUsize::new(2).ok_or("two")?;
-    let requests = two_requests(alloc, &table)?;
-    let done = run(
-        &rt,
-        alloc,
-        &mut store,
-        requests,
-        &Crew::new(&rt, two),
-        &gate,
-    )?;
-    assert_eq!(rt; text(alloc, done.as_slice())?.as_str(), "+OK\r\n +OK\r\n ");
-    assert!(rt; !gate.missed.load(Ordering::SeqCst), "one thread ran both");
-    Ok(())
+    let missed = missed(&rt, rt.alloc(), 10_000, &Crew::new(&rt, two))?;
+    holds("two threads ran them", !missed)
 }
 
 #[test]
 fn workers_in_turn_do_not(rt: HostRuntime) -> Result<(), Fail> {
-    let alloc = rt.alloc();
-    let table = two_shards(alloc)?;
-    let mut store = Store::new(alloc, table)?;
-    let gate = holding(&rt, 10);
     let two = NonZeroUsize::new(2).ok_or("two")?;
-    let requests = two_requests(alloc, &table)?;
-    run(&rt, alloc, &mut store, requests, &InTurn(two), &gate)?;
-    assert!(rt; gate.missed.load(Ordering::SeqCst), "two threads ran them");
-    Ok(())
+    let missed = missed(&rt, rt.alloc(), 10, &InTurn(two))?;
+    holds("one thread ran them", missed)
 }
 
 /// Two workers of which none can be started.
@@ -124,25 +122,28 @@ impl Workers for Unwilling {
     }
 }
 
+/// Runs two requests, which have to be answered Failed.
+fn fails<W: Workers>(
+    rt: &impl Abort,
+    alloc: Global,
+    store: &mut Store,
+    table: &Table,
+    workers: &W,
+) -> Result<(), Fail> {
+    let requests = two_requests(alloc, table)?;
+    let outcome = run_or_not(rt, alloc, store, requests, &[], workers, &Open);
+    holds("Failed", matches!(outcome, Err(ExecFault::Failed)))
+}
+
 #[test]
 fn a_refused_start_is_for_good(rt: HostRuntime) -> Result<(), Fail> {
     let alloc = rt.alloc();
     let table = two_shards(alloc)?;
     let mut store = Store::new(alloc, table)?;
-    let requests = two_requests(alloc, &table)?;
-    assert!(rt; store.may_run(&requests));
-    assert!(rt;
-        matches!(
-            store.run_layer(alloc, requests, &[], &Unwilling, &Open),
-            Err(ExecFault::Failed)
-        )
-    );
-    assert!(rt; store.has_failed());
+    fails(&rt, alloc, &mut store, &table, &Unwilling)?;
+    holds("it has failed", store.has_failed())?;
     for _ in 0..2 {
-        let requests = two_requests(alloc, &table)?;
-        assert!(rt; store.may_run(&requests));
-        let again = store.run_layer(alloc, requests, &[], &InTurn(NonZeroUsize::MIN), &Open);
-        assert!(rt; matches!(again, Err(ExecFault::Failed)));
+        fails(&rt, alloc, &mut store, &table, &ONE)?;
     }
     Ok(())
 }

@@ -6,9 +6,15 @@ use groups::{ConnId, RequestId, Stamp};
 use layer_planner::{Job, Layer};
 use placement::{GroupId, Table};
 use resp::{Request, write_reply};
-use shard_exec::{Ended, Gate, InTurn, Open, Store, Workers};
+use shard_exec::{Ended, ExecFault, Gate, InTurn, Open, Store, Workers};
 use std::alloc::Global;
+use std::num::NonZeroUsize;
 use std::process::Abort;
+use std::test::Fail;
+use test_support::same_text;
+
+/// One worker, and no thread.
+pub(crate) const ONE: InTurn = InTurn(NonZeroUsize::MIN);
 
 /// Two shards: `a`, `b` and `y` lie on 0, `c`, `d`, `x` and `z` on 1.
 pub(crate) fn two_shards(alloc: Global) -> Result<Table, Trouble> {
@@ -68,6 +74,22 @@ pub(crate) fn layer(jobs: Vec<Job>) -> Result<Layer, Trouble> {
     Ok(Layer::gather(jobs).ok_or("a group twice")?)
 }
 
+/// The layer of the requests of these words at this clock, whose ids are numbered from 1.
+pub(crate) fn layer_of(
+    alloc: Global,
+    table: &Table,
+    clock: u64,
+    asked: &[&str],
+) -> Result<Layer, Trouble> {
+    let mut jobs = Vec::new(alloc);
+    let mut seq = 0u64;
+    for words in asked {
+        seq = seq.wrapping_add(1);
+        jobs.push(job(alloc, table, seq, clock, words)?)?;
+    }
+    layer(jobs)
+}
+
 /// Runs one request and gives its reply's text.
 pub(crate) fn ask(
     rt: &impl Abort,
@@ -77,20 +99,41 @@ pub(crate) fn ask(
     clock: u64,
     words: &str,
 ) -> Result<String, Trouble> {
-    let mut jobs = Vec::new(alloc);
-    jobs.push(job(alloc, table, clock, clock, words)?)?;
-    let done = run(
-        rt,
-        alloc,
-        store,
-        layer(jobs)?,
-        &InTurn(std::num::NonZeroUsize::MIN),
-        &Open,
-    )?;
+    let asked = layer_of(alloc, table, clock, &[words])?;
+    let done = run(rt, alloc, store, asked, &ONE, &Open)?;
     text(alloc, done.as_slice())
 }
 
-/// Runs a layer.
+/// Runs requests one after another: each has its clock and the text that it has to be answered.
+pub(crate) fn ask_rows(
+    rt: &impl Abort,
+    alloc: Global,
+    store: &mut Store,
+    table: &Table,
+    rows: &[(u64, &str, &str)],
+) -> Result<(), Fail> {
+    for (clock, words, wanted) in rows {
+        let answered = ask(rt, alloc, store, table, *clock, words)?;
+        same_text(words, answered.as_str(), wanted)?;
+    }
+    Ok(())
+}
+
+/// Runs a layer, and lets these of its requests starve.
+pub(crate) fn run_or_not<W: Workers>(
+    rt: &impl Abort,
+    alloc: Global,
+    store: &mut Store,
+    layer: Layer,
+    starved: &[RequestId],
+    workers: &W,
+    gate: &(dyn Gate + Sync),
+) -> Result<Vec<Ended>, ExecFault> {
+    assert!(rt; store.may_run(&layer), "groups of another table");
+    store.run_layer(alloc, layer, starved, workers, gate)
+}
+
+/// Runs a layer, which has to be run.
 pub(crate) fn run<W: Workers>(
     rt: &impl Abort,
     alloc: Global,
@@ -99,13 +142,8 @@ pub(crate) fn run<W: Workers>(
     workers: &W,
     gate: &(dyn Gate + Sync),
 ) -> Result<Vec<Ended>, Trouble> {
-    assert!(rt; store.may_run(&layer), "groups of another table");
-    Ok(
-        store
-            .run_layer(alloc, layer, &[], workers, gate)
-            .ok()
-            .ok_or("not run")?,
-    )
+    let outcome = run_or_not(rt, alloc, store, layer, &[], workers, gate);
+    Ok(outcome.ok().ok_or("not run")?)
 }
 
 /// What was answered, with blanks between; `starved` where there is no reply.
@@ -119,4 +157,10 @@ pub(crate) fn text(alloc: Global, done: &[Ended]) -> Result<String, Trouble> {
         bytes.push(b' ')?;
     }
     Ok(String::from_utf8(bytes).ok().ok_or("not text")?)
+}
+
+/// These requests have to be answered so.
+pub(crate) fn same_answers(alloc: Global, done: &[Ended], wanted: &str) -> Result<(), Fail> {
+    let answered = text(alloc, done)?;
+    same_text("the answers of a layer", answered.as_str(), wanted)
 }

@@ -1,21 +1,36 @@
 //! What becomes of one layer after another.
 
-use crate::jobs::{ask, job, layer, run, text, two_shards};
-use layer_planner::Layer;
-use shard_exec::{Ended, ExecFault, InTurn, Open, Store};
-use std::num::NonZeroUsize;
+use crate::jobs::{ONE, ask_rows, layer_of, run, run_or_not, same_answers, two_shards};
+use groups::{ConnId, RequestId};
+use placement::Table;
+use shard_exec::{Ended, ExecFault, Open, Store};
+use std::alloc::Global;
+use std::process::Abort;
 use std::test::Fail;
+use test_support::same_count;
 
-const ONE: InTurn = InTurn(NonZeroUsize::MIN);
-
-/// The layer that was stale.
-fn come_back(outcome: Result<Vec<Ended>, ExecFault>) -> Option<Layer> {
+/// How many requests the layer has that was stale; none where it was run.
+fn came_back(outcome: Result<Vec<Ended>, ExecFault>) -> Option<usize> {
     match outcome {
-        Err(ExecFault::Stale(layer)) => Some(layer),
+        Err(ExecFault::Stale(layer)) => Some(layer.len()),
         Ok(_) => None,
         Err(ExecFault::Memory(_)) => None,
         Err(ExecFault::Failed) => None,
     }
+}
+
+/// A layer of one request at this clock comes back.
+fn is_stale(
+    rt: &impl Abort,
+    alloc: Global,
+    store: &mut Store,
+    table: &Table,
+    clock: u64,
+    words: &str,
+) -> Result<(), Fail> {
+    let late = layer_of(alloc, table, clock, &[words])?;
+    let outcome = run_or_not(rt, alloc, store, late, &[], &ONE, &Open);
+    same_count(words, came_back(outcome).ok_or("it was run")?, 1)
 }
 
 #[test]
@@ -23,73 +38,55 @@ fn stale_comes_back(rt: HostRuntime) -> Result<(), Fail> {
     let alloc = rt.alloc();
     let table = two_shards(alloc)?;
     let mut store = Store::new(alloc, table)?;
-    assert_eq!(rt;
-        ask(&rt, alloc, &mut store, &table, 8, "SET a 1")?.as_str(),
-        "+OK\r\n "
-    );
-    let mut jobs = Vec::new(alloc);
-    jobs.push(job(alloc, &table, 2, 3, "SET y 1")?)?;
-    let late = layer(jobs)?;
-    assert!(rt; store.may_run(&late));
-    let back = come_back(store.run_layer(alloc, late, &[], &ONE, &Open));
-    assert_eq!(rt; back.ok_or("it was run")?.len(), 1);
-    assert_eq!(rt;
-        ask(&rt, alloc, &mut store, &table, 1, "SET c 1")?.as_str(),
-        "+OK\r\n "
-    );
-    assert_eq!(rt;
-        ask(&rt, alloc, &mut store, &table, 9, "GET y")?.as_str(),
-        "$-1\r\n "
-    );
-    assert_eq!(rt;
-        ask(&rt, alloc, &mut store, &table, 10, "GET a")?.as_str(),
-        "$1\r\n1\r\n "
-    );
-    Ok(())
+    ask_rows(
+        &rt,
+        alloc,
+        &mut store,
+        &table,
+        &[(8, "SET a 1", "+OK\r\n ")],
+    )?;
+    is_stale(&rt, alloc, &mut store, &table, 3, "SET y 1")?;
+    let rows = [
+        (1, "SET c 1", "+OK\r\n "),
+        (9, "GET y", "$-1\r\n "),
+        (10, "GET a", "$1\r\n1\r\n "),
+    ];
+    ask_rows(&rt, alloc, &mut store, &table, &rows)
+}
+
+/// A store on which `SET a 1` and `SET c 2` were run as one layer, at the clock 1.
+fn store_of_two(rt: &impl Abort, alloc: Global, table: &Table) -> Result<Store, Fail> {
+    let mut store = Store::new(alloc, *table)?;
+    let first = layer_of(alloc, table, 1, &["SET a 1", "SET c 2"])?;
+    let done = run(rt, alloc, &mut store, first, &ONE, &Open)?;
+    same_answers(alloc, done.as_slice(), "+OK\r\n +OK\r\n ")?;
+    Ok(store)
+}
+
+/// Lets `DEL a c` starve at the clock 5.
+fn skip_both(rt: &impl Abort, alloc: Global, store: &mut Store, table: &Table) -> Result<(), Fail> {
+    let both = layer_of(alloc, table, 5, &["DEL a c"])?;
+    for job in both.jobs() {
+        same_count("the groups of DEL a c", job.groups.len(), 2)?;
+    }
+    let id = RequestId {
+        conn: ConnId(1),
+        seq: 1,
+    };
+    let outcome = run_or_not(rt, alloc, store, both, &[id], &ONE, &Open);
+    same_answers(alloc, outcome.ok().ok_or("not run")?.as_slice(), "starved ")
 }
 
 #[test]
 fn skipped_changes_nothing_but_the_last_stamps(rt: HostRuntime) -> Result<(), Fail> {
     let alloc = rt.alloc();
     let table = two_shards(alloc)?;
-    let mut store = Store::new(alloc, table)?;
-    let mut jobs = Vec::new(alloc);
-    jobs.push(job(alloc, &table, 1, 1, "SET a 1")?)?;
-    jobs.push(job(alloc, &table, 2, 1, "SET c 2")?)?;
-    let first = layer(jobs)?;
-    let done = run(&rt, alloc, &mut store, first, &ONE, &Open)?;
-    assert_eq!(rt; text(alloc, done.as_slice())?.as_str(), "+OK\r\n +OK\r\n ");
-    let mut jobs = Vec::new(alloc);
-    let both = job(alloc, &table, 3, 5, "DEL a c")?;
-    assert_eq!(rt; both.groups.len(), 2);
-    let id = both.id;
-    jobs.push(both)?;
-    let second = layer(jobs)?;
-    assert!(rt; store.may_run(&second));
-    let done = store
-        .run_layer(alloc, second, &[id], &ONE, &Open)
-        .ok()
-        .ok_or("not run")?;
-    assert_eq!(rt; text(alloc, done.as_slice())?.as_str(), "starved ");
-    for words in ["GET a", "GET c"] {
-        let mut jobs = Vec::new(alloc);
-        jobs.push(job(alloc, &table, 4, 4, words)?)?;
-        let late = layer(jobs)?;
-        assert!(rt; store.may_run(&late));
-        assert!(rt;
-            store.run_layer(alloc, late, &[], &ONE, &Open).is_err(),
-            "{words}"
-        );
-    }
-    assert_eq!(rt;
-        ask(&rt, alloc, &mut store, &table, 6, "GET a")?.as_str(),
-        "$1\r\n1\r\n "
-    );
-    assert_eq!(rt;
-        ask(&rt, alloc, &mut store, &table, 6, "GET c")?.as_str(),
-        "$1\r\n2\r\n "
-    );
-    Ok(())
+    let mut store = store_of_two(&rt, alloc, &table)?;
+    skip_both(&rt, alloc, &mut store, &table)?;
+    is_stale(&rt, alloc, &mut store, &table, 4, "GET a")?;
+    is_stale(&rt, alloc, &mut store, &table, 4, "GET c")?;
+    let rows = [(6, "GET a", "$1\r\n1\r\n "), (6, "GET c", "$1\r\n2\r\n ")];
+    ask_rows(&rt, alloc, &mut store, &table, &rows)
 }
 
 #[test]
@@ -97,19 +94,14 @@ fn a_request_of_two_shards(rt: HostRuntime) -> Result<(), Fail> {
     let alloc = rt.alloc();
     let table = two_shards(alloc)?;
     let mut store = Store::new(alloc, table)?;
-    for (clock, words, reply) in [
+    let rows = [
         (1, "SET a 1", "+OK\r\n "),
         (1, "SET c 2", "+OK\r\n "),
         (2, "DEL a c x", ":2\r\n "),
         (3, "GET a", "$-1\r\n "),
         (3, "GET c", "$-1\r\n "),
-    ] {
-        assert_eq!(rt;
-            ask(&rt, alloc, &mut store, &table, clock, words)?.as_str(),
-            reply
-        );
-    }
-    Ok(())
+    ];
+    ask_rows(&rt, alloc, &mut store, &table, &rows)
 }
 
 #[test]
@@ -117,7 +109,7 @@ fn an_empty_layer_needs_nothing(rt: HostRuntime) -> Result<(), Fail> {
     let alloc = rt.alloc();
     let table = two_shards(alloc)?;
     let mut store = Store::new(alloc, table)?;
-    let done = run(&rt, alloc, &mut store, layer(Vec::new(alloc))?, &ONE, &Open)?;
-    assert!(rt; done.is_empty());
-    Ok(())
+    let empty = layer_of(alloc, &table, 1, &[])?;
+    let done = run(&rt, alloc, &mut store, empty, &ONE, &Open)?;
+    same_count("the answers of an empty layer", done.len(), 0)
 }

@@ -3,7 +3,7 @@
 //! Where all succeed these tests say no more than others do. They are meant to be run with each allocation failing in
 //! turn.
 
-use crate::jobs::{job, layer, table_of, text};
+use crate::jobs::{ONE, layer_of, run_or_not, table_of, text};
 use crate::trouble::Trouble;
 use layer_planner::Layer;
 use placement::Table;
@@ -29,17 +29,6 @@ key 78 string 6265666f7265
 key 7a string 6265666f7265
 ";
 
-/// The jobs of these words, whose ids are numbered from 1.
-fn layer_of(alloc: Global, table: &Table, clock: u64, asked: &[&str]) -> Result<Layer, Trouble> {
-    let mut jobs = Vec::new(alloc);
-    let mut seq = 0u64;
-    for words in asked {
-        seq = seq.wrapping_add(1);
-        jobs.push(job(alloc, table, seq, clock, words)?)?;
-    }
-    layer(jobs)
-}
-
 /// What the shards hold, where the requests whose places are in `starved` left no trace.
 fn left(alloc: Global, starved: &[bool]) -> Result<String, AllocError> {
     let mut held = String::new(alloc);
@@ -61,9 +50,7 @@ fn left(alloc: Global, starved: &[bool]) -> Result<String, AllocError> {
 fn store_before(rt: &impl Abort, alloc: Global, table: &Table) -> Result<Store, Trouble> {
     let mut store = Store::new(alloc, *table)?;
     let requests = layer_of(alloc, table, 1, &SET_BEFORE)?;
-    assert!(rt; store.may_run(&requests), "groups of another table");
-    let one = InTurn(NonZeroUsize::MIN);
-    let Ok(done) = store.run_layer(alloc, requests, &[], &one, &Open) else {
+    let Ok(done) = run_or_not(rt, alloc, &mut store, requests, &[], &ONE, &Open) else {
         return Err(Trouble::Memory);
     };
     for ended in &done {
@@ -75,6 +62,16 @@ fn store_before(rt: &impl Abort, alloc: Global, table: &Table) -> Result<Store, 
     Ok(store)
 }
 
+/// This text came; else the test ends.
+fn assert_text(rt: &impl Abort, got: &[u8], wanted: &str) {
+    assert_eq!(rt; got, wanted.as_bytes());
+}
+
+/// So many came; else the test ends.
+fn assert_count(rt: &impl Abort, line: &str, got: u64, wanted: u64) {
+    assert_eq!(rt; got, wanted, "{line}");
+}
+
 /// Holds the store to a dump.
 fn assert_holds(
     rt: &impl Abort,
@@ -84,8 +81,18 @@ fn assert_holds(
 ) -> Result<(), Trouble> {
     let mut held = Vec::new(alloc);
     store.dump(alloc, &mut held)?;
-    assert_eq!(rt; held.as_slice(), wanted.as_bytes());
+    assert_text(rt, held.as_slice(), wanted);
     Ok(())
+}
+
+/// What the requests of the layer are answered, where those starved whose places are in `starved`.
+fn wanted_of(alloc: Global, starved: &[bool]) -> Result<String, AllocError> {
+    let mut wanted = String::new(alloc);
+    for (starved, answered) in starved.iter().zip(ANSWERED) {
+        wanted.push_str(if *starved { "starved" } else { answered })?;
+        wanted.push(' ')?;
+    }
+    Ok(wanted)
 }
 
 /// Holds a layer that was run to its replies and to what is there then. Gives how many of its requests starved.
@@ -94,26 +101,62 @@ fn assert_ran(
     alloc: Global,
     store: &Store,
     done: &[Ended],
-) -> Result<usize, Trouble> {
-    assert_eq!(rt; done.len(), ASKED.len());
+) -> Result<u64, Trouble> {
     let mut starved = Vec::new(alloc);
-    let mut count = 0usize;
+    let mut count = 0u64;
     let mut seq = 0u64;
-    let mut wanted = String::new(alloc);
-    for (ended, answered) in done.iter().zip(ANSWERED) {
+    for ended in done {
         seq = seq.wrapping_add(1);
-        assert_eq!(rt; ended.id.seq, seq);
+        assert_count(rt, "the number of a request", ended.id.seq, seq);
         starved.push(ended.reply.is_none())?;
         if ended.reply.is_none() {
             count = count.wrapping_add(1);
-            wanted.push_str("starved ")?;
-        } else {
-            write!(wanted, "{answered} ")?;
         }
     }
-    assert_eq!(rt; text(alloc, done)?.as_str(), wanted.as_str());
-    assert_holds(rt, alloc, store, left(alloc, starved.as_slice())?.as_str())?;
+    assert_count(rt, "requests", seq, ASKED.len() as u64);
+    let starved = starved.as_slice();
+    assert_text(
+        rt,
+        text(alloc, done)?.as_bytes(),
+        wanted_of(alloc, starved)?.as_str(),
+    );
+    assert_holds(rt, alloc, store, left(alloc, starved)?.as_str())?;
     Ok(count)
+}
+
+/// The layer that was handed back for want of memory; none where it was run, after it was held to its replies.
+fn handed_back<W: Workers>(
+    rt: &impl Abort,
+    alloc: Global,
+    store: &mut Store,
+    requests: Layer,
+    workers: &W,
+) -> Result<Option<Layer>, Trouble> {
+    match run_or_not(rt, alloc, store, requests, &[], workers, &Open) {
+        Ok(done) => {
+            assert_ran(rt, alloc, store, done.as_slice())?;
+            Ok(None)
+        }
+        Err(ExecFault::Memory(layer)) => Ok(Some(layer)),
+        Err(ExecFault::Stale(_)) => panic!(rt; "stale"),
+        Err(ExecFault::Failed) => panic!(rt; "failed"),
+    }
+}
+
+/// Runs the layer again, for which memory is there now: none of its requests starves.
+fn run_again<W: Workers>(
+    rt: &impl Abort,
+    alloc: Global,
+    store: &mut Store,
+    back: Layer,
+    workers: &W,
+) -> Result<(), Trouble> {
+    let Ok(done) = run_or_not(rt, alloc, store, back, &[], workers, &Open) else {
+        panic!(rt; "not run again")
+    };
+    let starved = assert_ran(rt, alloc, store, done.as_slice())?;
+    assert_count(rt, "starved at the second time", starved, 0);
+    Ok(())
 }
 
 /// Runs the layer. Where it is handed back, nothing has changed, and it is run again: then no memory is wanting.
@@ -121,30 +164,10 @@ fn attempt<W: Workers>(rt: &impl Abort, alloc: Global, workers: &W) -> Result<()
     let table = table_of(alloc, 4)?;
     let mut store = store_before(rt, alloc, &table)?;
     let requests = layer_of(alloc, &table, 2, &ASKED)?;
-    assert!(rt; store.may_run(&requests), "groups of another table");
-    let back = match store.run_layer(alloc, requests, &[], workers, &Open) {
-        Ok(done) => {
-            assert_ran(rt, alloc, &store, done.as_slice())?;
-            return Ok(());
-        }
-        Err(ExecFault::Memory(layer)) => layer,
-        Err(ExecFault::Stale(_)) => return assert_never(rt, "stale"),
-        Err(ExecFault::Failed) => return assert_never(rt, "failed"),
-    };
-    assert_holds(rt, alloc, &store, BEFORE)?;
-    assert!(rt; store.may_run(&back), "another layer came back");
-    match store.run_layer(alloc, back, &[], workers, &Open) {
-        Ok(done) => {
-            assert_eq!(rt; assert_ran(rt, alloc, &store, done.as_slice())?, 0);
-            Ok(())
-        }
-        Err(_) => assert_never(rt, "not run again"),
+    if let Some(back) = handed_back(rt, alloc, &mut store, requests, workers)? {
+        assert_holds(rt, alloc, &store, BEFORE)?;
+        run_again(rt, alloc, &mut store, back, workers)?;
     }
-}
-
-/// Ends the test.
-fn assert_never(rt: &impl Abort, why: &str) -> Result<(), Trouble> {
-    assert!(rt; false, "{why}");
     Ok(())
 }
 
@@ -158,7 +181,7 @@ fn attempts<W: Workers>(rt: &impl Abort, alloc: Global, workers: &W) -> Result<(
 
 #[test]
 fn one_in_turn_where_memory_fails(rt: HostRuntime) -> Result<(), Fail> {
-    attempts(&rt, rt.alloc(), &InTurn(NonZeroUsize::MIN))?;
+    attempts(&rt, rt.alloc(), &ONE)?;
     Ok(())
 }
 

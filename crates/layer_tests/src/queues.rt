@@ -1,5 +1,5 @@
 //! Two requests of which the second waits behind the first.
-ghost use Rattle.std.specs.Prelude.{◌≡◌, true, false, length, IfOk};
+ghost use Rattle.std.specs.Prelude.{◌≡◌, ◌<◌, true, false, length, IfOk};
 ghost use Rattle.groups.specs.GroupSet.{has};
 ghost use Rattle.groups.specs.Request.{same_id};
 ghost use Rattle.groups.specs.Stamp.{stamp_lt};
@@ -9,6 +9,7 @@ use groups::{ConnId, GroupId, Groups, RequestId, Stamp};
 use skeen_core::Delivered;
 use std::alloc::{AllocError, Global};
 use std::test::Fail;
+use test_support::holds;
 
 /// The only request of a connection, delivered at the stamp (`conn`, 0).
 fn request(conn: u64, groups: Groups) -> Delivered
@@ -47,6 +48,18 @@ fn filled(alloc: Global, first: &Delivered, second: &Delivered) -> Result<Queues
     Ok(queues)
 }
 
+/// The group's queue is headed by this request, or empty.
+fn has_head(queues: &Queues, number: u8, want: Option<&Delivered>) -> bool
+    requires { number < 64 }
+{
+    queues.head(GroupId::new(number)) == want
+}
+
+/// The layer is this request alone.
+fn is_one(layer: &[Delivered], want: &Delivered) -> bool {
+    layer == [*want].as_slice()
+}
+
 #[test]
 #[tactic(auto, using(delivery::proofs::Layers::layers_can_be_popped))]
 fn a_request_waits_until_it_heads_all_its_queues(rt: HostRuntime) -> Result<(), Fail> {
@@ -55,19 +68,19 @@ fn a_request_waits_until_it_heads_all_its_queues(rt: HostRuntime) -> Result<(), 
     let first = request(1, one);
     let second = request(2, one.with(GroupId::new(1)));
     let mut queues = filled(alloc, &first, &second)?;
-    assert!(rt; queues.has_ready());
-    assert!(rt; queues.head(GroupId::new(0)) == Some(&first));
-    assert!(rt; queues.head(GroupId::new(1)) == Some(&second));
-    assert!(rt; queues.head(GroupId::new(2)) == None);
+    holds("a request is ready", queues.has_ready())?;
+    holds("the head of group 0", has_head(&queues, 0, Some(&first)))?;
+    holds("the head of group 1", has_head(&queues, 1, Some(&second)))?;
+    holds("no head of group 2", has_head(&queues, 2, None))?;
     let layer = queues.ready(alloc)?;
-    assert_eq!(rt; layer.as_slice(), [first].as_slice());
+    holds("the first alone", is_one(layer.as_slice(), &first))?;
     queues.pop_all(layer.as_slice());
     let layer = queues.ready(alloc)?;
-    assert_eq!(rt; layer.as_slice(), [second].as_slice());
+    holds("the second alone", is_one(layer.as_slice(), &second))?;
     queues.pop_all(layer.as_slice());
-    assert!(rt; !queues.has_ready());
-    assert!(rt; queues.head(GroupId::new(0)) == None);
-    assert!(rt; queues.ready(alloc)?.is_empty());
+    holds("none is ready", !queues.has_ready())?;
+    holds("no head of group 0", has_head(&queues, 0, None))?;
+    holds("an empty layer", queues.ready(alloc)?.is_empty())?;
     queues.reserve(GroupId::new(1), 3)?;
     Ok(())
 }

@@ -7,6 +7,7 @@ use replay::compared;
 use resp::{Reply, Request};
 use std::alloc::{AllocError, Global};
 use std::test::Fail;
+use test_support::{holds, same_bytes};
 
 /// The rows of one SET a 1 that was answered so.
 fn rows_of(alloc: Global, reply: &Reply) -> Result<Rows, AllocError> {
@@ -25,38 +26,22 @@ fn rows_of(alloc: Global, reply: &Reply) -> Result<Rows, AllocError> {
     Ok(rows)
 }
 
+/// The report of a row that was answered so, with its reply in hexadecimal, and of this dump, ends with this line.
+fn ends_with(alloc: Global, reply: &Reply, text: &str, dump: &str, last: &str) -> Result<(), Fail> {
+    let rows = rows_of(alloc, reply)?;
+    let report = compared(alloc, &rows, b"starved 2.7\n", dump.as_bytes())?;
+    let wanted = format!(in alloc; "row 1.0 1.1 set {text}\nstarved 2.7\n{dump}{last}\n")?;
+    same_bytes(last, report.text.as_slice(), wanted.as_bytes())?;
+    holds("whether it agrees", report.agree == (last == "agree"))
+}
+
 #[test]
 fn a_changed_reply_or_dump_differs(rt: HostRuntime) -> Result<(), Fail> {
     let alloc = rt.alloc();
-    for (reply, text, dump, last, agree) in [
-        (
-            Reply::Simple("OK"),
-            "2b4f4b0d0a",
-            "key 61 string 31\n",
-            "agree\n",
-            true,
-        ),
-        (
-            Reply::Int(1),
-            "3a310d0a",
-            "key 61 string 31\n",
-            "differ\n",
-            false,
-        ),
-        (
-            Reply::Simple("OK"),
-            "2b4f4b0d0a",
-            "key 61 string 32\n",
-            "differ\n",
-            false,
-        ),
-        (Reply::Simple("OK"), "2b4f4b0d0a", "", "differ\n", false),
-    ] {
-        let rows = rows_of(alloc, &reply)?;
-        let report = compared(alloc, &rows, b"starved 2.7\n", dump.as_bytes())?;
-        assert_eq!(rt; report.agree, agree);
-        let wanted = format!(in alloc; "row 1.0 1.1 set {text}\nstarved 2.7\n{dump}{last}")?;
-        assert_eq!(rt; report.text.as_slice(), wanted.as_bytes());
-    }
-    Ok(())
+    let (ok, text) = (Reply::Simple("OK"), "2b4f4b0d0a");
+    ends_with(alloc, &ok, text, "key 61 string 31\n", "agree")?;
+    let one = Reply::Int(1);
+    ends_with(alloc, &one, "3a310d0a", "key 61 string 31\n", "differ")?;
+    ends_with(alloc, &ok, text, "key 61 string 32\n", "differ")?;
+    ends_with(alloc, &ok, text, "", "differ")
 }

@@ -6,7 +6,7 @@
 
 use crate::traces::{CROSSING, LAYER_OF_TWO, Row, STARVED, TABLE};
 use command_table::read;
-use journal::{Trace, TraceFault, read_trace, write_trace};
+use journal::{Step, Trace, TraceFault, read_trace, write_trace};
 use placement::{Table, TableFault};
 use replay::{ShowFault, told};
 use resp::Request;
@@ -42,11 +42,16 @@ fn trace_of(rt: &impl Abort, alloc: Global, text: &str) -> Result<Trace, AllocEr
     }
 }
 
+/// These bytes came; else the test ends.
+fn assert_bytes(rt: &impl Abort, out: &[u8], wanted: &[u8]) {
+    assert_eq!(rt; out, wanted);
+}
+
 /// The buffer has behind `BEFORE` this text and nothing else.
 fn assert_behind(rt: &impl Abort, alloc: Global, out: &[u8], text: &str) -> Result<(), AllocError> {
     let mut wanted = Vec::from_slice(alloc, BEFORE)?;
     wanted.extend_from_slice(text.as_bytes())?;
-    assert_eq!(rt; out, wanted.as_slice());
+    assert_bytes(rt, out, wanted.as_slice());
     Ok(())
 }
 
@@ -70,15 +75,27 @@ fn traces_are_read_and_written_where_memory_fails(rt: HostRuntime) -> Result<(),
     Ok(())
 }
 
+/// The table of two shards; no memory is the only fault.
+fn table(rt: &impl Abort, alloc: Global) -> Result<Table, AllocError> {
+    match Table::from_toml(alloc, TABLE) {
+        Ok(table) => Ok(table),
+        Err(TableFault::Memory) => Err(AllocError),
+        Err(_) => panic!(rt; "no table"),
+    }
+}
+
+/// Makes a step; no memory is the only fault.
+fn make(rt: &impl Abort, system: &mut System, step: Step) -> Result<(), AllocError> {
+    match system.step(step, &ONE, &Open) {
+        Ok(_) => Ok(()),
+        Err(StepFault::Memory) => Err(AllocError),
+        Err(fault) => panic!(rt; "{fault}"),
+    }
+}
+
 /// The system after the steps of the crossing requests.
 fn crossed(rt: &impl Abort, alloc: Global) -> Result<System, AllocError> {
-    let table = match Table::from_toml(alloc, TABLE) {
-        Ok(table) => table,
-        Err(fault) => {
-            assert!(rt; matches!(fault, TableFault::Memory), "no table");
-            return Err(AllocError);
-        }
-    };
+    let table = table(rt, alloc)?;
     let trace = trace_of(rt, alloc, CROSSING.trace)?;
     let mut system = System::new(alloc, table, trace.max())?;
     let mut steps = trace.steps();
@@ -86,10 +103,7 @@ fn crossed(rt: &impl Abort, alloc: Global) -> Result<System, AllocError> {
         let Some(step) = steps.next(alloc)? else {
             break;
         };
-        if let Err(fault) = system.step(step, &ONE, &Open) {
-            assert!(rt; matches!(fault, StepFault::Memory), "{fault}");
-            return Err(AllocError);
-        }
+        make(rt, &mut system, step)?;
     }
     Ok(system)
 }
@@ -120,24 +134,30 @@ fn a_system_is_dumped_where_memory_fails(rt: HostRuntime) -> Result<(), Fail> {
     Ok(())
 }
 
+/// Runs a command; no memory is the only fault.
+fn ask(
+    rt: &impl Abort,
+    alloc: Global,
+    solo: &mut Solo<BuildHasherDefault<FoldHasher>>,
+    words: &[&[u8]],
+) -> Result<(), AllocError> {
+    if words.is_empty() {
+        panic!(rt; "no words")
+    }
+    let Ok(command) = read(Request::copy_of(alloc, words)?) else {
+        panic!(rt; "a command is refused")
+    };
+    if solo.try_run(command).is_err() {
+        return Err(AllocError);
+    }
+    Ok(())
+}
+
 fn solo_dumped(rt: &impl Abort, alloc: Global) -> Result<(), AllocError> {
     let mut solo = Solo::new(alloc, BuildHasherDefault::<FoldHasher>::new());
-    let requests: [&[&[u8]]; 3] = [
-        &[b"SADD", b"c", b"n", b"m"],
-        &[b"RPUSH", b"", b"", b"x"],
-        &[b"HSET", b"a", b"f", b"1"],
-    ];
-    for words in requests {
-        if words.is_empty() {
-            panic!(rt; "no words")
-        }
-        let Ok(command) = read(Request::copy_of(alloc, words)?) else {
-            panic!(rt; "a command is refused")
-        };
-        if solo.try_run(command).is_err() {
-            return Err(AllocError);
-        }
-    }
+    ask(rt, alloc, &mut solo, &[b"SADD", b"c", b"n", b"m"])?;
+    ask(rt, alloc, &mut solo, &[b"RPUSH", b"", b"", b"x"])?;
+    ask(rt, alloc, &mut solo, &[b"HSET", b"a", b"f", b"1"])?;
     let mut out = Vec::from_slice(alloc, BEFORE)?;
     if solo.dump(&mut out).is_err() {
         assert_behind(rt, alloc, out.as_slice(), "")?;
@@ -173,7 +193,7 @@ fn shown<W: Workers>(
         ended = told(alloc, table, trace, workers, &mut sink);
     }
     assert!(rt; matches!(ended, Ok(true)));
-    assert_eq!(rt; sink.taken.as_slice(), row.report.as_bytes());
+    assert_bytes(rt, sink.taken.as_slice(), row.report.as_bytes());
     Ok(())
 }
 

@@ -1,16 +1,15 @@
 //! Texts that are no table or no trace, and traces of which a step is refused.
 
-use crate::showing::assert_shown;
-use crate::traces::{CROSSING, STARVED, TABLE};
+use crate::showing::is_shown;
+use crate::traces::{CROSSING, Row, STARVED, TABLE};
 use journal::read_trace;
 use placement::{Table, TableFault};
 use replay::{ReplayFault, ShowFault, replay, show, told};
 use shard_exec::InTurn;
 use std::alloc::Global;
 use std::num::NonZeroUsize;
-use std::process::Abort;
 use std::test::Fail;
-use test_support::Sink;
+use test_support::{Sink, holds, same_count, same_number, same_text};
 
 const ONE: InTurn = InTurn(NonZeroUsize::MIN);
 
@@ -31,86 +30,87 @@ fn refused_step(alloc: Global, trace: &str) -> Result<String, Fail> {
     }
 }
 
+/// A trace, a part of it and what stands in its place, and the place and the fault of the step that is refused then.
+type Refusal = (Row, &'static str, &'static str, &'static str);
+
+const REFUSALS: [Refusal; 7] = [
+    (STARVED, "32\ndeliver 0\n", "32\ndeliver 3\n", "2: NoPacket"),
+    (
+        CROSSING,
+        "deliver 0\ntake\nrun\nsettle\n",
+        "take\nrun\nsettle\ntake\n",
+        "11: NoLayer",
+    ),
+    (CROSSING, "2\nend 20\n", "2\ntake\nend 21\n", "20: NoLayer"),
+    (CROSSING, "max 1000\n", "max 19\n", "19: Exhausted"),
+    (CROSSING, "collect 2\n", "collect 3\n", "19: NoConn"),
+    (CROSSING, "submit 2", "submit 1", "3: Busy"),
+    (
+        STARVED,
+        "run 1.1\nsettle\n",
+        "take\nsettle\n",
+        "7: InFlight",
+    ),
+];
+
 #[test]
 fn the_first_refused_step_is_told(rt: HostRuntime) -> Result<(), Fail> {
     let alloc = rt.alloc();
-    let rows = [
-        (
-            STARVED.trace,
-            "32\ndeliver 0\n",
-            "32\ndeliver 3\n",
-            "2: NoPacket",
-        ),
-        (
-            CROSSING.trace,
-            "deliver 0\ntake\nrun\nsettle\n",
-            "take\nrun\nsettle\ntake\n",
-            "11: NoLayer",
-        ),
-        (
-            CROSSING.trace,
-            "2\nend 20\n",
-            "2\ntake\nend 21\n",
-            "20: NoLayer",
-        ),
-        (CROSSING.trace, "max 1000\n", "max 19\n", "19: Exhausted"),
-        (CROSSING.trace, "collect 2\n", "collect 3\n", "19: NoConn"),
-        (CROSSING.trace, "submit 2", "submit 1", "3: Busy"),
-        (
-            STARVED.trace,
-            "run 1.1\nsettle\n",
-            "take\nsettle\n",
-            "7: InFlight",
-        ),
-    ];
-    for (text, part, other, refused) in rows {
-        let trace = with(alloc, text, part, other)?;
+    for (row, part, other, refused) in &REFUSALS {
+        let trace = with(alloc, row.trace, part, other)?;
         let told = refused_step(alloc, trace.as_str())?;
-        assert_eq!(rt; told.as_str(), refused, "{trace}");
-        assert_shown(&rt, alloc, trace.as_str(), 5, "")?;
+        same_text(other, told.as_str(), refused)?;
+        is_shown(&rt, alloc, refused, trace.as_str(), 5, "")?;
     }
     Ok(())
+}
+
+/// A part of the crossing requests' trace, what stands in its place, and the number of the first bad line then.
+const BAD_LINES: [(&str, &str, u64); 3] = [
+    ("end 20\n", "", 23),
+    ("end 20\n", "end 19\n", 23),
+    ("34\ndeliver 0\n", "34\ndeliver 00\n", 7),
+];
+
+/// The number of the first line that is bad. It is 0 where none is told.
+fn bad_line(alloc: Global, trace: &str) -> u64 {
+    let mut sink = Sink::new(alloc, 100);
+    match told(alloc, TABLE.as_bytes(), trace.as_bytes(), &ONE, &mut sink) {
+        Err(ShowFault::Trace { line }) => line,
+        _ => 0,
+    }
 }
 
 #[test]
 fn the_first_bad_line_is_told(rt: HostRuntime) -> Result<(), Fail> {
     let alloc = rt.alloc();
-    let rows = [
-        ("end 20\n", "", 23),
-        ("end 20\n", "end 19\n", 23),
-        ("34\ndeliver 0\n", "34\ndeliver 00\n", 7),
-    ];
-    for (part, other, wanted) in rows {
+    for (part, other, wanted) in &BAD_LINES {
         let trace = with(alloc, CROSSING.trace, part, other)?;
-        let mut sink = Sink::new(alloc, 100);
-        let ended = told(alloc, TABLE.as_bytes(), trace.as_bytes(), &ONE, &mut sink);
-        assert!(rt;
-            matches!(ended, Err(ShowFault::Trace { line }) if line == wanted),
-            "{trace}"
-        );
-        assert_shown(&rt, alloc, trace.as_str(), 4, "")?;
+        same_number(other, bad_line(alloc, trace.as_str()), *wanted)?;
+        is_shown(&rt, alloc, other, trace.as_str(), 4, "")?;
     }
     Ok(())
 }
 
 /// These texts end with this status, and nothing is written.
-fn assert_status(rt: &impl Abort, alloc: Global, table: &[u8], trace: &[u8], status: u8) {
+fn ends_by(alloc: Global, line: &str, table: &[u8], trace: &[u8], status: u8) -> Result<(), Fail> {
     let mut sink = Sink::new(alloc, 100);
-    assert_eq!(rt; show(alloc, table, trace, &ONE, &mut sink), status);
-    assert_eq!(rt; sink.taken.len(), 0);
+    let ended = show(alloc, table, trace, &ONE, &mut sink);
+    same_number(line, u64::from(ended), u64::from(status))?;
+    same_count(line, sink.taken.len(), 0)
 }
 
 #[test]
 fn the_table_is_read_before_the_trace(rt: HostRuntime) -> Result<(), Fail> {
     let alloc = rt.alloc();
     let (table, trace) = (TABLE.as_bytes(), CROSSING.trace.as_bytes());
-    assert_status(&rt, alloc, b"shards = 2\n", trace, 3);
-    assert_status(&rt, alloc, b"\xff", trace, 3);
-    assert_status(&rt, alloc, b"\xff", b"\xff", 3);
-    assert_status(&rt, alloc, table, b"\xff", 4);
+    ends_by(alloc, "no ranges", b"shards = 2\n", trace, 3)?;
+    ends_by(alloc, "no text", b"\xff", trace, 3)?;
+    ends_by(alloc, "neither is a text", b"\xff", b"\xff", 3)?;
+    ends_by(alloc, "a trace that is no text", table, b"\xff", 4)?;
     let other = with(alloc, TABLE, "from = 512", "from = 513")?;
     let mut sink = Sink::new(alloc, 100);
     let ended = told(alloc, other.as_bytes(), b"", &ONE, &mut sink);
-    assert!(rt; matches!(ended, Err(ShowFault::Table(TableFault::Missing))));
-    Ok(())
+    let missing = matches!(ended, Err(ShowFault::Table(TableFault::Missing)));
+    holds("a slot is missing", missing)
 }

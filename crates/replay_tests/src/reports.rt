@@ -1,6 +1,6 @@
 //! Traces that are replayed to their end, and their reports.
 
-use crate::showing::assert_shown;
+use crate::showing::is_shown;
 use crate::traces::{
     CROSSING, FLUSHED_BEFORE, FLUSHED_BEHIND, LATE_WITH_A_SMALL_STAMP, LAYER_OF_TWO, NO_STEP, Row,
     SECOND_OF_TWO_STARVES, STARVED, UNSETTLED,
@@ -21,8 +21,8 @@ const ROWS: [Row; 9] = [
 
 #[test]
 fn traces_have_their_reports(rt: HostRuntime) -> Result<(), Fail> {
-    for row in ROWS {
-        assert_shown(&rt, rt.alloc(), row.trace, 0, row.report)?;
+    for row in &ROWS {
+        is_shown(&rt, rt.alloc(), row.name, row.trace, 0, row.report)?;
     }
     Ok(())
 }

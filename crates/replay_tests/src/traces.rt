@@ -1,8 +1,9 @@
 //! Traces on two shards, and their reports. `a` (61) lies on shard 0, and `c` (63) on shard 1.
 
-/// A trace's text, and the report that it has to have.
+/// A trace's text, with what its test is told by, and the report that it has to have.
 #[derive(Clone, Copy, Drop)]
 pub(crate) struct Row {
+    pub(crate) name: &'static str,
     pub(crate) trace: &'static str,
     pub(crate) report: &'static str,
 }
@@ -13,6 +14,7 @@ pub(crate) const TABLE: &str =
 
 /// MSET a 1 c 2 and MSET a 3 c 4 cross: each comes to another group first.
 pub(crate) const CROSSING: Row = Row {
+    name: "crossing",
     trace: "shardkv-trace 1
 max 1000
 open
@@ -47,6 +49,7 @@ agree
 
 /// MSET a 1 c 2 starves, and GET a finds nothing.
 pub(crate) const STARVED: Row = Row {
+    name: "starved",
     trace: "shardkv-trace 1
 max 50
 open
@@ -75,6 +78,7 @@ agree
 
 /// FLUSHALL of all groups, behind SET c 2 at group 1; then DBSIZE.
 pub(crate) const FLUSHED_BEHIND: Row = Row {
+    name: "flushed behind",
     trace: "shardkv-trace 1
 max 1000
 open
@@ -114,6 +118,7 @@ agree
 
 /// The same, but FLUSHALL comes to group 1 first, and SET c 2 waits behind it.
 pub(crate) const FLUSHED_BEFORE: Row = Row {
+    name: "flushed before",
     trace: "shardkv-trace 1
 max 1000
 open
@@ -154,6 +159,7 @@ agree
 
 /// SET c 9 is executed last and has the second stamp.
 pub(crate) const LATE_WITH_A_SMALL_STAMP: Row = Row {
+    name: "late with a small stamp",
     trace: "shardkv-trace 1
 max 1000
 open
@@ -196,6 +202,7 @@ agree
 
 /// SET a 1 and SET c 2 are one layer.
 pub(crate) const LAYER_OF_TWO: Row = Row {
+    name: "layer of two",
     trace: "shardkv-trace 1
 max 1000
 open
@@ -221,6 +228,7 @@ agree
 
 /// The same; the second starves, and the line `run` names a request of no layer too.
 pub(crate) const SECOND_OF_TWO_STARVES: Row = Row {
+    name: "second of two starves",
     trace: "shardkv-trace 1
 max 1000
 open
@@ -245,6 +253,7 @@ agree
 
 /// The last layer was run and isn't settled.
 pub(crate) const UNSETTLED: Row = Row {
+    name: "unsettled",
     trace: "shardkv-trace 1
 max 5
 open
@@ -262,6 +271,7 @@ agree
 
 /// Nothing happens.
 pub(crate) const NO_STEP: Row = Row {
+    name: "no step",
     trace: "shardkv-trace 1
 max 1
 end 0

@@ -5,9 +5,8 @@ use replay::{Progress, ShowFault, told_watched};
 use shard_exec::InTurn;
 use std::alloc::Global;
 use std::num::NonZeroUsize;
-use std::process::Abort;
 use std::test::Fail;
-use test_support::Sink;
+use test_support::{Sink, holds, same_bytes, same_count, same_number};
 
 const ONE: InTurn = InTurn(NonZeroUsize::MIN);
 
@@ -31,9 +30,21 @@ impl Progress for Watcher {
     }
 }
 
+/// A watcher was told of so many steps of so many, each once and in order, and then once that it is at its end.
+fn was_told(watcher: &Watcher, made: u64, all: u64) -> Result<(), Fail> {
+    same_count("ends", watcher.ended, 1)?;
+    same_count("late", watcher.late, 0)?;
+    let mut count = 0u64;
+    for (steps, of) in &watcher.told {
+        count = count.wrapping_add(1);
+        same_number("the place of a step", *steps, count)?;
+        same_number("all steps", *of, all)?;
+    }
+    same_number("steps that were told", count, made)
+}
+
 /// A watcher of this trace is told of so many steps of so many, and the trace ends as it has to.
-fn assert_watched(
-    rt: &impl Abort,
+fn watched(
     alloc: Global,
     trace: &str,
     made: u64,
@@ -48,42 +59,31 @@ fn assert_watched(
     let mut sink = Sink::new(alloc, 100);
     let (table, trace) = (TABLE.as_bytes(), trace.as_bytes());
     let ended = told_watched(alloc, table, trace, &ONE, &mut watcher, &mut sink);
-    assert_eq!(rt; watcher.ended, 1);
-    assert_eq!(rt; watcher.late, 0);
-    let mut wanted = Vec::new(alloc);
-    for steps in 0..made {
-        wanted.push((steps + 1, all))?;
-    }
-    assert_eq!(rt; watcher.told.as_slice(), wanted.as_slice());
-    assert_eq!(rt; sink.taken.as_slice(), report.as_bytes());
+    was_told(&watcher, made, all)?;
+    same_bytes("the report", sink.taken.as_slice(), report.as_bytes())?;
     Ok(ended.err())
 }
 
 #[test]
 fn each_step_is_told_once(rt: HostRuntime) -> Result<(), Fail> {
-    let fault = assert_watched(&rt, rt.alloc(), CROSSING.trace, 20, 20, CROSSING.report)?;
-    assert!(rt; fault.is_none());
-    Ok(())
+    let fault = watched(rt.alloc(), CROSSING.trace, 20, 20, CROSSING.report)?;
+    holds("no fault", fault.is_none())
 }
 
 #[test]
 fn a_refused_step_is_not_told(rt: HostRuntime) -> Result<(), Fail> {
     let trace = "shardkv-trace 1\nmax 9\nopen\nopen\ncollect 3\nopen\nend 4\n";
-    let fault = assert_watched(&rt, rt.alloc(), trace, 2, 4, "")?;
-    assert!(rt; matches!(fault, Some(ShowFault::Step { index: 2, .. })));
-    Ok(())
+    let fault = watched(rt.alloc(), trace, 2, 4, "")?;
+    let refused = matches!(fault, Some(ShowFault::Step { index: 2, .. }));
+    holds("the third step is refused", refused)
 }
 
 #[test]
 fn of_a_bad_trace_only_the_end_is_told(rt: HostRuntime) -> Result<(), Fail> {
-    let fault = assert_watched(
-        &rt,
-        rt.alloc(),
-        "shardkv-trace 1\nmax 9\nopen\nend 2\n",
-        0,
-        0,
-        "",
-    )?;
-    assert!(rt; matches!(fault, Some(ShowFault::Trace { .. })));
-    Ok(())
+    let trace = "shardkv-trace 1\nmax 9\nopen\nend 2\n";
+    let fault = watched(rt.alloc(), trace, 0, 0, "")?;
+    holds(
+        "a bad trace",
+        matches!(fault, Some(ShowFault::Trace { .. })),
+    )
 }

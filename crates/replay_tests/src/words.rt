@@ -1,7 +1,23 @@
 //! Lines, good and bad, and what they ask for.
 
 use options::replay::{OptionsFault, read_options};
+use std::alloc::Global;
 use std::test::Fail;
+use test_support::{holds, same_number, same_text};
+
+/// The line asks for these files, and for so many workers.
+fn asks_for(
+    alloc: Global,
+    words: &[&str],
+    table: &str,
+    trace: &str,
+    workers: u64,
+) -> Result<(), Fail> {
+    let asked = read_options(alloc, words)?;
+    same_text("the table", asked.table, table)?;
+    same_text("the trace", asked.trace, trace)?;
+    same_number("the workers", asked.workers as u64, workers)
+}
 
 #[test]
 fn good_lines(rt: HostRuntime) -> Result<(), Fail> {
@@ -14,48 +30,40 @@ fn good_lines(rt: HostRuntime) -> Result<(), Fail> {
         "--workers",
         "64",
     ];
-    let asked = read_options(rt.alloc(), &words);
-    assert!(rt; asked.is_ok());
-    if let Ok(asked) = asked {
-        assert_eq!(rt; asked.table, "t.toml");
-        assert_eq!(rt; asked.trace, "r.trace");
-        assert_eq!(rt; asked.workers, 64);
-    }
+    asks_for(rt.alloc(), &words, "t.toml", "r.trace", 64)?;
     let words = ["shardkv-replay", "--trace", "r", "--table", "t"];
-    let asked = read_options(rt.alloc(), &words);
-    assert!(rt; matches!(asked, Ok(asked) if asked.workers == 1));
-    Ok(())
+    asks_for(rt.alloc(), &words, "t", "r", 1)
 }
 
-#[test]
-fn bad_lines(rt: HostRuntime) {
-    let alone = ["shardkv-replay"];
-    assert!(rt; matches!(read_options(rt.alloc(), &alone), Err(OptionsFault::Usage)));
-    let one = ["shardkv-replay", "--table", "t"];
-    assert!(rt; matches!(read_options(rt.alloc(), &one), Err(OptionsFault::Usage)));
-    let other = [
+/// The line is no options of the program.
+fn is_no_usage(alloc: Global, words: &[&str]) -> bool {
+    matches!(read_options(alloc, words), Err(OptionsFault::Usage))
+}
+
+/// So many workers can't be asked for.
+fn is_no_number(alloc: Global, number: &str) -> bool {
+    let words = [
         "shardkv-replay",
         "--table",
         "t",
         "--trace",
         "r",
-        "--port",
-        "1",
+        "--workers",
+        number,
     ];
-    assert!(rt; matches!(read_options(rt.alloc(), &other), Err(OptionsFault::Usage)));
+    matches!(read_options(alloc, &words), Err(OptionsFault::Workers))
+}
+
+#[test]
+fn bad_lines(rt: HostRuntime) -> Result<(), Fail> {
+    let alloc = rt.alloc();
+    let (name, table, trace) = ("shardkv-replay", "--table", "--trace");
+    holds("no options", is_no_usage(alloc, &[name]))?;
+    holds("no trace", is_no_usage(alloc, &[name, table, "t"]))?;
+    let other = [name, table, "t", trace, "r", "--port", "1"];
+    holds("another option", is_no_usage(alloc, &other))?;
     for number in ["0", "65", "256", "x", ""] {
-        let words = [
-            "shardkv-replay",
-            "--table",
-            "t",
-            "--trace",
-            "r",
-            "--workers",
-            number,
-        ];
-        assert!(rt;
-            matches!(read_options(rt.alloc(), &words), Err(OptionsFault::Workers)),
-            "{number}"
-        );
+        holds(number, is_no_number(alloc, number))?;
     }
+    Ok(())
 }

@@ -8,7 +8,7 @@ use std::io;
 use std::io::{ErrorKind, Write};
 use std::num::NonZeroUsize;
 use std::test::Fail;
-use test_support::NEVER;
+use test_support::{NEVER, same_bytes, same_count, same_number};
 
 /// How many bytes a write takes at most.
 const MOST: usize = 10;
@@ -56,40 +56,36 @@ impl Write for Failing {
     }
 }
 
-/// The status of the crossing requests' report by this writer.
-fn shown(alloc: Global, writer: &mut Failing) -> u8 {
-    let workers = InTurn(NonZeroUsize::MIN);
-    show(
-        alloc,
-        TABLE.as_bytes(),
-        CROSSING.trace.as_bytes(),
-        &workers,
-        writer,
-    )
+/// By a writer that fails at this call the crossing requests' report ends with this status, after so many calls, and
+/// with so much of it taken.
+fn ends_with(
+    alloc: Global,
+    fails_at: usize,
+    status: u8,
+    taken: &[u8],
+    calls: usize,
+) -> Result<(), Fail> {
+    let mut writer = Failing::new(alloc, fails_at);
+    let (table, trace) = (TABLE.as_bytes(), CROSSING.trace.as_bytes());
+    let ended = show(alloc, table, trace, &InTurn(NonZeroUsize::MIN), &mut writer);
+    same_number("the status", u64::from(ended), u64::from(status))?;
+    same_bytes("what was taken", writer.taken.as_slice(), taken)?;
+    same_count("calls of the writer", writer.calls, calls)
 }
 
 #[test]
 fn each_call_of_the_writer_fails_in_turn(rt: HostRuntime) -> Result<(), Fail> {
     let report = CROSSING.report.as_bytes();
-    let writes = report.len().div_ceil(MOST);
-    for fails_at in 0..writes.saturating_add(1) {
-        let mut writer = Failing::new(rt.alloc(), fails_at);
-        assert_eq!(rt; shown(rt.alloc(), &mut writer), 7, "at call {fails_at}");
+    let calls = report.len().div_ceil(MOST).saturating_add(1);
+    for fails_at in 0..calls {
         let taken = report.len().min(fails_at.saturating_mul(MOST));
-        assert_eq!(rt;
-            writer.taken.as_slice(),
+        ends_with(
+            rt.alloc(),
+            fails_at,
+            7,
             &report[..taken],
-            "at call {fails_at}"
-        );
-        assert_eq!(rt;
-            writer.calls,
             fails_at.saturating_add(1),
-            "at call {fails_at}"
-        );
+        )?;
     }
-    let mut writer = Failing::new(rt.alloc(), NEVER);
-    assert_eq!(rt; shown(rt.alloc(), &mut writer), 0);
-    assert_eq!(rt; writer.taken.as_slice(), report);
-    assert_eq!(rt; writer.calls, writes.saturating_add(1));
-    Ok(())
+    ends_with(rt.alloc(), NEVER, 0, report, calls)
 }

@@ -1,9 +1,11 @@
 //! Scripts, and what they are answered.
 
-use crate::steps::{first_word, step_of, steps_of};
+use crate::steps::{conn_of, first_word, place_of, step_of, steps_of};
 use crate::tables::system_of;
 use crate::trouble::Trouble;
-use crate::wording::{by_stamp, push_effect, push_ids, push_row, push_rows, push_waiting};
+use crate::wording::{
+    by_stamp, push_effect, push_fault, push_ids, push_row, push_rows, push_waiting,
+};
 use groups::ConnId;
 use journal::Step;
 use shard_exec::{Open, Workers};
@@ -33,6 +35,11 @@ pub(crate) fn follow_row<W: Workers>(
     follow(rt, alloc, &mut system, row.script, workers)
 }
 
+/// This was answered to these words; else the test ends.
+pub(crate) fn assert_same(rt: &impl Abort, said: &str, answered: &str, wanted: &str) {
+    assert_eq!(rt; answered, wanted, "{said}");
+}
+
 /// Makes the steps of each line of the script, and looks whether they are answered as it says.
 pub(crate) fn follow<W: Workers>(
     rt: &impl Abort,
@@ -44,7 +51,7 @@ pub(crate) fn follow<W: Workers>(
     for line in script.split('\n') {
         let (said, wanted) = line.split_once(" => ").ok_or("no answer is wanted")?;
         let answered = answer(rt, alloc, system, said, workers)?;
-        assert_eq!(rt; answered.as_str(), wanted, "{said}");
+        assert_same(rt, said, answered.as_str(), wanted);
     }
     Ok(())
 }
@@ -62,18 +69,26 @@ pub(crate) fn answer<W: Workers>(
 ) -> Result<String, Trouble> {
     let (name, rest) = first_word(said);
     match name {
-        "steps" => Ok(format!(in alloc; "{}", system.steps())?),
-        "packets" => Ok(format!(in alloc; "{}", system.packets())?),
-        "quiet" => Ok(format!(in alloc; "{}", system.quiet())?),
-        "rows" => Ok(format!(in alloc; "{}", system.rows().len())?),
-        "row" => row_at(alloc, system, rest.parse()?),
-        "sorted" => sorted_at(alloc, system, rest.parse()?),
+        "steps" => number(alloc, system.steps()),
+        "packets" => number(alloc, system.packets() as u64),
+        "quiet" => yes_or_no(alloc, system.quiet()),
+        "rows" => number(alloc, system.rows().len() as u64),
+        "row" => row_at(alloc, system, place_of(rest)?),
+        "sorted" => sorted_at(alloc, system, place_of(rest)?),
         "starved" => starved(alloc, system),
-        "waits" => waiting(alloc, system, ConnId(rest.parse()?)),
-        "drain" => Ok(format!(in alloc; "{}", deliver_all(system, workers)?)?),
+        "waits" => waiting(alloc, system, conn_of(rest)?),
+        "drain" => number(alloc, u64::from(deliver_all(system, workers)?)),
         "ask" => ask(alloc, system, rest, workers),
         _ => made(rt, alloc, system, said, workers),
     }
+}
+
+fn number(alloc: Global, number: u64) -> Result<String, Trouble> {
+    Ok(format!(in alloc; "{number}")?)
+}
+
+fn yes_or_no(alloc: Global, answer: bool) -> Result<String, Trouble> {
+    Ok(String::from_str(alloc, if answer { "true" } else { "false" })?)
 }
 
 /// What the steps came to, with `; ` between, and behind them the fault of the one that wasn't made. Where none was
@@ -89,7 +104,7 @@ fn made<W: Workers>(
     let (effects, fault) = system.run(steps_of(alloc, list)?, workers, &Open);
     if effects.is_empty() && !matches!(fault, Some(StepFault::Failed)) {
         let after = state(alloc, system)?;
-        assert_eq!(rt; after.as_str(), before.as_str(), "{list}");
+        assert_same(rt, list, after.as_str(), before.as_str());
     }
     effects_and_fault(alloc, effects, fault)
 }
@@ -101,19 +116,23 @@ fn effects_and_fault(
 ) -> Result<String, Trouble> {
     let mut text = String::new(alloc);
     for effect in effects {
-        if !text.is_empty() {
-            text.push_str("; ")?;
-        }
+        part(&mut text)?;
         push_effect(alloc, &mut text, &effect)?;
         discard(effect);
     }
     if let Some(fault) = fault {
-        if !text.is_empty() {
-            text.push_str("; ")?;
-        }
-        write!(text, "{fault:?}")?;
+        part(&mut text)?;
+        push_fault(&mut text, fault)?;
     }
     Ok(text)
+}
+
+/// Adds `; ` behind what is there, if something is.
+fn part(text: &mut String) -> Result<(), Trouble> {
+    if !text.is_empty() {
+        text.push_str("; ")?;
+    }
+    Ok(())
 }
 
 /// Lets a value go. What that takes for each kind of reply is seen here alone.
@@ -214,9 +233,9 @@ pub(crate) fn run_layers<W: Workers>(
         if system.quiet() {
             return Ok(());
         }
-        make(alloc, system, "take", workers)?;
-        make(alloc, system, "run", workers)?;
-        make(alloc, system, "settle", workers)?;
+        for words in &["take", "run", "settle"] {
+            make(alloc, system, words, workers)?;
+        }
     }
     Err("layers are left".into())
 }

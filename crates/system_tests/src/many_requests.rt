@@ -6,8 +6,8 @@ use crate::tables::system_of;
 use crate::trouble::Trouble;
 use crate::wording::{by_stamp, push_rows};
 use command_table::read;
-use journal::Rows;
-use resp::write_reply;
+use journal::{Row, Rows};
+use resp::{Reply, write_reply};
 use router::Outcome;
 use shard_exec::{Crew, InTurn, Open, Workers};
 use solo::Solo;
@@ -17,6 +17,7 @@ use std::num::NonZeroUsize;
 use std::process::Abort;
 use std::test::Fail;
 use system::{Effect, StepFault, System};
+use test_support::same_text;
 
 /// Marsaglia's xorshift: numbers that look like chance, and are the same in each run.
 #[derive(Drop)]
@@ -146,17 +147,27 @@ fn look_at_reply(
     if outcome.stamp.is_none() {
         return Ok(());
     }
-    let mut reply = Vec::new(alloc);
-    write_reply(&outcome.reply, &mut reply)?;
     for place in 0..rows.len() {
         if let Some(row) = rows.row(place) {
             if row.id() == outcome.id {
-                assert!(rt; row.reply() == reply.as_slice(), "another reply");
-                return Ok(());
+                return assert_reply(rt, alloc, &row, &outcome.reply);
             }
         }
     }
     Err("a request without a row".into())
+}
+
+/// This is the reply of the row.
+fn assert_reply(
+    rt: &impl Abort,
+    alloc: Global,
+    row: &Row<'_>,
+    reply: &Reply,
+) -> Result<(), Trouble> {
+    let mut text = Vec::new(alloc);
+    write_reply(reply, &mut text)?;
+    assert!(rt; row.reply() == text.as_slice(), "another reply");
+    Ok(())
 }
 
 /// Makes steps at random, then ends what is under way, and at last asks for all that lies at the keys.
@@ -217,41 +228,56 @@ fn look_at_rows(
     let mut one = Solo::new(alloc, BuildHasherDefault::<FoldHasher>::new());
     for place in places {
         let row = rows.row(place).ok_or("no such row")?;
-        let command = read(row.request(alloc)?).map_err(|_| "a refused request")?;
-        let mut reply = Vec::new(alloc);
-        write_reply(&one.run(command), &mut reply)?;
-        assert!(rt; row.reply() == reply.as_slice(), "another reply");
+        let Ok(command) = read(row.request(alloc)?) else {
+            return Err("a refused request".into());
+        };
+        assert_reply(rt, alloc, &row, &one.run(command))?;
     }
     Ok(())
 }
 
-/// Plays in a new system of four shards, and gives all its rows as text.
-fn played<W: Workers>(rt: &impl Abort, alloc: Global, workers: &W) -> Result<String, Trouble> {
+/// Plays in a new system of four shards.
+fn played<W: Workers>(rt: &impl Abort, alloc: Global, workers: &W) -> Result<System, Trouble> {
     let mut system = system_of(alloc, 4, 1_000_000)?;
     play(rt, alloc, &mut system, workers)?;
+    Ok(system)
+}
+
+/// What was played is at rest, and its rows, more than 300 and not executed in the order of their stamps, are answered
+/// as by one store. All rows as text.
+fn rows_of(rt: &impl Abort, alloc: Global, system: &System) -> Result<String, Trouble> {
     assert!(rt; system.quiet(), "something is under way");
     assert!(rt; system.rows().len() > 300, "few requests");
     assert!(rt; system.starved().is_empty(), "a request starved");
     let places = by_stamp(alloc, system.rows())?;
-    assert!(rt;
-        !is_counted(places.as_slice()),
-        "executed in the order of stamps"
-    );
+    let counted = is_counted(places.as_slice());
+    assert!(rt; !counted, "executed in the order of stamps");
     look_at_rows(rt, alloc, system.rows(), places)?;
     let mut text = String::new(alloc);
     push_rows(alloc, &mut text, system.rows())?;
     Ok(text)
 }
 
+/// Plays by these workers: the rows are to be the same.
+fn same_rows<W: Workers>(
+    rt: &impl Abort,
+    alloc: Global,
+    workers: &W,
+    first: &str,
+) -> Result<(), Fail> {
+    let system = played(rt, alloc, workers)?;
+    let rows = rows_of(rt, alloc, &system)?;
+    same_text("the rows of several workers", rows.as_str(), first)
+}
+
 #[test]
 fn as_one_store_in_the_order_of_stamps(rt: HostRuntime) -> Result<(), Fail> {
-    let first = played(&rt, rt.alloc(), &InTurn(NonZeroUsize::MIN))?;
+    let alloc = rt.alloc();
+    let first = rows_of(&rt, alloc, &played(&rt, alloc, &InTurn(NonZeroUsize::MIN))?)?;
     for number in [2, 8] {
         let number = NonZeroUsize::new(number).ok_or("a number of workers")?;
-        let in_turn = played(&rt, rt.alloc(), &InTurn(number))?;
-        assert!(rt; in_turn.as_str() == first.as_str(), "other rows in turn");
-        let crew = played(&rt, rt.alloc(), &Crew::new(&rt, number))?;
-        assert!(rt; crew.as_str() == first.as_str(), "other rows on threads");
+        same_rows(&rt, alloc, &InTurn(number), first.as_str())?;
+        same_rows(&rt, alloc, &Crew::new(&rt, number), first.as_str())?;
     }
     Ok(())
 }

@@ -52,7 +52,9 @@ fn script(alloc: Global, keys: &[String]) -> Result<String, Trouble> {
 /// Follows the script in a system of 64 shards.
 fn runs<W: Workers>(rt: &impl Abort, alloc: Global, workers: &W) -> Result<(), Trouble> {
     let keys = keys(alloc, &table_of(alloc, 64)?)?;
-    assert_eq!(rt; keys.len(), 64);
+    if keys.len() != 64 {
+        return Err("a shard without a key".into());
+    }
     let script = script(alloc, keys.as_slice())?;
     let mut system = system_of(alloc, 64, 100_000)?;
     follow(rt, alloc, &mut system, script.as_str(), workers)

@@ -3,11 +3,11 @@
 //! Where all succeed these tests say no more than others do. They are meant to be run with each allocation failing in
 //! turn.
 
-use crate::answers::{answer, discard, follow, state};
+use crate::answers::{answer, assert_same, discard, follow, state};
 use crate::steps::{first_word, step_of};
 use crate::tables::system_of;
 use crate::trouble::Trouble;
-use crate::wording::{push_effect, push_ids};
+use crate::wording::{push_effect, push_fault, push_ids};
 use shard_exec::{InTurn, Open, Workers};
 use std::alloc::Global;
 use std::num::NonZeroUsize;
@@ -124,6 +124,13 @@ fn followed<W: Workers>(
     Ok(again)
 }
 
+/// Adds what was said, and the arrow behind it.
+fn push_said(text: &mut String, said: &str) -> Result<(), Trouble> {
+    text.push_str(said)?;
+    text.push_str(" => ")?;
+    Ok(())
+}
+
 /// Adds a line: what is looked at, or a step and what it came to.
 fn push_line<W: Workers>(
     rt: &impl Abort,
@@ -136,12 +143,15 @@ fn push_line<W: Workers>(
 ) -> Result<(), Trouble> {
     if matches!(first_word(said).0, "rows" | "row" | "starved") {
         let answered = answer(rt, alloc, system, said, workers)?;
-        write!(text, "{said} => {answered}")?;
-        return Ok(());
+        push_said(text, said)?;
+        return Ok(text.push_str(answered.as_str())?);
     }
     match made_at_last(rt, alloc, system, said, wanted, workers)? {
         Ok(effect) => push_made(alloc, text, said, effect),
-        Err(fault) => Ok(write!(text, "{said} => {fault:?}")?),
+        Err(fault) => {
+            push_said(text, said)?;
+            push_fault(text, fault)
+        }
     }
 }
 
@@ -161,7 +171,7 @@ fn made_at_last<W: Workers>(
     }
     assert!(rt; !is_own_fault(wanted), "{said} was refused for memory");
     let after = state(alloc, system)?;
-    assert_eq!(rt; after.as_str(), before.as_str(), "{said}");
+    assert_same(rt, said, after.as_str(), before.as_str());
     Ok(system.step(step_of(alloc, said)?, workers, &Open))
 }
 
@@ -197,7 +207,7 @@ fn attempt<W: Workers>(
     let mut system = system_of(alloc, 2, max_steps)?;
     let again = followed(rt, alloc, &mut system, script, workers)?;
     if system.starved().is_empty() {
-        assert_eq!(rt; again.as_str(), script);
+        assert_same(rt, "all steps", again.as_str(), script);
         return Ok(());
     }
     let mut told = system_of(alloc, 2, max_steps)?;

@@ -28,25 +28,40 @@ pub(crate) fn step_of(alloc: Global, words: &str) -> Result<Step, Trouble> {
         "open" => Ok(Step::Open),
         "submit" => submit_of(alloc, rest),
         "deliver" => Ok(Step::Deliver {
-            place: rest.parse()?,
+            place: number_of(rest)?,
         }),
         "take" => Ok(Step::Take),
         "run" => run_of(alloc, rest),
         "settle" => Ok(Step::Settle),
         "collect" => Ok(Step::Collect {
-            conn: ConnId(rest.parse()?),
+            conn: conn_of(rest)?,
         }),
         "close" => Ok(Step::Close {
-            conn: ConnId(rest.parse()?),
+            conn: conn_of(rest)?,
         }),
         _ => Err("no step has this name".into()),
     }
 }
 
+/// The number that this text spells.
+fn number_of(text: &str) -> Result<u64, Trouble> {
+    Ok(text.parse()?)
+}
+
+/// The connection whose number this is.
+pub(crate) fn conn_of(text: &str) -> Result<ConnId, Trouble> {
+    Ok(ConnId(number_of(text)?))
+}
+
+/// The place that this text spells.
+pub(crate) fn place_of(text: &str) -> Result<usize, Trouble> {
+    Ok(text.parse()?)
+}
+
 fn submit_of(alloc: Global, words: &str) -> Result<Step, Trouble> {
     let (conn, words) = first_word(words);
     Ok(Step::Submit {
-        conn: ConnId(conn.parse()?),
+        conn: conn_of(conn)?,
         words: request_of(alloc, words)?,
     })
 }
@@ -66,13 +81,18 @@ pub(crate) fn request_of(alloc: Global, words: &str) -> Result<Request, Trouble>
 fn run_of(alloc: Global, list: &str) -> Result<Step, Trouble> {
     let mut ids = Vec::new(alloc);
     for id in list.split_whitespace() {
-        let (conn, seq) = id.split_once('.').ok_or("no id")?;
-        ids.push(RequestId {
-            conn: ConnId(conn.parse()?),
-            seq: seq.parse()?,
-        })?;
+        ids.push(id_of(id)?)?;
     }
     Ok(Step::Run {
         starved: RequestIds::from(ids),
+    })
+}
+
+/// The request of an id `CONN.SEQ`.
+fn id_of(id: &str) -> Result<RequestId, Trouble> {
+    let (conn, seq) = id.split_once('.').ok_or("no id")?;
+    Ok(RequestId {
+        conn: conn_of(conn)?,
+        seq: number_of(seq)?,
     })
 }

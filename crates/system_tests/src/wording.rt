@@ -6,7 +6,7 @@ use journal::{Row, Rows};
 use resp::write_reply;
 use router::Outcome;
 use std::alloc::Global;
-use system::Effect;
+use system::{Effect, StepFault};
 
 /// Adds what a step came to.
 pub(crate) fn push_effect(
@@ -15,13 +15,25 @@ pub(crate) fn push_effect(
     effect: &Effect,
 ) -> Result<(), Trouble> {
     match effect {
-        Effect::Opened(conn) => write!(text, "opened {}", conn.0)?,
-        Effect::Submitted(id) => write!(text, "submitted {}.{}", id.conn.0, id.seq)?,
-        Effect::Ran(starved) => push_ran(text, starved.as_slice())?,
-        Effect::Collected(outcome) => push_waiting(alloc, text, outcome.as_ref())?,
-        Effect::Made => text.push_str("made")?,
+        Effect::Opened(conn) => Ok(write!(text, "opened {}", conn.0)?),
+        Effect::Submitted(id) => {
+            text.push_str("submitted ")?;
+            push_id(text, id)
+        }
+        Effect::Ran(starved) => push_ran(text, starved.as_slice()),
+        Effect::Collected(outcome) => push_waiting(alloc, text, outcome.as_ref()),
+        Effect::Made => Ok(text.push_str("made")?),
     }
-    Ok(())
+}
+
+/// Adds the name of a fault.
+pub(crate) fn push_fault(text: &mut String, fault: StepFault) -> Result<(), Trouble> {
+    Ok(write!(text, "{fault:?}")?)
+}
+
+/// Adds `CONN.SEQ`.
+fn push_id(text: &mut String, id: &RequestId) -> Result<(), Trouble> {
+    Ok(write!(text, "{}.{}", id.conn.0, id.seq)?)
 }
 
 fn push_ran(text: &mut String, starved: &[RequestId]) -> Result<(), Trouble> {
@@ -36,7 +48,8 @@ fn push_ran(text: &mut String, starved: &[RequestId]) -> Result<(), Trouble> {
 /// Adds the ids, a blank before each.
 pub(crate) fn push_ids(text: &mut String, ids: &[RequestId]) -> Result<(), Trouble> {
     for id in ids {
-        write!(text, " {}.{}", id.conn.0, id.seq)?;
+        text.push(' ')?;
+        push_id(text, id)?;
     }
     Ok(())
 }
@@ -54,7 +67,8 @@ pub(crate) fn push_waiting(
 }
 
 fn push_outcome(alloc: Global, text: &mut String, outcome: &Outcome) -> Result<(), Trouble> {
-    write!(text, "{}.{} ", outcome.id.conn.0, outcome.id.seq)?;
+    push_id(text, &outcome.id)?;
+    text.push(' ')?;
     if let Some(stamp) = &outcome.stamp {
         push_stamp(text, stamp)?;
     }
@@ -83,7 +97,8 @@ fn push_reply(text: &mut String, reply: &[u8]) -> Result<(), Trouble> {
 
 /// Adds a row: id, stamp, words and reply.
 pub(crate) fn push_row(alloc: Global, text: &mut String, row: &Row<'_>) -> Result<(), Trouble> {
-    write!(text, "{}.{} ", row.id().conn.0, row.id().seq)?;
+    push_id(text, &row.id())?;
+    text.push(' ')?;
     push_stamp(text, row.stamp())?;
     for word in row.request(alloc)?.into_words() {
         push_reply(text, word.as_slice())?;
