@@ -6,7 +6,8 @@ use groups::{ConnId, RequestId, Stamp};
 use layer_planner::{Job, Layer};
 use placement::{GroupId, Table};
 use resp::{Request, write_reply};
-use shard_exec::{Ended, Gate, InTurn, Open, Store, Workers};
+use shard_exec::{Ended, Store};
+use shard_workers::{Gate, InTurn, Open, Workers};
 use std::alloc::Global;
 use std::process::Abort;
 

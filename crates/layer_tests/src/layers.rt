@@ -2,7 +2,8 @@
 
 use crate::jobs::{ask, job, layer, run, text, two_shards};
 use layer_planner::Layer;
-use shard_exec::{Ended, ExecFault, InTurn, Open, Store};
+use shard_exec::{Ended, ExecFault, Store};
+use shard_workers::{InTurn, Open};
 use std::num::NonZeroUsize;
 use std::test::Fail;
 

@@ -2,7 +2,9 @@
 
 use crate::jobs::{ask, job, layer, run, table_of, text};
 use placement::Table;
-use shard_exec::{Crew, InTurn, Open, Store, Workers};
+use shard_crew::Crew;
+use shard_exec::Store;
+use shard_workers::{InTurn, Open, Workers};
 use std::alloc::Global;
 use std::num::NonZeroUsize;
 use std::process::Abort;

@@ -16,7 +16,7 @@ use crate::fault::{AskStep, FaultKind, lasting, told};
 use cluster::{Answer, CloseFault, Closing, Cluster, Pick, Seat};
 use journal::write_trace;
 use resp::{Reply, Request};
-use shard_exec::{Gate, Workers};
+use shard_workers::{Gate, Workers};
 use std::alloc::AllocError;
 use std::sync::ledger::Ledger;
 use system::Progress;

@@ -17,7 +17,7 @@ use crate::waiting::Waiting;
 use cluster::{Answer, CloseFault, Closing, Cluster, First, Pick, Seat};
 use placement::Table;
 use resp::{Reply, Request};
-use shard_exec::{Gate, InTurn, Open, Workers};
+use shard_workers::{Gate, InTurn, Open, Workers};
 use shards::ShardHasher;
 use std::alloc::{AllocError, Global};
 use std::num::NonZeroUsize;

@@ -8,7 +8,7 @@ use placement::Table;
 use replay::show;
 use server::host;
 use server_options::Options;
-use shard_exec::InTurn;
+use shard_workers::InTurn;
 use std::fs;
 use std::net::{Net, TcpListener, TcpStream};
 use std::num::NonZeroUsize;

@@ -10,7 +10,7 @@ use cluster::{CloseFault, First, Seat};
 use placement::Table;
 use resp::{Reply, Request, write_reply};
 use server::{AskFault, FaultKind, Shared, shared_syncs};
-use shard_exec::{InTurn, Open};
+use shard_workers::{InTurn, Open};
 use shards::ShardHasher;
 use std::alloc::{AllocError, Global};
 use std::marker::Brand;

@@ -5,7 +5,7 @@ ghost use Rattle.std.specs.Prelude.{◌≡◌, ◌<◌};
 use cluster::{Answer, CloseFault, Closing, Cluster, First, Seat};
 use placement::Table;
 use resp::{Reply, Request, write_reply};
-use shard_exec::{InTurn, Open};
+use shard_workers::{InTurn, Open};
 use shards::ShardHasher;
 use std::alloc::Global;
 use std::marker::Brand;

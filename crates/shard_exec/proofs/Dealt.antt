@@ -14,13 +14,13 @@ use Rattle.layer_planner.specs.Parts.{dealt}
 use Rattle.placement.specs.Layout.{Layout}
 use Rattle.shard_maps.proofs.Parts.{AllZip-from_places}
 use Rattle.groups.specs.Order.{In}
-use Rattle.shard_exec.specs.declared.part.Part.{Part}
-use Rattle.shard_exec.specs.declared.work.Work.{Work}
-use Rattle.shard_exec.specs.declared.work.Ran.{Ran}
+use Rattle.shard_workers.specs.declared.part.Part.{Part}
+use Rattle.shard_workers.specs.declared.work.Work.{Work}
+use Rattle.shard_workers.specs.declared.work.Ran.{Ran}
 use Rattle.std.specs.Global.{Vec}
 use Rattle.shard_exec.specs.Dealing.{CanTake, Took, left_at, placed, all_works, all_rans, InPlaces, HasGiven}
-use Rattle.shard_exec.specs.Parts.{IsReadyPart, HasRunPart}
-use Rattle.shard_exec.specs.Runs.{IsReady, HasRun}
+use Rattle.shard_workers.specs.Parts.{IsReadyPart, HasRunPart}
+use Rattle.shard_workers.specs.Runs.{IsReady, HasRun}
 
 same_some : {A : Type 0} (a b : A) → Some a ≡ Some b → a ≡ b
 same_some a b e = cc

@@ -25,13 +25,13 @@ use Rattle.groups.specs.declared.request.RequestId.{RequestId}
 use Rattle.groups.specs.declared.stamp.Stamp.{Stamp}
 use Rattle.groups.specs.Order.{In}
 use Rattle.values.specs.declared.Value.{Value}
-use Rattle.shard_exec.specs.declared.work.Work.{Work}
-use Rattle.shard_exec.specs.declared.work.Ran.{Ran}
+use Rattle.shard_workers.specs.declared.work.Work.{Work}
+use Rattle.shard_workers.specs.declared.work.Ran.{Ran}
 use Rattle.std.specs.Option.{IfSome}
 use Rattle.shard_exec.specs.Dealing.{InPlaces}
 use Rattle.shard_exec.specs.Layers.{commands_of, AddressTheirGroups, outcomes_of_ended, MayStarve, IsOf, IsDone, IsInside, IsWork}
 use Rattle.shard_exec.specs.Layers.{AreWorks, ended_of}
-use Rattle.shard_exec.specs.Runs.{IsReady, outcome, HasRun}
+use Rattle.shard_workers.specs.Runs.{IsReady, outcome, HasRun}
 use Rattle.shard_exec.specs.Stamps.{raise, raised, raised_by}
 
 abbrev groups_each : List Job → List (List ℕ)

@@ -6,7 +6,7 @@ use crate::trouble::Trouble;
 use crate::wording::{by_stamp, push_effect, push_ids, push_row, push_rows, push_waiting};
 use groups::ConnId;
 use journal::Step;
-use shard_exec::{Open, Workers};
+use shard_workers::{Open, Workers};
 use std::alloc::Global;
 use std::process::Abort;
 use system::{Effect, StepFault, System};

@@ -6,7 +6,7 @@ use Rattle.shard_maps.specs.Rows.{put_spans}
 use Rattle.shard_exec.specs.DealtRooms.{FitsDealt}
 use Rattle.shard_exec.specs.declared.done.Ended.{Ended}
 use Rattle.shard_exec.specs.Layers.{AreWorks, IsDone, ended_of}
-use Rattle.shard_exec.proofs.Zips.{zip_length}
+use Rattle.shard_workers.proofs.Zips.{zip_length}
 use Rattle.shard_exec.proofs.LayerLaws.{all_inside, taken_as_they_were, all_ready, all_ran, layer_done, raised_same, all_below, own_left}
 use Rattle.shard_exec.proofs.LayerLaws.{works_length, in_places, fits_still}
 use Rattle.shard_exec.proofs.layer_run.run_layer_over.Goals as goal

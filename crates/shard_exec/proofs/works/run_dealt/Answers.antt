@@ -5,7 +5,7 @@ use Rattle.layer_planner.specs.Parts.{dealt}
 use Rattle.shard_exec.specs.Dealing.{CanTake, Took, placed, all_works, all_rans, HasGiven}
 use Rattle.shard_exec.proofs.Dealt.{can_deal, ready_parts, ready_taken, taken_at, dealt_whole, gave_within, all_given, given_full}
 use Rattle.shard_exec.proofs.Dealt.{given_run}
-use Rattle.shard_exec.proofs.Zips.{zip_length}
+use Rattle.shard_workers.proofs.Zips.{zip_length}
 use Rattle.shard_exec.proofs.works.run_dealt.Goals as goal
 
 pub deal-parts-requires-clause-there : goal.deal-parts-requires-clause-there
