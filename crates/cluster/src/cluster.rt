@@ -27,7 +27,7 @@ use packing::PackedWords;
 use placement::Table;
 use resp::{Reply, Request};
 use router::Outcome;
-use shard_exec::{Gate, Workers};
+use shard_workers::{Gate, Workers};
 use shards::ShardHasher;
 use std::alloc::{AllocError, Global};
 use std::collections::BTreeMap;

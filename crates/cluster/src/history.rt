@@ -18,7 +18,7 @@ ghost use Rattle.journal.specs.declared.trace.TheConstants.{GREATEST_STEPS};
 use super::pick::Pick;
 use journal::{RequestIds, Step, Trace};
 use placement::Table;
-use shard_exec::{Gate, InTurn, Open, Workers};
+use shard_workers::{Gate, InTurn, Open, Workers};
 use shards::ShardHasher;
 use std::alloc::{AllocError, Global};
 use std::marker::Model;

@@ -3,7 +3,8 @@
 use crate::jobs::{ONE, ask_rows, layer_of, run, run_or_not, same_answers, two_shards};
 use groups::{ConnId, RequestId};
 use placement::Table;
-use shard_exec::{Ended, ExecFault, Open, Store};
+use shard_exec::{Ended, ExecFault, Store};
+use shard_workers::Open;
 use std::alloc::Global;
 use std::process::Abort;
 use std::test::Fail;

@@ -12,7 +12,7 @@ use crate::report::Report;
 use crate::steps::replay_watched;
 use journal::{TraceFault, read_trace};
 use placement::{Table, TableFault};
-use shard_exec::Workers;
+use shard_workers::Workers;
 use std::alloc::Global;
 use std::io::Write;
 use system::StepFault;

@@ -15,7 +15,7 @@ use crate::report::{Report, report_of};
 use groups::RequestId;
 use journal::{Step, Steps, Trace};
 use placement::Table;
-use shard_exec::{Open, Workers};
+use shard_workers::{Open, Workers};
 use std::alloc::{AllocError, Global};
 use system::{Effect, StepFault, System};
 

@@ -5,7 +5,7 @@ use crate::traces::{CROSSING, Row, STARVED, TABLE};
 use journal::read_trace;
 use placement::{Table, TableFault};
 use replay::{ReplayFault, ShowFault, replay, show, told};
-use shard_exec::InTurn;
+use shard_workers::InTurn;
 use std::alloc::Global;
 use std::num::NonZeroUsize;
 use std::test::Fail;

@@ -2,7 +2,8 @@
 
 use crate::traces::TABLE;
 use replay::show;
-use shard_exec::{Crew, InTurn, Workers};
+use shard_crew::Crew;
+use shard_workers::{InTurn, Workers};
 use std::alloc::Global;
 use std::num::NonZeroUsize;
 use std::sync::Wait;

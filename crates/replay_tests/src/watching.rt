@@ -2,7 +2,7 @@
 
 use crate::traces::{CROSSING, TABLE};
 use replay::{Progress, ShowFault, told_watched};
-use shard_exec::InTurn;
+use shard_workers::InTurn;
 use std::alloc::Global;
 use std::num::NonZeroUsize;
 use std::test::Fail;

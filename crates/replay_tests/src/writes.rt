@@ -2,7 +2,7 @@
 
 use crate::traces::{CROSSING, TABLE};
 use replay::show;
-use shard_exec::InTurn;
+use shard_workers::InTurn;
 use std::alloc::Global;
 use std::io;
 use std::io::{ErrorKind, Write};

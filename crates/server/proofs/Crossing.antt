@@ -1,4 +1,4 @@
--- That a system, a cluster and a shared cluster can go to another thread, where the parts can.
+-- What the threads of a server capture can go to another thread, where a system can.
 use denote.RattleType.{RattleType}
 use mathlib.Core.List.{List, [], ◌∷◌}
 use mir.Syntax.{Sym, Ty, Lifetime}
@@ -10,42 +10,20 @@ use denote.Param.Send.{IsSend, IsSync, AllSend, sendable, param_send, param_sync
 use denote.Struct.Field.{u64-field}
 use denote.Struct.Struct.{Struct}
 use denote.Struct.Declared as declared
-use Rattle.std.specs.contracts.net.tcp.TcpStream as TcpStream
-use Rattle.std.specs.contracts.num.NonZeroUsize as NonZeroUsize
-use Rattle.server.specs.contracts.desk.Turns as Turns
-use Rattle.server.specs.contracts.endings.Endings as Endings
 use denote.Struct.Tuple.{TupleAt, type_at}
 use Rattle.std.proofs.Crossing.{crosses}
-use Rattle.std.proofs.MapsCrossing as maps
-use Rattle.server.proofs.LedgerSending.{book_send, share_send}
+use Rattle.std.specs.contracts.net.tcp.TcpStream as TcpStream
+use Rattle.std.specs.contracts.num.NonZeroUsize as NonZeroUsize
 use Rattle.std.specs.declared.sync.ledger.Ledger.{Ghosts}
-use Rattle.server.specs.contracts.held.Held as Held
-use Rattle.server.specs.contracts.shared.Shared as Shared
-use Rattle.cluster.specs.contracts.cluster.Cluster as Cluster
+use Rattle.cluster_sending.proofs.Crossing.{cluster_send}
+use Rattle.server_waiting.specs.contracts.endings.Endings as Endings
+use Rattle.shared_cluster.proofs.Crossing.{shared_sync}
+use Rattle.shared_cluster.specs.contracts.desk.Turns as Turns
+use Rattle.shared_cluster.specs.contracts.shared.Shared as Shared
 use Rattle.system.specs.contracts.system.System as System
-use Rattle.router.specs.contracts.router.Router as Router
-use Rattle.shard_exec.specs.contracts.store.Store as Store
-use Rattle.shard_exec.specs.contracts.done.Ended as Ended
-use Rattle.layer_planner.specs.contracts.layer.Layer as Layer
-use Rattle.resp.specs.contracts.request.Request as Request
-use Rattle.journal.specs.contracts.rows.Rows as Rows
-use Rattle.multicast.specs.contracts.multicast.Multicast as Multicast
-
-pub system_send : IsSend Router.the_row → IsSend Multicast.the_row → IsSend Store.the_row → IsSend Rows.the_row → IsSend Layer.the_row
-    → IsSend Ended.the_row → IsSend Request.the_row → IsSend System.the_row
-system_send r m s w l e q = search (sendable, crosses) depth 40 fits 3000
-
-pub cluster_send : (L : RattleType) (g : Ghosts L.Denot) → IsSend System.the_row → IsSend (Cluster.the_row L g)
-cluster_send L g s = search (sendable, crosses, maps.BTreeMap-send, book_send, share_send) depth 40 fits 3000
-
-pub held_send : (L : RattleType) (g : Ghosts L.Denot) → IsSend (Cluster.the_row L g) → IsSend (Held.the_row L g)
-held_send L g s = search (sendable, crosses) depth 40 fits 3000
-
-pub shared_sync : (L : RattleType) (g : Ghosts L.Denot) → IsSend (Held.the_row L g) → IsSync (Shared.the_row L g)
-shared_sync L g s = search (sendable, crosses) depth 40 fits 3000
 
 pub shared_syncs : (L : RattleType) (g : Ghosts L.Denot) → IsSend System.the_row → IsSync (Shared.the_row L g)
-shared_syncs L g s = shared_sync L g (held_send L g (cluster_send L g s))
+shared_syncs L g s = shared_sync L g (cluster_send L g s)
 
 stream_send : IsSend TcpStream.the_row
 stream_send = search (sendable, crosses) depth 40 fits 3000

@@ -1,4 +1,1 @@
-pub mod Refusals
-pub mod Collecting
-pub mod LedgerSending
 pub mod Crossing

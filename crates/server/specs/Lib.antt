@@ -1,5 +1,1 @@
-pub mod Asks
-pub mod Closings
-pub mod Desks
 pub mod Ends
-pub mod Turning

@@ -1,94 +1,10 @@
-//! That a system can go to another thread, part by part, and that threads may share a cluster under its lock: the
-//! functions do nothing, and their contracts say it.
+//! That threads may share a cluster under its lock.
 
-ghost use denote.Param.Send.{IsSend, IsSync};
-ghost use Rattle.router.specs.contracts.router.Router as router_type;
-ghost use Rattle.shard_exec.specs.contracts.store.Store as store_type;
-ghost use Rattle.multicast.specs.contracts.multicast.Multicast as multicast_type;
-ghost use Rattle.journal.specs.contracts.rows.Rows as rows_type;
-ghost use Rattle.system.specs.contracts.system.System as system_type;
-ghost use Rattle.layer_planner.specs.contracts.layer.Layer as layer_type;
-ghost use Rattle.shard_exec.specs.contracts.done.Ended as ended_type;
-ghost use Rattle.resp.specs.contracts.request.Request as request_type;
-ghost use Rattle.server.specs.contracts.shared.Shared as shared_type;
+ghost use denote.Param.Send.{IsSync};
+ghost use Rattle.shared_cluster.specs.contracts.shared.Shared as shared_type;
 
-use command_table::Command;
-use journal::Rows;
-use layer_planner::Layer;
-use multicast::Multicast;
-use resp::{Reply, Request};
-use router::{Outcome, Router};
-use shard_exec::{Ended, Store};
+use cluster_sending::system_sends;
 use std::sync::ledger::Ledger;
-
-fn sends<T: Send>()
-    ensures { IsSend T.row }
-{}
-
-/// It does nothing: its contract says that a `&` to the type may go to another thread.
-pub(crate) fn syncs<T: Sync>()
-    ensures { IsSync T.row }
-{}
-
-fn router_sends()
-    ensures { IsSend router_type.the_row }
-{
-    sends::<Command>();
-    sends::<Request>();
-    sends::<Reply>();
-    sends::<Outcome>();
-    sends::<Router>();
-}
-
-fn store_sends()
-    ensures { IsSend store_type.the_row }
-{
-    sends::<Store>();
-}
-
-fn multicast_sends()
-    ensures { IsSend multicast_type.the_row }
-{
-    sends::<Multicast>();
-}
-
-fn rows_sends()
-    ensures { IsSend rows_type.the_row }
-{
-    sends::<Rows>();
-}
-
-fn layer_sends()
-    ensures { IsSend layer_type.the_row }
-{
-    sends::<Command>();
-    sends::<Layer>();
-}
-
-fn ended_sends()
-    ensures { IsSend ended_type.the_row }
-{
-    sends::<Reply>();
-    sends::<Ended>();
-}
-
-fn request_sends()
-    ensures { IsSend request_type.the_row }
-{
-    sends::<Request>();
-}
-
-pub(crate) fn system_sends()
-    ensures { IsSend system_type.the_row }
-{
-    layer_sends();
-    ended_sends();
-    request_sends();
-    router_sends();
-    store_sends();
-    multicast_sends();
-    rows_sends();
-}
 
 /// What a user with threads of its own needs: a `&` to a shared cluster may go to another thread. It does nothing; its
 /// contract says it.

@@ -8,7 +8,7 @@ use options::server::Options;
 use placement::Table;
 use replay::show;
 use server::host;
-use shard_exec::InTurn;
+use shard_workers::InTurn;
 use std::alloc::Global;
 use std::fs;
 use std::net::{Net, TcpListener, TcpStream};

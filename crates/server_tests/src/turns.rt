@@ -8,7 +8,7 @@ use crate::rows::Rows;
 use cluster::{Answer, CloseFault, Cluster, First, Seat};
 use placement::Table;
 use resp::Reply;
-use shard_exec::{InTurn, Open};
+use shard_workers::{InTurn, Open};
 use shards::ShardHasher;
 use std::alloc::Global;
 use std::marker::Brand;

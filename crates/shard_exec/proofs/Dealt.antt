@@ -4,7 +4,7 @@ use Rattle.std.proofs.Common.{◌≡◌, ℕ, zero, suc, ◌+◌, ◌<◌, ◌�
 use Rattle.std.proofs.Common.{false, cond, Option, Some, None, slice_get, slice_set, is_some, append_assoc, arith, refl, sym, ap, ◌∙◌}
 use Rattle.std.proofs.Common.{subst, eq-eqb, ne_eqb, ltb-true, lt-ltb}
 use Rattle.std.proofs.lemmas.Bool.{cases_eq}
-use Rattle.std.proofs.lemmas.List.{length-set, append-nil}
+use Rattle.std.proofs.lemmas.List.{length-set, length-replicate, append-nil}
 use Rattle.std.proofs.lemmas.List.Sums.{sum_by-append}
 use Rattle.std.proofs.lemmas.Option.{slice_get_within}
 use Rattle.std.specs.Option.{IsSome}
@@ -14,13 +14,15 @@ use Rattle.layer_planner.specs.Parts.{dealt}
 use Rattle.placement.specs.Layout.{Layout}
 use Rattle.shard_maps.proofs.Parts.{AllZip-from_places}
 use Rattle.groups.specs.Order.{In}
-use Rattle.shard_exec.specs.declared.part.Part.{Part}
-use Rattle.shard_exec.specs.declared.work.Work.{Work}
-use Rattle.shard_exec.specs.declared.work.Ran.{Ran}
+use Rattle.shard_workers.specs.declared.part.Part.{Part}
+use Rattle.shard_workers.specs.declared.work.Work.{Work}
+use Rattle.shard_workers.specs.declared.work.Ran.{Ran}
 use Rattle.std.specs.Global.{Vec}
-use Rattle.shard_exec.specs.Dealing.{CanTake, Took, left_at, placed, all_works, all_rans, InPlaces, HasGiven}
-use Rattle.shard_exec.specs.Parts.{IsReadyPart, HasRunPart}
-use Rattle.shard_exec.specs.Runs.{IsReady, HasRun}
+use Rattle.shard_exec.specs.Dealing.{CanTake, Took, left_at, placed, all_works, all_rans, InPlaces, AreInside, HasGiven}
+use Rattle.shard_exec.specs.DealtRooms.{FitsDealt}
+use Rattle.shard_exec.specs.declared.dealt_room.DealtRoom.{DealtRoom}
+use Rattle.shard_workers.specs.Parts.{IsReadyPart, HasRunPart}
+use Rattle.shard_workers.specs.Runs.{IsReady, HasRun}
 
 same_some : {A : Type 0} (a b : A) → Some a ≡ Some b → a ≡ b
 same_some a b e = cc
@@ -330,21 +332,27 @@ given_run table [] (r ∷ rans) z = absurd z
 given_run table (w ∷ works) [] z = absurd z
 given_run table (w ∷ works) (r ∷ rans) z = (subst (HasRun table w) (same_some _ _ (sym z.0.1)) z.0.2, given_run table works rans z.1)
 
--- everything from the dealing to the gathering
-pub record DealtWhole (table : Layout) (works : List Work) (plan : List (List ℕ)) (parts : List Part) (results : List (Vec Ran))
-    : Type 0 where
-  pub gave : AllZip (GaveAt table works) (concat plan) (all_rans results)
-  pub all : (i : ℕ) → i < length works → In i (concat plan)
+-- everything from the dealing to the gathering: each result names one of the slots, and these then have what their own
+-- requests gave
+pub record DealtWhole (table : Layout) (works : List Work) (slots : List (Option Ran)) (results : List (Vec Ran)) : Type 0 where
+  pub inside : AreInside (length slots) (all_rans results)
+  pub given : AllZip (HasGiven table) works (placed slots (all_rans results))
 
-pub dealt_whole : (table : Layout) (works : List Work) (plan : List (List ℕ)) (parts : List Part) (results : List (Vec Ran)) (p : ℕ) → 0 < p
-    → plan ≡ dealt p (length works) → InPlaces 0 works → Took (map (λ w. Some w) works) (concat plan) (all_works parts)
-    → AllZip (HasRunPart table) parts results
-    → DealtWhole table works plan parts results
-dealt_whole table works plan parts results p some is places took ran = record {
-  gave = gave_at table works (concat plan) (all_works parts) (all_rans results) places (taken_at works (concat plan) (all_works parts) took)
-      (all_runs table parts results ran);
-  all = λ i below. subst (λ l. In i (concat l)) (sym is) (plan_all p (length works) i some below);
-}
+pub dealt_whole : (table : Layout) (works : List Work) (room : DealtRoom) (parts : List Part) (results : List (Vec Ran))
+    {plan : List (List ℕ)} {slots : List (Option Work)} → FitsDealt (length works) room → plan ≡ room.plan.items → InPlaces 0 works
+    → slots ≡ map (λ w. Some w) works → Took slots (concat plan) (all_works parts) → AllZip (HasRunPart table) parts results
+    → DealtWhole table works room.placed.items results
+dealt_whole table works room parts results {plan} {slots} fits is places slotted took ran =
+    let all : (i : ℕ) → i < length works → In i (concat plan) =
+    λ i below. subst (λ l. In i (concat l)) (sym (is ∙ fits.plan.2)) (plan_all fits.plan.0 (length works) i fits.plan.1 below) in
+    let long : length room.placed.items ≡ length works = ap (λ (l : List (Option Ran)). length l) fits.placed ∙ length-replicate _ _ in
+    let gave = gave_at table works (concat plan) (all_works parts) (all_rans results) places
+    (taken_at works (concat plan) (all_works parts) (subst (λ s. Took s (concat plan) (all_works parts)) slotted took))
+    (all_runs table parts results ran) in
+    record {
+      inside = gave_within table works (length room.placed.items) (concat plan) (all_rans results) long gave;
+      given = all_given table works room.placed.items (concat plan) (all_rans results) long gave all;
+    }
 
 pub can_deal : (works : List Work) (plan : List (List ℕ)) (p : ℕ) → 0 < p → plan ≡ dealt p (length works)
     → CanTake (map (λ w. Some w) works) (concat plan)

@@ -17,6 +17,7 @@ use Rattle.placement.specs.Groups.{groups_of}
 use Rattle.placement.specs.Layout.{Layout, IsTable}
 use Rattle.shard_maps.proofs.Layers.{PairsApart, ShareNoGroup-map, layer_in_turn}
 use Rattle.shard_maps.proofs.PutBack.{layer_taken_out, layer_ran, groups_of-below}
+use Rattle.shard_maps.proofs.Rows.{length-emptied_each}
 use Rattle.shard_maps.proofs.Spans.{numbers-span_at}
 use Rattle.shard_maps.specs.Joined.{map_of_shard, HasKeysOf, HasOwnKeys, union, Span, numbers, span_at, SpanHasOwnKeys, SpanRan}
 use Rattle.shard_maps.specs.Layer as layers
@@ -25,13 +26,13 @@ use Rattle.groups.specs.declared.request.RequestId.{RequestId}
 use Rattle.groups.specs.declared.stamp.Stamp.{Stamp}
 use Rattle.groups.specs.Order.{In}
 use Rattle.values.specs.declared.Value.{Value}
-use Rattle.shard_exec.specs.declared.work.Work.{Work}
-use Rattle.shard_exec.specs.declared.work.Ran.{Ran}
+use Rattle.shard_workers.specs.declared.work.Work.{Work}
+use Rattle.shard_workers.specs.declared.work.Ran.{Ran}
 use Rattle.std.specs.Option.{IfSome}
 use Rattle.shard_exec.specs.Dealing.{InPlaces}
 use Rattle.shard_exec.specs.Layers.{commands_of, AddressTheirGroups, outcomes_of_ended, MayStarve, IsOf, IsDone, IsInside, IsWork}
 use Rattle.shard_exec.specs.Layers.{AreWorks, ended_of}
-use Rattle.shard_exec.specs.Runs.{IsReady, outcome, HasRun}
+use Rattle.shard_workers.specs.Runs.{IsReady, outcome, HasRun}
 use Rattle.shard_exec.specs.Stamps.{raise, raised, raised_by}
 
 abbrev groups_each : List Job → List (List ℕ)
@@ -138,6 +139,14 @@ all_ran table maps skip at (j ∷ js) (x ∷ works) [] w z = absurd z
 all_ran table maps skip at (j ∷ js) (x ∷ works) (r ∷ rans) w z =
     (ran_for table maps skip at j x r w.0 z.0, all_ran table maps skip (at + 1) js works rans w.1 z.1)
 
+-- what each request gave that was taken out of the row and run
+pub taken_ran : (table : Layout) (maps : List Map) (skip : List RequestId) (jobs : List Job) (works : List Work) (rans : List Ran)
+    → AddressTheirGroups table jobs → planner.ShareNoGroup jobs → AreWorks skip 0 jobs (taken_out_each empty maps (groups_each jobs)) works
+    → AllZip (HasRun table) works rans → AllZip (RanFor table maps skip) jobs rans
+taken_ran table maps skip jobs works rans a s w z =
+    all_ran table maps skip 0 jobs works rans
+    (subst (λ (spans : List Span). AreWorks skip 0 jobs spans works) (taken_as_they_were table maps jobs a s) w) z
+
 -- ---- what follows
 
 abbrev ran_of : Ran → layers.Ran
@@ -200,6 +209,15 @@ layer_done table maps skip jobs rans t long own a s z =
       own = turn.1;
       starved = all_starve table maps skip jobs rans z;
     }
+
+-- the same of the row that what they gave was put back into
+pub layer_put : (table : Layout) (maps : List Map) (skip : List RequestId) (jobs : List Job) (rans : List Ran) (row new : List Map)
+    → IsTable table → length maps ≡ table.shards → HasOwnKeys table maps → AddressTheirGroups table jobs → planner.ShareNoGroup jobs
+    → AllZip (RanFor table maps skip) jobs rans → row ≡ emptied_each empty maps (groups_each jobs)
+    → new ≡ put_spans row (map (λ r. r.shards.items) rans) → IsDone table maps skip jobs (map ended_of rans) new
+layer_put table maps skip jobs rans row new t long own a s z left put =
+    subst (IsDone table maps skip jobs (map ended_of rans)) (sym (put ∙ ap (λ r. put_spans r (map (λ r. r.shards.items) rans)) left))
+    (layer_done table maps skip jobs rans t long own a s z)
 
 -- the last stamps are those of the requests
 pub raised_same : (table : Layout) (maps : List Map) (skip : List RequestId) (jobs : List Job) (rans : List Ran)
@@ -265,6 +283,9 @@ pub own_left : (table : Layout) (maps : List Map) (sets : List (List ℕ)) → H
     → HasOwnKeys table (emptied_each empty maps sets)
 own_left table maps [] own = own
 own_left table maps (gs ∷ sets) own = own_left table (emptied empty maps gs) sets (own-emptied table maps gs own)
+
+pub length_left : (maps left : List Map) (jobs : List Job) → left ≡ emptied_each empty maps (groups_each jobs) → length left ≡ length maps
+length_left maps left jobs is = ap (λ (l : List Map). length l) is ∙ length-emptied_each empty maps (groups_each jobs)
 
 pub works_length : (skip : List RequestId) (at : ℕ) (jobs : List Job) (spans : List Span) (works : List Work)
     → AreWorks skip at jobs spans works

@@ -1,4 +1,3 @@
-pub mod Zips
 pub mod TakingOut
 pub mod TakenLayer
 pub mod LayerLaws

@@ -5,7 +5,7 @@ use Rattle.keyspace.specs.Map.{Map}
 use Rattle.layer_planner.specs.declared.job.Job.{Job}
 use Rattle.shard_maps.specs.Rows.{taken_out, emptied, taken_out_each, emptied_each}
 use Rattle.groups.specs.declared.request.RequestId.{RequestId}
-use Rattle.shard_exec.specs.declared.work.Work.{Work}
+use Rattle.shard_workers.specs.declared.work.Work.{Work}
 use Rattle.shard_exec.specs.Layers.{IsWork, AreWorks}
 
 abbrev groups_each : List Job → List (List ℕ)

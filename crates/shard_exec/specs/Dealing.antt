@@ -3,10 +3,10 @@ use Rattle.std.specs.Prelude.{◌≡◌, ℕ, ◌+◌, ◌<◌, List, [], ◌∷
 use Rattle.std.specs.Global.{Vec}
 use Rattle.std.specs.List.{AllByRecursion}
 use Rattle.placement.specs.Layout.{Layout}
-use Rattle.shard_exec.specs.declared.part.Part.{Part}
-use Rattle.shard_exec.specs.declared.work.Work.{Work}
-use Rattle.shard_exec.specs.declared.work.Ran.{Ran}
-use Rattle.shard_exec.specs.Runs.{HasRun}
+use Rattle.shard_workers.specs.declared.part.Part.{Part}
+use Rattle.shard_workers.specs.declared.work.Work.{Work}
+use Rattle.shard_workers.specs.declared.work.Ran.{Ran}
+use Rattle.shard_workers.specs.Runs.{HasRun}
 
 -- at each of these places there is something still when its turn comes
 abbrev pub CanTake : {X : Type 0} → List (Option X) → List ℕ → Type 0

@@ -14,9 +14,9 @@ use Rattle.shard_maps.specs.Layer.{LayerRan, AnsweredInTurn}
 use Rattle.groups.specs.Request.{same_id}
 use Rattle.groups.specs.declared.request.RequestId.{RequestId}
 use Rattle.shard_exec.specs.declared.done.Ended.{Ended}
-use Rattle.shard_exec.specs.declared.work.Work.{Work}
-use Rattle.shard_exec.specs.declared.work.Ran.{Ran}
-use Rattle.shard_exec.specs.Runs.{outcome}
+use Rattle.shard_workers.specs.declared.work.Work.{Work}
+use Rattle.shard_workers.specs.declared.work.Ran.{Ran}
+use Rattle.shard_workers.specs.Runs.{outcome}
 
 abbrev pub commands_of : List Job → List Command
 commands_of jobs = map (λ j. j.command) jobs

@@ -1,5 +1,3 @@
-pub mod Runs
-pub mod Parts
 pub mod Dealing
 pub mod Stamps
 pub mod Layers

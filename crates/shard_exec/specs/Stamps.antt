@@ -6,7 +6,7 @@ use Rattle.layer_planner.specs.declared.job.Job.{Job}
 use Rattle.shard_maps.specs.Joined.{numbers}
 use Rattle.groups.specs.Stamp.{stamp_lt}
 use Rattle.groups.specs.declared.stamp.Stamp.{Stamp}
-use Rattle.shard_exec.specs.declared.work.Ran.{Ran}
+use Rattle.shard_workers.specs.declared.work.Ran.{Ran}
 
 -- the last stamp of a shard; none before the first
 abbrev pub last_of : List (Option Stamp) → ℕ → Option Stamp

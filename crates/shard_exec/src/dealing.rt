@@ -4,7 +4,7 @@ ghost use Rattle.std.specs.Prelude.{◌≡◌, ◌<◌, ◌≤◌, [], length, s
 ghost use Rattle.std.specs.List.{AllByRecursion};
 ghost use Rattle.shard_exec.specs.Dealing.{CanTake, Took, left_at, placed};
 
-use crate::{Part, Ran, Work};
+use shard_workers::{Ran, Work};
 
 /// Moves the requests at these places into the part, which has the room.
 pub fn take_works(works: &mut Vec<Option<Work>>, places: &[usize], part: Vec<Work>) -> Vec<Work>

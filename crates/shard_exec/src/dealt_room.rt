@@ -5,8 +5,8 @@ ghost use Rattle.std.proofs.Math.ListN.{replicate};
 ghost use Rattle.std.specs.List.{AllZip};
 ghost use Rattle.shard_exec.specs.DealtRooms.{FitsPlaces, FitsDealt};
 
-use crate::{Part, Ran, Room, Work, Workers};
 use layer_planner::{Layer, plan};
+use shard_workers::{Part, Ran, Room, Work, Workers};
 use std::alloc::{AllocError, Global};
 
 /// Room for the requests of one part, and for what they give.

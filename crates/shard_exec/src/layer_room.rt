@@ -4,9 +4,10 @@ ghost use Rattle.std.specs.Prelude.{IfOk};
 ghost use Rattle.std.specs.List.{AllZip};
 ghost use Rattle.shard_exec.specs.Rooms.{FitsGroups, FitsLayer};
 
-use crate::{Ended, Ran, Work};
+use crate::Ended;
 use groups::GroupId;
 use layer_planner::Job;
+use shard_workers::{Ran, Work};
 use shards::Shard;
 use std::alloc::{AllocError, Global};
 

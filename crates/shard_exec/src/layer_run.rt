@@ -10,14 +10,15 @@ ghost use Rattle.shard_exec.specs.Layers.{AddressTheirGroups, IsDone};
 ghost use Rattle.shard_exec.specs.Rooms.{FitsGroups, FitsLayer};
 ghost use Rattle.shard_exec.specs.Stamps.{raised};
 
+use crate::Ended;
 use crate::dealt_room::DealtRoom;
 use crate::layer_room::LayerRoom;
 use crate::taking::{put_layer, put_ran, take_layer, take_work};
 use crate::works::run_works;
-use crate::{Ended, Gate, Refused, Workers};
 use groups::{GroupId, RequestId, Stamp};
 use layer_planner::Job;
 use placement::Table;
+use shard_workers::{Gate, Refused, Workers};
 use shards::{Shard, ShardHasher};
 use std::alloc::Global;
 

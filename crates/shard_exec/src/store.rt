@@ -16,11 +16,12 @@ ghost use Rattle.shard_exec.specs.Stores.{empty_store, HasRunLayer, HasFailed, I
 use crate::dealt_room::DealtRoom;
 use crate::layer_room::LayerRoom;
 use crate::layer_run::{run_alone, run_layer_over};
-use crate::{Ended, ExecFault, Gate, Workers};
+use crate::{Ended, ExecFault};
 use dumps::Dump;
 use groups::{RequestId, Stamp};
 use layer_planner::{Job, Layer};
 use placement::Table;
+use shard_workers::{Gate, Workers};
 use shards::{Shard, ShardHasher};
 use std::alloc::{AllocError, Global};
 use std::marker::Model;

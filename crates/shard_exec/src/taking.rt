@@ -9,10 +9,11 @@ ghost use Rattle.shard_exec.specs.Layers.{is_named, IsWork, AreWorks, IsInside, 
 ghost use Rattle.shard_exec.specs.Rooms.{FitsGroups};
 ghost use Rattle.shard_exec.specs.Stamps.{raise, raised_by};
 
+use crate::Ended;
 use crate::moves::{put_back, take_shards};
-use crate::{Ended, Ran, Work};
 use groups::{GroupId, RequestId, Stamp};
 use layer_planner::Job;
+use shard_workers::{Ran, Work};
 use shards::{Shard, ShardHasher};
 use std::alloc::Global;
 

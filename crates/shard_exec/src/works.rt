@@ -4,12 +4,12 @@ ghost use Rattle.std.specs.Prelude.{◌≡◌, ◌≤◌, [], length, map, true,
 ghost use Rattle.std.specs.List.{AllZip, AllByRecursion, concat};
 ghost use Rattle.shard_exec.specs.Dealing.{CanTake, Took, left_at, placed, all_works, all_rans, InPlaces, AreInside};
 ghost use Rattle.shard_exec.specs.DealtRooms.{FitsPlaces, FitsDealt};
-ghost use Rattle.shard_exec.specs.Runs.{IsReady, HasRun};
+ghost use Rattle.shard_workers.specs.Runs.{IsReady, HasRun};
 
 use crate::dealing::{place_rans, take_works};
 use crate::dealt_room::{DealtRoom, PartRoom};
-use crate::{Gate, Part, Ran, Refused, Work, Workers};
 use placement::Table;
+use shard_workers::{Gate, Part, Ran, Refused, Work, Workers};
 use std::alloc::Global;
 
 /// Runs the requests, dealt to the workers where there is room for that, and gives what each gave, in their order.

@@ -13,9 +13,10 @@
 mod line;
 
 use line::Line;
-use replay::{Progress, ShowFault, told_watched};
 use options::replay::{OptionsFault, read_options};
-use shard_exec::{Crew, InTurn};
+use replay::{Progress, ShowFault, told_watched};
+use shard_crew::Crew;
+use shard_workers::InTurn;
 use std::io::{self, ErrorKind, IsTerminal, Write};
 use std::num::NonZeroUsize;
 use std::process::ExitCode;

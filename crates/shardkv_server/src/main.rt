@@ -9,9 +9,9 @@
 #[cfg(test)]
 mod tests;
 
+use options::server::{Options, read_options};
 use placement::{Table, TableFault};
 use server::host;
-use options::server::{Options, read_options};
 use std::fs::Files;
 use std::io::ErrorKind;
 use std::net::{IpAddr, Ipv4Addr, Net, SocketAddr, TcpListener};

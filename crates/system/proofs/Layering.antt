@@ -16,7 +16,7 @@ use Rattle.router.specs.Router.{RouterView}
 use Rattle.keyspace.specs.Map.{Map}
 use Rattle.resp.specs.declared.reply.Reply.{Reply}
 use Rattle.shard_exec.specs.Layers.{AddressTheirGroups, IsOf, MayStarve, is_named}
-use Rattle.shard_exec.specs.Runs.{outcome}
+use Rattle.shard_workers.specs.Runs.{outcome}
 use Rattle.groups.proofs.Ids.{same_id-refl, same_id-sym}
 use Rattle.groups.specs.Order.{In}
 use Rattle.groups.specs.Request.{same_id}

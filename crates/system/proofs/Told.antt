@@ -6,7 +6,7 @@ use Rattle.journal.specs.Views.{RowView, row_view}
 use Rattle.resp.specs.Content.{content, out_of_memory}
 use Rattle.resp.specs.Text.{text}
 use Rattle.resp.specs.declared.reply.Reply.{Reply}
-use Rattle.shard_exec.specs.Runs.{outcome}
+use Rattle.shard_workers.specs.Runs.{outcome}
 use Rattle.shard_exec.specs.declared.done.Ended as run
 use Rattle.groups.proofs.Options.{some_same}
 use Rattle.system_view.proofs.Running.{rows_starved, rows_executed}

@@ -21,7 +21,8 @@ use layer_planner::Layer;
 use multicast::Multicast;
 use resp::Request;
 use router::{Router, SubmitFault};
-use shard_exec::{ExecFault, Gate, Store, Workers};
+use shard_exec::{ExecFault, Store};
+use shard_workers::{Gate, Workers};
 use std::alloc::{AllocError, Global};
 use std::mem;
 

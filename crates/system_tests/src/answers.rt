@@ -8,7 +8,7 @@ use crate::wording::{
 };
 use groups::ConnId;
 use journal::Step;
-use shard_exec::{Open, Workers};
+use shard_workers::{Open, Workers};
 use std::alloc::Global;
 use std::process::Abort;
 use system::{Effect, StepFault, System};

@@ -8,7 +8,7 @@ use crate::steps::{first_word, step_of};
 use crate::tables::system_of;
 use crate::trouble::Trouble;
 use crate::wording::{push_effect, push_fault, push_ids};
-use shard_exec::{InTurn, Open, Workers};
+use shard_workers::{InTurn, Open, Workers};
 use std::alloc::Global;
 use std::num::NonZeroUsize;
 use std::process::Abort;

@@ -3,7 +3,7 @@
 use crate::answers::{Row, follow, follow_row};
 use crate::tables::system_of;
 use placement::Table;
-use shard_exec::{Gate, InTurn, Part, Ran, Refused, Room, Workers};
+use shard_workers::{Gate, InTurn, Part, Ran, Refused, Room, Workers};
 use std::alloc::{AllocError, Global};
 use std::num::NonZeroUsize;
 use std::test::Fail;

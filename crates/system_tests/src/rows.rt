@@ -2,7 +2,8 @@
 //! `c`, `d`, `x` and `z` on shard 1.
 
 use crate::answers::{Row, follow_row};
-use shard_exec::{Crew, InTurn};
+use shard_crew::Crew;
+use shard_workers::InTurn;
 use std::num::NonZeroUsize;
 use std::test::Fail;
 

@@ -23,9 +23,9 @@ use Rattle.router.specs.Router.{RouterView, connection}
 use Rattle.router.specs.declared.connection.Connection.{Connection}
 use Rattle.router.specs.declared.connection.Standing.{Standing}
 use Rattle.router.specs.declared.connection.Standing.TheVariants as router
-use Rattle.shard_exec.proofs.Zips.{zip_push}
+use Rattle.shard_workers.proofs.Zips.{zip_push}
 use Rattle.shard_exec.specs.Layers.{commands_of, AddressTheirGroups, outcomes_of_ended, IsOf}
-use Rattle.shard_exec.specs.Runs.{outcome}
+use Rattle.shard_workers.specs.Runs.{outcome}
 use Rattle.shard_exec.specs.Stamps.{last_of, is_above, IsFresh, AreFresh, raise, raised}
 use Rattle.shard_exec.specs.StoreStates.{StoreState}
 use Rattle.shard_exec.specs.Stores.{HasRunLayer}

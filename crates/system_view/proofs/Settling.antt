@@ -10,7 +10,7 @@ use Rattle.router.specs.Router.{RouterView, connection, Changes, once_settled}
 use Rattle.router.specs.declared.connection.Connection.{Connection}
 use Rattle.router.specs.declared.outcome.Outcome as kept
 use Rattle.journal.specs.declared.step.Step.{Step}
-use Rattle.shard_exec.specs.Runs.{outcome}
+use Rattle.shard_workers.specs.Runs.{outcome}
 use Rattle.shard_exec.specs.declared.done.Ended as run
 use Rattle.groups.proofs.Ids.{same_id-true}
 use Rattle.groups.proofs.Options.{some_same}

@@ -9,7 +9,7 @@ use Rattle.layer_planner.specs.declared.job.Job.{Job}
 use Rattle.placement.specs.Layout.{Layout}
 use Rattle.resp.specs.Text.{text}
 use Rattle.resp.specs.declared.reply.Reply.{Reply}
-use Rattle.shard_exec.specs.Runs.{outcome}
+use Rattle.shard_workers.specs.Runs.{outcome}
 use Rattle.shard_exec.specs.Stamps.{last_of}
 use Rattle.shard_exec.specs.StoreStates.{StoreState}
 use Rattle.shard_exec.specs.declared.done.Ended as run

@@ -2,7 +2,7 @@ use Rattle.std.proofs.Common.{◌++◌, ◌∷◌, [], sym, ap, ◌∙◌, subst
 use Rattle.std.specs.List.{AllZip}
 use Rattle.std.proofs.lemmas.List.{take_more}
 use Rattle.shard_exec.specs.Rooms.{FitsGroups}
-use Rattle.shard_exec.proofs.Zips.{zip_push}
+use Rattle.shard_workers.proofs.Zips.{zip_push}
 use Rattle.shard_exec.proofs.layer_room.reserve_spans.Goals as goal
 
 pub loop-job-preserved : goal.loop-job-preserved

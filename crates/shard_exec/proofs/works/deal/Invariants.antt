@@ -1,4 +1,4 @@
-use Rattle.std.proofs.Common.{◌≡◌, ◌+◌, ◌≤◌, length, ◌++◌, drop, vec_capacity}
+use Rattle.std.proofs.Common.{◌≡◌, ◌≤◌, length, ◌++◌, drop, vec_capacity}
 use Rattle.std.specs.List.{AllZip, concat}
 use Rattle.shard_exec.specs.Dealing.{CanTake, Took, all_works}
 use Rattle.shard_exec.specs.DealtRooms.{FitsPlaces}

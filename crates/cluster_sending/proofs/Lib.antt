@@ -1,0 +1,2 @@
+pub mod LedgerSending
+pub mod Crossing

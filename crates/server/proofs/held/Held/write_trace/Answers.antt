@@ -1,7 +1,0 @@
-use Rattle.server.proofs.Collecting.{written_of}
-use Rattle.server.proofs.held.Held.write_trace.Goals as goal
-
-pub returns-clause-written : goal.returns-clause-written
-returns-clause-written g c =
-    written_of c.args.self.now.cluster.history c.write_trace.result c.args.out.now.items c.write_trace.new.out.items c.lawful.ensures.lawful
-    (rw (← c.trace.ensures.max_steps, ← c.trace.ensures.steps) c.write_trace.ensures.ok)

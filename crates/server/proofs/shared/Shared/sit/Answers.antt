@@ -1,7 +1,0 @@
-use Rattle.server.proofs.Refusals.{found_sit}
-use Rattle.server.proofs.shared.Shared.sit.Goals as goal
-
-pub returns-clause-refused : goal.returns-clause-refused
-returns-clause-refused g c =
-    let held = c.deref_mut.result.now in
-    found_sit c.sit.result held.shut held.cluster.history c.sit.ensures.refused

@@ -1,0 +1,58 @@
+//! The connections that have ended, whose threads are to be joined.
+
+use std::alloc::{AllocError, Global};
+use std::collections::BTreeMap;
+use std::sync::{Condvar, Mutex, Wait};
+use std::thread::{JoinHandle, Threads};
+
+/// The numbers of the connections that have ended since their threads were joined last. A thread tells of its own end;
+/// the one that takes connections joins it.
+#[derive(Drop)]
+pub struct Endings {
+    numbers: Mutex<Vec<u64>>,
+    // A connection has ended.
+    more: Condvar,
+}
+
+impl Endings {
+    /// No connection has ended.
+    pub fn new(alloc: Global) -> Self {
+        Endings {
+            numbers: Mutex::new(Vec::new(alloc)),
+            more: Condvar::new(),
+        }
+    }
+
+    /// Takes the room to be told of so many connections.
+    pub fn reserve<R: Wait>(&self, rt: &R, connections: usize) -> Result<(), AllocError> {
+        self.numbers.lock(rt).reserve(connections)
+    }
+
+    /// Tells that the connection of this number has ended. There is room for it.
+    pub fn tell<R: Wait>(&self, rt: &R, number: u64) {
+        let _ = self.numbers.lock(rt).push(number);
+        self.more.notify_all();
+    }
+
+    /// Waits until a connection has ended.
+    pub fn wait<R: Wait>(&self, rt: &R) {
+        let mut numbers = self.numbers.lock(rt);
+        for _ in rt.forever() {
+            if !numbers.is_empty() {
+                return;
+            }
+            numbers = self.more.wait(rt, numbers);
+        }
+    }
+
+    /// Joins the threads of the connections that have ended, so that what these took is given back.
+    pub fn join<R: Threads + Wait>(&self, rt: &R, threads: &mut BTreeMap<u64, JoinHandle<()>>) {
+        let mut numbers = self.numbers.lock(rt);
+        for number in numbers.iter() {
+            if let Some(thread) = threads.remove(number) {
+                thread.join(rt);
+            }
+        }
+        numbers.clear();
+    }
+}

@@ -1,0 +1,9 @@
+//! Workers that are threads of their own.
+//!
+//! A `Crew` runs the parts of a layer on as many threads, the last part on the caller's. No other crate starts threads
+//! for a layer.
+#![tactic(auto)]
+
+mod crew;
+
+pub use crew::Crew;

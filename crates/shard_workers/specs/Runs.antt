@@ -1,0 +1,32 @@
+-- A request that is run over the shards of its groups, and what comes of it.
+use Rattle.std.specs.Prelude.{◌≡◌, true, false, Option, None, option_map}
+use Rattle.command_bodies.specs.Command.{TakesMemory}
+use Rattle.placement.specs.Groups.{groups_of}
+use Rattle.placement.specs.Layout.{Layout, IsTable}
+use Rattle.resp.specs.Content.{Content, content}
+use Rattle.resp.specs.declared.reply.Reply.{Reply}
+use Rattle.shard_maps.specs.Joined.{numbers, union, SpanHasOwnKeys, SpanRan}
+use Rattle.shard_workers.specs.declared.work.Work.{Work}
+use Rattle.shard_workers.specs.declared.work.Ran.{Ran}
+
+-- the request has the shards of the groups that it addresses, each with only keys that the table places there
+pub record IsReady (table : Layout) (w : Work) : Type 0 where
+  pub is_table : IsTable table
+  pub groups : w.job.groups ≡ groups_of table w.job.command
+  pub numbers : numbers w.shards.items ≡ w.job.groups
+  pub own : SpanHasOwnKeys table w.shards.items
+
+-- what a request is answered; nothing where it starved
+abbrev pub outcome : Option Reply → Option Content
+outcome reply = option_map content reply
+
+-- The request was run over its shards, or it starved and they are as they were. One that is to be skipped starves;
+-- another one only where its command takes memory on what its shards have.
+pub record HasRun (table : Layout) (w : Work) (r : Ran) : Type 0 where
+  pub place : r.place ≡ w.place
+  pub id : r.id ≡ w.job.id
+  pub stamp : r.stamp ≡ w.job.stamp
+  pub numbers : numbers r.shards.items ≡ numbers w.shards.items
+  pub ran : SpanRan table w.job.command w.shards.items (outcome r.reply) r.shards.items
+  pub skipped : w.skipped ≡ true → outcome r.reply ≡ None
+  pub starved : w.skipped ≡ false → outcome r.reply ≡ None → TakesMemory w.job.command (union w.shards.items)

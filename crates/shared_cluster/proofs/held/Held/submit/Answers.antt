@@ -1,0 +1,11 @@
+use Rattle.cluster.specs.Clusters.{IsSubmitFault}
+use Rattle.shared_cluster.proofs.Refusals.{open_refuses}
+use Rattle.shared_cluster.proofs.held.Held.submit.Goals as goal
+
+pub returns-in-Err-clause-refused : goal.returns-in-Err-clause-refused
+returns-in-Err-clause-refused g c =
+    let h = c.args.self.now.cluster.history in (
+      cc,
+      open_refuses c.args.self.now.shut h (IsSubmitFault h c.args.seat.now c.args.words) c.in-Err.fault c.told.result c.if-self.false
+          c.lawful.ensures.lawful c.in-Err.ensures.refused c.told.ensures,
+    )

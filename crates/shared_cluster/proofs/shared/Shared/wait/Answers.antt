@@ -1,0 +1,7 @@
+use Rattle.std.proofs.Common.{inl, subst}
+use Rattle.shared_cluster.specs.Asks.{IsCollectFault}
+use Rattle.shared_cluster.proofs.shared.Shared.wait.Goals as goal
+
+pub returns-in-Err-clause-refused : goal.returns-in-Err-clause-refused
+returns-in-Err-clause-refused g c =
+    subst (λ s. IsCollectFault s c.in-Err.fault) c.loop.invariant.2 (inl (c.deref_mut.result.now.cluster.history, c.in-Err.ensures.refused))

@@ -1,0 +1,133 @@
+-- What a seat asks of a shared cluster, and what it is answered. The cluster under the lock is another one each time it
+-- is taken, so a clause says that there was such a cluster, and not which.
+use Rattle.std.specs.Prelude.{◌≡◌, ◌≢◌, ℕ, ◌+◌, Bool, true, false, List, [], ◌⊎◌, Option, Some, None}
+use Rattle.cluster.specs.Clusters.{SeatView, last_id}
+use Rattle.cluster.specs.Clusters as cluster
+use Rattle.cluster.specs.Histories.{HistoryView, has_failed, IsLawful, IsMade, IsFault}
+use Rattle.cluster.specs.Outcomes.{ComesFrom, IsAbove, raised}
+use Rattle.cluster.specs.Submits.{IsSaid}
+use Rattle.cluster.specs.Turns.{IsTurnFault}
+use Rattle.journal.specs.declared.step.Step.TheVariants.{Open, Collect}
+use Rattle.resp.specs.Content.{Content}
+use Rattle.router.specs.declared.outcome.Outcome as kept
+use Rattle.shared_cluster.specs.declared.fault.AskStep.TheVariants as asked
+use Rattle.shared_cluster.specs.declared.fault.FaultKind.{FaultKind}
+use Rattle.shared_cluster.specs.declared.fault.FaultKind.TheVariants.{Closed, Memory, Exhausted, Failed, NoConn}
+use Rattle.shared_cluster.specs.declared.held.AskFault.{AskFault}
+use Rattle.system.specs.declared.effect.Effect.TheVariants.{Opened, Collected}
+use Rattle.system.specs.declared.fault.StepFault.{StepFault}
+use Rattle.system.specs.declared.fault.StepFault.TheVariants as step
+use Rattle.system_view.specs.Connections.{outcome_shown}
+use Rattle.world.specs.World.{Outcome}
+
+-- ---- a seat
+
+-- In a lawful history the seat's connection was opened last, and the seat has submitted nothing.
+pub record IsNewSeat (s : SeatView) : Type 0 where
+  pub before : HistoryView
+  pub after : HistoryView
+  pub opened : IsMade before Open (Opened s.conn) after
+  pub lawful : IsLawful after
+  pub floor : s.floor ≡ 0
+  pub count : s.count ≡ 0
+  pub words : s.words ≡ []
+
+-- the seat that has submitted these words as its next request
+abbrev pub submitted : SeatView → List (List ℕ) → SeatView
+submitted s words = record { conn = s.conn; floor = s.floor; count = s.count + 1; words = words }
+
+-- What came of the seat's last request: the seat's connection collected it as the last step of a lawful history. It is
+-- the outcome of the seat's last id, which the history has with the seat's words; it is a row of that history, or the
+-- request starved, or it is the reply to words that address no group. Its stamp is above the seat's floor, and becomes
+-- it.
+pub record IsAnswered (old : SeatView) (o : Outcome) (new : SeatView) : Type 0 where
+  pub before : HistoryView
+  pub after : HistoryView
+  pub outcome : kept.Outcome
+  pub shown : o ≡ outcome_shown outcome
+  pub collected : IsMade before (Collect old.conn) (Collected (Some outcome)) after
+  pub lawful : IsLawful after
+  pub id : o.id ≡ last_id old
+  pub said : IsSaid after.steps o.id old.words
+  pub from : ComesFrom after.system.parts old.words o
+  pub above : IsAbove o.stamp old.floor
+  pub seat : new ≡ record old { floor = raised o.stamp old.floor }
+
+-- this is the reply of what came of the seat's last request
+abbrev pub IsReplied : SeatView → Content → SeatView → Type 0
+IsReplied old reply new = (o : Outcome) × (o.reply ≡ reply) × IsAnswered old o new
+
+-- ---- refusals
+
+-- what a seat is told where a step isn't made
+abbrev pub told : StepFault → FaultKind
+told step.Exhausted = Exhausted
+told step.Memory = Memory
+told step.Failed = Failed
+told step.Busy = NoConn
+told step.NoConn = NoConn
+told step.NoPacket = NoConn
+told step.InFlight = NoConn
+told step.NoLayer = NoConn
+
+-- the same where it isn't want of memory, after which the step is tried again
+abbrev pub unless_memory : FaultKind → Option FaultKind
+unless_memory Memory = None
+unless_memory kind = Some kind
+
+abbrev pub lasting : StepFault → Option FaultKind
+lasting fault = unless_memory (told fault)
+
+-- A cluster refuses a step for a fault of the step's own, and it is told so. The cluster is lawful, unless a worker's
+-- start was refused.
+pub record Refuses (h : HistoryView) (IsWhy : StepFault → Type 0) (kind : FaultKind) : Type 0 where
+  pub lawful : has_failed h ≡ false → IsLawful h
+  pub own : StepFault
+  pub is : told own ≡ kind
+  pub why : IsWhy own
+
+-- what is locked is shut, or its cluster refuses
+abbrev pub IsShutOr : Bool → Type 0 → FaultKind → Type 0
+IsShutOr true refuses kind = kind ≡ Closed
+IsShutOr false refuses kind = refuses
+
+-- ---- refusals of what is locked: whether it is shut, and its cluster's history
+
+abbrev pub RefusesSit : Bool → HistoryView → AskFault → Type 0
+RefusesSit shut h fault = (fault.step ≡ asked.Sit) × IsShutOr shut (Refuses h (IsFault h Open) fault.kind) fault.kind
+
+abbrev pub RefusesSubmit : Bool → HistoryView → SeatView → List (List ℕ) → AskFault → Type 0
+RefusesSubmit shut h s words fault =
+    (fault.step ≡ asked.Submit s.conn s.count) × IsShutOr shut (Refuses h (cluster.IsSubmitFault h s words) fault.kind) fault.kind
+
+-- want of memory isn't told: it is tried again
+abbrev pub RefusesCollect : HistoryView → SeatView → AskFault → Type 0
+RefusesCollect h s fault =
+    (fault.step ≡ asked.Collect s.conn s.count) × (fault.kind ≢ Memory) × Refuses h (cluster.IsCollectFault h s) fault.kind
+
+abbrev pub RefusesTurn : Bool → HistoryView → AskFault → Type 0
+RefusesTurn may_refuse h fault =
+    (fault.step ≡ asked.Turn) × (fault.kind ≢ Memory)
+    × Refuses h (λ own. (new : HistoryView) × IsTurnFault may_refuse h own new) fault.kind
+
+-- ---- the same of a shared cluster, which was such a one when it was locked
+
+abbrev pub IsSitFault : AskFault → Type 0
+IsSitFault fault = (shut : Bool) × (h : HistoryView) × RefusesSit shut h fault
+
+abbrev pub IsSubmitFault : SeatView → List (List ℕ) → AskFault → Type 0
+IsSubmitFault s words fault = (shut : Bool) × (h : HistoryView) × RefusesSubmit shut h s words fault
+
+-- why no turn is made any more
+abbrev pub IsStopped : AskFault → Type 0
+IsStopped fault = (may_refuse : Bool) × (h : HistoryView) × RefusesTurn may_refuse h fault
+
+-- why what came of a seat's request isn't given: it isn't collected, or no turn is made any more
+abbrev pub IsCollectFault : SeatView → AskFault → Type 0
+IsCollectFault s fault = ((h : HistoryView) × RefusesCollect h s fault) ⊎ IsStopped fault
+
+-- Why an ask is refused, and what that leaves of the seat: the request isn't submitted and the seat is as before, or it
+-- was submitted and what came of it isn't given.
+abbrev pub IsAskFault : SeatView → List (List ℕ) → AskFault → SeatView → Type 0
+IsAskFault old words fault new =
+    (IsSubmitFault old words fault × (new ≡ old)) ⊎ (IsCollectFault (submitted old words) fault × (new ≡ submitted old words))

@@ -1,0 +1,109 @@
+//! What stands behind a connection: its seat at the shared cluster.
+
+ghost use Rattle.std.specs.Prelude.{◌≡◌, IfOk, IfErr};
+ghost use Rattle.resp.specs.Content.{content};
+ghost use Rattle.shared_cluster.specs.Asks.{submitted, IsReplied, IsAskFault};
+
+use crate::fault::FaultKind;
+use crate::held::AskFault;
+use crate::shared::Shared;
+use cluster::Seat;
+use resp::{Reply, Request};
+use serving::{Door, DoorFault};
+use std::sync::Wait;
+use std::sync::ledger::Ledger;
+
+/// Who makes the turns that a request needs.
+#[derive(Clone, Copy, Debug, PartialEq, Eq)]
+pub enum Turns {
+    /// The thread that asks.
+    Own,
+    /// The thread that asks, but for requests that combine whole sets: a thread that drives the cluster makes theirs,
+    /// with workers that may run several at once.
+    Driver,
+}
+
+/// How the names begin of the commands that combine whole sets: they do much, and touch several shards, so that several
+/// of them come to be ready at once.
+const COMBINE_SETS: [&[u8]; 3] = [b"sinter", b"sunion", b"sdiff"];
+
+/// A seat at a shared cluster, which asks what its connection requests.
+///
+/// A request for which there is no memory is answered so, and the connection goes on; any other refusal ends it.
+#[derive(Drop)]
+pub struct Desk<'a, L: Ledger, R: Wait> {
+    rt: &'a R,
+    shared: &'a Shared<L>,
+    seat: Seat<L>,
+    turns: Turns,
+}
+
+impl<'a, L: Ledger, R: Wait> Desk<'a, L, R> {
+    /// The desk of this seat, whose requests are brought on by those who make the turns.
+    pub fn new(rt: &'a R, shared: &'a Shared<L>, seat: Seat<L>, turns: Turns) -> Self
+        ensures seat { result.seat ≡ seat }
+        ensures turns { result.turns ≡ turns }
+    {
+        Desk {
+            rt,
+            shared,
+            seat,
+            turns,
+        }
+    }
+
+    /// Asks, and has those make the turns who are to.
+    fn asked(&mut self, request: Request) -> Result<Reply, AskFault>
+        ensures replied { IfOk result (λ reply. IsReplied (submitted self.old.seat request) (content reply) self.new.seat) }
+        ensures refused { IfErr result (λ fault. IsAskFault self.old.seat request fault self.new.seat) }
+    {
+        let conn = self.seat.conn();
+        if self.turns == Turns::Driver && combines_sets(request.word(0)) {
+            self.shared.turnstile().leave(self.rt, conn);
+            return self.shared.ask_driven(self.rt, &mut self.seat, request);
+        }
+        self.shared.turnstile().enter(self.rt, conn);
+        self.shared.ask_turning(self.rt, &mut self.seat, request)
+    }
+
+    /// The seat, given back.
+    pub fn into_seat(self) -> Seat<L>
+        ensures { result ≡ self.entry.seat }
+    {
+        self.seat
+    }
+}
+
+/// Whether a command of this name combines whole sets.
+fn combines_sets(name: &[u8]) -> bool {
+    for beginning in COMBINE_SETS {
+        if let Some(head) = name.get(..beginning.len())
+            && head.eq_ignore_ascii_case(beginning)
+        {
+            return true;
+        }
+    }
+    false
+}
+
+impl<'a, L: Ledger, R: Wait> Door for Desk<'a, L, R> {
+    ghost use Rattle.shared_cluster.specs.Desks.{Asks};
+
+    type Reason = AskFault;
+
+    ghost asks = { λ old words answer new. Asks old.seat words answer new.seat };
+
+    fn ask(&mut self, request: Request) -> Result<Reply, DoorFault<AskFault>> {
+        match self.asked(request) {
+            Ok(reply) => Ok(reply),
+            Err(fault) => match fault.kind() {
+                FaultKind::Memory => Err(DoorFault::Memory),
+                _ => Err(DoorFault::Ended(fault)),
+            },
+        }
+    }
+
+    fn rest(&self) {
+        self.shared.turnstile().leave(self.rt, self.seat.conn());
+    }
+}

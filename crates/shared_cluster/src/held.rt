@@ -1,0 +1,245 @@
+//! What the lock guards: a cluster, and whether it is shut. No other module makes a fault of an ask.
+
+ghost use Rattle.std.specs.Prelude.{◌≡◌, ◌+◌, ◌⊎◌, true, OnErr, OnOk, IfOk, IfErr, IfSome, IfNone};
+ghost use Rattle.cluster.specs.Answers.{shown_outcome};
+ghost use Rattle.resp.specs.Content.{content};
+ghost use Rattle.shared_cluster.specs.Asks.{submitted, IsNewSeat, IsAnswered, IsReplied, RefusesSit, RefusesSubmit, RefusesCollect, RefusesTurn};
+ghost use Rattle.shared_cluster.specs.Closings.{Closes, Writes};
+ghost use Rattle.shared_cluster.specs.Turning.{GoesOn};
+ghost use Rattle.cluster.specs.Clusters.{IsCloseFault};
+ghost use Rattle.cluster.specs.Histories.{IsFault, IsMade, IsUnchanged};
+ghost use Rattle.journal.specs.declared.step.Step.{Step};
+ghost use Rattle.system.specs.declared.effect.Effect.{Effect};
+ghost use Rattle.system.specs.declared.fault.StepFault.{StepFault};
+
+use crate::fault::{AskStep, FaultKind, lasting, told};
+use cluster::{Answer, CloseFault, Closing, Cluster, Pick, Seat};
+use journal::write_trace;
+use resp::{Reply, Request};
+use shard_workers::{Gate, Workers};
+use std::alloc::AllocError;
+use std::sync::ledger::Ledger;
+use system::Progress;
+use thiserror::Error;
+
+/// Why a request isn't answered, or a seat isn't given: the kind of fault, and the step that was not made. It can't be
+/// made up, since only what the lock guards makes one, where a step is refused.
+#[derive(Debug, Drop, PartialEq, Eq, Error)]
+#[error("{kind}")]
+pub struct AskFault {
+    kind: FaultKind,
+    step: AskStep,
+}
+
+impl AskFault {
+    /// The kind of fault.
+    pub fn kind(&self) -> FaultKind
+        ensures { result ≡ self.now.kind }
+    {
+        self.kind
+    }
+
+    /// The step that was not made.
+    pub fn step(&self) -> AskStep
+        ensures { result ≡ self.now.step }
+    {
+        self.step
+    }
+}
+
+/// A cluster, and whether it is shut: then no one sits or asks any more.
+#[derive(Drop)]
+pub(crate) struct Held<L: Ledger> {
+    pub cluster: Cluster<L>,
+    pub shut: bool,
+}
+
+/// How the turns go on.
+#[derive(Clone, Copy, Debug, PartialEq, Eq)]
+pub(crate) enum Turn {
+    /// One was made; `settled` where outcomes went to their connections.
+    Made { settled: bool },
+    /// None was made for want of memory.
+    Starved,
+    /// Nothing is under way.
+    Quiet,
+}
+
+impl<L: Ledger> Held<L> {
+    /// Opens a connection, and gives the seat that has it.
+    pub fn sit(&mut self) -> Result<Seat<L>, AskFault>
+        ensures seat { IfOk result IsNewSeat }
+        ensures refused { IfErr result (RefusesSit self.old.shut self.old.cluster.history) }
+        ensures shut { self.new.shut ≡ self.old.shut }
+    {
+        let step = AskStep::Sit;
+        if self.shut {
+            return Err(AskFault {
+                kind: FaultKind::Closed,
+                step,
+            });
+        }
+        self.cluster.lawful();
+        match self.cluster.sit() {
+            Ok(seat) => {
+                self.cluster.lawful();
+                Ok(seat)
+            }
+            Err(fault) => Err(AskFault {
+                kind: told(fault),
+                step,
+            }),
+        }
+    }
+
+    /// Submits a request of these words.
+    pub fn submit(&mut self, seat: &mut Seat<L>, words: Request) -> Result<(), AskFault>
+        ensures submitted { OnOk result (seat.new ≡ submitted seat.old words) }
+        ensures refused { IfErr result (RefusesSubmit self.old.shut self.old.cluster.history seat.old words) }
+        ensures unchanged { OnErr result (seat.new ≡ seat.old) }
+        ensures shut { self.new.shut ≡ self.old.shut }
+    {
+        let step = AskStep::Submit(seat.conn(), seat.count());
+        if self.shut {
+            return Err(AskFault {
+                kind: FaultKind::Closed,
+                step,
+            });
+        }
+        self.cluster.lawful();
+        match self.cluster.submit(seat, words) {
+            Ok(_) => Ok(()),
+            Err(fault) => Err(AskFault {
+                kind: told(fault),
+                step,
+            }),
+        }
+    }
+
+    /// What came of the seat's last request, with its words, if it is there. A want of memory is no refusal: it is not
+    /// there yet.
+    pub fn collect(&mut self, seat: &mut Seat<L>) -> Result<Option<Answer>, AskFault>
+        ensures answered { IfOk result (λ answer. IfSome answer (λ a. IsAnswered seat.old (shown_outcome a) seat.new)) }
+        ensures words { IfOk result (λ answer. IfSome answer (λ a. a.words ≡ seat.old.words)) }
+        ensures unasked { IfOk result (λ answer. IfNone answer (seat.new ≡ seat.old)) }
+        ensures refused { IfErr result (RefusesCollect self.old.cluster.history seat.old) }
+        ensures unchanged { OnErr result (seat.new ≡ seat.old) }
+        ensures shut { self.new.shut ≡ self.old.shut }
+    {
+        let step = AskStep::Collect(seat.conn(), seat.count());
+        self.cluster.lawful();
+        match self.cluster.collect(seat) {
+            Ok(Some(answer)) => {
+                self.cluster.lawful();
+                Ok(Some(answer))
+            }
+            Ok(None) => {
+                if self.is_exhausted() {
+                    return Err(AskFault {
+                        kind: FaultKind::Exhausted,
+                        step,
+                    });
+                }
+                Ok(None)
+            }
+            Err(fault) => match lasting(fault) {
+                Some(kind) => Err(AskFault { kind, step }),
+                None => Ok(None),
+            },
+        }
+    }
+
+    /// Whether no more steps may be made.
+    fn is_exhausted(&self) -> bool
+        ensures { result ≡ true → IsFault self.now.cluster.history Step.Open StepFault.Exhausted }
+    {
+        let trace = self.cluster.trace();
+        !self.cluster.system().has_failed() && trace.len() as u64 == trace.max()
+    }
+
+    /// The reply alone of what came of the seat's last request, if it is there. A want of memory is no refusal: it is
+    /// not there yet.
+    pub fn collect_reply(&mut self, seat: &mut Seat<L>) -> Result<Option<Reply>, AskFault>
+        ensures answered { IfOk result (λ reply. IfSome reply (λ r. IsReplied seat.old (content r) seat.new)) }
+        ensures unasked { IfOk result (λ reply. IfNone reply (seat.new ≡ seat.old)) }
+        ensures refused { IfErr result (RefusesCollect self.old.cluster.history seat.old) }
+        ensures unchanged { OnErr result (seat.new ≡ seat.old) }
+        ensures shut { self.new.shut ≡ self.old.shut }
+    {
+        let step = AskStep::Collect(seat.conn(), seat.count());
+        self.cluster.lawful();
+        match self.cluster.collect_reply(seat) {
+            Ok(Some(reply)) => {
+                self.cluster.lawful();
+                Ok(Some(reply))
+            }
+            Ok(None) => Ok(None),
+            Err(fault) => match lasting(fault) {
+                Some(kind) => Err(AskFault { kind, step }),
+                None => Ok(None),
+            },
+        }
+    }
+
+    /// Makes a turn, if one can be made.
+    pub fn turn<P: Pick, W: Workers>(
+        &mut self,
+        pick: &P,
+        workers: &W,
+        gate: &(dyn Gate + Sync),
+    ) -> Result<Turn, AskFault>
+        ensures made { IfOk result (GoesOn (P.picks pick.now) self.old.cluster.history self.new.cluster.history) }
+        ensures refused { IfErr result (RefusesTurn W.may_refuse self.old.cluster.history) }
+        ensures shut { self.new.shut ≡ self.old.shut }
+    {
+        let step = AskStep::Turn;
+        let settled = self.cluster.system().progress() == Progress::HasRun;
+        self.cluster.lawful();
+        match self.cluster.turn(pick, workers, gate) {
+            Ok(true) => Ok(Turn::Made { settled }),
+            Ok(false) => Ok(Turn::Quiet),
+            Err(fault) => match lasting(fault) {
+                Some(kind) => Err(AskFault { kind, step }),
+                None => Ok(Turn::Starved),
+            },
+        }
+    }
+
+    /// Shuts: no one sits or asks any more.
+    pub fn shut(&mut self)
+        ensures shut { self.new.shut ≡ true }
+        ensures rest { self.new.cluster ≡ self.old.cluster }
+    {
+        self.shut = true;
+    }
+
+    /// Takes a seat back, and closes its connection, where a step may be made and there is memory for it.
+    pub fn stand(&mut self, seat: Seat<L>)
+        ensures stood { self.new.cluster.stood ≡ self.old.cluster.stood + 1 }
+        ensures back { self.new.cluster.back ≡ self.old.cluster.back + seat.count }
+        ensures closed { IsMade self.old.cluster.history (Step.Close seat.conn) Effect.Made self.new.cluster.history
+            ⊎ IsUnchanged self.old.cluster.history self.new.cluster.history }
+        ensures shut { self.new.shut ≡ self.old.shut }
+    {
+        self.cluster.stand(seat);
+    }
+
+    /// What is told of the cluster when it is closed.
+    pub fn close(&mut self) -> Result<Closing, CloseFault>
+        ensures closed { IfOk result (Closes self.old.cluster) }
+        ensures refused { IfErr result (IsCloseFault self.old.cluster) }
+        ensures same { self.new ≡ self.old }
+    {
+        self.cluster.lawful();
+        self.cluster.closing()
+    }
+
+    /// Appends the text of the trace.
+    pub fn write_trace(&self, out: &mut Vec<u8>) -> Result<(), AllocError>
+        ensures written { OnOk result (Writes self.now.cluster.history out.old.items out.new.items) }
+        ensures unchanged { OnErr result (out.new.items ≡ out.old.items) }
+    {
+        self.cluster.lawful();
+        write_trace(self.cluster.trace(), out)
+    }
+}
