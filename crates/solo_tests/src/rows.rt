@@ -1,8 +1,9 @@
 //! What the store answers, row by row.
 
 use crate::store::{BAD_LENGTH, END, Ending, INSIDE, Row, came, each_answers, empty_store};
-use command_table::{Command, read};
-use resp::{Reply, Request, write_reply};
+use crate::table::read_line;
+use command_table::Command;
+use resp::{Reply, write_reply};
 use resp_decoder::Fault;
 use serving::Served;
 use std::alloc::Global;
@@ -95,15 +96,15 @@ fn a_request_may_be_cut_anywhere(rt: HostRuntime) -> Result<(), Fail> {
     Ok(())
 }
 
-/// The command of these words.
-fn command(alloc: Global, words: &[&[u8]]) -> Result<Command, Fail> {
-    Ok(read(Request::copy_of(alloc, words)?)?)
+/// The command that the line says.
+fn command(alloc: Global, line: &str) -> Result<Command, Fail> {
+    Ok(read_line(alloc, line)??)
 }
 
-fn commands(alloc: Global, rows: &[&[&[u8]]]) -> Result<Vec<Command>, Fail> {
+fn commands(alloc: Global, lines: &[&str]) -> Result<Vec<Command>, Fail> {
     let mut commands = Vec::new(alloc);
-    for words in rows {
-        commands.push(command(alloc, words)?)?;
+    for line in lines {
+        commands.push(command(alloc, line)?)?;
     }
     Ok(commands)
 }
@@ -117,13 +118,7 @@ fn are(alloc: Global, replies: &[Reply], row: &str) -> Result<(), Fail> {
     same_bytes("the replies", &output, &bytes_of(alloc, row)?)
 }
 
-const RUN: [&[&[u8]]; 5] = [
-    &[b"SET", b"a", b"1"],
-    &[b"GET", b"a"],
-    &[b"DEL", b"a", b"a"],
-    &[b"GET", b"a"],
-    &[b"PING"],
-];
+const RUN: [&str; 5] = ["SET a 1", "GET a", "DEL a a", "GET a", "PING"];
 
 #[test]
 fn a_run_gives_a_reply_for_each_command(rt: HostRuntime) -> Result<(), Fail> {
@@ -134,7 +129,7 @@ fn a_run_gives_a_reply_for_each_command(rt: HostRuntime) -> Result<(), Fail> {
 
 #[test]
 fn a_command_gives_its_reply(rt: HostRuntime) -> Result<(), Fail> {
-    let command = command(rt.alloc(), &[b"ECHO", b"hi"])?;
+    let command = command(rt.alloc(), "ECHO hi")?;
     let reply = empty_store(rt.alloc()).run(command);
     are(rt.alloc(), &[reply], "$2|hi|")
 }

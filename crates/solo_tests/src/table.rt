@@ -9,10 +9,10 @@ use std::alloc::{AllocError, Global};
 use std::test::Fail;
 use test_support::{same, same_bytes, same_count, same_text};
 
-type Read = Result<Command, Refusal>;
+pub(crate) type Read = Result<Command, Refusal>;
 
 /// Reads the words that stand in the line, one space apart.
-fn read_line(alloc: Global, line: &str) -> Result<Read, AllocError> {
+pub(crate) fn read_line(alloc: Global, line: &str) -> Result<Read, AllocError> {
     let mut words = Vec::new(alloc);
     for word in line.split(' ') {
         words.push(Vec::from_slice(alloc, word.as_bytes())?)?;
