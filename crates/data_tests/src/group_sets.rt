@@ -1,5 +1,7 @@
 //! Sets of groups, whose elements come ascending and once.
 
+ghost use Rattle.std.specs.Prelude.{◌≤◌};
+
 use groups::{GroupId, Groups};
 use std::alloc::Global;
 use std::test::Fail;
@@ -57,7 +59,9 @@ fn sets_come_ascending_and_once(rt: HostRuntime) -> Result<(), Fail> {
 }
 
 /// The set of the first `count` groups has `len` elements, of which the least is this one.
-fn holds_first(line: &str, count: u8, least: Option<u8>, len: usize) -> Result<(), Fail> {
+fn holds_first(line: &str, count: u8, least: Option<u8>, len: usize) -> Result<(), Fail>
+    requires { count ≤ 64 }
+{
     let mut groups = Groups::all(count);
     same_count(line, groups.len(), len)?;
     same(line, &groups.contains(GroupId::new(63)), &(count == 64))?;
