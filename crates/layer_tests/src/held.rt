@@ -58,37 +58,34 @@ fn two_requests(alloc: Global, table: &Table) -> Result<Layer, Trouble> {
     layer_of(alloc, table, 1, &["SET a 1", "SET c 2"])
 }
 
-/// Runs both, the first of them held for so many turns. Whether the second entered too late for it.
-fn missed<R: Abort + Clock, W: Workers>(
-    rt: &R,
+/// Runs both, of which this gate holds the first.
+fn run_both<W: Workers>(
+    rt: &impl Abort,
     alloc: Global,
-    turns: u32,
     workers: &W,
-) -> Result<bool, Fail>
-where
-    R: Sync,
-{
+    gate: &(dyn Gate + Sync),
+) -> Result<(), Fail> {
     let table = two_shards(alloc)?;
     let mut store = Store::new(alloc, table)?;
-    let gate = holding(rt, turns);
     let requests = two_requests(alloc, &table)?;
-    let done = run(rt, alloc, &mut store, requests, workers, &gate)?;
-    same_answers(alloc, done.as_slice(), "+OK\r\n +OK\r\n ")?;
-    Ok(gate.missed.load(Ordering::SeqCst))
+    let done = run(rt, alloc, &mut store, requests, workers, gate)?;
+    same_answers(alloc, done.as_slice(), "+OK\r\n +OK\r\n ")
 }
 
 #[test]
 fn a_crew_of_two_runs_both_at_once(rt: HostRuntime) -> Result<(), Fail> {
     let two = NonZeroUsize::new(2).ok_or("two")?;
-    let missed = missed(&rt, rt.alloc(), 10_000, &Crew::new(&rt, two))?;
-    holds("two threads ran them", !missed)
+    let gate = holding(&rt, 10_000);
+    run_both(&rt, rt.alloc(), &Crew::new(&rt, two), &gate)?;
+    holds("two threads ran them", !gate.missed.load(Ordering::SeqCst))
 }
 
 #[test]
 fn workers_in_turn_do_not(rt: HostRuntime) -> Result<(), Fail> {
     let two = NonZeroUsize::new(2).ok_or("two")?;
-    let missed = missed(&rt, rt.alloc(), 10, &InTurn(two))?;
-    holds("one thread ran them", missed)
+    let gate = holding(&rt, 10);
+    run_both(&rt, rt.alloc(), &InTurn(two), &gate)?;
+    holds("one thread ran them", gate.missed.load(Ordering::SeqCst))
 }
 
 /// Two workers of which none can be started.
