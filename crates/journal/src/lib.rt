@@ -18,7 +18,7 @@ mod step;
 mod trace;
 mod writer;
 
-pub use fault::TraceFault;
+pub use fault::{SendFault, TraceFault};
 pub use laws::{one_reading, read_back};
 pub use reader::read_trace;
 pub use request_ids::RequestIds;
@@ -26,4 +26,4 @@ pub use row::Row;
 pub use rows::Rows;
 pub use step::Step;
 pub use trace::{GREATEST_STEPS, Steps, Trace};
-pub use writer::write_trace;
+pub use writer::{send_trace, write_trace};
