@@ -1,9 +1,11 @@
 //! What no clause says: known texts, and that the calls succeed where there is memory.
 
 use groups::{ConnId, GroupId, RequestId, Stamp};
-use journal::{Row, Rows, Step, Trace, TraceFault, read_back, read_trace, write_trace};
+use journal::{
+    Row, Rows, Step, Trace, TraceFault, read_back, read_trace, size_of_row, write_trace,
+};
 use packing::PackedRequest;
-use resp::{Reply, Request};
+use resp::{Answered, Reply, Request, write_reply};
 use std::alloc::{AllocError, Global};
 use std::test::Fail;
 use test_support::{holds, same, same_bytes, same_count, same_number};
@@ -160,15 +162,33 @@ fn request_of(seq: u64) -> RequestId {
     }
 }
 
+/// The request of the row of this number: its second word is long in every other row.
+fn request_of_row(alloc: Global, seq: u64) -> Result<Request, AllocError> {
+    let long = [b'w'; 200];
+    let second: &[u8] = if seq % 2 == 1 { &long } else { b"a" };
+    Request::copy_of(alloc, &[b"GET".as_slice(), second, b"".as_slice()])
+}
+
+/// The reply of the row of this number: long in the last two of four rows.
+fn reply_of_row(alloc: Global, seq: u64) -> Result<Reply, AllocError> {
+    if seq % 4 < 2 {
+        return Ok(Reply::Int(-1));
+    }
+    Ok(Reply::Bulk(Vec::from_slice(alloc, &[b'r'; 300])?))
+}
+
 /// The row is that of this number.
 fn is_row(alloc: Global, row: &Row, seq: u64) -> Result<(), Fail> {
     same("its request", &row.id(), &request_of(seq))?;
     same_number("its clock", row.stamp().clock, seq)?;
+    let wanted = request_of_row(alloc, seq)?;
     same_count("its words", row.word_count(), 3)?;
-    same_bytes("its reply", row.reply(), b":-1\r\n")?;
     let request = row.request(alloc)?;
     same_count("words that are read", request.len(), 3)?;
-    same_bytes("the second of them", request.word(1), b"a")
+    same_bytes("the second of them", request.word(1), wanted.word(1))?;
+    let mut text = Vec::new(alloc);
+    write_reply(&reply_of_row(alloc, seq)?, &mut text)?;
+    same_bytes("its reply", row.reply(), text.as_slice())
 }
 
 /// Adds the row of this number.
@@ -177,24 +197,32 @@ fn add(alloc: Global, rows: &mut Rows, seq: u64) -> Result<(), Fail> {
         clock: seq,
         group: GroupId::new(63),
     };
-    let words = PackedRequest::copy_of(alloc, &get(alloc)?)?;
-    rows.push(request_of(seq), &stamp, &words, &Reply::Int(-1))?;
+    let words = PackedRequest::copy_of(alloc, &request_of_row(alloc, seq)?)?;
+    let Answered { reply, text } = Answered::with_text(alloc, reply_of_row(alloc, seq)?)?;
+    let Some(size) = size_of_row(&reply, text.as_slice()) else {
+        return Err("no size".into());
+    };
+    let mut more = rows.take_with_room(alloc, 1, size)?;
+    more.push(request_of(seq), &stamp, words, &reply, text);
+    *rows = more.into_rows();
     Ok(())
 }
 
 #[test]
-fn rows_are_kept_and_taken_back(rt: HostRuntime) -> Result<(), Fail> {
+fn rows_are_kept_short_and_long(rt: HostRuntime) -> Result<(), Fail> {
     let mut rows = Rows::new(rt.alloc());
     for seq in 0..300 {
         add(rt.alloc(), &mut rows, seq)?;
     }
-    rows.truncate(299);
-    same_count("rows", rows.len(), 299)?;
-    holds("the row that was taken back", rows.row(299).is_none())?;
-    match rows.row(298) {
-        Some(row) => is_row(rt.alloc(), &row, 298),
-        None => Err("no last row".into()),
+    same_count("rows", rows.len(), 300)?;
+    holds("a row behind the last", rows.row(300).is_none())?;
+    for seq in 0..300 {
+        match rows.row(seq as usize) {
+            Some(row) => is_row(rt.alloc(), &row, seq)?,
+            None => return Err("no such row".into()),
+        }
     }
+    Ok(())
 }
 
 #[test]

@@ -1,12 +1,12 @@
 -- What was put of steps and rows is read back, and how long it is.
 use Rattle.std.proofs.Common.{◌≡◌, ℕ, ◌+◌, ◌<◌, ◌≤◌, ◌^◌, List, [], ◌∷◌, ◌++◌, length, take, drop, refl}
-use Rattle.std.proofs.Common.{ap, sym, ◌∙◌, arith, length-append}
+use Rattle.std.proofs.Common.{ap, sym, ◌∙◌, arith, length-append, lit<}
 use Rattle.std.specs.List.{flat_map, AllByRecursion}
 use Rattle.std.proofs.lemmas.List.{append_assoc, append-nil, take_at, drop_at}
 use Rattle.groups.specs.declared.request.RequestId.{RequestId}
 use Rattle.groups.specs.declared.stamp.Stamp.{Stamp}
-use Rattle.packing.specs.Codes.{number_code, number_at, words_code, words_at, WordsFit}
-use Rattle.packing.specs.CodeLaws.{number_at-code, many-codes, words_at-code}
+use Rattle.packing.specs.Codes.{number_code, number_at, word_code, words_code, words_at, WordFits, WordsFit}
+use Rattle.packing.specs.CodeLaws.{number_at-code, number_code-few, many-codes, words_at-code}
 use Rattle.journal.specs.declared.step.Step.{Step}
 use Rattle.journal.specs.declared.step.Step.TheVariants.{Open, Submit, Deliver, Take, Run, Settle, Collect, Close}
 use Rattle.journal.specs.Views.{RowView}
@@ -183,6 +183,13 @@ words-read words bytes coded fit = ap (λ p. p.0) (ap words_at (coded ∙ sym (a
 pub RowWords-read : (words : List (List ℕ)) (bytes : List ℕ) → bytes ≡ words_code words → WordsFit words → RowWords (words_at bytes).0 bytes
 RowWords-read words bytes coded fit = rw (words-read words bytes coded fit) (record { coded = coded; fit = fit })
 
+-- one empty word
+pub empty-word : RowWords (words_at (1 ∷ 0 ∷ [])).0 (1 ∷ 0 ∷ [])
+unfolding words_code word_code number_code
+empty-word =
+    let each : AllByRecursion WordFits ([] ∷ []) = (record { size = lit< tt; bytes = λ i. lit< tt }, tt) in
+    RowWords-read ([] ∷ []) (1 ∷ 0 ∷ []) refl (record { some = lit< tt; count = lit< tt; each = each })
+
 pub RowIsIn-read : (row : RowView) (bytes : List ℕ) → bytes ≡ row_code row → RowFits row → RowIsIn (row_of bytes) bytes
 RowIsIn-read row bytes coded fit =
     let same : row_of bytes ≡ row = ap row_of coded ∙ row_of-code row fit in rw same (record { coded = coded; fit = fit })
@@ -192,4 +199,4 @@ pub row-same : (row : RowView) (id : RequestId) (clock group : ℕ) (words : Lis
     → RowView-of id clock group words reply ≡ row
 row-same row id clock group words reply a b c d e = rw (a, b, c, d, e) refl
 
-pub ruleset heads = (length-head_code, head_code-is)
+pub ruleset heads = (length-head_code, head_code-is, number_code-few)

@@ -18,12 +18,6 @@ ends_from-push code start (y ∷ ys) x =
     ∙ ap (λ n. ends_from code (start + length (code y)) ys ++ n ∷ [])
     (omega (arith, length-append (code y) (flat_map code ys))))
 
-pub take-ends_from : {A : Type 0} (code : A → List ℕ) (start n : ℕ) (xs : List A) → take n
-    (ends_from code start xs) ≡ ends_from code start (take n xs)
-take-ends_from code start zero xs = refl
-take-ends_from code start (suc n) [] = refl
-take-ends_from code start (suc n) (x ∷ xs) = ap (λ es. (start + length (code x)) ∷ es) (take-ends_from code (start + length (code x)) n xs)
-
 -- the end at a place is behind all up to it
 pub get_or-ends_from : {A : Type 0} (code : A → List ℕ) (start : ℕ) (xs : List A) (i d : ℕ) → i < length xs
     → get_or (ends_from code start xs) i d ≡ start + length (flat_map code (take (suc i) xs))

@@ -1,16 +1,19 @@
 -- What is kept of steps and rows stays as it has to be, and is seen as it was put.
-use Rattle.std.proofs.Common.{◌≡◌, ℕ, zero, suc, ◌+◌, ◌-◌, ◌<◌, ◌≤◌, List, [], ◌∷◌, ◌++◌, length, take, drop, map, get_or, refl, ap, sym}
+use Rattle.std.proofs.Common.{◌≡◌, ℕ, zero, suc, ◌+◌, ◌-◌, ◌<◌, ◌≤◌, ◌^◌, List, [], ◌∷◌, ◌++◌, length, take, drop, map, get_or, refl, ap, sym}
 use Rattle.std.proofs.Common.{subst, ◌∙◌, arith, length-append, false, ◌==◌, Some, slice_get}
 use Rattle.std.specs.List.{flat_map, AllByRecursion}
-use Rattle.std.proofs.lemmas.List.{append-nil, take_at, drop_at, take-append-drop, length_push}
+use Rattle.std.proofs.lemmas.List.{append-nil, append_assoc, take_at, drop_at, take-append-drop, length_push}
 use Rattle.std.proofs.lemmas.Bool.Decides.{nat_tests}
 use Rattle.std.proofs.lemmas.List.Concat.{flat_map-append}
 use Rattle.packing.specs.CodeLaws.{all_more, take_codes, drop_codes}
 use Rattle.journal.specs.declared.step.Step.{Step}
-use Rattle.journal.specs.Views.{RowView}
+use Rattle.groups.specs.declared.request.RequestId.{RequestId}
+use Rattle.groups.specs.declared.stamp.Stamp.{Stamp}
+use Rattle.journal.specs.Views.{RowView, row_view}
 use Rattle.journal.specs.Codes.{step_code, StepFits, steps_in, AreSteps, row_code, row_of, RowFits, rows_in, ends_from, end_before, AreRows}
-use Rattle.journal.proofs.CodeLaws.{steps_in-codes, steps-few, row_of-code}
-use Rattle.journal.proofs.Cuts.{length-ends_from, ends_from-push, take-ends_from, get_or-ends_from, cut-ends_from}
+use Rattle.journal.specs.Codes.{head_code, HeadFits, RowWords}
+use Rattle.journal.proofs.CodeLaws.{steps_in-codes, steps-few, row_of-code, row_code-is}
+use Rattle.journal.proofs.Cuts.{length-ends_from, ends_from-push, get_or-ends_from, cut-ends_from}
 
 -- one thing more behind the others
 codes-push : {A : Type 0} (code : A → List ℕ) (xs : List A) (x : A) → flat_map code (xs ++ x ∷ []) ≡ flat_map code xs ++ code x
@@ -75,24 +78,9 @@ rows-end rows bytes ends (suc n) are h =
 pub length-ends : (rows : List RowView) (bytes ends : List ℕ) → AreRows rows bytes ends → length ends ≡ length rows
 length-ends rows bytes ends are = ap length are.ended ∙ length-ends_from row_code 0 rows
 
-all_take : {A : Type 0} (P : A → Type 0) (n : ℕ) (xs : List A) → AllByRecursion P xs → AllByRecursion P (take n xs)
-all_take P zero xs all = tt
-all_take P (suc n) [] all = tt
-all_take P (suc n) (x ∷ xs) all = (all.0, all_take P n xs all.1)
-
 codes-split : {A : Type 0} (code : A → List ℕ) (n : ℕ) (xs : List A) → flat_map code xs ≡ flat_map code (take n xs) ++ flat_map code
     (drop n xs)
 codes-split code n xs = sym (ap (flat_map code) (take-append-drop n xs)) ∙ flat_map-append code (take n xs) (drop n xs)
-
--- the first n rows, cut where they end
-pub AreRows-take : (rows : List RowView) (bytes ends : List ℕ) (n stop : ℕ) → AreRows rows bytes ends
-    → stop ≡ length (flat_map row_code (take n rows)) → AreRows (take n rows) (take stop bytes) (take n ends)
-AreRows-take rows bytes ends n stop are here = record {
-  coded = rw (here, are.coded, codes-split row_code n rows) (take_at (flat_map row_code (take n rows))
-      (flat_map row_code (drop n rows)) _ refl);
-  ended = ap (take n) are.ended ∙ take-ends_from row_code 0 n rows;
-  fit = all_take RowFits n rows are.fit;
-}
 
 -- a row whose parts were put one behind another
 pub AreRows-put : (rows : List RowView) (row : RowView) (bytes ends new_bytes new_ends : List ℕ) (stop : ℕ) → AreRows rows bytes ends
@@ -147,3 +135,22 @@ row-at rows bytes ends start stop place are h from to =
       piece = rw rest (take_at (row_code row) back (stop - start) (omega arith));
       fit = all_at RowFits rows place row are.fit found.1;
     }
+
+-- ---- a row that was put
+
+-- the rows seen are those before and this one, and are kept as they have to be
+pub record IsAdded (rows : List RowView) (row : RowView) (bytes ends : List ℕ) : Type 0 where
+  pub seen : rows_in bytes ends ≡ rows ++ row ∷ []
+  pub kept : AreRows (rows_in bytes ends) bytes ends
+
+pub row-put : (rows : List RowView) (id : RequestId) (stamp : Stamp) (words : List (List ℕ))
+    (coded reply bytes ends new_bytes new_ends : List ℕ) (stop : ℕ)
+    → AreRows rows bytes ends → HeadFits id stamp → RowWords words coded → length coded < 2 ^ 64
+    → new_bytes ≡ bytes ++ (head_code id stamp (length coded) ++ coded) ++ reply → new_ends ≡ ends ++ stop ∷ []
+    → stop ≡ length new_bytes → IsAdded rows (row_view id stamp words reply) new_bytes new_ends
+row-put rows id stamp words coded reply bytes ends new_bytes new_ends stop are head lie small put ended here =
+    let row = row_view id stamp words reply in
+    let fits : RowFits row = record { head = head; words = lie.fit; size = omega (arith, ap length lie.coded) } in
+    let code : new_bytes ≡ bytes ++ row_code row = put ∙ rw (row_code-is row, ← lie.coded) (simp append_assoc) in
+    let all = AreRows-put rows row bytes ends new_bytes new_ends stop are fits code ended here in
+    let both = AreRows-seen (rows ++ row ∷ []) new_bytes new_ends all in record { seen = both.0; kept = both.1 }

@@ -8,3 +8,4 @@ pub mod ReadBack
 pub mod OneReading
 pub mod Places
 pub mod Sending
+pub mod LongRows

@@ -1,16 +1,15 @@
 -- Where a step lies among the bytes of a trace, and how many bytes a Run takes at most.
-use Rattle.std.proofs.Common.{◌≡◌, ℕ, ◌+◌, ◌-◌, ◌*◌, ◌<◌, ◌≤◌, ◌^◌, List, [], ◌∷◌, ◌++◌, length, take, drop, refl, ap, sym, ◌∙◌, arith}
-use Rattle.std.proofs.Common.{⊎_elim, length-append, ◌==◌, Bool, IsTrue, subst}
+use Rattle.std.proofs.Common.{◌≡◌, ℕ, ◌+◌, ◌-◌, ◌*◌, ◌<◌, ◌≤◌, List, [], ◌∷◌, ◌++◌, length, take, drop, refl, ap, sym, ◌∙◌, arith}
+use Rattle.std.proofs.Common.{length-append, ◌==◌, Bool, IsTrue, subst}
 use Rattle.std.specs.List.{flat_map, AllByRecursion, starts_with}
 use Rattle.std.proofs.lemmas.Bool.Decides.{Decides-eqb}
-use Rattle.std.proofs.lemmas.Bool.{cases_lt}
 use Rattle.std.proofs.lemmas.List.{append_assoc, append-nil, take_at, drop_at, length_push}
 use Rattle.std.proofs.lemmas.List.Concat.{flat_map-append}
 use Rattle.std.proofs.lemmas.Slice.Eq.{starts_is}
 use Rattle.groups.specs.declared.request.ConnId.{ConnId}
 use Rattle.groups.specs.declared.request.RequestId.{RequestId}
 use Rattle.packing.specs.Codes.{number_code, words_code, words_at, WordsFit}
-use Rattle.packing.specs.CodeLaws.{number_code-one, number_code-four, number_code-eight, number_code-some, words_at-code, length-words_code}
+use Rattle.packing.specs.CodeLaws.{number_code-few, number_code-some, words_at-code, length-words_code}
 use Rattle.packing.specs.Packed.{ArePacked}
 use Rattle.journal.specs.declared.step.Step.{Step}
 use Rattle.journal.specs.declared.step.Step.TheVariants.{Submit, Run}
@@ -18,15 +17,6 @@ use Rattle.journal.specs.Codes.{id_code, step_code, step_size, steps_size, steps
 use Rattle.journal.proofs.CodeLaws.{steps_in-codes, length-id_code, length-ids_code}
 
 -- ---- a Run
-
-number_code-few : (n : ℕ) → length (number_code n) ≤ 9
-number_code-few n = ⊎_elim
-    (λ one. rw (number_code-one n one) (omega arith))
-    (λ more. ⊎_elim
-    (λ four. rw (number_code-four n more four) (omega arith))
-    (λ eight. rw (number_code-eight n eight) (omega arith))
-    (cases_lt n (2 ^ 32)))
-    (cases_lt n 254)
 
 ids-few : (ids : List RequestId) → length (flat_map id_code ids) ≤ 18 * length ids
 ids-few [] = omega arith

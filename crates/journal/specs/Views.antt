@@ -14,6 +14,19 @@ pub record RowView : Type 0 where
 abbrev pub row_view : RequestId → Stamp → List (List ℕ) → List ℕ → RowView
 row_view id stamp words reply = record { id = id; stamp = stamp; words = words; reply = reply }
 
+-- rows one behind another, and for how many bytes and how many rows there is room
+pub record PackedView : Type 0 where
+  pub rows : List RowView
+  pub bytes : ℕ
+  pub ends : ℕ
+
+-- rows, and for how many packed bytes, how many rows and how many long ones there is room
+pub record RoomView : Type 0 where
+  pub rows : List RowView
+  pub bytes : ℕ
+  pub ends : ℕ
+  pub blocks : ℕ
+
 -- at most how many steps may be made, the steps that were made, in order, and how many more bytes fit without memory
 pub record TraceView : Type 0 where
   pub max : ℕ

@@ -10,7 +10,7 @@ ghost use Rattle.groups.specs.declared.request.RequestId.{RequestId};
 use super::request_ids::RequestIds;
 use super::step::Step;
 use groups::{ConnId, RequestId, Stamp};
-use packing::{number_size, put_number, put_words, take_number, take_words, words_size};
+use packing::{grow, number_size, put_number, put_words, take_number, take_words, words_size};
 use resp::Request;
 use std::alloc::{AllocError, Global};
 
@@ -30,6 +30,9 @@ const SETTLE: u8 = 5;
 const COLLECT: u8 = 6;
 
 const CLOSE: u8 = 7;
+
+/// The greatest number of bytes of a row's numbers.
+pub const GREATEST_HEAD: usize = 45;
 
 /// How many bytes the ids take; `None` where that is 2^64 or more.
 fn size_of_ids(ids: &[RequestId]) -> Option<usize>
@@ -123,7 +126,7 @@ pub fn reserve_step(step: &Step, out: &mut Vec<u8>) -> Result<(), AllocError>
     ensures err { OnErr result (vec_capacity out.new ≡ vec_capacity out.old) }
 {
     match size_of_step(step) {
-        Some(size) => out.reserve(size),
+        Some(size) => grow(out, size),
         None => Err(AllocError),
     }
 }
@@ -217,25 +220,14 @@ fn take_submit(alloc: Global, bytes: &[u8]) -> Result<(Step, &[u8]), AllocError>
     ))
 }
 
-/// How many bytes the numbers of a row take, which stand before its words. The words take so many bytes.
-#[tactic(auto, using(crate::proofs::CodeLaws::heads))]
-pub fn size_of_head(id: RequestId, stamp: &Stamp, words_size: usize) -> usize
-    ensures size { result ≡ length (head_code id stamp.now words_size) }
-    ensures few { result ≤ 45 }
-    ensures fits { HeadFits id stamp.now }
-{
-    let clock = stamp.clock;
-    let id_size = number_size(id.conn.0) + number_size(id.seq);
-    let stamp_size = number_size(clock) + number_size(stamp.group.number() as u64);
-    id_size + stamp_size + number_size(words_size as u64)
-}
-
-/// Appends the numbers of a row, for which there is room.
+/// Appends the numbers of a row, which stand before its words: the words take so many bytes. There is room for any
+/// such numbers.
 #[tactic(auto, using(crate::proofs::CodeLaws::heads))]
 pub fn put_head(id: RequestId, stamp: &Stamp, words_size: usize, out: &mut Vec<u8>)
-    requires { vec_len out.old + length (head_code id stamp.now words_size) ≤ vec_capacity out.old }
+    requires { vec_len out.old + GREATEST_HEAD ≤ vec_capacity out.old }
     ensures items { out.new.items ≡ out.old.items ++ head_code id stamp.now words_size }
-    ensures len { vec_len out.new ≡ vec_len out.old + length (head_code id stamp.now words_size) }
+    ensures fits { HeadFits id stamp.now }
+    ensures len { vec_len out.new ≤ vec_len out.old + GREATEST_HEAD }
     ensures capacity { vec_capacity out.old ≤ vec_capacity out.new }
 {
     put_number(id.conn.0, out);

@@ -2,8 +2,10 @@
 
 ghost use Rattle.std.specs.Prelude.{◌≡◌, ◌<◌, length, slice_get, Some, IfOk};
 ghost use Rattle.journal.specs.Codes.{row_of, RowIsIn};
+ghost use Rattle.journal.specs.LongRows.{text_or, whole};
 
 use super::codes::take_id;
+use super::long_rows::LongRow;
 use groups::{GroupId, RequestId, Stamp};
 use packing::{take_number, take_word, take_words};
 use resp::Request;
@@ -55,7 +57,34 @@ pub(super) fn row_of(bytes: &[u8]) -> Row<'_>
     }
 }
 
+/// The text, or the packed reply where there is none.
+fn text_or<'a>(text: &'a [u8], reply: &'a [u8]) -> &'a [u8]
+    ensures { result.now ≡ text_or text.now reply.now }
+{
+    if text.is_empty() { reply } else { text }
+}
+
 impl<'a> Row<'a> {
+    /// The packed row with its long parts.
+    pub(super) fn with_long(self, long: &'a LongRow) -> Row<'a>
+        ensures { result ≡ whole self.entry (Some long.now) }
+    {
+        let Row {
+            id,
+            stamp,
+            words: _,
+            reply,
+        } = self;
+        let reply = text_or(long.text.as_slice(), reply);
+        let words = long.words.as_bytes();
+        Row {
+            id,
+            stamp,
+            words,
+            reply,
+        }
+    }
+
     /// The request's id.
     pub fn id(&self) -> RequestId
         ensures { result ≡ self.now.id }

@@ -1,24 +1,29 @@
 //! What each executed request came to, kept for good.
 
-ghost use Rattle.std.specs.Prelude.{◌≡◌, ◌+◌, ◌≤◌, ◌<◌, ◌++◌, [], ◌∷◌, length, take, slice_get, OnOk, OnErr};
+ghost use Rattle.std.specs.Prelude.{◌≡◌, ◌+◌, ◌≤◌, ◌<◌, ◌++◌, [], ◌∷◌, length, slice_get, IfOk, IfSome, OnOk, OnErr};
 ghost use Rattle.resp.specs.Content.{content};
 ghost use Rattle.resp.specs.Text.{text};
 ghost use Rattle.journal.specs.Views.{row_view};
-ghost use Rattle.journal.specs.Codes.{end_before};
+ghost use Rattle.journal.specs.LongRows.{row_size};
 
-use super::codes::{put_head, size_of_head};
-use super::row::{Row, row_of};
+use super::codes::GREATEST_HEAD;
+use super::long_rows::{LONG_WORDS, LongRow, long_at};
+use super::packed_rows::PackedRows;
+use super::row::Row;
 use groups::{RequestId, Stamp};
-use packing::{PackedRequest, put_bytes};
-use resp::{Reply, write_reply};
+use packing::{PackedRequest, grow};
+use resp::{Reply, text_size};
 use std::alloc::{AllocError, Global};
 use std::marker::Model;
+use std::mem;
 
 /// The rows of what was executed, in the order in which they were added. Contracts see the list of them.
+///
+/// Rows lie one behind another in few bytes. Words of more than 128 bytes, and a reply's text that has a block of its
+/// own, lie beside them, in the buffers in which they came.
 #[derive(Drop)]
 pub struct Rows {
-    bytes: Vec<u8>,
-    ends: Vec<usize>,
+    rows: RowsWithRoom,
 }
 
 impl Model for Rows {
@@ -27,11 +32,7 @@ impl Model for Rows {
 
     ghost Value = { List RowView };
 
-    ghost use Rattle.journal.specs.Codes.{rows_in, AreRows};
-
-    ghost view = { λ r. rows_in r.bytes.items r.ends.items };
-
-    ghost invariant = { λ r. AreRows (rows_in r.bytes.items r.ends.items) r.bytes.items r.ends.items };
+    ghost view = { λ r. r.rows.rows };
 }
 
 impl Rows {
@@ -40,8 +41,7 @@ impl Rows {
         ensures { result ≡ [] }
     {
         Rows {
-            bytes: Vec::new(alloc),
-            ends: Vec::new(alloc),
+            rows: RowsWithRoom::new(alloc),
         }
     }
 
@@ -50,76 +50,148 @@ impl Rows {
     pub fn len(&self) -> usize
         ensures { result ≡ length self.now }
     {
-        self.ends.len()
+        self.rows.len()
     }
 
-    /// Adds a row behind the others: a copy of the words, and the reply's text. The only error is want of memory, and
-    /// then the rows are as they were.
-    pub fn push(
+    /// Takes the rows out, with room for so many more, of so many bytes together: no row is left here until they are put
+    /// back. The only error is want of memory, and then the rows are as they were.
+    pub fn take_with_room(
         &mut self,
-        id: RequestId,
-        stamp: &Stamp,
-        words: &PackedRequest,
-        reply: &Reply,
-    ) -> Result<(), AllocError>
-        ensures pushed { let row = row_view id stamp.now words.now (text (content reply.now))
-            in OnOk result (self.new ≡ self.old ++ row ∷ []) }
+        alloc: Global,
+        count: usize,
+        size: usize,
+    ) -> Result<RowsWithRoom, AllocError>
+        ensures taken { IfOk result (λ taken. taken.rows ≡ self.old) }
+        ensures bytes { IfOk result (λ taken. size ≤ taken.bytes) }
+        ensures ends { IfOk result (λ taken. count ≤ taken.ends) }
+        ensures blocks { IfOk result (λ taken. count ≤ taken.blocks) }
         ensures unchanged { OnErr result (self.new ≡ self.old) }
     {
-        let bytes = words.as_bytes();
-        let words_size = bytes.len();
-        let head_size = size_of_head(id, stamp, words_size);
-        let Some(size) = words_size.checked_add(head_size) else {
-            return Err(AllocError);
-        };
-        self.ends.reserve(1)?;
-        self.bytes.reserve(size)?;
-        let start = self.bytes.len();
-        put_head(id, stamp, words_size, &mut self.bytes);
-        put_bytes(bytes, &mut self.bytes);
-        match write_reply(reply, &mut self.bytes) {
-            Ok(()) => {
-                self.ends.push_reserved(self.bytes.len());
-                Ok(())
-            }
-            Err(error) => {
-                self.bytes.truncate(start);
-                Err(error)
-            }
-        }
-    }
-
-    /// Takes back all rows from place `len` on, counted from 0. It takes no memory, and gives none back.
-    pub fn truncate(&mut self, len: usize)
-        ensures { self.new ≡ take len self.old }
-    {
-        if len < self.ends.len() {
-            let end = end_of(self.ends.as_slice(), len);
-            self.bytes.truncate(end);
-            self.ends.truncate(len);
-        }
+        self.rows.reserve(count, size)?;
+        Ok(mem::replace(&mut self.rows, RowsWithRoom::new(alloc)))
     }
 
     /// The row at this place, counted from 0.
     pub fn row(&self, place: usize) -> Option<Row<'_>>
         ensures { result ≡ slice_get self.now place }
     {
-        if place >= self.ends.len() {
-            return None;
-        }
-        let start = end_of(self.ends.as_slice(), place);
-        let end = end_of(self.ends.as_slice(), place + 1);
-        let (_, rest) = self.bytes.as_slice().split_at(start);
-        let size = end - start;
-        let (bytes, _) = rest.split_at(size);
-        Some(row_of(bytes))
+        self.rows.row(place)
     }
 }
 
-/// Where the first `count` rows end.
-fn end_of(ends: &[usize], count: usize) -> usize
-    requires { count ≤ length ends.now }
-    ensures { result ≡ end_before ends.now count }
+/// Rows to which others are added: contracts see beside them for how many more bytes, rows and long rows there is room.
+#[derive(Drop)]
+pub struct RowsWithRoom {
+    packed: PackedRows,
+    long: Vec<LongRow>,
+}
+
+impl Model for RowsWithRoom {
+    ghost use Rattle.std.specs.Prelude.{◌-◌, length, vec_len, vec_capacity};
+    ghost use Rattle.journal.specs.Views.{RoomView};
+    ghost use Rattle.journal.specs.LongRows.{all_whole, Ascend};
+
+    ghost Value = { RoomView };
+
+    ghost view = { λ r. record {
+      rows = all_whole r.long.items 0 r.packed.rows;
+      bytes = r.packed.bytes;
+      ends = r.packed.ends;
+      blocks = vec_capacity r.long - vec_len r.long;
+    } };
+
+    ghost invariant = { λ r. Ascend r.long.items 0 (length r.packed.rows) };
+}
+
+impl RowsWithRoom {
+    fn new(alloc: Global) -> Self
+        ensures { result.rows ≡ [] }
+    {
+        RowsWithRoom {
+            packed: PackedRows::new(alloc),
+            long: Vec::new(alloc),
+        }
+    }
+
+    fn len(&self) -> usize
+        ensures { result ≡ length self.now.rows }
+    {
+        self.packed.len()
+    }
+
+    fn reserve(&mut self, count: usize, size: usize) -> Result<(), AllocError>
+        ensures rows { self.new.rows ≡ self.old.rows }
+        ensures bytes { OnOk result (size ≤ self.new.bytes) }
+        ensures ends { OnOk result (count ≤ self.new.ends) }
+        ensures blocks { OnOk result (count ≤ self.new.blocks) }
+    {
+        grow(&mut self.long, count)?;
+        self.packed.reserve(count, size)
+    }
+
+    /// Adds a row behind the others, for which there is room: the words, and the reply's text. Where this text lies in a
+    /// block, the block itself is kept, and so is the buffer of long words.
+    pub fn push(
+        &mut self,
+        id: RequestId,
+        stamp: &Stamp,
+        words: PackedRequest,
+        reply: &Reply,
+        block: Vec<u8>,
+    )
+        requires text { 0 < length block.items → block.items ≡ text (content reply.now) }
+        requires size { row_size (text (content reply.now)) block.items ≤ self.old.bytes }
+        requires place { 0 < self.old.ends }
+        requires beside { 0 < self.old.blocks }
+        ensures pushed { self.new.rows ≡ self.old.rows ++ row_view id stamp.now words (text (content reply.now)) ∷ [] }
+        ensures bytes { self.old.bytes ≤ self.new.bytes + row_size (text (content reply.now)) block.items }
+        ensures ends { self.old.ends ≤ self.new.ends + 1 }
+        ensures blocks { self.old.blocks ≤ self.new.blocks + 1 }
+    {
+        if block.is_empty() && words.as_bytes().len() <= LONG_WORDS {
+            self.packed.push(id, stamp, words.as_bytes(), reply);
+            return;
+        }
+        let place = self.packed.len();
+        self.packed
+            .push_without_words(id, stamp, reply, block.as_slice());
+        self.long.push_reserved(LongRow {
+            place,
+            words,
+            text: block,
+        });
+    }
+
+    /// The rows, without a promise of room.
+    pub fn into_rows(self) -> Rows
+        ensures { result ≡ self.rows }
+    {
+        Rows { rows: self }
+    }
+
+    fn row(&self, place: usize) -> Option<Row<'_>>
+        ensures { result ≡ slice_get self.now.rows place }
+    {
+        let row = match self.packed.row(place) {
+            Some(row) => row,
+            None => return None,
+        };
+        match long_at(self.long.as_slice(), place) {
+            Some(long) => Some(row.with_long(long)),
+            None => Some(row),
+        }
+    }
+}
+
+/// How many bytes a row takes at most among the packed ones, by its reply, and by the reply's text where that lies in a
+/// block; `None` where that may be 2^64 or more.
+pub fn size_of_row(reply: &Reply, block: &[u8]) -> Option<usize>
+    ensures { IfSome result (λ size. size ≡ row_size (text (content reply.now)) block.now) }
 {
-    if count == 0 { 0 } else { ends[count - 1] }
+    let size = GREATEST_HEAD + LONG_WORDS;
+    if block.is_empty() {
+        text_size(reply)?.checked_add(size)
+    } else {
+        Some(size)
+    }
 }

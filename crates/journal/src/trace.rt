@@ -9,7 +9,7 @@ ghost use Rattle.groups.specs.declared.request.RequestId.{RequestId};
 use super::codes::{put_step, reserve_step, size_of_run, take_step};
 use super::step::Step;
 use groups::ConnId;
-use packing::{PackedWords, number_size};
+use packing::{PackedWords, grow, number_size};
 use std::alloc::{AllocError, Global};
 use std::marker::Model;
 
@@ -113,7 +113,7 @@ impl Trace {
         let Some(size) = size_of_run(starved) else {
             return Err(AllocError);
         };
-        self.bytes.reserve(size)
+        grow(&mut self.bytes, size)
     }
 
     /// How many bytes the steps take, which is the place at which the next one begins.

@@ -100,6 +100,15 @@ number_code-some n = ⊎_elim
     (cases_lt n (2 ^ 32)))
     (cases_lt n 254)
 
+pub number_code-few : (n : ℕ) → length (number_code n) ≤ 9
+number_code-few n = ⊎_elim
+    (λ one. rw (number_code-one n one) (omega arith))
+    (λ more. ⊎_elim
+    (λ four. rw (number_code-four n more four) (omega arith))
+    (λ eight. rw (number_code-eight n eight) (omega arith))
+    (cases_lt n (2 ^ 32)))
+    (cases_lt n 254)
+
 pub ruleset number_codes = (number_code-one, number_code-four, number_code-eight)
 
 -- ---- words

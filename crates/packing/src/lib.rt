@@ -4,11 +4,13 @@
 //! sizes are told first, so that room is taken once and what is put then can't fail.
 #![tactic(auto)]
 
+mod growth;
 mod number;
 mod packed;
 mod packed_request;
 mod words;
 
+pub use growth::grow;
 pub use number::{number_size, put_bytes, put_number, take_number};
 pub use packed::PackedWords;
 pub use packed_request::PackedRequest;

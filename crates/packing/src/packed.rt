@@ -1,16 +1,20 @@
 //! The words of a request in one buffer.
 
-ghost use Rattle.std.specs.Prelude.{◌≡◌, [], length, ◌<◌, slice_get, Some, IfOk, OnOk, OnErr};
+ghost use Rattle.std.specs.Prelude.{◌≡◌, [], length, ◌<◌, ◌≤◌, slice_get, Some, IfOk, OnOk, OnErr, vec_len, vec_capacity};
 ghost use Rattle.packing.specs.Packed.{ArePacked};
 
+use crate::growth::grow;
 use crate::number::take_number;
 use crate::words::{put_words, take_word, words_size};
 use resp::Request;
 use std::alloc::{AllocError, Global};
 use std::marker::Model;
 
-/// The words of a request in one buffer, which is used again for those of the next one. Contracts see the list of the
-/// words: none at first.
+/// A buffer of more bytes than these is given back as soon as words come that need fewer.
+const KEPT_BUFFER: usize = 64 * 1024;
+
+/// The words of a request in one buffer, which is used again for those of the next one; but a large one is given back
+/// after the words that needed it. Contracts see the list of the words: none at first.
 #[derive(Drop)]
 pub struct PackedWords {
     bytes: Vec<u8>,
@@ -47,8 +51,7 @@ impl PackedWords {
         let Some(size) = words_size(words) else {
             return Err(AllocError);
         };
-        self.bytes.reserve(size.saturating_sub(self.bytes.len()))?;
-        self.bytes.clear();
+        make_room(&mut self.bytes, size)?;
         put_words(words, &mut self.bytes);
         Ok(())
     }
@@ -87,4 +90,21 @@ impl PackedWords {
     {
         self.bytes.as_slice()
     }
+}
+
+/// Empties the buffer, with room for so many bytes in it. The only error is want of memory, and then it is as it was.
+fn make_room(bytes: &mut Vec<u8>, size: usize) -> Result<(), AllocError>
+    ensures none { OnOk result ((bytes.new.items ≡ []) × (vec_len bytes.new ≡ 0)) }
+    ensures room { OnOk result (size ≤ vec_capacity bytes.new) }
+    ensures unchanged { OnErr result (bytes.new.items ≡ bytes.old.items) }
+{
+    if size < KEPT_BUFFER && KEPT_BUFFER < bytes.capacity() {
+        if let Ok(smaller) = Vec::with_capacity(*bytes.allocator(), size) {
+            *bytes = smaller;
+            return Ok(());
+        }
+    }
+    grow(bytes, size.saturating_sub(bytes.len()))?;
+    bytes.clear();
+    Ok(())
 }

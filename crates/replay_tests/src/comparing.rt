@@ -1,7 +1,7 @@
 //! That the comparison with one thread on one map is really made.
 
 use groups::{ConnId, GroupId, RequestId, Stamp};
-use journal::Rows;
+use journal::{Rows, size_of_row};
 use packing::PackedRequest;
 use replay::compared;
 use resp::{Reply, Request};
@@ -22,8 +22,11 @@ fn rows_of(alloc: Global, reply: &Reply) -> Result<Rows, AllocError> {
         clock: 1,
         group: GroupId::new(0),
     };
-    rows.push(id, &stamp, &PackedRequest::copy_of(alloc, &request)?, reply)?;
-    Ok(rows)
+    let words = PackedRequest::copy_of(alloc, &request)?;
+    let size = size_of_row(reply, &[]).ok_or(AllocError)?;
+    let mut more = rows.take_with_room(alloc, 1, size)?;
+    more.push(id, &stamp, words, reply, Vec::new(alloc));
+    Ok(more.into_rows())
 }
 
 /// The report of a row that was answered so, with its reply in hexadecimal, and of this dump, ends with this line.

@@ -1,3 +1,4 @@
 pub mod Contents
+pub mod Sizes
 pub mod Texts
 mod Rows

@@ -74,7 +74,7 @@ text-Bulk-written old out shown reply bytes is same goes = goes ∙ rw (is, text
 
 -- ---- parts of an array's text are no longer than it
 
-length-text-Array : (reply : Reply) (replies : Vec Reply) (n : ℕ) → reply ≡ Array replies → n ≡ length replies.items
+pub length-text-Array : (reply : Reply) (replies : Vec Reply) (n : ℕ) → reply ≡ Array replies → n ≡ length replies.items
     → length (text (content reply)) ≡ length (asterisk ∷ decimal n ++ crlf) + length (flat_map reply_text replies.items)
 length-text-Array reply replies n is counted =
     let same : text (content reply) ≡ (asterisk ∷ decimal n ++ crlf) ++ flat_map reply_text replies.items =

@@ -1,3 +1,4 @@
 pub mod Ascii
 pub mod Content
+pub mod LongText
 pub mod Text

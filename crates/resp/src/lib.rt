@@ -5,10 +5,14 @@
 //! in these types; the bytes of requests are read by the crate `resp_decoder`.
 #![tactic(auto)]
 
+mod answered;
 mod reply;
 mod request;
+mod size;
 mod write;
 
+pub use answered::{Answered, LONG, text_block};
 pub use reply::{ErrorText, Reply};
 pub use request::Request;
+pub use size::{bulk_size, text_size};
 pub use write::write_reply;

@@ -3,8 +3,8 @@ use Rattle.std.proofs.lemmas.Option.{slice_get_past}
 use Rattle.journal.specs.Codes.{row_of, rows_in, end_before}
 use Rattle.journal.proofs.CodeLaws.{RowIsIn-read, row_of-code}
 use Rattle.journal.proofs.Kept.{RowAt, length-ends, row-at}
-use Rattle.journal.proofs.rows.Rows.row.Goals as goal
-use Rattle.journal.proofs.rows.Rows.row.Goals.{After-end_of-end, After-split_at-2}
+use Rattle.journal.proofs.packed_rows.PackedRows.row.Goals as goal
+use Rattle.journal.proofs.packed_rows.PackedRows.row.Goals.{After-end_of-end, After-split_at-2}
 
 -- the row at the place, between the two ends
 found : (c : After-end_of-end) → RowAt (rows_in c.self.inside.bytes.items c.self.inside.ends.items) c.self.inside.bytes.items
@@ -28,7 +28,7 @@ cut_out c =
 pub returns-then-place-len : goal.returns-then-place-len
 returns-then-place-len c =
     let long = length-ends _ _ _ c.self.invariant in
-    rw (← c.self.view_is) (sym (slice_get_past _ c.args.place (omega (arith, c.self.inside.ends.ok.0, long))))
+    rw (← ap (λ v. v.rows) c.self.view_is) (sym (slice_get_past _ c.args.place (omega (arith, c.self.inside.ends.ok.0, long))))
 
 pub split_at-requires : goal.split_at-requires
 split_at-requires c =
@@ -53,4 +53,4 @@ returns c =
     let at = found (goal.at.returns c).After-end_of-end in
     let piece = cut_out (goal.at.returns c).After-split_at-2 ∙ at.piece in
     ap Some (c.row_of.ensures ∙ ap row_of piece ∙ row_of-code at.row at.fit) ∙ sym at.here
-    ∙ ap (λ rs. slice_get rs c.args.place) c.self.view_is
+    ∙ ap (λ v. slice_get v.rows c.args.place) c.self.view_is

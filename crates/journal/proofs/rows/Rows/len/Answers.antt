@@ -1,7 +1,0 @@
-use Rattle.std.proofs.Common.{arith}
-use Rattle.journal.proofs.Kept.{length-ends}
-use Rattle.journal.proofs.rows.Rows.len.Goals as goal
-
-pub returns : goal.returns
-returns c =
-    rw (← c.self.view_is) (omega (arith, c.len.ensures, c.self.inside.ends.ok.0, length-ends _ _ _ c.self.invariant))
