@@ -3,7 +3,7 @@ use Rattle.std.proofs.lemmas.List.{append_assoc}
 use Rattle.std.proofs.lemmas.Result.{on_ok_weaker}
 use Rattle.std.specs.Io.KnownBytes.{Appends}
 use Rattle.std.specs.List.{flat_map}
-use Rattle.journal.specs.TraceText.{step_line, ended, max_line, end_line, trace_text}
+use Rattle.journal.specs.TraceText.{step_line, ended, max_line, end_line}
 use Rattle.journal.proofs.Written.{trace-written}
 use Rattle.journal.proofs.ReadBack.{written-spells}
 use Rattle.journal.proofs.Sending.{sent_whole}
