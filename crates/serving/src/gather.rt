@@ -1,7 +1,8 @@
 //! Answering the requests that a decoder holds, with the replies gathered in one buffer.
 
-ghost use Rattle.std.specs.Prelude.{◌≡◌, None, vec_capacity};
+ghost use Rattle.std.specs.Prelude.{◌≡◌, ◌≤◌, [], None, vec_capacity};
 ghost use Rattle.serving.specs.Gathers.{Gathers, AddsReply, AddsLine};
+ghost use Rattle.serving.specs.declared.gather.TheConstants.{KEPT_ROOM};
 
 use crate::door::{Door, DoorFault, TOLD_AT_ONCE};
 use resp::{Reply, Request, write_reply};
@@ -43,8 +44,7 @@ pub(crate) fn gather<D: Door>(
     requires { decoder.old.held.fault ≡ None }
     ensures { Gathers D.asks decoder.old.held decoder.new.held door.old door.new replies.new.items result }
 {
-    replies.clear();
-    replies.shrink_to(KEPT_ROOM);
+    empty(replies);
     while replies.len() <= GATHERED {
         tell(decoder, door, told);
         let taken = match decoder.next() {
@@ -59,6 +59,17 @@ pub(crate) fn gather<D: Door>(
         }
     }
     Pause::Full
+}
+
+/// Empties a buffer. It keeps its room, unless that is more than is kept: then it gives all of it back.
+fn empty(replies: &mut Vec<u8>)
+    ensures items { replies.new.items ≡ [] }
+    ensures room { vec_capacity replies.new ≤ KEPT_ROOM }
+{
+    replies.clear();
+    if replies.capacity() > KEPT_ROOM {
+        replies.shrink_to_fit();
+    }
 }
 
 /// Tells the door what comes next, unless it knows that already.

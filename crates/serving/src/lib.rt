@@ -10,8 +10,6 @@ mod door;
 mod gather;
 mod outcome;
 mod send;
-#[cfg(test)]
-mod tests;
 
 pub use connection::serve;
 pub use door::{Door, DoorFault, TOLD_AT_ONCE};

@@ -4,7 +4,13 @@
 #![tactic(auto)]
 
 #[cfg(test)]
+mod addressed;
+#[cfg(test)]
 mod bodies;
+#[cfg(test)]
+mod connections;
+#[cfg(test)]
+mod doors;
 #[cfg(test)]
 mod families;
 #[cfg(test)]

@@ -97,7 +97,7 @@ fn a_request_may_be_cut_anywhere(rt: HostRuntime) -> Result<(), Fail> {
 }
 
 /// The command that the line says.
-fn command(alloc: Global, line: &str) -> Result<Command, Fail> {
+pub(crate) fn command(alloc: Global, line: &str) -> Result<Command, Fail> {
     Ok(read_line(alloc, line)??)
 }
 

@@ -24,7 +24,7 @@ pub(crate) fn read_line(alloc: Global, line: &str) -> Result<Read, AllocError> {
 }
 
 /// Lets a value go. What that takes for each kind of command is seen here alone.
-fn discard<T: Drop>(_value: T) {}
+pub(crate) fn discard<T: Drop>(_value: T) {}
 
 /// The refusal has this text, and its reply too.
 fn says(alloc: Global, line: &str, refusal: &Refusal, want: &str) -> Result<(), Fail> {

@@ -1,10 +1,10 @@
-use Rattle.std.proofs.Common.{arith, ◌∙◌}
+use Rattle.std.proofs.Common.{arith}
 use Rattle.resp_decoder.proofs.Taking.{taking_shorter}
 use Rattle.serving.proofs.GatherLemmas.{gathering_start, gathering_more, gathers_full, gathers_waits, gathers_line, gathers_reply}
 use Rattle.serving.proofs.gather.gather.Goals as goal
 
 pub loop-decoder-init : goal.loop-decoder-init
-loop-decoder-init g c = gathering_start g.D.Door.asks _ _ _ (c.shrink_to.ensures.items ∙ c.clear.ensures.items)
+loop-decoder-init g c = gathering_start g.D.Door.asks _ _ _ c.empty.ensures.items
 
 pub returns-in-Err : goal.returns-in-Err
 returns-in-Err g c =
