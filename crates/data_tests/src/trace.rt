@@ -1,7 +1,7 @@
 //! What no clause says: known texts, and that the calls succeed where there is memory.
 
 use groups::{ConnId, GroupId, RequestId, Stamp};
-use journal::{Row, Rows, Step, Trace, TraceFault, read_back, read_trace, write_trace};
+use journal::{Row, Rows, Step, Steps, Trace, TraceFault, read_back, read_trace, write_trace};
 use packing::PackedRequest;
 use resp::{Reply, Request};
 use std::alloc::{AllocError, Global};
@@ -160,15 +160,19 @@ fn request_of(seq: u64) -> RequestId {
     }
 }
 
+/// The words that are read of a row.
+fn has_words(request: &Request) -> Result<(), Fail> {
+    same_count("words that are read", request.len(), 3)?;
+    same_bytes("the second of them", request.word(1), b"a")
+}
+
 /// The row is that of this number.
 fn is_row(alloc: Global, row: &Row, seq: u64) -> Result<(), Fail> {
     same("its request", &row.id(), &request_of(seq))?;
     same_number("its clock", row.stamp().clock, seq)?;
     same_count("its words", row.word_count(), 3)?;
     same_bytes("its reply", row.reply(), b":-1\r\n")?;
-    let request = row.request(alloc)?;
-    same_count("words that are read", request.len(), 3)?;
-    same_bytes("the second of them", request.word(1), b"a")
+    has_words(&row.request(alloc)?)
 }
 
 /// Adds the row of this number.
@@ -182,6 +186,16 @@ fn add(alloc: Global, rows: &mut Rows, seq: u64) -> Result<(), Fail> {
     Ok(())
 }
 
+/// Just the first 299 rows are kept.
+fn are_kept(alloc: Global, rows: &Rows) -> Result<(), Fail> {
+    same_count("rows", rows.len(), 299)?;
+    holds("the row that was taken back", rows.row(299).is_none())?;
+    match rows.row(298) {
+        Some(row) => is_row(alloc, &row, 298),
+        None => Err("no last row".into()),
+    }
+}
+
 #[test]
 fn rows_are_kept_and_taken_back(rt: HostRuntime) -> Result<(), Fail> {
     let mut rows = Rows::new(rt.alloc());
@@ -189,12 +203,7 @@ fn rows_are_kept_and_taken_back(rt: HostRuntime) -> Result<(), Fail> {
         add(rt.alloc(), &mut rows, seq)?;
     }
     rows.truncate(299);
-    same_count("rows", rows.len(), 299)?;
-    holds("the row that was taken back", rows.row(299).is_none())?;
-    match rows.row(298) {
-        Some(row) => is_row(rt.alloc(), &row, 298),
-        None => Err("no last row".into()),
-    }
+    are_kept(rt.alloc(), &rows)
 }
 
 #[test]
@@ -210,18 +219,22 @@ fn a_reserved_step_is_added(rt: HostRuntime) -> Result<(), Fail> {
     holds_both(rt.alloc(), &read_back(rt.alloc(), &trace)?)
 }
 
+/// The next step is a Submit, if `submits`, and else the Deliver of place 1000.
+fn comes(alloc: Global, steps: &mut Steps<'_>, submits: bool) -> Result<(), Fail> {
+    match steps.next(alloc)? {
+        Some(Step::Submit { .. }) => holds("a Submit", submits),
+        Some(Step::Deliver { place: 1000 }) => holds("a Deliver", !submits),
+        _ => Err("another step, or none".into()),
+    }
+}
+
 /// A trace of a Submit and the Deliver of place 1000.
 fn holds_both(alloc: Global, trace: &Trace) -> Result<(), Fail> {
     same_number("its most", trace.max(), 7)?;
     same_count("its steps", trace.len(), 2)?;
     let mut steps = trace.steps();
     same_count("steps to come", steps.len(), 2)?;
-    let first = steps.next(alloc)?;
-    holds("a Submit", matches!(&first, Some(Step::Submit { .. })))?;
-    let second = steps.next(alloc)?;
-    holds(
-        "a Deliver",
-        matches!(&second, Some(Step::Deliver { place: 1000 })),
-    )?;
+    comes(alloc, &mut steps, true)?;
+    comes(alloc, &mut steps, false)?;
     holds("no more", steps.next(alloc)?.is_none())
 }

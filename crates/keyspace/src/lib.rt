@@ -6,8 +6,6 @@
 
 mod listed;
 mod plain;
-#[cfg(test)]
-mod tests;
 
 ghost use Rattle.std.specs.Prelude.{◌≡◌, ℕ, List, Bool, IsTrue, IsSome, OnOk, OnErr, IfOk, IfErr, pos, min};
 ghost use Rattle.std.specs.FinMap as map;
