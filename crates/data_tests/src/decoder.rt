@@ -79,22 +79,22 @@ fn reads_rows_wherever_they_are_cut(rt: HostRuntime) -> Result<(), Fail> {
 
 #[test]
 fn waits_until_the_last_byte(rt: HostRuntime) -> Result<(), Fail> {
-    let stream = bytes_of(rt.alloc(), "*3|$3|SET|$1|a|$1|1|")?;
+    let stream = b"*3\r\n$3\r\nSET\r\n$1\r\na\r\n$1\r\n1\r\n";
     let mut decoder = Decoder::new(rt.alloc(), Limits::DEFAULT);
-    holds("nothing is fed", !decoder.pending())?;
     for (place, byte) in stream.iter().enumerate() {
-        same("pending before", &decoder.pending(), &(place > 0))?;
-        takes_byte(rt.alloc(), &mut decoder, place, *byte)?;
+        takes_byte(&mut decoder, place, *byte)?;
     }
     holds("all is read", !decoder.pending())
 }
 
-/// The decoder is fed the byte of this place, and has a request with the last one alone.
-fn takes_byte(alloc: Global, decoder: &mut Decoder, place: usize, byte: u8) -> Result<(), Fail> {
+/// The decoder is fed the byte of this place: it holds something from the first one on, and has a request with the last
+/// one alone.
+fn takes_byte(decoder: &mut Decoder, place: usize, byte: u8) -> Result<(), Fail> {
+    holds("pending before", decoder.pending() == (place > 0))?;
     decoder.feed(&[byte])?;
     holds("pending behind", decoder.pending())?;
-    let line = format!(in alloc; "after byte {place}")?;
-    same(line.as_str(), &decoder.next()?.is_some(), &(place == 26))
+    let has_come = decoder.next()?.is_some();
+    holds("a request at the last byte", has_come == (place == 26))
 }
 
 #[test]
@@ -117,48 +117,59 @@ fn retried(decoder: &mut Decoder) -> Result<Option<Request>, Fault> {
 }
 
 /// The request is ECHO hi.
-fn echoes(request: &Request) -> Result<(), Fail> {
+fn is_echo(request: Option<Request>) -> Result<(), Fail> {
+    let request = request.ok_or("no request")?;
     same_count("words", request.len(), 2)?;
     same_bytes("the first word", request.word(0), b"ECHO")?;
     same_bytes("the second word", request.word(1), b"hi")
 }
 
+/// The request is PING.
+fn is_ping(request: Option<Request>) -> Result<(), Fail> {
+    let request = request.ok_or("no last request")?;
+    same_count("words of the last request", request.len(), 1)
+}
+
+/// Feeds a decoder, once more where there was no memory. What it then answers.
+fn answered(decoder: &mut Decoder, piece: &[u8]) -> Result<Option<Request>, Fail> {
+    if decoder.feed(piece).is_err() {
+        decoder.feed(piece)?;
+    }
+    Ok(retried(decoder)?)
+}
+
 /// It passes as well where any one allocation fails: nothing that was held is lost.
 #[test]
 fn goes_on_where_memory_was_refused(rt: HostRuntime) -> Result<(), Fail> {
-    let mut decoder = Decoder::new(rt.alloc(), Limits::DEFAULT);
-    let pieces: [&[u8]; 2] = [
-        b"*0\r\n*2\r\n$4\r\nECHO\r\n$2\r\nh",
-        b"i\r\n*0\r\n*1\r\n$4\r\nPING\r\n",
-    ];
-    for (place, piece) in pieces.iter().enumerate() {
-        if decoder.feed(piece).is_err() {
-            decoder.feed(piece)?;
-        }
-        match retried(&mut decoder)? {
-            None => same_count("a piece without a request", place, 0)?,
-            Some(request) => {
-                same_count("the piece with a request", place, 1)?;
-                echoes(&request)?;
-            }
-        }
-    }
-    let last = retried(&mut decoder)?.ok_or("the last request")?;
-    same_count("words of the last request", last.len(), 1)?;
+    let decoder = &mut Decoder::new(rt.alloc(), Limits::DEFAULT);
+    let none = answered(decoder, b"*0\r\n*2\r\n$4\r\nECHO\r\n$2\r\nh")?;
+    holds("no request yet", none.is_none())?;
+    is_echo(answered(decoder, b"i\r\n*0\r\n*1\r\n$4\r\nPING\r\n")?)?;
+    is_ping(retried(decoder)?)?;
     holds("all is read", !decoder.pending())
+}
+
+/// A request of one word of 2 MB.
+fn large_request(alloc: Global) -> Result<Vec<u8>, AllocError> {
+    let mut bytes = bytes_of(alloc, "*1|$2000000|")?;
+    bytes.extend_from_slice(&Vec::from_elem(alloc, b'x', 2_000_000)?)?;
+    bytes.extend_from_slice(b"\r\n")?;
+    Ok(bytes)
+}
+
+/// Pieces of 1,000 bytes.
+fn pieces_of(alloc: Global, bytes: &[u8]) -> Result<Vec<&[u8]>, AllocError> {
+    let mut pieces = Vec::new(alloc);
+    for piece in bytes.chunks(1000) {
+        pieces.push(piece)?;
+    }
+    Ok(pieces)
 }
 
 #[test]
 fn reads_two_thousand_pieces_and_large_words(rt: HostRuntime) -> Result<(), Fail> {
-    let mut word = bytes_of(rt.alloc(), "*1|$2000000|")?;
-    for _ in 0..2000 {
-        word.extend_from_slice(&[b'x'; 1000])?;
-    }
-    word.extend_from_slice(b"\r\n")?;
-    let mut pieces: Vec<&[u8]> = Vec::new(rt.alloc());
-    for piece in word.chunks(1000) {
-        pieces.push(piece)?;
-    }
+    let bytes = large_request(rt.alloc())?;
+    let pieces = pieces_of(rt.alloc(), &bytes)?;
     let decoded = decode_all(rt.alloc(), Limits::DEFAULT, &pieces)?;
     // `[`, the word, `]` and `;`.
     same_count("bytes", shown(rt.alloc(), &decoded)?.len(), 2_000_003)
@@ -190,12 +201,17 @@ fn seen_ahead(alloc: Global, decoder: &Decoder) -> Result<Vec<u8>, AllocError> {
     Ok(seen)
 }
 
+/// A decoder that is fed this too shows these words.
+fn shows_behind(alloc: Global, decoder: &mut Decoder, fed: &str, words: &str) -> Result<(), Fail> {
+    decoder.feed(&bytes_of(alloc, fed)?)?;
+    let seen = seen_ahead(alloc, decoder)?;
+    same_bytes(fed, &seen, words.as_bytes())
+}
+
 /// A decoder that is fed so shows these words.
 fn shows_ahead(alloc: Global, fed: &str, words: &str) -> Result<(), Fail> {
     let mut decoder = Decoder::new(alloc, Limits::DEFAULT);
-    decoder.feed(&bytes_of(alloc, fed)?)?;
-    let seen = seen_ahead(alloc, &decoder)?;
-    same_bytes(fed, &seen, words.as_bytes())
+    shows_behind(alloc, &mut decoder, fed, words)
 }
 
 fn shows_each_ahead(alloc: Global, rows: &[Row]) -> Result<(), Fail> {
@@ -213,10 +229,10 @@ fn sees_the_second_words_ahead(rt: HostRuntime) -> Result<(), Fail> {
 
 #[test]
 fn sees_behind_a_request_that_is_open(rt: HostRuntime) -> Result<(), Fail> {
-    let mut decoder = Decoder::new(rt.alloc(), Limits::DEFAULT);
-    decoder.feed(&bytes_of(rt.alloc(), "*3|$3|SET|$1|a|$2")?)?;
+    let alloc = rt.alloc();
+    let mut decoder = Decoder::new(alloc, Limits::DEFAULT);
+    decoder.feed(b"*3\r\n$3\r\nSET\r\n$1\r\na\r\n$2")?;
     holds("a request is open", decoder.next()?.is_none())?;
-    decoder.feed(&bytes_of(rt.alloc(), "|xy|*2|$3|GET|$1|b|*2|$3|GET|$1|c|")?)?;
-    let seen = seen_ahead(rt.alloc(), &decoder)?;
-    same_bytes("behind it", &seen, b" b c")
+    let row = "|xy|*2|$3|GET|$1|b|*2|$3|GET|$1|c|";
+    shows_behind(alloc, &mut decoder, row, " b c")
 }

@@ -1,22 +1,12 @@
 //! The text of a dump: keys in order, each kind of value, and the empty text.
 
+use crate::keys::{Keys, no_keys, put};
 use dumps::Dump;
-use keyspace::{Keyspace, Plain};
-use std::alloc::{AllocError, Global};
-use std::hash::{BuildHasherDefault, FoldHasher};
+use std::alloc::Global;
 use std::test::Fail;
 use test_support::{same_bytes, same_count};
 use texts::{End, Pairs, Text, Texts};
 use values::{HashValue, ListValue, SetValue, Value};
-
-type Keys = Plain<BuildHasherDefault<FoldHasher>>;
-
-fn put(alloc: Global, keys: &mut Keys, key: &[u8], value: Value) -> Result<(), Fail> {
-    match keys.put(key.to_vec(alloc)?, value) {
-        Ok(_) => Ok(()),
-        Err(_) => Err(Fail::from(AllocError)),
-    }
-}
 
 fn texts(alloc: Global, words: &[&str]) -> Result<Vec<Vec<u8>>, Fail> {
     let mut texts = Vec::new(alloc);
@@ -28,7 +18,7 @@ fn texts(alloc: Global, words: &[&str]) -> Result<Vec<Vec<u8>>, Fail> {
 
 /// A map with each kind of value.
 fn filled(alloc: Global) -> Result<Keys, Fail> {
-    let mut keys = Plain::new(alloc, BuildHasherDefault::<FoldHasher>::new());
+    let mut keys = no_keys(alloc);
     let text = Text::copy_of(alloc, b"1")?;
     put(alloc, &mut keys, b"c", Value::Str(text))?;
     put(alloc, &mut keys, b"", Value::Str(Text::empty(alloc)))?;

@@ -11,6 +11,8 @@ mod group;
 #[cfg(test)]
 mod group_sets;
 #[cfg(test)]
+mod keys;
+#[cfg(test)]
 mod places;
 #[cfg(test)]
 mod rows;

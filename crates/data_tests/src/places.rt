@@ -1,8 +1,6 @@
-//! Places known from outside, tables as a user writes them, and the groups of requests in the words of a user.
+//! Places known from outside, and tables as a user writes them.
 
-use command_table::{Command, read};
 use placement::{Table, TableFault, hash_of, slot_of, tag_of};
-use resp::Request;
 use std::alloc::Global;
 use std::test::Fail;
 use test_support::{holds, same, same_bytes, same_count, same_number, same_text};
@@ -187,67 +185,6 @@ fn reads_a_hundred_thousand_ranges(rt: HostRuntime) -> Result<(), Fail> {
     text.push(']')?;
     let line = "slots in many ranges";
     refused(rt.alloc(), line, text.as_str(), &TableFault::Twice)
-}
-
-/// Requests, and the groups of 64 that each addresses.
-#[rattlefmt::skip]
-const ADDRESSED: [(&str, &[u8]); 6] = [
-    ("GET ", &[50]), ("DEL c a", &[8, 63]), ("DEL z a b {a}1 z", &[8, 26, 38]), ("SET y a", &[21]), ("PING", &[]), ("ECHO a", &[]),
-];
-
-fn addresses_each(alloc: Global, table: &Table, rows: &[(&str, &[u8])]) -> Result<(), Fail> {
-    for row in rows {
-        let (line, want) = *row;
-        same_bytes(line, &groups_addressed(alloc, table, line)?, want)?;
-    }
-    Ok(())
-}
-
-#[test]
-fn addresses_the_shards_of_the_keys(rt: HostRuntime) -> Result<(), Fail> {
-    let text = table_of_64_shards(rt.alloc())?;
-    let table = Table::from_toml(rt.alloc(), text.as_str())?;
-    addresses_each(rt.alloc(), &table, &ADDRESSED)
-}
-
-// A table of 64 shards, with 16 slots each.
-fn table_of_64_shards(alloc: Global) -> Result<String, Fail> {
-    let mut text = String::from_str(alloc, "shards = 64\n")?;
-    for shard in 0..64u16 {
-        let (from, to) = (16 * shard, 16 * shard + 15);
-        write!(
-            text,
-            "[[range]]\nfrom = {from}\nto = {to}\nshard = {shard}\n"
-        )?;
-    }
-    Ok(text)
-}
-
-// The numbers of the groups that the words of this line address.
-fn groups_addressed(alloc: Global, table: &Table, line: &str) -> Result<Vec<u8>, Fail> {
-    let command = command(alloc, line)?;
-    let groups = table.groups(&command);
-    discard(command);
-    let mut numbers = Vec::new(alloc);
-    for group in groups.iter() {
-        numbers.push(group.number())?;
-    }
-    Ok(numbers)
-}
-
-// Lets a value go. What that takes for each kind of command is seen here alone.
-fn discard<T: Drop>(_value: T) {}
-
-// The command of the words that stand in the line, one space apart.
-fn command(alloc: Global, line: &str) -> Result<Command, Fail> {
-    let mut words = Vec::new(alloc);
-    for word in line.split(' ') {
-        words.push(Vec::from_slice(alloc, word.as_bytes())?)?;
-    }
-    if words.is_empty() {
-        return Err("no words".into());
-    }
-    Ok(read(Request::from_words(words))?)
 }
 
 /// Faults, and the text of each.

@@ -2,13 +2,14 @@
 
 use groups::{ConnId, GroupId, RequestId, Stamp};
 use journal::{
-    Row, Rows, Step, Trace, TraceFault, read_back, read_trace, size_of_row, write_trace,
+    Row, Rows, SendFault, Step, Steps, Trace, TraceFault, read_back, read_trace, send_trace,
+    size_of_row, write_trace,
 };
 use packing::PackedRequest;
 use resp::{Answered, Reply, Request, write_reply};
 use std::alloc::{AllocError, Global};
 use std::test::Fail;
-use test_support::{holds, same, same_bytes, same_count, same_number};
+use test_support::{NEVER, Sink, holds, same, same_bytes, same_count, same_number};
 
 /// Two requests that cross, each of both groups.
 const CROSSING: &str = "shardkv-trace 1\nmax 1000\nopen\nopen\nsubmit 1 4d534554 61 31 63 32\n\
@@ -177,15 +178,19 @@ fn reply_of_row(alloc: Global, seq: u64) -> Result<Reply, AllocError> {
     Ok(Reply::Bulk(Vec::from_slice(alloc, &[b'r'; 300])?))
 }
 
+/// These are the words that are read of a row.
+fn has_words(request: &Request, wanted: &Request) -> Result<(), Fail> {
+    same_count("words that are read", request.len(), 3)?;
+    same_bytes("the second of them", request.word(1), wanted.word(1))
+}
+
 /// The row is that of this number.
 fn is_row(alloc: Global, row: &Row, seq: u64) -> Result<(), Fail> {
     same("its request", &row.id(), &request_of(seq))?;
     same_number("its clock", row.stamp().clock, seq)?;
     let wanted = request_of_row(alloc, seq)?;
     same_count("its words", row.word_count(), 3)?;
-    let request = row.request(alloc)?;
-    same_count("words that are read", request.len(), 3)?;
-    same_bytes("the second of them", request.word(1), wanted.word(1))?;
+    has_words(&row.request(alloc)?, &wanted)?;
     let mut text = Vec::new(alloc);
     write_reply(&reply_of_row(alloc, seq)?, &mut text)?;
     same_bytes("its reply", row.reply(), text.as_slice())
@@ -208,6 +213,17 @@ fn add(alloc: Global, rows: &mut Rows, seq: u64) -> Result<(), Fail> {
     Ok(())
 }
 
+/// All 300 rows are there.
+fn are_kept(alloc: Global, rows: &Rows) -> Result<(), Fail> {
+    for seq in 0..300 {
+        match rows.row(seq as usize) {
+            Some(row) => is_row(alloc, &row, seq)?,
+            None => return Err("no such row".into()),
+        }
+    }
+    Ok(())
+}
+
 #[test]
 fn rows_are_kept_short_and_long(rt: HostRuntime) -> Result<(), Fail> {
     let mut rows = Rows::new(rt.alloc());
@@ -216,11 +232,38 @@ fn rows_are_kept_short_and_long(rt: HostRuntime) -> Result<(), Fail> {
     }
     same_count("rows", rows.len(), 300)?;
     holds("a row behind the last", rows.row(300).is_none())?;
-    for seq in 0..300 {
-        match rows.row(seq as usize) {
-            Some(row) => is_row(rt.alloc(), &row, seq)?,
-            None => return Err("no such row".into()),
-        }
+    are_kept(rt.alloc(), &rows)
+}
+
+/// A trace of 20,000 Delivers, whose text is four pieces and a rest.
+fn long_trace(alloc: Global) -> Result<Trace, AllocError> {
+    let mut trace = Trace::new(alloc, 1 << 40);
+    for place in 0..20_000 {
+        trace.push(&Step::Deliver { place })?;
+    }
+    Ok(trace)
+}
+
+#[test]
+fn a_trace_is_sent_by_pieces(rt: HostRuntime) -> Result<(), Fail> {
+    let alloc = rt.alloc();
+    let trace = long_trace(alloc)?;
+    let mut text = Vec::new(alloc);
+    write_trace(&trace, &mut text)?;
+    let mut sink = Sink::new(alloc, 10_000);
+    same("sent", &send_trace(alloc, &trace, &mut sink), &Ok(()))?;
+    same_bytes("its text", sink.taken.as_slice(), text.as_slice())
+}
+
+/// Each piece is taken by one write, of which one fails.
+#[test]
+fn a_trace_whose_write_fails(rt: HostRuntime) -> Result<(), Fail> {
+    let alloc = rt.alloc();
+    let trace = long_trace(alloc)?;
+    for failing in 0..5 {
+        let mut sink = Sink::new(alloc, NEVER);
+        sink.fails_at = failing;
+        same("sent", &send_trace(alloc, &trace, &mut sink), &Err(SendFault::Write))?;
     }
     Ok(())
 }
@@ -238,18 +281,22 @@ fn a_reserved_step_is_added(rt: HostRuntime) -> Result<(), Fail> {
     holds_both(rt.alloc(), &read_back(rt.alloc(), &trace)?)
 }
 
+/// The next step is a Submit, if `submits`, and else the Deliver of place 1000.
+fn comes(alloc: Global, steps: &mut Steps<'_>, submits: bool) -> Result<(), Fail> {
+    match steps.next(alloc)? {
+        Some(Step::Submit { .. }) => holds("a Submit", submits),
+        Some(Step::Deliver { place: 1000 }) => holds("a Deliver", !submits),
+        _ => Err("another step, or none".into()),
+    }
+}
+
 /// A trace of a Submit and the Deliver of place 1000.
 fn holds_both(alloc: Global, trace: &Trace) -> Result<(), Fail> {
     same_number("its most", trace.max(), 7)?;
     same_count("its steps", trace.len(), 2)?;
     let mut steps = trace.steps();
     same_count("steps to come", steps.len(), 2)?;
-    let first = steps.next(alloc)?;
-    holds("a Submit", matches!(&first, Some(Step::Submit { .. })))?;
-    let second = steps.next(alloc)?;
-    holds(
-        "a Deliver",
-        matches!(&second, Some(Step::Deliver { place: 1000 })),
-    )?;
+    comes(alloc, &mut steps, true)?;
+    comes(alloc, &mut steps, false)?;
     holds("no more", steps.next(alloc)?.is_none())
 }

@@ -6,15 +6,16 @@ use std::test::Fail;
 use test_support::{same_bytes, same_count};
 
 fn every_kind(alloc: Global) -> Result<Reply, AllocError> {
-    let mut inner = Vec::new(alloc);
-    inner.push(Reply::Int(-10))?;
-    inner.push(Reply::Null)?;
-    let mut replies = Vec::new(alloc);
-    replies.push(Reply::Simple("OK"))?;
-    replies.push(Reply::Error(ErrorText::Arity("get")))?;
-    replies.push(Reply::Array(inner))?;
-    replies.push(Reply::Bulk(Vec::from_slice(alloc, b"a\r\nb")?))?;
-    Ok(Reply::Array(replies))
+    let bytes = Vec::from_slice(alloc, b"a\r\nb")?;
+    let inner = vec![in alloc; Reply::Int(-10), Reply::Null]?;
+    let error = Reply::Error(ErrorText::Arity("get"));
+    let kinds = [
+        Reply::Simple("OK"),
+        error,
+        Reply::Array(inner),
+        Reply::Bulk(bytes),
+    ];
+    Ok(Reply::Array(Vec::from_array(alloc, kinds)?))
 }
 
 #[test]
@@ -27,17 +28,21 @@ fn writes_every_kind_behind_what_is_there(rt: HostRuntime) -> Result<(), Fail> {
     same_bytes("every kind", &out, want.as_bytes())
 }
 
+/// The request has four words, of which this is the last.
+fn has_words(request: &Request, large: &[u8]) -> Result<(), Fail> {
+    same_count("words", request.len(), 4)?;
+    same_bytes("the second word", request.word(1), b"a")?;
+    same_bytes("the last word", request.word(3), large)
+}
+
 #[test]
 fn keeps_the_words_of_a_request(rt: HostRuntime) -> Result<(), Fail> {
     let large = Vec::from_elem(rt.alloc(), b'x', 2_000_000)?;
     let words: &[&[u8]] = &[b"SET", b"a", b"", &large];
     let request = Request::copy_of(rt.alloc(), words)?;
-    same_count("words", request.len(), 4)?;
-    same_count("bytes of the last word", request.word(3).len(), 2_000_000)?;
-    same_bytes("the second word", request.word(1), b"a")?;
+    has_words(&request, &large)?;
     let copy = request.try_clone(rt.alloc())?;
-    same_count("words of the copy", copy.len(), 4)?;
-    same_bytes("the last word of the copy", copy.word(3), &large)?;
+    has_words(&copy, &large)?;
     let again = Request::from_words(copy.into_words());
     same_bytes("the first word again", again.word(0), b"SET")
 }

@@ -1,6 +1,6 @@
 //! A keyspace in one hashed table.
 
-ghost use Rattle.std.specs.Prelude.{◌≡◌};
+ghost use Rattle.std.specs.Prelude.{◌≡◌, ◌≤◌};
 ghost use Rattle.std.specs.FinMap as map;
 
 use crate::{Keyspace, Listed};
@@ -20,7 +20,7 @@ const KEPT_ROOM: usize = 1024;
 /// given back.
 #[derive(Drop)]
 pub struct Plain<S: BuildHasher> {
-    pub(super) entries: IndexMap<HashedText, Value, S>,
+    entries: IndexMap<HashedText, Value, S>,
 }
 
 impl<S: BuildHasher> Plain<S> {
@@ -31,6 +31,15 @@ impl<S: BuildHasher> Plain<S> {
         Plain {
             entries: IndexMap::with_hasher(alloc, hasher),
         }
+    }
+
+    /// For how many keys there is room: for those that are there, and perhaps for more.
+    pub fn capacity(&self) -> usize
+        ensures { map.len (⟦<Plain<S> as Keyspace>⟧.contents self.now) ≤ result }
+    {
+        // `len` is called for its clause that no key lies there twice, which the proof cites.
+        let _len = self.entries.len();
+        self.entries.capacity()
     }
 }
 

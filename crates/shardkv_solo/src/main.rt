@@ -6,6 +6,9 @@
 //! is told on standard error.
 #![tactic(auto)]
 
+ghost use Rattle.std.specs.Prelude.{◌≡◌};
+ghost use Rattle.shardkv_solo.specs.Status as spec;
+
 use serving::{ServeFault, Served};
 use solo::Solo;
 use std::convert::Infallible;
@@ -18,41 +21,24 @@ fn main(rt: HostRuntime) -> ExitCode {
     let served = store.serve(&mut rt.stdin(), &mut rt.stdout());
     // The process ends: the system takes its memory back whole, and no key is let go one by one before.
     mem::forget(store);
-    let (status, fault) = status_of(served);
-    if let Some(fault) = fault {
-        let _ = eprintln!(rt; "shardkv-solo: {fault}");
-    }
-    ExitCode::from(status)
+    let _ = match &served {
+        Ok(Served::Inside) => eprintln!(rt; "shardkv-solo: input ends inside a request"),
+        Ok(_) => Ok(()),
+        Err(fault) => eprintln!(rt; "shardkv-solo: {fault}"),
+    };
+    ExitCode::from(status_of(served))
 }
 
-/// The status for how serving ended, and what is told on standard error.
-fn status_of(served: Result<Served, ServeFault<Infallible>>) -> (u8, Option<&'static str>) {
+/// The status for how serving ended.
+fn status_of(served: Result<Served, ServeFault<Infallible>>) -> u8
+    ensures { result ≡ spec.status_of served }
+{
     match served {
-        Ok(Served::End) => (0, None),
-        Ok(Served::Protocol(_)) => (1, None),
-        Ok(Served::Inside) => (1, Some("input ends inside a request")),
-        Err(ServeFault::Read) => (2, Some("a read failed")),
-        Err(ServeFault::Write) => (2, Some("a write failed")),
-        Err(ServeFault::Memory) => (3, Some("out of memory")),
-    }
-}
-
-#[cfg(test)]
-mod tests {
-    use super::*;
-    use resp_decoder::Fault;
-
-    #[test]
-    fn each_ending_has_its_status(rt: HostRuntime) {
-        for (served, status, fault) in [
-            (Ok(Served::End), 0, None),
-            (Ok(Served::Protocol(Fault::BadLength)), 1, None),
-            (Ok(Served::Inside), 1, Some("input ends inside a request")),
-            (Err(ServeFault::Read), 2, Some("a read failed")),
-            (Err(ServeFault::Write), 2, Some("a write failed")),
-            (Err(ServeFault::Memory), 3, Some("out of memory")),
-        ] {
-            assert_eq!(rt; status_of(served), (status, fault));
-        }
+        Ok(Served::End) => 0,
+        Ok(Served::Protocol(_)) => 1,
+        Ok(Served::Inside) => 1,
+        Err(ServeFault::Read) => 2,
+        Err(ServeFault::Write) => 2,
+        Err(ServeFault::Memory) => 3,
     }
 }
