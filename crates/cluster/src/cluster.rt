@@ -37,6 +37,9 @@ use std::sync::ledger::{Blank, Book, Ledger, Share};
 use system::{Effect, StepFault, System};
 use thiserror::Error;
 
+/// A buffer of words is used again where it has no more bytes than these.
+const KEPT_SPARE: usize = 64 * 1024;
+
 /// What is known of a connection's requests: how many it has submitted, and where in the trace's bytes the last Submit
 /// begins.
 #[derive(Clone, Copy, Debug)]
@@ -308,7 +311,11 @@ impl<L: Ledger> Cluster<L> {
         self.book.add(&mut seat.share, 1);
         self.requests += 1;
         seat.count += 1;
-        mem::swap(&mut seat.words, &mut self.spare);
+        let said = mem::replace(&mut self.spare, PackedWords::new(self.alloc));
+        let before = mem::replace(&mut seat.words, said);
+        if before.as_bytes().len() <= KEPT_SPARE {
+            self.spare = before;
+        }
         Ok(id)
     }
 
@@ -444,6 +451,13 @@ impl<L: Ledger> Cluster<L> {
             executed,
             starved,
         })
+    }
+
+    /// How many requests were submitted.
+    pub fn requests(&self) -> u64
+        ensures { result ≡ submits self.now.history.steps }
+    {
+        self.requests
     }
 
     /// The trace: all steps that were made.

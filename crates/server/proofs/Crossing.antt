@@ -12,10 +12,16 @@ use denote.Struct.Struct.{Struct}
 use denote.Struct.Declared as declared
 use denote.Struct.Tuple.{TupleAt, type_at}
 use Rattle.std.proofs.Crossing.{crosses}
+use Rattle.std.proofs.MapsCrossing as maps
+use Rattle.std_heap.specs.contracts.Global as Heap
+use Rattle.std_heap.specs.contracts.GlobalAllocator.TheImpl.{ghosts}
+use Rattle.std_alloc.specs.contracts.arc.Arc as Arc
 use Rattle.std.specs.contracts.net.tcp.TcpStream as TcpStream
 use Rattle.std.specs.contracts.num.NonZeroUsize as NonZeroUsize
 use Rattle.std.specs.declared.sync.ledger.Ledger.{Ghosts}
 use Rattle.cluster_sending.proofs.Crossing.{cluster_send}
+use Rattle.server.specs.contracts.faults.FirstFault as FirstFault
+use Rattle.server.specs.contracts.streams.Streams as Streams
 use Rattle.server_waiting.specs.contracts.endings.Endings as Endings
 use Rattle.shared_cluster.proofs.Crossing.{shared_sync}
 use Rattle.shared_cluster.specs.contracts.desk.Turns as Turns
@@ -25,7 +31,7 @@ use Rattle.system.specs.contracts.system.System as System
 pub shared_syncs : (L : RattleType) (g : Ghosts L.Denot) → IsSend System.the_row → IsSync (Shared.the_row L g)
 shared_syncs L g s = shared_sync L g (cluster_send L g s)
 
-stream_send : IsSend TcpStream.the_row
+stream_send : IsSend (Arc.the_row TcpStream.the_row Heap.the_row ghosts)
 stream_send = search (sendable, crosses) depth 40 fits 3000
 
 turns_send : IsSend Turns.the_row
@@ -37,31 +43,46 @@ u64_send = search sendable depth 20
 endings_sync : IsSync Endings.the_row
 endings_sync = search (sendable, crosses) depth 40 fits 3000
 
+faults_sync : IsSync FirstFault.the_row
+faults_sync = search (sendable, crosses) depth 40 fits 3000
+
+streams_sync : IsSync Streams.the_row
+streams_sync = search (sendable, crosses, maps.BTreeMap-send) depth 40 fits 3000
+
 workers_send : IsSend NonZeroUsize.the_row
 workers_send = search (sendable, crosses) depth 40 fits 3000
 
 module _ (δ : Ty) (ν : Sym) (L R : RattleType) (g : Ghosts L.Denot) where
   -- what the thread of a connection captures
-  abbrev pub served : (ℓ₁ : Lifetime) (κ₁ : Lft) (ℓ₂ : Lifetime) (κ₂ : Lft) (ℓ₃ : Lifetime) (κ₃ : Lft) → List RattleType
-  served ℓ₁ κ₁ ℓ₂ κ₂ ℓ₃ κ₃ =
-      ShrRef ℓ₁ κ₁ (param 1 R) ∷ ShrRef ℓ₂ κ₂ (Shared.the_row (param 0 L) g) ∷ TcpStream.the_row ∷ Turns.the_row
-      ∷ ShrRef ℓ₃ κ₃ Endings.the_row ∷ (u64-field).row ∷ []
+  abbrev pub served : (ℓ₁ : Lifetime) (κ₁ : Lft) (ℓ₂ : Lifetime) (κ₂ : Lft) (ℓ₃ : Lifetime) (κ₃ : Lft) (ℓ₄ : Lifetime) (κ₄ : Lft)
+      (ℓ₅ : Lifetime) (κ₅ : Lft) → List RattleType
+  served ℓ₁ κ₁ ℓ₂ κ₂ ℓ₃ κ₃ ℓ₄ κ₄ ℓ₅ κ₅ =
+      ShrRef ℓ₁ κ₁ (Shared.the_row (param 0 L) g) ∷ Turns.the_row ∷ (u64-field).row ∷ ShrRef ℓ₂ κ₂ FirstFault.the_row
+      ∷ ShrRef ℓ₃ κ₃ (param 1 R) ∷ Arc.the_row TcpStream.the_row Heap.the_row ghosts ∷ ShrRef ℓ₄ κ₄ Streams.the_row
+      ∷ (u64-field).row ∷ ShrRef ℓ₅ κ₅ Endings.the_row ∷ []
 
-  pub served_send : (ℓ₁ : Lifetime) (κ₁ : Lft) (ℓ₂ : Lifetime) (κ₂ : Lft) (ℓ₃ : Lifetime) (κ₃ : Lft) → IsSync R → IsSend System.the_row
-      → IsSend (param 1 (arg δ no (TupleAt ν (served ℓ₁ κ₁ ℓ₂ κ₂ ℓ₃ κ₃))))
-  served_send ℓ₁ κ₁ ℓ₂ κ₂ ℓ₃ κ₃ r s =
-      let T = type_at ν (served ℓ₁ κ₁ ℓ₂ κ₂ ℓ₃ κ₃) in
+  pub served_send : (ℓ₁ : Lifetime) (κ₁ : Lft) (ℓ₂ : Lifetime) (κ₂ : Lft) (ℓ₃ : Lifetime) (κ₃ : Lft) (ℓ₄ : Lifetime) (κ₄ : Lft)
+      (ℓ₅ : Lifetime) (κ₅ : Lft) → IsSync R → IsSend System.the_row
+      → IsSend (param 1 (arg δ no (TupleAt ν (served ℓ₁ κ₁ ℓ₂ κ₂ ℓ₃ κ₃ ℓ₄ κ₄ ℓ₅ κ₅))))
+  served_send ℓ₁ κ₁ ℓ₂ κ₂ ℓ₃ κ₃ ℓ₄ κ₄ ℓ₅ κ₅ r s =
+      let T = type_at ν (served ℓ₁ κ₁ ℓ₂ κ₂ ℓ₃ κ₃ ℓ₄ κ₄ ℓ₅ κ₅) in
       let sends : AllSend (declared.fields T) = (
-        shr_send ℓ₁ κ₁ (param 1 R) (param_sync 1 R r),
+        shr_send ℓ₁ κ₁ (Shared.the_row (param 0 L) g) (shared_syncs (param 0 L) g s),
         (
-          shr_send ℓ₂ κ₂ (Shared.the_row (param 0 L) g) (shared_syncs (param 0 L) g s),
+          turns_send,
           (
-            stream_send,
+            u64_send,
             (
-              turns_send,
+              shr_send ℓ₂ κ₂ FirstFault.the_row faults_sync,
               (
-                shr_send ℓ₃ κ₃ Endings.the_row endings_sync,
-                (u64_send, tt),
+                shr_send ℓ₃ κ₃ (param 1 R) (param_sync 1 R r),
+                (
+                  stream_send,
+                  (
+                    shr_send ℓ₄ κ₄ Streams.the_row streams_sync,
+                    (u64_send, (shr_send ℓ₅ κ₅ Endings.the_row endings_sync, tt)),
+                  ),
+                ),
               ),
             ),
           ),
@@ -71,16 +92,21 @@ module _ (δ : Ty) (ν : Sym) (L R : RattleType) (g : Ghosts L.Denot) where
       (recorded_send (Struct (declared.shape T)) T.D T.to T.to_one (struct_send (declared.shape T) sends)))
 
   -- what the thread that drives captures
-  abbrev pub driver : (ℓ₁ : Lifetime) (κ₁ : Lft) (ℓ₂ : Lifetime) (κ₂ : Lft) → List RattleType
-  driver ℓ₁ κ₁ ℓ₂ κ₂ = ShrRef ℓ₁ κ₁ (param 1 R) ∷ ShrRef ℓ₂ κ₂ (Shared.the_row (param 0 L) g) ∷ NonZeroUsize.the_row ∷ []
+  abbrev pub driver : (ℓ₁ : Lifetime) (κ₁ : Lft) (ℓ₂ : Lifetime) (κ₂ : Lft) (ℓ₃ : Lifetime) (κ₃ : Lft) → List RattleType
+  driver ℓ₁ κ₁ ℓ₂ κ₂ ℓ₃ κ₃ =
+      ShrRef ℓ₁ κ₁ (Shared.the_row (param 0 L) g) ∷ (u64-field).row ∷ ShrRef ℓ₂ κ₂ FirstFault.the_row ∷ ShrRef ℓ₃ κ₃ (param 1 R)
+      ∷ NonZeroUsize.the_row ∷ []
 
-  pub driver_send : (ℓ₁ : Lifetime) (κ₁ : Lft) (ℓ₂ : Lifetime) (κ₂ : Lft) → IsSync R → IsSend System.the_row
-      → IsSend (param 1 (arg δ no (TupleAt ν (driver ℓ₁ κ₁ ℓ₂ κ₂))))
-  driver_send ℓ₁ κ₁ ℓ₂ κ₂ r s =
-      let T = type_at ν (driver ℓ₁ κ₁ ℓ₂ κ₂) in
+  pub driver_send : (ℓ₁ : Lifetime) (κ₁ : Lft) (ℓ₂ : Lifetime) (κ₂ : Lft) (ℓ₃ : Lifetime) (κ₃ : Lft) → IsSync R → IsSend System.the_row
+      → IsSend (param 1 (arg δ no (TupleAt ν (driver ℓ₁ κ₁ ℓ₂ κ₂ ℓ₃ κ₃))))
+  driver_send ℓ₁ κ₁ ℓ₂ κ₂ ℓ₃ κ₃ r s =
+      let T = type_at ν (driver ℓ₁ κ₁ ℓ₂ κ₂ ℓ₃ κ₃) in
       let sends : AllSend (declared.fields T) = (
-        shr_send ℓ₁ κ₁ (param 1 R) (param_sync 1 R r),
-        (shr_send ℓ₂ κ₂ (Shared.the_row (param 0 L) g) (shared_syncs (param 0 L) g s), (workers_send, tt)),
+        shr_send ℓ₁ κ₁ (Shared.the_row (param 0 L) g) (shared_syncs (param 0 L) g s),
+        (
+          u64_send,
+          (shr_send ℓ₂ κ₂ FirstFault.the_row faults_sync, (shr_send ℓ₃ κ₃ (param 1 R) (param_sync 1 R r), (workers_send, tt))),
+        ),
       ) in
       param_send 1 (arg δ no (declared.row T)) (arg_send δ no (declared.row T)
       (recorded_send (Struct (declared.shape T)) T.D T.to T.to_one (struct_send (declared.shape T) sends)))

@@ -1,8 +1,13 @@
 //! A server of many connections over one cluster: `host` serves the connections that come to a listener, a thread each.
 #![tactic(auto)]
 
+mod accepting;
+mod connection;
+mod faults;
 mod hosting;
 mod sending;
+mod streams;
+mod trace_file;
 
 pub use hosting::host;
 pub use sending::shared_syncs;

@@ -2,8 +2,9 @@
 
 use std::alloc::{AllocError, Global};
 use std::collections::BTreeMap;
-use std::sync::{Condvar, Mutex, Wait};
+use std::sync::{Condvar, CondvarTimeouts, Mutex, Wait};
 use std::thread::{JoinHandle, Threads};
+use std::time::{Clock, Duration};
 
 /// The numbers of the connections that have ended since their threads were joined last. A thread tells of its own end;
 /// the one that takes connections joins it.
@@ -42,6 +43,14 @@ impl Endings {
                 return;
             }
             numbers = self.more.wait(rt, numbers);
+        }
+    }
+
+    /// Waits for so long at most until a connection has ended.
+    pub fn wait_within<R: Wait + Clock>(&self, rt: &R, most: Duration) {
+        let numbers = self.numbers.lock(rt);
+        if numbers.is_empty() {
+            let _ = self.more.wait_timeout(rt, numbers, most);
         }
     }
 

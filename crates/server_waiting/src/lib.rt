@@ -5,9 +5,11 @@
 #![tactic(auto)]
 
 mod endings;
+mod pause;
 mod turnstile;
 mod waiting;
 
 pub use endings::Endings;
+pub use pause::Pause;
 pub use turnstile::Turnstile;
 pub use waiting::Waiting;

@@ -1,6 +1,7 @@
 -- What was collected is what came of the seat's last request; what a closed cluster tells, and its trace.
-use Rattle.std.proofs.Common.{◌≡◌, ◌∙◌, ap, sym, subst, refl, ℕ, false, List, ◌++◌, Some, Result, Ok, Err, OnOk, OnErr, IfOk}
+use Rattle.std.proofs.Common.{◌≡◌, ◌∙◌, ap, sym, subst, refl, ℕ, false, List, ◌++◌, Option, Some, Result, Ok, Err, OnOk, OnErr, IfOk}
 use Rattle.std.proofs.Common.{IfErr, inr, length}
+use Rattle.std.specs.Io.KnownBytes.{Appends}
 use Rattle.cluster.proofs.Submits.{said_still}
 use Rattle.cluster.specs.Answers.{shown_outcome}
 use Rattle.cluster.specs.Answers as cluster_answer
@@ -19,7 +20,7 @@ use Rattle.resp.specs.declared.reply.Reply.{Reply}
 use Rattle.router.specs.declared.outcome.Outcome as kept
 use Rattle.shared_cluster.specs.Asks.{submitted, IsAnswered, IsReplied, IsCollectFault, IsAskFault}
 use Rattle.shared_cluster.specs.declared.held.AskFault.{AskFault}
-use Rattle.shared_cluster.specs.Closings.{Closes, Writes, IsClosed, IsCloseFault, IsWritten}
+use Rattle.shared_cluster.specs.Closings.{Closes, Writes, Sends, IsClosed, IsCloseFault, IsWritten, IsSent}
 use Rattle.system.specs.System.{IsQuiet}
 use Rattle.system.specs.declared.effect.Effect.TheVariants.{Collected}
 use Rattle.system_view.specs.Connections.{outcome_shown}
@@ -85,6 +86,11 @@ pub written_of : {E : Type 0} (h : HistoryView) (r : Result Unit E) (before afte
 written_of h (Ok done) before after lawful text = record { lawful = lawful; text = text }
 written_of h (Err fault) before after lawful text = tt
 
+pub sent_of : {E : Type 0} (h : HistoryView) (r : Result Unit E) (before after : Option (List ℕ)) → (has_failed h ≡ false → IsLawful h)
+    → OnOk r (Appends before after (trace_text h.max_steps h.steps)) → OnOk r (Sends h before after)
+sent_of h (Ok done) before after lawful text = record { lawful = lawful; text = text }
+sent_of h (Err fault) before after lawful text = tt
+
 -- ---- the same of a shared cluster
 
 pub found_closed : (k : ClusterView) (r : Result Closing CloseFault) → IfOk r (Closes k) → IfOk r IsClosed
@@ -99,6 +105,11 @@ pub found_written : {E : Type 0} (h : HistoryView) (r : Result Unit E) (before a
     → OnOk r (IsWritten before after)
 found_written h (Ok done) before after written = (h, written)
 found_written h (Err fault) before after written = tt
+
+pub found_sent : {E : Type 0} (h : HistoryView) (r : Result Unit E) (before after : Option (List ℕ)) → OnOk r (Sends h before after)
+    → OnOk r (IsSent before after)
+found_sent h (Ok done) before after sent = (h, sent)
+found_sent h (Err fault) before after sent = tt
 
 -- what is refused once the request was submitted
 pub waited_fault : {X : Type 0} (old mid : SeatView) (words : List (List ℕ)) (r : Result X AskFault) (new : SeatView)

@@ -1,5 +1,6 @@
 -- What is told of a shared cluster that is closed, and of its trace.
-use Rattle.std.specs.Prelude.{◌≡◌, ℕ, false, List, ◌++◌, length}
+use Rattle.std.specs.Prelude.{◌≡◌, ℕ, false, List, ◌++◌, length, Option}
+use Rattle.std.specs.Io.KnownBytes.{Appends}
 use Rattle.cluster.specs.Clusters.{ClusterView}
 use Rattle.cluster.specs.Clusters as cluster
 use Rattle.cluster.specs.Histories.{HistoryView, has_failed, IsLawful}
@@ -25,6 +26,11 @@ pub record Writes (h : HistoryView) (before after : List ℕ) : Type 0 where
   pub lawful : has_failed h ≡ false → IsLawful h
   pub text : after ≡ before ++ trace_text h.max_steps h.steps
 
+-- The text of this history's trace was written behind what was there. It is lawful, unless a worker's start was refused.
+pub record Sends (h : HistoryView) (before after : Option (List ℕ)) : Type 0 where
+  pub lawful : has_failed h ≡ false → IsLawful h
+  pub text : Appends before after (trace_text h.max_steps h.steps)
+
 -- ---- the same of a shared cluster, which was such a one when it was locked
 
 -- a cluster was closed
@@ -38,3 +44,11 @@ IsCloseFault fault = (c : ClusterView) × cluster.IsCloseFault c fault
 -- the text of a trace was appended
 abbrev pub IsWritten : List ℕ → List ℕ → Type 0
 IsWritten before after = (h : HistoryView) × Writes h before after
+
+-- the text of a trace was written
+abbrev pub IsSent : Option (List ℕ) → Option (List ℕ) → Type 0
+IsSent before after = (h : HistoryView) × Sends h before after
+
+-- so many requests had been submitted
+abbrev pub HasSubmitted : ℕ → Type 0
+HasSubmitted count = (h : HistoryView) × (count ≡ submits h.steps)

@@ -12,6 +12,7 @@ use resp::{Reply, Request};
 use serving::{Door, DoorFault};
 use std::sync::Wait;
 use std::sync::ledger::Ledger;
+use std::time::Clock;
 
 /// Who makes the turns that a request needs.
 #[derive(Clone, Copy, Debug, PartialEq, Eq)]
@@ -31,14 +32,14 @@ const COMBINE_SETS: [&[u8]; 3] = [b"sinter", b"sunion", b"sdiff"];
 ///
 /// A request for which there is no memory is answered so, and the connection goes on; any other refusal ends it.
 #[derive(Drop)]
-pub struct Desk<'a, L: Ledger, R: Wait> {
+pub struct Desk<'a, L: Ledger, R: Wait + Clock> {
     rt: &'a R,
     shared: &'a Shared<L>,
     seat: Seat<L>,
     turns: Turns,
 }
 
-impl<'a, L: Ledger, R: Wait> Desk<'a, L, R> {
+impl<'a, L: Ledger, R: Wait + Clock> Desk<'a, L, R> {
     /// The desk of this seat, whose requests are brought on by those who make the turns.
     pub fn new(rt: &'a R, shared: &'a Shared<L>, seat: Seat<L>, turns: Turns) -> Self
         ensures seat { result.seat ≡ seat }
@@ -86,7 +87,7 @@ fn combines_sets(name: &[u8]) -> bool {
     false
 }
 
-impl<'a, L: Ledger, R: Wait> Door for Desk<'a, L, R> {
+impl<'a, L: Ledger, R: Wait + Clock> Door for Desk<'a, L, R> {
     ghost use Rattle.shared_cluster.specs.Desks.{Asks};
 
     type Reason = AskFault;

@@ -1,23 +1,25 @@
 //! What the lock guards: a cluster, and whether it is shut. No other module makes a fault of an ask.
 
-ghost use Rattle.std.specs.Prelude.{◌≡◌, ◌+◌, ◌⊎◌, true, OnErr, OnOk, IfOk, IfErr, IfSome, IfNone};
+ghost use Rattle.std.specs.Prelude.{◌≡◌, ◌+◌, ◌⊎◌, true, false, OnErr, OnOk, IfOk, IfErr, IfSome, IfNone};
 ghost use Rattle.cluster.specs.Answers.{shown_outcome};
 ghost use Rattle.resp.specs.Content.{content};
 ghost use Rattle.shared_cluster.specs.Asks.{submitted, IsNewSeat, IsAnswered, IsReplied, RefusesSit, RefusesSubmit, RefusesCollect, RefusesTurn};
-ghost use Rattle.shared_cluster.specs.Closings.{Closes, Writes};
+ghost use Rattle.shared_cluster.specs.Closings.{Closes, Writes, Sends};
 ghost use Rattle.shared_cluster.specs.Turning.{GoesOn};
 ghost use Rattle.cluster.specs.Clusters.{IsCloseFault};
-ghost use Rattle.cluster.specs.Histories.{IsFault, IsMade, IsUnchanged};
+ghost use Rattle.cluster.specs.Histories.{has_failed, IsFault, IsMade, IsUnchanged};
+ghost use Rattle.cluster.specs.Submits.{submits};
 ghost use Rattle.journal.specs.declared.step.Step.{Step};
 ghost use Rattle.system.specs.declared.effect.Effect.{Effect};
 ghost use Rattle.system.specs.declared.fault.StepFault.{StepFault};
 
 use crate::fault::{AskStep, FaultKind, lasting, told};
 use cluster::{Answer, CloseFault, Closing, Cluster, Pick, Seat};
-use journal::write_trace;
+use journal::{SendFault, send_trace, write_trace};
 use resp::{Reply, Request};
 use shard_workers::{Gate, Workers};
 use std::alloc::AllocError;
+use std::io::Write;
 use std::sync::ledger::Ledger;
 use system::Progress;
 use thiserror::Error;
@@ -47,11 +49,18 @@ impl AskFault {
     }
 }
 
+/// How much is kept back for turns that find no memory.
+pub(crate) const RESERVE: usize = 256 * 1024;
+
 /// A cluster, and whether it is shut: then no one sits or asks any more.
+///
+/// Beside it memory is kept back. A turn that finds none lets it go, so that what is under way comes to its end; and no
+/// one sits or submits before it is taken again.
 #[derive(Drop)]
 pub(crate) struct Held<L: Ledger> {
     pub cluster: Cluster<L>,
     pub shut: bool,
+    pub reserve: Vec<u8>,
 }
 
 /// How the turns go on.
@@ -80,6 +89,12 @@ impl<L: Ledger> Held<L> {
             });
         }
         self.cluster.lawful();
+        if self.is_short() {
+            return Err(AskFault {
+                kind: FaultKind::Memory,
+                step,
+            });
+        }
         match self.cluster.sit() {
             Ok(seat) => {
                 self.cluster.lawful();
@@ -107,6 +122,12 @@ impl<L: Ledger> Held<L> {
             });
         }
         self.cluster.lawful();
+        if self.is_short() {
+            return Err(AskFault {
+                kind: FaultKind::Memory,
+                step,
+            });
+        }
         match self.cluster.submit(seat, words) {
             Ok(_) => Ok(()),
             Err(fault) => Err(AskFault {
@@ -114,6 +135,16 @@ impl<L: Ledger> Held<L> {
                 step,
             }),
         }
+    }
+
+    /// Takes the memory again that is kept back for turns, where it was let go. Says whether there is none for it.
+    fn is_short(&mut self) -> bool
+        ensures short { result ≡ true → has_failed self.old.cluster.history ≡ false }
+        ensures rest { (self.new.cluster ≡ self.old.cluster) × (self.new.shut ≡ self.old.shut) }
+    {
+        !self.cluster.system().has_failed()
+            && self.reserve.capacity() < RESERVE
+            && self.reserve.reserve(RESERVE).is_err()
     }
 
     /// What came of the seat's last request, with its words, if it is there. A want of memory is no refusal: it is not
@@ -200,9 +231,26 @@ impl<L: Ledger> Held<L> {
             Ok(false) => Ok(Turn::Quiet),
             Err(fault) => match lasting(fault) {
                 Some(kind) => Err(AskFault { kind, step }),
-                None => Ok(Turn::Starved),
+                None => {
+                    self.let_reserve_go();
+                    Ok(Turn::Starved)
+                }
             },
         }
+    }
+
+    /// Gives back what is kept back for turns.
+    fn let_reserve_go(&mut self)
+        ensures { (self.new.cluster ≡ self.old.cluster) × (self.new.shut ≡ self.old.shut) }
+    {
+        self.reserve = Vec::new(*self.reserve.allocator());
+    }
+
+    /// How many requests were submitted.
+    pub fn requests(&self) -> u64
+        ensures { result ≡ submits self.now.cluster.history.steps }
+    {
+        self.cluster.requests()
     }
 
     /// Shuts: no one sits or asks any more.
@@ -241,5 +289,13 @@ impl<L: Ledger> Held<L> {
     {
         self.cluster.lawful();
         write_trace(self.cluster.trace(), out)
+    }
+
+    /// Writes the text of the trace, piece by piece.
+    pub fn send_trace<W: Write>(&self, writer: &mut W) -> Result<(), SendFault>
+        ensures { OnOk result (Sends self.now.cluster.history (W.contents writer.old) (W.contents writer.new)) }
+    {
+        self.cluster.lawful();
+        send_trace(*self.reserve.allocator(), self.cluster.trace(), writer)
     }
 }

@@ -8,21 +8,24 @@ ghost use Rattle.cluster.specs.Answers.{shown_outcome};
 ghost use Rattle.resp.specs.Content.{content};
 ghost use Rattle.shared_cluster.specs.Asks.{submitted, IsNewSeat, IsAnswered, IsReplied, IsSitFault, IsSubmitFault, IsCollectFault, IsAskFault};
 ghost use Rattle.shared_cluster.specs.Asks.{IsStopped};
-ghost use Rattle.shared_cluster.specs.Closings.{IsClosed, IsCloseFault, IsWritten};
+ghost use Rattle.shared_cluster.specs.Closings.{IsClosed, IsCloseFault, IsWritten, IsSent, HasSubmitted};
 ghost use Rattle.journal.specs.declared.trace.TheConstants.{GREATEST_STEPS};
 
-use crate::held::{AskFault, Held, Turn};
+use crate::held::{AskFault, Held, RESERVE, Turn};
 use cluster::{Answer, CloseFault, Closing, Cluster, First, Pick, Seat};
+use groups::ConnId;
+use journal::SendFault;
 use placement::Table;
 use resp::{Reply, Request};
-use server_waiting::{Turnstile, Waiting};
+use server_waiting::{Pause, Turnstile, Waiting};
 use shard_workers::{Gate, InTurn, Open, Workers};
 use shards::ShardHasher;
 use std::alloc::{AllocError, Global};
+use std::io::Write;
 use std::num::NonZeroUsize;
 use std::sync::ledger::{Blank, Ledger};
 use std::sync::{Condvar, Mutex, Wait};
-use std::thread;
+use std::time::Clock;
 use system::System;
 
 /// The requests of a layer share no shard, of which there are no more.
@@ -56,10 +59,12 @@ impl<L: Ledger> Shared<L> {
         requires few { max_steps ≤ GREATEST_STEPS }
     {
         let cluster = Cluster::new(alloc, table, max_steps, hasher, blank)?;
+        let reserve = Vec::with_capacity(alloc, RESERVE)?;
         Ok(Shared {
             held: Mutex::new(Held {
                 cluster,
                 shut: false,
+                reserve,
             }),
             work: Condvar::new(),
             done: Waiting::new(),
@@ -82,7 +87,7 @@ impl<L: Ledger> Shared<L> {
 
     /// Submits a request of these words, and waits until another thread that drives the cluster has brought what came
     /// of it.
-    pub fn ask<R: Wait>(
+    pub fn ask<R: Wait + Clock>(
         &self,
         rt: &R,
         seat: &mut Seat<L>,
@@ -103,7 +108,7 @@ impl<L: Ledger> Shared<L> {
 
     /// Submits a request of these words, and makes turns until what came of it is there. It gives the reply alone. Each
     /// turn brings the oldest packet on, or a layer with one worker.
-    pub fn ask_turning<R: Wait>(
+    pub fn ask_turning<R: Wait + Clock>(
         &self,
         rt: &R,
         seat: &mut Seat<L>,
@@ -119,7 +124,7 @@ impl<L: Ledger> Shared<L> {
     }
 
     /// What `ask` answers, of which it gives the reply alone.
-    pub fn ask_driven<R: Wait>(
+    pub fn ask_driven<R: Wait + Clock>(
         &self,
         rt: &R,
         seat: &mut Seat<L>,
@@ -137,7 +142,7 @@ impl<L: Ledger> Shared<L> {
     /// Makes turns until it is shut and nothing is under way. A turn for which there is no memory is tried again.
     ///
     /// It ends by `Exhausted` where no more steps may be made, and by `Failed` where a worker could not be started.
-    pub fn drive<P: Pick, W: Workers, R: Wait>(
+    pub fn drive<P: Pick, W: Workers, R: Wait + Clock>(
         &self,
         rt: &R,
         pick: &P,
@@ -146,8 +151,9 @@ impl<L: Ledger> Shared<L> {
     ) -> Result<(), AskFault>
         ensures { IfErr result IsStopped }
     {
+        let mut pause = Pause::new();
         for _ in rt.forever() {
-            match self.drive_once(rt, pick, workers, gate) {
+            match self.drive_once(rt, pick, workers, gate, &mut pause) {
                 Ok(true) => {}
                 Ok(false) => return Ok(()),
                 Err(fault) => {
@@ -178,6 +184,21 @@ impl<L: Ledger> Shared<L> {
         self.held.lock(rt).write_trace(out)
     }
 
+    /// Writes the text of the trace, by pieces of some 64 KiB, or of one step where that is longer. It holds the lock
+    /// meanwhile. With an error a part of it may have been written.
+    pub fn send_trace<R: Wait, W: Write>(&self, rt: &R, writer: &mut W) -> Result<(), SendFault>
+        ensures { OnOk result (IsSent (W.contents writer.old) (W.contents writer.new)) }
+    {
+        self.held.lock(rt).send_trace(writer)
+    }
+
+    /// How many requests were submitted so far.
+    pub fn requests<R: Wait>(&self, rt: &R) -> u64
+        ensures { HasSubmitted result }
+    {
+        self.held.lock(rt).requests()
+    }
+
     /// What is told of the cluster when it is closed: all seats have stood, and nothing is under way. It changes
     /// nothing.
     pub fn close<R: Wait>(&self, rt: &R) -> Result<Closing, CloseFault>
@@ -197,12 +218,13 @@ impl<L: Ledger> Shared<L> {
     }
 
     /// Waits until what came of the seat's last request is there.
-    fn wait<R: Wait>(&self, rt: &R, seat: &mut Seat<L>) -> Result<Answer, AskFault>
+    fn wait<R: Wait + Clock>(&self, rt: &R, seat: &mut Seat<L>) -> Result<Answer, AskFault>
         ensures answered { IfOk result (λ a. IsAnswered seat.old (shown_outcome a) seat.new) }
         ensures words { IfOk result (λ a. a.words ≡ seat.old.words) }
         ensures refused { IfErr result (IsCollectFault seat.old) }
         ensures unchanged { OnErr result (seat.new ≡ seat.old) }
     {
+        let mut pause = Pause::new();
         let mut held = self.held.lock(rt);
         for _ in rt.forever() {
             match held.collect(seat) {
@@ -216,21 +238,22 @@ impl<L: Ledger> Shared<L> {
             }
             // There was no memory to collect it.
             drop(held);
-            thread::yield_now();
+            pause.sleep(rt);
             held = self.held.lock(rt);
         }
         unreachable!()
     }
 
     /// Makes turns until what came of the seat's last request is there.
-    fn turn_until_replied<R: Wait>(&self, rt: &R, seat: &mut Seat<L>) -> Result<Reply, AskFault>
+    fn turn_until_replied<R: Wait + Clock>(&self, rt: &R, seat: &mut Seat<L>) -> Result<Reply, AskFault>
         ensures replied { IfOk result (λ reply. IsReplied seat.old (content reply) seat.new) }
         ensures refused { IfErr result (IsCollectFault seat.old) }
         ensures unchanged { OnErr result (seat.new ≡ seat.old) }
     {
         let mut may_wait = true;
+        let mut pause = Pause::new();
         for _ in rt.forever() {
-            match self.turn_or_collect(rt, seat, &mut may_wait) {
+            match self.turn_or_collect(rt, seat, &mut may_wait, &mut pause) {
                 Ok(Some(reply)) => return Ok(reply),
                 Ok(None) => {}
                 Err(fault) => return Err(fault),
@@ -243,11 +266,12 @@ impl<L: Ledger> Shared<L> {
     ///
     /// It is looked for where it may wait: it is there at once, or comes with a Settle. Where another thread made that
     /// Settle it is found once nothing is under way, or after the next one that is made here.
-    fn turn_or_collect<R: Wait>(
+    fn turn_or_collect<R: Wait + Clock>(
         &self,
         rt: &R,
         seat: &mut Seat<L>,
         may_wait: &mut bool,
+        pause: &mut Pause,
     ) -> Result<Option<Reply>, AskFault>
         ensures replied { IfOk result (λ reply. IfSome reply (λ r. IsReplied seat.old (content r) seat.new)) }
         ensures unasked { IfOk result (λ reply. IfNone reply (seat.new ≡ seat.old)) }
@@ -260,9 +284,16 @@ impl<L: Ledger> Shared<L> {
             match held.turn(&First, &InTurn(NonZeroUsize::MIN), &Open) {
                 // Nothing comes any more: it is there, or the seat is told why.
                 Ok(Turn::Quiet) => {}
+                Ok(Turn::Starved) => {
+                    drop(held);
+                    *may_wait = true;
+                    self.let_others_pass(rt, seat.conn(), pause);
+                    return Ok(None);
+                }
                 Ok(turn) => {
                     self.wake_settled(turn, held.cluster.system(), rows);
                     *may_wait = turn != Turn::Made { settled: false };
+                    pause.end();
                     return Ok(None);
                 }
                 Err(fault) => return Err(fault),
@@ -271,20 +302,33 @@ impl<L: Ledger> Shared<L> {
         held.collect_reply(seat)
     }
 
+    /// Sleeps where there was no memory for a turn, outside the turnstile, so that others are answered and may give
+    /// theirs back.
+    fn let_others_pass<R: Wait + Clock>(&self, rt: &R, conn: ConnId, pause: &mut Pause) {
+        self.turnstile.leave(rt, conn);
+        pause.sleep(rt);
+        self.turnstile.enter(rt, conn);
+    }
+
     /// Makes a turn, or waits for one to be there to be made. Says whether it is to go on.
-    fn drive_once<P: Pick, W: Workers, R: Wait>(
+    fn drive_once<P: Pick, W: Workers, R: Wait + Clock>(
         &self,
         rt: &R,
         pick: &P,
         workers: &W,
         gate: &(dyn Gate + Sync),
+        pause: &mut Pause,
     ) -> Result<bool, AskFault>
         ensures { IfErr result IsStopped }
     {
         let mut held = self.held.lock(rt);
         let rows = held.cluster.system().rows().len();
         match held.turn(pick, workers, gate) {
-            Ok(Turn::Starved) => thread::yield_now(),
+            Ok(Turn::Starved) => {
+                drop(held);
+                pause.sleep(rt);
+                return Ok(true);
+            }
             Ok(Turn::Quiet) => {
                 if held.shut {
                     return Ok(false);
@@ -294,6 +338,7 @@ impl<L: Ledger> Shared<L> {
             Ok(turn) => self.wake_settled(turn, held.cluster.system(), rows),
             Err(fault) => return Err(fault),
         }
+        pause.end();
         Ok(true)
     }
 

@@ -1,0 +1,136 @@
+//! Serving one connection.
+
+use crate::faults::{FirstFault, HostFault};
+use resp_decoder::Limits;
+use serving::{Door, ServeFault, Served, serve};
+use shared_cluster::{AskFault, Desk, FaultKind, Shared, Turns};
+use std::fmt::Display;
+use std::io::{ErrorKind, Read, Write};
+use std::net::{Net, Shutdown, TcpStream};
+use std::sync::Wait;
+use std::sync::ledger::Ledger;
+use std::time::{Clock, Duration, Instant};
+
+/// For how many milliseconds at most what a connection still sends is read and dropped, before it is closed.
+const LINGERING: u64 = 300;
+
+/// How many bytes an error line has at most.
+const LONGEST_LINE: usize = 128;
+
+/// How much of what still comes is read at once.
+const DROPPED: usize = 4096;
+
+/// What a connection is served with: the cluster, who makes its turns, and where a fault of the whole server is told.
+#[derive(Drop)]
+pub(crate) struct Service<'a, L: Ledger> {
+    pub shared: &'a Shared<L>,
+    pub turns: Turns,
+    pub max_steps: u64,
+    pub faults: &'a FirstFault,
+}
+
+/// Serves one connection, at a seat of its own.
+pub(crate) fn serve_connection<L: Ledger, R>(rt: &R, service: &Service<'_, L>, stream: &TcpStream)
+where
+    R: Wait + AllocGlobal + Eprint + Net + Clock,
+{
+    let _ = stream.set_nodelay(true);
+    let seat = match service.shared.sit(rt) {
+        Ok(seat) => seat,
+        Err(fault) => return end_by(rt, service, stream, fault),
+    };
+    let mut desk = Desk::new(rt, service.shared, seat, service.turns);
+    let mut reader = stream;
+    let mut writer = stream;
+    let served = serve(
+        rt.alloc(),
+        Limits::DEFAULT,
+        &mut reader,
+        &mut writer,
+        &mut desk,
+    );
+    desk.rest();
+    service.shared.stand(rt, desk.into_seat());
+    match served {
+        Ok(Served::End | Served::Inside) | Err(ServeFault::Read | ServeFault::Write) => {}
+        Ok(Served::Protocol(_)) => linger(rt, stream, Duration::from_millis(LINGERING)),
+        Err(ServeFault::Memory) => say(rt, stream, "out of memory", LINGERING),
+        Err(ServeFault::Door(fault)) => end_by(rt, service, stream, fault),
+    }
+}
+
+/// Ends a connection by the fault with which it was refused, which may be one of the whole server.
+fn end_by<L: Ledger, R: Wait + Eprint + Net + Clock>(
+    rt: &R,
+    service: &Service<'_, L>,
+    stream: &TcpStream,
+    fault: AskFault,
+) {
+    service.meet(rt, &fault);
+    service.faults.wake(rt);
+    say(rt, stream, fault, LINGERING);
+}
+
+impl<L: Ledger> Service<'_, L> {
+    /// A fault of the whole server is met, where an ask or a drive was refused by one.
+    pub(crate) fn meet<R: Wait + Eprint>(&self, rt: &R, refused: &AskFault) {
+        let fault = match refused.kind() {
+            FaultKind::Exhausted => HostFault::Exhausted {
+                requests: self.shared.requests(rt),
+                steps: self.max_steps,
+            },
+            FaultKind::Failed => HostFault::Worker,
+            FaultKind::Closed | FaultKind::Memory | FaultKind::NoConn => return,
+        };
+        self.faults.meet(rt, fault);
+    }
+}
+
+/// Ends a connection by an error line, as far as a write is possible within so many milliseconds, for which what it still
+/// sends is read and dropped.
+pub(crate) fn say<R: Clock, D: Display + Drop>(
+    rt: &R,
+    stream: &TcpStream,
+    why: D,
+    milliseconds: u64,
+) {
+    let most = Duration::from_millis(milliseconds);
+    let _ = stream.set_write_timeout(Some(most));
+    let mut line = [0; LONGEST_LINE];
+    let mut room = line.as_mut_slice();
+    if write!(room, "-ERR {why}\r\n").is_ok() {
+        let left = room.len();
+        let mut writer = stream;
+        let _ = writer.write_all(&line[..LONGEST_LINE - left]);
+    }
+    linger(rt, stream, most);
+}
+
+/// Sends no more, and reads and drops for so long at most what still comes: a stream that is closed with bytes unread is
+/// reset, and the client may lose replies that it hasn't read.
+fn linger<R: Clock>(rt: &R, stream: &TcpStream, most: Duration) {
+    let _ = stream.shutdown(Shutdown::Write);
+    let Ok(start) = Instant::now(rt) else {
+        return;
+    };
+    let mut reader = stream;
+    let mut dropped = [0; DROPPED];
+    for _ in 0..u64::MAX {
+        let Ok(passed) = start.elapsed(rt) else {
+            return;
+        };
+        let left = most.saturating_sub(passed);
+        if left.is_zero() || stream.set_read_timeout(Some(left)).is_err() {
+            return;
+        }
+        match reader.read(&mut dropped) {
+            Ok(0) => return,
+            Ok(_) => {}
+            Err(fault) => {
+                if fault.kind() != ErrorKind::Interrupted {
+                    return;
+                }
+            }
+        }
+    }
+}

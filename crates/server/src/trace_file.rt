@@ -1,0 +1,59 @@
+//! The trace in its file.
+
+use crate::faults::HostFault;
+use shared_cluster::Shared;
+use std::alloc::Global;
+use std::fs;
+use std::io::Write;
+use std::rt::Files;
+use std::string::String;
+use std::sync::Wait;
+use std::sync::ledger::Ledger;
+
+/// What stands behind the name of a trace's file while it isn't whole.
+const UNFINISHED: &str = ".part";
+
+/// Writes the trace to a new file beside the one of this path, which it takes the name of once it is whole: what had
+/// that name before stays until then.
+pub(crate) fn store_trace<L: Ledger, R: Wait + AllocGlobal + Files>(
+    rt: &R,
+    shared: &Shared<L>,
+    path: &str,
+) -> Result<(), HostFault> {
+    let part = beside(rt.alloc(), path)?;
+    let stored = store(rt, shared, part.as_str(), path);
+    if stored.is_err() {
+        let _ = fs::remove_file(rt, part.as_str());
+    }
+    stored
+}
+
+/// The path of the file that isn't whole.
+fn beside(alloc: Global, path: &str) -> Result<String, HostFault> {
+    let mut part = String::new(alloc);
+    part.push_str(path)?;
+    part.push_str(UNFINISHED)?;
+    Ok(part)
+}
+
+/// Writes the trace to the file `part`, which then gets its name.
+fn store<L: Ledger, R: Wait + AllocGlobal + Files>(
+    rt: &R,
+    shared: &Shared<L>,
+    part: &str,
+    path: &str,
+) -> Result<(), HostFault> {
+    let Ok(mut file) = fs::create(rt, part) else {
+        return Err(HostFault::Trace);
+    };
+    shared.send_trace(rt, &mut file)?;
+    match file.flush() {
+        Ok(()) => {}
+        Err(_) => return Err(HostFault::Trace),
+    }
+    drop(file);
+    match fs::rename(rt, part, path) {
+        Ok(()) => Ok(()),
+        Err(_) => Err(HostFault::Trace),
+    }
+}
