@@ -5,6 +5,7 @@
 //! of many shards run the same bodies. `local` answers the commands that look at no key.
 #![tactic(auto)]
 
+mod answering;
 mod local_commands;
 
 ghost use Rattle.std.specs.Prelude.{◌≡◌, All, IsTrue, OnErr};
@@ -12,6 +13,7 @@ ghost use Rattle.command_bodies.specs.Command.{case_of, effect_of, TakesMemory, 
 ghost use Rattle.command_cases.specs.Case.{Does};
 ghost use Rattle.command_table.specs.Command.{keys_of};
 
+pub use answering::answer;
 use command_cases::Starved;
 use command_table::Command;
 use hash_commands::run_hash_command;

@@ -3,4 +3,5 @@ pub mod Local
 pub mod Apart
 pub mod Beside
 pub mod Items
+pub mod Leaves
 pub mod Shapes

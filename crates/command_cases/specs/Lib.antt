@@ -3,3 +3,4 @@ pub mod Changes
 pub mod Commute
 pub mod Replies
 pub mod Shapes
+pub mod TextPlan

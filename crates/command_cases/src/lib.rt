@@ -6,6 +6,7 @@
 #![tactic(auto)]
 
 mod replies;
+mod text_plan;
 
 ghost use Rattle.command_cases.specs.Commute.{AnswersCommute, ContentsCommute};
 
@@ -14,6 +15,7 @@ pub use replies::{
     wrong_type_reply,
 };
 use std::alloc::AllocError;
+pub use text_plan::TextPlan;
 
 /// A body found no memory. The keyspace has the contents that it had before.
 #[derive(Debug, Drop)]

@@ -8,6 +8,7 @@ mod arrays;
 mod changes;
 mod looks;
 mod numbers;
+mod text_plan;
 
 ghost use Rattle.std.specs.Prelude.{◌≡◌, All, IsTrue, OnErr};
 ghost use Rattle.command_cases.specs.Case.{Does};
@@ -23,6 +24,7 @@ use looks::{hexists, hget, hlen, hstrlen};
 use numbers::hincrby;
 use resp::Reply;
 use std::alloc::Global;
+pub use text_plan::hash_text_plan;
 
 /// Runs a command on hashes, by the body that its row names.
 pub fn run_hash_command<K: Keyspace>(

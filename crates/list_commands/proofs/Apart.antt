@@ -1,5 +1,5 @@
 -- A change at one key, then one at another.
-use Rattle.std.proofs.Common.{◌≡◌, IsTrue, List, false, Option, Some, None, refl, sym, ap, ◌∙◌}
+use Rattle.std.proofs.Common.{◌≡◌, IsTrue, false, Option, Some, None, refl, sym, ap, ◌∙◌}
 use Rattle.std.specs.FinMap.{get, insert}
 use Rattle.std.specs.Str.{bytes_eq}
 use Rattle.command_cases.proofs.Beside.{get-insert_beside, set-insert_beside}

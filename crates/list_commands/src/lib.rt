@@ -9,6 +9,7 @@ mod items;
 mod lists;
 mod moves;
 mod places;
+mod text_plan;
 
 ghost use Rattle.std.specs.Prelude.{◌≡◌, All, IsTrue, OnErr};
 ghost use Rattle.command_cases.specs.Case.{Does};
@@ -24,6 +25,7 @@ use moves::{lmove, rpoplpush};
 use places::{lindex, llen, lrange};
 use resp::Reply;
 use std::alloc::Global;
+pub use text_plan::list_text_plan;
 
 /// Runs a command on lists, by the body that its row names.
 pub fn run_list_command<K: Keyspace>(

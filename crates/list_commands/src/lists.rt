@@ -49,8 +49,16 @@ pub(crate) fn copy_at(alloc: Global, list: &ListValue, place: usize) -> Result<T
     requires { place < length list.now }
     ensures { IfOk result (λ copy. slice_get list.now place ≡ Some copy) }
 {
+    Text::copy_of(alloc, item_at(list, place))
+}
+
+/// The item at a place.
+pub(crate) fn item_at(list: &ListValue, place: usize) -> &[u8]
+    requires { place < length list.now }
+    ensures { slice_get list.now place ≡ Some result.now }
+{
     let Some(item) = list.item(place) else {
         unreachable!();
     };
-    Text::copy_of(alloc, item)
+    item
 }

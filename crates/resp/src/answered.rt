@@ -18,7 +18,7 @@ use std::alloc::{AllocError, Global};
 pub const LONG: usize = 128;
 
 /// The greatest length of a bulk string whose text is sure to have no more than `LONG` bytes.
-const SHORT_BULK: usize = 100;
+pub const SHORT_BULK: usize = 100;
 
 /// A reply, and its text where that is long.
 #[derive(Drop)]

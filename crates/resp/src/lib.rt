@@ -11,7 +11,7 @@ mod request;
 mod size;
 mod write;
 
-pub use answered::{Answered, LONG, text_block};
+pub use answered::{Answered, LONG, SHORT_BULK, text_block};
 pub use reply::{ErrorText, Reply};
 pub use request::Request;
 pub use size::{bulk_size, text_size};

@@ -1,3 +1,4 @@
+pub mod Leaves
 pub mod Apart
 pub mod Found
 pub mod Kept

@@ -11,6 +11,7 @@ mod combine;
 mod looks;
 mod moves;
 mod sets;
+mod text_plan;
 
 ghost use Rattle.std.specs.Prelude.{◌≡◌, All, IsTrue, OnErr};
 ghost use Rattle.command_cases.specs.Case.{Does};
@@ -28,6 +29,7 @@ use looks::{scard, sismember};
 use moves::smove;
 use resp::Reply;
 use std::alloc::Global;
+pub use text_plan::set_text_plan;
 
 /// Runs a command on sets, by the body that its row names.
 pub fn run_set_command<K: Keyspace>(

@@ -1,10 +1,10 @@
 -- A request that is run over the shards of its groups, and what comes of it.
 use Rattle.std.specs.Prelude.{◌≡◌, true, false, Option, None, option_map}
-use Rattle.command_bodies.specs.Command.{TakesMemory}
+use Rattle.command_bodies.specs.Answer.{AnswerTakesMemory}
 use Rattle.placement.specs.Groups.{groups_of}
 use Rattle.placement.specs.Layout.{Layout, IsTable}
 use Rattle.resp.specs.Content.{Content, content}
-use Rattle.resp.specs.declared.reply.Reply.{Reply}
+use Rattle.resp.specs.declared.answered.Answered.{Answered}
 use Rattle.shard_maps.specs.Joined.{numbers, union, SpanHasOwnKeys, SpanRan}
 use Rattle.shard_workers.specs.declared.work.Work.{Work}
 use Rattle.shard_workers.specs.declared.work.Ran.{Ran}
@@ -17,11 +17,11 @@ pub record IsReady (table : Layout) (w : Work) : Type 0 where
   pub own : SpanHasOwnKeys table w.shards.items
 
 -- what a request is answered; nothing where it starved
-abbrev pub outcome : Option Reply → Option Content
-outcome reply = option_map content reply
+abbrev pub outcome : Option Answered → Option Content
+outcome answered = option_map (λ a. content a.reply) answered
 
 -- The request was run over its shards, or it starved and they are as they were. One that is to be skipped starves;
--- another one only where its command takes memory on what its shards have.
+-- another one only where its command, on what its shards have, takes memory or answers text.
 pub record HasRun (table : Layout) (w : Work) (r : Ran) : Type 0 where
   pub place : r.place ≡ w.place
   pub id : r.id ≡ w.job.id
@@ -29,4 +29,4 @@ pub record HasRun (table : Layout) (w : Work) (r : Ran) : Type 0 where
   pub numbers : numbers r.shards.items ≡ numbers w.shards.items
   pub ran : SpanRan table w.job.command w.shards.items (outcome r.reply) r.shards.items
   pub skipped : w.skipped ≡ true → outcome r.reply ≡ None
-  pub starved : w.skipped ≡ false → outcome r.reply ≡ None → TakesMemory w.job.command (union w.shards.items)
+  pub starved : w.skipped ≡ false → outcome r.reply ≡ None → AnswerTakesMemory w.job.command (union w.shards.items)

@@ -1,7 +1,8 @@
 //! One request, with the shards of its groups moved out of the store.
 
 ghost use Rattle.std.specs.Prelude.{◌≡◌, All, IsTrue, OnErr};
-ghost use Rattle.command_bodies.specs.Command.{effect_of, TakesMemory};
+ghost use Rattle.command_bodies.specs.Answer.{reply_of, AnswerTakesMemory};
+ghost use Rattle.command_bodies.specs.Command.{effect_of};
 ghost use Rattle.command_cases.specs.Case.{Does};
 ghost use Rattle.command_table.specs.Command.{keys_of};
 ghost use Rattle.shard_maps.specs.Joined.{union};
@@ -9,13 +10,13 @@ ghost use Rattle.shard_workers.specs.Runs.{IsReady, HasRun};
 ghost use Rattle.shards.specs.Spans.{IsSpan, lies_on};
 
 use crate::Gate;
-use command_bodies::execute;
+use command_bodies::answer;
 use command_cases::Starved;
 use command_table::Command;
 use groups::{GroupId, RequestId, Stamp};
 use layer_planner::Job;
 use placement::Table;
-use resp::Reply;
+use resp::Answered;
 use shards::{Shard, Span, SpanFrame};
 use std::alloc::Global;
 use std::marker::Brand;
@@ -30,13 +31,13 @@ pub struct Work {
 }
 
 /// A request that was run, skipped or starved, with its place in the layer and its shards. There is a reply where it was
-/// run.
+/// run, with its text where that is long.
 #[derive(Drop)]
 pub struct Ran {
     pub place: usize,
     pub id: RequestId,
     pub stamp: Stamp,
-    pub reply: Option<Reply>,
+    pub reply: Option<Answered>,
     pub shards: Vec<(GroupId, Shard)>,
 }
 
@@ -86,15 +87,15 @@ fn run_over<F: SpanFrame>(
     table: Table,
     shards: Vec<(GroupId, Shard)>,
     command: Command,
-) -> (Result<Reply, Starved>, Vec<(GroupId, Shard)>)
+) -> (Result<Answered, Starved>, Vec<(GroupId, Shard)>)
     requires table { table ≡ F.layout }
     requires shards { IsSpan F.layout F.groups shards.items }
     requires keys { All (λ key. IsTrue (lies_on F.layout F.groups key)) (keys_of command) }
     ensures shards { IsSpan F.layout F.groups result.1.items }
-    ensures done { Does (effect_of command) (union shards.items) (union result.1.items) result.0 }
-    ensures starves { OnErr result.0 (TakesMemory command (union shards.items)) }
+    ensures done { Does (effect_of command) (union shards.items) (union result.1.items) (reply_of result.0) }
+    ensures starves { OnErr result.0 (AnswerTakesMemory command (union shards.items)) }
 {
     let mut span: Span<F> = Span::new(table, shards);
-    let outcome = execute(alloc, &mut span, command);
+    let outcome = answer(alloc, &mut span, command);
     (outcome, span.into_shards())
 }

@@ -10,6 +10,7 @@ mod numbers;
 mod pairs;
 mod reads;
 mod replaces;
+mod text_plan;
 mod writes;
 
 ghost use Rattle.std.specs.Prelude.{◌≡◌, All, IsTrue, OnErr};
@@ -28,6 +29,7 @@ use reads::{getrange, strlen};
 use replaces::{getdel, getset};
 use resp::Reply;
 use std::alloc::Global;
+pub use text_plan::string_text_plan;
 use writes::{append, setrange};
 
 /// Runs a command on strings, by the body that its row names.

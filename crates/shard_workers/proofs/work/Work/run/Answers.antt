@@ -2,11 +2,12 @@ use Rattle.std.proofs.Common.{◌≡◌, ℕ, zero, suc, ◌<◌, List, [], ◌�
 use Rattle.std.proofs.Common.{subst, sym, ap, ◌∙◌, refl}
 use Rattle.std.proofs.lemmas.Bool.{both_ways}
 use Rattle.std.specs.Result.{OnErr, result_ok}
+use Rattle.command_bodies.specs.Answer.{reply_of}
 use Rattle.command_table.specs.Command.{keys_of}
 use Rattle.groups.specs.GroupSet.{IsAscending, has}
 use Rattle.placement.proofs.Addressed.{has-groups_of-key}
 use Rattle.placement.specs.Layout.{shard_of}
-use Rattle.resp.specs.declared.reply.Reply.{Reply}
+use Rattle.resp.specs.declared.answered.Answered.{Answered}
 use Rattle.shard_maps.proofs.PutBack.{IsAscending-groups_of}
 use Rattle.shard_maps.proofs.Runs.{SpanRan-done}
 use Rattle.shard_maps.specs.Joined.{SpanRan}
@@ -14,11 +15,11 @@ use Rattle.shard_maps.specs.Layer.{outcome_of}
 use Rattle.shard_workers.specs.Runs.{outcome}
 use Rattle.shard_workers.proofs.work.Work.run.Goals as goal
 
-outcome-ok : {E : Type 0} (r : Result Reply E) → outcome_of r ≡ outcome (result_ok r)
+outcome-ok : {E : Type 0} (r : Result Answered E) → outcome_of (reply_of r) ≡ outcome (result_ok r)
 outcome-ok (Ok x) = refl
 outcome-ok (Err x) = refl
 
-starves : {E : Type 0} {P : Type 0} (r : Result Reply E) → OnErr r P → outcome (result_ok r) ≡ None → P
+starves : {E : Type 0} {P : Type 0} (r : Result Answered E) → OnErr r P → outcome (result_ok r) ≡ None → P
 starves (Ok x) h e = absurd (let f = e in cc)
 starves (Err x) h e = h
 
@@ -52,7 +53,7 @@ returns g c =
       numbers = span.numbers;
       ran = subst (λ o. SpanRan c.args.table.now c.args.self.job.command c.args.self.shards.items o c.run_over-outcome.result.1.items) is
           (SpanRan-done c.args.table.now c.args.self.job.command c.args.self.shards.items c.run_over-outcome.result.1.items
-          span.ascending span.numbers span.own c.run_over-outcome.result.0 c.requires.own c.run_over-outcome.ensures.done);
+          span.ascending span.numbers span.own (reply_of c.run_over-outcome.result.0) c.requires.own c.run_over-outcome.ensures.done);
       skipped = λ e. absurd (both_ways _ c.if-skipped.false e);
       starved = λ _ none. starves c.run_over-outcome.result.0 c.run_over-outcome.ensures.starves
           (ap outcome (sym c.ok.ensures.value) ∙ none);

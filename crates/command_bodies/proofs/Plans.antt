@@ -1,0 +1,37 @@
+-- A command that is run by a plan for its text: the plan is one for its effect, and what follows where it starves and where
+-- its text is written.
+use Rattle.std.proofs.Common.{◌≡◌, ℕ, ◌<◌, ◌≤◌, length, Result, Ok, Err, IsErr, arith, ap, subst, sym, ◌∙◌}
+use Rattle.command_bodies.proofs.Effects.{effect-case}
+use Rattle.command_bodies.specs.Answer.{reply_of}
+use Rattle.command_bodies.specs.Command.{case_of, effect_of}
+use Rattle.command_cases.specs.Case.{Case, Does}
+use Rattle.command_cases.specs.TextPlan.{IsPlanFor, FitsIn}
+use Rattle.command_cases.specs.declared.text_plan.TextPlan.{TextPlan}
+use Rattle.command_cases.specs.declared.text_plan.TextPlan.TheVariants.{Never, After, Before}
+use Rattle.command_table.specs.declared.command.Command.{Command}
+use Rattle.keyspace.specs.Map.{Map}
+use Rattle.resp.specs.Content.{content}
+use Rattle.resp.specs.Text.{text, reply_text}
+use Rattle.resp.specs.declared.answered.Answered.{Answered}
+use Rattle.resp.specs.declared.answered.TheConstants.{LONG}
+use Rattle.resp.specs.declared.reply.Reply.{Reply}
+
+pub plan-effect : (command : Command) (m : Map) (plan : TextPlan) → IsPlanFor (case_of command) m plan → IsPlanFor (effect_of command) m plan
+plan-effect command m Never fits = tt
+plan-effect command m After leaves = ap (λ r. r.0) (effect-case command m) ∙ leaves
+plan-effect command m (Before size) fits = subst (λ r. FitsIn size (λ _. r) m) (sym (effect-case command m)) fits
+
+-- where nothing was answered the map is as it was
+pub starved-does : {E : Type 0} (case : Case) (old new : Map) (result : Result Answered E) → IsErr result → new ≡ old
+    → Does case old new (reply_of result)
+starved-does case old new (Ok answered) none same = absurd (let f = none in cc)
+starved-does case old new (Err fault) none same = same
+
+-- a block of the planned size has room for the text
+pub text-fits : (case : Case) (old new : Map) (size room : ℕ) (reply : Reply) → FitsIn size case old → (new, content reply) ≡ case old
+    → (LONG < size → size ≤ room) → LONG < length (reply_text reply) → length (reply_text reply) ≤ room
+text-fits case old new size room reply fits done has_room long =
+    let same : length (reply_text reply) ≡ length (text (case old).1) = ap (λ r. length (text r.1)) done in
+    let within : length (text (case old).1) ≤ size = fits.1 (omega (arith, same, long)) in
+    let room_is : size ≤ room = has_room (omega (arith, same, within, long)) in
+    omega (arith, same, within, room_is)

@@ -1,0 +1,17 @@
+-- A command that is answered for good: its reply, and the memory for the text of it.
+use Rattle.std.specs.Prelude.{Result, Ok, Err, ◌⊎◌}
+use Rattle.command_bodies.specs.Command.{effect_of, TakesMemory}
+use Rattle.command_table.specs.declared.command.Command.{Command}
+use Rattle.keyspace.specs.Map.{Map}
+use Rattle.resp.specs.LongText.{HasText}
+use Rattle.resp.specs.declared.answered.Answered.{Answered}
+use Rattle.resp.specs.declared.reply.Reply.{Reply}
+
+-- the reply, if there is one
+abbrev pub reply_of : {E : Type 0} → Result Answered E → Result Reply E
+reply_of (Ok answered) = Ok answered.reply
+reply_of (Err e) = Err e
+
+-- where there may be no memory to answer a command: it takes memory itself, or it answers text
+abbrev pub AnswerTakesMemory : Command → Map → Type 0
+AnswerTakesMemory command m = TakesMemory command m ⊎ HasText (effect_of command m).1
