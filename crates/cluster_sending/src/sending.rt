@@ -14,7 +14,7 @@ use command_table::Command;
 use journal::Rows;
 use layer_planner::Layer;
 use multicast::Multicast;
-use resp::{Reply, Request};
+use resp::{Answered, Reply, Request};
 use router::{Outcome, Router};
 use shard_exec::{Ended, Store};
 
@@ -66,6 +66,7 @@ fn ended_sends()
     ensures { IsSend ended_type.the_row }
 {
     sends::<Reply>();
+    sends::<Answered>();
     sends::<Ended>();
 }
 

@@ -152,7 +152,7 @@ pub(crate) fn text(alloc: Global, done: &[Ended]) -> Result<String, Trouble> {
     let mut bytes = Vec::new(alloc);
     for ended in done {
         match &ended.reply {
-            Some(reply) => write_reply(reply, &mut bytes)?,
+            Some(answered) => write_reply(&answered.reply, &mut bytes)?,
             None => bytes.extend_from_slice(b"starved")?,
         }
         bytes.push(b' ')?;

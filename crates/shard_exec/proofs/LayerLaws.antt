@@ -9,7 +9,7 @@ use Rattle.std.specs.FinMap.{empty, get-empty}
 use Rattle.std.specs.Ordering.{nat_cmp}
 use Rattle.std.specs.List.{AllZip, AllByRecursion}
 use Rattle.groups.specs.GroupSet.{has}
-use Rattle.command_bodies.specs.Command.{TakesMemory}
+use Rattle.command_bodies.specs.Answer.{AnswerTakesMemory}
 use Rattle.keyspace.specs.Map.{Map}
 use Rattle.layer_planner.specs.declared.job.Job.{Job}
 use Rattle.layer_planner.specs.Layers as planner
@@ -124,8 +124,8 @@ ran_for table maps skip at j w r is run = record {
       (subst (λ (k : Job). SpanRan table k.command w.shards.items (outcome r.reply) r.shards.items) is.job run.ran);
   starves = record {
     skipped = λ e. run.skipped (is.skipped ∙ e);
-    starved = λ e none. subst (λ (s : Span). TakesMemory j.command (union s)) is.shards
-        (subst (λ (k : Job). TakesMemory k.command (union w.shards.items)) is.job (run.starved (is.skipped ∙ e) none));
+    starved = λ e none. subst (λ (s : Span). AnswerTakesMemory j.command (union s)) is.shards
+        (subst (λ (k : Job). AnswerTakesMemory k.command (union w.shards.items)) is.job (run.starved (is.skipped ∙ e) none));
   };
 }
 

@@ -1,7 +1,7 @@
 -- A layer that is run over the store: what it needs, and what comes of it.
 use Rattle.std.specs.Prelude.{◌≡◌, ℕ, ◌<◌, ◌+◌, Bool, true, false, List, [], ◌∷◌, map, Option, None}
 use Rattle.std.specs.List.{AllZip, AllByRecursion, list_any}
-use Rattle.command_bodies.specs.Command.{TakesMemory}
+use Rattle.command_bodies.specs.Answer.{AnswerTakesMemory}
 use Rattle.command_table.specs.declared.command.Command.{Command}
 use Rattle.groups.specs.GroupSet.{has}
 use Rattle.keyspace.specs.Map.{Map}
@@ -33,11 +33,12 @@ is_named skip id = list_any (same_id id) skip
 abbrev pub outcomes_of_ended : List Ended → List (Option Content)
 outcomes_of_ended done = map (λ e. outcome e.reply) done
 
--- A request that starved was to be skipped, or its command takes memory on what the shards of its groups had; and one
--- that was to be skipped starved.
+-- A request that starved was to be skipped, or its command, on what the shards of its groups had, takes memory or answers
+-- text; and one that was to be skipped starved.
 pub record MayStarve (maps : List Map) (skip : List RequestId) (j : Job) (e : Ended) : Type 0 where
   pub skipped : is_named skip j.id ≡ true → outcome e.reply ≡ None
-  pub starved : is_named skip j.id ≡ false → outcome e.reply ≡ None → TakesMemory j.command (union (span_at maps j.groups))
+  pub starved : is_named skip j.id ≡ false → outcome e.reply ≡ None
+      → AnswerTakesMemory j.command (union (span_at maps j.groups))
 
 -- the rows tell of these requests, in their order
 abbrev pub IsOf : Job → Ended → Type 0

@@ -2,14 +2,14 @@
 
 use groups::{RequestId, Stamp};
 use layer_planner::Layer;
-use resp::Reply;
+use resp::Answered;
 
-/// A request that was run, with its reply, or that starved: then there is none.
+/// A request that was run, with its reply and the text of that where it is long, or that starved: then there is none.
 #[derive(Drop)]
 pub struct Ended {
     pub id: RequestId,
     pub stamp: Stamp,
-    pub reply: Option<Reply>,
+    pub reply: Option<Answered>,
 }
 
 /// Why a layer was not run.
