@@ -14,7 +14,7 @@ use Rattle.placement.specs.Layout.{Layout}
 use Rattle.resp.specs.Content.{Content}
 use Rattle.router.specs.Router.{RouterView}
 use Rattle.keyspace.specs.Map.{Map}
-use Rattle.resp.specs.declared.reply.Reply.{Reply}
+use Rattle.resp.specs.declared.answered.Answered.{Answered}
 use Rattle.shard_exec.specs.Layers.{AddressTheirGroups, IsOf, MayStarve, is_named}
 use Rattle.shard_workers.specs.Runs.{outcome}
 use Rattle.groups.proofs.Ids.{same_id-refl, same_id-sym}
@@ -138,11 +138,11 @@ names-is_named [] id = refl
 names-is_named (i ∷ is) id = ap (λ b. b || names is id) (same_id-sym i id) ∙ ap (λ b. same_id id i || b) (names-is_named is id)
 
 -- one that has no reply is among the starved
-names_first : (reply : Option Reply) (id : RequestId) (ids : List RequestId) → outcome reply ≡ None → names (if_none reply id ids) id ≡ true
+names_first : (reply : Option Answered) (id : RequestId) (ids : List RequestId) → outcome reply ≡ None → names (if_none reply id ids) id ≡ true
 names_first None id ids none = ap (λ b. b || names ids id) (same_id-refl id)
 names_first (Some reply) id ids none = cc
 
-names_later : (reply : Option Reply) (i id : RequestId) (ids : List RequestId) → names ids id ≡ true → names (if_none reply i ids) id ≡ true
+names_later : (reply : Option Answered) (i id : RequestId) (ids : List RequestId) → names ids id ≡ true → names (if_none reply i ids) id ≡ true
 names_later None i id ids later = or_right (same_id i id) (names ids id) later
 names_later (Some reply) i id ids later = later
 
@@ -234,17 +234,25 @@ same_taken s a b is_a is_b = ap (λ x. taken_or x a) (sym is_b ∙ is_a)
 
 -- ---- what settling asks
 
-pub settle_may_start : (p : Parts) → Lives p → (ran : RanLayer) → p.stage ≡ stage.HasRun ran → (t : Layout) × (w : World)
-    × (es : List Ended) × (words : List (List (List ℕ))) × AreEnded es ran.ended.items words × IsSettling t w [] es p.router
-settle_may_start p lives ran has_run =
-    let shows = subst (λ s. ShowsStage s lives.world) has_run lives.at.shows.stage in (
+pub settle_may_start : (p : Parts) (h : List Step) (w : World) → IsAt p h w → (ran : RanLayer) → p.stage ≡ stage.HasRun ran →
+    (t : Layout) × (w : World) × (es : List Ended) × AreEnded es ran.ended.items ran.words.items × IsSettling t w [] es p.router
+settle_may_start p h w at' ran has_run =
+    let shows = subst (λ s. ShowsStage s w) has_run at'.shows.stage in (
       p.store.table,
-      lives.world,
+      w,
       shows.0,
-      ran.words.items,
       shows.2,
-      settle_starts p.store.table lives.history lives.world shows.0 p.router lives.at.leads shows.1 lives.at.shows.connections,
+      settle_starts p.store.table h w shows.0 p.router at'.leads shows.1 at'.shows.connections,
     )
+
+-- what settling leaves: a row for each executed request
+pub settled_rows : (old : Parts) (rows : List RowView) (ran : RanLayer) → old.stage ≡ stage.HasRun ran →
+    ((settled es : List Ended) → AreEnded es ran.ended.items ran.words.items → AreRows settled old.rows → AreRows (settled ++ es) rows) →
+    (h : List Step) (w : World) → IsAt old h w → AreRows w.ended rows
+settled_rows old rows ran has_run adds h w at' =
+    let shows = subst (λ s. ShowsStage s w) has_run at'.shows.stage in
+    let before = rows_at old.rows w (HasRun shows.0) shows.1 at'.shows.rows in
+    subst (λ es. AreRows es rows) (sym before.1) (adds before.0 shows.0 shows.2 before.2)
 
 -- ---- what taking asks
 

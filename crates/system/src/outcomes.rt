@@ -1,19 +1,21 @@
 //! What came of a layer: its starved requests, its rows, and its outcomes.
 
-ghost use Rattle.std.specs.Prelude.{◌≡◌, ℕ, ◌≤◌, ◌+◌, ◌++◌, ◌∷◌, List, [], length, vec_capacity, OnOk, OnErr};
+ghost use Rattle.std.specs.Prelude.{◌≡◌, ◌<◌, ◌≤◌, ◌+◌, ◌++◌, ◌∷◌, List, [], length, vec_capacity, IfSome};
 ghost use Rattle.placement.specs.Layout.{Layout};
+ghost use Rattle.resp.specs.Content.{content};
+ghost use Rattle.shard_workers.specs.Runs.{outcome};
 ghost use Rattle.system_view.specs.Layers.{IsEnded, AreEnded, AreRows, starved_of};
 ghost use Rattle.system_view.specs.Settling.{IsSettling};
+ghost use Rattle.world.specs.Steps.{reply_of};
 ghost use Rattle.world.specs.World.{World, Ended as EndedThere};
-ghost use Rattle.system.specs.Outcomes.{BeginsWith};
+ghost use Rattle.system.specs.Outcomes.{row_need, rows_need};
 
 use groups::{RequestId, Stamp};
-use journal::Rows;
+use journal::{RowsWithRoom, size_of_row};
 use packing::PackedRequest;
-use resp::Reply;
+use resp::{Answered, Reply};
 use router::{Outcome, Router};
 use shard_exec::Ended;
-use std::alloc::AllocError;
 
 /// Puts the ids of those that starved into an empty list, and behind all that starved before. There is room in both.
 pub(super) fn note_starved(ended: &[Ended], starved: &mut Vec<RequestId>, all: &mut Vec<RequestId>)
@@ -30,55 +32,82 @@ pub(super) fn note_starved(ended: &[Ended], starved: &mut Vec<RequestId>, all: &
     }
 }
 
-/// Adds a row for each executed request of a layer. The only error is want of memory, and then the rows are as they
-/// were.
-pub(super) fn add_rows(
-    rows: &mut Rows,
-    ended: &[Ended],
-    words: &[PackedRequest],
-) -> Result<(), AllocError>
-    requires { (es : List EndedThere) × AreEnded es ended.now words.now }
-    ensures added { OnOk result ((settled es : List EndedThere) → AreEnded es ended.now words.now → AreRows settled rows.old
-        → AreRows (settled ++ es) rows.new) }
-    ensures unchanged { OnErr result (rows.new ≡ rows.old) }
+/// How many bytes the rows of a layer take at most among the packed ones; `None` where that may be 2^64 or more.
+pub(super) fn size_of_rows(ended: &[Ended]) -> Option<usize>
+    ensures { IfSome result (λ size. size ≡ rows_need ended.now) }
 {
-    let before = rows.len();
-    for place in 0..ended.len() {
-        if let Err(error) = add_row(rows, &ended[place], &words[place]) {
-            rows.truncate(before);
-            return Err(error);
-        }
-    }
-    Ok(())
-}
-
-/// Adds the row of a request, if it was executed. The only error is want of memory, and then the rows are as they were.
-fn add_row(rows: &mut Rows, request: &Ended, words: &PackedRequest) -> Result<(), AllocError>
-    ensures grown { OnOk result (BeginsWith rows.old rows.new) }
-    ensures added { OnOk result ((settled : List EndedThere) (e : EndedThere) → IsEnded e request.now words.now → AreRows settled rows.old
-        → AreRows (settled ++ e ∷ []) rows.new) }
-    ensures unchanged { OnErr result (rows.new ≡ rows.old) }
-{
-    if let Some(reply) = &request.reply {
-        rows.push(request.id, &request.stamp, words, reply)?;
-    }
-    Ok(())
-}
-
-/// The outcomes of a layer go to their connections.
-pub(super) fn settle_all(router: &mut Router, ended: Vec<Ended>)
-    requires { (t : Layout) × (w : World) × (es : List EndedThere) × (words : List (List (List ℕ))) × AreEnded es ended.items words
-        × IsSettling t w [] es router.old }
-    ensures { (t : Layout) (w : World) (es : List EndedThere) (words : List (List (List ℕ))) → AreEnded es ended.items words
-        → IsSettling t w [] es router.old → IsSettling t w es [] router.new }
-{
+    let mut size = 0usize;
     for request in ended {
+        size = size.checked_add(size_of_its_row(request)?)?;
+    }
+    Some(size)
+}
+
+/// How many bytes a request's row takes at most among the packed ones; `None` where that may be 2^64 or more.
+fn size_of_its_row(request: &Ended) -> Option<usize>
+    ensures { IfSome result (λ size. size ≡ row_need request.now.reply) }
+{
+    match &request.reply {
+        Some(answered) => size_of_row(&answered.reply, answered.text.as_slice()),
+        None => Some(0),
+    }
+}
+
+/// Each executed request of a layer gets its row, for which there is room, and the outcomes go to their connections.
+pub(super) fn settle_all(
+    router: &mut Router,
+    rows: &mut RowsWithRoom,
+    ended: Vec<Ended>,
+    words: Vec<PackedRequest>,
+)
+    requires settling { (t : Layout) × (w : World) × (es : List EndedThere) × AreEnded es ended.items words.items
+        × IsSettling t w [] es router.old }
+    requires bytes { rows_need ended.items ≤ rows.old.bytes }
+    requires places { length ended.items ≤ rows.old.ends }
+    requires beside { length ended.items ≤ rows.old.blocks }
+    ensures settled { (t : Layout) (w : World) (es : List EndedThere) → AreEnded es ended.items words.items
+        → IsSettling t w [] es router.old → IsSettling t w es [] router.new }
+    ensures added { (settled es : List EndedThere) → AreEnded es ended.items words.items → AreRows settled rows.old.rows
+        → AreRows (settled ++ es) rows.new.rows }
+{
+    let mut each = words.into_iter();
+    for request in ended {
+        let Some(words) = each.next() else {
+            unreachable!();
+        };
         let Ended { id, stamp, reply } = request;
+        let reply = add_row(rows, id, &stamp, reply, words);
         let outcome = Outcome {
             id,
-            reply: reply.unwrap_or(Reply::out_of_memory()),
+            reply,
             stamp: Some(Stamp { ..stamp }),
         };
         router.settle(stamp, outcome);
     }
+}
+
+/// Adds the row of a request, for which there is room, if it was executed, and gives what the request is answered.
+fn add_row(
+    rows: &mut RowsWithRoom,
+    id: RequestId,
+    stamp: &Stamp,
+    reply: Option<Answered>,
+    words: PackedRequest,
+) -> Reply
+    requires bytes { row_need reply ≤ rows.old.bytes }
+    requires place { 0 < rows.old.ends }
+    requires beside { 0 < rows.old.blocks }
+    ensures reply { content result ≡ reply_of (outcome reply) }
+    ensures added { (settled : List EndedThere) (e : EndedThere)
+        → IsEnded e (record { id = id; stamp = stamp.now; reply = reply }) words → AreRows settled rows.old.rows
+        → AreRows (settled ++ e ∷ []) rows.new.rows }
+    ensures bytes { rows.old.bytes ≤ rows.new.bytes + row_need reply }
+    ensures ends { rows.old.ends ≤ rows.new.ends + 1 }
+    ensures blocks { rows.old.blocks ≤ rows.new.blocks + 1 }
+{
+    let Some(Answered { reply, text }) = reply else {
+        return Reply::out_of_memory();
+    };
+    rows.push(id, stamp, words, &reply, text);
+    reply
 }

@@ -8,12 +8,14 @@ ghost use Rattle.system_view.specs.Layers.{AreRows};
 ghost use Rattle.world.specs.World.{World};
 ghost use Rattle.system.specs.Refusing.{Lives, IsFault, HasFailed};
 ghost use Rattle.system.specs.declared.fault.StepFault.{StepFault};
+ghost use Rattle.system.specs.declared.stage.RanLayer.{RanLayer};
+ghost use Rattle.system.specs.declared.stage.Stage.{Stage};
 ghost use Rattle.journal.specs.declared.step.Step.{Step};
 
 use super::effect::Effect;
 use super::fault::StepFault;
 use super::jobs::take_all;
-use super::outcomes::{add_rows, note_starved, settle_all};
+use super::outcomes::{note_starved, settle_all, size_of_rows};
 use super::stage::{RanLayer, Stage, TakenLayer};
 use groups::{ConnId, RequestId};
 use journal::{RequestIds, Rows, Step};
@@ -60,7 +62,7 @@ impl Parts {
             Step::Deliver { place } => self.deliver(place),
             Step::Take => self.take(alloc),
             Step::Run { starved } => self.run(alloc, starved, workers, gate),
-            Step::Settle => self.settle(),
+            Step::Settle => self.settle(alloc),
             Step::Collect { conn } => self.collect(conn),
             Step::Close { conn } => self.close(conn),
         }
@@ -189,45 +191,44 @@ impl Parts {
         }
     }
 
-    /// The outcomes of the layer that was run go to their connections, and each executed request gets its row.
+    /// The outcomes of the layer that was run go to their connections, and each executed request gets its row. The room
+    /// for the rows is taken first, and what is long moves.
     #[inline(never)]
-    fn settle(&mut self) -> Result<Effect, StepFault>
+    fn settle(&mut self, alloc: Global) -> Result<Effect, StepFault>
         requires { Lives self.old }
         ensures made { IfOk result (λ effect. Makes self.old Step.Settle effect self.new) }
         ensures fault { IfErr result (IsFault self.old Step.Settle) }
         ensures no_failure { IfErr result (λ fault. fault ≢ StepFault.Failed) }
         ensures keeps { OnErr result (Keeps self.old self.new) }
     {
-        let Stage::HasRun(layer) = &self.stage else {
+        let Stage::HasRun(_) = &self.stage else {
             return Err(StepFault::NoLayer);
         };
-        add_rows(
-            &mut self.rows,
-            layer.ended.as_slice(),
-            layer.words.as_slice(),
-        )?;
-        let Stage::HasRun(RanLayer { ended, words }) = mem::replace(&mut self.stage, Stage::Free)
-        else {
-            unreachable!()
-        };
-        settle_all(&mut self.router, ended);
-        discard(words);
+        self.settle_ran(alloc)?;
         Ok(Effect::Made)
     }
 
-    /// Adds the rows of the layer that was run, if one was and isn't settled. The only error is want of memory.
-    pub fn add_ran(&mut self) -> Result<(), AllocError>
+    /// Settles the layer that was run, if one was and isn't settled. The only error is want of memory, and then all is
+    /// as it was but for room.
+    pub fn settle_ran(&mut self, alloc: Global) -> Result<(), AllocError>
         requires { (h : List Step) × (w : World) × IsAt self.old h w }
-        ensures { OnOk result ((h : List Step) (w : World) → IsAt self.old h w → AreRows w.ended self.new.rows) }
+        ensures made { OnOk result ((ran : RanLayer) → self.old.stage ≡ Stage.HasRun ran → Makes self.old Step.Settle Effect.Made self.new) }
+        ensures rows { OnOk result ((h : List Step) (w : World) → IsAt self.old h w → AreRows w.ended self.new.rows) }
+        ensures keeps { OnErr result (Keeps self.old self.new) }
     {
         let Stage::HasRun(layer) = &self.stage else {
             return Ok(());
         };
-        add_rows(
-            &mut self.rows,
-            layer.ended.as_slice(),
-            layer.words.as_slice(),
-        )
+        let count = layer.ended.len();
+        let size = size_of_rows(layer.ended.as_slice()).ok_or(AllocError)?;
+        let mut rows = self.rows.take_with_room(alloc, count, size)?;
+        let Stage::HasRun(RanLayer { ended, words }) = mem::replace(&mut self.stage, Stage::Free)
+        else {
+            unreachable!()
+        };
+        settle_all(&mut self.router, &mut rows, ended, words);
+        self.rows = rows.into_rows();
+        Ok(())
     }
 
     /// Collects the outcome that waits for a connection, if one does. It takes no memory.

@@ -232,11 +232,12 @@ impl System {
     pub fn into_rows(self) -> Result<Rows, AllocError>
         ensures { IfOk result (λ rows. (h : List Step) (w : World) → IsAt self.parts h w → AreRows w.ended rows) }
     {
+        let alloc = self.alloc;
         let mut parts = self.parts;
         if parts.store.has_failed() {
             return Ok(parts.rows);
         }
-        parts.add_ran()?;
+        parts.settle_ran(alloc)?;
         Ok(parts.rows)
     }
 

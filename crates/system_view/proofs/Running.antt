@@ -18,7 +18,7 @@ use Rattle.placement.specs.Groups.{groups_of}
 use Rattle.placement.specs.Layout.{Layout}
 use Rattle.resp.specs.Content.{Content}
 use Rattle.resp.specs.Text.{text}
-use Rattle.resp.specs.declared.reply.Reply.{Reply}
+use Rattle.resp.specs.declared.answered.Answered.{Answered}
 use Rattle.router.specs.Router.{RouterView, connection}
 use Rattle.router.specs.declared.connection.Connection.{Connection}
 use Rattle.router.specs.declared.connection.Standing.{Standing}
@@ -143,7 +143,7 @@ abbrev pub TellsStarved : (RequestId → Bool) → List run.Ended → Type 0
 TellsStarved starves [] = Unit {0}
 TellsStarved starves (r ∷ rs) = (starves r.id ≡ is_none (outcome r.reply)) × TellsStarved starves rs
 
-if_same : (reply : Option Reply) (i : RequestId) (ids : List RequestId) →
+if_same : (reply : Option Answered) (i : RequestId) (ids : List RequestId) →
     if_none reply i ids ≡ if_starved (outcome reply) i ids
 if_same None i ids = refl
 if_same (Some reply) i ids = refl
@@ -158,12 +158,12 @@ starved_same (j ∷ js) (r ∷ rs) told =
     ∙ ap (if_starved (outcome r.reply) j.id) (starved_same js rs told.1)
 
 -- another request's id makes no difference
-names_but : (reply : Option Reply) (i id : RequestId) (ids : List RequestId) → (i ≡ id → ⊥) →
+names_but : (reply : Option Answered) (i id : RequestId) (ids : List RequestId) → (i ≡ id → ⊥) →
     names (if_none reply i ids) id ≡ names ids id
 names_but None i id ids differ = ap (λ b. b || names ids id) (ne-same_id i id differ)
 names_but (Some reply) i id ids differ = refl
 
-names_own : (reply : Option Reply) (i : RequestId) (ids : List RequestId) → names ids i ≡ false →
+names_own : (reply : Option Answered) (i : RequestId) (ids : List RequestId) → names ids i ≡ false →
     names (if_none reply i ids) i ≡ is_none (outcome reply)
 names_own None i ids out = ap (λ b. b || names ids i) (same_id-refl i)
 names_own (Some reply) i ids out = out
@@ -173,7 +173,7 @@ names_none [] i out = refl
 names_none (r ∷ rs) i out =
     names_but r.reply r.id i (starved_of rs) (λ e. out (inl (sym e))) ∙ names_none rs i (λ there. out (inr there))
 
-tells_more : (reply : Option Reply) (i : RequestId) (ids : List RequestId) (rs : List run.Ended) →
+tells_more : (reply : Option Answered) (i : RequestId) (ids : List RequestId) (rs : List run.Ended) →
     (In i (ids_run rs) → ⊥) → TellsStarved (names ids) rs → TellsStarved (names (if_none reply i ids)) rs
 tells_more reply i ids [] out tells = tt
 tells_more reply i ids (r ∷ rs) out tells = (

@@ -8,7 +8,7 @@ use Rattle.journal.specs.Views.{RowView}
 use Rattle.layer_planner.specs.declared.job.Job.{Job}
 use Rattle.placement.specs.Layout.{Layout}
 use Rattle.resp.specs.Text.{text}
-use Rattle.resp.specs.declared.reply.Reply.{Reply}
+use Rattle.resp.specs.declared.answered.Answered.{Answered}
 use Rattle.shard_workers.specs.Runs.{outcome}
 use Rattle.shard_exec.specs.Stamps.{last_of}
 use Rattle.shard_exec.specs.StoreStates.{StoreState}
@@ -51,9 +51,9 @@ AreEnded [] [] [] = Unit {0}
 AreEnded (e ∷ es) (r ∷ rs) (ws ∷ wss) = IsEnded e r ws × AreEnded es rs wss
 AreEnded _ _ _ = ⊥
 
-abbrev pub if_none : Option Reply → RequestId → List RequestId → List RequestId
+abbrev pub if_none : Option Answered → RequestId → List RequestId → List RequestId
 if_none None id ids = id ∷ ids
-if_none (Some reply) id ids = ids
+if_none (Some answered) id ids = ids
 
 -- the ids of those that starved
 abbrev pub starved_of : List run.Ended → List RequestId

@@ -1,28 +1,21 @@
-use Rattle.std.proofs.Common.{rules, ◌≡◌, ◌<◌, ◌+◌, ℕ, suc, [], ◌∷◌, ◌++◌, List, length, drop, slice_index_or, Option, Some, None}
-use Rattle.std.proofs.Common.{true, false, refl, sym, ap, ◌∙◌, subst, arith, append-nil, append_assoc}
-use Rattle.std.proofs.Math.Seq.{drop-cons}
+use Rattle.std.proofs.Common.{rules, ◌≡◌, ◌<◌, ◌+◌, ℕ, [], ◌∷◌, ◌++◌, List, length, drop, slice_index_or, Option, Some, None}
+use Rattle.std.proofs.Common.{true, false, refl, sym, ap, ◌∙◌, arith, append-nil, append_assoc}
 use Rattle.std.proofs.lemmas.Bool.{both_ways}
 use Rattle.std.proofs.lemmas.List.{drop_all}
 use Rattle.std.specs.Option.{is_some}
-use Rattle.resp.specs.declared.reply.Reply.{Reply}
+use Rattle.resp.specs.declared.answered.Answered.{Answered}
 use Rattle.shard_exec.specs.declared.done.Ended as run
 use Rattle.groups.specs.declared.request.RequestId.{RequestId}
+use Rattle.system.proofs.Told.{turn_at}
 use Rattle.system_view.specs.Layers.{if_none, starved_of}
 use Rattle.system.proofs.outcomes.note_starved.Goals.{then-is_none, else-is_none}
 use Rattle.system.proofs.outcomes.note_starved.Goals as goal
 
--- the request whose turn it is heads those behind
-here : (ended : List run.Ended) (i : ℕ) (e : run.Ended) → i < length ended → e ≡ slice_index_or ended i e →
-    drop i ended ≡ e ∷ drop (i + 1) ended
-here ended i e within is =
-    let next : suc i ≡ i + 1 = omega arith in
-    subst (λ n. drop i ended ≡ e ∷ drop n ended) next (drop-cons ended i e within ∙ ap (λ x. x ∷ drop (suc i) ended) (sym is))
-
-noted : (o : Option Reply) (id : RequestId) (ids : List RequestId) → is_some o ≡ false → if_none o id ids ≡ id ∷ ids
+noted : (o : Option Answered) (id : RequestId) (ids : List RequestId) → is_some o ≡ false → if_none o id ids ≡ id ∷ ids
 noted None id ids none = refl
 noted (Some reply) id ids none = absurd (both_ways _ none refl)
 
-passed : (o : Option Reply) (id : RequestId) (ids : List RequestId) → is_some o ≡ true → if_none o id ids ≡ ids
+passed : (o : Option Answered) (id : RequestId) (ids : List RequestId) → is_some o ≡ true → if_none o id ids ≡ ids
 passed None id ids some = absurd (both_ways _ refl some)
 passed (Some reply) id ids some = refl
 
@@ -30,7 +23,7 @@ passed (Some reply) id ids some = refl
 module _ (ended : List run.Ended) (i : ℕ) (e : run.Ended) (within : i < length ended) (is : e ≡ slice_index_or ended i e)
     (before after all : List RequestId) (whole : before ++ starved_of (drop i ended) ≡ all) where
   at_turn : before ++ if_none e.reply e.id (starved_of (drop (i + 1) ended)) ≡ all
-  at_turn = ap (λ xs. before ++ starved_of xs) (sym (here ended i e within is)) ∙ whole
+  at_turn = ap (λ xs. before ++ starved_of xs) (sym (turn_at ended i e within is)) ∙ whole
 
   one_noted : is_some e.reply ≡ false → after ≡ before ++ e.id ∷ [] → after ++ starved_of (drop (i + 1) ended) ≡ all
   one_noted none adds =
@@ -53,14 +46,14 @@ loop-request-init c = record {
 
 pub push_reserved-requires : goal.push_reserved-requires
 push_reserved-requires c =
-    let left = ap length (here c.args.ended.now c.loop-request.request-index c.request-item.result c.loop-request-test.true
+    let left = ap length (turn_at c.args.ended.now c.loop-request.request-index c.request-item.result c.loop-request-test.true
     c.request-item.is) in
     let room = c.loop-request.invariant.room in
     search rules
 
 pub push_reserved-requires-then-is_none : goal.push_reserved-requires-then-is_none
 push_reserved-requires-then-is_none c =
-    let left = ap length (here c.args.ended.now c.loop-request.request-index c.request-item.result c.loop-request-test.true
+    let left = ap length (turn_at c.args.ended.now c.loop-request.request-index c.request-item.result c.loop-request-test.true
     c.request-item.is) in
     let room = c.loop-request.invariant.room_of_all in
     search rules
@@ -71,7 +64,7 @@ loop-request-preserved c =
     let i = c.loop-request.request-index in
     let e = c.request-item.result in
     let inv = c.loop-request.invariant in
-    let left = ap length (here ended i e c.loop-request-test.true c.request-item.is) in
+    let left = ap length (turn_at ended i e c.loop-request-test.true c.request-item.is) in
     let room = inv.room in
     let room_of_all = inv.room_of_all in
     elim c.if-is_none.branch [
