@@ -8,6 +8,7 @@
 
 mod compare;
 mod fault;
+mod line;
 mod lines;
 mod order;
 mod progress;
@@ -16,6 +17,7 @@ mod shown;
 mod steps;
 
 pub use fault::ReplayFault;
+pub use line::Line;
 pub use progress::{Progress, Unwatched};
 pub use report::{Report, compared};
 pub use shown::{ShowFault, show, told, told_watched};

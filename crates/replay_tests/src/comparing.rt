@@ -3,7 +3,7 @@
 use groups::{ConnId, GroupId, RequestId, Stamp};
 use journal::{Rows, size_of_row};
 use packing::PackedRequest;
-use replay::compared;
+use replay::{Report, compared};
 use resp::{Reply, Request};
 use std::alloc::{AllocError, Global};
 use std::test::Fail;
@@ -34,7 +34,12 @@ fn ends_with(alloc: Global, reply: &Reply, text: &str, dump: &str, last: &str) -
     let rows = rows_of(alloc, reply)?;
     let report = compared(alloc, &rows, b"starved 2.7\n", dump.as_bytes())?;
     let wanted = format!(in alloc; "row 1.0 1.1 set {text}\nstarved 2.7\n{dump}{last}\n")?;
-    same_bytes(last, report.text.as_slice(), wanted.as_bytes())?;
+    is_report(last, &report, wanted.as_bytes())
+}
+
+/// The report has this text, and agrees where its last line says so.
+fn is_report(last: &str, report: &Report, wanted: &[u8]) -> Result<(), Fail> {
+    same_bytes(last, report.text.as_slice(), wanted)?;
     holds("whether it agrees", report.agree == (last == "agree"))
 }
 

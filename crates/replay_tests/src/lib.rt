@@ -16,6 +16,8 @@ mod reports;
 #[cfg(test)]
 mod showing;
 #[cfg(test)]
+mod steps_told;
+#[cfg(test)]
 mod traces;
 #[cfg(test)]
 mod watching;

@@ -99,14 +99,35 @@ fn crossed(rt: &impl Abort, alloc: Global) -> Result<System, AllocError> {
     let table = table(rt, alloc)?;
     let trace = trace_of(rt, alloc, CROSSING.trace)?;
     let mut system = System::new(alloc, table, trace.max())?;
+    make_each(rt, alloc, &trace, &mut system)?;
+    Ok(system)
+}
+
+/// Makes the steps of a trace in turn.
+fn make_each(
+    rt: &impl Abort,
+    alloc: Global,
+    trace: &Trace,
+    system: &mut System,
+) -> Result<(), AllocError> {
     let mut steps = trace.steps();
     for _ in 0..trace.len() {
         let Some(step) = steps.next(alloc)? else {
             break;
         };
-        make(rt, &mut system, step)?;
+        make(rt, system, step)?;
     }
-    Ok(system)
+    Ok(())
+}
+
+/// The dump of a system comes behind what is there, or nothing does.
+fn dumps(rt: &impl Abort, alloc: Global, system: &System, lines: &str) -> Result<(), AllocError> {
+    let mut out = Vec::from_slice(alloc, BEFORE)?;
+    if system.dump(&mut out).is_err() {
+        assert_behind(rt, alloc, out.as_slice(), "")?;
+        system.dump(&mut out)?;
+    }
+    assert_behind(rt, alloc, out.as_slice(), lines)
 }
 
 fn system_dumped(rt: &impl Abort, alloc: Global) -> Result<(), AllocError> {
@@ -114,17 +135,8 @@ fn system_dumped(rt: &impl Abort, alloc: Global) -> Result<(), AllocError> {
     if !system.starved().is_empty() {
         return Err(AllocError);
     }
-    let mut out = Vec::from_slice(alloc, BEFORE)?;
-    if system.dump(&mut out).is_err() {
-        assert_behind(rt, alloc, out.as_slice(), "")?;
-        system.dump(&mut out)?;
-    }
-    assert_behind(
-        rt,
-        alloc,
-        out.as_slice(),
-        "key 61 string 31\nkey 63 string 32\n",
-    )
+    let lines = "key 61 string 31\nkey 63 string 32\n";
+    dumps(rt, alloc, &system, lines)
 }
 
 #[test]
@@ -135,11 +147,13 @@ fn a_system_is_dumped_where_memory_fails(rt: HostRuntime) -> Result<(), Fail> {
     Ok(())
 }
 
+type Store = Solo<BuildHasherDefault<FoldHasher>>;
+
 /// Runs a command; no memory is the only fault.
 fn ask(
     rt: &impl Abort,
     alloc: Global,
-    solo: &mut Solo<BuildHasherDefault<FoldHasher>>,
+    solo: &mut Store,
     words: &[&[u8]],
 ) -> Result<(), AllocError> {
     if words.is_empty() {
@@ -154,11 +168,16 @@ fn ask(
     Ok(())
 }
 
+/// Puts a set, a list and a hash.
+fn fill(rt: &impl Abort, alloc: Global, solo: &mut Store) -> Result<(), AllocError> {
+    ask(rt, alloc, solo, &[b"SADD", b"c", b"n", b"m"])?;
+    ask(rt, alloc, solo, &[b"RPUSH", b"", b"", b"x"])?;
+    ask(rt, alloc, solo, &[b"HSET", b"a", b"f", b"1"])
+}
+
 fn solo_dumped(rt: &impl Abort, alloc: Global) -> Result<(), AllocError> {
     let mut solo = Solo::new(alloc, BuildHasherDefault::<FoldHasher>::new());
-    ask(rt, alloc, &mut solo, &[b"SADD", b"c", b"n", b"m"])?;
-    ask(rt, alloc, &mut solo, &[b"RPUSH", b"", b"", b"x"])?;
-    ask(rt, alloc, &mut solo, &[b"HSET", b"a", b"f", b"1"])?;
+    fill(rt, alloc, &mut solo)?;
     let mut out = Vec::from_slice(alloc, BEFORE)?;
     if solo.dump(&mut out).is_err() {
         assert_behind(rt, alloc, out.as_slice(), "")?;

@@ -10,11 +10,8 @@
 //! is written.
 #![tactic(auto)]
 
-mod line;
-
-use line::Line;
 use options::replay::{OptionsFault, read_options};
-use replay::{Progress, ShowFault, told_watched};
+use replay::{Line, Progress, ShowFault, told_watched};
 use shard_crew::Crew;
 use shard_workers::InTurn;
 use std::io::{self, ErrorKind, IsTerminal, Write};
@@ -107,6 +104,3 @@ fn status_of_read(fault: &io::Error, status: u8) -> u8 {
         _ => status,
     }
 }
-
-#[cfg(test)]
-mod tests;

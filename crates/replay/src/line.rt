@@ -1,6 +1,6 @@
 //! The line that tells how far a replay is, for whoever sits at a terminal.
 
-use replay::Progress;
+use crate::progress::Progress;
 use std::io::Write;
 use std::time::{Clock, Duration, Instant};
 
@@ -13,7 +13,7 @@ const PAUSE: u64 = 100;
 /// A line `shardkv-replay: STEPS of ALL steps` that is written over and over in its place, and is gone at the end.
 /// Where it is off nothing is written at all.
 #[derive(Drop)]
-pub(crate) struct Line<'a, C, O> {
+pub struct Line<'a, C, O> {
     clock: &'a C,
     out: O,
     is_on: bool,
@@ -23,7 +23,7 @@ pub(crate) struct Line<'a, C, O> {
 
 impl<'a, C: Clock, O: Write> Line<'a, C, O> {
     /// None stands yet.
-    pub(crate) fn new(clock: &'a C, out: O, is_on: bool) -> Self {
+    pub fn new(clock: &'a C, out: O, is_on: bool) -> Self {
         Line {
             clock,
             out,
