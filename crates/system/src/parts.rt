@@ -212,7 +212,8 @@ impl Parts {
     /// as it was but for room.
     pub fn settle_ran(&mut self, alloc: Global) -> Result<(), AllocError>
         requires { (h : List Step) × (w : World) × IsAt self.old h w }
-        ensures made { OnOk result ((ran : RanLayer) → self.old.stage ≡ Stage.HasRun ran → Makes self.old Step.Settle Effect.Made self.new) }
+        ensures made { OnOk result ((ran : RanLayer) → self.old.stage ≡ Stage.HasRun ran
+            → Makes self.old Step.Settle Effect.Made self.new) }
         ensures rows { OnOk result ((h : List Step) (w : World) → IsAt self.old h w → AreRows w.ended self.new.rows) }
         ensures keeps { OnErr result (Keeps self.old self.new) }
     {
