@@ -8,7 +8,7 @@ use server_waiting::Endings;
 
 use std::collections::BTreeMap;
 use std::io::{self, ErrorKind};
-use std::net::{Net, Shutdown, TcpListener, TcpStream};
+use std::net::{Shutdown, TcpListener, TcpStream};
 use std::sync::ledger::Ledger;
 use std::sync::{Arc, Wait};
 use std::thread::{self, JoinHandle, Threads};
@@ -40,7 +40,7 @@ pub(crate) fn serve_connections<L: Ledger + Send + Sync, R>(
     service: &Service<'_, L>,
 ) -> u64
 where
-    R: Threads + Wait + AllocGlobal + Eprint + Net + Clock + Sync,
+    R: Threads + Wait + AllocGlobal + Eprint + Clock + Sync,
 {
     let alloc = rt.alloc();
     let shared = service.shared;
@@ -62,7 +62,7 @@ where
             };
             endings.join(rt, &mut threads);
             let Some(stream) = prepared(rt, endings, threads.len(), streams, number, stream) else {
-                refused += 1;
+                refused = refused.saturating_add(1);
                 continue;
             };
             let its_stream = Arc::try_clone(&stream);
@@ -77,7 +77,6 @@ where
                 serve_connection(rt, &service, &its_stream);
                 streams.remove(rt, number);
                 drop(its_stream);
-                faults.wake(rt);
                 endings.tell(rt, number);
             });
             match thread {
@@ -87,7 +86,7 @@ where
                 Err(_) => {
                     streams.remove(rt, number);
                     say(rt, &stream, "no thread for this connection", SHORTLY);
-                    refused += 1;
+                    refused = refused.saturating_add(1);
                 }
             }
         }

@@ -6,7 +6,7 @@ use serving::{Door, ServeFault, Served, serve};
 use shared_cluster::{AskFault, Desk, FaultKind, Shared, Turns};
 use std::fmt::Display;
 use std::io::{ErrorKind, Read, Write};
-use std::net::{Net, Shutdown, TcpStream};
+use std::net::{Shutdown, TcpStream};
 use std::sync::Wait;
 use std::sync::ledger::Ledger;
 use std::time::{Clock, Duration, Instant};
@@ -32,7 +32,7 @@ pub(crate) struct Service<'a, L: Ledger> {
 /// Serves one connection, at a seat of its own.
 pub(crate) fn serve_connection<L: Ledger, R>(rt: &R, service: &Service<'_, L>, stream: &TcpStream)
 where
-    R: Wait + AllocGlobal + Eprint + Net + Clock,
+    R: Wait + AllocGlobal + Eprint + Clock,
 {
     let _ = stream.set_nodelay(true);
     let seat = match service.shared.sit(rt) {
@@ -60,14 +60,13 @@ where
 }
 
 /// Ends a connection by the fault with which it was refused, which may be one of the whole server.
-fn end_by<L: Ledger, R: Wait + Eprint + Net + Clock>(
+fn end_by<L: Ledger, R: Wait + Eprint + Clock>(
     rt: &R,
     service: &Service<'_, L>,
     stream: &TcpStream,
     fault: AskFault,
 ) {
     service.meet(rt, &fault);
-    service.faults.wake(rt);
     say(rt, stream, fault, LINGERING);
 }
 
@@ -99,9 +98,9 @@ pub(crate) fn say<R: Clock, D: Display + Drop>(
     let mut line = [0; LONGEST_LINE];
     let mut room = line.as_mut_slice();
     if write!(room, "-ERR {why}\r\n").is_ok() {
-        let left = room.len();
+        let size = LONGEST_LINE.saturating_sub(room.len());
         let mut writer = stream;
-        let _ = writer.write_all(&line[..LONGEST_LINE - left]);
+        let _ = writer.write_all(&line[..size]);
     }
     linger(rt, stream, most);
 }

@@ -7,12 +7,12 @@ use cluster::CloseFault;
 use journal::SendFault;
 use std::alloc::AllocError;
 use std::net::{Net, SocketAddr, TcpStream};
-use std::sync::{Mutex, Wait};
-use std::time::Duration;
+use std::sync::{Condvar, CondvarTimeouts, Mutex, Wait};
+use std::time::{Clock, Duration};
 use thiserror::Error;
 
-/// For how many milliseconds it is tried to wake the one that takes connections.
-const WAKING: u64 = 500;
+/// After how many milliseconds the thread that takes connections is woken once more.
+const WAKING: u64 = 100;
 
 /// Why the server doesn't end well. Each reason has its status.
 #[derive(Clone, Copy, Debug, Drop, PartialEq, Eq, Error)]
@@ -65,11 +65,21 @@ impl From<SendFault> for HostFault {
     }
 }
 
+/// How far a server is.
+#[derive(Drop)]
+struct Course {
+    // The first fault that was met.
+    fault: Option<HostFault>,
+    // How many connections were refused, once no more are taken.
+    refused: Option<u64>,
+}
+
 /// The first fault of a server, after which it takes no more connections and ends. It is told on standard error as soon
 /// as it is met, and decides the status.
 #[derive(Drop)]
 pub(crate) struct FirstFault {
-    met: Mutex<Option<HostFault>>,
+    course: Mutex<Course>,
+    changed: Condvar,
     // Where the server listens.
     address: SocketAddr,
 }
@@ -78,7 +88,11 @@ impl FirstFault {
     /// None was met by the server that listens there.
     pub(crate) fn new(address: SocketAddr) -> Self {
         FirstFault {
-            met: Mutex::new(None),
+            course: Mutex::new(Course {
+                fault: None,
+                refused: None,
+            }),
+            changed: Condvar::new(),
             address,
         }
     }
@@ -92,22 +106,43 @@ impl FirstFault {
 
     /// The one that was met.
     pub(crate) fn met<R: Wait>(&self, rt: &R) -> Option<HostFault> {
-        *self.met.lock(rt)
+        self.course.lock(rt).fault
     }
 
     /// A fault is met, and told if it is the first.
     pub(crate) fn meet<R: Wait + Eprint>(&self, rt: &R, fault: HostFault) {
-        let mut met = self.met.lock(rt);
-        if met.is_none() {
-            *met = Some(fault);
+        let mut course = self.course.lock(rt);
+        if course.fault.is_none() {
+            course.fault = Some(fault);
             let _ = eprintln!(rt; "shardkv-server: {fault}");
+            self.changed.notify_all();
         }
     }
 
-    /// Wakes the one that takes connections, if a fault was met: one more comes, which it doesn't serve.
-    pub(crate) fn wake<R: Wait + Net>(&self, rt: &R) {
-        if self.met(rt).is_some() {
-            let _ = TcpStream::connect_timeout(rt, &self.address, Duration::from_millis(WAKING));
+    /// No more connections are taken, after so many were refused.
+    pub(crate) fn end<R: Wait>(&self, rt: &R, refused: u64) {
+        self.course.lock(rt).refused = Some(refused);
+        self.changed.notify_all();
+    }
+
+    /// Waits until no more connections are taken, and gives how many were refused. Where a fault is met meanwhile the
+    /// thread that takes connections is woken: one more comes, which it doesn't serve.
+    pub(crate) fn wait_for_end<R: Wait + Net + Clock>(&self, rt: &R) -> u64 {
+        let again = Duration::from_millis(WAKING);
+        let mut course = self.course.lock(rt);
+        for _ in rt.forever() {
+            if let Some(refused) = course.refused {
+                return refused;
+            }
+            if course.fault.is_none() {
+                course = self.changed.wait(rt, course);
+                continue;
+            }
+            drop(course);
+            let _ = TcpStream::connect_timeout(rt, &self.address, again);
+            let (locked, _) = self.changed.wait_timeout(rt, self.course.lock(rt), again);
+            course = locked;
         }
+        unreachable!()
     }
 }

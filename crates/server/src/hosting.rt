@@ -30,7 +30,7 @@ use std::time::Clock;
 
 /// Serves as many connections as the options say, and gives the program's status.
 ///
-/// `listening ADDRESS` is written to `out` before the first connection, and at the end
+/// `listening ADDRESS` is written to `out` before the first connection, and at a good end
 /// `closed requests=R executed=E starved=S`. The first fault that the server as a whole meets is told on standard error
 /// at once, and decides the status: 4 the network failed, 5 no more steps may be made or a close was refused, 6 the trace
 /// wasn't written, 7 there was no memory, or a thread could not be started. Then no more connections are taken, those
@@ -88,7 +88,7 @@ where
     let shared: Shared<L> = Shared::new(rt.alloc(), table, options.max_steps, hasher, blank)?;
     let _ = writeln!(out, "listening {}", faults.address());
     let _ = out.flush();
-    let refused = serve_beside_driver(rt, listener, &shared, options, faults);
+    let refused = serve_and_drive(rt, listener, &shared, options, faults);
     if refused > 0 {
         let _ = eprintln!(rt; "shardkv-server: connections without memory or a thread: {refused}");
     }
@@ -99,7 +99,9 @@ where
     if let Some(path) = options.trace {
         store_trace(rt, &shared, path)?;
     }
-    if let Ok(closing) = closed {
+    if let Ok(closing) = closed
+        && faults.met(rt).is_none()
+    {
         let _ = writeln!(
             out,
             "closed requests={} executed={} starved={}",
@@ -113,7 +115,7 @@ where
 }
 
 /// Drives the cluster with workers that are threads of their own, which `starter` starts.
-fn drive_by_crew<L: Ledger, R: Threads + Wait + Eprint + Net + Clock>(
+fn drive_by_crew<L: Ledger, R: Threads + Wait + Eprint + Clock>(
     rt: &R,
     starter: &R,
     service: &Service<'_, L>,
@@ -122,13 +124,11 @@ fn drive_by_crew<L: Ledger, R: Threads + Wait + Eprint + Net + Clock>(
     let crew = Crew::new(starter, workers);
     if let Err(fault) = service.shared.drive(rt, &First, &crew, &Open) {
         service.meet(rt, &fault);
-        service.faults.wake(rt);
     }
 }
 
-/// Serves all connections, and makes the turns that are left. With several workers a thread beside them drives the
-/// cluster. Gives how many connections were refused.
-fn serve_beside_driver<L: Ledger + Send + Sync, R>(
+/// Serves all connections, and makes the turns that are left. Gives how many connections were refused.
+fn serve_and_drive<L: Ledger + Send + Sync, R>(
     rt: &R,
     listener: &TcpListener,
     shared: &Shared<L>,
@@ -139,45 +139,75 @@ where
     R: Threads + Wait + AllocGlobal + Eprint + Net + Clock + Sync,
 {
     let workers = options.workers;
+    let turns = if workers.get() == 1 {
+        Turns::Own
+    } else {
+        Turns::Driver
+    };
     let max_steps = options.max_steps;
-    let connections = options.connections;
-    if workers.get() == 1 {
+    let refused = serve_beside_driver(rt, listener, shared, options, turns, faults);
+    if let Err(fault) = shared.drive(rt, &First, &InTurn(NonZeroUsize::MIN), &Open) {
         let service = Service {
             shared,
-            turns: Turns::Own,
+            turns,
             max_steps,
             faults,
         };
-        let refused = serve_connections(rt, listener, connections, &service);
-        shared.shut(rt);
-        if let Err(fault) = shared.drive(rt, &First, &InTurn(workers), &Open) {
-            service.meet(rt, &fault);
-        }
-        return refused;
+        service.meet(rt, &fault);
     }
-    let service = Service {
-        shared,
-        turns: Turns::Driver,
-        max_steps,
-        faults,
-    };
+    refused
+}
+
+/// Serves all connections, and shuts the cluster. A thread of its own takes the connections, so that this one can wake
+/// it; with several workers a third one drives the cluster. Gives how many connections were refused.
+fn serve_beside_driver<L: Ledger + Send + Sync, R>(
+    rt: &R,
+    listener: &TcpListener,
+    shared: &Shared<L>,
+    options: &Options<'_>,
+    turns: Turns,
+    faults: &FirstFault,
+) -> u64
+where
+    R: Threads + Wait + AllocGlobal + Eprint + Net + Clock + Sync,
+{
+    let workers = options.workers;
+    let max_steps = options.max_steps;
+    let connections = options.connections;
     thread::scope(thread::scope_env(), rt, |scope| {
         system_sends();
         syncs::<R>();
-        let driver = scope.spawn(move || {
+        let drives = turns == Turns::Driver;
+        let driver = move || {
             let service = Service {
                 shared,
-                turns: Turns::Driver,
+                turns,
                 max_steps,
                 faults,
             };
             drive_by_crew(rt, rt, &service, workers);
-        });
-        if driver.is_err() {
+        };
+        if drives && scope.spawn(driver).is_err() {
             faults.meet(rt, HostFault::Thread);
+            shared.shut(rt);
             return 0;
         }
-        let refused = serve_connections(rt, listener, connections, &service);
+        let taking = scope.spawn(move || {
+            let service = Service {
+                shared,
+                turns,
+                max_steps,
+                faults,
+            };
+            let refused = serve_connections(rt, listener, connections, &service);
+            faults.end(rt, refused);
+        });
+        let refused = if taking.is_ok() {
+            faults.wait_for_end(rt)
+        } else {
+            faults.meet(rt, HostFault::Thread);
+            0
+        };
         shared.shut(rt);
         refused
     })

@@ -18,6 +18,7 @@ use std::rt::Files;
 use std::sync::Wait;
 use std::test::Fail;
 use std::thread::{Threads, join};
+use std::time::Clock;
 
 /// `a`, `b` and `y` lie on the first shard, `c`, `d`, `x` and `z` on the second.
 pub(crate) const TWO_SHARDS: &str =
@@ -54,7 +55,7 @@ pub(crate) type Hosted = (u8, Vec<u8>);
 /// Hosts at a listener on two shards.
 pub(crate) fn hosted<R>(rt: &R, listener: &TcpListener, options: &Options<'_>) -> Hosted
 where
-    R: Threads + Wait + AllocGlobal + Files + RandomSource + Eprint + Sync,
+    R: Threads + Wait + AllocGlobal + Files + RandomSource + Eprint + Net + Clock + Sync,
     requires { InRange options.now }
 {
     let mut printed = Vec::new(rt.alloc());
@@ -81,6 +82,7 @@ where
         + Files
         + RandomSource
         + Eprint
+        + Clock
         + Sync
         + Net<Listener = TcpListener, Stream = TcpStream>,
     requires { InRange options.now }
@@ -121,6 +123,7 @@ where
         + Files
         + RandomSource
         + Eprint
+        + Clock
         + Sync
         + Net<Listener = TcpListener, Stream = TcpStream>,
 {

@@ -7,6 +7,8 @@ mod clients;
 #[cfg(test)]
 mod counting;
 #[cfg(test)]
+mod ends;
+#[cfg(test)]
 mod hosting;
 #[cfg(test)]
 mod limits;

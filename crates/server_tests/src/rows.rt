@@ -21,6 +21,7 @@ use std::sync::Wait;
 use std::sync::ledger::{Blank, Ledger};
 use std::test::Fail;
 use std::thread::{Threads, join};
+use std::time::Clock;
 
 /// At most how many steps the clusters here make.
 const MOST: u64 = 1000;
@@ -61,7 +62,7 @@ type Rows<'a> = &'a [(&'a str, &'a str)];
 
 /// Asks the requests in order at a seat of its own. Gives the first reply that isn't the wanted one. Another thread
 /// drives the cluster.
-fn ask_rows<L: Ledger, R: Wait>(
+fn ask_rows<L: Ledger, R: Wait + Clock>(
     rt: &R,
     alloc: Global,
     shared: &Shared<L>,
@@ -83,7 +84,7 @@ fn ask_rows<L: Ledger, R: Wait>(
 }
 
 /// The text of the reply to one request; none where it isn't answered.
-fn ask_row<L: Ledger, R: Wait>(
+fn ask_row<L: Ledger, R: Wait + Clock>(
     rt: &R,
     alloc: Global,
     shared: &Shared<L>,
@@ -96,7 +97,7 @@ fn ask_row<L: Ledger, R: Wait>(
 }
 
 /// Two threads ask their rows, and then the cluster is shut. The first replies of each that aren't the wanted ones.
-fn ask_and_shut<L: Ledger + Send + Sync, R: Threads + Wait + Sync>(
+fn ask_and_shut<L: Ledger + Send + Sync, R: Threads + Wait + Clock + Sync>(
     rt: &R,
     alloc: Global,
     shared: &Shared<L>,
@@ -115,12 +116,12 @@ fn ask_and_shut<L: Ledger + Send + Sync, R: Threads + Wait + Sync>(
 }
 
 /// Drives the cluster with one worker.
-fn driven<L: Ledger, R: Wait>(rt: &R, shared: &Shared<L>) -> Result<(), AskFault> {
+fn driven<L: Ledger, R: Wait + Clock>(rt: &R, shared: &Shared<L>) -> Result<(), AskFault> {
     shared.drive(rt, &First, &InTurn(NonZeroUsize::MIN), &Open)
 }
 
 /// Two threads ask their rows beside one that drives. The cluster is to close with these numbers.
-fn two_ask<L: Ledger + Send + Sync, R: Threads + Wait + Abort + Sync>(
+fn two_ask<L: Ledger + Send + Sync, R: Threads + Wait + Clock + Abort + Sync>(
     rt: &R,
     alloc: Global,
     blank: Blank,
@@ -152,7 +153,7 @@ fn syncs<T: Sync>()
 {}
 
 /// Two threads ask their rows of a new cluster, which counts so many requests, and so many that were executed.
-fn ask_both<R: Threads + Wait + Abort + Sync>(
+fn ask_both<R: Threads + Wait + Clock + Abort + Sync>(
     rt: &R,
     alloc: Global,
     one: Rows<'_>,
@@ -218,7 +219,7 @@ fn sets_and_ranges(rt: HostRuntime) -> Result<(), Fail> {
 }
 
 /// The thread that asks makes the turns.
-fn asks_turning<L: Ledger, R: Wait + Abort>(
+fn asks_turning<L: Ledger, R: Wait + Clock + Abort>(
     rt: &R,
     alloc: Global,
     most: u64,
@@ -252,7 +253,7 @@ fn asks_turning<L: Ledger, R: Wait + Abort>(
 }
 
 /// Asks of a new cluster that makes so many steps at most.
-fn turn_within<R: Wait + Abort>(rt: &R, alloc: Global, most: u64) -> Result<(), Fail>
+fn turn_within<R: Wait + Clock + Abort>(rt: &R, alloc: Global, most: u64) -> Result<(), Fail>
     requires { (1 ≤ most) × (most ≤ GREATEST_STEPS) }
 {
     let blank = Blank::new(most + 1);
@@ -271,7 +272,7 @@ fn many_steps_take_nothing(rt: HostRuntime) -> Result<(), Fail> {
 }
 
 /// The seat is the first of three steps, its request the second, and its packet the third.
-fn three_steps<L: Ledger, R: Wait + Abort>(rt: &R, alloc: Global, blank: Blank) -> Result<(), Fail>
+fn three_steps<L: Ledger, R: Wait + Clock + Abort>(rt: &R, alloc: Global, blank: Blank) -> Result<(), Fail>
     requires { (blank.name ≡ L.name) × (blank.parts ≡ L.parts) × (3 < blank.parts) }
 {
     let shared: Shared<L> = shared(alloc, 3, blank)?;
@@ -293,7 +294,7 @@ fn three_steps<L: Ledger, R: Wait + Abort>(rt: &R, alloc: Global, blank: Blank) 
 }
 
 /// Makes three steps of a new cluster.
-fn make_three<R: Wait + Abort>(rt: &R, alloc: Global) -> Result<(), Fail> {
+fn make_three<R: Wait + Clock + Abort>(rt: &R, alloc: Global) -> Result<(), Fail> {
     let blank = Blank::new(4);
     three_steps::<Brand, R>(rt, alloc, blank)
 }
