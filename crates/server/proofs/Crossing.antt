@@ -13,9 +13,10 @@ use denote.Struct.Declared as declared
 use denote.Struct.Tuple.{TupleAt, type_at}
 use Rattle.std.proofs.Crossing.{crosses}
 use Rattle.std.proofs.MapsCrossing as maps
-use Rattle.std_heap.specs.contracts.Global as Heap
-use Rattle.std_heap.specs.contracts.GlobalAllocator.TheImpl.{ghosts}
-use Rattle.std_alloc.specs.contracts.arc.Arc as Arc
+use Rattle.std.specs.contracts.alloc.Global as Heap
+use Rattle.std.specs.contracts.prelude.GlobalAllocator.TheImpl.{ghosts}
+use Rattle.std.specs.contracts.sync.Arc as Arc
+use Rattle.std.specs.contracts.net.tcp.TcpListener as TcpListener
 use Rattle.std.specs.contracts.net.tcp.TcpStream as TcpStream
 use Rattle.std.specs.contracts.num.NonZeroUsize as NonZeroUsize
 use Rattle.std.specs.declared.sync.ledger.Ledger.{Ghosts}
@@ -48,6 +49,9 @@ faults_sync = search (sendable, crosses) depth 40 fits 3000
 
 streams_sync : IsSync Streams.the_row
 streams_sync = search (sendable, crosses, maps.BTreeMap-send) depth 40 fits 3000
+
+listener_sync : IsSync TcpListener.the_row
+listener_sync = search (sendable, crosses) depth 40 fits 3000
 
 workers_send : IsSend NonZeroUsize.the_row
 workers_send = search (sendable, crosses) depth 40 fits 3000
@@ -94,8 +98,8 @@ module _ (δ : Ty) (ν : Sym) (L R : RattleType) (g : Ghosts L.Denot) where
   -- what the thread that drives captures
   abbrev pub driver : (ℓ₁ : Lifetime) (κ₁ : Lft) (ℓ₂ : Lifetime) (κ₂ : Lft) (ℓ₃ : Lifetime) (κ₃ : Lft) → List RattleType
   driver ℓ₁ κ₁ ℓ₂ κ₂ ℓ₃ κ₃ =
-      ShrRef ℓ₁ κ₁ (Shared.the_row (param 0 L) g) ∷ (u64-field).row ∷ ShrRef ℓ₂ κ₂ FirstFault.the_row ∷ ShrRef ℓ₃ κ₃ (param 1 R)
-      ∷ NonZeroUsize.the_row ∷ []
+      ShrRef ℓ₁ κ₁ (Shared.the_row (param 0 L) g) ∷ Turns.the_row ∷ (u64-field).row ∷ ShrRef ℓ₂ κ₂ FirstFault.the_row
+      ∷ ShrRef ℓ₃ κ₃ (param 1 R) ∷ NonZeroUsize.the_row ∷ []
 
   pub driver_send : (ℓ₁ : Lifetime) (κ₁ : Lft) (ℓ₂ : Lifetime) (κ₂ : Lft) (ℓ₃ : Lifetime) (κ₃ : Lft) → IsSync R → IsSend System.the_row
       → IsSend (param 1 (arg δ no (TupleAt ν (driver ℓ₁ κ₁ ℓ₂ κ₂ ℓ₃ κ₃))))
@@ -104,8 +108,41 @@ module _ (δ : Ty) (ν : Sym) (L R : RattleType) (g : Ghosts L.Denot) where
       let sends : AllSend (declared.fields T) = (
         shr_send ℓ₁ κ₁ (Shared.the_row (param 0 L) g) (shared_syncs (param 0 L) g s),
         (
-          u64_send,
-          (shr_send ℓ₂ κ₂ FirstFault.the_row faults_sync, (shr_send ℓ₃ κ₃ (param 1 R) (param_sync 1 R r), (workers_send, tt))),
+          turns_send,
+          (
+            u64_send,
+            (shr_send ℓ₂ κ₂ FirstFault.the_row faults_sync, (shr_send ℓ₃ κ₃ (param 1 R) (param_sync 1 R r), (workers_send, tt))),
+          ),
+        ),
+      ) in
+      param_send 1 (arg δ no (declared.row T)) (arg_send δ no (declared.row T)
+      (recorded_send (Struct (declared.shape T)) T.D T.to T.to_one (struct_send (declared.shape T) sends)))
+
+  -- what the thread that takes connections captures
+  abbrev pub taking : (ℓ₁ : Lifetime) (κ₁ : Lft) (ℓ₂ : Lifetime) (κ₂ : Lft) (ℓ₃ : Lifetime) (κ₃ : Lft) (ℓ₄ : Lifetime) (κ₄ : Lft)
+      → List RattleType
+  taking ℓ₁ κ₁ ℓ₂ κ₂ ℓ₃ κ₃ ℓ₄ κ₄ =
+      ShrRef ℓ₁ κ₁ (Shared.the_row (param 0 L) g) ∷ Turns.the_row ∷ (u64-field).row ∷ ShrRef ℓ₂ κ₂ FirstFault.the_row
+      ∷ ShrRef ℓ₃ κ₃ (param 1 R) ∷ ShrRef ℓ₄ κ₄ TcpListener.the_row ∷ (u64-field).row ∷ []
+
+  pub taking_send : (ℓ₁ : Lifetime) (κ₁ : Lft) (ℓ₂ : Lifetime) (κ₂ : Lft) (ℓ₃ : Lifetime) (κ₃ : Lft) (ℓ₄ : Lifetime) (κ₄ : Lft)
+      → IsSync R → IsSend System.the_row → IsSend (param 1 (arg δ no (TupleAt ν (taking ℓ₁ κ₁ ℓ₂ κ₂ ℓ₃ κ₃ ℓ₄ κ₄))))
+  taking_send ℓ₁ κ₁ ℓ₂ κ₂ ℓ₃ κ₃ ℓ₄ κ₄ r s =
+      let T = type_at ν (taking ℓ₁ κ₁ ℓ₂ κ₂ ℓ₃ κ₃ ℓ₄ κ₄) in
+      let sends : AllSend (declared.fields T) = (
+        shr_send ℓ₁ κ₁ (Shared.the_row (param 0 L) g) (shared_syncs (param 0 L) g s),
+        (
+          turns_send,
+          (
+            u64_send,
+            (
+              shr_send ℓ₂ κ₂ FirstFault.the_row faults_sync,
+              (
+                shr_send ℓ₃ κ₃ (param 1 R) (param_sync 1 R r),
+                (shr_send ℓ₄ κ₄ TcpListener.the_row listener_sync, (u64_send, tt)),
+              ),
+            ),
+          ),
         ),
       ) in
       param_send 1 (arg δ no (declared.row T)) (arg_send δ no (declared.row T)

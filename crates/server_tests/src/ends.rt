@@ -126,7 +126,7 @@ fn an_older_trace_stays(rt: HostRuntime) -> Result<(), Fail> {
 /// How many bytes of a large value are sent at once, and how often.
 const PIECE: usize = 64 * 1024;
 
-const PIECES: usize = 1024;
+const PIECES: usize = 256;
 
 /// How much memory the process has, in bytes.
 fn resident<R: Files + AllocGlobal>(rt: &R) -> io::Result<usize> {
