@@ -7,6 +7,9 @@ two clients at once, and 400,000 small requests. Four others go on meanwhile: ea
 rightly or by the error line that there is no memory, or no thread for a connection. Afterwards 100 requests are answered
 rightly, and the server's processor is idle.
 
+Then, with memory enough, a string of 64 MB is set and removed: of what the server took for it only the words stay that the
+trace and the row of its request have.
+
 The last line is `N passed, M failed`, and the status is 1 where one failed.
 """
 import os
@@ -248,6 +251,32 @@ def afterwards(server, port):
         [f"busy for {busy:.2f} s of a second afterwards"] if busy > 0.1 else [])
 
 
+def resident(process):
+    """How much memory a process has, and at most had, in bytes."""
+    with open(f"/proc/{process}/status") as status:
+        fields = dict(line.split(":", 1) for line in status)
+    return tuple(int(fields[name].split()[0]) * 1024 for name in ("VmRSS", "VmHWM"))
+
+
+def gives_back(program, table):
+    """What goes wrong with the memory of a large request."""
+    size = 64 * MIB
+    server = subprocess.Popen(
+        [program, "--table", table, "--port", "0"], stdout=subprocess.PIPE, stderr=subprocess.PIPE, text=True)
+    try:
+        client = Client(int(server.stdout.readline().rsplit(":", 1)[1]))
+        before, _ = resident(server.pid)
+        client.ask(b"SET", b"large", b"x" * size)
+        for _ in range(2):
+            client.ask(b"DEL", b"large")
+        after, most = resident(server.pid)
+        print(f"  {before / MIB:.0f} MiB before, {most / MIB:.0f} at most, {after / MIB:.0f} after")
+        return ["memory stays"] if after > before + size * 5 // 2 or after > most - size else []
+    finally:
+        server.send_signal(signal.SIGKILL)
+        server.wait()
+
+
 def main():
     program, table = sys.argv[1:3]
     passed = failed = 0
@@ -259,6 +288,11 @@ def main():
                 for fault in faults:
                     print(f"  FAILED: {fault}")
                 passed, failed = passed + (not faults), failed + bool(faults)
+    print("a string of 64 MB")
+    faults = gives_back(program, table)
+    for fault in faults:
+        print(f"  FAILED: {fault}")
+    passed, failed = passed + (not faults), failed + bool(faults)
     print(f"{passed} passed, {failed} failed")
     sys.exit(failed > 0)
 

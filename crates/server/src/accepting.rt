@@ -5,7 +5,6 @@ use crate::faults::{FirstFault, HostFault};
 use crate::streams::Streams;
 use cluster_sending::{syncs, system_sends};
 use server_waiting::Endings;
-
 use std::collections::BTreeMap;
 use std::io::{self, ErrorKind};
 use std::net::{Shutdown, TcpListener, TcpStream};

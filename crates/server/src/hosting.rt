@@ -54,8 +54,9 @@ where
     };
     let faults = FirstFault::new(address);
     let blank = Blank::new(options.max_steps + 1);
-    if let Err(fault) = serve_all::<Brand, R, W>(rt, listener, options, table, out, blank, &faults)
-    {
+    if let Err(fault) = serve_all::<Brand, R, W>(
+        rt, listener, options, table, out, blank, &faults,
+    ) {
         faults.meet(rt, fault);
     }
     match faults.met(rt) {

@@ -1,15 +1,20 @@
 //! How a server ends, and what clients are told who meet its end or their own.
 
+ghost use Rattle.std.specs.Prelude.{IfOk};
 ghost use Rattle.options.specs.Server.{InRange};
 
 use crate::clients::Does::{Asks, Gets, IsEnded};
-use crate::hosting::{beside, hosted, options, report_of};
-use std::alloc::Global;
+use crate::hosting::{Hosted, beside, hosted, options, report_of};
+use options::server::Options;
+use std::alloc::{AllocError, Global};
 use std::io::{self, Read, Write};
 use std::net::{Net, TcpListener, TcpStream};
+use std::random::RandomSource;
 use std::rt::Files;
+use std::sync::Wait;
 use std::test::Fail;
-use std::thread::join;
+use std::thread::{Threads, join};
+use std::time::Clock;
 use std::{env, fs, process};
 use test_support::{bytes_of, holds, same_bytes, same_number};
 
@@ -25,6 +30,20 @@ fn as_wanted(otherwise: Option<&String>) -> Result<(), Fail> {
         Some(text) => Err(Fail::new(format_args!("otherwise: {text}"))),
         None => Ok(()),
     }
+}
+
+/// Options for a server of so many steps, with its trace in this file.
+fn limited<'a>(workers: usize, max_steps: u64, path: &'a str) -> Result<Options<'a>, Fail>
+    ensures { IfOk result InRange }
+{
+    let options = options(workers, 1000, Some(path))?;
+    if max_steps == 0 || max_steps > options.max_steps {
+        return Err("1 to 1,000,000 steps".into());
+    }
+    Ok(Options {
+        max_steps,
+        ..options
+    })
 }
 
 /// Two requests take their steps; the third client is refused its seat, its submit or its first turn, the others are
@@ -45,8 +64,7 @@ fn steps_that_run_out(rt: HostRuntime) -> Result<(), Fail> {
     let path = path_of(&rt, "ended")?;
     for (max_steps, workers) in [(14, 1), (15, 1), (16, 1), (17, 1), (15, 2)] {
         let listener = TcpListener::bind(&rt, "127.0.0.1:0")?;
-        let mut options = options(workers, 1000, Some(path.as_str()))?;
-        options.max_steps = max_steps;
+        let options = limited(workers, max_steps, path.as_str())?;
         let (ended, otherwise) = beside(&rt, &listener, &options, 3, acts.as_slice());
         as_wanted(otherwise.as_ref())?;
         same_number("the status", u64::from(ended.0), 5)?;
@@ -77,29 +95,62 @@ fn written_often<R: Net<Stream = TcpStream>>(
     Ok(read)
 }
 
+/// Hosts at a listener beside a client that writes so. How the host ended, and what was read.
+fn hosted_beside<R>(
+    rt: &R,
+    listener: &TcpListener,
+    options: &Options<'_>,
+    piece: &str,
+    last: &str,
+) -> (Hosted, io::Result<Vec<u8>>)
+where
+    R: Threads
+        + Wait
+        + AllocGlobal
+        + Files
+        + RandomSource
+        + Eprint
+        + Clock
+        + Sync
+        + Net<Listener = TcpListener, Stream = TcpStream>,
+    requires { InRange options.now }
+{
+    let (read, ended) = join(
+        rt,
+        move || written_often(rt, rt.alloc(), listener, piece, TIMES, last),
+        move ||
+            requires { InRange options.now }
+        { hosted(rt, listener, options) },
+    );
+    (ended, read)
+}
+
+/// A piece of two requests, with `|` for CR LF, and how often it stands before the fault and behind it.
+const PIECE: &str = "*3|$3|SET|$1|a|$1|b|*2|$3|GET|$1|a|";
+
+const TIMES: usize = 2500;
+
+/// A text so many times behind another one.
+fn behind(alloc: Global, first: &str, text: &str) -> Result<String, AllocError> {
+    let mut all = String::new(alloc);
+    all.push_str(first)?;
+    for _ in 0..TIMES {
+        all.push_str(text)?;
+    }
+    Ok(all)
+}
+
 /// A fault stands between two times 5,000 requests: all replies to the first ones arrive, and its line.
 #[test]
 fn replies_before_a_fault_arrive(rt: HostRuntime) -> Result<(), Fail> {
     let alloc = rt.alloc();
     let listener = TcpListener::bind(&rt, "127.0.0.1:0")?;
     let options = options(1, 1, None)?;
-    let piece = "*3|$3|SET|$1|a|$1|b|*2|$3|GET|$1|a|";
-    let mut last = String::new(alloc);
-    last.push_str("*1|+PING|")?;
-    for _ in 0..2500 {
-        last.push_str(piece)?;
-    }
-    let mut wanted = Vec::new(alloc);
-    for _ in 0..2500 {
-        wanted.extend_from_slice(b"+OK\r\n$1\r\nb\r\n")?;
-    }
-    wanted.extend_from_slice(b"-ERR Protocol error: expected '$'\r\n")?;
-    let (read, ended) = join(
-        &rt,
-        || written_often(&rt, alloc, &listener, piece, 2500, last.as_str()),
-        || hosted(&rt, &listener, &options),
-    );
-    same_bytes("the replies", read?.as_slice(), wanted.as_slice())?;
+    let last = behind(alloc, "*1|+PING|", PIECE)?;
+    let mut wanted = behind(alloc, "", "+OK\r\n$1\r\nb\r\n")?;
+    wanted.push_str("-ERR Protocol error: expected '$'\r\n")?;
+    let (ended, read) = hosted_beside(&rt, &listener, &options, PIECE, last.as_str());
+    same_bytes("the replies", read?.as_slice(), wanted.as_bytes())?;
     same_number("the status", u64::from(ended.0), 0)
 }
 
@@ -121,59 +172,4 @@ fn an_older_trace_stays(rt: HostRuntime) -> Result<(), Fail> {
     as_wanted(otherwise.as_ref())?;
     same_number("the status", u64::from(ended.0), 6)?;
     same_bytes("the older trace", left.as_slice(), b"older")
-}
-
-/// How many bytes of a large value are sent at once, and how often.
-const PIECE: usize = 64 * 1024;
-
-const PIECES: usize = 256;
-
-/// How much memory the process has, in bytes.
-fn resident<R: Files + AllocGlobal>(rt: &R) -> io::Result<usize> {
-    let status = fs::read_to_string(rt, "/proc/self/status")?;
-    let line = status.lines().find(|line| line.starts_with("VmRSS:"));
-    let number = line.unwrap_or("").split_whitespace().nth(1);
-    Ok(number.unwrap_or("").parse::<usize>().unwrap_or(0) * 1024)
-}
-
-/// Sets a value of so many pieces, and removes it; the memory of the process before and after.
-fn set_large<R: Net<Stream = TcpStream> + Files + AllocGlobal>(
-    rt: &R,
-    listener: &TcpListener,
-) -> io::Result<(usize, usize)> {
-    let alloc = rt.alloc();
-    let before = resident(rt)?;
-    let mut stream = TcpStream::connect(rt, listener.local_addr()?)?;
-    let size = PIECE * PIECES;
-    stream.write_all(format!(in alloc; "*3\r\n$3\r\nSET\r\n$1\r\na\r\n${size}\r\n")?.as_bytes())?;
-    let piece = vec![in alloc; b'x'; PIECE]?;
-    for _ in 0..PIECES {
-        stream.write_all(piece.as_slice())?;
-    }
-    stream.write_all(b"\r\n")?;
-    let mut reply = [0; 5];
-    stream.read_exact(&mut reply)?;
-    for _ in 0..2 {
-        stream.write_all(b"*2\r\n$3\r\nDEL\r\n$1\r\na\r\n")?;
-        stream.read_exact(&mut reply[..4])?;
-    }
-    Ok((before, resident(rt)?))
-}
-
-/// Of a value of 64 MB that was set and removed its words stay in the trace and in the row of its request, and no third
-/// time.
-#[test]
-fn buffers_of_a_large_request_go(rt: HostRuntime) -> Result<(), Fail> {
-    let listener = TcpListener::bind(&rt, "127.0.0.1:0")?;
-    let options = options(1, 1, None)?;
-    let (memory, ended) = join(
-        &rt,
-        || set_large(&rt, &listener),
-        || hosted(&rt, &listener, &options),
-    );
-    same_number("the status", u64::from(ended.0), 0)?;
-    let (before, after) = memory?;
-    let size = PIECE * PIECES;
-    holds("memory was taken", before.saturating_add(size) < after)?;
-    holds("memory was given back", after < before.saturating_add(size / 2 * 5))
 }

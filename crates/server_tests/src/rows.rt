@@ -272,7 +272,11 @@ fn many_steps_take_nothing(rt: HostRuntime) -> Result<(), Fail> {
 }
 
 /// The seat is the first of three steps, its request the second, and its packet the third.
-fn three_steps<L: Ledger, R: Wait + Clock + Abort>(rt: &R, alloc: Global, blank: Blank) -> Result<(), Fail>
+fn three_steps<L: Ledger, R: Wait + Clock + Abort>(
+    rt: &R,
+    alloc: Global,
+    blank: Blank,
+) -> Result<(), Fail>
     requires { (blank.name ≡ L.name) × (blank.parts ≡ L.parts) × (3 < blank.parts) }
 {
     let shared: Shared<L> = shared(alloc, 3, blank)?;

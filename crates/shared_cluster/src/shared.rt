@@ -245,7 +245,11 @@ impl<L: Ledger> Shared<L> {
     }
 
     /// Makes turns until what came of the seat's last request is there.
-    fn turn_until_replied<R: Wait + Clock>(&self, rt: &R, seat: &mut Seat<L>) -> Result<Reply, AskFault>
+    fn turn_until_replied<R: Wait + Clock>(
+        &self,
+        rt: &R,
+        seat: &mut Seat<L>,
+    ) -> Result<Reply, AskFault>
         ensures replied { IfOk result (λ reply. IsReplied seat.old (content reply) seat.new) }
         ensures refused { IfErr result (IsCollectFault seat.old) }
         ensures unchanged { OnErr result (seat.new ≡ seat.old) }
