@@ -2,8 +2,8 @@
 //!
 //! It reads a placement table, serves so many connections and says how many requests were executed. The statuses: 0 at
 //! the end; 2 where the words are no options; 3 where the table can't be read or is none; 4 where the network failed; 5
-//! where the store couldn't be closed; 6 where the trace wasn't written; 7 where memory was wanting, or a thread of its
-//! own couldn't be started. What went wrong is told on standard error.
+//! where no more steps may be made, or the store couldn't be closed; 6 where the trace wasn't written; 7 where memory was
+//! wanting, or a thread couldn't be started. What went wrong is told on standard error.
 #![tactic(auto)]
 
 #[cfg(test)]
