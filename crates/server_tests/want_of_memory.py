@@ -24,6 +24,8 @@ import time
 
 MIB = 1 << 20
 LATE = 1.0
+# The C library else sets 64 MiB of address space aside for a thread, and tries that again at each request of memory.
+ONE_ARENA = {"MALLOC_ARENA_MAX": "1"}
 REFUSED = (b"-ERR out of memory", b"-ERR no thread for this connection")
 
 
@@ -207,7 +209,7 @@ def served(program, table, limit, workers, load):
     server = subprocess.Popen(
         [program, "--table", table, "--port", "0", "--workers", str(workers),
          "--connections", "1000000", "--max-steps", str(1 << 40)],
-        stdout=subprocess.PIPE, stderr=subprocess.PIPE, text=True,
+        stdout=subprocess.PIPE, stderr=subprocess.PIPE, text=True, env={**os.environ, **ONE_ARENA},
         preexec_fn=lambda: resource.setrlimit(resource.RLIMIT_AS, (limit * MIB, limit * MIB)))
     try:
         port = int(server.stdout.readline().rsplit(":", 1)[1])
