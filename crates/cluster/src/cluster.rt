@@ -37,9 +37,6 @@ use std::sync::ledger::{Blank, Book, Ledger, Share};
 use system::{Effect, StepFault, System};
 use thiserror::Error;
 
-/// A buffer of words is used again where it has no more bytes than these.
-const KEPT_SPARE: usize = 64 * 1024;
-
 /// What is known of a connection's requests: how many it has submitted, and where in the trace's bytes the last Submit
 /// begins.
 #[derive(Clone, Copy, Debug)]
@@ -311,11 +308,7 @@ impl<L: Ledger> Cluster<L> {
         self.book.add(&mut seat.share, 1);
         self.requests += 1;
         seat.count += 1;
-        let said = mem::replace(&mut self.spare, PackedWords::new(self.alloc));
-        let before = mem::replace(&mut seat.words, said);
-        if before.as_bytes().len() <= KEPT_SPARE {
-            self.spare = before;
-        }
+        mem::swap(&mut seat.words, &mut self.spare);
         Ok(id)
     }
 

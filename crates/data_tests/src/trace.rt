@@ -163,10 +163,14 @@ fn request_of(seq: u64) -> RequestId {
     }
 }
 
-/// The request of the row of this number: its second word is long in every other row.
+/// The second word of the request of the row of this number: long in every other row.
+fn second_word(seq: u64) -> &'static [u8] {
+    if seq % 2 == 1 { &[b'w'; 200] } else { b"a" }
+}
+
+/// The request of the row of this number.
 fn request_of_row(alloc: Global, seq: u64) -> Result<Request, AllocError> {
-    let long = [b'w'; 200];
-    let second: &[u8] = if seq % 2 == 1 { &long } else { b"a" };
+    let second = second_word(seq);
     Request::copy_of(alloc, &[b"GET".as_slice(), second, b"".as_slice()])
 }
 
@@ -178,19 +182,18 @@ fn reply_of_row(alloc: Global, seq: u64) -> Result<Reply, AllocError> {
     Ok(Reply::Bulk(Vec::from_slice(alloc, &[b'r'; 300])?))
 }
 
-/// These are the words that are read of a row.
-fn has_words(request: &Request, wanted: &Request) -> Result<(), Fail> {
+/// These are the words that are read of a row, with this second one.
+fn has_words(request: &Request, second: &[u8]) -> Result<(), Fail> {
     same_count("words that are read", request.len(), 3)?;
-    same_bytes("the second of them", request.word(1), wanted.word(1))
+    same_bytes("the second of them", request.word(1), second)
 }
 
 /// The row is that of this number.
 fn is_row(alloc: Global, row: &Row, seq: u64) -> Result<(), Fail> {
     same("its request", &row.id(), &request_of(seq))?;
     same_number("its clock", row.stamp().clock, seq)?;
-    let wanted = request_of_row(alloc, seq)?;
     same_count("its words", row.word_count(), 3)?;
-    has_words(&row.request(alloc)?, &wanted)?;
+    has_words(&row.request(alloc)?, second_word(seq))?;
     let mut text = Vec::new(alloc);
     write_reply(&reply_of_row(alloc, seq)?, &mut text)?;
     same_bytes("its reply", row.reply(), text.as_slice())
