@@ -266,7 +266,11 @@ fn a_trace_whose_write_fails(rt: HostRuntime) -> Result<(), Fail> {
     for failing in 0..5 {
         let mut sink = Sink::new(alloc, NEVER);
         sink.fails_at = failing;
-        same("sent", &send_trace(alloc, &trace, &mut sink), &Err(SendFault::Write))?;
+        same(
+            "sent",
+            &send_trace(alloc, &trace, &mut sink),
+            &Err(SendFault::Write),
+        )?;
     }
     Ok(())
 }
