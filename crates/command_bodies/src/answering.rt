@@ -21,7 +21,7 @@ use string_commands::string_text_plan;
 /// Runs a command as `execute` does, and gives its reply with its text where that is long. The keyspace has to cover
 /// each of its keys.
 ///
-/// `Starved` comes only where the command takes memory, or where it answers a bulk string or an array and there is no
+/// `Starved` comes only where the command takes memory, or where its reply has more than 128 bytes and there is no
 /// memory for the text of it; the keyspace then has the contents that it had before.
 pub fn answer<K: Keyspace>(
     alloc: Global,
@@ -35,7 +35,10 @@ pub fn answer<K: Keyspace>(
     ensures covers { K.covered keyspace.new ≡ K.covered keyspace.old }
 {
     match text_plan(keyspace, &command) {
-        TextPlan::Never => Ok(Answered::alone(alloc, execute(alloc, keyspace, command)?)),
+        TextPlan::Never => {
+            let reply = execute(alloc, keyspace, command)?;
+            Ok(Answered::alone(alloc, reply))
+        }
         TextPlan::After => {
             let reply = execute(alloc, keyspace, command)?;
             Ok(Answered::with_text(alloc, reply)?)
@@ -61,7 +64,7 @@ fn text_plan<K: Keyspace>(keyspace: &K, command: &Command) -> TextPlan
     ensures { IsPlanFor (case_of command.now) (K.contents keyspace.now) result }
 {
     match command {
-        Command::Key(_) => TextPlan::Never,
+        Command::Key(_command) => TextPlan::Never,
         Command::Str(command) => string_text_plan(keyspace, command),
         Command::List(command) => list_text_plan(keyspace, command),
         Command::Hash(command) => hash_text_plan(command),

@@ -4,4 +4,5 @@ pub mod Apart
 pub mod Beside
 pub mod Items
 pub mod Leaves
+pub mod Short
 pub mod Shapes

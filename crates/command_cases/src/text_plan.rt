@@ -15,7 +15,7 @@ use resp::{SHORT_BULK, bulk_size};
 /// When the memory for the text of a command's reply is taken.
 #[derive(Clone, Copy)]
 pub enum TextPlan {
-    /// Never: the reply is short.
+    /// Never: the reply is short by its kind.
     Never,
 
     /// After the body, which leaves the keyspace as it was.
@@ -27,7 +27,6 @@ pub enum TextPlan {
 
 impl TextPlan {
     /// The plan of a body that changes the keyspace and answers these bytes.
-    #[tactic(auto, using(resp::proofs::Sizes::short_bulk))]
     pub fn for_bulk(bytes: &[u8]) -> Self
         ensures { (case : Case) (m : Map) → (case m).1 ≡ BulkText bytes.now → IsPlanFor case m result }
     {

@@ -1,17 +1,13 @@
--- That the commands that read lists leave the map, and what those answer that move an item out of it.
-use Rattle.std.proofs.Common.{◌≡◌, ℤ, Bool, true, false, List, Option, Some, None, IsTrue, ◌⊎◌, inl, inr, refl, ap, ◌∙◌}
-use Rattle.std.specs.FinMap.{get}
+-- That the commands that read lists leave the map, and that those which move an item answer what a pop would.
+use Rattle.std.proofs.Common.{◌≡◌, ◌||◌, ℤ, Bool, true, false, List, Option, Some, None, refl}
 use Rattle.std.specs.Option.{option_map}
-use Rattle.std.specs.Str.{bytes_eq}
 use Rattle.command_cases.proofs.Leaves.{leaves-at_key}
 use Rattle.command_cases.specs.Case.{at_key}
-use Rattle.command_cases.specs.Shapes.{at_two}
 use Rattle.keyspace.specs.Map.{Map}
-use Rattle.list_commands.specs.ListCommand.{at_list, first_or_null, index_step, range_step, pop_step, move_step, may_be_list}
+use Rattle.list_commands.specs.ListCommand.{at_list, index_step, range_step, pop_step, move_step, may_be_list}
 use Rattle.resp.specs.Content.{Content}
 use Rattle.texts.specs.Texts.{Bytes}
 use Rattle.texts.specs.declared.text_list.End.{End}
-use Rattle.values.specs.ListValue.{end_item}
 use Rattle.values.specs.declared.Value.{Value}
 use Rattle.values.specs.declared.Value.TheVariants as kind
 
@@ -41,26 +37,16 @@ leaves-lrange key start end = leaves-at_list key (range_step start end) stays
     stays None = refl
     stays (Some items) = refl
 
--- LPOP and RPOP answer the item at their end
-pub pop-answers : (key : Bytes) (end : End) (m : Map) (items : List Bytes) → get m key ≡ Some (kind.List items)
-    → (at_key key (at_list (pop_step end)) m).1 ≡ first_or_null (end_item end items)
-pop-answers key end m items there = ap (λ o. (at_list (pop_step end) o).1) there
-
--- LMOVE and RPOPLPUSH answer the item that is moved, where the second key receives it
-moves : (equal : Bool) (taken put : End) (items : List Bytes) (there : Option Value) → (equal ≡ true) ⊎ IsTrue (may_be_list there)
-    → (move_step equal taken put (Some (kind.List items)) there).1 ≡ first_or_null (end_item taken items)
-moves true taken put items there receives = refl
-moves false taken put items None receives = refl
-moves false taken put items (Some (kind.List others)) receives = refl
-moves false taken put items (Some (kind.Str text)) (inl e) = absurd cc
-moves false taken put items (Some (kind.Hash pairs)) (inl e) = absurd cc
-moves false taken put items (Some (kind.Set members)) (inl e) = absurd cc
-moves false taken put items (Some (kind.Str text)) (inr e) = absurd cc
-moves false taken put items (Some (kind.Hash pairs)) (inr e) = absurd cc
-moves false taken put items (Some (kind.Set members)) (inr e) = absurd cc
-
-pub move-answers : (from to : Bytes) (taken put : End) (m : Map) → (bytes_eq from to ≡ true) ⊎ IsTrue (may_be_list (get m to))
-    → (items : List Bytes) → get m from ≡ Some (kind.List items)
-    → (at_two from to (move_step (bytes_eq from to) taken put) m).1 ≡ first_or_null (end_item taken items)
-move-answers from to taken put m receives items there =
-    ap (λ o. (move_step (bytes_eq from to) taken put o (get m to)).1) there ∙ moves (bytes_eq from to) taken put items (get m to) receives
+-- LMOVE and RPOPLPUSH answer what a pop would, where the second key receives the item
+pub move-answers : (equal : Bool) (taken put : End) (from there : Option Value) → (equal || may_be_list there) ≡ true
+    → (move_step equal taken put from there).1 ≡ (at_list (pop_step taken) from).1
+move-answers equal taken put None there receives = refl
+move-answers equal taken put (Some (kind.Str text)) there receives = refl
+move-answers equal taken put (Some (kind.Hash pairs)) there receives = refl
+move-answers equal taken put (Some (kind.Set members)) there receives = refl
+move-answers true taken put (Some (kind.List items)) there receives = refl
+move-answers false taken put (Some (kind.List items)) None receives = refl
+move-answers false taken put (Some (kind.List items)) (Some (kind.List others)) receives = refl
+move-answers false taken put (Some (kind.List items)) (Some (kind.Str text)) receives = absurd cc
+move-answers false taken put (Some (kind.List items)) (Some (kind.Hash pairs)) receives = absurd cc
+move-answers false taken put (Some (kind.List items)) (Some (kind.Set members)) receives = absurd cc

@@ -1,17 +1,15 @@
 //! When the memory for the text of a long reply is taken.
 
-ghost use Rattle.std.specs.Prelude.{◌≡◌, ◌⊎◌, List, [], ◌∷◌, true, All, IsTrue, Some};
-ghost use Rattle.std.specs.FinMap as map;
+ghost use Rattle.std.specs.Prelude.{◌≡◌, ◌||◌, [], ◌∷◌, All, IsTrue};
+ghost use Rattle.std.specs.FinMap.{get};
 ghost use Rattle.std.specs.Str.{bytes_eq};
 ghost use Rattle.command_cases.specs.Case.{Case};
 ghost use Rattle.command_cases.specs.Shapes.{at_two};
 ghost use Rattle.command_cases.specs.TextPlan.{IsPlanFor};
 ghost use Rattle.command_table.specs.ListCommands.{list_command_keys};
-ghost use Rattle.list_commands.specs.ListCommand.{first_or_null, list_command_case, may_be_list, move_step};
-ghost use Rattle.texts.specs.Texts.{Bytes};
+ghost use Rattle.list_commands.specs.ListCommand.{at_list, list_command_case, may_be_list, move_step, pop_step};
 ghost use Rattle.texts.specs.declared.text_list.End.{End};
 ghost use Rattle.values.specs.ListValue.{end_item};
-ghost use Rattle.values.specs.declared.Value.TheVariants as kind;
 
 use crate::lists::item_at;
 use command_cases::TextPlan;
@@ -41,12 +39,10 @@ pub fn list_text_plan<K: Keyspace>(keyspace: &K, command: &ListCommand) -> TextP
     }
 }
 
-/// The plan of a body that changes the keyspace and answers the item at this end of the list at a key, or else a short
-/// reply.
+/// The plan of a body that changes the keyspace and answers what a pop at this end would.
 fn plan_for_end<K: Keyspace>(keyspace: &K, key: &Text, end: End) -> TextPlan
     requires { IsTrue (K.covered keyspace.now key.now) }
-    ensures { (case : Case) → ((items : List Bytes) → map.get (K.contents keyspace.now) key.now ≡ Some (kind.List items)
-        → (case (K.contents keyspace.now)).1 ≡ first_or_null (end_item end items))
+    ensures { (case : Case) → (case (K.contents keyspace.now)).1 ≡ (at_list (pop_step end) (get (K.contents keyspace.now) key.now)).1
         → IsPlanFor case (K.contents keyspace.now) result }
 {
     match keyspace.look(key.as_slice()) {
@@ -72,7 +68,7 @@ fn plan_for_move<K: Keyspace>(keyspace: &K, from: &Text, to: &Text, taken: End) 
 /// Whether an item of the first key's list can go to the second key: it is the same one, or has a list or nothing.
 fn receives<K: Keyspace>(keyspace: &K, from: &Text, to: &Text) -> bool
     requires { IsTrue (K.covered keyspace.now to.now) }
-    ensures { IsTrue result → (bytes_eq from.now to.now ≡ true) ⊎ IsTrue (may_be_list (map.get (K.contents keyspace.now) to.now)) }
+    ensures { result ≡ (bytes_eq from.now to.now || may_be_list (get (K.contents keyspace.now) to.now)) }
 {
     if from.as_slice() == to.as_slice() {
         return true;

@@ -3,3 +3,4 @@ pub mod Apart
 pub mod Found
 pub mod Kept
 pub mod Local
+pub mod Short

@@ -1,11 +1,10 @@
 -- That the commands that read strings leave the map, and what those answer that move one out of it.
-use Rattle.std.proofs.Common.{◌≡◌, ℤ, Option, Some, None, refl, ap}
-use Rattle.std.specs.FinMap.{get}
+use Rattle.std.proofs.Common.{◌≡◌, ℤ, Option, Some, None, refl}
 use Rattle.std.specs.Option.{option_map}
 use Rattle.command_cases.proofs.Leaves.{leaves-at_key}
 use Rattle.command_cases.specs.Case.{at_key}
 use Rattle.keyspace.specs.Map.{Map}
-use Rattle.resp.specs.Content.{Content, BulkText}
+use Rattle.resp.specs.Content.{Content}
 use Rattle.string_commands.specs.StringCommand.{at_string, get_step, get_string, getrange_string, getset_string, getdel_string}
 use Rattle.texts.specs.Texts.{Bytes}
 use Rattle.values.specs.declared.Value.{Value}
@@ -33,11 +32,17 @@ leaves-get key = leaves-at_string key get_string stays
 pub leaves-getrange : (key : Bytes) (start end : ℤ) (m : Map) → (at_key key (at_string (getrange_string start end)) m).0 ≡ m
 leaves-getrange key start end = leaves-at_string key (getrange_string start end) (λ before. refl)
 
--- GETSET and GETDEL answer the string that is there
-pub getset-answers : (key value : Bytes) (m : Map) (text : Bytes) → get m key ≡ Some (kind.Str text)
-    → (at_key key (at_string (getset_string value)) m).1 ≡ BulkText text
-getset-answers key value m text there = ap (λ o. (at_string (getset_string value) o).1) there
+-- GETSET and GETDEL answer what GET would
+pub getset-answers : (value : Bytes) (there : Option Value) → (at_string (getset_string value) there).1 ≡ (get_step there).1
+getset-answers value None = refl
+getset-answers value (Some (kind.Str text)) = refl
+getset-answers value (Some (kind.List items)) = refl
+getset-answers value (Some (kind.Hash pairs)) = refl
+getset-answers value (Some (kind.Set members)) = refl
 
-pub getdel-answers : (key : Bytes) (m : Map) (text : Bytes) → get m key ≡ Some (kind.Str text)
-    → (at_key key (at_string getdel_string) m).1 ≡ BulkText text
-getdel-answers key m text there = ap (λ o. (at_string getdel_string o).1) there
+pub getdel-answers : (there : Option Value) → (at_string getdel_string there).1 ≡ (get_step there).1
+getdel-answers None = refl
+getdel-answers (Some (kind.Str text)) = refl
+getdel-answers (Some (kind.List items)) = refl
+getdel-answers (Some (kind.Hash pairs)) = refl
+getdel-answers (Some (kind.Set members)) = refl

@@ -1,3 +1,4 @@
 pub mod Leaves
 pub mod Local
 pub mod ManyKeys
+pub mod Short

@@ -1,14 +1,11 @@
 //! When the memory for the text of a long reply is taken.
 
-ghost use Rattle.std.specs.Prelude.{◌≡◌, All, IsTrue, Some};
-ghost use Rattle.std.specs.FinMap as map;
+ghost use Rattle.std.specs.Prelude.{◌≡◌, All, IsTrue};
+ghost use Rattle.std.specs.FinMap.{get};
 ghost use Rattle.command_cases.specs.Case.{Case};
 ghost use Rattle.command_cases.specs.TextPlan.{IsPlanFor};
 ghost use Rattle.command_table.specs.StringCommands.{string_command_keys};
-ghost use Rattle.resp.specs.Content.{BulkText};
-ghost use Rattle.string_commands.specs.StringCommand.{string_command_case};
-ghost use Rattle.texts.specs.Texts.{Bytes};
-ghost use Rattle.values.specs.declared.Value.TheVariants as kind;
+ghost use Rattle.string_commands.specs.StringCommand.{get_step, string_command_case};
 
 use command_cases::TextPlan;
 use command_table::StringCommand;
@@ -31,11 +28,10 @@ pub fn string_text_plan<K: Keyspace>(keyspace: &K, command: &StringCommand) -> T
     }
 }
 
-/// The plan of a body that changes the keyspace and answers the string at a key, or else a short reply.
+/// The plan of a body that changes the keyspace and answers what GET would.
 fn plan_for_string<K: Keyspace>(keyspace: &K, key: &Text) -> TextPlan
     requires { IsTrue (K.covered keyspace.now key.now) }
-    ensures { (case : Case) → ((bytes : Bytes) → map.get (K.contents keyspace.now) key.now ≡ Some (kind.Str bytes)
-        → (case (K.contents keyspace.now)).1 ≡ BulkText bytes)
+    ensures { (case : Case) → (case (K.contents keyspace.now)).1 ≡ (get_step (get (K.contents keyspace.now) key.now)).1
         → IsPlanFor case (K.contents keyspace.now) result }
 {
     match keyspace.look(key.as_slice()) {

@@ -1,7 +1,7 @@
 use Rattle.std.proofs.Common.{inr, ap, ◌∙◌}
 use Rattle.command_bodies.specs.Command.{effect_of}
-use Rattle.command_cases.specs.declared.text_plan.TextPlan.TheVariants.{After, Before}
-use Rattle.command_bodies.proofs.Plans.{plan-effect, starved-does, text-fits}
+use Rattle.command_cases.specs.declared.text_plan.TextPlan.TheVariants.{Never, After, Before}
+use Rattle.command_bodies.proofs.Plans.{plan-effect, starved-does, answer-short, planned-long, text-fits}
 use Rattle.command_bodies.proofs.answering.answer.Goals as goal
 
 -- where there is no memory for the text of a reader's reply the map is as it was
@@ -16,7 +16,8 @@ returns-in_err-with_text-in-After-clause-done g c =
 pub returns-in-Err-clause-starves : goal.returns-in-Err-clause-starves
 returns-in-Err-clause-starves g c =
     let m = g.K.Keyspace.contents c.args.keyspace.now in
-    inr (plan-effect c.args.command m (Before c.in-Before.size) c.in-Before.ensures).0
+    inr (planned-long (effect_of c.args.command) m c.in-Before.size
+    (plan-effect c.args.command m (Before c.in-Before.size) c.in-Before.ensures) c.in-Err.ensures.long)
 
 pub in_block-requires-clause-fits : goal.in_block-requires-clause-fits
 in_block-requires-clause-fits g c =
@@ -24,3 +25,12 @@ in_block-requires-clause-fits g c =
     text-fits (effect_of c.args.command) m (g.K.Keyspace.contents c.execute-in-Ok.new.keyspace) c.in-Before.size _ c.in_ok-reply-in-Ok.reply
     (plan-effect c.args.command m (Before c.in-Before.size) c.in-Before.ensures)
     c.in_ok-reply-in-Ok.ensures.done c.in-Ok.ensures.room
+
+-- what is kept without its text is short
+pub alone-requires : goal.alone-requires
+alone-requires g c =
+    let m = g.K.Keyspace.contents c.args.keyspace.now in
+    record {
+      short = answer-short (effect_of c.args.command) m (g.K.Keyspace.contents c.execute.new.keyspace) c.in_ok-reply-in-Never.reply
+          (plan-effect c.args.command m Never c.in-Never.ensures) c.in_ok-reply-in-Never.ensures.done;
+    }

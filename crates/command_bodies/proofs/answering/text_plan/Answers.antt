@@ -1,7 +1,14 @@
 use Rattle.std.proofs.Common.{sym, subst}
 use Rattle.command_bodies.specs.Command.{case_of}
 use Rattle.command_cases.specs.TextPlan.{IsPlanFor}
+use Rattle.key_commands.proofs.Short.{answers_short}
+use Rattle.resp.specs.LongText.{IsShort}
 use Rattle.command_bodies.proofs.answering.text_plan.Goals as goal
+
+pub returns-in-Key : goal.returns-in-Key
+returns-in-Key g c =
+    let m = g.K.Keyspace.contents c.args.keyspace.now in
+    subst (λ command. IsShort (case_of command m).1) (sym c.in-Key.is) (answers_short c.in-Key._command m)
 
 pub returns-in-Hash : goal.returns-in-Hash
 returns-in-Hash g c =

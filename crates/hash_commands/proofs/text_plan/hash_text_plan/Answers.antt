@@ -1,5 +1,6 @@
 use Rattle.hash_commands.specs.HashCommand.{hget_answer, hmget_answer, hkeys_answer, hvals_answer, hgetall_answer}
 use Rattle.hash_commands.proofs.Leaves.{leaves-looks_at_hash}
+use Rattle.hash_commands.proofs.Short.{answers_short}
 use Rattle.hash_commands.proofs.text_plan.hash_text_plan.Goals as goal
 
 pub returns-in-Hget : goal.returns-in-Hget
@@ -16,3 +17,8 @@ returns-in-Hvals c = rw c.in-Hvals.is (leaves-looks_at_hash c.in-Hvals.key hvals
 
 pub returns-in-Hgetall : goal.returns-in-Hgetall
 returns-in-Hgetall c = rw c.in-Hgetall.is (leaves-looks_at_hash c.in-Hgetall.key hgetall_answer)
+
+pub returns-in_default : goal.returns-in_default
+returns-in_default c =
+    let d = c.in_default in
+    λ m. answers_short c.args.command.now m d.not-Hget d.not-Hmget d.not-Hkeys d.not-Hvals d.not-Hgetall

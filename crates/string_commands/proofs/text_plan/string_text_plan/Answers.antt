@@ -1,8 +1,10 @@
 use Rattle.std.proofs.Common.{sym, subst}
+use Rattle.std.specs.FinMap.{get}
 use Rattle.command_cases.specs.Case.{at_key}
 use Rattle.command_cases.specs.TextPlan.{IsPlanFor}
 use Rattle.string_commands.specs.StringCommand.{at_string, getset_string, getdel_string, string_command_case}
 use Rattle.string_commands.proofs.Leaves.{leaves-get, leaves-getrange, getset-answers, getdel-answers}
+use Rattle.string_commands.proofs.Short.{answers_short}
 use Rattle.string_commands.proofs.text_plan.string_text_plan.Goals as goal
 
 pub returns-in-Get : goal.returns-in-Get
@@ -16,11 +18,17 @@ returns-in-Getset g c =
     let m = g.K.Keyspace.contents c.args.keyspace.now in
     let case = at_key c.in-Getset.key (at_string (getset_string c.in-Getset.value)) in
     subst (λ command. IsPlanFor (string_command_case command) m c.plan_for_string.result)
-    (sym c.in-Getset.is) (c.plan_for_string.ensures case (getset-answers c.in-Getset.key c.in-Getset.value m))
+    (sym c.in-Getset.is) (c.plan_for_string.ensures case (getset-answers c.in-Getset.value (get m c.in-Getset.key)))
 
 pub returns-in-Getdel : goal.returns-in-Getdel
 returns-in-Getdel g c =
     let m = g.K.Keyspace.contents c.args.keyspace.now in
     let case = at_key c.in-Getdel.key (at_string getdel_string) in
     subst (λ command. IsPlanFor (string_command_case command) m c.plan_for_string-in-Getdel.result)
-    (sym c.in-Getdel.is) (c.plan_for_string-in-Getdel.ensures case (getdel-answers c.in-Getdel.key m))
+    (sym c.in-Getdel.is) (c.plan_for_string-in-Getdel.ensures case (getdel-answers (get m c.in-Getdel.key)))
+
+pub returns-in_default : goal.returns-in_default
+returns-in_default g c =
+    let d = c.in_default in
+    answers_short c.args.command.now (g.K.Keyspace.contents c.args.keyspace.now)
+    d.not-Get d.not-Mget d.not-Getrange d.not-Getset d.not-Getdel
