@@ -7,6 +7,11 @@ use Rattle.groups.specs.declared.stamp.Stamp.{Stamp}
 abbrev pub stamp_lt : Stamp → Stamp → Bool
 stamp_lt s t = nat_lt s.clock t.clock || (s.clock == t.clock && nat_lt s.group t.group)
 
+-- a request stands at its final stamp where that is known, else at the group's own proposal
+abbrev pub place_by : Option Stamp → Stamp → Stamp
+place_by None own = own
+place_by (Some s) own = s
+
 abbrev pub later : Stamp → Stamp → Stamp
 later s t = cond (stamp_lt s t) t s
 

@@ -6,7 +6,7 @@ use Rattle.std.proofs.lemmas.Bool.{cases_lt, cases_Bool, both_ways}
 use Rattle.groups.proofs.Options.{some_same}
 use Rattle.std.specs.FinMap.{get}
 use Rattle.multicast.specs.Multicast.{at, group_of, starts_to, sends_at_most}
-use Rattle.skeen_core.specs.Group.{GroupState, GroupView, fresh, next_clock, tell, ReceivesStart, Receives}
+use Rattle.skeen_core.specs.Group.{GroupState, GroupView, fresh, new_group, next_clock, tell, ReceivesStart, Receives}
 use Rattle.skeen_core.specs.declared.packet.Body.{Body}
 use Rattle.skeen_core.specs.declared.packet.Body.TheVariants.{Start, Proposal}
 use Rattle.skeen_core.specs.declared.packet.Delivered.{Delivered}
@@ -25,12 +25,12 @@ beyond (y ∷ ys) zero d h = absurd (omega arith)
 beyond (y ∷ ys) (suc g) d h = beyond ys g d (omega arith)
 
 -- groups that are all new
-pub all_fresh : (gs : List GroupView) → ((g : ℕ) → g < length gs → slice_get gs g ≡ Some (record { me = g; state = fresh })) → (g : ℕ)
+pub all_fresh : (gs : List GroupView) → ((g : ℕ) → g < length gs → slice_get gs g ≡ Some (new_group g)) → (g : ℕ)
     → group_of gs g ≡ fresh
 all_fresh gs each g = elim (cases_lt g (length gs)) [
   | inl less ↦ ap (λ (v : GroupView). v.state)
-      (found gs g (record { me = g; state = fresh }) (record { me = g; state = fresh }) (each g less))
-  | inr more ↦ ap (λ (v : GroupView). v.state) (beyond gs g (record { me = g; state = fresh }) more)
+      (found gs g (new_group g) (new_group g) (each g less))
+  | inr more ↦ ap (λ (v : GroupView). v.state) (beyond gs g (new_group g) more)
 ]
 
 same_test : (h g : ℕ) → (suc h == suc g) ≡ (h == g)
@@ -52,8 +52,8 @@ index-set (y ∷ ys) (suc g) x (suc h) d low = index-set ys g x h d (omega arith
 pub group_of-set : (gs : List GroupView) (g : ℕ) (v : GroupView) → g < length gs → (h : ℕ)
     → group_of (slice_set gs g v) h ≡ at (group_of gs) g v.state h
 group_of-set gs g v low h =
-    ap (λ (x : GroupView). x.state) (index-set gs g v h (record { me = h; state = fresh }) low)
-    ∙ elim (h == g) as (λ b. (cond b v (slice_index_or gs h (record { me = h; state = fresh }))).state ≡ cond b v.state (group_of gs h))
+    ap (λ (x : GroupView). x.state) (index-set gs g v h (new_group h) low)
+    ∙ elim (h == g) as (λ b. (cond b v (slice_index_or gs h (new_group h))).state ≡ cond b v.state (group_of gs h))
     [ true ↦ refl | false ↦ refl ]
 
 length-set : {X : Type 0} (xs : List X) (g : ℕ) (x : X) → length (slice_set xs g x) ≡ length xs
@@ -99,7 +99,7 @@ any_default (y ∷ ys) zero d d' low = refl
 any_default (y ∷ ys) (suc g) d d' low = any_default ys g d d' (omega arith)
 
 pub state_at : (gs : List GroupView) (g : ℕ) (v : GroupView) → g < length gs → v ≡ slice_index_or gs g v → group_of gs g ≡ v.state
-state_at gs g v low is = ap (λ (x : GroupView). x.state) (any_default gs g (record { me = g; state = fresh }) v low ∙ sym is)
+state_at gs g v low is = ap (λ (x : GroupView). x.state) (any_default gs g (new_group g) v low ∙ sym is)
 
 -- a group sends no more than its packet's groups
 pub sent_few : (me : ℕ) (grp : GroupState) (id : RequestId) (body : Body) (sent : List Packet) (ds : List Delivered) (new : GroupState)

@@ -2,7 +2,7 @@
 use Rattle.std.specs.Prelude.{◌≡◌, ℕ, ◌==◌, ◌<◌, ◌≤◌, cond, List, [], ◌∷◌, ◌++◌, length, remove, slice_get, slice_index_or, Some}
 use Rattle.delivery.specs.Queues.{queue_of, MayAppend}
 use Rattle.delivery.specs.Ready.{QueueOf, left_in}
-use Rattle.skeen_core.specs.Group.{GroupState, GroupView, fresh, MayCome, Receives}
+use Rattle.skeen_core.specs.Group.{GroupState, GroupView, new_group, MayCome, Receives}
 use Rattle.skeen_core.specs.declared.packet.Body.{Body}
 use Rattle.skeen_core.specs.declared.packet.Body.TheVariants.{Start, Proposal}
 use Rattle.skeen_core.specs.declared.packet.Delivered.{Delivered}
@@ -19,7 +19,7 @@ pub record MulticastView : Type 0 where
 
 -- the state of a group; one that isn't there is as a new one
 abbrev pub group_of : List GroupView → ℕ → GroupState
-group_of groups g = (slice_index_or groups g (record { me = g; state = fresh })).state
+group_of groups g = (slice_index_or groups g (new_group g)).state
 
 -- the function with one value changed
 abbrev pub at : {X : Type 0} → (ℕ → X) → ℕ → X → ℕ → X
@@ -54,7 +54,7 @@ MayAppendAll queue g (d ∷ ds) = MayAppend queue g d × MayAppendAll (at queue 
 -- the packet may come to its group, and whatever that group delivers then may go to its queue
 pub record MayBeDelivered (v : MulticastView) (p : Packet) : Type 0 where
   pub there : p.to < length v.groups
-  pub comes : MayCome (record { me = p.to; state = group_of v.groups p.to }) p
+  pub comes : MayCome p.to (group_of v.groups p.to) p
   pub appends : (sent : List Packet) (ds : List Delivered) (state : GroupState) →
       Receives p.to (group_of v.groups p.to) p.id p.body sent ds state → MayAppendAll (queue_of v.queues) p.to ds
 

@@ -5,7 +5,7 @@ ghost use Rattle.std.specs.Prelude.{OnErr, IsOk, IsTrue, ◌↔◌};
 ghost use Rattle.std.specs.FinMap.{len};
 ghost use Rattle.delivery.specs.Queues.{queue_of, room_of, IsSound};
 ghost use Rattle.delivery.specs.Ready.{IsReady, IsLayer};
-ghost use Rattle.skeen_core.specs.Group.{fresh};
+ghost use Rattle.skeen_core.specs.Group.{fresh, new_group};
 ghost use Rattle.skeen_core.specs.declared.packet.Packet.{Packet};
 ghost use Rattle.skeen_core.specs.declared.packet.Delivered.{Delivered};
 ghost use Rattle.multicast.specs.Multicast.{at, group_of, sends_at_most, IsSame, IsWhole, Begins, MayAppendAll, MayBeDelivered, Delivers};
@@ -183,7 +183,7 @@ fn new_groups(alloc: Global, count: u8) -> Result<Vec<Group>, AllocError>
     requires { count ≤ 64 }
     ensures count { IfOk result (λ groups. length groups.items ≡ count) }
     ensures fresh { IfOk result (λ groups. (g : ℕ) → g < length groups.items
-        → slice_get groups.items g ≡ Some (record { me = g; state = fresh })) }
+        → slice_get groups.items g ≡ Some (new_group g)) }
 {
     let mut groups = Vec::with_capacity(alloc, usize::from(count))?;
     for number in 0..count {

@@ -11,13 +11,12 @@ use Rattle.skeen_core.specs.declared.packet.Body.{Body}
 use Rattle.skeen_core.specs.declared.packet.Body.TheVariants.{Start, Proposal}
 use Rattle.skeen_core.specs.declared.packet.Delivered.{Delivered}
 use Rattle.groups.specs.Order.{In}
-use Rattle.groups.specs.Stamp.{stamp_lt, final}
+use Rattle.groups.specs.Stamp.{stamp_lt, final, place_by}
 use Rattle.groups.specs.Request.{same_id}
 use Rattle.skeen_core.specs.Group.{GroupState, fresh, heard, or_zero, own_at, next_clock, with_start, with_proposal, final_of, lifted}
 use Rattle.skeen_core.specs.Group.{MayGo, Ascending, Delivers, Delivering, has_id, without, tell, ReceivesStart, Receives, BodyMayCome}
 use Rattle.skeen_core.specs.Group.{MayCome}
 use Rattle.skeen_core.specs.Lawful.{Sound, Lawful}
-use Rattle.skeen_core.specs.Due.{place_by}
 use Rattle.skeen_core.specs.Runs.{Receipt, ReceivesInTurn, log, ClockNeverFalls, TellsAtMost, ClockIsAboveStamps, DeliveriesAscend}
 use Rattle.skeen_core.specs.Runs.{DeliveredIsForgotten, RepeatsChangeNothing, RuleDetermines}
 use Rattle.groups.proofs.Ids.{same_id-true, same_id-refl}
@@ -56,7 +55,7 @@ start_of me old id body floor groups e m = subst (λ b. BodyMayCome me old id b)
 -- ---- lawful after each packet
 
 pub lawful_step : (me : ℕ) (old : GroupState) (p : Packet) (sent : List Packet) (ds : List Delivered) (new : GroupState) → Lawful me old
-    → MayCome (record { me = me; state = old }) p →
+    → MayCome me old p →
     Receives me old p.id p.body sent ds new → Lawful me new
 lawful_step me old p sent ds new lawful may r = by_step (step me old p.id p.body sent ds new r)
   where
@@ -165,7 +164,7 @@ below_place me grp i gs t sound there less = by_final (final (heard grp i) gs) r
 -- a state that has no less of each started request, and starts none below the clock
 ahead_same : (me : ℕ) (old new : GroupState) (id : RequestId) (ds : List Delivered) → Ahead me old ds → SameBut id old new →
     ((d : Delivered) (gs : List ℕ) → In d ds → get new.started id ≡ Some gs → stamp_lt d.stamp (stands_at me new id gs) ≡ true) → (c : ℕ)
-    → new.clock ≤ c → Ahead me (record { clock = c; started = new.started; proposals = new.proposals }) ds
+    → new.clock ≤ c → Ahead me (record new { clock = c }) ds
 ahead_same me old new id ds ahead but own c more = record {
   clock = λ d there. let before = ahead.clock d there in let grown = but.clock in omega arith;
   below = λ d i gs there starts. elim (cases_Bool (same_id i id)) [
@@ -302,7 +301,7 @@ pub record Going (me : ℕ) (grp : GroupState) (ds : List Delivered) : Type 0 wh
   pub ascending : Ascending ds
 
 going_step : (me : ℕ) (old : GroupState) (p : Packet) (sent : List Packet) (before ds : List Delivered) (new : GroupState)
-    → Going me old before → MayCome (record { me = me; state = old }) p →
+    → Going me old before → MayCome me old p →
     Receives me old p.id p.body sent ds new → Going me new (before ++ ds)
 going_step me old p sent before ds new going may r = record {
   lawful = lawful_step me old p sent ds new going.lawful may r;

@@ -1,18 +1,11 @@
--- What a group's state has of each request, after each change. No other file knows how a finite map answers.
-use Rattle.std.proofs.Common.{◌≡◌, ℕ, ◌+◌, ◌==◌, ◌&&◌, length, is_some, arith, Bool, true, false, cond, not, List, [], ◌∷◌, Option, Some}
-use Rattle.std.proofs.Common.{None, refl, sym, ap, ◌∙◌}
-use Rattle.std.specs.FinMap.{get, insert, find, len, len-empty, len-insert, get-empty, get-insert, get-retain_keys, get-from_entries}
-use Rattle.std.specs.FinMap.{same_map}
+-- What a group's state has of each request, after each change of the rule.
+use Rattle.std.proofs.Common.{◌≡◌, ℕ, ◌==◌, ◌&&◌, Bool, true, false, cond, not, List, Option, Some, None, refl, sym, ap, ◌∙◌}
+use Rattle.std.specs.FinMap.{get, insert, get-empty, get-insert, get-retain_keys, same_map}
 use Rattle.groups.specs.declared.request.RequestId.{RequestId}
 use Rattle.skeen_core.specs.declared.packet.Delivered.{Delivered}
-use Rattle.skeen_core.specs.declared.kept.Started.{Started}
-use Rattle.skeen_core.specs.declared.kept.Heard.{Heard}
 use Rattle.groups.specs.Request.{same_id, id_cmp, Source, source_cmp}
 use Rattle.skeen_core.specs.Group.{GroupState, fresh, heard, next_clock, with_start, with_proposal, without, has_id}
-use Rattle.skeen_core.specs.Kept.{starts_of, clocks_of, state_of, groups_in, clock_in, Once}
 use Rattle.groups.proofs.Ids.{id_total, source_total, id_antisym, source_antisym, id_tied, source_tied}
-
--- ---- the rule's changes
 
 pub started-fresh : (i : RequestId) → get fresh.started i ≡ None
 started-fresh i = get-empty id_cmp i
@@ -40,7 +33,7 @@ pub heard-with_proposal : (grp : GroupState) (id : RequestId) (from n : ℕ) (i 
     heard (with_proposal grp id from n) i g ≡ cond (same_id i id && g == from) (Some n) (heard grp i g)
 heard-with_proposal grp id from n i g = heard-insert grp id from n i g
 
-turned : {X : Type 0} (b : Bool) (x : Option X) → cond (not b) x None ≡ cond b None x
+pub turned : {X : Type 0} (b : Bool) (x : Option X) → cond (not b) x None ≡ cond b None x
 turned true x = refl
 turned false x = refl
 
@@ -64,35 +57,3 @@ same_state a b clocks starts hears =
     let started = same_map id_total id_antisym a.started b.started starts in
     let proposals = same_map source_total source_antisym a.proposals b.proposals (λ s. hears s.id s.from) in
     λ k. record { clock = clocks k; started = started k; proposals = proposals k }
-
--- ---- the lists that show a state
-
-find_start : (ss : List Started) (i : RequestId) → find id_cmp i (starts_of ss) ≡ groups_in ss i
-find_start [] i = refl
-find_start (s ∷ ss) i =
-    ap (λ b. cond b (Some s.groups) (find id_cmp i (starts_of ss))) (id_tied i s.id)
-    ∙ ap (cond (same_id i s.id) (Some s.groups)) (find_start ss i)
-
-find_clock : (ps : List Heard) (i : RequestId) (g : ℕ) → find source_cmp (record { id = i; from = g }) (clocks_of ps) ≡ clock_in ps i g
-find_clock [] i g = refl
-find_clock (p ∷ ps) i g =
-    ap (λ b. cond b (Some p.clock) (find source_cmp (record { id = i; from = g }) (clocks_of ps)))
-    (source_tied (record { id = i; from = g }) (record { id = p.id; from = p.from }))
-    ∙ ap (cond (same_id i p.id && g == p.from) (Some p.clock)) (find_clock ps i g)
-
-pub started-state_of : (c : ℕ) (ss : List Started) (ps : List Heard) (i : RequestId) → get (state_of c ss ps).started i ≡ groups_in ss i
-started-state_of c ss ps i = get-from_entries id_total (starts_of ss) i ∙ find_start ss i
-
-pub heard-state_of : (c : ℕ) (ss : List Started) (ps : List Heard) (i : RequestId) (g : ℕ) → heard (state_of c ss ps) i g ≡ clock_in ps i g
-heard-state_of c ss ps i g = get-from_entries source_total (clocks_of ps) (record { id = i; from = g }) ∙ find_clock ps i g
-
--- where no id stands twice, as many have started as the list has
-pub len-started : (c : ℕ) (ss : List Started) (ps : List Heard) → Once ss → len (state_of c ss ps).started ≡ length ss
-len-started c [] ps once = len-empty id_cmp (List ℕ)
-len-started c (s ∷ ss) ps once =
-    let new : get (state_of c ss ps).started s.id ≡ None = started-state_of c ss ps s.id ∙ once.0 in
-    let rest = len-started c ss ps once.1 in
-    let one_more : len (insert (state_of c ss ps).started s.id s.groups) ≡ len (state_of c ss ps).started + 1 =
-    len-insert id_total (state_of c ss ps).started s.id s.groups
-    ∙ ap (λ o. cond (is_some o) (len (state_of c ss ps).started) (len (state_of c ss ps).started + 1)) new in
-    omega (arith, one_more, rest)

@@ -288,7 +288,7 @@ lift_none c (Some s) top = let low = top s refl in omega arith
 pub same_lifted : (me : ℕ) (grp : GroupState) (id : RequestId) → Sound me grp → lifted grp id ≡ grp
 same_lifted me grp id sound =
     let clocks = lift_none grp.clock (final_of grp id (get grp.started id)) (known (get grp.started id) refl) in
-    λ k. record { clock = clocks k; started = grp.started; proposals = grp.proposals }
+    λ k. record grp { clock = clocks k }
   where
     known : (o : Option (List ℕ)) → get grp.started id ≡ o → (s : Stamp) → final_of grp id o ≡ Some s → s.clock ≤ grp.clock
     known None e s f = absurd (None≢Some s f)

@@ -1,8 +1,12 @@
 pub mod Finite
+pub mod Entries
+pub mod Places
+pub mod ProposalLists
+pub mod Missing
 pub mod Lawful
-pub mod LeastPlace
-pub mod Representation
-pub mod Steps
-pub mod Counts
-pub mod MayCome
+pub mod Fronts
+pub mod Receipts
+pub mod Changes
+pub mod Starts
+pub mod Hearings
 pub mod Ahead

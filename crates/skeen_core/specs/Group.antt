@@ -2,8 +2,8 @@
 -- Guerraoui and Schiper 2001: a process that gets a message adds one to its clock and proposes that timestamp to the
 -- other addressees; when it has all proposals it takes the greatest, and delivers messages in timestamp order once no
 -- message that it still waits for could come before. The floor is this project's own addition; at 0 it changes nothing.
-use Rattle.std.specs.FinMap.{FinMap, get, insert, retain_keys, empty}
-use Rattle.std.specs.Prelude.{◌≡◌, ◌≢◌, ℕ, suc, ◌≤◌, Bool, true, false, cond, not, List, [], ◌∷◌, ◌||◌, ◌==◌, max, length, ◌⊎◌, Option}
+use Rattle.std.specs.FinMap.{FinMap, get, insert, retain_keys, empty, len}
+use Rattle.std.specs.Prelude.{◌≡◌, ◌≢◌, ℕ, suc, ◌+◌, ◌≤◌, Bool, true, false, cond, not, List, [], ◌∷◌, ◌||◌, ◌==◌, max, length, ◌⊎◌, Option}
 use Rattle.std.specs.Prelude.{Some, None, IsSome}
 use Rattle.groups.specs.GroupSet.{has}
 use Rattle.groups.specs.Order.{In}
@@ -22,13 +22,18 @@ pub record GroupState : Type 0 where
   pub started : FinMap id_cmp (List ℕ)  -- the started requests, with the groups that each addresses
   pub proposals : FinMap source_cmp ℕ  -- the clocks of the proposals, the group's own among them
 
--- a group by its number and its state
+-- a group by its number, its state, and how many started requests its last receipt looked at
 pub record GroupView : Type 0 where
   pub me : ℕ
   pub state : GroupState
+  pub looks : ℕ
 
 abbrev pub fresh : GroupState
 fresh = record { clock = 0; started = empty; proposals = empty }
+
+-- a group that nothing has come to
+abbrev pub new_group : ℕ → GroupView
+new_group me = record { me = me; state = fresh; looks = 0 }
 
 -- the clock that a group has proposed for a request, as far as this group has heard
 abbrev pub heard : GroupState → RequestId → ℕ → Option ℕ
@@ -49,18 +54,14 @@ abbrev pub next_clock : GroupState → ℕ → ℕ
 next_clock grp floor = suc (max grp.clock floor)
 
 abbrev pub with_start : ℕ → GroupState → RequestId → ℕ → List ℕ → GroupState
-with_start me grp id floor groups = record {
+with_start me grp id floor groups = record grp {
   clock = next_clock grp floor;
   started = insert grp.started id groups;
   proposals = insert grp.proposals (record { id = id; from = me }) (next_clock grp floor);
 }
 
 abbrev pub with_proposal : GroupState → RequestId → ℕ → ℕ → GroupState
-with_proposal grp id from n = record {
-  clock = grp.clock;
-  started = grp.started;
-  proposals = insert grp.proposals (record { id = id; from = from }) n;
-}
+with_proposal grp id from n = record grp { proposals = insert grp.proposals (record { id = id; from = from }) n }
 
 abbrev pub final_of : GroupState → RequestId → Option (List ℕ) → Option Stamp
 final_of grp i None = None
@@ -72,11 +73,7 @@ lift c (Some s) = max c s.clock
 
 -- the clock is at least that of the request's final stamp, where that is known
 abbrev pub lifted : GroupState → RequestId → GroupState
-lifted grp id = record {
-  clock = lift grp.clock (final_of grp id (get grp.started id));
-  started = grp.started;
-  proposals = grp.proposals;
-}
+lifted grp id = record grp { clock = lift grp.clock (final_of grp id (get grp.started id)) }
 
 -- ---- what is delivered
 
@@ -104,8 +101,7 @@ has_id (d ∷ ds) i = same_id d.id i || has_id ds i
 
 -- the group forgets what it delivered
 abbrev pub without : GroupState → List Delivered → GroupState
-without grp ds = record {
-  clock = grp.clock;
+without grp ds = record grp {
   started = retain_keys grp.started (λ i. not (has_id ds i));
   proposals = retain_keys grp.proposals (λ s. not (has_id ds s.id));
 }
@@ -136,6 +132,15 @@ Receives me grp id (Start floor groups) sent ds new =
 Receives me grp id (Proposal from n) sent ds new =
     (sent ≡ []) × Delivering me (lifted (with_proposal grp id from n) id) ds new
 
+-- the receipt of that packet, as a group sees it
+pub record IsReceipt (old : GroupView) (id : RequestId) (body : Body) (sent : List Packet) (ds : List Delivered) (new : GroupView)
+    : Type 0 where
+  pub me : new.me ≡ old.me
+  pub rule : Receives old.me old.state id body sent ds new.state
+  pub few : length ds ≤ len old.state.started + 1
+  pub least : length ds ≤ new.looks
+  pub most : new.looks ≤ length ds + 2
+
 -- ---- what may come
 
 -- a Start names this group; a Proposal comes from another group, with a stamp that this group has for no other request,
@@ -146,10 +151,10 @@ BodyMayCome me grp id (Proposal from n) =
     (from ≢ me) × (n ≤ GREATEST_CLOCK) × ((i : RequestId) → heard grp i from ≡ Some n → i ≡ id)
     × ((m : ℕ) → heard grp id from ≡ Some m → m ≡ n)
 
-pub record MayCome (g : GroupView) (p : Packet) : Type 0 where
-  pub to : p.to ≡ g.me
-  pub clock : g.state.clock ≤ GREATEST_CLOCK
-  pub body : BodyMayCome g.me g.state p.id p.body
+pub record MayCome (me : ℕ) (grp : GroupState) (p : Packet) : Type 0 where
+  pub to : p.to ≡ me
+  pub clock : grp.clock ≤ GREATEST_CLOCK
+  pub body : BodyMayCome me grp p.id p.body
 
 -- ---- what is kept
 

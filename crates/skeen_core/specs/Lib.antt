@@ -1,7 +1,8 @@
 pub mod Group
 pub mod Lawful
+pub mod Heard
+pub mod Proposals
+pub mod Pending
 pub mod Kept
-pub mod Due
-pub mod Coming
 pub mod Links
 pub mod Runs

@@ -21,7 +21,7 @@ pub record Receipt : Type 0 where
 abbrev pub ReceivesInTurn : ℕ → GroupState → List Receipt → GroupState → Type 0
 ReceivesInTurn me old [] new = new ≡ old
 ReceivesInTurn me old (r ∷ rs) new =
-    (mid : GroupState) × MayCome (record { me = me; state = old }) r.packet
+    (mid : GroupState) × MayCome me old r.packet
     × Receives me old r.packet.id r.packet.body r.sent r.delivered mid × ReceivesInTurn me mid rs new
 
 -- all that was delivered, oldest first

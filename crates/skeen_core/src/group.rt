@@ -1,31 +1,33 @@
 //! One group: what it does with the packets that come to it. The system hands it each packet that is for it, sends what
 //! it sends, and puts what it delivers in its queue.
-ghost use Rattle.std.specs.Prelude.{◌≡◌, ◌+◌, ◌≤◌, [], length, IfOk, OnErr};
+ghost use Rattle.std.specs.Prelude.{◌≡◌, ◌+◌, ◌≤◌, ◌<◌, ◌⊎◌, [], length, Some, None, IfOk, OnErr, MatchOption};
 ghost use Rattle.std.specs.FinMap.{len};
-ghost use Rattle.skeen_core.specs.Group.{fresh, lift, MayCome, BodyMayCome, Receives};
-ghost use Rattle.skeen_core.specs.Due.{PlacesDiffer, IsDue};
-ghost use Rattle.skeen_core.specs.Kept.{starts_left, clocks_left};
+ghost use Rattle.groups.specs.Stamp.{final, place_by};
+ghost use Rattle.skeen_core.specs.Group.{fresh, lift, MayCome, BodyMayCome, Receives, IsReceipt};
+ghost use Rattle.skeen_core.specs.Heard.{clock_of, with_heard};
 ghost use Rattle.skeen_core.specs.declared.coming.TheConstants.{GREATEST_CLOCK};
 
-use super::due::due;
-use super::kept::{Heard, Started, clock_of, final_stamp, has_id, place_of};
+use super::heard::{Heard, clock_of, final_stamp, missing};
 use super::packet::{Body, Delivered, Packet};
+use super::pending::{Pending, enter, lower, pop_settled, room_for, settle, waiting};
+use super::proposals::Proposals;
 use super::tell::tell;
 use groups::{GroupId, Groups, RequestId, Stamp};
 use std::alloc::{AllocError, Global};
+use std::collections::BTreeMap;
 use std::marker::Model;
-use std::mem;
 
 mod reads;
 
-/// One group of the multicast. A contract sees its number, its clock, the started requests with their groups, and the
-/// proposals that it has.
+/// One group of the multicast. A contract sees its number, its clock, the started requests with their groups, the
+/// proposals that it has, and how many of its started requests the last receipt looked at.
 #[derive(Drop)]
 pub struct Group {
     id: GroupId,
     clock: u64,
-    started: Vec<Started>,
-    proposals: Vec<Heard>,
+    pending: BTreeMap<Stamp, Pending>,
+    proposals: Proposals,
+    looks: u64,
 }
 
 impl Model for Group {
@@ -36,9 +38,13 @@ impl Model for Group {
 
     ghost coded = { group_code };
 
-    ghost view = { λ g. record { me = g.id; state = state_of g.clock g.started.items g.proposals.items } };
+    ghost view = { λ g. record {
+      me = g.id;
+      state = state_of g.clock g.pending.entries g.proposals;
+      looks = g.looks;
+    } };
 
-    ghost invariant = { λ g. IsKept g.id g.clock g.started.items g.proposals.items };
+    ghost invariant = { λ g. IsKept g.id g.clock g.pending.entries g.proposals };
 }
 
 impl Group {
@@ -46,12 +52,14 @@ impl Group {
     pub fn new(alloc: Global, id: GroupId) -> Self
         ensures me { result.me ≡ id }
         ensures fresh { result.state ≡ fresh }
+        ensures looks { result.looks ≡ 0 }
     {
         Group {
             id,
             clock: 0,
-            started: Vec::new(alloc),
-            proposals: Vec::new(alloc),
+            pending: BTreeMap::new(alloc),
+            proposals: Proposals::new(alloc),
+            looks: 0,
         }
     }
 
@@ -63,30 +71,33 @@ impl Group {
     /// this request, if it has one. No clock, here or in the packet, is above 2^62.
     ///
     /// It sends fewer packets than the request of a Start has groups, and delivers at most one request more than
-    /// `started` says.
+    /// `started` says. Of the started requests it looks at those that it delivers, and at two more at most.
     pub fn receive(
         &mut self,
         alloc: Global,
         packet: Packet,
     ) -> Result<(Vec<Packet>, Vec<Delivered>), AllocError>
-        requires { MayCome self.old packet }
+        requires { MayCome self.old.me self.old.state packet }
         ensures me { self.new.me ≡ self.old.me }
         ensures rule { IfOk result (λ out. Receives self.old.me self.old.state packet.id packet.body
             out.0.items out.1.items self.new.state) }
         ensures few { IfOk result (λ out. length out.1.items ≤ len self.old.state.started + 1) }
+        ensures looks { IfOk result (λ out. (length out.1.items ≤ self.new.looks)
+            × (self.new.looks ≤ length out.1.items + 2)) }
         ensures unchanged { OnErr result (self.new ≡ self.old) }
     {
         let Packet { to: _, id, body } = packet;
         match body {
             Body::Start { floor, groups } => self.start(alloc, id, floor, groups),
             Body::Proposal { from, clock } => {
-                let delivered = self.hear(alloc, id, from, clock)?;
+                let delivered = self.hear(alloc, id, Heard { from, clock })?;
                 Ok((Vec::new(alloc), delivered))
             }
         }
     }
 
-    /// A request begins. If it is new, the group proposes a stamp for it and tells the other groups.
+    /// A request begins. If it is new, the group proposes a stamp for it and tells the other groups. Where the other
+    /// groups have all proposed and no request is before it, it is delivered at once, and nothing of it is kept.
     fn start(
         &mut self,
         alloc: Global,
@@ -96,49 +107,45 @@ impl Group {
     ) -> Result<(Vec<Packet>, Vec<Delivered>), AllocError>
         requires clock { self.old.state.clock ≤ GREATEST_CLOCK }
         requires body { BodyMayCome self.old.me self.old.state id (Body.Start floor groups) }
-        ensures me { self.new.me ≡ self.old.me }
-        ensures rule { IfOk result (λ out. Receives self.old.me self.old.state id (Body.Start floor groups)
-            out.0.items out.1.items self.new.state) }
-        ensures few { IfOk result (λ out. length out.1.items ≤ len self.old.state.started + 1) }
+        ensures done { IfOk result (λ out. IsReceipt self.old id (Body.Start floor groups) out.0.items out.1.items self.new) }
         ensures unchanged { OnErr result (self.new ≡ self.old) }
     {
-        if place_of(self.started.as_slice(), id).is_some() {
+        let me = self.id;
+        let list = self.proposals.of(id);
+        if clock_of(list, me).is_some() {
+            self.looks = 0;
             return Ok((Vec::new(alloc), Vec::new(alloc)));
         }
-        let me = self.id;
-        let own = self.clock.max(floor) + 1;
-        let sent = tell(alloc, me, id, own, groups)?;
-        self.started.reserve(1)?;
-        self.proposals.reserve(1)?;
-        self.proposals.push_reserved(Heard {
-            id,
-            from: me,
-            clock: own,
-        });
-        let final_stamp = final_stamp(self.proposals.as_slice(), id, groups);
-        let clock = lifted(own, &final_stamp);
-        let settled = final_stamp.is_some();
-        self.started.push_reserved(Started {
-            id,
-            groups,
-            own,
-            final_stamp,
-        });
-        if !settled {
-            self.clock = clock;
+        let clock = self.clock.max(floor) + 1;
+        let own = Heard { from: me, clock };
+        let final_stamp = final_stamp(list, &own, groups);
+        let missing = missing(list, &own, groups);
+        let sent = tell(alloc, me, id, clock, groups)?;
+        let Some(stamp) = at_once(&self.pending, &final_stamp) else {
+            let place = place_by(&final_stamp, &own);
+            let request = Pending {
+                id,
+                groups,
+                missing,
+            };
+            enter(
+                &mut self.pending,
+                &mut self.proposals,
+                alloc,
+                place,
+                request,
+                own,
+            )?;
+            self.clock = lifted(clock, &final_stamp);
+            self.looks = 1;
             return Ok((sent, Vec::new(alloc)));
-        }
-        match deliver(alloc, me, &mut self.started, &mut self.proposals) {
-            Ok(delivered) => {
-                self.clock = clock;
-                Ok((sent, delivered))
-            }
-            Err(error) => {
-                let _ = self.started.pop();
-                let _ = self.proposals.pop();
-                Err(error)
-            }
-        }
+        };
+        let mut delivered = Vec::with_capacity(alloc, 1)?;
+        delivered.push_reserved(Delivered { id, stamp, groups });
+        self.proposals.forget(id);
+        self.clock = lifted(clock, &final_stamp);
+        self.looks = 1;
+        Ok((sent, delivered))
     }
 
     /// A proposal comes. Where it is the last one that its request waited for, the group may deliver.
@@ -146,44 +153,44 @@ impl Group {
         &mut self,
         alloc: Global,
         id: RequestId,
-        from: GroupId,
-        clock: u64,
+        last: Heard,
     ) -> Result<Vec<Delivered>, AllocError>
-        requires body { BodyMayCome self.old.me self.old.state id (Body.Proposal from clock) }
-        ensures me { self.new.me ≡ self.old.me }
-        ensures rule { IfOk result (λ out. Receives self.old.me self.old.state id (Body.Proposal from clock)
-            [] out.items self.new.state) }
-        ensures few { IfOk result (λ out. length out.items ≤ len self.old.state.started + 1) }
+        requires body { BodyMayCome self.old.me self.old.state id (Body.Proposal last.from last.clock) }
+        ensures done { IfOk result (λ ds. IsReceipt self.old id (Body.Proposal last.from last.clock) [] ds.items self.new) }
         ensures unchanged { OnErr result (self.new ≡ self.old) }
     {
-        if clock_of(self.proposals.as_slice(), id, from).is_some() {
+        let list = self.proposals.of(id);
+        if clock_of(list, last.from).is_some() {
+            self.looks = 0;
             return Ok(Vec::new(alloc));
         }
-        self.proposals.reserve(1)?;
-        self.proposals.push_reserved(Heard { id, from, clock });
-        let Some(place) = place_of(self.started.as_slice(), id) else {
+        let own = clock_of(list, self.id);
+        let Some((place, request)) = waiting(&self.pending, self.id, own, id, last.from) else {
+            self.proposals.add(alloc, id, last)?;
+            self.looks = u64::from(own.is_some());
             return Ok(Vec::new(alloc));
         };
-        let me = self.id;
-        let groups = self.started[place].groups;
-        let final_stamp = final_stamp(self.proposals.as_slice(), id, groups);
-        let clock = lifted(self.clock, &final_stamp);
-        let settled = final_stamp.is_some();
-        let before = mem::replace(&mut self.started[place].final_stamp, final_stamp);
-        if !settled {
+        let Some(stamp) = final_once(list, &last, &request) else {
+            self.proposals.add(alloc, id, last)?;
+            lower(&mut self.pending, &place);
+            self.looks = 1;
             return Ok(Vec::new(alloc));
-        }
-        match deliver(alloc, me, &mut self.started, &mut self.proposals) {
-            Ok(delivered) => {
-                self.clock = clock;
-                Ok(delivered)
-            }
-            Err(error) => {
-                self.started[place].final_stamp = before;
-                let _ = self.proposals.pop();
-                Err(error)
-            }
-        }
+        };
+        let least = stamp.clock;
+        let mut delivered = Vec::with_capacity(alloc, room_for(&self.pending, &place))?;
+        settle(
+            &mut self.pending,
+            &mut self.proposals,
+            alloc,
+            place,
+            stamp,
+            request,
+            last,
+        )?;
+        pop_settled(&mut self.pending, &mut self.proposals, &mut delivered);
+        self.clock = self.clock.max(least);
+        self.looks = delivered.len() as u64 + stayed(&self.pending, &stamp);
+        Ok(delivered)
     }
 }
 
@@ -197,24 +204,44 @@ fn lifted(clock: u64, final_stamp: &Option<Stamp>) -> u64
     }
 }
 
-/// Takes out what the group `me` delivers. Want of memory leaves both lists as they were.
-fn deliver(
-    alloc: Global,
-    me: GroupId,
-    started: &mut Vec<Started>,
-    proposals: &mut Vec<Heard>,
-) -> Result<Vec<Delivered>, AllocError>
-    requires { PlacesDiffer me started.old.items }
-    ensures due { IfOk result (λ ds. IsDue me started.old.items ds.items) }
-    ensures few { IfOk result (λ ds. length ds.items ≤ length started.old.items) }
-    ensures started { IfOk result (λ ds. started.new.items ≡ starts_left ds.items started.old.items) }
-    ensures proposals { IfOk result (λ ds. proposals.new.items ≡ clocks_left ds.items proposals.old.items) }
-    ensures started_kept { OnErr result (started.new.items ≡ started.old.items) }
-    ensures proposals_kept { OnErr result (proposals.new.items ≡ proposals.old.items) }
+/// The final stamp of a request, if it is known and no request is before it.
+fn at_once(pending: &BTreeMap<Stamp, Pending>, final_stamp: &Option<Stamp>) -> Option<Stamp>
+    ensures { MatchOption result ((final_stamp.now ≡ None) ⊎ (0 < length pending.now.entries))
+        (λ s. (final_stamp.now ≡ Some s) × (pending.now.entries ≡ [])) }
 {
-    let delivered = due(alloc, started.as_slice(), me)?;
-    let gone = delivered.as_slice();
-    started.retain(|request| !has_id(gone, request.id));
-    proposals.retain(|proposal| !has_id(gone, proposal.id));
-    Ok(delivered)
+    match final_stamp {
+        Some(stamp) if pending.is_empty() => Some(Stamp { ..*stamp }),
+        _ => None,
+    }
+}
+
+/// Where a request stands: at its final stamp if that is known, else at the group's own proposal.
+fn place_by(final_stamp: &Option<Stamp>, own: &Heard) -> Stamp
+    ensures { result ≡ place_by final_stamp.now (record { clock = own.now.clock; group = own.now.from }) }
+{
+    match final_stamp {
+        Some(stamp) => Stamp { ..*stamp },
+        None => Stamp {
+            clock: own.clock,
+            group: own.from,
+        },
+    }
+}
+
+/// The final stamp of a request that waits for the proposal `last`, if no other one is missing.
+fn final_once(list: &[Heard], last: &Heard, request: &Pending) -> Option<Stamp>
+    ensures many { 1 < request.now.missing → result ≡ None }
+    ensures few { request.now.missing ≤ 1 → result ≡ final (with_heard last.now (clock_of list.now)) request.now.groups }
+{
+    if request.missing > 1 {
+        return None;
+    }
+    final_stamp(list, last, request.groups)
+}
+
+/// How many of the first request and the one at this place are left.
+fn stayed(pending: &BTreeMap<Stamp, Pending>, stamp: &Stamp) -> u64
+    ensures { result ≤ 2 }
+{
+    u64::from(!pending.is_empty()) + u64::from(pending.contains_key(stamp))
 }

@@ -7,12 +7,13 @@
 #![tactic(auto)]
 
 mod coming;
-mod due;
 mod group;
-mod kept;
+mod heard;
 mod laws;
 mod links;
 mod packet;
+mod pending;
+mod proposals;
 mod tell;
 
 pub use coming::GREATEST_CLOCK;

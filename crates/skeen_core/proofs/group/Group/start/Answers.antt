@@ -1,94 +1,119 @@
--- A Start: what the code has made of the lists is what the rule gives.
-use Rattle.std.proofs.Common.{rules, ◌≤◌, length, ◌+◌, [], ◌∷◌, ◌++◌, arith, sym, ap, ◌∙◌, subst, refl}
-use Rattle.std.specs.FinMap.{get, len}
+-- A Start: what the code has made is what the rule gives.
+use Rattle.std.proofs.Common.{◌≡◌, ◌+◌, [], ◌∷◌, ◌++◌, length, refl, sym, ap, ◌∙◌, subst, arith, List}
+use Rattle.skeen_core.specs.Group.{GroupView, BodyMayCome, IsReceipt, with_start, lift, lifted}
+use Rattle.skeen_core.specs.Heard.{with_heard, missing}
 use Rattle.skeen_core.specs.declared.packet.Body.TheVariants.{Start}
+use Rattle.skeen_core.specs.declared.packet.Delivered.{Delivered}
+use Rattle.std.specs.BTreeMap.{insert_entry}
 use Rattle.groups.specs.Stamp.{final}
-use Rattle.skeen_core.specs.Group.{GroupView, BodyMayCome, ReceivesStart, lift}
-use Rattle.skeen_core.specs.Kept.{state_of, groups_in, clock_in}
-use Rattle.skeen_core.proofs.Finite.{len-started}
-use Rattle.skeen_core.proofs.Representation.{own_heard, begun_as}
-use Rattle.skeen_core.proofs.Steps.{StartMade, start_differ, start_delivers, start_waits, receives_new, receives_again, comes_as, not_there}
-use Rattle.skeen_core.proofs.Steps.{is_there, none_of, stands_some}
+use Rattle.groups.specs.declared.stamp.Stamp.{Stamp}
+use Rattle.skeen_core.specs.Kept.{state_of}
+use Rattle.skeen_core.specs.Pending.{stamp_cmp, at, Moves}
+use Rattle.skeen_core.specs.declared.heard.Heard.{Heard}
+use Rattle.skeen_core.proofs.Receipts.{Comes, comes_as}
+use Rattle.skeen_core.proofs.Starts.{Begun, begins_free, begins_waits, begins_at_once, begins_receipt, again_receipt, view, none_of}
+use Rattle.skeen_core.proofs.Starts.{some_of}
+use Rattle.skeen_core.proofs.Starts.{begun, with_own}
 use Rattle.skeen_core.proofs.group.Group.start.Goals as goal
-use Rattle.skeen_core.proofs.group.Group.start.Goals.{After-push_reserved-2}
+use Rattle.skeen_core.proofs.group.Group.start.Goals.{In_ok-sent, In_ok-enter, After-lifted-self-inside-2}
 
-pub returns-then-is_some-clause-rule : goal.returns-then-is_some-clause-rule
-returns-then-is_some-clause-rule c =
-    let ss = c.self.inside.started.items in
-    let at = is_there c.place_of.result _ _ c.place_of.ensures (sym c.is_some.ensures ∙ c.if-is_some.true) in
-    let there = stands_some c.as_slice.result.now c.args.id at.0 at.1 in
-    subst (λ (v : GroupView). ReceivesStart (get v.state.started c.args.id) v.me v.state c.args.id c.args.floor c.args.groups
-    c.new.result.items c.new-then-is_some.result.items v.state) c.self.view_is
-    (receives_again c.self.inside.id c.self.inside.clock ss c.self.inside.proposals.items c.args.id c.args.floor c.args.groups there.0 _ _
-    (ap (λ l. groups_in l c.args.id) (sym c.as_slice.ensures.value) ∙ there.1) c.new.ensures.items c.new-then-is_some.ensures.items)
+pub returns-then-is_some-clause-done : goal.returns-then-is_some-clause-done
+returns-then-is_some-clause-done c =
+    let g = c.self.inside in
+    let had = some_of c.clock_of.result (sym c.is_some.ensures ∙ c.if-is_some.true) in
+    subst (λ (v : GroupView). IsReceipt v c.args.id (Start c.args.floor c.args.groups) c.new.result.items c.new-then-is_some.result.items
+    (view g.id g.clock g.pending.entries g.proposals 0)) c.self.view_is
+    (again_receipt g.id g.clock g.pending.entries g.proposals g.looks c.args.id c.args.floor c.args.groups had.0 c.self.invariant
+    (sym (c.of-list.ensures g.id) ∙ sym c.clock_of.ensures ∙ had.1) _ _ c.new.ensures.items c.new-then-is_some.ensures.items)
 
--- the request and the group's own proposal stand behind the others
-made : (c : After-push_reserved-2)
-    → StartMade c.self.inside.id c.self.inside.clock c.self.inside.started.items c.self.inside.proposals.items c.args.id c.args.floor
-    c.args.groups (c.max-own.result + 1) c.final_stamp-final_stamp.result c.push_reserved-2.new.self.items c.push_reserved.new.self.items
+made : (c : In_ok-sent) → Begun c.self.inside.id c.self.inside.clock c.self.inside.pending.entries c.self.inside.proposals c.args.id
+    c.args.floor
+    c.args.groups (c.max-clock.result + 1) c.final_stamp-final_stamp.result c.missing-missing.result
 made c =
-    let me = c.self.inside.id in
-    let n = c.max-own.result + 1 in
+    let g = c.self.inside in
     let body = subst (λ (v : GroupView). BodyMayCome v.me v.state c.args.id (Start c.args.floor c.args.groups)) (sym c.self.view_is)
     c.requires.body in
+    let last : Heard = record { from = g.id; clock = c.max-clock.result + 1 } in
     record {
       kept = c.self.invariant;
-      absent = ap (λ l. groups_in l c.args.id) (sym c.as_slice.ensures.value)
-          ∙ not_there c.place_of.result _ _ c.place_of.ensures (sym c.is_some.ensures ∙ c.if-is_some.false);
+      none = sym (c.of-list.ensures g.id) ∙ sym c.clock_of.ensures ∙ none_of c.clock_of.result (sym c.is_some.ensures ∙ c.if-is_some.false);
       member = body.0;
-      clock = omega (arith, c.max-own.ensures);
-      clocks = c.push_reserved.ensures.items ∙ ap (λ l. l ++ own_heard me c.args.id n ∷ []) c.reserve-2.ensures.items;
-      settled = c.final_stamp-final_stamp.ensures ∙ ap (λ l. final (clock_in l c.args.id) c.args.groups) c.as_slice-2.ensures.value;
-      starts = c.push_reserved-2.ensures.items
-          ∙ ap (λ l. l ++ begun_as c.args.id c.args.groups n c.final_stamp-final_stamp.result ∷ []) c.reserve.ensures.items;
+      clock = omega (arith, c.max-clock.ensures);
+      ascending = c.missing-missing.ensures.ascending;
+      final = c.final_stamp-final_stamp.ensures ∙ ap (λ f. final (with_heard last f) c.args.groups) (λ k h. c.of-list.ensures h k);
+      missing = c.missing-missing.ensures.count ∙ ap (λ f. missing (with_heard last f) c.args.groups) (λ k h. c.of-list.ensures h k);
     }
 
-pub invariant_of-self-then-not-settled : goal.invariant_of-self-then-not-settled
-invariant_of-self-then-not-settled c =
-    let m = made (goal.at.invariant_of-self-then-not-settled c).After-push_reserved-2 in
-    let o = c.final_stamp-final_stamp.result in
-    (comes_as c.self.inside.id _ [] [] (lift (c.max-own.result + 1) o) _ _ _ _ _ refl c.lifted-clock.ensures refl refl
-    (start_waits m (none_of o (sym c.is_some-settled.ensures ∙ c.if-not-settled.true)))).kept
+-- ---- it waits
 
-pub returns-then-not-settled-clause-rule : goal.returns-then-not-settled-clause-rule
-returns-then-not-settled-clause-rule c =
-    let me = c.self.inside.id in
-    let m = made (goal.at.returns-then-not-settled-clause-rule c).After-push_reserved-2 in
-    let n = c.max-own.result + 1 in
-    let o = c.final_stamp-final_stamp.result in
-    let comes = comes_as me _ [] _ (lift n o) _ _ _ _ _ c.new-then-not-settled.ensures.items c.lifted-clock.ensures refl refl
-    (start_waits m (none_of o (sym c.is_some-settled.ensures ∙ c.if-not-settled.true))) in
-    subst (λ (v : GroupView). ReceivesStart (get v.state.started c.args.id) v.me v.state c.args.id c.args.floor c.args.groups
-    c.in_ok-sent.sent.items c.new-then-not-settled.result.items
-    (state_of c.lifted-clock.result c.push_reserved-2.new.self.items c.push_reserved.new.self.items)) c.self.view_is
-    (receives_new me c.self.inside.clock c.self.inside.started.items c.self.inside.proposals.items c.args.id c.args.floor c.args.groups n
-    _ _ _ m.absent m.clock c.in_ok-sent.ensures comes.delivering)
+waited : (c : In_ok-enter)
+    → Begun c.self.inside.id c.self.inside.clock c.self.inside.pending.entries c.self.inside.proposals c.args.id c.args.floor
+    c.args.groups (c.max-clock.result + 1) c.final_stamp-final_stamp.result c.missing-missing.result
+    → Comes c.self.inside.id
+    (lifted (with_start c.self.inside.id (state_of c.self.inside.clock c.self.inside.pending.entries c.self.inside.proposals) c.args.id
+    c.args.floor
+    c.args.groups) c.args.id) [] (lift (c.max-clock.result + 1) c.final_stamp-final_stamp.result) c.enter.new.pending.entries
+    (with_own c.self.inside.proposals c.args.id c.self.inside.id (c.max-clock.result + 1))
+waited c b =
+    let p = begun c.args.id c.args.groups c.missing-missing.result in
+    let place = c.place_by-place.ensures in
+    begins_waits b c.enter.new.pending.entries
+    (subst (λ t. Moves t t p c.self.inside.pending.entries c.enter.new.pending.entries) place c.in_ok-enter.ensures.moves)
+    (c.in_ok-enter.ensures.entered ∙ ap (λ t. insert_entry stamp_cmp c.self.inside.pending.entries t p) place) c.in_default.ensures
 
-pub deliver-requires : goal.deliver-requires
-deliver-requires c = start_differ (made (goal.at.deliver-requires c).After-push_reserved-2)
+pub enter-requires-clause-free : goal.enter-requires-clause-free
+enter-requires-clause-free c =
+    ap (λ (s : Stamp). at c.self.inside.pending.entries s) c.place_by-place.ensures
+    ∙ begins_free (made (goal.at.enter-requires-clause-free c).In_ok-sent)
 
-pub invariant_of-self-in-Ok : goal.invariant_of-self-in-Ok
-invariant_of-self-in-Ok c =
-    let m = made (goal.at.invariant_of-self-in-Ok c).After-push_reserved-2 in
-    (comes_as c.self.inside.id _ c.in-Ok.delivered.items _ (lift (c.max-own.result + 1) c.final_stamp-final_stamp.result) _ _ _ _ _ refl
-    c.lifted-clock.ensures c.in-Ok.ensures.started c.in-Ok.ensures.proposals
-    (start_delivers m c.in-Ok.delivered.items c.in-Ok.ensures.due)).kept
+pub invariant_of-self-in_default : goal.invariant_of-self-in_default
+invariant_of-self-in_default c =
+    let d = goal.at.invariant_of-self-in_default c in
+    (comes_as refl (sym c.lifted-self-inside.ensures) refl (sym c.in_ok-enter.ensures.added)
+    (waited d.In_ok-enter (made d.In_ok-sent))).kept
 
-pub returns-in-Ok-clause-rule : goal.returns-in-Ok-clause-rule
-returns-in-Ok-clause-rule c =
-    let me = c.self.inside.id in
-    let m = made (goal.at.returns-in-Ok-clause-rule c).After-push_reserved-2 in
-    let n = c.max-own.result + 1 in
-    let comes = comes_as me _ c.in-Ok.delivered.items _ (lift n c.final_stamp-final_stamp.result) _ _ _ _ _ refl c.lifted-clock.ensures
-    c.in-Ok.ensures.started c.in-Ok.ensures.proposals (start_delivers m c.in-Ok.delivered.items c.in-Ok.ensures.due) in
-    subst (λ (v : GroupView). ReceivesStart (get v.state.started c.args.id) v.me v.state c.args.id c.args.floor c.args.groups
-    c.in_ok-sent.sent.items c.in-Ok.delivered.items
-    (state_of c.lifted-clock.result c.deliver.new.started.items c.deliver.new.proposals.items)) c.self.view_is
-    (receives_new me c.self.inside.clock c.self.inside.started.items c.self.inside.proposals.items c.args.id c.args.floor c.args.groups n
-    _ _ _ m.absent m.clock c.in_ok-sent.ensures comes.delivering)
+pub returns-in_default-clause-done : goal.returns-in_default-clause-done
+returns-in_default-clause-done c =
+    let g = c.self.inside in
+    let d = goal.at.returns-in_default-clause-done c in
+    let ds = c.new-in_default.result.items in
+    let long = ap (λ (l : List Delivered). length l) c.new-in_default.ensures.items in
+    let comes = comes_as (sym c.new-in_default.ensures.items) (sym c.lifted-self-inside.ensures) refl (sym c.in_ok-enter.ensures.added)
+    (waited d.In_ok-enter (made d.In_ok-sent)) in
+    subst (λ (v : GroupView). IsReceipt v c.args.id (Start c.args.floor c.args.groups) c.in_ok-sent.sent.items ds
+    (view g.id c.lifted-self-inside.result c.enter.new.pending.entries c.enter.new.proposals 1)) c.self.view_is
+    (begins_receipt (made d.In_ok-sent) c.in_ok-sent.sent.items ds c.lifted-self-inside.result c.enter.new.pending.entries
+    c.enter.new.proposals
+    g.looks 1 c.in_ok-sent.ensures comes (omega arith) (omega arith) (omega arith))
 
-pub returns-in-Ok-clause-few : goal.returns-in-Ok-clause-few
-returns-in-Ok-clause-few c =
-    let counted = len-started c.self.inside.clock c.self.inside.started.items c.self.inside.proposals.items c.self.invariant.keeps.once in
-    let few = c.in-Ok.ensures.few in
-    subst (λ (v : GroupView). length c.in-Ok.delivered.items ≤ len v.state.started + 1) c.self.view_is (search rules)
+-- ---- it is delivered at once
+
+gone : (c : After-lifted-self-inside-2)
+    → Begun c.self.inside.id c.self.inside.clock c.self.inside.pending.entries c.self.inside.proposals c.args.id c.args.floor
+    c.args.groups (c.max-clock.result + 1) c.final_stamp-final_stamp.result c.missing-missing.result
+    → Comes c.self.inside.id
+    (lifted (with_start c.self.inside.id (state_of c.self.inside.clock c.self.inside.pending.entries c.self.inside.proposals) c.args.id
+    c.args.floor
+    c.args.groups) c.args.id) (record { id = c.args.id; stamp = c.in-Some.stamp; groups = c.args.groups } ∷ [])
+    c.lifted-self-inside-2.result
+    c.self.inside.pending.entries c.forget.new.self
+gone c b = comes_as refl (sym c.lifted-self-inside-2.ensures) refl refl
+    (begins_at_once b c.in-Some.stamp c.in-Some.ensures.0 c.in-Some.ensures.1 c.forget.new.self c.forget.ensures)
+
+pub invariant_of-self-2 : goal.invariant_of-self-2
+invariant_of-self-2 c = let d = goal.at.invariant_of-self-2 c in (gone d.After-lifted-self-inside-2 (made d.In_ok-sent)).kept
+
+pub returns-clause-done : goal.returns-clause-done
+returns-clause-done c =
+    let g = c.self.inside in
+    let d = goal.at.returns-clause-done c in
+    let items : c.push_reserved.new.self.items ≡ record { id = c.args.id; stamp = c.in-Some.stamp; groups = c.args.groups } ∷ [] =
+    c.push_reserved.ensures.items ∙ ap (λ l. l ++ record { id = c.args.id; stamp = c.in-Some.stamp; groups = c.args.groups } ∷ [])
+    c.in_ok-delivered.ensures.items in
+    let long = ap (λ (l : List Delivered). length l) items in
+    subst (λ (v : GroupView). IsReceipt v c.args.id (Start c.args.floor c.args.groups) c.in_ok-sent.sent.items
+    c.push_reserved.new.self.items
+    (view g.id c.lifted-self-inside-2.result g.pending.entries c.forget.new.self 1)) c.self.view_is
+    (begins_receipt (made d.In_ok-sent) c.in_ok-sent.sent.items _ c.lifted-self-inside-2.result g.pending.entries c.forget.new.self
+    g.looks 1 c.in_ok-sent.ensures (comes_as (sym items) refl refl refl (gone d.After-lifted-self-inside-2 (made d.In_ok-sent)))
+    (omega arith) (omega arith) (omega arith))
