@@ -1,5 +1,12 @@
 pub mod Layers
-pub mod Found
+pub mod Placed
+pub mod Apart
+pub mod Few
+pub mod Headed
+pub mod Counting
+pub mod Taken
+pub mod Appending
+pub mod Popping
 pub mod Sound
 pub mod Rows
-pub mod Heads
+pub mod HeadsGone

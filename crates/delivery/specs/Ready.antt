@@ -14,7 +14,13 @@ pub record IsReady (queue : QueueOf) (d : Delivered) : Type 0 where
   pub somewhere : (g : ℕ) × (has d.groups g ≡ true)
   pub heads : (g : ℕ) → has d.groups g ≡ true → (rest : List Delivered) × (queue g ≡ d ∷ rest)
 
--- all requests that are ready, ascending by stamp, and no others
+-- these are the requests that are ready, all of them, ascending by stamp, and no others
+pub record AreReady (queue : QueueOf) (ds : List Delivered) : Type 0 where
+  pub ascending : Ascending ds
+  pub only : (d : Delivered) → In d ds → IsReady queue d
+  pub all : (d : Delivered) → IsReady queue d → In d ds
+
+-- a layer: all requests that are ready, ascending by stamp, and no others
 pub record IsLayer (queue : QueueOf) (layer : List Delivered) : Type 0 where
   pub ascending : Ascending layer
   pub only : (d : Delivered) → In d layer → IsReady queue d

@@ -5,10 +5,10 @@
 //! them out as one layer.
 #![tactic(auto)]
 
+mod heads;
 mod laws;
 mod queue;
 mod queues;
-mod search;
 
 pub use laws::laws_of_layers;
 pub use queues::Queues;

@@ -1,6 +1,6 @@
 //! The queue of one group.
 ghost use Rattle.std.specs.Prelude.{◌≡◌, ◌+◌, ◌<◌, ◌≤◌, ◌++◌, [], ◌∷◌, drop, OnOk, OnErr, IsOk, option_copied};
-ghost use Rattle.delivery.specs.Search.{head_of};
+ghost use Rattle.delivery.specs.Heads.{head_of};
 
 use skeen_core::Delivered;
 use std::alloc::{AllocError, Global};

@@ -6,10 +6,10 @@ ghost use Rattle.skeen_core.specs.declared.packet.Delivered.{Delivered};
 ghost use Rattle.delivery.specs.Ready.{IsReady, IsLayer};
 ghost use Rattle.delivery.specs.Queues.{queue_of, room_of, requests_of, rooms_of, MayAppend, IsSound};
 ghost use Rattle.delivery.specs.Taking.{popped, popped_all, Poppable};
-ghost use Rattle.delivery.specs.Search.{head_of};
+ghost use Rattle.delivery.specs.Heads.{head_of};
 
+use super::heads::{Heading, count_heads, take_ready};
 use super::queue::Queue;
-use super::search::{put_in, ready_at};
 use groups::{GroupId, Groups};
 use skeen_core::Delivered;
 use std::alloc::{AllocError, Global};
@@ -17,20 +17,27 @@ use std::marker::Model;
 
 /// One queue a group, of what it has delivered and no layer has taken yet. A contract sees the queues as lists, oldest
 /// first, and beside them how many more requests fit into each without memory.
+///
+/// It keeps the requests that are ready, ascending by their stamps, and of each other request at the head of a queue how
+/// many it heads. Both lists have room for as many requests as there are queues.
 #[derive(Drop)]
 pub struct Queues {
     queues: Vec<Queue>,
+    ready: Vec<Delivered>,
+    partly: Vec<Heading>,
 }
 
 impl Model for Queues {
-    ghost use Rattle.std.specs.Prelude.{ℕ, ◌≤◌, length};
-    ghost use Rattle.delivery.specs.Queues.{QueuesView, queue_of, requests_of, rooms_of, IsSound};
+    ghost use Rattle.std.specs.Prelude.{vec_capacity};
+    ghost use Rattle.delivery.specs.Queues.{QueuesView, requests_of, rooms_of};
+    ghost use Rattle.delivery.specs.Heads.{AreKept};
 
     ghost Value = { QueuesView };
 
     ghost view = { λ q. record { queues = requests_of q.queues.items; rooms = rooms_of q.queues.items } };
 
-    ghost invariant = { λ q. (length q.queues.items ≤ 64) × IsSound (queue_of (requests_of q.queues.items)) };
+    ghost invariant = { λ q.
+        AreKept (requests_of q.queues.items) q.ready.items q.partly.items (vec_capacity q.ready) (vec_capacity q.partly) };
 }
 
 impl Queues {
@@ -41,10 +48,16 @@ impl Queues {
         ensures empty { IfOk result (λ q. (g : ℕ) → queue_of q.queues g ≡ []) }
     {
         let mut queues = Vec::with_capacity(alloc, usize::from(groups))?;
+        let ready = Vec::with_capacity(alloc, usize::from(groups))?;
+        let partly = Vec::with_capacity(alloc, usize::from(groups))?;
         for _ in 0..groups {
             queues.push(Queue::new(alloc))?;
         }
-        Ok(Queues { queues })
+        Ok(Queues {
+            queues,
+            ready,
+            partly,
+        })
     }
 
     /// The request at the head of the group's queue. A group without a queue has none.
@@ -84,7 +97,13 @@ impl Queues {
         ensures unchanged { OnErr result (self.new ≡ self.old) }
     {
         let queue = &mut self.queues[usize::from(group.number())];
-        queue.append(request)
+        let was_empty = queue.head().is_none();
+        queue.append(request)?;
+        if was_empty {
+            let groups = Groups::empty().with(group);
+            count_heads(&self.queues, &mut self.ready, &mut self.partly, groups);
+        }
+        Ok(())
     }
 
     /// The layer: all requests that are ready, ascending by their stamps. The only error is want of memory; where none
@@ -94,28 +113,16 @@ impl Queues {
         ensures succeeds { ((d : Delivered) → ¬ IsReady (queue_of self.now.queues) d) → IsOk result }
         ensures sound { IsSound (queue_of self.now.queues) }
     {
-        let mut layer = Vec::new(alloc);
-        let queues = self.queues.as_slice();
-        for place in 0..queues.len() {
-            if let Some(request) = ready_at(queues, place) {
-                put_in(&mut layer, request)?;
-            }
-        }
+        let mut layer = Vec::with_capacity(alloc, self.ready.len())?;
+        layer.extend_from_slice(self.ready.as_slice())?;
         Ok(layer)
     }
 
     /// Whether some request is ready. It takes no memory.
-    #[tactic(auto, using(crate::proofs::Found::searching))]
     pub fn has_ready(&self) -> bool
         ensures { IsTrue result ↔ ((d : Delivered) × IsReady (queue_of self.now.queues) d) }
     {
-        let queues = self.queues.as_slice();
-        for place in 0..queues.len() {
-            if ready_at(queues, place).is_some() {
-                return true;
-            }
-        }
-        false
+        !self.ready.is_empty()
     }
 
     /// Takes a request that is ready out of all its queues. It takes no memory.
@@ -125,7 +132,14 @@ impl Queues {
         ensures groups { length self.new.queues ≡ length self.old.queues }
         ensures rooms_kept { (g : ℕ) → room_of self.old.rooms g ≤ room_of self.new.rooms g }
     {
+        take_ready(&mut self.ready, request.id);
         pop_heads(&mut self.queues, request.groups);
+        count_heads(
+            &self.queues,
+            &mut self.ready,
+            &mut self.partly,
+            request.groups,
+        );
     }
 
     /// Takes these requests out of all their queues, one after another. Each is ready when its turn comes, as those of
@@ -143,7 +157,7 @@ impl Queues {
 }
 
 /// Takes the head out of the queue of each of these groups.
-#[tactic(auto, using(crate::proofs::Heads::gone_place))]
+#[tactic(auto, using(crate::proofs::HeadsGone::gone_place))]
 fn pop_heads(queues: &mut [Queue], groups: Groups)
     requires { (g : ℕ) → has groups g ≡ true → g < length queues.old }
     ensures popped { (g : ℕ) → queue_of (requests_of queues.new) g

@@ -1,5 +1,5 @@
 use Rattle.std.proofs.Common.{◌<◌, ◌≤◌, length, drop, slice_index_or, ap, sym, ◌∙◌, subst}
-use Rattle.delivery.proofs.Heads.{gone_more, gone_place}
+use Rattle.delivery.proofs.HeadsGone.{gone_more, gone_place}
 use Rattle.delivery.proofs.queues.pop_heads.Goals as goal
 
 pub loop-group-preserved : goal.loop-group-preserved

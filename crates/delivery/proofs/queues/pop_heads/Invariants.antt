@@ -1,4 +1,4 @@
-use Rattle.delivery.proofs.Heads.{HeadsGone}
+use Rattle.delivery.proofs.HeadsGone.{HeadsGone}
 use Rattle.delivery.proofs.queues.pop_heads.Given as goal
 
 -- the groups that are left have their heads still

@@ -1,19 +1,23 @@
-use Rattle.std.proofs.Common.{arith, refl, sym, ap, ◌∙◌, subst}
-use Rattle.std.proofs.lemmas.Bool.{both_ways}
-use Rattle.std.proofs.lemmas.List.{length-map}
+use Rattle.std.proofs.Common.{sym, ◌∙◌, subst, arith, ne_eqb}
+use Rattle.std.proofs.lemmas.Bool.{not-true, not_from_false, eqb-false}
 use Rattle.delivery.specs.Ready.{IsReady}
-use Rattle.delivery.specs.Queues.{requests_of, queue_of}
+use Rattle.delivery.specs.Queues.{queue_of, requests_of}
 use Rattle.delivery.proofs.Rows.{same_queues}
-use Rattle.delivery.proofs.Found.{none_ready}
+use Rattle.delivery.proofs.Counting.{some_ready, ready_some}
 use Rattle.delivery.proofs.queues.Queues.has_ready.Goals as goal
 
 pub returns : goal.returns
 returns c =
-    let value = c.as_slice-queues.ensures.value in
-    let qs = requests_of c.as_slice-queues.result.now in
-    let same = ap requests_of value ∙ same_queues c.self.inside.queues.items c.args.self.now c.self.view_is in (
-      (λ e. absurd (both_ways _ refl e)),
-      (λ w. absurd (none_ready qs c.loop-place.place (omega (arith, length-map c.as_slice-queues.result.now (λ q. q.requests)))
-          c.loop-place.invariant w.0
-          (subst (λ l. IsReady (queue_of l) w.0) (sym same) w.1))),
+    let qs = c.self.inside.queues.items in
+    let same = same_queues qs c.args.self.now c.self.view_is in
+    let ds = c.self.inside.ready in
+    let long = ds.ok.0 in (
+      (λ t.
+          let ne = eqb-false ds.len 0 (sym c.is_empty.ensures ∙ not-true c.is_empty.result t) in
+          let w = some_ready (queue_of (requests_of qs)) ds.items c.self.invariant.counted.ready (omega arith) in
+          (w.0, subst (λ l. IsReady (queue_of l) w.0) same w.1)),
+      (λ w.
+          let some = ready_some (queue_of (requests_of qs)) ds.items w.0 c.self.invariant.counted.ready
+          (subst (λ l. IsReady (queue_of l) w.0) (sym same) w.1) in
+          not_from_false c.is_empty.result (c.is_empty.ensures ∙ ne_eqb ds.len 0 (omega arith))),
     )

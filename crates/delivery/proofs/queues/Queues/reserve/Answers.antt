@@ -1,6 +1,6 @@
-use Rattle.std.proofs.Common.{◌≤◌, slice_set, ap, sym, ◌∙◌, subst, OnOk}
-use Rattle.std.proofs.lemmas.List.{length-set}
-use Rattle.delivery.specs.Queues.{queue_of, rooms_of, room_of, IsSound}
+use Rattle.std.proofs.Common.{◌≤◌, slice_set, ap, sym, ◌∙◌, subst, OnOk, vec_capacity}
+use Rattle.delivery.specs.Queues.{rooms_of, room_of}
+use Rattle.delivery.specs.Heads.{AreKept}
 use Rattle.delivery.proofs.Rows.{requests_kept, rooms_kept, room_set, has_place, same_queues, same_rooms}
 use Rattle.delivery.proofs.queues.Queues.reserve.Goals as goal
 
@@ -9,10 +9,9 @@ invariant_of-self c =
     let qs = c.self.inside.queues.items in
     let low = has_place qs c.args.self.now c.args.group c.from.result c.self.view_is (c.from.ensures ∙ c.number.ensures.same) c.requires in
     let same = requests_kept qs c.from.result c.index_mut-queue.result.now c.reserve.new.self low c.index_mut-queue.ensures.value
-    c.reserve.ensures.requests in (
-      subst (λ n. n ≤ 64) (sym (length-set qs c.from.result c.reserve.new.self)) c.self.invariant.0,
-      subst (λ l. IsSound (queue_of l)) (sym same) c.self.invariant.1,
-    )
+    c.reserve.ensures.requests in
+    subst (λ l. AreKept l c.self.inside.ready.items c.self.inside.partly.items (vec_capacity c.self.inside.ready)
+    (vec_capacity c.self.inside.partly)) (sym same) c.self.invariant
 
 pub returns-clause-queues : goal.returns-clause-queues
 returns-clause-queues c =

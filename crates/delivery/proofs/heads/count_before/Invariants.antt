@@ -1,6 +1,6 @@
 use Rattle.std.proofs.Common.{◌≡◌, ◌+◌, drop}
-use Rattle.delivery.specs.Search.{count_before}
-use Rattle.delivery.proofs.search.count_before.Given as goal
+use Rattle.delivery.specs.Heads.{count_before}
+use Rattle.delivery.proofs.heads.count_before.Given as goal
 
 -- those passed so far stand before
 abbrev pub invariant-loop-place : goal.invariant-loop-place
