@@ -13,6 +13,7 @@ use Rattle.groups.specs.declared.stamp.Stamp.{Stamp}
 use Rattle.journal.specs.Views.{RowView, row_view}
 use Rattle.journal.specs.LongRows.{long_at, packed_reply, text_or, whole, all_whole, Ascend}
 use Rattle.journal.specs.declared.long_rows.LongRow.{LongRow}
+use Rattle.resp.specs.declared.answered.TheConstants.{LONG}
 
 -- ---- places
 
@@ -121,6 +122,15 @@ text_or-some (b ∷ bs) reply some = refl
 reply-there : (text reply : List ℕ) → (0 < length text → text ≡ reply) → text_or text (packed_reply text reply) ≡ reply
 reply-there [] reply same = refl
 reply-there (b ∷ bs) reply same = same (omega arith)
+
+-- what is packed of a reply is short: all of it where there is no text beside it, else nothing
+pub packed_is_short : (text reply : List ℕ) → (text ≡ [] → length reply ≤ LONG) → length (packed_reply text reply) ≤ LONG
+packed_is_short [] reply short = short refl
+packed_is_short (b ∷ bs) reply short = omega arith
+
+pub reply_is_short : (text reply : List ℕ) → length text ≡ 0 → (text ≡ [] → length reply ≤ LONG) → length reply ≤ LONG
+reply_is_short [] reply none short = short refl
+reply_is_short (b ∷ bs) reply none short = absurd (omega arith)
 
 pub whole-is : (id : RequestId) (stamp : Stamp) (words : List (List ℕ)) (reply : List ℕ) (long : LongRow)
     → (0 < length long.text.items → long.text.items ≡ reply)

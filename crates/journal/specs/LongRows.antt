@@ -1,9 +1,9 @@
 -- Rows of which the long parts lie beside the packed ones.
-use Rattle.std.specs.Prelude.{ℕ, ◌+◌, ◌≤◌, List, [], ◌∷◌, length, ◌==◌, if◌then◌else◌, Option, Some, None}
-use Rattle.journal.specs.Views.{RowView}
-use Rattle.journal.specs.declared.codes.TheConstants.{GREATEST_HEAD}
+use Rattle.std.specs.Global.{Vec}
+use Rattle.std.specs.Prelude.{ℕ, ◌+◌, ◌*◌, ◌≤◌, List, [], ◌∷◌, ◌==◌, if◌then◌else◌, Option, Some, None, vec_len, vec_capacity}
+use Rattle.journal.specs.Views.{RowView, PackedView}
 use Rattle.journal.specs.declared.long_rows.LongRow.{LongRow}
-use Rattle.journal.specs.declared.long_rows.TheConstants.{LONG_WORDS}
+use Rattle.journal.specs.declared.rows.TheConstants.{GREATEST_ROW}
 
 -- what lies beside the packed rows for the row at this place, if anything does
 abbrev pub long_at : List LongRow → ℕ → Option LongRow
@@ -35,6 +35,8 @@ abbrev pub packed_reply : List ℕ → List ℕ → List ℕ
 packed_reply [] reply = reply
 packed_reply (b ∷ bs) reply = []
 
--- how many bytes a row takes at most among the packed ones, by its reply's text, and by this text where it has a block
-abbrev pub row_size : List ℕ → List ℕ → ℕ
-row_size reply text = GREATEST_HEAD + LONG_WORDS + length (packed_reply text reply)
+-- there is room for so many rows: for as many ends and long parts, and for the bytes of each
+pub record HasRoom (packed : PackedView) (longs : Vec LongRow) (count : ℕ) : Type 0 where
+  pub bytes : count * GREATEST_ROW ≤ packed.bytes
+  pub ends : count ≤ packed.ends
+  pub beside : vec_len longs + count ≤ vec_capacity longs

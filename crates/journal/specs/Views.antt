@@ -20,12 +20,10 @@ pub record PackedView : Type 0 where
   pub bytes : ℕ
   pub ends : ℕ
 
--- rows, and for how many packed bytes, how many rows and how many long ones there is room
-pub record RoomView : Type 0 where
+-- rows, and how many more fit without memory
+pub record RowsView : Type 0 where
   pub rows : List RowView
-  pub bytes : ℕ
-  pub ends : ℕ
-  pub blocks : ℕ
+  pub room : ℕ
 
 -- at most how many steps may be made, the steps that were made, in order, and how many more bytes fit without memory
 pub record TraceView : Type 0 where

@@ -114,19 +114,23 @@ fn size_of_step(step: &Step) -> Option<usize>
     }
 }
 
-/// Takes the room for a step. The only error is want of memory, which changes nothing.
+/// Takes the room for a step, and for so many bytes more behind it. The only error is want of memory, which changes
+/// nothing.
 #[inline(always)]
-pub fn reserve_step(step: &Step, out: &mut Vec<u8>) -> Result<(), AllocError>
+pub fn reserve_step(step: &Step, more: usize, out: &mut Vec<u8>) -> Result<(), AllocError>
     ensures items { out.new.items ≡ out.old.items }
     ensures len { vec_len out.new ≡ vec_len out.old }
-    ensures room { OnOk result (vec_len out.new + length (step_code step.now) ≤ vec_capacity out.new) }
+    ensures room { OnOk result (vec_len out.new + length (step_code step.now) + more ≤ vec_capacity out.new) }
     ensures fits { OnOk result (StepFits step.now) }
     ensures capacity { vec_capacity out.old ≤ vec_capacity out.new }
-    ensures succeeds { vec_len out.old + length (step_code step.now) ≤ vec_capacity out.old → IsOk result }
+    ensures succeeds { vec_len out.old + length (step_code step.now) + more ≤ vec_capacity out.old → IsOk result }
     ensures err { OnErr result (vec_capacity out.new ≡ vec_capacity out.old) }
 {
     match size_of_step(step) {
-        Some(size) => grow(out, size),
+        Some(size) => match size.checked_add(more) {
+            Some(size) => grow(out, size),
+            None => Err(AllocError),
+        },
         None => Err(AllocError),
     }
 }

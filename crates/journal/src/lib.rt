@@ -25,7 +25,7 @@ pub use laws::{one_reading, read_back};
 pub use reader::read_trace;
 pub use request_ids::RequestIds;
 pub use row::Row;
-pub use rows::{Rows, RowsWithRoom, size_of_row};
+pub use rows::Rows;
 pub use step::Step;
 pub use trace::{GREATEST_STEPS, Steps, Trace};
 pub use writer::{send_trace, write_trace};

@@ -1,6 +1,7 @@
 //! The steps that were made, in order, to be made again by whoever has them.
 
-ghost use Rattle.std.specs.Prelude.{◌≡◌, ℕ, ◌≤◌, ◌<◌, ◌^◌, ◌++◌, List, [], ◌∷◌, length, OnOk, OnErr, IfOk, IsOk, MatchOption, IsTrue, ◌↔◌};
+ghost use Rattle.std.specs.Prelude.{◌≡◌, ℕ, ◌+◌, ◌≤◌, ◌<◌, ◌^◌, ◌++◌, List, [], ◌∷◌, length, OnOk, OnErr, IfOk, IsOk};
+ghost use Rattle.std.specs.Prelude.{MatchOption, IsTrue, ◌↔◌};
 ghost use Rattle.std.specs.List.{AllByRecursion};
 ghost use Rattle.journal.specs.Codes.{step_size, steps_size, StepFits};
 ghost use Rattle.journal.specs.declared.step.Step.{Step};
@@ -85,7 +86,7 @@ impl Trace {
         ensures succeeds { step_size step.now ≤ self.old.room → IsOk result }
         ensures unchanged { OnErr result (self.new ≡ self.old) }
     {
-        reserve_step(step, &mut self.bytes)
+        reserve_step(step, 0, &mut self.bytes)
     }
 
     /// Adds a step behind the others. It can't fail where there is room, and want of memory changes nothing.
@@ -96,21 +97,40 @@ impl Trace {
         ensures succeeds { step_size step.now ≤ self.old.room → IsOk result }
         ensures unchanged { OnErr result (self.new ≡ self.old) }
     {
-        reserve_step(step, &mut self.bytes)?;
+        self.push_keeping(step, 0)
+    }
+
+    /// Adds a step behind the others, and keeps room for so many bytes more. It can't fail where there is room for
+    /// both, and want of memory changes nothing.
+    #[inline(always)]
+    pub fn push_keeping(&mut self, step: &Step, kept: usize) -> Result<(), AllocError>
+        ensures max { self.new.max ≡ self.old.max }
+        ensures steps { OnOk result (self.new.steps ≡ self.old.steps ++ step.now ∷ []) }
+        ensures room { OnOk result (kept ≤ self.new.room) }
+        ensures room_left { OnOk result (self.old.room ≤ self.new.room + step_size step.now) }
+        ensures succeeds { step_size step.now + kept ≤ self.old.room → IsOk result }
+        ensures unchanged { OnErr result (self.new ≡ self.old) }
+    {
+        reserve_step(step, kept, &mut self.bytes)?;
         put_step(step, &mut self.bytes);
         self.count += 1;
         Ok(())
     }
 
-    /// Takes the room for a Run at which at most so many requests starved, so that its `push` can't fail. The only
-    /// error is want of memory, which changes nothing.
-    pub fn reserve_run(&mut self, starved: usize) -> Result<(), AllocError>
+    /// Takes the room for a Run at which at most so many requests starved, and for so many bytes more, so that a push
+    /// that keeps these can't fail. The only error is want of memory, which changes nothing.
+    pub fn reserve_run(&mut self, starved: usize, kept: usize) -> Result<(), AllocError>
         ensures max { self.new.max ≡ self.old.max }
         ensures steps { self.new.steps ≡ self.old.steps }
-        ensures room { OnOk result ((ids : List RequestId) → length ids ≤ starved → step_size (Step.Run ids) ≤ self.new.room) }
+        ensures room { OnOk result ((ids : List RequestId) → length ids ≤ starved
+            → step_size (Step.Run ids) + kept ≤ self.new.room) }
+        ensures room_kept { self.old.room ≤ self.new.room }
         ensures unchanged { OnErr result (self.new ≡ self.old) }
     {
         let Some(size) = size_of_run(starved) else {
+            return Err(AllocError);
+        };
+        let Some(size) = size.checked_add(kept) else {
             return Err(AllocError);
         };
         grow(&mut self.bytes, size)
@@ -128,6 +148,8 @@ impl Trace {
         requires { (front : List Step) × (last : Step) × (self.old.steps ≡ front ++ last ∷ []) × (place ≡ steps_size front) }
         ensures max { self.new.max ≡ self.old.max }
         ensures steps { (front : List Step) (last : Step) → self.old.steps ≡ front ++ last ∷ [] → self.new.steps ≡ front }
+        ensures room { (front : List Step) (last : Step) → self.old.steps ≡ front ++ last ∷ []
+            → self.old.room + step_size last ≤ self.new.room }
     {
         self.bytes.truncate(place);
         self.count -= 1;

@@ -3,8 +3,8 @@ use Rattle.std.specs.Option.{option_copied}
 use Rattle.journal.specs.LongRows.{long_at, whole}
 use Rattle.journal.specs.declared.long_rows.LongRow.{LongRow}
 use Rattle.journal.proofs.LongRows.{whole-none, whole-at}
-use Rattle.journal.proofs.rows.RowsWithRoom.row.Goals as goal
-use Rattle.journal.proofs.rows.RowsWithRoom.row.Goals.{In-Some}
+use Rattle.journal.proofs.rows.Rows.row.Goals as goal
+use Rattle.journal.proofs.rows.Rows.row.Goals.{In-Some}
 
 -- the row that is seen is the packed one with what lies beside it
 seen : (c : In-Some) (beside : Option LongRow) → long_at c.self.inside.long.items c.args.place ≡ beside

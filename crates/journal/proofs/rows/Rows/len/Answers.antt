@@ -1,6 +1,6 @@
 use Rattle.std.proofs.Common.{length, ap, sym, ◌∙◌}
 use Rattle.journal.proofs.LongRows.{length-all_whole}
-use Rattle.journal.proofs.rows.RowsWithRoom.len.Goals as goal
+use Rattle.journal.proofs.rows.Rows.len.Goals as goal
 
 pub returns : goal.returns
 returns c =

@@ -1,7 +1,7 @@
 use Rattle.std.proofs.Common.{◌++◌, ap, ◌∙◌, arith, refl}
 use Rattle.journal.specs.Codes.{step_code}
 use Rattle.journal.proofs.Kept.{steps-push, AreSteps-push, count-few}
-use Rattle.journal.proofs.trace.Trace.push.Goals as goal
+use Rattle.journal.proofs.trace.Trace.push_keeping.Goals as goal
 
 pub overflow_add-self : goal.overflow_add-self
 overflow_add-self c = let few = count-few _ _ _ _ c.self.invariant in
