@@ -1,6 +1,6 @@
 //! Workers that are threads of their own.
 
-ghost use Rattle.std.specs.Prelude.{◌≡◌, true, [], IfOk, IfSome, length, ◌≤◌, vec_capacity};
+ghost use Rattle.std.specs.Prelude.{◌≡◌, [], IfOk, IfSome, OnErr, length, ◌≤◌, ◌<◌, vec_capacity};
 ghost use Rattle.std.specs.List.{AllZip, AllByRecursion};
 ghost use Rattle.shard_crew.specs.Rooms.{HasRoom};
 ghost use Rattle.shard_workers.specs.Parts.{IsReadyPart, HasRunPart};
@@ -31,12 +31,14 @@ impl<'r, R> Crew<'r, R> {
 }
 
 impl<'r, R: Threads + Wait> Workers for Crew<'r, R> {
+    ghost use Rattle.std.specs.Prelude.{nat_lt};
     ghost use Rattle.shard_crew.specs.Rooms.{HasRoom};
     ghost use Rattle.std.specs.Int.NonZero.{non_zero_usize_get};
 
     ghost count = { λ c. non_zero_usize_get c.number };
 
-    ghost may_refuse = { true };
+    // a crew of one starts no thread
+    ghost may_refuse = { λ c. nat_lt 1 (non_zero_usize_get c.number) };
 
     ghost has_room = { HasRoom };
 
@@ -74,7 +76,8 @@ fn run_in_threads<R: Threads + Wait>(
 ) -> Result<Vec<Vec<Ran>>, Refused>
     requires room { HasRoom room (length parts.items) }
     requires ready { AllByRecursion (IsReadyPart table.now) parts.items }
-    ensures { IfOk result (λ r. AllZip (HasRunPart table.now) parts.items r.items) }
+    ensures each { IfOk result (λ r. AllZip (HasRunPart table.now) parts.items r.items) }
+    ensures refused { OnErr result (1 < length parts.items) }
 {
     let Room { results, children } = room;
     if parts.len() <= 1 {

@@ -5,12 +5,13 @@ use Rattle.std.proofs.Common.{false, cond, Option, Some, None, slice_get, slice_
 use Rattle.std.proofs.Common.{subst, eq-eqb, ne_eqb, ltb-true, lt-ltb}
 use Rattle.std.proofs.lemmas.Bool.{cases_eq}
 use Rattle.std.proofs.lemmas.List.{length-set, length-replicate, append-nil}
+use Rattle.std.proofs.lemmas.List.FromFn.{length-map-range_with_len}
 use Rattle.std.proofs.lemmas.List.Sums.{sum_by-append}
 use Rattle.std.proofs.lemmas.Option.{slice_get_within}
 use Rattle.std.specs.Option.{IsSome}
 use Rattle.std.specs.List.{AllZip, AllByRecursion, concat, count_by}
 use Rattle.layer_planner.specs.PartLaws.{each_place_once}
-use Rattle.layer_planner.specs.Parts.{dealt}
+use Rattle.layer_planner.specs.Parts.{dealt, part}
 use Rattle.placement.specs.Layout.{Layout}
 use Rattle.shard_maps.proofs.Parts.{AllZip-from_places}
 use Rattle.groups.specs.Order.{In}
@@ -26,6 +27,10 @@ use Rattle.shard_workers.specs.Runs.{IsReady, HasRun}
 
 same_some : {A : Type 0} (a b : A) → Some a ≡ Some b → a ≡ b
 same_some a b e = cc
+
+-- a plan of so many parts has so many
+pub dealt_length : (parts places : ℕ) → length (dealt parts places) ≡ parts
+dealt_length parts places = length-map-range_with_len (part parts places) 0 parts
 
 -- ---- each place once
 

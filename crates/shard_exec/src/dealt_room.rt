@@ -30,12 +30,14 @@ pub struct DealtRoom {
 impl DealtRoom {
     /// The room for this layer with these workers; none where there would be one part only, which the caller runs
     /// itself.
+    #[tactic(auto, using(crate::proofs::Dealt::dealt_length))]
     pub fn reserve<W: Workers>(
         alloc: Global,
         layer: &Layer,
         workers: &W,
     ) -> Result<Option<Self>, AllocError>
         ensures fits { IfOk result (λ o. IfSome o (FitsDealt (length layer.now))) }
+        ensures few { IfOk result (λ o. IfSome o (λ d. length d.plan.items ≤ W.count workers.now)) }
         ensures room { IfOk result (λ o. IfSome o (λ d. W.has_room d.room (length d.plan.items))) }
     {
         let number = workers.number();

@@ -1,6 +1,6 @@
 //! A layer run over the row of shards: by whatever workers there are, or alone where it has one request.
 
-ghost use Rattle.std.specs.Prelude.{◌≡◌, [], ◌∷◌, length, true, IfOk, IfSome, OnErr};
+ghost use Rattle.std.specs.Prelude.{◌≡◌, ◌≤◌, [], ◌∷◌, length, true, IfOk, IfSome, OnErr};
 ghost use Rattle.layer_planner.specs.Layers.{ShareNoGroup};
 ghost use Rattle.placement.specs.Groups.{groups_of};
 ghost use Rattle.placement.specs.Layout.{IsTable};
@@ -45,10 +45,11 @@ pub fn run_layer_over<W: Workers>(
     requires apart { ShareNoGroup jobs.items }
     requires room { FitsLayer jobs.items room }
     requires fits { IfSome dealt (FitsDealt (length jobs.items)) }
+    requires few { IfSome dealt (λ d. length d.plan.items ≤ W.count workers.now) }
     requires workers { IfSome dealt (λ d. W.has_room d.room (length d.plan.items)) }
     ensures done { IfOk result (λ done. IsDone table.now row.old.items skip.now jobs.items done.items row.new.items) }
     ensures lasts { IfOk result (λ _. lasts.new.items ≡ raised lasts.old.items jobs.items) }
-    ensures refused { OnErr result (W.may_refuse ≡ true) }
+    ensures refused { OnErr result (W.may_refuse workers.now ≡ true) }
     ensures shards { length row.new.items ≡ length row.old.items }
     ensures stamps { length lasts.new.items ≡ length lasts.old.items }
     ensures own { HasOwnKeys table.now row.new.items }

@@ -131,7 +131,7 @@ impl Store {
     ) -> Result<Vec<Ended>, ExecFault>
         requires { AddressTheirGroups self.old.table layer }
         ensures done { IfOk result (λ done. HasRunLayer self.old skip.now layer done.items self.new) }
-        ensures fault { IfErr result (λ fault. HasFailed W.may_refuse self.old layer fault self.new) }
+        ensures fault { IfErr result (λ fault. HasFailed (W.may_refuse workers.now) self.old layer fault self.new) }
     {
         let layer = match admit(self.failed, self.lasts.as_slice(), layer) {
             Ok(layer) => layer,

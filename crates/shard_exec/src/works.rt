@@ -23,13 +23,14 @@ pub fn run_works<W: Workers>(
     rans: Vec<Ran>,
 ) -> Result<Vec<Ran>, Refused>
     requires fits { IfSome dealt (FitsDealt (length works.items)) }
+    requires few { IfSome dealt (λ d. length d.plan.items ≤ W.count workers.now) }
     requires workers { IfSome dealt (λ d. W.has_room d.room (length d.plan.items)) }
     requires ready { AllByRecursion (IsReady table.now) works.items }
     requires places { InPlaces 0 works.items }
     requires none { rans.items ≡ [] }
     requires room { length works.items ≤ vec_capacity rans }
     ensures each { IfOk result (λ r. AllZip (HasRun table.now) works.items r.items) }
-    ensures refused { OnErr result (W.may_refuse ≡ true) }
+    ensures refused { OnErr result (W.may_refuse workers.now ≡ true) }
 {
     match dealt {
         Some(dealt) => run_dealt(alloc, table, gate, workers, dealt, works, rans),
@@ -48,13 +49,14 @@ fn run_dealt<W: Workers>(
     rans: Vec<Ran>,
 ) -> Result<Vec<Ran>, Refused>
     requires fits { FitsDealt (length works.items) dealt }
+    requires few { length dealt.plan.items ≤ W.count workers.now }
     requires workers { W.has_room dealt.room (length dealt.plan.items) }
     requires ready { AllByRecursion (IsReady table.now) works.items }
     requires places { InPlaces 0 works.items }
     requires none { rans.items ≡ [] }
     requires room { length works.items ≤ vec_capacity rans }
     ensures each { IfOk result (λ r. AllZip (HasRun table.now) works.items r.items) }
-    ensures refused { OnErr result (W.may_refuse ≡ true) }
+    ensures refused { OnErr result (W.may_refuse workers.now ≡ true) }
 {
     let DealtRoom {
         plan,

@@ -34,8 +34,8 @@ pub trait Workers {
     // How many there are.
     ghost count: { Self → ℕ };
 
-    // Whether a start may be refused.
-    ghost may_refuse: { Bool };
+    // Whether a start may be refused: only where a thread is started at all.
+    ghost may_refuse: { Self → Bool };
 
     // Whether the room is enough for so many parts.
     ghost has_room: { Room → ℕ → Type 0 };
@@ -48,8 +48,8 @@ pub trait Workers {
     fn reserve(&self, alloc: Global, parts: usize) -> Result<Room, AllocError>
         ensures { IfOk result (λ room. has_room room parts) };
 
-    /// Runs the parts, each with its requests in their order, and gives for each part what its requests gave, in the
-    /// order of the parts. The gate is told of each request that is run.
+    /// Runs the parts, no more than there are workers, each with its requests in their order, and gives for each part
+    /// what its requests gave, in the order of the parts. The gate is told of each request that is run.
     fn run_parts(
         &self,
         alloc: Global,
@@ -58,10 +58,11 @@ pub trait Workers {
         room: Room,
         parts: Vec<Part>,
     ) -> Result<Vec<Vec<Ran>>, Refused>
+        requires few { length parts.items ≤ count self.now }
         requires room { has_room room (length parts.items) }
         requires ready { AllByRecursion (IsReadyPart table.now) parts.items }
         ensures each { IfOk result (λ r. AllZip (HasRunPart table.now) parts.items r.items) }
-        ensures refused { OnErr result (may_refuse ≡ true) };
+        ensures refused { OnErr result (may_refuse self.now ≡ true) };
 }
 
 /// So many workers that take turns on the caller's thread: no thread is started.
@@ -74,7 +75,7 @@ impl Workers for InTurn {
 
     ghost count = { λ w. non_zero_usize_get w.0 };
 
-    ghost may_refuse = { false };
+    ghost may_refuse = { λ _. false };
 
     ghost has_room = { HasResults };
 
