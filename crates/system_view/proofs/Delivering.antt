@@ -120,7 +120,7 @@ module _ (t : Layout) (v : MulticastView) (w : World) (steps : List Step) (leads
       let to = packets_go_to_addressed t steps w leads p under_way in
       record {
         there = subst (λ n. p.to < n) (sym shows.count) (below to.0 to.1 to.2);
-        comes = subst (λ s. MayCome (record { me = p.to; state = s }) p) (sym (group_is t v w shows p.to))
+        comes = subst (λ s. MayCome p.to s p) (sym (group_is t v w shows p.to))
             (packets_may_come t steps w leads few p under_way);
         appends = λ sent ds state receives.
             let receives' = subst (λ s. Receives p.to s p.id p.body sent ds state) (group_is t v w shows p.to) receives in

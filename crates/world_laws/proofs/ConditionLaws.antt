@@ -48,7 +48,7 @@ body_may_come t w n to id (Proposal from m) good bounded few body =
     )
 
 pub packet_may_come : (t : Layout) (w : World) (n : ℕ) (p : Packet) → WorldGood t w → Bounded w n → n ≤ GREATEST_STEPS → In p w.packets →
-    MayCome (record { me = p.to; state = w.group p.to }) p
+    MayCome p.to (w.group p.to) p
 packet_may_come t w n p good bounded few there = record {
   to = refl;
   clock = let low = bounded.clocks p.to in omega arith;

@@ -14,6 +14,7 @@ pub mod HeadlineLaws
 pub mod Owing
 pub mod Owed
 pub mod QuietLaws
+pub mod ReadyLaws
 pub mod BoundLaws
 pub mod CollectingLaws
 pub mod Telling

@@ -1,5 +1,5 @@
 -- The laws of order, read off what every world is like.
-use Rattle.std.proofs.Common.{◌≡◌, ℕ, ◌+◌, ◌≤◌, ◌<◌, ◌==◌, Bool, true, false, List, [], ◌∷◌, ◌++◌, inl, inr, Option, Some, Result, Ok, Err}
+use Rattle.std.proofs.Common.{◌≡◌, ℕ, ◌+◌, ◌≤◌, ◌==◌, Bool, true, false, List, [], ◌∷◌, ◌++◌, inl, inr, Option, Some, Result, Ok, Err}
 use Rattle.std.proofs.Common.{refl, sym, ap, ◌∙◌, subst, arith, eqb-true, append-nil, append_assoc}
 use Rattle.std.proofs.lemmas.Bool.{cases_Bool}
 use Rattle.std.specs.Option.{is_some}
@@ -25,14 +25,14 @@ use Rattle.world.specs.World.{World, Request, Standing, Closed, Idle, Waiting, A
 use Rattle.world_laws.specs.Good.{Rising, Asked, Known, BodyGood, bit, starts_of, addresses, log_of, delivered_of, all_delivered, taken_in}
 use Rattle.world_laws.specs.Good.{all_taken, Touching, TakenGood, WorldGood}
 use Rattle.world_laws.specs.Order.{HasFinal, GroupsAgree, FinalIsGreatest, FinalIsProposed, FinalStampsDiffer, StampsOfConnectionRise}
-use Rattle.world_laws.specs.Order.{ClockIsAboveProposals, ClockIsAboveDeliveries, ClocksAreBounded, DeliveriesAscend, PacketsGoToAddressed}
-use Rattle.world_laws.specs.Order.{DeliveriesAreAddressed, Brings, OthersKeepStill, ids_of, EndsOnce, EndsAsSubmitted, TouchingByStamp}
-use Rattle.world_laws.specs.Order.{TouchingEndInStampOrder, EndedIsKept}
+use Rattle.world_laws.specs.Order.{ClockIsAboveProposals, ClockIsAboveDeliveries, ClocksAreBounded, DeliveriesAscend, AskedOfItsGroups}
+use Rattle.world_laws.specs.Order.{PacketsGoToAddressed, DeliveriesAreAddressed, Brings, OthersKeepStill, ids_of, EndsOnce, EndsAsSubmitted}
+use Rattle.world_laws.specs.Order.{TouchingByStamp, TouchingEndInStampOrder, EndedIsKept}
 use Rattle.world_laws.proofs.Bounds.{bounded_world}
 use Rattle.world_laws.proofs.Groups.{}
 use Rattle.world_laws.proofs.Layers.{log_taken, all_delivered-append, in_delivered, taken_once}
 use Rattle.world_laws.proofs.Lists.{rising_left}
-use Rattle.world_laws.proofs.Requests.{final_is_proposed}
+use Rattle.world_laws.proofs.Requests.{final_is_proposed, proposed_above_floor}
 use Rattle.world_laws.proofs.Worlds.{good_world}
 use Rattle.std.proofs.lemmas.Bool.{cond-false}
 use Rattle.groups.proofs.Options.{some_same}
@@ -114,9 +114,8 @@ stamps_of_connection_rise t steps w leads i j q r s u conns less a b =
     let good = good_world t steps w leads in
     let under = good.requests.floors i j q r conns less a.submitted b.submitted in
     let same : under.0 ≡ s = some_same under.0 s (sym under.1 ∙ a.stamp) in
-    let made = good.skeen.made j u.group u.clock (final_told t w good j r u b) in
-    let again : made.0 ≡ r = some_same made.0 r (sym made.1 ∙ b.submitted) in
-    let above : r.floor < u.clock = subst (λ (x : Request). x.floor < u.clock) again made.2 in
+    let above = proposed_above_floor w.asked w.proposed w.packets w.group (log_of w) j r u.group u.clock good.skeen b.submitted
+    (final_told t w good j r u b) in
     let low : s.clock ≤ r.floor = subst (λ (x : Stamp). x.clock ≤ r.floor) same under.2 in
     lt_from_clocks s u (omega arith)
 
@@ -135,6 +134,9 @@ pub deliveries_ascend : DeliveriesAscend
 deliveries_ascend t steps w leads g = ((good_world t steps w leads).skeen.groups g).going.ascending
 
 -- ---- only addressed groups
+
+pub asked_of_its_groups : AskedOfItsGroups
+asked_of_its_groups t steps w leads i q named = sym ((good_world t steps w leads).requests.shaped i q named).groups
 
 body_addressed : (asked : Asked) (proposed : Proposals) (to : ℕ) (id : RequestId) (body : Body) → BodyGood asked proposed to id body →
     (q : Request) × (asked id ≡ Some q) × (has q.groups to ≡ true)
@@ -180,16 +182,16 @@ collect_still old new c Waiting effect g step = subst (λ w. Still old w g) (sym
 collect_still old new c (Answered o) effect g step = subst (λ w. Still old w g) (sym step.1) (refl, refl)
 
 pub others_keep_still : OthersKeepStill
-others_keep_still t old new Open effect g s none = subst (λ w. Still old w g) (sym s.after) (refl, refl)
-others_keep_still t old new (Submit conn words) effect g s none = subst (λ w. Still old w g) (sym s.after)
+others_keep_still t old new Open effect s g none = subst (λ w. Still old w g) (sym s.after) (refl, refl)
+others_keep_still t old new (Submit conn words) effect s g none = subst (λ w. Still old w g) (sym s.after)
     (submitted_still t old conn.0 (reading words) g)
-others_keep_still t old new (Deliver k) effect g s none = deliver_still old new k effect g s none
-others_keep_still t old new Take effect g s none = subst (λ w. Still old w g) (sym s.after)
+others_keep_still t old new (Deliver k) effect s g none = deliver_still old new k effect g s none
+others_keep_still t old new Take effect s g none = subst (λ w. Still old w g) (sym s.after)
     (refl, sym (ap (λ (f : ℕ → List Delivered). f g) (log_taken old.gone old.queue s.layer)))
-others_keep_still t old new (Run starved) effect g s none = subst (λ w. Still old w g) (sym s.after) (refl, refl)
-others_keep_still t old new Settle effect g s none = subst (λ w. Still old w g) (sym s.after) (refl, refl)
-others_keep_still t old new (Collect conn) effect g s none = collect_still old new conn.0 (old.standing conn.0) effect g s
-others_keep_still t old new (Close conn) effect g s none = subst (λ w. Still old w g) (sym s.after) (refl, refl)
+others_keep_still t old new (Run starved) effect s g none = subst (λ w. Still old w g) (sym s.after) (refl, refl)
+others_keep_still t old new Settle effect s g none = subst (λ w. Still old w g) (sym s.after) (refl, refl)
+others_keep_still t old new (Collect conn) effect s g none = collect_still old new conn.0 (old.standing conn.0) effect g s
+others_keep_still t old new (Close conn) effect s g none = subst (λ w. Still old w g) (sym s.after) (refl, refl)
 
 -- ---- what was run
 

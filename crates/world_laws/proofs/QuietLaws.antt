@@ -12,10 +12,9 @@ use Rattle.placement.specs.Layout.{Layout}
 use Rattle.skeen_core.proofs.Lawful.{None≢Some}
 use Rattle.groups.proofs.Lists.{In-right, In-append}
 use Rattle.groups.proofs.Stamps.{final_above, final_within, lt_irrefl, lt_trans}
-use Rattle.skeen_core.specs.Due.{place_by}
 use Rattle.skeen_core.specs.Group.{heard, or_zero, own_at, Ascending}
 use Rattle.groups.specs.Order.{In}
-use Rattle.groups.specs.Stamp.{stamp_lt, later_of, final}
+use Rattle.groups.specs.Stamp.{stamp_lt, later_of, final, place_by}
 use Rattle.skeen_core.specs.declared.packet.Delivered.{Delivered}
 use Rattle.skeen_core.specs.declared.packet.Packet.{Packet}
 use Rattle.groups.specs.declared.request.RequestId.{RequestId}

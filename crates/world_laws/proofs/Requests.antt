@@ -101,6 +101,14 @@ pub record Rested (asked : Asked) (proposed : Proposals) (last : ℕ → Option 
   pub stamp : (l : RequestId) (r : Request) → last c ≡ Some l → asked l ≡ Some r → (s : Stamp) × (final (proposed l) r.groups ≡ Some s)
       × (s.clock ≡ floor)
 
+-- each proposal for a request is above its floor
+pub proposed_above_floor : (asked : Asked) (proposed : Proposals) (packets : List Packet) (group : ℕ → GroupState)
+    (log : ℕ → List Delivered) (i : RequestId) (q : Request) (g n : ℕ) →
+    SkeenGood asked proposed packets group log → asked i ≡ Some q → proposed i g ≡ Some n → q.floor < n
+proposed_above_floor asked proposed packets group log i q g n skeen named told =
+    let made = skeen.made i g n told in
+    subst (λ (x : Request). x.floor < n) (some_same made.0 q (sym made.1 ∙ named)) made.2
+
 -- the floor of a new request is at least the final clock of each earlier one of its connection
 floor_above : (t : Layout) (asked : Asked) (proposed : Proposals) (packets : List Packet) (group : ℕ → GroupState)
     (log : ℕ → List Delivered) (seq : ℕ → ℕ) (last : ℕ → Option RequestId) (c floor : ℕ) →
@@ -125,9 +133,8 @@ floor_above t asked proposed packets group log seq last c floor skeen good reste
           let less : i.seq < l.0.seq = (let low = l.2 in omega arith) in
           let under = good.floors i l.0 q r.1.0 (conn ∙ sym r.0) less named r.1.1 in
           let some = (good.shaped l.0 r.1.0 r.1.1).some in
-          let made = skeen.made l.0 s.0.group s.0.clock (final_is_proposed (proposed l.0) r.1.0.groups some.0 s.0 some.1 s.1) in
-          let again : made.0 ≡ r.1.0 = some_same made.0 r.1.0 (sym made.1 ∙ r.1.1) in
-          let above : r.1.0.floor < s.0.clock = subst (λ (x : Request). x.floor < s.0.clock) again made.2 in
+          let told = final_is_proposed (proposed l.0) r.1.0.groups some.0 s.0 some.1 s.1 in
+          let above = proposed_above_floor asked proposed packets group log l.0 r.1.0 s.0.group s.0.clock skeen r.1.1 told in
           let clock = s.2 in let low = under.2 in
           (under.0, under.1, omega arith)
     ]

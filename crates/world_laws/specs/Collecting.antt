@@ -49,16 +49,19 @@ AskedAsSubmitted = (t : Layout) (steps : List Step) (effects : List Effect) (w :
 
 -- ---- what is collected
 
--- A connection collects the outcome of its own last request. Where that was run it is what came of it: its reply, or
--- that there was no memory, with its final stamp. Else its words were asked of no group, and it is their reply, with
--- no stamp.
+-- The outcome is that of the connection's last request. Where that was run it is what came of it: its reply, or that
+-- there was no memory, with its final stamp. Else its words were asked of no group, and it is their reply, with no stamp.
+abbrev pub IsItsOwn : Layout → List Step → List Effect → World → ConnId → Outcome → Type 0
+IsItsOwn t steps effects w conn o =
+    (o.id ≡ record { conn = conn; seq = w.seq conn.0 })
+    × (((e : Ended) × In e w.ended × (o ≡ outcome_of e))
+    ⊎ ((o.stamp ≡ None) × WasSubmitted (λ words. reply_at_once t (reading words) ≡ Some o.reply) o.id steps effects))
+
+-- that is what a connection collects
 abbrev pub CollectsItsOwn : Type 0
 CollectsItsOwn = (t : Layout) (steps : List Step) (effects : List Effect) (old new : World) →
     Makes t opening steps effects old →
-    (conn : ConnId) (o : Outcome) → Steps t old (Collect conn) (Collected (Some o)) new →
-    (o.id ≡ record { conn = conn; seq = old.seq conn.0 })
-    × (((e : Ended) × In e old.ended × (o ≡ outcome_of e))
-    ⊎ ((o.stamp ≡ None) × WasSubmitted (λ words. reply_at_once t (reading words) ≡ Some o.reply) o.id steps effects))
+    (conn : ConnId) (o : Outcome) → Steps t old (Collect conn) (Collected (Some o)) new → IsItsOwn t steps effects old conn o
 
 abbrev pub with_collected : Effect → List RequestId → List RequestId
 with_collected (Collected (Some o)) ids = o.id ∷ ids

@@ -23,7 +23,7 @@ use Rattle.journal.specs.declared.trace.TheConstants.{GREATEST_STEPS}
 abbrev pub PacketsMayCome : Type 0
 PacketsMayCome = (t : Layout) (steps : List Step) (w : World) → Leads t opening steps w → length steps ≤ GREATEST_STEPS →
     (p : Packet) → In p w.packets →
-    MayCome (record { me = p.to; state = w.group p.to }) p
+    MayCome p.to (w.group p.to) p
 
 -- ---- a queue
 

@@ -1,9 +1,11 @@
 -- The laws of order, for every history of steps.
 use Rattle.std.specs.FinMap.{get}
-use Rattle.std.specs.Prelude.{◌≡◌, ℕ, ◌<◌, ◌≤◌, true, false, List, ◌++◌, length, slice_get, map, ◌⊎◌, Some}
+use Rattle.std.specs.Prelude.{◌≡◌, ℕ, ◌<◌, ◌≤◌, true, false, List, ◌∷◌, ◌++◌, length, slice_get, map, ◌⊎◌, ◌↔◌, Some}
+use Rattle.delivery.specs.Ready.{IsReady}
 use Rattle.groups.specs.GroupSet.{has}
 use Rattle.journal.specs.declared.step.Step.{Step}
 use Rattle.journal.specs.declared.step.Step.TheVariants.{Deliver}
+use Rattle.placement.specs.Groups.{groups_of}
 use Rattle.placement.specs.Layout.{Layout}
 use Rattle.skeen_core.specs.Group.{heard, Ascending, EachOnce}
 use Rattle.groups.specs.Order.{In}
@@ -44,9 +46,12 @@ abbrev pub KnowsFinal : World → ℕ → RequestId → Stamp → Type 0
 KnowsFinal w g i s = Settled w g i s ⊎ DeliveredAs w g i s
 
 -- all groups of a request that know its final stamp know the same one
+abbrev pub FinalsAgree : Layout → World → Type 0
+FinalsAgree t w = (g : ℕ) (i : RequestId) (s : Stamp) → KnowsFinal w g i s →
+    (q : Request) × (has q.groups g ≡ true) × HasFinal w i q s
+
 abbrev pub GroupsAgree : Type 0
-GroupsAgree = OfEveryWorld (λ t w. (g : ℕ) (i : RequestId) (s : Stamp) → KnowsFinal w g i s →
-    (q : Request) × (has q.groups g ≡ true) × HasFinal w i q s)
+GroupsAgree = OfEveryWorld FinalsAgree
 
 -- each group of a request with a final stamp has proposed, and not above it
 abbrev pub FinalIsGreatest : Type 0
@@ -60,15 +65,19 @@ FinalIsProposed = OfEveryWorld (λ t w. (i : RequestId) (q : Request) (s : Stamp
     (has q.groups s.group ≡ true) × (w.proposed i s.group ≡ Some s.clock))
 
 -- no two requests have the same final stamp
+abbrev pub FinalsDiffer : Layout → World → Type 0
+FinalsDiffer t w = (i j : RequestId) (q r : Request) (s : Stamp) → HasFinal w i q s → HasFinal w j r s → i ≡ j
+
 abbrev pub FinalStampsDiffer : Type 0
-FinalStampsDiffer = OfEveryWorld (λ t w. (i j : RequestId) (q r : Request) (s : Stamp) → HasFinal w i q s →
-    HasFinal w j r s → i ≡ j)
+FinalStampsDiffer = OfEveryWorld FinalsDiffer
 
 -- of two requests of one connection the later one has the larger stamp
+abbrev pub ConnectionsRise : Layout → World → Type 0
+ConnectionsRise t w = (i j : RequestId) (q r : Request) (s u : Stamp) → i.conn.0 ≡ j.conn.0 → i.seq < j.seq →
+    HasFinal w i q s → HasFinal w j r u → stamp_lt s u ≡ true
+
 abbrev pub StampsOfConnectionRise : Type 0
-StampsOfConnectionRise = OfEveryWorld (λ t w. (i j : RequestId) (q r : Request) (s u : Stamp) → i.conn.0 ≡ j.conn.0 →
-    i.seq < j.seq →
-    HasFinal w i q s → HasFinal w j r u → stamp_lt s u ≡ true)
+StampsOfConnectionRise = OfEveryWorld ConnectionsRise
 
 -- ---- groups
 
@@ -92,25 +101,63 @@ DeliveriesAscend = OfEveryWorld (λ t w. (g : ℕ) → Ascending (log_of w g))
 
 -- ---- only the groups of a request do something for it
 
+-- a request's groups are those of its command
+abbrev pub GroupsAreOfCommands : Layout → World → Type 0
+GroupsAreOfCommands t w = (i : RequestId) (q : Request) → w.asked i ≡ Some q → q.groups ≡ groups_of t q.command
+
+abbrev pub AskedOfItsGroups : Type 0
+AskedOfItsGroups = OfEveryWorld GroupsAreOfCommands
+
 -- a packet goes to a group of its request
+abbrev pub PacketsAreAddressed : Layout → World → Type 0
+PacketsAreAddressed t w = (p : Packet) → In p w.packets →
+    (q : Request) × (w.asked p.id ≡ Some q) × (has q.groups p.to ≡ true)
+
 abbrev pub PacketsGoToAddressed : Type 0
-PacketsGoToAddressed = OfEveryWorld (λ t w. (p : Packet) → In p w.packets → (q : Request) × (w.asked p.id ≡ Some q)
-    × (has q.groups p.to ≡ true))
+PacketsGoToAddressed = OfEveryWorld PacketsAreAddressed
 
 -- a group has delivered requests of its own alone
+abbrev pub LogsAreAddressed : Layout → World → Type 0
+LogsAreAddressed t w = (g : ℕ) (d : Delivered) → In d (log_of w g) → has d.groups g ≡ true
+
 abbrev pub DeliveriesAreAddressed : Type 0
-DeliveriesAreAddressed = OfEveryWorld (λ t w. (g : ℕ) (d : Delivered) → In d (log_of w g) → has d.groups g ≡ true)
+DeliveriesAreAddressed = OfEveryWorld LogsAreAddressed
 
 -- the step brings a packet to the group
 abbrev pub Brings : World → Step → ℕ → Type 0
 Brings w (Deliver k) g = (p : Packet) × (slice_get w.packets k ≡ Some p) × (p.to ≡ g)
 Brings w step g = ⊥
 
+-- each group that it brings no packet to is the same afterwards, and has delivered the same
+abbrev pub OthersAreKept : World → World → Step → Type 0
+OthersAreKept old new step = (g : ℕ) → ¬ Brings old step g →
+    (new.group g ≡ old.group g) × (log_of new g ≡ log_of old g)
+
 -- a step changes no group but the one that it brings a packet to
 abbrev pub OthersKeepStill : Type 0
-OthersKeepStill = (t : Layout) (old new : World) (step : Step) (effect : Effect) (g : ℕ) →
-    Steps t old step effect new → ¬ Brings old step g →
-    (new.group g ≡ old.group g) × (log_of new g ≡ log_of old g)
+OthersKeepStill = (t : Layout) (old new : World) (step : Step) (effect : Effect) → Steps t old step effect new →
+    OthersAreKept old new step
+
+-- ---- what is ready
+
+-- a layer has taken it
+abbrev pub IsTaken : World → Delivered → Type 0
+IsTaken w d = (g : ℕ) × In d (w.gone g)
+
+-- it isn't taken, it has a group, each of its groups has delivered it, and all that was delivered there before it is
+-- taken
+pub record IsFirstAtEach (w : World) (d : Delivered) : Type 0 where
+  pub somewhere : (g : ℕ) × (has d.groups g ≡ true)
+  pub not_taken : ¬ IsTaken w d
+  pub delivered : (g : ℕ) → has d.groups g ≡ true →
+      (before after : List Delivered) × (log_of w g ≡ before ++ d ∷ after) × ((e : Delivered) → In e before → IsTaken w e)
+
+-- that is what ready means
+abbrev pub ReadyInWords : Layout → World → Type 0
+ReadyInWords t w = (d : Delivered) → IsReady w.queue d ↔ IsFirstAtEach w d
+
+abbrev pub ReadyIsFirst : Type 0
+ReadyIsFirst = OfEveryWorld ReadyInWords
 
 -- ---- what was run
 
@@ -118,20 +165,29 @@ abbrev pub ids_of : List Ended → List RequestId
 ids_of es = map (λ e. e.id) es
 
 -- each request ends at most once: it is executed, or it starves
+abbrev pub EndedOnce : Layout → World → Type 0
+EndedOnce t w = EachOnce (ids_of w.ended)
+
 abbrev pub EndsOnce : Type 0
-EndsOnce = OfEveryWorld (λ t w. EachOnce (ids_of w.ended))
+EndsOnce = OfEveryWorld EndedOnce
 
 -- what ends was submitted so, and ends with its final stamp
+abbrev pub EndedAsSubmitted : Layout → World → Type 0
+EndedAsSubmitted t w = (e : Ended) → In e w.ended →
+    (q : Request) × HasFinal w e.id q e.stamp × (e.command ≡ q.command) × (e.groups ≡ q.groups)
+
 abbrev pub EndsAsSubmitted : Type 0
-EndsAsSubmitted = OfEveryWorld (λ t w. (e : Ended) → In e w.ended →
-    (q : Request) × HasFinal w e.id q e.stamp × (e.command ≡ q.command) × (e.groups ≡ q.groups))
+EndsAsSubmitted = OfEveryWorld EndedAsSubmitted
 
 -- where two requests share a group, the one that ends before has the smaller stamp
 abbrev pub TouchingByStamp : Ended → Ended → Type 0
 TouchingByStamp d e = (g : ℕ) → has d.groups g ≡ true → has e.groups g ≡ true → stamp_lt d.stamp e.stamp ≡ true
 
+abbrev pub TouchingInStampOrder : Layout → World → Type 0
+TouchingInStampOrder t w = Rising TouchingByStamp w.ended
+
 abbrev pub TouchingEndInStampOrder : Type 0
-TouchingEndInStampOrder = OfEveryWorld (λ t w. Rising TouchingByStamp w.ended)
+TouchingEndInStampOrder = OfEveryWorld TouchingInStampOrder
 
 -- a step adds to what has ended and changes nothing of it
 abbrev pub EndedIsKept : Type 0
