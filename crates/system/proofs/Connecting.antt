@@ -1,6 +1,7 @@
 -- Open, Collect and Close of the parts are steps of the world.
 use Rattle.std.proofs.Common.{◌≡◌, ℕ, suc, ◌+◌, ◌==◌, cond, List, [], ◌∷◌, ◌++◌, Option, Some, option_map, refl, sym, ap, ◌∙◌, subst}
-use Rattle.std.proofs.Common.{arith}
+use Rattle.std.proofs.Common.{arith, append-nil}
+use Rattle.journal.specs.Views.{RowView}
 use Rattle.journal.specs.declared.step.Step.{Step}
 use Rattle.journal.specs.declared.step.Step.TheVariants.{Open, Collect, Close}
 use Rattle.multicast.specs.Multicast.{MulticastView}
@@ -9,18 +10,23 @@ use Rattle.router.specs.Router.{RouterView, connection, Collects, Closes}
 use Rattle.router.specs.declared.outcome.Outcome as kept
 use Rattle.groups.specs.declared.request.ConnId.{ConnId}
 use Rattle.system.proofs.Histories.{leads_more}
-use Rattle.system.proofs.Rest.{KeepsAsked, stage_same, rows_same, store_same, multicast_same}
+use Rattle.system.proofs.Rest.{KeepsAsked, stage_same, store_same, multicast_same}
 use Rattle.system.specs.Parts.{Shows, IsAt, Makes, stored, effect_shown}
 use Rattle.system.specs.declared.effect.Effect.{Effect}
 use Rattle.system.specs.declared.effect.Effect.TheVariants.{Opened, Collected, Made}
 use Rattle.system.specs.declared.parts.Parts.{Parts}
 use Rattle.system_view.proofs.Connections.{opened_world, standing_world, shows_open, shows_collect, shows_close}
 use Rattle.system_view.specs.Connections.{outcome_shown, ShowsConnections}
+use Rattle.system_view.specs.Layers.{AreRows}
 use Rattle.system_view.specs.Multicast.{ShowsMulticast}
 use Rattle.world.specs.Steps.{opening, Leads, Steps}
 use Rattle.world.specs.Steps as world
 use Rattle.world.specs.World.{World, Outcome, Standing, Closed, Idle, Waiting, Answered}
 use Rattle.world_laws.proofs.Worlds.{good_world}
+
+-- no row more
+pub no_more : (rows : List RowView) → (more : List RowView) × (rows ≡ rows ++ more)
+no_more rows = ([], sym (append-nil rows))
 
 -- a step that leaves the shards, the layer, the rows and the starved ids alone
 pub by_messages : (old : Parts) (r : RouterView) (m : MulticastView) (w w' : World) → KeepsAsked w.asked w'.asked → w'.layer ≡ w.layer →
@@ -31,7 +37,7 @@ by_messages old r m w w' asked layer ended contents shows connections packets = 
   multicast = packets;
   store = store_same old.store.table old.store w w' ended contents shows.store;
   stage = stage_same old.stage w w' asked layer shows.stage;
-  rows = rows_same old.rows w w' ended layer shows.rows;
+  rows = subst (λ es. AreRows es old.rows.rows) (sym ended) shows.rows;
   starved = shows.starved ∙ ap world.starved_among (sym ended);
 }
 
@@ -62,7 +68,8 @@ pub open_makes : (old : Parts) (r : RouterView) (c : ConnId) → c.0 ≡ old.rou
     Makes old Open (Opened c) (record old { router = r })
 open_makes old r c number count changes = record {
   table = refl;
-  named = λ h w at'. tt;
+  starves = λ h w at'. tt;
+  rows = no_more old.rows.rows;
   from_each = λ h w at'.
       let good = good_world old.store.table h w at'.leads in
       let next : c.0 ≡ suc w.opened = let e = at'.shows.connections.opened in omega arith in
@@ -95,7 +102,8 @@ pub collect_makes : (old : Parts) (r : RouterView) (conn : ConnId) (given : Opti
     Makes old (Collect conn) (Collected given) (record old { router = r })
 collect_makes old r conn given collects = record {
   table = refl;
-  named = λ h w at'. tt;
+  starves = λ h w at'. tt;
+  rows = no_more old.rows.rows;
   from_each = λ h w at'.
       let as_world = shows_collect old.router r w conn.0 given collects at'.shows.connections in
       makes_to old (record old { router = r }) (Collect conn) (Collected given) h w as_world.0 refl at' as_world.1
@@ -108,7 +116,8 @@ pub close_makes : (old : Parts) (r : RouterView) (conn : ConnId) → Closes old.
     Makes old (Close conn) Made (record old { router = r })
 close_makes old r conn closes = record {
   table = refl;
-  named = λ h w at'. tt;
+  starves = λ h w at'. tt;
+  rows = no_more old.rows.rows;
   from_each = λ h w at'.
       let as_world = shows_close old.router r w conn.0 closes at'.shows.connections in
       makes_to old (record old { router = r }) (Close conn) Made h w (standing_world w conn.0 Closed) refl at'

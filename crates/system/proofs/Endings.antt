@@ -1,6 +1,6 @@
 -- That nothing is left behind, that something can be done until then, and that there is an end to it.
-use Rattle.std.proofs.Common.{◌≡◌, Bool, false, List, [], ◌∷◌, ◌++◌, length, ◌⊎◌, inl, inr, Option, Some, None, refl, sym, ap, ◌∙◌, subst}
-use Rattle.std.proofs.Common.{arith, append-nil}
+use Rattle.std.proofs.Common.{◌≡◌, Bool, false, List, [], ◌∷◌, length, ◌⊎◌, inl, inr, Option, Some, None, refl, sym, ap, ◌∙◌, subst}
+use Rattle.std.proofs.Common.{arith}
 use Rattle.std.specs.List.{AllZip}
 use Rattle.delivery.specs.Queues.{queue_of}
 use Rattle.delivery.specs.Ready.{QueueOf, IsReady}
@@ -17,22 +17,22 @@ use Rattle.system.proofs.Refusals.{take_memory}
 use Rattle.system.proofs.Submitted.{was_asked}
 use Rattle.system.specs.Endings.{IsExecuted, HasStarved, EachHasEnded, MayBeMade, SomeMayBeMade, TurnsAreFew}
 use Rattle.system.specs.Faults.{own_fault}
-use Rattle.system.specs.Parts.{IsAt, ShowsStage, ShowsRows, progress_of}
+use Rattle.system.specs.Parts.{IsAt, ShowsStage, progress_of}
+use Rattle.system.specs.Reads.{table_of}
 use Rattle.system.specs.Refusing.{Refuses, RefusesNot}
 use Rattle.system.specs.System.{SystemView, IsSystem, IsRefused, IsQuiet}
 use Rattle.system.specs.declared.fault.StepFault.{StepFault}
 use Rattle.system.specs.declared.fault.StepFault.TheVariants.{Busy, NoConn, NoPacket, InFlight, NoLayer, Exhausted, Memory, Failed}
-use Rattle.system.specs.declared.parts.Parts.{Parts}
 use Rattle.system.specs.declared.stage.Stage.{Stage}
 use Rattle.system.specs.declared.stage.Stage.TheVariants as stage
 use Rattle.system_view.specs.Layers.{IsRow}
 use Rattle.world.specs.Steps.{opening, OwnFault, NothingToRun, NothingToSettle, Refused, if_starved, starved_among}
 use Rattle.world.specs.Steps as world
-use Rattle.world.specs.World.{World, Ended, NoneTaken, Taken, HasRun}
+use Rattle.world.specs.World.{World, Ended, Taken, HasRun}
 use Rattle.world_laws.proofs.BoundLaws.{turns_are_bounded}
 use Rattle.world_laws.proofs.QuietLaws.{quiet_means_ended}
 use Rattle.world_laws.proofs.Worlds.{good_opening}
-use Rattle.world_laws.specs.Good.{Named, run_in}
+use Rattle.world_laws.specs.Good.{Named}
 use Rattle.world_laws.specs.Headline.{with_row, rows_of}
 use Rattle.world_laws.specs.Quiet as quiet
 
@@ -75,36 +75,30 @@ kept (y ∷ xs) [] x all there = absurd all
 kept (y ∷ xs) (row ∷ rows) x all (inl here) = (row, inl refl, subst (λ z. IsRow z row) (sym here) all.0)
 kept (y ∷ xs) (row ∷ rows) x all (inr later) = let rest = kept xs rows x all.1 later in (rest.0, inr rest.1, rest.2)
 
--- where no layer is there all that has ended has its row
-all_settled : (rows : List RowView) (w : World) → ShowsRows rows w → w.layer ≡ NoneTaken → AllZip IsRow (rows_of w.ended) rows
-all_settled rows w shows free =
-    subst (λ es. AllZip IsRow (rows_of es) rows)
-    (sym (shows.split ∙ (ap (λ l. shows.settled ++ run_in l) free ∙ append-nil shows.settled))) shows.each
-
-quiet_there : (p : Parts) → IsQuiet p → (h : List Step) (w : World) → IsAt p h w → quiet.IsQuiet w
-quiet_there p is h w at' =
-    let queues : queue_of p.multicast.queues ≡ w.queue = λ k g. at'.shows.multicast.queues g k in
+quiet_there : (s : SystemView) → IsQuiet s → (h : List Step) (w : World) → IsAt s.parts h w → quiet.IsQuiet w
+quiet_there s is h w at' =
+    let queues : queue_of s.parts.multicast.queues ≡ w.queue = λ k g. at'.shows.multicast.queues g k in
     record {
       packets = sym at'.shows.multicast.packets ∙ is.packets;
-      layer = subst (λ s. ShowsStage s w) is.layer at'.shows.stage;
+      layer = subst (λ x. ShowsStage x w) is.layer at'.shows.stage;
       none_ready = subst (λ (q : QueueOf). (d : Delivered) → ¬ IsReady q d) queues is.none_ready;
     }
 
-pub each_has_ended : (p : Parts) → IsQuiet p → EachHasEnded p
-each_has_ended p is h w at' effects made i submitted = (ended, shown)
+pub each_has_ended : (s : SystemView) → IsQuiet s → EachHasEnded s
+each_has_ended s is h w at' effects made i submitted = (ended, shown)
   where
     there : quiet.IsQuiet w
-    there = quiet_there p is h w at'
+    there = quiet_there s is h w at'
 
     ended : Named w.ended i
     ended =
-        let asked = was_asked p.store.table opening w h effects i made (good_opening p.store.table) submitted in
-        quiet_means_ended p.store.table h w at'.leads there i asked.0 asked.1
+        let asked = was_asked (table_of s) opening w h effects i made (good_opening (table_of s)) submitted in
+        quiet_means_ended (table_of s) h w at'.leads there i asked.0 asked.1
 
-    shown : IsExecuted p i ⊎ HasStarved p i
+    shown : IsExecuted s i ⊎ HasStarved s i
     shown = elim (told w.ended ended.0 ended.1) [
       | inl executed ↦
-          let row = kept (rows_of w.ended) p.rows executed.0 (all_settled p.rows w at'.shows.rows there.layer) executed.1 in
+          let row = kept (rows_of w.ended) s.parts.rows.rows executed.0 at'.shows.rows executed.1 in
           inl (row.0, row.1, row.2.id ∙ (executed.2 ∙ ended.2))
       | inr starved ↦
           inr (subst (λ ids. In i ids) (sym at'.shows.starved) (subst (λ j. In j (starved_among w.ended)) ended.2 starved))
@@ -158,14 +152,14 @@ settle_not w es ran world.NoPacket refused = refused
 settle_not w es ran world.InFlight refused = refused
 settle_not w es ran world.NoLayer refused = subst NothingToSettle ran refused
 
-by_packets : (s : SystemView) (packets : List Packet) → IsSystem s → ¬ IsQuiet s.parts → s.parts.stage ≡ stage.Free →
+by_packets : (s : SystemView) (packets : List Packet) → IsSystem s → ¬ IsQuiet s → s.parts.stage ≡ stage.Free →
     s.parts.multicast.packets ≡ packets → MayBeMade s steps.Take ⊎ MayBeMade s (steps.Deliver 0)
 by_packets s [] is busy free none =
     inl (may_be_made s steps.Take is (take_memory s.parts free (λ idle. busy (record { packets = none; layer = free; none_ready = idle }))))
 by_packets s (packet ∷ rest) is busy free some =
     inr (may_be_made s (steps.Deliver 0) is (λ h w at'. deliver_not w packet rest (sym at'.shows.multicast.packets ∙ some)))
 
-by_stage : (s : SystemView) (now : Stage) → IsSystem s → ¬ IsQuiet s.parts → s.parts.stage ≡ now → SomeMayBeMade (progress_of now) s
+by_stage : (s : SystemView) (now : Stage) → IsSystem s → ¬ IsQuiet s → s.parts.stage ≡ now → SomeMayBeMade (progress_of now) s
 by_stage s stage.Free is busy same = by_packets s s.parts.multicast.packets is busy same refl
 by_stage s (stage.Taken taken) is busy same = λ starved.
     may_be_made s (steps.Run starved) is (λ h w at'.
@@ -174,10 +168,10 @@ by_stage s (stage.HasRun ran) is busy same =
     may_be_made s steps.Settle is (λ h w at'.
     let there = subst (λ x. ShowsStage x w) same at'.shows.stage in settle_not w there.0 there.1)
 
-pub some_may_be_made : (s : SystemView) → IsSystem s → ¬ IsQuiet s.parts → SomeMayBeMade (progress_of s.parts.stage) s
+pub some_may_be_made : (s : SystemView) → IsSystem s → ¬ IsQuiet s → SomeMayBeMade (progress_of s.parts.stage) s
 some_may_be_made s is busy = by_stage s s.parts.stage is busy refl
 
 -- ---- how many steps there can be
 
-pub turns_are_few : (p : Parts) → TurnsAreFew p
-turns_are_few p h w at' = turns_are_bounded p.store.table h w at'.leads
+pub turns_are_few : (s : SystemView) → TurnsAreFew s
+turns_are_few s h w at' = turns_are_bounded (table_of s) h w at'.leads

@@ -7,15 +7,15 @@ use Rattle.journal.specs.declared.step.Step.{Step}
 use Rattle.multicast.specs.Multicast.{MulticastView, IsSame, group_of}
 use Rattle.delivery.specs.Queues.{queue_of}
 use Rattle.placement.specs.Layout.{Layout, IsTable}
-use Rattle.system.specs.Parts.{IsAt, ShowsStage, ShowsRows, Makes, Keeps, stored}
-use Rattle.system.specs.Refusing.{Lives, IsFault, HasFailed}
-use Rattle.system.specs.System.{SystemView, ShowsHistory, IsSystem, IsStep, Refuses, IsRefused, ObeysOneThread}
+use Rattle.system.specs.Parts.{IsAt, ShowsStage, Makes, Keeps, stored}
+use Rattle.system.specs.Refusing.{Lives, IsFault, MayFail, HasFailed}
+use Rattle.system.specs.System.{SystemView, ShowsHistory, IsSystem, IsStep, MayGoOn, Refuses, IsRefused, ObeysOneThread}
 use Rattle.system.specs.declared.effect.Effect.{Effect}
 use Rattle.system.specs.declared.fault.StepFault.{StepFault}
 use Rattle.system.specs.declared.fault.StepFault.TheVariants.{Busy, NoConn, NoPacket, InFlight, NoLayer, Exhausted, Memory, Failed}
 use Rattle.system.specs.declared.parts.Parts.{Parts}
 use Rattle.system_view.specs.Connections.{ShowsConnections}
-use Rattle.system_view.specs.Layers.{ShowsStore}
+use Rattle.system_view.specs.Layers.{AreRows, ShowsStore}
 use Rattle.system_view.specs.Multicast.{ShowsMulticast}
 use Rattle.world.specs.Steps.{opening, Leads}
 use Rattle.world.specs.World.{World}
@@ -94,7 +94,7 @@ still_at old new keeps h w at' = record {
         (multicast_kept old.store.table old.multicast new.multicast w keeps.multicast at'.shows.multicast);
     store = subst (λ s. ShowsStore s.table s w) (sym keeps.store) at'.shows.store;
     stage = subst (λ s. ShowsStage s w) (sym keeps.stage) at'.shows.stage;
-    rows = subst (λ rs. ShowsRows rs w) (sym keeps.rows) at'.shows.rows;
+    rows = subst (λ rs. AreRows w.ended rs) (sym keeps.rows) at'.shows.rows;
     starved = keeps.starved ∙ at'.shows.starved;
   };
 }
@@ -164,7 +164,7 @@ refused_by old new step fault alive left steps most told =
 pub refused_so : (may_refuse : Bool) (old new : SystemView) (step : Step) (fault : StepFault) → old.parts.store.failed ≡ false →
     old.steps < old.max_steps → new.steps ≡ old.steps → new.max_steps ≡ old.max_steps →
     (fault ≢ Failed → IsFault old.parts step fault × Keeps old.parts new.parts) →
-    (fault ≡ Failed → (may_refuse ≡ true) × HasFailed old.parts new.parts) → IsRefused may_refuse old step fault new
+    (fault ≡ Failed → MayFail may_refuse old.parts step × HasFailed old.parts new.parts) → IsRefused may_refuse old step fault new
 refused_so may old new step Busy alive left steps most keeps fails =
     refused_by old new step Busy alive left steps most (keeps (λ e. let k = e in cc))
 refused_so may old new step NoConn alive left steps most keeps fails =
@@ -178,4 +178,24 @@ refused_so may old new step NoLayer alive left steps most keeps fails =
 refused_so may old new step Memory alive left steps most keeps fails =
     refused_by old new step Memory alive left steps most (keeps (λ e. let k = e in cc))
 refused_so may old new step Exhausted alive left steps most keeps fails = absurd (keeps (λ e. let k = e in cc)).0
-refused_so may old new step Failed alive left steps most keeps fails = let told = fails refl in inr (alive, told.0, told.1)
+refused_so may old new step Failed alive left steps most keeps fails =
+    let told = fails refl in inr (record { lived = alive; left = left; may_fail = told.0; failed = told.1 })
+
+-- ---- a step that is looked at
+
+same_parts : (p : Parts) → Keeps p p
+same_parts p = record {
+  router = refl;
+  multicast = record { groups = refl; packets = refl; queues = refl };
+  store = refl;
+  stage = refl;
+  rows = refl;
+  starved = refl;
+}
+
+-- a fault of a step's own refuses it, with nothing changed
+pub refused_still : (s : SystemView) (step : Step) (fault : StepFault) → MayGoOn s → IsFault s.parts step fault →
+    IsRefused false s step fault s
+refused_still s step fault may why =
+    refused_so false s s step fault may.lives may.left refl refl (λ other. (why, same_parts s.parts))
+    (λ failed. absurd (subst (IsFault s.parts step) failed why))

@@ -20,7 +20,7 @@ use Rattle.skeen_core.specs.declared.packet.Body.TheVariants.{Start}
 use Rattle.skeen_core.specs.declared.packet.Packet.{Packet}
 use Rattle.groups.specs.declared.request.ConnId.{ConnId}
 use Rattle.groups.specs.declared.request.RequestId.{RequestId}
-use Rattle.system.proofs.Connecting.{by_messages, makes_to}
+use Rattle.system.proofs.Connecting.{no_more, by_messages, makes_to}
 use Rattle.system.proofs.Rest.{KeepsAsked, multicast_same}
 use Rattle.system.specs.Parts.{Shows, Makes}
 use Rattle.system.specs.declared.effect.Effect.TheVariants.{Submitted, Made}
@@ -139,7 +139,8 @@ pub submit_makes : (old : Parts) (r : RouterView) (m : MulticastView) (conn : Co
     Makes old (Submit conn words) (Submitted sent.id) (record old { router = r; multicast = m })
 submit_makes old r m conn words sent table submits begins = record {
   table = refl;
-  named = λ h w at'. tt;
+  starves = λ h w at'. tt;
+  rows = no_more old.rows.rows;
   from_each = λ h w at'.
       let good = good_world old.store.table h w at'.leads in
       let as_world = shows_submit old.store.table w conn.0 good words old.router r sent (addresses old.store.table table words) submits
@@ -156,7 +157,8 @@ pub deliver_makes : (old : Parts) (m : MulticastView) (place : ℕ) → Delivers
     Makes old (Deliver place) Made (record old { multicast = m })
 deliver_makes old m place delivers = record {
   table = refl;
-  named = λ h w at'. tt;
+  starves = λ h w at'. tt;
+  rows = no_more old.rows.rows;
   from_each = λ h w at'.
       let as_world = shows_deliver old.store.table old.multicast w at'.shows.multicast m place delivers in
       let comes : Comes w place WorldMade as_world.0 = as_world.1 in

@@ -59,7 +59,7 @@ pub record IsOpening (t : Layout) (p : Parts) : Type 0 where
   pub empty : (g : ℕ) → queue_of p.multicast.queues g ≡ []
   pub store : p.store ≡ empty_store t
   pub stage : p.stage ≡ Free
-  pub rows : p.rows ≡ []
+  pub rows : p.rows.rows ≡ []
   pub starved : p.starved.items ≡ []
 
 pub opening_shown : (t : Layout) (p : Parts) → IsOpening t p → IsAt p [] opening
@@ -80,7 +80,7 @@ opening_shown t p is = record {
       lasts = λ g stamp last. absurd (let k = sym (none_last t.shards g) ∙ last in cc);
     });
     stage = subst (λ s. ShowsStage s opening) (sym is.stage) refl;
-    rows = record { settled = []; split = refl; each = subst (λ rows. AreRows [] rows) (sym is.rows) tt };
+    rows = subst (λ rows. AreRows [] rows) (sym is.rows) tt;
     starved = is.starved;
   };
 }

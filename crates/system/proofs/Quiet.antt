@@ -5,8 +5,7 @@ use Rattle.delivery.specs.Queues.{queue_of}
 use Rattle.delivery.specs.Ready.{IsReady}
 use Rattle.skeen_core.specs.declared.packet.Delivered.{Delivered}
 use Rattle.skeen_core.specs.declared.packet.Packet.{Packet}
-use Rattle.system.specs.System.{IsQuiet}
-use Rattle.system.specs.declared.parts.Parts.{Parts}
+use Rattle.system.specs.System.{SystemView, IsQuiet}
 use Rattle.system.specs.declared.stage.Stage.TheVariants.{Free}
 
 pub no_packets : (ps : List Packet) → length ps ≡ 0 → ps ≡ []
@@ -14,13 +13,13 @@ no_packets [] none = refl
 no_packets (p ∷ ps) none = absurd (omega arith)
 
 -- with no packet and no layer it is quiet just where no request is ready
-pub quiet_by : (ready : Bool) (p : Parts) → p.multicast.packets ≡ [] → p.stage ≡ Free →
-    (IsTrue ready ↔ ((d : Delivered) × IsReady (queue_of p.multicast.queues) d)) → IsTrue (not ready) ↔ IsQuiet p
-quiet_by true p packets free told = (
+pub quiet_by : (ready : Bool) (s : SystemView) → s.parts.multicast.packets ≡ [] → s.parts.stage ≡ Free →
+    (IsTrue ready ↔ ((d : Delivered) × IsReady (queue_of s.parts.multicast.queues) d)) → IsTrue (not ready) ↔ IsQuiet s
+quiet_by true s packets free told = (
   λ no. absurd (both_ways _ refl no),
   λ quiet. let some = told.0 refl in absurd (quiet.none_ready some.0 some.1),
 )
-quiet_by false p packets free told = (
+quiet_by false s packets free told = (
   λ yes. record { packets = packets; layer = free; none_ready = λ d ready. both_ways _ refl (told.1 (d, ready)) },
   λ quiet. refl,
 )

@@ -1,6 +1,7 @@
 -- What the parts refuse the world refuses, and what they ask of their numbers holds.
 use Rattle.std.proofs.Common.{◌≡◌, ◌≢◌, ℕ, ◌<◌, true, false, List, [], ◌∷◌, length, inl, inr, Option, Some, None, refl, sym}
-use Rattle.std.proofs.Common.{◌∙◌, subst, arith}
+use Rattle.std.proofs.Common.{◌∙◌, subst, arith, Result, Ok, Err}
+use Rattle.std.specs.Prelude.{IfErr, OnErr, IfSome, IfNone}
 use Rattle.std.proofs.lemmas.Bool.{both_ways}
 use Rattle.delivery.specs.Queues.{queue_of}
 use Rattle.delivery.specs.Ready.{QueueOf, IsReady, IsLayer}
@@ -16,7 +17,10 @@ use Rattle.router.specs.declared.submission.SubmitFault.TheVariants as submit
 use Rattle.skeen_core.specs.declared.packet.Delivered.{Delivered}
 use Rattle.groups.specs.declared.request.ConnId.{ConnId}
 use Rattle.system.specs.Faults.{of_submit}
-use Rattle.system.specs.Parts.{IsAt, ShowsStage}
+use Rattle.system.specs.Parts.{IsAt, ShowsStage, Keeps}
+use Rattle.system.specs.declared.effect.Effect.{Effect}
+use Rattle.system.specs.declared.fault.StepFault.{StepFault}
+use Rattle.system.specs.declared.fault.StepFault.TheVariants.{Failed}
 use Rattle.system.specs.Refusing.{Lives, Refuses, RefusesNot, IsFault}
 use Rattle.system.specs.declared.parts.Parts.{Parts}
 use Rattle.system.specs.declared.stage.Stage.TheVariants as stage
@@ -25,6 +29,22 @@ use Rattle.world.specs.Steps.{OwnFault, Busy, NoConn, NoPacket, InFlight, NoLaye
 use Rattle.world.specs.World.{World, Closed, Idle, NoneTaken}
 use Rattle.world_laws.proofs.Bounds.{bounded_world}
 use Rattle.router.specs.declared.router.TheConstants.{GREATEST_NUMBER}
+
+-- ---- answers
+
+-- what the call of a step answers, the step answers
+pub told_fault : (old new : Parts) (step called : Step) (r : Result Effect StepFault) → step ≡ called → IfErr r (IsFault old called) →
+    OnErr r (Keeps old new) → IfErr r (λ fault. fault ≢ Failed → IsFault old step fault × Keeps old new)
+told_fault old new step called (Ok effect) same fault keeps = tt
+told_fault old new step called (Err e) same fault keeps = λ other. (subst (λ s. IsFault old s e) (sym same) fault, keeps)
+
+pub some_of : {A : Type 0} (P Q : A → Type 0) (o : Option A) → ((a : A) → P a → Q a) → IfSome o P → IfSome o Q
+some_of P Q None implies some = tt
+some_of P Q (Some a) implies some = implies a some
+
+pub none_of : {A : Type 0} {P Q : Type 0} (o : Option A) → (P → Q) → IfNone o P → IfNone o Q
+none_of None implies none = implies none
+none_of (Some a) implies none = tt
 
 -- ---- numbers
 
@@ -98,9 +118,41 @@ submit_refused p conn words submit.Busy refused = λ h w at'.
     busy_stands refused.was.standing refused.was w conn.0 refused.busy
     (shows_live _ refused.was w conn.0 refused.kept refused.live (at'.shows.connections.each conn.0))
 submit_refused p conn words submit.NoConn refused = stands_closed p conn.0 refused
-submit_refused p conn words submit.Memory refused = λ h w at'.
-    not_refused w conn words (idle_stands refused.was.standing refused.was w conn.0 refused.idle
-    (shows_live _ refused.was w conn.0 refused.kept refused.live (at'.shows.connections.each conn.0)))
+submit_refused p conn words submit.Memory refused = (
+  tt,
+  λ h w at'.
+      not_refused w conn words (idle_stands refused.was.standing refused.was w conn.0 refused.idle
+      (shows_live _ refused.was w conn.0 refused.kept refused.live (at'.shows.connections.each conn.0))),
+)
+
+-- an open connection doesn't stand closed
+open_stands : (s : Standing) (v : Connection) (w : World) (c : ℕ) → ShowsOpen s v w c → w.standing c ≢ Closed
+open_stands router.Idle v w c shows shut = let k = sym shows.0 ∙ shut in cc
+open_stands (router.Waiting p) v w c shows shut = let k = sym shows.0 ∙ shut in cc
+open_stands router.Taken v w c shows shut = let k = sym shows.0 ∙ shut in cc
+open_stands (router.Answered o) v w c shows shut = let k = sym shows.0 ∙ shut in cc
+
+collect_not : (w : World) (conn : ConnId) → w.standing conn.0 ≢ Closed → (fault : OwnFault) → ¬ Refused w (step.Collect conn) fault
+collect_not w conn stands Busy refused = refused
+collect_not w conn stands NoConn refused = stands refused
+collect_not w conn stands NoPacket refused = refused
+collect_not w conn stands InFlight refused = refused
+collect_not w conn stands NoLayer refused = refused
+
+close_not : (w : World) (conn : ConnId) → w.standing conn.0 ≢ Closed → (fault : OwnFault) → ¬ Refused w (step.Close conn) fault
+close_not w conn stands Busy refused = refused
+close_not w conn stands NoConn refused = stands refused
+close_not w conn stands NoPacket refused = refused
+close_not w conn stands InFlight refused = refused
+close_not w conn stands NoLayer refused = refused
+
+-- an open connection may collect, and be closed
+pub open_admitted : (p : Parts) (conn : ConnId) (v : Connection) → connection p.router conn.0 ≡ Some v → v.is_open ≡ true →
+    RefusesNot p (step.Collect conn) × RefusesNot p (step.Close conn)
+open_admitted p conn v kept live = (
+  λ h w at'. collect_not w conn (open_stands v.standing v w conn.0 (shows_live _ v w conn.0 kept live (at'.shows.connections.each conn.0))),
+  λ h w at'. close_not w conn (open_stands v.standing v w conn.0 (shows_live _ v w conn.0 kept live (at'.shows.connections.each conn.0))),
+)
 
 -- ---- Take
 

@@ -1,5 +1,5 @@
 -- What the parts behind the router show of a world in which they are the same.
-use Rattle.std.proofs.Common.{◌≡◌, ℕ, true, List, [], ◌∷◌, ◌++◌, Some, sym, ap, ◌∙◌, subst}
+use Rattle.std.proofs.Common.{◌≡◌, ℕ, true, List, [], ◌∷◌, Some, sym, ap, ◌∙◌, subst}
 use Rattle.groups.specs.GroupSet.{has}
 use Rattle.layer_planner.specs.declared.job.Job.{Job}
 use Rattle.multicast.specs.Multicast.{MulticastView}
@@ -8,13 +8,13 @@ use Rattle.shard_exec.specs.StoreStates.{StoreState}
 use Rattle.groups.specs.Order.{In}
 use Rattle.skeen_core.specs.declared.packet.Delivered.{Delivered}
 use Rattle.groups.specs.declared.request.RequestId.{RequestId}
-use Rattle.system.specs.Parts.{ShowsStage, ShowsRows}
+use Rattle.system.specs.Parts.{ShowsStage}
 use Rattle.system.specs.declared.stage.Stage.{Stage}
 use Rattle.system.specs.declared.stage.Stage.TheVariants.{Free, Taken, HasRun}
 use Rattle.system_view.specs.Layers.{AreJobs, ShowsStore}
 use Rattle.system_view.specs.Multicast.{ShowsMulticast}
 use Rattle.world.specs.World.{World, Request}
-use Rattle.world_laws.specs.Good.{Asked, run_in}
+use Rattle.world_laws.specs.Good.{Asked}
 
 -- the requests of the first world are asked in the second
 abbrev pub KeepsAsked : Asked → Asked → Type 0
@@ -43,14 +43,7 @@ pub stage_same : (stage : Stage) (w w' : World) → KeepsAsked w.asked w'.asked 
 stage_same Free w w' keeps same shows = same ∙ shows
 stage_same (Taken taken) w w' keeps same shows =
     (shows.0, same ∙ shows.1, jobs_asked w.asked w'.asked shows.0 taken.layer taken.words.items keeps shows.2)
-stage_same (HasRun ran) w w' keeps same shows = (shows.0, same ∙ shows.1, shows.2)
-
-pub rows_same : (rows : List _) (w w' : World) → w'.ended ≡ w.ended → w'.layer ≡ w.layer → ShowsRows rows w → ShowsRows rows w'
-rows_same rows w w' ended layer shows = record {
-  settled = shows.settled;
-  split = ended ∙ shows.split ∙ ap (λ l. shows.settled ++ run_in l) (sym layer);
-  each = shows.each;
-}
+stage_same (HasRun outcomes) w w' keeps same shows = (shows.0, same ∙ shows.1, shows.2)
 
 pub store_same : (t : Layout) (s : StoreState) (w w' : World) → w'.ended ≡ w.ended → w'.contents ≡ w.contents → ShowsStore t s w →
     ShowsStore t s w'

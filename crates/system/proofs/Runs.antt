@@ -1,21 +1,23 @@
 -- A list of steps, made one after another.
-use Rattle.std.proofs.Common.{◌≡◌, Bool, List, [], ◌∷◌, ◌++◌, map, Some, None, refl, sym, ◌∙◌, subst, append-nil, append_assoc}
+use Rattle.std.proofs.Common.{◌≡◌, ◌≢◌, Bool, List, [], ◌∷◌, ◌++◌, map, Some, None, refl, sym, ◌∙◌, subst, append-nil, append_assoc}
 use Rattle.journal.specs.declared.step.Step.{Step}
 use Rattle.system.specs.Parts.{IsAt, effect_shown, stored}
 use Rattle.system.specs.Runs.{AreMade, AreRun, all_stored, LeadsTo}
-use Rattle.system.specs.System.{SystemView, IsStep, IsRefused}
+use Rattle.system.specs.System.{SystemView, IsStep, IsRefused, ObeysOneThread}
 use Rattle.system.specs.declared.effect.Effect.{Effect}
 use Rattle.system.specs.declared.fault.StepFault.{StepFault}
 use Rattle.world.specs.Steps.{Makes}
 
 -- the steps, and one more behind them
 pub made_more : (old mid new : SystemView) (steps : List Step) (effects : List Effect) (step : Step) (effect : Effect) →
-    AreMade old steps effects mid → IsStep mid step effect new → AreMade old (steps ++ step ∷ []) (effects ++ effect ∷ []) new
-made_more old mid new [] [] step effect made next = (new, subst (λ s. IsStep s step effect new) made.1 next, (refl, refl))
-made_more old mid new [] (e ∷ es) step effect made next = absurd (let k = made.0 in cc)
-made_more old mid new (s ∷ ss) [] step effect made next = absurd made
-made_more old mid new (s ∷ ss) (e ∷ es) step effect made next =
-    (made.0, made.1, made_more made.0 mid new ss es step effect made.2 next)
+    AreMade old steps effects mid → IsStep mid step effect new → ObeysOneThread new →
+    AreMade old (steps ++ step ∷ []) (effects ++ effect ∷ []) new
+made_more old mid new [] [] step effect made next obeys =
+    (new, subst (λ s. IsStep s step effect new) made.1 next, obeys, (refl, refl))
+made_more old mid new [] (e ∷ es) step effect made next obeys = absurd (let k = made.0 in cc)
+made_more old mid new (s ∷ ss) [] step effect made next obeys = absurd made
+made_more old mid new (s ∷ ss) (e ∷ es) step effect made next obeys =
+    (made.0, made.1, made.2, made_more made.0 mid new ss es step effect made.3 next obeys)
 
 same_table : (old new : SystemView) (step : Step) (effect : Effect) → IsStep old step effect new →
     new.parts.store.table ≡ old.parts.store.table
@@ -31,7 +33,7 @@ leads_by old new (s ∷ ss) [] made h w at' = absurd made
 leads_by old new (s ∷ ss) (e ∷ es) made h w at' =
     let mid = made.0 in
     let step = made.1.makes.from_each h w at' in
-    let rest = leads_by mid new ss es made.2 (h ++ stored s e ∷ []) step.0 step.2 in (
+    let rest = leads_by mid new ss es made.3 (h ++ stored s e ∷ []) step.0 step.2 in (
       rest.0,
       (
         step.0,
@@ -51,11 +53,12 @@ pub record IsUpTo (old : SystemView) (steps : List Step) (effects : List Effect)
   pub are_made : AreMade old made effects now
 
 pub up_to_next : (old now new : SystemView) (steps left : List Step) (effects : List Effect) (step : Step) (effect : Effect) →
-    IsUpTo old steps effects (step ∷ left) now → IsStep now step effect new → IsUpTo old steps (effects ++ effect ∷ []) left new
-up_to_next old now new steps left effects step effect is next = record {
+    IsUpTo old steps effects (step ∷ left) now → IsStep now step effect new → ObeysOneThread new →
+    IsUpTo old steps (effects ++ effect ∷ []) left new
+up_to_next old now new steps left effects step effect is next obeys = record {
   made = is.made ++ step ∷ [];
   split = is.split ∙ sym (append_assoc is.made (step ∷ []) left);
-  are_made = made_more old now new is.made effects step effect is.are_made next;
+  are_made = made_more old now new is.made effects step effect is.are_made next obeys;
 }
 
 -- all were made
@@ -84,3 +87,11 @@ runs_to may_refuse old now new steps left effects step fault is refused = record
   leads = leads_by old now is.made effects is.are_made;
   ends = (step, left, refl, refused);
 }
+
+-- the first was refused
+pub refused_at_once : (may_refuse : Bool) (old : SystemView) (steps : List Step) (effects : List Effect) (fault : StepFault) → steps ≢ [] →
+    effects ≡ [] → ((step : Step) → IsRefused may_refuse old step fault old) → AreRun may_refuse old steps effects (Some fault) old
+refused_at_once may_refuse old [] effects fault some none refused = absurd (some refl)
+refused_at_once may_refuse old (step ∷ steps) effects fault some none refused =
+    runs_to may_refuse old old old (step ∷ steps) steps effects step fault
+    (record { made = []; split = refl; are_made = (none, refl) }) (refused step)

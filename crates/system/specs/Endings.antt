@@ -11,10 +11,10 @@ use Rattle.groups.specs.Order.{In}
 use Rattle.groups.specs.declared.request.RequestId.{RequestId}
 use Rattle.system.specs.Faults.{own_fault}
 use Rattle.system.specs.Parts.{IsAt}
+use Rattle.system.specs.Reads.{table_of, rows_of, starved_of}
 use Rattle.system.specs.Refusing.{RefusesNot}
 use Rattle.system.specs.System.{SystemView, IsRefused}
 use Rattle.system.specs.declared.fault.StepFault.{StepFault}
-use Rattle.system.specs.declared.parts.Parts.{Parts}
 use Rattle.system.specs.declared.stage.Progress.{Progress}
 use Rattle.system.specs.declared.stage.Progress.TheVariants.{Free, Taken, HasRun}
 use Rattle.world.specs.Steps.{opening, Effect, Makes}
@@ -26,20 +26,20 @@ use Rattle.world_laws.specs.Good.{Named}
 -- ---- what has ended
 
 -- the request was executed, and has its row
-abbrev pub IsExecuted : Parts → RequestId → Type 0
-IsExecuted p i = (row : RowView) × In row p.rows × (row.id ≡ i)
+abbrev pub IsExecuted : SystemView → RequestId → Type 0
+IsExecuted s i = (row : RowView) × In row (rows_of s) × (row.id ≡ i)
 
-abbrev pub HasStarved : Parts → RequestId → Type 0
-HasStarved p i = In i p.starved.items
+abbrev pub HasStarved : SystemView → RequestId → Type 0
+HasStarved s i = In i (starved_of s)
 
 -- the words are a command that addresses groups
 abbrev pub AsksGroups : Layout → List (List ℕ) → Type 0
 AsksGroups t words = (command : Command) × (reading words ≡ Ok command) × (groups_of t command ≢ [])
 
 -- whatever history led here, each request that it submitted to groups has ended: it was executed, or it starved
-abbrev pub EachHasEnded : Parts → Type 0
-EachHasEnded p = (h : List Step) (w : World) → IsAt p h w → (effects : List Effect) → Makes p.store.table opening h effects w →
-    (i : RequestId) → WasSubmitted (AsksGroups p.store.table) i h effects → Named w.ended i × (IsExecuted p i ⊎ HasStarved p i)
+abbrev pub EachHasEnded : SystemView → Type 0
+EachHasEnded s = (h : List Step) (w : World) → IsAt s.parts h w → (effects : List Effect) → Makes (table_of s) opening h effects w →
+    (i : RequestId) → WasSubmitted (AsksGroups (table_of s)) i h effects → Named w.ended i × (IsExecuted s i ⊎ HasStarved s i)
 
 -- ---- what can be done
 
@@ -60,5 +60,5 @@ SomeMayBeMade HasRun s = MayBeMade s Settle
 
 -- whatever history led here, it has no more steps that bring packets, take layers, run or settle them than its
 -- submitted requests allow: k * k + 3 for each request of k groups
-abbrev pub TurnsAreFew : Parts → Type 0
-TurnsAreFew p = (h : List Step) (w : World) → IsAt p h w → turns h ≤ allowances p.store.table h
+abbrev pub TurnsAreFew : SystemView → Type 0
+TurnsAreFew s = (h : List Step) (w : World) → IsAt s.parts h w → turns h ≤ allowances (table_of s) h

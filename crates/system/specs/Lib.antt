@@ -2,6 +2,8 @@ pub mod Faults
 pub mod Parts
 pub mod Refusing
 pub mod System
+pub mod Reads
+pub mod Laws
 pub mod Runs
 pub mod Outcomes
 pub mod Endings

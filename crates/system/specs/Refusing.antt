@@ -1,6 +1,7 @@
 -- When a step is refused.
-use Rattle.std.specs.Prelude.{◌≡◌, ◌<◌, true, List, length}
+use Rattle.std.specs.Prelude.{◌≡◌, ◌<◌, Bool, true, List, length}
 use Rattle.journal.specs.declared.step.Step.{Step}
+use Rattle.journal.specs.declared.step.Step.TheVariants.{Run, Settle, Collect, Close}
 use Rattle.system.specs.Parts.{IsAt}
 use Rattle.system.specs.declared.fault.StepFault.{StepFault}
 use Rattle.system.specs.declared.fault.StepFault.TheVariants.{Busy, NoConn, NoPacket, InFlight, NoLayer, Exhausted, Memory, Failed}
@@ -25,6 +26,13 @@ Refuses p step fault = (h : List Step) (w : World) → IsAt p h w → Refused w 
 abbrev pub RefusesNot : Parts → Step → Type 0
 RefusesNot p step = (h : List Step) (w : World) → IsAt p h w → (fault : OwnFault) → ¬ Refused w step fault
 
+-- the step may want memory: one that gives back what is there wants none
+abbrev pub WantsMemory : Step → Type 0
+WantsMemory Settle = ⊥
+WantsMemory (Collect conn) = ⊥
+WantsMemory (Close conn) = ⊥
+WantsMemory step = Unit {0}
+
 -- why the parts refuse the step
 abbrev pub IsFault : Parts → Step → StepFault → Type 0
 IsFault p step Busy = Refuses p step world.Busy
@@ -32,12 +40,22 @@ IsFault p step NoConn = Refuses p step world.NoConn
 IsFault p step NoPacket = Refuses p step world.NoPacket
 IsFault p step InFlight = Refuses p step world.InFlight
 IsFault p step NoLayer = Refuses p step world.NoLayer
-IsFault p step Memory = RefusesNot p step
+IsFault p step Memory = WantsMemory step × RefusesNot p step
 IsFault p step Exhausted = ⊥
 IsFault p step Failed = ⊥
+
+abbrev pub IsRun : Step → Type 0
+IsRun (Run skip) = Unit {0}
+IsRun step = ⊥
+
+-- a worker's start may be refused: by a Run that has no fault of its own, and by workers that may start a thread
+pub record MayFail (may_refuse : Bool) (p : Parts) (step : Step) : Type 0 where
+  pub refusable : may_refuse ≡ true
+  pub runs : IsRun step
+  pub not_refused : RefusesNot p step
 
 -- a worker's start was refused: of shards, layer and connections nothing is said, and the rows stay
 pub record HasFailed (old new : Parts) : Type 0 where
   pub failed : new.store.failed ≡ true
   pub table : new.store.table ≡ old.store.table
-  pub rows : new.rows ≡ old.rows
+  pub rows : new.rows.rows ≡ old.rows.rows

@@ -1,20 +1,21 @@
 -- A list of steps, made one after another.
-use Rattle.std.specs.Prelude.{◌≡◌, Bool, List, [], ◌∷◌, ◌++◌, map, ◌⊎◌, Option, Some, None}
+use Rattle.std.specs.Prelude.{◌≡◌, ◌≢◌, ◌<◌, Bool, false, List, [], ◌∷◌, ◌++◌, map, ◌⊎◌, Option, Some, None}
 use Rattle.journal.specs.declared.step.Step.{Step}
 use Rattle.system.specs.Parts.{IsAt, effect_shown, stored}
-use Rattle.system.specs.System.{SystemView, IsStep, IsRefused}
+use Rattle.system.specs.System.{SystemView, IsStep, IsRefused, ObeysOneThread}
 use Rattle.system.specs.declared.effect.Effect.{Effect}
 use Rattle.system.specs.declared.fault.StepFault.{StepFault}
 use Rattle.system.specs.declared.fault.StepFault.TheVariants.{Memory}
 use Rattle.world.specs.Steps.{Makes}
 use Rattle.world.specs.World.{World}
 
--- each step was made where the one before it had led, and has its effect
+-- each step was made where the one before it had led, and has its effect; and after each of them the replies and the
+-- contents are those of one thread
 abbrev pub AreMade : SystemView → List Step → List Effect → SystemView → Type 0
 AreMade old [] effects new = (effects ≡ []) × (new ≡ old)
 AreMade old (step ∷ steps) [] new = ⊥
 AreMade old (step ∷ steps) (effect ∷ effects) new =
-    (mid : SystemView) × IsStep old step effect mid × AreMade mid steps effects new
+    (mid : SystemView) × IsStep old step effect mid × ObeysOneThread mid × AreMade mid steps effects new
 
 -- the steps as they stand in a history
 abbrev pub all_stored : List Step → List Effect → List Step
@@ -46,12 +47,16 @@ pub record AreRun (may_refuse : Bool) (old : SystemView) (steps : List Step) (ef
   pub leads : LeadsTo old made effects last
   pub ends : Ends may_refuse last left fault new
 
--- there was no memory for the list of effects: no step was made
-pub record HasNoRoom (old : SystemView) (effects : List Effect) (fault : Option StepFault) (new : SystemView) : Type 0 where
+-- there was no memory for the list of effects: no step was made, though there are some and one more may be made
+pub record HasNoRoom (old : SystemView) (steps : List Step) (effects : List Effect) (fault : Option StepFault) (new : SystemView) :
+    Type 0 where
+  pub some : steps ≢ []
+  pub lives : old.parts.store.failed ≡ false
+  pub left : old.steps < old.max_steps
   pub none_made : effects ≡ []
   pub is_memory : fault ≡ Some Memory
   pub same : new ≡ old
 
 abbrev pub Runs : Bool → SystemView → List Step → List Effect → Option StepFault → SystemView → Type 0
 Runs may_refuse old steps effects fault new =
-    AreRun may_refuse old steps effects fault new ⊎ HasNoRoom old effects fault new
+    AreRun may_refuse old steps effects fault new ⊎ HasNoRoom old steps effects fault new

@@ -7,7 +7,7 @@ use Rattle.placement.specs.Layout.{Layout, IsTable}
 use Rattle.shard_maps.specs.Joined.{joined}
 use Rattle.skeen_core.specs.declared.packet.Delivered.{Delivered}
 use Rattle.system.specs.Parts.{IsAt, Makes, Keeps}
-use Rattle.system.specs.Refusing.{IsFault, HasFailed}
+use Rattle.system.specs.Refusing.{IsFault, RefusesNot, MayFail, HasFailed}
 use Rattle.system.specs.declared.effect.Effect.{Effect}
 use Rattle.system.specs.declared.fault.StepFault.{StepFault}
 use Rattle.system.specs.declared.fault.StepFault.TheVariants.{Exhausted, Failed}
@@ -68,11 +68,26 @@ pub record Refuses (old : SystemView) (step : Step) (fault : StepFault) (new : S
   pub why : IsFault old.parts step fault
   pub kept : IsSameButRoom old new
 
+-- steps may be made: no worker's start was refused, and fewer were made than may be
+pub record MayGoOn (s : SystemView) : Type 0 where
+  pub lives : s.parts.store.failed ≡ false
+  pub left : s.steps < s.max_steps
+
+-- and the step has no fault of its own
+pub record IsAdmitted (s : SystemView) (step : Step) : Type 0 where
+  pub goes_on : MayGoOn s
+  pub not_refused : RefusesNot s.parts step
+
+-- a worker's start was refused now
+pub record Fails (may_refuse : Bool) (old : SystemView) (step : Step) (new : SystemView) : Type 0 where
+  pub lived : old.parts.store.failed ≡ false
+  pub left : old.steps < old.max_steps
+  pub may_fail : MayFail may_refuse old.parts step
+  pub failed : HasFailed old.parts new.parts
+
 -- why it was not made
 abbrev pub IsRefused : Bool → SystemView → Step → StepFault → SystemView → Type 0
-IsRefused may_refuse old step Failed new =
-    ((old.parts.store.failed ≡ true) × (new ≡ old))
-    ⊎ ((old.parts.store.failed ≡ false) × (may_refuse ≡ true) × HasFailed old.parts new.parts)
+IsRefused may_refuse old step Failed new = ((old.parts.store.failed ≡ true) × (new ≡ old)) ⊎ Fails may_refuse old step new
 IsRefused may_refuse old step Exhausted new =
     (old.parts.store.failed ≡ false) × (old.steps ≡ old.max_steps) × (new ≡ old)
 IsRefused may_refuse old step fault new = Refuses old step fault new
@@ -80,10 +95,10 @@ IsRefused may_refuse old step fault new = Refuses old step fault new
 -- ---- what it shows
 
 -- no packet is under way, no layer is there, and no request is ready
-pub record IsQuiet (p : Parts) : Type 0 where
-  pub packets : p.multicast.packets ≡ []
-  pub layer : p.stage ≡ Free
-  pub none_ready : (d : Delivered) → ¬ IsReady (queue_of p.multicast.queues) d
+pub record IsQuiet (s : SystemView) : Type 0 where
+  pub packets : s.parts.multicast.packets ≡ []
+  pub layer : s.parts.stage ≡ Free
+  pub none_ready : (d : Delivered) → ¬ IsReady (queue_of s.parts.multicast.queues) d
 
 -- The headline: whatever history led here, what the shards hold together, and the replies to all that was executed, are
 -- those of one thread that runs the executed requests, sorted by their final stamps, on one map.

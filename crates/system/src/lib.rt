@@ -9,6 +9,7 @@ mod effect;
 mod fault;
 mod jobs;
 mod outcomes;
+mod own_fault;
 mod parts;
 mod stage;
 mod system;

@@ -1,19 +1,18 @@
 //! What came of a layer: its starved requests, its rows, and its outcomes.
 
-ghost use Rattle.std.specs.Prelude.{◌≡◌, ◌<◌, ◌≤◌, ◌+◌, ◌++◌, ◌∷◌, List, [], length, vec_capacity, IfSome};
+ghost use Rattle.std.specs.List.{AllZip};
+ghost use Rattle.std.specs.Prelude.{◌≡◌, ◌≤◌, ◌<◌, ◌+◌, ◌++◌, ◌∷◌, List, [], length, vec_capacity};
+ghost use Rattle.journal.specs.Views.{RowView};
 ghost use Rattle.placement.specs.Layout.{Layout};
-ghost use Rattle.resp.specs.Content.{content};
-ghost use Rattle.shard_workers.specs.Runs.{outcome};
+ghost use Rattle.system.specs.Outcomes.{IsOutcome};
 ghost use Rattle.system_view.specs.Layers.{IsEnded, AreEnded, AreRows, starved_of};
 ghost use Rattle.system_view.specs.Settling.{IsSettling};
-ghost use Rattle.world.specs.Steps.{reply_of};
 ghost use Rattle.world.specs.World.{World, Ended as EndedThere};
-ghost use Rattle.system.specs.Outcomes.{row_need, rows_need};
 
 use groups::{RequestId, Stamp};
-use journal::{RowsWithRoom, size_of_row};
+use journal::Rows;
 use packing::PackedRequest;
-use resp::{Answered, Reply};
+use resp::Reply;
 use router::{Outcome, Router};
 use shard_exec::Ended;
 
@@ -32,82 +31,68 @@ pub(super) fn note_starved(ended: &[Ended], starved: &mut Vec<RequestId>, all: &
     }
 }
 
-/// How many bytes the rows of a layer take at most among the packed ones; `None` where that may be 2^64 or more.
-pub(super) fn size_of_rows(ended: &[Ended]) -> Option<usize>
-    ensures { IfSome result (λ size. size ≡ rows_need ended.now) }
-{
-    let mut size = 0usize;
-    for request in ended {
-        size = size.checked_add(size_of_its_row(request)?)?;
-    }
-    Some(size)
-}
-
-/// How many bytes a request's row takes at most among the packed ones; `None` where that may be 2^64 or more.
-fn size_of_its_row(request: &Ended) -> Option<usize>
-    ensures { IfSome result (λ size. size ≡ row_need request.now.reply) }
-{
-    match &request.reply {
-        Some(answered) => size_of_row(&answered.reply, answered.text.as_slice()),
-        None => Some(0),
-    }
-}
-
-/// Each executed request of a layer gets its row, for which there is room, and the outcomes go to their connections.
-pub(super) fn settle_all(
-    router: &mut Router,
-    rows: &mut RowsWithRoom,
+/// Each executed request of a layer gets its row, and each request its outcome. There is room for all of them.
+pub(super) fn tell_all(
+    rows: &mut Rows,
+    outcomes: &mut Vec<Outcome>,
     ended: Vec<Ended>,
     words: Vec<PackedRequest>,
 )
-    requires settling { (t : Layout) × (w : World) × (es : List EndedThere) × AreEnded es ended.items words.items
-        × IsSettling t w [] es router.old }
-    requires bytes { rows_need ended.items ≤ rows.old.bytes }
-    requires places { length ended.items ≤ rows.old.ends }
-    requires beside { length ended.items ≤ rows.old.blocks }
-    ensures settled { (t : Layout) (w : World) (es : List EndedThere) → AreEnded es ended.items words.items
-        → IsSettling t w [] es router.old → IsSettling t w es [] router.new }
-    ensures added { (settled es : List EndedThere) → AreEnded es ended.items words.items → AreRows settled rows.old.rows
-        → AreRows (settled ++ es) rows.new.rows }
+    requires are { (es : List EndedThere) × AreEnded es ended.items words.items }
+    requires rows { length ended.items ≤ rows.old.room }
+    requires none { outcomes.old.items ≡ [] }
+    requires outcomes { length ended.items ≤ vec_capacity outcomes.old }
+    ensures added { (before es : List EndedThere) → AreEnded es ended.items words.items → AreRows before rows.old.rows
+        → AreRows (before ++ es) rows.new.rows }
+    ensures told { (es : List EndedThere) → AreEnded es ended.items words.items → AllZip IsOutcome es outcomes.new.items }
+    ensures more { (more : List RowView) × (rows.new.rows ≡ rows.old.rows ++ more) }
 {
     let mut each = words.into_iter();
     for request in ended {
         let Some(words) = each.next() else {
             unreachable!();
         };
-        let Ended { id, stamp, reply } = request;
-        let reply = add_row(rows, id, &stamp, reply, words);
-        let outcome = Outcome {
-            id,
-            reply,
-            stamp: Some(Stamp { ..stamp }),
-        };
-        router.settle(stamp, outcome);
+        outcomes.push_reserved(tell(rows, request, words));
     }
 }
 
-/// Adds the row of a request, for which there is room, if it was executed, and gives what the request is answered.
-fn add_row(
-    rows: &mut RowsWithRoom,
-    id: RequestId,
-    stamp: &Stamp,
-    reply: Option<Answered>,
-    words: PackedRequest,
-) -> Reply
-    requires bytes { row_need reply ≤ rows.old.bytes }
-    requires place { 0 < rows.old.ends }
-    requires beside { 0 < rows.old.blocks }
-    ensures reply { content result ≡ reply_of (outcome reply) }
-    ensures added { (settled : List EndedThere) (e : EndedThere)
-        → IsEnded e (record { id = id; stamp = stamp.now; reply = reply }) words → AreRows settled rows.old.rows
-        → AreRows (settled ++ e ∷ []) rows.new.rows }
-    ensures bytes { rows.old.bytes ≤ rows.new.bytes + row_need reply }
-    ensures ends { rows.old.ends ≤ rows.new.ends + 1 }
-    ensures blocks { rows.old.blocks ≤ rows.new.blocks + 1 }
+/// Adds the row of a request, for which there is room, if it was executed, and gives its outcome.
+fn tell(rows: &mut Rows, request: Ended, words: PackedRequest) -> Outcome
+    requires room { 0 < rows.old.room }
+    ensures told { (e : EndedThere) → IsEnded e request words → IsOutcome e result }
+    ensures added { (before : List EndedThere) (e : EndedThere) → IsEnded e request words → AreRows before rows.old.rows
+        → AreRows (before ++ e ∷ []) rows.new.rows }
+    ensures more { (more : List RowView) × (rows.new.rows ≡ rows.old.rows ++ more) }
+    ensures room { rows.old.room ≤ rows.new.room + 1 }
 {
-    let Some(Answered { reply, text }) = reply else {
-        return Reply::out_of_memory();
+    let Ended { id, stamp, reply } = request;
+    let Some(answered) = reply else {
+        return Outcome {
+            id,
+            reply: Reply::out_of_memory(),
+            stamp: Some(stamp),
+        };
     };
-    rows.push(id, stamp, words, &reply, text);
-    reply
+    let reply = rows.push(id, &stamp, words, answered);
+    Outcome {
+        id,
+        reply,
+        stamp: Some(stamp),
+    }
+}
+
+/// The outcomes of a layer go to their connections, one after another. It takes no memory.
+pub(super) fn settle_all(router: &mut Router, outcomes: Vec<Outcome>)
+    requires { (t : Layout) × (w : World) × (es : List EndedThere) × AllZip IsOutcome es outcomes.items
+        × IsSettling t w [] es router.old }
+    ensures { (t : Layout) (w : World) (es : List EndedThere) → AllZip IsOutcome es outcomes.items
+        → IsSettling t w [] es router.old → IsSettling t w es [] router.new }
+{
+    for outcome in outcomes {
+        let Some(stamp) = &outcome.stamp else {
+            unreachable!();
+        };
+        let stamp = Stamp { ..*stamp };
+        router.settle(stamp, outcome);
+    }
 }

@@ -1,22 +1,18 @@
 //! The parts of the system, and what each kind of step does to them.
 
-ghost use Rattle.std.specs.Prelude.{◌≡◌, ◌≢◌, ◌<◌, List, true, IfOk, IfErr, OnOk, OnErr};
+ghost use Rattle.std.specs.Prelude.{◌≡◌, ◌≢◌, IfOk, IfErr, OnErr};
 ghost use Rattle.router.specs.Router.{connection};
 ghost use Rattle.router.specs.Submitting.{IsRefused};
-ghost use Rattle.system.specs.Parts.{IsAt, Makes, Keeps};
-ghost use Rattle.system_view.specs.Layers.{AreRows};
-ghost use Rattle.world.specs.World.{World};
-ghost use Rattle.system.specs.Refusing.{Lives, IsFault, HasFailed};
+ghost use Rattle.system.specs.Parts.{Makes, Keeps};
+ghost use Rattle.system.specs.Refusing.{Lives, IsFault, MayFail, HasFailed};
 ghost use Rattle.system.specs.declared.fault.StepFault.{StepFault};
-ghost use Rattle.system.specs.declared.stage.RanLayer.{RanLayer};
-ghost use Rattle.system.specs.declared.stage.Stage.{Stage};
 ghost use Rattle.journal.specs.declared.step.Step.{Step};
 
 use super::effect::Effect;
 use super::fault::StepFault;
 use super::jobs::take_all;
-use super::outcomes::{note_starved, settle_all, size_of_rows};
-use super::stage::{RanLayer, Stage, TakenLayer};
+use super::outcomes::{note_starved, settle_all, tell_all};
+use super::stage::{Stage, TakenLayer};
 use groups::{ConnId, RequestId};
 use journal::{RequestIds, Rows, Step};
 use layer_planner::Layer;
@@ -25,11 +21,11 @@ use resp::Request;
 use router::{Router, SubmitFault};
 use shard_exec::{ExecFault, Store};
 use shard_workers::{Gate, Workers};
-use std::alloc::{AllocError, Global};
+use std::alloc::Global;
 use std::mem;
 
 /// The connections, the groups with their packets and queues, the shards, the layer that is under way, the rows of what
-/// was executed in settled layers, and the ids of what starved.
+/// was executed, and the ids of what starved.
 #[derive(Drop)]
 pub struct Parts {
     pub router: Router,
@@ -54,7 +50,8 @@ impl Parts {
         requires { Lives self.old }
         ensures made { IfOk result (λ effect. Makes self.old step effect self.new) }
         ensures fault { IfErr result (λ fault. fault ≢ StepFault.Failed → IsFault self.old step fault × Keeps self.old self.new) }
-        ensures failed { IfErr result (λ fault. fault ≡ StepFault.Failed → (W.may_refuse ≡ true) × HasFailed self.old self.new) }
+        ensures failed { IfErr result (λ fault. fault ≡ StepFault.Failed
+            → MayFail (W.may_refuse workers.now) self.old step × HasFailed self.old self.new) }
     {
         match step {
             Step::Open => self.open(),
@@ -62,7 +59,7 @@ impl Parts {
             Step::Deliver { place } => self.deliver(place),
             Step::Take => self.take(alloc),
             Step::Run { starved } => self.run(alloc, starved, workers, gate),
-            Step::Settle => self.settle(alloc),
+            Step::Settle => self.settle(),
             Step::Collect { conn } => self.collect(conn),
             Step::Close { conn } => self.close(conn),
         }
@@ -144,7 +141,7 @@ impl Parts {
         let Some(layer) = Layer::gather(jobs) else {
             unreachable!()
         };
-        stand(&mut self.stage, Stage::Taken(TakenLayer { layer, words }));
+        set_stage(&mut self.stage, Stage::Taken(TakenLayer { layer, words }));
         Ok(Effect::Made)
     }
 
@@ -161,14 +158,17 @@ impl Parts {
         ensures made { IfOk result (λ effect. Makes self.old (Step.Run skip) effect self.new) }
         ensures fault { IfErr result (λ fault. fault ≢ StepFault.Failed
             → IsFault self.old (Step.Run skip) fault × Keeps self.old self.new) }
-        ensures failed { IfErr result (λ fault. fault ≡ StepFault.Failed → (W.may_refuse ≡ true) × HasFailed self.old self.new) }
+        ensures failed { IfErr result (λ fault. fault ≡ StepFault.Failed
+            → MayFail (W.may_refuse workers.now) self.old (Step.Run skip) × HasFailed self.old self.new) }
     {
         let Stage::Taken(taken) = &self.stage else {
             return Err(StepFault::NoLayer);
         };
         let count = taken.layer.len();
         self.starved.reserve(count)?;
+        self.rows.reserve(count)?;
         let mut starved = Vec::with_capacity(alloc, count)?;
+        let mut outcomes = Vec::with_capacity(alloc, count)?;
         let Stage::Taken(TakenLayer { layer, words }) = mem::replace(&mut self.stage, Stage::Free)
         else {
             unreachable!()
@@ -179,11 +179,12 @@ impl Parts {
         {
             Ok(ended) => {
                 note_starved(ended.as_slice(), &mut starved, &mut self.starved);
-                stand(&mut self.stage, Stage::HasRun(RanLayer { ended, words }));
+                tell_all(&mut self.rows, &mut outcomes, ended, words);
+                set_stage(&mut self.stage, Stage::HasRun(outcomes));
                 Ok(Effect::Ran(RequestIds::from(starved)))
             }
             Err(ExecFault::Memory(layer)) => {
-                stand(&mut self.stage, Stage::Taken(TakenLayer { layer, words }));
+                set_stage(&mut self.stage, Stage::Taken(TakenLayer { layer, words }));
                 Err(StepFault::Memory)
             }
             Err(ExecFault::Failed) => Err(StepFault::Failed),
@@ -191,45 +192,23 @@ impl Parts {
         }
     }
 
-    /// The outcomes of the layer that was run go to their connections, and each executed request gets its row. The room
-    /// for the rows is taken first, and what is long moves.
+    /// The outcomes of the layer that was run go to their connections. It takes no memory.
     #[inline(never)]
-    fn settle(&mut self, alloc: Global) -> Result<Effect, StepFault>
+    fn settle(&mut self) -> Result<Effect, StepFault>
         requires { Lives self.old }
         ensures made { IfOk result (λ effect. Makes self.old Step.Settle effect self.new) }
         ensures fault { IfErr result (IsFault self.old Step.Settle) }
-        ensures no_failure { IfErr result (λ fault. fault ≢ StepFault.Failed) }
+        ensures no_layer { IfErr result (λ fault. fault ≡ StepFault.NoLayer) }
         ensures keeps { OnErr result (Keeps self.old self.new) }
     {
         let Stage::HasRun(_) = &self.stage else {
             return Err(StepFault::NoLayer);
         };
-        self.settle_ran(alloc)?;
-        Ok(Effect::Made)
-    }
-
-    /// Settles the layer that was run, if one was and isn't settled. The only error is want of memory, and then all is
-    /// as it was but for room.
-    pub fn settle_ran(&mut self, alloc: Global) -> Result<(), AllocError>
-        requires { (h : List Step) × (w : World) × IsAt self.old h w }
-        ensures made { OnOk result ((ran : RanLayer) → self.old.stage ≡ Stage.HasRun ran
-            → Makes self.old Step.Settle Effect.Made self.new) }
-        ensures rows { OnOk result ((h : List Step) (w : World) → IsAt self.old h w → AreRows w.ended self.new.rows) }
-        ensures keeps { OnErr result (Keeps self.old self.new) }
-    {
-        let Stage::HasRun(layer) = &self.stage else {
-            return Ok(());
-        };
-        let count = layer.ended.len();
-        let size = size_of_rows(layer.ended.as_slice()).ok_or(AllocError)?;
-        let mut rows = self.rows.take_with_room(alloc, count, size)?;
-        let Stage::HasRun(RanLayer { ended, words }) = mem::replace(&mut self.stage, Stage::Free)
-        else {
+        let Stage::HasRun(outcomes) = mem::replace(&mut self.stage, Stage::Free) else {
             unreachable!()
         };
-        settle_all(&mut self.router, &mut rows, ended, words);
-        self.rows = rows.into_rows();
-        Ok(())
+        settle_all(&mut self.router, outcomes);
+        Ok(Effect::Made)
     }
 
     /// Collects the outcome that waits for a connection, if one does. It takes no memory.
@@ -273,7 +252,7 @@ fn unsent(router: &Router, conn: ConnId) -> SubmitFault
 }
 
 /// The layer is now so far.
-fn stand(stage: &mut Stage, now: Stage)
+fn set_stage(stage: &mut Stage, now: Stage)
     ensures { stage.new ≡ now }
 {
     discard(mem::replace(stage, now));

@@ -2,19 +2,12 @@
 
 use layer_planner::Layer;
 use packing::PackedRequest;
-use shard_exec::Ended;
+use router::Outcome;
 
 /// A layer that was taken: its requests, and beside each its words.
 #[derive(Drop)]
 pub struct TakenLayer {
     pub layer: Layer,
-    pub words: Vec<PackedRequest>,
-}
-
-/// A layer that was run: what became of each request, and beside each its words.
-#[derive(Drop)]
-pub struct RanLayer {
-    pub ended: Vec<Ended>,
     pub words: Vec<PackedRequest>,
 }
 
@@ -25,8 +18,8 @@ pub enum Stage {
     Free,
     /// It was taken, and is to be run.
     Taken(TakenLayer),
-    /// It was run, and is to be settled.
-    HasRun(RanLayer),
+    /// It was run, and what came of each of its requests is to go to its connection.
+    HasRun(Vec<Outcome>),
 }
 
 /// How far the layer is that is under way, apart from what is in it.

@@ -1,19 +1,21 @@
 //! The system.
 
-ghost use Rattle.std.specs.Prelude.{◌≡◌, ◌<◌, ◌≤◌, ◌++◌, List, length, [], IfOk, IfErr, OnOk, OnErr, IsTrue, ◌↔◌, option_copied};
-ghost use Rattle.system.specs.System.{IsNew, IsStep, IsRefused, IsQuiet, ObeysOneThread};
+ghost use Rattle.std.specs.Prelude.{Bool, false, ◌≡◌, ◌<◌, ◌≤◌, ◌++◌, length, IfOk, IfErr, OnOk, OnErr, IfSome, IfNone, IsTrue};
+ghost use Rattle.std.specs.Prelude.{◌↔◌, option_copied};
+ghost use Rattle.system.specs.System.{IsNew, IsStep, MayGoOn, IsAdmitted, IsRefused, IsQuiet, ObeysOneThread};
+ghost use Rattle.system.specs.Reads.{table_of, failed, maps_of, contents_of, rows_of, starved_of, packets_of, queues_of};
+ghost use Rattle.system.specs.Reads.{progress_of, to_run};
+ghost use Rattle.system.specs.Reads.{waiting_for};
+ghost use Rattle.system.specs.Laws.{ShowsSome, OfItsWorlds, OthersKeepStill, CollectedOnce, CollectsItsOwn};
+ghost use Rattle.world_laws.specs.Order.{FinalsAgree, FinalsDiffer, ConnectionsRise, GroupsAreOfCommands, PacketsAreAddressed};
+ghost use Rattle.world_laws.specs.Order.{LogsAreAddressed, ReadyInWords, EndedOnce, EndedAsSubmitted, TouchingInStampOrder};
+ghost use Rattle.shard_maps.specs.Joined.{HasOwnKeys};
 ghost use Rattle.system.specs.Runs.{Runs};
 ghost use Rattle.system.specs.Endings.{EachHasEnded, SomeMayBeMade, TurnsAreFew};
-ghost use Rattle.delivery.specs.Queues.{queue_of};
 ghost use Rattle.delivery.specs.Ready.{IsReady};
-ghost use Rattle.router.specs.Router.{waiting};
 ghost use Rattle.dumps.specs.Dump.{dump_text};
 ghost use Rattle.journal.specs.declared.step.Step.{Step};
-ghost use Rattle.shard_maps.specs.Joined.{joined};
 ghost use Rattle.skeen_core.specs.declared.packet.Delivered.{Delivered};
-ghost use Rattle.system.specs.Parts.{IsAt, progress_of, to_run};
-ghost use Rattle.system_view.specs.Layers.{AreRows};
-ghost use Rattle.world.specs.World.{World};
 ghost use Rattle.journal.specs.declared.trace.TheConstants.{GREATEST_STEPS};
 
 use super::effect::Effect;
@@ -30,6 +32,7 @@ use shard_workers::{Gate, Workers};
 use shards::ShardHasher;
 use std::alloc::{AllocError, Global};
 use std::marker::Model;
+use world_laws::{collecting_of_outcomes, order_of_requests};
 
 /// A store on several shards as one machine. Contracts see how many steps were made, how many may be, and what the
 /// parts show.
@@ -115,14 +118,11 @@ impl System {
         gate: &(dyn Gate + Sync),
     ) -> Result<Effect, StepFault>
         ensures made { IfOk result (λ effect. IsStep self.old step effect self.new) }
-        ensures refused { IfErr result (λ fault. IsRefused W.may_refuse self.old step fault self.new) }
+        ensures refused { IfErr result (λ fault. IsRefused (W.may_refuse workers.now) self.old step fault self.new) }
         ensures one_thread { ObeysOneThread self.new }
     {
-        if self.parts.store.has_failed() {
-            return Err(StepFault::Failed);
-        }
-        if self.steps == self.max_steps {
-            return Err(StepFault::Exhausted);
+        if let Some(fault) = self.stopped() {
+            return Err(fault);
         }
         match self.parts.make(self.alloc, step, workers, gate) {
             Ok(effect) => {
@@ -145,12 +145,16 @@ impl System {
         workers: &W,
         gate: &(dyn Gate + Sync),
     ) -> (Vec<Effect>, Option<StepFault>)
-        ensures runs { Runs W.may_refuse self.old steps.items result.0.items result.1 self.new }
+        ensures runs { Runs (W.may_refuse workers.now) self.old steps.items result.0.items result.1 self.new }
         ensures one_thread { ObeysOneThread self.new }
     {
-        let Ok(mut effects) = Vec::with_capacity(self.alloc, steps.len()) else {
-            return (Vec::new(self.alloc), Some(StepFault::Memory));
-        };
+        let mut effects = Vec::new(self.alloc);
+        if effects.reserve(steps.len()).is_err() {
+            let Some(fault) = self.stopped() else {
+                return (effects, Some(StepFault::Memory));
+            };
+            return (effects, Some(fault));
+        }
         for step in steps {
             match self.step(step, workers, gate) {
                 Ok(effect) => effects.push_reserved(effect),
@@ -158,6 +162,32 @@ impl System {
             }
         }
         (effects, None)
+    }
+
+    /// Why no step is made any more, if none is.
+    fn stopped(&self) -> Option<StepFault>
+        ensures some { IfSome result (λ fault. (may_refuse : Bool) (step : Step) → IsRefused may_refuse self.now step fault self.now) }
+        ensures none { IfNone result (MayGoOn self.now) }
+    {
+        if self.parts.store.has_failed() {
+            return Some(StepFault::Failed);
+        }
+        if self.steps == self.max_steps {
+            return Some(StepFault::Exhausted);
+        }
+        None
+    }
+
+    /// Why the step is refused as things are: no step is made any more, or it has a fault of its own. Where it is refused for
+    /// neither, `step` makes it, or answers `Memory`, or `Failed` of a worker's start. It takes no memory.
+    pub fn refuses(&self, step: &Step) -> Option<StepFault>
+        ensures some { IfSome result (λ fault. IsRefused false self.now step.now fault self.now) }
+        ensures none { IfNone result (IsAdmitted self.now step.now) }
+    {
+        match self.stopped() {
+            Some(fault) => Some(fault),
+            None => self.parts.own_fault(step),
+        }
     }
 
     /// How many steps were made.
@@ -169,14 +199,14 @@ impl System {
 
     /// Whether a worker could not be started once: then no step is made any more.
     pub fn has_failed(&self) -> bool
-        ensures { result ≡ self.now.parts.store.failed }
+        ensures { result ≡ failed self.now }
     {
         self.parts.store.has_failed()
     }
 
     /// How far the layer is that is under way: which of Take, Run and Settle may come next.
     pub fn progress(&self) -> Progress
-        ensures { result ≡ progress_of self.now.parts.stage }
+        ensures { result ≡ progress_of self.now }
     {
         match &self.parts.stage {
             Stage::Free => Progress::Free,
@@ -188,7 +218,7 @@ impl System {
     /// How many requests the layer has that was taken and is to be run; 0 where none is. No more can starve in the next
     /// run.
     pub fn to_run(&self) -> usize
-        ensures { result ≡ to_run self.now.parts.stage }
+        ensures { result ≡ to_run self.now }
     {
         match &self.parts.stage {
             Stage::Taken(taken) => taken.layer.len(),
@@ -198,21 +228,21 @@ impl System {
 
     /// How many packets are under way.
     pub fn packets(&self) -> usize
-        ensures { result ≡ length self.now.parts.multicast.packets }
+        ensures { result ≡ length (packets_of self.now) }
     {
         self.parts.multicast.packets()
     }
 
-    /// The rows of what was executed in settled layers, in the order of execution.
+    /// The rows of what was executed, in the order of execution.
     pub fn rows(&self) -> &Rows
-        ensures { result.now ≡ self.now.parts.rows }
+        ensures { result.now.rows ≡ rows_of self.now }
     {
         &self.parts.rows
     }
 
     /// The ids of the requests that starved, in the order in which their turns came.
     pub fn starved(&self) -> &[RequestId]
-        ensures { result.now ≡ self.now.parts.starved.items }
+        ensures { result.now ≡ starved_of self.now }
     {
         self.parts.starved.as_slice()
     }
@@ -221,37 +251,23 @@ impl System {
     ///
     /// With `AllocError`, where there is no memory for it, `out` is as it was.
     pub fn dump(&self, out: &mut Vec<u8>) -> Result<(), AllocError>
-        ensures ok { OnOk result (out.new.items ≡ out.old.items ++ dump_text (joined self.now.parts.store.maps)) }
+        ensures ok { OnOk result (out.new.items ≡ out.old.items ++ dump_text (contents_of self.now)) }
         ensures err { OnErr result (out.new.items ≡ out.old.items) }
     {
         self.parts.store.dump(self.alloc, out)
     }
 
-    /// The rows of all that was executed, in the order of execution, those of a layer that isn't settled included. The
-    /// only error is want of memory.
-    pub fn into_rows(self) -> Result<Rows, AllocError>
-        ensures { IfOk result (λ rows. (h : List Step) (w : World) → IsAt self.parts h w → AreRows w.ended rows) }
-    {
-        let alloc = self.alloc;
-        let mut parts = self.parts;
-        if parts.store.has_failed() {
-            return Ok(parts.rows);
-        }
-        parts.settle_ran(alloc)?;
-        Ok(parts.rows)
-    }
-
     /// Whether some request is ready: it stands at the head of the queue of each of its groups, and a Take would take it.
     /// It takes no memory.
     pub fn has_ready(&self) -> bool
-        ensures { IsTrue result ↔ ((d : Delivered) × IsReady (queue_of self.now.parts.multicast.queues) d) }
+        ensures { IsTrue result ↔ ((d : Delivered) × IsReady (queues_of self.now) d) }
     {
         self.parts.multicast.has_ready()
     }
 
     /// Whether nothing is under way: no packet, no layer, and no request that is ready. It takes no memory.
     pub fn quiet(&self) -> bool
-        ensures { IsTrue result ↔ IsQuiet self.now.parts }
+        ensures { IsTrue result ↔ IsQuiet self.now }
     {
         let Stage::Free = &self.parts.stage else {
             return false;
@@ -269,16 +285,47 @@ impl System {
     /// `progress` tells which. And of these four there are never more steps than k * k + 3 for each submitted request
     /// of k groups.
     pub fn ends(&self)
-        ensures ended { IsQuiet self.now.parts → EachHasEnded self.now.parts }
-        ensures goes_on { ¬ IsQuiet self.now.parts → SomeMayBeMade (progress_of self.now.parts.stage) self.now }
-        ensures bounded { TurnsAreFew self.now.parts }
+        ensures ended { IsQuiet self.now → EachHasEnded self.now }
+        ensures goes_on { ¬ IsQuiet self.now → SomeMayBeMade (progress_of self.now) self.now }
+        ensures bounded { TurnsAreFew self.now }
     {
         let _ = &self.parts;
     }
 
+    /// It does nothing: its contract says what holds of each history that may have led here, and of the world that it
+    /// gives.
+    ///
+    /// There is one, unless a worker's start was refused; and each shard has only keys that the table places on it. All
+    /// groups that know a request's final stamp know the same one, no two requests have the same, and a connection's
+    /// rise. Where two requests touch, the one with the smaller stamp was executed first. A request ends once, as it was
+    /// submitted, and its outcome is collected once, by its own connection. Packets, and what groups deliver, are of
+    /// requests of these groups alone, which are those of their commands; a step changes the group alone that it brings
+    /// a packet to. And ready is what each of a request's groups has delivered behind nothing that isn't taken.
+    pub fn order(&self)
+        ensures shows { ShowsSome self.now }
+        ensures own_keys { HasOwnKeys (table_of self.now) (maps_of self.now) }
+        ensures finals_agree { OfItsWorlds FinalsAgree self.now }
+        ensures finals_differ { OfItsWorlds FinalsDiffer self.now }
+        ensures connections_rise { OfItsWorlds ConnectionsRise self.now }
+        ensures touching { OfItsWorlds TouchingInStampOrder self.now }
+        ensures ended_once { OfItsWorlds EndedOnce self.now }
+        ensures ended_as_submitted { OfItsWorlds EndedAsSubmitted self.now }
+        ensures groups { OfItsWorlds GroupsAreOfCommands self.now }
+        ensures packets { OfItsWorlds PacketsAreAddressed self.now }
+        ensures delivered { OfItsWorlds LogsAreAddressed self.now }
+        ensures ready { OfItsWorlds ReadyInWords self.now }
+        ensures others { OthersKeepStill self.now }
+        ensures collected_once { CollectedOnce self.now }
+        ensures collects_own { CollectsItsOwn self.now }
+    {
+        order_of_requests();
+        collecting_of_outcomes();
+        let _ = self.parts.store.table();
+    }
+
     /// The outcome that waits for a connection, left in place. It takes no memory.
     pub fn waits(&self, conn: ConnId) -> Option<&Outcome>
-        ensures { option_copied result ≡ waiting self.now.parts.router conn.0 }
+        ensures { option_copied result ≡ waiting_for self.now conn.0 }
     {
         self.parts.router.waits(conn)
     }

@@ -18,7 +18,7 @@ use Rattle.system.proofs.parts.Parts.take.Goals as goal
 
 pub returns-in_default-ready-clause-fault : goal.returns-in_default-ready-clause-fault
 returns-in_default-ready-clause-fault c =
-    take_memory c.args.self.now c.in-Free.is (λ none. let k = subst IsOk c.in_default-ready.is (c.ready.ensures.succeeds none) in cc)
+    (tt, take_memory c.args.self.now c.in-Free.is (λ none. let k = subst IsOk c.in_default-ready.is (c.ready.ensures.succeeds none) in cc))
 
 pub returns-then-is_empty-clause-fault : goal.returns-then-is_empty-clause-fault
 returns-then-is_empty-clause-fault c =
@@ -26,16 +26,20 @@ returns-then-is_empty-clause-fault c =
     (subst (IsLayer (queue_of c.args.self.now.multicast.queues)) (none_listed c.in-Ok.ready.items (search rules)) c.in-Ok.ensures.layer)
 
 pub returns-in_default-with_capacity-clause-fault : goal.returns-in_default-with_capacity-clause-fault
-returns-in_default-with_capacity-clause-fault c =
-    take_memory c.args.self.now c.in-Free.is
-    (some_ready (queue_of c.args.self.now.multicast.queues) c.in-Ok.ready.items c.in-Ok.ensures.layer
-    (λ e. let count = ap length e in search rules))
+returns-in_default-with_capacity-clause-fault c = (
+  tt,
+  take_memory c.args.self.now c.in-Free.is
+      (some_ready (queue_of c.args.self.now.multicast.queues) c.in-Ok.ready.items c.in-Ok.ensures.layer
+      (λ e. let count = ap length e in search rules)),
+)
 
 pub returns-in_default-with_capacity-2-clause-fault : goal.returns-in_default-with_capacity-2-clause-fault
-returns-in_default-with_capacity-2-clause-fault c =
-    take_memory c.args.self.now c.in-Free.is
-    (some_ready (queue_of c.args.self.now.multicast.queues) c.in-Ok.ready.items c.in-Ok.ensures.layer
-    (λ e. let count = ap length e in search rules))
+returns-in_default-with_capacity-2-clause-fault c = (
+  tt,
+  take_memory c.args.self.now c.in-Free.is
+      (some_ready (queue_of c.args.self.now.multicast.queues) c.in-Ok.ready.items c.in-Ok.ensures.layer
+      (λ e. let count = ap length e in search rules)),
+)
 
 pub take_all-requires-clause-waits : goal.take_all-requires-clause-waits
 take_all-requires-clause-waits c =
@@ -66,7 +70,7 @@ returns-clause-made c =
     let r = c.take_all.new.router in
     let m = c.lose_layer.new.self in
     let layer = c.in-Some.layer in
-    subst (λ s. Makes old Take Made (record old { router = r; multicast = m; stage = s })) (sym c.stand.ensures)
+    subst (λ s. Makes old Take Made (record old { router = r; multicast = m; stage = s })) (sym c.set_stage.ensures)
     (take_makes old r m (record { layer = layer; words = c.take_all.new.words }) ready c.in-Free.is c.in-Ok.ensures.layer
     (λ e. let count = ap length e in search rules)
     (λ t w is.

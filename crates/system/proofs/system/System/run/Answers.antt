@@ -1,7 +1,7 @@
-use Rattle.std.proofs.Common.{rules, ◌≡◌, List, [], ◌∷◌, length, inl, refl, sym, subst, arith}
+use Rattle.std.proofs.Common.{rules, ◌≡◌, List, [], ◌∷◌, length, inl, inr, refl, sym, ap, ◌∙◌, subst, arith}
 use Rattle.journal.specs.declared.step.Step.{Step}
 use Rattle.system.proofs.Lasting.{obeys}
-use Rattle.system.proofs.Runs.{IsUpTo, up_to_next, runs_all, runs_to}
+use Rattle.system.proofs.Runs.{IsUpTo, up_to_next, runs_all, runs_to, refused_at_once}
 use Rattle.system.specs.System.{SystemView, ObeysOneThread}
 use Rattle.system.specs.declared.system.System.TheInside.{Inside}
 use Rattle.system.proofs.system.System.run.Goals as goal
@@ -13,13 +13,33 @@ none_left : (steps : List Step) → length steps ≡ 0 → steps ≡ []
 none_left [] none = refl
 none_left (step ∷ steps) none = absurd (omega arith)
 
+pub returns-in_default-clause-runs : goal.returns-in_default-clause-runs
+returns-in_default-clause-runs g c = inr (record {
+  some = λ none. let count = ap length none in search rules;
+  lives = c.in_default.ensures.none.lives;
+  left = c.in_default.ensures.none.left;
+  none_made = c.reserve.ensures.items ∙ c.new-effects.ensures.items;
+  is_memory = refl;
+  same = refl;
+})
+
 pub returns-in_default-clause-one_thread : goal.returns-in_default-clause-one_thread
 returns-in_default-clause-one_thread g c =
     subst ObeysOneThread c.self.view_is (obeys (was c.self.inside) c.self.invariant.is_table)
 
+pub returns-then-is_err-clause-runs : goal.returns-then-is_err-clause-runs
+returns-then-is_err-clause-runs g c =
+    inl (refused_at_once (g.W.Workers.may_refuse c.args.workers.now) c.args.self.now c.args.steps.items _ c.in-Some.fault
+    (λ none. let count = ap length none in search rules) (c.reserve.ensures.items ∙ c.new-effects.ensures.items)
+    (c.in-Some.ensures.some (g.W.Workers.may_refuse c.args.workers.now)))
+
+pub returns-then-is_err-clause-one_thread : goal.returns-then-is_err-clause-one_thread
+returns-then-is_err-clause-one_thread g c =
+    subst ObeysOneThread c.self.view_is (obeys (was c.self.inside) c.self.invariant.is_table)
+
 pub loop-step-init : goal.loop-step-init
 loop-step-init g c = (
-  record { made = []; split = search rules; are_made = (c.in-Ok.ensures.items, refl) },
+  record { made = []; split = search rules; are_made = (c.reserve.ensures.items ∙ c.new-effects.ensures.items, refl) },
   search rules,
   subst ObeysOneThread c.self.view_is (obeys (was c.self.inside) c.self.invariant.is_table),
 )
@@ -27,13 +47,13 @@ loop-step-init g c = (
 pub loop-step-preserved : goal.loop-step-preserved
 loop-step-preserved g c =
     let now = c.loop-step.invariant in
-    let s = c.in-Some.ensures.steps in
+    let s = c.in-Some-step.ensures.steps in
     let left = c.next.new.self.rest.items in
     let here = subst (λ rest. IsUpTo c.args.self.now c.args.steps.items c.loop-step.effects.items rest c.loop-step.self) s.0 now.0 in
     let room = now.1 in (
       subst (λ effects. IsUpTo c.args.self.now c.args.steps.items effects left c.step.new.self) (sym c.push_reserved.ensures.items)
-          (up_to_next c.args.self.now c.loop-step.self c.step.new.self c.args.steps.items left c.loop-step.effects.items c.in-Some.step
-          c.in-Ok-step.effect here c.in-Ok-step.ensures.made),
+          (up_to_next c.args.self.now c.loop-step.self c.step.new.self c.args.steps.items left c.loop-step.effects.items c.in-Some-step.step
+          c.in-Ok.effect here c.in-Ok.ensures.made c.step.ensures.one_thread),
       search rules,
       c.step.ensures.one_thread,
     )
@@ -41,15 +61,15 @@ loop-step-preserved g c =
 pub returns-in-Err-clause-runs : goal.returns-in-Err-clause-runs
 returns-in-Err-clause-runs g c =
     let now = c.loop-step.invariant in
-    let s = c.in-Some.ensures.steps in
+    let s = c.in-Some-step.ensures.steps in
     let left = c.next.new.self.rest.items in
     let here = subst (λ rest. IsUpTo c.args.self.now c.args.steps.items c.loop-step.effects.items rest c.loop-step.self) s.0 now.0 in
-    inl (runs_to g.W.Workers.may_refuse c.args.self.now c.loop-step.self c.step.new.self c.args.steps.items left
-    c.loop-step.effects.items c.in-Some.step c.in-Err.fault here c.in-Err.ensures.refused)
+    inl (runs_to (g.W.Workers.may_refuse c.args.workers.now) c.args.self.now c.loop-step.self c.step.new.self c.args.steps.items left
+    c.loop-step.effects.items c.in-Some-step.step c.in-Err.fault here c.in-Err.ensures.refused)
 
 pub returns-clause-runs : goal.returns-clause-runs
 returns-clause-runs g c =
     let none = none_left c.loop-step.step-iterator.rest.items (search rules) in
-    inl (runs_all g.W.Workers.may_refuse c.args.self.now c.loop-step.self c.args.steps.items c.loop-step.effects.items
+    inl (runs_all (g.W.Workers.may_refuse c.args.workers.now) c.args.self.now c.loop-step.self c.args.steps.items c.loop-step.effects.items
     (subst (λ rest. IsUpTo c.args.self.now c.args.steps.items c.loop-step.effects.items rest c.loop-step.self) none
     c.loop-step.invariant.0))

@@ -1,7 +1,7 @@
-use Rattle.std.proofs.Common.{◌≡◌, ◌+◌, ◌<◌, refl, sym, ◌∙◌, subst, arith}
+use Rattle.std.proofs.Common.{◌+◌, refl, sym, subst}
 use Rattle.placement.specs.Layout.{IsTable}
 use Rattle.system.proofs.Lasting.{obeys, lives, made_so, goes_on, Leaves, leaves, table_left, stays, refused_so}
-use Rattle.system.specs.System.{SystemView, IsSystem, IsStep, IsRefused, ObeysOneThread}
+use Rattle.system.specs.System.{SystemView, IsStep, MayGoOn, IsRefused, ObeysOneThread}
 use Rattle.system.specs.declared.parts.Parts.{Parts}
 use Rattle.system.specs.declared.system.System.TheInside.{Inside}
 use Rattle.system.proofs.system.System.step.Goals as goal
@@ -13,23 +13,23 @@ was inside = record { max_steps = inside.max_steps; steps = inside.steps; parts 
 abbrev with_parts : Inside → Parts → SystemView
 with_parts inside parts = record { max_steps = inside.max_steps; steps = inside.steps; parts = parts }
 
-below : (inside : Inside) → IsSystem (was inside) → (inside.steps ≡ inside.max_steps → ⊥) → inside.steps < inside.max_steps
-below inside is apart = let within = is.within in omega arith
+pub returns-in-Some-clause-refused : goal.returns-in-Some-clause-refused
+returns-in-Some-clause-refused g c = c.in-Some.ensures.some (g.W.Workers.may_refuse c.args.workers.now) c.args.step
 
-pub returns-then-self-clause-one_thread : goal.returns-then-self-clause-one_thread
-returns-then-self-clause-one_thread g c =
+pub returns-in-Some-clause-one_thread : goal.returns-in-Some-clause-one_thread
+returns-in-Some-clause-one_thread g c =
     subst ObeysOneThread c.self.view_is (obeys (was c.self.inside) c.self.invariant.is_table)
 
 pub make-requires : goal.make-requires
-make-requires g c = lives (was c.self.inside) c.self.invariant (sym c.has_failed.ensures ∙ c.if-has_failed.false)
-    (below c.self.inside c.self.invariant c.if-self.false)
+make-requires g c =
+    let may = subst MayGoOn (sym c.self.view_is) c.in_default.ensures.none in
+    lives (was c.self.inside) c.self.invariant may.lives may.left
 
 pub invariant_of-self : goal.invariant_of-self
 invariant_of-self g c =
     let old = was c.self.inside in
-    let made = made_so old c.args.step c.in-Ok.effect c.make.new.self c.self.invariant
-    (sym c.has_failed.ensures ∙ c.if-has_failed.false) (below c.self.inside c.self.invariant c.if-self.false)
-    c.in-Ok.ensures.made in
+    let may = subst MayGoOn (sym c.self.view_is) c.in_default.ensures.none in
+    let made = made_so old c.args.step c.in-Ok.effect c.make.new.self c.self.invariant may.lives may.left c.in-Ok.ensures.made in
     goes_on old _ c.args.step c.in-Ok.effect c.self.invariant made
 
 pub invariant_of-self-in-Err : goal.invariant_of-self-in-Err
@@ -41,11 +41,12 @@ invariant_of-self-in-Err g c =
 pub returns-in-Ok-clause-made : goal.returns-in-Ok-clause-made
 returns-in-Ok-clause-made g c =
     let old = was c.self.inside in
+    let may = subst MayGoOn (sym c.self.view_is) c.in_default.ensures.none in
     subst (λ s. IsStep s c.args.step c.in-Ok.effect
     (record { max_steps = c.self.inside.max_steps; steps = c.self.inside.steps + 1; parts = c.make.new.self }))
     c.self.view_is
-    (made_so old c.args.step c.in-Ok.effect c.make.new.self c.self.invariant (sym c.has_failed.ensures ∙ c.if-has_failed.false)
-    (below c.self.inside c.self.invariant c.if-self.false) c.in-Ok.ensures.made)
+    (made_so old c.args.step c.in-Ok.effect c.make.new.self c.self.invariant may.lives may.left
+    c.in-Ok.ensures.made)
 
 pub returns-in-Ok-clause-one_thread : goal.returns-in-Ok-clause-one_thread
 returns-in-Ok-clause-one_thread g c =
@@ -54,10 +55,12 @@ returns-in-Ok-clause-one_thread g c =
 pub returns-in-Err-clause-refused : goal.returns-in-Err-clause-refused
 returns-in-Err-clause-refused g c =
     let told = c.in-Err.ensures in
-    subst (λ s. IsRefused g.W.Workers.may_refuse s c.args.step c.in-Err.fault (with_parts c.self.inside c.make.new.self)) c.self.view_is
-    (refused_so g.W.Workers.may_refuse (was c.self.inside) (with_parts c.self.inside c.make.new.self) c.args.step c.in-Err.fault
-    (sym c.has_failed.ensures ∙ c.if-has_failed.false) (below c.self.inside c.self.invariant c.if-self.false) refl refl
-    told.fault told.failed)
+    let may = subst MayGoOn (sym c.self.view_is) c.in_default.ensures.none in
+    subst (λ s. IsRefused (g.W.Workers.may_refuse c.args.workers.now) s c.args.step c.in-Err.fault
+    (with_parts c.self.inside c.make.new.self)) c.self.view_is
+    (refused_so (g.W.Workers.may_refuse c.args.workers.now) (was c.self.inside)
+    (with_parts c.self.inside c.make.new.self) c.args.step c.in-Err.fault
+    may.lives may.left refl refl told.fault told.failed)
 
 pub returns-in-Err-clause-one_thread : goal.returns-in-Err-clause-one_thread
 returns-in-Err-clause-one_thread g c =

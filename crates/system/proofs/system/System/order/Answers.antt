@@ -1,0 +1,43 @@
+use Rattle.std.proofs.Common.{subst}
+use Rattle.placement.specs.Layout.{Layout}
+use Rattle.shard_maps.specs.Joined.{HasOwnKeys}
+use Rattle.system.specs.Laws.{ShowsSome, OfItsWorlds, OthersKeepStill, CollectedOnce, CollectsItsOwn}
+use Rattle.system.specs.Reads.{table_of, maps_of}
+use Rattle.system.specs.System.{SystemView}
+use Rattle.system.specs.declared.system.System.TheInside.{Inside}
+use Rattle.world.specs.World.{World}
+use Rattle.world_laws.specs.Order.{OfEveryWorld, FinalsAgree, FinalsDiffer, ConnectionsRise, GroupsAreOfCommands}
+use Rattle.world_laws.specs.Order.{PacketsAreAddressed, LogsAreAddressed, ReadyInWords, EndedOnce, EndedAsSubmitted, TouchingInStampOrder}
+use Rattle.system.proofs.system.System.order.Goals as goal
+
+abbrev was : Inside → SystemView
+was inside = record { max_steps = inside.max_steps; steps = inside.steps; parts = inside.parts }
+
+-- what holds of every world holds of those that a system shows
+of_its : (P : Layout → World → Type 0) (s : SystemView) → OfEveryWorld P → OfItsWorlds P s
+of_its P s law h w at' = law (table_of s) h w at'.leads
+
+pub returns : goal.returns
+returns c =
+    let s = was c.self.inside in
+    let law = c.order_of_requests.ensures in
+    let told = c.collecting_of_outcomes.ensures in record {
+      shows = subst ShowsSome c.self.view_is c.self.invariant.shows;
+      own_keys = subst (λ (v : SystemView). HasOwnKeys (table_of v) (maps_of v)) c.self.view_is c.table.ensures.is_store.own;
+      finals_agree = subst (OfItsWorlds FinalsAgree) c.self.view_is (of_its FinalsAgree s law.groups_agree);
+      finals_differ = subst (OfItsWorlds FinalsDiffer) c.self.view_is (of_its FinalsDiffer s law.final_stamps_differ);
+      connections_rise = subst (OfItsWorlds ConnectionsRise) c.self.view_is (of_its ConnectionsRise s law.stamps_of_connection_rise);
+      touching = subst (OfItsWorlds TouchingInStampOrder) c.self.view_is (of_its TouchingInStampOrder s law.touching_end_in_stamp_order);
+      ended_once = subst (OfItsWorlds EndedOnce) c.self.view_is (of_its EndedOnce s law.ends_once);
+      ended_as_submitted = subst (OfItsWorlds EndedAsSubmitted) c.self.view_is (of_its EndedAsSubmitted s law.ends_as_submitted);
+      groups = subst (OfItsWorlds GroupsAreOfCommands) c.self.view_is (of_its GroupsAreOfCommands s law.asked_of_its_groups);
+      packets = subst (OfItsWorlds PacketsAreAddressed) c.self.view_is (of_its PacketsAreAddressed s law.packets_go_to_addressed);
+      delivered = subst (OfItsWorlds LogsAreAddressed) c.self.view_is (of_its LogsAreAddressed s law.deliveries_are_addressed);
+      ready = subst (OfItsWorlds ReadyInWords) c.self.view_is (of_its ReadyInWords s law.ready_is_first);
+      others = subst OthersKeepStill c.self.view_is
+          (λ h w at' step effect new made. law.others_keep_still (table_of s) w new step effect made);
+      collected_once = subst CollectedOnce c.self.view_is
+          (λ h w at' effects made. told.collected_once (table_of s) h effects w made);
+      collects_own = subst CollectsItsOwn c.self.view_is
+          (λ h w at' effects made conn o new step. told.collects_its_own (table_of s) h effects w new made conn o step);
+    }

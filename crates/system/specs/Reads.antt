@@ -1,0 +1,64 @@
+-- What is read of a system, wherever it lies in its parts.
+use Rattle.std.specs.Prelude.{ℕ, Bool, List, Option}
+use Rattle.delivery.specs.Queues.{queue_of}
+use Rattle.delivery.specs.Ready.{QueueOf}
+use Rattle.groups.specs.declared.request.RequestId.{RequestId}
+use Rattle.journal.specs.Views.{RowView}
+use Rattle.keyspace.specs.Map.{Map}
+use Rattle.placement.specs.Layout.{Layout}
+use Rattle.router.specs.Router as router
+use Rattle.router.specs.declared.connection.Connection.{Connection}
+use Rattle.router.specs.declared.outcome.Outcome.{Outcome}
+use Rattle.shard_maps.specs.Joined.{joined}
+use Rattle.skeen_core.specs.declared.packet.Packet.{Packet}
+use Rattle.system.specs.Parts as parts
+use Rattle.system.specs.System.{SystemView}
+use Rattle.system.specs.declared.stage.Progress.{Progress}
+
+-- where keys lie
+abbrev pub table_of : SystemView → Layout
+table_of s = s.parts.store.table
+
+-- whether a worker's start was refused
+abbrev pub failed : SystemView → Bool
+failed s = s.parts.store.failed
+
+-- the map of each shard
+abbrev pub maps_of : SystemView → List Map
+maps_of s = s.parts.store.maps
+
+-- what the shards hold together
+abbrev pub contents_of : SystemView → Map
+contents_of s = joined (maps_of s)
+
+-- what was executed, in the order of execution
+abbrev pub rows_of : SystemView → List RowView
+rows_of s = s.parts.rows.rows
+
+-- what starved, in the order of turns
+abbrev pub starved_of : SystemView → List RequestId
+starved_of s = s.parts.starved.items
+
+-- the packets under way, oldest first
+abbrev pub packets_of : SystemView → List Packet
+packets_of s = s.parts.multicast.packets
+
+-- what a group has delivered and no layer has taken
+abbrev pub queues_of : SystemView → QueueOf
+queues_of s = queue_of s.parts.multicast.queues
+
+-- how far the layer is that is under way
+abbrev pub progress_of : SystemView → Progress
+progress_of s = parts.progress_of s.parts.stage
+
+-- how many requests are to be run
+abbrev pub to_run : SystemView → ℕ
+to_run s = parts.to_run s.parts.stage
+
+-- the connection of a number, if it is kept
+abbrev pub connection_of : SystemView → ℕ → Option Connection
+connection_of s = router.connection s.parts.router
+
+-- the outcome that waits for a connection
+abbrev pub waiting_for : SystemView → ℕ → Option Outcome
+waiting_for s = router.waiting s.parts.router
