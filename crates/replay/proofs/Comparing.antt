@@ -19,9 +19,9 @@ use Rattle.replay.specs.Order.{Key, ArePlaced}
 use Rattle.replay.specs.Report.{row_line, replies_agree, left_by, agrees, starved_line, last_line, executed_in, report_text}
 use Rattle.journal.specs.declared.step.Step.{Step}
 use Rattle.placement.specs.Layout.{IsTable}
-use Rattle.shard_maps.specs.Joined.{joined}
 use Rattle.system.proofs.Lasting.{obeys}
 use Rattle.system.specs.Parts.{IsAt}
+use Rattle.system.specs.Reads as system
 use Rattle.system.specs.System.{SystemView}
 use Rattle.world.specs.Steps.{starved_among}
 use Rattle.world.specs.World.{World}
@@ -94,15 +94,14 @@ if_ok (Ok a) P Q by holds = by a holds
 if_ok (Err e) P Q by holds = tt
 
 -- what is told of the rows, the starved and the contents of a system is the report of its world
-pub reports : (s : SystemView) (R : List RowView) (starved dump out : List ℕ) (agree : Bool) → IsTable s.parts.store.table →
-    ((h : List Step) (w : World) → IsAt s.parts h w → AreRows w.ended R) → starved ≡ flat_map starved_line s.parts.starved.items →
-    dump ≡ dump_text (joined s.parts.store.maps) →
+pub reports : (s : SystemView) (R : List RowView) (starved dump out : List ℕ) (agree : Bool) → IsTable (system.table_of s) →
+    R ≡ system.rows_of s → starved ≡ flat_map starved_line (system.starved_of s) → dump ≡ dump_text (system.contents_of s) →
     ((E : List Row) → AllZip IsRow E R → (out ≡ flat_map row_line (rows_by_stamp E) ++ starved ++ dump ++ last_line agree)
     × (agree ≡ agrees (rows_by_stamp E) dump)) →
     (h : List Step) (w : World) → IsAt s.parts h w → (out ≡ report_text w) × (agree ≡ true)
-reports s R starved dump out agree is_table rows starved_is dump_is told h w at' =
+reports s R starved dump out agree is_table rows_are starved_is dump_is told h w at' =
     let lines = flat_map row_line (executed_in w) in
-    let is = told (rows_of w.ended) (rows h w at') in
+    let is = told (rows_of w.ended) (subst (λ r. AreRows w.ended r) (sym rows_are) at'.shows.rows) in
     let those : starved ≡ flat_map starved_line (starved_among w.ended) = starved_is ∙ ap (flat_map starved_line) at'.shows.starved in
     let map : dump ≡ dump_text w.contents = dump_is ∙ ap dump_text at'.shows.store.contents in
     let both : agree ≡ agrees (executed_in w) (dump_text w.contents) = is.1 ∙ ap (agrees (executed_in w)) map in

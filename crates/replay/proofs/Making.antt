@@ -20,12 +20,14 @@ use Rattle.groups.specs.Request.{same_id}
 use Rattle.skeen_core.specs.declared.packet.Delivered.{Delivered}
 use Rattle.groups.specs.declared.request.RequestId.{RequestId}
 use Rattle.system.proofs.Histories.{leads_more}
-use Rattle.system.specs.Parts.{StarvesNamed, effect_shown, stored}
+use Rattle.system.specs.Parts.{Starves, effect_shown, stored}
+use Rattle.system.specs.Reads.{table_of, failed}
 use Rattle.system.specs.System.{SystemView, IsStep, IsRefused}
 use Rattle.system.specs.declared.effect.Effect.{Effect}
 use Rattle.system.specs.declared.effect.Effect.TheVariants as effect
 use Rattle.system.specs.declared.fault.StepFault.{StepFault}
 use Rattle.system.specs.declared.fault.StepFault.TheVariants.{Busy, NoConn, NoPacket, InFlight, NoLayer, Exhausted, Memory, Failed}
+use Rattle.system.specs.declared.parts.Parts.{Parts}
 use Rattle.world.specs.Steps.{opening, names, map_after, RunInTurn, Steps, Leads}
 use Rattle.world.specs.World.{World, Ended}
 use Rattle.world_laws.specs.Good.{Asked}
@@ -110,26 +112,26 @@ named_all s (effect.Collected outcome) ids is are = named_other s (effect.Collec
 named_all s effect.Made ids is are = named_other s effect.Made (λ starved e. cc)
 
 -- so the step itself is the world's, and not only the one that is stored
-made_itself : (t : Layout) (w w' : World) (s : Step) (e : Effect) → StarvesNamed s e w → AreNamed s e →
+made_itself : (p : Parts) (t : Layout) (w w' : World) (s : Step) (e : Effect) → Starves p s e w → AreNamed s e →
     Steps t w (stored s e) (effect_shown e) w' → Steps t w s (effect_shown e) w'
-made_itself t w w' step.Open e starve named made = made
-made_itself t w w' (step.Submit conn words) e starve named made = made
-made_itself t w w' (step.Deliver place) e starve named made = made
-made_itself t w w' step.Take e starve named made = made
-made_itself t w w' step.Settle e starve named made = made
-made_itself t w w' (step.Collect conn) e starve named made = made
-made_itself t w w' (step.Close conn) e starve named made = made
-made_itself t w w' (step.Run skip) (effect.Opened conn) starve named made = made
-made_itself t w w' (step.Run skip) (effect.Submitted id) starve named made = made
-made_itself t w w' (step.Run skip) (effect.Collected outcome) starve named made = made
-made_itself t w w' (step.Run skip) effect.Made starve named made = made
-made_itself t w w' (step.Run skip) (effect.Ran starved) starve named made = record {
+made_itself p t w w' step.Open e starve named made = made
+made_itself p t w w' (step.Submit conn words) e starve named made = made
+made_itself p t w w' (step.Deliver place) e starve named made = made
+made_itself p t w w' step.Take e starve named made = made
+made_itself p t w w' step.Settle e starve named made = made
+made_itself p t w w' (step.Collect conn) e starve named made = made
+made_itself p t w w' (step.Close conn) e starve named made = made
+made_itself p t w w' (step.Run skip) (effect.Opened conn) starve named made = made
+made_itself p t w w' (step.Run skip) (effect.Submitted id) starve named made = made
+made_itself p t w w' (step.Run skip) (effect.Collected outcome) starve named made = made
+made_itself p t w w' (step.Run skip) effect.Made starve named made = made
+made_itself p t w w' (step.Run skip) (effect.Ran starved) starve named made = record {
   layer = made.layer;
   outcomes = made.outcomes;
   there = made.there;
   in_turn = run_alike w.asked starved skip w.contents made.layer made.outcomes
       (λ d there. same_tests (names starved d.id) (names skip d.id) (named_also starved skip d.id named)
-      (starve made.layer made.there d there)) made.in_turn;
+      (starve.named made.layer made.there d there)) made.in_turn;
   answers = made.answers;
   after = made.after;
 }
@@ -139,7 +141,8 @@ pub stands_next : (t : Layout) (most : ℕ) (before : List Step) (old new : Syst
     AreNamed s e → StandsAt t most before old → StandsAt t most (before ++ s ∷ []) new
 stands_next t most before old new s e is named stands =
     let next = is.makes.from_each before stands.world stands.shows in
-    let itself = made_itself old.parts.store.table stands.world next.0 s e (is.makes.named before stands.world stands.shows) named next.1 in
+    let starves = is.makes.starves before stands.world stands.shows in
+    let itself = made_itself old.parts (table_of old) stands.world next.0 s e starves named next.1 in
     let count = stands.count in
     let counted = is.counted in
     let more = length-append before (s ∷ []) in
@@ -147,7 +150,7 @@ stands_next t most before old new s e is named stands =
       world = next.0;
       shows = record {
         leads = subst (λ l. Leads l opening (before ++ s ∷ []) next.0) (sym is.makes.table)
-            (leads_more old.parts.store.table opening stands.world next.0 before s (effect_shown e) stands.shows.leads itself);
+            (leads_more (table_of old) opening stands.world next.0 before s (effect_shown e) stands.shows.leads itself);
         shows = next.2.shows;
       };
       table = is.makes.table ∙ stands.table;
@@ -161,19 +164,27 @@ stands_next t most before old new s e is named stands =
 both_ways : (b : Bool) → b ≡ true → b ≡ false → ⊥
 both_ways b on off = cc
 
+-- a system in which steps are left has made fewer than may be made
+fewer : {t : Layout} {most : ℕ} {made : List Step} {s : SystemView} → StandsAt t most made s → s.steps < s.max_steps →
+    length made < most
+fewer stands left = let count = stands.count in let limit = stands.limit in omega arith
+
 refusal : (may_refuse : Bool) (t : Layout) (most : ℕ) (before : List Step) (old new : SystemView) (s : Step) (fault : StepFault) →
     (stands : StandsAt t most before old) → fault ≢ Memory → IsRefused may_refuse old s fault new →
     IsRefusal may_refuse most (length before) stands.world s fault
-refusal may_refuse t most before old new s Busy stands other is = is.why before stands.world stands.shows
-refusal may_refuse t most before old new s NoConn stands other is = is.why before stands.world stands.shows
-refusal may_refuse t most before old new s NoPacket stands other is = is.why before stands.world stands.shows
-refusal may_refuse t most before old new s InFlight stands other is = is.why before stands.world stands.shows
-refusal may_refuse t most before old new s NoLayer stands other is = is.why before stands.world stands.shows
+refusal may_refuse t most before old new s Busy stands other is = (fewer stands is.left, is.why before stands.world stands.shows)
+refusal may_refuse t most before old new s NoConn stands other is = (fewer stands is.left, is.why before stands.world stands.shows)
+refusal may_refuse t most before old new s NoPacket stands other is = (fewer stands is.left, is.why before stands.world stands.shows)
+refusal may_refuse t most before old new s InFlight stands other is = (fewer stands is.left, is.why before stands.world stands.shows)
+refusal may_refuse t most before old new s NoLayer stands other is = (fewer stands is.left, is.why before stands.world stands.shows)
 refusal may_refuse t most before old new s Exhausted stands other is = sym stands.count ∙ is.1 ∙ stands.limit
 refusal may_refuse t most before old new s Memory stands other is = absurd (other refl)
 refusal may_refuse t most before old new s Failed stands other (inl before') =
-    absurd (both_ways old.parts.store.failed before'.0 stands.lives)
-refusal may_refuse t most before old new s Failed stands other (inr now) = now.1
+    absurd (both_ways (failed old) before'.0 stands.lives)
+refusal may_refuse t most before old new s Failed stands other (inr now) = (
+  fewer stands now.left,
+  (now.may_fail.refusable, now.may_fail.runs, now.may_fail.not_refused before stands.world stands.shows),
+)
 
 pub refused_at : (may_refuse : Bool) (t : Layout) (most : ℕ) (steps before behind : List Step) (old new : SystemView) (s : Step)
     (index : ℕ) (fault : StepFault) → steps ≡ before ++ s ∷ behind → index ≡ length before → StandsAt t most before old → fault ≢ Memory →

@@ -1,5 +1,5 @@
 -- What a replay answers.
-use Rattle.std.specs.Prelude.{◌≡◌, ◌≢◌, ℕ, Bool, true, false, List, [], ◌∷◌, ◌++◌, length}
+use Rattle.std.specs.Prelude.{◌≡◌, ◌≢◌, ℕ, ◌<◌, Bool, true, false, List, [], ◌∷◌, ◌++◌, length}
 use Rattle.journal.specs.declared.step.Step.{Step}
 use Rattle.journal.specs.declared.step.Step.TheVariants.{Run}
 use Rattle.groups.specs.declared.request.RequestId.{RequestId}
@@ -9,10 +9,12 @@ use Rattle.replay.specs.declared.report.Report.{Report}
 use Rattle.replay.specs.declared.fault.ReplayFault.{ReplayFault}
 use Rattle.replay.specs.declared.fault.ReplayFault.TheVariants as replay
 use Rattle.system.specs.Parts.{IsAt}
+use Rattle.system.specs.Reads.{table_of, failed}
+use Rattle.system.specs.Refusing.{IsRun}
 use Rattle.system.specs.System.{SystemView, IsRefused}
 use Rattle.system.specs.declared.fault.StepFault.{StepFault}
 use Rattle.system.specs.declared.fault.StepFault.TheVariants.{Busy, NoConn, NoPacket, InFlight, NoLayer, Exhausted, Memory, Failed}
-use Rattle.world.specs.Steps.{opening, Leads, Refused}
+use Rattle.world.specs.Steps.{opening, OwnFault, Leads, Refused}
 use Rattle.world.specs.Steps as world
 use Rattle.world.specs.World.{World}
 
@@ -25,17 +27,22 @@ pub record IsReport (t : Layout) (steps : List Step) (report : Report) : Type 0 
 
 -- ---- refusals
 
--- why a step isn't accepted in this world, behind so many steps: a fault of its own, or none may be made any more, or a
--- worker could not be started
+-- the step has this fault of its own in this world; or it is a Run that has none, for which a worker could not be started
+abbrev pub IsFaultIn : Bool → World → Step → StepFault → Type 0
+IsFaultIn may_refuse w step Busy = Refused w step world.Busy
+IsFaultIn may_refuse w step NoConn = Refused w step world.NoConn
+IsFaultIn may_refuse w step NoPacket = Refused w step world.NoPacket
+IsFaultIn may_refuse w step InFlight = Refused w step world.InFlight
+IsFaultIn may_refuse w step NoLayer = Refused w step world.NoLayer
+IsFaultIn may_refuse w step Failed = (may_refuse ≡ true) × IsRun step × ((own : OwnFault) → ¬ Refused w step own)
+IsFaultIn may_refuse w step Exhausted = ⊥
+IsFaultIn may_refuse w step Memory = ⊥
+
+-- why a step isn't accepted in this world, behind so many steps: none may be made any more; or some may, and it has this
+-- fault
 abbrev pub IsRefusal : Bool → ℕ → ℕ → World → Step → StepFault → Type 0
-IsRefusal may_refuse most made w step Busy = Refused w step world.Busy
-IsRefusal may_refuse most made w step NoConn = Refused w step world.NoConn
-IsRefusal may_refuse most made w step NoPacket = Refused w step world.NoPacket
-IsRefusal may_refuse most made w step InFlight = Refused w step world.InFlight
-IsRefusal may_refuse most made w step NoLayer = Refused w step world.NoLayer
 IsRefusal may_refuse most made w step Exhausted = made ≡ most
-IsRefusal may_refuse most made w step Failed = may_refuse ≡ true
-IsRefusal may_refuse most made w step Memory = ⊥
+IsRefusal may_refuse most made w step fault = (made < most) × IsFaultIn may_refuse w step fault
 
 -- the steps before this index are accepted, and the one that stands there isn't
 pub record IsRefusedAt (may_refuse : Bool) (t : Layout) (most : ℕ) (steps : List Step) (index : ℕ) (fault : StepFault) : Type 0 where
@@ -68,7 +75,7 @@ IsRefusalOf may_refuse old step index new replay.Memory = Unit {0}
 pub record StandsAt (t : Layout) (most : ℕ) (made : List Step) (s : SystemView) : Type 0 where
   pub world : World
   pub shows : IsAt s.parts made world
-  pub table : s.parts.store.table ≡ t
-  pub lives : s.parts.store.failed ≡ false
+  pub table : table_of s ≡ t
+  pub lives : failed s ≡ false
   pub count : s.steps ≡ length made
   pub limit : s.max_steps ≡ most

@@ -25,7 +25,7 @@ pub(super) fn put_rows<S: BuildHasher>(
     solo: &mut Solo<S>,
     out: &mut Vec<u8>,
 ) -> Result<bool, AllocError>
-    ensures { IfOk result (λ same. (executed : List Executed) → AllZip IsRow executed rows.now →
+    ensures { IfOk result (λ same. (executed : List Executed) → AllZip IsRow executed rows.now.rows →
         (out.new.items ≡ out.old.items ++ flat_map row_line (rows_by_stamp executed))
         × (solo.new ≡ left_by solo.old (rows_by_stamp executed))
         × (same ≡ replies_agree solo.old (rows_by_stamp executed))) }

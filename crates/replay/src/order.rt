@@ -15,7 +15,7 @@ pub(super) type Key = (u64, u8, usize);
 
 /// The places of the rows, ascending by the rows' stamps. The only error is want of memory.
 pub(super) fn by_stamp(alloc: Global, rows: &Rows) -> Result<BTreeSet<Key>, AllocError>
-    ensures { IfOk result (λ order. (executed : List Executed) → AllZip IsRow executed rows.now
+    ensures { IfOk result (λ order. (executed : List Executed) → AllZip IsRow executed rows.now.rows
         → ArePlaced executed order.keys (rows_by_stamp executed)) }
 {
     let mut order = BTreeSet::new(alloc);

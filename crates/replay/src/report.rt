@@ -37,8 +37,7 @@ pub(super) fn report_of(alloc: Global, system: System) -> Result<Report, AllocEr
     put_starved(system.starved(), &mut starved)?;
     let mut dump = Vec::new(alloc);
     system.dump(&mut dump)?;
-    let rows = system.into_rows()?;
-    compared(alloc, &rows, starved.as_slice(), dump.as_slice())
+    compared(alloc, system.rows(), starved.as_slice(), dump.as_slice())
 }
 
 /// The report of these rows, these lines of starved requests and this dump, once one store on one map has run the rows'
@@ -50,7 +49,7 @@ pub fn compared(
     starved: &[u8],
     dump: &[u8],
 ) -> Result<Report, AllocError>
-    ensures { IfOk result (λ report. (executed : List Executed) → AllZip IsRow executed rows.now →
+    ensures { IfOk result (λ report. (executed : List Executed) → AllZip IsRow executed rows.now.rows →
         (report.text.items ≡ flat_map row_line (rows_by_stamp executed) ++ starved.now ++ dump.now ++ last_line report.agree)
         × (report.agree ≡ agrees (rows_by_stamp executed) dump.now)) }
 {

@@ -74,7 +74,7 @@ pub fn show<W: Workers, O: Write>(
 ) -> u8
     ensures shown { result ≡ 0 → IsShown table.now trace.now (O.contents writer.old) (O.contents writer.new) }
     ensures fault { result ≢ 0 → (fault : ShowFault) × (result ≡ spec.status_of fault)
-        × IsShowFault W.may_refuse table.now trace.now fault }
+        × IsShowFault (W.may_refuse workers.now) table.now trace.now fault }
 {
     match told(alloc, table, trace, workers, writer) {
         Ok(true) => 0,
@@ -97,7 +97,7 @@ pub fn told<W: Workers, O: Write>(
 ) -> Result<bool, ShowFault>
     ensures shown { OnOk result (IsShown table.now trace.now (O.contents writer.old) (O.contents writer.new)) }
     ensures agrees { IfOk result (λ agree. agree ≡ true) }
-    ensures fault { IfErr result (IsShowFault W.may_refuse table.now trace.now) }
+    ensures fault { IfErr result (IsShowFault (W.may_refuse workers.now) table.now trace.now) }
 {
     told_watched(alloc, table, trace, workers, &mut Unwatched, writer)
 }
@@ -113,7 +113,7 @@ pub fn told_watched<W: Workers, P: Progress, O: Write>(
 ) -> Result<bool, ShowFault>
     ensures shown { OnOk result (IsShown table.now trace.now (O.contents writer.old) (O.contents writer.new)) }
     ensures agrees { IfOk result (λ agree. agree ≡ true) }
-    ensures fault { IfErr result (IsShowFault W.may_refuse table.now trace.now) }
+    ensures fault { IfErr result (IsShowFault (W.may_refuse workers.now) table.now trace.now) }
 {
     let report = match found(alloc, table, trace, workers, progress) {
         Ok(report) => report,
@@ -143,7 +143,7 @@ fn found<W: Workers, P: Progress>(
     ensures shown { IfOk result (λ report. (before after : Option (List ℕ)) → Appends before after report.text.items
         → IsShown table.now trace.now before after) }
     ensures agrees { IfOk result (λ report. report.agree ≡ true) }
-    ensures fault { IfErr result (IsShowFault W.may_refuse table.now trace.now) }
+    ensures fault { IfErr result (IsShowFault (W.may_refuse workers.now) table.now trace.now) }
 {
     let Ok(text) = str::from_utf8(table) else {
         return Err(ShowFault::Encoding);

@@ -5,6 +5,7 @@ ghost use Rattle.std.specs.List.{AllByRecursion};
 ghost use Rattle.journal.specs.declared.step.Step.{Step};
 ghost use Rattle.placement.specs.Layout.{Layout};
 ghost use Rattle.groups.specs.declared.request.RequestId.{RequestId};
+ghost use Rattle.system.specs.Reads.{table_of};
 ghost use Rattle.system.specs.declared.effect.Effect.{Effect};
 ghost use Rattle.world.specs.Steps.{names};
 ghost use Rattle.replay.specs.Replay.{IsReport, IsFaultOf, IsRefusalOf, StandsAt, named_in};
@@ -31,7 +32,7 @@ pub fn replay<W: Workers>(
     workers: &W,
 ) -> Result<Report, ReplayFault>
     ensures report { IfOk result (IsReport table trace.steps) }
-    ensures fault { IfErr result (IsFaultOf W.may_refuse table trace.max trace.steps) }
+    ensures fault { IfErr result (IsFaultOf (W.may_refuse workers.now) table trace.max trace.steps) }
 {
     replay_watched(alloc, trace, table, workers, &mut Unwatched)
 }
@@ -45,7 +46,7 @@ pub(super) fn replay_watched<W: Workers, P: Progress>(
     progress: &mut P,
 ) -> Result<Report, ReplayFault>
     ensures report { IfOk result (IsReport table trace.steps) }
-    ensures fault { IfErr result (IsFaultOf W.may_refuse table trace.max trace.steps) }
+    ensures fault { IfErr result (IsFaultOf (W.may_refuse workers.now) table trace.max trace.steps) }
 {
     let mut system = System::new(alloc, table, trace.max())?;
     make_all(alloc, trace.steps(), &mut system, workers, progress)?;
@@ -60,9 +61,9 @@ fn make_all<W: Workers, P: Progress>(
     workers: &W,
     progress: &mut P,
 ) -> Result<(), ReplayFault>
-    requires { StandsAt system.old.parts.store.table system.old.max_steps [] system.old }
-    ensures made { OnOk result (StandsAt system.old.parts.store.table system.old.max_steps steps.entry system.new) }
-    ensures fault { IfErr result (IsFaultOf W.may_refuse system.old.parts.store.table system.old.max_steps steps.entry) }
+    requires { StandsAt (table_of system.old) system.old.max_steps [] system.old }
+    ensures made { OnOk result (StandsAt (table_of system.old) system.old.max_steps steps.entry system.new) }
+    ensures fault { IfErr result (IsFaultOf (W.may_refuse workers.now) (table_of system.old) system.old.max_steps steps.entry) }
 {
     let count = steps.len();
     for index in 0..count {
@@ -87,7 +88,7 @@ fn make<W: Workers>(
 ) -> Result<(), ReplayFault>
     ensures made { OnOk result ((t : Layout) (most : ℕ) (before : List Step) → StandsAt t most before system.old
         → StandsAt t most (before ++ step ∷ []) system.new) }
-    ensures fault { IfErr result (IsRefusalOf W.may_refuse system.old step index system.new) }
+    ensures fault { IfErr result (IsRefusalOf (W.may_refuse workers.now) system.old step index system.new) }
 {
     let named = named_in(alloc, &step)?;
     match system.step(step, workers, &Open) {

@@ -9,7 +9,7 @@ use Rattle.replay.proofs.compare.put_rows.Given as goal
 -- what was put, run and compared, and what is left of it, is the whole
 abbrev pub invariant-loop-key : goal.invariant-loop-key
 invariant-loop-key g l =
-    (executed : List Row) → AllZip IsRow executed l.rows →
+    (executed : List Row) → AllZip IsRow executed l.rows.rows →
     Whole executed l.keys l.out.items (l.fn.out.items ++ flat_map row_line (rows_by_stamp executed)) l.solo
     (left_by l.fn.solo (rows_by_stamp executed)) l.same (replies_agree l.fn.solo (rows_by_stamp executed))
 
