@@ -5,8 +5,8 @@ use Rattle.std.proofs.Common.{refl, sym, ap, ◌∙◌, subst, arith}
 use Rattle.std.specs.List.{AllZip}
 use Rattle.cluster.proofs.Submits.{said_once}
 use Rattle.cluster.proofs.Worlds.{step_seq, counts}
-use Rattle.cluster.specs.Clusters.{SeatView, last_id, Fits, CanCollect}
-use Rattle.cluster.specs.Histories.{HistoryView, IsIn, IsMade}
+use Rattle.cluster.specs.Clusters.{SeatView, last_id, Fits, CanCollect, IsCollectFault}
+use Rattle.cluster.specs.Histories.{HistoryView, IsIn, IsMade, IsFault}
 use Rattle.cluster.specs.Outcomes.{ComesFrom, IsAbove}
 use Rattle.cluster.specs.Submits.{submits_by, IsSaid}
 use Rattle.command_table.specs.Reading.{reading}
@@ -23,23 +23,23 @@ use Rattle.router.specs.declared.connection.Standing.{Standing}
 use Rattle.router.specs.declared.connection.Standing.TheVariants as router
 use Rattle.router.specs.declared.outcome.Outcome as kept
 use Rattle.groups.proofs.Options.{some_same}
-use Rattle.groups.proofs.Lists.{In-append}
 use Rattle.groups.specs.Order.{In}
 use Rattle.groups.specs.declared.request.ConnId.{ConnId}
 use Rattle.groups.specs.declared.request.RequestId.{RequestId}
 use Rattle.system.specs.Parts.{effect_shown}
 use Rattle.system.specs.declared.effect.Effect.{Effect}
 use Rattle.system.specs.declared.effect.Effect.TheVariants as effect
+use Rattle.system.specs.declared.fault.StepFault.{StepFault}
+use Rattle.system.specs.declared.fault.StepFault.TheVariants as fault
 use Rattle.system_view.specs.Connections.{outcome_shown, ShowsOpen, ShowsClosed, ShowsConnection, ShowsConnections}
 use Rattle.system_view.specs.Layers.{IsRow}
 use Rattle.world.specs.Steps.{opening, Collects, Steps, Makes, starved_among, if_starved, reply_of, outcome_of, at}
 use Rattle.world.specs.Steps as world
-use Rattle.world.specs.World.{World, Outcome, Idle, Answered, Ended, Layer, NoneTaken, Taken, HasRun}
+use Rattle.world.specs.World.{World, Outcome, Idle, Answered, Ended}
 use Rattle.world_laws.proofs.Telling.{collects_its_own}
-use Rattle.world_laws.proofs.Values.{same_collected, answered_open, answered_not_waiting}
-use Rattle.world_laws.proofs.Worlds.{good_world, run_is_pending}
+use Rattle.world_laws.proofs.Values.{same_collected}
+use Rattle.world_laws.proofs.Worlds.{good_world}
 use Rattle.world_laws.specs.Collecting.{Submits, WasSubmitted, reply_at_once}
-use Rattle.world_laws.specs.Good.{run_in, WorldGood}
 use Rattle.world_laws.specs.Headline.{rows_of, with_row}
 
 -- ---- an outcome waits
@@ -223,39 +223,21 @@ in_starved (f ∷ es) e (inl here) is =
     (subst (λ r. In e.id (if_starved r e.id (starved_among es))) (sym is) (inl refl))
 in_starved (f ∷ es) e (inr later) is = in_if f.reply f.id e.id (starved_among es) (in_starved es e later is)
 
--- what its connection can collect was settled
-settled_one : (t : Layout) (w : World) (e : Ended) (o : Outcome) (c : ℕ) → WorldGood t w → w.standing c ≡ Answered o → e.id.conn.0 ≡ c →
-    (l : Layer) → w.layer ≡ l → In e (run_in l) → ⊥
-settled_one t w e o c good stands conn NoneTaken is there = there
-settled_one t w e o c good stands conn (Taken ds) is there = there
-settled_one t w e o c good stands conn (HasRun es) is there = elim (run_is_pending t w es is good e there) [
-  | inl shut ↦ answered_open o (sym (ap w.standing conn ∙ stands) ∙ shut)
-  | inr pending ↦ answered_not_waiting o (sym (ap w.standing conn ∙ stands) ∙ pending.0)
-]
-
 -- of a request that was run
 from_ended : (h h' : HistoryView) (s : SeatView) (o waits : Outcome) (w : World) (words : List (List ℕ)) (e : Ended)
     (reply : Option Content) →
-    IsIn h w → IsCollected h h' s o waits w → o.id.conn ≡ s.conn → In e w.ended → o ≡ outcome_of e → e.reply ≡ reply →
-    ComesFrom h'.system.parts words o
-from_ended h h' s o waits w words e None shown is conn there so reply =
+    IsIn h w → IsCollected h h' s o waits w → In e w.ended → o ≡ outcome_of e → e.reply ≡ reply →
+    ComesFrom h'.system words o
+from_ended h h' s o waits w words e None shown is there so reply =
     inr (inl (record {
       there = subst (λ i. In i h'.system.parts.starved.items) (sym (ap (λ (x : Outcome). x.id) so))
           (subst (λ l. In e.id l) (sym is.shows.at.shows.starved) (in_starved w.ended e there reply));
       stamp = subst (λ (x : Outcome). IsSome x.stamp) (sym so) refl;
       reply = ap (λ (x : Outcome). x.reply) so ∙ ap reply_of reply;
     }))
-from_ended h h' s o waits w words e (Some reply') shown is conn there so reply =
-    let t = h.system.parts.store.table in
-    let rows = is.shows.at.shows.rows in
-    let same_conn : e.id.conn.0 ≡ s.conn.0 = ap (λ (x : Outcome). x.id.conn.0) (sym so) ∙ ap (λ (c : ConnId). c.0) conn in
-    let settled : In e rows.settled = elim (In-append e rows.settled (run_in w.layer) (subst (λ l. In e l) rows.split there)) [
-      | inl before ↦ before
-      | inr running ↦ absurd (settled_one t w e o s.conn.0 (good_world t h.steps w shown.at.leads) is.standing same_conn w.layer refl
-          running)
-    ] in
-    let found = zip_at IsRow (rows_of rows.settled) h'.system.parts.rows (row_of e reply') rows.each
-    (in_rows rows.settled e reply' settled reply) in
+from_ended h h' s o waits w words e (Some reply') shown is there so reply =
+    let found = zip_at IsRow (rows_of w.ended) h'.system.parts.rows.rows (row_of e reply') is.shows.at.shows.rows
+    (in_rows w.ended e reply' there reply) in
     inl (record {
       row = found.0;
       there = found.1;
@@ -269,7 +251,7 @@ at_once : (h h' : HistoryView) (s : SeatView) (o waits : Outcome) (w : World) (s
     IsCollected h h' s o waits w →
     o.id ≡ last_id s → o.stamp ≡ None → h'.system.parts.store.table ≡ h.system.parts.store.table →
     WasSubmitted (λ words. reply_at_once h.system.parts.store.table (reading words) ≡ Some o.reply) o.id h.steps shown.at.leads.0 →
-    ComesFrom h'.system.parts s.words o
+    ComesFrom h'.system s.words o
 at_once h h' s o waits w shown fits is id none table was =
     let t = h.system.parts.store.table in
     let said = said_of t _ o.id h.steps shown.at.leads.0 opening w shown.at.leads.1 was in
@@ -285,16 +267,29 @@ at_once h h' s o waits w shown fits is id none table was =
     }))
 
 pub from : (h h' : HistoryView) (s : SeatView) (o waits : Outcome) (w : World) → IsIn h w → Fits s h.steps → IsCollected h h' s o waits w →
-    h'.system.parts.store.table ≡ h.system.parts.store.table → ComesFrom h'.system.parts s.words o
+    h'.system.parts.store.table ≡ h.system.parts.store.table → ComesFrom h'.system s.words o
 from h h' s o waits w shown fits is table =
     let t = h.system.parts.store.table in
     let law = collects_its_own t h.steps shown.at.leads.0 w _ shown.at.leads.1 s.conn o is.step in
     let id = own h h' s o waits w shown fits is in
     elim law.1 [
-      | inl ended ↦ from_ended h h' s o waits w s.words ended.0 ended.0.reply shown is (ap (λ (i : RequestId). i.conn) id) ended.1 ended.2
-          refl
+      | inl ended ↦ from_ended h h' s o waits w s.words ended.0 ended.0.reply shown is ended.1 ended.2 refl
       | inr once ↦ at_once h h' s o waits w shown fits is id once.0 table once.1
     ]
+
+-- ---- why it isn't
+
+-- why the Collect isn't made of what can be collected
+pub collect_fault : (h : HistoryView) (s : SeatView) (f : StepFault) → CanCollect h s → IsFault h (Collect s.conn) f →
+    IsCollectFault h s f
+collect_fault h s fault.Busy can why = why
+collect_fault h s fault.NoConn can why = (why.0, inl (inl why.1))
+collect_fault h s fault.NoPacket can why = why
+collect_fault h s fault.InFlight can why = why
+collect_fault h s fault.NoLayer can why = why
+collect_fault h s fault.Exhausted can why = why
+collect_fault h s fault.Memory can why = can
+collect_fault h s fault.Failed can why = why
 
 -- ---- which request it is
 

@@ -1,14 +1,16 @@
 -- A history stays one, whether a step is made or not.
-use Rattle.std.proofs.Common.{◌≡◌, ℕ, suc, ◌≤◌, Bool, false, List, [], ◌∷◌, ◌++◌, length, inl, inr, refl, sym, ap, ◌∙◌}
+use Rattle.std.proofs.Common.{◌≡◌, ℕ, suc, ◌<◌, ◌≤◌, Bool, false, List, [], ◌∷◌, ◌++◌, length, inl, inr, refl, sym, ap, ◌∙◌}
 use Rattle.std.proofs.Common.{subst, arith, length-append}
 use Rattle.std.proofs.lemmas.Bool.{both_ways}
-use Rattle.cluster.specs.Histories.{HistoryView, has_failed, IsIn, IsHistory, IsMade, IsUnchanged, IsRefused, IsFault}
-use Rattle.cluster.specs.Histories.{Fails, IsLeft, IsNoRun}
+use Rattle.cluster.specs.Histories.{HistoryView, has_failed, IsIn, IsLawful, HasItsRows, IsHistory, IsMade, IsUnchanged, MayGoOn}
+use Rattle.cluster.specs.Histories.{IsRefused, HasNoFault, IsFault, Fails, IsLeft, IsNoRun}
 use Rattle.journal.specs.declared.step.Step.{Step}
 use Rattle.journal.specs.declared.step.Step.TheVariants.{Open, Submit, Deliver, Take, Run, Settle, Collect, Close}
 use Rattle.system.proofs.Lasting.{still_at}
 use Rattle.system.specs.Parts.{stored}
-use Rattle.system.specs.Refusing.{Refuses}
+use Rattle.system.specs.Reads.{table_of}
+use Rattle.system.specs.Reads as reads
+use Rattle.system.specs.Refusing.{Refuses, RefusesNot}
 use Rattle.system.specs.System.{SystemView, ShowsHistory, IsStep, IsSameButRoom, ObeysOneThread}
 use Rattle.system.specs.System as system
 use Rattle.system.specs.declared.effect.Effect.{Effect}
@@ -19,15 +21,16 @@ use Rattle.shard_exec.specs.StoreStates.{StoreState}
 use Rattle.shard_maps.specs.Joined.{joined}
 use Rattle.world_laws.specs.Headline.{IsOneThread, rows_of}
 use Rattle.placement.specs.Layout.{Layout}
-use Rattle.world.specs.Steps.{OwnFault, opening}
+use Rattle.system_view.specs.Layers.{AreRows}
+use Rattle.world.specs.Steps.{OwnFault, opening, Leads}
 use Rattle.world.specs.Steps as world
 use Rattle.world.specs.World.{World}
 use Rattle.journal.specs.declared.trace.TheConstants.{GREATEST_STEPS}
 
 -- ---- a step that was made
 
-abbrev pub history : SystemView → ℕ → List Step → HistoryView
-history s most steps = record { system = s; max_steps = most; steps = steps }
+abbrev pub history : SystemView → ℕ → List Step → ℕ → HistoryView
+history s most steps room = record { system = s; max_steps = most; steps = steps; room = room }
 
 pub made : (old new : HistoryView) (step : Step) (effect : Effect) → IsHistory old → IsStep old.system step effect new.system →
     new.max_steps ≡ old.max_steps → new.steps ≡ old.steps ++ stored step effect ∷ [] → IsMade old (stored step effect) effect new
@@ -78,6 +81,20 @@ made_plain old new step effect plain is step_made most steps =
     subst (λ s. IsMade old s effect new) same
     (made old new step effect is step_made most (steps ∙ ap (λ s. old.steps ++ s ∷ []) (sym same)))
 
+-- the rows of a lawful history are those of its trace
+pub rows_of_lawful : (h : HistoryView) → IsLawful h → HasItsRows h
+rows_of_lawful h lawful = record { world = lawful.world; leads = lawful.shows.at.leads; rows = lawful.shows.at.shows.rows }
+
+-- and stay so as long as neither changes
+rows_kept : (old new : HistoryView) → table_of new.system ≡ table_of old.system → reads.rows_of new.system ≡ reads.rows_of old.system →
+    new.steps ≡ old.steps → HasItsRows old → HasItsRows new
+rows_kept old new table rows steps is = record {
+  world = is.world;
+  leads = subst (λ t. Leads t opening new.steps is.world) (sym table)
+      (subst (λ h. Leads (table_of old.system) opening h is.world) (sym steps) is.leads);
+  rows = subst (λ rs. AreRows is.world.ended rs) (sym rows) is.rows;
+}
+
 pub history_made : (old new : HistoryView) (step : Step) (effect : Effect) → IsHistory old → IsMade old step effect new →
     new.system.max_steps ≡ old.system.max_steps → ObeysOneThread new.system → IsHistory new
 history_made old new step effect is made most obeys =
@@ -86,13 +103,14 @@ history_made old new step effect is made most obeys =
     let left = made.left in
     let same = made.max_steps in
     let few = is.few in
+    let next = made.from_each (is.lawful made.lived).world (is.lawful made.lived).shows in
+    let lawful : IsLawful new = record { world = next.0; shows = next.2; one_thread = obeys new.steps next.0 next.2.at } in
     record {
       few = omega arith;
       within = omega arith;
       max_steps = λ lives. most ∙ is.max_steps made.lived ∙ sym made.max_steps;
-      lawful = λ lives.
-          let next = made.from_each (is.lawful made.lived).world (is.lawful made.lived).shows in
-          record { world = next.0; shows = next.2; one_thread = obeys new.steps next.0 next.2.at };
+      lawful = λ lives. lawful;
+      rows = rows_of_lawful new lawful;
     }
 
 -- ---- a step that was not
@@ -122,6 +140,7 @@ history_still old new is still =
             one_thread = subst (λ (s : StoreState). IsOneThread (joined s.maps) (rows_by_stamp (rows_of lawful.world.ended)))
                 (sym still.system.parts.store) lawful.one_thread;
           };
+      rows = rows_kept old new (ap (λ s. s.table) still.system.parts.store) still.system.parts.rows still.steps is.rows;
     }
 
 pub kept_same : (old new : SystemView) → new ≡ old → IsSameButRoom old new
@@ -147,58 +166,101 @@ there h step fault is lives refuses =
     let lawful = is.lawful lives in
     record { world = lawful.world; shows = lawful.shows; refused = refuses h.steps lawful.world lawful.shows.at }
 
+free : (h : HistoryView) (step : Step) → IsHistory h → has_failed h ≡ false → RefusesNot h.system.parts step → HasNoFault h step
+free h step is lives none =
+    let lawful = is.lawful lives in
+    record { world = lawful.world; shows = lawful.shows; none = none h.steps lawful.world lawful.shows.at }
+
+steps_left : (h : HistoryView) → IsHistory h → has_failed h ≡ false → h.system.steps < h.system.max_steps → MayGoOn h
+steps_left h is lives left =
+    let count = (is.lawful lives).shows.count in
+    let most = is.max_steps lives in
+    record { lives = lives; left = omega arith }
+
 -- what a refused step tells of the system
 pub record IsTold (old : HistoryView) (step : Step) (fault : StepFault) (new : SystemView) : Type 0 where
   pub why : IsFault old step fault
   pub kept : IsSameButRoom old.system new
 
 told : (old : HistoryView) (new : SystemView) (step : Step) (own : OwnFault) (fault : StepFault) → IsHistory old → has_failed old ≡ false →
-    (IsRefused old step own → IsFault old step fault) → Refuses old.system.parts step own → IsSameButRoom old.system new →
-    IsTold old step fault new
-told old new step own fault is lives why refuses kept = record { why = why (there old step own is lives refuses); kept = kept }
+    (MayGoOn old → IsRefused old step own → IsFault old step fault) → old.system.steps < old.system.max_steps →
+    Refuses old.system.parts step own → IsSameButRoom old.system new → IsTold old step fault new
+told old new step own fault is lives why left refuses kept =
+    record { why = why (steps_left old is lives left) (there old step own is lives refuses); kept = kept }
 
 exhausted : (h : HistoryView) → IsHistory h → has_failed h ≡ false → h.system.steps ≡ h.system.max_steps → length h.steps ≡ h.max_steps
 exhausted h is lives all = (is.lawful lives).shows.count ∙ (all ∙ is.max_steps lives)
 
 pub told_of : (old : HistoryView) (new : SystemView) (step : Step) (fault : StepFault) → IsHistory old → has_failed old ≡ false →
     system.IsRefused false old.system step fault new → IsTold old step fault new
-told_of old new step Busy is lives refused = told old new step world.Busy Busy is lives (λ r. r) refused.why refused.kept
-told_of old new step NoConn is lives refused = told old new step world.NoConn NoConn is lives (λ r. r) refused.why refused.kept
-told_of old new step NoPacket is lives refused = told old new step world.NoPacket NoPacket is lives (λ r. r) refused.why refused.kept
-told_of old new step InFlight is lives refused = told old new step world.InFlight InFlight is lives (λ r. r) refused.why refused.kept
-told_of old new step NoLayer is lives refused = told old new step world.NoLayer NoLayer is lives (λ r. r) refused.why refused.kept
+told_of old new step Busy is lives refused =
+    told old new step world.Busy Busy is lives (λ l r. (l, r)) refused.left refused.why refused.kept
+told_of old new step NoConn is lives refused =
+    told old new step world.NoConn NoConn is lives (λ l r. (l, r)) refused.left refused.why refused.kept
+told_of old new step NoPacket is lives refused =
+    told old new step world.NoPacket NoPacket is lives (λ l r. (l, r)) refused.left refused.why refused.kept
+told_of old new step InFlight is lives refused =
+    told old new step world.InFlight InFlight is lives (λ l r. (l, r)) refused.left refused.why refused.kept
+told_of old new step NoLayer is lives refused =
+    told old new step world.NoLayer NoLayer is lives (λ l r. (l, r)) refused.left refused.why refused.kept
 told_of old new step Exhausted is lives refused =
     record { why = (lives, exhausted old is lives refused.1); kept = kept_same old.system new refused.2 }
-told_of old new step Memory is lives refused = record { why = lives; kept = refused.kept }
+told_of old new step Memory is lives refused =
+    record { why = (steps_left old is lives refused.left, free old step is lives refused.why.1); kept = refused.kept }
 told_of old new step Failed is lives (inl failed) = absurd (both_ways _ lives failed.0)
-told_of old new step Failed is lives (inr failed) = absurd (both_ways _ refl failed.1)
+told_of old new step Failed is lives (inr failed) = absurd (both_ways _ refl failed.may_fail.refusable)
+
+-- why it would not be, as things are
+pub fault_of : (h : HistoryView) (step : Step) (fault : StepFault) → IsHistory h → system.IsRefused false h.system step fault h.system →
+    IsFault h step fault
+fault_of h step Busy is refused = (told_of h h.system step Busy is refused.lived refused).why
+fault_of h step NoConn is refused = (told_of h h.system step NoConn is refused.lived refused).why
+fault_of h step NoPacket is refused = (told_of h h.system step NoPacket is refused.lived refused).why
+fault_of h step InFlight is refused = (told_of h h.system step InFlight is refused.lived refused).why
+fault_of h step NoLayer is refused = (told_of h h.system step NoLayer is refused.lived refused).why
+fault_of h step Exhausted is refused = (told_of h h.system step Exhausted is refused.0 refused).why
+fault_of h step Memory is refused = (told_of h h.system step Memory is refused.lived refused).why
+fault_of h step Failed is (inl failed) = failed.0
+fault_of h step Failed is (inr failed) = absurd (both_ways _ refl failed.may_fail.refusable)
+
+-- want of memory in the trace refuses what nothing else does
+pub memory_of : (h : HistoryView) (step : Step) → IsHistory h → has_failed h ≡ false → h.system.steps < h.system.max_steps →
+    RefusesNot h.system.parts step → IsFault h step Memory
+memory_of h step is lives left none = (steps_left h is lives left, free h step is lives none)
 
 -- what it leaves, where only room has changed
-pub left_so : (old : HistoryView) (s : SystemView) (most : ℕ) (steps : List Step) → IsSameButRoom old.system s → most ≡ old.max_steps →
-    steps ≡ old.steps → IsUnchanged old (history s most steps)
-left_so old s most steps kept same stays = record { system = kept; max_steps = same; steps = stays }
+pub left_so : (old : HistoryView) (s : SystemView) (most : ℕ) (steps : List Step) (room : ℕ) → IsSameButRoom old.system s →
+    most ≡ old.max_steps → steps ≡ old.steps → IsUnchanged old (history s most steps room)
+left_so old s most steps room kept same stays = record { system = kept; max_steps = same; steps = stays }
 
-leaves : (old : HistoryView) (new : SystemView) (step : Step) (fault : StepFault) → IsTold old step fault new →
-    IsFault old step fault × IsUnchanged old (history new old.max_steps old.steps)
-leaves old new step fault told = (told.why, left_so old new old.max_steps old.steps told.kept refl refl)
+leaves : (old : HistoryView) (new : SystemView) (room : ℕ) (step : Step) (fault : StepFault) → IsTold old step fault new →
+    IsFault old step fault × IsUnchanged old (history new old.max_steps old.steps room)
+leaves old new room step fault told = (told.why, left_so old new old.max_steps old.steps room told.kept refl refl)
 
-pub left_of : (may_refuse : Bool) (old : HistoryView) (new : SystemView) (step : Step) (fault : StepFault) → IsHistory old →
+pub left_of : (may_refuse : Bool) (old : HistoryView) (new : SystemView) (room : ℕ) (step : Step) (fault : StepFault) → IsHistory old →
     has_failed old ≡ false → system.IsRefused may_refuse old.system step fault new →
-    IsLeft may_refuse old step fault (history new old.max_steps old.steps)
-left_of may old new step Busy is lives refused = leaves old new step Busy (told_of old new step Busy is lives refused)
-left_of may old new step NoConn is lives refused = leaves old new step NoConn (told_of old new step NoConn is lives refused)
-left_of may old new step NoPacket is lives refused = leaves old new step NoPacket (told_of old new step NoPacket is lives refused)
-left_of may old new step InFlight is lives refused = leaves old new step InFlight (told_of old new step InFlight is lives refused)
-left_of may old new step NoLayer is lives refused = leaves old new step NoLayer (told_of old new step NoLayer is lives refused)
-left_of may old new step Exhausted is lives refused = leaves old new step Exhausted (told_of old new step Exhausted is lives refused)
-left_of may old new step Memory is lives refused = leaves old new step Memory (told_of old new step Memory is lives refused)
-left_of may old new step Failed is lives (inl failed) = absurd (both_ways _ lives failed.0)
-left_of may old new step Failed is lives (inr failed) = inr (
-  failed.1,
-  record { lived = lives; failed = failed.2.failed; rows = failed.2.rows; max_steps = refl; steps = refl },
+    IsLeft may_refuse old step fault (history new old.max_steps old.steps room)
+left_of may old new room step Busy is lives refused = leaves old new room step Busy (told_of old new step Busy is lives refused)
+left_of may old new room step NoConn is lives refused = leaves old new room step NoConn (told_of old new step NoConn is lives refused)
+left_of may old new room step NoPacket is lives refused = leaves old new room step NoPacket (told_of old new step NoPacket is lives refused)
+left_of may old new room step InFlight is lives refused = leaves old new room step InFlight (told_of old new step InFlight is lives refused)
+left_of may old new room step NoLayer is lives refused = leaves old new room step NoLayer (told_of old new step NoLayer is lives refused)
+left_of may old new room step Exhausted is lives refused = leaves old new room step Exhausted (told_of old new step Exhausted is lives refused)
+left_of may old new room step Memory is lives refused = leaves old new room step Memory (told_of old new step Memory is lives refused)
+left_of may old new room step Failed is lives (inl failed) = absurd (both_ways _ lives failed.0)
+left_of may old new room step Failed is lives (inr failed) = inr (
+  failed.may_fail.refusable,
+  record {
+    going = steps_left old is lives failed.left;
+    failed = failed.failed.failed;
+    table = failed.failed.table;
+    rows = failed.failed.rows;
+    max_steps = refl;
+    steps = refl;
+  },
 )
 
--- a history that has failed is one, whatever its system shows
+-- a history that has failed is one: its rows and its trace stand
 pub history_failed : (old new : HistoryView) → IsHistory old → Fails old new → IsHistory new
 history_failed old new is fails =
     let most = fails.max_steps in
@@ -208,6 +270,7 @@ history_failed old new is fails =
       within = let within = is.within in let same = ap length fails.steps in omega arith;
       max_steps = λ lives. absurd (both_ways _ lives fails.failed);
       lawful = λ lives. absurd (both_ways _ lives fails.failed);
+      rows = rows_kept old new fails.table fails.rows fails.steps is.rows;
     }
 
 -- whatever a refused step leaves is a history
@@ -226,16 +289,18 @@ history_left may old new step Failed is (inr left) = history_failed old new is l
 -- ---- none
 
 -- no step was made
-pub history_new : (t : Layout) (most : ℕ) (s : SystemView) (max : ℕ) (steps : List Step) → most ≤ GREATEST_STEPS → system.IsNew t most s →
-    max ≡ most → steps ≡ [] → IsHistory (history s max steps)
-history_new t most s max steps few is same none =
+pub history_new : (t : Layout) (most : ℕ) (s : SystemView) (max : ℕ) (steps : List Step) (room : ℕ) → most ≤ GREATEST_STEPS →
+    system.IsNew t most s → max ≡ most → steps ≡ [] → IsHistory (history s max steps room)
+history_new t most s max steps room few is same none =
+    let lawful : IsLawful (history s max steps room) = record {
+      world = opening;
+      shows = subst (λ h. ShowsHistory s h opening) (sym none) is.shows;
+      one_thread = subst (λ m. IsOneThread m (rows_by_stamp (rows_of []))) (sym is.shows.at.shows.store.contents) refl;
+    } in
     record {
       few = omega arith;
       within = let k = ap length none in omega arith;
       max_steps = λ lives. is.max_steps ∙ sym same;
-      lawful = λ lives. record {
-        world = opening;
-        shows = subst (λ h. ShowsHistory s h opening) (sym none) is.shows;
-        one_thread = subst (λ m. IsOneThread m (rows_by_stamp (rows_of []))) (sym is.shows.at.shows.store.contents) refl;
-      };
+      lawful = λ lives. lawful;
+      rows = rows_of_lawful (history s max steps room) lawful;
     }

@@ -8,7 +8,8 @@ use Rattle.std.specs.Ordering.{is_eq, nat_cmp}
 use Rattle.cluster.proofs.Histories.{in_still, failed_still}
 use Rattle.cluster.proofs.Submits.{submits-one, submits_by-one, other_submit, no_submit, last_still, last_now}
 use Rattle.cluster.proofs.Worlds.{counts, IsNoOpen, opened_stays, closed_stays}
-use Rattle.cluster.specs.Clusters.{ClusterView, last_of, IsLastOf, AreLasts, IsKnown, IsSeated, IsCluster, IsPut, HasClosed}
+use Rattle.cluster.specs.Clusters.{ClusterView, last_of, IsLastOf, AreLasts, IsKnown, IsSeated, IsCluster, IsPut, HasClosed, StaysOpen}
+use Rattle.cluster.specs.Clusters.{KeepsRoom}
 use Rattle.cluster.specs.Histories.{HistoryView, IsIn, IsLawful, IsMade, IsUnchanged, Fails}
 use Rattle.cluster.specs.Turns.{IsTurn, TurnsOn, IsTurnFault}
 use Rattle.cluster.specs.Submits.{submit_in, submits, submit_by, submits_by, IsLast}
@@ -35,6 +36,31 @@ cluster h book sat stood back = record { history = h; book = book; sat = sat; st
 
 one_more : (h h' : List Step) (s : Step) → h' ≡ h ++ s ∷ [] → length h' ≡ suc (length h)
 one_more h h' s longer = let k = ap length longer in omega (arith, length-append h (s ∷ []))
+
+-- ---- the room for Closes
+
+pub room_still : (kept : ℕ) (h h' : HistoryView) (book book' sat stood back back' : ℕ) → (kept ≤ h.room → kept ≤ h'.room) →
+    KeepsRoom kept (cluster h book sat stood back) → KeepsRoom kept (cluster h' book' sat stood back')
+room_still kept h h' book book' sat stood back back' so is = record { each = is.each; room = so is.room }
+
+pub room_sat : (kept kept' : ℕ) (h h' : HistoryView) (book sat stood back back' : ℕ) → kept' ≡ kept + 10 → kept' ≤ h'.room →
+    KeepsRoom kept (cluster h book sat stood back) → KeepsRoom kept' (cluster h' book (sat + 1) stood back')
+room_sat kept kept' h h' book sat stood back back' more room is =
+    record { each = let each = is.each in omega arith; room = room }
+
+-- who stands has a part of the ledger, so not all have stood
+pub some_kept : (all parts parts' requests kept : ℕ) (lasts : List (ℕ × Last)) (c : ClusterView) → parts' ≡ parts + 1 → parts' ≤ all →
+    IsCluster all parts requests lasts c → KeepsRoom kept c → 10 ≤ kept
+some_kept all parts parts' requests kept lasts c more within is keeps =
+    let seats = is.seats in
+    let each = keeps.each in
+    let out : c.stood + 1 ≤ c.sat = omega arith in
+    omega arith
+
+pub room_stood : (kept kept' : ℕ) (h h' : HistoryView) (book sat stood back back' : ℕ) → kept' + 10 ≡ kept → kept' ≤ h'.room →
+    KeepsRoom kept (cluster h book sat stood back) → KeepsRoom kept' (cluster h' book sat (stood + 1) back')
+room_stood kept kept' h h' book sat stood back back' less room is =
+    record { each = let each = is.each in omega arith; room = room }
 
 -- ---- a step that is neither an Open nor a Submit
 
@@ -446,7 +472,7 @@ cluster_merged all parts parts' requests lasts h book sat stood back back' more 
 
 -- a seat has stood, whether its connection was closed or not
 pub cluster_stood : (all parts parts' requests : ℕ) (lasts lasts' : List (ℕ × Last)) (h h' : HistoryView) (book sat stood back back' : ℕ)
-    (conn : ConnId) → HasClosed conn h h' lasts lasts' ⊎ (IsUnchanged h h' × (lasts' ≡ lasts)) → parts' ≡ parts + 1 →
+    (conn : ConnId) → HasClosed conn h h' lasts lasts' ⊎ (StaysOpen conn h h' × (lasts' ≡ lasts)) → parts' ≡ parts + 1 →
     IsCluster all parts requests lasts (cluster h book sat stood back) →
     IsCluster all parts' requests lasts' (cluster h' book sat (stood + 1) back')
 cluster_stood all parts parts' requests lasts lasts' h h' book sat stood back back' conn (inl closed) more is =
@@ -455,7 +481,7 @@ cluster_stood all parts parts' requests lasts lasts' h h' book sat stood back ba
 cluster_stood all parts parts' requests lasts lasts' h h' book sat stood back back' conn (inr still) more is =
     cluster_merged all parts parts' requests lasts' h' book sat stood back back' more
     (subst (λ l. IsCluster all parts requests l (cluster h' book sat stood back)) (sym still.1)
-    (cluster_still all parts requests lasts h h' book sat stood back still.0 is))
+    (cluster_still all parts requests lasts h h' book sat stood back still.0.unchanged is))
 
 -- ---- turn
 
@@ -480,7 +506,7 @@ turn_still all parts requests lasts h h' book sat stood back may fault.NoLayer w
 turn_still all parts requests lasts h h' book sat stood back may fault.Exhausted why is =
     cluster_still all parts requests lasts h h' book sat stood back why.2 is
 turn_still all parts requests lasts h h' book sat stood back may fault.Memory why is =
-    cluster_still all parts requests lasts h h' book sat stood back why.1 is
+    cluster_still all parts requests lasts h h' book sat stood back why.2 is
 turn_still all parts requests lasts h h' book sat stood back may fault.Failed (inl why) is =
     cluster_still all parts requests lasts h h' book sat stood back why.1 is
 turn_still all parts requests lasts h h' book sat stood back may fault.Failed (inr why) is =

@@ -1,8 +1,10 @@
 -- What a Submit answers, and why it isn't made.
-use Rattle.std.proofs.Common.{◌≡◌, ℕ, List, Some, None, inl, refl}
-use Rattle.cluster.specs.Clusters.{SeatView, IsSubmitFault}
+use Rattle.std.proofs.Common.{◌≡◌, ℕ, ◌≤◌, List, Some, None, inl, refl, arith}
+use Rattle.cluster.specs.Clusters.{SeatView, Fits, IsSubmitFault}
 use Rattle.cluster.specs.Histories.{HistoryView, IsIn, IsMade, IsFault}
-use Rattle.journal.specs.declared.step.Step.TheVariants.{Submit}
+use Rattle.journal.specs.Codes.{step_code, step_size}
+use Rattle.journal.specs.declared.step.Step.TheVariants.{Submit, Close}
+use Rattle.packing.specs.CodeLaws.{number_code-few}
 use Rattle.groups.specs.declared.request.ConnId.{ConnId}
 use Rattle.groups.specs.declared.request.RequestId.{RequestId}
 use Rattle.system.specs.Parts.{effect_shown}
@@ -27,14 +29,20 @@ pub submits_some : (h h' : HistoryView) (conn : ConnId) (words : List (List ℕ)
 submits_some h h' conn words e w shown made =
     by_effect (world.next_id w conn.0) e (made.from_each w shown).1.answers
 
+-- how many bytes a Close takes
+pub close_few : (conn : ConnId) → step_size (Close conn) ≤ 10
+unfolding step_code
+close_few conn = omega (arith, number_code-few conn.0)
+
 -- why the Submit isn't made the seat's submit isn't
-pub submit_fault : (h : HistoryView) (s : SeatView) (words : List (List ℕ)) (fault : StepFault) → IsFault h (Submit s.conn words) fault →
-    IsSubmitFault h s words fault
-submit_fault h s words Busy why = why
-submit_fault h s words NoConn why = inl (record { world = why.world; shows = why.shows; refused = why.refused })
-submit_fault h s words NoPacket why = why
-submit_fault h s words InFlight why = why
-submit_fault h s words NoLayer why = why
-submit_fault h s words Exhausted why = why
-submit_fault h s words Memory why = why
-submit_fault h s words Failed why = why
+pub submit_fault : (h : HistoryView) (s : SeatView) (words : List (List ℕ)) (fault : StepFault) → Fits s h.steps →
+    IsFault h (Submit s.conn words) fault → IsSubmitFault h s words fault
+submit_fault h s words Busy fits why = why
+submit_fault h s words NoConn fits why =
+    (why.0, inl (record { world = why.1.world; shows = why.1.shows; refused = why.1.refused }))
+submit_fault h s words NoPacket fits why = why
+submit_fault h s words InFlight fits why = why
+submit_fault h s words NoLayer fits why = why
+submit_fault h s words Exhausted fits why = why
+submit_fault h s words Memory fits why = (fits, why)
+submit_fault h s words Failed fits why = why

@@ -1,8 +1,11 @@
 -- Which turn it is, by how far the layer is.
-use Rattle.std.proofs.Common.{◌≡◌, ℕ, suc, ◌≤◌, List, [], ◌∷◌, ◌++◌, length, Result, Ok, Err, IfOk, refl, sym, ap, ◌∙◌, subst, arith}
+use Rattle.std.proofs.Common.{◌≡◌, ◌≢◌, ℕ, suc, ◌<◌, ◌≤◌, Bool, List, [], ◌∷◌, ◌++◌, length, Result, Ok, Err, IfOk, IfErr, inl, inr, refl, sym, ap, ◌∙◌}
+use Rattle.std.proofs.Common.{subst, arith}
+use Rattle.std.proofs.lemmas.Bool.{both_ways}
 use Rattle.cluster.proofs.Histories.{in_still, failed_still}
-use Rattle.cluster.specs.Histories.{HistoryView, has_failed, IsLawful, IsMade, IsUnchanged, IsRefused}
-use Rattle.cluster.specs.Turns.{TurnsOn, Delivers}
+use Rattle.cluster.specs.Histories.{HistoryView, has_failed, IsLawful, IsMade, IsUnchanged, MayGoOn, IsRefused, HasNoFault, IsFault}
+use Rattle.cluster.specs.Histories.{IsLeft}
+use Rattle.cluster.specs.Turns.{TurnsOn, Delivers, IsTurnFault}
 use Rattle.delivery.specs.Queues.{queue_of}
 use Rattle.delivery.specs.Ready.{QueueOf, IsReady}
 use Rattle.journal.specs.declared.step.Step.{Step}
@@ -15,13 +18,15 @@ use Rattle.system.specs.Parts.{ShowsStage, progress_of, to_run, effect_shown, st
 use Rattle.system.specs.System.{SystemView, IsQuiet, IsStep}
 use Rattle.system.specs.declared.effect.Effect.{Effect}
 use Rattle.system.specs.declared.effect.Effect.TheVariants as effect
+use Rattle.system.specs.declared.fault.StepFault.{StepFault}
+use Rattle.system.specs.declared.fault.StepFault.TheVariants as fault
 use Rattle.system.specs.declared.stage.Progress.TheVariants as progress
 use Rattle.system.specs.declared.stage.Stage.{Stage}
 use Rattle.system.specs.declared.stage.Stage.TheVariants as stage
 use Rattle.system_view.specs.Layers.{AreJobs}
-use Rattle.world.specs.Steps.{Steps, NoLayer, NothingToRun, NothingToSettle, RunInTurn, starved_among, if_starved}
+use Rattle.world.specs.Steps.{Steps, NoLayer, NothingToRun, NothingToSettle, IsInFlight, RunInTurn, starved_among, if_starved}
 use Rattle.world.specs.Steps as world
-use Rattle.world.specs.World.{World, Ended, NoneTaken, Taken}
+use Rattle.world.specs.World.{World, Ended, NoneTaken, Taken, HasRun}
 use Rattle.world_laws.specs.Good.{Asked}
 use Rattle.keyspace.specs.Map.{Map}
 use Rattle.std.proofs.Common.{false, Option, Some, None}
@@ -41,6 +46,11 @@ is_taken : (s : Stage) (w : World) → progress_of s ≡ progress.Taken → Show
 is_taken stage.Free w is shows = absurd (let k = is in cc)
 is_taken (stage.Taken taken) w is shows = (shows.0, shows.1)
 is_taken (stage.HasRun ran) w is shows = absurd (let k = is in cc)
+
+has_run : (s : Stage) (w : World) → progress_of s ≡ progress.HasRun → ShowsStage s w → (es : List Ended) × (w.layer ≡ HasRun es)
+has_run stage.Free w is shows = absurd (let k = is in cc)
+has_run (stage.Taken taken) w is shows = absurd (let k = is in cc)
+has_run (stage.HasRun ran) w is shows = (shows.0, shows.1)
 
 -- ---- which turn it is
 
@@ -147,7 +157,7 @@ delivers_next pick old new is none_ready lawful came =
     delivers pick old old new is refused (unchanged old) came
 
 pub quiet : (old mid : HistoryView) → progress_of old.system.parts.stage ≡ progress.Free → IsRefused old step.Take NoLayer →
-    IsUnchanged old mid → mid.system.parts.multicast.packets ≡ [] → IsQuiet old.system.parts
+    IsUnchanged old mid → mid.system.parts.multicast.packets ≡ [] → IsQuiet old.system
 quiet old mid is refused still none =
     let queues : queue_of old.system.parts.multicast.queues ≡ refused.world.queue =
     λ k g. refused.shows.at.shows.multicast.queues g k in
@@ -157,10 +167,144 @@ quiet old mid is refused still none =
       none_ready = subst (λ (q : QueueOf). (d : Delivered) → ¬ IsReady q d) (sym queues) refused.refused.1;
     }
 
+-- ---- why no turn was made
+
+-- of a step that is refused so, where something is under way
+under_way : (may : Bool) (old new : HistoryView) (step : Step) → (¬ IsQuiet old.system) → IsFault old step fault.Memory →
+    IsUnchanged old new → IsTurnFault may old fault.Memory new
+under_way may old new step busy why still = (why.0, busy, still)
+
+pub settle_fault : (may : Bool) (old new : HistoryView) (f : StepFault) → progress_of old.system.parts.stage ≡ progress.HasRun →
+    IsFault old step.Settle f → IsUnchanged old new → IsTurnFault may old f new
+settle_fault may old new fault.Busy is why still = absurd why.1.refused
+settle_fault may old new fault.NoConn is why still = absurd why.1.refused
+settle_fault may old new fault.NoPacket is why still = absurd why.1.refused
+settle_fault may old new fault.InFlight is why still = absurd why.1.refused
+settle_fault may old new fault.NoLayer is why still =
+    absurd (subst NothingToSettle (has_run _ why.1.world is why.1.shows.at.shows.stage).1 why.1.refused)
+settle_fault may old new fault.Exhausted is why still = (why.0, why.1, still)
+settle_fault may old new fault.Memory is why still = under_way may old new step.Settle
+    (λ quiet. let e = sym is ∙ ap progress_of quiet.layer in cc) why still
+settle_fault may old new fault.Failed is why still = inl (why, still)
+
+pub run_fault : (may : Bool) (old new : HistoryView) (f : StepFault) → progress_of old.system.parts.stage ≡ progress.Taken →
+    IsLeft may old (step.Run []) f new → IsTurnFault may old f new
+run_fault may old new fault.Busy is left = absurd left.0.1.refused
+run_fault may old new fault.NoConn is left = absurd left.0.1.refused
+run_fault may old new fault.NoPacket is left = absurd left.0.1.refused
+run_fault may old new fault.InFlight is left = absurd left.0.1.refused
+run_fault may old new fault.NoLayer is left =
+    let why = left.0.1 in absurd (subst NothingToRun (is_taken _ why.world is why.shows.at.shows.stage).1 why.refused)
+run_fault may old new fault.Exhausted is left = (left.0.0, left.0.1, left.1)
+run_fault may old new fault.Memory is left = under_way may old new (step.Run [])
+    (λ quiet. let e = sym is ∙ ap progress_of quiet.layer in cc) left.0 left.1
+run_fault may old new fault.Failed is left = left
+
+-- where a Take isn't refused, some request is ready
+take_under_way : (old : HistoryView) → progress_of old.system.parts.stage ≡ progress.Free → HasNoFault old step.Take →
+    ¬ IsQuiet old.system
+take_under_way old is free quiet =
+    let queues : queue_of old.system.parts.multicast.queues ≡ free.world.queue = λ k g. free.shows.at.shows.multicast.queues g k in
+    free.none NoLayer (
+      none_taken _ free.world is free.shows.at.shows.stage,
+      subst (λ (q : QueueOf). (d : Delivered) → ¬ IsReady q d) queues quiet.none_ready,
+    )
+
+pub take_fault : (may : Bool) (old new : HistoryView) (f : StepFault) → progress_of old.system.parts.stage ≡ progress.Free →
+    f ≢ fault.NoLayer → IsFault old step.Take f → IsUnchanged old new → IsTurnFault may old f new
+take_fault may old new fault.Busy is other why still = absurd why.1.refused
+take_fault may old new fault.NoConn is other why still = absurd why.1.refused
+take_fault may old new fault.NoPacket is other why still = absurd why.1.refused
+take_fault may old new fault.InFlight is other why still =
+    absurd (subst IsInFlight (none_taken _ why.1.world is why.1.shows.at.shows.stage) why.1.refused)
+take_fault may old new fault.NoLayer is other why still = absurd (other refl)
+take_fault may old new fault.Exhausted is other why still = (why.0, why.1, still)
+take_fault may old new fault.Memory is other why still =
+    under_way may old new step.Take (take_under_way old is why.1) why still
+take_fault may old new fault.Failed is other why still = inl (why, still)
+
+pub deliver_fault : (may : Bool) (old new : HistoryView) (f : StepFault) (place : ℕ) → place < length old.system.parts.multicast.packets →
+    IsFault old (step.Deliver place) f → IsUnchanged old new → IsTurnFault may old f new
+deliver_fault may old new fault.Busy place below why still = absurd why.1.refused
+deliver_fault may old new fault.NoConn place below why still = absurd why.1.refused
+deliver_fault may old new fault.NoPacket place below why still =
+    let same = ap length why.1.shows.at.shows.multicast.packets in let none = why.1.refused in absurd (omega arith)
+deliver_fault may old new fault.InFlight place below why still = absurd why.1.refused
+deliver_fault may old new fault.NoLayer place below why still = absurd why.1.refused
+deliver_fault may old new fault.Exhausted place below why still = (why.0, why.1, still)
+deliver_fault may old new fault.Memory place below why still = under_way may old new (step.Deliver place)
+    (λ quiet. let none = ap length quiet.packets in absurd (omega arith)) why still
+deliver_fault may old new fault.Failed place below why still = inl (why, still)
+
+-- twice nothing has changed but room
+unchanged_twice : (old mid new : HistoryView) → IsUnchanged old mid → IsUnchanged mid new → IsUnchanged old new
+unchanged_twice old mid new one two =
+    let p = one.system.parts in
+    let q = two.system.parts in
+    record {
+      system = record {
+        max_steps = two.system.max_steps ∙ one.system.max_steps;
+        steps = two.system.steps ∙ one.system.steps;
+        parts = record {
+          router = q.router ∙ p.router;
+          multicast = record {
+            groups = q.multicast.groups ∙ p.multicast.groups;
+            packets = q.multicast.packets ∙ p.multicast.packets;
+            queues = q.multicast.queues ∙ p.multicast.queues;
+          };
+          store = q.store ∙ p.store;
+          stage = q.stage ∙ p.stage;
+          rows = q.rows ∙ p.rows;
+          starved = q.starved ∙ p.starved;
+        };
+      };
+      max_steps = two.max_steps ∙ one.max_steps;
+      steps = two.steps ∙ one.steps;
+    }
+
+quiet_still : (old mid : HistoryView) → IsUnchanged old mid → IsQuiet old.system → IsQuiet mid.system
+quiet_still old mid still quiet =
+    let parts = still.system.parts in
+    record {
+      packets = parts.multicast.packets ∙ quiet.packets;
+      layer = parts.stage ∙ quiet.layer;
+      none_ready = subst (λ qs. (d : Delivered) → ¬ IsReady (queue_of qs) d) (sym parts.multicast.queues) quiet.none_ready;
+    }
+
+-- why no turn was made of a history in which only room has changed
+pub fault_after : (may : Bool) (old mid new : HistoryView) (f : StepFault) → IsUnchanged old mid → IsTurnFault false mid f new →
+    IsTurnFault may old f new
+fault_after may old mid new fault.Busy still why = absurd why
+fault_after may old mid new fault.NoConn still why = absurd why
+fault_after may old mid new fault.NoPacket still why = absurd why
+fault_after may old mid new fault.InFlight still why = absurd why
+fault_after may old mid new fault.NoLayer still why = absurd why
+fault_after may old mid new fault.Exhausted still why = (
+  sym (failed_still old mid still) ∙ why.0,
+  sym (ap length still.steps) ∙ (why.1 ∙ still.max_steps),
+  unchanged_twice old mid new still why.2,
+)
+fault_after may old mid new fault.Memory still why = (
+  record {
+    lives = sym (failed_still old mid still) ∙ why.0.lives;
+    left = let left = why.0.left in let same = ap length still.steps in let most = still.max_steps in omega arith;
+  },
+  λ quiet. why.1 (quiet_still old mid still quiet),
+  unchanged_twice old mid new still why.2,
+)
+fault_after may old mid new fault.Failed still (inl why) =
+    inl (sym (failed_still old mid still) ∙ why.0, unchanged_twice old mid new still why.1)
+fault_after may old mid new fault.Failed still (inr why) = absurd (both_ways _ refl why.0)
+
 -- what holds of an answer
 pub if_ok : {A E : Type 0} (P Q : A → Type 0) (r : Result A E) → ((a : A) → P a → Q a) → IfOk r P → IfOk r Q
 if_ok P Q (Ok a) so holds = so a holds
 if_ok P Q (Err e) so holds = holds
+
+-- what holds of a refusal
+pub if_err : {A E : Type 0} (P Q : E → Type 0) (r : Result A E) → ((e : E) → P e → Q e) → IfErr r P → IfErr r Q
+if_err P Q (Ok a) so holds = holds
+if_err P Q (Err e) so holds = so e holds
 
 -- ---- no more starve than are run
 

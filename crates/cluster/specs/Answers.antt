@@ -26,6 +26,6 @@ pub record IsReplied (old : HistoryView) (s : SeatView) (r : Reply) (new : Histo
   pub made : IsMade old (Collect s.conn) (Collected (Some outcome)) new
   pub id : outcome.id ≡ last_id s
   pub said : IsSaid new.steps outcome.id s.words
-  pub from : ComesFrom new.system.parts s.words (outcome_shown outcome)
+  pub from : ComesFrom new.system s.words (outcome_shown outcome)
   pub above : IsAbove outcome.stamp s.floor
   pub seat : after ≡ record s { floor = raised outcome.stamp s.floor }

@@ -8,7 +8,8 @@ use Rattle.resp.specs.Text.{text}
 use Rattle.groups.specs.Order.{In}
 use Rattle.groups.specs.declared.request.RequestId.{RequestId}
 use Rattle.groups.specs.declared.stamp.Stamp.{Stamp}
-use Rattle.system.specs.declared.parts.Parts.{Parts}
+use Rattle.system.specs.Reads.{table_of, rows_of, starved_of}
+use Rattle.system.specs.System.{SystemView}
 use Rattle.world.specs.World.{Outcome}
 use Rattle.world_laws.specs.Collecting.{reply_at_once}
 
@@ -31,8 +32,8 @@ pub record IsAtOnce (t : Layout) (words : List (List ℕ)) (o : Outcome) : Type 
   pub stamp : o.stamp ≡ None
   pub reply : reply_at_once t (reading words) ≡ Some o.reply
 
-abbrev pub ComesFrom : Parts → List (List ℕ) → Outcome → Type 0
-ComesFrom p words o = IsOfRow p.rows o ⊎ (HasStarved p.starved.items o ⊎ IsAtOnce p.store.table words o)
+abbrev pub ComesFrom : SystemView → List (List ℕ) → Outcome → Type 0
+ComesFrom s words o = IsOfRow (rows_of s) o ⊎ (HasStarved (starved_of s) o ⊎ IsAtOnce (table_of s) words o)
 
 -- ---- floors
 

@@ -1,8 +1,10 @@
 -- Turns: steps that bring packets and layers on.
 use Rattle.std.specs.Prelude.{◌≡◌, ℕ, Bool, true, false, [], length, ◌⊎◌}
-use Rattle.cluster.specs.Histories.{HistoryView, has_failed, IsIn, IsMade, IsUnchanged, Fails}
+use Rattle.cluster.specs.Histories.{HistoryView, has_failed, IsIn, IsMade, IsUnchanged, MayGoOn, Fails}
 use Rattle.journal.specs.declared.step.Step.{Step}
 use Rattle.journal.specs.declared.step.Step.TheVariants.{Open, Submit, Deliver, Take, Run, Settle, Collect, Close}
+use Rattle.system.specs.Reads.{packets_of}
+use Rattle.system.specs.System.{IsQuiet}
 use Rattle.system.specs.declared.effect.Effect.{Effect}
 use Rattle.system.specs.declared.fault.StepFault.{StepFault}
 use Rattle.system.specs.declared.fault.StepFault.TheVariants as fault
@@ -36,12 +38,12 @@ pub record TurnsOn (pick : ℕ → ℕ) (old new : HistoryView) : Type 0 where
 pub record Delivers (pick : ℕ → ℕ) (old new : HistoryView) : Type 0 where
   pub place : ℕ
   pub made : IsMade old (Deliver place) Made new
-  pub picked : place ≡ pick (length old.system.parts.multicast.packets)
+  pub picked : place ≡ pick (length (packets_of old.system))
 
--- why no turn was made, and what that leaves
+-- Why no turn was made, and what that leaves. Want of memory is told only where something is under way.
 abbrev pub IsTurnFault : Bool → HistoryView → StepFault → HistoryView → Type 0
 IsTurnFault may_refuse old fault.Exhausted new = (has_failed old ≡ false) × (length old.steps ≡ old.max_steps) × IsUnchanged old new
-IsTurnFault may_refuse old fault.Memory new = (has_failed old ≡ false) × IsUnchanged old new
+IsTurnFault may_refuse old fault.Memory new = MayGoOn old × (¬ IsQuiet old.system) × IsUnchanged old new
 IsTurnFault may_refuse old fault.Failed new =
     ((has_failed old ≡ true) × IsUnchanged old new) ⊎ ((may_refuse ≡ true) × Fails old new)
 IsTurnFault may_refuse old fault.Busy new = ⊥

@@ -4,15 +4,15 @@ ghost use Rattle.std.specs.Prelude.{◌≡◌, ◌≤◌, ◌<◌, ◌+◌, [], 
 ghost use Rattle.std.specs.Prelude.{IfOk, IfErr, OnOk, OnErr, IfSome, IfNone, option_copied, IsTrue, ◌↔◌, ℕ};
 ghost use Rattle.cluster.specs.Answers.{shown_outcome, IsReplied};
 ghost use Rattle.cluster.specs.Clusters.{IsNew, SameBook, Fits, next_id, last_id, IsForeign, IsSubmitFault, IsCollectFault, IsCloseFault};
-ghost use Rattle.cluster.specs.Clusters.{last_of, AreLasts, IsPut, IsSeated, CanCollect, HasClosed};
-ghost use Rattle.cluster.specs.Histories.{has_failed, IsLawful, IsMade, IsUnchanged, IsFault};
+ghost use Rattle.cluster.specs.Clusters.{last_of, AreLasts, IsPut, IsSeated, CanCollect, HasClosed, StaysOpen};
+ghost use Rattle.cluster.specs.Histories.{has_failed, IsLawful, HasItsRows, IsMade, IsUnchanged, IsFault};
 ghost use Rattle.cluster.specs.Outcomes.{ComesFrom, IsAbove, raised};
 ghost use Rattle.cluster.specs.Submits.{submits, submits_by, IsSaid};
 ghost use Rattle.journal.specs.Codes.{steps_size};
 ghost use Rattle.cluster.specs.Turns.{TurnsOn, IsTurnFault};
 ghost use Rattle.journal.specs.declared.step.Step.{Step};
-ghost use Rattle.router.specs.Router.{waiting};
 ghost use Rattle.router.specs.declared.outcome.Outcome.{Outcome};
+ghost use Rattle.system.specs.Reads.{rows_of, starved_of, waiting_for};
 ghost use Rattle.system.specs.System.{IsQuiet};
 ghost use Rattle.system.specs.declared.effect.Effect.{Effect};
 ghost use Rattle.system_view.specs.Connections.{outcome_shown};
@@ -36,6 +36,9 @@ use std::mem;
 use std::sync::ledger::{Blank, Book, Ledger, Share};
 use system::{Effect, StepFault, System};
 use thiserror::Error;
+
+/// How many bytes a Close takes in the trace at most.
+const GREATEST_CLOSE: usize = 10;
 
 /// What is known of a connection's requests: how many it has submitted, and where in the trace's bytes the last Submit
 /// begins.
@@ -130,11 +133,11 @@ impl Answer {
         &self.reply
     }
 
-    /// The reply, given out.
-    pub fn into_reply(self) -> Reply
-        ensures { result ≡ self.reply }
+    /// The reply alone, sealed.
+    pub fn into_sealed(self) -> SealedReply
+        ensures { result.reply ≡ self.reply }
     {
-        self.reply
+        SealedReply { reply: self.reply }
     }
 
     /// The request's final stamp; none where it addressed no group.
@@ -142,6 +145,22 @@ impl Answer {
         ensures { option_copied result ≡ self.now.stamp }
     {
         self.stamp.as_ref()
+    }
+}
+
+/// The reply of what a seat collected. It can't be made up on its way: only a cluster makes one, and who has it can't
+/// change it.
+#[derive(Drop)]
+pub struct SealedReply {
+    reply: Reply,
+}
+
+impl SealedReply {
+    /// The reply.
+    pub fn open(self) -> Reply
+        ensures { result ≡ self.reply }
+    {
+        self.reply
     }
 }
 
@@ -177,6 +196,8 @@ pub struct Cluster<L: Ledger> {
     requests: u64,
     sat: u64,
     stood: u64,
+    // Of the trace's room, what is kept for the Closes of those who haven't stood.
+    kept: usize,
 }
 
 impl<L: Ledger> Model for Cluster<L> {
@@ -184,7 +205,7 @@ impl<L: Ledger> Model for Cluster<L> {
     ghost use Rattle.resp.specs.contracts.reply.Reply as reply;
     ghost use Rattle.shard_exec.specs.StoreStates.{state_code};
     ghost use Rattle.skeen_core.specs.Kept.{group_code};
-    ghost use Rattle.cluster.specs.Clusters.{ClusterView, IsCluster};
+    ghost use Rattle.cluster.specs.Clusters.{ClusterView, IsCluster, KeepsRoom};
 
     ghost Value = { ClusterView };
 
@@ -193,6 +214,8 @@ impl<L: Ledger> Model for Cluster<L> {
     ghost view = { λ c. record { history = c.history; book = c.book.total; sat = c.sat; stood = c.stood; back = c.pool.amount } };
 
     ghost invariant = { λ c. IsCluster L.parts c.pool.parts c.requests c.lasts.entries
+        (record { history = c.history; book = c.book.total; sat = c.sat; stood = c.stood; back = c.pool.amount })
+        × KeepsRoom c.kept
         (record { history = c.history; book = c.book.total; sat = c.sat; stood = c.stood; back = c.pool.amount }) };
 }
 
@@ -213,7 +236,7 @@ impl<L: Ledger> Cluster<L> {
         requires enough { max_steps < blank.parts }
         requires some { 1 ≤ max_steps }
         requires few { max_steps ≤ GREATEST_STEPS }
-        ensures { IfOk result (IsNew max_steps) }
+        ensures { IfOk result (IsNew table max_steps) }
     {
         let history = History::new(alloc, table, max_steps, hasher)?;
         history.lawful();
@@ -228,6 +251,7 @@ impl<L: Ledger> Cluster<L> {
             requests: 0,
             sat: 0,
             stood: 0,
+            kept: 0,
         })
     }
 
@@ -245,11 +269,14 @@ impl<L: Ledger> Cluster<L> {
             return Err(StepFault::Failed);
         }
         let number = self.sat + 1;
+        let Some(kept) = self.kept.checked_add(GREATEST_CLOSE) else {
+            return Err(self.sit_refusal());
+        };
         let words = PackedWords::new(self.alloc);
         let Ok(_) = self.lasts.insert(number, Last { count: 0, place: 0 }) else {
-            return Err(StepFault::Memory);
+            return Err(self.sit_refusal());
         };
-        let effect = match self.history.make(Step::Open) {
+        let effect = match self.history.make(Step::Open, kept) {
             Ok((effect, _)) => effect,
             Err(fault) => {
                 self.lasts.remove(&number);
@@ -260,6 +287,7 @@ impl<L: Ledger> Cluster<L> {
             unreachable!()
         };
         self.sat = number;
+        self.kept = kept;
         Ok(Seat {
             conn,
             floor: 0,
@@ -269,10 +297,37 @@ impl<L: Ledger> Cluster<L> {
         })
     }
 
+    /// Why no seat is given where there is no memory for one: what else refuses it comes first.
+    #[cold]
+    pub fn sit_refusal(&self) -> StepFault
+        ensures { IsFault self.now.history Step.Open result }
+    {
+        self.history.refusal(&Step::Open)
+    }
+
+    /// Why the seat's submit isn't made where there is no memory for it: what else refuses it comes first.
+    #[cold]
+    pub fn submit_refusal(&self, seat: &Seat<L>, words: Request) -> StepFault
+        ensures { IsSubmitFault self.now.history seat.now words result }
+    {
+        if self.history.system().has_failed() {
+            return StepFault::Failed;
+        }
+        if self.history.is_exhausted() {
+            return StepFault::Exhausted;
+        }
+        if !fits(&self.history, &self.lasts, seat) {
+            return StepFault::NoConn;
+        }
+        let conn = seat.conn;
+        self.history.refusal(&Step::Submit { conn, words })
+    }
+
     /// Submits a request of these words, and gives its id. The seat counts it and keeps a copy of the words.
     ///
-    /// The errors change nothing but room: `Busy` where the seat hasn't collected its last outcome, `NoConn` where its
-    /// connection isn't open or the seat is not as the trace has it, `Failed`, `Exhausted` and `Memory`.
+    /// The errors change nothing but room. They are the first that applies of `Failed`, `Exhausted`, `NoConn` where the
+    /// seat's connection isn't open or the seat is not as the trace has it, `Busy` where it hasn't collected its last
+    /// outcome, and `Memory`.
     pub fn submit(&mut self, seat: &mut Seat<L>, words: Request) -> Result<RequestId, StepFault>
         ensures submitted { IfOk result (λ id.
             IsMade self.old.history (Step.Submit seat.old.conn words) (Effect.Submitted id) self.new.history) }
@@ -289,11 +344,14 @@ impl<L: Ledger> Cluster<L> {
         if self.history.system().has_failed() {
             return Err(StepFault::Failed);
         }
+        if self.history.is_exhausted() {
+            return Err(StepFault::Exhausted);
+        }
         if !fits(&self.history, &self.lasts, seat) {
             return Err(StepFault::NoConn);
         }
         let Ok(()) = self.spare.set(&words) else {
-            return Err(StepFault::Memory);
+            return Err(self.submit_refusal(seat, words));
         };
         let id = match make_submit(
             &mut self.history,
@@ -301,6 +359,7 @@ impl<L: Ledger> Cluster<L> {
             seat.conn,
             seat.count,
             words,
+            self.kept,
         ) {
             Ok(id) => id,
             Err(fault) => return Err(fault),
@@ -315,7 +374,7 @@ impl<L: Ledger> Cluster<L> {
     /// Makes a turn: the first of Settle, Run, Take and Deliver that applies, the last with the packet that is picked.
     /// Says whether one was made; none is where nothing is under way.
     ///
-    /// The errors are `Failed`, `Exhausted` and `Memory`. They change nothing but room, unless a worker's start is
+    /// The errors are `Failed`, `Exhausted` and, where something is under way, `Memory`. They change nothing but room, unless a worker's start is
     /// refused now: then the trace and the rows stand, no step is made any more, and nothing else is said.
     pub fn turn<P: Pick, W: Workers>(
         &mut self,
@@ -324,28 +383,28 @@ impl<L: Ledger> Cluster<L> {
         gate: &(dyn Gate + Sync),
     ) -> Result<bool, StepFault>
         ensures made { IfOk result (λ made. made ≡ true → TurnsOn (P.picks pick.now) self.old.history self.new.history) }
-        ensures quiet { IfOk result (λ made. made ≡ false → IsQuiet self.old.history.system.parts) }
+        ensures quiet { IfOk result (λ made. made ≡ false → IsQuiet self.old.history.system) }
         ensures unmade { IfOk result (λ made. made ≡ false → IsUnchanged self.old.history self.new.history) }
         ensures rest { SameBook self.old self.new × (self.new.sat ≡ self.old.sat) }
-        ensures refused { IfErr result (λ fault. IsTurnFault W.may_refuse self.old.history fault self.new.history) }
+        ensures refused { IfErr result (λ fault. IsTurnFault (W.may_refuse workers.now) self.old.history fault self.new.history) }
     {
-        self.history.turn(pick, workers, gate)
+        self.history.turn(pick, workers, gate, self.kept)
     }
 
     /// Collects what came of the seat's last request, if its outcome is there; else no step is made.
     ///
-    /// The errors change nothing but room: `NoConn` where the seat's connection isn't open, the seat is not as the
-    /// trace has it, or the outcome's stamp isn't above the seat's floor; `Failed`, `Exhausted`, and `Memory` for the
-    /// copy of the words.
+    /// The errors change nothing but room. They are the first that applies of `Failed`, `Exhausted`, `NoConn` where the
+    /// seat's connection isn't open, the seat is not as the trace has it, or the outcome's stamp isn't above the seat's
+    /// floor, and `Memory`, for the copy of the words too.
     pub fn collect(&mut self, seat: &mut Seat<L>) -> Result<Option<Answer>, StepFault>
-        ensures none { IfOk result (λ answer. IfNone answer (waiting self.old.history.system.parts.router seat.old.conn.0 ≡ None)) }
+        ensures none { IfOk result (λ answer. IfNone answer (waiting_for self.old.history.system seat.old.conn.0 ≡ None)) }
         ensures unasked { IfOk result (λ answer. IfNone answer ((self.new ≡ self.old) × (seat.new ≡ seat.old))) }
         ensures collected { IfOk result (λ answer. IfSome answer (λ a. (outcome : Outcome) × (shown_outcome a ≡ outcome_shown outcome)
             × IsMade self.old.history (Step.Collect seat.old.conn) (Effect.Collected (Some outcome)) self.new.history)) }
         ensures id { IfOk result (λ answer. IfSome answer (λ a. a.id ≡ last_id seat.old)) }
         ensures words { IfOk result (λ answer. IfSome answer (λ a. a.words ≡ seat.old.words)) }
         ensures said { IfOk result (λ answer. IfSome answer (λ a. IsSaid self.old.history.steps a.id a.words)) }
-        ensures from { IfOk result (λ answer. IfSome answer (λ a. ComesFrom self.new.history.system.parts a.words (shown_outcome a))) }
+        ensures from { IfOk result (λ answer. IfSome answer (λ a. ComesFrom self.new.history.system a.words (shown_outcome a))) }
         ensures above { IfOk result (λ answer. IfSome answer (λ a. IsAbove a.stamp seat.old.floor)) }
         ensures seat { IfOk result (λ answer. IfSome answer (λ a. seat.new ≡ record seat.old { floor = raised a.stamp seat.old.floor })) }
         ensures rest { SameBook self.old self.new × (self.new.sat ≡ self.old.sat) }
@@ -362,7 +421,7 @@ impl<L: Ledger> Cluster<L> {
         let Ok(words) = seat.words.try_clone() else {
             return Err(StepFault::Memory);
         };
-        let outcome = match take(&mut self.history, seat) {
+        let outcome = match take(&mut self.history, seat, self.kept) {
             Ok(outcome) => outcome,
             Err(fault) => return Err(fault),
         };
@@ -374,11 +433,11 @@ impl<L: Ledger> Cluster<L> {
         }))
     }
 
-    /// The reply alone of what `collect` would give, and its errors but for `Memory`: it copies no words.
-    pub fn collect_reply(&mut self, seat: &mut Seat<L>) -> Result<Option<Reply>, StepFault>
-        ensures none { IfOk result (λ reply. IfNone reply (waiting self.old.history.system.parts.router seat.old.conn.0 ≡ None)) }
+    /// The reply alone of what `collect` would give, and its errors: it copies no words.
+    pub fn collect_reply(&mut self, seat: &mut Seat<L>) -> Result<Option<SealedReply>, StepFault>
+        ensures none { IfOk result (λ reply. IfNone reply (waiting_for self.old.history.system seat.old.conn.0 ≡ None)) }
         ensures unasked { IfOk result (λ reply. IfNone reply ((self.new ≡ self.old) × (seat.new ≡ seat.old))) }
-        ensures replied { IfOk result (λ reply. IfSome reply (λ r. IsReplied self.old.history seat.old r self.new.history seat.new)) }
+        ensures replied { IfOk result (λ reply. IfSome reply (λ r. IsReplied self.old.history seat.old r.reply self.new.history seat.new)) }
         ensures rest { SameBook self.old self.new × (self.new.sat ≡ self.old.sat) }
         ensures refused { IfErr result (IsCollectFault self.old.history seat.old) }
         ensures unchanged { OnErr result (IsUnchanged self.old.history self.new.history × (seat.new ≡ seat.old)) }
@@ -390,25 +449,28 @@ impl<L: Ledger> Cluster<L> {
         if !some {
             return Ok(None);
         }
-        let outcome = match take(&mut self.history, seat) {
+        let outcome = match take(&mut self.history, seat, self.kept) {
             Ok(outcome) => outcome,
             Err(fault) => return Err(fault),
         };
-        Ok(Some(outcome.reply))
+        let reply = outcome.reply;
+        Ok(Some(SealedReply { reply }))
     }
 
     /// Takes a seat back, and closes its connection. What it has under way still runs, and its outcome is dropped.
-    /// Where the Close is refused, for want of memory or since no step may be made, the trace gains none.
+    /// Where the Close is refused, since no step may be made or the connection isn't open, the trace gains none. Memory for
+    /// it was taken when the seat sat.
     pub fn stand(&mut self, seat: Seat<L>)
         ensures stood { self.new.stood ≡ self.old.stood + 1 }
         ensures back { self.new.back ≡ self.old.back + seat.count }
         ensures rest { (self.new.book ≡ self.old.book) × (self.new.sat ≡ self.old.sat) }
         ensures closed { IsMade self.old.history (Step.Close seat.conn) Effect.Made self.new.history
-            ⊎ IsUnchanged self.old.history self.new.history }
+            ⊎ StaysOpen seat.conn self.old.history self.new.history }
     {
         let Seat { conn, share, .. } = seat;
-        close(&mut self.history, &mut self.lasts, conn);
         self.pool.merge(share);
+        self.kept -= GREATEST_CLOSE;
+        close(&mut self.history, &mut self.lasts, conn, self.kept);
         self.stood += 1;
     }
 
@@ -417,11 +479,11 @@ impl<L: Ledger> Cluster<L> {
     pub fn closing(&mut self) -> Result<Closing, CloseFault>
         ensures seats { OnOk result (self.old.stood ≡ self.old.sat) }
         ensures share { OnOk result (self.old.back ≡ self.old.book) }
-        ensures quiet { OnOk result (IsQuiet self.old.history.system.parts) }
+        ensures quiet { OnOk result (IsQuiet self.old.history.system) }
         ensures lawful { OnOk result (IsLawful self.old.history) }
         ensures requests { IfOk result (λ closing. closing.requests ≡ submits self.old.history.steps) }
-        ensures executed { IfOk result (λ closing. closing.executed ≡ length self.old.history.system.parts.rows) }
-        ensures starved { IfOk result (λ closing. closing.starved ≡ length self.old.history.system.parts.starved.items) }
+        ensures executed { IfOk result (λ closing. closing.executed ≡ length (rows_of self.old.history.system)) }
+        ensures starved { IfOk result (λ closing. closing.starved ≡ length (starved_of self.old.history.system)) }
         ensures refused { IfErr result (IsCloseFault self.old) }
         ensures same { self.new ≡ self.old }
     {
@@ -468,9 +530,10 @@ impl<L: Ledger> Cluster<L> {
         self.history.system()
     }
 
-    /// It does nothing: its contract says that the cluster is lawful.
+    /// It does nothing: its contract says that the cluster is lawful, and that its rows are those of its trace.
     pub fn lawful(&self)
         ensures lawful { has_failed self.now.history ≡ false → IsLawful self.now.history }
+        ensures rows { HasItsRows self.now.history }
         ensures book { self.now.book ≡ submits self.now.history.steps }
     {
         self.history.lawful();
@@ -505,6 +568,7 @@ fn make_submit(
     conn: ConnId,
     count: u64,
     words: Request,
+    kept: usize,
 ) -> Result<RequestId, StepFault>
     requires known { (last : Last) × (last_of lasts.old.entries conn.0 ≡ Some last) }
     requires counted { count ≡ submits_by conn.0 history.old.steps }
@@ -515,9 +579,10 @@ fn make_submit(
         (Some (record { count = count + 1; place = steps_size history.old.steps })) lasts.new.entries) }
     ensures fault { IfErr result (IsFault history.old (Step.Submit conn words)) }
     ensures unchanged { OnErr result (IsUnchanged history.old history.new × (lasts.new.entries ≡ lasts.old.entries)) }
+    ensures room { kept ≤ history.old.room → kept ≤ history.new.room }
 {
     history.lawful();
-    let (effect, place) = match history.make(Step::Submit { conn, words }) {
+    let (effect, place) = match history.make(Step::Submit { conn, words }, kept) {
         Ok((effect, place)) => (effect, place),
         Err(fault) => return Err(fault),
     };
@@ -534,7 +599,7 @@ fn make_submit(
     Ok(id)
 }
 
-/// Whether an outcome waits for the seat.
+/// Whether an outcome waits for the seat, which it can collect.
 fn awaits<L: Ledger>(
     history: &History,
     lasts: &BTreeMap<u64, Last>,
@@ -542,12 +607,15 @@ fn awaits<L: Ledger>(
 ) -> Result<bool, StepFault>
     requires lasts { AreLasts lasts.now.entries history.now.steps }
     requires seated { (sat : ℕ) × (has_failed history.now ≡ false → IsSeated lasts.now.entries sat history.now) }
-    ensures none { IfOk result (λ some. some ≡ false → waiting history.now.system.parts.router seat.now.conn.0 ≡ None) }
+    ensures none { IfOk result (λ some. some ≡ false → waiting_for history.now.system seat.now.conn.0 ≡ None) }
     ensures some { IfOk result (λ some. some ≡ true → CanCollect history.now seat.now) }
     ensures refused { IfErr result (IsCollectFault history.now seat.now) }
 {
     if history.system().has_failed() {
         return Err(StepFault::Failed);
+    }
+    if history.is_exhausted() {
+        return Err(StepFault::Exhausted);
     }
     if !fits(history, lasts, seat) {
         return Err(StepFault::NoConn);
@@ -562,19 +630,24 @@ fn awaits<L: Ledger>(
 }
 
 /// Collects the outcome that waits for the seat, and raises the seat's floor.
-fn take<L: Ledger>(history: &mut History, seat: &mut Seat<L>) -> Result<Outcome, StepFault>
+fn take<L: Ledger>(
+    history: &mut History,
+    seat: &mut Seat<L>,
+    kept: usize,
+) -> Result<Outcome, StepFault>
     requires { CanCollect history.old seat.old }
     ensures taken { IfOk result (λ outcome. IsMade history.old (Step.Collect seat.old.conn) (Effect.Collected (Some outcome)) history.new) }
     ensures above { IfOk result (λ outcome. IsAbove outcome.stamp seat.old.floor) }
     ensures id { IfOk result (λ outcome. outcome.id ≡ last_id seat.old) }
     ensures said { IfOk result (λ outcome. IsSaid history.old.steps outcome.id seat.old.words) }
-    ensures from { IfOk result (λ outcome. ComesFrom history.new.system.parts seat.old.words (outcome_shown outcome)) }
+    ensures from { IfOk result (λ outcome. ComesFrom history.new.system seat.old.words (outcome_shown outcome)) }
     ensures seat { IfOk result (λ outcome. seat.new ≡ record seat.old { floor = raised outcome.stamp seat.old.floor }) }
     ensures refused { IfErr result (IsCollectFault history.old seat.old) }
     ensures unchanged { OnErr result (IsUnchanged history.old history.new × (seat.new ≡ seat.old)) }
+    ensures room { kept ≤ history.old.room → kept ≤ history.new.room }
 {
     history.lawful();
-    let effect = match history.make(Step::Collect { conn: seat.conn }) {
+    let effect = match history.make(Step::Collect { conn: seat.conn }, kept) {
         Ok((effect, _)) => effect,
         Err(fault) => return Err(fault),
     };
@@ -589,13 +662,16 @@ fn take<L: Ledger>(history: &mut History, seat: &mut Seat<L>) -> Result<Outcome,
 }
 
 /// Closes a connection, of which then nothing is known. Where its Close is refused nothing changes.
-fn close(history: &mut History, lasts: &mut BTreeMap<u64, Last>, conn: ConnId)
-    ensures { HasClosed conn history.old history.new lasts.old.entries lasts.new.entries
-        ⊎ (IsUnchanged history.old history.new × (lasts.new.entries ≡ lasts.old.entries)) }
+fn close(history: &mut History, lasts: &mut BTreeMap<u64, Last>, conn: ConnId, kept: usize)
+    requires { kept + GREATEST_CLOSE ≤ history.old.room }
+    ensures room { kept ≤ history.new.room }
+    ensures closed { HasClosed conn history.old history.new lasts.old.entries lasts.new.entries
+        ⊎ (StaysOpen conn history.old history.new × (lasts.new.entries ≡ lasts.old.entries)) }
 {
-    let Ok(()) = history.make_unanswered(Step::Close { conn }) else {
-        return;
-    };
+    match history.make_unanswered(Step::Close { conn }, kept) {
+        Ok(()) => {}
+        Err(_fault) => return,
+    }
     lasts.remove(&conn.0);
 }
 

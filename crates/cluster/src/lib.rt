@@ -11,5 +11,5 @@ mod history;
 mod pick;
 
 pub use closing::Closing;
-pub use cluster::{Answer, CloseFault, Cluster, Seat};
+pub use cluster::{Answer, CloseFault, Cluster, SealedReply, Seat};
 pub use pick::{First, Pick};

@@ -7,16 +7,16 @@ ghost use Rattle.multicast.specs.contracts.multicast.Multicast as multicast_type
 ghost use Rattle.journal.specs.contracts.rows.Rows as rows_type;
 ghost use Rattle.system.specs.contracts.system.System as system_type;
 ghost use Rattle.layer_planner.specs.contracts.layer.Layer as layer_type;
-ghost use Rattle.shard_exec.specs.contracts.done.Ended as ended_type;
+ghost use Rattle.router.specs.contracts.outcome.Outcome as outcome_type;
 ghost use Rattle.resp.specs.contracts.request.Request as request_type;
 
 use command_table::Command;
 use journal::Rows;
 use layer_planner::Layer;
 use multicast::Multicast;
-use resp::{Answered, Reply, Request};
+use resp::{Reply, Request};
 use router::{Outcome, Router};
-use shard_exec::{Ended, Store};
+use shard_exec::Store;
 
 fn sends<T: Send>()
     ensures { IsSend T.row }
@@ -62,12 +62,11 @@ fn layer_sends()
     sends::<Layer>();
 }
 
-fn ended_sends()
-    ensures { IsSend ended_type.the_row }
+fn outcome_sends()
+    ensures { IsSend outcome_type.the_row }
 {
     sends::<Reply>();
-    sends::<Answered>();
-    sends::<Ended>();
+    sends::<Outcome>();
 }
 
 fn request_sends()
@@ -81,7 +80,7 @@ pub fn system_sends()
     ensures { IsSend system_type.the_row }
 {
     layer_sends();
-    ended_sends();
+    outcome_sends();
     request_sends();
     router_sends();
     store_sends();

@@ -1,16 +1,14 @@
 -- What is told of a step that is refused.
-use Rattle.std.proofs.Common.{◌≡◌, ◌≢◌, ℕ, List, Bool, true, false, inl, Some, Result, Ok, Err, IfErr, refl, subst}
+use Rattle.std.proofs.Common.{◌≡◌, ◌≢◌, ℕ, List, Bool, true, false, inl, Some, Result, Ok, Err, IfErr}
 use Rattle.cluster.specs.Clusters.{SeatView}
 use Rattle.cluster.specs.Clusters as cluster
-use Rattle.cluster.specs.Histories.{HistoryView, has_failed, IsLawful, IsFault}
-use Rattle.journal.specs.declared.step.Step.TheVariants.{Open}
+use Rattle.cluster.specs.Histories.{HistoryView, has_failed, IsLawful}
 use Rattle.shared_cluster.specs.Asks.{told, unless_memory, lasting, Refuses, IsShutOr, RefusesSit, RefusesSubmit, RefusesCollect}
 use Rattle.shared_cluster.specs.Asks.{IsSitFault, IsSubmitFault, IsCollectFault}
 use Rattle.shared_cluster.specs.declared.fault.FaultKind.{FaultKind}
 use Rattle.shared_cluster.specs.declared.fault.FaultKind.TheVariants.{Closed, Memory, Exhausted, Failed, NoConn}
 use Rattle.shared_cluster.specs.declared.held.AskFault.{AskFault}
 use Rattle.system.specs.declared.fault.StepFault.{StepFault}
-use Rattle.system.specs.declared.fault.StepFault.TheVariants as step
 
 -- ---- behind the lock
 
@@ -31,12 +29,6 @@ pub refuses_lasting : (h : HistoryView) (IsWhy : StepFault → Type 0) (own : St
 refuses_lasting h IsWhy own kind lawful refused is =
     let kept = kept_by_lasting (told own) kind is in
     (kept.1, record { lawful = lawful; own = own; is = kept.0; why = refused })
-
--- no more steps may be made where nothing was collected
-pub refuses_exhausted : (h now : HistoryView) (s : SeatView) → now ≡ h → (has_failed h ≡ false → IsLawful h)
-    → IsFault now Open step.Exhausted → Refuses h (cluster.IsCollectFault h s) Exhausted
-refuses_exhausted h now s same lawful refused =
-    record { lawful = lawful; own = step.Exhausted; is = refl; why = subst (λ k. IsFault k Open step.Exhausted) same refused }
 
 -- ---- of a shared cluster
 

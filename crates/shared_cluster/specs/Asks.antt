@@ -1,20 +1,20 @@
 -- What a seat asks of a shared cluster, and what it is answered. The cluster under the lock is another one each time it
 -- is taken, so a clause says that there was such a cluster, and not which.
 use Rattle.std.specs.Prelude.{◌≡◌, ◌≢◌, ℕ, ◌+◌, Bool, true, false, List, [], ◌⊎◌, Option, Some, None}
-use Rattle.cluster.specs.Clusters.{SeatView, last_id}
+use Rattle.cluster.specs.Clusters.{SeatView, last_id, next_id}
 use Rattle.cluster.specs.Clusters as cluster
 use Rattle.cluster.specs.Histories.{HistoryView, has_failed, IsLawful, IsMade, IsFault}
 use Rattle.cluster.specs.Outcomes.{ComesFrom, IsAbove, raised}
 use Rattle.cluster.specs.Submits.{IsSaid}
 use Rattle.cluster.specs.Turns.{IsTurnFault}
-use Rattle.journal.specs.declared.step.Step.TheVariants.{Open, Collect}
+use Rattle.journal.specs.declared.step.Step.TheVariants.{Open, Submit, Collect}
 use Rattle.resp.specs.Content.{Content}
 use Rattle.router.specs.declared.outcome.Outcome as kept
 use Rattle.shared_cluster.specs.declared.fault.AskStep.TheVariants as asked
 use Rattle.shared_cluster.specs.declared.fault.FaultKind.{FaultKind}
 use Rattle.shared_cluster.specs.declared.fault.FaultKind.TheVariants.{Closed, Memory, Exhausted, Failed, NoConn}
 use Rattle.shared_cluster.specs.declared.held.AskFault.{AskFault}
-use Rattle.system.specs.declared.effect.Effect.TheVariants.{Opened, Collected}
+use Rattle.system.specs.declared.effect.Effect.TheVariants.{Opened, Submitted, Collected}
 use Rattle.system.specs.declared.fault.StepFault.{StepFault}
 use Rattle.system.specs.declared.fault.StepFault.TheVariants as step
 use Rattle.system_view.specs.Connections.{outcome_shown}
@@ -22,10 +22,9 @@ use Rattle.world.specs.World.{Outcome}
 
 -- ---- a seat
 
--- In a lawful history the seat's connection was opened last, and the seat has submitted nothing.
-pub record IsNewSeat (s : SeatView) : Type 0 where
-  pub before : HistoryView
-  pub after : HistoryView
+-- The seat's connection was opened as the step from one history to the other, which is lawful, and the seat has submitted
+-- nothing.
+pub record IsSeated (before : HistoryView) (s : SeatView) (after : HistoryView) : Type 0 where
   pub opened : IsMade before Open (Opened s.conn) after
   pub lawful : IsLawful after
   pub floor : s.floor ≡ 0
@@ -36,24 +35,39 @@ pub record IsNewSeat (s : SeatView) : Type 0 where
 abbrev pub submitted : SeatView → List (List ℕ) → SeatView
 submitted s words = record { conn = s.conn; floor = s.floor; count = s.count + 1; words = words }
 
--- What came of the seat's last request: the seat's connection collected it as the last step of a lawful history. It is
--- the outcome of the seat's last id, which the history has with the seat's words; it is a row of that history, or the
--- request starved, or it is the reply to words that address no group. Its stamp is above the seat's floor, and becomes
--- it.
-pub record IsAnswered (old : SeatView) (o : Outcome) (new : SeatView) : Type 0 where
-  pub before : HistoryView
-  pub after : HistoryView
+-- The seat submitted these words as the step from one history to the other.
+abbrev pub Submits : HistoryView → SeatView → List (List ℕ) → HistoryView → Type 0
+Submits before s words after = IsMade before (Submit s.conn words) (Submitted (next_id s)) after
+
+-- What came of the seat's last request: the seat's connection collected it as the step from one history to the other, which
+-- is lawful. It is the outcome of the seat's last id, which the history has with the seat's words; it is a row of that
+-- history, or the request starved, or it is the reply to words that address no group. Its stamp is above the seat's floor,
+-- and becomes it.
+pub record Answers (before : HistoryView) (old : SeatView) (o : Outcome) (after : HistoryView) (new : SeatView) : Type 0 where
   pub outcome : kept.Outcome
   pub shown : o ≡ outcome_shown outcome
   pub collected : IsMade before (Collect old.conn) (Collected (Some outcome)) after
   pub lawful : IsLawful after
   pub id : o.id ≡ last_id old
   pub said : IsSaid after.steps o.id old.words
-  pub from : ComesFrom after.system.parts old.words o
+  pub from : ComesFrom after.system old.words o
   pub above : IsAbove o.stamp old.floor
   pub seat : new ≡ record old { floor = raised o.stamp old.floor }
 
 -- this is the reply of what came of the seat's last request
+abbrev pub Replies : HistoryView → SeatView → Content → HistoryView → SeatView → Type 0
+Replies before old reply after new = (o : Outcome) × (o.reply ≡ reply) × Answers before old o after new
+
+-- ---- the same of a shared cluster, whose history was such a one when it was locked
+
+abbrev pub IsNewSeat : SeatView → Type 0
+IsNewSeat s = (before : HistoryView) × (after : HistoryView) × IsSeated before s after
+
+pub record IsAnswered (old : SeatView) (o : Outcome) (new : SeatView) : Type 0 where
+  pub before : HistoryView
+  pub after : HistoryView
+  pub answers : Answers before old o after new
+
 abbrev pub IsReplied : SeatView → Content → SeatView → Type 0
 IsReplied old reply new = (o : Outcome) × (o.reply ≡ reply) × IsAnswered old o new
 

@@ -7,7 +7,7 @@ ghost use Rattle.shared_cluster.specs.Asks.{submitted, IsReplied, IsAskFault};
 use crate::fault::FaultKind;
 use crate::held::AskFault;
 use crate::shared::Shared;
-use cluster::Seat;
+use cluster::{SealedReply, Seat};
 use resp::{Reply, Request};
 use serving::{Door, DoorFault};
 use std::sync::Wait;
@@ -54,8 +54,8 @@ impl<'a, L: Ledger, R: Wait + Clock> Desk<'a, L, R> {
     }
 
     /// Asks, and has those make the turns who are to.
-    fn asked(&mut self, request: Request) -> Result<Reply, AskFault>
-        ensures replied { IfOk result (λ reply. IsReplied (submitted self.old.seat request) (content reply) self.new.seat) }
+    fn asked(&mut self, request: Request) -> Result<SealedReply, AskFault>
+        ensures replied { IfOk result (λ r. IsReplied (submitted self.old.seat request) (content r.reply) self.new.seat) }
         ensures refused { IfErr result (λ fault. IsAskFault self.old.seat request fault self.new.seat) }
     {
         let conn = self.seat.conn();
@@ -96,7 +96,7 @@ impl<'a, L: Ledger, R: Wait + Clock> Door for Desk<'a, L, R> {
 
     fn ask(&mut self, request: Request) -> Result<Reply, DoorFault<AskFault>> {
         match self.asked(request) {
-            Ok(reply) => Ok(reply),
+            Ok(sealed) => Ok(sealed.open()),
             Err(fault) => match fault.kind() {
                 FaultKind::Memory => Err(DoorFault::Memory),
                 _ => Err(DoorFault::Ended(fault)),

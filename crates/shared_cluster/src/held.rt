@@ -1,22 +1,22 @@
 //! What the lock guards: a cluster, and whether it is shut. No other module makes a fault of an ask.
 
-ghost use Rattle.std.specs.Prelude.{◌≡◌, ◌+◌, ◌⊎◌, true, false, OnErr, OnOk, IfOk, IfErr, IfSome, IfNone};
+ghost use Rattle.std.specs.Prelude.{◌≡◌, ◌+◌, ◌⊎◌, true, false, OnErr, OnOk, IfOk, IfErr, IfSome, IfNone, OnSome};
 ghost use Rattle.cluster.specs.Answers.{shown_outcome};
 ghost use Rattle.resp.specs.Content.{content};
-ghost use Rattle.shared_cluster.specs.Asks.{submitted, IsNewSeat, IsAnswered, IsReplied, RefusesSit, RefusesSubmit, RefusesCollect, RefusesTurn};
+ghost use Rattle.shared_cluster.specs.Asks.{submitted, IsSeated, Submits, Answers, Replies, RefusesSit, RefusesSubmit, RefusesCollect};
+ghost use Rattle.shared_cluster.specs.Asks.{RefusesTurn};
 ghost use Rattle.shared_cluster.specs.Closings.{Closes, Writes, Sends};
-ghost use Rattle.shared_cluster.specs.Turning.{GoesOn};
-ghost use Rattle.cluster.specs.Clusters.{IsCloseFault};
-ghost use Rattle.cluster.specs.Histories.{has_failed, IsFault, IsMade, IsUnchanged};
+ghost use Rattle.shared_cluster.specs.Turning.{GoesOn, IsAtRest};
+ghost use Rattle.cluster.specs.Clusters.{StaysOpen, IsCloseFault};
+ghost use Rattle.cluster.specs.Histories.{IsMade};
 ghost use Rattle.cluster.specs.Submits.{submits};
 ghost use Rattle.journal.specs.declared.step.Step.{Step};
 ghost use Rattle.system.specs.declared.effect.Effect.{Effect};
-ghost use Rattle.system.specs.declared.fault.StepFault.{StepFault};
 
 use crate::fault::{AskStep, FaultKind, lasting, told};
-use cluster::{Answer, CloseFault, Closing, Cluster, Pick, Seat};
+use cluster::{Answer, CloseFault, Closing, Cluster, Pick, SealedReply, Seat};
 use journal::{SendFault, send_trace, write_trace};
-use resp::{Reply, Request};
+use resp::Request;
 use shard_workers::{Gate, Workers};
 use std::alloc::AllocError;
 use std::io::Write;
@@ -55,12 +55,20 @@ pub(crate) const RESERVE: usize = 256 * 1024;
 /// A cluster, and whether it is shut: then no one sits or asks any more.
 ///
 /// Beside it memory is kept back. A turn that finds none lets it go, so that what is under way comes to its end; and no
-/// one sits or submits before it is taken again.
+/// one sits or submits before it is taken again. And it is known how many rows there were before the last layer was run:
+/// the rows behind them tell whose outcomes come when that layer is settled.
 #[derive(Drop)]
 pub(crate) struct Held<L: Ledger> {
     pub cluster: Cluster<L>,
     pub shut: bool,
     pub reserve: Vec<u8>,
+    pub rows_before: usize,
+}
+
+/// That a cluster was found shut, and nothing under way in it. It can't be made up, since only what the lock guards gives it.
+#[derive(Debug, Drop, PartialEq, Eq)]
+pub struct AtRest {
+    seen: (),
 }
 
 /// How the turns go on.
@@ -74,10 +82,18 @@ pub(crate) enum Turn {
     Quiet,
 }
 
+/// How many rows there were before the last run: so many as there are where the next turn is one.
+fn before_run(progress: Progress, rows: usize, before: usize) -> usize {
+    match progress {
+        Progress::Taken => rows,
+        _ => before,
+    }
+}
+
 impl<L: Ledger> Held<L> {
     /// Opens a connection, and gives the seat that has it.
     pub fn sit(&mut self) -> Result<Seat<L>, AskFault>
-        ensures seat { IfOk result IsNewSeat }
+        ensures seat { IfOk result (λ seat. IsSeated self.old.cluster.history seat self.new.cluster.history) }
         ensures refused { IfErr result (RefusesSit self.old.shut self.old.cluster.history) }
         ensures shut { self.new.shut ≡ self.old.shut }
     {
@@ -91,7 +107,7 @@ impl<L: Ledger> Held<L> {
         self.cluster.lawful();
         if self.is_short() {
             return Err(AskFault {
-                kind: FaultKind::Memory,
+                kind: told(self.cluster.sit_refusal()),
                 step,
             });
         }
@@ -109,6 +125,7 @@ impl<L: Ledger> Held<L> {
 
     /// Submits a request of these words.
     pub fn submit(&mut self, seat: &mut Seat<L>, words: Request) -> Result<(), AskFault>
+        ensures made { OnOk result (Submits self.old.cluster.history seat.old words self.new.cluster.history) }
         ensures submitted { OnOk result (seat.new ≡ submitted seat.old words) }
         ensures refused { IfErr result (RefusesSubmit self.old.shut self.old.cluster.history seat.old words) }
         ensures unchanged { OnErr result (seat.new ≡ seat.old) }
@@ -124,7 +141,7 @@ impl<L: Ledger> Held<L> {
         self.cluster.lawful();
         if self.is_short() {
             return Err(AskFault {
-                kind: FaultKind::Memory,
+                kind: told(self.cluster.submit_refusal(seat, words)),
                 step,
             });
         }
@@ -139,18 +156,16 @@ impl<L: Ledger> Held<L> {
 
     /// Takes the memory again that is kept back for turns, where it was let go. Says whether there is none for it.
     fn is_short(&mut self) -> bool
-        ensures short { result ≡ true → has_failed self.old.cluster.history ≡ false }
-        ensures rest { (self.new.cluster ≡ self.old.cluster) × (self.new.shut ≡ self.old.shut) }
+        ensures { (self.new.cluster ≡ self.old.cluster) × (self.new.shut ≡ self.old.shut) }
     {
-        !self.cluster.system().has_failed()
-            && self.reserve.capacity() < RESERVE
-            && self.reserve.reserve(RESERVE).is_err()
+        self.reserve.capacity() < RESERVE && self.reserve.reserve(RESERVE).is_err()
     }
 
     /// What came of the seat's last request, with its words, if it is there. A want of memory is no refusal: it is not
     /// there yet.
     pub fn collect(&mut self, seat: &mut Seat<L>) -> Result<Option<Answer>, AskFault>
-        ensures answered { IfOk result (λ answer. IfSome answer (λ a. IsAnswered seat.old (shown_outcome a) seat.new)) }
+        ensures answered { IfOk result (λ answer. IfSome answer (λ a.
+            Answers self.old.cluster.history seat.old (shown_outcome a) self.new.cluster.history seat.new)) }
         ensures words { IfOk result (λ answer. IfSome answer (λ a. a.words ≡ seat.old.words)) }
         ensures unasked { IfOk result (λ answer. IfNone answer (seat.new ≡ seat.old)) }
         ensures refused { IfErr result (RefusesCollect self.old.cluster.history seat.old) }
@@ -164,15 +179,7 @@ impl<L: Ledger> Held<L> {
                 self.cluster.lawful();
                 Ok(Some(answer))
             }
-            Ok(None) => {
-                if self.is_exhausted() {
-                    return Err(AskFault {
-                        kind: FaultKind::Exhausted,
-                        step,
-                    });
-                }
-                Ok(None)
-            }
+            Ok(None) => Ok(None),
             Err(fault) => match lasting(fault) {
                 Some(kind) => Err(AskFault { kind, step }),
                 None => Ok(None),
@@ -180,18 +187,11 @@ impl<L: Ledger> Held<L> {
         }
     }
 
-    /// Whether no more steps may be made.
-    fn is_exhausted(&self) -> bool
-        ensures { result ≡ true → IsFault self.now.cluster.history Step.Open StepFault.Exhausted }
-    {
-        let trace = self.cluster.trace();
-        !self.cluster.system().has_failed() && trace.len() as u64 == trace.max()
-    }
-
     /// The reply alone of what came of the seat's last request, if it is there. A want of memory is no refusal: it is
     /// not there yet.
-    pub fn collect_reply(&mut self, seat: &mut Seat<L>) -> Result<Option<Reply>, AskFault>
-        ensures answered { IfOk result (λ reply. IfSome reply (λ r. IsReplied seat.old (content r) seat.new)) }
+    pub fn collect_reply(&mut self, seat: &mut Seat<L>) -> Result<Option<SealedReply>, AskFault>
+        ensures answered { IfOk result (λ reply. IfSome reply (λ r.
+            Replies self.old.cluster.history seat.old (content r.reply) self.new.cluster.history seat.new)) }
         ensures unasked { IfOk result (λ reply. IfNone reply (seat.new ≡ seat.old)) }
         ensures refused { IfErr result (RefusesCollect self.old.cluster.history seat.old) }
         ensures unchanged { OnErr result (seat.new ≡ seat.old) }
@@ -220,11 +220,14 @@ impl<L: Ledger> Held<L> {
         gate: &(dyn Gate + Sync),
     ) -> Result<Turn, AskFault>
         ensures made { IfOk result (GoesOn (P.picks pick.now) self.old.cluster.history self.new.cluster.history) }
-        ensures refused { IfErr result (RefusesTurn W.may_refuse self.old.cluster.history) }
+        ensures refused { IfErr result (RefusesTurn (W.may_refuse workers.now) self.old.cluster.history) }
         ensures shut { self.new.shut ≡ self.old.shut }
     {
         let step = AskStep::Turn;
-        let settled = self.cluster.system().progress() == Progress::HasRun;
+        let progress = self.cluster.system().progress();
+        let rows = self.cluster.system().rows().len();
+        self.rows_before = before_run(progress, rows, self.rows_before);
+        let settled = progress == Progress::HasRun;
         self.cluster.lawful();
         match self.cluster.turn(pick, workers, gate) {
             Ok(true) => Ok(Turn::Made { settled }),
@@ -237,6 +240,17 @@ impl<L: Ledger> Held<L> {
                 }
             },
         }
+    }
+
+    /// That it is shut and nothing is under way, if so.
+    pub fn at_rest(&self) -> Option<AtRest>
+        ensures rests { OnSome result (IsAtRest self.now.shut self.now.cluster.history) }
+        ensures goes_on { IfNone result (¬ IsAtRest self.now.shut self.now.cluster.history) }
+    {
+        if self.shut && self.cluster.system().quiet() {
+            return Some(AtRest { seen: () });
+        }
+        None
     }
 
     /// Gives back what is kept back for turns.
@@ -266,7 +280,7 @@ impl<L: Ledger> Held<L> {
         ensures stood { self.new.cluster.stood ≡ self.old.cluster.stood + 1 }
         ensures back { self.new.cluster.back ≡ self.old.cluster.back + seat.count }
         ensures closed { IsMade self.old.cluster.history (Step.Close seat.conn) Effect.Made self.new.cluster.history
-            ⊎ IsUnchanged self.old.cluster.history self.new.cluster.history }
+            ⊎ StaysOpen seat.conn self.old.cluster.history self.new.cluster.history }
         ensures shut { self.new.shut ≡ self.old.shut }
     {
         self.cluster.stand(seat);

@@ -10,5 +10,5 @@ mod shared;
 
 pub use desk::{Desk, Turns};
 pub use fault::{AskStep, FaultKind};
-pub use held::AskFault;
+pub use held::{AskFault, AtRest};
 pub use shared::Shared;

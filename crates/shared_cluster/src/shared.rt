@@ -11,12 +11,12 @@ ghost use Rattle.shared_cluster.specs.Asks.{IsStopped};
 ghost use Rattle.shared_cluster.specs.Closings.{IsClosed, IsCloseFault, IsWritten, IsSent, HasSubmitted};
 ghost use Rattle.journal.specs.declared.trace.TheConstants.{GREATEST_STEPS};
 
-use crate::held::{AskFault, Held, RESERVE, Turn};
-use cluster::{Answer, CloseFault, Closing, Cluster, First, Pick, Seat};
+use crate::held::{AskFault, AtRest, Held, RESERVE, Turn};
+use cluster::{Answer, CloseFault, Closing, Cluster, First, Pick, SealedReply, Seat};
 use groups::ConnId;
 use journal::SendFault;
 use placement::Table;
-use resp::{Reply, Request};
+use resp::Request;
 use server_waiting::{Pause, Turnstile, Waiting};
 use shard_workers::{Gate, InTurn, Open, Workers};
 use shards::ShardHasher;
@@ -65,6 +65,7 @@ impl<L: Ledger> Shared<L> {
                 cluster,
                 shut: false,
                 reserve,
+                rows_before: 0,
             }),
             work: Condvar::new(),
             done: Waiting::new(),
@@ -106,15 +107,15 @@ impl<L: Ledger> Shared<L> {
         }
     }
 
-    /// Submits a request of these words, and makes turns until what came of it is there. It gives the reply alone. Each
-    /// turn brings the oldest packet on, or a layer with one worker.
+    /// Submits a request of these words, and makes turns until what came of it is there. It gives the reply alone, as it was
+    /// collected. Each turn brings the oldest packet on, or a layer with one worker.
     pub fn ask_turning<R: Wait + Clock>(
         &self,
         rt: &R,
         seat: &mut Seat<L>,
         words: Request,
-    ) -> Result<Reply, AskFault>
-        ensures replied { IfOk result (λ reply. IsReplied (submitted seat.old words) (content reply) seat.new) }
+    ) -> Result<SealedReply, AskFault>
+        ensures replied { IfOk result (λ r. IsReplied (submitted seat.old words) (content r.reply) seat.new) }
         ensures refused { IfErr result (λ fault. IsAskFault seat.old words fault seat.new) }
     {
         match self.submit(rt, seat, words) {
@@ -129,17 +130,17 @@ impl<L: Ledger> Shared<L> {
         rt: &R,
         seat: &mut Seat<L>,
         words: Request,
-    ) -> Result<Reply, AskFault>
-        ensures replied { IfOk result (λ reply. IsReplied (submitted seat.old words) (content reply) seat.new) }
+    ) -> Result<SealedReply, AskFault>
+        ensures replied { IfOk result (λ r. IsReplied (submitted seat.old words) (content r.reply) seat.new) }
         ensures refused { IfErr result (λ fault. IsAskFault seat.old words fault seat.new) }
     {
         match self.ask(rt, seat, words) {
-            Ok(answer) => Ok(answer.into_reply()),
+            Ok(answer) => Ok(answer.into_sealed()),
             Err(fault) => Err(fault),
         }
     }
 
-    /// Makes turns until it is shut and nothing is under way. A turn for which there is no memory is tried again.
+    /// Makes turns until it is found shut and nothing under way. A turn for which there is no memory is tried again.
     ///
     /// It ends by `Exhausted` where no more steps may be made, and by `Failed` where a worker could not be started.
     pub fn drive<P: Pick, W: Workers, R: Wait + Clock>(
@@ -148,14 +149,14 @@ impl<L: Ledger> Shared<L> {
         pick: &P,
         workers: &W,
         gate: &(dyn Gate + Sync),
-    ) -> Result<(), AskFault>
+    ) -> Result<AtRest, AskFault>
         ensures { IfErr result IsStopped }
     {
         let mut pause = Pause::new();
         for _ in rt.forever() {
             match self.drive_once(rt, pick, workers, gate, &mut pause) {
-                Ok(true) => {}
-                Ok(false) => return Ok(()),
+                Ok(None) => {}
+                Ok(Some(rest)) => return Ok(rest),
                 Err(fault) => {
                     self.done.wake_all();
                     return Err(fault);
@@ -249,8 +250,8 @@ impl<L: Ledger> Shared<L> {
         &self,
         rt: &R,
         seat: &mut Seat<L>,
-    ) -> Result<Reply, AskFault>
-        ensures replied { IfOk result (λ reply. IsReplied seat.old (content reply) seat.new) }
+    ) -> Result<SealedReply, AskFault>
+        ensures replied { IfOk result (λ r. IsReplied seat.old (content r.reply) seat.new) }
         ensures refused { IfErr result (IsCollectFault seat.old) }
         ensures unchanged { OnErr result (seat.new ≡ seat.old) }
     {
@@ -276,15 +277,14 @@ impl<L: Ledger> Shared<L> {
         seat: &mut Seat<L>,
         may_wait: &mut bool,
         pause: &mut Pause,
-    ) -> Result<Option<Reply>, AskFault>
-        ensures replied { IfOk result (λ reply. IfSome reply (λ r. IsReplied seat.old (content r) seat.new)) }
+    ) -> Result<Option<SealedReply>, AskFault>
+        ensures replied { IfOk result (λ reply. IfSome reply (λ r. IsReplied seat.old (content r.reply) seat.new)) }
         ensures unasked { IfOk result (λ reply. IfNone reply (seat.new ≡ seat.old)) }
         ensures refused { IfErr result (IsCollectFault seat.old) }
         ensures unchanged { OnErr result (seat.new ≡ seat.old) }
     {
         let mut held = self.held.lock(rt);
         if !*may_wait || held.cluster.system().waits(seat.conn()).is_none() {
-            let rows = held.cluster.system().rows().len();
             match held.turn(&First, &InTurn(NonZeroUsize::MIN), &Open) {
                 // Nothing comes any more: it is there, or the seat is told why.
                 Ok(Turn::Quiet) => {}
@@ -295,7 +295,7 @@ impl<L: Ledger> Shared<L> {
                     return Ok(None);
                 }
                 Ok(turn) => {
-                    self.wake_settled(turn, held.cluster.system(), rows);
+                    self.wake_settled(turn, held.cluster.system(), held.rows_before);
                     *may_wait = turn != Turn::Made { settled: false };
                     pause.end();
                     return Ok(None);
@@ -314,7 +314,7 @@ impl<L: Ledger> Shared<L> {
         self.turnstile.enter(rt, conn);
     }
 
-    /// Makes a turn, or waits for one to be there to be made. Says whether it is to go on.
+    /// Makes a turn, or waits for one to be there to be made; or says that it was found at rest.
     fn drive_once<P: Pick, W: Workers, R: Wait + Clock>(
         &self,
         rt: &R,
@@ -322,32 +322,31 @@ impl<L: Ledger> Shared<L> {
         workers: &W,
         gate: &(dyn Gate + Sync),
         pause: &mut Pause,
-    ) -> Result<bool, AskFault>
+    ) -> Result<Option<AtRest>, AskFault>
         ensures { IfErr result IsStopped }
     {
         let mut held = self.held.lock(rt);
-        let rows = held.cluster.system().rows().len();
         match held.turn(pick, workers, gate) {
             Ok(Turn::Starved) => {
                 drop(held);
                 pause.sleep(rt);
-                return Ok(true);
+                return Ok(None);
             }
             Ok(Turn::Quiet) => {
-                if held.shut {
-                    return Ok(false);
+                if let Some(rest) = held.at_rest() {
+                    return Ok(Some(rest));
                 }
                 let _ = self.work.wait(rt, held);
             }
-            Ok(turn) => self.wake_settled(turn, held.cluster.system(), rows),
+            Ok(turn) => self.wake_settled(turn, held.cluster.system(), held.rows_before),
             Err(fault) => return Err(fault),
         }
         pause.end();
-        Ok(true)
+        Ok(None)
     }
 
-    /// Wakes the seats that wait for outcomes which this turn brought, before which there were so many rows. Who starved
-    /// in its layer is among the last that starved.
+    /// Wakes the seats that wait for outcomes which this turn brought, of a layer before whose run there were so many rows.
+    /// Who starved in it is among the last that starved.
     fn wake_settled(&self, turn: Turn, system: &System, rows: usize) {
         if turn != (Turn::Made { settled: true }) || self.done.is_empty() {
             return;

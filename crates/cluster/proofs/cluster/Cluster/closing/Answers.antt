@@ -7,4 +7,4 @@ pub returns-clause-lawful : goal.returns-clause-lawful
 returns-clause-lawful g c =
     let lives = ap (λ (s : SystemView). s.parts.store.failed) (sym c.system-system.ensures)
     ∙ (sym c.has_failed.ensures ∙ c.if-has_failed.false) in
-    subst IsLawful (ap (λ v. v.history) c.self.view_is) (c.lawful.ensures lives)
+    subst IsLawful (ap (λ v. v.history) c.self.view_is) (c.lawful.ensures.lawful lives)

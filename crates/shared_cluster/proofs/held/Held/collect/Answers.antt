@@ -1,22 +1,13 @@
-use Rattle.std.proofs.Common.{◌∙◌, ap, sym}
+use Rattle.std.proofs.Common.{◌∙◌, sym}
 use Rattle.shared_cluster.proofs.Collecting.{answered_of}
 use Rattle.cluster.specs.Clusters.{IsCollectFault}
-use Rattle.shared_cluster.proofs.Refusals.{refuses_lasting, refuses_exhausted}
+use Rattle.shared_cluster.proofs.Refusals.{refuses_lasting}
 use Rattle.shared_cluster.proofs.held.Held.collect.Goals as goal
-
-pub returns-then-is_exhausted-clause-refused : goal.returns-then-is_exhausted-clause-refused
-returns-then-is_exhausted-clause-refused g c =
-    let unasked = rw c.in-Ok-None.field-0-is at c.in-Ok-None.ensures.unasked in (
-      cc,
-      λ same. cc,
-      refuses_exhausted c.args.self.now.cluster.history c.collect.new.self.history c.args.seat.now
-          (ap (λ k. k.history) unasked.0) c.lawful.ensures.lawful (c.is_exhausted.ensures c.if-is_exhausted.true),
-    )
 
 pub returns-in-Ok-Some-clause-answered : goal.returns-in-Ok-Some-clause-answered
 returns-in-Ok-Some-clause-answered g c =
     let told = c.in-Ok-Some.ensures in
-    answered_of c.args.self.now.cluster.history c.collect.new.self.history c.args.seat.now c.collect.new.seat c.in-Ok-Some.answer
+    rw c.in-Ok-Some.answer-is (answered_of c.args.self.now.cluster.history c.collect.new.self.history c.args.seat.now c.collect.new.seat c.in-Ok-Some.answer
     (rw c.in-Ok-Some.field-0-is at told.collected)
     (rw c.in-Ok-Some.field-0-is at told.id)
     (rw c.in-Ok-Some.field-0-is at told.words)
@@ -24,7 +15,7 @@ returns-in-Ok-Some-clause-answered g c =
     (rw c.in-Ok-Some.field-0-is at told.from)
     (rw c.in-Ok-Some.field-0-is at told.above)
     (rw c.in-Ok-Some.field-0-is at told.seat)
-    c.lawful-in-Ok-Some.ensures.lawful
+    c.lawful-in-Ok-Some.ensures.lawful)
 
 pub returns-in-Some-clause-refused : goal.returns-in-Some-clause-refused
 returns-in-Some-clause-refused g c =

@@ -7,7 +7,7 @@ use Rattle.shared_cluster.proofs.held.Held.collect_reply.Goals as goal
 pub returns-in-Ok-Some-clause-answered : goal.returns-in-Ok-Some-clause-answered
 returns-in-Ok-Some-clause-answered g c =
     rw c.in-Ok-Some.reply-is (replied_of c.args.self.now.cluster.history c.collect_reply.new.self.history c.args.seat.now
-    c.collect_reply.new.seat c.in-Ok-Some.reply (rw c.in-Ok-Some.field-0-is at c.in-Ok-Some.ensures.replied)
+    c.collect_reply.new.seat c.in-Ok-Some.reply.reply (rw c.in-Ok-Some.field-0-is at c.in-Ok-Some.ensures.replied)
     c.lawful-in-Ok-Some.ensures.lawful)
 
 pub returns-in-Some-clause-refused : goal.returns-in-Some-clause-refused
