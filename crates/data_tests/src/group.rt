@@ -8,7 +8,7 @@ use std::test::Fail;
 use test_support::{holds, same, same_count, same_number};
 
 /// The only request of a connection.
-fn request(conn: u64) -> RequestId {
+pub fn request(conn: u64) -> RequestId {
     RequestId {
         conn: ConnId(conn),
         seq: 1,
@@ -72,8 +72,8 @@ fn shows(name: &str, group: &Group, clock: u64, kept: usize) -> Result<(), Fail>
 }
 
 /// What the group sends and delivers for a packet. Where memory is refused nothing has changed, and the packet is handed
-/// to it again.
-fn received(
+/// to it again. Of its started requests it looked at those that it delivers, and two more at most.
+pub fn received(
     name: &str,
     alloc: Global,
     group: &mut Group,
@@ -81,12 +81,22 @@ fn received(
 ) -> Result<(Vec<Packet>, Vec<Delivered>), Fail> {
     let (clock, kept) = (group.clock(), group.kept());
     holds(name, group.may_come(&packet))?;
-    if let Ok(done) = group.receive(alloc, packet) {
-        return Ok(done);
+    if let Ok((sent, delivered)) = group.receive(alloc, Packet { ..packet }) {
+        looks_few(name, group, delivered.len())?;
+        return Ok((sent, delivered));
     }
     shows(name, group, clock, kept)?;
     holds(name, group.may_come(&packet))?;
     Ok(group.receive(alloc, packet)?)
+}
+
+/// In its last receipt the group looked at the requests that it delivered, and at two more at most.
+fn looks_few(name: &str, group: &Group, delivered: usize) -> Result<(), Fail> {
+    let looks = group.looks();
+    holds(
+        name,
+        delivered as u64 <= looks && looks <= (delivered as u64).saturating_add(2),
+    )
 }
 
 /// Hands the packet to the group and looks at what it does.
@@ -287,6 +297,82 @@ fn a_start_for_64_groups_is_told_to_63(rt: HostRuntime) -> Result<(), Fail> {
     let packet = start(0, 1, 0, Groups::all(64));
     let _ = step("a Start for all", alloc, &mut group, packet, wanted)?;
     Ok(())
+}
+
+#[test]
+fn a_start_at_an_idle_group_is_delivered_at_once(rt: HostRuntime) -> Result<(), Fail> {
+    let alloc = rt.alloc();
+    let mut group = Group::new(alloc, GroupId::new(0));
+    same_number("looks before the first packet", group.looks(), 0)?;
+    let alone = Groups::all(1);
+    for conn in 1..5 {
+        let delivers = [delivered(conn, conn, 0, alone)];
+        let wanted = Wanted {
+            sends: &[],
+            delivers: &delivers,
+            clock: conn,
+            kept: 0,
+        };
+        let packet = start(0, conn, 0, alone);
+        let _ = step("a Start", alloc, &mut group, packet, wanted)?;
+        same_count("started requests", group.started(), 0)?;
+        same_number("looks", group.looks(), 1)?;
+    }
+    Ok(())
+}
+
+/// Group 0 with 100 requests of two groups that wait for the other one's proposals. Its own are 1 to 100.
+fn with_100_open(alloc: Global) -> Result<Group, Fail> {
+    let mut group = Group::new(alloc, GroupId::new(0));
+    for conn in 1..101 {
+        let told = [proposal(1, conn, 0, conn)];
+        let wanted = Wanted {
+            sends: &told,
+            delivers: &[],
+            clock: conn,
+            kept: conn as usize,
+        };
+        let packet = start(0, conn, 0, both());
+        let _ = step("a Start", alloc, &mut group, packet, wanted)?;
+    }
+    same_count("started requests", group.started(), 100)?;
+    Ok(group)
+}
+
+#[test]
+fn the_oldest_of_100_lets_all_go(rt: HostRuntime) -> Result<(), Fail> {
+    let alloc = rt.alloc();
+    let mut group = with_100_open(alloc)?;
+    for newer in 0..99u64 {
+        let conn = 100 - newer;
+        let packet = proposal(0, conn, 1, conn);
+        let (_, delivered) = received("a newer one's proposal", alloc, &mut group, packet)?;
+        same_count("deliveries", delivered.len(), 0)?;
+        holds("no more than two are looked at", group.looks() <= 2)?;
+    }
+    let mut all = Vec::new(alloc);
+    for conn in 1..101 {
+        all.push(delivered(conn, conn, 1, both()))?;
+    }
+    let packet = proposal(0, 1, 1, 1);
+    let (_, went) = received("the oldest one's proposal", alloc, &mut group, packet)?;
+    same("deliveries", &went.as_slice(), &all.as_slice())?;
+    holds("no more than 102 are looked at", group.looks() <= 102)?;
+    shows("the end", &group, 100, 0)
+}
+
+#[test]
+fn each_of_100_goes_where_the_oldest_is_first(rt: HostRuntime) -> Result<(), Fail> {
+    let alloc = rt.alloc();
+    let mut group = with_100_open(alloc)?;
+    for conn in 1..101 {
+        let delivers = [delivered(conn, conn, 1, both())];
+        let packet = proposal(0, conn, 1, conn);
+        let (_, went) = received("the oldest one's proposal", alloc, &mut group, packet)?;
+        same("deliveries", &went.as_slice(), &delivers.as_slice())?;
+        holds("no more than three are looked at", group.looks() <= 3)?;
+    }
+    shows("the end", &group, 100, 0)
 }
 
 /// The packet at this place is the Start of this connection; it is taken, and so many are left.

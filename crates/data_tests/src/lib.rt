@@ -9,11 +9,15 @@ mod dump_texts;
 #[cfg(test)]
 mod group;
 #[cfg(test)]
+mod group_search;
+#[cfg(test)]
 mod group_sets;
 #[cfg(test)]
 mod keys;
 #[cfg(test)]
 mod places;
+#[cfg(test)]
+mod plain_group;
 #[cfg(test)]
 mod rows;
 #[cfg(test)]

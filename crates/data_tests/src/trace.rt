@@ -3,7 +3,7 @@
 use groups::{ConnId, GroupId, RequestId, Stamp};
 use journal::{
     Row, Rows, SendFault, Step, Steps, Trace, TraceFault, read_back, read_trace, send_trace,
-    size_of_row, write_trace,
+    write_trace,
 };
 use packing::PackedRequest;
 use resp::{Answered, Reply, Request, write_reply};
@@ -206,13 +206,9 @@ fn add(alloc: Global, rows: &mut Rows, seq: u64) -> Result<(), Fail> {
         group: GroupId::new(63),
     };
     let words = PackedRequest::copy_of(alloc, &request_of_row(alloc, seq)?)?;
-    let Answered { reply, text } = Answered::with_text(alloc, reply_of_row(alloc, seq)?)?;
-    let Some(size) = size_of_row(&reply, text.as_slice()) else {
-        return Err("no size".into());
-    };
-    let mut more = rows.take_with_room(alloc, 1, size)?;
-    more.push(request_of(seq), &stamp, words, &reply, text);
-    *rows = more.into_rows();
+    let answered = Answered::with_text(alloc, reply_of_row(alloc, seq)?)?;
+    rows.reserve(1)?;
+    let _ = rows.push(request_of(seq), &stamp, words, answered);
     Ok(())
 }
 

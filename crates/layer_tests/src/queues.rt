@@ -1,8 +1,9 @@
-//! Two requests of which the second waits behind the first.
-ghost use Rattle.std.specs.Prelude.{◌≡◌, ◌<◌, true, false, length, IfOk};
+//! Two requests of which the second waits behind the first, and the room for them.
+ghost use Rattle.std.specs.Prelude.{◌≡◌, ℕ, ◌<◌, [], true, false, length, IfOk, OnOk};
 ghost use Rattle.groups.specs.GroupSet.{has};
 ghost use Rattle.groups.specs.Request.{same_id};
 ghost use Rattle.groups.specs.Stamp.{stamp_lt};
+ghost use Rattle.delivery.specs.Queues.{queue_of};
 
 use delivery::Queues;
 use groups::{ConnId, GroupId, Groups, RequestId, Stamp};
@@ -32,6 +33,23 @@ fn request(conn: u64, groups: Groups) -> Delivered
     }
 }
 
+/// Group 0 delivers the first and then the second, and group 1 the second. No group has delivered anything yet.
+fn fill(queues: &mut Queues, first: &Delivered, second: &Delivered) -> Result<(), AllocError>
+    requires two { length queues.old.queues ≡ 2 }
+    requires none { (g : ℕ) → queue_of queues.old.queues g ≡ [] }
+    requires first { has first.now.groups 0 ≡ true }
+    requires second { has second.now.groups 0 ≡ true }
+    requires second_elsewhere { has second.now.groups 1 ≡ true }
+    requires order { stamp_lt first.now.stamp second.now.stamp ≡ true }
+    requires differ { same_id first.now.id second.now.id ≡ false }
+    ensures { OnOk result (length queues.new.queues ≡ 2) }
+{
+    queues.append(GroupId::new(0), *first)?;
+    queues.append(GroupId::new(0), *second)?;
+    queues.append(GroupId::new(1), *second)?;
+    Ok(())
+}
+
 /// Group 0 has delivered the first and then the second, and group 1 the second.
 fn filled(alloc: Global, first: &Delivered, second: &Delivered) -> Result<Queues, AllocError>
     requires first { has first.now.groups 0 ≡ true }
@@ -42,9 +60,18 @@ fn filled(alloc: Global, first: &Delivered, second: &Delivered) -> Result<Queues
     ensures { IfOk result (λ q. length q.queues ≡ 2) }
 {
     let mut queues = Queues::new(alloc, 2)?;
-    queues.append(GroupId::new(0), *first)?;
-    queues.append(GroupId::new(0), *second)?;
-    queues.append(GroupId::new(1), *second)?;
+    fill(&mut queues, first, second)?;
+    Ok(queues)
+}
+
+/// Two empty queues, with room for what they are filled with.
+fn with_room(alloc: Global) -> Result<Queues, AllocError>
+    ensures two { IfOk result (λ q. length q.queues ≡ 2) }
+    ensures none { IfOk result (λ q. (g : ℕ) → queue_of q.queues g ≡ []) }
+{
+    let mut queues = Queues::new(alloc, 2)?;
+    queues.reserve(GroupId::new(0), 2)?;
+    queues.reserve(GroupId::new(1), 1)?;
     Ok(queues)
 }
 
@@ -82,5 +109,24 @@ fn a_request_waits_until_it_heads_all_its_queues(rt: HostRuntime) -> Result<(), 
     holds("no head of group 0", has_head(&queues, 0, None))?;
     holds("an empty layer", queues.ready(alloc)?.is_empty())?;
     queues.reserve(GroupId::new(1), 3)?;
+    Ok(())
+}
+
+/// Meant to be run with each allocation failing in turn: none is made where there is room.
+#[test]
+fn what_has_room_is_appended(rt: HostRuntime) -> Result<(), Fail> {
+    let alloc = rt.alloc();
+    let one = Groups::empty().with(GroupId::new(0));
+    let first = request(1, one);
+    let second = request(2, one.with(GroupId::new(1)));
+    let mut queues = match with_room(alloc) {
+        Ok(queues) => queues,
+        Err(_) => with_room(alloc)?,
+    };
+    let appended = fill(&mut queues, &first, &second).is_ok();
+    holds("all are appended", appended)?;
+    holds("a request is ready", queues.has_ready())?;
+    holds("the head of group 0", has_head(&queues, 0, Some(&first)))?;
+    holds("the head of group 1", has_head(&queues, 1, Some(&second)))?;
     Ok(())
 }

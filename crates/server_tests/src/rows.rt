@@ -12,7 +12,7 @@ use resp::{Reply, Request, write_reply};
 use server::shared_syncs;
 use shard_workers::{InTurn, Open};
 use shards::ShardHasher;
-use shared_cluster::{AskFault, FaultKind, Shared};
+use shared_cluster::{AskFault, AtRest, FaultKind, Shared};
 use std::alloc::{AllocError, Global};
 use std::marker::Brand;
 use std::num::NonZeroUsize;
@@ -116,7 +116,7 @@ fn ask_and_shut<L: Ledger + Send + Sync, R: Threads + Wait + Clock + Sync>(
 }
 
 /// Drives the cluster with one worker.
-fn driven<L: Ledger, R: Wait + Clock>(rt: &R, shared: &Shared<L>) -> Result<(), AskFault> {
+fn driven<L: Ledger, R: Wait + Clock>(rt: &R, shared: &Shared<L>) -> Result<AtRest, AskFault> {
     shared.drive(rt, &First, &InTurn(NonZeroUsize::MIN), &Open)
 }
 
@@ -142,7 +142,7 @@ fn two_ask<L: Ledger + Send + Sync, R: Threads + Wait + Clock + Abort + Sync>(
     );
     assert_eq!(rt; first, None);
     assert_eq!(rt; second, None);
-    assert_eq!(rt; ended, Ok(()));
+    assert!(rt; ended.is_ok());
     assert_eq!(rt; shared.close(rt).map(numbers_of), Ok(numbers));
     Ok(())
 }
@@ -238,7 +238,7 @@ fn asks_turning<L: Ledger, R: Wait + Clock + Abort>(
         ("FOO", "-ERR unknown command\r\n"),
     ] {
         let reply = shared.ask_turning(rt, &mut seat, request(alloc, words)?)?;
-        assert_eq!(rt; text(alloc, &reply)?.as_str(), wanted);
+        assert_eq!(rt; text(alloc, &reply.open())?.as_str(), wanted);
     }
     assert_eq!(rt; shared.close(rt), Err(CloseFault::SeatsOut));
     shared.shut(rt);

@@ -63,7 +63,7 @@ fn answer<L: Ledger>(cluster: &mut Cluster<L>, seat: &mut Seat<L>) -> Result<Ans
 fn reply<L: Ledger>(cluster: &mut Cluster<L>, seat: &mut Seat<L>) -> Result<Reply, Fail> {
     for _ in 0..MOST {
         if let Some(reply) = cluster.collect_reply(seat)? {
-            return Ok(reply);
+            return Ok(reply.open());
         }
         if !turn(cluster)? {
             break;

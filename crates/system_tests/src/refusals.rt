@@ -185,7 +185,7 @@ impl Workers for Unwilling {
 
     ghost count = { λ _. 2 };
 
-    ghost may_refuse = { true };
+    ghost may_refuse = { λ _. true };
 
     ghost has_room = { λ _ _. Unit {0} };
 

@@ -1,0 +1,384 @@
+//! Requests of one to three of four groups, which the groups deliver and layers take by chance. What is ready is held to a search
+//! of plain lists.
+ghost use Rattle.std.specs.Prelude.{◌≡◌, ◌<◌, IsTrue};
+ghost use Rattle.layer_tests.specs.Seen.{GoesWith, GoesWithAll};
+
+use delivery::Queues;
+use groups::{ConnId, GroupId, Groups, RequestId, Stamp};
+use skeen_core::Delivered;
+use std::alloc::{AllocError, Global};
+use std::marker::Model;
+use std::test::Fail;
+use test_support::{holds, same_count};
+
+/// How many groups there are.
+const GROUPS: u8 = 4;
+
+/// Marsaglia's xorshift: numbers that look like chance, and are the same in each run.
+#[derive(Drop)]
+struct Dice {
+    state: u64,
+}
+
+impl Dice {
+    /// A number below `count`, or 0.
+    fn below(&mut self, count: u64) -> u64 {
+        self.state ^= self.state << 13;
+        self.state ^= self.state >> 7;
+        self.state ^= self.state << 17;
+        if count == 0 { 0 } else { self.state % count }
+    }
+}
+
+// ---- the old search, over plain lists
+
+/// Each of the request's lists begins with it.
+fn heads_all(lists: &[Vec<Delivered>], request: &Delivered) -> bool {
+    for group in request.groups.iter() {
+        let Some(list) = lists.get(usize::from(group.number())) else {
+            return false;
+        };
+        match list.first() {
+            Some(head) => {
+                if head.id != request.id {
+                    return false;
+                }
+            }
+            None => return false,
+        }
+    }
+    true
+}
+
+/// Some request of that id is among these.
+fn has_id(requests: &[Delivered], id: RequestId) -> bool {
+    for request in requests {
+        if request.id == id {
+            return true;
+        }
+    }
+    false
+}
+
+/// The requests that head each of their lists, as the lists come.
+fn ready_in(alloc: Global, lists: &[Vec<Delivered>]) -> Result<Vec<Delivered>, AllocError> {
+    let mut found = Vec::new(alloc);
+    for list in lists {
+        if let Some(head) = list.first() {
+            if heads_all(lists, head) && !has_id(found.as_slice(), head.id) {
+                found.push(*head)?;
+            }
+        }
+    }
+    Ok(found)
+}
+
+/// Takes the request out of the lists that it heads.
+fn take_out(lists: &mut [Vec<Delivered>], request: &Delivered) {
+    for group in request.groups.iter() {
+        if let Some(list) = lists.get_mut(usize::from(group.number())) {
+            if !list.is_empty() {
+                let _ = list.remove(0);
+            }
+        }
+    }
+}
+
+// ---- the queues, fed as they ask
+
+/// The group may deliver the request behind what was delivered there.
+fn goes_with(seen: &(GroupId, Delivered), group: GroupId, request: &Delivered) -> bool
+    ensures { IsTrue result → GoesWith seen.now group request.now }
+{
+    let below = seen.1.stamp < request.stamp;
+    let above = request.stamp < seen.1.stamp;
+    if seen.0.number() == group.number() && !below {
+        return false;
+    }
+    if seen.1.id == request.id {
+        !below && !above && seen.1.groups == request.groups
+    } else {
+        below || above
+    }
+}
+
+/// The group may deliver the request behind all that was delivered.
+fn may_come(seen: &[(GroupId, Delivered)], group: GroupId, request: &Delivered) -> bool
+    ensures { IsTrue result → GoesWithAll seen.now group request.now }
+{
+    for one in seen {
+        if !goes_with(one, group, request) {
+            return false;
+        }
+    }
+    true
+}
+
+/// Queues, and all that was ever delivered there.
+#[derive(Drop)]
+struct Fed {
+    queues: Queues,
+    seen: Vec<(GroupId, Delivered)>,
+}
+
+impl Model for Fed {
+    ghost use Rattle.std.specs.Prelude.{◌≡◌, length};
+    ghost use Rattle.delivery.specs.Queues.{QueuesView};
+    ghost use Rattle.layer_tests.specs.Seen.{AreSeen};
+
+    ghost Value = { QueuesView };
+
+    ghost view = { λ f. f.queues };
+
+    ghost invariant = { λ f. (length f.queues.queues ≡ 4) × AreSeen f.seen.items f.queues.queues };
+}
+
+impl Fed {
+    /// Four queues without requests.
+    fn new(alloc: Global) -> Result<Fed, AllocError> {
+        let queues = Queues::new(alloc, GROUPS)?;
+        let seen = Vec::new(alloc);
+        Ok(Fed { queues, seen })
+    }
+
+    /// The group delivers the request, if it may.
+    fn deliver(&mut self, group: GroupId, request: &Delivered) -> Result<bool, AllocError>
+        requires { group < 4 }
+    {
+        if !request.groups.contains(group) || !may_come(self.seen.as_slice(), group, request) {
+            return Ok(false);
+        }
+        self.seen.push((group, *request))?;
+        self.queues.append(group, *request)?;
+        Ok(true)
+    }
+
+    /// Takes one of the ready requests out, if there are so many.
+    fn pop_one(&mut self, alloc: Global, place: u64) -> Result<Option<Delivered>, AllocError> {
+        let layer = self.queues.ready(alloc)?;
+        let Some(request) = layer.get(place as usize) else {
+            return Ok(None);
+        };
+        self.queues.pop(request);
+        Ok(Some(*request))
+    }
+
+    /// Takes all the ready requests out.
+    #[tactic(auto, using(delivery::proofs::Layers::layers_can_be_popped))]
+    fn pop_layer(&mut self, alloc: Global) -> Result<Vec<Delivered>, AllocError> {
+        let layer = self.queues.ready(alloc)?;
+        self.queues.pop_all(layer.as_slice());
+        Ok(layer)
+    }
+}
+
+// ---- a run
+
+/// One of the groups.
+fn any_group(dice: &mut Dice) -> GroupId
+    ensures { result < 4 }
+{
+    GroupId::new((dice.below(4) & 3) as u8)
+}
+
+/// One to three of the groups.
+fn some_groups(dice: &mut Dice) -> Groups {
+    let mut groups = Groups::empty().with(any_group(dice));
+    for _ in 0..dice.below(3) {
+        groups = groups.with(any_group(dice));
+    }
+    groups
+}
+
+/// Requests of one to three groups, ascending by their stamps.
+fn requests(alloc: Global, dice: &mut Dice, count: u64) -> Result<Vec<Delivered>, AllocError> {
+    let mut requests = Vec::new(alloc);
+    for number in 0..count {
+        requests.push(Delivered {
+            id: RequestId {
+                conn: ConnId(number % 3),
+                seq: number,
+            },
+            stamp: Stamp {
+                clock: number / 2,
+                group: GroupId::new((number % 2) as u8),
+            },
+            groups: some_groups(dice),
+        })?;
+    }
+    Ok(requests)
+}
+
+/// A list for each group, without requests.
+fn empty_lists(alloc: Global) -> Result<Vec<Vec<Delivered>>, AllocError> {
+    let mut lists = Vec::new(alloc);
+    for _ in 0..GROUPS {
+        lists.push(Vec::new(alloc))?;
+    }
+    Ok(lists)
+}
+
+/// The group delivers the first of the requests that it may. Whether there was one.
+fn deliver_next(
+    fed: &mut Fed,
+    lists: &mut [Vec<Delivered>],
+    requests: &[Delivered],
+    group: GroupId,
+) -> Result<bool, AllocError>
+    requires { group < 4 }
+{
+    for request in requests {
+        if fed.deliver(group, request)? {
+            if let Some(list) = lists.get_mut(usize::from(group.number())) {
+                list.push(*request)?;
+            }
+            return Ok(true);
+        }
+    }
+    Ok(false)
+}
+
+/// Takes all the ready requests out.
+fn take_layer(
+    alloc: Global,
+    fed: &mut Fed,
+    lists: &mut [Vec<Delivered>],
+) -> Result<(), AllocError> {
+    for request in &fed.pop_layer(alloc)? {
+        take_out(lists, request);
+    }
+    Ok(())
+}
+
+/// Takes one of the ready requests out, or all.
+fn take_some(
+    alloc: Global,
+    dice: &mut Dice,
+    fed: &mut Fed,
+    lists: &mut [Vec<Delivered>],
+) -> Result<(), AllocError> {
+    if dice.below(2) == 0 {
+        if let Some(request) = fed.pop_one(alloc, dice.below(2))? {
+            take_out(lists, &request);
+        }
+    } else {
+        take_layer(alloc, fed, lists)?;
+    }
+    Ok(())
+}
+
+/// The stamps of these rise.
+fn ascends(requests: &[Delivered]) -> bool {
+    let mut last: Option<Stamp> = None;
+    for request in requests {
+        if let Some(last) = last {
+            if !(last < request.stamp) {
+                return false;
+            }
+        }
+        last = Some(request.stamp);
+    }
+    true
+}
+
+/// The layer ascends, and has what the search finds and nothing else.
+fn is_found(layer: &[Delivered], found: &[Delivered]) -> Result<(), Fail> {
+    same_count("the layer", layer.len(), found.len())?;
+    for request in found {
+        holds("one that is found is in the layer", layer.contains(request))?;
+    }
+    holds("the layer ascends", ascends(layer))
+}
+
+/// The queues tell of what is ready as the search does.
+fn is_searched(alloc: Global, fed: &Fed, lists: &[Vec<Delivered>]) -> Result<(), Fail> {
+    let found = ready_in(alloc, lists)?;
+    let layer = fed.queues.ready(alloc)?;
+    is_found(layer.as_slice(), found.as_slice())?;
+    holds(
+        "whether one is ready",
+        fed.queues.has_ready() != found.is_empty(),
+    )
+}
+
+/// Steps by chance: mostly a group delivers, else some of the ready requests are taken.
+fn steps(
+    alloc: Global,
+    dice: &mut Dice,
+    fed: &mut Fed,
+    lists: &mut [Vec<Delivered>],
+    requests: &[Delivered],
+) -> Result<(), Fail> {
+    for _ in 0..100 {
+        if dice.below(4) == 0 {
+            take_some(alloc, dice, fed, lists)?;
+        } else {
+            deliver_next(fed, lists, requests, any_group(dice))?;
+        }
+        is_searched(alloc, fed, lists)?;
+    }
+    Ok(())
+}
+
+/// The group delivers all the requests that it may.
+fn deliver_rest(
+    fed: &mut Fed,
+    lists: &mut [Vec<Delivered>],
+    requests: &[Delivered],
+    group: GroupId,
+) -> Result<(), AllocError>
+    requires { group < 4 }
+{
+    for _ in 0..requests.len() {
+        deliver_next(fed, lists, requests, group)?;
+    }
+    Ok(())
+}
+
+/// Takes layer after layer out, `most` at most.
+fn take_rest(
+    alloc: Global,
+    fed: &mut Fed,
+    lists: &mut [Vec<Delivered>],
+    most: usize,
+) -> Result<(), Fail> {
+    for _ in 0..most {
+        is_searched(alloc, fed, lists)?;
+        take_layer(alloc, fed, lists)?;
+    }
+    Ok(())
+}
+
+/// Nothing is left, neither in the queues nor in the lists.
+fn nothing_left(fed: &Fed, lists: &[Vec<Delivered>]) -> Result<(), Fail> {
+    for list in lists {
+        holds("a list is empty at the end", list.is_empty())?;
+    }
+    holds("none is ready at the end", !fed.queues.has_ready())
+}
+
+/// Steps by chance; then each group delivers the rest, and all is taken.
+fn run(alloc: Global, dice: &mut Dice) -> Result<(), Fail> {
+    let requests = requests(alloc, dice, 24)?;
+    let mut fed = Fed::new(alloc)?;
+    let mut lists = empty_lists(alloc)?;
+    let lists = lists.as_mut_slice();
+    steps(alloc, dice, &mut fed, lists, requests.as_slice())?;
+    for number in 0..GROUPS {
+        deliver_rest(&mut fed, lists, requests.as_slice(), GroupId::new(number))?;
+    }
+    take_rest(alloc, &mut fed, lists, requests.len())?;
+    nothing_left(&fed, lists)
+}
+
+#[test]
+fn what_is_ready_is_what_a_search_finds(rt: HostRuntime) -> Result<(), Fail> {
+    let alloc = rt.alloc();
+    let mut dice = Dice {
+        state: 88_172_645_463_325_252,
+    };
+    for _ in 0..20 {
+        run(alloc, &mut dice)?;
+    }
+    Ok(())
+}
