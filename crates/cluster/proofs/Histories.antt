@@ -245,7 +245,8 @@ left_of may old new room step NoConn is lives refused = leaves old new room step
 left_of may old new room step NoPacket is lives refused = leaves old new room step NoPacket (told_of old new step NoPacket is lives refused)
 left_of may old new room step InFlight is lives refused = leaves old new room step InFlight (told_of old new step InFlight is lives refused)
 left_of may old new room step NoLayer is lives refused = leaves old new room step NoLayer (told_of old new step NoLayer is lives refused)
-left_of may old new room step Exhausted is lives refused = leaves old new room step Exhausted (told_of old new step Exhausted is lives refused)
+left_of may old new room step Exhausted is lives refused = leaves old new room step Exhausted
+    (told_of old new step Exhausted is lives refused)
 left_of may old new room step Memory is lives refused = leaves old new room step Memory (told_of old new step Memory is lives refused)
 left_of may old new room step Failed is lives (inl failed) = absurd (both_ways _ lives failed.0)
 left_of may old new room step Failed is lives (inr failed) = inr (

@@ -1,5 +1,6 @@
 -- Which turn it is, by how far the layer is.
-use Rattle.std.proofs.Common.{◌≡◌, ◌≢◌, ℕ, suc, ◌<◌, ◌≤◌, Bool, List, [], ◌∷◌, ◌++◌, length, Result, Ok, Err, IfOk, IfErr, inl, inr, refl, sym, ap, ◌∙◌}
+use Rattle.std.proofs.Common.{◌≡◌, ◌≢◌, ℕ, suc, ◌<◌, ◌≤◌, Bool, List, [], ◌∷◌, ◌++◌, length, Result, Ok, Err, IfOk, IfErr, inl}
+use Rattle.std.proofs.Common.{inr, refl, sym, ap, ◌∙◌}
 use Rattle.std.proofs.Common.{subst, arith}
 use Rattle.std.proofs.lemmas.Bool.{both_ways}
 use Rattle.cluster.proofs.Histories.{in_still, failed_still}
@@ -174,32 +175,6 @@ under_way : (may : Bool) (old new : HistoryView) (step : Step) → (¬ IsQuiet o
     IsUnchanged old new → IsTurnFault may old fault.Memory new
 under_way may old new step busy why still = (why.0, busy, still)
 
-pub settle_fault : (may : Bool) (old new : HistoryView) (f : StepFault) → progress_of old.system.parts.stage ≡ progress.HasRun →
-    IsFault old step.Settle f → IsUnchanged old new → IsTurnFault may old f new
-settle_fault may old new fault.Busy is why still = absurd why.1.refused
-settle_fault may old new fault.NoConn is why still = absurd why.1.refused
-settle_fault may old new fault.NoPacket is why still = absurd why.1.refused
-settle_fault may old new fault.InFlight is why still = absurd why.1.refused
-settle_fault may old new fault.NoLayer is why still =
-    absurd (subst NothingToSettle (has_run _ why.1.world is why.1.shows.at.shows.stage).1 why.1.refused)
-settle_fault may old new fault.Exhausted is why still = (why.0, why.1, still)
-settle_fault may old new fault.Memory is why still = under_way may old new step.Settle
-    (λ quiet. let e = sym is ∙ ap progress_of quiet.layer in cc) why still
-settle_fault may old new fault.Failed is why still = inl (why, still)
-
-pub run_fault : (may : Bool) (old new : HistoryView) (f : StepFault) → progress_of old.system.parts.stage ≡ progress.Taken →
-    IsLeft may old (step.Run []) f new → IsTurnFault may old f new
-run_fault may old new fault.Busy is left = absurd left.0.1.refused
-run_fault may old new fault.NoConn is left = absurd left.0.1.refused
-run_fault may old new fault.NoPacket is left = absurd left.0.1.refused
-run_fault may old new fault.InFlight is left = absurd left.0.1.refused
-run_fault may old new fault.NoLayer is left =
-    let why = left.0.1 in absurd (subst NothingToRun (is_taken _ why.world is why.shows.at.shows.stage).1 why.refused)
-run_fault may old new fault.Exhausted is left = (left.0.0, left.0.1, left.1)
-run_fault may old new fault.Memory is left = under_way may old new (step.Run [])
-    (λ quiet. let e = sym is ∙ ap progress_of quiet.layer in cc) left.0 left.1
-run_fault may old new fault.Failed is left = left
-
 -- where a Take isn't refused, some request is ready
 take_under_way : (old : HistoryView) → progress_of old.system.parts.stage ≡ progress.Free → HasNoFault old step.Take →
     ¬ IsQuiet old.system
@@ -222,19 +197,6 @@ take_fault may old new fault.Exhausted is other why still = (why.0, why.1, still
 take_fault may old new fault.Memory is other why still =
     under_way may old new step.Take (take_under_way old is why.1) why still
 take_fault may old new fault.Failed is other why still = inl (why, still)
-
-pub deliver_fault : (may : Bool) (old new : HistoryView) (f : StepFault) (place : ℕ) → place < length old.system.parts.multicast.packets →
-    IsFault old (step.Deliver place) f → IsUnchanged old new → IsTurnFault may old f new
-deliver_fault may old new fault.Busy place below why still = absurd why.1.refused
-deliver_fault may old new fault.NoConn place below why still = absurd why.1.refused
-deliver_fault may old new fault.NoPacket place below why still =
-    let same = ap length why.1.shows.at.shows.multicast.packets in let none = why.1.refused in absurd (omega arith)
-deliver_fault may old new fault.InFlight place below why still = absurd why.1.refused
-deliver_fault may old new fault.NoLayer place below why still = absurd why.1.refused
-deliver_fault may old new fault.Exhausted place below why still = (why.0, why.1, still)
-deliver_fault may old new fault.Memory place below why still = under_way may old new (step.Deliver place)
-    (λ quiet. let none = ap length quiet.packets in absurd (omega arith)) why still
-deliver_fault may old new fault.Failed place below why still = inl (why, still)
 
 -- twice nothing has changed but room
 unchanged_twice : (old mid new : HistoryView) → IsUnchanged old mid → IsUnchanged mid new → IsUnchanged old new

@@ -6,6 +6,20 @@ use Rattle.delivery.specs.Heads.{head_of, AreCounted, but, ready_after}
 use Rattle.delivery.proofs.Headed.{has_first}
 use Rattle.delivery.proofs.Taken.{Next, next_up, next_within, next_none, next_ready_room, next_partly_room, next_not_all, next_counted}
 use Rattle.delivery.proofs.heads.count_heads.Goals as goal
+use Rattle.delivery.proofs.heads.count_heads.Goals.{After-index-queues-from}
+
+-- the group whose turn it is, and its queue
+next : (c : After-index-queues-from) → Next c.args.queues.now c.loop-group.group-iterator c.next.new.self c.in-Some.group c.from.result
+    c.index-queues-from.result
+next c =
+    let at = c.from.ensures ∙ c.number.ensures.same in
+    let inside = ap (λ l. has l c.in-Some.group) c.in-Some.ensures.steps ∙ has_first c.in-Some.group c.next.new.self in record {
+      ascending = c.loop-group.invariant.ascending;
+      is = c.in-Some.ensures.steps;
+      at = at;
+      low = subst (λ k. k < length c.args.queues.now) (sym at) (c.loop-group.invariant.within c.in-Some.group inside);
+      was = c.index-queues-from.is;
+    }
 
 pub bounds-queues-from : goal.bounds-queues-from
 bounds-queues-from c =
@@ -18,17 +32,8 @@ count_head-requires-clause-ready_room c =
     let qs = c.args.queues.now in
     let it = c.loop-group.group-iterator in
     let rest = c.next.new.self in
-    let at = c.from.ensures ∙ c.number.ensures.same in
     let q = c.index-queues-from.result in
-    let inside = ap (λ l. has l c.in-Some.group) c.in-Some.ensures.steps ∙ has_first c.in-Some.group rest in
-    let low = subst (λ k. k < length qs) (sym at) (c.loop-group.invariant.within c.in-Some.group inside) in
-    let x : Next qs it rest c.in-Some.group c.from.result q = record {
-      ascending = c.loop-group.invariant.ascending;
-      is = c.in-Some.ensures.steps;
-      at = at;
-      low = low;
-      was = c.index-queues-from.is;
-    } in
+    let x = next (goal.at.count_head-requires-clause-ready_room c).After-index-queues-from in
     let d = c.in-Some-head.head.now in
     let head : head_of q.requests ≡ Some d = sym c.in-Some-head.ensures in
     let ds = c.loop-group.ready.items in
@@ -41,17 +46,8 @@ count_head-requires-clause-partly_room c =
     let qs = c.args.queues.now in
     let it = c.loop-group.group-iterator in
     let rest = c.next.new.self in
-    let at = c.from.ensures ∙ c.number.ensures.same in
     let q = c.index-queues-from.result in
-    let inside = ap (λ l. has l c.in-Some.group) c.in-Some.ensures.steps ∙ has_first c.in-Some.group rest in
-    let low = subst (λ k. k < length qs) (sym at) (c.loop-group.invariant.within c.in-Some.group inside) in
-    let x : Next qs it rest c.in-Some.group c.from.result q = record {
-      ascending = c.loop-group.invariant.ascending;
-      is = c.in-Some.ensures.steps;
-      at = at;
-      low = low;
-      was = c.index-queues-from.is;
-    } in
+    let x = next (goal.at.count_head-requires-clause-partly_room c).After-index-queues-from in
     let d = c.in-Some-head.head.now in
     let head : head_of q.requests ≡ Some d = sym c.in-Some-head.ensures in
     let ds = c.loop-group.ready.items in
@@ -64,17 +60,8 @@ count_head-requires-clause-not_all c =
     let qs = c.args.queues.now in
     let it = c.loop-group.group-iterator in
     let rest = c.next.new.self in
-    let at = c.from.ensures ∙ c.number.ensures.same in
     let q = c.index-queues-from.result in
-    let inside = ap (λ l. has l c.in-Some.group) c.in-Some.ensures.steps ∙ has_first c.in-Some.group rest in
-    let low = subst (λ k. k < length qs) (sym at) (c.loop-group.invariant.within c.in-Some.group inside) in
-    let x : Next qs it rest c.in-Some.group c.from.result q = record {
-      ascending = c.loop-group.invariant.ascending;
-      is = c.in-Some.ensures.steps;
-      at = at;
-      low = low;
-      was = c.index-queues-from.is;
-    } in
+    let x = next (goal.at.count_head-requires-clause-not_all c).After-index-queues-from in
     let d = c.in-Some-head.head.now in
     let head : head_of q.requests ≡ Some d = sym c.in-Some-head.ensures in
     let ds = c.loop-group.ready.items in
@@ -86,17 +73,8 @@ loop-group-preserved-in-Some-head c =
     let qs = c.args.queues.now in
     let it = c.loop-group.group-iterator in
     let rest = c.next.new.self in
-    let at = c.from.ensures ∙ c.number.ensures.same in
     let q = c.index-queues-from.result in
-    let inside = ap (λ l. has l c.in-Some.group) c.in-Some.ensures.steps ∙ has_first c.in-Some.group rest in
-    let low = subst (λ k. k < length qs) (sym at) (c.loop-group.invariant.within c.in-Some.group inside) in
-    let x : Next qs it rest c.in-Some.group c.from.result q = record {
-      ascending = c.loop-group.invariant.ascending;
-      is = c.in-Some.ensures.steps;
-      at = at;
-      low = low;
-      was = c.index-queues-from.is;
-    } in
+    let x = next (goal.at.loop-group-preserved-in-Some-head c).After-index-queues-from in
     let d = c.in-Some-head.head.now in
     let head : head_of q.requests ≡ Some d = sym c.in-Some-head.ensures in
     let ds = c.loop-group.ready.items in
@@ -119,17 +97,8 @@ loop-group-preserved c =
     let qs = c.args.queues.now in
     let it = c.loop-group.group-iterator in
     let rest = c.next.new.self in
-    let at = c.from.ensures ∙ c.number.ensures.same in
     let q = c.index-queues-from.result in
-    let inside = ap (λ l. has l c.in-Some.group) c.in-Some.ensures.steps ∙ has_first c.in-Some.group rest in
-    let low = subst (λ k. k < length qs) (sym at) (c.loop-group.invariant.within c.in-Some.group inside) in
-    let x : Next qs it rest c.in-Some.group c.from.result q = record {
-      ascending = c.loop-group.invariant.ascending;
-      is = c.in-Some.ensures.steps;
-      at = at;
-      low = low;
-      was = c.index-queues-from.is;
-    } in
+    let x = next (goal.at.loop-group-preserved c).After-index-queues-from in
     let none : head_of q.requests ≡ None = sym c.in_default.ensures in
     record {
       ascending = next_up qs it rest c.in-Some.group c.from.result q x;

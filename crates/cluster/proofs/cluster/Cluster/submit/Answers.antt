@@ -25,7 +25,8 @@ make_submit-requires-clause-few g c =
     let counted = subst (λ (s : SeatView). s.count ≡ submits_by s.conn.0 in'.history.steps) (sym c.seat.view_is)
     (c.fits.ensures.fits c.if-not-fits.false).counted in
     count_few g.L.Ledger.parts in'.pool.parts in'.requests in'.lasts.entries
-    (cluster in'.history in'.book.total in'.sat in'.stood in'.pool.amount) c.seat.inside.conn.0 c.seat.inside.count c.self.invariant.0 counted
+    (cluster in'.history in'.book.total in'.sat in'.stood in'.pool.amount) c.seat.inside.conn.0 c.seat.inside.count c.self.invariant.0
+    counted
 
 pub invariant_of-self-in-Err : goal.invariant_of-self-in-Err
 invariant_of-self-in-Err g c =

@@ -18,6 +18,7 @@ returns-then-not-fits g c =
 pub returns : goal.returns
 returns g c =
     let in' = c.self.inside in
-    let why = subst (λ (s : SeatView). IsFault in'.history (Submit s.conn c.args.words) c.refusal.result) c.seat.view_is c.refusal.ensures in
+    let why = subst (λ (s : SeatView). IsFault in'.history (Submit s.conn c.args.words) c.refusal.result) c.seat.view_is
+    c.refusal.ensures in
     subst (λ (v : ClusterView). IsSubmitFault v.history c.args.seat.now c.args.words c.refusal.result) c.self.view_is
     (submit_fault in'.history c.args.seat.now c.args.words c.refusal.result (c.fits.ensures.fits c.if-not-fits.false) why)

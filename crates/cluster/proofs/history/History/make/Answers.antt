@@ -8,7 +8,8 @@ invariant_of-self-in-Ok-step c =
     let in' = c.self.inside in
     let step_made = c.in-Ok-step.ensures.made in
     history_made (history in'.system in'.trace.max in'.trace.steps in'.trace.room) _ c.args.step c.in-Ok-step.effect c.self.invariant
-    (made_plain _ (history c.step.new.self c.push_keeping.new.self.max c.push_keeping.new.self.steps c.push_keeping.new.self.room) c.args.step c.in-Ok-step.effect c.requires
+    (made_plain _ (history c.step.new.self c.push_keeping.new.self.max c.push_keeping.new.self.steps c.push_keeping.new.self.room)
+    c.args.step c.in-Ok-step.effect c.requires
     c.self.invariant step_made c.in-Ok.ensures.max c.in-Ok.ensures.steps) step_made.max_steps c.in-Ok-step.ensures.one_thread
 
 pub invariant_of-self-in-Err : goal.invariant_of-self-in-Err
@@ -24,8 +25,10 @@ invariant_of-self-in-Err c =
 pub returns-in-Ok-step-clause-made : goal.returns-in-Ok-step-clause-made
 returns-in-Ok-step-clause-made c =
     let in' = c.self.inside in
-    subst (λ h. IsMade h c.args.step c.in-Ok-step.effect (history c.step.new.self c.push_keeping.new.self.max c.push_keeping.new.self.steps c.push_keeping.new.self.room)) c.self.view_is
-    (made_plain (history in'.system in'.trace.max in'.trace.steps in'.trace.room) _ c.args.step c.in-Ok-step.effect c.requires c.self.invariant
+    subst (λ h. IsMade h c.args.step c.in-Ok-step.effect (history c.step.new.self c.push_keeping.new.self.max
+    c.push_keeping.new.self.steps c.push_keeping.new.self.room)) c.self.view_is
+    (made_plain (history in'.system in'.trace.max in'.trace.steps in'.trace.room) _ c.args.step c.in-Ok-step.effect c.requires
+    c.self.invariant
     c.in-Ok-step.ensures.made c.in-Ok.ensures.max c.in-Ok.ensures.steps)
 
 pub returns-in-Err-clause-fault : goal.returns-in-Err-clause-fault
