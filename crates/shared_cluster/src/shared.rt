@@ -6,7 +6,8 @@
 ghost use Rattle.std.specs.Prelude.{◌≡◌, ◌≤◌, ◌<◌, IfOk, IfErr, IfSome, IfNone, OnOk, OnErr};
 ghost use Rattle.cluster.specs.Answers.{shown_outcome};
 ghost use Rattle.resp.specs.Content.{content};
-ghost use Rattle.shared_cluster.specs.Asks.{submitted, IsNewSeat, IsAnswered, IsReplied, IsSitFault, IsSubmitFault, IsCollectFault, IsAskFault};
+ghost use Rattle.shared_cluster.specs.Asks.{submitted, IsNewSeat, IsAnswered, IsReplied, IsSitFault, IsSubmitFault};
+ghost use Rattle.shared_cluster.specs.Asks.{IsCollectFault, IsAskFault};
 ghost use Rattle.shared_cluster.specs.Asks.{IsStopped};
 ghost use Rattle.shared_cluster.specs.Closings.{IsClosed, IsCloseFault, IsWritten, IsSent, HasSubmitted};
 ghost use Rattle.journal.specs.declared.trace.TheConstants.{GREATEST_STEPS};

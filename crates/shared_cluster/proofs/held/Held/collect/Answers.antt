@@ -7,7 +7,8 @@ use Rattle.shared_cluster.proofs.held.Held.collect.Goals as goal
 pub returns-in-Ok-Some-clause-answered : goal.returns-in-Ok-Some-clause-answered
 returns-in-Ok-Some-clause-answered g c =
     let told = c.in-Ok-Some.ensures in
-    rw c.in-Ok-Some.answer-is (answered_of c.args.self.now.cluster.history c.collect.new.self.history c.args.seat.now c.collect.new.seat c.in-Ok-Some.answer
+    rw c.in-Ok-Some.answer-is (answered_of c.args.self.now.cluster.history c.collect.new.self.history c.args.seat.now
+    c.collect.new.seat c.in-Ok-Some.answer
     (rw c.in-Ok-Some.field-0-is at told.collected)
     (rw c.in-Ok-Some.field-0-is at told.id)
     (rw c.in-Ok-Some.field-0-is at told.words)
