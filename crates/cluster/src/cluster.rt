@@ -374,8 +374,9 @@ impl<L: Ledger> Cluster<L> {
     /// Makes a turn: the first of Settle, Run, Take and Deliver that applies, the last with the packet that is picked.
     /// Says whether one was made; none is where nothing is under way.
     ///
-    /// The errors are `Failed`, `Exhausted` and, where something is under way, `Memory`. They change nothing but room, unless a worker's start is
-    /// refused now: then the trace and the rows stand, no step is made any more, and nothing else is said.
+    /// The errors are `Failed`, `Exhausted` and, where something is under way, `Memory`. They change nothing but room,
+    /// unless a worker's start is refused now: then the trace and the rows stand, no step is made any more, and nothing
+    /// else is said.
     pub fn turn<P: Pick, W: Workers>(
         &mut self,
         pick: &P,
