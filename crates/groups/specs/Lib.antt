@@ -5,3 +5,4 @@ pub mod BitLaws
 pub mod Order
 pub mod Stamp
 pub mod Request
+pub mod Units
