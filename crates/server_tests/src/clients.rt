@@ -1,7 +1,7 @@
 //! Clients that do one thing after another.
 
 use crate::counting::{are_counted, count_requests};
-use std::alloc::Global;
+use std::alloc::{AllocError, Global};
 use std::io::{self, ErrorKind, Read, Write};
 use std::net::{Net, Shutdown, SocketAddr, TcpListener, TcpStream};
 use test_support::{bytes_of, requests_of};
@@ -99,40 +99,55 @@ fn act<R: Net<Stream = TcpStream>>(
 fn speak(alloc: Global, stream: &mut TcpStream, does: &Does<'_>) -> io::Result<(bool, Vec<u8>)> {
     let mut read = Vec::new(alloc);
     let wanted = match does {
-        Does::Asks(requests) => {
-            stream.write_all(requests_of(alloc, requests)?.as_slice())?;
-            true
-        }
-        Does::Sends(bytes) => {
-            stream.write_all(bytes_of(alloc, bytes)?.as_slice())?;
-            true
-        }
-        Does::Gets(bytes) => {
-            let bytes = bytes_of(alloc, bytes)?;
-            let mut next = (&*stream).take(bytes.len() as u64);
-            next.read_to_end(&mut read)?;
-            read.as_slice() == bytes.as_slice()
-        }
-        Does::Sees => stream.peek(&mut [0u8; 1])? == 1,
-        Does::Ends => {
-            stream.shutdown(Shutdown::Write)?;
-            stream.read_to_end(&mut read)?;
-            read.is_empty()
-        }
-        Does::IsEnded => {
-            stream.read_to_end(&mut read)?;
-            read.is_empty()
-        }
-        Does::Counts(rounds, digit) => {
-            stream.write_all(count_requests(alloc, *rounds, *digit)?.as_slice())?;
-            true
-        }
-        Does::IsCounted(rounds) => {
-            stream.shutdown(Shutdown::Write)?;
-            stream.read_to_end(&mut read)?;
-            are_counted(*rounds, read.as_slice())
-        }
-        Does::Leaves | Does::Unlists => true,
+        Does::Asks(requests) => send(stream, requests_of(alloc, requests)),
+        Does::Sends(bytes) => send(stream, bytes_of(alloc, bytes)),
+        Does::Counts(rounds, digit) => send(stream, count_requests(alloc, *rounds, *digit)),
+        Does::Gets(bytes) => gets(alloc, stream, bytes, &mut read),
+        Does::Sees => sees(stream),
+        Does::Ends => ends(stream, true, &mut read),
+        Does::IsEnded => ends(stream, false, &mut read),
+        Does::IsCounted(rounds) => is_counted(stream, *rounds, &mut read),
+        Does::Leaves | Does::Unlists => Ok(true),
     };
-    Ok((wanted, read))
+    Ok((wanted?, read))
+}
+
+/// Sends bytes, if there was memory for them.
+fn send(stream: &mut TcpStream, bytes: Result<Vec<u8>, AllocError>) -> io::Result<bool> {
+    stream.write_all(bytes?.as_slice())?;
+    Ok(true)
+}
+
+/// Reads as many bytes as stand in a row. Whether they are those.
+fn gets(alloc: Global, stream: &TcpStream, row: &str, read: &mut Vec<u8>) -> io::Result<bool> {
+    let bytes = bytes_of(alloc, row)?;
+    let mut next = stream.take(bytes.len() as u64);
+    next.read_to_end(read)?;
+    Ok(read.as_slice() == bytes.as_slice())
+}
+
+/// Waits for a byte, and leaves it unread.
+fn sees(stream: &TcpStream) -> io::Result<bool> {
+    Ok(stream.peek(&mut [0u8; 1])? == 1)
+}
+
+/// Reads to the end, where `closes` is so after the stream's own end was sent.
+fn read_to_end(stream: &mut TcpStream, closes: bool, read: &mut Vec<u8>) -> io::Result<()> {
+    if closes {
+        stream.shutdown(Shutdown::Write)?;
+    }
+    stream.read_to_end(read)?;
+    Ok(())
+}
+
+/// Reads to the end in the same way. Whether nothing more came.
+fn ends(stream: &mut TcpStream, closes: bool, read: &mut Vec<u8>) -> io::Result<bool> {
+    read_to_end(stream, closes, read)?;
+    Ok(read.is_empty())
+}
+
+/// Sends no more, and reads to the end. Whether these were the replies to so many rounds of counting.
+fn is_counted(stream: &mut TcpStream, rounds: usize, read: &mut Vec<u8>) -> io::Result<bool> {
+    read_to_end(stream, true, read)?;
+    Ok(are_counted(rounds, read.as_slice()))
 }

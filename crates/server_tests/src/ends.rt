@@ -3,33 +3,19 @@
 ghost use Rattle.std.specs.Prelude.{IfOk};
 ghost use Rattle.options.specs.Server.{InRange};
 
-use crate::clients::Does::{Asks, Gets, IsEnded};
-use crate::hosting::{Hosted, beside, hosted, options, report_of};
+use crate::clients::Does::{Asks, Gets, IsEnded, Sends};
+use crate::hosting::{as_wanted, beside, options, replay_trace};
 use options::server::Options;
 use std::alloc::{AllocError, Global};
-use std::io::{self, Read, Write};
-use std::net::{Net, TcpListener, TcpStream};
-use std::random::RandomSource;
-use std::rt::Files;
-use std::sync::Wait;
+use std::net::TcpListener;
 use std::test::Fail;
-use std::thread::{Threads, join};
-use std::time::Clock;
 use std::{env, fs, process};
-use test_support::{bytes_of, holds, same_bytes, same_number};
+use test_support::{same_bytes, same_number};
 
 /// The path of a file of this name, which no other process writes.
 fn path_of(rt: &HostRuntime, name: &str) -> Result<String, Fail> {
     let id = process::id(rt.process());
     Ok(format!(in rt.alloc(); "{}/shardkv-{name}-{id}", env::temp_dir(rt)?.display())?)
-}
-
-/// Fails with what came otherwise, if something did.
-fn as_wanted(otherwise: Option<&String>) -> Result<(), Fail> {
-    match otherwise {
-        Some(text) => Err(Fail::new(format_args!("otherwise: {text}"))),
-        None => Ok(()),
-    }
 }
 
 /// Options for a server of so many steps, with its trace in this file.
@@ -68,75 +54,26 @@ fn steps_that_run_out(rt: HostRuntime) -> Result<(), Fail> {
         let (ended, otherwise) = beside(&rt, &listener, &options, 3, acts.as_slice());
         as_wanted(otherwise.as_ref())?;
         same_number("the status", u64::from(ended.0), 5)?;
-        let report = report_of(&rt, path.as_str())?;
-        let contents = b"key 61 string 31\nkey 63 string 32\nagree\n";
-        holds("the contents", report.as_slice().ends_with(contents))?;
+        let ending = b"key 61 string 31\nkey 63 string 32\nagree\n";
+        replay_trace(&rt, path.as_str(), 2, ending)?;
     }
     Ok(())
 }
 
-/// Writes a piece so many times, and another one behind it, and reads all that comes.
-fn written_often<R: Net<Stream = TcpStream>>(
-    rt: &R,
-    alloc: Global,
-    listener: &TcpListener,
-    piece: &str,
-    times: usize,
-    last: &str,
-) -> io::Result<Vec<u8>> {
-    let mut stream = TcpStream::connect(rt, listener.local_addr()?)?;
-    let piece = bytes_of(alloc, piece)?;
-    for _ in 0..times {
-        stream.write_all(piece.as_slice())?;
-    }
-    stream.write_all(bytes_of(alloc, last)?.as_slice())?;
-    let mut read = Vec::new(alloc);
-    stream.read_to_end(&mut read)?;
-    Ok(read)
-}
-
-/// Hosts at a listener beside a client that writes so. How the host ended, and what was read.
-fn hosted_beside<R>(
-    rt: &R,
-    listener: &TcpListener,
-    options: &Options<'_>,
-    piece: &str,
-    last: &str,
-) -> (Hosted, io::Result<Vec<u8>>)
-where
-    R: Threads
-        + Wait
-        + AllocGlobal
-        + Files
-        + RandomSource
-        + Eprint
-        + Clock
-        + Sync
-        + Net<Listener = TcpListener, Stream = TcpStream>,
-    requires { InRange options.now }
-{
-    let (read, ended) = join(
-        rt,
-        move || written_often(rt, rt.alloc(), listener, piece, TIMES, last),
-        move ||
-            requires { InRange options.now }
-        { hosted(rt, listener, options) },
-    );
-    (ended, read)
-}
-
-/// A piece of two requests, with `|` for CR LF, and how often it stands before the fault and behind it.
-const PIECE: &str = "*3|$3|SET|$1|a|$1|b|*2|$3|GET|$1|a|";
-
+/// 2,500 times two requests, and the replies to them. `|` stands for CR LF.
 const TIMES: usize = 2500;
 
-/// A text so many times behind another one.
-fn behind(alloc: Global, first: &str, text: &str) -> Result<String, AllocError> {
+const REQUESTS: &str = "*3|$3|SET|$1|a|$1|b|*2|$3|GET|$1|a|";
+
+const REPLIES: &str = "+OK|$1|b|";
+
+/// A text so many times, and another one behind it.
+fn often(alloc: Global, text: &str, last: &str) -> Result<String, AllocError> {
     let mut all = String::new(alloc);
-    all.push_str(first)?;
     for _ in 0..TIMES {
         all.push_str(text)?;
     }
+    all.push_str(last)?;
     Ok(all)
 }
 
@@ -146,20 +83,25 @@ fn replies_before_a_fault_arrive(rt: HostRuntime) -> Result<(), Fail> {
     let alloc = rt.alloc();
     let listener = TcpListener::bind(&rt, "127.0.0.1:0")?;
     let options = options(1, 1, None)?;
-    let last = behind(alloc, "*1|+PING|", PIECE)?;
-    let mut wanted = behind(alloc, "", "+OK\r\n$1\r\nb\r\n")?;
-    wanted.push_str("-ERR Protocol error: expected '$'\r\n")?;
-    let (ended, read) = hosted_beside(&rt, &listener, &options, PIECE, last.as_str());
-    same_bytes("the replies", read?.as_slice(), wanted.as_bytes())?;
+    let first = often(alloc, REQUESTS, "*1|+PING|")?;
+    let second = often(alloc, REQUESTS, "")?;
+    let replies = often(alloc, REPLIES, "-ERR Protocol error: expected '$'|")?;
+    let acts = [
+        (0, Sends(first.as_str())),
+        (0, Sends(second.as_str())),
+        (0, Gets(replies.as_str())),
+        (0, IsEnded),
+    ];
+    let (ended, otherwise) = beside(&rt, &listener, &options, 1, acts.as_slice());
+    as_wanted(otherwise.as_ref())?;
     same_number("the status", u64::from(ended.0), 0)
 }
 
 /// A trace that can't be written leaves what stands under its name.
 #[test]
 fn an_older_trace_stays(rt: HostRuntime) -> Result<(), Fail> {
-    let alloc = rt.alloc();
     let path = path_of(&rt, "older")?;
-    let part = format!(in alloc; "{path}.part")?;
+    let part = format!(in rt.alloc(); "{path}.part")?;
     fs::write(&rt, path.as_str(), "older")?;
     fs::create_dir(&rt, part.as_str())?;
     let acts = [(0, Asks("SET a 1")), (0, Gets("+OK|"))];

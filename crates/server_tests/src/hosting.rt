@@ -9,16 +9,17 @@ use placement::Table;
 use replay::show;
 use server::host;
 use shard_workers::InTurn;
+use std::alloc::Global;
 use std::fs;
 use std::net::{Net, TcpListener, TcpStream};
 use std::num::NonZeroUsize;
-use std::process::Abort;
 use std::random::RandomSource;
 use std::rt::Files;
 use std::sync::Wait;
 use std::test::Fail;
 use std::thread::{Threads, join};
 use std::time::Clock;
+use test_support::{holds, same_bytes, same_count, same_number, same_text};
 
 /// `a`, `b` and `y` lie on the first shard, `c`, `d`, `x` and `z` on the second.
 pub(crate) const TWO_SHARDS: &str =
@@ -98,11 +99,54 @@ where
 }
 
 /// The last line of a text.
-pub(crate) fn last_line(text: &[u8]) -> &str {
+fn last_line(text: &[u8]) -> &str {
     match str::from_utf8(text) {
         Ok(text) => text.lines().last().unwrap_or(""),
         Err(_) => "",
     }
+}
+
+/// Fails with what came otherwise, if something did.
+pub(crate) fn as_wanted(otherwise: Option<&String>) -> Result<(), Fail> {
+    match otherwise {
+        Some(text) => Err(Fail::new(format_args!("otherwise: {text}"))),
+        None => Ok(()),
+    }
+}
+
+/// The line that a host tells first.
+fn first_line(alloc: Global, listener: &TcpListener) -> Result<String, Fail> {
+    Ok(format!(in alloc; "listening {}\n", listener.local_addr()?)?)
+}
+
+/// A host ended by this status, and told where it listens and nothing else.
+pub(crate) fn ended_by(
+    alloc: Global,
+    listener: &TcpListener,
+    hosted: &Hosted,
+    status: u8,
+) -> Result<(), Fail> {
+    let wanted = first_line(alloc, listener)?;
+    same_bytes("what is told", hosted.1.as_slice(), wanted.as_bytes())?;
+    same_number("the status", u64::from(hosted.0), u64::from(status))
+}
+
+/// A host ended by status 0. It told first where it listens, and its last line begins so.
+fn ended_well(
+    alloc: Global,
+    listener: &TcpListener,
+    hosted: &Hosted,
+    last: &str,
+) -> Result<(), Fail> {
+    same_number("the status", u64::from(hosted.0), 0)?;
+    let told = hosted.1.as_slice();
+    let first = first_line(alloc, listener)?;
+    holds(
+        "the address is told first",
+        told.starts_with(first.as_bytes()),
+    )?;
+    let closed = last_line(told);
+    holds(closed, closed.starts_with(last))
 }
 
 /// Has so many clients act in order beside a server. All comes out as the acts say, and the server ends by status 0
@@ -118,7 +162,6 @@ pub(crate) fn serve_acts<R>(
 where
     R: Threads
         + Wait
-        + Abort
         + AllocGlobal
         + Files
         + RandomSource
@@ -127,41 +170,43 @@ where
         + Sync
         + Net<Listener = TcpListener, Stream = TcpStream>,
 {
-    let alloc = rt.alloc();
     let listener = TcpListener::bind(rt, "127.0.0.1:0")?;
     let options = options(workers, clients as u64, trace)?;
-    let ((status, printed), otherwise) = beside(rt, &listener, &options, clients, acts);
-    assert_eq!(rt; otherwise, None);
-    assert_eq!(rt; status, 0);
-    let listening = format!(in alloc; "listening {}\n", listener.local_addr()?)?;
-    assert!(rt; printed.starts_with(listening.as_bytes()));
-    let closed = last_line(printed.as_slice());
-    assert!(rt; closed.starts_with(last), "{closed}");
-    Ok(())
+    let (hosted, otherwise) = beside(rt, &listener, &options, clients, acts);
+    as_wanted(otherwise.as_ref())?;
+    ended_well(rt.alloc(), &listener, &hosted, last)
 }
 
-/// The report of the trace in this file, which agrees. The file is removed.
-pub(crate) fn report_of<R: Abort + Wait + AllocGlobal + Files>(
+/// The trace in this file is replayed: its report agrees, has so many rows, and ends so. The file is removed.
+pub(crate) fn replay_trace<R: Wait + AllocGlobal + Files>(
     rt: &R,
     path: &str,
-) -> Result<Vec<u8>, Fail> {
+    rows: usize,
+    ending: &[u8],
+) -> Result<(), Fail> {
     let trace = fs::read(rt, path)?;
     fs::remove_file(rt, path)?;
     let mut report = Vec::new(rt.alloc());
+    let one = InTurn(NonZeroUsize::MIN);
     let status = show(
         rt.alloc(),
         TWO_SHARDS.as_bytes(),
         trace.as_slice(),
-        &InTurn(NonZeroUsize::MIN),
+        &one,
         &mut report,
     );
-    assert_eq!(rt; status, 0);
-    assert_eq!(rt; last_line(report.as_slice()), "agree");
-    Ok(report)
+    same_number("the status of the replay", u64::from(status), 0)?;
+    let report = report.as_slice();
+    same_text("the last line of the report", last_line(report), "agree")?;
+    same_count("rows", lines_with(report, "row "), rows)?;
+    holds(
+        "the report ends with the contents",
+        report.ends_with(ending),
+    )
 }
 
 /// How many lines of a text begin so.
-pub(crate) fn lines_with(text: &[u8], beginning: &str) -> usize {
+fn lines_with(text: &[u8], beginning: &str) -> usize {
     match str::from_utf8(text) {
         Ok(text) => text
             .lines()

@@ -1,27 +1,20 @@
 //! The greatest numbers that the words may say: what is asked for is no memory that is taken.
 
 use crate::clients::Does::{Asks, Ends, Gets, Unlists};
-use crate::hosting::beside;
+use crate::hosting::{as_wanted, beside, ended_by};
+use crate::words::words_of;
 use options::server::read_options;
 use std::net::TcpListener;
 use std::test::Fail;
 
-/// A thousand million connections and 2^62 steps: a client is served, and when no other can be accepted it ends by 4.
+/// A thousand million connections and 2^62 steps.
+const GREAT: &str = "--table t --connections 1000000000 --max-steps 4611686018427387904";
+
+/// A client is served, and when no other can be accepted it ends by 4.
 #[test]
 fn great_numbers_take_nothing(rt: HostRuntime) -> Result<(), Fail> {
     let alloc = rt.alloc();
-    let mut words = Vec::new(alloc);
-    for word in [
-        "shardkv-server",
-        "--table",
-        "t",
-        "--connections",
-        "1000000000",
-        "--max-steps",
-        "4611686018427387904",
-    ] {
-        words.push(String::from_str(alloc, word)?)?;
-    }
+    let words = words_of(alloc, GREAT)?;
     let options = read_options(alloc, words.as_slice())?;
     let listener = TcpListener::bind(&rt, "127.0.0.1:0")?;
     let acts = [
@@ -30,10 +23,7 @@ fn great_numbers_take_nothing(rt: HostRuntime) -> Result<(), Fail> {
         (0, Ends),
         (0, Unlists),
     ];
-    let ((status, printed), otherwise) = beside(&rt, &listener, &options, 2, acts.as_slice());
-    assert_eq!(rt; otherwise, None);
-    assert_eq!(rt; status, 4);
-    let listening = format!(in alloc; "listening {}\n", listener.local_addr()?)?;
-    assert_eq!(rt; printed.as_slice(), listening.as_bytes());
-    Ok(())
+    let (hosted, otherwise) = beside(&rt, &listener, &options, 2, acts.as_slice());
+    as_wanted(otherwise.as_ref())?;
+    ended_by(alloc, &listener, &hosted, 4)
 }

@@ -4,49 +4,26 @@ ghost use Rattle.std.specs.Prelude.{◌≡◌, ◌<◌, ◌≤◌};
 ghost use Rattle.std.specs.Thread.{IsSync};
 ghost use Rattle.journal.specs.declared.trace.TheConstants.{GREATEST_STEPS};
 
-use crate::hosting::TWO_SHARDS;
-use crate::turns::numbers_of;
+use crate::asking::{Numbers, closes, request, stays, text};
+use crate::hosting::{TWO_SHARDS, as_wanted};
 use cluster::{CloseFault, First, Seat};
 use placement::Table;
-use resp::{Reply, Request, write_reply};
 use server::shared_syncs;
 use shard_workers::{InTurn, Open};
 use shards::ShardHasher;
 use shared_cluster::{AskFault, AtRest, FaultKind, Shared};
-use std::alloc::{AllocError, Global};
+use std::alloc::Global;
 use std::marker::Brand;
 use std::num::NonZeroUsize;
-use std::process::Abort;
 use std::sync::Wait;
 use std::sync::ledger::{Blank, Ledger};
 use std::test::Fail;
 use std::thread::{Threads, join};
 use std::time::Clock;
+use test_support::{holds, same_bytes, same_number, same_text};
 
 /// At most how many steps the clusters here make.
 const MOST: u64 = 1000;
-
-/// The request of these words, separated by blanks.
-fn request(alloc: Global, words: &str) -> Result<Request, AllocError> {
-    let mut copies = Vec::new(alloc);
-    for word in words.split(' ') {
-        copies.push(Vec::from_slice(alloc, word.as_bytes())?)?;
-    }
-    if copies.is_empty() {
-        return Err(AllocError);
-    }
-    Ok(Request::from_words(copies))
-}
-
-/// The text of a reply.
-fn text(alloc: Global, reply: &Reply) -> Result<String, AllocError> {
-    let mut text = Vec::new(alloc);
-    write_reply(reply, &mut text)?;
-    match String::from_utf8(text) {
-        Ok(text) => Ok(text),
-        Err(_) => Err(AllocError),
-    }
-}
 
 /// A cluster over two shards that makes so many steps at most.
 fn shared<L: Ledger>(alloc: Global, most: u64, blank: Blank) -> Result<Shared<L>, Fail>
@@ -58,7 +35,7 @@ fn shared<L: Ledger>(alloc: Global, most: u64, blank: Blank) -> Result<Shared<L>
 }
 
 /// Requests and the replies that are wanted for them.
-type Rows<'a> = &'a [(&'a str, &'a str)];
+pub(crate) type Rows<'a> = &'a [(&'a str, &'a str)];
 
 /// Asks the requests in order at a seat of its own. Gives the first reply that isn't the wanted one. Another thread
 /// drives the cluster.
@@ -121,13 +98,13 @@ fn driven<L: Ledger, R: Wait + Clock>(rt: &R, shared: &Shared<L>) -> Result<AtRe
 }
 
 /// Two threads ask their rows beside one that drives. The cluster is to close with these numbers.
-fn two_ask<L: Ledger + Send + Sync, R: Threads + Wait + Clock + Abort + Sync>(
+fn two_ask<L: Ledger + Send + Sync, R: Threads + Wait + Clock + Sync>(
     rt: &R,
     alloc: Global,
     blank: Blank,
     one: Rows<'_>,
     two: Rows<'_>,
-    numbers: (u64, u64, u64),
+    numbers: Numbers,
 ) -> Result<(), Fail>
     requires { (blank.name ≡ L.name) × (blank.parts ≡ L.parts) × (1000 < blank.parts) }
 {
@@ -140,11 +117,10 @@ fn two_ask<L: Ledger + Send + Sync, R: Threads + Wait + Clock + Abort + Sync>(
         move || driven(rt, shared),
         move || ask_and_shut(rt, alloc, shared, one, two),
     );
-    assert_eq!(rt; first, None);
-    assert_eq!(rt; second, None);
-    assert!(rt; ended.is_ok());
-    assert_eq!(rt; shared.close(rt).map(numbers_of), Ok(numbers));
-    Ok(())
+    ended?;
+    as_wanted(first.as_ref())?;
+    as_wanted(second.as_ref())?;
+    closes(shared.close(rt), numbers)
 }
 
 /// It does nothing: its contract says that a `&` to the type may go to another thread.
@@ -153,7 +129,7 @@ fn syncs<T: Sync>()
 {}
 
 /// Two threads ask their rows of a new cluster, which counts so many requests, and so many that were executed.
-fn ask_both<R: Threads + Wait + Clock + Abort + Sync>(
+fn ask_both<R: Threads + Wait + Clock + Sync>(
     rt: &R,
     alloc: Global,
     one: Rows<'_>,
@@ -218,8 +194,55 @@ fn sets_and_ranges(rt: HostRuntime) -> Result<(), Fail> {
     ask_both(&rt, rt.alloc(), one.as_slice(), two.as_slice(), 9, 9)
 }
 
+/// Nothing was done or given, for a fault of this kind.
+fn is_refused<T: Drop>(outcome: Result<T, AskFault>, kind: FaultKind) -> Result<(), Fail> {
+    let refused = matches!(outcome, Err(fault) if fault.kind() == kind);
+    holds("a refusal of the kind that is wanted", refused)
+}
+
+/// What the thread asks that makes the turns itself.
+const TURNED: Rows<'static> = &[
+    ("SET a 1", "+OK\r\n"),
+    ("MSET a 1 c 2 a 3", "+OK\r\n"),
+    ("GET a", "$1\r\n3\r\n"),
+    ("PING", "+PONG\r\n"),
+    ("FOO", "-ERR unknown command\r\n"),
+];
+
+/// Asks at a seat and makes the turns: the replies are to have these texts.
+fn turn_rows<L: Ledger, R: Wait + Clock>(
+    rt: &R,
+    alloc: Global,
+    shared: &Shared<L>,
+    seat: &mut Seat<L>,
+    rows: Rows<'_>,
+) -> Result<(), Fail> {
+    for (words, wanted) in rows {
+        let reply = shared.ask_turning(rt, seat, request(alloc, words)?)?;
+        same_text(words, text(alloc, &reply.open())?.as_str(), wanted)?;
+    }
+    Ok(())
+}
+
+/// Shuts the cluster, which then takes no request and gives no seat. It closes when the seat has stood.
+fn shut_refuses<L: Ledger, R: Wait + Clock>(
+    rt: &R,
+    alloc: Global,
+    shared: &Shared<L>,
+    mut seat: Seat<L>,
+) -> Result<(), Fail> {
+    stays(shared.close(rt), CloseFault::SeatsOut)?;
+    shared.shut(rt);
+    let outcome = shared.ask_turning(rt, &mut seat, request(alloc, "PING")?);
+    is_refused(outcome, FaultKind::Closed)?;
+    same_number("the requests of the seat", seat.count(), 5)?;
+    shared.stand(rt, seat);
+    is_refused(shared.sit(rt), FaultKind::Closed)?;
+    closes(shared.close(rt), (5, 3, 0))
+}
+
 /// The thread that asks makes the turns.
-fn asks_turning<L: Ledger, R: Wait + Clock + Abort>(
+fn asks_turning<L: Ledger, R: Wait + Clock>(
     rt: &R,
     alloc: Global,
     most: u64,
@@ -230,30 +253,12 @@ fn asks_turning<L: Ledger, R: Wait + Clock + Abort>(
 {
     let shared: Shared<L> = shared(alloc, most, blank)?;
     let mut seat = shared.sit(rt)?;
-    for (words, wanted) in [
-        ("SET a 1", "+OK\r\n"),
-        ("MSET a 1 c 2 a 3", "+OK\r\n"),
-        ("GET a", "$1\r\n3\r\n"),
-        ("PING", "+PONG\r\n"),
-        ("FOO", "-ERR unknown command\r\n"),
-    ] {
-        let reply = shared.ask_turning(rt, &mut seat, request(alloc, words)?)?;
-        assert_eq!(rt; text(alloc, &reply.open())?.as_str(), wanted);
-    }
-    assert_eq!(rt; shared.close(rt), Err(CloseFault::SeatsOut));
-    shared.shut(rt);
-    let refused = shared.ask_turning(rt, &mut seat, request(alloc, "PING")?);
-    assert!(rt; matches!(refused, Err(fault) if fault.kind() == FaultKind::Closed));
-    assert_eq!(rt; seat.count(), 5);
-    shared.stand(rt, seat);
-    let refused = shared.sit(rt);
-    assert!(rt; matches!(refused, Err(fault) if fault.kind() == FaultKind::Closed));
-    assert_eq!(rt; shared.close(rt).map(numbers_of), Ok((5, 3, 0)));
-    Ok(())
+    turn_rows(rt, alloc, &shared, &mut seat, TURNED)?;
+    shut_refuses(rt, alloc, &shared, seat)
 }
 
 /// Asks of a new cluster that makes so many steps at most.
-fn turn_within<R: Wait + Clock + Abort>(rt: &R, alloc: Global, most: u64) -> Result<(), Fail>
+fn turn_within<R: Wait + Clock>(rt: &R, alloc: Global, most: u64) -> Result<(), Fail>
     requires { (1 ≤ most) × (most ≤ GREATEST_STEPS) }
 {
     let blank = Blank::new(most + 1);
@@ -271,34 +276,39 @@ fn many_steps_take_nothing(rt: HostRuntime) -> Result<(), Fail> {
     turn_within(&rt, rt.alloc(), 1 << 62)
 }
 
-/// The seat is the first of three steps, its request the second, and its packet the third.
-fn three_steps<L: Ledger, R: Wait + Clock + Abort>(
+/// Asks at a seat of a cluster that may make no more steps behind the first request's packet.
+fn exhausts<L: Ledger, R: Wait + Clock>(
     rt: &R,
     alloc: Global,
-    blank: Blank,
-) -> Result<(), Fail>
+    shared: &Shared<L>,
+    seat: &mut Seat<L>,
+) -> Result<(), Fail> {
+    let outcome = shared.ask_turning(rt, seat, request(alloc, "SET a 1")?);
+    is_refused(outcome, FaultKind::Exhausted)?;
+    same_number("the requests of the seat", seat.count(), 1)
+}
+
+/// The trace of three steps.
+const THREE: &[u8] = b"shardkv-trace 1\nmax 3\nopen\nsubmit 1 534554 61 31\ndeliver 0\nend 3\n";
+
+/// The seat is the first of three steps, its request the second, and its packet the third.
+fn three_steps<L: Ledger, R: Wait + Clock>(rt: &R, alloc: Global, blank: Blank) -> Result<(), Fail>
     requires { (blank.name ≡ L.name) × (blank.parts ≡ L.parts) × (3 < blank.parts) }
 {
     let shared: Shared<L> = shared(alloc, 3, blank)?;
     let mut seat = shared.sit(rt)?;
-    for _ in 0..2 {
-        let refused = shared.ask_turning(rt, &mut seat, request(alloc, "SET a 1")?);
-        assert!(rt; matches!(refused, Err(fault) if fault.kind() == FaultKind::Exhausted));
-        assert_eq!(rt; seat.count(), 1);
-    }
-    let stopped = driven(rt, &shared);
-    assert!(rt; matches!(stopped, Err(fault) if fault.kind() == FaultKind::Exhausted));
+    exhausts(rt, alloc, &shared, &mut seat)?;
+    exhausts(rt, alloc, &shared, &mut seat)?;
+    is_refused(driven(rt, &shared), FaultKind::Exhausted)?;
     shared.stand(rt, seat);
-    assert_eq!(rt; shared.close(rt), Err(CloseFault::NotQuiet));
+    stays(shared.close(rt), CloseFault::NotQuiet)?;
     let mut trace = Vec::new(alloc);
     shared.write_trace(rt, &mut trace)?;
-    let wanted = b"shardkv-trace 1\nmax 3\nopen\nsubmit 1 534554 61 31\ndeliver 0\nend 3\n";
-    assert_eq!(rt; trace.as_slice(), wanted.as_slice());
-    Ok(())
+    same_bytes("the trace", trace.as_slice(), THREE)
 }
 
 /// Makes three steps of a new cluster.
-fn make_three<R: Wait + Clock + Abort>(rt: &R, alloc: Global) -> Result<(), Fail> {
+fn make_three<R: Wait + Clock>(rt: &R, alloc: Global) -> Result<(), Fail> {
     let blank = Blank::new(4);
     three_steps::<Brand, R>(rt, alloc, blank)
 }

@@ -2,11 +2,13 @@
 
 use crate::clients::Act;
 use crate::clients::Does::{Asks, Ends, Gets, IsEnded, Leaves, Sees, Sends};
-use crate::hosting::{hosted, options, report_of, serve_acts};
+use crate::hosting::{ended_by, hosted, options, replay_trace, serve_acts};
+use std::alloc::{AllocError, Global};
 use std::io::{Read, Write};
 use std::net::{Shutdown, TcpListener, TcpStream};
 use std::test::Fail;
 use std::{env, process};
+use test_support::same_bytes;
 
 /// One leaves with half a request sent, one with a request under way; one ends inside a request.
 #[test]
@@ -34,12 +36,8 @@ fn clients_that_leave(rt: HostRuntime) -> Result<(), Fail> {
             acts.as_slice(),
             "closed requests=3 executed=3 starved=0",
         )?;
-        let report = report_of(&rt, path.as_str())?;
-        assert!(rt;
-            report
-                .as_slice()
-                .ends_with(b"key 61 string 31\nkey 63 string 32\nagree\n")
-        );
+        let ending = b"key 61 string 31\nkey 63 string 32\nagree\n";
+        replay_trace(&rt, path.as_str(), 3, ending)?;
     }
     Ok(())
 }
@@ -88,27 +86,29 @@ fn clients_that_send_no_requests(rt: HostRuntime) -> Result<(), Fail> {
     Ok(())
 }
 
-/// 13 million bytes of replies lie unread, and another client's requests go to the same shard.
-#[test]
-fn a_client_that_never_reads(rt: HostRuntime) -> Result<(), Fail> {
-    let alloc = rt.alloc();
-    let mut acts: Vec<Act<'_>> = Vec::new(alloc);
-    acts.push((0, Asks("SETRANGE a 65535 x")))?;
-    acts.push((0, Gets(":65536|")))?;
+/// Behind 13 million bytes of replies that lie unread another client's requests go to the same shard.
+fn acts_of_two(alloc: Global) -> Result<Vec<Act<'static>>, AllocError> {
+    let mut acts: Vec<Act<'static>> = Vec::new(alloc);
+    acts.extend_from_slice(&[(0, Asks("SETRANGE a 65535 x")), (0, Gets(":65536|"))])?;
     for _ in 0..200 {
         acts.push((0, Asks("GET a")))?;
     }
-    acts.push((0, Sees))?;
-    acts.push((1, Asks("SET c 1")))?;
-    acts.push((1, Gets("+OK|")))?;
+    acts.extend_from_slice(&[(0, Sees), (1, Asks("SET c 1")), (1, Gets("+OK|"))])?;
     for _ in 0..50 {
-        acts.push((1, Asks("EXISTS a c")))?;
-        acts.push((1, Gets(":2|")))?;
+        acts.extend_from_slice(&[(1, Asks("EXISTS a c")), (1, Gets(":2|"))])?;
     }
-    acts.push((0, Leaves))?;
-    acts.push((1, Asks("APPEND a y; SET c 2; GET c")))?;
-    acts.push((1, Gets(":65537|+OK|$1|2|")))?;
-    acts.push((1, Ends))?;
+    acts.extend_from_slice(&[
+        (0, Leaves),
+        (1, Asks("APPEND a y; SET c 2; GET c")),
+        (1, Gets(":65537|+OK|$1|2|")),
+        (1, Ends),
+    ])?;
+    Ok(acts)
+}
+
+#[test]
+fn a_client_that_never_reads(rt: HostRuntime) -> Result<(), Fail> {
+    let acts = acts_of_two(rt.alloc())?;
     for workers in [1, 2] {
         serve_acts(&rt, workers, None, 2, acts.as_slice(), "closed requests=")?;
     }
@@ -120,17 +120,12 @@ fn a_client_that_never_reads(rt: HostRuntime) -> Result<(), Fail> {
 fn a_trace_that_cannot_be_written(rt: HostRuntime) -> Result<(), Fail> {
     let alloc = rt.alloc();
     let listener = TcpListener::bind(&rt, "127.0.0.1:0")?;
-    let address = listener.local_addr()?;
-    let mut stream = TcpStream::connect(&rt, address)?;
+    let mut stream = TcpStream::connect(&rt, listener.local_addr()?)?;
     stream.write_all(b"*1\r\n$4\r\nPING\r\n")?;
     stream.shutdown(Shutdown::Write)?;
     let options = options(1, 1, Some("/"))?;
-    let (status, printed) = hosted(&rt, &listener, &options);
-    assert_eq!(rt; status, 6);
-    let listening = format!(in alloc; "listening {address}\n")?;
-    assert_eq!(rt; printed.as_slice(), listening.as_bytes());
+    ended_by(alloc, &listener, &hosted(&rt, &listener, &options), 6)?;
     let mut replies = Vec::new(alloc);
     stream.read_to_end(&mut replies)?;
-    assert_eq!(rt; replies.as_slice(), b"+PONG\r\n".as_slice());
-    Ok(())
+    same_bytes("the replies", replies.as_slice(), b"+PONG\r\n")
 }

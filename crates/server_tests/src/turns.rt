@@ -2,45 +2,24 @@
 
 ghost use Rattle.std.specs.Prelude.{◌≡◌, ◌<◌};
 
-use cluster::{Answer, CloseFault, Closing, Cluster, First, Seat};
+use crate::asking::{closes, request, stays, text};
+use crate::hosting::TWO_SHARDS;
+use crate::rows::Rows;
+use cluster::{Answer, CloseFault, Cluster, First, Seat};
 use placement::Table;
-use resp::{Reply, Request, write_reply};
+use resp::Reply;
 use shard_workers::{InTurn, Open};
 use shards::ShardHasher;
 use std::alloc::Global;
 use std::marker::Brand;
 use std::num::NonZeroUsize;
-use std::process::Abort;
 use std::sync::ledger::{Blank, Ledger};
 use std::test::Fail;
 use system::StepFault;
+use test_support::{same_bytes, same_count, same_number, same_text};
 
 /// At most how many steps the clusters here make.
 const MOST: u64 = 1000;
-
-/// `a` lies on the first shard, `c` on the second.
-fn two_shards(alloc: Global) -> Result<Table, Fail> {
-    let text =
-        "shards = 2\n[[range]]\nfrom = 0\nto = 511\nshard = 0\n[[range]]\nfrom = 512\nto = 1023\nshard = 1\n";
-    Ok(Table::from_toml(alloc, text)?)
-}
-
-/// The request of these words, separated by blanks.
-fn request(alloc: Global, words: &str) -> Result<Request, Fail> {
-    let mut copies = Vec::new(alloc);
-    for word in words.split(' ') {
-        copies.push(Vec::from_slice(alloc, word.as_bytes())?)?;
-    }
-    if copies.is_empty() {
-        return Err("no words".into());
-    }
-    Ok(Request::from_words(copies))
-}
-
-/// How many requests were submitted, how many executed, and how many starved.
-pub fn numbers_of(closing: Closing) -> (u64, u64, u64) {
-    (closing.requests(), closing.executed(), closing.starved())
-}
 
 fn turn<L: Ledger>(cluster: &mut Cluster<L>) -> Result<bool, StepFault> {
     cluster.turn(&First, &InTurn(NonZeroUsize::MIN), &Open)
@@ -72,22 +51,19 @@ fn reply<L: Ledger>(cluster: &mut Cluster<L>, seat: &mut Seat<L>) -> Result<Repl
     Err("no outcome came".into())
 }
 
-fn text(alloc: Global, reply: &Reply) -> Result<String, Fail> {
-    let mut text = Vec::new(alloc);
-    write_reply(reply, &mut text)?;
-    Ok(String::from_utf8(text)?)
-}
-
-/// Asks, and gives the text of the reply.
-fn ask<L: Ledger>(
+/// Asks at a seat, and the replies are to have these texts.
+fn ask_rows<L: Ledger>(
     alloc: Global,
     cluster: &mut Cluster<L>,
     seat: &mut Seat<L>,
-    words: &str,
-) -> Result<String, Fail> {
-    cluster.submit(seat, request(alloc, words)?)?;
-    let reply = reply(cluster, seat)?;
-    text(alloc, &reply)
+    rows: Rows<'_>,
+) -> Result<(), Fail> {
+    for (words, wanted) in rows {
+        cluster.submit(seat, request(alloc, words)?)?;
+        let reply = reply(cluster, seat)?;
+        same_text(words, text(alloc, &reply)?.as_str(), wanted)?;
+    }
+    Ok(())
 }
 
 /// Makes turns until nothing is under way.
@@ -104,56 +80,70 @@ fn rest<L: Ledger>(cluster: &mut Cluster<L>) -> Result<(), Fail> {
 fn cluster<L: Ledger>(alloc: Global, blank: Blank) -> Result<Cluster<L>, Fail>
     requires { (blank.name ≡ L.name) × (blank.parts ≡ L.parts) × (1000 < blank.parts) }
 {
-    Ok(Cluster::new(alloc, two_shards(alloc)?, MOST, ShardHasher::Fixed, blank)?)
+    Ok(Cluster::new(
+        alloc,
+        Table::from_toml(alloc, TWO_SHARDS)?,
+        MOST,
+        ShardHasher::Fixed,
+        blank,
+    )?)
 }
 
-fn two_seats_ask<L: Ledger>(rt: &impl Abort, alloc: Global, blank: Blank) -> Result<(), Fail>
+/// The answer to the fifth request of a seat, `INCR a`, has its words and its id.
+fn has_an_answer<L: Ledger>(
+    alloc: Global,
+    cluster: &mut Cluster<L>,
+    seat: &mut Seat<L>,
+) -> Result<(), Fail> {
+    cluster.submit(seat, request(alloc, "INCR a")?)?;
+    let answer = answer(cluster, seat)?;
+    same_number("the number of the request", answer.id().seq, 5)?;
+    same_count("its words", answer.words().len(), 2)?;
+    same_bytes("its second word", answer.words().word(1), b"a")?;
+    same_text("INCR a", text(alloc, answer.reply())?.as_str(), ":3\r\n")
+}
+
+/// Both seats stand, the second with a request under way.
+fn both_stand<L: Ledger>(
+    alloc: Global,
+    cluster: &mut Cluster<L>,
+    one: Seat<L>,
+    mut two: Seat<L>,
+) -> Result<(), Fail> {
+    stays(cluster.closing(), CloseFault::SeatsOut)?;
+    cluster.stand(one);
+    cluster.submit(&mut two, request(alloc, "GET a")?)?;
+    cluster.stand(two);
+    stays(cluster.closing(), CloseFault::NotQuiet)?;
+    rest(cluster)?;
+    closes(cluster.closing(), (8, 6, 0))
+}
+
+fn two_seats_ask<L: Ledger>(alloc: Global, blank: Blank) -> Result<(), Fail>
     requires { (blank.name ≡ L.name) × (blank.parts ≡ L.parts) × (1000 < blank.parts) }
 {
     let mut cluster: Cluster<L> = cluster(alloc, blank)?;
     let mut one = cluster.sit()?;
     let mut two = cluster.sit()?;
-    assert_eq!(rt;
-        ask(alloc, &mut cluster, &mut one, "SET a 1")?.as_str(),
-        "+OK\r\n"
-    );
-    assert_eq!(rt;
-        ask(alloc, &mut cluster, &mut two, "GET a")?.as_str(),
-        "$1\r\n1\r\n"
-    );
-    assert_eq!(rt;
-        ask(alloc, &mut cluster, &mut one, "MSET a 2 c 3")?.as_str(),
-        "+OK\r\n"
-    );
-    assert_eq!(rt;
-        ask(alloc, &mut cluster, &mut two, "MGET c a")?.as_str(),
-        "*2\r\n$1\r\n3\r\n$1\r\n2\r\n"
-    );
-    assert_eq!(rt;
-        ask(alloc, &mut cluster, &mut two, "PING")?.as_str(),
-        "+PONG\r\n"
-    );
-    assert_eq!(rt;
-        ask(alloc, &mut cluster, &mut two, "FOO")?.as_str(),
-        "-ERR unknown command\r\n"
-    );
-    cluster.submit(&mut two, request(alloc, "INCR a")?)?;
-    let answer = answer(&mut cluster, &mut two)?;
-    assert_eq!(rt; answer.id().seq, 5);
-    assert_eq!(rt; answer.words().len(), 2);
-    assert_eq!(rt; answer.words().word(1), b"a".as_slice());
-    assert_eq!(rt; text(alloc, answer.reply())?.as_str(), ":3\r\n");
-    assert_eq!(rt; cluster.closing(), Err(CloseFault::SeatsOut));
-    cluster.stand(one);
-    cluster.submit(&mut two, request(alloc, "GET a")?)?;
-    cluster.stand(two);
-    assert_eq!(rt; cluster.closing(), Err(CloseFault::NotQuiet));
-    rest(&mut cluster)?;
-    assert_eq!(rt; cluster.closing().map(numbers_of), Ok((8, 6, 0)));
-    Ok(())
+    ask_rows(alloc, &mut cluster, &mut one, &[("SET a 1", "+OK\r\n")])?;
+    ask_rows(alloc, &mut cluster, &mut two, &[("GET a", "$1\r\n1\r\n")])?;
+    ask_rows(
+        alloc,
+        &mut cluster,
+        &mut one,
+        &[("MSET a 2 c 3", "+OK\r\n")],
+    )?;
+    let rows = [
+        ("MGET c a", "*2\r\n$1\r\n3\r\n$1\r\n2\r\n"),
+        ("PING", "+PONG\r\n"),
+        ("FOO", "-ERR unknown command\r\n"),
+    ];
+    ask_rows(alloc, &mut cluster, &mut two, &rows)?;
+    has_an_answer(alloc, &mut cluster, &mut two)?;
+    both_stand(alloc, &mut cluster, one, two)
 }
 
 #[test]
 fn seats_ask_and_stand(rt: HostRuntime) -> Result<(), Fail> {
-    two_seats_ask::<Brand>(&rt, rt.alloc(), Blank::new(MOST + 1))
+    two_seats_ask::<Brand>(rt.alloc(), Blank::new(MOST + 1))
 }

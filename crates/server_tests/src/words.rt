@@ -2,11 +2,11 @@
 
 use options::server::{Options, read_options};
 use std::alloc::{AllocError, Global};
-use std::process::Abort;
 use std::test::Fail;
+use test_support::{same_number, same_text};
 
 /// The words of a line, behind the name of the program.
-fn words_of(alloc: Global, line: &str) -> Result<Vec<String>, AllocError> {
+pub(crate) fn words_of(alloc: Global, line: &str) -> Result<Vec<String>, AllocError> {
     let mut words = Vec::new(alloc);
     words.push(String::from_str(alloc, "shardkv-server")?)?;
     for word in line.split(' ') {
@@ -28,29 +28,36 @@ fn shown(alloc: Global, options: &Options<'_>) -> Result<String, AllocError> {
     )
 }
 
+/// A line asks for these options.
+fn asks_for(alloc: Global, line: &str, wanted: &str) -> Result<(), Fail> {
+    let words = words_of(alloc, line)?;
+    let options = read_options(alloc, words.as_slice())?;
+    same_text(line, shown(alloc, &options)?.as_str(), wanted)
+}
+
+/// Lines, and what they ask for.
+const GOOD: [(&str, &str); 3] = [
+    ("--table t.toml", "t.toml 7379 1 64 1000000 -"),
+    (
+        "--table t.toml --port 0 --workers 64 --connections 1000000000 --max-steps 4611686018427387904 --trace r.trace",
+        "t.toml 0 64 1000000000 4611686018427387904 r.trace",
+    ),
+    (
+        "--trace r --max-steps 1 --connections 1 --workers 1 --port 65535 --table=t",
+        "t 65535 1 1 1 r",
+    ),
+];
+
 #[test]
 fn good_lines(rt: HostRuntime) -> Result<(), Fail> {
-    let alloc = rt.alloc();
-    for (line, wanted) in [
-        ("--table t.toml", "t.toml 7379 1 64 1000000 -"),
-        (
-            "--table t.toml --port 0 --workers 64 --connections 1000000000 --max-steps 4611686018427387904 --trace r.trace",
-            "t.toml 0 64 1000000000 4611686018427387904 r.trace",
-        ),
-        (
-            "--trace r --max-steps 1 --connections 1 --workers 1 --port 65535 --table=t",
-            "t 65535 1 1 1 r",
-        ),
-    ] {
-        let words = words_of(alloc, line)?;
-        let options = read_options(alloc, words.as_slice())?;
-        assert_eq!(rt; shown(alloc, &options)?.as_str(), wanted);
+    for (line, wanted) in &GOOD {
+        asks_for(rt.alloc(), line, wanted)?;
     }
     Ok(())
 }
 
 /// A line is no options: the first line of the text that is told, and the status.
-fn refused<R: Abort + Print + Eprint>(
+fn refused<R: Print + Eprint>(
     rt: &R,
     alloc: Global,
     line: &str,
@@ -63,66 +70,66 @@ fn refused<R: Abort + Print + Eprint>(
         return Err("it was read".into());
     };
     let text = format!(in alloc; "{fault}")?;
-    assert_eq!(rt; text.as_str().lines().next(), Some(told));
-    assert_eq!(rt; fault.tell(rt), status);
-    Ok(())
+    same_text(line, text.as_str().lines().next().unwrap_or(""), told)?;
+    same_number(line, u64::from(fault.tell(rt)), u64::from(status))
 }
+
+/// Lines that are no options, and the first line of what is told.
+const BAD: [(&str, &str); 8] = [
+    (
+        "--port 1",
+        "error: the following required arguments were not provided:",
+    ),
+    (
+        "--table",
+        "error: a value is required for '--table <FILE>' but none was supplied",
+    ),
+    (
+        "--table t --table u",
+        "error: the argument '--table <FILE>' cannot be used multiple times",
+    ),
+    (
+        "--table t --shards 3",
+        "error: unexpected argument '--shards' found",
+    ),
+    ("--table t more", "error: unexpected argument 'more' found"),
+    (
+        "--table t --workers x",
+        "error: invalid value 'x' for '--workers <N>': invalid digit found in string",
+    ),
+    (
+        "--table t --port 65536",
+        "error: invalid value '65536' for '--port <N>': 65536 is not in 0..=65535",
+    ),
+    (
+        "--table t --max-steps 18446744073709551616",
+        "error: invalid value '18446744073709551616' for '--max-steps <N>': number too large to fit in target type",
+    ),
+];
 
 #[test]
 fn bad_lines(rt: HostRuntime) -> Result<(), Fail> {
     let alloc = rt.alloc();
-    for (line, told) in [
-        (
-            "--port 1",
-            "error: the following required arguments were not provided:",
-        ),
-        (
-            "--table",
-            "error: a value is required for '--table <FILE>' but none was supplied",
-        ),
-        (
-            "--table t --table u",
-            "error: the argument '--table <FILE>' cannot be used multiple times",
-        ),
-        (
-            "--table t --shards 3",
-            "error: unexpected argument '--shards' found",
-        ),
-        ("--table t more", "error: unexpected argument 'more' found"),
-        (
-            "--table t --workers x",
-            "error: invalid value 'x' for '--workers <N>': invalid digit found in string",
-        ),
-        (
-            "--table t --port 65536",
-            "error: invalid value '65536' for '--port <N>': 65536 is not in 0..=65535",
-        ),
-        (
-            "--table t --max-steps 18446744073709551616",
-            "error: invalid value '18446744073709551616' for '--max-steps <N>': number too large to fit in target type",
-        ),
-    ] {
+    for (line, told) in &BAD {
         refused(&rt, alloc, line, told, 2)?;
     }
-    refused(
-        &rt,
-        alloc,
-        "--help",
-        "Usage: shardkv-server [OPTIONS] --table <FILE>",
-        0,
-    )
+    let usage = "Usage: shardkv-server [OPTIONS] --table <FILE>";
+    refused(&rt, alloc, "--help", usage, 0)
 }
+
+/// Numbers of the command line that are out of their ranges.
+const OUT_OF_RANGE: [(&str, &str); 5] = [
+    ("workers", "0"),
+    ("workers", "65"),
+    ("connections", "0"),
+    ("max-steps", "0"),
+    ("max-steps", "4611686018427387905"),
+];
 
 #[test]
 fn numbers_out_of_their_ranges(rt: HostRuntime) -> Result<(), Fail> {
     let alloc = rt.alloc();
-    for (name, value) in [
-        ("workers", "0"),
-        ("workers", "65"),
-        ("connections", "0"),
-        ("max-steps", "0"),
-        ("max-steps", "4611686018427387905"),
-    ] {
+    for (name, value) in &OUT_OF_RANGE {
         let line = format!(in alloc; "--table t --{name} {value}")?;
         let told = format!(in alloc; "error: the value of --{name} is out of its range")?;
         refused(&rt, alloc, line.as_str(), told.as_str(), 2)?;

@@ -1,0 +1,49 @@
+//! Requests of a cluster, its replies, and how it closes.
+
+use cluster::{CloseFault, Closing};
+use resp::{Reply, Request, write_reply};
+use std::alloc::{AllocError, Global};
+use std::test::Fail;
+use test_support::{holds, same_number};
+
+/// The request of these words, separated by blanks.
+pub(crate) fn request(alloc: Global, words: &str) -> Result<Request, AllocError> {
+    let mut copies = Vec::new(alloc);
+    for word in words.split(' ') {
+        copies.push(Vec::from_slice(alloc, word.as_bytes())?)?;
+    }
+    if copies.is_empty() {
+        return Err(AllocError);
+    }
+    Ok(Request::from_words(copies))
+}
+
+/// The text of a reply.
+pub(crate) fn text(alloc: Global, reply: &Reply) -> Result<String, AllocError> {
+    let mut text = Vec::new(alloc);
+    write_reply(reply, &mut text)?;
+    match String::from_utf8(text) {
+        Ok(text) => Ok(text),
+        Err(_) => Err(AllocError),
+    }
+}
+
+/// How many requests were submitted, how many executed, and how many starved.
+pub(crate) type Numbers = (u64, u64, u64);
+
+/// A cluster is closed, with these numbers.
+pub(crate) fn closes(closed: Result<Closing, CloseFault>, numbers: Numbers) -> Result<(), Fail> {
+    let closing = closed?;
+    same_number("requests", closing.requests(), numbers.0)?;
+    same_number("executed", closing.executed(), numbers.1)?;
+    same_number("starved", closing.starved(), numbers.2)
+}
+
+/// A cluster is not closed, for this fault.
+pub(crate) fn stays(closed: Result<Closing, CloseFault>, wanted: CloseFault) -> Result<(), Fail> {
+    let stays = matches!(closed, Err(fault) if fault == wanted);
+    holds(
+        "the cluster isn't closed, for the fault that is wanted",
+        stays,
+    )
+}
