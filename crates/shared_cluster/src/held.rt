@@ -21,7 +21,7 @@ use shard_workers::{Gate, Workers};
 use std::alloc::AllocError;
 use std::io::Write;
 use std::sync::ledger::Ledger;
-use system::Progress;
+use system::{Progress, System};
 use thiserror::Error;
 
 /// Why a request isn't answered, or a seat isn't given: the kind of fault, and the step that was not made. It can't be
@@ -55,14 +55,14 @@ pub(crate) const RESERVE: usize = 256 * 1024;
 /// A cluster, and whether it is shut: then no one sits or asks any more.
 ///
 /// Beside it memory is kept back. A turn that finds none lets it go, so that what is under way comes to its end; and no
-/// one sits or submits before it is taken again. And it is known how many rows there were before the last layer was run:
-/// the rows behind them tell whose outcomes come when that layer is settled.
+/// one sits or submits before it is taken again. And it is known what had ended before the last layer was run: what ended
+/// since tells whose outcomes come when that layer is settled.
 #[derive(Drop)]
 pub(crate) struct Held<L: Ledger> {
     pub cluster: Cluster<L>,
     pub shut: bool,
     pub reserve: Vec<u8>,
-    pub rows_before: usize,
+    pub before_run: Tally,
 }
 
 /// That a cluster was found shut, and nothing under way in it. It can't be made up, since only what the lock guards gives it.
@@ -82,10 +82,20 @@ pub(crate) enum Turn {
     Quiet,
 }
 
-/// How many rows there were before the last run: so many as there are where the next turn is one.
-fn before_run(progress: Progress, rows: usize, before: usize) -> usize {
-    match progress {
-        Progress::Taken => rows,
+/// How many requests had ended: those with a row, which were executed, and those that starved.
+#[derive(Clone, Copy)]
+pub(crate) struct Tally {
+    pub rows: usize,
+    pub starved: usize,
+}
+
+/// What had ended before the last run: all that has now, where the next turn is one.
+fn tally_before(system: &System, before: Tally) -> Tally {
+    match system.progress() {
+        Progress::Taken => Tally {
+            rows: system.rows().len(),
+            starved: system.starved().len(),
+        },
         _ => before,
     }
 }
@@ -224,10 +234,8 @@ impl<L: Ledger> Held<L> {
         ensures shut { self.new.shut ≡ self.old.shut }
     {
         let step = AskStep::Turn;
-        let progress = self.cluster.system().progress();
-        let rows = self.cluster.system().rows().len();
-        self.rows_before = before_run(progress, rows, self.rows_before);
-        let settled = progress == Progress::HasRun;
+        let settled = self.cluster.system().progress() == Progress::HasRun;
+        self.before_run = tally_before(self.cluster.system(), self.before_run);
         self.cluster.lawful();
         match self.cluster.turn(pick, workers, gate) {
             Ok(true) => Ok(Turn::Made { settled }),

@@ -12,7 +12,7 @@ ghost use Rattle.shared_cluster.specs.Asks.{IsStopped};
 ghost use Rattle.shared_cluster.specs.Closings.{IsClosed, IsCloseFault, IsWritten, IsSent, HasSubmitted};
 ghost use Rattle.journal.specs.declared.trace.TheConstants.{GREATEST_STEPS};
 
-use crate::held::{AskFault, AtRest, Held, RESERVE, Turn};
+use crate::held::{AskFault, AtRest, Held, RESERVE, Tally, Turn};
 use cluster::{Answer, CloseFault, Closing, Cluster, First, Pick, SealedReply, Seat};
 use groups::ConnId;
 use journal::SendFault;
@@ -28,9 +28,6 @@ use std::sync::ledger::{Blank, Ledger};
 use std::sync::{Condvar, Mutex, Wait};
 use std::time::Clock;
 use system::System;
-
-/// The requests of a layer share no shard, of which there are no more.
-const GREATEST_LAYER: usize = 64;
 
 /// A cluster under a lock. Each accepted step is one holding of the lock.
 #[derive(Drop)]
@@ -66,7 +63,10 @@ impl<L: Ledger> Shared<L> {
                 cluster,
                 shut: false,
                 reserve,
-                rows_before: 0,
+                before_run: Tally {
+                    rows: 0,
+                    starved: 0,
+                },
             }),
             work: Condvar::new(),
             done: Waiting::new(),
@@ -296,7 +296,7 @@ impl<L: Ledger> Shared<L> {
                     return Ok(None);
                 }
                 Ok(turn) => {
-                    self.wake_settled(turn, held.cluster.system(), held.rows_before);
+                    self.wake_settled(turn, held.cluster.system(), held.before_run);
                     *may_wait = turn != Turn::Made { settled: false };
                     pause.end();
                     return Ok(None);
@@ -339,26 +339,25 @@ impl<L: Ledger> Shared<L> {
                 }
                 let _ = self.work.wait(rt, held);
             }
-            Ok(turn) => self.wake_settled(turn, held.cluster.system(), held.rows_before),
+            Ok(turn) => self.wake_settled(turn, held.cluster.system(), held.before_run),
             Err(fault) => return Err(fault),
         }
         pause.end();
         Ok(None)
     }
 
-    /// Wakes the seats that wait for outcomes which this turn brought, of a layer before whose run there were so many rows.
-    /// Who starved in it is among the last that starved.
-    fn wake_settled(&self, turn: Turn, system: &System, rows: usize) {
+    /// Wakes the seats that wait for outcomes which this turn brought, of a layer before whose run so many had ended.
+    fn wake_settled(&self, turn: Turn, system: &System, before: Tally) {
         if turn != (Turn::Made { settled: true }) || self.done.is_empty() {
             return;
         }
         let all = system.rows();
-        for place in rows..all.len() {
+        for place in before.rows..all.len() {
             if let Some(row) = all.row(place) {
                 self.done.wake(row.id().conn);
             }
         }
-        for id in system.starved().iter().rev().take(GREATEST_LAYER) {
+        for id in system.starved().iter().skip(before.starved) {
             self.done.wake(id.conn);
         }
     }
