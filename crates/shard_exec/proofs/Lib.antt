@@ -2,3 +2,4 @@ pub mod TakingOut
 pub mod TakenLayer
 pub mod LayerLaws
 pub mod Dealt
+pub mod InPlace

@@ -16,7 +16,7 @@ use Rattle.groups.specs.declared.request.RequestId.{RequestId}
 use Rattle.shard_exec.specs.declared.done.Ended.{Ended}
 use Rattle.shard_workers.specs.declared.work.Work.{Work}
 use Rattle.shard_workers.specs.declared.work.Ran.{Ran}
-use Rattle.shard_workers.specs.Runs.{outcome}
+use Rattle.shard_workers.specs.Runs.{outcome, MapRan}
 
 abbrev pub commands_of : List Job → List Command
 commands_of jobs = map (λ j. j.command) jobs
@@ -56,6 +56,14 @@ pub record IsDone (table : Layout) (old : List Map) (skip : List RequestId) (lay
   pub starved : AllZip (MayStarve old skip) layer done
 
 -- ---- on the way
+
+-- The request was run on a map, or it starved and the map is as it was, and this is told of it. One that was to be
+-- skipped starved; another one only where its command, on what the map had, takes memory or answers text.
+pub record HasEnded (skip : List RequestId) (j : Job) (before : Map) (e : Ended) (after : Map) : Type 0 where
+  pub told : IsOf j e
+  pub ran : MapRan j.command before (outcome e.reply) after
+  pub skipped : is_named skip j.id ≡ true → outcome e.reply ≡ None
+  pub starved : is_named skip j.id ≡ false → outcome e.reply ≡ None → AnswerTakesMemory j.command before
 
 -- the groups of the request are shards of the row
 abbrev pub IsInside : ℕ → Job → Type 0

@@ -10,6 +10,10 @@ use Rattle.shard_exec.specs.declared.layer_room.LayerRoom.{LayerRoom}
 abbrev pub FitsGroups : Job → Vec (ℕ × Map) → Type 0
 FitsGroups job span = (span.items ≡ []) × (length job.groups ≤ vec_capacity span)
 
+-- the same, for a request that isn't run over the shard of one group where that stands
+abbrev pub FitsAlone : Job → Vec (ℕ × Map) → Type 0
+FitsAlone job span = (length job.groups ≡ 1 → ⊥) → FitsGroups job span
+
 pub record FitsLayer (jobs : List Job) (room : LayerRoom) : Type 0 where
   pub spans : AllZip FitsGroups jobs room.spans.items
   pub no_works : room.works.items ≡ []

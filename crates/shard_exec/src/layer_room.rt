@@ -2,7 +2,7 @@
 
 ghost use Rattle.std.specs.Prelude.{IfOk};
 ghost use Rattle.std.specs.List.{AllZip};
-ghost use Rattle.shard_exec.specs.Rooms.{FitsGroups, FitsLayer};
+ghost use Rattle.shard_exec.specs.Rooms.{FitsAlone, FitsGroups, FitsLayer};
 
 use crate::Ended;
 use groups::GroupId;
@@ -36,6 +36,18 @@ impl LayerRoom {
             done,
         })
     }
+}
+
+/// Room for the shards of a request that is alone in its layer; none is taken for one of one group, which is run where
+/// its shard stands.
+pub fn reserve_alone(alloc: Global, job: &Job) -> Result<Vec<(GroupId, Shard)>, AllocError>
+    ensures { IfOk result (FitsAlone job.now) }
+{
+    let groups = job.groups.len();
+    if groups == 1 {
+        return Ok(Vec::new(alloc));
+    }
+    Vec::with_capacity(alloc, groups)
 }
 
 /// Room for the shards of each request.

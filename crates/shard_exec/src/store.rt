@@ -14,7 +14,7 @@ ghost use Rattle.shard_exec.specs.StoreStates.{IsStore};
 ghost use Rattle.shard_exec.specs.Stores.{empty_store, HasRunLayer, HasFailed, IsNotAdmitted};
 
 use crate::dealt_room::DealtRoom;
-use crate::layer_room::LayerRoom;
+use crate::layer_room::{LayerRoom, reserve_alone};
 use crate::layer_run::{run_alone, run_layer_over};
 use crate::{Ended, ExecFault};
 use dumps::Dump;
@@ -186,8 +186,7 @@ impl Store {
         ensures back { IfErr result (λ back. back ≡ layer) }
         ensures unchanged { OnErr result (self.new ≡ self.old) }
     {
-        let groups = layer.jobs()[0].groups.len();
-        let Ok(span) = Vec::with_capacity(alloc, groups) else {
+        let Ok(span) = reserve_alone(alloc, &layer.jobs()[0]) else {
             return Err(layer);
         };
         let Ok(mut done) = Vec::with_capacity(alloc, 1) else {

@@ -75,7 +75,7 @@ pub fn take_work(
 }
 
 /// Whether the request is one of these.
-fn is_named(skip: &[RequestId], id: &RequestId) -> bool
+pub fn is_named(skip: &[RequestId], id: &RequestId) -> bool
     ensures { result ≡ is_named skip.now id.now }
 {
     skip.iter().any(|named| *id == *named)

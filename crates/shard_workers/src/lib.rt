@@ -7,11 +7,13 @@
 mod child;
 mod gate;
 mod part;
+mod task;
 mod work;
 mod workers;
 
 pub use child::{Child, RunOfPart};
 pub use gate::{Gate, Open};
 pub use part::Part;
+pub use task::{Task, TaskRan};
 pub use work::{Ran, Work};
 pub use workers::{InTurn, Refused, Room, Workers, run_in_turn};

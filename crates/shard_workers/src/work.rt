@@ -1,18 +1,12 @@
 //! One request, with the shards of its groups moved out of the store.
 
-ghost use Rattle.std.specs.Prelude.{◌≡◌, All, IsTrue, OnErr};
-ghost use Rattle.command_bodies.specs.Answer.{reply_of, AnswerTakesMemory};
-ghost use Rattle.command_bodies.specs.Command.{effect_of};
-ghost use Rattle.command_cases.specs.Case.{Does};
+ghost use Rattle.std.specs.Prelude.{◌≡◌, All, IsTrue};
 ghost use Rattle.command_table.specs.Command.{keys_of};
 ghost use Rattle.shard_maps.specs.Joined.{union};
-ghost use Rattle.shard_workers.specs.Runs.{IsReady, HasRun};
+ghost use Rattle.shard_workers.specs.Runs.{IsReady, HasRun, HasRunOn};
 ghost use Rattle.shards.specs.Spans.{IsSpan, lies_on};
 
-use crate::Gate;
-use command_bodies::answer;
-use command_cases::Starved;
-use command_table::Command;
+use crate::{Gate, Task, TaskRan};
 use groups::{GroupId, RequestId, Stamp};
 use layer_planner::Job;
 use placement::Table;
@@ -53,49 +47,43 @@ impl Work {
             skipped,
             shards,
         } = self;
-        let Job {
+        let task = Task {
+            place,
+            job,
+            skipped,
+        };
+        let (ran, shards) = run_over::<Brand>(alloc, *table, shards, task, gate);
+        let TaskRan {
+            place,
             id,
             stamp,
-            groups: _,
-            command,
-        } = job;
-        if skipped {
-            return Ran {
-                place,
-                id,
-                stamp,
-                reply: None,
-                shards,
-            };
-        }
-        gate.enter(id);
-        let (outcome, shards) = run_over::<Brand>(alloc, *table, shards, command);
-        gate.leave(id);
+            reply,
+        } = ran;
         Ran {
             place,
             id,
             stamp,
-            reply: outcome.ok(),
+            reply,
             shards,
         }
     }
 }
 
-/// Runs a command over these shards as one keyspace.
+/// Runs a request over these shards as one keyspace.
 fn run_over<F: SpanFrame>(
     alloc: Global,
     table: Table,
     shards: Vec<(GroupId, Shard)>,
-    command: Command,
-) -> (Result<Answered, Starved>, Vec<(GroupId, Shard)>)
+    task: Task,
+    gate: &(dyn Gate + Sync),
+) -> (TaskRan, Vec<(GroupId, Shard)>)
     requires table { table ≡ F.layout }
     requires shards { IsSpan F.layout F.groups shards.items }
-    requires keys { All (λ key. IsTrue (lies_on F.layout F.groups key)) (keys_of command) }
+    requires keys { All (λ key. IsTrue (lies_on F.layout F.groups key)) (keys_of task.job.command) }
     ensures shards { IsSpan F.layout F.groups result.1.items }
-    ensures done { Does (effect_of command) (union shards.items) (union result.1.items) (reply_of result.0) }
-    ensures starves { OnErr result.0 (AnswerTakesMemory command (union shards.items)) }
+    ensures ran { HasRunOn task (union shards.items) result.0 (union result.1.items) }
 {
     let mut span: Span<F> = Span::new(table, shards);
-    let outcome = answer(alloc, &mut span, command);
-    (outcome, span.into_shards())
+    let ran = task.run(alloc, &mut span, gate);
+    (ran, span.into_shards())
 }

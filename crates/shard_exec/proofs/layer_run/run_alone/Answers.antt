@@ -59,3 +59,14 @@ returns-clause-own g c =
     (alone_done c.args.table.now c.args.row.now.items c.args.skip.now c.args.job c.take_work-work.result c.run-ran.result
     c.put_ran.new.row.items c.requires.is_table c.requires.shards c.requires.own c.requires.groups c.take_work-work.ensures.work
     c.run-ran.ensures row).own
+
+-- ---- in place
+
+pub run_in_place-requires-clause-row : goal.run_in_place-requires-clause-row
+run_in_place-requires-clause-row g c = ?
+
+pub run_in_place-requires-clause-lasts : goal.run_in_place-requires-clause-lasts
+run_in_place-requires-clause-lasts g c = ?
+
+pub returns-in-Some-clause-done : goal.returns-in-Some-clause-done
+returns-in-Some-clause-done g c = ?
