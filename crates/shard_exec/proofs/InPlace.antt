@@ -23,15 +23,17 @@ use Rattle.shard_workers.specs.Runs.{outcome, MapRan}
 use Rattle.shard_exec.specs.Layers.{IsDone, HasEnded}
 use Rattle.shard_exec.specs.declared.done.Ended.{Ended}
 
+-- the shard of the group is in the row
+pub inside : (table : Layout) (maps : List Map) (j : Job) (g : ℕ) → length maps ≡ table.shards → j.groups ≡ groups_of table j.command
+    → j.groups ≡ g ∷ [] → g < length maps
+inside table maps j g long groups lone = subst (λ n. g < n) (sym long)
+    (groups_of-below table j.command g (ap (λ gs. has gs g) (sym groups ∙ lone) ∙ or_left _ _ (eq-eqb g g refl)))
+
 module _ (table : Layout) (maps : List Map) (skip : List RequestId) (j : Job) (e : Ended) (g : ℕ) (after : Map) (is_table : IsTable table)
     (long : length maps ≡ table.shards) (own : HasOwnKeys table maps) (groups : j.groups ≡ groups_of table j.command)
     (lone : j.groups ≡ g ∷ []) (ended : HasEnded skip j (map_of_shard maps g) e after) where
   its : groups_of table j.command ≡ g ∷ []
   its = sym groups ∙ lone
-
-  pub inside : g < length maps
-  inside = subst (λ n. g < n) (sym long)
-      (groups_of-below table j.command g (ap (λ gs. has gs g) its ∙ or_left _ _ (eq-eqb g g refl)))
 
   between : RanBetween table maps (slice_set maps g after) j.command (outcome e.reply)
   between =

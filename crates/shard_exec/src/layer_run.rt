@@ -117,21 +117,30 @@ fn run_in_place(
     ensures row { row.new.items ≡ slice_set row.old.items group (map_of_shard row.new.items group) }
     ensures lasts { lasts.new.items ≡ slice_set lasts.old.items group (Some job.stamp) }
 {
-    let index = usize::from(group.number());
-    lasts[index] = Some(Stamp { ..job.stamp });
     let skipped = is_named(skip, &job.id);
     let task = Task {
         place: 0,
         job,
         skipped,
     };
+    let shard = &mut row[usize::from(group.number())];
+    let ran = task.run(alloc, shard, gate);
     let TaskRan {
         place: _,
         id,
         stamp,
         reply,
-    } = task.run(alloc, &mut row[index], gate);
+    } = ran;
+    raise_one(lasts, group, &stamp);
     Ended { id, stamp, reply }
+}
+
+/// Makes the stamp the last one of this shard.
+fn raise_one(lasts: &mut Vec<Option<Stamp>>, group: GroupId, stamp: &Stamp)
+    requires { group < length lasts.old.items }
+    ensures { lasts.new.items ≡ slice_set lasts.old.items group (Some stamp.now) }
+{
+    lasts[usize::from(group.number())] = Some(Stamp { ..*stamp });
 }
 
 /// The group of a set that has one only.

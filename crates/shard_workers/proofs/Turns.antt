@@ -23,7 +23,6 @@ use Rattle.shard_maps.proofs.Runs.{SpanRan-answered, SpanRan-starved}
 use Rattle.shard_maps.proofs.Spans.{same_elsewhere}
 use Rattle.shard_maps.specs.Joined.{HasKeysOf, Span, numbers, union, SpanHasOwnKeys, SpanRan}
 use Rattle.shard_workers.specs.Runs.{outcome, MapRan}
-use Rattle.values.specs.declared.Value.{Value}
 
 -- what a body did is told by its reply
 pub map_ran : {E : Type 0} (command : Command) (before after : Map) (r : Result Answered E)
@@ -47,7 +46,7 @@ span_ran table command before after up kept own own' (Some reply) ran = SpanRan-
 -- the union of one map is that map
 pub union-one : (g : ℕ) (m : Map) → union ((g, m) ∷ []) ≡ m
 union-one g m = same (union ((g, m) ∷ [])) m (λ q.
-    get-joined-cons m [] q ∙ ap (option_or (get m q)) (get-empty {X = Value} (slice_cmp nat_cmp) q) ∙ or_none (get m q))
+    get-joined-cons m [] q ∙ ap (option_or (get m q)) (get-empty (slice_cmp nat_cmp) q) ∙ or_none (get m q))
 
 module _ (table : Layout) (command : Command) (g : ℕ) (before : Map) (is_table : IsTable table) (lone : groups_of table command ≡ g ∷ [])
     (own : HasKeysOf table g before) where
@@ -70,7 +69,7 @@ module _ (table : Layout) (command : Command) (g : ℕ) (before : Map) (is_table
   -- a command of one group leaves only keys of that group on its shard
   pub own_after : (outcome : Option Content) (after : Map) → MapRan command before outcome after → HasKeysOf table g after
   own_after None after ran = subst (HasKeysOf table g) (sym ran) own
-  own_after (Some reply) after ran q some = elim (has (groups_of table command) (shard_of table q))
+  own_after (Some reply) after ran = λ q some. elim (has (groups_of table command) (shard_of table q))
       as (λ b. has (groups_of table command) (shard_of table q) ≡ b → shard_of table q ≡ g) [
         | true ↦ λ is. here q is
         | false ↦ λ away. own q (subst IsSome (ap (λ r. get r.0 q) ran

@@ -1,10 +1,12 @@
-use Rattle.std.proofs.Common.{◌≡◌, [], ◌∷◌, length, sym, ap, ◌∙◌, subst}
+use Rattle.std.proofs.Common.{◌≡◌, ◌<◌, [], ◌∷◌, length, sym, ap, ◌∙◌, subst}
 use Rattle.std.specs.FinMap.{empty}
 use Rattle.shard_maps.proofs.Rows.{length-emptied}
 use Rattle.shard_maps.specs.Rows.{put_span}
 use Rattle.shard_exec.specs.declared.done.Ended.{Ended}
 use Rattle.shard_exec.specs.Layers.{IsDone}
 use Rattle.shard_exec.proofs.LayerLaws.{all_inside, all_ready, raised_same, all_below, alone_taken, alone_ran, alone_done}
+use Rattle.shard_exec.proofs.InPlace.{inside, done_in_place}
+use Rattle.shard_maps.specs.Joined.{map_of_shard}
 use Rattle.shard_exec.proofs.layer_run.run_alone.Goals as goal
 
 pub take_work-work-requires-clause-inside : goal.take_work-work-requires-clause-inside
@@ -63,10 +65,21 @@ returns-clause-own g c =
 -- ---- in place
 
 pub run_in_place-requires-clause-row : goal.run_in_place-requires-clause-row
-run_in_place-requires-clause-row g c = ?
+run_in_place-requires-clause-row g c =
+    inside c.args.table.now c.args.row.now.items c.args.job c.in-Some.group c.requires.shards c.requires.groups c.in-Some.ensures
 
 pub run_in_place-requires-clause-lasts : goal.run_in_place-requires-clause-lasts
-run_in_place-requires-clause-lasts g c = ?
+run_in_place-requires-clause-lasts g c = subst (λ n. c.in-Some.group < n) (c.requires.shards ∙ sym c.requires.lasts)
+    (inside c.args.table.now c.args.row.now.items c.args.job c.in-Some.group c.requires.shards c.requires.groups c.in-Some.ensures)
 
 pub returns-in-Some-clause-done : goal.returns-in-Some-clause-done
-returns-in-Some-clause-done g c = ?
+returns-in-Some-clause-done g c =
+    done_in_place c.args.table.now c.args.row.now.items c.args.skip.now c.args.job c.run_in_place.result c.in-Some.group
+    (map_of_shard c.run_in_place.new.row.items c.in-Some.group) c.requires.is_table c.requires.shards c.requires.own c.requires.groups
+    c.in-Some.ensures c.run_in_place.ensures.ran c.run_in_place.new.row.items c.run_in_place.ensures.row
+
+pub returns-in-Some-clause-own : goal.returns-in-Some-clause-own
+returns-in-Some-clause-own g c =
+    (done_in_place c.args.table.now c.args.row.now.items c.args.skip.now c.args.job c.run_in_place.result c.in-Some.group
+    (map_of_shard c.run_in_place.new.row.items c.in-Some.group) c.requires.is_table c.requires.shards c.requires.own c.requires.groups
+    c.in-Some.ensures c.run_in_place.ensures.ran c.run_in_place.new.row.items c.run_in_place.ensures.row).own
