@@ -1,3 +1,4 @@
 pub mod Layers
+pub mod Units
 pub mod Parts
 pub mod PartLaws
