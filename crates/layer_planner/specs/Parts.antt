@@ -1,6 +1,6 @@
 -- How the units of a layer are dealt to parts: unit i goes to part i mod the number of parts.
-use Rattle.std.specs.Prelude.{◌≡◌, ℕ, ◌<◌, ◌≤◌, ◌%◌, ◌-◌, ◌==◌, List, [], ◌∷◌, length, map, min, take, drop, slice_index_or}
-use Rattle.std.specs.List.{filter, range_with_len, concat}
+use Rattle.std.specs.Prelude.{◌≡◌, ℕ, zero, suc, ◌<◌, ◌≤◌, ◌%◌, ◌-◌, ◌==◌, List, [], ◌∷◌, length, map, min, take, drop, slice_index_or}
+use Rattle.std.specs.List.{filter, range_with_len, flat_map}
 use Rattle.layer_planner.specs.declared.job.Job.{Job}
 use Rattle.layer_planner.specs.Layers.{StandTogether}
 use Rattle.layer_planner.specs.Units.{groups_each, units, AreUnitsOf}
@@ -21,6 +21,10 @@ picked_units all numbers = map (λ i. slice_index_or all i []) numbers
 abbrev pub parts_of : ℕ → List Job → List (List (List ℕ))
 parts_of parts jobs = map (picked_units (units jobs)) (dealt parts (length (units jobs)))
 
+-- the units of all parts, one part after another
+abbrev pub units_in : List (List (List ℕ)) → List (List ℕ)
+units_in parts = flat_map (λ units. units) parts
+
 -- as many parts as workers, or units where these are fewer
 abbrev pub planned : ℕ → List Job → List (List (List ℕ))
 planned workers jobs = parts_of (min workers (length (units jobs))) jobs
@@ -37,6 +41,11 @@ abbrev pub AreEnds : ℕ → List ℕ → ℕ → Type 0
 AreEnds start [] all = start ≡ all
 AreEnds start (end ∷ ends) all = (start ≤ end) × AreEnds end ends all
 
+-- where the piece of this number begins
+abbrev pub start_of : List ℕ → ℕ → ℕ
+start_of ends zero = 0
+start_of ends (suc n) = slice_index_or ends n 0
+
 -- ---- laws
 
 -- `units` gives the units of a layer, in whatever parts they are
@@ -45,4 +54,4 @@ UnitsAreUnits = (jobs : List Job) → StandTogether jobs → AreUnitsOf (groups_
 
 abbrev pub PartsAreUnits : Type 0
 PartsAreUnits =
-    (parts : ℕ) (jobs : List Job) → 0 < parts → StandTogether jobs → AreUnitsOf (groups_each jobs) (concat (parts_of parts jobs))
+    (parts : ℕ) (jobs : List Job) → 0 < parts → StandTogether jobs → AreUnitsOf (groups_each jobs) (units_in (parts_of parts jobs))

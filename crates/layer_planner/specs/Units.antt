@@ -1,8 +1,8 @@
 -- The units of a layer, each a list of places: the jobs that address one group alone are the unit of that group, and each
 -- other job is a unit by itself.
-use Rattle.std.specs.Prelude.{◌≡◌, ℕ, ◌<◌, ◌==◌, ◌||◌, Bool, true, false, cond, nat_lt, List, [], ◌∷◌, length, map, not, slice_index_or}
-use Rattle.std.specs.List.{filter, range_with_len, concat, count_by, list_any}
-use Rattle.groups.specs.GroupSet.{has, IsAscending}
+use Rattle.std.specs.Prelude.{◌≡◌, ℕ, zero, suc, ◌<◌, ◌==◌, ◌||◌, Bool, true, false, cond, not, nat_lt, List, [], ◌∷◌, length, map, slice_index_or}
+use Rattle.std.specs.List.{concat, count_by}
+use Rattle.groups.specs.GroupSet.{has, IsAscending, chosen}
 use Rattle.groups.specs.Order.{In}
 use Rattle.groups.specs.Stamp.{stamp_lt}
 use Rattle.groups.specs.declared.stamp.Stamp.{Stamp}
@@ -26,12 +26,16 @@ line_up groups others = false
 
 -- the place, and each one whose job addresses the same one group alone
 abbrev pub unit_at : List (List ℕ) → ℕ → List ℕ
-unit_at sets place =
-    filter (λ k. k == place || line_up (groups_at sets place) (groups_at sets k)) (range_with_len 0 (length sets))
+unit_at sets place = chosen (λ k. k == place || line_up (groups_at sets place) (groups_at sets k)) 0 (length sets)
+
+-- one of the first n jobs addresses the same one group alone
+abbrev pub has_begun : List (List ℕ) → List ℕ → ℕ → Bool
+has_begun sets groups zero = false
+has_begun sets groups (suc n) = line_up groups (groups_at sets n) || has_begun sets groups n
 
 -- no place of its unit is before it
 abbrev pub is_first : List (List ℕ) → ℕ → Bool
-is_first sets place = not (list_any (λ k. line_up (groups_at sets place) (groups_at sets k)) (range_with_len 0 place))
+is_first sets place = not (has_begun sets (groups_at sets place) place)
 
 -- a place put in front of the first one whose job has a later stamp
 abbrev pub put_by_stamp : List Job → ℕ → List ℕ → List ℕ
@@ -45,7 +49,7 @@ by_stamps jobs sorted (i ∷ is) = by_stamps jobs (put_by_stamp jobs i sorted) i
 
 -- the first place of each unit, by the stamps
 abbrev pub firsts : List Job → List ℕ
-firsts jobs = by_stamps jobs [] (filter (is_first (groups_each jobs)) (range_with_len 0 (length jobs)))
+firsts jobs = by_stamps jobs [] (chosen (is_first (groups_each jobs)) 0 (length jobs))
 
 -- the units, in the order of their first stamps
 abbrev pub units : List Job → List (List ℕ)

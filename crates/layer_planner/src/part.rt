@@ -1,8 +1,9 @@
 //! Some units of a layer, in the order in which one worker runs them.
-ghost use Rattle.std.specs.Prelude.{◌≡◌, ◌<◌, [], length, slice_index_or};
+ghost use Rattle.std.specs.Prelude.{◌≡◌, ◌<◌, [], ◌∷◌, ◌++◌, length, slice_index_or, IfOk};
 ghost use Rattle.std.specs.List.{concat};
-ghost use Rattle.layer_planner.specs.Parts.{cut};
+ghost use Rattle.layer_planner.specs.Parts.{start_of};
 
+use std::alloc::{AllocError, Global};
 use std::marker::Model;
 
 /// Units of a layer that one worker runs in turn. A contract sees them as a list of lists of places, counted from 0.
@@ -24,6 +25,29 @@ impl Model for Part {
 }
 
 impl Part {
+    /// No unit. It takes no memory.
+    pub(super) fn empty(alloc: Global) -> Self
+        ensures { result ≡ [] }
+    {
+        Part {
+            places: Vec::new(alloc),
+            ends: Vec::new(alloc),
+        }
+    }
+
+    /// These units and one more.
+    pub(super) fn with(self, unit: &[usize]) -> Result<Self, AllocError>
+        ensures { IfOk result (λ part. part ≡ self ++ unit.now ∷ []) }
+    {
+        let Part {
+            mut places,
+            mut ends,
+        } = self;
+        places.extend_from_slice(unit)?;
+        ends.push(places.len())?;
+        Ok(Part { places, ends })
+    }
+
     /// How many units there are.
     pub fn len(&self) -> usize
         ensures { result ≡ length self.now }
@@ -36,7 +60,7 @@ impl Part {
         requires there { number < length self.now }
         ensures { result.now ≡ slice_index_or self.now number [] }
     {
-        let start = if number == 0 { 0 } else { self.ends[number - 1] };
+        let start = start_of(self.ends.as_slice(), number);
         &self.places[start..self.ends[number]]
     }
 
@@ -46,4 +70,15 @@ impl Part {
     {
         self.places.as_slice()
     }
+}
+
+/// Where the unit of this number begins.
+fn start_of(ends: &[usize], number: usize) -> usize
+    requires { number < length ends.now }
+    ensures { result ≡ start_of ends.now number }
+{
+    if number == 0 {
+        return 0;
+    }
+    ends[number - 1]
 }
