@@ -1,1 +1,4 @@
-
+pub mod Cuts
+pub mod FirstPlaces
+pub mod Gathering
+pub mod PartLaws

@@ -1,5 +1,5 @@
 //! Some units of a layer, in the order in which one worker runs them.
-ghost use Rattle.std.specs.Prelude.{◌≡◌, ◌<◌, [], ◌∷◌, ◌++◌, length, slice_index_or, IfOk};
+ghost use Rattle.std.specs.Prelude.{◌≡◌, ◌<◌, ◌≤◌, ◌-◌, [], ◌∷◌, ◌++◌, length, take, drop, slice_index_or, IfOk};
 ghost use Rattle.std.specs.List.{concat};
 ghost use Rattle.layer_planner.specs.Parts.{start_of};
 
@@ -60,8 +60,8 @@ impl Part {
         requires there { number < length self.now }
         ensures { result.now ≡ slice_index_or self.now number [] }
     {
-        let start = start_of(self.ends.as_slice(), number);
-        &self.places[start..self.ends[number]]
+        let ends = self.ends.as_slice();
+        between(self.places.as_slice(), start_of(ends, number), end_of(ends, number))
     }
 
     /// The places of all its units, one unit after another.
@@ -81,4 +81,21 @@ fn start_of(ends: &[usize], number: usize) -> usize
         return 0;
     }
     ends[number - 1]
+}
+
+/// Where it ends.
+fn end_of(ends: &[usize], number: usize) -> usize
+    requires { number < length ends.now }
+    ensures { result ≡ slice_index_or ends.now number 0 }
+{
+    ends[number]
+}
+
+/// The places from one up to another.
+fn between(places: &[usize], start: usize, end: usize) -> &[usize]
+    requires start { start ≤ end }
+    requires end { end ≤ length places.now }
+    ensures { result.now ≡ take (end - start) (drop start places.now) }
+{
+    &places[start..end]
 }

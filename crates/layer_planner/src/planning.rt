@@ -1,11 +1,12 @@
 //! How a layer is divided: into its units, and these among the workers.
-ghost use Rattle.std.specs.Prelude.{◌≡◌, ◌<◌, ◌≤◌, ◌++◌, length, IfOk, IsOk};
+ghost use Rattle.std.specs.Prelude.{◌≡◌, ℕ, ◌<◌, ◌≤◌, ◌++◌, length, map, IfOk, IsOk};
 ghost use Rattle.std.specs.Int.NonZero.{non_zero_usize_get};
+ghost use Rattle.groups.specs.Order.{In};
 ghost use Rattle.layer_planner.specs.Parts.{planned, picked_units, part, UnitsAreUnits, PartsAreUnits};
 ghost use Rattle.layer_planner.specs.Units.{units, unit_at, groups_each, line_up};
 
 use super::alone::alone;
-use super::firsts::first_places;
+use super::firsts::{first_places, groups_at};
 use super::job::Job;
 use super::layer::Layer;
 use super::part::Part;
@@ -19,11 +20,22 @@ pub fn units(alloc: Global, layer: &Layer) -> Result<Part, AllocError>
     ensures units { IfOk result (λ part. part ≡ units layer.now) }
     ensures succeeds { length layer.now ≡ 0 → IsOk result }
 {
+    if layer.is_empty() {
+        return Ok(Part::empty(alloc));
+    }
     let jobs = layer.jobs();
     let firsts = first_places(alloc, jobs)?;
+    units_from(alloc, jobs, firsts.as_slice())
+}
+
+/// The units that begin at these places.
+fn units_from(alloc: Global, jobs: &[Job], firsts: &[usize]) -> Result<Part, AllocError>
+    requires { (k : ℕ) → In k firsts.now → k < length jobs.now }
+    ensures { IfOk result (λ part. part ≡ map (unit_at (groups_each jobs.now)) firsts.now) }
+{
     let mut places = Vec::with_capacity(alloc, jobs.len())?;
     let mut ends = Vec::with_capacity(alloc, firsts.len())?;
-    for first in &firsts {
+    for first in firsts {
         push_unit(jobs, *first, &mut places)?;
         ends.push(places.len())?;
     }
@@ -35,9 +47,9 @@ fn push_unit(jobs: &[Job], first: usize, places: &mut Vec<usize>) -> Result<(), 
     requires { first < length jobs.now }
     ensures { IfOk result (λ _. places.new.items ≡ places.old.items ++ unit_at (groups_each jobs.now) first) }
 {
-    let groups = jobs[first].groups;
+    let groups = groups_at(jobs, first);
     for place in 0..jobs.len() {
-        if place == first || line_up(groups, jobs[place].groups) {
+        if place == first || line_up(groups, groups_at(jobs, place)) {
             places.push(place)?;
         }
     }
@@ -57,6 +69,9 @@ pub fn plan(alloc: Global, layer: &Layer, workers: NonZeroUsize) -> Result<Vec<P
     ensures dealt { IfOk result (λ parts. parts.items ≡ planned (non_zero_usize_get workers) layer.now) }
     ensures succeeds { length layer.now ≡ 0 → IsOk result }
 {
+    if layer.is_empty() {
+        return Ok(Vec::new(alloc));
+    }
     let units = units(alloc, layer)?;
     let count = workers.get().min(units.len());
     let mut parts = Vec::with_capacity(alloc, count)?;

@@ -1,5 +1,5 @@
 //! Whether jobs may stand in one layer.
-ghost use Rattle.std.specs.Prelude.{◌≡◌, ℕ, ◌||◌, true, [], ◌∷◌, IsTrue, ◌↔◌, MatchOption, Some, slice_set};
+ghost use Rattle.std.specs.Prelude.{◌≡◌, ℕ, ◌||◌, true, List, [], ◌∷◌, IsTrue, ◌↔◌, MatchOption, Some, slice_set};
 ghost use Rattle.groups.specs.GroupSet.{has};
 ghost use Rattle.groups.specs.Stamp.{stamp_lt};
 ghost use Rattle.groups.specs.declared.stamp.Stamp.{Stamp};
@@ -25,10 +25,7 @@ pub fn stand_together(jobs: &[Job]) -> bool
     if jobs.len() <= 1 {
         return true;
     }
-    let mut seen = Seen {
-        shared: Groups::empty(),
-        lasts: [None; 64],
-    };
+    let mut seen = Seen::nothing();
     for job in jobs {
         if !seen.join(job) {
             return false;
@@ -38,6 +35,16 @@ pub fn stand_together(jobs: &[Job]) -> bool
 }
 
 impl Seen {
+    /// No job is seen.
+    fn nothing() -> Self
+        ensures { (groups : List ℕ) (stamp : Stamp) → MayJoin result groups stamp }
+    {
+        Seen {
+            shared: Groups::empty(),
+            lasts: [None; 64],
+        }
+    }
+
     /// Whether the job may join those that were seen; if so, it does.
     fn join(&mut self, job: &Job) -> bool
         ensures may { IsTrue result ↔ MayJoin self.old job.now.groups job.now.stamp }
