@@ -1,9 +1,9 @@
 -- The first places of units, found one after another and put in order of their stamps.
 use Rattle.std.proofs.Common.{◌≡◌, ℕ, zero, suc, ◌+◌, ◌-◌, ◌<◌, ◌≤◌, ◌==◌, ◌||◌, ◌⊎◌, Bool, true, false, not, cond, List, [], ◌∷◌, ◌++◌, map, length}
-use Rattle.std.proofs.Common.{take, drop, slice_index_or, refl, sym, ap, ◌∙◌, subst, arith, inl, inr}
+use Rattle.std.proofs.Common.{take, drop, slice_index_or, refl, sym, ap, ◌∙◌, subst, arith, inl, inr, ne_eqb}
 use Rattle.std.specs.List.{insert}
 use Rattle.std.proofs.lemmas.Bool.{cases_Bool, both_ways}
-use Rattle.std.proofs.lemmas.List.{append-nil}
+use Rattle.std.proofs.lemmas.List.{append-nil, append_assoc, length-map}
 use Rattle.groups.proofs.Lists.{In-get}
 use Rattle.groups.proofs.Stamps.{le_trans, lt_asym}
 use Rattle.groups.specs.GroupSet.{has, chosen}
@@ -12,7 +12,8 @@ use Rattle.groups.specs.Stamp.{stamp_lt}
 use Rattle.groups.specs.declared.stamp.Stamp.{Stamp}
 use Rattle.layer_planner.specs.declared.job.Job.{Job}
 use Rattle.layer_planner.specs.Firsts.{IsRising, HaveBegun, is_begun}
-use Rattle.layer_planner.specs.Units.{groups_each, groups_at, stamp_at, line_up, has_begun, is_first, put_by_stamp, by_stamps, firsts}
+use Rattle.layer_planner.specs.Units.{groups_each, groups_at, stamp_at, line_up, has_begun, is_first, is_in_unit, unit_at, put_by_stamp, by_stamps}
+use Rattle.layer_planner.specs.Units.{firsts, units}
 
 -- ---- what is chosen of one number more
 
@@ -59,15 +60,21 @@ pub rising_put : (jobs : List Job) (i : ℕ) (ks : List ℕ) → IsRising jobs k
 rising_put jobs i [] up = ((λ m h. absurd h), tt)
 rising_put jobs i (k ∷ ks) up = elim (stamp_lt (stamp_at jobs i) (stamp_at jobs k))
     as (λ b. stamp_lt (stamp_at jobs i) (stamp_at jobs k) ≡ b → IsRising jobs (cond b (i ∷ k ∷ ks) (k ∷ put_by_stamp jobs i ks))) [
-      | true ↦ λ e. ((λ m. elim [
+      | true ↦ λ e. (
+        (λ m. elim [
           | inl same ↦ subst (λ n. stamp_lt (stamp_at jobs n) (stamp_at jobs i) ≡ false) (sym same) (lt_asym (stamp_at jobs i) (stamp_at jobs k) e)
           | inr later ↦ le_trans (stamp_at jobs i) (stamp_at jobs k) (stamp_at jobs m)
               (lt_asym (stamp_at jobs i) (stamp_at jobs k) e) (up.0 m later)
-        ]), up)
-      | false ↦ λ e. ((λ m h. elim (In-put jobs i m ks h) [
+        ]),
+        up,
+      )
+      | false ↦ λ e. (
+        (λ m h. elim (In-put jobs i m ks h) [
           | inl same ↦ subst (λ n. stamp_lt (stamp_at jobs n) (stamp_at jobs k) ≡ false) (sym same) e
           | inr later ↦ up.0 m later
-        ]), rising_put jobs i ks up.1)
+        ]),
+        rising_put jobs i ks up.1,
+      )
     ] refl
 
 -- the place behind all that are not later, and in front of those that are
@@ -159,3 +166,63 @@ no_firsts jobs begun none = record {
   rising = tt;
   inside = λ k there. absurd there;
 }
+
+-- ---- the places of one unit
+
+pub record AreOfUnit (jobs : List Job) (first n : ℕ) (before found : List ℕ) : Type 0 where
+  pub is : found ≡ before ++ chosen (is_in_unit (groups_each jobs) first) 0 n
+
+pub no_places : (jobs : List Job) (first : ℕ) (before : List ℕ) → AreOfUnit jobs first 0 before before
+unfolding chosen
+no_places jobs first before = record { is = sym (append-nil before) }
+
+pub place_in : (jobs : List Job) (first n : ℕ) (before found found' : List ℕ) → AreOfUnit jobs first n before found
+    → is_in_unit (groups_each jobs) first n ≡ true → found' ≡ found ++ n ∷ [] → AreOfUnit jobs first (n + 1) before found'
+place_in jobs first n before found found' so_far there more = record {
+  is = more ∙ ap (λ l. l ++ n ∷ []) so_far.is ∙ append_assoc before (chosen (is_in_unit (groups_each jobs) first) 0 n) (n ∷ [])
+      ∙ ap (λ l. before ++ l) (sym (chosen_yes (is_in_unit (groups_each jobs) first) n (n + 1) refl there));
+}
+
+pub place_out : (jobs : List Job) (first n : ℕ) (before found : List ℕ) → AreOfUnit jobs first n before found
+    → is_in_unit (groups_each jobs) first n ≡ false → AreOfUnit jobs first (n + 1) before found
+place_out jobs first n before found so_far away = record {
+  is = so_far.is ∙ ap (λ l. before ++ l) (sym (chosen_no (is_in_unit (groups_each jobs) first) n (n + 1) refl away));
+}
+
+pub all_places : (jobs : List Job) (first : ℕ) (before found : List ℕ) → AreOfUnit jobs first (length jobs) before found
+    → found ≡ before ++ unit_at (groups_each jobs) first
+all_places jobs first before found so_far = so_far.is
+    ∙ ap (λ n. before ++ chosen (is_in_unit (groups_each jobs) first) 0 n) (sym (length-map jobs (λ (j : Job). j.groups)))
+
+-- ---- which places they are
+
+by_stamps-In : (jobs : List Job) (sorted is : List ℕ) (k : ℕ) → In k (by_stamps jobs sorted is) → In k sorted ⊎ In k is
+by_stamps-In jobs sorted [] k h = inl h
+by_stamps-In jobs sorted (i ∷ is) k h = elim (by_stamps-In jobs (put_by_stamp jobs i sorted) is k h) [
+  | inl there ↦ elim (In-put jobs i k sorted there) [ inl e ↦ inr (inl e) | inr before ↦ inl before ]
+  | inr later ↦ inr (inr later)
+]
+
+pub In-chosen : (test : ℕ → Bool) (a n k : ℕ) → In k (chosen test a n) → k < a + n
+unfolding chosen
+In-chosen test a zero k h = absurd h
+In-chosen test a (suc n) k h = elim (test a) as (λ b. In k (cond b (a ∷ chosen test (suc a) n) (chosen test (suc a) n)) → k < a + suc n) [
+  | true ↦ elim [ inl e ↦ omega (arith, e) | inr later ↦ let low = In-chosen test (suc a) n k later in omega (arith, low) ]
+  | false ↦ λ later. let low = In-chosen test (suc a) n k later in omega (arith, low)
+] h
+
+pub firsts_inside : (jobs : List Job) (k : ℕ) → In k (firsts jobs) → k < length jobs
+firsts_inside jobs k h = elim (by_stamps-In jobs [] (chosen (is_first (groups_each jobs)) 0 (length jobs)) k h) [
+  | inl none ↦ absurd none
+  | inr there ↦ let low = In-chosen (is_first (groups_each jobs)) 0 (length jobs) k there in omega (arith, low)
+]
+
+-- ---- an empty layer
+
+pub no_units : units [] ≡ []
+unfolding chosen
+no_units = refl
+
+pub no_jobs : (jobs : List Job) → (length jobs == 0) ≡ true → jobs ≡ []
+no_jobs [] e = refl
+no_jobs (j ∷ js) e = absurd (both_ways _ (ne_eqb (length (j ∷ js)) 0 (λ same. omega (arith, same))) e)

@@ -56,32 +56,32 @@ pub joined_alone : (old new : Seen) (g : ℕ) (stamp : Stamp) → new.shared ≡
     → g < length old.lasts → MayJoin old (g ∷ []) stamp → HasJoined old (g ∷ []) stamp new
 joined_alone old new g stamp shared lasts low may = record {
   fewer = λ others after join. (
-        (λ h there. elim (cases_eq g h) [
-          | inl same ↦ subst (λ n. (has old.shared n ≡ false) × MayStandBehind (slice_index_or old.lasts n None) n others after) same (
-              ap (λ l. has l g) (sym shared) ∙ (join g (subst (λ n. has others n ≡ true) (sym same) there)).0,
-              behind_earlier (slice_index_or old.lasts g None) g stamp others after (may g (itself g)).1
-                  (behind others after join (subst (λ n. has others n ≡ true) (sym same) there)),
-            )
-          | inr apart ↦ (
-              ap (λ l. has l h) (sym shared) ∙ (join h there).0,
-              subst (λ o. MayStandBehind o h others after) (elsewhere h apart) (join h there).1,
-            )
-        ]),
-        (λ h here there. subst (λ n. (g ∷ [] ≡ n ∷ []) × (others ≡ n ∷ []) × (stamp_lt stamp after ≡ true)) (only g h here) (
-          let b = behind others after join (subst (λ n. has others n ≡ true) (sym (only g h here)) there) in (refl, b.0, b.1)
+    (λ h there. elim (cases_eq g h) [
+      | inl same ↦ subst (λ n. (has old.shared n ≡ false) × MayStandBehind (slice_index_or old.lasts n None) n others after) same (
+        ap (λ l. has l g) (sym shared) ∙ (join g (subst (λ n. has others n ≡ true) (sym same) there)).0,
+        behind_earlier (slice_index_or old.lasts g None) g stamp others after (may g (itself g)).1
+            (behind others after join (subst (λ n. has others n ≡ true) (sym same) there)),
+      )
+      | inr apart ↦ (
+        ap (λ l. has l h) (sym shared) ∙ (join h there).0,
+        subst (λ o. MayStandBehind o h others after) (elsewhere h apart) (join h there).1,
+      )
+    ]),
+    (λ h here there. subst (λ n. (g ∷ [] ≡ n ∷ []) × (others ≡ n ∷ []) × (stamp_lt stamp after ≡ true)) (only g h here) (
+        let b = behind others after join (subst (λ n. has others n ≡ true) (sym (only g h here)) there) in (refl, b.0, b.1)
         )),
-      );
+  );
   still = λ others after join follow h there. elim (cases_eq g h) [
     | inl same ↦ subst (λ n. (has new.shared n ≡ false) × MayStandBehind (slice_index_or new.lasts n None) n others after) same (
         let f = follow g (itself g) (subst (λ n. has others n ≡ true) (sym same) there) in (
           ap (λ l. has l g) shared ∙ (join g (subst (λ n. has others n ≡ true) (sym same) there)).0,
           subst (λ o. MayStandBehind o g others after) (sym here_now) (f.1, f.2),
         )
-      )
+        )
     | inr apart ↦ (
-        ap (λ l. has l h) shared ∙ (join h there).0,
-        subst (λ o. MayStandBehind o h others after) (sym (elsewhere h apart)) (join h there).1,
-      )
+      ap (λ l. has l h) shared ∙ (join h there).0,
+      subst (λ o. MayStandBehind o h others after) (sym (elsewhere h apart)) (join h there).1,
+    )
   ];
 }
   where
@@ -98,19 +98,19 @@ pub joined_shared : (old new : Seen) (groups : List ℕ) (stamp : Stamp) → ((g
     → ((g : ℕ) → has new.shared g ≡ (has old.shared g || has groups g)) → new.lasts ≡ old.lasts → HasJoined old groups stamp new
 joined_shared old new groups stamp several shared lasts = record {
   fewer = λ others after join. (
-        (λ h there. (
-          (or_parts (has old.shared h) (has groups h) (sym (shared h) ∙ (join h there).0)).0,
-          subst (λ l. MayStandBehind (slice_index_or l h None) h others after) lasts (join h there).1,
-        )),
-        (λ h here there. absurd (both_ways _ (or_parts (has old.shared h) (has groups h) (sym (shared h) ∙ (join h there).0)).1 here)),
-      );
+    (λ h there. (
+      (or_parts (has old.shared h) (has groups h) (sym (shared h) ∙ (join h there).0)).0,
+      subst (λ l. MayStandBehind (slice_index_or l h None) h others after) lasts (join h there).1,
+    )),
+    (λ h here there. absurd (both_ways _ (or_parts (has old.shared h) (has groups h) (sym (shared h) ∙ (join h there).0)).1 here)),
+  );
   still = λ others after join follow h there. (
-        shared h ∙ ap (λ b. b || has groups h) (join h there).0 ∙ elim (cases_Bool (has groups h)) [
-          | inl here ↦ absurd (several h (follow h here there).0)
-          | inr away ↦ away
-        ],
-        subst (λ l. MayStandBehind (slice_index_or l h None) h others after) (sym lasts) (join h there).1,
-      );
+    shared h ∙ ap (λ b. b || has groups h) (join h there).0 ∙ elim (cases_Bool (has groups h)) [
+      | inl here ↦ absurd (several h (follow h here there).0)
+      | inr away ↦ away
+    ],
+    subst (λ l. MayStandBehind (slice_index_or l h None) h others after) (sym lasts) (join h there).1,
+  );
 }
 
 -- ---- a job of several groups

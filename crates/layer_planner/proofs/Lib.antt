@@ -2,3 +2,5 @@ pub mod Cuts
 pub mod FirstPlaces
 pub mod Gathering
 pub mod PartLaws
+pub mod UnitLaws
+pub mod PartUnits

@@ -1,16 +1,16 @@
 -- The parts that numbers are dealt to, by their last number, and that each number stands in one part, once.
 use Rattle.std.proofs.Common.{◌≡◌, ℕ, zero, suc, ◌+◌, ◌-◌, ◌*◌, ◌/◌, ◌%◌, ◌<◌, ◌≤◌, ◌==◌, Bool, true, false, cond}
-use Rattle.std.proofs.Common.{List, [], ◌∷◌, ◌++◌, map}
+use Rattle.std.proofs.Common.{List, [], ◌∷◌, ◌++◌, map, length, slice_index_or}
 use Rattle.std.proofs.Common.{refl, sym, ap, ◌∙◌, subst, arith, inl, inr, ne_eqb, eq-eqb, eqb-true, lt-ltb, le-ltb, nat_lt}
 use Rattle.std.specs.List.{filter, range_with_len, concat, count_by}
 use Rattle.std.proofs.lemmas.Bool.{cases_lt}
 use Rattle.std.proofs.lemmas.Nat.{mod-mul-add, div-add-mod', mod_below}
 use Rattle.std.proofs.Math.Nat.{suc-mul}
-use Rattle.std.proofs.lemmas.List.{append-nil}
+use Rattle.std.proofs.lemmas.List.{append-nil, map-append}
 use Rattle.std.proofs.lemmas.List.Sums.{sum_by-append}
 use Rattle.std.proofs.lemmas.List.Folds.{concat-append}
 use Rattle.std.proofs.lemmas.List.FromFn.{map-range_with_len_more}
-use Rattle.layer_planner.specs.Parts.{part, dealt}
+use Rattle.layer_planner.specs.Parts.{part, dealt, picked_units}
 
 -- ---- a filtered range, by its last number
 
@@ -94,15 +94,64 @@ none_before w k (suc n) h l = part_no w n k (ne_eqb (n % w) k (λ e. let f = mod
 pub part_first : (w k : ℕ) → k < w → part w (suc k) k ≡ k ∷ []
 part_first w k h = part_yes w k k (mod_small w k h) ∙ ap (λ l. l ++ k ∷ []) (none_before w k k h (omega arith))
 
--- what makes a part, place by place
-pub ruleset next_places = (part_first, part_next, part_end, mod_next, mod_small)
+-- ---- the units of a part, one after another
+
+pub record HasDealt (units : List (List ℕ)) (parts first number : ℕ) (found : List (List ℕ)) : Type 0 where
+  pub within : number < length units
+  pub in_part : number % parts ≡ first
+  pub is : found ≡ picked_units units (part parts (suc number) first)
+
+pub dealt_first : (units : List (List ℕ)) (parts first : ℕ) (unit : List ℕ) (found : List (List ℕ)) → first < parts → parts ≤ length units
+    → unit ≡ slice_index_or units first [] → found ≡ [] ++ unit ∷ [] → HasDealt units parts first first found
+dealt_first units parts first unit found low few is_unit more = record {
+  within = omega (arith, low, few);
+  in_part = mod_small parts first low;
+  is = more ∙ ap (λ u. u ∷ []) is_unit ∙ ap (picked_units units) (sym (part_first parts first low));
+}
+
+pub dealt_next : (units : List (List ℕ)) (parts first number : ℕ) (unit : List ℕ) (found found' : List (List ℕ)) → first < parts
+    → HasDealt units parts first number found → parts < length units - number
+    → unit ≡ slice_index_or units (number + parts) [] → found' ≡ found ++ unit ∷ [] → HasDealt units parts first (number + parts) found'
+dealt_next units parts first number unit found found' low so_far there is_unit more = record {
+  within = omega (arith, there);
+  in_part = mod_next parts number (omega (arith, low)) ∙ so_far.in_part;
+  is = more ∙ ap (λ l. l ++ unit ∷ []) so_far.is
+      ∙ ap (λ u. picked_units units (part parts (suc number) first) ++ u ∷ []) is_unit
+      ∙ sym (map-append (λ i. slice_index_or units i []) (part parts (suc number) first) ((number + parts) ∷ []))
+      ∙ ap (picked_units units) (sym (part_next parts number first (omega (arith, low)) so_far.in_part));
+}
+
+pub dealt_all : (units : List (List ℕ)) (parts first number : ℕ) (found : List (List ℕ)) → HasDealt units parts first number found
+    → length units - number ≤ parts → found ≡ picked_units units (part parts (length units) first)
+dealt_all units parts first number found so_far last =
+    let within = so_far.within in
+    so_far.is ∙ ap (picked_units units) (sym (part_end parts number first (length units) so_far.in_part within (omega (arith, last, within))))
+
+-- one part more
+pub parts_more : (w m n : ℕ) → map (part w m) (range_with_len 0 (n + 1)) ≡ map (part w m) (range_with_len 0 n) ++ part w m n ∷ []
+parts_more w m n = map-range_with_len_more (part w m) 0 n n (omega arith)
+
+-- ---- all parts
+
+pub record HasPlanned (units : List (List ℕ)) (count n : ℕ) (found : List (List (List ℕ))) : Type 0 where
+  pub is : found ≡ map (picked_units units) (map (part count (length units)) (range_with_len 0 n))
+
+pub planned_more : (units : List (List ℕ)) (count n : ℕ) (one : List (List ℕ)) (found found' : List (List (List ℕ)))
+    → HasPlanned units count n found → one ≡ picked_units units (part count (length units) n) → found' ≡ found ++ one ∷ []
+    → HasPlanned units count (n + 1) found'
+planned_more units count n one found found' so_far is_one more = record {
+  is = more ∙ ap (λ l. l ++ one ∷ []) so_far.is
+      ∙ ap (λ o. map (picked_units units) (map (part count (length units)) (range_with_len 0 n)) ++ o ∷ []) is_one
+      ∙ sym (map-append (picked_units units) (map (part count (length units)) (range_with_len 0 n)) (part count (length units) n ∷ []))
+      ∙ ap (map (picked_units units)) (sym (parts_more count (length units) n));
+}
 
 -- ---- how often a place stands in the parts
 
 abbrev pub times : ℕ → List ℕ → ℕ
 times i xs = count_by (λ j. j == i) xs
 
-times-append : (i : ℕ) (xs ys : List ℕ) → times i (xs ++ ys) ≡ times i xs + times i ys
+pub times-append : (i : ℕ) (xs ys : List ℕ) → times i (xs ++ ys) ≡ times i xs + times i ys
 times-append i xs ys = sum_by-append (λ j. cond (j == i) 1 0) xs ys
 
 times-one : (i : ℕ) (xs : List ℕ) (n : ℕ) → times i (xs ++ n ∷ []) ≡ times i xs + cond (n == i) 1 0
@@ -146,10 +195,6 @@ times_own w (suc m) i h = elim (cases_lt i m) [
       ap (times i) (part_yes w m (i % w) (ap (λ n. n % w) same)) ∙ times-one i (part w m (i % w)) m
       ∙ ap (λ b. times i (part w m (i % w)) + cond b 1 0) (eq-eqb m i same) ∙ omega arith
 ]
-
--- one part more
-pub parts_more : (w m n : ℕ) → map (part w m) (range_with_len 0 (n + 1)) ≡ map (part w m) (range_with_len 0 n) ++ part w m n ∷ []
-parts_more w m n = map-range_with_len_more (part w m) 0 n n (omega arith)
 
 abbrev first_parts : ℕ → ℕ → ℕ → List ℕ
 first_parts w m n = concat (map (part w m) (range_with_len 0 n))

@@ -24,9 +24,12 @@ abbrev pub line_up : List ℕ → List ℕ → Bool
 line_up (g ∷ []) (h ∷ []) = g == h
 line_up groups others = false
 
--- the place, and each one whose job addresses the same one group alone
+-- the place itself, and each one whose job addresses the same one group alone
+abbrev pub is_in_unit : List (List ℕ) → ℕ → ℕ → Bool
+is_in_unit sets place k = k == place || line_up (groups_at sets place) (groups_at sets k)
+
 abbrev pub unit_at : List (List ℕ) → ℕ → List ℕ
-unit_at sets place = chosen (λ k. k == place || line_up (groups_at sets place) (groups_at sets k)) 0 (length sets)
+unit_at sets place = chosen (is_in_unit sets place) 0 (length sets)
 
 -- one of the first n jobs addresses the same one group alone
 abbrev pub has_begun : List (List ℕ) → List ℕ → ℕ → Bool

@@ -61,7 +61,11 @@ impl Part {
         ensures { result.now ≡ slice_index_or self.now number [] }
     {
         let ends = self.ends.as_slice();
-        between(self.places.as_slice(), start_of(ends, number), end_of(ends, number))
+        between(
+            self.places.as_slice(),
+            start_of(ends, number),
+            end_of(ends, number),
+        )
     }
 
     /// The places of all its units, one unit after another.

@@ -2,8 +2,8 @@
 ghost use Rattle.std.specs.Prelude.{◌≡◌, ℕ, ◌<◌, ◌≤◌, ◌++◌, length, map, IfOk, IsOk};
 ghost use Rattle.std.specs.Int.NonZero.{non_zero_usize_get};
 ghost use Rattle.groups.specs.Order.{In};
-ghost use Rattle.layer_planner.specs.Parts.{planned, picked_units, part, UnitsAreUnits, PartsAreUnits};
-ghost use Rattle.layer_planner.specs.Units.{units, unit_at, groups_each, line_up};
+ghost use Rattle.layer_planner.specs.Parts.{planned, picked_units, part, dealt, UnitsAreUnits, PartsAreUnits};
+ghost use Rattle.layer_planner.specs.Units.{units, unit_at, is_in_unit, groups_each, line_up};
 
 use super::alone::alone;
 use super::firsts::{first_places, groups_at};
@@ -47,13 +47,21 @@ fn push_unit(jobs: &[Job], first: usize, places: &mut Vec<usize>) -> Result<(), 
     requires { first < length jobs.now }
     ensures { IfOk result (λ _. places.new.items ≡ places.old.items ++ unit_at (groups_each jobs.now) first) }
 {
-    let groups = groups_at(jobs, first);
     for place in 0..jobs.len() {
-        if place == first || line_up(groups, groups_at(jobs, place)) {
+        if is_in_unit(jobs, first, place) {
             places.push(place)?;
         }
     }
     Ok(())
+}
+
+/// Whether it is the place `first`, or its job addresses the same one group alone.
+fn is_in_unit(jobs: &[Job], first: usize, place: usize) -> bool
+    requires first { first < length jobs.now }
+    requires place { place < length jobs.now }
+    ensures { result ≡ is_in_unit (groups_each jobs.now) first place }
+{
+    place == first || line_up(groups_at(jobs, first), groups_at(jobs, place))
 }
 
 /// Whether each is the same one group alone.
@@ -74,15 +82,23 @@ pub fn plan(alloc: Global, layer: &Layer, workers: NonZeroUsize) -> Result<Vec<P
     }
     let units = units(alloc, layer)?;
     let count = workers.get().min(units.len());
+    deal(alloc, &units, count)
+}
+
+/// The units dealt to so many parts.
+fn deal(alloc: Global, units: &Part, count: usize) -> Result<Vec<Part>, AllocError>
+    requires { count ≤ length units.now }
+    ensures { IfOk result (λ parts. parts.items ≡ map (picked_units units.now) (dealt count (length units.now))) }
+{
     let mut parts = Vec::with_capacity(alloc, count)?;
     for first in 0..count {
-        parts.push(deal(alloc, &units, first, count)?)?;
+        parts.push(deal_part(alloc, units, first, count)?)?;
     }
     Ok(parts)
 }
 
 /// The part `first` of so many parts: the units `first`, `first + parts`, and so on.
-fn deal(alloc: Global, units: &Part, first: usize, parts: usize) -> Result<Part, AllocError>
+fn deal_part(alloc: Global, units: &Part, first: usize, parts: usize) -> Result<Part, AllocError>
     requires first { first < parts }
     requires parts { parts ≤ length units.now }
     ensures { IfOk result (λ p. p ≡ picked_units units.now (part parts (length units.now) first)) }

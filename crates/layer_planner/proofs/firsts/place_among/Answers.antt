@@ -16,6 +16,6 @@ pub returns-else-is_earlier-clause-at : goal.returns-else-is_earlier-clause-at
 returns-else-is_earlier-clause-at c =
     put_is c.args.jobs.now c.args.place c.args.others.now c.loop-at.at c.requires.rising c.loop-at.invariant.within
     (λ n e. let back : c.loop-at.at - 1 ≡ n = omega (arith, e) in
-        subst (λ k. stamp_lt (stamp_at c.args.jobs.now c.args.place) (stamp_at c.args.jobs.now (slice_index_or c.args.others.now k 0)) ≡ false)
-        back (sym c.is_earlier.ensures ∙ c.if-is_earlier.false))
+    subst (λ k. stamp_lt (stamp_at c.args.jobs.now c.args.place) (stamp_at c.args.jobs.now (slice_index_or c.args.others.now k 0)) ≡ false)
+    back (sym c.is_earlier.ensures ∙ c.if-is_earlier.false))
     c.loop-at.invariant.behind

@@ -20,8 +20,7 @@ loop-job-preserved c =
     ∙ ap (λ (j : Job). j ∷ drop (suc c.loop-job.job-index) c.args.jobs.now) (sym c.job-item.is)
     ∙ ap (λ i. c.job-item.result ∷ drop i c.args.jobs.now) next in
     let more = left_more c.loop-job.seen c.join.new.self c.job-item.result (drop (c.loop-job.job-index + 1) c.args.jobs.now)
-    (c.join.ensures.may.0 c.if-not-join.false) (c.join.ensures.joined c.if-not-join.false) in
-    (
+    (c.join.ensures.may.0 c.if-not-join.false) (c.join.ensures.joined c.if-not-join.false) in (
       (λ stand. more.0 (subst (Left c.loop-job.seen) step (c.loop-job.invariant.0 stand))),
       (λ left. c.loop-job.invariant.1 (subst (Left c.loop-job.seen) (sym step) (more.1 left))),
     )
