@@ -4,6 +4,5 @@ pub mod Steps
 pub mod Unions
 pub mod Rows
 pub mod Layers
+pub mod Works
 pub mod Runs
-pub mod Parts
-pub mod PutBack

@@ -75,9 +75,9 @@ pub record Ran : Type 0 where
   pub span : Span
 
 -- the unit was run over its shards, which it got as they were, and its outcomes stand in its places of the layer's
-pub record IsRunOf (table : Layout) (old : List Map) (outcomes : List (Option Content)) (work : Work) (ran : Ran) : Type 0 where
-  pub ran : UnitRan table work.commands (span_at old work.groups) ran.outcomes ran.span
-  pub stand : StandAt outcomes work.places ran.outcomes
+pub record IsRunOf (table : Layout) (old : List Map) (outcomes : List (Option Content)) (w : Work) (r : Ran) : Type 0 where
+  pub ran : UnitRan table w.commands (span_at old w.groups) r.outcomes r.span
+  pub stand : StandAt outcomes w.places r.outcomes
 
 -- what is left of the shards when those of each unit were taken out, empty ones in their places
 abbrev pub left_of : List Map → List Work → List Map
@@ -88,12 +88,12 @@ abbrev pub with_rans : List Map → List Ran → List Map
 with_rans maps rans = put_spans maps (map (λ r. r.span) rans)
 
 -- between these two rows the unit was run in place: over the shards of its groups, the others left as they were
-pub record RanInPlace (table : Layout) (outcomes : List (Option Content)) (old : List Map) (work : Work) (new : List Map)
+pub record RanInPlace (table : Layout) (outcomes : List (Option Content)) (old : List Map) (w : Work) (new : List Map)
     : Type 0 where
   pub answered : List (Option Content)
-  pub ran : UnitRan table work.commands (span_at old work.groups) answered (span_at new work.groups)
-  pub stand : StandAt outcomes work.places answered
-  pub others : (shard : ℕ) → has work.groups shard ≡ false → map_of_shard new shard ≡ map_of_shard old shard
+  pub ran : UnitRan table w.commands (span_at old w.groups) answered (span_at new w.groups)
+  pub stand : StandAt outcomes w.places answered
+  pub others : (shard : ℕ) → has w.groups shard ≡ false → map_of_shard new shard ≡ map_of_shard old shard
 
 -- units were run in place, one after another
 abbrev pub WorksRan : Layout → List (Option Content) → List Map → List Work → List Map → Type 0
