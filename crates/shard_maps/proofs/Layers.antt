@@ -1,6 +1,6 @@
 -- A layer's commands, run in units, each unit over its own shards, are run one after another on the joined map.
-use Rattle.std.proofs.Common.{◌≡◌, ℕ, zero, suc, ◌==◌, nat_eq, List, [], ◌∷◌, map, length, Bool, true, false, cond, Option, Some, None, inl, inr, refl}
-use Rattle.std.proofs.Common.{sym, ap, ◌∙◌, subst, arith, eq-eqb, eqb-true, ne_eqb}
+use Rattle.std.proofs.Common.{◌≡◌, ℕ, zero, suc, ◌==◌, nat_eq, List, [], ◌∷◌, true, false, cond, Option, Some, None, inl, inr, refl}
+use Rattle.std.proofs.Common.{sym, ap, ◌∙◌, subst, arith, eq-eqb, eqb-true}
 use Rattle.std.proofs.lemmas.Bool.{cases_Bool, both_ways, or_parts, and_parts, and_from}
 use Rattle.std.specs.Cmp.Lexicographic.{pointwise}
 use Rattle.std.specs.FinMap.{get, empty}
@@ -67,7 +67,7 @@ span_at-with row [] up = refl
 span_at-with row (s ∷ ss) up =
     ap (λ m. (s.0, m) ∷ span_at (with_span row (s ∷ ss)) (numbers ss)) (at-set (with_span row ss) s.0 s.1)
     ∙ ap (λ (l : Span). s ∷ l) (picked-alike empty (with_span row (s ∷ ss)) (with_span row ss) (numbers ss) (λ g there.
-        at-set_other (with_span row ss) s.0 g s.1 (λ e. both_ways _ (not_again s.0 (numbers ss) up) (ap (has (numbers ss)) e ∙ there)))
+    at-set_other (with_span row ss) s.0 g s.1 (λ e. both_ways _ (not_again s.0 (numbers ss) up) (ap (has (numbers ss)) e ∙ there)))
     ∙ span_at-with row ss up.1)
 
 -- shards that are all the same are the same together
@@ -147,16 +147,16 @@ module _ (table : Layout) (old new : List Map) (c : Command) (cs : List Command)
         (same_groups gs (groups_of table d) e) behind
     | inr e ↦
         subst (λ s. UnitRan table (commands_with table (groups_of table d) cs) s (outcomes_with table (groups_of table d) cs os)
-            (span_at new (groups_of table d)))
+        (span_at new (groups_of table d)))
         (picked-alike empty old mid (groups_of table d) (λ g there. sym (mid_away g (elim (cases_Bool (has gs g)) as (λ _. has gs g ≡ false) [
           | inl here ↦ absurd (both_ways _ e (subst (λ l. pointwise nat_eq gs l ≡ true) (alike c d g (inl refl) (inr i) here there) (groups_same gs)))
           | inr none ↦ none
         ]))))
         (subst (λ b. UnitRan table
-            (cond b (c ∷ commands_with table (groups_of table d) cs) (commands_with table (groups_of table d) cs))
-            (span_at old (groups_of table d))
-            (cond b (o ∷ outcomes_with table (groups_of table d) cs os) (outcomes_with table (groups_of table d) cs os))
-            (span_at new (groups_of table d))) e (ran.each d (inr i)))
+        (cond b (c ∷ commands_with table (groups_of table d) cs) (commands_with table (groups_of table d) cs))
+        (span_at old (groups_of table d))
+        (cond b (o ∷ outcomes_with table (groups_of table d) cs os) (outcomes_with table (groups_of table d) cs os))
+        (span_at new (groups_of table d))) e (ran.each d (inr i)))
   ]
 
   others : (shard : ℕ) → ((d : Command) → In d cs → has (groups_of table d) shard ≡ false) → map_of_shard new shard ≡ map_of_shard mid shard
@@ -167,9 +167,9 @@ module _ (table : Layout) (old new : List Map) (c : Command) (cs : List Command)
         (subst (λ l. UnitRan table l (span_at mid gs) (outcomes_with table gs cs os) (span_at new gs)) (none_with table gs shard cs here away) behind))
         here
     | inr none ↦ ran.others shard (λ d. elim [
-        | inl e ↦ subst (λ (x : Command). has (groups_of table x) shard ≡ false) (sym e) none
-        | inr i ↦ away d i
-      ]) ∙ sym (mid_away shard none)
+      | inl e ↦ subst (λ (x : Command). has (groups_of table x) shard ≡ false) (sym e) none
+      | inr i ↦ away d i
+    ]) ∙ sym (mid_away shard none)
   ]
 
   rest_ran : LayerRan table mid cs os new
@@ -190,7 +190,7 @@ layer_in_turn table old new [] (o ∷ os) is_table own meet ran = let long = ran
 layer_in_turn table old new (c ∷ cs) [] is_table own meet ran = let long = ran.as_many in absurd (omega (arith, long))
 layer_in_turn table old new (c ∷ cs) (None ∷ os) is_table own meet ran =
     let rest = layer_in_turn table between new cs os is_table own' (rest_alike table old new c cs None os meet ran)
-        (rest_ran table old new c cs None os meet ran) in
+    (rest_ran table old new c cs None os meet ran) in
     (subst (λ m. AnsweredInTurn m cs os (joined new)) (joined-alike table old between own own' alike) rest.0, rest.1)
   where
     between : List Map
@@ -206,9 +206,9 @@ layer_in_turn table old new (c ∷ cs) (None ∷ os) is_table own meet ran =
     own' g = subst (HasKeysOf table g) (sym (alike g)) (own g)
 layer_in_turn table old new (c ∷ cs) (Some reply ∷ os) is_table own meet ran =
     let step = span_is_joined table old (mid table old new c cs (Some reply) os meet ran) c reply is_table own
-        (mid_ran table old new c cs (Some reply) os meet ran) (mid_away table old new c cs (Some reply) os meet ran) in
+    (mid_ran table old new c cs (Some reply) os meet ran) (mid_away table old new c cs (Some reply) os meet ran) in
     let rest = layer_in_turn table (mid table old new c cs (Some reply) os meet ran) new cs os is_table step.1
-        (rest_alike table old new c cs (Some reply) os meet ran) (rest_ran table old new c cs (Some reply) os meet ran) in
+    (rest_alike table old new c cs (Some reply) os meet ran) (rest_ran table old new c cs (Some reply) os meet ran) in
     ((ap (λ r. r.1) step.0, subst (λ m. AnsweredInTurn m cs os (joined new)) (ap (λ r. r.0) step.0) rest.0), rest.1)
 
 -- those that starved leave no trace

@@ -6,3 +6,4 @@ pub mod Rows
 pub mod Layers
 pub mod Works
 pub mod Runs
+pub mod PutBack

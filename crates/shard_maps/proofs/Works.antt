@@ -1,12 +1,11 @@
 -- The units of a layer share no group, and where each was run over its own shards, the layer was.
-use Rattle.std.proofs.Common.{◌≡◌, ℕ, zero, suc, ◌+◌, ◌<◌, ◌≤◌, ◌==◌, ◌||◌, ◌&&◌, nat_lt, nat_eq, Bool, true, false, cond, List, [], ◌∷◌, ◌++◌, map, length}
-use Rattle.std.proofs.Common.{Option, Some, None, slice_get, slice_index_or, refl, sym, ap, ◌∙◌, subst, arith, inl, inr, eqb-true, eq-eqb, ne_eqb}
-use Rattle.std.proofs.Common.{lt-ltb, ltb-true}
-use Rattle.std.proofs.lemmas.Bool.{cases_Bool, cases_eq, both_ways, and_parts, and_from, or_cases}
+use Rattle.std.proofs.Common.{◌≡◌, ℕ, zero, suc, ◌+◌, ◌<◌, ◌≤◌, ◌==◌, ◌||◌, ◌&&◌, nat_lt, nat_eq, Bool, true, false, cond, List, [], ◌∷◌, map, length}
+use Rattle.std.proofs.Common.{Option, Some, slice_get, refl, sym, ap, ◌∙◌, subst, arith, inl, inr, eqb-true, eq-eqb}
+use Rattle.std.proofs.Common.{lt-ltb}
+use Rattle.std.proofs.lemmas.Bool.{cases_Bool, both_ways, and_parts, and_from, or_cases}
 use Rattle.std.proofs.lemmas.List.{length-map}
 use Rattle.std.specs.Cmp.Lexicographic.{pointwise}
-use Rattle.std.specs.FinMap.{empty}
-use Rattle.std.specs.List.{concat, count_by}
+use Rattle.std.specs.List.{concat}
 use Rattle.command_table.specs.declared.command.Command.{Command}
 use Rattle.groups.specs.GroupSet.{has, IsAscending, chosen}
 use Rattle.groups.specs.GroupSetLaws.{has-chosen, IsAscending-chosen, same_sets}
@@ -14,12 +13,12 @@ use Rattle.groups.specs.Order.{In}
 use Rattle.keyspace.specs.Map.{Map}
 use Rattle.layer_planner.proofs.PartLaws.{times, times-append}
 use Rattle.layer_planner.proofs.UnitLaws.{in_map}
-use Rattle.layer_planner.specs.Units.{groups_at, IsUnit, AreUnitsOf}
+use Rattle.layer_planner.specs.Units.{groups_at, IsUnit}
 use Rattle.placement.specs.Groups.{groups_of}
 use Rattle.placement.specs.Layout.{Layout}
 use Rattle.resp.specs.Content.{Content}
 use Rattle.shard_maps.proofs.Layers.{same_groups, groups_same}
-use Rattle.shard_maps.proofs.Spans.{numbers-span_at, numbers-SpanRan, IsAscending-groups_of}
+use Rattle.shard_maps.proofs.Spans.{numbers-SpanRan, IsAscending-groups_of}
 use Rattle.shard_maps.specs.Joined.{map_of_shard, Span, numbers, span_at, SpanRan}
 use Rattle.shard_maps.specs.Layer.{MeetAlike, UnitRan, commands_with, outcomes_with, LayerRan, Work, StandAt, AreWorksOf}
 
@@ -270,14 +269,14 @@ module _ (table : Layout) (gs : List ℕ) where
   commands_at f test a (c ∷ cs) at tests =
       let z : a + 0 ≡ a = omega arith in
       let rest = commands_at f test (suc a) cs (λ j. let e : suc a + j ≡ a + suc j = omega arith in ap f e ∙ at (suc j))
-          (λ j d is. let e : suc a + j ≡ a + suc j = omega arith in ap test e ∙ tests (suc j) d is) in
+      (λ j d is. let e : suc a + j ≡ a + suc j = omega arith in ap test e ∙ tests (suc j) d is) in
       let first : f a ≡ Some c = ap f (sym z) ∙ at 0 in
       ap (λ b. map f (cond b (a ∷ chosen test (suc a) (length cs)) (chosen test (suc a) (length cs)))) (ap test (sym z) ∙ tests 0 c refl)
       ∙ elim (has_just c) as (λ b. map f (cond b (a ∷ chosen test (suc a) (length cs)) (chosen test (suc a) (length cs)))
-          ≡ map (λ c. Some c) (cond b (c ∷ commands_with table gs cs) (commands_with table gs cs))) [
-            | true ↦ ap (λ o. o ∷ map f (chosen test (suc a) (length cs))) first ∙ ap (λ l. Some c ∷ l) rest
-            | false ↦ rest
-          ]
+      ≡ map (λ c. Some c) (cond b (c ∷ commands_with table gs cs) (commands_with table gs cs))) [
+        | true ↦ ap (λ o. o ∷ map f (chosen test (suc a) (length cs))) first ∙ ap (λ l. Some c ∷ l) rest
+        | false ↦ rest
+      ]
 
   outcomes_at : (f : ℕ → Option (Option Content)) (test : ℕ → Bool) (a : ℕ) (cs : List Command) (os : List (Option Content))
       → length os ≡ length cs
@@ -290,15 +289,15 @@ module _ (table : Layout) (gs : List ℕ) where
   outcomes_at f test a (c ∷ cs) (o ∷ os) long at tests =
       let z : a + 0 ≡ a = omega arith in
       let rest = outcomes_at f test (suc a) cs os (omega (arith, long))
-          (λ j. let e : suc a + j ≡ a + suc j = omega arith in ap f e ∙ at (suc j))
-          (λ j d is. let e : suc a + j ≡ a + suc j = omega arith in ap test e ∙ tests (suc j) d is) in
+      (λ j. let e : suc a + j ≡ a + suc j = omega arith in ap f e ∙ at (suc j))
+      (λ j d is. let e : suc a + j ≡ a + suc j = omega arith in ap test e ∙ tests (suc j) d is) in
       let first : f a ≡ Some o = ap f (sym z) ∙ at 0 in
       ap (λ b. map f (cond b (a ∷ chosen test (suc a) (length cs)) (chosen test (suc a) (length cs)))) (ap test (sym z) ∙ tests 0 c refl)
       ∙ elim (has_just c) as (λ b. map f (cond b (a ∷ chosen test (suc a) (length cs)) (chosen test (suc a) (length cs)))
-          ≡ map (λ o. Some o) (cond b (o ∷ outcomes_with table gs cs os) (outcomes_with table gs cs os))) [
-            | true ↦ ap (λ p. p ∷ map f (chosen test (suc a) (length cs))) first ∙ ap (λ l. Some o ∷ l) rest
-            | false ↦ rest
-          ]
+      ≡ map (λ o. Some o) (cond b (o ∷ outcomes_with table gs cs os) (outcomes_with table gs cs os))) [
+        | true ↦ ap (λ p. p ∷ map f (chosen test (suc a) (length cs))) first ∙ ap (λ l. Some o ∷ l) rest
+        | false ↦ rest
+      ]
 
 -- those that address no group, each over no shard
 numbers_none : (span : Span) → numbers span ≡ [] → span ≡ []
@@ -333,11 +332,11 @@ none_ran table (c ∷ cs) [] long each = absurd (omega (arith, long))
 none_ran table (c ∷ cs) (o ∷ os) long each =
     let rest = none_ran table cs os (omega (arith, long)) (λ k. each (suc k)) in
     elim (pointwise nat_eq (groups_of table c) []) as (λ b. pointwise nat_eq (groups_of table c) [] ≡ b
-        → UnitRan table (cond b (c ∷ commands_with table [] cs) (commands_with table [] cs)) []
-        (cond b (o ∷ outcomes_with table [] cs os) (outcomes_with table [] cs os)) []) [
-          | true ↦ λ e. ([], each 0 c o refl refl (same_groups (groups_of table c) [] e), rest)
-          | false ↦ λ e. rest
-        ] refl
+    → UnitRan table (cond b (c ∷ commands_with table [] cs) (commands_with table [] cs)) []
+    (cond b (o ∷ outcomes_with table [] cs os) (outcomes_with table [] cs os)) []) [
+      | true ↦ λ e. ([], each 0 c o refl refl (same_groups (groups_of table c) [] e), rest)
+      | false ↦ λ e. rest
+    ] refl
 
 -- between these rows the unit was run
 pub record RanBetween (table : Layout) (outcomes : List (Option Content)) (old new : List Map) (w : Work) : Type 0 where
@@ -388,14 +387,14 @@ module _ (table : Layout) (layer : List Command) (outcomes : List (Option Conten
     unfolding test gs
     has_place j = same_tests (has u.work.places j) (nat_lt j (length layer) && test j)
         (λ h. let r = one_at table layer works some u.work u.stands j h in
-          and_from (nat_lt j (length layer)) (test j)
-          (lt-ltb j (length layer) (let s = stand_got layer u.work.places u.work.commands j (some.stand u.work u.stands) h in within layer s.thing j s.is))
-          (subst (λ l. pointwise nat_eq l gs ≡ true)
-          (sym (its_groups table layer works some u.work u.stands j h ∙ groups_are k c is u)) (groups_same gs)))
+        and_from (nat_lt j (length layer)) (test j)
+        (lt-ltb j (length layer) (let s = stand_got layer u.work.places u.work.commands j (some.stand u.work u.stands) h in within layer s.thing j s.is))
+        (subst (λ l. pointwise nat_eq l gs ≡ true)
+        (sym (its_groups table layer works some u.work u.stands j h ∙ groups_are k c is u)) (groups_same gs)))
         (λ h. let same = same_groups (groups_at (map (groups_of table) layer) j) gs (and_parts (nat_lt j (length layer)) (test j) h).1 in
-          (some.each u.work u.stands).whole k j g u.there
-          (ap (λ l. has l g) (groups_there table layer c k is) ∙ there)
-          (ap (λ l. has l g) same ∙ there))
+        (some.each u.work u.stands).whole k j g u.there
+        (ap (λ l. has l g) (groups_there table layer c k is) ∙ there)
+        (ap (λ l. has l g) same ∙ there))
 
     places_are : u.work.places ≡ chosen test 0 (length layer)
     places_are = same_sets u.work.places (chosen test 0 (length layer)) (some.each u.work u.stands).ascending
@@ -433,6 +432,7 @@ module _ (table : Layout) (layer : List Command) (outcomes : List (Option Conten
       u.there is_c is_o)
 
   pub layer_ran : LayerRan table old layer outcomes new
+  unfolding gs
   layer_ran = record {
     as_many = long;
     each = λ c i. by_groups (groups_of table c) c i refl;

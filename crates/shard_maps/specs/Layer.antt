@@ -2,7 +2,6 @@
 use Rattle.std.specs.Prelude.{◌≡◌, ℕ, nat_eq, true, false, cond, List, [], ◌∷◌, length, map, slice_get, Option, Some, None, Result, Ok, Err}
 use Rattle.std.specs.Cmp.Lexicographic.{pointwise}
 use Rattle.std.specs.FinMap.{empty}
-use Rattle.std.specs.List.{AllZip}
 use Rattle.command_bodies.specs.Command.{effect_of}
 use Rattle.command_table.specs.declared.command.Command.{Command}
 use Rattle.groups.specs.GroupSet.{has}
