@@ -1,15 +1,14 @@
 -- The first places of units, found one after another and put in order of their stamps.
-use Rattle.std.proofs.Common.{◌≡◌, ℕ, zero, suc, ◌+◌, ◌-◌, ◌<◌, ◌≤◌, ◌==◌, ◌||◌, ◌⊎◌, Bool, true, false, not, cond, List, [], ◌∷◌, ◌++◌, map, length}
-use Rattle.std.proofs.Common.{take, drop, slice_index_or, refl, sym, ap, ◌∙◌, subst, arith, inl, inr, ne_eqb}
+use Rattle.std.proofs.Common.{◌≡◌, ℕ, zero, suc, ◌+◌, ◌<◌, ◌≤◌, ◌==◌, ◌||◌, ◌⊎◌, Bool, true, false, not, cond, List, [], ◌∷◌, ◌++◌, length}
+use Rattle.std.proofs.Common.{slice_index_or, refl, sym, ap, ◌∙◌, subst, arith, inl, inr, ne_eqb}
 use Rattle.std.specs.List.{insert}
-use Rattle.std.proofs.lemmas.Bool.{cases_Bool, both_ways}
+use Rattle.std.proofs.lemmas.Bool.{both_ways}
 use Rattle.std.proofs.lemmas.List.{append-nil, append_assoc, length-map}
 use Rattle.groups.proofs.Lists.{In-get}
 use Rattle.groups.proofs.Stamps.{le_trans, lt_asym}
 use Rattle.groups.specs.GroupSet.{has, chosen}
 use Rattle.groups.specs.Order.{In}
 use Rattle.groups.specs.Stamp.{stamp_lt}
-use Rattle.groups.specs.declared.stamp.Stamp.{Stamp}
 use Rattle.layer_planner.specs.declared.job.Job.{Job}
 use Rattle.layer_planner.specs.Firsts.{IsRising, HaveBegun, is_begun}
 use Rattle.layer_planner.specs.Units.{groups_each, groups_at, stamp_at, line_up, has_begun, is_first, is_in_unit, unit_at, put_by_stamp, by_stamps}

@@ -1,6 +1,6 @@
 -- What jobs that were seen leave to those that follow.
 use Rattle.std.proofs.Common.{◌≡◌, ℕ, ◌<◌, ◌≤◌, ◌==◌, ◌||◌, Bool, true, false, List, [], ◌∷◌, Option, Some, None, length, slice_index_or}
-use Rattle.std.proofs.Common.{slice_set, is_some, ◌↔◌, refl, sym, ap, ◌∙◌, subst, arith, inl, inr, eqb-true, eq-eqb, ne_eqb}
+use Rattle.std.proofs.Common.{slice_set, ◌↔◌, refl, sym, ap, ◌∙◌, subst, arith, inl, inr, eq-eqb, ne_eqb}
 use Rattle.std.proofs.lemmas.Bool.{both_ways, or_parts, or_left, cases_eq, cases_Bool}
 use Rattle.std.proofs.lemmas.List.{get_or-set_same, get_or-set_other}
 use Rattle.groups.proofs.Stamps.{lt_trans}
@@ -8,7 +8,6 @@ use Rattle.groups.specs.GroupSet.{has, with_group}
 use Rattle.groups.specs.GroupSetLaws.{has-with}
 use Rattle.groups.specs.Order.{In}
 use Rattle.groups.specs.Stamp.{stamp_lt}
-use Rattle.groups.specs.Units.{MayFollow}
 use Rattle.groups.specs.declared.stamp.Stamp.{Stamp}
 use Rattle.layer_planner.specs.Layers.{StandTogether}
 use Rattle.layer_planner.specs.Seen.{MayStandBehind, MayJoin, HasJoined}

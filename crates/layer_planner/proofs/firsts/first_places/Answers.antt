@@ -1,4 +1,4 @@
-use Rattle.std.proofs.Common.{ℕ, ◌+◌, ◌<◌, length, refl, sym, ap, ◌∙◌, subst, arith, Vec, Global}
+use Rattle.std.proofs.Common.{ℕ, ◌+◌, refl, sym, ap, ◌∙◌, subst, arith, Vec, Global}
 use Rattle.std.specs.List.{insert}
 use Rattle.groups.specs.Order.{In}
 use Rattle.layer_planner.specs.Units.{put_by_stamp}

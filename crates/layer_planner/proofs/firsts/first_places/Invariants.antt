@@ -1,4 +1,3 @@
-use Rattle.std.proofs.Common.{◌≤◌, length}
 use Rattle.layer_planner.proofs.FirstPlaces.{AreFirsts}
 use Rattle.layer_planner.proofs.firsts.first_places.Given as goal
 

@@ -3,7 +3,6 @@ use Rattle.std.specs.Int.NonZero.{non_zero_usize_get}
 use Rattle.layer_planner.specs.Parts.{planned, parts_of}
 use Rattle.layer_planner.specs.Units.{units}
 use Rattle.layer_planner.proofs.FirstPlaces.{no_units, no_jobs}
-use Rattle.layer_planner.proofs.PartLaws.{planned_more}
 use Rattle.layer_planner.proofs.planning.plan.Goals as goal
 
 none_planned : (workers : ℕ) → planned workers [] ≡ []

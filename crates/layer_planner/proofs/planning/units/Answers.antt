@@ -1,4 +1,4 @@
-use Rattle.std.proofs.Common.{◌<◌, length, sym, ap, ◌∙◌, subst}
+use Rattle.std.proofs.Common.{sym, ap, ◌∙◌, subst}
 use Rattle.groups.specs.Order.{In}
 use Rattle.layer_planner.specs.Units.{units}
 use Rattle.layer_planner.proofs.FirstPlaces.{firsts_inside, no_units, no_jobs}
