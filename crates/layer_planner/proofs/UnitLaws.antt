@@ -131,11 +131,11 @@ same_one (g ∷ []) (h ∷ []) e = record { group = g; first = refl; second = ap
 same_one (g ∷ []) (h ∷ k ∷ hs) e = absurd (both_ways _ refl e)
 same_one (g ∷ k ∷ gs) hs e = absurd (both_ways _ refl e)
 
-lines_up : (gs hs : List ℕ) (g : ℕ) → gs ≡ g ∷ [] → hs ≡ g ∷ [] → line_up gs hs ≡ true
+pub lines_up : (gs hs : List ℕ) (g : ℕ) → gs ≡ g ∷ [] → hs ≡ g ∷ [] → line_up gs hs ≡ true
 lines_up gs hs g e f = ap (λ l. line_up l hs) e ∙ ap (line_up (g ∷ [])) f ∙ eq-eqb g g refl
 
 -- a place is itself or lines up: its groups are the same
-same_groups : (sets : List (List ℕ)) (f i : ℕ) → is_in_unit sets f i ≡ true → groups_at sets f ≡ groups_at sets i
+pub same_groups : (sets : List (List ℕ)) (f i : ℕ) → is_in_unit sets f i ≡ true → groups_at sets f ≡ groups_at sets i
 same_groups sets f i e = elim (or_cases (i == f) (line_up (groups_at sets f) (groups_at sets i)) e) [
   | inl here ↦ ap (groups_at sets) (sym (eqb-true i f here))
   | inr line ↦ let s = same_one (groups_at sets f) (groups_at sets i) line in s.first ∙ sym s.second
@@ -222,7 +222,7 @@ module _ (jobs : List Job) (stand : StandTogether jobs) where
 
 -- ---- the first place of a unit
 
-begun_by : (sets : List (List ℕ)) (gs : List ℕ) (n k : ℕ) → k < n → line_up gs (groups_at sets k) ≡ true → has_begun sets gs n ≡ true
+pub begun_by : (sets : List (List ℕ)) (gs : List ℕ) (n k : ℕ) → k < n → line_up gs (groups_at sets k) ≡ true → has_begun sets gs n ≡ true
 begun_by sets gs zero k low line = absurd (omega (arith, low))
 begun_by sets gs (suc n) k low line = elim (cases_lt k n) [
   | inl before ↦ or_right (line_up gs (groups_at sets n)) (has_begun sets gs n) (begun_by sets gs n k before line)
