@@ -58,7 +58,8 @@ chain_alone sets p nexts heads g c low is small = let long = c.long in let wide 
   high = omega (arith, low);
   done = λ k above less. elim (cases_eq p k) [
     | inl e ↦ subst (λ j. IsFirstFrom sets (groups_at sets j) (suc j) (slice_index_or (slice_set nexts p (slice_index_or heads g 0)) j 0)) e
-        (subst (IsFirstFrom sets (groups_at sets p) (suc p)) (sym (get_or-set_same nexts p (slice_index_or heads g 0) 0 (omega (arith, long, low))))
+        (subst (IsFirstFrom sets (groups_at sets p) (suc p)) (sym (get_or-set_same nexts p (slice_index_or heads g 0) 0
+        (omega (arith, long, low))))
         (subst (λ l. IsFirstFrom sets l (suc p) (slice_index_or heads g 0)) (sym is) (c.begin g small)))
     | inr apart ↦ subst (IsFirstFrom sets (groups_at sets k) (suc k))
         (sym (get_or-set_other nexts p k (slice_index_or heads g 0) 0 (λ e. apart (sym e))))

@@ -61,7 +61,8 @@ rising_put jobs i (k ∷ ks) up = elim (stamp_lt (stamp_at jobs i) (stamp_at job
     as (λ b. stamp_lt (stamp_at jobs i) (stamp_at jobs k) ≡ b → IsRising jobs (cond b (i ∷ k ∷ ks) (k ∷ put_by_stamp jobs i ks))) [
       | true ↦ λ e. (
         (λ m. elim [
-          | inl same ↦ subst (λ n. stamp_lt (stamp_at jobs n) (stamp_at jobs i) ≡ false) (sym same) (lt_asym (stamp_at jobs i) (stamp_at jobs k) e)
+          | inl same ↦ subst (λ n. stamp_lt (stamp_at jobs n) (stamp_at jobs i) ≡ false) (sym same)
+              (lt_asym (stamp_at jobs i) (stamp_at jobs k) e)
           | inr later ↦ le_trans (stamp_at jobs i) (stamp_at jobs k) (stamp_at jobs m)
               (lt_asym (stamp_at jobs i) (stamp_at jobs k) e) (up.0 m later)
         ]),
@@ -119,14 +120,16 @@ no_line (g ∷ h ∷ gs) hs several = refl
 
 none_begun : (sets : List (List ℕ)) (gs : List ℕ) (n : ℕ) → ((g : ℕ) → gs ≡ g ∷ [] → ⊥) → has_begun sets gs n ≡ false
 none_begun sets gs zero several = refl
-none_begun sets gs (suc n) several = ap (λ b. b || has_begun sets gs n) (no_line gs (groups_at sets n) several) ∙ none_begun sets gs n several
+none_begun sets gs (suc n) several = ap (λ b. b || has_begun sets gs n) (no_line gs (groups_at sets n) several)
+    ∙ none_begun sets gs n several
 
 begun_is : (sets : List (List ℕ)) (n : ℕ) (begun gs : List ℕ) → HaveBegun sets n begun → is_begun begun gs ≡ has_begun sets gs n
 begun_is sets n begun [] have = sym (none_begun sets [] n (λ g e. cc))
 begun_is sets n begun (g ∷ []) have = have g
 begun_is sets n begun (g ∷ h ∷ gs) have = sym (none_begun sets (g ∷ h ∷ gs) n (λ k e. cc))
 
-module _ (jobs : List Job) (n m : ℕ) (up : m ≡ n + 1) (begun begun' places : List ℕ) (gs : List ℕ) (is : gs ≡ groups_at (groups_each jobs) n)
+module _ (jobs : List Job) (n m : ℕ) (up : m ≡ n + 1) (begun begun' places : List ℕ) (gs : List ℕ)
+    (is : gs ≡ groups_at (groups_each jobs) n)
     (so_far : AreFirsts jobs n begun places) (more : (g : ℕ) → has begun' g ≡ (line_up (g ∷ []) gs || has begun g)) where
   have : HaveBegun (groups_each jobs) m begun'
   have g = let e : suc n ≡ m = omega (arith, up) in
@@ -136,7 +139,8 @@ module _ (jobs : List Job) (n m : ℕ) (up : m ≡ n + 1) (begun begun' places :
   first_is : not (is_begun begun gs) ≡ is_first (groups_each jobs) n
   first_is = ap not (begun_is (groups_each jobs) n begun gs so_far.begun) ∙ ap (λ l. not (has_begun (groups_each jobs) l n)) is
 
-  pub first_more : not (is_begun begun gs) ≡ true → (places' : List ℕ) → places' ≡ put_by_stamp jobs n places → AreFirsts jobs m begun' places'
+  pub first_more : not (is_begun begun gs) ≡ true → (places' : List ℕ) → places' ≡ put_by_stamp jobs n places
+      → AreFirsts jobs m begun' places'
   first_more first places' put = record {
     begun = have;
     places = put ∙ ap (put_by_stamp jobs n) so_far.places

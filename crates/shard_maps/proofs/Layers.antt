@@ -53,7 +53,8 @@ with_span : List Map → Span → List Map
 with_span row [] = row
 with_span row (s ∷ ss) = set_at (with_span row ss) s.0 s.1
 
-with_span-away : (row : List Map) (span : Span) (g : ℕ) → has (numbers span) g ≡ false → map_of_shard (with_span row span) g ≡ map_of_shard row g
+with_span-away : (row : List Map) (span : Span) (g : ℕ) → has (numbers span) g ≡ false
+    → map_of_shard (with_span row span) g ≡ map_of_shard row g
 unfolding with_span
 with_span-away row [] g away = refl
 with_span-away row (s ∷ ss) g away =
@@ -148,8 +149,10 @@ module _ (table : Layout) (old new : List Map) (c : Command) (cs : List Command)
     | inr e ↦
         subst (λ s. UnitRan table (commands_with table (groups_of table d) cs) s (outcomes_with table (groups_of table d) cs os)
         (span_at new (groups_of table d)))
-        (picked-alike empty old mid (groups_of table d) (λ g there. sym (mid_away g (elim (cases_Bool (has gs g)) as (λ _. has gs g ≡ false) [
-          | inl here ↦ absurd (both_ways _ e (subst (λ l. pointwise nat_eq gs l ≡ true) (alike c d g (inl refl) (inr i) here there) (groups_same gs)))
+        (picked-alike empty old mid (groups_of table d) (λ g there. sym (mid_away g
+        (elim (cases_Bool (has gs g)) as (λ _. has gs g ≡ false) [
+          | inl here ↦ absurd (both_ways _ e (subst (λ l. pointwise nat_eq gs l ≡ true) (alike c d g (inl refl) (inr i) here there)
+              (groups_same gs)))
           | inr none ↦ none
         ]))))
         (subst (λ b. UnitRan table
@@ -164,7 +167,8 @@ module _ (table : Layout) (old new : List Map) (c : Command) (cs : List Command)
     | inl here ↦
         at_member (map_of_shard new) (map_of_shard mid) gs shard
         (none_ran table (span_at mid gs) (span_at new gs) (outcomes_with table gs cs os)
-        (subst (λ l. UnitRan table l (span_at mid gs) (outcomes_with table gs cs os) (span_at new gs)) (none_with table gs shard cs here away) behind))
+        (subst (λ l. UnitRan table l (span_at mid gs) (outcomes_with table gs cs os) (span_at new gs))
+        (none_with table gs shard cs here away) behind))
         here
     | inr none ↦ ran.others shard (λ d. elim [
       | inl e ↦ subst (λ (x : Command). has (groups_of table x) shard ≡ false) (sym e) none
@@ -198,7 +202,8 @@ layer_in_turn table old new (c ∷ cs) (None ∷ os) is_table own meet ran =
 
     alike : (g : ℕ) → map_of_shard between g ≡ map_of_shard old g
     alike g = elim (cases_Bool (has (groups_of table c) g)) [
-      | inl there ↦ at_member (map_of_shard between) (map_of_shard old) (groups_of table c) g (mid_ran table old new c cs None os meet ran) there
+      | inl there ↦ at_member (map_of_shard between) (map_of_shard old) (groups_of table c) g
+          (mid_ran table old new c cs None os meet ran) there
       | inr away ↦ mid_away table old new c cs None os meet ran g away
     ]
 

@@ -1,5 +1,6 @@
 -- The units of a layer share no group, and where each was run over its own shards, the layer was.
-use Rattle.std.proofs.Common.{◌≡◌, ℕ, zero, suc, ◌+◌, ◌<◌, ◌≤◌, ◌==◌, ◌||◌, ◌&&◌, nat_lt, nat_eq, Bool, true, false, cond, List, [], ◌∷◌, map, length}
+use Rattle.std.proofs.Common.{◌≡◌, ℕ, zero, suc, ◌+◌, ◌<◌, ◌≤◌, ◌==◌, ◌||◌, ◌&&◌, nat_lt, nat_eq, Bool, true, false, cond, List, [], ◌∷◌}
+use Rattle.std.proofs.Common.{map, length}
 use Rattle.std.proofs.Common.{Option, Some, slice_get, refl, sym, ap, ◌∙◌, subst, arith, inl, inr, eqb-true, eq-eqb}
 use Rattle.std.proofs.Common.{lt-ltb}
 use Rattle.std.proofs.lemmas.Bool.{cases_Bool, both_ways, and_parts, and_from, or_cases}
@@ -305,8 +306,10 @@ numbers_none [] e = refl
 numbers_none (s ∷ ss) e = absurd (cc)
 
 none_of : (table : Layout) (layer : List Command) (outcomes : List (Option Content)) (places : List ℕ) (cs : List Command)
-    (os : List (Option Content)) (after : Span) (k : ℕ) (c : Command) (o : Option Content) → StandAt layer places cs → StandAt outcomes places os
-    → UnitRan table cs [] os after → has places k ≡ true → slice_get layer k ≡ Some c → slice_get outcomes k ≡ Some o → SpanRan table c [] o []
+    (os : List (Option Content)) (after : Span) (k : ℕ) (c : Command) (o : Option Content) → StandAt layer places cs
+    → StandAt outcomes places os
+    → UnitRan table cs [] os after → has places k ≡ true → slice_get layer k ≡ Some c → slice_get outcomes k ≡ Some o
+    → SpanRan table c [] o []
 none_of table layer outcomes [] cs os after k c o s t ran there is_c is_o = absurd (both_ways _ refl there)
 none_of table layer outcomes (p ∷ ps) [] os after k c o s t ran there is_c is_o = absurd (cc)
 none_of table layer outcomes (p ∷ ps) (d ∷ ds) [] after k c o s t ran there is_c is_o = absurd ran
@@ -317,7 +320,8 @@ none_of table layer outcomes (p ∷ ps) (d ∷ ds) (q ∷ qs) after k c o s t ra
           let e = eqb-true p k here in
           let same_c = some_same d c (sym (heads (slice_get layer p) (Some d) _ _ s) ∙ ap (slice_get layer) e ∙ is_c) in
           let same_o = some_same q o (sym (heads (slice_get outcomes p) (Some q) _ _ t) ∙ ap (slice_get outcomes) e ∙ is_o) in
-          subst (λ x. SpanRan table x [] o []) same_c (subst (λ x. SpanRan table d [] x []) same_o (subst (SpanRan table d [] q) still ran.1))
+          subst (λ x. SpanRan table x [] o []) same_c (subst (λ x. SpanRan table d [] x []) same_o
+          (subst (SpanRan table d [] q) still ran.1))
       | inr later ↦ none_of table layer outcomes ps ds qs after k c o (tails (slice_get layer p) (Some d) _ _ s)
           (tails (slice_get outcomes p) (Some q) _ _ t) (subst (λ m. UnitRan table ds m qs after) still ran.2) later is_c is_o
     ]
@@ -388,7 +392,8 @@ module _ (table : Layout) (layer : List Command) (outcomes : List (Option Conten
     has_place j = same_tests (has u.work.places j) (nat_lt j (length layer) && test j)
         (λ h. let r = one_at table layer works some u.work u.stands j h in
         and_from (nat_lt j (length layer)) (test j)
-        (lt-ltb j (length layer) (let s = stand_got layer u.work.places u.work.commands j (some.stand u.work u.stands) h in within layer s.thing j s.is))
+        (lt-ltb j (length layer) (let s = stand_got layer u.work.places u.work.commands j (some.stand u.work u.stands) h in
+        within layer s.thing j s.is))
         (subst (λ l. pointwise nat_eq l gs ≡ true)
         (sym (its_groups table layer works some u.work u.stands j h ∙ groups_are k c is u)) (groups_same gs)))
         (λ h. let same = same_groups (groups_at (map (groups_of table) layer) j) gs (and_parts (nat_lt j (length layer)) (test j) h).1 in
@@ -427,8 +432,10 @@ module _ (table : Layout) (layer : List Command) (outcomes : List (Option Conten
   each_none = none_ran table layer outcomes long (λ k c o is_c is_o none.
       let u = of_unit k c is_c in
       let r = ran u.work u.stands in
-      none_of table layer outcomes u.work.places u.work.commands r.answered (span_at new u.work.groups) k c o (some.stand u.work u.stands) r.stand
-      (subst (λ hs. UnitRan table u.work.commands (span_at old hs) r.answered (span_at new u.work.groups)) (groups_are k c is_c u ∙ none) r.ran)
+      none_of table layer outcomes u.work.places u.work.commands r.answered (span_at new u.work.groups) k c o
+      (some.stand u.work u.stands) r.stand
+      (subst (λ hs. UnitRan table u.work.commands (span_at old hs) r.answered (span_at new u.work.groups))
+      (groups_are k c is_c u ∙ none) r.ran)
       u.there is_c is_o)
 
   pub layer_ran : LayerRan table old layer outcomes new
