@@ -71,9 +71,9 @@ weighed_once t h (suc m) once =
 
 -- ---- a list that has each number below m once
 
-one_more : (k x : ℕ) (xs : List ℕ) → times k (x ∷ xs) ≡ cond (x == k) 1 0 + times k xs
-one_more k x xs = times-append k (x ∷ []) xs ∙ (let z : 0 + cond {A = ℕ} (x == k) 1 0 ≡ cond {A = ℕ} (x == k) 1 0 = omega arith in ap
-    (λ n. n + times k xs) z)
+pub one_more : (k x : ℕ) (xs : List ℕ) → times k (x ∷ xs) ≡ cond (x == k) 1 0 + times k xs
+one_more k x xs = times-append k (x ∷ []) xs ∙ (let z : 0 + cond {A = ℕ} (x == k) 1 0 ≡ cond {A = ℕ} (x == k) 1 0 = omega arith in
+    ap (λ n. n + times k xs) z)
 
 total-weighed : (h : ℕ → ℕ) (xs : List ℕ) (m : ℕ) → ((k : ℕ) → In k xs → k < m) → total h xs ≡ weighed (λ k. times k xs) h m
 unfolding total

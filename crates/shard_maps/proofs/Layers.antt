@@ -1,8 +1,8 @@
 -- A layer's commands, run in units, each unit over its own shards, are run one after another on the joined map.
 use Rattle.std.proofs.Common.{◌≡◌, ℕ, zero, suc, ◌==◌, nat_eq, List, [], ◌∷◌, true, false, cond, Option, Some, None, inl, inr, refl}
-use Rattle.std.proofs.Common.{sym, ap, ◌∙◌, subst, arith, eq-eqb, eqb-true}
-use Rattle.std.proofs.lemmas.Bool.{cases_Bool, both_ways, or_parts, and_parts, and_from}
-use Rattle.std.specs.Cmp.Lexicographic.{pointwise}
+use Rattle.std.proofs.Common.{sym, ap, ◌∙◌, subst, arith, eq-eqb}
+use Rattle.std.proofs.lemmas.Bool.{cases_Bool, both_ways, or_parts, and_from}
+use Rattle.std.specs.Cmp.Lexicographic.{pointwise, same_text}
 use Rattle.std.specs.FinMap.{get, empty}
 use Rattle.command_bodies.proofs.Turns.{pair}
 use Rattle.command_bodies.specs.Command.{effect_of}
@@ -80,14 +80,6 @@ joined-alike table ms ns own own' alike =
 
 -- ---- the commands of a unit
 
-pub same_groups : (gs hs : List ℕ) → pointwise nat_eq gs hs ≡ true → gs ≡ hs
-same_groups [] [] e = refl
-same_groups [] (h ∷ hs) e = absurd (both_ways _ refl e)
-same_groups (g ∷ gs) [] e = absurd (both_ways _ refl e)
-same_groups (g ∷ gs) (h ∷ hs) e =
-    let parts = and_parts (g == h) (pointwise nat_eq gs hs) e in
-    ap (λ x. x ∷ gs) (eqb-true g h parts.0) ∙ ap (λ l. h ∷ l) (same_groups gs hs parts.1)
-
 pub groups_same : (gs : List ℕ) → pointwise nat_eq gs gs ≡ true
 groups_same [] = refl
 groups_same (g ∷ gs) = and_from (g == g) (pointwise nat_eq gs gs) (eq-eqb g g refl) (groups_same gs)
@@ -97,7 +89,7 @@ none_with : (table : Layout) (gs : List ℕ) (g : ℕ) (cs : List Command) → h
     → ((d : Command) → In d cs → has (groups_of table d) g ≡ false) → commands_with table gs cs ≡ []
 none_with table gs g [] here away = refl
 none_with table gs g (d ∷ ds) here away = elim (cases_Bool (pointwise nat_eq (groups_of table d) gs)) [
-  | inl e ↦ absurd (both_ways _ (away d (inl refl)) (subst (λ l. has l g ≡ true) (sym (same_groups (groups_of table d) gs e)) here))
+  | inl e ↦ absurd (both_ways _ (away d (inl refl)) (subst (λ l. has l g ≡ true) (sym (same_text (groups_of table d) gs (sym e))) here))
   | inr e ↦ ap (λ b. cond b (d ∷ commands_with table gs ds) (commands_with table gs ds)) e
       ∙ none_with table gs g ds here (λ c i. away c (inr i))
 ]
@@ -145,7 +137,7 @@ module _ (table : Layout) (old new : List Map) (c : Command) (cs : List Command)
       (outcomes_with table (groups_of table d) cs os) (span_at new (groups_of table d))
   each d i = elim (cases_Bool (pointwise nat_eq gs (groups_of table d))) [
     | inl e ↦ subst (λ hs. UnitRan table (commands_with table hs cs) (span_at mid hs) (outcomes_with table hs cs os) (span_at new hs))
-        (same_groups gs (groups_of table d) e) behind
+        (same_text gs (groups_of table d) (sym e)) behind
     | inr e ↦
         subst (λ s. UnitRan table (commands_with table (groups_of table d) cs) s (outcomes_with table (groups_of table d) cs os)
         (span_at new (groups_of table d)))

@@ -5,7 +5,7 @@ use Rattle.std.proofs.Common.{Option, Some, slice_get, refl, sym, ap, ◌∙◌,
 use Rattle.std.proofs.Common.{lt-ltb}
 use Rattle.std.proofs.lemmas.Bool.{cases_Bool, both_ways, and_parts, and_from, or_cases}
 use Rattle.std.proofs.lemmas.List.{length-map}
-use Rattle.std.specs.Cmp.Lexicographic.{pointwise}
+use Rattle.std.specs.Cmp.Lexicographic.{pointwise, same_text}
 use Rattle.std.specs.List.{concat}
 use Rattle.command_table.specs.declared.command.Command.{Command}
 use Rattle.groups.specs.GroupSet.{has, IsAscending, chosen}
@@ -13,12 +13,13 @@ use Rattle.groups.specs.GroupSetLaws.{has-chosen, IsAscending-chosen, same_sets}
 use Rattle.groups.specs.Order.{In}
 use Rattle.keyspace.specs.Map.{Map}
 use Rattle.layer_planner.proofs.PartLaws.{times, times-append}
+use Rattle.layer_planner.proofs.PartUnits.{one_more}
 use Rattle.layer_planner.proofs.UnitLaws.{in_map}
 use Rattle.layer_planner.specs.Units.{groups_at, IsUnit}
 use Rattle.placement.specs.Groups.{groups_of}
 use Rattle.placement.specs.Layout.{Layout}
 use Rattle.resp.specs.Content.{Content}
-use Rattle.shard_maps.proofs.Layers.{same_groups, groups_same}
+use Rattle.shard_maps.proofs.Layers.{groups_same}
 use Rattle.shard_maps.proofs.Spans.{numbers-SpanRan, IsAscending-groups_of}
 use Rattle.shard_maps.specs.Joined.{map_of_shard, Span, numbers, span_at, SpanRan}
 use Rattle.shard_maps.specs.Layer.{MeetAlike, UnitRan, commands_with, outcomes_with, LayerRan, Work, StandAt, AreWorksOf}
@@ -88,14 +89,10 @@ stand_got xs (p ∷ places) (y ∷ ys) i s there = elim (or_cases (p == i) (has 
 
 -- ---- how often a place stands in some units
 
-times_more : (i : ℕ) (x : ℕ) (xs : List ℕ) → times i (x ∷ xs) ≡ cond (x == i) 1 0 + times i xs
-times_more i x xs = times-append i (x ∷ []) xs
-    ∙ (let z : 0 + cond {A = ℕ} (x == i) 1 0 ≡ cond {A = ℕ} (x == i) 1 0 = omega arith in ap (λ n. n + times i xs) z)
-
 has_times : (xs : List ℕ) (i : ℕ) → has xs i ≡ true → 0 < times i xs
 has_times [] i h = absurd (both_ways _ refl h)
 has_times (x ∷ xs) i h =
-    let more = times_more i x xs in
+    let more = one_more i x xs in
     elim (or_cases (x == i) (has xs i) h) [
       | inl here ↦ let one : cond {A = ℕ} (x == i) 1 0 ≡ 1 = ap (λ b. cond {A = ℕ} b 1 0) here in omega (arith, more, one)
       | inr there ↦ let rest = has_times xs i there in omega (arith, more, rest)
@@ -106,7 +103,7 @@ times_has [] i h = absurd (omega (arith, h))
 times_has (x ∷ xs) i h = elim (cases_Bool (x == i)) [
   | inl here ↦ ap (λ b. b || has xs i) here
   | inr away ↦
-      let more = times_more i x xs in
+      let more = one_more i x xs in
       let none : cond {A = ℕ} (x == i) 1 0 ≡ 0 = ap (λ b. cond {A = ℕ} b 1 0) away in
       ap (λ b. b || has xs i) away ∙ times_has xs i (omega (arith, more, none, h))
 ]
@@ -338,7 +335,7 @@ none_ran table (c ∷ cs) (o ∷ os) long each =
     elim (pointwise nat_eq (groups_of table c) []) as (λ b. pointwise nat_eq (groups_of table c) [] ≡ b
     → UnitRan table (cond b (c ∷ commands_with table [] cs) (commands_with table [] cs)) []
     (cond b (o ∷ outcomes_with table [] cs os) (outcomes_with table [] cs os)) []) [
-      | true ↦ λ e. ([], each 0 c o refl refl (same_groups (groups_of table c) [] e), rest)
+      | true ↦ λ e. ([], each 0 c o refl refl (same_text (groups_of table c) [] (sym e)), rest)
       | false ↦ λ e. rest
     ] refl
 
@@ -396,7 +393,8 @@ module _ (table : Layout) (layer : List Command) (outcomes : List (Option Conten
         within layer s.thing j s.is))
         (subst (λ l. pointwise nat_eq l gs ≡ true)
         (sym (its_groups table layer works some u.work u.stands j h ∙ groups_are k c is u)) (groups_same gs)))
-        (λ h. let same = same_groups (groups_at (map (groups_of table) layer) j) gs (and_parts (nat_lt j (length layer)) (test j) h).1 in
+        (λ h. let same = same_text (groups_at (map (groups_of table) layer) j) gs
+        (sym (and_parts (nat_lt j (length layer)) (test j) h).1) in
         (some.each u.work u.stands).whole k j g u.there
         (ap (λ l. has l g) (groups_there table layer c k is) ∙ there)
         (ap (λ l. has l g) same ∙ there))
