@@ -1,7 +1,7 @@
 use Rattle.std.proofs.Common.{refl, sym, ap, ◌∙◌, subst}
 use Rattle.std.proofs.lemmas.Bool.{both_ways}
 use Rattle.shard_workers.proofs.Turns.{map_ran, starves}
-use Rattle.shard_workers.specs.Runs.{outcome, MapRan}
+use Rattle.shard_workers.specs.Tasks.{outcome, MapRan}
 use Rattle.shard_workers.proofs.task.Task.run.Goals as goal
 
 pub returns-clause-ran : goal.returns-clause-ran
@@ -12,6 +12,7 @@ returns-clause-ran g c =
       place = refl;
       id = refl;
       stamp = refl;
+      groups = refl;
       ran = subst (λ o. MapRan c.args.self.job.command before o after) is
           (map_ran c.args.self.job.command before after c.answer-outcome.result c.answer-outcome.ensures.done);
       skipped = λ e. absurd (both_ways _ c.if-skipped.false e);
