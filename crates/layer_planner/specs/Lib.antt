@@ -1,3 +1,6 @@
 pub mod Layers
+pub mod Seen
+pub mod Units
+pub mod Firsts
+pub mod Nexts
 pub mod Parts
-pub mod PartLaws

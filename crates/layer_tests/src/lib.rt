@@ -21,3 +21,5 @@ mod queue_runs;
 mod queues;
 #[cfg(test)]
 mod trouble;
+#[cfg(test)]
+mod units;
