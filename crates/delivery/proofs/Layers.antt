@@ -36,7 +36,7 @@ pub record Cut (xs : List Delivered) (x : Delivered) : Type 0 where
   pub is : xs ≡ front ++ x ∷ rest
   pub before : (y : Delivered) → In y front → In y xs
 
-cut : (xs : List Delivered) (x : Delivered) → In x xs → Cut xs x
+pub cut : (xs : List Delivered) (x : Delivered) → In x xs → Cut xs x
 cut [] x i = absurd i
 cut (y ∷ ys) x (inl e) = record { front = []; rest = ys; is = ap (λ z. z ∷ ys) (sym e); before = λ z i. absurd i }
 cut (y ∷ ys) x (inr i) =
