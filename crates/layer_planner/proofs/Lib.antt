@@ -1,1 +1,6 @@
+pub mod Cuts
+pub mod FirstPlaces
 pub mod Gathering
+pub mod PartLaws
+pub mod UnitLaws
+pub mod PartUnits

@@ -1,3 +1,5 @@
 pub mod Layers
+pub mod Seen
+pub mod Units
+pub mod Firsts
 pub mod Parts
-pub mod PartLaws

@@ -1,72 +1,105 @@
-//! How the work of a layer is divided: its places are dealt to the parts in turn.
-ghost use Rattle.std.specs.Prelude.{◌≡◌, ◌<◌, ◌≤◌, length, min, IfOk, IsOk};
-ghost use Rattle.std.specs.Int.NonZero.{non_zero_usize_get};
-ghost use Rattle.layer_planner.specs.Parts.{part, dealt, EachPlaceOnce};
+//! Some units of a layer, in the order in which one worker runs them.
+ghost use Rattle.std.specs.Prelude.{◌≡◌, ◌<◌, ◌≤◌, ◌-◌, [], ◌∷◌, ◌++◌, length, take, drop, slice_index_or, IfOk};
+ghost use Rattle.std.specs.List.{concat};
+ghost use Rattle.layer_planner.specs.Parts.{start_of};
 
-use super::layer::Layer;
 use std::alloc::{AllocError, Global};
 use std::marker::Model;
-use std::num::NonZeroUsize;
 
-/// Places in a layer, counted from 0, that one worker runs in turn. A contract sees them as a list.
+/// Units of a layer that one worker runs in turn. A contract sees them as a list of lists of places, counted from 0.
 #[derive(Drop)]
 pub struct Part {
-    places: Vec<usize>,
+    pub(super) places: Vec<usize>,
+    pub(super) ends: Vec<usize>,
 }
 
 impl Model for Part {
-    ghost use Rattle.std.specs.Prelude.{ℕ, List};
+    ghost use Rattle.std.specs.Prelude.{ℕ, List, length};
+    ghost use Rattle.layer_planner.specs.Parts.{cut, AreEnds};
 
-    ghost Value = { List ℕ };
+    ghost Value = { List (List ℕ) };
 
-    ghost view = { λ p. p.places.items };
+    ghost view = { λ p. cut 0 p.places.items p.ends.items };
+
+    ghost invariant = { λ p. AreEnds 0 p.ends.items (length p.places.items) };
 }
 
 impl Part {
-    /// The places, ascending.
+    /// No unit. It takes no memory.
+    pub(super) fn empty(alloc: Global) -> Self
+        ensures { result ≡ [] }
+    {
+        Part {
+            places: Vec::new(alloc),
+            ends: Vec::new(alloc),
+        }
+    }
+
+    /// These units and one more.
+    pub(super) fn with(self, unit: &[usize]) -> Result<Self, AllocError>
+        ensures { IfOk result (λ part. part ≡ self ++ unit.now ∷ []) }
+    {
+        let Part {
+            mut places,
+            mut ends,
+        } = self;
+        places.extend_from_slice(unit)?;
+        ends.push(places.len())?;
+        Ok(Part { places, ends })
+    }
+
+    /// How many units there are.
+    pub fn len(&self) -> usize
+        ensures { result ≡ length self.now }
+    {
+        self.ends.len()
+    }
+
+    /// The places of one unit, ascending.
+    pub fn unit(&self, number: usize) -> &[usize]
+        requires there { number < length self.now }
+        ensures { result.now ≡ slice_index_or self.now number [] }
+    {
+        let ends = self.ends.as_slice();
+        between(
+            self.places.as_slice(),
+            start_of(ends, number),
+            end_of(ends, number),
+        )
+    }
+
+    /// The places of all its units, one unit after another.
     pub fn places(&self) -> &[usize]
-        ensures { result.now ≡ self.now }
+        ensures { result.now ≡ concat self.now }
     {
         self.places.as_slice()
     }
 }
 
-/// Divides the layer among that many workers: the parts, as many as there are workers, or jobs if these are fewer.
-/// The job at place i is in part i mod that number, and the places of a part ascend. The only error is want of memory.
-#[tactic(auto, using(crate::specs::PartLaws::parts_more))]
-pub fn plan(alloc: Global, layer: &Layer, workers: NonZeroUsize) -> Result<Vec<Part>, AllocError>
-    ensures dealt { IfOk result (λ parts. parts.items
-        ≡ dealt (min (non_zero_usize_get workers) (length layer.now)) (length layer.now)) }
-    ensures succeeds { length layer.now ≡ 0 → IsOk result }
+/// Where the unit of this number begins.
+fn start_of(ends: &[usize], number: usize) -> usize
+    requires { number < length ends.now }
+    ensures { result ≡ start_of ends.now number }
 {
-    let places = layer.len();
-    let count = workers.get().min(places);
-    let mut parts = Vec::with_capacity(alloc, count)?;
-    for first in 0..count {
-        parts.push(deal(alloc, first, count, places)?)?;
+    if number == 0 {
+        return 0;
     }
-    Ok(parts)
+    ends[number - 1]
 }
 
-/// The part `first` of so many parts: the places `first`, `first + parts`, and so on below `places`.
-#[tactic(auto, using(crate::specs::PartLaws::next_places))]
-fn deal(alloc: Global, first: usize, parts: usize, places: usize) -> Result<Part, AllocError>
-    requires first { first < parts }
-    requires parts { parts ≤ places }
-    ensures { IfOk result (λ p. p ≡ part parts places first) }
+/// Where it ends.
+fn end_of(ends: &[usize], number: usize) -> usize
+    requires { number < length ends.now }
+    ensures { result ≡ slice_index_or ends.now number 0 }
 {
-    let mut dealt = Vec::with_capacity(alloc, (places - first).div_ceil(parts))?;
-    let mut place = first;
-    dealt.push(place)?;
-    while parts < places - place {
-        place += parts;
-        dealt.push(place)?;
-    }
-    Ok(Part { places: dealt })
+    ends[number]
 }
 
-/// The law of the parts that `plan` gives: each place of the layer is in one of them, once. It does nothing: its
-/// contract states the law.
-pub fn law_of_parts()
-    ensures { EachPlaceOnce }
-{}
+/// The places from one up to another.
+fn between(places: &[usize], start: usize, end: usize) -> &[usize]
+    requires start { start ≤ end }
+    requires end { end ≤ length places.now }
+    ensures { result.now ≡ take (end - start) (drop start places.now) }
+{
+    &places[start..end]
+}

@@ -3,21 +3,21 @@ ghost use Rattle.std.specs.Prelude.{◌<◌};
 
 use command_table::{Command, LocalCommand};
 use groups::{ConnId, GroupId, Groups, RequestId, Stamp};
-use layer_planner::{Job, Layer, Part, plan};
+use layer_planner::{Job, Layer, Part, plan, units};
 use std::alloc::{AllocError, Global};
 use std::num::NonZeroUsize;
 use std::test::Fail;
 use test_support::{holds, same_count, same_number};
 
-/// A request of the connection `conn` at these groups; what it asks doesn't matter here.
-fn job(conn: u64, groups: Groups) -> Job {
+/// A request of the connection `conn` at these groups with this clock; what it asks doesn't matter here.
+fn job(conn: u64, clock: u64, groups: Groups) -> Job {
     Job {
         id: RequestId {
             conn: ConnId(conn),
             seq: 1,
         },
         stamp: Stamp {
-            clock: 1,
+            clock,
             group: GroupId::new(0),
         },
         groups,
@@ -37,22 +37,43 @@ fn jobs(alloc: Global, count: u8) -> Result<Vec<Job>, AllocError>
 {
     let mut jobs = Vec::new(alloc);
     for number in 0..count {
-        jobs.push(job(u64::from(number), group(number)))?;
+        jobs.push(job(u64::from(number), 1, group(number)))?;
     }
     Ok(jobs)
 }
 
 #[test]
-fn a_layer_has_no_group_twice(rt: HostRuntime) -> Result<(), Fail> {
+fn a_layer_has_no_group_in_two_units(rt: HostRuntime) -> Result<(), Fail> {
     let mut apart = jobs(rt.alloc(), 2)?;
-    apart.push(job(2, group(63).with(GroupId::new(2))))?;
-    let layer = Layer::gather(apart).ok_or("a group twice")?;
+    apart.push(job(2, 1, group(63).with(GroupId::new(2))))?;
+    let layer = Layer::gather(apart).ok_or("a group in two units")?;
     same_count("jobs", layer.len(), 3)?;
     let mut sharing = layer.into_jobs();
     let last = sharing.last().ok_or("no jobs")?.id.conn.0;
     same_number("the last job's connection", last, 2)?;
-    sharing.push(job(3, group(5).with(GroupId::new(63))))?;
-    holds("the group 63 twice", Layer::gather(sharing).is_none())
+    sharing.push(job(3, 2, group(5).with(GroupId::new(63))))?;
+    holds("the group 63 twice", Layer::gather(sharing).is_none())?;
+    let mut beside = jobs(rt.alloc(), 1)?;
+    beside.push(job(1, 2, group(0).with(GroupId::new(1))))?;
+    holds(
+        "a job of two groups beside one of the first",
+        Layer::gather(beside).is_none(),
+    )
+}
+
+/// Two jobs of one group, with these clocks.
+fn two_of_one_group(alloc: Global, first: u64, second: u64) -> Result<Option<Layer>, AllocError> {
+    let mut jobs = Vec::new(alloc);
+    jobs.push(job(1, first, group(7)))?;
+    jobs.push(job(2, second, group(7)))?;
+    Ok(Layer::gather(jobs))
+}
+
+#[test]
+fn the_stamps_of_a_unit_rise(rt: HostRuntime) -> Result<(), Fail> {
+    holds("rising", two_of_one_group(rt.alloc(), 1, 2)?.is_some())?;
+    holds("falling", two_of_one_group(rt.alloc(), 2, 1)?.is_none())?;
+    holds("the same", two_of_one_group(rt.alloc(), 1, 1)?.is_none())
 }
 
 /// The parts have these places.
@@ -73,9 +94,54 @@ fn dealt(alloc: Global, count: u8, workers: usize, want: &[&[usize]]) -> Result<
     requires { count < 64 }
 {
     let layer = Layer::gather(jobs(alloc, count)?).ok_or("a group twice")?;
+    planned(alloc, &layer, workers, want)
+}
+
+/// A layer is dealt to so many workers.
+fn planned(alloc: Global, layer: &Layer, workers: usize, want: &[&[usize]]) -> Result<bool, Fail> {
     let workers = NonZeroUsize::new(workers).ok_or("no worker")?;
-    let parts = plan(alloc, &layer, workers)?;
+    let parts = plan(alloc, layer, workers)?;
     Ok(same_places(parts.as_slice(), want))
+}
+
+/// Jobs of the group 0, of 0 again, and of 1.
+fn two_units(alloc: Global) -> Result<Vec<Job>, AllocError> {
+    let mut jobs = Vec::new(alloc);
+    jobs.push(job(1, 1, group(0)))?;
+    jobs.push(job(2, 2, group(0)))?;
+    jobs.push(job(3, 3, group(1)))?;
+    Ok(jobs)
+}
+
+#[test]
+fn a_unit_is_in_one_part(rt: HostRuntime) -> Result<(), Fail> {
+    let alloc = rt.alloc();
+    let layer = Layer::gather(two_units(alloc)?).ok_or("a group in two units")?;
+    holds("one part", planned(alloc, &layer, 1, &[&[0, 1, 2]])?)?;
+    holds("two parts", planned(alloc, &layer, 2, &[&[0, 1], &[2]])?)?;
+    holds(
+        "no more parts than units",
+        planned(alloc, &layer, 8, &[&[0, 1], &[2]])?,
+    )?;
+    let units = units(alloc, &layer)?;
+    same_count("units", units.len(), 2)
+}
+
+#[test]
+fn units_go_by_their_first_stamps(rt: HostRuntime) -> Result<(), Fail> {
+    let alloc = rt.alloc();
+    let mut jobs = Vec::new(alloc);
+    jobs.push(job(1, 3, group(0)))?;
+    jobs.push(job(2, 1, group(1)))?;
+    jobs.push(job(3, 4, group(0)))?;
+    jobs.push(job(4, 2, group(2).with(GroupId::new(3))))?;
+    jobs.push(job(5, 5, group(1)))?;
+    let layer = Layer::gather(jobs).ok_or("a group in two units")?;
+    holds("one part", planned(alloc, &layer, 1, &[&[1, 4, 3, 0, 2]])?)?;
+    holds(
+        "two parts",
+        planned(alloc, &layer, 2, &[&[1, 4, 0, 2], &[3]])?,
+    )
 }
 
 #[test]

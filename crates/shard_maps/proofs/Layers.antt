@@ -1,46 +1,74 @@
--- A layer's commands, each run over its own shards, are run one after another on the joined map.
-use Rattle.std.proofs.Common.{◌≡◌, ℕ, zero, suc, List, [], ◌∷◌, map, Bool, true, false, cond, Option, Some, None, inl, inr, refl, sym, ap}
-use Rattle.std.proofs.Common.{◌∙◌, subst}
+-- A layer's commands, run in units, each unit over its own shards, are run one after another on the joined map.
+use Rattle.std.proofs.Common.{◌≡◌, ℕ, zero, suc, ◌==◌, nat_eq, List, [], ◌∷◌, true, false, cond, Option, Some, None, inl, inr, refl}
+use Rattle.std.proofs.Common.{sym, ap, ◌∙◌, subst, arith, eq-eqb, eqb-true}
+use Rattle.std.proofs.lemmas.Bool.{cases_Bool, both_ways, or_parts, and_parts, and_from}
+use Rattle.std.specs.Cmp.Lexicographic.{pointwise}
 use Rattle.std.specs.FinMap.{get, empty}
-use Rattle.std.specs.List.{AllZip}
 use Rattle.command_bodies.proofs.Turns.{pair}
 use Rattle.command_bodies.specs.Command.{effect_of}
 use Rattle.command_bodies.specs.InTurn.{solo_from}
 use Rattle.command_table.specs.declared.command.Command.{Command}
-use Rattle.groups.specs.GroupSet.{has}
+use Rattle.groups.specs.GroupSet.{has, IsAscending}
+use Rattle.groups.specs.Order.{In}
 use Rattle.keyspace.proofs.Gets.{same}
 use Rattle.keyspace.specs.Map.{Map}
 use Rattle.placement.specs.Groups.{groups_of}
 use Rattle.placement.specs.Layout.{Layout, IsTable, shard_of}
 use Rattle.resp.specs.Content.{Content}
-use Rattle.groups.specs.Order.{In}
 use Rattle.shard_maps.proofs.Joins.{get-joined}
 use Rattle.shard_maps.proofs.Rows.{picked-alike}
+use Rattle.shard_maps.proofs.Spans.{numbers-span_at, numbers-SpanRan, IsAscending-groups_of}
 use Rattle.shard_maps.proofs.Steps.{at_member, span_is_joined}
-use Rattle.shard_maps.specs.Joined.{joined, map_of_shard, HasKeysOf, HasOwnKeys, span_at, SpanRan}
-use Rattle.shard_maps.specs.Layer.{AreApart, ShareNoGroup, RanBetween, LayerRan, AnsweredInTurn, executed_of, replies_of}
+use Rattle.shard_maps.proofs.Unions.{not_again}
+use Rattle.shard_maps.specs.Joined.{joined, map_of_shard, HasKeysOf, HasOwnKeys, Span, numbers, span_at, SpanRan}
+use Rattle.shard_maps.specs.Layer.{MeetAlike, UnitRan, commands_with, outcomes_with, LayerRan, AnsweredInTurn, executed_of, replies_of}
 
--- the shards that pass the test as in the second list, the others as in the first
-mixed : List Map → List Map → (ℕ → Bool) → List Map
-mixed [] [] test = []
-mixed [] (n ∷ ns) test = cond (test 0) n empty ∷ mixed [] ns (λ g. test (suc g))
-mixed (m ∷ ms) [] test = cond (test 0) empty m ∷ mixed ms [] (λ g. test (suc g))
-mixed (m ∷ ms) (n ∷ ns) test = cond (test 0) n m ∷ mixed ms ns (λ g. test (suc g))
+-- ---- a row with a span put in its places, however long the row is
 
-cond_same : (b : Bool) (m : Map) → m ≡ cond b m m
-cond_same true m = refl
-cond_same false m = refl
+set_at : List Map → ℕ → Map → List Map
+set_at [] zero x = x ∷ []
+set_at [] (suc n) x = empty ∷ set_at [] n x
+set_at (m ∷ ms) zero x = x ∷ ms
+set_at (m ∷ ms) (suc n) x = m ∷ set_at ms n x
 
-map_of_shard-mixed : (ms ns : List Map) (test : ℕ → Bool) (g : ℕ)
-    → map_of_shard (mixed ms ns test) g ≡ cond (test g) (map_of_shard ns g) (map_of_shard ms g)
-unfolding mixed
-map_of_shard-mixed [] [] test g = cond_same (test g) empty
-map_of_shard-mixed [] (n ∷ ns) test zero = refl
-map_of_shard-mixed [] (n ∷ ns) test (suc g) = map_of_shard-mixed [] ns (λ h. test (suc h)) g
-map_of_shard-mixed (m ∷ ms) [] test zero = refl
-map_of_shard-mixed (m ∷ ms) [] test (suc g) = map_of_shard-mixed ms [] (λ h. test (suc h)) g
-map_of_shard-mixed (m ∷ ms) (n ∷ ns) test zero = refl
-map_of_shard-mixed (m ∷ ms) (n ∷ ns) test (suc g) = map_of_shard-mixed ms ns (λ h. test (suc h)) g
+at-set : (ms : List Map) (n : ℕ) (x : Map) → map_of_shard (set_at ms n x) n ≡ x
+unfolding set_at
+at-set [] zero x = refl
+at-set [] (suc n) x = at-set [] n x
+at-set (m ∷ ms) zero x = refl
+at-set (m ∷ ms) (suc n) x = at-set ms n x
+
+at-set_other : (ms : List Map) (n g : ℕ) (x : Map) → (n ≡ g → ⊥) → map_of_shard (set_at ms n x) g ≡ map_of_shard ms g
+unfolding set_at
+at-set_other [] zero zero x apart = absurd (apart refl)
+at-set_other [] zero (suc g) x apart = refl
+at-set_other [] (suc n) zero x apart = refl
+at-set_other [] (suc n) (suc g) x apart = at-set_other [] n g x (λ e. apart (ap suc e))
+at-set_other (m ∷ ms) zero zero x apart = absurd (apart refl)
+at-set_other (m ∷ ms) zero (suc g) x apart = refl
+at-set_other (m ∷ ms) (suc n) zero x apart = refl
+at-set_other (m ∷ ms) (suc n) (suc g) x apart = at-set_other ms n g x (λ e. apart (ap suc e))
+
+with_span : List Map → Span → List Map
+with_span row [] = row
+with_span row (s ∷ ss) = set_at (with_span row ss) s.0 s.1
+
+with_span-away : (row : List Map) (span : Span) (g : ℕ) → has (numbers span) g ≡ false → map_of_shard (with_span row span) g ≡ map_of_shard row g
+unfolding with_span
+with_span-away row [] g away = refl
+with_span-away row (s ∷ ss) g away =
+    let parts = or_parts (s.0 == g) (has (numbers ss) g) away in
+    at-set_other (with_span row ss) s.0 g s.1 (λ e. both_ways _ parts.0 (eq-eqb s.0 g e)) ∙ with_span-away row ss g parts.1
+
+-- and the span is there
+span_at-with : (row : List Map) (span : Span) → IsAscending (numbers span) → span_at (with_span row span) (numbers span) ≡ span
+unfolding with_span
+span_at-with row [] up = refl
+span_at-with row (s ∷ ss) up =
+    ap (λ m. (s.0, m) ∷ span_at (with_span row (s ∷ ss)) (numbers ss)) (at-set (with_span row ss) s.0 s.1)
+    ∙ ap (λ (l : Span). s ∷ l) (picked-alike empty (with_span row (s ∷ ss)) (with_span row ss) (numbers ss) (λ g there.
+    at-set_other (with_span row ss) s.0 g s.1 (λ e. both_ways _ (not_again s.0 (numbers ss) up) (ap (has (numbers ss)) e ∙ there)))
+    ∙ span_at-with row ss up.1)
 
 -- shards that are all the same are the same together
 pub joined-alike : (table : Layout) (ms ns : List Map) → HasOwnKeys table ms → HasOwnKeys table ns
@@ -49,107 +77,139 @@ joined-alike table ms ns own own' alike =
     same (joined ns) (joined ms)
     (λ q. get-joined table ns q own' ∙ ap (λ m. get m q) (alike (shard_of table q)) ∙ sym (get-joined table ms q own))
 
-each_moved : (table : Layout) (old mid new : List Map) (cs : List Command) (os : List (Option Content))
-    → ((d : Command) → In d cs → span_at mid (groups_of table d) ≡ span_at old (groups_of table d))
-    → AllZip (RanBetween table old new) cs os
-    → AllZip (RanBetween table mid new) cs os
-each_moved table old mid new [] [] alike each = each
-each_moved table old mid new [] (o ∷ os) alike each = absurd each
-each_moved table old mid new (c ∷ cs) [] alike each = absurd each
-each_moved table old mid new (c ∷ cs) (o ∷ os) alike each = (
-  subst (λ s. SpanRan table c s o (span_at new (groups_of table c))) (sym (alike c (inl refl))) each.0,
-  each_moved table old mid new cs os (λ d i. alike d (inr i)) each.1,
-)
+-- ---- the commands of a unit
 
--- ---- a layer of things that have a command each
+pub same_groups : (gs hs : List ℕ) → pointwise nat_eq gs hs ≡ true → gs ≡ hs
+same_groups [] [] e = refl
+same_groups [] (h ∷ hs) e = absurd (both_ways _ refl e)
+same_groups (g ∷ gs) [] e = absurd (both_ways _ refl e)
+same_groups (g ∷ gs) (h ∷ hs) e =
+    let parts = and_parts (g == h) (pointwise nat_eq gs hs) e in
+    ap (λ x. x ∷ gs) (eqb-true g h parts.0) ∙ ap (λ l. h ∷ l) (same_groups gs hs parts.1)
 
-in_map : {X : Type 0} (command : X → Command) (xs : List X) (d : Command) → In d (map command xs) → (x : X) × In x xs × (d ≡ command x)
-in_map command [] d i = absurd i
-in_map command (x ∷ xs) d (inl e) = (x, inl refl, e)
-in_map command (x ∷ xs) d (inr i) = let rest = in_map command xs d i in (rest.0, inr rest.1, rest.2)
+pub groups_same : (gs : List ℕ) → pointwise nat_eq gs gs ≡ true
+groups_same [] = refl
+groups_same (g ∷ gs) = and_from (g == g) (pointwise nat_eq gs gs) (eq-eqb g g refl) (groups_same gs)
 
--- no group is in the sets of two of them
-abbrev pub PairsApart : {X : Type 0} → (X → List ℕ) → List X → Type 0
-PairsApart groups [] = Unit {0}
-PairsApart {X} groups (x ∷ xs) = ((y : X) → In y xs → AreApart (groups x) (groups y)) × PairsApart groups xs
+-- a command that addresses a shard where no other one does is alone in its unit
+none_with : (table : Layout) (gs : List ℕ) (g : ℕ) (cs : List Command) → has gs g ≡ true
+    → ((d : Command) → In d cs → has (groups_of table d) g ≡ false) → commands_with table gs cs ≡ []
+none_with table gs g [] here away = refl
+none_with table gs g (d ∷ ds) here away = elim (cases_Bool (pointwise nat_eq (groups_of table d) gs)) [
+  | inl e ↦ absurd (both_ways _ (away d (inl refl)) (subst (λ l. has l g ≡ true) (sym (same_groups (groups_of table d) gs e)) here))
+  | inr e ↦ ap (λ b. cond b (d ∷ commands_with table gs ds) (commands_with table gs ds)) e
+      ∙ none_with table gs g ds here (λ c i. away c (inr i))
+]
 
--- where each has the groups of its command, their commands share no group
-pub ShareNoGroup-map : {X : Type 0} (table : Layout) (groups : X → List ℕ) (command : X → Command) (xs : List X)
-    → ((x : X) → In x xs → groups x ≡ groups_of table (command x)) → PairsApart groups xs → ShareNoGroup table (map command xs)
-ShareNoGroup-map table groups command [] same apart = tt
-ShareNoGroup-map table groups command (x ∷ xs) same apart = (
-  (λ d i g there. let y = in_map command xs d i in
-      ap (λ c. has (groups_of table c) g) y.2 ∙ ap (λ gs. has gs g) (sym (same y.0 (inr y.1)))
-      ∙ apart.0 y.0 y.1 g (ap (λ gs. has gs g) (same x (inl refl)) ∙ there)),
-  ShareNoGroup-map table groups command xs (λ y i. same y (inr i)) apart.1,
-)
+none_ran : (table : Layout) (before after : Span) (os : List (Option Content)) → UnitRan table [] before os after → after ≡ before
+none_ran table before after [] ran = ran
+none_ran table before after (o ∷ os) ran = absurd ran
 
 -- ---- one command after another
 
--- a shard that one of the first addresses, and none of the others
-others_after : (P : Command → Type 0) (c : Command) (cs : List Command) → P c → ((d : Command) → In d cs → P d) → (d : Command)
-    → In d (c ∷ cs) → P d
-others_after P c cs here later d (inl e) = subst P (sym e) here
-others_after P c cs here later d (inr i) = later d i
+module _ (table : Layout) (old new : List Map) (c : Command) (cs : List Command) (o : Option Content) (os : List (Option Content))
+    (alike : MeetAlike table (c ∷ cs)) (ran : LayerRan table old (c ∷ cs) (o ∷ os) new) where
+  abbrev gs : List ℕ
+  gs = groups_of table c
+
+  -- of those that address just these groups it is the first
+  first : (s : Span) × SpanRan table c (span_at old gs) o s
+      × UnitRan table (commands_with table gs cs) s (outcomes_with table gs cs os) (span_at new gs)
+  first = subst (λ b. UnitRan table (cond b (c ∷ commands_with table gs cs) (commands_with table gs cs)) (span_at old gs)
+      (cond b (o ∷ outcomes_with table gs cs os) (outcomes_with table gs cs os)) (span_at new gs)) (groups_same gs) (ran.each c (inl refl))
+
+  its_numbers : numbers first.0 ≡ gs
+  its_numbers = numbers-SpanRan table c (span_at old gs) first.0 o first.1 ∙ numbers-span_at old gs
+
+  -- the shards once it was run
+  mid : List Map
+  mid = with_span old first.0
+
+  mid_span : span_at mid gs ≡ first.0
+  unfolding mid
+  mid_span = ap (span_at (with_span old first.0)) (sym its_numbers)
+      ∙ span_at-with old first.0 (subst IsAscending (sym its_numbers) (IsAscending-groups_of table c))
+
+  mid_away : (g : ℕ) → has gs g ≡ false → map_of_shard mid g ≡ map_of_shard old g
+  unfolding mid
+  mid_away g away = with_span-away old first.0 g (ap (λ l. has l g) its_numbers ∙ away)
+
+  mid_ran : SpanRan table c (span_at old gs) o (span_at mid gs)
+  mid_ran = subst (SpanRan table c (span_at old gs) o) (sym mid_span) first.1
+
+  behind : UnitRan table (commands_with table gs cs) (span_at mid gs) (outcomes_with table gs cs os) (span_at new gs)
+  behind = subst (λ s. UnitRan table (commands_with table gs cs) s (outcomes_with table gs cs os) (span_at new gs)) (sym mid_span) first.2
+
+  each : (d : Command) → In d cs → UnitRan table (commands_with table (groups_of table d) cs) (span_at mid (groups_of table d))
+      (outcomes_with table (groups_of table d) cs os) (span_at new (groups_of table d))
+  each d i = elim (cases_Bool (pointwise nat_eq gs (groups_of table d))) [
+    | inl e ↦ subst (λ hs. UnitRan table (commands_with table hs cs) (span_at mid hs) (outcomes_with table hs cs os) (span_at new hs))
+        (same_groups gs (groups_of table d) e) behind
+    | inr e ↦
+        subst (λ s. UnitRan table (commands_with table (groups_of table d) cs) s (outcomes_with table (groups_of table d) cs os)
+        (span_at new (groups_of table d)))
+        (picked-alike empty old mid (groups_of table d) (λ g there. sym (mid_away g (elim (cases_Bool (has gs g)) as (λ _. has gs g ≡ false) [
+          | inl here ↦ absurd (both_ways _ e (subst (λ l. pointwise nat_eq gs l ≡ true) (alike c d g (inl refl) (inr i) here there) (groups_same gs)))
+          | inr none ↦ none
+        ]))))
+        (subst (λ b. UnitRan table
+        (cond b (c ∷ commands_with table (groups_of table d) cs) (commands_with table (groups_of table d) cs))
+        (span_at old (groups_of table d))
+        (cond b (o ∷ outcomes_with table (groups_of table d) cs os) (outcomes_with table (groups_of table d) cs os))
+        (span_at new (groups_of table d))) e (ran.each d (inr i)))
+  ]
+
+  others : (shard : ℕ) → ((d : Command) → In d cs → has (groups_of table d) shard ≡ false) → map_of_shard new shard ≡ map_of_shard mid shard
+  others shard away = elim (cases_Bool (has gs shard)) [
+    | inl here ↦
+        at_member (map_of_shard new) (map_of_shard mid) gs shard
+        (none_ran table (span_at mid gs) (span_at new gs) (outcomes_with table gs cs os)
+        (subst (λ l. UnitRan table l (span_at mid gs) (outcomes_with table gs cs os) (span_at new gs)) (none_with table gs shard cs here away) behind))
+        here
+    | inr none ↦ ran.others shard (λ d. elim [
+      | inl e ↦ subst (λ (x : Command). has (groups_of table x) shard ≡ false) (sym e) none
+      | inr i ↦ away d i
+    ]) ∙ sym (mid_away shard none)
+  ]
+
+  rest_ran : LayerRan table mid cs os new
+  rest_ran = let long = ran.as_many in record { as_many = omega (arith, long); each = each; others = others }
+
+  rest_alike : MeetAlike table cs
+  rest_alike d e g i j = alike d e g (inr i) (inr j)
 
 pub layer_in_turn : (table : Layout) (old new : List Map) (layer : List Command) (outcomes : List (Option Content)) → IsTable table
     → HasOwnKeys table old
-    → ShareNoGroup table layer → LayerRan table old layer outcomes new
+    → MeetAlike table layer → LayerRan table old layer outcomes new
     → AnsweredInTurn (joined old) layer outcomes (joined new) × HasOwnKeys table new
-layer_in_turn table old new [] [] is_table own apart ran =
+layer_in_turn table old new [] [] is_table own meet ran =
     let alike : (g : ℕ) → map_of_shard new g ≡ map_of_shard old g = (λ g. ran.others g (λ c i. absurd i)) in
     let own' : HasOwnKeys table new = (λ g. subst (HasKeysOf table g) (sym (alike g)) (own g)) in
     (joined-alike table old new own own' alike, own')
-layer_in_turn table old new [] (o ∷ os) is_table own apart ran = absurd ran.each
-layer_in_turn table old new (c ∷ cs) [] is_table own apart ran = absurd ran.each
-layer_in_turn table old new (c ∷ cs) (None ∷ os) is_table own apart ran =
-    layer_in_turn table old new cs os is_table own apart.1 (record { each = ran.each.1; others = others })
+layer_in_turn table old new [] (o ∷ os) is_table own meet ran = let long = ran.as_many in absurd (omega (arith, long))
+layer_in_turn table old new (c ∷ cs) [] is_table own meet ran = let long = ran.as_many in absurd (omega (arith, long))
+layer_in_turn table old new (c ∷ cs) (None ∷ os) is_table own meet ran =
+    let rest = layer_in_turn table between new cs os is_table own' (rest_alike table old new c cs None os meet ran)
+    (rest_ran table old new c cs None os meet ran) in
+    (subst (λ m. AnsweredInTurn m cs os (joined new)) (joined-alike table old between own own' alike) rest.0, rest.1)
   where
-    others : (shard : ℕ) → ((d : Command) → In d cs → has (groups_of table d) shard ≡ false)
-        → map_of_shard new shard ≡ map_of_shard old shard
-    others shard away = elim (has (groups_of table c) shard)
-        as (λ b. has (groups_of table c) shard ≡ b → map_of_shard new shard ≡ map_of_shard old shard) [
-          | true ↦ λ there. at_member (map_of_shard new) (map_of_shard old) (groups_of table c) shard ran.each.0 there
-          | false ↦ λ here. ran.others shard (others_after (λ d. has (groups_of table d) shard ≡ false) c cs here away)
-        ] refl
-layer_in_turn table old new (c ∷ cs) (Some reply ∷ os) is_table own apart ran =
-    let step = span_is_joined table old mid c reply is_table own
-    (subst (λ s. SpanRan table c (span_at old gs) (Some reply) s) (sym mid-new) ran.each.0) mid_away in
-    let rest = layer_in_turn table mid new cs os is_table step.1 apart.1
-    (record { each = each_moved table old mid new cs os mid-old ran.each.1; others = others }) in
+    between : List Map
+    between = mid table old new c cs None os meet ran
+
+    alike : (g : ℕ) → map_of_shard between g ≡ map_of_shard old g
+    alike g = elim (cases_Bool (has (groups_of table c) g)) [
+      | inl there ↦ at_member (map_of_shard between) (map_of_shard old) (groups_of table c) g (mid_ran table old new c cs None os meet ran) there
+      | inr away ↦ mid_away table old new c cs None os meet ran g away
+    ]
+
+    own' : HasOwnKeys table between
+    own' g = subst (HasKeysOf table g) (sym (alike g)) (own g)
+layer_in_turn table old new (c ∷ cs) (Some reply ∷ os) is_table own meet ran =
+    let step = span_is_joined table old (mid table old new c cs (Some reply) os meet ran) c reply is_table own
+    (mid_ran table old new c cs (Some reply) os meet ran) (mid_away table old new c cs (Some reply) os meet ran) in
+    let rest = layer_in_turn table (mid table old new c cs (Some reply) os meet ran) new cs os is_table step.1
+    (rest_alike table old new c cs (Some reply) os meet ran) (rest_ran table old new c cs (Some reply) os meet ran) in
     ((ap (λ r. r.1) step.0, subst (λ m. AnsweredInTurn m cs os (joined new)) (ap (λ r. r.0) step.0) rest.0), rest.1)
-  where
-    gs : List ℕ
-    gs = groups_of table c
-
-    mid : List Map
-    mid = mixed old new (has gs)
-
-    mid_there : (g : ℕ) → has gs g ≡ true → map_of_shard mid g ≡ map_of_shard new g
-    mid_there g there = map_of_shard-mixed old new (has gs) g ∙ ap (λ b. cond b (map_of_shard new g) (map_of_shard old g)) there
-
-    mid_away : (g : ℕ) → has gs g ≡ false → map_of_shard mid g ≡ map_of_shard old g
-    mid_away g away = map_of_shard-mixed old new (has gs) g ∙ ap (λ b. cond b (map_of_shard new g) (map_of_shard old g)) away
-
-    mid-new : span_at mid gs ≡ span_at new gs
-    mid-new = picked-alike empty mid new gs mid_there
-
-    apart_other : (d : Command) → In d cs → (g : ℕ) → has (groups_of table d) g ≡ true → has gs g ≡ false
-    apart_other d i g there = elim (has gs g) as (λ b. has gs g ≡ b → b ≡ false) [
-      | true ↦ λ here. sym there ∙ apart.0 d i g here
-      | false ↦ λ _. refl
-    ] refl
-
-    mid-old : (d : Command) → In d cs → span_at mid (groups_of table d) ≡ span_at old (groups_of table d)
-    mid-old d i = picked-alike empty mid old (groups_of table d) (λ g there. mid_away g (apart_other d i g there))
-
-    others : (shard : ℕ) → ((d : Command) → In d cs → has (groups_of table d) shard ≡ false)
-        → map_of_shard new shard ≡ map_of_shard mid shard
-    others shard away = elim (has gs shard) as (λ b. has gs shard ≡ b → map_of_shard new shard ≡ map_of_shard mid shard) [
-      | true ↦ λ there. sym (mid_there shard there)
-      | false ↦ λ here. ran.others shard (others_after (λ d. has (groups_of table d) shard ≡ false) c cs here away)
-          ∙ sym (mid_away shard here)
-    ] refl
 
 -- those that starved leave no trace
 pub starved_leave_no_trace : (old new : Map) (commands : List Command) (outcomes : List (Option Content))

@@ -4,6 +4,6 @@ pub mod Steps
 pub mod Unions
 pub mod Rows
 pub mod Layers
+pub mod Works
 pub mod Runs
-pub mod Parts
 pub mod PutBack

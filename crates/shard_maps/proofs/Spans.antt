@@ -1,7 +1,7 @@
 -- A command over the shards of its groups is that command on the joined map.
-use Rattle.std.proofs.Common.{◌≡◌, ℕ, ◌||◌, ◌&&◌, List, [], ◌∷◌, map, Bool, true, false, cond, Option, Some, None, slice_index_or, inl, inr}
-use Rattle.std.proofs.Common.{refl, sym, ap, ◌∙◌, subst, eq-eqb, ne_eqb, lt-ltb}
-use Rattle.std.proofs.lemmas.Bool.{cases_eq, both_ways}
+use Rattle.std.proofs.Common.{◌≡◌, ℕ, ◌<◌, ◌||◌, ◌&&◌, nat_lt, List, [], ◌∷◌, map, Bool, true, false, cond, Option, Some, None, slice_index_or, inl, inr}
+use Rattle.std.proofs.Common.{refl, sym, ap, ◌∙◌, subst, eq-eqb, ne_eqb, lt-ltb, ltb-true}
+use Rattle.std.proofs.lemmas.Bool.{cases_eq, both_ways, and_parts}
 use Rattle.std.proofs.lemmas.List.Folds.{Any-from_list_any}
 use Rattle.std.specs.Cmp.Lexicographic.{slice_cmp}
 use Rattle.std.specs.FinMap.{get, get-empty}
@@ -12,8 +12,8 @@ use Rattle.command_bodies.specs.Command.{case_of, effect_of}
 use Rattle.command_cases.specs.Case.{one}
 use Rattle.command_table.specs.Command.{keys_of, is_whole}
 use Rattle.command_table.specs.declared.command.Command.{Command}
-use Rattle.groups.specs.GroupSet.{has}
-use Rattle.groups.specs.GroupSetLaws.{has-chosen}
+use Rattle.groups.specs.GroupSet.{has, IsAscending}
+use Rattle.groups.specs.GroupSetLaws.{has-chosen, IsAscending-chosen}
 use Rattle.keyspace.proofs.Gets.{same, same_bytes}
 use Rattle.keyspace.proofs.Parts.{get-restrict, get-put_back}
 use Rattle.keyspace.specs.Map.{Map, among, restrict}
@@ -22,7 +22,7 @@ use Rattle.placement.specs.Groups.{groups_of, has_key_on}
 use Rattle.placement.specs.Layout.{Layout, IsTable, shard_of}
 use Rattle.resp.specs.Content.{Content}
 use Rattle.shard_maps.proofs.Joins.{get-joined-cons, get-joined, none_elsewhere, or_same}
-use Rattle.shard_maps.specs.Joined.{joined, map_of_shard, HasOwnKeys, numbers, union, span_at}
+use Rattle.shard_maps.specs.Joined.{joined, map_of_shard, HasOwnKeys, Span, numbers, union, span_at, divided, SpanRan}
 use Rattle.values.specs.declared.Value.{Value}
 
 -- ---- the union of some shards
@@ -149,3 +149,24 @@ module _ (table : Layout) (command : Command) (m u : Map) (is_table : IsTable ta
         | true ↦ λ e. absurd (both_ways _ away (has-groups_of-among table command q is_table e))
         | false ↦ λ _. refl
       ] refl
+
+-- ---- which shards they are
+
+pub IsAscending-groups_of : (table : Layout) (command : Command) → IsAscending (groups_of table command)
+IsAscending-groups_of table command = IsAscending-chosen (λ s. is_whole command || has_key_on table s (keys_of command)) 0 table.shards
+
+pub groups_of-below : (table : Layout) (command : Command) (g : ℕ) → has (groups_of table command) g ≡ true → g < table.shards
+groups_of-below table command g there =
+    ltb-true g table.shards (and_parts (nat_lt g table.shards) _
+    (sym (has-chosen (λ s. is_whole command || has_key_on table s (keys_of command)) table.shards g) ∙ there)).0
+
+-- a command leaves the same shards
+numbers-divided : (table : Layout) (m : Map) (gs : List ℕ) → numbers (divided table gs m) ≡ gs
+numbers-divided table m [] = refl
+numbers-divided table m (g ∷ gs) = ap (λ l. g ∷ l) (numbers-divided table m gs)
+
+pub numbers-SpanRan : (table : Layout) (command : Command) (before after : Span) (outcome : Option Content)
+    → SpanRan table command before outcome after → numbers after ≡ numbers before
+numbers-SpanRan table command before after None ran = ap numbers ran
+numbers-SpanRan table command before after (Some reply) ran =
+    ap (λ r. numbers r.0) ran ∙ numbers-divided table (effect_of command (union before)).0 (numbers before)

@@ -11,8 +11,8 @@ use Rattle.placement.specs.Groups.{groups_of}
 use Rattle.placement.specs.Layout.{Layout, IsTable, shard_of}
 use Rattle.resp.specs.Content.{Content}
 use Rattle.shard_maps.specs.Joined.{joined, map_of_shard, HasOwnKeys, span_at, SpanRan}
-use Rattle.shard_maps.specs.Rows.{taken_out_each, IsGathered}
-use Rattle.shard_maps.specs.Layer.{ShareNoGroup, LayerRan, Work, Ran, IsRunOf, outcomes_of, works_of, left_of, with_rans, AnsweredInTurn}
+use Rattle.shard_maps.specs.Rows.{taken_out_each}
+use Rattle.shard_maps.specs.Layer.{MeetAlike, LayerRan, Work, Ran, AreWorksOf, IsRunOf, left_of, with_rans, WorksRan, AnsweredInTurn}
 use Rattle.shard_maps.specs.Layer.{executed_of, replies_of}
 
 -- the joined map has at a key what the key's shard has there
@@ -28,32 +28,40 @@ SpansAreJoined =
     → ((shard : ℕ) → has (groups_of table command) shard ≡ false → map_of_shard new shard ≡ map_of_shard old shard)
     → ((joined new, reply) ≡ effect_of command (joined old)) × HasOwnKeys table new
 
--- the commands of a layer, each run over the shards of its groups, are run one after another on the joined map, in the
--- layer's order
+-- the commands of a layer, run in units, each over the shards of its groups, are run one after another on the joined map,
+-- in the layer's order
 abbrev pub LayersAreInTurn : Type 0
 LayersAreInTurn =
     (table : Layout) (old new : List Map) (layer : List Command) (outcomes : List (Option Content))
-    → IsTable table → HasOwnKeys table old → ShareNoGroup table layer → LayerRan table old layer outcomes new
+    → IsTable table → HasOwnKeys table old → MeetAlike table layer → LayerRan table old layer outcomes new
     → AnsweredInTurn (joined old) layer outcomes (joined new) × HasOwnKeys table new
 
--- each command of a layer gets the shards of its groups as they were, also where they are taken out one after another
+-- each unit of a layer gets the shards of its groups as they were, also where they are taken out one after another
 abbrev pub TakenOutAsTheyWere : Type 0
 TakenOutAsTheyWere =
-    (table : Layout) (maps : List Map) (layer : List Command) → ShareNoGroup table layer
-    → taken_out_each empty maps (map (groups_of table) layer) ≡ map (λ w. w.span) (works_of table maps layer)
+    (table : Layout) (maps : List Map) (layer : List Command) (works : List Work) → AreWorksOf table layer works
+    → taken_out_each empty maps (map (λ w. w.groups) works) ≡ map (λ w. span_at maps w.groups) works
 
--- The shards of each command are taken out, the commands are dealt to parts in any way, each part is run by itself,
--- what it gives is gathered in the layer's order, and the shards are put back in their places: so the commands of the
--- layer are run one after another on the joined map
+-- The shards of each unit are taken out, the units are run in whatever parts they were dealt to, the shards are put back in
+-- their places, and the outcomes stand in the places of their commands: so the commands of the layer are run one after
+-- another on the joined map
 abbrev pub PartsAreInTurn : Type 0
 PartsAreInTurn =
-    (table : Layout) (old : List Map) (layer : List Command)
-    (parts : List (List Work)) (results : List (List Ran)) (rans : List Ran)
-    → IsTable table → HasOwnKeys table old → length old ≡ table.shards → ShareNoGroup table layer
-    → AllZip (AllZip (IsRunOf table)) parts results → IsGathered parts results (works_of table old layer) rans
-    → LayerRan table old layer (outcomes_of rans) (with_rans (left_of table old layer) rans)
-    × AnsweredInTurn (joined old) layer (outcomes_of rans) (joined (with_rans (left_of table old layer) rans))
-    × HasOwnKeys table (with_rans (left_of table old layer) rans)
+    (table : Layout) (old : List Map) (layer : List Command) (works : List Work) (rans : List Ran)
+    (outcomes : List (Option Content))
+    → IsTable table → HasOwnKeys table old → length old ≡ table.shards → AreWorksOf table layer works
+    → length outcomes ≡ length layer → AllZip (IsRunOf table old outcomes) works rans
+    → LayerRan table old layer outcomes (with_rans (left_of old works) rans)
+    × AnsweredInTurn (joined old) layer outcomes (joined (with_rans (left_of old works) rans))
+    × HasOwnKeys table (with_rans (left_of old works) rans)
+
+-- so they are where the units are run in place, one after another
+abbrev pub WorksAreInTurn : Type 0
+WorksAreInTurn =
+    (table : Layout) (old new : List Map) (layer : List Command) (works : List Work) (outcomes : List (Option Content))
+    → IsTable table → HasOwnKeys table old → AreWorksOf table layer works
+    → length outcomes ≡ length layer → WorksRan table outcomes old works new
+    → LayerRan table old layer outcomes new × AnsweredInTurn (joined old) layer outcomes (joined new) × HasOwnKeys table new
 
 -- what is answered in turn is what one thread does with the commands that didn't starve
 abbrev pub StarvedLeaveNoTrace : Type 0

@@ -1,73 +1,104 @@
--- A layer: commands of which no two address one group. Each is run over the shards of its groups, in any order and by
--- anyone.
-use Rattle.std.specs.Prelude.{◌≡◌, ℕ, true, false, List, [], ◌∷◌, map, Option, Some, None, Result, Ok, Err}
+-- A layer: commands that are run in units, each unit over the shards of its groups, in any order and by anyone.
+use Rattle.std.specs.Prelude.{◌≡◌, ℕ, nat_eq, true, false, cond, List, [], ◌∷◌, length, map, slice_get, Option, Some, None, Result, Ok, Err}
+use Rattle.std.specs.Cmp.Lexicographic.{pointwise}
 use Rattle.std.specs.FinMap.{empty}
-use Rattle.std.specs.List.{AllZip}
 use Rattle.command_bodies.specs.Command.{effect_of}
 use Rattle.command_table.specs.declared.command.Command.{Command}
 use Rattle.groups.specs.GroupSet.{has}
+use Rattle.groups.specs.Order.{In}
 use Rattle.keyspace.specs.Map.{Map}
+use Rattle.layer_planner.specs.Units.{AreUnitsOf}
 use Rattle.placement.specs.Groups.{groups_of}
 use Rattle.placement.specs.Layout.{Layout}
 use Rattle.resp.specs.Content.{Content, content}
 use Rattle.resp.specs.declared.reply.Reply.{Reply}
-use Rattle.groups.specs.Order.{In}
 use Rattle.shard_maps.specs.Joined.{map_of_shard, Span, span_at, SpanRan}
 use Rattle.shard_maps.specs.Rows.{put_spans, emptied_each}
 
--- no group is in both sets
-abbrev pub AreApart : List ℕ → List ℕ → Type 0
-AreApart groups others = (g : ℕ) → has groups g ≡ true → has others g ≡ false
+-- where two of the commands share a group, they address the same groups
+abbrev pub MeetAlike : Layout → List Command → Type 0
+MeetAlike table layer =
+    (c d : Command) (g : ℕ) → In c layer → In d layer
+    → has (groups_of table c) g ≡ true → has (groups_of table d) g ≡ true → groups_of table c ≡ groups_of table d
 
--- no group is addressed by two of the commands
-abbrev pub ShareNoGroup : Layout → List Command → Type 0
-ShareNoGroup table [] = Unit {0}
-ShareNoGroup table (c ∷ cs) =
-    ((d : Command) → In d cs → AreApart (groups_of table c) (groups_of table d)) × ShareNoGroup table cs
+-- commands were run one after another over the same shards, or starved: what each answered, and what was left in the end
+abbrev pub UnitRan : Layout → List Command → Span → List (Option Content) → Span → Type 0
+UnitRan table [] before [] after = after ≡ before
+UnitRan table [] before (o ∷ os) after = ⊥
+UnitRan table (c ∷ cs) before [] after = ⊥
+UnitRan table (c ∷ cs) before (o ∷ os) after = (mid : Span) × SpanRan table c before o mid × UnitRan table cs mid os after
 
--- between these two rows of shards a command was run over the shards of its groups, or it starved
-abbrev pub RanBetween : Layout → List Map → List Map → Command → Option Content → Type 0
-RanBetween table old new c outcome =
-    SpanRan table c (span_at old (groups_of table c)) outcome (span_at new (groups_of table c))
+-- of a layer, the commands that address just these groups, and what they answered
+abbrev pub commands_with : Layout → List ℕ → List Command → List Command
+commands_with table groups [] = []
+commands_with table groups (c ∷ cs) =
+    cond (pointwise nat_eq (groups_of table c) groups) (c ∷ commands_with table groups cs) (commands_with table groups cs)
 
--- The shards before and after a layer: over the shards of each command's groups that command was run, or it starved; a
--- shard that no command addresses is as it was. Nothing is said of the order in which the commands were run.
+abbrev pub outcomes_with : Layout → List ℕ → List Command → List (Option Content) → List (Option Content)
+outcomes_with table groups (c ∷ cs) (o ∷ os) =
+    cond (pointwise nat_eq (groups_of table c) groups) (o ∷ outcomes_with table groups cs os) (outcomes_with table groups cs os)
+outcomes_with table groups _ _ = []
+
+-- The shards before and after a layer: over the shards of each command's groups those that address just these were run, one
+-- after another, or starved; a shard that no command addresses is as it was. Nothing is said of the order of the units.
 pub record LayerRan (table : Layout) (old : List Map) (layer : List Command) (outcomes : List (Option Content))
     (new : List Map) : Type 0 where
-  pub each : AllZip (RanBetween table old new) layer outcomes
+  pub as_many : length outcomes ≡ length layer
+  pub each : (c : Command) → In c layer
+      → UnitRan table (commands_with table (groups_of table c) layer) (span_at old (groups_of table c))
+      (outcomes_with table (groups_of table c) layer outcomes) (span_at new (groups_of table c))
   pub others : (shard : ℕ) → ((c : Command) → In c layer → has (groups_of table c) shard ≡ false)
       → map_of_shard new shard ≡ map_of_shard old shard
 
--- ---- a layer run in parts
+-- ---- a layer run unit by unit
 
--- a command with the shards that were taken out for it
+-- a unit of a layer: its places, its commands, and the groups that each of them addresses
 pub record Work : Type 0 where
-  pub command : Command
-  pub span : Span
+  pub places : List ℕ
+  pub commands : List Command
+  pub groups : List ℕ
 
--- what became of it, and of these shards
+-- these stand at these places of a list
+abbrev pub StandAt : {X : Type 0} → List X → List ℕ → List X → Type 0
+StandAt xs places ys = map (slice_get xs) places ≡ map Some ys
+
+-- they are the units of the layer, in any order
+pub record AreWorksOf (table : Layout) (layer : List Command) (works : List Work) : Type 0 where
+  pub units : AreUnitsOf (map (groups_of table) layer) (map (λ w. w.places) works)
+  pub stand : (w : Work) → In w works → StandAt layer w.places w.commands
+  pub groups : (w : Work) (c : Command) → In w works → In c w.commands → groups_of table c ≡ w.groups
+
+-- what became of a unit: what its commands answered, and its shards
 pub record Ran : Type 0 where
-  pub outcome : Option Content
+  pub outcomes : List (Option Content)
   pub span : Span
 
--- the command was run over its shards, or starved
-abbrev pub IsRunOf : Layout → Work → Ran → Type 0
-IsRunOf table work ran = SpanRan table work.command work.span ran.outcome ran.span
+-- the unit was run over its shards, which it got as they were, and its outcomes stand in its places of the layer's
+pub record IsRunOf (table : Layout) (old : List Map) (outcomes : List (Option Content)) (w : Work) (r : Ran) : Type 0 where
+  pub ran : UnitRan table w.commands (span_at old w.groups) r.outcomes r.span
+  pub stand : StandAt outcomes w.places r.outcomes
 
-abbrev pub outcomes_of : List Ran → List (Option Content)
-outcomes_of rans = map (λ r. r.outcome) rans
-
--- each command of a layer with the shards of its groups
-abbrev pub works_of : Layout → List Map → List Command → List Work
-works_of table maps layer = map (λ c. record { command = c; span = span_at maps (groups_of table c) }) layer
-
--- what is left of the shards when those of each command were taken out, empty ones in their places
-abbrev pub left_of : Layout → List Map → List Command → List Map
-left_of table maps layer = emptied_each empty maps (map (groups_of table) layer)
+-- what is left of the shards when those of each unit were taken out, empty ones in their places
+abbrev pub left_of : List Map → List Work → List Map
+left_of maps works = emptied_each empty maps (map (λ w. w.groups) works)
 
 -- the shards with those that were run over in their places
 abbrev pub with_rans : List Map → List Ran → List Map
 with_rans maps rans = put_spans maps (map (λ r. r.span) rans)
+
+-- between these two rows the unit was run in place: over the shards of its groups, the others left as they were
+pub record RanInPlace (table : Layout) (outcomes : List (Option Content)) (old : List Map) (w : Work) (new : List Map)
+    : Type 0 where
+  pub answered : List (Option Content)
+  pub ran : UnitRan table w.commands (span_at old w.groups) answered (span_at new w.groups)
+  pub stand : StandAt outcomes w.places answered
+  pub others : (shard : ℕ) → has w.groups shard ≡ false → map_of_shard new shard ≡ map_of_shard old shard
+
+-- units were run in place, one after another
+abbrev pub WorksRan : Layout → List (Option Content) → List Map → List Work → List Map → Type 0
+WorksRan table outcomes old [] new = new ≡ old
+WorksRan table outcomes old (w ∷ ws) new =
+    (mid : List Map) × RanInPlace table outcomes old w mid × WorksRan table outcomes mid ws new
 
 -- ---- one map
 

@@ -1,5 +1,5 @@
 -- A row of things by number, and some of them with their numbers, which are taken out of the row and put back.
-use Rattle.std.specs.Prelude.{◌≡◌, ℕ, ◌<◌, List, [], ◌∷◌, Option, length, map, slice_get, slice_set, slice_index_or}
+use Rattle.std.specs.Prelude.{ℕ, List, [], ◌∷◌, map, slice_set, slice_index_or}
 
 abbrev pub Numbered : Type 0 → Type 0
 Numbered X = List (ℕ × X)
@@ -38,17 +38,3 @@ emptied_each absent row (gs ∷ sets) = emptied_each absent (emptied absent row 
 abbrev pub taken_out_each : {X : Type 0} → X → List X → List (List ℕ) → List (Numbered X)
 taken_out_each absent row [] = []
 taken_out_each absent row (gs ∷ sets) = taken_out absent row gs ∷ taken_out_each absent (emptied absent row gs) sets
-
--- ---- things dealt to parts, and read again in their order
-
--- what stands at a place of a part
-abbrev pub in_part : {X : Type 0} → List (List X) → ℕ → ℕ → Option X
-in_part parts part place = slice_get (slice_index_or parts part []) place
-
--- each of `xs` stands somewhere in the parts, and where it stands the results have what is in its place of `ys`
-pub record IsGathered {X Y : Type 0}
-    (parts : List (List X)) (results : List (List Y)) (xs : List X) (ys : List Y) : Type 0 where
-  pub as_many : length ys ≡ length xs
-  pub each : (i : ℕ) → i < length xs
-      → (part : ℕ) × (place : ℕ)
-      × (in_part parts part place ≡ slice_get xs i) × (in_part results part place ≡ slice_get ys i)

@@ -1,23 +1,26 @@
 //! The maps of the shards as one map.
 //!
 //! Each shard has the keys that the table places there. Their maps together are the joined map, and what a command
-//! does to the shards of its groups it does to the joined map. So commands that share no group can each be run over
-//! their own shards, in any order and at once: it comes to the same as to run them one after another. The executor of
-//! layers stands on these laws.
+//! does to the shards of its groups it does to the joined map. A layer's commands are run in units: those that address
+//! one group alone, one after another, or one of several groups. Units share no group, so each can be run over its own
+//! shards, in any order and at once: it comes to the same as to run the commands one after another. The executor of layers
+//! stands on these laws.
 #![tactic(auto)]
 
 ghost use Rattle.shard_maps.specs.Laws.{KeysLieOnTheirShards, SpansAreJoined, LayersAreInTurn};
-ghost use Rattle.shard_maps.specs.Laws.{TakenOutAsTheyWere, PartsAreInTurn, StarvedLeaveNoTrace};
+ghost use Rattle.shard_maps.specs.Laws.{TakenOutAsTheyWere, PartsAreInTurn, WorksAreInTurn, StarvedLeaveNoTrace};
 
 /// What holds of the shards' maps and the joined map. It does nothing: its contract states the laws.
 ///
 /// - The joined map has at a key what the key's shard has there.
 /// - A command that is run over the shards of its groups is run on the joined map, and each shard has only its own keys
 ///   again.
-/// - The commands of a layer, each run over the shards of its groups, are run one after another on the joined map.
-/// - Each gets its shards as they were, also where the shards are taken out one after another.
-/// - However the commands are dealt to parts, once what the parts give is gathered and the shards are put back, it is as
-///   if the commands had been run one after another.
+/// - The commands of a layer, run in units, each over the shards of its groups, are run one after another on the joined
+///   map, in the layer's order.
+/// - Each unit gets its shards as they were, also where the shards are taken out one after another.
+/// - However the units are dealt to parts, once the shards are put back it is as if the commands had been run one after
+///   another.
+/// - So it is where the units are run in place, one after another.
 /// - What is answered one after another is what one thread does with the commands that did not starve.
 pub fn laws_of_joined_maps()
     ensures keys_lie_on_their_shards { KeysLieOnTheirShards }
@@ -25,5 +28,6 @@ pub fn laws_of_joined_maps()
     ensures layers_are_in_turn { LayersAreInTurn }
     ensures taken_out_as_they_were { TakenOutAsTheyWere }
     ensures parts_are_in_turn { PartsAreInTurn }
+    ensures works_are_in_turn { WorksAreInTurn }
     ensures starved_leave_no_trace { StarvedLeaveNoTrace }
 {}

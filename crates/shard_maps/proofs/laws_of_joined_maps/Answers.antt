@@ -1,6 +1,6 @@
 use Rattle.shard_maps.proofs.Joins.{get-joined}
 use Rattle.shard_maps.proofs.Layers.{layer_in_turn, starved_leave_no_trace}
-use Rattle.shard_maps.proofs.PutBack.{parts_in_turn, taken_out_as_they_were}
+use Rattle.shard_maps.proofs.PutBack.{parts_in_turn, taken_out_as_they_were, works_in_turn}
 use Rattle.shard_maps.proofs.Steps.{span_is_joined}
 use Rattle.shard_maps.proofs.laws_of_joined_maps.Goals as goal
 
@@ -18,6 +18,9 @@ returns-clause-starved_leave_no_trace c = starved_leave_no_trace
 
 pub returns-clause-parts_are_in_turn : goal.returns-clause-parts_are_in_turn
 returns-clause-parts_are_in_turn c = parts_in_turn
+
+pub returns-clause-works_are_in_turn : goal.returns-clause-works_are_in_turn
+returns-clause-works_are_in_turn c = works_in_turn
 
 pub returns-clause-taken_out_as_they_were : goal.returns-clause-taken_out_as_they_were
 returns-clause-taken_out_as_they_were c = taken_out_as_they_were

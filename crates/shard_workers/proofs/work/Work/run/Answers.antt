@@ -8,8 +8,8 @@ use Rattle.groups.specs.GroupSet.{IsAscending, has}
 use Rattle.placement.proofs.Addressed.{has-groups_of-key}
 use Rattle.placement.specs.Layout.{shard_of}
 use Rattle.resp.specs.declared.answered.Answered.{Answered}
-use Rattle.shard_maps.proofs.PutBack.{IsAscending-groups_of}
 use Rattle.shard_maps.proofs.Runs.{SpanRan-done}
+use Rattle.shard_maps.proofs.Spans.{IsAscending-groups_of}
 use Rattle.shard_maps.specs.Joined.{SpanRan}
 use Rattle.shard_maps.specs.Layer.{outcome_of}
 use Rattle.shard_workers.specs.Runs.{outcome}

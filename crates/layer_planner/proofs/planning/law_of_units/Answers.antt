@@ -1,0 +1,9 @@
+use Rattle.layer_planner.proofs.PartUnits.{parts_are_units}
+use Rattle.layer_planner.proofs.UnitLaws.{units_are_units}
+use Rattle.layer_planner.proofs.planning.law_of_units.Goals as goal
+
+pub returns-clause-units : goal.returns-clause-units
+returns-clause-units c = units_are_units
+
+pub returns-clause-parts : goal.returns-clause-parts
+returns-clause-parts c = parts_are_units
