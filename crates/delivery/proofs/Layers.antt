@@ -122,7 +122,8 @@ layer_stands queue layer is d i g h = elim (layer_fits queue layer is d i) [
 -- ---- the first of them is ready
 
 -- lined up with nothing before it
-ready_in_front : (queue : QueueOf) (d : Delivered) (g : ℕ) (rest : List Delivered) → d.groups ≡ g ∷ [] → queue g ≡ d ∷ rest → IsReady queue d
+ready_in_front : (queue : QueueOf) (d : Delivered) (g : ℕ) (rest : List Delivered) → d.groups ≡ g ∷ [] → queue g ≡ d ∷ rest
+    → IsReady queue d
 ready_in_front queue d g rest alone stands = record {
   somewhere = (g, has_one d.groups g alone);
   heads = λ h inside. (rest, ap queue (sym (one_group d.groups g h alone inside)) ∙ stands);
@@ -161,7 +162,8 @@ by_front queue d ds g (f ∷ fs) rest rises up alone stands inside =
       | inr there ↦ asym d.stamp f.stamp (up.0 f there) below
     ])
 
-first_ready : (queue : QueueOf) (d : Delivered) (ds : List Delivered) → Rises queue → Ascending (d ∷ ds) → Fits queue (d ∷ ds) d → IsReady queue d
+first_ready : (queue : QueueOf) (d : Delivered) (ds : List Delivered) → Rises queue → Ascending (d ∷ ds) → Fits queue (d ∷ ds) d
+    → IsReady queue d
 first_ready queue d ds rises up (inl ready) = ready
 first_ready queue d ds rises up (inr (l, inside)) = by_front queue d ds l.group l.front l.rest rises up l.alone l.stands inside
 
@@ -235,7 +237,8 @@ still_fits queue d e ds rises first differ (inr (l, inside)) = elim (cases_Bool 
       before = l.before;
     },
     λ x i. other d x ds (inside x i) (λ it.
-        both_ways (has x.groups l.group) (ap (λ (y : Delivered). has y.groups l.group) (sym it) ∙ h) (has_one x.groups l.group (l.before x i))),
+        both_ways (has x.groups l.group) (ap (λ (y : Delivered). has y.groups l.group) (sym it) ∙ h)
+        (has_one x.groups l.group (l.before x i))),
   )
 ]
 
@@ -272,14 +275,16 @@ popped_and_left (d ∷ ds) queue g p = elim (has d.groups g)
 in_at_group : (ds : List Delivered) (g : ℕ) (d : Delivered) → In d ds → has d.groups g ≡ true → In d (at_group g ds)
 in_at_group [] g d i h = absurd i
 in_at_group (x ∷ xs) g d (inl same) h =
-    subst (λ b. In d (cond b (x ∷ at_group g xs) (at_group g xs))) (sym (subst (λ (y : Delivered). has y.groups g ≡ true) same h)) (inl same)
+    subst (λ b. In d (cond b (x ∷ at_group g xs) (at_group g xs)))
+    (sym (subst (λ (y : Delivered). has y.groups g ≡ true) same h)) (inl same)
 in_at_group (x ∷ xs) g d (inr i) h = elim (has x.groups g) as (λ b. In d (cond b (x ∷ at_group g xs) (at_group g xs))) [
   | true ↦ inr (in_at_group xs g d i h)
   | false ↦ in_at_group xs g d i h
 ]
 
 -- all of these are in the layer: nothing of them is left
-none_left : (layer xs rest : List Delivered) → ((d : Delivered) → In d xs → has_id layer d.id ≡ true) → left_in layer (xs ++ rest) ≡ left_in layer rest
+none_left : (layer xs rest : List Delivered) → ((d : Delivered) → In d xs → has_id layer d.id ≡ true)
+    → left_in layer (xs ++ rest) ≡ left_in layer rest
 none_left layer [] rest all = refl
 none_left layer (x ∷ xs) rest all =
     ap (λ b. cond b (left_in layer (xs ++ rest)) (x ∷ xs ++ rest)) (all x (inl refl)) ∙ none_left layer xs rest (λ d i. all d (inr i))

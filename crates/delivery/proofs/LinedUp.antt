@@ -1,6 +1,7 @@
 -- What is taken with the ready requests: those that are ready or lined up, each once; in order it is the layer.
 use Rattle.std.proofs.Common.{◌≡◌, ◌≢◌, ℕ, suc, ◌+◌, ◌==◌, Bool, true, false, cond, List, [], ◌∷◌, ◌++◌, ◌⊎◌, length}
-use Rattle.std.proofs.Common.{◌≤◌, length-append, slice_index_or, refl, sym, ap, ◌∙◌, subst, inl, inr, arith, eqb-true, eq-eqb, append_assoc}
+use Rattle.std.proofs.Common.{◌≤◌, length-append, slice_index_or, refl, sym, ap, ◌∙◌, subst, inl, inr, arith, eqb-true, eq-eqb}
+use Rattle.std.proofs.Common.{append_assoc}
 use Rattle.std.proofs.lemmas.Bool.{or_cases, both_ways, cases_Bool}
 use Rattle.std.proofs.lemmas.List.Sums.{take_while-cons}
 use Rattle.std.proofs.lemmas.List.Elements.{All-head, All-tail}
@@ -338,15 +339,16 @@ up_sorted (x ∷ y ∷ ys) once up single =
     )
 
 -- sorted, what is taken with the ready requests is the layer
-pub sorted_layer : (queue : QueueOf) (ds layer : List Delivered) → IsSound queue → AreReady queue ds → IsPermutation (runs_of queue ds) layer
-    → Sorted layer → IsLayer queue layer
+pub sorted_layer : (queue : QueueOf) (ds layer : List Delivered) → IsSound queue → AreReady queue ds
+    → IsPermutation (runs_of queue ds) layer → Sorted layer → IsLayer queue layer
 sorted_layer queue ds layer sound are moved up = record { ascending = ascending; only = only; all = all }
   where
     only : (d : Delivered) → In d layer → IsReady queue d ⊎ IsLinedUp queue d
     only d i = only_taken queue sound ds d are.only (In-permutation (runs_of queue ds) layer d moved i)
 
     all : (d : Delivered) → IsReady queue d ⊎ IsLinedUp queue d → In d layer
-    all d w = In-permutation layer (runs_of queue ds) d (IsPermutation-sym (runs_of queue ds) layer moved) (all_taken queue sound ds d are w)
+    all d w =
+        In-permutation layer (runs_of queue ds) d (IsPermutation-sym (runs_of queue ds) layer moved) (all_taken queue sound ds d are w)
 
     ascending : Ascending layer
     ascending =

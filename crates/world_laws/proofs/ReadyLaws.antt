@@ -101,7 +101,8 @@ module _ (t : Layout) (w : World) (good : WorldGood t w) (owes : Owes w) where
   -- it stands in the queue of its group
   still_queued : (d : Delivered) (b : IsBehindAlone w d) → In d (w.queue b.group)
   still_queued d b =
-      elim (In-append d (w.gone b.group) (w.queue b.group) (subst (λ l. In d l) (sym b.delivered) (In-right d b.front (d ∷ b.rest) (inl refl)))) [
+      let stands : In d (log_of w b.group) = subst (λ l. In d l) (sym b.delivered) (In-right d b.front (d ∷ b.rest) (inl refl)) in
+      elim (In-append d (w.gone b.group) (w.queue b.group) stands) [
         | inl gone ↦ absurd (b.not_taken (b.group, gone))
         | inr here ↦ here
       ]

@@ -62,7 +62,8 @@ returns-clause-layer c =
     let queue = queue_of (requests_of qs) in
     let appended : c.append_runs.new.layer.items ≡ runs_of queue ds =
     c.in_ok-append_runs.ensures
-    ∙ ap (λ (l : List Delivered). l ++ runs_of (queue_of (requests_of c.deref-3.result.now)) c.deref-4.result.now) c.in_ok-layer.ensures.items
+    ∙ ap (λ (l : List Delivered). l ++ runs_of (queue_of (requests_of c.deref-3.result.now)) c.deref-4.result.now)
+    c.in_ok-layer.ensures.items
     ∙ ap (λ (l : List QueueView). runs_of (queue_of (requests_of l)) c.deref-4.result.now) c.deref-3.ensures.value
     ∙ ap (λ (l : List Delivered). runs_of queue l) c.deref-4.ensures.value in
     subst (λ l. IsLayer (queue_of l) c.sort_by_stamp.new.requests.items) (same_queues qs c.args.self.now c.self.view_is)

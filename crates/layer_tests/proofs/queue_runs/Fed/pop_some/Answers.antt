@@ -11,7 +11,8 @@ pop_all-requires c =
     let queue = queue_of c.self.inside.queues.queues in
     let ready = c.in_ok-layer in
     subst (λ (ds : List Delivered). Poppable queue ds) (sym (c.as_slice.ensures.value ∙ c.truncate.ensures.items))
-    (poppable_take c.args.count ready.layer.items queue (layers_can_be_popped queue ready.layer.items ready.ensures.sound ready.ensures.layer))
+    (poppable_take c.args.count ready.layer.items queue
+    (layers_can_be_popped queue ready.layer.items ready.ensures.sound ready.ensures.layer))
 
 pub invariant_of-self : goal.invariant_of-self
 invariant_of-self c = (
