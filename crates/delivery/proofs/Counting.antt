@@ -1,7 +1,8 @@
 -- One queue more has a request at its head: what both lists are then.
-use Rattle.std.proofs.Common.{◌≡◌, ◌≢◌, ℕ, ◌+◌, ◌<◌, ◌≤◌, ◌⊎◌, true, false, cond, List, [], ◌∷◌, ◌++◌, length}
+use Rattle.std.proofs.Common.{◌≡◌, ◌≢◌, ℕ, suc, ◌+◌, ◌<◌, ◌≤◌, ◌⊎◌, true, false, cond, List, [], ◌∷◌, ◌++◌, length}
 use Rattle.std.proofs.Common.{refl, sym, ap, ◌∙◌, subst, arith, inl, inr, eqb-true, eq-eqb}
 use Rattle.std.proofs.lemmas.Bool.{both_ways, cases_Bool, cases_eq, cases_lt}
+use Rattle.std.proofs.lemmas.List.{get_or_past}
 use Rattle.groups.specs.GroupSet.{has, IsGroupSet}
 use Rattle.groups.specs.Order.{In}
 use Rattle.groups.specs.Request.{same_id}
@@ -12,7 +13,7 @@ use Rattle.groups.proofs.Ids.{same_id-true, same_id-refl, ne-same_id}
 use Rattle.groups.proofs.Lists.{In-left, In-last, In-end}
 use Rattle.groups.proofs.Stamps.{lt_irrefl}
 use Rattle.delivery.specs.Ready.{QueueOf, IsReady, AreReady}
-use Rattle.delivery.specs.Queues.{IsSound}
+use Rattle.delivery.specs.Queues.{queue_of, IsSound}
 use Rattle.delivery.specs.Heads.{head_of, is_named, headed, IsPartly, AreApart, heading_of, ArePartly, AreCounted}
 use Rattle.delivery.specs.Heads.{placed, without, counted, has_all, ready_after, partly_after}
 use Rattle.delivery.specs.declared.heads.Heading.{Heading}
@@ -20,6 +21,7 @@ use Rattle.delivery.proofs.Apart.{in_without, without_in, apart_without, apart_e
 use Rattle.delivery.proofs.Few.{NoneTwice, fewer}
 use Rattle.delivery.proofs.Headed.{starts_with, named_head, head_in, unnamed, headed_le, headed_lt, headed_pos, heads_one}
 use Rattle.delivery.proofs.Headed.{headed_same, headed_more, ready_heads_all, heads_all_ready}
+use Rattle.delivery.proofs.Layers.{first_same}
 use Rattle.delivery.proofs.Placed.{in_placed, placed_in, placed_up}
 
 -- the request is at the head of a queue that was empty; the others are as they were, and the last of them is below n
@@ -39,9 +41,6 @@ once_ascending (d ∷ ds) up = ((λ i. both_ways _ (lt_irrefl d.stamp) (up.0 d i
 once_apart : (hs : List Heading) → AreApart (λ (h : Heading). h.id) hs → NoneTwice hs
 once_apart [] apart = tt
 once_apart (h ∷ hs) apart = ((λ i. apart.0 h i refl), once_apart hs apart.1)
-
-pub first_same : (q rest rest' : List Delivered) (d e : Delivered) → q ≡ d ∷ rest → q ≡ e ∷ rest' → d ≡ e
-first_same q rest rest' d e h k = cc
 
 none_first : (q rest : List Delivered) (d : Delivered) → q ≡ [] → q ≡ d ∷ rest → ⊥
 none_first q rest d h k = absurd (cc)
@@ -274,6 +273,21 @@ module _ (n : ℕ) (queue queue' : QueueOf) (g : ℕ) (d : Delivered) (c : Comes
         ] refl
 
 -- ---- whether one is ready
+
+-- there are no more ready requests than queues
+pub as_few : (qs : List (List Delivered)) (ds : List Delivered) → AreReady (queue_of qs) ds → length ds ≤ length qs
+as_few qs ds a =
+    let less : length ds < suc (length qs) = fewer (HeadsAt (queue_of qs)) (λ m x y i j. first_same (queue_of qs m) i.0 j.0 x y i.1 j.1) ds
+    (suc (length qs)) (length qs) (once_ascending ds a.ascending) (omega arith)
+    (λ e i. let r = a.only e i in (r.somewhere.0, r.heads r.somewhere.0 r.somewhere.1))
+    (λ m e at. let low = there m e at.0 at.1 in (omega arith, λ same. omega arith)) in
+    omega arith
+  where
+    there : (m : ℕ) (e : Delivered) (rest : List Delivered) → queue_of qs m ≡ e ∷ rest → m < length qs
+    there m e rest is = elim (cases_lt m (length qs)) [
+      | inl low ↦ low
+      | inr high ↦ absurd (none_first (queue_of qs m) rest e (get_or_past qs m [] high) is)
+    ]
 
 pub none_ready : (queue : QueueOf) (ds : List Delivered) → AreReady queue ds → ((d : Delivered) → IsReady queue d → ⊥) → ds ≡ []
 none_ready queue [] a none = refl

@@ -10,3 +10,4 @@ pub mod Popping
 pub mod Sound
 pub mod Rows
 pub mod HeadsGone
+pub mod LinedUp

@@ -18,9 +18,9 @@ use Rattle.delivery.specs.Heads.{head_of, is_named, headed, AreApart, ArePartly,
 use Rattle.delivery.specs.Heads.{ready_after, partly_after}
 use Rattle.delivery.specs.declared.heads.Heading.{Heading}
 use Rattle.delivery.proofs.Apart.{within, in_without, without_in}
-use Rattle.delivery.proofs.Counting.{Comes, first_same, few_ready, few_partly, may_count, counted_after}
+use Rattle.delivery.proofs.Counting.{Comes, few_ready, few_partly, may_count, counted_after}
 use Rattle.delivery.proofs.Headed.{has_once, has_rest, head_in, headed_same, ready_heads_all}
-use Rattle.delivery.proofs.Layers.{in_queue}
+use Rattle.delivery.proofs.Layers.{first_same, in_queue}
 use Rattle.delivery.proofs.Rows.{queue_at}
 use Rattle.delivery.proofs.Sound.{sound_fewer}
 

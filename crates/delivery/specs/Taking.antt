@@ -1,7 +1,7 @@
 -- What becomes of the queues when requests are popped, and what holds of a layer.
-use Rattle.std.specs.Prelude.{◌≡◌, ℕ, true, false, cond, List, [], ◌∷◌, drop}
+use Rattle.std.specs.Prelude.{◌≡◌, ℕ, cond, List, [], ◌∷◌, drop}
 use Rattle.groups.specs.GroupSet.{has}
-use Rattle.groups.specs.Order.{In}
+use Rattle.groups.specs.Units.{AreUnits}
 use Rattle.skeen_core.specs.declared.packet.Delivered.{Delivered}
 use Rattle.delivery.specs.Ready.{QueueOf, IsReady, IsLayer, left_in}
 use Rattle.delivery.specs.Queues.{IsSound}
@@ -20,17 +20,11 @@ abbrev pub Poppable : QueueOf → List Delivered → Type 0
 Poppable queue [] = Unit {0}
 Poppable queue (d ∷ ds) = IsReady queue d × Poppable (popped d queue) ds
 
--- of two requests at different places no group is in both
-abbrev pub ShareNoGroup : List Delivered → Type 0
-ShareNoGroup [] = Unit {0}
-ShareNoGroup (d ∷ ds) =
-    ((e : Delivered) → In e ds → (g : ℕ) → has d.groups g ≡ true → has e.groups g ≡ false) × ShareNoGroup ds
-
 -- ---- the laws
 
 -- a layer's requests can be popped in their order
 abbrev pub LayersCanBePopped : Type 0
-LayersCanBePopped = (queue : QueueOf) (layer : List Delivered) → IsLayer queue layer → Poppable queue layer
+LayersCanBePopped = (queue : QueueOf) (layer : List Delivered) → IsSound queue → IsLayer queue layer → Poppable queue layer
 
 -- which leaves in each queue what the layer leaves
 abbrev pub PoppedIsLeft : Type 0
@@ -38,5 +32,8 @@ PoppedIsLeft =
     (queue : QueueOf) (layer : List Delivered) → IsSound queue → IsLayer queue layer →
     (g : ℕ) → popped_all layer queue g ≡ left_in layer (queue g)
 
-abbrev pub LayersShareNoGroup : Type 0
-LayersShareNoGroup = (queue : QueueOf) (layer : List Delivered) → IsLayer queue layer → ShareNoGroup layer
+-- no group is in two of its units: those that address one group alone are a unit of that group, and each other one is a
+-- unit by itself
+abbrev pub LayersAreUnits : Type 0
+LayersAreUnits =
+    (queue : QueueOf) (layer : List Delivered) → IsLayer queue layer → AreUnits (λ (d : Delivered). d.groups) (λ d. d.stamp) layer

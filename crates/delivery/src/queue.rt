@@ -1,6 +1,7 @@
 //! The queue of one group.
-ghost use Rattle.std.specs.Prelude.{◌≡◌, ◌+◌, ◌<◌, ◌≤◌, ◌++◌, [], ◌∷◌, drop, OnOk, OnErr, IsOk, option_copied};
+ghost use Rattle.std.specs.Prelude.{◌≡◌, ◌+◌, ◌<◌, ◌≤◌, ◌++◌, [], ◌∷◌, drop, length, OnOk, OnErr, IsOk, option_copied};
 ghost use Rattle.delivery.specs.Heads.{head_of};
+ghost use Rattle.delivery.specs.Runs.{run};
 
 use skeen_core::Delivered;
 use std::alloc::{AllocError, Global};
@@ -43,6 +44,29 @@ impl Queue {
         ensures { option_copied result ≡ head_of self.now.requests }
     {
         self.requests.front()
+    }
+
+    /// How many requests in front address one group alone.
+    pub fn run_len(&self) -> usize
+        ensures { result ≡ length (run self.now.requests) }
+    {
+        self.requests
+            .iter()
+            .take_while(|request| request.groups.len() == 1)
+            .count()
+    }
+
+    /// Puts the requests in front that address one group alone behind these. The only error is want of memory.
+    pub fn append_run(&self, requests: &mut Vec<Delivered>) -> Result<(), AllocError>
+        ensures { OnOk result (requests.new.items ≡ requests.old.items ++ run self.now.requests) }
+    {
+        for request in self.requests.iter() {
+            if request.groups.len() != 1 {
+                break;
+            }
+            requests.push(*request)?;
+        }
+        Ok(())
     }
 
     /// Takes the room for `count` more requests. The only error is want of memory, which changes nothing.

@@ -1,4 +1,4 @@
-//! The queues of all groups, and the layer of the requests that are ready.
+//! The queues of all groups, and the layer of the requests that are ready or lined up.
 ghost use Rattle.std.specs.Prelude.{◌≡◌, ◌≢◌, ℕ, ◌+◌, ◌<◌, ◌≤◌, ◌++◌, [], ◌∷◌, true, cond, drop, length, slice_set, IfOk, OnOk, OnErr};
 ghost use Rattle.std.specs.Prelude.{IsOk, IsTrue, ◌↔◌, option_copied};
 ghost use Rattle.groups.specs.GroupSet.{has};
@@ -10,6 +10,7 @@ ghost use Rattle.delivery.specs.Heads.{head_of};
 
 use super::heads::{Heading, count_heads, take_ready};
 use super::queue::Queue;
+use super::runs::{append_runs, count_runs, sort_by_stamp};
 use groups::{GroupId, Groups};
 use skeen_core::Delivered;
 use std::alloc::{AllocError, Global};
@@ -106,15 +107,22 @@ impl Queues {
         Ok(())
     }
 
-    /// The layer: all requests that are ready, ascending by their stamps. The only error is want of memory; where none
-    /// is ready no memory is wanted.
+    /// The layer: all requests that are ready or lined up, ascending by their stamps. The only error is want of memory;
+    /// where none is ready no memory is wanted.
     pub fn ready(&self, alloc: Global) -> Result<Vec<Delivered>, AllocError>
         ensures layer { IfOk result (λ layer. IsLayer (queue_of self.now.queues) layer.items) }
         ensures succeeds { ((d : Delivered) → ¬ IsReady (queue_of self.now.queues) d) → IsOk result }
         ensures sound { IsSound (queue_of self.now.queues) }
     {
-        let mut layer = Vec::with_capacity(alloc, self.ready.len())?;
-        layer.extend_from_slice(self.ready.as_slice())?;
+        let count = count_runs(&self.queues, &self.ready);
+        let mut layer = Vec::with_capacity(alloc, count)?;
+        if count == self.ready.len() {
+            // Nothing is lined up behind a head.
+            layer.extend_from_slice(self.ready.as_slice())?;
+            return Ok(layer);
+        }
+        append_runs(&self.queues, &self.ready, &mut layer)?;
+        sort_by_stamp(&mut layer);
         Ok(layer)
     }
 

@@ -17,7 +17,7 @@ pub enum Step {
     /// The packet at this place of those under way, counted from 0 in order of sending, comes to its group.
     Deliver { place: u64 },
 
-    /// All ready requests are taken as the next layer.
+    /// All requests that are ready or lined up are taken as the next layer.
     Take,
 
     /// The layer that was taken is run, but for these of its requests, which count as starved.

@@ -1,5 +1,5 @@
 -- What has been delivered tells what may be delivered next.
-use Rattle.std.proofs.Common.{◌≡◌, ℕ, ◌<◌, Bool, true, false, cond, drop, List, [], ◌∷◌, ◌++◌, length, slice_set}
+use Rattle.std.proofs.Common.{◌≡◌, ℕ, zero, suc, ◌<◌, Bool, true, false, cond, take, drop, List, [], ◌∷◌, ◌++◌, length, slice_set}
 use Rattle.std.proofs.Common.{refl, sym, ap, ◌∙◌, subst, arith, inl, inr}
 use Rattle.std.proofs.lemmas.Bool.{cases_eq, both_ways}
 use Rattle.std.proofs.lemmas.List.{get_or-set_same, get_or-set_other, length-set}
@@ -14,7 +14,7 @@ use Rattle.groups.proofs.Stamps.{lt_irrefl}
 use Rattle.groups.proofs.Lists.{In-left, In-right, In-end}
 use Rattle.delivery.specs.Ready.{QueueOf}
 use Rattle.delivery.specs.Queues.{queue_of, is_above_last, MayAppend}
-use Rattle.delivery.specs.Taking.{popped, popped_all}
+use Rattle.delivery.specs.Taking.{popped, popped_all, Poppable}
 use Rattle.layer_tests.specs.Seen.{AreSeen, GoesWith, GoesWithAll}
 
 last_below : (q : List Delivered) (s : Stamp) → ((e : Delivered) → In e q → stamp_lt e.stamp s ≡ true) → is_above_last q s ≡ true
@@ -77,6 +77,12 @@ pub seen_popped_all : (seen : List (ℕ × Delivered)) (queues queues' : List (L
     → queue_of queues' ≡ popped_all ds (queue_of queues) → AreSeen seen queues → AreSeen seen queues'
 seen_popped_all seen queues queues' ds is are h e i =
     are h e (in_popped_all ds (queue_of queues) h e (subst (λ (u : QueueOf). In e (u h)) is i))
+
+-- the first of those that can be popped can be
+pub poppable_take : (n : ℕ) (ds : List Delivered) (queue : QueueOf) → Poppable queue ds → Poppable queue (take n ds)
+poppable_take zero ds queue can = tt
+poppable_take (suc n) [] queue can = tt
+poppable_take (suc n) (d ∷ ds) queue can = (can.0, poppable_take n ds (popped d queue) can.1)
 
 -- ---- two requests
 

@@ -16,6 +16,8 @@ mod memory;
 #[cfg(test)]
 mod parts;
 #[cfg(test)]
+mod queue_layers;
+#[cfg(test)]
 mod queue_runs;
 #[cfg(test)]
 mod queues;

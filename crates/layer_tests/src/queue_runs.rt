@@ -1,5 +1,5 @@
-//! Requests of one to three of four groups, which the groups deliver and layers take by chance. What is ready is held to a search
-//! of plain lists.
+//! Requests of one to three of four groups, which the groups deliver and layers take by chance. The layer is held to a
+//! search of plain lists.
 ghost use Rattle.std.specs.Prelude.{◌≡◌, ◌<◌, IsTrue};
 ghost use Rattle.layer_tests.specs.Seen.{GoesWith, GoesWithAll};
 
@@ -60,15 +60,31 @@ fn has_id(requests: &[Delivered], id: RequestId) -> bool {
     false
 }
 
-/// The requests that head each of their lists, as the lists come.
-fn ready_in(alloc: Global, lists: &[Vec<Delivered>]) -> Result<Vec<Delivered>, AllocError> {
+/// Puts those that are found in the list behind: its head, if that heads each of its lists, and the requests that are
+/// lined up.
+fn find_in(
+    lists: &[Vec<Delivered>],
+    list: &[Delivered],
+    found: &mut Vec<Delivered>,
+) -> Result<(), AllocError> {
+    for request in list {
+        if request.groups.len() == 1 {
+            found.push(*request)?;
+        } else {
+            if heads_all(lists, request) && !has_id(found.as_slice(), request.id) {
+                found.push(*request)?;
+            }
+            break;
+        }
+    }
+    Ok(())
+}
+
+/// The requests that are ready or lined up, as the lists come.
+fn layer_in(alloc: Global, lists: &[Vec<Delivered>]) -> Result<Vec<Delivered>, AllocError> {
     let mut found = Vec::new(alloc);
     for list in lists {
-        if let Some(head) = list.first() {
-            if heads_all(lists, head) && !has_id(found.as_slice(), head.id) {
-                found.push(*head)?;
-            }
-        }
+        find_in(lists, list.as_slice(), &mut found)?;
     }
     Ok(found)
 }
@@ -116,7 +132,7 @@ fn may_come(seen: &[(GroupId, Delivered)], group: GroupId, request: &Delivered) 
 
 /// Queues, and all that was ever delivered there.
 #[derive(Drop)]
-struct Fed {
+pub struct Fed {
     queues: Queues,
     seen: Vec<(GroupId, Delivered)>,
 }
@@ -135,14 +151,14 @@ impl Model for Fed {
 
 impl Fed {
     /// Four queues without requests.
-    fn new(alloc: Global) -> Result<Fed, AllocError> {
+    pub fn new(alloc: Global) -> Result<Fed, AllocError> {
         let queues = Queues::new(alloc, GROUPS)?;
         let seen = Vec::new(alloc);
         Ok(Fed { queues, seen })
     }
 
     /// The group delivers the request, if it may.
-    fn deliver(&mut self, group: GroupId, request: &Delivered) -> Result<bool, AllocError>
+    pub fn deliver(&mut self, group: GroupId, request: &Delivered) -> Result<bool, AllocError>
         requires { group < 4 }
     {
         if !request.groups.contains(group) || !may_come(self.seen.as_slice(), group, request) {
@@ -153,20 +169,10 @@ impl Fed {
         Ok(true)
     }
 
-    /// Takes one of the ready requests out, if there are so many.
-    fn pop_one(&mut self, alloc: Global, place: u64) -> Result<Option<Delivered>, AllocError> {
-        let layer = self.queues.ready(alloc)?;
-        let Some(request) = layer.get(place as usize) else {
-            return Ok(None);
-        };
-        self.queues.pop(request);
-        Ok(Some(*request))
-    }
-
-    /// Takes all the ready requests out.
-    #[tactic(auto, using(delivery::proofs::Layers::layers_can_be_popped))]
-    fn pop_layer(&mut self, alloc: Global) -> Result<Vec<Delivered>, AllocError> {
-        let layer = self.queues.ready(alloc)?;
+    /// Takes the layer out, or only the first `count` of it. What was taken.
+    pub fn pop_some(&mut self, alloc: Global, count: usize) -> Result<Vec<Delivered>, AllocError> {
+        let mut layer = self.queues.ready(alloc)?;
+        layer.truncate(count);
         self.queues.pop_all(layer.as_slice());
         Ok(layer)
     }
@@ -238,33 +244,32 @@ fn deliver_next(
     Ok(false)
 }
 
-/// Takes all the ready requests out.
-fn take_layer(
+/// Takes the layer out, or only the first `count` of it.
+fn take_some(
     alloc: Global,
     fed: &mut Fed,
     lists: &mut [Vec<Delivered>],
+    count: usize,
 ) -> Result<(), AllocError> {
-    for request in &fed.pop_layer(alloc)? {
+    for request in &fed.pop_some(alloc, count)? {
         take_out(lists, request);
     }
     Ok(())
 }
 
-/// Takes one of the ready requests out, or all.
-fn take_some(
+/// Takes the layer out by chance, or only the first two of it or fewer.
+fn take_by_chance(
     alloc: Global,
     dice: &mut Dice,
     fed: &mut Fed,
     lists: &mut [Vec<Delivered>],
 ) -> Result<(), AllocError> {
-    if dice.below(2) == 0 {
-        if let Some(request) = fed.pop_one(alloc, dice.below(2))? {
-            take_out(lists, &request);
-        }
+    let count = dice.below(4) as usize;
+    if count < 3 {
+        take_some(alloc, fed, lists, count)
     } else {
-        take_layer(alloc, fed, lists)?;
+        take_some(alloc, fed, lists, usize::MAX)
     }
-    Ok(())
 }
 
 /// The stamps of these rise.
@@ -290,9 +295,9 @@ fn is_found(layer: &[Delivered], found: &[Delivered]) -> Result<(), Fail> {
     holds("the layer ascends", ascends(layer))
 }
 
-/// The queues tell of what is ready as the search does.
+/// The queues tell of the layer as the search does.
 fn is_searched(alloc: Global, fed: &Fed, lists: &[Vec<Delivered>]) -> Result<(), Fail> {
-    let found = ready_in(alloc, lists)?;
+    let found = layer_in(alloc, lists)?;
     let layer = fed.queues.ready(alloc)?;
     is_found(layer.as_slice(), found.as_slice())?;
     holds(
@@ -301,7 +306,7 @@ fn is_searched(alloc: Global, fed: &Fed, lists: &[Vec<Delivered>]) -> Result<(),
     )
 }
 
-/// Steps by chance: mostly a group delivers, else some of the ready requests are taken.
+/// Steps by chance: mostly a group delivers, else the layer is taken, or some of it.
 fn steps(
     alloc: Global,
     dice: &mut Dice,
@@ -311,7 +316,7 @@ fn steps(
 ) -> Result<(), Fail> {
     for _ in 0..100 {
         if dice.below(4) == 0 {
-            take_some(alloc, dice, fed, lists)?;
+            take_by_chance(alloc, dice, fed, lists)?;
         } else {
             deliver_next(fed, lists, requests, any_group(dice))?;
         }
@@ -344,7 +349,7 @@ fn take_rest(
 ) -> Result<(), Fail> {
     for _ in 0..most {
         is_searched(alloc, fed, lists)?;
-        take_layer(alloc, fed, lists)?;
+        take_some(alloc, fed, lists, usize::MAX)?;
     }
     Ok(())
 }
@@ -372,7 +377,7 @@ fn run(alloc: Global, dice: &mut Dice) -> Result<(), Fail> {
 }
 
 #[test]
-fn what_is_ready_is_what_a_search_finds(rt: HostRuntime) -> Result<(), Fail> {
+fn the_layer_is_what_a_search_finds(rt: HostRuntime) -> Result<(), Fail> {
     let alloc = rt.alloc();
     let mut dice = Dice {
         state: 88_172_645_463_325_252,

@@ -151,8 +151,8 @@ impl Multicast {
         Ok(())
     }
 
-    /// All requests that are ready, ascending by their stamps. The only error is want of memory; where none is ready
-    /// none is wanted.
+    /// All requests that are ready or lined up, ascending by their stamps. The only error is want of memory; where none
+    /// is ready none is wanted.
     pub fn ready(&self) -> Result<Vec<Delivered>, AllocError>
         ensures layer { IfOk result (λ layer. IsLayer (queue_of self.now.queues) layer.items) }
         ensures succeeds { ((d : Delivered) → ¬ IsReady (queue_of self.now.queues) d) → IsOk result }

@@ -1,5 +1,5 @@
 -- Take, Run and Settle of the parts are steps of the world.
-use Rattle.std.proofs.Common.{◌≡◌, ◌≢◌, ℕ, suc, true, false, ◌||◌, inl, inr, length, List, [], ◌∷◌, ◌++◌, Option}
+use Rattle.std.proofs.Common.{◌≡◌, ◌≢◌, ℕ, suc, length, List, [], ◌∷◌, ◌++◌, Option}
 use Rattle.std.proofs.Common.{Some, None, refl, sym, ap, ◌∙◌, subst, append-nil}
 use Rattle.std.specs.Global.{Vec}
 use Rattle.std.specs.List.{AllZip}
@@ -14,17 +14,7 @@ use Rattle.placement.specs.Layout.{Layout}
 use Rattle.resp.specs.Content.{Content}
 use Rattle.router.specs.Router.{RouterView}
 use Rattle.router.specs.declared.outcome.Outcome as kept
-use Rattle.command_bodies.specs.Answer.{AnswerTakesMemory}
-use Rattle.placement.specs.Groups.{groups_of}
-use Rattle.shard_maps.specs.Joined.{union, span_at}
-use Rattle.keyspace.specs.Map.{Map}
-use Rattle.resp.specs.declared.answered.Answered.{Answered}
-use Rattle.shard_exec.specs.Layers.{AddressTheirGroups, IsOf, MayStarve, is_named}
-use Rattle.shard_workers.specs.Runs.{outcome}
-use Rattle.groups.proofs.Ids.{same_id-refl, same_id-sym, same_id-true}
-use Rattle.groups.specs.Order.{In}
-use Rattle.groups.specs.Request.{same_id}
-use Rattle.std.proofs.lemmas.Bool.{cases_Bool, or_right}
+use Rattle.shard_exec.specs.Layers.{AddressTheirGroups, IsOf, MayStarveInTurn}
 use Rattle.shard_exec.specs.Stamps.{AreFresh}
 use Rattle.shard_exec.specs.StoreStates.{StoreState}
 use Rattle.shard_exec.specs.Stores.{HasRunLayer}
@@ -33,8 +23,9 @@ use Rattle.skeen_core.specs.declared.packet.Delivered.{Delivered}
 use Rattle.groups.specs.declared.request.RequestId.{RequestId}
 use Rattle.system.proofs.Connecting.{no_more, makes_to}
 use Rattle.system.proofs.Rest.{store_same, multicast_same}
+use Rattle.system.proofs.Starving.{starves_rightly}
 use Rattle.system.specs.Outcomes.{IsOutcome}
-use Rattle.system.specs.Parts.{IsAt, Makes, ShowsStage}
+use Rattle.system.specs.Parts.{IsAt, Makes, ShowsStage, StarvesRightly}
 use Rattle.system.specs.Refusing.{Lives}
 use Rattle.system.specs.declared.effect.Effect.TheVariants.{Made, Ran}
 use Rattle.system.specs.declared.parts.Parts.{Parts}
@@ -44,14 +35,13 @@ use Rattle.system.specs.declared.stage.TakenLayer.{TakenLayer}
 use Rattle.system_view.proofs.Running.{ran_world, may_be_run, shows_run}
 use Rattle.system_view.proofs.Settling.{all_settled, settle_starts, settle_ends}
 use Rattle.system_view.proofs.Taking.{take_starts, take_ends, take_queues}
-use Rattle.system_view.specs.Layers.{IsJob, AreJobs, AreEnded, AreRows, ShowsStore, if_none, starved_of}
+use Rattle.system_view.specs.Layers.{AreJobs, AreEnded, AreRows, ShowsStore, starved_of}
 use Rattle.system_view.specs.Multicast.{ShowsMulticast}
 use Rattle.system_view.specs.Settling.{IsSettling}
 use Rattle.system_view.specs.Taking.{IsTaking}
-use Rattle.world.specs.Steps.{Made as WorldMade, taken, names, if_starved, starved_among, Settles, RunsLayer}
+use Rattle.world.specs.Steps.{Made as WorldMade, taken, if_starved, starved_among, Settles, RunsLayer}
 use Rattle.world.specs.Steps as world
-use Rattle.world.specs.World.{World, Request, Ended, NoneTaken}
-use Rattle.world_laws.specs.Good.{Asked, taken_in}
+use Rattle.world.specs.World.{World, Ended, NoneTaken}
 
 -- those that starved among the first, and then those among the others
 starved_among-append : (es fs : List Ended) → starved_among (es ++ fs) ≡ starved_among es ++ starved_among fs
@@ -127,81 +117,6 @@ module _ (old : Parts) (r : RouterView) (outcomes : Vec kept.Outcome) where
 
 -- ---- Run
 
-names-is_named : (skip : List RequestId) (id : RequestId) → names skip id ≡ is_named skip id
-names-is_named [] id = refl
-names-is_named (i ∷ is) id = ap (λ b. b || names is id) (same_id-sym i id) ∙ ap (λ b. same_id id i || b) (names-is_named is id)
-
--- one that has no reply is among the starved
-names_first : (reply : Option Answered) (id : RequestId) (ids : List RequestId) → outcome reply ≡ None →
-    names (if_none reply id ids) id ≡ true
-names_first None id ids none = ap (λ b. b || names ids id) (same_id-refl id)
-names_first (Some reply) id ids none = cc
-
-names_later : (reply : Option Answered) (i id : RequestId) (ids : List RequestId) → names ids id ≡ true →
-    names (if_none reply i ids) id ≡ true
-names_later None i id ids later = or_right (same_id i id) (names ids id) later
-names_later (Some reply) i id ids later = later
-
--- a request of the layer that was to be skipped is among the starved
-named_starve : (maps : List Map) (skip : List RequestId) (asked : Asked) (ds : List Delivered) (js : List Job)
-    (wss : List (List (List ℕ))) (rs : List run.Ended) → AreJobs asked ds js wss → AllZip IsOf js rs → AllZip (MayStarve maps skip) js rs →
-    (d : Delivered) → In d ds → names skip d.id ≡ true → names (starved_of rs) d.id ≡ true
-named_starve maps skip asked [] js wss rs are told starve d there skipped = absurd there
-named_starve maps skip asked (e ∷ ds) [] wss rs are told starve d there skipped = absurd are
-named_starve maps skip asked (e ∷ ds) (j ∷ js) [] rs are told starve d there skipped = absurd are
-named_starve maps skip asked (e ∷ ds) (j ∷ js) (ws ∷ wss) [] are told starve d there skipped = absurd told
-named_starve maps skip asked (e ∷ ds) (j ∷ js) (ws ∷ wss) (r ∷ rs) are told starve d (inl first) skipped =
-    let job : j.id ≡ d.id = are.0.id ∙ sym (ap (λ (x : Delivered). x.id) first) in
-    let named : is_named skip j.id ≡ true = ap (is_named skip) job ∙ sym (names-is_named skip d.id) ∙ skipped in
-    subst (λ i. names (if_none r.reply r.id (starved_of rs)) i ≡ true) (told.0.0 ∙ job)
-    (names_first r.reply r.id (starved_of rs) (starve.0.skipped named))
-named_starve maps skip asked (e ∷ ds) (j ∷ js) (ws ∷ wss) (r ∷ rs) are told starve d (inr there) skipped =
-    names_later r.reply r.id d.id (starved_of rs)
-    (named_starve maps skip asked ds js wss rs are.1 told.1 starve.1 d there skipped)
-
--- the request was asked, and there may be no memory to answer it on what the shards of its groups hold
-abbrev Wants : Layout → List Map → Asked → RequestId → Type 0
-Wants table maps asked id = (q : Request) × (asked id ≡ Some q) × AnswerTakesMemory q.command (union (span_at maps
-    (groups_of table q.command)))
-
--- of the starved ids this is the first, or one of the others
-starved_by : (X : Type 0) (reply : Option Answered) (i id : RequestId) (ids : List RequestId) → names (if_none reply i ids) id ≡ true →
-    (reply ≡ None → i ≡ id → X) → (names ids id ≡ true → X) → X
-starved_by X (Some answered) i id ids there here later = later there
-starved_by X None i id ids there here later = elim (cases_Bool (same_id i id)) [
-  | inl same ↦ here refl (same_id-true i id same)
-  | inr differ ↦ later (sym (ap (λ b. b || names ids id) differ) ∙ there)
-]
-
--- a request that starved and wasn't to be skipped is one that there may have been no memory to answer
-starved_wants : (table : Layout) (maps : List Map) (skip : List RequestId) (asked : Asked) (d : Delivered) (j : Job) (words : List (List ℕ))
-    (r : run.Ended) (id : RequestId) → IsJob asked d j words → j.groups ≡ groups_of table j.command → IsOf j r → MayStarve maps skip j r →
-    names skip id ≡ false → r.reply ≡ None → r.id ≡ id → Wants table maps asked id
-starved_wants table maps skip asked d j words r id is address of starve passed none same =
-    let job : j.id ≡ id = sym of.0 ∙ same in
-    let named : is_named skip j.id ≡ false = ap (is_named skip) job ∙ sym (names-is_named skip id) ∙ passed in
-    let wants = starve.starved named (ap outcome none) in (
-      is.asked_so.0,
-      ap asked (sym job ∙ is.id) ∙ is.asked_so.1,
-      subst (λ c. AnswerTakesMemory c (union (span_at maps (groups_of table c)))) (sym is.asked_so.2)
-          (subst (λ gs. AnswerTakesMemory j.command (union (span_at maps gs))) address wants),
-    )
-
-all_starved_want : (table : Layout) (maps : List Map) (skip : List RequestId) (asked : Asked) (ds : List Delivered) (js : List Job)
-    (wss : List (List (List ℕ))) (rs : List run.Ended) → AreJobs asked ds js wss → AddressTheirGroups table js → AllZip IsOf js rs →
-    AllZip (MayStarve maps skip) js rs → (id : RequestId) → names (starved_of rs) id ≡ true → names skip id ≡ false →
-    Wants table maps asked id
-all_starved_want table maps skip asked ds js wss [] are address told starve id there passed = absurd (let k = there in cc)
-all_starved_want table maps skip asked [] [] [] (r ∷ rs) are address told starve id there passed = absurd told
-all_starved_want table maps skip asked [] [] (ws ∷ wss) (r ∷ rs) are address told starve id there passed = absurd are
-all_starved_want table maps skip asked [] (j ∷ js) wss (r ∷ rs) are address told starve id there passed = absurd are
-all_starved_want table maps skip asked (d ∷ ds) [] wss (r ∷ rs) are address told starve id there passed = absurd are
-all_starved_want table maps skip asked (d ∷ ds) (j ∷ js) [] (r ∷ rs) are address told starve id there passed = absurd are
-all_starved_want table maps skip asked (d ∷ ds) (j ∷ js) (ws ∷ wss) (r ∷ rs) are address told starve id there passed =
-    starved_by (Wants table maps asked id) r.reply r.id id (starved_of rs) there
-    (starved_wants table maps skip asked d j ws r id are.0 address.0 told.0 starve.0 passed)
-    (λ later. all_starved_want table maps skip asked ds js wss rs are.1 address.1 told.1 starve.1 id later passed)
-
 module _ (old : Parts) (store : StoreState) (taken : TakenLayer) (outcomes : Vec kept.Outcome) (rows : RowsView) (starved : Vec RequestId)
     (ended : List run.Ended) where
   abbrev pub ran_parts : Parts
@@ -218,16 +133,12 @@ module _ (old : Parts) (store : StoreState) (taken : TakenLayer) (outcomes : Vec
     table = runs.table;
     rows = more;
     starves = λ h w at'.
-        let shows = subst (λ s. ShowsStage s w) is_taken at'.shows.stage in record {
-          named = λ ds is d there skipped.
-              let same : ds ≡ shows.0 = ap taken_in (sym is ∙ shows.1) in
-              subst (λ l. names l d.id ≡ true) (sym ids_are)
-              (named_starve old.store.maps skip w.asked shows.0 taken.layer taken.words.items ended shows.2 runs.done.told
-              runs.done.starved d (subst (In d) same there) skipped);
-          others = λ id there passed.
-              all_starved_want old.store.table old.store.maps skip w.asked shows.0 taken.layer taken.words.items ended shows.2 address
-              runs.done.told runs.done.starved id (subst (λ l. names l id ≡ true) ids_are there) passed;
-        };
+        let shows = subst (λ s. ShowsStage s w) is_taken at'.shows.stage in
+        let run = shows_run old.store.table w h shows.0 taken.layer taken.words.items old.router old.store store skip
+        ended at'.leads shows.1 shows.2 at'.shows.store at'.shows.connections runs in
+        subst (λ is. StarvesRightly old skip is w) (sym ids_are)
+        (starves_rightly old w skip shows.0 taken.layer taken.words.items ended store run shows.1 shows.2 address runs.done.told
+        (subst (λ m. MayStarveInTurn old.store.table m skip taken.layer ended) at'.shows.store.contents runs.done.starved));
     from_each = λ h w at'. by_stage h w at' (subst (λ s. ShowsStage s w) is_taken at'.shows.stage);
   }
     where

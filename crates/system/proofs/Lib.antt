@@ -2,6 +2,7 @@ pub mod Histories
 pub mod Rest
 pub mod Connecting
 pub mod Messages
+pub mod Starving
 pub mod Layering
 pub mod Refusals
 pub mod Told

@@ -4,6 +4,7 @@ use Rattle.std.proofs.Common.{◌∙◌, subst, arith, Result, Ok, Err}
 use Rattle.std.specs.Prelude.{IfErr, OnErr, IfSome, IfNone}
 use Rattle.std.proofs.lemmas.Bool.{both_ways}
 use Rattle.delivery.specs.Queues.{queue_of}
+use Rattle.delivery.proofs.Layers.{one_is_ready}
 use Rattle.delivery.specs.Ready.{QueueOf, IsReady, IsLayer}
 use Rattle.journal.specs.declared.step.Step.{Step}
 use Rattle.journal.specs.declared.step.Step.TheVariants as step
@@ -177,12 +178,12 @@ pub take_no_layer : (p : Parts) → p.stage ≡ stage.Free → IsLayer (queue_of
 take_no_layer p is_free none = λ h w at'.
     let free : w.layer ≡ NoneTaken = subst (λ s. ShowsStage s w) is_free at'.shows.stage in
     let queues : queue_of p.multicast.queues ≡ w.queue = λ k g. at'.shows.multicast.queues g k in
-    (free, subst (λ (q : QueueOf). (d : Delivered) → ¬ IsReady q d) queues (λ d ready. none.all d ready))
+    (free, subst (λ (q : QueueOf). (d : Delivered) → ¬ IsReady q d) queues (λ d ready. none.all d (inl ready)))
 
 -- a layer that isn't empty has a ready request
 pub some_ready : (queue : QueueOf) (ds : List Delivered) → IsLayer queue ds → ds ≢ [] → ((d : Delivered) → ¬ IsReady queue d) → ⊥
 some_ready queue [] layer some none = some refl
-some_ready queue (d ∷ ds) layer some none = none d (layer.only d (inl refl))
+some_ready queue (d ∷ ds) layer some none = let one = one_is_ready queue d (layer.only d (inl refl)) in none one.0 one.1
 
 -- a list of no length is empty
 pub none_listed : (ds : List Delivered) → length ds ≡ 0 → ds ≡ []

@@ -1,6 +1,6 @@
 -- What the parts of the system show, together, of a world.
 use Rattle.std.specs.List.{AllZip}
-use Rattle.std.specs.Prelude.{◌≡◌, ℕ, true, false, List, [], ◌∷◌, ◌++◌, length, Some, option_map}
+use Rattle.std.specs.Prelude.{◌≡◌, ℕ, true, false, List, [], ◌∷◌, ◌++◌, length, None, option_map}
 use Rattle.command_bodies.specs.Answer.{AnswerTakesMemory}
 use Rattle.command_table.specs.declared.command.Command.{Command}
 use Rattle.journal.specs.Views.{RowView}
@@ -9,8 +9,10 @@ use Rattle.journal.specs.declared.step.Step.TheVariants.{Run}
 use Rattle.multicast.specs.Multicast.{IsSame}
 use Rattle.groups.specs.Order.{In}
 use Rattle.groups.specs.declared.request.RequestId.{RequestId}
+use Rattle.keyspace.specs.Map.{Map}
 use Rattle.placement.specs.Groups.{groups_of}
-use Rattle.shard_maps.specs.Joined.{union, span_at}
+use Rattle.placement.specs.Layout.{Layout}
+use Rattle.shard_exec.specs.Layers.{on_groups}
 use Rattle.skeen_core.specs.declared.packet.Delivered.{Delivered}
 use Rattle.system.specs.Outcomes.{IsOutcome}
 use Rattle.system.specs.declared.effect.Effect.{Effect}
@@ -23,9 +25,9 @@ use Rattle.system.specs.declared.stage.Stage.TheVariants.{Free, Taken, HasRun}
 use Rattle.system_view.specs.Connections.{outcome_shown, ShowsConnections}
 use Rattle.system_view.specs.Layers.{AreJobs, AreRows, ShowsStore}
 use Rattle.system_view.specs.Multicast.{ShowsMulticast}
-use Rattle.world.specs.Steps.{opening, names, starved_among, Leads, Steps}
+use Rattle.world.specs.Steps.{opening, names, starved_among, map_after, RunInTurn, Leads, Steps}
 use Rattle.world.specs.Steps as world
-use Rattle.world.specs.World.{World, Request}
+use Rattle.world.specs.World.{World, Ended}
 use Rattle.world.specs.World as layer
 
 -- how far the layer is
@@ -72,16 +74,28 @@ abbrev pub stored : Step → Effect → Step
 stored (Run skip) (Ran starved) = Run starved
 stored step effect = step
 
--- there may be no memory to answer the command on what the shards of its groups hold
-abbrev pub MayWant : Parts → Command → Type 0
-MayWant p command = AnswerTakesMemory command (union (span_at p.store.maps (groups_of p.store.table command)))
+-- there may be no memory to answer the command on what the shards of its groups have of this map
+abbrev pub MayWant : Layout → Map → Command → Type 0
+MayWant table m command = AnswerTakesMemory command (on_groups table (groups_of table command) m)
 
--- of the layer each request starves that a Run names, and another one only where there may be no memory to answer it
+-- Requests of a layer as they ended, the first on this map and each other one on the map that those before it left: one that
+-- starved was named, or there may have been no memory to answer it there.
+abbrev pub WantInTurn : Layout → List RequestId → Map → List Ended → Type 0
+WantInTurn table skip m [] = Unit {0}
+WantInTurn table skip m (e ∷ es) =
+    (e.reply ≡ None → names skip e.id ≡ false → MayWant table m e.command)
+    × WantInTurn table skip (map_after e.reply e.command m) es
+
+-- of the layer each request starves that a Run names, and another one only where there may be no memory to answer it on
+-- what it met
 pub record StarvesRightly (p : Parts) (skip starved : List RequestId) (w : World) : Type 0 where
   pub named : (ds : List Delivered) → w.layer ≡ layer.Taken ds → (d : Delivered) → In d ds → names skip d.id ≡ true →
       names starved d.id ≡ true
-  pub others : (id : RequestId) → names starved id ≡ true → names skip id ≡ false →
-      (q : Request) × (w.asked id ≡ Some q) × MayWant p q.command
+  pub requests : List Delivered
+  pub taken : w.layer ≡ layer.Taken requests
+  pub outcomes : List Ended
+  pub ran : RunInTurn w.asked starved w.contents requests outcomes
+  pub others : WantInTurn p.store.table skip w.contents outcomes
 
 -- whom the step starves
 abbrev pub Starves : Parts → Step → Effect → World → Type 0

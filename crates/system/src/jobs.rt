@@ -12,8 +12,8 @@ use packing::PackedRequest;
 use router::{Pending, Router};
 use skeen_core::Delivered;
 
-/// Takes the ready requests out of the router: the command of each with its id, its stamp and its groups, and beside it
-/// its words. There is room for all of them.
+/// Takes the requests of a layer out of the router: the command of each with its id, its stamp and its groups, and beside
+/// it its words. There is room for all of them.
 pub(super) fn take_all(
     router: &mut Router,
     ready: &[Delivered],

@@ -111,8 +111,8 @@ impl Parts {
         Ok(Effect::Made)
     }
 
-    /// All ready requests are taken as the next layer: their commands and words out of the router, and they themselves
-    /// out of the queues.
+    /// All requests that are ready or lined up are taken as the next layer: their commands and words out of the router, and
+    /// they themselves out of the queues.
     #[inline(never)]
     fn take(&mut self, alloc: Global) -> Result<Effect, StepFault>
         requires { Lives self.old }

@@ -8,7 +8,7 @@ ghost use Rattle.system.specs.Reads.{progress_of, to_run};
 ghost use Rattle.system.specs.Reads.{waiting_for};
 ghost use Rattle.system.specs.Laws.{ShowsSome, OfItsWorlds, OthersKeepStill, CollectedOnce, CollectsItsOwn};
 ghost use Rattle.world_laws.specs.Order.{FinalsAgree, FinalsDiffer, ConnectionsRise, GroupsAreOfCommands, PacketsAreAddressed};
-ghost use Rattle.world_laws.specs.Order.{LogsAreAddressed, ReadyInWords, EndedOnce, EndedAsSubmitted, TouchingInStampOrder};
+ghost use Rattle.world_laws.specs.Order.{LogsAreAddressed, ReadyInWords, LinedUpInWords, EndedOnce, EndedAsSubmitted, TouchingInStampOrder};
 ghost use Rattle.shard_maps.specs.Joined.{HasOwnKeys};
 ghost use Rattle.system.specs.Runs.{Runs};
 ghost use Rattle.system.specs.Endings.{EachHasEnded, SomeMayBeMade, TurnsAreFew};
@@ -300,7 +300,8 @@ impl System {
     /// rise. Where two requests touch, the one with the smaller stamp was executed first. A request ends once, as it was
     /// submitted, and its outcome is collected once, by its own connection. Packets, and what groups deliver, are of
     /// requests of these groups alone, which are those of their commands; a step changes the group alone that it brings
-    /// a packet to. And ready is what each of a request's groups has delivered behind nothing that isn't taken.
+    /// a packet to. Ready is what each of a request's groups has delivered behind nothing that isn't taken; and lined up
+    /// what the one group that it addresses has delivered behind only such of them as address that group alone.
     pub fn order(&self)
         ensures shows { ShowsSome self.now }
         ensures own_keys { HasOwnKeys (table_of self.now) (maps_of self.now) }
@@ -314,6 +315,7 @@ impl System {
         ensures packets { OfItsWorlds PacketsAreAddressed self.now }
         ensures delivered { OfItsWorlds LogsAreAddressed self.now }
         ensures ready { OfItsWorlds ReadyInWords self.now }
+        ensures lined_up { OfItsWorlds LinedUpInWords self.now }
         ensures others { OthersKeepStill self.now }
         ensures collected_once { CollectedOnce self.now }
         ensures collects_own { CollectsItsOwn self.now }

@@ -74,9 +74,9 @@ const LAYERS: Row = Row {
 take => NoLayer
 run => NoLayer
 settle => NoLayer
-submit 1 SET a 1; submit 2 SET a 2 => submitted 1.1; submitted 2.1
+submit 1 SET a 1; submit 2 MSET a 2 c 2 => submitted 1.1; submitted 2.1
 take => NoLayer
-deliver 0; deliver 0 => made; made
+deliver 0; deliver 0; deliver 0; deliver 0; deliver 0 => made; made; made; made; made
 run => NoLayer
 settle => NoLayer
 take => made
@@ -96,8 +96,8 @@ take => InFlight
 settle => made
 take => NoLayer
 row 0 => 1.1 at 1.0 SET a 1 +OK|
-row 1 => 2.1 at 2.0 SET a 2 +OK|
-steps => 12",
+row 1 => 2.1 at 2.0 MSET a 2 c 2 +OK|
+steps => 15",
 };
 
 /// One step and no more.

@@ -300,6 +300,40 @@ collect 1 => 1.1 at 1.0 +OK|
 collect 2 => 2.1 at 1.1 +OK|",
 };
 
+/// Requests of one group are taken together with the ready one that they stand behind, but not past one of two groups.
+const RUNS: Row = Row {
+    shards: 2,
+    max_steps: 1000,
+    script: "open; open; open => opened 1; opened 2; opened 3
+open; open => opened 4; opened 5
+submit 1 SET a 1; submit 2 INCR a => submitted 1.1; submitted 2.1
+submit 3 MSET a 5 c 6; submit 4 GET a; submit 5 SET c 9 => submitted 3.1; submitted 4.1; submitted 5.1
+packets => 6
+deliver 0; deliver 0; deliver 0; deliver 0 => made; made; made; made
+deliver 0; deliver 0; deliver 0; deliver 0 => made; made; made; made
+packets => 0
+take; run; settle => made; ran; made
+rows => 3
+row 0 => 1.1 at 1.0 SET a 1 +OK|
+row 1 => 2.1 at 2.0 INCR a :2|
+row 2 => 5.1 at 2.1 SET c 9 +OK|
+take; run; settle => made; ran; made
+rows => 4
+row 3 => 3.1 at 3.0 MSET a 5 c 6 +OK|
+take; run; settle => made; ran; made
+rows => 5
+row 4 => 4.1 at 4.0 GET a $1|5|
+take => NoLayer
+quiet => true
+collect 1 => 1.1 at 1.0 +OK|
+collect 2 => 2.1 at 2.0 :2|
+collect 3 => 3.1 at 3.0 +OK|
+collect 4 => 4.1 at 4.0 $1|5|
+collect 5 => 5.1 at 2.1 +OK|
+ask 1 GET a => 1.2 at 5.0 $1|5|
+ask 1 GET c => 1.3 at 6.1 $1|6|",
+};
+
 /// One of the two starves, and an id that is none of the layer's changes nothing.
 const ONE_OF_TWO_STARVES: Row = Row {
     shards: 2,
@@ -352,7 +386,7 @@ ask 1 SET a 1 => 1.3 at 1.0 +OK|
 rows => 1",
 };
 
-const ROWS: [Row; 16] = [
+const ROWS: [Row; 17] = [
     CROSSING,
     LAYER_BY_LAYER,
     PROPOSAL_FIRST,
@@ -366,6 +400,7 @@ const ROWS: [Row; 16] = [
     ALL_GROUPS_BEHIND,
     ALL_GROUPS_BEFORE,
     LAYER_OF_TWO,
+    RUNS,
     ONE_OF_TWO_STARVES,
     CLOSED_UNDER_WAY,
     NO_GROUP,

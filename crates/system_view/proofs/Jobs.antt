@@ -1,11 +1,11 @@
 -- The requests of a layer, ready to be run.
-use Rattle.std.proofs.Common.{◌≡◌, ℕ, true, List, [], ◌∷◌, ◌++◌, inl, inr, Some, None, Ok, refl, sym, ap, ◌∙◌, subst}
+use Rattle.std.proofs.Common.{◌≡◌, ℕ, List, [], ◌∷◌, ◌++◌, inl, inr, Some, None, Ok, refl, sym, ap, ◌∙◌, subst}
 use Rattle.command_table.specs.Reading.{reading}
-use Rattle.delivery.proofs.Layers.{layers_share_no_group}
+use Rattle.delivery.proofs.Layers.{layers_are_units}
 use Rattle.delivery.specs.Ready.{QueueOf, IsLayer}
-use Rattle.delivery.specs.Taking.{ShareNoGroup}
-use Rattle.groups.specs.GroupSet.{has}
-use Rattle.layer_planner.specs.Layers.{ShareNoGroup as JobsShareNoGroup}
+use Rattle.groups.specs.Units.{MayFollow, AreUnits}
+use Rattle.groups.specs.declared.stamp.Stamp.{Stamp}
+use Rattle.layer_planner.specs.Layers.{StandTogether}
 use Rattle.layer_planner.specs.declared.job.Job.{Job}
 use Rattle.placement.specs.Layout.{Layout}
 use Rattle.router.specs.Router.{RouterView, connection, pending_at}
@@ -70,34 +70,53 @@ module _ (t : Layout) (w : World) (front : List Delivered) (d : Delivered) (back
             (job_waits w d p j p.words waits id stamp groups command refl),
       )
 
--- ---- no two share a group
+-- ---- their units
 
 -- each of them is that of a delivered request
+pub record JobOf (ds : List Delivered) (j : Job) : Type 0 where
+  pub request : Delivered
+  pub there : In request ds
+  pub groups : j.groups ≡ request.groups
+  pub stamp : j.stamp ≡ request.stamp
+
 job_of : (asked : Asked) (ds : List Delivered) (js : List Job) (wss : List (List (List ℕ))) → AreJobs asked ds js wss →
-    (j : Job) → In j js → (d : Delivered) × In d ds × (j.groups ≡ d.groups)
+    (j : Job) → In j js → JobOf ds j
 job_of asked ds [] wss are j there = absurd there
 job_of asked [] (k ∷ js) wss are j there = absurd are
 job_of asked (d ∷ ds) (k ∷ js) [] are j there = absurd are
-job_of asked (d ∷ ds) (k ∷ js) (ws ∷ wss) are j (inl same) =
-    (d, inl refl, ap (λ (x : Job). x.groups) same ∙ are.0.groups)
+job_of asked (d ∷ ds) (k ∷ js) (ws ∷ wss) are j (inl same) = record {
+  request = d;
+  there = inl refl;
+  groups = ap (λ (x : Job). x.groups) same ∙ are.0.groups;
+  stamp = ap (λ (x : Job). x.stamp) same ∙ are.0.stamp;
+}
 job_of asked (d ∷ ds) (k ∷ js) (ws ∷ wss) are j (inr there) =
-    let rest = job_of asked ds js wss are.1 j there in (rest.0, inr rest.1, rest.2)
+    let rest = job_of asked ds js wss are.1 j there in
+    record { request = rest.request; there = inr rest.there; groups = rest.groups; stamp = rest.stamp }
 
-share_none : (asked : Asked) (ds : List Delivered) (js : List Job) (wss : List (List (List ℕ))) →
-    AreJobs asked ds js wss → ShareNoGroup ds → JobsShareNoGroup js
-share_none asked ds [] wss are apart = tt
-share_none asked [] (j ∷ js) wss are apart = absurd are
-share_none asked (d ∷ ds) (j ∷ js) [] are apart = absurd are
-share_none asked (d ∷ ds) (j ∷ js) (ws ∷ wss) are apart = (
-  λ k there g here.
+-- a job may follow another where its request may
+may_follow : (d e : Delivered) (j k : Job) → j.groups ≡ d.groups → j.stamp ≡ d.stamp → k.groups ≡ e.groups → k.stamp ≡ e.stamp →
+    MayFollow d.groups d.stamp e.groups e.stamp → MayFollow j.groups j.stamp k.groups k.stamp
+may_follow d e j k groups stamp others later may =
+    subst (λ gs. MayFollow gs j.stamp k.groups k.stamp) (sym groups)
+    (subst (λ (s : Stamp). MayFollow d.groups s k.groups k.stamp) (sym stamp)
+    (subst (λ gs. MayFollow d.groups d.stamp gs k.stamp) (sym others)
+    (subst (λ (s : Stamp). MayFollow d.groups d.stamp e.groups s) (sym later) may)))
+
+stand : (asked : Asked) (ds : List Delivered) (js : List Job) (wss : List (List (List ℕ))) →
+    AreJobs asked ds js wss → AreUnits (λ (d : Delivered). d.groups) (λ (d : Delivered). d.stamp) ds → StandTogether js
+stand asked ds [] wss are units = tt
+stand asked [] (j ∷ js) wss are units = absurd are
+stand asked (d ∷ ds) (j ∷ js) [] are units = absurd are
+stand asked (d ∷ ds) (j ∷ js) (ws ∷ wss) are units = (
+  λ k there.
       let other = job_of asked ds js wss are.1 k there in
-      ap (λ gs. has gs g) other.2
-      ∙ apart.0 other.0 other.1 g (subst (λ gs. has gs g ≡ true) are.0.groups here),
-  share_none asked ds js wss are.1 apart.1,
+      may_follow d other.request j k are.0.groups are.0.stamp other.groups other.stamp (units.0 other.request other.there),
+  stand asked ds js wss are.1 units.1,
 )
 
--- no two of a layer share a group
-pub jobs_share_no_group : (queue : QueueOf) (asked : Asked) (ds : List Delivered) (js : List Job)
-    (wss : List (List (List ℕ))) → IsLayer queue ds → AreJobs asked ds js wss → JobsShareNoGroup js
-jobs_share_no_group queue asked ds js wss layer are =
-    share_none asked ds js wss are (layers_share_no_group queue ds layer)
+-- those of a layer stand together
+pub jobs_stand_together : (queue : QueueOf) (asked : Asked) (ds : List Delivered) (js : List Job)
+    (wss : List (List (List ℕ))) → IsLayer queue ds → AreJobs asked ds js wss → StandTogether js
+jobs_stand_together queue asked ds js wss layer are =
+    stand asked ds js wss are (layers_are_units queue ds layer)

@@ -3,7 +3,7 @@ use Rattle.std.proofs.Common.{◌≡◌, ◌≢◌, ℕ, ◌==◌, true, cond, L
 use Rattle.std.proofs.Common.{Some, None, refl, sym, ap, ◌∙◌, subst, eq-eqb, append-nil}
 use Rattle.std.proofs.lemmas.Bool.{both_ways}
 use Rattle.std.proofs.Math.Seq.{append_snoc}
-use Rattle.delivery.proofs.Layers.{in_queue}
+use Rattle.delivery.proofs.Layers.{taken_somewhere}
 use Rattle.delivery.specs.Ready.{IsLayer, left_in}
 use Rattle.journal.specs.declared.step.Step.{Step}
 use Rattle.multicast.specs.Multicast.{MulticastView, group_of, LosesLayer}
@@ -103,12 +103,11 @@ module _ (t : Layout) (w : World) (front : List Delivered) (d : Delivered) (back
   in_layer : In d (front ++ d ∷ back)
   in_layer = In-right d front (d ∷ back) (inl refl)
 
-  -- what is ready was delivered somewhere
+  -- what the layer takes was delivered somewhere
   in_log : (e : Delivered) → In e (front ++ d ∷ back) → (g : ℕ) × In e (log_of w g)
   in_log e there =
-      let ready = is.layer.only e there in
-      let g = ready.somewhere.0 in
-      (g, In-right e (w.gone g) (w.queue g) (in_queue w.queue g e ready ready.somewhere.1))
+      let at = taken_somewhere w.queue e (is.layer.only e there) in
+      (at.0, In-right e (w.gone at.0) (w.queue at.0) at.2)
 
   asked : (q : Request) × (w.asked d.id ≡ Some q)
   asked =
@@ -243,7 +242,7 @@ module _ (t : Layout) (w : World) (front : List Delivered) (d : Delivered) (back
 abbrev SettledUnder : World → Layer → RequestId → Type 0
 SettledUnder w l i = (done : List Ended) × (w.ended ≡ done ++ run_in l) × Named done i
 
--- a world with no layer, before the first of its ready requests is taken
+-- a world with no layer, before the first request of the next one is taken
 pub take_starts : (t : Layout) (steps : List Step) (w : World) (ds : List Delivered) (r : RouterView) →
     Leads t opening steps w → w.layer ≡ NoneTaken → IsLayer w.queue ds → ShowsConnections r w → IsTaking t w [] ds r
 take_starts t steps w ds r leads none layer shows = record {

@@ -13,8 +13,8 @@ use Rattle.world.specs.World.{World, Layer, NoneTaken, Taken}
 abbrev pub with_layer : World → Layer → World
 with_layer w layer = record w { layer = layer }
 
--- of the ready requests of a world in which no layer is there, those in front are out of the router, and those behind
--- wait in it
+-- of the requests that are ready or lined up in a world in which no layer is there, those in front are out of the
+-- router, and those behind wait in it
 pub record IsTaking (t : Layout) (w : World) (front back : List Delivered) (r : RouterView) : Type 0 where
   pub steps : List Step
   pub leads : Leads t opening steps w

@@ -162,7 +162,7 @@ pub record Comes (old : World) (k : ℕ) (effect : Effect) (new : World) : Type 
   pub answers : effect ≡ Made
   pub after : new ≡ received old k packet sent delivered state
 
--- ---- Take: all requests that are ready are taken as a layer
+-- ---- Take: all requests that are ready or lined up are taken as a layer
 
 abbrev pub taken : World → List Delivered → World
 taken w ds = record w {

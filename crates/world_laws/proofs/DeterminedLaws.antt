@@ -5,6 +5,7 @@ use Rattle.journal.specs.declared.step.Step.TheVariants.{Open, Submit, Deliver, 
 use Rattle.keyspace.specs.Map.{Map}
 use Rattle.skeen_core.proofs.Ahead.{rule_determines, same_ascending}
 use Rattle.skeen_core.specs.Group.{Receives}
+use Rattle.delivery.proofs.Layers.{one_is_ready}
 use Rattle.groups.specs.Order.{In}
 use Rattle.skeen_core.specs.declared.packet.Delivered.{Delivered}
 use Rattle.skeen_core.specs.declared.packet.Packet.{Packet}
@@ -157,7 +158,8 @@ refused_is_not_accepted t old new (Deliver k) effect NoPacket refused step = let
     slice_get_within old.packets k step.packet step.there in absurd (omega arith)
 refused_is_not_accepted t old new Take effect InFlight refused step = in_flight_not_free old.layer refused step.free
 refused_is_not_accepted t old new Take effect NoLayer refused step =
-    nothing_ready old new effect step.layer step (λ d there. refused.1 d (step.ready.only d there)) step.some
+    nothing_ready old new effect step.layer step (λ d there.
+    let one = one_is_ready old.queue d (step.ready.only d there) in refused.1 one.0 one.1) step.some
 refused_is_not_accepted t old new (Run starved) effect NoLayer refused step = not_to_run old.layer step.layer refused step.there
 refused_is_not_accepted t old new Settle effect NoLayer refused step = not_to_settle old.layer step.outcomes refused step.there
 refused_is_not_accepted t old new (Collect conn) effect NoConn refused step =

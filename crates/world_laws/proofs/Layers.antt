@@ -4,7 +4,8 @@ use Rattle.std.proofs.Common.{subst, append-nil, append_assoc}
 use Rattle.std.proofs.lemmas.Bool.{both_ways}
 use Rattle.std.specs.FinMap.{empty}
 use Rattle.command_bodies.specs.Command.{effect_of}
-use Rattle.delivery.specs.Ready.{IsReady, IsLayer, taken_from, left_in}
+use Rattle.delivery.proofs.Layers.{StandsAt, layer_stands, taken_somewhere}
+use Rattle.delivery.specs.Ready.{IsLayer, taken_from, left_in}
 use Rattle.groups.specs.GroupSet.{has}
 use Rattle.keyspace.specs.Map.{Map}
 use Rattle.placement.specs.Layout.{Layout}
@@ -45,15 +46,23 @@ log_taken gone queue ds = λ i g. at_group g i
     at_group g = sym (append_assoc (gone g) (taken_from ds (queue g)) (left_in ds (queue g))
         ∙ ap (λ l. gone g ++ l) (taken_and_left ds (queue g)))
 
-head_there : (gone queue rest : List Delivered) (d : Delivered) → queue ≡ d ∷ rest → In d (gone ++ queue)
-head_there gone queue rest d e = In-right d gone queue (subst (λ l. In d l) (sym e) (inl refl))
+-- a request behind such as are all in the layer is taken with them
+taken_behind : (ds front rest : List Delivered) (d : Delivered) → In d ds → ((e : Delivered) → In e front → In e ds)
+    → In d (taken_from ds (front ++ d ∷ rest))
+taken_behind ds [] rest d there inside =
+    subst (λ b. In d (cond b (d ∷ taken_from ds rest) [])) (sym (id_there ds d there)) (inl refl)
+taken_behind ds (f ∷ fs) rest d there inside =
+    subst (λ b. In d (cond b (f ∷ taken_from ds (fs ++ d ∷ rest)) [])) (sym (id_there ds f (inside f (inl refl))))
+    (inr (taken_behind ds fs rest d there (λ e i. inside e (inr i))))
 
-ready_taken : (queue : ℕ → List Delivered) (ds : List Delivered) (d : Delivered) (g : ℕ) → In d ds → IsReady queue d →
-    has d.groups g ≡ true → In d (taken_from ds (queue g))
-ready_taken queue ds d g there ready addressed =
-    let head = ready.heads g addressed in
-    subst (λ l. In d (taken_from ds l)) (sym head.1)
-    (subst (λ b. In d (cond b (d ∷ taken_from ds head.0) [])) (sym (id_there ds d there)) (inl refl))
+-- each of the request's groups had delivered it, and the layer takes it there
+in_queue : (queue : ℕ → List Delivered) (ds : List Delivered) (d : Delivered) (g : ℕ) → StandsAt queue ds g d → In d (queue g)
+in_queue queue ds d g at = subst (λ l. In d l) (sym at.stands) (In-right d at.front (d ∷ at.rest) (inl refl))
+
+layer_taken : (queue : ℕ → List Delivered) (ds : List Delivered) (d : Delivered) (g : ℕ) → In d ds → StandsAt queue ds g d
+    → In d (taken_from ds (queue g))
+layer_taken queue ds d g there at =
+    subst (λ l. In d (taken_from ds l)) (sym at.stands) (taken_behind ds at.front at.rest d there at.before)
 
 -- in a layer the stamps rise, whatever its requests share
 rising_layer : (ds : List Delivered) → Ascending ds → Rising Touching ds
@@ -81,20 +90,18 @@ taken_layer asked proposed packets group gone queue ended ds skeen layer good = 
   known = λ d there. elim (In-append d (all_delivered ended) ds there) [
     | inl before ↦ good.known d (earlier d before)
     | inr now ↦
-        let ready = layer.only d now in
-        let head = ready.heads ready.somewhere.0 ready.somewhere.1 in
-        (skeen.groups ready.somewhere.0).known d (head_there (gone ready.somewhere.0) (queue ready.somewhere.0) head.0 d head.1)
+        let at = taken_somewhere queue d (layer.only d now) in
+        (skeen.groups at.0).known d (In-right d (gone at.0) (queue at.0) at.2)
   ];
   passed = λ d there g addressed. elim (In-append d (all_delivered ended) ds there) [
     | inl before ↦ In-left d (gone g) (taken_from ds (queue g)) (good.passed d (earlier d before) g addressed)
-    | inr now ↦ In-right d (gone g) (taken_from ds (queue g)) (ready_taken queue ds d g now (layer.only d now) addressed)
+    | inr now ↦ In-right d (gone g) (taken_from ds (queue g)) (layer_taken queue ds d g now (layer_stands queue ds layer d now g addressed))
   ];
   order = rising_append Touching (all_delivered ended) ds (rising_left Touching (all_delivered ended) [] good.order)
       (rising_layer ds layer.ascending)
       (λ x y before now g a b.
-      let head = (layer.only y now).heads g b in
       ascending_cross (gone g) (queue g) (skeen.groups g).going.ascending x y (good.passed x (earlier x before) g a)
-      (subst (λ l. In y l) (sym head.1) (inl refl)));
+      (in_queue queue ds y g (layer_stands queue ds layer y now g b)));
 }
   where
     earlier : (d : Delivered) → In d (all_delivered ended) → In d (all_delivered ended ++ [])

@@ -6,6 +6,7 @@ use Rattle.std.specs.Option.{is_some}
 use Rattle.command_table.specs.Reading.{reading}
 use Rattle.command_table.specs.declared.command.Command.{Command}
 use Rattle.command_table.specs.declared.refusal.Refusal.{Refusal}
+use Rattle.delivery.proofs.Layers.{taken_somewhere}
 use Rattle.delivery.specs.Ready.{taken_from}
 use Rattle.journal.specs.declared.step.Step.{Step}
 use Rattle.journal.specs.declared.step.Step.TheVariants.{Open, Submit, Deliver, Take, Run, Settle, Collect, Close}
@@ -178,10 +179,9 @@ owes_take t old new effect step good owes = subst (λ w. Owes w) (sym step.after
     | inr now ↦
         let stood = taken_stood step.layer (old.queue g) d now in
         let e = named step.layer d.id stood.0 in
-        let ready = step.ready.only e.one e.there in
-        let head = ready.heads ready.somewhere.0 ready.somewhere.1 in
-        let same : e.one ≡ d = delivered_same t old good ready.somewhere.0 g e.one d
-        (In-right e.one (old.gone ready.somewhere.0) (old.queue ready.somewhere.0) (subst (λ l. In e.one l) (sym head.1) (inl refl)))
+        let at = taken_somewhere old.queue e.one (step.ready.only e.one e.there) in
+        let same : e.one ≡ d = delivered_same t old good at.0 g e.one d
+        (In-right e.one (old.gone at.0) (old.queue at.0) at.2)
         (In-right d (old.gone g) (old.queue g) stood.1) e.id in
         In-right d (all_delivered old.ended) step.layer (subst (λ x. In x step.layer) same e.there)
   ];

@@ -1,7 +1,9 @@
--- What heads each of its queues is what each of its groups has delivered with nothing untaken before it.
-use Rattle.std.proofs.Common.{◌≡◌, true, List, [], ◌∷◌, ◌++◌, inl, inr, refl, sym, ap, ◌∙◌, subst, ℕ}
+-- What heads each of its queues is what each of its groups has delivered with nothing untaken before it; and what is lined
+-- up is what its one group has delivered with only such untaken before it as address that group alone.
+use Rattle.std.proofs.Common.{◌≡◌, true, List, [], ◌∷◌, ◌++◌, inl, inr, refl, sym, ap, ◌∙◌, subst, ℕ, append_assoc}
 use Rattle.std.proofs.lemmas.Bool.{both_ways}
-use Rattle.delivery.specs.Ready.{IsReady}
+use Rattle.delivery.proofs.Layers.{Cut, cut}
+use Rattle.delivery.specs.Ready.{IsReady, IsLinedUp}
 use Rattle.groups.proofs.Lists.{In-right, In-append}
 use Rattle.groups.proofs.Stamps.{lt_irrefl, lt_asym}
 use Rattle.groups.specs.Order.{In}
@@ -11,7 +13,8 @@ use Rattle.skeen_core.specs.Group.{Ascending}
 use Rattle.skeen_core.specs.declared.packet.Delivered.{Delivered}
 use Rattle.world.specs.World.{World}
 use Rattle.world_laws.specs.Good.{log_of, WorldGood}
-use Rattle.world_laws.specs.Order.{IsTaken, IsFirstAtEach, ReadyInWords, ReadyIsFirst}
+use Rattle.world_laws.specs.Order.{IsTaken, IsFirstAtEach, ReadyInWords, ReadyIsFirst, IsBehindAlone, LinedUpInWords}
+use Rattle.world_laws.specs.Order.{LinedUpIsBehindAlone}
 use Rattle.world_laws.proofs.Layers.{ascending_cross, ascending_right}
 use Rattle.world_laws.proofs.Owed.{Owes, owes_world}
 use Rattle.world_laws.proofs.Worlds.{good_world}
@@ -76,3 +79,57 @@ ready_in_words t w good owes d = (ready_first t w good owes d, first_ready t w g
 
 pub ready_is_first : ReadyIsFirst
 ready_is_first t steps w leads = ready_in_words t w (good_world t steps w leads) (owes_world t steps w leads)
+
+-- ---- lined up
+
+module _ (t : Layout) (w : World) (good : WorldGood t w) (owes : Owes w) where
+  lined_behind : (d : Delivered) → IsLinedUp w.queue d → IsBehindAlone w d
+  lined_behind d l = record {
+    group = l.group;
+    alone = l.alone;
+    not_taken = queued_is_not_taken t w good owes l.group d
+        (subst (λ q. In d q) (sym l.stands) (In-right d l.front (d ∷ l.rest) (inl refl)));
+    front = w.gone l.group ++ l.front;
+    rest = l.rest;
+    delivered = ap (λ q. w.gone l.group ++ q) l.stands ∙ sym (append_assoc (w.gone l.group) l.front (d ∷ l.rest));
+    before = λ e there untaken. elim (In-append e (w.gone l.group) l.front there) [
+      | inl gone ↦ absurd (untaken (l.group, gone))
+      | inr here ↦ l.before e here
+    ];
+  }
+
+  -- it stands in the queue of its group
+  still_queued : (d : Delivered) (b : IsBehindAlone w d) → In d (w.queue b.group)
+  still_queued d b =
+      let stands : In d (log_of w b.group) = subst (λ l. In d l) (sym b.delivered) (In-right d b.front (d ∷ b.rest) (inl refl)) in
+      elim (In-append d (w.gone b.group) (w.queue b.group) stands) [
+        | inl gone ↦ absurd (b.not_taken (b.group, gone))
+        | inr here ↦ here
+      ]
+
+  behind_lined : (d : Delivered) → IsBehindAlone w d → IsLinedUp w.queue d
+  behind_lined d b =
+      let g = b.group in
+      let at : Cut (w.queue g) d = cut (w.queue g) d (still_queued d b) in
+      let up : Ascending (w.gone g ++ w.queue g) = (good.skeen.groups g).going.ascending in
+      let queue : Ascending (at.front ++ d ∷ at.rest) = subst (λ l. Ascending l) at.is (ascending_right (w.gone g) (w.queue g) up) in
+      record {
+        group = g;
+        alone = b.alone;
+        front = at.front;
+        rest = at.rest;
+        stands = at.is;
+        before = λ e there.
+            let queued = at.before e there in
+            let less = ascending_cross at.front (d ∷ at.rest) queue e d there (inl refl) in
+            b.before e
+            (stands_before b.front b.rest d e (subst (λ l. Ascending l) b.delivered up)
+            (subst (λ l. In e l) b.delivered (In-right e (w.gone g) (w.queue g) queued)) less)
+            (queued_is_not_taken t w good owes g e queued);
+      }
+
+pub lined_up_in_words : (t : Layout) (w : World) → WorldGood t w → Owes w → LinedUpInWords t w
+lined_up_in_words t w good owes d = (lined_behind t w good owes d, behind_lined t w good owes d)
+
+pub lined_up_is_behind_alone : LinedUpIsBehindAlone
+lined_up_is_behind_alone t steps w leads = lined_up_in_words t w (good_world t steps w leads) (owes_world t steps w leads)

@@ -1,7 +1,7 @@
 -- The laws of order, for every history of steps.
 use Rattle.std.specs.FinMap.{get}
-use Rattle.std.specs.Prelude.{◌≡◌, ℕ, ◌<◌, ◌≤◌, true, false, List, ◌∷◌, ◌++◌, length, slice_get, map, ◌⊎◌, ◌↔◌, Some}
-use Rattle.delivery.specs.Ready.{IsReady}
+use Rattle.std.specs.Prelude.{◌≡◌, ℕ, ◌<◌, ◌≤◌, true, false, List, [], ◌∷◌, ◌++◌, length, slice_get, map, ◌⊎◌, ◌↔◌, Some}
+use Rattle.delivery.specs.Ready.{IsReady, IsLinedUp}
 use Rattle.groups.specs.GroupSet.{has}
 use Rattle.journal.specs.declared.step.Step.{Step}
 use Rattle.journal.specs.declared.step.Step.TheVariants.{Deliver}
@@ -138,7 +138,7 @@ abbrev pub OthersKeepStill : Type 0
 OthersKeepStill = (t : Layout) (old new : World) (step : Step) (effect : Effect) → Steps t old step effect new →
     OthersAreKept old new step
 
--- ---- what is ready
+-- ---- what is ready, and what is lined up
 
 -- a layer has taken it
 abbrev pub IsTaken : World → Delivered → Type 0
@@ -158,6 +158,24 @@ ReadyInWords t w = (d : Delivered) → IsReady w.queue d ↔ IsFirstAtEach w d
 
 abbrev pub ReadyIsFirst : Type 0
 ReadyIsFirst = OfEveryWorld ReadyInWords
+
+-- it isn't taken, it addresses one group alone, which has delivered it, and what was delivered there before it and isn't
+-- taken addresses that group alone too
+pub record IsBehindAlone (w : World) (d : Delivered) : Type 0 where
+  pub group : ℕ
+  pub alone : d.groups ≡ group ∷ []
+  pub not_taken : ¬ IsTaken w d
+  pub front : List Delivered
+  pub rest : List Delivered
+  pub delivered : log_of w group ≡ front ++ d ∷ rest
+  pub before : (e : Delivered) → In e front → ¬ IsTaken w e → e.groups ≡ group ∷ []
+
+-- that is what lined up means
+abbrev pub LinedUpInWords : Layout → World → Type 0
+LinedUpInWords t w = (d : Delivered) → IsLinedUp w.queue d ↔ IsBehindAlone w d
+
+abbrev pub LinedUpIsBehindAlone : Type 0
+LinedUpIsBehindAlone = OfEveryWorld LinedUpInWords
 
 -- ---- what was run
 

@@ -2,7 +2,7 @@ use Rattle.world_laws.proofs.OrderLaws.{groups_agree, final_is_greatest, final_i
 use Rattle.world_laws.proofs.OrderLaws.{clock_is_above_proposals, clock_is_above_deliveries, clocks_are_bounded, deliveries_ascend}
 use Rattle.world_laws.proofs.OrderLaws.{asked_of_its_groups, packets_go_to_addressed, deliveries_are_addressed, others_keep_still}
 use Rattle.world_laws.proofs.OrderLaws.{ends_once, ends_as_submitted, touching_end_in_stamp_order, ended_is_kept}
-use Rattle.world_laws.proofs.ReadyLaws.{ready_is_first}
+use Rattle.world_laws.proofs.ReadyLaws.{ready_is_first, lined_up_is_behind_alone}
 use Rattle.world_laws.proofs.order.order_of_requests.Goals as goal
 
 pub returns : goal.returns
@@ -21,6 +21,7 @@ returns c = record {
   deliveries_are_addressed = deliveries_are_addressed;
   others_keep_still = others_keep_still;
   ready_is_first = ready_is_first;
+  lined_up_is_behind_alone = lined_up_is_behind_alone;
   ends_once = ends_once;
   ends_as_submitted = ends_as_submitted;
   touching_end_in_stamp_order = touching_end_in_stamp_order;

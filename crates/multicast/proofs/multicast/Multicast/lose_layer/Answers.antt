@@ -9,6 +9,7 @@ use Rattle.multicast.proofs.multicast.Multicast.lose_layer.Goals as goal
 pub pop_all-requires : goal.pop_all-requires
 pop_all-requires c =
     layers_can_be_popped (queue_of c.self.inside.queues.queues) c.args.layer.now
+    (subst (λ (v : MulticastView). IsSound (queue_of v.queues)) (sym c.self.view_is) c.requires.sound)
     (subst (λ (v : MulticastView). IsLayer (queue_of v.queues) c.args.layer.now) (sym c.self.view_is) c.requires.layer)
 
 pub returns : goal.returns

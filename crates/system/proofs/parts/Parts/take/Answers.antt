@@ -10,7 +10,7 @@ use Rattle.system.proofs.Layering.{take_may_start, take_makes}
 use Rattle.system.proofs.Refusals.{take_memory, take_no_layer, some_ready, none_listed}
 use Rattle.system.specs.Parts.{Makes}
 use Rattle.system.specs.declared.effect.Effect.TheVariants.{Made}
-use Rattle.system_view.proofs.Jobs.{jobs_share_no_group}
+use Rattle.system_view.proofs.Jobs.{jobs_stand_together}
 use Rattle.system_view.specs.Layers.{AreJobs}
 use Rattle.system_view.specs.Taking.{IsTaking}
 use Rattle.world.specs.World.{World}
@@ -55,9 +55,9 @@ unreachable-requires c =
     let start = take_may_start old c.requires c.in-Free.is ready c.in-Ok.ensures.layer in
     let first = subst (λ ds. IsTaking start.0 start.1 [] ds old.router) (sym c.as_slice.ensures.value) start.2 in
     let jobs = (c.take_all.ensures.taken start.0 start.1 first).1 in
-    let apart = jobs_share_no_group queue start.1.asked c.as_slice.result.now c.take_all.new.jobs.items c.take_all.new.words.items
+    let together = jobs_stand_together queue start.1.asked c.as_slice.result.now c.take_all.new.jobs.items c.take_all.new.words.items
     (subst (IsLayer queue) (sym c.as_slice.ensures.value) c.in-Ok.ensures.layer) jobs in
-    let k = subst IsSome c.in_default-gather.is (c.gather.ensures.just_where.1 apart) in
+    let k = subst IsSome c.in_default-gather.is (c.gather.ensures.just_where.1 together) in
     cc
 
 pub returns-clause-made : goal.returns-clause-made

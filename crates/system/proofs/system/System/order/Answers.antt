@@ -7,7 +7,8 @@ use Rattle.system.specs.System.{SystemView}
 use Rattle.system.specs.declared.system.System.TheInside.{Inside}
 use Rattle.world.specs.World.{World}
 use Rattle.world_laws.specs.Order.{OfEveryWorld, FinalsAgree, FinalsDiffer, ConnectionsRise, GroupsAreOfCommands}
-use Rattle.world_laws.specs.Order.{PacketsAreAddressed, LogsAreAddressed, ReadyInWords, EndedOnce, EndedAsSubmitted, TouchingInStampOrder}
+use Rattle.world_laws.specs.Order.{PacketsAreAddressed, LogsAreAddressed, ReadyInWords, LinedUpInWords, EndedOnce, EndedAsSubmitted}
+use Rattle.world_laws.specs.Order.{TouchingInStampOrder}
 use Rattle.system.proofs.system.System.order.Goals as goal
 
 abbrev was : Inside → SystemView
@@ -34,6 +35,7 @@ returns c =
       packets = subst (OfItsWorlds PacketsAreAddressed) c.self.view_is (of_its PacketsAreAddressed s law.packets_go_to_addressed);
       delivered = subst (OfItsWorlds LogsAreAddressed) c.self.view_is (of_its LogsAreAddressed s law.deliveries_are_addressed);
       ready = subst (OfItsWorlds ReadyInWords) c.self.view_is (of_its ReadyInWords s law.ready_is_first);
+      lined_up = subst (OfItsWorlds LinedUpInWords) c.self.view_is (of_its LinedUpInWords s law.lined_up_is_behind_alone);
       others = subst OthersKeepStill c.self.view_is
           (λ h w at' step effect new made. law.others_keep_still (table_of s) w new step effect made);
       collected_once = subst CollectedOnce c.self.view_is
