@@ -7,6 +7,7 @@ ghost use Rattle.delivery.specs.Ready.{IsReady, IsLayer};
 ghost use Rattle.delivery.specs.Queues.{queue_of, room_of, requests_of, rooms_of, MayAppend, IsSound};
 ghost use Rattle.delivery.specs.Taking.{popped, popped_all, Poppable};
 ghost use Rattle.delivery.specs.Heads.{head_of};
+ghost use Rattle.std.specs.Prelude.{slice_get};
 
 use super::heads::{Heading, count_heads, take_ready};
 use super::queue::Queue;
@@ -152,6 +153,23 @@ impl Queues {
     {
         for request in requests {
             self.pop(request);
+        }
+    }
+
+    /// The request at this place of the group's queue, counted from 0 from the oldest. A group without a queue has none.
+    pub fn delivered(&self, group: GroupId, place: usize) -> Option<&Delivered>
+        ensures { option_copied result ≡ slice_get (queue_of self.now.queues group) place }
+    {
+        self.queues.get(usize::from(group.number()))?.get(place)
+    }
+
+    /// How many requests the group's queue has. A group without a queue has none.
+    pub fn queued(&self, group: GroupId) -> usize
+        ensures { result ≡ length (queue_of self.now.queues group) }
+    {
+        match self.queues.get(usize::from(group.number())) {
+            Some(queue) => queue.len(),
+            None => 0,
         }
     }
 }

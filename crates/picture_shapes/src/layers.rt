@@ -24,6 +24,14 @@ struct Place {
     ghost second_least: { 72 ≤ x1 },
 }
 
+/// What a request of a layer has of its width.
+#[derive(Clone, Copy)]
+struct Span {
+    left: u64,
+    right: u64,
+    ghost most: { left < 2 ^ 40 },
+}
+
 /// The layers that aren't settled before the window.
 pub(super) fn draw_layers(
     alloc: Global,
@@ -199,7 +207,15 @@ fn draw_jobs(
             let left = share_of(place, share, shares);
             share = share.saturating_add(1);
             let right = share_of(place, share, shares);
-            draw_job(alloc, job, place.number, group, (left, y, right), picture)?;
+            draw_job(
+                alloc,
+                job,
+                place.number,
+                group,
+                Span { left, right },
+                y,
+                picture,
+            )?;
         }
     }
     Ok(())
@@ -230,9 +246,13 @@ fn draw_job(
     job: &JobFacts,
     layer: u64,
     group: GroupId,
-    (left, y, right): (u64, u64, u64),
+    span: Span,
+    y: u64,
     picture: &mut Picture,
-) -> Result<(), AllocError> {
+) -> Result<(), AllocError>
+    requires { y < 2 ^ 39 }
+{
+    let Span { left, right } = span;
     let number = job.asked.number;
     let said: &[u8] = if job.starved { b"starved" } else { b"" };
     let bar = Form::Rect {

@@ -23,7 +23,7 @@ pub(super) fn draw_packets(
     frame: &Frame,
     picture: &mut Picture,
 ) -> Result<(), AllocError> {
-    let mut waiting = [0; 64];
+    let mut waiting = [0u8; 64];
     for packet in packets {
         if packet.sent >= frame.to() || frame.is_past(packet.received) {
             continue;
@@ -33,7 +33,7 @@ pub(super) fn draw_packets(
             draw_coming(alloc, packet, frame, picture)?;
         } else {
             draw_waiting(alloc, packet, waiting[place], frame, picture)?;
-            waiting[place] = (waiting[place] + 1).min(WAITING + 1);
+            waiting[place] = waiting[place].saturating_add(1).min(WAITING + 1);
         }
     }
     Ok(())

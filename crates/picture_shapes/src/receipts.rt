@@ -28,8 +28,9 @@ pub(super) fn draw_receipts(
             continue;
         }
         let place = usize::from(receipt.packet.to.number());
-        draw_receipt(alloc, receipt, next_receipt[place], frame, picture)?;
+        draw_receipt(alloc, receipt, frame, picture)?;
         draw_deliveries(alloc, receipt, next_delivery[place], frame, picture)?;
+        label_receipt(alloc, receipt, next_receipt[place], frame, picture)?;
         next_receipt[place] = frame.x(receipt.step);
         if !receipt.delivered.is_empty() {
             next_delivery[place] = frame.x(receipt.step);
@@ -38,11 +39,10 @@ pub(super) fn draw_receipts(
     Ok(())
 }
 
-/// The disc of a receipt and its labels, where there is room before what comes next.
+/// The disc of a receipt, and the head of its packet's line.
 fn draw_receipt(
     alloc: Global,
     receipt: &ReceiptFacts,
-    next: u64,
     frame: &Frame,
     picture: &mut Picture,
 ) -> Result<(), AllocError> {
@@ -62,7 +62,18 @@ fn draw_receipt(
         "told"
     };
     let disc = Form::Disc { x, y, radius: 5 };
-    picture.mark(Look::of(name, number), disc, words)?;
+    picture.mark(Look::of(name, number), disc, words)
+}
+
+/// The labels of a receipt, where there is room before what comes next.
+fn label_receipt(
+    alloc: Global,
+    receipt: &ReceiptFacts,
+    next: u64,
+    frame: &Frame,
+    picture: &mut Picture,
+) -> Result<(), AllocError> {
+    let (x, y) = (frame.x(receipt.step), frame.line(receipt.packet.to));
     let room = next.saturating_sub(4);
     label_packet(alloc, receipt, x, y, room, picture)?;
     let look = Look::plain(if receipt.rose { "clock up" } else { "clock" });

@@ -3,7 +3,7 @@ use Rattle.picture_shapes.specs.Svg.{element}
 use Rattle.picture_shapes.proofs.Sending.{sent_five}
 use Rattle.picture_shapes.proofs.svg.send_all.Goals as goal
 
-pub returns : goal.returns-in_ok-send_shapes-5
+pub returns : goal.returns
 returns g c =
     let p = c.args.picture.now in
     sent_five element (append_known (g.W.Write.contents c.args.writer.now) c.args.piece.now.items)

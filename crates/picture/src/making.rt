@@ -1,0 +1,93 @@
+//! The steps of a trace, made again while their facts are put down.
+
+use crate::fault::PictureFault;
+use crate::recorder::{Before, Recorder};
+use groups::RequestId;
+use journal::{Step, Steps, Trace};
+use picture_shapes::RunFacts;
+use placement::Table;
+use progress::Progress;
+use shard_workers::{InTurn, Open};
+use std::alloc::{AllocError, Global};
+use std::num::NonZeroUsize;
+use system::{Effect, StepFault, System};
+
+/// The facts of the run that this trace makes in a new system of this table.
+///
+/// `Step` says which step is the first that isn't accepted, and why. The only other error is `Memory`.
+pub fn facts_of<P: Progress>(
+    alloc: Global,
+    table: Table,
+    trace: &Trace,
+    progress: &mut P,
+) -> Result<RunFacts, PictureFault> {
+    let mut recorder = Recorder::new(alloc, table.shards());
+    let mut system = System::new(alloc, table, trace.max())?;
+    make_all(alloc, trace.steps(), &mut system, &mut recorder, progress)?;
+    Ok(recorder.into_facts())
+}
+
+/// Makes the steps, up to the first that isn't accepted, and tells of each that was made.
+fn make_all<P: Progress>(
+    alloc: Global,
+    mut steps: Steps<'_>,
+    system: &mut System,
+    recorder: &mut Recorder,
+    progress: &mut P,
+) -> Result<(), PictureFault> {
+    let count = steps.len();
+    for index in 0..count {
+        let Some(step) = steps.next(alloc)? else {
+            return Ok(());
+        };
+        make(alloc, step, index as u64, system, recorder)?;
+        progress.made(index as u64 + 1, count as u64);
+    }
+    Ok(())
+}
+
+/// Makes the step with this index, and puts down what came of it.
+fn make(
+    alloc: Global,
+    step: Step,
+    index: u64,
+    system: &mut System,
+    recorder: &mut Recorder,
+) -> Result<(), PictureFault> {
+    let before = Before::of(alloc, &step, system)?;
+    let named = named_in(alloc, &step)?;
+    let Some(one) = NonZeroUsize::new(1) else {
+        return Err(PictureFault::Memory);
+    };
+    let effect = match system.step(step, &InTurn(one), &Open) {
+        Ok(effect) => effect,
+        Err(StepFault::Memory) => return Err(PictureFault::Memory),
+        Err(fault) => return Err(PictureFault::Step { index, fault }),
+    };
+    if !are_named(&effect, named.as_slice()) {
+        return Err(PictureFault::Memory);
+    }
+    recorder.note(before, &effect, system)?;
+    Ok(())
+}
+
+/// The ids that a Run names; none of another step.
+fn named_in(alloc: Global, step: &Step) -> Result<Vec<RequestId>, AllocError> {
+    match step {
+        Step::Run { starved } => starved.as_slice().to_vec(alloc),
+        _ => Ok(Vec::new(alloc)),
+    }
+}
+
+/// Whether all that starved are among those that were named to starve.
+fn are_named(effect: &Effect, named: &[RequestId]) -> bool {
+    let Effect::Ran(starved) = effect else {
+        return true;
+    };
+    for id in starved.as_slice() {
+        if !named.contains(id) {
+            return false;
+        }
+    }
+    true
+}
