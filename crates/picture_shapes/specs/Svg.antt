@@ -1,17 +1,16 @@
 -- The text of a picture: SVG, a line a shape.
 use Rattle.std.specs.Prelude.{ℕ, List, [], ◌∷◌, ◌++◌, ◌==◌, ◌&&◌, nat_le, cond, codes, decimal, Option, Some, None}
 use Rattle.std.specs.List.{flat_map}
+use Rattle.picture_shapes.specs.Shapes.{ShapeView}
 use Rattle.picture_shapes.specs.declared.drawing.Picture.{Picture}
 use Rattle.picture_shapes.specs.declared.label.TheConstants.{ELLIPSIS, MIDDLE_DOT, ARROW}
 use Rattle.picture_shapes.specs.declared.shape.Form.{Form}
 use Rattle.picture_shapes.specs.declared.shape.Form.TheVariants.{Rect, Disc, Line, Area, Text}
-use Rattle.picture_shapes.specs.declared.shape.Look.{Look}
 use Rattle.picture_shapes.specs.declared.shape.Mark.{Mark}
-use Rattle.picture_shapes.specs.declared.shape.Mark.TheVariants.{Plain, Bad, Again}
+use Rattle.picture_shapes.specs.declared.shape.Mark.TheVariants.{Plain, Bad}
 use Rattle.picture_shapes.specs.declared.shape.Path.{Path}
 use Rattle.picture_shapes.specs.declared.shape.Path.TheVariants.{Two, Three, Four}
 use Rattle.picture_shapes.specs.declared.shape.Point.{Point}
-use Rattle.picture_shapes.specs.declared.shape.Shape.{Shape}
 use Rattle.picture_shapes.specs.declared.style.TheConstants.{STYLE}
 use Rattle.picture_shapes.specs.declared.svg.TheConstants.{OPENING, HEADING, HATCH}
 
@@ -70,10 +69,9 @@ colour_text (Some number) = codes " c" ++ decimal number
 abbrev pub mark_text : Mark → List ℕ
 mark_text Plain = []
 mark_text Bad = codes " bad"
-mark_text Again = codes " again"
 
-abbrev pub class_text : Look → List ℕ
-class_text look = look.name.now ++ colour_text look.colour ++ mark_text look.mark
+abbrev pub class_text : ShapeView → List ℕ
+class_text s = s.name ++ colour_text s.colour ++ mark_text s.mark
 
 -- ---- an element
 
@@ -94,10 +92,10 @@ abbrev pub inside_text : Form → List ℕ → List ℕ
 inside_text form [] = codes "/>"
 inside_text form (byte ∷ bytes) = codes ">" ++ inner_text form (byte ∷ bytes) ++ codes "</" ++ tag form ++ codes ">"
 
-abbrev pub element : Shape → List ℕ
+abbrev pub element : ShapeView → List ℕ
 element s =
-    codes "<" ++ tag s.form ++ codes " class=\"" ++ class_text s.look ++ codes "\" " ++ place_text s.form
-    ++ inside_text s.form s.words.items ++ codes "\n"
+    codes "<" ++ tag s.form ++ codes " class=\"" ++ class_text s ++ codes "\" " ++ place_text s.form
+    ++ inside_text s.form s.words ++ codes "\n"
 
 -- ---- the whole
 
@@ -121,7 +119,7 @@ head_text p =
     ++ page_text STYLE.now HATCH.now p.width p.height
 
 -- the shapes in the order in which they are drawn
-abbrev pub shapes_of : Picture → List Shape
+abbrev pub shapes_of : Picture → List ShapeView
 shapes_of p = p.ground.items ++ p.bands.items ++ p.arrows.items ++ p.marks.items ++ p.labels.items
 
 abbrev pub svg_text : Picture → List ℕ

@@ -18,7 +18,7 @@ pub struct Picture {
 
 impl Picture {
     /// A picture without shapes.
-    pub fn new(alloc: Global) -> Self {
+    pub(super) fn new(alloc: Global) -> Self {
         Picture {
             width: 0,
             height: 0,
@@ -34,7 +34,7 @@ impl Picture {
     /// Draws a shape without words on the ground.
     pub(super) fn draw_ground(&mut self, look: Look, form: Form) -> Result<(), AllocError> {
         let words = Vec::new(*self.ground.allocator());
-        self.ground.push(Shape { look, form, words })?;
+        self.ground.push(Shape::new(look, form, words))?;
         Ok(())
     }
 
@@ -45,18 +45,7 @@ impl Picture {
         form: Form,
         words: Vec<u8>,
     ) -> Result<(), AllocError> {
-        self.bands.push(Shape { look, form, words })?;
-        Ok(())
-    }
-
-    /// Draws a shape among the arrows.
-    pub(super) fn draw_arrow(
-        &mut self,
-        look: Look,
-        form: Form,
-        words: Vec<u8>,
-    ) -> Result<(), AllocError> {
-        self.arrows.push(Shape { look, form, words })?;
+        self.bands.push(Shape::new(look, form, words))?;
         Ok(())
     }
 
@@ -67,7 +56,7 @@ impl Picture {
         form: Form,
         words: Vec<u8>,
     ) -> Result<(), AllocError> {
-        self.marks.push(Shape { look, form, words })?;
+        self.marks.push(Shape::new(look, form, words))?;
         Ok(())
     }
 
@@ -94,7 +83,7 @@ impl Picture {
             return Ok(());
         }
         let form = Form::Text { x, y };
-        self.labels.push(Shape { look, form, words })?;
+        self.labels.push(Shape::new(look, form, words))?;
         Ok(())
     }
 

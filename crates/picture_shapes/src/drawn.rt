@@ -1,5 +1,11 @@
 //! The facts of a run, to its picture.
 
+ghost use Rattle.std.specs.Prelude.{◌≡◌, length, IfOk};
+ghost use Rattle.picture_shapes.specs.Arrows.{arrows_of};
+ghost use Rattle.picture_shapes.specs.Frames.{IsWindow};
+ghost use Rattle.picture_shapes.specs.declared.frame.Frame.{Frame};
+
+use crate::arrows::arrows_of;
 use crate::drawing::Picture;
 use crate::facts::RunFacts;
 use crate::frame::Frame;
@@ -19,7 +25,10 @@ pub fn picture_of(
     run: &RunFacts,
     from: usize,
     to: usize,
-) -> Result<Picture, AllocError> {
+) -> Result<Picture, AllocError>
+    ensures { IfOk result (λ picture. (f : Frame) × IsWindow (length run.now.steps.items) from to f
+        × (picture.arrows.items ≡ arrows_of f run.now)) }
+{
     let frame = Frame::new(alloc, run, from, to)?;
     let mut picture = Picture::new(alloc);
     draw_steps(alloc, run, &frame, &mut picture)?;
@@ -32,6 +41,7 @@ pub fn picture_of(
     draw_heading(alloc, run, &frame, &mut picture)?;
     let bottom = frame.below(run.groups);
     draw_legend(alloc, bottom + 14, &mut picture)?;
+    picture.arrows = arrows_of(alloc, run, &frame)?;
     picture.width = frame.width();
     picture.height = bottom + 132;
     Ok(picture)

@@ -1,5 +1,8 @@
 //! The facts of a run that a picture shows: what happened to whom at which step. Plain data.
 
+ghost use Rattle.std.specs.Prelude.{◌≡◌};
+ghost use Rattle.picture_shapes.specs.Frames.{is_at};
+
 use groups::{GroupId, Groups, RequestId, Stamp};
 
 /// A request, and how many Submits stand before its own in the run.
@@ -50,6 +53,18 @@ pub struct RequestFacts {
     /// Its reply, cut for a label; empty where it has none.
     pub reply: Vec<u8>,
     pub stamp: Option<Stamp>,
+}
+
+impl RequestFacts {
+    /// Whether its own Submit answered it.
+    pub(super) fn is_answered_at_once(&self) -> bool
+        ensures { result ≡ is_at self.now.settled self.now.submit }
+    {
+        match self.settled {
+            Some(step) => step == self.submit,
+            None => false,
+        }
+    }
 }
 
 /// A packet: a Start where it comes from no group, and else a proposal of that group.

@@ -2,7 +2,8 @@
 //!
 //! Each place is below 2^40, so that no sum of a few of them is too large.
 
-ghost use Rattle.std.specs.Prelude.{◌≡◌, ◌+◌, ◌*◌, ◌<◌, ◌≤◌, ◌^◌, IfSome};
+ghost use Rattle.std.specs.Prelude.{◌≡◌, ◌+◌, ◌*◌, ◌<◌, ◌≤◌, ◌^◌, length, IfOk, IfSome};
+ghost use Rattle.picture_shapes.specs.Frames.{IsWindow, is_past, line_of, row_of, shows, shows_some, strip_of, x_of, x_or_end};
 
 use crate::facts::{ConnectionFacts, PacketFacts, RunFacts};
 use groups::{ConnId, GroupId};
@@ -28,7 +29,7 @@ const MOST_STEPS: usize = 1 << 32;
 
 /// A window of a run's steps, and where all that happens in it is drawn.
 #[derive(Drop)]
-pub struct Frame {
+pub(super) struct Frame {
     from: usize,
     to: usize,
     pitch: u64,
@@ -58,7 +59,14 @@ fn pitch_of(count: u64) -> u64
 
 impl Frame {
     /// The frame of the steps from the first to before the last of these, as far as the run has them.
-    pub fn new(alloc: Global, run: &RunFacts, from: usize, to: usize) -> Result<Self, AllocError> {
+    pub(super) fn new(
+        alloc: Global,
+        run: &RunFacts,
+        from: usize,
+        to: usize,
+    ) -> Result<Self, AllocError>
+        ensures { IfOk result (IsWindow (length run.now.steps.items) from to) }
+    {
         let to = to.min(run.steps.len());
         let from = from.min(to);
         let to = to.min(from.saturating_add(MOST_STEPS));
@@ -81,32 +89,40 @@ impl Frame {
     }
 
     /// The first step that is shown.
-    pub fn from(&self) -> usize {
+    pub(super) fn from(&self) -> usize
+        ensures { result ≡ self.now.from }
+    {
         self.from
     }
 
     /// The first step behind those that are shown.
-    pub fn to(&self) -> usize {
+    pub(super) fn to(&self) -> usize
+        ensures { result ≡ self.now.to }
+    {
         self.to
     }
 
     /// How far two steps are apart.
-    pub fn pitch(&self) -> u64 {
+    pub(super) fn pitch(&self) -> u64 {
         self.pitch
     }
 
     /// How many packets are under way behind the last step.
-    pub fn waiting(&self) -> u64 {
+    pub(super) fn waiting(&self) -> u64 {
         self.waiting
     }
 
     /// Whether the step is shown.
-    pub fn shows(&self, step: usize) -> bool {
+    pub(super) fn shows(&self, step: usize) -> bool
+        ensures { result ≡ shows self.now step }
+    {
         self.from <= step && step < self.to
     }
 
     /// Whether the step is there and is shown.
-    pub fn shows_some(&self, step: Option<usize>) -> bool {
+    pub(super) fn shows_some(&self, step: Option<usize>) -> bool
+        ensures { result ≡ shows_some self.now step }
+    {
         match step {
             Some(step) => self.shows(step),
             None => false,
@@ -114,7 +130,9 @@ impl Frame {
     }
 
     /// Whether what happens at this step, if ever, is before the window.
-    pub fn is_past(&self, step: Option<usize>) -> bool {
+    pub(super) fn is_past(&self, step: Option<usize>) -> bool
+        ensures { result ≡ is_past self.now step }
+    {
         match step {
             Some(step) => step < self.from,
             None => false,
@@ -122,7 +140,8 @@ impl Frame {
     }
 
     /// Where a step is. One before the window is at its left edge, one behind it at its right edge.
-    pub fn x(&self, step: usize) -> u64
+    pub(super) fn x(&self, step: usize) -> u64
+        ensures value { result ≡ x_of self.now step }
         ensures least { 72 ≤ result }
         ensures most { result < 2 ^ 39 }
     {
@@ -136,7 +155,8 @@ impl Frame {
     }
 
     /// Where a step is that may never come: then it is at the right edge.
-    pub fn x_or_end(&self, step: Option<usize>) -> u64
+    pub(super) fn x_or_end(&self, step: Option<usize>) -> u64
+        ensures value { result ≡ x_or_end self.now step }
         ensures least { 72 ≤ result }
         ensures most { result < 2 ^ 39 }
     {
@@ -147,7 +167,8 @@ impl Frame {
     }
 
     /// The right edge of the steps.
-    pub fn end(&self) -> u64
+    pub(super) fn end(&self) -> u64
+        ensures value { result ≡ self.now.end }
         ensures least { 80 ≤ result }
         ensures most { result < 2 ^ 39 }
     {
@@ -155,7 +176,7 @@ impl Frame {
     }
 
     /// How wide the picture is.
-    pub fn width(&self) -> u64
+    pub(super) fn width(&self) -> u64
         ensures least { 96 ≤ result }
         ensures most { result < 2 ^ 40 }
     {
@@ -163,7 +184,7 @@ impl Frame {
     }
 
     /// Where the last label of a lane may end.
-    pub fn last(&self) -> u64
+    pub(super) fn last(&self) -> u64
         ensures { result < 2 ^ 40 }
     {
         if self.waiting > 0 {
@@ -174,7 +195,7 @@ impl Frame {
     }
 
     /// How many connections are shown.
-    pub fn shown(&self) -> u64 {
+    pub(super) fn shown(&self) -> u64 {
         let mut shown: u64 = 0;
         for row in &self.rows {
             if row.is_some() {
@@ -185,8 +206,9 @@ impl Frame {
     }
 
     /// Where the connection is drawn, if it is.
-    pub fn row(&self, conn: ConnId) -> Option<u64>
-        ensures { IfSome result (λ y. (96 ≤ y) × (y < 2 ^ 38)) }
+    pub(super) fn row(&self, conn: ConnId) -> Option<u64>
+        ensures value { result ≡ row_of self.now conn.0 }
+        ensures bounds { IfSome result (λ y. (96 ≤ y) × (y < 2 ^ 38)) }
     {
         let place = conn.0.checked_sub(1)?;
         match self.rows.get(place as usize) {
@@ -196,7 +218,8 @@ impl Frame {
     }
 
     /// The line between the connections and the groups.
-    pub fn gate(&self) -> u64
+    pub(super) fn gate(&self) -> u64
+        ensures value { result ≡ self.now.gate }
         ensures least { 102 ≤ result }
         ensures most { result < 2 ^ 38 }
     {
@@ -204,7 +227,8 @@ impl Frame {
     }
 
     /// Where the strip of layers is.
-    pub fn strip(&self) -> u64
+    pub(super) fn strip(&self) -> u64
+        ensures value { result ≡ strip_of self.now }
         ensures least { 114 ≤ result }
         ensures most { result < 2 ^ 38 + 12 }
     {
@@ -212,7 +236,8 @@ impl Frame {
     }
 
     /// Where the lane of a group is.
-    pub fn top(&self, group: GroupId) -> u64
+    pub(super) fn top(&self, group: GroupId) -> u64
+        ensures value { result ≡ self.now.gate + 34 + 118 * group }
         ensures least { 136 ≤ result }
         ensures most { result < 2 ^ 38 + 2 ^ 16 }
     {
@@ -220,7 +245,8 @@ impl Frame {
     }
 
     /// The line of a group.
-    pub fn line(&self, group: GroupId) -> u64
+    pub(super) fn line(&self, group: GroupId) -> u64
+        ensures value { result ≡ line_of self.now group }
         ensures least { 180 ≤ result }
         ensures most { result < 2 ^ 38 + 2 ^ 17 }
     {
@@ -228,7 +254,8 @@ impl Frame {
     }
 
     /// Where what is below so many groups begins.
-    pub fn below(&self, groups: u8) -> u64
+    pub(super) fn below(&self, groups: u8) -> u64
+        ensures value { result ≡ self.now.gate + 34 + 118 * groups }
         ensures least { 136 ≤ result }
         ensures most { result < 2 ^ 38 + 2 ^ 16 }
     {
@@ -240,7 +267,8 @@ impl Frame {
 fn times(pitch: u64, count: u64) -> u64
     requires pitch { pitch ≤ 40 }
     requires count { count ≤ 2 ^ 32 }
-    ensures { result ≤ 40 * 2 ^ 32 }
+    ensures value { result ≡ pitch * count }
+    ensures most { result ≤ 40 * 2 ^ 32 }
 {
     pitch * count
 }

@@ -1,7 +1,7 @@
 //! Labels: a character a byte. Printable ASCII stands for itself, and three bytes beyond it for signs.
 
 ghost use Rattle.std.specs.Prelude.{◌≡◌, ◌++◌, OnOk, IfOk, decimal};
-ghost use Rattle.picture_shapes.specs.Labels.{id_label, stamp_label};
+ghost use Rattle.picture_shapes.specs.Labels.{cut_label, id_label, stamp_label};
 
 use groups::{RequestId, Stamp};
 use itoa::Buffer;
@@ -11,20 +11,20 @@ use std::alloc::{AllocError, Global};
 pub const ELLIPSIS: u8 = 0x80;
 
 /// The byte that stands for a dot at middle height.
-pub const MIDDLE_DOT: u8 = 0x81;
+pub(super) const MIDDLE_DOT: u8 = 0x81;
 
 /// The byte that stands for an arrow to the right.
-pub const ARROW: u8 = 0x82;
+pub(super) const ARROW: u8 = 0x82;
 
 /// Appends a number in decimal digits.
-pub fn put_number(number: u64, out: &mut Vec<u8>) -> Result<(), AllocError>
+pub(super) fn put_number(number: u64, out: &mut Vec<u8>) -> Result<(), AllocError>
     ensures { OnOk result (out.new.items ≡ out.old.items ++ decimal number) }
 {
     out.extend_from_slice(Buffer::new().format(number).as_bytes())
 }
 
 /// Appends a request's id: its connection and its number there, with a dot between them.
-pub fn put_id(id: RequestId, out: &mut Vec<u8>) -> Result<(), AllocError>
+pub(super) fn put_id(id: RequestId, out: &mut Vec<u8>) -> Result<(), AllocError>
     ensures { OnOk result (out.new.items ≡ out.old.items ++ id_label id) }
 {
     put_number(id.conn.0, out)?;
@@ -33,7 +33,7 @@ pub fn put_id(id: RequestId, out: &mut Vec<u8>) -> Result<(), AllocError>
 }
 
 /// Appends a stamp: its clock and its group, in parentheses.
-pub fn put_stamp(stamp: Stamp, out: &mut Vec<u8>) -> Result<(), AllocError>
+pub(super) fn put_stamp(stamp: Stamp, out: &mut Vec<u8>) -> Result<(), AllocError>
     ensures { OnOk result (out.new.items ≡ out.old.items ++ stamp_label stamp) }
 {
     out.extend_from_slice(b"(")?;
@@ -44,7 +44,7 @@ pub fn put_stamp(stamp: Stamp, out: &mut Vec<u8>) -> Result<(), AllocError>
 }
 
 /// Appends a number in decimal digits, with a comma before each three of them.
-pub fn put_count(count: u64, out: &mut Vec<u8>) -> Result<(), AllocError> {
+pub(super) fn put_count(count: u64, out: &mut Vec<u8>) -> Result<(), AllocError> {
     let mut buffer = Buffer::new();
     let digits = buffer.format(count).as_bytes();
     for (place, digit) in digits.iter().enumerate() {
@@ -57,7 +57,7 @@ pub fn put_count(count: u64, out: &mut Vec<u8>) -> Result<(), AllocError> {
 }
 
 /// Appends how many there are of what has this name, with an s where there isn't one.
-pub fn put_many(count: u64, name: &[u8], out: &mut Vec<u8>) -> Result<(), AllocError> {
+pub(super) fn put_many(count: u64, name: &[u8], out: &mut Vec<u8>) -> Result<(), AllocError> {
     put_count(count, out)?;
     out.extend_from_slice(b" ")?;
     out.extend_from_slice(name)?;
@@ -68,7 +68,7 @@ pub fn put_many(count: u64, name: &[u8], out: &mut Vec<u8>) -> Result<(), AllocE
 }
 
 /// The label of a number.
-pub fn number_label(alloc: Global, number: u64) -> Result<Vec<u8>, AllocError>
+pub(super) fn number_label(alloc: Global, number: u64) -> Result<Vec<u8>, AllocError>
     ensures { IfOk result (λ label. label.items ≡ decimal number) }
 {
     let mut label = Vec::new(alloc);
@@ -77,7 +77,7 @@ pub fn number_label(alloc: Global, number: u64) -> Result<Vec<u8>, AllocError>
 }
 
 /// The label of a request's id.
-pub fn id_label(alloc: Global, id: RequestId) -> Result<Vec<u8>, AllocError>
+pub(super) fn id_label(alloc: Global, id: RequestId) -> Result<Vec<u8>, AllocError>
     ensures { IfOk result (λ label. label.items ≡ id_label id) }
 {
     let mut label = Vec::new(alloc);
@@ -86,7 +86,7 @@ pub fn id_label(alloc: Global, id: RequestId) -> Result<Vec<u8>, AllocError>
 }
 
 /// The label of a stamp.
-pub fn stamp_label(alloc: Global, stamp: Stamp) -> Result<Vec<u8>, AllocError>
+pub(super) fn stamp_label(alloc: Global, stamp: Stamp) -> Result<Vec<u8>, AllocError>
     ensures { IfOk result (λ label. label.items ≡ stamp_label stamp) }
 {
     let mut label = Vec::new(alloc);
@@ -95,7 +95,7 @@ pub fn stamp_label(alloc: Global, stamp: Stamp) -> Result<Vec<u8>, AllocError>
 }
 
 /// The label of a name and a number behind it.
-pub fn numbered(alloc: Global, name: &[u8], number: u64) -> Result<Vec<u8>, AllocError>
+pub(super) fn numbered(alloc: Global, name: &[u8], number: u64) -> Result<Vec<u8>, AllocError>
     ensures { IfOk result (λ label. label.items ≡ name.now ++ decimal number) }
 {
     let mut label = name.to_vec(alloc)?;
@@ -104,7 +104,9 @@ pub fn numbered(alloc: Global, name: &[u8], number: u64) -> Result<Vec<u8>, Allo
 }
 
 /// Cuts the label to this many characters: what is cut ends with an ellipsis, and one character is no label.
-pub fn cut(label: &mut Vec<u8>, room: usize) -> Result<(), AllocError> {
+pub fn cut(label: &mut Vec<u8>, room: usize) -> Result<(), AllocError>
+    ensures { OnOk result (label.new.items ≡ cut_label room label.old.items) }
+{
     if label.len() <= room {
         return Ok(());
     }
@@ -119,7 +121,7 @@ pub fn cut(label: &mut Vec<u8>, room: usize) -> Result<(), AllocError> {
 
 /// The first label, and the rest behind a space, in this many characters. The first is never cut: it stands alone where
 /// there is no room for two more characters, or not at all.
-pub fn cut_after(
+pub(super) fn cut_after(
     alloc: Global,
     first: &[u8],
     rest: &[u8],

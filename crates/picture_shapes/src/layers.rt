@@ -294,7 +294,7 @@ fn job_title(
     Ok(words)
 }
 
-/// The way of a reply from its layer to its connection, unless that was closed before.
+/// The head of a reply at its connection, unless that was closed before.
 fn draw_reply(
     alloc: Global,
     job: &JobFacts,

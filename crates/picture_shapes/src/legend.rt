@@ -1,50 +1,47 @@
-//! The legend: three columns of five signs, and what each stands for.
+//! The legend: three columns of signs, and what each stands for.
 
 ghost use Rattle.std.specs.Prelude.{◌<◌, ◌≤◌, ◌^◌};
 
 use crate::drawing::Picture;
-use crate::shape::{Form, Look, Mark, Path, Point, diamond, line, triangle};
+use crate::shape::{Form, Look, Path, Point, diamond, line, triangle};
 use std::alloc::{AllocError, Global};
 
-/// What the signs stand for.
-const KEYS: [[&str; 5]; 3] = [
-    [
-        "a Start comes; >2 is its floor",
-        "a proposal comes, with its stamp",
-        "the clock after it, bold where it rose",
-        "a delivery, with the final stamp",
-        "the step Deliver(2)",
-    ],
-    [
-        "a request, until it is settled",
-        "its reply, until it is collected",
-        "a layer, from Take to Settle",
-        "its requests; the notch is Run",
-        "a connection opens, closes",
-    ],
-    [
-        "a packet, from its send to its receipt",
-        "a packet that a link repeats",
-        "starved: the request found no memory",
-        "a reply goes to its connection",
-        "under way at the end",
-    ],
+/// What the signs of receipts, deliveries and steps stand for.
+const RECEIPTS: [&str; 5] = [
+    "a Start comes; >2 is its floor",
+    "a proposal comes, with its stamp",
+    "the clock after it, bold where it rose",
+    "a delivery, with the final stamp",
+    "the step Deliver(2)",
 ];
 
-/// How wide a column is, and how high a row.
-const COLUMN: u64 = 290;
+/// What the signs of requests, layers and connections stand for.
+const REQUESTS: [&str; 5] = [
+    "a request, until it is settled",
+    "its reply, until it is collected",
+    "a layer, from Take to Settle",
+    "its requests; the notch is Run",
+    "a connection opens, closes",
+];
 
+/// What the signs of packets, of what starved, and of replies stand for.
+const PACKETS: [&str; 4] = [
+    "a packet, from its send to its receipt",
+    "starved: the request found no memory",
+    "a reply goes to its connection",
+    "under way at the end",
+];
+
+/// How high a row is.
 const ROW: u64 = 22;
 
 /// The legend, below this place.
 pub(super) fn draw_legend(alloc: Global, y: u64, picture: &mut Picture) -> Result<(), AllocError>
     requires { y < 2 ^ 40 }
 {
-    let mut x = 50;
-    for column in &KEYS {
-        draw_keys(alloc, x, y + 18, column, picture)?;
-        x = COLUMN.saturating_add(x);
-    }
+    draw_keys(alloc, 50, y + 18, RECEIPTS.as_slice(), picture)?;
+    draw_keys(alloc, 340, y + 18, REQUESTS.as_slice(), picture)?;
+    draw_keys(alloc, 630, y + 18, PACKETS.as_slice(), picture)?;
     draw_receipt_signs(alloc, y + 14, picture)?;
     draw_request_signs(alloc, y + 14, picture)?;
     draw_packet_signs(alloc, y + 14, picture)
@@ -55,7 +52,7 @@ fn draw_keys(
     alloc: Global,
     x: u64,
     y: u64,
-    keys: &[&str; 5],
+    keys: &[&str],
     picture: &mut Picture,
 ) -> Result<(), AllocError> {
     let mut y = y;
@@ -152,30 +149,25 @@ fn draw_packet_signs(alloc: Global, y: u64, picture: &mut Picture) -> Result<(),
     sign(alloc, first("packet"), way, picture)?;
     let head = triangle(x + 22, y + 7, x + 18, y, x + 26, y);
     sign(alloc, first("head"), head, picture)?;
-    let look = Look {
-        mark: Mark::Again,
-        ..first("packet")
-    };
-    sign(alloc, look, line(x, y + 22, x + 28, y + 22), picture)?;
     let starved = first("job").bad_where(true);
-    sign(alloc, starved, bar(x, y + 36), picture)?;
-    let back = line(x + 14, y + 74, x + 14, y + 62);
+    sign(alloc, starved, bar(x, y + 14), picture)?;
+    let back = line(x + 14, y + 52, x + 14, y + 40);
     sign(alloc, first("back"), back, picture)?;
-    let head = triangle(x + 14, y + 58, x + 10, y + 65, x + 18, y + 65);
+    let head = triangle(x + 14, y + 36, x + 10, y + 43, x + 18, y + 43);
     sign(alloc, first("head"), head, picture)?;
-    let way = line(x, y + 88, x + 27, y + 88);
+    let way = line(x, y + 66, x + 27, y + 66);
     sign(alloc, first("packet"), way, picture)?;
     let tip = Point {
         x: x + 28,
-        y: y + 88,
+        y: y + 66,
     };
     let above = Point {
         x: x + 23,
-        y: y + 83,
+        y: y + 61,
     };
     let below = Point {
         x: x + 23,
-        y: y + 93,
+        y: y + 71,
     };
     sign(alloc, first("edge"), path(above, tip, below), picture)
 }

@@ -4,6 +4,7 @@
 //! steps as shapes, and `write_svg` writes the shapes as SVG.
 #![tactic(auto)]
 
+mod arrows;
 mod drawing;
 mod drawn;
 mod facts;
@@ -19,6 +20,7 @@ mod requests;
 mod shape;
 mod style;
 mod svg;
+mod ways;
 
 pub use drawing::Picture;
 pub use drawn::picture_of;
@@ -26,5 +28,5 @@ pub use facts::{
     Asked, ConnectionFacts, DeliveryFacts, JobFacts, LayerFacts, PacketFacts, ReceiptFacts,
     RequestFacts, RunFacts, StepWord,
 };
-pub use label::{ARROW, ELLIPSIS, MIDDLE_DOT, cut, put_id, put_number};
+pub use label::{ELLIPSIS, cut};
 pub use svg::{SvgFault, write_svg};

@@ -6,8 +6,8 @@ use crate::drawing::Picture;
 use crate::facts::{DeliveryFacts, ReceiptFacts};
 use crate::frame::Frame;
 use crate::label::{id_label, number_label, numbered, put_number, put_stamp, stamp_label};
-use crate::packets::{is_from_above, put_carried};
 use crate::shape::{Form, Look, diamond, triangle};
+use crate::ways::{is_from_above, put_carried};
 use groups::Stamp;
 use std::alloc::{AllocError, Global};
 

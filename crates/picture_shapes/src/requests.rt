@@ -6,7 +6,7 @@ use crate::drawing::{Picture, room_between};
 use crate::facts::RequestFacts;
 use crate::frame::Frame;
 use crate::label::{ARROW, cut, cut_after, id_label, numbered, put_id, put_stamp};
-use crate::shape::{Form, Look, line};
+use crate::shape::{Form, Look};
 use std::alloc::{AllocError, Global};
 
 /// The bars of the requests, the latest first.
@@ -23,7 +23,7 @@ pub(super) fn draw_requests(
         if let Some(row) = frame.row(request.asked.id.conn) {
             draw_ask(alloc, request, row, frame, picture)?;
             draw_answer(alloc, request, row, frame, picture)?;
-            draw_sending(alloc, request, row, frame, picture)?;
+            draw_sending(alloc, request, frame, picture)?;
         }
     }
     Ok(())
@@ -118,32 +118,25 @@ fn answer_label(
     cut_after(alloc, id.as_slice(), words.as_slice(), room)
 }
 
-/// The line from a connection to its groups, where the request goes to any.
+/// The dot where a request goes to its groups, if it goes to any.
 fn draw_sending(
     alloc: Global,
     request: &RequestFacts,
-    row: u64,
     frame: &Frame,
     picture: &mut Picture,
-) -> Result<(), AllocError>
-    requires { row < 2 ^ 38 }
-{
-    if !frame.shows(request.submit) || request.settled == Some(request.submit) {
+) -> Result<(), AllocError> {
+    if !frame.shows(request.submit) || request.is_answered_at_once() {
         return Ok(());
     }
-    let (x, gate) = (frame.x(request.submit), frame.gate());
-    let number = request.asked.number;
-    let empty = Vec::new(alloc);
-    picture.draw_arrow(Look::of("drop", number), line(x, row + 24, x, gate), empty)?;
     let mut words = numbered(alloc, b"step ", request.submit as u64)?;
     words.extend_from_slice(b": ")?;
     words.extend_from_slice(title_of(alloc, request)?.as_slice())?;
     let dot = Form::Disc {
-        x,
-        y: gate,
+        x: frame.x(request.submit),
+        y: frame.gate(),
         radius: 3,
     };
-    picture.mark(Look::of("dot", number), dot, words)
+    picture.mark(Look::of("dot", request.asked.number), dot, words)
 }
 
 /// What is said of a request.

@@ -17,7 +17,6 @@ svg{background:#fff}\n\
 polyline{fill:none;stroke-linejoin:round}\n\
 .packet,.drop,.edge{stroke:currentColor;stroke-width:2}\n\
 .packet,.drop{stroke-opacity:.75}\n\
-.again{stroke-dasharray:6 4}\n\
 .back{stroke:currentColor;stroke-dasharray:2 3}\n\
 .dot,.start,.head,.done,.job{fill:currentColor}\n\
 .told{fill:#f3f5f8;stroke:currentColor;stroke-width:2}\n\

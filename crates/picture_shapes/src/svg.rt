@@ -9,7 +9,7 @@ ghost use Rattle.picture_shapes.specs.Svg.{opening_text, description_text, page_
 
 use crate::drawing::Picture;
 use crate::label::{ARROW, ELLIPSIS, MIDDLE_DOT, put_number};
-use crate::shape::{Form, Look, Mark, Path, Point, Shape};
+use crate::shape::{Form, Mark, Path, Point, Shape};
 use crate::style::STYLE;
 use std::alloc::{AllocError, Global};
 use std::io::Write;
@@ -181,12 +181,13 @@ fn put_element(shape: &Shape, out: &mut Vec<u8>) -> Result<(), AllocError>
     ensures { OnOk result (out.new.items ≡ out.old.items ++ element shape.now) }
 {
     out.extend_from_slice(b"<")?;
-    out.extend_from_slice(tag(&shape.form))?;
+    let form = shape.form();
+    out.extend_from_slice(tag(&form))?;
     out.extend_from_slice(b" class=\"")?;
-    put_class(&shape.look, out)?;
+    put_class(shape, out)?;
     out.extend_from_slice(b"\" ")?;
-    put_place(&shape.form, out)?;
-    put_inside(&shape.form, shape.words.as_slice(), out)?;
+    put_place(&form, out)?;
+    put_inside(&form, shape.words(), out)?;
     out.extend_from_slice(b"\n")
 }
 
@@ -203,13 +204,13 @@ fn tag(form: &Form) -> &'static [u8]
     }
 }
 
-/// Appends a look's class.
-fn put_class(look: &Look, out: &mut Vec<u8>) -> Result<(), AllocError>
-    ensures { OnOk result (out.new.items ≡ out.old.items ++ class_text look.now) }
+/// Appends a shape's class.
+fn put_class(shape: &Shape, out: &mut Vec<u8>) -> Result<(), AllocError>
+    ensures { OnOk result (out.new.items ≡ out.old.items ++ class_text shape.now) }
 {
-    out.extend_from_slice(look.name.as_bytes())?;
-    put_colour(look.colour, out)?;
-    out.extend_from_slice(mark_text(look.mark))
+    out.extend_from_slice(shape.name().as_bytes())?;
+    put_colour(shape.colour(), out)?;
+    out.extend_from_slice(mark_text(shape.mark()))
 }
 
 /// Appends a colour, if there is one.
@@ -232,7 +233,6 @@ fn mark_text(mark: Mark) -> &'static [u8]
     match mark {
         Mark::Plain => b"",
         Mark::Bad => b" bad",
-        Mark::Again => b" again",
     }
 }
 
