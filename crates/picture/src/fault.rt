@@ -3,8 +3,8 @@
 ghost use Rattle.std.specs.Prelude.{◌≡◌};
 ghost use Rattle.picture.specs.Faults.{status_of};
 
-use placement::TableFault;
 use picture_shapes::SvgFault;
+use placement::TableFault;
 use std::alloc::AllocError;
 use system::StepFault;
 use thiserror::Error;

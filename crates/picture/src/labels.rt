@@ -36,12 +36,7 @@ pub(super) fn words_label(
 }
 
 /// Appends a word, cut to so many characters; quoted where it is empty or has a blank.
-fn put_word(
-    alloc: Global,
-    word: &[u8],
-    each: usize,
-    out: &mut Vec<u8>,
-) -> Result<(), AllocError> {
+fn put_word(alloc: Global, word: &[u8], each: usize, out: &mut Vec<u8>) -> Result<(), AllocError> {
     let shown = shown(alloc, word, each)?;
     if word.is_empty() || word.contains(&b' ') {
         return put_quoted(shown.as_slice(), out);

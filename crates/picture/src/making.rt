@@ -1,10 +1,13 @@
 //! The steps of a trace, made again while their facts are put down.
 
+ghost use Rattle.std.specs.Prelude.{◌≡◌, ◌++◌, map, IfOk, OnOk};
+ghost use Rattle.picture.specs.Words.{word_of};
+
 use crate::fault::PictureFault;
 use crate::recorder::{Before, Recorder};
 use groups::RequestId;
 use journal::{Step, Steps, Trace};
-use picture_shapes::RunFacts;
+use picture_shapes::{RunFacts, StepWord};
 use placement::Table;
 use progress::Progress;
 use shard_workers::{InTurn, Open};
@@ -20,11 +23,23 @@ pub fn facts_of<P: Progress>(
     table: Table,
     trace: &Trace,
     progress: &mut P,
-) -> Result<RunFacts, PictureFault> {
-    let mut recorder = Recorder::new(alloc, table.shards());
+) -> Result<RunFacts, PictureFault>
+    ensures groups { IfOk result (λ facts. facts.groups ≡ table.shards) }
+    ensures steps { IfOk result (λ facts. facts.steps.items ≡ map word_of trace.now.steps) }
+{
+    let groups = table.shards();
     let mut system = System::new(alloc, table, trace.max())?;
-    make_all(alloc, trace.steps(), &mut system, &mut recorder, progress)?;
-    Ok(recorder.into_facts())
+    let mut recorder = Recorder::new(alloc);
+    let mut words = Vec::with_capacity(alloc, trace.len())?;
+    make_all(
+        alloc,
+        trace.steps(),
+        &mut system,
+        &mut recorder,
+        &mut words,
+        progress,
+    )?;
+    Ok(recorder.into_facts(groups, words))
 }
 
 /// Makes the steps, up to the first that isn't accepted, and tells of each that was made.
@@ -33,24 +48,43 @@ fn make_all<P: Progress>(
     mut steps: Steps<'_>,
     system: &mut System,
     recorder: &mut Recorder,
+    words: &mut Vec<StepWord>,
     progress: &mut P,
-) -> Result<(), PictureFault> {
+) -> Result<(), PictureFault>
+    ensures { OnOk result (words.new.items ≡ words.old.items ++ map word_of steps.entry) }
+{
     let count = steps.len();
-    for index in 0..count {
-        let Some(step) = steps.next(alloc)? else {
-            return Ok(());
-        };
-        make(alloc, step, index as u64, system, recorder)?;
-        progress.made(index as u64 + 1, count as u64);
+    let mut index: usize = 0;
+    while let Some(step) = steps.next(alloc)? {
+        words.push(word_of(&step))?;
+        make(alloc, step, index, system, recorder)?;
+        index = index.saturating_add(1);
+        progress.made(index as u64, count as u64);
     }
     Ok(())
+}
+
+/// The word of a step.
+fn word_of(step: &Step) -> StepWord
+    ensures { result ≡ word_of step.now }
+{
+    match step {
+        Step::Open => StepWord::Open,
+        Step::Submit { .. } => StepWord::Submit,
+        Step::Deliver { place } => StepWord::Deliver(*place),
+        Step::Take => StepWord::Take,
+        Step::Run { .. } => StepWord::Run,
+        Step::Settle => StepWord::Settle,
+        Step::Collect { .. } => StepWord::Collect,
+        Step::Close { .. } => StepWord::Close,
+    }
 }
 
 /// Makes the step with this index, and puts down what came of it.
 fn make(
     alloc: Global,
     step: Step,
-    index: u64,
+    index: usize,
     system: &mut System,
     recorder: &mut Recorder,
 ) -> Result<(), PictureFault> {
@@ -62,12 +96,15 @@ fn make(
     let effect = match system.step(step, &InTurn(one), &Open) {
         Ok(effect) => effect,
         Err(StepFault::Memory) => return Err(PictureFault::Memory),
-        Err(fault) => return Err(PictureFault::Step { index, fault }),
+        Err(fault) => {
+            let index = index as u64;
+            return Err(PictureFault::Step { index, fault });
+        }
     };
     if !are_named(&effect, named.as_slice()) {
         return Err(PictureFault::Memory);
     }
-    recorder.note(before, &effect, system)?;
+    recorder.note(index, before, &effect, system)?;
     Ok(())
 }
 

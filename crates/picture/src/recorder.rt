@@ -1,5 +1,7 @@
 //! What happens at each step of a run, put down while a system makes it.
 
+ghost use Rattle.std.specs.Prelude.{◌≡◌};
+
 use crate::labels::{LONG, SHORT, reply_label, words_label};
 use groups::{ConnId, GroupId, RequestId};
 use journal::Step;
@@ -19,7 +21,11 @@ use system::{Effect, System};
 #[derive(Drop)]
 pub(super) struct Recorder {
     alloc: Global,
-    facts: RunFacts,
+    connections: Vec<ConnectionFacts>,
+    requests: Vec<RequestFacts>,
+    packets: Vec<PacketFacts>,
+    receipts: Vec<ReceiptFacts>,
+    layers: Vec<LayerFacts>,
     under_way: VecDeque<usize>,
     last: Vec<Option<usize>>,
 }
@@ -81,20 +87,6 @@ impl Before {
             Step::Close { conn } => Before::Close { conn: *conn },
         })
     }
-
-    /// The word of the step.
-    fn word(&self) -> StepWord {
-        match self {
-            Before::Open => StepWord::Open,
-            Before::Submit { .. } => StepWord::Submit,
-            Before::Deliver { place, .. } => StepWord::Deliver(*place),
-            Before::Take => StepWord::Take,
-            Before::Run => StepWord::Run,
-            Before::Settle => StepWord::Settle,
-            Before::Collect { .. } => StepWord::Collect,
-            Before::Close { .. } => StepWord::Close,
-        }
-    }
 }
 
 /// What is to be known before the packet at this place comes, if there is one.
@@ -109,39 +101,54 @@ fn coming_at(place: u64, system: &System) -> Option<Coming> {
 }
 
 impl Recorder {
-    /// Nothing has happened in a system of so many groups.
-    pub(super) fn new(alloc: Global, groups: u8) -> Self {
+    /// Nothing has happened.
+    pub(super) fn new(alloc: Global) -> Self {
         Recorder {
             alloc,
-            facts: RunFacts {
-                groups,
-                steps: Vec::new(alloc),
-                connections: Vec::new(alloc),
-                requests: Vec::new(alloc),
-                packets: Vec::new(alloc),
-                receipts: Vec::new(alloc),
-                layers: Vec::new(alloc),
-            },
+            connections: Vec::new(alloc),
+            requests: Vec::new(alloc),
+            packets: Vec::new(alloc),
+            receipts: Vec::new(alloc),
+            layers: Vec::new(alloc),
             under_way: VecDeque::new(alloc),
             last: Vec::new(alloc),
         }
     }
 
-    /// The facts.
-    pub(super) fn into_facts(self) -> RunFacts {
-        let Recorder { facts, .. } = self;
-        facts
+    /// The facts of a run of these steps over so many groups.
+    pub(super) fn into_facts(self, groups: u8, steps: Vec<StepWord>) -> RunFacts
+        ensures groups { result.groups ≡ groups }
+        ensures steps { result.steps.items ≡ steps.items }
+    {
+        let Recorder {
+            alloc: _,
+            connections,
+            requests,
+            packets,
+            receipts,
+            layers,
+            under_way: _,
+            last: _,
+        } = self;
+        RunFacts {
+            groups,
+            steps,
+            connections,
+            requests,
+            packets,
+            receipts,
+            layers,
+        }
     }
 
-    /// Puts down what came of a step that this system has made.
+    /// Puts down what came of the step at this place, which this system has made.
     pub(super) fn note(
         &mut self,
+        step: usize,
         before: Before,
         effect: &Effect,
         system: &System,
     ) -> Result<(), AllocError> {
-        let step = self.facts.steps.len();
-        self.facts.steps.push(before.word())?;
         match before {
             Before::Open => self.note_open(step),
             Before::Submit {
@@ -177,7 +184,7 @@ impl Recorder {
 
     /// A connection was opened.
     fn note_open(&mut self, step: usize) -> Result<(), AllocError> {
-        self.facts.connections.push(ConnectionFacts {
+        self.connections.push(ConnectionFacts {
             opened: step,
             closed: None,
         })?;
@@ -196,9 +203,9 @@ impl Recorder {
         if let Some(request) = self.last_request(id.conn) {
             request.followed = Some(step);
         }
-        let number = self.facts.requests.len();
+        let number = self.requests.len();
         let asked = Asked { id, number };
-        self.facts.requests.push(RequestFacts {
+        self.requests.push(RequestFacts {
             asked,
             words,
             title,
@@ -219,11 +226,16 @@ impl Recorder {
     /// The last request of a connection.
     fn last_request(&mut self, conn: ConnId) -> Option<&mut RequestFacts> {
         let number = last_of(self.last.as_slice(), conn)?;
-        self.facts.requests.get_mut(number)
+        self.requests.get_mut(number)
     }
 
     /// Whether the last request of a connection is answered, and how.
-    fn note_answer(&mut self, step: usize, conn: ConnId, system: &System) -> Result<(), AllocError> {
+    fn note_answer(
+        &mut self,
+        step: usize,
+        conn: ConnId,
+        system: &System,
+    ) -> Result<(), AllocError> {
         let Some(outcome) = system.waits(conn) else {
             return Ok(());
         };
@@ -253,9 +265,9 @@ impl Recorder {
             Body::Start { floor, groups: _ } => (None, *floor),
             Body::Proposal { from, clock } => (Some(*from), *clock),
         };
-        let number = self.facts.packets.len();
+        let number = self.packets.len();
         let asked = self.asked(packet.id);
-        self.facts.packets.push(PacketFacts {
+        self.packets.push(PacketFacts {
             asked,
             from,
             to: packet.to,
@@ -287,14 +299,14 @@ impl Recorder {
         let Some(number) = self.under_way.remove(place as usize) else {
             return Ok(());
         };
-        let Some(packet) = self.facts.packets.get_mut(number) else {
+        let Some(packet) = self.packets.get_mut(number) else {
             return Ok(());
         };
         packet.received = Some(step);
         let packet = *packet;
         let clock = system.clock(coming.to);
         let delivered = self.deliveries(coming, system)?;
-        self.facts.receipts.push(ReceiptFacts {
+        self.receipts.push(ReceiptFacts {
             step,
             packet,
             clock,
@@ -333,7 +345,7 @@ impl Recorder {
                 dropped: false,
             })?;
         }
-        self.facts.layers.push(LayerFacts {
+        self.layers.push(LayerFacts {
             take: step,
             run: None,
             settle: None,
@@ -344,17 +356,14 @@ impl Recorder {
 
     /// The layer was run, and these of its requests starved.
     fn note_run(&mut self, step: usize, starved: &[RequestId]) {
-        let RunFacts {
-            layers, requests, ..
-        } = &mut self.facts;
-        let Some(layer) = layers.last_mut() else {
+        let Some(layer) = self.layers.last_mut() else {
             return;
         };
         layer.run = Some(step);
         for job in layer.jobs.iter_mut() {
             if starved.contains(&job.asked.id) {
                 job.starved = true;
-                if let Some(request) = requests.get_mut(job.asked.number) {
+                if let Some(request) = self.requests.get_mut(job.asked.number) {
                     request.starved = true;
                 }
             }
@@ -363,7 +372,7 @@ impl Recorder {
 
     /// The layer was settled: the outcome of each of its requests waits for its connection, unless that was closed.
     fn note_settle(&mut self, step: usize, system: &System) -> Result<(), AllocError> {
-        let Some(mut layer) = self.facts.layers.pop() else {
+        let Some(mut layer) = self.layers.pop() else {
             return Ok(());
         };
         layer.settle = Some(step);
@@ -372,7 +381,7 @@ impl Recorder {
             job.dropped = system.waits(conn).is_none();
             self.note_answer(step, conn, system)?;
         }
-        self.facts.layers.push(layer)?;
+        self.layers.push(layer)?;
         Ok(())
     }
 
@@ -385,7 +394,7 @@ impl Recorder {
 
     /// A connection was closed.
     fn note_close(&mut self, step: usize, conn: ConnId) {
-        if let Some(connection) = self.facts.connections.get_mut(place_of(conn)) {
+        if let Some(connection) = self.connections.get_mut(place_of(conn)) {
             connection.closed = Some(step);
         }
         if let Some(request) = self.last_request(conn) {
