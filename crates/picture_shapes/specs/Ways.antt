@@ -65,7 +65,9 @@ abbrev pub receipt_said : Option ℕ → List ℕ
 receipt_said None = codes ", under way"
 receipt_said (Some step) = codes ", received at step " ++ decimal step
 
+unfoldable pub sending_said : ℕ → ℕ → List ℕ
+sending_said to sent = codes " to group " ++ decimal to ++ codes ", sent at step " ++ decimal sent
+
 -- what is said of it
 unfoldable pub packet_title : PacketFacts → List ℕ
-packet_title p =
-    carried p ++ codes " to group " ++ decimal p.to ++ codes ", sent at step " ++ decimal p.sent ++ receipt_said p.received
+packet_title p = carried p ++ sending_said p.to p.sent ++ receipt_said p.received

@@ -3,7 +3,6 @@
 //! Each place is below 2^40, so that no sum of a few of them is too large.
 
 ghost use Rattle.std.specs.Prelude.{◌≡◌, ◌+◌, ◌*◌, ◌<◌, ◌≤◌, ◌^◌, length, IfOk, IfSome};
-ghost use Rattle.picture_shapes.specs.Frames.{IsWindow, is_past, line_of, row_of, shows, shows_some, strip_of, x_of, x_or_end};
 
 use crate::facts::{ConnectionFacts, PacketFacts, RunFacts};
 use groups::{ConnId, GroupId};
@@ -58,6 +57,8 @@ fn pitch_of(count: u64) -> u64
 }
 
 impl Frame {
+    ghost use Rattle.picture_shapes.specs.Frames.{IsWindow, is_past, line_of, row_of, shows, shows_some, strip_of, x_of, x_or_end};
+
     /// The frame of the steps from the first to before the last of these, as far as the run has them.
     pub(super) fn new(
         alloc: Global,

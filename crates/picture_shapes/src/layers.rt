@@ -313,12 +313,6 @@ fn draw_reply(
         return Ok(());
     };
     let (y, number) = (row + 24, job.asked.number);
-    let empty = Vec::new(alloc);
-    picture.draw_arrow(
-        Look::of("back", number),
-        line(x, frame.strip(), x, y + 7),
-        empty,
-    )?;
     let mut words = numbered(alloc, b"step ", settle as u64)?;
     words.extend_from_slice(b": reply to ")?;
     put_id(job.asked.id, &mut words)?;

@@ -1,7 +1,8 @@
 //! The way of a packet: from where it is sent to its group, or to the right edge.
 
 ghost use Rattle.std.specs.Prelude.{◌≡◌, ◌++◌, ◌<◌, ◌≤◌, ◌^◌, IfOk, OnOk};
-ghost use Rattle.picture_shapes.specs.Ways.{way_of, path_through, leaving, coming, source_of, is_from_above, carried, receipt_said, packet_title};
+ghost use Rattle.picture_shapes.specs.Ways.{way_of, path_through, leaving, coming, source_of, is_from_above, carried, sending_said, receipt_said};
+ghost use Rattle.picture_shapes.specs.Ways.{packet_title};
 
 use crate::facts::PacketFacts;
 use crate::frame::Frame;
@@ -117,17 +118,27 @@ pub(super) fn put_carried(packet: &PacketFacts, out: &mut Vec<u8>) -> Result<(),
 }
 
 /// What is said of a packet.
+#[tactic(auto, unfolding(crate::specs::Ways::packet_title))]
 pub(super) fn packet_title(alloc: Global, packet: &PacketFacts) -> Result<Vec<u8>, AllocError>
     ensures { IfOk result (λ words. words.items ≡ packet_title packet.now) }
 {
     let mut words = Vec::new(alloc);
     put_carried(packet, &mut words)?;
-    words.extend_from_slice(b" to group ")?;
-    put_number(u64::from(packet.to.number()), &mut words)?;
-    words.extend_from_slice(b", sent at step ")?;
-    put_number(packet.sent as u64, &mut words)?;
+    put_sending(u64::from(packet.to.number()), packet.sent, &mut words)?;
     put_receipt(packet.received, &mut words)?;
     Ok(words)
+}
+
+/// Appends where a packet goes, and when it was sent.
+
+fn put_sending(to: u64, sent: usize, out: &mut Vec<u8>) -> Result<(), AllocError>
+    ensures { OnOk result (out.new.items ≡ out.old.items ++ sending_said to sent) }
+{
+    out.extend_from_slice(b" to group ")?;
+    put_number(to, out)?;
+    out.extend_from_slice(b", sent at step ")?;
+    put_number(sent as u64, out)?;
+    Ok(())
 }
 
 /// Appends when a packet is received, if ever.
