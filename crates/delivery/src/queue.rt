@@ -1,5 +1,5 @@
 //! The queue of one group.
-ghost use Rattle.std.specs.Prelude.{◌≡◌, ◌+◌, ◌<◌, ◌≤◌, ◌++◌, [], ◌∷◌, drop, length, OnOk, OnErr, IsOk, option_copied};
+ghost use Rattle.std.specs.Prelude.{◌≡◌, ◌+◌, ◌<◌, ◌≤◌, ◌++◌, [], ◌∷◌, drop, length, OnOk, OnErr, IsOk, option_copied, slice_get};
 ghost use Rattle.delivery.specs.Heads.{head_of};
 ghost use Rattle.delivery.specs.Runs.{run};
 
@@ -103,5 +103,19 @@ impl Queue {
         ensures room { self.old.room ≤ self.new.room }
     {
         let _ = self.requests.pop_front();
+    }
+
+    /// The request at this place, counted from 0 from the oldest.
+    pub fn get(&self, place: usize) -> Option<&Delivered>
+        ensures { option_copied result ≡ slice_get self.now.requests place }
+    {
+        self.requests.get(place)
+    }
+
+    /// How many requests there are.
+    pub fn len(&self) -> usize
+        ensures { result ≡ length self.now.requests }
+    {
+        self.requests.len()
     }
 }

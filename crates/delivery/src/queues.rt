@@ -1,6 +1,6 @@
 //! The queues of all groups, and the layer of the requests that are ready or lined up.
 ghost use Rattle.std.specs.Prelude.{◌≡◌, ◌≢◌, ℕ, ◌+◌, ◌<◌, ◌≤◌, ◌++◌, [], ◌∷◌, true, cond, drop, length, slice_set, IfOk, OnOk, OnErr};
-ghost use Rattle.std.specs.Prelude.{IsOk, IsTrue, ◌↔◌, option_copied};
+ghost use Rattle.std.specs.Prelude.{IsOk, IsTrue, ◌↔◌, option_copied, slice_get};
 ghost use Rattle.groups.specs.GroupSet.{has};
 ghost use Rattle.skeen_core.specs.declared.packet.Delivered.{Delivered};
 ghost use Rattle.delivery.specs.Ready.{IsReady, IsLayer};
@@ -160,6 +160,23 @@ impl Queues {
     {
         for request in requests {
             self.pop(request);
+        }
+    }
+
+    /// The request at this place of the group's queue, counted from 0 from the oldest. A group without a queue has none.
+    pub fn delivered(&self, group: GroupId, place: usize) -> Option<&Delivered>
+        ensures { option_copied result ≡ slice_get (queue_of self.now.queues group) place }
+    {
+        self.queues.get(usize::from(group.number()))?.get(place)
+    }
+
+    /// How many requests the group's queue has. A group without a queue has none.
+    pub fn queued(&self, group: GroupId) -> usize
+        ensures { result ≡ length (queue_of self.now.queues group) }
+    {
+        match self.queues.get(usize::from(group.number())) {
+            Some(queue) => queue.len(),
+            None => 0,
         }
     }
 }

@@ -176,6 +176,31 @@ impl Multicast {
     {
         self.queues.pop_all(layer);
     }
+
+    /// The clock of a group. A group that isn't there has the clock of a new one.
+    pub fn clock(&self, group: GroupId) -> u64
+        ensures { result ≡ (group_of self.now.groups group).clock }
+    {
+        match self.groups.get(usize::from(group.number())) {
+            Some(group) => group.clock(),
+            None => 0,
+        }
+    }
+
+    /// The request at this place of those that the group has delivered and no layer has taken, counted from 0 from the
+    /// oldest.
+    pub fn delivered(&self, group: GroupId, place: usize) -> Option<&Delivered>
+        ensures { option_copied result ≡ slice_get (queue_of self.now.queues group) place }
+    {
+        self.queues.delivered(group, place)
+    }
+
+    /// How many requests the group has delivered that no layer has taken.
+    pub fn queued(&self, group: GroupId) -> usize
+        ensures { result ≡ length (queue_of self.now.queues group) }
+    {
+        self.queues.queued(group)
+    }
 }
 
 /// The first groups, each new.

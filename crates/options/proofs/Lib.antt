@@ -1,2 +1,3 @@
+mod PictureRefusals
 mod ReplayRefusals
 mod ServerRefusals

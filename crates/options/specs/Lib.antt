@@ -1,3 +1,4 @@
 pub mod CommandLine
+pub mod Picture
 pub mod Replay
 pub mod Server

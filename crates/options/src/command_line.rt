@@ -1,4 +1,4 @@
-//! Options on a program's command line that take a value each, read by `clap`, and what both programs say of workers.
+//! Options on a program's command line that take a value each, read by `clap`, and what two of the programs say of workers.
 //!
 //! A program makes its `clap::Command` of `valued` options, and reads from its matches what each was given: a text, or a
 //! number with a default. Contracts see a match as the text that `clap` finds for the option's name.

@@ -1,6 +1,8 @@
-//! The words of the programs' command lines, read by `clap`: those of `shardkv-server` and those of `shardkv-replay`.
+//! The words of the programs' command lines, read by `clap`: those of `shardkv-server`, of `shardkv-replay` and of
+//! `shardkv-picture`.
 #![tactic(auto)]
 
 mod command_line;
+pub mod picture;
 pub mod replay;
 pub mod server;

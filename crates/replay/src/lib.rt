@@ -8,17 +8,14 @@
 
 mod compare;
 mod fault;
-mod line;
 mod lines;
 mod order;
-mod progress;
 mod report;
 mod shown;
 mod steps;
 
 pub use fault::ReplayFault;
-pub use line::Line;
-pub use progress::{Progress, Unwatched};
+pub use progress::{Line, Progress, Unwatched};
 pub use report::{Report, compared};
 pub use shown::{ShowFault, show, told, told_watched};
 pub use steps::replay;

@@ -7,11 +7,11 @@ ghost use Rattle.replay.specs.declared.shown.ShowFault.{ShowFault};
 ghost use Rattle.replay.specs.Show as spec;
 
 use crate::fault::ReplayFault;
-use crate::progress::{Progress, Unwatched};
 use crate::report::Report;
 use crate::steps::replay_watched;
 use journal::{TraceFault, read_trace};
 use placement::{Table, TableFault};
+use progress::{Progress, Unwatched};
 use shard_workers::Workers;
 use std::alloc::Global;
 use std::io::Write;

@@ -11,11 +11,11 @@ ghost use Rattle.world.specs.Steps.{names};
 ghost use Rattle.replay.specs.Replay.{IsReport, IsFaultOf, IsRefusalOf, StandsAt, named_in};
 
 use crate::fault::ReplayFault;
-use crate::progress::{Progress, Unwatched};
 use crate::report::{Report, report_of};
 use groups::RequestId;
 use journal::{Step, Steps, Trace};
 use placement::Table;
+use progress::{Progress, Unwatched};
 use shard_workers::{Open, Workers};
 use std::alloc::{AllocError, Global};
 use system::{Effect, StepFault, System};

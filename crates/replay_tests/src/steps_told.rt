@@ -34,7 +34,7 @@ fn written(alloc: Global, all: u64, step: u64, is_on: bool) -> Vec<u8> {
         step,
     };
     let mut out = Vec::new(alloc);
-    let mut line = Line::new(&clock, &mut out, is_on);
+    let mut line = Line::new("shardkv-replay", &clock, &mut out, is_on);
     for steps in 0..all {
         line.made(steps + 1, all);
     }

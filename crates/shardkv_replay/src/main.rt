@@ -21,6 +21,9 @@ use std::sync::Wait;
 use std::thread::Threads;
 use std::{env, fs};
 
+/// The program's name, as the line of the steps tells it.
+const PROGRAM: &str = "shardkv-replay";
+
 fn main(rt: HostRuntime) -> ExitCode {
     let words = match words(&rt) {
         Ok(words) => words,
@@ -51,7 +54,7 @@ fn main(rt: HostRuntime) -> ExitCode {
         return ExitCode::from(2);
     };
     let (table, trace) = (table.as_slice(), trace.as_slice());
-    let mut line = Line::new(&rt, rt.stderr(), rt.stderr().is_terminal());
+    let mut line = Line::new(PROGRAM, &rt, rt.stderr(), rt.stderr().is_terminal());
     match report(&rt, table, trace, workers, &mut line, &mut rt.stdout()) {
         Ok(agree) => ExitCode::from(u8::from(!agree)),
         Err(fault) => {

@@ -6,6 +6,7 @@ use Rattle.command_table.specs.declared.command.Command.{Command}
 use Rattle.journal.specs.Views.{RowView}
 use Rattle.journal.specs.declared.step.Step.{Step}
 use Rattle.journal.specs.declared.step.Step.TheVariants.{Run}
+use Rattle.layer_planner.specs.declared.job.Job.{Job}
 use Rattle.multicast.specs.Multicast.{IsSame}
 use Rattle.groups.specs.Order.{In}
 use Rattle.groups.specs.declared.request.RequestId.{RequestId}
@@ -45,6 +46,11 @@ progress_of (HasRun outcomes) = progress.HasRun
 abbrev pub to_run : Stage → ℕ
 to_run (Taken taken) = length taken.layer
 to_run stage = 0
+
+-- the requests that are to be run
+abbrev pub layer_of : Stage → List Job
+layer_of (Taken taken) = taken.layer
+layer_of stage = []
 
 pub record Shows (p : Parts) (w : World) : Type 0 where
   pub connections : ShowsConnections p.router w

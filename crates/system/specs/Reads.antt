@@ -6,6 +6,8 @@ use Rattle.groups.specs.declared.request.RequestId.{RequestId}
 use Rattle.journal.specs.Views.{RowView}
 use Rattle.keyspace.specs.Map.{Map}
 use Rattle.placement.specs.Layout.{Layout}
+use Rattle.layer_planner.specs.declared.job.Job.{Job}
+use Rattle.multicast.specs.Multicast.{group_of}
 use Rattle.router.specs.Router as router
 use Rattle.router.specs.declared.connection.Connection.{Connection}
 use Rattle.router.specs.declared.outcome.Outcome.{Outcome}
@@ -62,3 +64,11 @@ connection_of s = router.connection s.parts.router
 -- the outcome that waits for a connection
 abbrev pub waiting_for : SystemView → ℕ → Option Outcome
 waiting_for s = router.waiting s.parts.router
+
+-- the clock of a group
+abbrev pub clock_of : SystemView → ℕ → ℕ
+clock_of s g = (group_of s.parts.multicast.groups g).clock
+
+-- the requests that are to be run
+abbrev pub layer_of : SystemView → List Job
+layer_of s = parts.layer_of s.parts.stage

@@ -6,6 +6,8 @@ ghost use Rattle.system.specs.System.{IsNew, IsStep, MayGoOn, IsAdmitted, IsRefu
 ghost use Rattle.system.specs.Reads.{table_of, failed, maps_of, contents_of, rows_of, starved_of, packets_of, queues_of};
 ghost use Rattle.system.specs.Reads.{progress_of, to_run};
 ghost use Rattle.system.specs.Reads.{waiting_for};
+ghost use Rattle.system.specs.Reads.{clock_of, layer_of};
+ghost use Rattle.std.specs.Prelude.{slice_get};
 ghost use Rattle.system.specs.Laws.{ShowsSome, OfItsWorlds, OthersKeepStill, CollectedOnce, CollectsItsOwn};
 ghost use Rattle.world_laws.specs.Order.{FinalsAgree, FinalsDiffer, ConnectionsRise, GroupsAreOfCommands, PacketsAreAddressed};
 ghost use Rattle.world_laws.specs.Order.{LogsAreAddressed, ReadyInWords, LinedUpInWords, EndedOnce, EndedAsSubmitted, TouchingInStampOrder};
@@ -22,14 +24,16 @@ use super::effect::Effect;
 use super::fault::StepFault;
 use super::parts::Parts;
 use super::stage::{Progress, Stage};
-use groups::{ConnId, RequestId};
+use groups::{ConnId, GroupId, RequestId};
 use journal::{Rows, Step};
+use layer_planner::Job;
 use multicast::Multicast;
 use placement::Table;
 use router::{Outcome, Router};
 use shard_exec::Store;
 use shard_workers::{Gate, Workers};
 use shards::ShardHasher;
+use skeen_core::{Delivered, Packet};
 use std::alloc::{AllocError, Global};
 use std::marker::Model;
 use world_laws::{collecting_of_outcomes, order_of_requests};
@@ -330,5 +334,43 @@ impl System {
         ensures { option_copied result ≡ waiting_for self.now conn.0 }
     {
         self.parts.router.waits(conn)
+    }
+    /// The packet at this place of those under way, counted from 0 in order of sending.
+    pub fn packet(&self, place: usize) -> Option<&Packet>
+        ensures { option_copied result ≡ slice_get (packets_of self.now) place }
+    {
+        self.parts.multicast.packet(place)
+    }
+
+    /// The clock of a group. A group that isn't there has the clock of a new one.
+    pub fn clock(&self, group: GroupId) -> u64
+        ensures { result ≡ clock_of self.now group }
+    {
+        self.parts.multicast.clock(group)
+    }
+
+    /// The request at this place of those that the group has delivered and no layer has taken, counted from 0 from the
+    /// oldest.
+    pub fn delivered(&self, group: GroupId, place: usize) -> Option<&Delivered>
+        ensures { option_copied result ≡ slice_get (queues_of self.now group) place }
+    {
+        self.parts.multicast.delivered(group, place)
+    }
+
+    /// How many requests the group has delivered that no layer has taken.
+    pub fn queued(&self, group: GroupId) -> usize
+        ensures { result ≡ length (queues_of self.now group) }
+    {
+        self.parts.multicast.queued(group)
+    }
+
+    /// The requests of the layer that was taken and is to be run, in their order; none where none is.
+    pub fn layer(&self) -> &[Job]
+        ensures { result.now ≡ layer_of self.now }
+    {
+        match &self.parts.stage {
+            Stage::Taken(taken) => taken.layer.jobs(),
+            _ => &[],
+        }
     }
 }

@@ -1,6 +1,6 @@
-//! The line that tells how far a replay is, for whoever sits at a terminal.
+//! The line that tells how far it is.
 
-use crate::progress::Progress;
+use crate::watching::Progress;
 use std::io::Write;
 use std::time::{Clock, Duration, Instant};
 
@@ -10,10 +10,11 @@ const PACE: u64 = 64;
 /// The least time between two lines, and before the first one, in milliseconds.
 const PAUSE: u64 = 100;
 
-/// A line `shardkv-replay: STEPS of ALL steps` that is written over and over in its place, and is gone at the end.
+/// A line `PROGRAM: STEPS of ALL steps` that is written over and over in its place, and is gone at the end.
 /// Where it is off nothing is written at all.
 #[derive(Drop)]
 pub struct Line<'a, C, O> {
+    program: &'static str,
     clock: &'a C,
     out: O,
     is_on: bool,
@@ -22,9 +23,10 @@ pub struct Line<'a, C, O> {
 }
 
 impl<'a, C: Clock, O: Write> Line<'a, C, O> {
-    /// None stands yet.
-    pub fn new(clock: &'a C, out: O, is_on: bool) -> Self {
+    /// None stands yet. The line begins with the program's name.
+    pub fn new(program: &'static str, clock: &'a C, out: O, is_on: bool) -> Self {
         Line {
+            program,
             clock,
             out,
             is_on,
@@ -53,7 +55,8 @@ impl<C: Clock, O: Write> Progress for Line<'_, C, O> {
     fn made(&mut self, steps: u64, all: u64) {
         if self.is_on && steps % PACE == 0 && self.is_due() {
             self.stands = true;
-            let _ = write!(self.out, "\rshardkv-replay: {steps} of {all} steps");
+            let program = self.program;
+            let _ = write!(self.out, "\r{program}: {steps} of {all} steps");
         }
     }
 

@@ -1,11 +1,12 @@
-//! How far a replay is, for whoever watches it.
+//! How far a run is that is made again, for whoever watches it.
 
-/// Is told how far a replay is. What it does with that is its own affair: no report depends on it.
+/// Is told how far a run is that is made again. What it does with that is its own affair: nothing that is written
+/// depends on it.
 pub trait Progress {
     /// So many of all the steps were made, and all of them were accepted. It is called after each step.
     fn made(&mut self, steps: u64, all: u64);
 
-    /// The report is there, or there will be none: `made` is called no more. Nothing was written before.
+    /// What was asked for is there, or there will be none of it: `made` is called no more. Nothing was written before.
     fn ended(&mut self);
 }
 

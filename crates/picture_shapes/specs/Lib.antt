@@ -1,0 +1,6 @@
+pub mod Labels
+pub mod Shapes
+pub mod Frames
+pub mod Ways
+pub mod Arrows
+pub mod Svg
