@@ -78,7 +78,8 @@ bounds : (start : ℕ) (ends : List ℕ) (all n : ℕ) → AreEnds start ends al
 unfolding from_start
 bounds start [] all n e h = absurd (omega (arith, h))
 bounds start (end ∷ ends) all zero e h = record { up = e.0; inside = ends_within end ends all e.1 }
-bounds start (end ∷ ends) all (suc zero) e h = let b = bounds end ends all zero e.1 (omega (arith, h)) in record { up = b.up; inside = b.inside }
+bounds start (end ∷ ends) all (suc zero) e h = let b = bounds end ends all zero e.1
+    (omega (arith, h)) in record { up = b.up; inside = b.inside }
 bounds start (end ∷ ends) all (suc (suc n)) e h =
     let b = bounds end ends all (suc n) e.1 (omega (arith, h)) in record { up = b.up; inside = b.inside }
 

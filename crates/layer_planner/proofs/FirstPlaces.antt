@@ -3,7 +3,7 @@ use Rattle.std.proofs.Common.{◌≡◌, ℕ, zero, suc, ◌+◌, ◌<◌, ◌�
 use Rattle.std.proofs.Common.{slice_index_or, refl, sym, ap, ◌∙◌, subst, arith, inl, inr, ne_eqb}
 use Rattle.std.specs.List.{insert}
 use Rattle.std.proofs.lemmas.Bool.{both_ways}
-use Rattle.std.proofs.lemmas.List.{append-nil, append_assoc, length-map}
+use Rattle.std.proofs.lemmas.List.{append-nil}
 use Rattle.groups.proofs.Lists.{In-get}
 use Rattle.groups.proofs.Stamps.{le_trans, lt_asym}
 use Rattle.groups.specs.GroupSet.{has, chosen}
@@ -11,7 +11,7 @@ use Rattle.groups.specs.Order.{In}
 use Rattle.groups.specs.Stamp.{stamp_lt}
 use Rattle.layer_planner.specs.declared.job.Job.{Job}
 use Rattle.layer_planner.specs.Firsts.{IsRising, HaveBegun, is_begun}
-use Rattle.layer_planner.specs.Units.{groups_each, groups_at, stamp_at, line_up, has_begun, is_first, is_in_unit, unit_at, put_by_stamp, by_stamps}
+use Rattle.layer_planner.specs.Units.{groups_each, groups_at, stamp_at, line_up, has_begun, is_first, put_by_stamp, by_stamps}
 use Rattle.layer_planner.specs.Units.{firsts, units}
 
 -- ---- what is chosen of one number more
@@ -61,7 +61,8 @@ rising_put jobs i (k ∷ ks) up = elim (stamp_lt (stamp_at jobs i) (stamp_at job
     as (λ b. stamp_lt (stamp_at jobs i) (stamp_at jobs k) ≡ b → IsRising jobs (cond b (i ∷ k ∷ ks) (k ∷ put_by_stamp jobs i ks))) [
       | true ↦ λ e. (
         (λ m. elim [
-          | inl same ↦ subst (λ n. stamp_lt (stamp_at jobs n) (stamp_at jobs i) ≡ false) (sym same) (lt_asym (stamp_at jobs i) (stamp_at jobs k) e)
+          | inl same ↦ subst (λ n. stamp_lt (stamp_at jobs n) (stamp_at jobs i) ≡ false) (sym same)
+              (lt_asym (stamp_at jobs i) (stamp_at jobs k) e)
           | inr later ↦ le_trans (stamp_at jobs i) (stamp_at jobs k) (stamp_at jobs m)
               (lt_asym (stamp_at jobs i) (stamp_at jobs k) e) (up.0 m later)
         ]),
@@ -112,21 +113,23 @@ pub record AreFirsts (jobs : List Job) (n : ℕ) (groups found : List ℕ) : Typ
   pub rising : IsRising jobs found
   pub inside : (k : ℕ) → In k found → k < n
 
-no_line : (gs hs : List ℕ) → ((g : ℕ) → gs ≡ g ∷ [] → ⊥) → line_up gs hs ≡ false
+pub no_line : (gs hs : List ℕ) → ((g : ℕ) → gs ≡ g ∷ [] → ⊥) → line_up gs hs ≡ false
 no_line [] hs several = refl
 no_line (g ∷ []) hs several = absurd (several g refl)
 no_line (g ∷ h ∷ gs) hs several = refl
 
 none_begun : (sets : List (List ℕ)) (gs : List ℕ) (n : ℕ) → ((g : ℕ) → gs ≡ g ∷ [] → ⊥) → has_begun sets gs n ≡ false
 none_begun sets gs zero several = refl
-none_begun sets gs (suc n) several = ap (λ b. b || has_begun sets gs n) (no_line gs (groups_at sets n) several) ∙ none_begun sets gs n several
+none_begun sets gs (suc n) several = ap (λ b. b || has_begun sets gs n) (no_line gs (groups_at sets n) several)
+    ∙ none_begun sets gs n several
 
 begun_is : (sets : List (List ℕ)) (n : ℕ) (begun gs : List ℕ) → HaveBegun sets n begun → is_begun begun gs ≡ has_begun sets gs n
 begun_is sets n begun [] have = sym (none_begun sets [] n (λ g e. cc))
 begun_is sets n begun (g ∷ []) have = have g
 begun_is sets n begun (g ∷ h ∷ gs) have = sym (none_begun sets (g ∷ h ∷ gs) n (λ k e. cc))
 
-module _ (jobs : List Job) (n m : ℕ) (up : m ≡ n + 1) (begun begun' places : List ℕ) (gs : List ℕ) (is : gs ≡ groups_at (groups_each jobs) n)
+module _ (jobs : List Job) (n m : ℕ) (up : m ≡ n + 1) (begun begun' places : List ℕ) (gs : List ℕ)
+    (is : gs ≡ groups_at (groups_each jobs) n)
     (so_far : AreFirsts jobs n begun places) (more : (g : ℕ) → has begun' g ≡ (line_up (g ∷ []) gs || has begun g)) where
   have : HaveBegun (groups_each jobs) m begun'
   have g = let e : suc n ≡ m = omega (arith, up) in
@@ -136,7 +139,8 @@ module _ (jobs : List Job) (n m : ℕ) (up : m ≡ n + 1) (begun begun' places :
   first_is : not (is_begun begun gs) ≡ is_first (groups_each jobs) n
   first_is = ap not (begun_is (groups_each jobs) n begun gs so_far.begun) ∙ ap (λ l. not (has_begun (groups_each jobs) l n)) is
 
-  pub first_more : not (is_begun begun gs) ≡ true → (places' : List ℕ) → places' ≡ put_by_stamp jobs n places → AreFirsts jobs m begun' places'
+  pub first_more : not (is_begun begun gs) ≡ true → (places' : List ℕ) → places' ≡ put_by_stamp jobs n places
+      → AreFirsts jobs m begun' places'
   first_more first places' put = record {
     begun = have;
     places = put ∙ ap (put_by_stamp jobs n) so_far.places
@@ -166,33 +170,6 @@ no_firsts jobs begun none = record {
   inside = λ k there. absurd there;
 }
 
--- ---- the places of one unit
-
-pub record AreOfUnit (jobs : List Job) (first n : ℕ) (before found : List ℕ) : Type 0 where
-  pub is : found ≡ before ++ chosen (is_in_unit (groups_each jobs) first) 0 n
-
-pub no_places : (jobs : List Job) (first : ℕ) (before : List ℕ) → AreOfUnit jobs first 0 before before
-unfolding chosen
-no_places jobs first before = record { is = sym (append-nil before) }
-
-pub place_in : (jobs : List Job) (first n : ℕ) (before found found' : List ℕ) → AreOfUnit jobs first n before found
-    → is_in_unit (groups_each jobs) first n ≡ true → found' ≡ found ++ n ∷ [] → AreOfUnit jobs first (n + 1) before found'
-place_in jobs first n before found found' so_far there more = record {
-  is = more ∙ ap (λ l. l ++ n ∷ []) so_far.is ∙ append_assoc before (chosen (is_in_unit (groups_each jobs) first) 0 n) (n ∷ [])
-      ∙ ap (λ l. before ++ l) (sym (chosen_yes (is_in_unit (groups_each jobs) first) n (n + 1) refl there));
-}
-
-pub place_out : (jobs : List Job) (first n : ℕ) (before found : List ℕ) → AreOfUnit jobs first n before found
-    → is_in_unit (groups_each jobs) first n ≡ false → AreOfUnit jobs first (n + 1) before found
-place_out jobs first n before found so_far away = record {
-  is = so_far.is ∙ ap (λ l. before ++ l) (sym (chosen_no (is_in_unit (groups_each jobs) first) n (n + 1) refl away));
-}
-
-pub all_places : (jobs : List Job) (first : ℕ) (before found : List ℕ) → AreOfUnit jobs first (length jobs) before found
-    → found ≡ before ++ unit_at (groups_each jobs) first
-all_places jobs first before found so_far = so_far.is
-    ∙ ap (λ n. before ++ chosen (is_in_unit (groups_each jobs) first) 0 n) (sym (length-map jobs (λ (j : Job). j.groups)))
-
 -- ---- which places they are
 
 by_stamps-In : (jobs : List Job) (sorted is : List ℕ) (k : ℕ) → In k (by_stamps jobs sorted is) → In k sorted ⊎ In k is
@@ -214,6 +191,21 @@ pub firsts_inside : (jobs : List Job) (k : ℕ) → In k (firsts jobs) → k < l
 firsts_inside jobs k h = elim (by_stamps-In jobs [] (chosen (is_first (groups_each jobs)) 0 (length jobs)) k h) [
   | inl none ↦ absurd none
   | inr there ↦ let low = In-chosen (is_first (groups_each jobs)) 0 (length jobs) k there in omega (arith, low)
+]
+
+chosen_passes : (test : ℕ → Bool) (a n k : ℕ) → In k (chosen test a n) → test k ≡ true
+unfolding chosen
+chosen_passes test a zero k h = absurd h
+chosen_passes test a (suc n) k h = elim (test a)
+    as (λ b. test a ≡ b → In k (cond b (a ∷ chosen test (suc a) n) (chosen test (suc a) n)) → test k ≡ true) [
+      | true ↦ λ e. elim [ inl same ↦ ap test same ∙ e | inr later ↦ chosen_passes test (suc a) n k later ]
+      | false ↦ λ e later. chosen_passes test (suc a) n k later
+    ] refl h
+
+pub firsts_are_first : (jobs : List Job) (k : ℕ) → In k (firsts jobs) → is_first (groups_each jobs) k ≡ true
+firsts_are_first jobs k h = elim (by_stamps-In jobs [] (chosen (is_first (groups_each jobs)) 0 (length jobs)) k h) [
+  | inl none ↦ absurd none
+  | inr there ↦ chosen_passes (is_first (groups_each jobs)) 0 (length jobs) k there
 ]
 
 -- ---- an empty layer

@@ -125,7 +125,8 @@ pub dealt_all : (units : List (List ℕ)) (parts first number : ℕ) (found : Li
     → length units - number ≤ parts → found ≡ picked_units units (part parts (length units) first)
 dealt_all units parts first number found so_far last =
     let within = so_far.within in
-    so_far.is ∙ ap (picked_units units) (sym (part_end parts number first (length units) so_far.in_part within (omega (arith, last, within))))
+    so_far.is ∙ ap (picked_units units) (sym (part_end parts number first (length units) so_far.in_part within
+    (omega (arith, last, within))))
 
 -- one part more
 pub parts_more : (w m n : ℕ) → map (part w m) (range_with_len 0 (n + 1)) ≡ map (part w m) (range_with_len 0 n) ++ part w m n ∷ []

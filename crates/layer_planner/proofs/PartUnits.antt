@@ -41,7 +41,8 @@ weighed_one t h (suc m) zero low one none =
     let here : t 0 * h 0 ≡ 1 * h 0 = ap (λ n. n * h 0) one in
     omega (arith, rest, here)
 weighed_one t h (suc m) (suc at) low one none =
-    let rest = weighed_one (λ k. t (suc k)) (λ k. h (suc k)) m at (omega (arith, low)) one (λ k apart. none (suc k) (λ e. apart (omega (arith, e)))) in
+    let rest = weighed_one (λ k. t (suc k)) (λ k. h (suc k)) m at (omega (arith, low)) one
+    (λ k apart. none (suc k) (λ e. apart (omega (arith, e)))) in
     let here : t 0 * h 0 ≡ 0 * h 0 = ap (λ n. n * h 0) (none 0 (λ e. omega (arith, e))) in
     omega (arith, rest, here)
 
@@ -70,8 +71,9 @@ weighed_once t h (suc m) once =
 
 -- ---- a list that has each number below m once
 
-one_more : (k x : ℕ) (xs : List ℕ) → times k (x ∷ xs) ≡ cond (x == k) 1 0 + times k xs
-one_more k x xs = times-append k (x ∷ []) xs ∙ (let z : 0 + cond {A = ℕ} (x == k) 1 0 ≡ cond {A = ℕ} (x == k) 1 0 = omega arith in ap (λ n. n + times k xs) z)
+pub one_more : (k x : ℕ) (xs : List ℕ) → times k (x ∷ xs) ≡ cond (x == k) 1 0 + times k xs
+one_more k x xs = times-append k (x ∷ []) xs ∙ (let z : 0 + cond {A = ℕ} (x == k) 1 0 ≡ cond {A = ℕ} (x == k) 1 0 = omega arith in
+    ap (λ n. n + times k xs) z)
 
 total-weighed : (h : ℕ → ℕ) (xs : List ℕ) (m : ℕ) → ((k : ℕ) → In k xs → k < m) → total h xs ≡ weighed (λ k. times k xs) h m
 unfolding total
@@ -135,7 +137,9 @@ in_parts : (us ds : List (List ℕ)) → units_in (map (picked_units us) ds) ≡
 in_parts us [] = refl
 in_parts us (d ∷ ds) = ap (λ l. picked_units us d ++ l) (in_parts us ds) ∙ sym (map-append (λ k. slice_index_or us k []) d (concat ds))
 
-pub parts_are_units : (parts : ℕ) (jobs : List Job) → 0 < parts → StandTogether jobs → AreUnitsOf (groups_each jobs) (units_in (parts_of parts jobs))
-parts_are_units parts jobs low stand = subst (AreUnitsOf (groups_each jobs)) (sym (in_parts (units jobs) (dealt parts (length (units jobs)))))
+pub parts_are_units : (parts : ℕ) (jobs : List Job) → 0 < parts → StandTogether jobs → AreUnitsOf (groups_each jobs)
+    (units_in (parts_of parts jobs))
+parts_are_units parts jobs low stand = subst (AreUnitsOf (groups_each jobs))
+    (sym (in_parts (units jobs) (dealt parts (length (units jobs)))))
     (reordered (groups_each jobs) (units jobs) (concat (dealt parts (length (units jobs))))
     (λ k. each_place_once parts (length (units jobs)) k low) (units_are_units jobs stand))

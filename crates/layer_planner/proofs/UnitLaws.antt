@@ -10,7 +10,8 @@ use Rattle.groups.specs.Order.{In}
 use Rattle.groups.specs.Stamp.{stamp_lt}
 use Rattle.layer_planner.specs.declared.job.Job.{Job}
 use Rattle.layer_planner.specs.Layers.{StandTogether}
-use Rattle.layer_planner.specs.Units.{groups_each, groups_at, stamp_at, line_up, is_in_unit, unit_at, has_begun, is_first, put_by_stamp, by_stamps}
+use Rattle.layer_planner.specs.Units.{groups_each, groups_at, stamp_at, line_up, is_in_unit, unit_at, has_begun, is_first, put_by_stamp}
+use Rattle.layer_planner.specs.Units.{by_stamps}
 use Rattle.layer_planner.specs.Units.{firsts, units, IsUnit, EachPlaceOnce, AreUnitsOf}
 use Rattle.layer_planner.proofs.FirstPlaces.{firsts_inside}
 use Rattle.layer_planner.proofs.PartLaws.{times, times-append}
@@ -59,7 +60,8 @@ total-chosen : (p q : ℕ → Bool) (a m : ℕ) → total (λ f. cond (q f) 1 0)
 unfolding total chosen passes
 total-chosen p q a zero = refl
 total-chosen p q a (suc m) = elim (p a)
-    as (λ b. total (λ f. cond (q f) 1 0) (cond b (a ∷ chosen p (suc a) m) (chosen p (suc a) m)) ≡ cond (b && q a) 1 0 + passes (λ f. p f && q f) (suc a) m) [
+    as (λ b. total (λ f. cond (q f) 1 0) (cond b (a ∷ chosen p (suc a) m) (chosen p (suc a) m)) ≡ cond (b && q a) 1 0 + passes
+    (λ f. p f && q f) (suc a) m) [
       | true ↦ ap (λ n. cond (q a) 1 0 + n) (total-chosen p q (suc a) m)
       | false ↦ total-chosen p q (suc a) m ∙ omega arith
     ]
@@ -105,14 +107,16 @@ times_has i (x ∷ xs) up =
       | inl e ↦
           let one : cond {A = ℕ} (x == i) 1 0 ≡ 1 = ap (λ b. cond {A = ℕ} b 1 0) (eq-eqb x i e) in
           let all : cond {A = ℕ} (x == i || has xs i) 1 0 ≡ 1 = ap (λ b. cond {A = ℕ} (b || has xs i) 1 0) (eq-eqb x i e) in
-          let none : cond {A = ℕ} (has xs i) 1 0 ≡ 0 = ap (λ b. cond {A = ℕ} b 1 0) (elim (cases_Bool (has xs i)) as (λ _. has xs i ≡ false) [
+          let none : cond {A = ℕ} (has xs i) 1 0 ≡ 0 = ap (λ b. cond {A = ℕ} b 1 0)
+          (elim (cases_Bool (has xs i)) as (λ _. has xs i ≡ false) [
             | inl there ↦ let low = up.0 i there in absurd (omega (arith, low, e))
             | inr none ↦ none
           ]) in
           omega (arith, more, ih, one, all, none)
       | inr apart ↦
           let one : cond {A = ℕ} (x == i) 1 0 ≡ 0 = ap (λ b. cond {A = ℕ} b 1 0) (ne_eqb x i apart) in
-          let all : cond {A = ℕ} (x == i || has xs i) 1 0 ≡ cond {A = ℕ} (has xs i) 1 0 = ap (λ b. cond {A = ℕ} (b || has xs i) 1 0) (ne_eqb x i apart) in
+          let all : cond {A = ℕ} (x == i || has xs i) 1 0 ≡ cond {A = ℕ} (has xs i) 1 0 = ap (λ b. cond {A = ℕ} (b || has xs i) 1 0)
+          (ne_eqb x i apart) in
           omega (arith, more, ih, one, all)
     ]
 
@@ -131,11 +135,11 @@ same_one (g ∷ []) (h ∷ []) e = record { group = g; first = refl; second = ap
 same_one (g ∷ []) (h ∷ k ∷ hs) e = absurd (both_ways _ refl e)
 same_one (g ∷ k ∷ gs) hs e = absurd (both_ways _ refl e)
 
-lines_up : (gs hs : List ℕ) (g : ℕ) → gs ≡ g ∷ [] → hs ≡ g ∷ [] → line_up gs hs ≡ true
+pub lines_up : (gs hs : List ℕ) (g : ℕ) → gs ≡ g ∷ [] → hs ≡ g ∷ [] → line_up gs hs ≡ true
 lines_up gs hs g e f = ap (λ l. line_up l hs) e ∙ ap (line_up (g ∷ [])) f ∙ eq-eqb g g refl
 
 -- a place is itself or lines up: its groups are the same
-same_groups : (sets : List (List ℕ)) (f i : ℕ) → is_in_unit sets f i ≡ true → groups_at sets f ≡ groups_at sets i
+pub same_groups : (sets : List (List ℕ)) (f i : ℕ) → is_in_unit sets f i ≡ true → groups_at sets f ≡ groups_at sets i
 same_groups sets f i e = elim (or_cases (i == f) (line_up (groups_at sets f) (groups_at sets i)) e) [
   | inl here ↦ ap (groups_at sets) (sym (eqb-true i f here))
   | inr line ↦ let s = same_one (groups_at sets f) (groups_at sets i) line in s.first ∙ sym s.second
@@ -222,7 +226,7 @@ module _ (jobs : List Job) (stand : StandTogether jobs) where
 
 -- ---- the first place of a unit
 
-begun_by : (sets : List (List ℕ)) (gs : List ℕ) (n k : ℕ) → k < n → line_up gs (groups_at sets k) ≡ true → has_begun sets gs n ≡ true
+pub begun_by : (sets : List (List ℕ)) (gs : List ℕ) (n k : ℕ) → k < n → line_up gs (groups_at sets k) ≡ true → has_begun sets gs n ≡ true
 begun_by sets gs zero k low line = absurd (omega (arith, low))
 begun_by sets gs (suc n) k low line = elim (cases_lt k n) [
   | inl before ↦ or_right (line_up gs (groups_at sets n)) (has_begun sets gs n) (begun_by sets gs n k before line)
@@ -270,7 +274,8 @@ first_of sets i = elim (cases_Bool (has_begun sets (groups_at sets i) i)) [
 ]
 
 -- of two places of a unit only one is the first
-not_later : (sets : List (List ℕ)) (f k i : ℕ) → is_first sets k ≡ true → is_in_unit sets f i ≡ true → is_in_unit sets k i ≡ true → f < k → ⊥
+not_later : (sets : List (List ℕ)) (f k i : ℕ) → is_first sets k ≡ true → is_in_unit sets f i ≡ true → is_in_unit sets k i ≡ true → f < k
+    → ⊥
 not_later sets f k i first a b low =
     both_ways _ (ap not (begun_by sets (groups_at sets k) k f low line)) first
   where

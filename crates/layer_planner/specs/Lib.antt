@@ -2,4 +2,5 @@ pub mod Layers
 pub mod Seen
 pub mod Units
 pub mod Firsts
+pub mod Nexts
 pub mod Parts

@@ -1,6 +1,7 @@
 -- The units of a layer, each a list of places: the jobs that address one group alone are the unit of that group, and each
 -- other job is a unit by itself.
-use Rattle.std.specs.Prelude.{◌≡◌, ℕ, zero, suc, ◌<◌, ◌==◌, ◌||◌, Bool, true, false, cond, not, nat_lt, List, [], ◌∷◌, length, map, slice_index_or}
+use Rattle.std.specs.Prelude.{◌≡◌, ℕ, zero, suc, ◌<◌, ◌==◌, ◌||◌, Bool, true, false, cond, not, nat_lt, List, [], ◌∷◌, length, map}
+use Rattle.std.specs.Prelude.{slice_index_or}
 use Rattle.std.specs.List.{concat, count_by}
 use Rattle.groups.specs.GroupSet.{has, IsAscending, chosen}
 use Rattle.groups.specs.Order.{In}

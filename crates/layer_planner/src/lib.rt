@@ -9,6 +9,7 @@ mod alone;
 mod firsts;
 mod job;
 mod layer;
+mod nexts;
 mod part;
 mod planning;
 mod seen;

@@ -1,16 +1,16 @@
 //! How a layer is divided: into its units, and these among the workers.
-ghost use Rattle.std.specs.Prelude.{◌≡◌, ℕ, ◌<◌, ◌≤◌, ◌++◌, length, map, IfOk, IsOk};
+ghost use Rattle.std.specs.Prelude.{◌≡◌, ℕ, ◌<◌, ◌≤◌, ◌++◌, true, length, map, IfOk, IsOk};
 ghost use Rattle.std.specs.Int.NonZero.{non_zero_usize_get};
 ghost use Rattle.groups.specs.Order.{In};
+ghost use Rattle.layer_planner.specs.Nexts.{AreNexts};
 ghost use Rattle.layer_planner.specs.Parts.{planned, picked_units, part, dealt, UnitsAreUnits, PartsAreUnits};
-ghost use Rattle.layer_planner.specs.Units.{units, unit_at, is_in_unit, groups_each, line_up};
+ghost use Rattle.layer_planner.specs.Units.{units, unit_at, is_first, groups_each};
 
-use super::alone::alone;
-use super::firsts::{first_places, groups_at};
+use super::firsts::first_places;
 use super::job::Job;
 use super::layer::Layer;
+use super::nexts::next_places;
 use super::part::Part;
-use groups::Groups;
 use std::alloc::{AllocError, Global};
 use std::num::NonZeroUsize;
 
@@ -25,50 +25,49 @@ pub fn units(alloc: Global, layer: &Layer) -> Result<Part, AllocError>
     }
     let jobs = layer.jobs();
     let firsts = first_places(alloc, jobs)?;
-    units_from(alloc, jobs, firsts.as_slice())
+    let nexts = next_places(alloc, jobs)?;
+    units_from(alloc, jobs, firsts.as_slice(), nexts.as_slice())
 }
 
 /// The units that begin at these places.
-fn units_from(alloc: Global, jobs: &[Job], firsts: &[usize]) -> Result<Part, AllocError>
-    requires { (k : ℕ) → In k firsts.now → k < length jobs.now }
+fn units_from(
+    alloc: Global,
+    jobs: &[Job],
+    firsts: &[usize],
+    nexts: &[usize],
+) -> Result<Part, AllocError>
+    requires inside { (k : ℕ) → In k firsts.now → k < length jobs.now }
+    requires firsts { (k : ℕ) → In k firsts.now → is_first (groups_each jobs.now) k ≡ true }
+    requires nexts { AreNexts (groups_each jobs.now) nexts.now }
     ensures { IfOk result (λ part. part ≡ map (unit_at (groups_each jobs.now)) firsts.now) }
 {
     let mut places = Vec::with_capacity(alloc, jobs.len())?;
     let mut ends = Vec::with_capacity(alloc, firsts.len())?;
     for first in firsts {
-        push_unit(jobs, *first, &mut places)?;
+        push_unit(jobs, nexts, *first, &mut places)?;
         ends.push(places.len())?;
     }
     Ok(Part { places, ends })
 }
 
 /// Adds the places of the unit that begins at `first`.
-fn push_unit(jobs: &[Job], first: usize, places: &mut Vec<usize>) -> Result<(), AllocError>
-    requires { first < length jobs.now }
+fn push_unit(
+    jobs: &[Job],
+    nexts: &[usize],
+    first: usize,
+    places: &mut Vec<usize>,
+) -> Result<(), AllocError>
+    requires inside { first < length jobs.now }
+    requires first { is_first (groups_each jobs.now) first ≡ true }
+    requires nexts { AreNexts (groups_each jobs.now) nexts.now }
     ensures { IfOk result (λ _. places.new.items ≡ places.old.items ++ unit_at (groups_each jobs.now) first) }
 {
-    for place in 0..jobs.len() {
-        if is_in_unit(jobs, first, place) {
-            places.push(place)?;
-        }
+    let mut place = first;
+    while place < jobs.len() {
+        places.push(place)?;
+        place = nexts[place];
     }
     Ok(())
-}
-
-/// Whether it is the place `first`, or its job addresses the same one group alone.
-fn is_in_unit(jobs: &[Job], first: usize, place: usize) -> bool
-    requires first { first < length jobs.now }
-    requires place { place < length jobs.now }
-    ensures { result ≡ is_in_unit (groups_each jobs.now) first place }
-{
-    place == first || line_up(groups_at(jobs, first), groups_at(jobs, place))
-}
-
-/// Whether each is the same one group alone.
-fn line_up(groups: Groups, others: Groups) -> bool
-    ensures { result ≡ line_up groups others }
-{
-    groups == others && alone(groups).is_some()
 }
 
 /// Divides the layer among that many workers: the parts, as many as there are workers, or units if these are fewer. The

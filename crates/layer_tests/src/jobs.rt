@@ -72,7 +72,7 @@ pub(crate) fn job(
 
 /// The layer of these jobs.
 pub(crate) fn layer(jobs: Vec<Job>) -> Result<Layer, Trouble> {
-    Ok(Layer::gather(jobs).ok_or("a group twice")?)
+    Ok(Layer::gather(jobs).ok_or("a group in two units")?)
 }
 
 /// The layer of the requests of these words at this clock, whose ids are numbered from 1.

@@ -23,3 +23,5 @@ mod queue_runs;
 mod queues;
 #[cfg(test)]
 mod trouble;
+#[cfg(test)]
+mod units;

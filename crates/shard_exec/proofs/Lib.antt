@@ -1,4 +1,9 @@
+pub mod StoreRows
 pub mod TakingOut
-pub mod TakenLayer
-pub mod LayerLaws
-pub mod Dealt
+pub mod Slots
+pub mod Starving
+pub mod UnitLaws
+pub mod RowLaws
+pub mod DealtLaws
+pub mod InRow
+pub mod Plans

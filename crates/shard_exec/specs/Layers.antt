@@ -1,22 +1,25 @@
 -- A layer that is run over the store: what it needs, and what comes of it.
-use Rattle.std.specs.Prelude.{◌≡◌, ℕ, ◌<◌, ◌+◌, Bool, true, false, List, [], ◌∷◌, map, Option, None}
+use Rattle.std.specs.Prelude.{◌≡◌, ℕ, ◌<◌, Bool, true, false, List, [], ◌∷◌, length, map, Option, Some, None, IsSome, slice_get, slice_set}
+use Rattle.std.specs.FinMap.{retain_keys}
 use Rattle.std.specs.List.{AllZip, AllByRecursion, list_any}
 use Rattle.command_bodies.specs.Answer.{AnswerTakesMemory}
+use Rattle.command_bodies.specs.Command.{effect_of}
 use Rattle.command_table.specs.declared.command.Command.{Command}
 use Rattle.groups.specs.GroupSet.{has}
+use Rattle.groups.specs.Request.{same_id}
+use Rattle.groups.specs.declared.request.RequestId.{RequestId}
 use Rattle.keyspace.specs.Map.{Map}
 use Rattle.layer_planner.specs.declared.job.Job.{Job}
 use Rattle.placement.specs.Groups.{groups_of}
-use Rattle.placement.specs.Layout.{Layout}
+use Rattle.placement.specs.Layout.{Layout, shard_of}
 use Rattle.resp.specs.Content.{Content}
-use Rattle.shard_maps.specs.Joined.{joined, Span, union, span_at, HasOwnKeys}
-use Rattle.shard_maps.specs.Layer.{LayerRan, AnsweredInTurn}
-use Rattle.groups.specs.Request.{same_id}
-use Rattle.groups.specs.declared.request.RequestId.{RequestId}
+use Rattle.shard_exec.specs.Dealing.{filled}
 use Rattle.shard_exec.specs.declared.done.Ended.{Ended}
-use Rattle.shard_workers.specs.declared.work.Work.{Work}
-use Rattle.shard_workers.specs.declared.work.Ran.{Ran}
-use Rattle.shard_workers.specs.Runs.{outcome}
+use Rattle.shard_maps.specs.Joined.{joined, HasOwnKeys}
+use Rattle.shard_maps.specs.Layer.{LayerRan, AnsweredInTurn}
+use Rattle.shard_workers.specs.Tasks.{outcome}
+use Rattle.shard_workers.specs.declared.task.Task.{Task}
+use Rattle.shard_workers.specs.declared.task.TaskRan.{TaskRan}
 
 abbrev pub commands_of : List Job → List Command
 commands_of jobs = map (λ j. j.command) jobs
@@ -33,27 +36,45 @@ is_named skip id = list_any (same_id id) skip
 abbrev pub outcomes_of_ended : List Ended → List (Option Content)
 outcomes_of_ended done = map (λ e. outcome e.reply) done
 
--- A request that starved was to be skipped, or its command, on what the shards of its groups had, takes memory or answers
--- text; and one that was to be skipped starved.
-pub record MayStarve (maps : List Map) (skip : List RequestId) (j : Job) (e : Ended) : Type 0 where
+-- what the shards of these groups have of a map
+abbrev pub on_groups : Layout → List ℕ → Map → Map
+on_groups table groups m = retain_keys m (λ key. has groups (shard_of table key))
+
+-- A request that starved was to be skipped, or its command, on what the shards of its groups have of the map that it met,
+-- takes memory or answers text; and one that was to be skipped starved.
+pub record MayStarve (table : Layout) (met : Map) (skip : List RequestId) (j : Job) (e : Ended) : Type 0 where
   pub skipped : is_named skip j.id ≡ true → outcome e.reply ≡ None
   pub starved : is_named skip j.id ≡ false → outcome e.reply ≡ None
-      → AnswerTakesMemory j.command (union (span_at maps j.groups))
+      → AnswerTakesMemory j.command (on_groups table j.groups met)
+
+-- what a command leaves of the map that it meets, by what it answers: where it starves, the map as it is
+abbrev pub left_by : Command → Map → Option Content → Map
+left_by command met None = met
+left_by command met (Some reply) = (effect_of command met).0
+
+-- So of each request of a layer: it meets the map that those before it left. What this has on its shards is what they had
+-- before the layer, as the earlier requests of its unit left it, since no other one addresses them.
+abbrev pub MayStarveInTurn : Layout → Map → List RequestId → List Job → List Ended → Type 0
+MayStarveInTurn table met skip [] [] = Unit {0}
+MayStarveInTurn table met skip [] (e ∷ es) = ⊥
+MayStarveInTurn table met skip (j ∷ js) [] = ⊥
+MayStarveInTurn table met skip (j ∷ js) (e ∷ es) =
+    MayStarve table met skip j e × MayStarveInTurn table (left_by j.command met (outcome e.reply)) skip js es
 
 -- the rows tell of these requests, in their order
 abbrev pub IsOf : Job → Ended → Type 0
 IsOf j e = (e.id ≡ j.id) × (e.stamp ≡ j.stamp)
 
--- The requests of a layer were run over the shards: each over those of its groups, which comes to the same as one after
--- another on the joined map, in the order of the layer, the starved ones skipped. Other shards are as they were, and
--- each shard has only its own keys.
+-- The requests of a layer were run over the shards, unit by unit, each over those of its groups, which comes to the same as
+-- one after another on the joined map, in the order of the layer, the starved ones skipped. Other shards are as they were,
+-- and each shard has only its own keys.
 pub record IsDone (table : Layout) (old : List Map) (skip : List RequestId) (layer : List Job) (done : List Ended) (new : List Map)
     : Type 0 where
   pub told : AllZip IsOf layer done
   pub in_turn : AnsweredInTurn (joined old) (commands_of layer) (outcomes_of_ended done) (joined new)
   pub shards : LayerRan table old (commands_of layer) (outcomes_of_ended done) new
   pub own : HasOwnKeys table new
-  pub starved : AllZip (MayStarve old skip) layer done
+  pub starved : MayStarveInTurn table (joined old) skip layer done
 
 -- ---- on the way
 
@@ -61,17 +82,30 @@ pub record IsDone (table : Layout) (old : List Map) (skip : List RequestId) (lay
 abbrev pub IsInside : ℕ → Job → Type 0
 IsInside shards j = (g : ℕ) → has j.groups g ≡ true → g < shards
 
--- the requests with their shards, from the place `at` of the layer on
-pub record IsWork (skip : List RequestId) (at : ℕ) (j : Job) (span : Span) (w : Work) : Type 0 where
-  pub place : w.place ≡ at
-  pub job : w.job ≡ j
-  pub shards : w.shards.items ≡ span
-  pub skipped : w.skipped ≡ is_named skip j.id
+-- this is the request in a slot, with its place, and whether it is to be skipped
+pub record IsTaskAt (skip : List RequestId) (slots : List (Option Job)) (at : ℕ) (t : Task) : Type 0 where
+  pub there : slice_get slots at ≡ Some (Some t.job)
+  pub place : t.place ≡ at
+  pub skipped : t.skipped ≡ is_named skip t.job.id
 
-abbrev pub AreWorks : List RequestId → ℕ → List Job → List Span → List Work → Type 0
-AreWorks skip at [] [] [] = Unit {0}
-AreWorks skip at (j ∷ js) (s ∷ ss) (w ∷ ws) = IsWork skip at j s w × AreWorks skip (at + 1) js ss ws
-AreWorks skip at _ _ _ = ⊥
+-- these were taken from these places, one after another
+abbrev pub TookTasks : List RequestId → List (Option Job) → List ℕ → List Task → Type 0
+TookTasks skip slots [] [] = Unit {0}
+TookTasks skip slots [] (t ∷ ts) = ⊥
+TookTasks skip slots (i ∷ is) [] = ⊥
+TookTasks skip slots (i ∷ is) (t ∷ ts) = IsTaskAt skip slots i t × TookTasks skip (slice_set slots i None) is ts
 
-abbrev pub ended_of : Ran → Ended
+abbrev pub ended_of : TaskRan → Ended
 ended_of r = record { id = r.id; stamp = r.stamp; reply = r.reply }
+
+-- it has the request's groups and stamp
+abbrev pub HasItsGroups : Job → TaskRan → Type 0
+HasItsGroups j r = (r.groups ≡ j.groups) × (r.stamp ≡ j.stamp)
+
+-- in each place stands what became of its request, and so the layer is done
+pub record HaveGiven (table : Layout) (old : List Map) (skip : List RequestId) (layer : List Job) (slots : List (Option TaskRan))
+    (new : List Map) : Type 0 where
+  pub full : AllByRecursion IsSome slots
+  pub as_many : length slots ≡ length layer
+  pub groups : AllZip HasItsGroups layer (filled slots)
+  pub done : IsDone table old skip layer (map ended_of (filled slots)) new

@@ -1,7 +1,8 @@
 pub mod Dealing
 pub mod Stamps
 pub mod Layers
-pub mod Rooms
 pub mod DealtRooms
+pub mod Rooms
+pub mod RowRuns
 pub mod StoreStates
 pub mod Stores

@@ -1,12 +1,11 @@
 -- The last stamp of each shard: that of the last request that addressed it.
-use Rattle.std.specs.Prelude.{◌≡◌, ℕ, Bool, true, List, [], ◌∷◌, Option, Some, None, slice_index_or, slice_set}
+use Rattle.std.specs.Prelude.{◌≡◌, ℕ, ◌<◌, Bool, true, List, [], ◌∷◌, Option, Some, None, slice_index_or, slice_set}
 use Rattle.std.specs.List.{AllByRecursion}
 use Rattle.groups.specs.GroupSet.{has}
 use Rattle.layer_planner.specs.declared.job.Job.{Job}
-use Rattle.shard_maps.specs.Joined.{numbers}
 use Rattle.groups.specs.Stamp.{stamp_lt}
 use Rattle.groups.specs.declared.stamp.Stamp.{Stamp}
-use Rattle.shard_workers.specs.declared.work.Ran.{Ran}
+use Rattle.shard_workers.specs.declared.task.TaskRan.{TaskRan}
 
 -- the last stamp of a shard; none before the first
 abbrev pub last_of : List (Option Stamp) → ℕ → Option Stamp
@@ -21,6 +20,8 @@ is_above (Some last) stamp = stamp_lt last stamp
 abbrev pub IsFresh : List (Option Stamp) → Job → Type 0
 IsFresh lasts job = (g : ℕ) → has job.groups g ≡ true → is_above (last_of lasts g) job.stamp ≡ true
 
+-- So of each request of a layer, the last stamps being those before the layer. That it is also above those of the earlier
+-- requests of its unit is so of every layer: stamps rise within a unit, and units share no shard.
 abbrev pub AreFresh : List (Option Stamp) → List Job → Type 0
 AreFresh lasts layer = AllByRecursion (IsFresh lasts) layer
 
@@ -29,12 +30,16 @@ abbrev pub raise : List (Option Stamp) → List ℕ → Stamp → List (Option S
 raise lasts [] stamp = lasts
 raise lasts (g ∷ gs) stamp = raise (slice_set lasts g (Some stamp)) gs stamp
 
--- the stamp of each request of a layer is the last one of its shards
+-- the stamp of each request of a layer, in its order, is the last one of its shards: in the end that of the last request
 abbrev pub raised : List (Option Stamp) → List Job → List (Option Stamp)
 raised lasts [] = lasts
 raised lasts (j ∷ js) = raised (raise lasts j.groups j.stamp) js
 
--- the same, by the shards that each request has
-abbrev pub raised_by : List (Option Stamp) → List Ran → List (Option Stamp)
+-- the same, by what became of each
+abbrev pub raised_by : List (Option Stamp) → List TaskRan → List (Option Stamp)
 raised_by lasts [] = lasts
-raised_by lasts (r ∷ rs) = raised_by (raise lasts (numbers r.shards.items) r.stamp) rs
+raised_by lasts (r ∷ rs) = raised_by (raise lasts r.groups r.stamp) rs
+
+-- the groups of each are shards of a row of so many
+abbrev pub AreInRow : ℕ → List TaskRan → Type 0
+AreInRow shards rs = AllByRecursion (λ r. (g : ℕ) → has r.groups g ≡ true → g < shards) rs

@@ -1,48 +1,139 @@
-//! The requests of a layer, dealt to parts by a plan, and what they gave, in the order of the layer again.
+//! The units of a layer, taken out with their shards and dealt to parts by a plan.
 
-ghost use Rattle.std.specs.Prelude.{◌≡◌, ◌<◌, ◌≤◌, [], length, slice_get, slice_set, Some, None, vec_capacity};
-ghost use Rattle.std.specs.List.{AllByRecursion};
-ghost use Rattle.shard_exec.specs.Dealing.{CanTake, Took, left_at, placed};
+ghost use Rattle.std.specs.Prelude.{◌≡◌, ℕ, ◌<◌, ◌≤◌, [], length, map, true, vec_capacity};
+ghost use Rattle.std.specs.FinMap.{empty};
+ghost use Rattle.std.specs.List.{AllZip, AllByRecursion, concat};
+ghost use Rattle.groups.specs.GroupSet.{has};
+ghost use Rattle.layer_planner.specs.Parts.{units_in};
+ghost use Rattle.shard_exec.specs.Dealing.{CanTake, left_at, all_works};
+ghost use Rattle.shard_exec.specs.DealtRooms.{HasRoomFor, HaveRoomFor, IsInRow, MadeWorks, all_rooms};
+ghost use Rattle.shard_exec.specs.Layers.{TookTasks};
+ghost use Rattle.shard_maps.specs.Rows.{taken_out, emptied};
 
-use shard_workers::{Ran, Work};
+use crate::dealt_room::{PartRoom, UnitRoom};
+use crate::moves::take_shards;
+use crate::taking::take_tasks;
+use groups::RequestId;
+use layer_planner::Job;
+use shard_workers::{Part, Work};
+use shards::{Shard, ShardHasher};
+use std::alloc::Global;
 
-/// Moves the requests at these places into the part, which has the room.
-pub fn take_works(works: &mut Vec<Option<Work>>, places: &[usize], part: Vec<Work>) -> Vec<Work>
-    requires there { CanTake works.old.items places.now }
-    requires none { part.items ≡ [] }
-    requires room { length places.now ≤ vec_capacity part }
-    ensures took { Took works.old.items places.now result.items }
-    ensures left { works.new.items ≡ left_at works.old.items places.now }
+/// Takes the units of each part, with their shards, out of the slots and out of the row. It takes no memory.
+pub fn take_parts(
+    alloc: Global,
+    hasher: ShardHasher,
+    row: &mut Vec<Shard>,
+    slots: Vec<Option<Job>>,
+    plan: &[layer_planner::Part],
+    skip: &[RequestId],
+    rooms: Vec<PartRoom>,
+    parts: Vec<Part>,
+) -> Vec<Part>
+    requires there { CanTake slots.items (concat (units_in plan.now)) }
+    requires rooms { AllZip HaveRoomFor plan.now rooms.items }
+    requires inside { AllByRecursion (IsInRow (length row.old.items)) (all_rooms rooms.items) }
+    requires none { parts.items ≡ [] }
+    requires room { length plan.now ≤ vec_capacity parts }
+    ensures made { MadeWorks skip.now slots.items row.old.items (units_in plan.now) (all_rooms rooms.items) (all_works result.items) row.new.items }
+    ensures parts { length result.items ≡ length plan.now }
 {
-    let mut part = part;
-    for place in places {
-        let Ok(()) = part.push(take_work(works, *place)) else {
+    let mut slots = slots;
+    let mut parts = parts;
+    let mut rooms = rooms.into_iter();
+    for part in plan {
+        let Some(room) = rooms.next() else {
+            unreachable!()
+        };
+        let Ok(()) = parts.push(take_part(alloc, hasher, row, &mut slots, part, skip, room)) else {
             unreachable!()
         };
     }
-    part
+    parts
 }
 
-/// Takes the request at a place.
-fn take_work(works: &mut Vec<Option<Work>>, place: usize) -> Work
-    requires { (work : Work) × (slice_get works.old.items place ≡ Some (Some work)) }
-    ensures taken { slice_get works.old.items place ≡ Some (Some result) }
-    ensures left { works.new.items ≡ slice_set works.old.items place None }
+/// Takes the units of a part, with their shards.
+fn take_part(
+    alloc: Global,
+    hasher: ShardHasher,
+    row: &mut Vec<Shard>,
+    slots: &mut Vec<Option<Job>>,
+    part: &layer_planner::Part,
+    skip: &[RequestId],
+    room: PartRoom,
+) -> Part
+    requires there { CanTake slots.old.items (concat part.now) }
+    requires room { HaveRoomFor part.now room }
+    requires inside { AllByRecursion (IsInRow (length row.old.items)) room.units.items }
+    ensures made { MadeWorks skip.now slots.old.items row.old.items part.now room.units.items result.works.items row.new.items }
+    ensures left { slots.new.items ≡ left_at slots.old.items (concat part.now) }
+    ensures len { length row.new.items ≡ length row.old.items }
 {
-    let Some(work) = works[place].take() else {
-        unreachable!()
-    };
-    work
+    let PartRoom { units, works, rans } = room;
+    let works = take_units(alloc, hasher, row, slots, part, skip, units, works);
+    Part::new(works, rans)
 }
 
-/// Puts what a part gave in the places of its requests.
-pub fn place_rans(slots: &mut Vec<Option<Ran>>, rans: Vec<Ran>)
-    requires { AllByRecursion (λ r. r.place < length slots.old.items) rans.items }
-    ensures placed { slots.new.items ≡ placed slots.old.items rans.items }
-    ensures len { length slots.new.items ≡ length slots.old.items }
+/// Takes the units of a part, with their shards, into `works`, which has the room.
+fn take_units(
+    alloc: Global,
+    hasher: ShardHasher,
+    row: &mut Vec<Shard>,
+    slots: &mut Vec<Option<Job>>,
+    part: &layer_planner::Part,
+    skip: &[RequestId],
+    rooms: Vec<UnitRoom>,
+    works: Vec<Work>,
+) -> Vec<Work>
+    requires there { CanTake slots.old.items (concat part.now) }
+    requires rooms { AllZip HasRoomFor part.now rooms.items }
+    requires inside { AllByRecursion (IsInRow (length row.old.items)) rooms.items }
+    requires none { works.items ≡ [] }
+    requires room { length part.now ≤ vec_capacity works }
+    ensures made { MadeWorks skip.now slots.old.items row.old.items part.now rooms.items result.items row.new.items }
+    ensures left { slots.new.items ≡ left_at slots.old.items (concat part.now) }
+    ensures count { length result.items ≡ length part.now }
+    ensures len { length row.new.items ≡ length row.old.items }
 {
-    for ran in rans {
-        let place = ran.place;
-        slots[place] = Some(ran);
+    let mut works = works;
+    let mut rooms = rooms.into_iter();
+    for number in 0..part.len() {
+        let Some(room) = rooms.next() else {
+            unreachable!()
+        };
+        let unit = part.unit(number);
+        let Ok(()) = works.push(take_unit(alloc, hasher, row, slots, unit, skip, room)) else {
+            unreachable!()
+        };
     }
+    works
+}
+
+/// Takes the requests at these places, and the shards of their groups.
+fn take_unit(
+    alloc: Global,
+    hasher: ShardHasher,
+    row: &mut Vec<Shard>,
+    slots: &mut Vec<Option<Job>>,
+    places: &[usize],
+    skip: &[RequestId],
+    room: UnitRoom,
+) -> Work
+    requires there { CanTake slots.old.items places.now }
+    requires room { HasRoomFor places.now room }
+    requires inside { IsInRow (length row.old.items) room }
+    ensures took { TookTasks skip.now slots.old.items places.now result.tasks.items }
+    ensures left { slots.new.items ≡ left_at slots.old.items places.now }
+    ensures shards { result.shards.items ≡ taken_out empty row.old.items room.groups }
+    ensures row { row.new.items ≡ emptied empty row.old.items room.groups }
+{
+    let UnitRoom {
+        groups,
+        tasks,
+        rans,
+        span,
+    } = room;
+    let tasks = take_tasks(slots, places, skip, tasks);
+    let shards = take_shards(alloc, hasher, row, groups, span);
+    Work::new(tasks, rans, shards)
 }

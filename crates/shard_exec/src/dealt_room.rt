@@ -1,97 +1,126 @@
 //! The memory that a layer needs to be run by several workers, taken before any shard is moved.
 
-ghost use Rattle.std.specs.Prelude.{◌≡◌, ◌≤◌, ◌<◌, [], length, None, IfOk, IfSome, vec_capacity};
-ghost use Rattle.std.proofs.Math.ListN.{replicate};
-ghost use Rattle.std.specs.List.{AllZip};
-ghost use Rattle.shard_exec.specs.DealtRooms.{FitsPlaces, FitsDealt};
+ghost use Rattle.std.specs.Prelude.{◌≡◌, ◌≤◌, [], length, IfOk, vec_capacity};
+ghost use Rattle.std.specs.List.{AllZip, AllByRecursion};
+ghost use Rattle.layer_planner.specs.Units.{groups_each};
+ghost use Rattle.shard_exec.specs.DealtRooms.{AreInLayer, HasRoomFor, IsForGroups, FitsPart, FitsDealt};
 
-use layer_planner::{Layer, plan};
-use shard_workers::{Part, Ran, Room, Work, Workers};
+use groups::{GroupId, Groups};
+use layer_planner::Job;
+use shard_workers::{Part, Ran, Room, Task, TaskRan, Work, Workers};
+use shards::Shard;
 use std::alloc::{AllocError, Global};
 
-/// Room for the requests of one part, and for what they give.
+/// Room for the requests of one unit, for what they give, and for the shards of their groups.
+#[derive(Drop)]
+pub struct UnitRoom {
+    pub groups: Groups,
+    pub tasks: Vec<Task>,
+    pub rans: Vec<TaskRan>,
+    pub span: Vec<(GroupId, Shard)>,
+}
+
+/// Room for the units of one part, and for what they give.
 #[derive(Drop)]
 pub struct PartRoom {
+    pub units: Vec<UnitRoom>,
     pub works: Vec<Work>,
     pub rans: Vec<Ran>,
 }
 
-/// The plan by which a layer is dealt to parts, and the room for it.
+/// Room for the parts of a layer, and what the workers need.
 #[derive(Drop)]
 pub struct DealtRoom {
-    pub plan: Vec<layer_planner::Part>,
     pub rooms: Vec<PartRoom>,
     pub parts: Vec<Part>,
-    pub slots: Vec<Option<Work>>,
-    pub placed: Vec<Option<Ran>>,
     pub room: Room,
 }
 
 impl DealtRoom {
-    /// The room for this layer with these workers; none where there would be one part only, which the caller runs
-    /// itself.
-    #[tactic(auto, using(crate::proofs::Dealt::dealt_length))]
+    /// The room for a layer that is divided by this plan among these workers.
     pub fn reserve<W: Workers>(
         alloc: Global,
-        layer: &Layer,
+        jobs: &[Job],
+        plan: &[layer_planner::Part],
         workers: &W,
-    ) -> Result<Option<Self>, AllocError>
-        ensures fits { IfOk result (λ o. IfSome o (FitsDealt (length layer.now))) }
-        ensures few { IfOk result (λ o. IfSome o (λ d. length d.plan.items ≤ W.count workers.now)) }
-        ensures room { IfOk result (λ o. IfSome o (λ d. W.has_room d.room (length d.plan.items))) }
+    ) -> Result<Self, AllocError>
+        requires { AllByRecursion (AllByRecursion (AreInLayer (length jobs.now))) plan.now }
+        ensures fits { IfOk result (FitsDealt (groups_each jobs.now) plan.now) }
+        ensures room { IfOk result (λ d. W.has_room d.room (length plan.now)) }
     {
-        let number = workers.number();
-        if number.get() <= 1 || layer.len() <= 1 {
-            return Ok(None);
-        }
-        let plan = plan(alloc, layer, number)?;
-        let rooms = reserve_parts(alloc, plan.as_slice())?;
+        let rooms = reserve_parts(alloc, jobs, plan)?;
         let parts = Vec::with_capacity(alloc, plan.len())?;
-        let slots = Vec::with_capacity(alloc, layer.len())?;
-        let placed = nothing_placed(alloc, layer.len())?;
         let room = workers.reserve(alloc, plan.len())?;
-        Ok(Some(DealtRoom {
-            plan,
-            rooms,
-            parts,
-            slots,
-            placed,
-            room,
-        }))
+        Ok(DealtRoom { rooms, parts, room })
     }
 }
 
 /// Room for each part of the plan.
-fn reserve_parts(alloc: Global, plan: &[layer_planner::Part]) -> Result<Vec<PartRoom>, AllocError>
-    ensures { IfOk result (λ rooms. AllZip FitsPlaces plan.now rooms.items) }
+fn reserve_parts(
+    alloc: Global,
+    jobs: &[Job],
+    plan: &[layer_planner::Part],
+) -> Result<Vec<PartRoom>, AllocError>
+    requires { AllByRecursion (AllByRecursion (AreInLayer (length jobs.now))) plan.now }
+    ensures { IfOk result (λ rooms. AllZip (FitsPart (groups_each jobs.now)) plan.now rooms.items) }
 {
     let mut rooms = Vec::with_capacity(alloc, plan.len())?;
     for part in plan {
-        rooms.push(reserve_part(alloc, part.places().len())?)?;
+        rooms.push(reserve_part(alloc, jobs, part)?)?;
     }
     Ok(rooms)
 }
 
-/// Room for so many requests.
-fn reserve_part(alloc: Global, count: usize) -> Result<PartRoom, AllocError>
-    ensures none { IfOk result (λ room. room.works.items ≡ []) }
-    ensures works { IfOk result (λ room. count ≤ vec_capacity room.works) }
-    ensures none_run { IfOk result (λ room. room.rans.items ≡ []) }
-    ensures rans { IfOk result (λ room. count ≤ vec_capacity room.rans) }
+/// Room for one part.
+fn reserve_part(
+    alloc: Global,
+    jobs: &[Job],
+    part: &layer_planner::Part,
+) -> Result<PartRoom, AllocError>
+    requires { AllByRecursion (AreInLayer (length jobs.now)) part.now }
+    ensures { IfOk result (FitsPart (groups_each jobs.now) part.now) }
 {
-    let works = Vec::with_capacity(alloc, count)?;
-    let rans = Vec::with_capacity(alloc, count)?;
-    Ok(PartRoom { works, rans })
+    let units = reserve_units(alloc, jobs, part)?;
+    let works = Vec::with_capacity(alloc, part.len())?;
+    let rans = Vec::with_capacity(alloc, part.len())?;
+    Ok(PartRoom { units, works, rans })
 }
 
-/// So many places with nothing in them.
-fn nothing_placed(alloc: Global, count: usize) -> Result<Vec<Option<Ran>>, AllocError>
-    ensures { IfOk result (λ placed. placed.items ≡ replicate count None) }
+/// Room for each unit of a part.
+fn reserve_units(
+    alloc: Global,
+    jobs: &[Job],
+    part: &layer_planner::Part,
+) -> Result<Vec<UnitRoom>, AllocError>
+    requires { AllByRecursion (AreInLayer (length jobs.now)) part.now }
+    ensures room { IfOk result (λ rooms. AllZip HasRoomFor part.now rooms.items) }
+    ensures groups { IfOk result (λ rooms. AllZip (IsForGroups (groups_each jobs.now)) part.now rooms.items) }
 {
-    let mut placed = Vec::with_capacity(alloc, count)?;
-    for number in 0..count {
-        let _ = number;
-        placed.push(None)?;
+    let mut rooms = Vec::with_capacity(alloc, part.len())?;
+    for number in 0..part.len() {
+        let unit = part.unit(number);
+        rooms.push(reserve_unit(alloc, jobs[unit[0]].groups, unit.len())?)?;
     }
-    Ok(placed)
+    Ok(rooms)
+}
+
+/// Room for so many requests of these groups.
+fn reserve_unit(alloc: Global, groups: Groups, count: usize) -> Result<UnitRoom, AllocError>
+    ensures groups { IfOk result (λ room. room.groups ≡ groups) }
+    ensures no_tasks { IfOk result (λ room. room.tasks.items ≡ []) }
+    ensures tasks { IfOk result (λ room. count ≤ vec_capacity room.tasks) }
+    ensures none_run { IfOk result (λ room. room.rans.items ≡ []) }
+    ensures rans { IfOk result (λ room. count ≤ vec_capacity room.rans) }
+    ensures no_shards { IfOk result (λ room. room.span.items ≡ []) }
+    ensures span { IfOk result (λ room. length groups ≤ vec_capacity room.span) }
+{
+    let tasks = Vec::with_capacity(alloc, count)?;
+    let rans = Vec::with_capacity(alloc, count)?;
+    let span = Vec::with_capacity(alloc, groups.len())?;
+    Ok(UnitRoom {
+        groups,
+        tasks,
+        rans,
+        span,
+    })
 }

@@ -1,50 +1,119 @@
-//! The memory that a layer needs, taken before any shard is moved.
+//! The memory that a layer needs, taken before any request is run.
 
-ghost use Rattle.std.specs.Prelude.{IfOk};
-ghost use Rattle.std.specs.List.{AllZip};
-ghost use Rattle.shard_exec.specs.Rooms.{FitsGroups, FitsLayer};
+ghost use Rattle.std.proofs.Math.ListN.{replicate};
+ghost use Rattle.std.specs.Prelude.{◌≡◌, ◌<◌, ◌≤◌, length, None, IfOk};
+ghost use Rattle.std.specs.List.{AllZip, AllByRecursion};
+ghost use Rattle.shard_exec.specs.Rooms.{FitsAlone, FitsAt, FitsRuns, FitsLayer, AreFew, HasRoomForWorkers};
 
 use crate::Ended;
+use crate::dealt_room::DealtRoom;
 use groups::GroupId;
-use layer_planner::Job;
-use shard_workers::{Ran, Work};
+use layer_planner::{Job, Layer, Part, plan};
+use shard_workers::{TaskRan, Workers};
 use shards::Shard;
 use std::alloc::{AllocError, Global};
 
-/// Room for the shards of each request, for the requests, for what they give, and for what is told of them.
+/// Room for the requests of a layer, for what became of each, for what is told of them, and for the way in which they are
+/// run.
 #[derive(Drop)]
 pub struct LayerRoom {
-    pub spans: Vec<Vec<(GroupId, Shard)>>,
-    pub works: Vec<Work>,
-    pub rans: Vec<Ran>,
+    pub slots: Vec<Option<Job>>,
+    pub rans: Vec<Option<TaskRan>>,
     pub done: Vec<Ended>,
+    pub runs: RunRoom,
+}
+
+/// The units of a layer as they are to be run, and the room for that.
+#[derive(Drop)]
+pub enum RunRoom {
+    /// By the caller, where their shards stand: there is room for the shards of each request of several groups.
+    InRow(Part, Vec<Vec<(GroupId, Shard)>>),
+    /// By several workers.
+    Dealt(Vec<Part>, DealtRoom),
 }
 
 impl LayerRoom {
-    /// The room for these requests.
-    pub fn reserve(alloc: Global, jobs: &[Job]) -> Result<Self, AllocError>
-        ensures { IfOk result (FitsLayer jobs.now) }
+    /// The room for this layer with these workers.
+    pub fn reserve<W: Workers>(
+        alloc: Global,
+        layer: &Layer,
+        workers: &W,
+    ) -> Result<Self, AllocError>
+        requires { 0 < length layer.now }
+        ensures fits { IfOk result (FitsLayer layer.now) }
+        ensures few { IfOk result (λ room. AreFew (W.count workers.now) room.runs) }
+        ensures room { IfOk result (λ room. HasRoomForWorkers (W.has_room) room.runs) }
     {
-        let spans = reserve_spans(alloc, jobs)?;
-        let works = Vec::with_capacity(alloc, jobs.len())?;
-        let rans = Vec::with_capacity(alloc, jobs.len())?;
-        let done = Vec::with_capacity(alloc, jobs.len())?;
+        let slots = Vec::with_capacity(alloc, layer.len())?;
+        let rans = nothing_run(alloc, layer.len())?;
+        let done = Vec::with_capacity(alloc, layer.len())?;
+        let runs = RunRoom::reserve(alloc, layer, workers)?;
         Ok(LayerRoom {
-            spans,
-            works,
+            slots,
             rans,
             done,
+            runs,
         })
     }
 }
 
-/// Room for the shards of each request.
-fn reserve_spans(alloc: Global, jobs: &[Job]) -> Result<Vec<Vec<(GroupId, Shard)>>, AllocError>
-    ensures { IfOk result (λ spans. AllZip FitsGroups jobs.now spans.items) }
+impl RunRoom {
+    /// The units of this layer, and the room for them with these workers.
+    fn reserve<W: Workers>(alloc: Global, layer: &Layer, workers: &W) -> Result<Self, AllocError>
+        requires { 0 < length layer.now }
+        ensures fits { IfOk result (FitsRuns layer.now) }
+        ensures few { IfOk result (AreFew (W.count workers.now)) }
+        ensures room { IfOk result (HasRoomForWorkers (W.has_room)) }
+    {
+        let jobs = layer.jobs();
+        let mut plan = plan(alloc, layer, workers.number())?;
+        if plan.len() > 1 {
+            let dealt = DealtRoom::reserve(alloc, jobs, plan.as_slice(), workers)?;
+            return Ok(RunRoom::Dealt(plan, dealt));
+        }
+        let Some(part) = plan.pop() else {
+            unreachable!()
+        };
+        let spans = reserve_spans(alloc, jobs, part.places())?;
+        Ok(RunRoom::InRow(part, spans))
+    }
+}
+
+/// Room for the shards of the requests at these places.
+fn reserve_spans(
+    alloc: Global,
+    jobs: &[Job],
+    places: &[usize],
+) -> Result<Vec<Vec<(GroupId, Shard)>>, AllocError>
+    requires { AllByRecursion (λ i. i < length jobs.now) places.now }
+    ensures { IfOk result (λ spans. AllZip (FitsAt jobs.now) places.now spans.items) }
 {
-    let mut spans = Vec::with_capacity(alloc, jobs.len())?;
-    for job in jobs {
-        spans.push(Vec::with_capacity(alloc, job.groups.len())?)?;
+    let mut spans = Vec::with_capacity(alloc, places.len())?;
+    for place in places {
+        spans.push(reserve_alone(alloc, &jobs[*place])?)?;
     }
     Ok(spans)
+}
+
+/// Room for the shards of a request that is run where they stand: none is taken for one of one group.
+pub fn reserve_alone(alloc: Global, job: &Job) -> Result<Vec<(GroupId, Shard)>, AllocError>
+    ensures { IfOk result (FitsAlone job.now) }
+{
+    let groups = job.groups.len();
+    if groups == 1 {
+        return Ok(Vec::new(alloc));
+    }
+    Vec::with_capacity(alloc, groups)
+}
+
+/// So many places with nothing in them.
+fn nothing_run(alloc: Global, count: usize) -> Result<Vec<Option<TaskRan>>, AllocError>
+    ensures { IfOk result (λ rans. rans.items ≡ replicate count None) }
+{
+    let mut rans = Vec::with_capacity(alloc, count)?;
+    for number in 0..count {
+        let _ = number;
+        rans.push(None)?;
+    }
+    Ok(rans)
 }

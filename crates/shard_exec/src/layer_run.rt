@@ -1,29 +1,30 @@
 //! A layer run over the row of shards: by whatever workers there are, or alone where it has one request.
 
-ghost use Rattle.std.specs.Prelude.{◌≡◌, ◌≤◌, [], ◌∷◌, length, true, IfOk, IfSome, OnErr};
-ghost use Rattle.layer_planner.specs.Layers.{ShareNoGroup};
+ghost use Rattle.std.proofs.Math.ListN.{replicate};
+ghost use Rattle.std.specs.Prelude.{◌≡◌, [], ◌∷◌, length, true, None, IfOk, IsSome, OnErr};
+ghost use Rattle.std.specs.List.{AllByRecursion};
 ghost use Rattle.placement.specs.Groups.{groups_of};
 ghost use Rattle.placement.specs.Layout.{IsTable};
 ghost use Rattle.shard_maps.specs.Joined.{HasOwnKeys};
-ghost use Rattle.shard_exec.specs.DealtRooms.{FitsDealt};
-ghost use Rattle.shard_exec.specs.Layers.{AddressTheirGroups, IsDone};
-ghost use Rattle.shard_exec.specs.Rooms.{FitsGroups, FitsLayer};
+ghost use Rattle.shard_exec.specs.Dealing.{filled};
+ghost use Rattle.shard_exec.specs.Layers.{AddressTheirGroups, HaveGiven, IsDone};
+ghost use Rattle.shard_exec.specs.Rooms.{FitsAlone, FitsRuns, FitsLayer, AreFew, HasRoomForWorkers};
 ghost use Rattle.shard_exec.specs.Stamps.{raised};
 
 use crate::Ended;
-use crate::dealt_room::DealtRoom;
-use crate::layer_room::LayerRoom;
-use crate::taking::{put_layer, put_ran, take_layer, take_work};
-use crate::works::run_works;
+use crate::dealt_run::run_dealt;
+use crate::layer_room::{LayerRoom, RunRoom};
+use crate::row_run::{run_in_row, run_places};
+use crate::taking::{in_slots, is_named, tell, tell_all};
 use groups::{GroupId, RequestId, Stamp};
 use layer_planner::Job;
 use placement::Table;
-use shard_workers::{Gate, Refused, Workers};
+use shard_workers::{Gate, Refused, Task, TaskRan, Workers};
 use shards::{Shard, ShardHasher};
 use std::alloc::Global;
 
-/// Runs the requests of a layer, each over the shards of its groups, and tells what became of each. With `Refused` the
-/// shards that were taken out are lost, and empty ones stand in their places.
+/// Runs the requests of a layer unit by unit, each over the shards of its groups, and tells what became of each. With
+/// `Refused` the shards that were taken out are lost, and empty ones stand in their places.
 pub fn run_layer_over<W: Workers>(
     alloc: Global,
     table: &Table,
@@ -35,18 +36,15 @@ pub fn run_layer_over<W: Workers>(
     workers: &W,
     gate: &(dyn Gate + Sync),
     room: LayerRoom,
-    dealt: Option<DealtRoom>,
 ) -> Result<Vec<Ended>, Refused>
     requires is_table { IsTable table.now }
     requires shards { length row.old.items ≡ table.now.shards }
     requires lasts { length lasts.old.items ≡ table.now.shards }
     requires own { HasOwnKeys table.now row.old.items }
     requires groups { AddressTheirGroups table.now jobs.items }
-    requires apart { ShareNoGroup jobs.items }
-    requires room { FitsLayer jobs.items room }
-    requires fits { IfSome dealt (FitsDealt (length jobs.items)) }
-    requires few { IfSome dealt (λ d. length d.plan.items ≤ W.count workers.now) }
-    requires workers { IfSome dealt (λ d. W.has_room d.room (length d.plan.items)) }
+    requires fits { FitsLayer jobs.items room }
+    requires few { AreFew (W.count workers.now) room.runs }
+    requires workers { HasRoomForWorkers (W.has_room) room.runs }
     ensures done { IfOk result (λ done. IsDone table.now row.old.items skip.now jobs.items done.items row.new.items) }
     ensures lasts { IfOk result (λ _. lasts.new.items ≡ raised lasts.old.items jobs.items) }
     ensures refused { OnErr result (W.may_refuse workers.now ≡ true) }
@@ -55,17 +53,75 @@ pub fn run_layer_over<W: Workers>(
     ensures own { HasOwnKeys table.now row.new.items }
 {
     let LayerRoom {
-        spans,
-        works,
+        slots,
         rans,
         done,
+        runs,
     } = room;
-    let works = take_layer(alloc, hasher, row, jobs, skip, spans, works);
-    let rans = match run_works(alloc, table, gate, workers, dealt, works, rans) {
+    let slots = in_slots(jobs, slots);
+    let rans = match run_units(
+        alloc, table, hasher, row, slots, skip, workers, gate, runs, rans,
+    ) {
         Ok(rans) => rans,
         Err(refused) => return Err(refused),
     };
-    Ok(put_layer(row, lasts, rans, done))
+    Ok(tell_all(lasts, rans, done))
+}
+
+/// Runs the units of a layer, in the row or by the workers, and puts what became of each request in its place.
+fn run_units<W: Workers>(
+    alloc: Global,
+    table: &Table,
+    hasher: ShardHasher,
+    row: &mut Vec<Shard>,
+    slots: Vec<Option<Job>>,
+    skip: &[RequestId],
+    workers: &W,
+    gate: &(dyn Gate + Sync),
+    runs: RunRoom,
+    rans: Vec<Option<TaskRan>>,
+) -> Result<Vec<Option<TaskRan>>, Refused>
+    requires is_table { IsTable table.now }
+    requires shards { length row.old.items ≡ table.now.shards }
+    requires own { HasOwnKeys table.now row.old.items }
+    requires full { AllByRecursion IsSome slots.items }
+    requires groups { AddressTheirGroups table.now (filled slots.items) }
+    requires fits { FitsRuns (filled slots.items) runs }
+    requires few { AreFew (W.count workers.now) runs }
+    requires workers { HasRoomForWorkers (W.has_room) runs }
+    requires none { rans.items ≡ replicate (length slots.items) None }
+    ensures given { IfOk result (λ r. HaveGiven table.now row.old.items skip.now (filled slots.items) r.items row.new.items) }
+    ensures refused { OnErr result (W.may_refuse workers.now ≡ true) }
+    ensures shards { length row.new.items ≡ length row.old.items }
+    ensures own { HasOwnKeys table.now row.new.items }
+{
+    match runs {
+        RunRoom::InRow(part, spans) => Ok(run_places(
+            alloc,
+            table,
+            hasher,
+            row,
+            slots,
+            part.places(),
+            spans,
+            skip,
+            gate,
+            rans,
+        )),
+        RunRoom::Dealt(plan, dealt) => run_dealt(
+            alloc,
+            table,
+            hasher,
+            row,
+            slots,
+            plan.as_slice(),
+            skip,
+            workers,
+            gate,
+            dealt,
+            rans,
+        ),
+    }
 }
 
 /// Runs a request that is alone in its layer over the shards of its groups, which `span` has room for, and tells what
@@ -86,14 +142,19 @@ pub fn run_alone(
     requires lasts { length lasts.old.items ≡ table.now.shards }
     requires own { HasOwnKeys table.now row.old.items }
     requires groups { job.groups ≡ groups_of table.now job.command }
-    requires room { FitsGroups job span }
+    requires room { FitsAlone job span }
     ensures done { IsDone table.now row.old.items skip.now (job ∷ []) (result ∷ []) row.new.items }
     ensures lasts { lasts.new.items ≡ raised lasts.old.items (job ∷ []) }
     ensures shards { length row.new.items ≡ length row.old.items }
     ensures stamps { length lasts.new.items ≡ length lasts.old.items }
     ensures own { HasOwnKeys table.now row.new.items }
 {
-    let work = take_work(alloc, hasher, row, job, 0, skip, span);
-    let ran = work.run(alloc, table, gate);
-    put_ran(row, lasts, ran)
+    let skipped = is_named(skip, &job.id);
+    let task = Task {
+        place: 0,
+        job,
+        skipped,
+    };
+    let ran = run_in_row(alloc, table, hasher, row, task, span, gate);
+    tell(lasts, ran)
 }

@@ -4,7 +4,6 @@ ghost use Rattle.std.specs.Prelude.{◌≡◌, ℕ, ◌<◌, ◌≤◌, [], leng
 ghost use Rattle.std.specs.FinMap.{empty};
 ghost use Rattle.std.specs.List.{AllByRecursion};
 ghost use Rattle.groups.specs.GroupSet.{has};
-ghost use Rattle.shard_maps.specs.Joined.{numbers};
 ghost use Rattle.shard_maps.specs.Rows.{taken_out, emptied, put_span};
 ghost use Rattle.shard_exec.specs.Stamps.{raise};
 
@@ -48,23 +47,25 @@ fn take_shard(alloc: Global, hasher: ShardHasher, row: &mut Vec<Shard>, group: G
     mem::replace(there, Shard::new(alloc, hasher))
 }
 
-/// Puts shards back where they were, and makes the stamp the last one of each.
-pub fn put_back(
-    row: &mut Vec<Shard>,
-    lasts: &mut Vec<Option<Stamp>>,
-    span: Vec<(GroupId, Shard)>,
-    stamp: &Stamp,
-)
-    requires shards { AllByRecursion (λ s. s.0 < length row.old.items) span.items }
-    requires lasts { length lasts.old.items ≡ length row.old.items }
+/// Puts shards back where they were.
+pub fn put_back(row: &mut Vec<Shard>, span: Vec<(GroupId, Shard)>)
+    requires { AllByRecursion (λ s. s.0 < length row.old.items) span.items }
     ensures row { row.new.items ≡ put_span row.old.items span.items }
-    ensures lasts { lasts.new.items ≡ raise lasts.old.items (numbers span.items) stamp.now }
     ensures len { length row.new.items ≡ length row.old.items }
-    ensures len_lasts { length lasts.new.items ≡ length lasts.old.items }
 {
     for (number, shard) in span {
         let index = usize::from(number.number());
         row[index] = shard;
-        lasts[index] = Some(Stamp { ..*stamp });
+    }
+}
+
+/// Makes the stamp the last one of these shards.
+pub fn raise(lasts: &mut Vec<Option<Stamp>>, groups: Groups, stamp: &Stamp)
+    requires { (g : ℕ) → has groups g ≡ true → g < length lasts.old.items }
+    ensures raised { lasts.new.items ≡ raise lasts.old.items groups stamp.now }
+    ensures len { length lasts.new.items ≡ length lasts.old.items }
+{
+    for group in groups.iter() {
+        lasts[usize::from(group.number())] = Some(Stamp { ..*stamp });
     }
 }

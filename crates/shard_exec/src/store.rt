@@ -13,8 +13,7 @@ ghost use Rattle.shard_exec.specs.Stamps.{AreFresh, IsFresh, is_above};
 ghost use Rattle.shard_exec.specs.StoreStates.{IsStore};
 ghost use Rattle.shard_exec.specs.Stores.{empty_store, HasRunLayer, HasFailed, IsNotAdmitted};
 
-use crate::dealt_room::DealtRoom;
-use crate::layer_room::LayerRoom;
+use crate::layer_room::{LayerRoom, reserve_alone};
 use crate::layer_run::{run_alone, run_layer_over};
 use crate::{Ended, ExecFault};
 use dumps::Dump;
@@ -116,8 +115,9 @@ impl Store {
         address_their_groups(&self.table, layer.jobs())
     }
 
-    /// Runs the requests of a layer, each over the shards of its groups, by these workers, and tells what became of
-    /// each, in the order of the layer. The gate is told of each request that is run.
+    /// Runs the requests of a layer by these workers, and tells what became of each, in the order of the layer. Those that
+    /// address one group alone are run in one go, by one worker, in their order; one worker takes these units, and each
+    /// other request, in the order of their first stamps. The gate is told of each request that is run.
     ///
     /// Those named in `skip` are not run and count as starved. A request for whose execution there is no memory
     /// starves: it changes nothing but the last stamps of its shards. `ExecFault` says why a layer is not run.
@@ -144,10 +144,7 @@ impl Store {
                 .map_err(ExecFault::Memory),
             _ => {}
         }
-        let Ok(room) = LayerRoom::reserve(alloc, layer.jobs()) else {
-            return Err(ExecFault::Memory(layer));
-        };
-        let Ok(dealt) = DealtRoom::reserve(alloc, &layer, workers) else {
+        let Ok(room) = LayerRoom::reserve(alloc, &layer, workers) else {
             return Err(ExecFault::Memory(layer));
         };
         let outcome = run_layer_over(
@@ -161,7 +158,6 @@ impl Store {
             workers,
             gate,
             room,
-            dealt,
         );
         match outcome {
             Ok(done) => Ok(done),
@@ -186,8 +182,7 @@ impl Store {
         ensures back { IfErr result (λ back. back ≡ layer) }
         ensures unchanged { OnErr result (self.new ≡ self.old) }
     {
-        let groups = layer.jobs()[0].groups.len();
-        let Ok(span) = Vec::with_capacity(alloc, groups) else {
+        let Ok(span) = reserve_alone(alloc, &layer.jobs()[0]) else {
             return Err(layer);
         };
         let Ok(mut done) = Vec::with_capacity(alloc, 1) else {

@@ -1,129 +1,130 @@
-//! A layer's requests with their shards, taken out of the row, and put back with what they gave.
+//! A layer's requests, taken out of it at the places of a unit, and what became of them, put in their places.
 
-ghost use Rattle.std.specs.Prelude.{◌≡◌, ◌<◌, ◌≤◌, [], length, map, vec_capacity};
-ghost use Rattle.std.specs.FinMap.{empty};
-ghost use Rattle.std.specs.List.{AllZip, AllByRecursion};
-ghost use Rattle.shard_maps.specs.Joined.{numbers};
-ghost use Rattle.shard_maps.specs.Rows.{taken_out, emptied, taken_out_each, emptied_each, put_span, put_spans};
-ghost use Rattle.shard_exec.specs.Layers.{is_named, IsWork, AreWorks, IsInside, ended_of};
-ghost use Rattle.shard_exec.specs.Rooms.{FitsGroups};
-ghost use Rattle.shard_exec.specs.Stamps.{raise, raised_by};
+ghost use Rattle.std.specs.Prelude.{◌≡◌, ℕ, ◌<◌, ◌≤◌, [], length, true, map, slice_get, slice_set, Some, None, IsSome, vec_capacity};
+ghost use Rattle.std.specs.List.{AllByRecursion};
+ghost use Rattle.groups.specs.GroupSet.{has};
+ghost use Rattle.layer_planner.specs.declared.job.Job.{Job};
+ghost use Rattle.shard_exec.specs.Dealing.{CanTake, left_at, filled, placed, AreInside};
+ghost use Rattle.shard_exec.specs.Layers.{is_named, IsTaskAt, TookTasks, ended_of};
+ghost use Rattle.shard_exec.specs.Stamps.{AreInRow, raise, raised_by};
 
 use crate::Ended;
-use crate::moves::{put_back, take_shards};
-use groups::{GroupId, RequestId, Stamp};
+use crate::moves::raise;
+use groups::{RequestId, Stamp};
 use layer_planner::Job;
-use shard_workers::{Ran, Work};
-use shards::{Shard, ShardHasher};
-use std::alloc::Global;
+use shard_workers::{Task, TaskRan};
 
-/// Takes the shards of each request out of the row. It takes no memory.
-pub fn take_layer(
-    alloc: Global,
-    hasher: ShardHasher,
-    row: &mut Vec<Shard>,
-    jobs: Vec<Job>,
-    skip: &[RequestId],
-    spans: Vec<Vec<(GroupId, Shard)>>,
-    works: Vec<Work>,
-) -> Vec<Work>
-    requires inside { AllByRecursion (IsInside (length row.old.items)) jobs.items }
-    requires spans { AllZip FitsGroups jobs.items spans.items }
-    requires none { works.items ≡ [] }
-    requires room { length jobs.items ≤ vec_capacity works }
-    ensures works { AreWorks skip.now 0 jobs.items
-        (taken_out_each empty row.old.items (map (λ j. j.groups) jobs.items)) result.items }
-    ensures left { row.new.items ≡ emptied_each empty row.old.items (map (λ j. j.groups) jobs.items) }
+/// The requests, each in a slot from which it can be taken.
+pub fn in_slots(jobs: Vec<Job>, slots: Vec<Option<Job>>) -> Vec<Option<Job>>
+    requires none { slots.items ≡ [] }
+    requires room { length jobs.items ≤ vec_capacity slots }
+    ensures { result.items ≡ map (λ j. Some j) jobs.items }
 {
-    let mut works = works;
-    let mut spans = spans.into_iter();
+    let mut slots = slots;
     for job in jobs {
-        let Some(span) = spans.next() else {
-            unreachable!()
-        };
-        let place = works.len();
-        let Ok(()) = works.push(take_work(alloc, hasher, row, job, place, skip, span)) else {
+        let Ok(()) = slots.push(Some(job)) else {
             unreachable!()
         };
     }
-    works
+    slots
 }
 
-/// Takes the shards of one request out of the row. It takes no memory.
-pub fn take_work(
-    alloc: Global,
-    hasher: ShardHasher,
-    row: &mut Vec<Shard>,
-    job: Job,
-    place: usize,
+/// Takes the requests at these places, in this order, into `tasks`, which has the room.
+pub fn take_tasks(
+    slots: &mut Vec<Option<Job>>,
+    places: &[usize],
     skip: &[RequestId],
-    span: Vec<(GroupId, Shard)>,
-) -> Work
-    requires inside { IsInside (length row.old.items) job }
-    requires room { FitsGroups job span }
-    ensures work { IsWork skip.now place job (taken_out empty row.old.items job.groups) result }
-    ensures left { row.new.items ≡ emptied empty row.old.items job.groups }
+    tasks: Vec<Task>,
+) -> Vec<Task>
+    requires there { CanTake slots.old.items places.now }
+    requires none { tasks.items ≡ [] }
+    requires room { length places.now ≤ vec_capacity tasks }
+    ensures took { TookTasks skip.now slots.old.items places.now result.items }
+    ensures left { slots.new.items ≡ left_at slots.old.items places.now }
 {
-    let shards = take_shards(alloc, hasher, row, job.groups, span);
+    let mut tasks = tasks;
+    for place in places {
+        let Ok(()) = tasks.push(take_task(slots, *place, skip)) else {
+            unreachable!()
+        };
+    }
+    tasks
+}
+
+/// Takes the request at a place.
+pub fn take_task(slots: &mut Vec<Option<Job>>, place: usize, skip: &[RequestId]) -> Task
+    requires { (job : Job) × (slice_get slots.old.items place ≡ Some (Some job)) }
+    ensures taken { IsTaskAt skip.now slots.old.items place result }
+    ensures left { slots.new.items ≡ slice_set slots.old.items place None }
+{
+    let Some(job) = slots[place].take() else {
+        unreachable!()
+    };
     let skipped = is_named(skip, &job.id);
-    Work {
+    Task {
         place,
         job,
         skipped,
-        shards,
     }
 }
 
 /// Whether the request is one of these.
-fn is_named(skip: &[RequestId], id: &RequestId) -> bool
+pub fn is_named(skip: &[RequestId], id: &RequestId) -> bool
     ensures { result ≡ is_named skip.now id.now }
 {
     skip.iter().any(|named| *id == *named)
 }
 
-/// Puts the shards of each request back into the row, with its stamp as their last one, and tells what became of it.
-pub fn put_layer(
-    row: &mut Vec<Shard>,
+/// Puts what became of requests in their places.
+pub fn place_rans(slots: &mut Vec<Option<TaskRan>>, rans: Vec<TaskRan>)
+    requires { AreInside (length slots.old.items) rans.items }
+    ensures placed { slots.new.items ≡ placed slots.old.items rans.items }
+    ensures len { length slots.new.items ≡ length slots.old.items }
+{
+    for ran in rans {
+        let place = ran.place;
+        slots[place] = Some(ran);
+    }
+}
+
+/// Tells what became of each request, in the order of the layer, and makes its stamp the last one of its shards.
+pub fn tell_all(
     lasts: &mut Vec<Option<Stamp>>,
-    rans: Vec<Ran>,
+    slots: Vec<Option<TaskRan>>,
     done: Vec<Ended>,
 ) -> Vec<Ended>
-    requires inside { AllByRecursion (λ r. AllByRecursion (λ s. s.0 < length row.old.items) r.shards.items) rans.items }
-    requires lasts { length lasts.old.items ≡ length row.old.items }
+    requires full { AllByRecursion IsSome slots.items }
+    requires inside { AreInRow (length lasts.old.items) (filled slots.items) }
     requires none { done.items ≡ [] }
-    requires room { length rans.items ≤ vec_capacity done }
-    ensures row { row.new.items ≡ put_spans row.old.items (map (λ r. r.shards.items) rans.items) }
-    ensures lasts { lasts.new.items ≡ raised_by lasts.old.items rans.items }
-    ensures done { result.items ≡ map ended_of rans.items }
-    ensures len { length row.new.items ≡ length row.old.items }
-    ensures len_lasts { length lasts.new.items ≡ length lasts.old.items }
+    requires room { length slots.items ≤ vec_capacity done }
+    ensures done { result.items ≡ map ended_of (filled slots.items) }
+    ensures lasts { lasts.new.items ≡ raised_by lasts.old.items (filled slots.items) }
+    ensures len { length lasts.new.items ≡ length lasts.old.items }
 {
     let mut done = done;
-    for ran in rans {
-        let Ok(()) = done.push(put_ran(row, lasts, ran)) else {
+    for slot in slots {
+        let Some(ran) = slot else { unreachable!() };
+        let Ok(()) = done.push(tell(lasts, ran)) else {
             unreachable!()
         };
     }
     done
 }
 
-/// Puts the shards of one request back into the row, with its stamp as their last one, and tells what became of it.
-pub fn put_ran(row: &mut Vec<Shard>, lasts: &mut Vec<Option<Stamp>>, ran: Ran) -> Ended
-    requires inside { AllByRecursion (λ s. s.0 < length row.old.items) ran.shards.items }
-    requires lasts { length lasts.old.items ≡ length row.old.items }
-    ensures row { row.new.items ≡ put_span row.old.items ran.shards.items }
-    ensures lasts { lasts.new.items ≡ raise lasts.old.items (numbers ran.shards.items) ran.stamp }
+/// Tells what became of a request, and makes its stamp the last one of its shards.
+pub fn tell(lasts: &mut Vec<Option<Stamp>>, ran: TaskRan) -> Ended
+    requires { (g : ℕ) → has ran.groups g ≡ true → g < length lasts.old.items }
     ensures ended { result ≡ ended_of ran }
-    ensures len { length row.new.items ≡ length row.old.items }
-    ensures len_lasts { length lasts.new.items ≡ length lasts.old.items }
+    ensures lasts { lasts.new.items ≡ raise lasts.old.items ran.groups ran.stamp }
+    ensures len { length lasts.new.items ≡ length lasts.old.items }
 {
-    let Ran {
+    let TaskRan {
         place: _,
         id,
         stamp,
+        groups,
         reply,
-        shards,
     } = ran;
-    put_back(row, lasts, shards, &stamp);
+    raise(lasts, groups, &stamp);
     Ended { id, stamp, reply }
 }

@@ -1,8 +1,8 @@
 -- A layer's commands, run in units, each unit over its own shards, are run one after another on the joined map.
 use Rattle.std.proofs.Common.{◌≡◌, ℕ, zero, suc, ◌==◌, nat_eq, List, [], ◌∷◌, true, false, cond, Option, Some, None, inl, inr, refl}
-use Rattle.std.proofs.Common.{sym, ap, ◌∙◌, subst, arith, eq-eqb, eqb-true}
-use Rattle.std.proofs.lemmas.Bool.{cases_Bool, both_ways, or_parts, and_parts, and_from}
-use Rattle.std.specs.Cmp.Lexicographic.{pointwise}
+use Rattle.std.proofs.Common.{sym, ap, ◌∙◌, subst, arith, eq-eqb}
+use Rattle.std.proofs.lemmas.Bool.{cases_Bool, both_ways, or_parts, and_from}
+use Rattle.std.specs.Cmp.Lexicographic.{pointwise, same_text}
 use Rattle.std.specs.FinMap.{get, empty}
 use Rattle.command_bodies.proofs.Turns.{pair}
 use Rattle.command_bodies.specs.Command.{effect_of}
@@ -53,7 +53,8 @@ with_span : List Map → Span → List Map
 with_span row [] = row
 with_span row (s ∷ ss) = set_at (with_span row ss) s.0 s.1
 
-with_span-away : (row : List Map) (span : Span) (g : ℕ) → has (numbers span) g ≡ false → map_of_shard (with_span row span) g ≡ map_of_shard row g
+with_span-away : (row : List Map) (span : Span) (g : ℕ) → has (numbers span) g ≡ false
+    → map_of_shard (with_span row span) g ≡ map_of_shard row g
 unfolding with_span
 with_span-away row [] g away = refl
 with_span-away row (s ∷ ss) g away =
@@ -79,14 +80,6 @@ joined-alike table ms ns own own' alike =
 
 -- ---- the commands of a unit
 
-pub same_groups : (gs hs : List ℕ) → pointwise nat_eq gs hs ≡ true → gs ≡ hs
-same_groups [] [] e = refl
-same_groups [] (h ∷ hs) e = absurd (both_ways _ refl e)
-same_groups (g ∷ gs) [] e = absurd (both_ways _ refl e)
-same_groups (g ∷ gs) (h ∷ hs) e =
-    let parts = and_parts (g == h) (pointwise nat_eq gs hs) e in
-    ap (λ x. x ∷ gs) (eqb-true g h parts.0) ∙ ap (λ l. h ∷ l) (same_groups gs hs parts.1)
-
 pub groups_same : (gs : List ℕ) → pointwise nat_eq gs gs ≡ true
 groups_same [] = refl
 groups_same (g ∷ gs) = and_from (g == g) (pointwise nat_eq gs gs) (eq-eqb g g refl) (groups_same gs)
@@ -96,7 +89,7 @@ none_with : (table : Layout) (gs : List ℕ) (g : ℕ) (cs : List Command) → h
     → ((d : Command) → In d cs → has (groups_of table d) g ≡ false) → commands_with table gs cs ≡ []
 none_with table gs g [] here away = refl
 none_with table gs g (d ∷ ds) here away = elim (cases_Bool (pointwise nat_eq (groups_of table d) gs)) [
-  | inl e ↦ absurd (both_ways _ (away d (inl refl)) (subst (λ l. has l g ≡ true) (sym (same_groups (groups_of table d) gs e)) here))
+  | inl e ↦ absurd (both_ways _ (away d (inl refl)) (subst (λ l. has l g ≡ true) (sym (same_text (groups_of table d) gs (sym e))) here))
   | inr e ↦ ap (λ b. cond b (d ∷ commands_with table gs ds) (commands_with table gs ds)) e
       ∙ none_with table gs g ds here (λ c i. away c (inr i))
 ]
@@ -144,12 +137,14 @@ module _ (table : Layout) (old new : List Map) (c : Command) (cs : List Command)
       (outcomes_with table (groups_of table d) cs os) (span_at new (groups_of table d))
   each d i = elim (cases_Bool (pointwise nat_eq gs (groups_of table d))) [
     | inl e ↦ subst (λ hs. UnitRan table (commands_with table hs cs) (span_at mid hs) (outcomes_with table hs cs os) (span_at new hs))
-        (same_groups gs (groups_of table d) e) behind
+        (same_text gs (groups_of table d) (sym e)) behind
     | inr e ↦
         subst (λ s. UnitRan table (commands_with table (groups_of table d) cs) s (outcomes_with table (groups_of table d) cs os)
         (span_at new (groups_of table d)))
-        (picked-alike empty old mid (groups_of table d) (λ g there. sym (mid_away g (elim (cases_Bool (has gs g)) as (λ _. has gs g ≡ false) [
-          | inl here ↦ absurd (both_ways _ e (subst (λ l. pointwise nat_eq gs l ≡ true) (alike c d g (inl refl) (inr i) here there) (groups_same gs)))
+        (picked-alike empty old mid (groups_of table d) (λ g there. sym (mid_away g
+        (elim (cases_Bool (has gs g)) as (λ _. has gs g ≡ false) [
+          | inl here ↦ absurd (both_ways _ e (subst (λ l. pointwise nat_eq gs l ≡ true) (alike c d g (inl refl) (inr i) here there)
+              (groups_same gs)))
           | inr none ↦ none
         ]))))
         (subst (λ b. UnitRan table
@@ -164,7 +159,8 @@ module _ (table : Layout) (old new : List Map) (c : Command) (cs : List Command)
     | inl here ↦
         at_member (map_of_shard new) (map_of_shard mid) gs shard
         (none_ran table (span_at mid gs) (span_at new gs) (outcomes_with table gs cs os)
-        (subst (λ l. UnitRan table l (span_at mid gs) (outcomes_with table gs cs os) (span_at new gs)) (none_with table gs shard cs here away) behind))
+        (subst (λ l. UnitRan table l (span_at mid gs) (outcomes_with table gs cs os) (span_at new gs))
+        (none_with table gs shard cs here away) behind))
         here
     | inr none ↦ ran.others shard (λ d. elim [
       | inl e ↦ subst (λ (x : Command). has (groups_of table x) shard ≡ false) (sym e) none
@@ -198,7 +194,8 @@ layer_in_turn table old new (c ∷ cs) (None ∷ os) is_table own meet ran =
 
     alike : (g : ℕ) → map_of_shard between g ≡ map_of_shard old g
     alike g = elim (cases_Bool (has (groups_of table c) g)) [
-      | inl there ↦ at_member (map_of_shard between) (map_of_shard old) (groups_of table c) g (mid_ran table old new c cs None os meet ran) there
+      | inl there ↦ at_member (map_of_shard between) (map_of_shard old) (groups_of table c) g
+          (mid_ran table old new c cs None os meet ran) there
       | inr away ↦ mid_away table old new c cs None os meet ran g away
     ]
 

@@ -16,7 +16,8 @@ use Rattle.shard_maps.proofs.Rows.{at-emptied_each, length-emptied_each}
 use Rattle.shard_maps.proofs.Spans.{numbers-span_at, numbers-SpanRan, groups_of-below}
 use Rattle.shard_maps.proofs.Works.{SomeUnits, all_units, one_of, works_apart, ascending, PairsApart, RanBetween, layer_ran, meet_alike}
 use Rattle.shard_maps.specs.Joined.{joined, map_of_shard, HasOwnKeys, Span, numbers, span_at}
-use Rattle.shard_maps.specs.Layer.{UnitRan, LayerRan, Work, Ran, AreWorksOf, IsRunOf, left_of, with_rans, RanInPlace, WorksRan, AnsweredInTurn}
+use Rattle.shard_maps.specs.Layer.{UnitRan, LayerRan, Work, Ran, AreWorksOf, IsRunOf, left_of, with_rans, RanInPlace, WorksRan}
+use Rattle.shard_maps.specs.Layer.{AnsweredInTurn}
 use Rattle.shard_maps.specs.Laws.{TakenOutAsTheyWere, PartsAreInTurn, WorksAreInTurn}
 use Rattle.shard_maps.specs.Rows.{put_span, put_spans, emptied, taken_out_each}
 
@@ -143,7 +144,8 @@ pub record AllRan (table : Layout) (outcomes : List (Option Content)) (old new :
 
 -- the layer has run, and so its commands in turn
 ran_in_turn : (table : Layout) (old new : List Map) (layer : List Command) (works : List Work) (outcomes : List (Option Content))
-    → IsTable table → HasOwnKeys table old → AreWorksOf table layer works → length outcomes ≡ length layer → AllRan table outcomes old new works
+    → IsTable table → HasOwnKeys table old → AreWorksOf table layer works → length outcomes ≡ length layer
+    → AllRan table outcomes old new works
     → LayerRan table old layer outcomes new × AnsweredInTurn (joined old) layer outcomes (joined new) × HasOwnKeys table new
 ran_in_turn table old new layer works outcomes is_table own are as_many all =
     let has_run = layer_ran table layer outcomes old new works are as_many all.each all.others in
@@ -172,7 +174,8 @@ parts_in_turn table old layer works rans outcomes is_table own long are as_many 
     shards w i = record {
       up = ascending table layer works some w i;
       inside = λ g there. let r = one_of table layer works some w i in
-          subst (λ n. g < n) (sym (length-left_of old works ∙ long)) (groups_of-below table r.command g (ap (λ l. has l g) r.groups ∙ there));
+          subst (λ n. g < n) (sym (length-left_of old works ∙ long)) (groups_of-below table r.command g
+          (ap (λ l. has l g) r.groups ∙ there));
     }
 
 -- ---- in place

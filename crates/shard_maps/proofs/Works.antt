@@ -1,10 +1,11 @@
 -- The units of a layer share no group, and where each was run over its own shards, the layer was.
-use Rattle.std.proofs.Common.{◌≡◌, ℕ, zero, suc, ◌+◌, ◌<◌, ◌≤◌, ◌==◌, ◌||◌, ◌&&◌, nat_lt, nat_eq, Bool, true, false, cond, List, [], ◌∷◌, map, length}
+use Rattle.std.proofs.Common.{◌≡◌, ℕ, zero, suc, ◌+◌, ◌<◌, ◌≤◌, ◌==◌, ◌||◌, ◌&&◌, nat_lt, nat_eq, Bool, true, false, cond, List, [], ◌∷◌}
+use Rattle.std.proofs.Common.{map, length}
 use Rattle.std.proofs.Common.{Option, Some, slice_get, refl, sym, ap, ◌∙◌, subst, arith, inl, inr, eqb-true, eq-eqb}
 use Rattle.std.proofs.Common.{lt-ltb}
 use Rattle.std.proofs.lemmas.Bool.{cases_Bool, both_ways, and_parts, and_from, or_cases}
 use Rattle.std.proofs.lemmas.List.{length-map}
-use Rattle.std.specs.Cmp.Lexicographic.{pointwise}
+use Rattle.std.specs.Cmp.Lexicographic.{pointwise, same_text}
 use Rattle.std.specs.List.{concat}
 use Rattle.command_table.specs.declared.command.Command.{Command}
 use Rattle.groups.specs.GroupSet.{has, IsAscending, chosen}
@@ -12,12 +13,13 @@ use Rattle.groups.specs.GroupSetLaws.{has-chosen, IsAscending-chosen, same_sets}
 use Rattle.groups.specs.Order.{In}
 use Rattle.keyspace.specs.Map.{Map}
 use Rattle.layer_planner.proofs.PartLaws.{times, times-append}
+use Rattle.layer_planner.proofs.PartUnits.{one_more}
 use Rattle.layer_planner.proofs.UnitLaws.{in_map}
 use Rattle.layer_planner.specs.Units.{groups_at, IsUnit}
 use Rattle.placement.specs.Groups.{groups_of}
 use Rattle.placement.specs.Layout.{Layout}
 use Rattle.resp.specs.Content.{Content}
-use Rattle.shard_maps.proofs.Layers.{same_groups, groups_same}
+use Rattle.shard_maps.proofs.Layers.{groups_same}
 use Rattle.shard_maps.proofs.Spans.{numbers-SpanRan, IsAscending-groups_of}
 use Rattle.shard_maps.specs.Joined.{map_of_shard, Span, numbers, span_at, SpanRan}
 use Rattle.shard_maps.specs.Layer.{MeetAlike, UnitRan, commands_with, outcomes_with, LayerRan, Work, StandAt, AreWorksOf}
@@ -87,14 +89,10 @@ stand_got xs (p ∷ places) (y ∷ ys) i s there = elim (or_cases (p == i) (has 
 
 -- ---- how often a place stands in some units
 
-times_more : (i : ℕ) (x : ℕ) (xs : List ℕ) → times i (x ∷ xs) ≡ cond (x == i) 1 0 + times i xs
-times_more i x xs = times-append i (x ∷ []) xs
-    ∙ (let z : 0 + cond {A = ℕ} (x == i) 1 0 ≡ cond {A = ℕ} (x == i) 1 0 = omega arith in ap (λ n. n + times i xs) z)
-
 has_times : (xs : List ℕ) (i : ℕ) → has xs i ≡ true → 0 < times i xs
 has_times [] i h = absurd (both_ways _ refl h)
 has_times (x ∷ xs) i h =
-    let more = times_more i x xs in
+    let more = one_more i x xs in
     elim (or_cases (x == i) (has xs i) h) [
       | inl here ↦ let one : cond {A = ℕ} (x == i) 1 0 ≡ 1 = ap (λ b. cond {A = ℕ} b 1 0) here in omega (arith, more, one)
       | inr there ↦ let rest = has_times xs i there in omega (arith, more, rest)
@@ -105,7 +103,7 @@ times_has [] i h = absurd (omega (arith, h))
 times_has (x ∷ xs) i h = elim (cases_Bool (x == i)) [
   | inl here ↦ ap (λ b. b || has xs i) here
   | inr away ↦
-      let more = times_more i x xs in
+      let more = one_more i x xs in
       let none : cond {A = ℕ} (x == i) 1 0 ≡ 0 = ap (λ b. cond {A = ℕ} b 1 0) away in
       ap (λ b. b || has xs i) away ∙ times_has xs i (omega (arith, more, none, h))
 ]
@@ -305,8 +303,10 @@ numbers_none [] e = refl
 numbers_none (s ∷ ss) e = absurd (cc)
 
 none_of : (table : Layout) (layer : List Command) (outcomes : List (Option Content)) (places : List ℕ) (cs : List Command)
-    (os : List (Option Content)) (after : Span) (k : ℕ) (c : Command) (o : Option Content) → StandAt layer places cs → StandAt outcomes places os
-    → UnitRan table cs [] os after → has places k ≡ true → slice_get layer k ≡ Some c → slice_get outcomes k ≡ Some o → SpanRan table c [] o []
+    (os : List (Option Content)) (after : Span) (k : ℕ) (c : Command) (o : Option Content) → StandAt layer places cs
+    → StandAt outcomes places os
+    → UnitRan table cs [] os after → has places k ≡ true → slice_get layer k ≡ Some c → slice_get outcomes k ≡ Some o
+    → SpanRan table c [] o []
 none_of table layer outcomes [] cs os after k c o s t ran there is_c is_o = absurd (both_ways _ refl there)
 none_of table layer outcomes (p ∷ ps) [] os after k c o s t ran there is_c is_o = absurd (cc)
 none_of table layer outcomes (p ∷ ps) (d ∷ ds) [] after k c o s t ran there is_c is_o = absurd ran
@@ -317,7 +317,8 @@ none_of table layer outcomes (p ∷ ps) (d ∷ ds) (q ∷ qs) after k c o s t ra
           let e = eqb-true p k here in
           let same_c = some_same d c (sym (heads (slice_get layer p) (Some d) _ _ s) ∙ ap (slice_get layer) e ∙ is_c) in
           let same_o = some_same q o (sym (heads (slice_get outcomes p) (Some q) _ _ t) ∙ ap (slice_get outcomes) e ∙ is_o) in
-          subst (λ x. SpanRan table x [] o []) same_c (subst (λ x. SpanRan table d [] x []) same_o (subst (SpanRan table d [] q) still ran.1))
+          subst (λ x. SpanRan table x [] o []) same_c (subst (λ x. SpanRan table d [] x []) same_o
+          (subst (SpanRan table d [] q) still ran.1))
       | inr later ↦ none_of table layer outcomes ps ds qs after k c o (tails (slice_get layer p) (Some d) _ _ s)
           (tails (slice_get outcomes p) (Some q) _ _ t) (subst (λ m. UnitRan table ds m qs after) still ran.2) later is_c is_o
     ]
@@ -334,7 +335,7 @@ none_ran table (c ∷ cs) (o ∷ os) long each =
     elim (pointwise nat_eq (groups_of table c) []) as (λ b. pointwise nat_eq (groups_of table c) [] ≡ b
     → UnitRan table (cond b (c ∷ commands_with table [] cs) (commands_with table [] cs)) []
     (cond b (o ∷ outcomes_with table [] cs os) (outcomes_with table [] cs os)) []) [
-      | true ↦ λ e. ([], each 0 c o refl refl (same_groups (groups_of table c) [] e), rest)
+      | true ↦ λ e. ([], each 0 c o refl refl (same_text (groups_of table c) [] (sym e)), rest)
       | false ↦ λ e. rest
     ] refl
 
@@ -388,10 +389,12 @@ module _ (table : Layout) (layer : List Command) (outcomes : List (Option Conten
     has_place j = same_tests (has u.work.places j) (nat_lt j (length layer) && test j)
         (λ h. let r = one_at table layer works some u.work u.stands j h in
         and_from (nat_lt j (length layer)) (test j)
-        (lt-ltb j (length layer) (let s = stand_got layer u.work.places u.work.commands j (some.stand u.work u.stands) h in within layer s.thing j s.is))
+        (lt-ltb j (length layer) (let s = stand_got layer u.work.places u.work.commands j (some.stand u.work u.stands) h in
+        within layer s.thing j s.is))
         (subst (λ l. pointwise nat_eq l gs ≡ true)
         (sym (its_groups table layer works some u.work u.stands j h ∙ groups_are k c is u)) (groups_same gs)))
-        (λ h. let same = same_groups (groups_at (map (groups_of table) layer) j) gs (and_parts (nat_lt j (length layer)) (test j) h).1 in
+        (λ h. let same = same_text (groups_at (map (groups_of table) layer) j) gs
+        (sym (and_parts (nat_lt j (length layer)) (test j) h).1) in
         (some.each u.work u.stands).whole k j g u.there
         (ap (λ l. has l g) (groups_there table layer c k is) ∙ there)
         (ap (λ l. has l g) same ∙ there))
@@ -427,8 +430,10 @@ module _ (table : Layout) (layer : List Command) (outcomes : List (Option Conten
   each_none = none_ran table layer outcomes long (λ k c o is_c is_o none.
       let u = of_unit k c is_c in
       let r = ran u.work u.stands in
-      none_of table layer outcomes u.work.places u.work.commands r.answered (span_at new u.work.groups) k c o (some.stand u.work u.stands) r.stand
-      (subst (λ hs. UnitRan table u.work.commands (span_at old hs) r.answered (span_at new u.work.groups)) (groups_are k c is_c u ∙ none) r.ran)
+      none_of table layer outcomes u.work.places u.work.commands r.answered (span_at new u.work.groups) k c o
+      (some.stand u.work u.stands) r.stand
+      (subst (λ hs. UnitRan table u.work.commands (span_at old hs) r.answered (span_at new u.work.groups))
+      (groups_are k c is_c u ∙ none) r.ran)
       u.there is_c is_o)
 
   pub layer_ran : LayerRan table old layer outcomes new

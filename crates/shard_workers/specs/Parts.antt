@@ -11,7 +11,7 @@ use Rattle.shard_workers.specs.Runs.{IsReady, HasRun}
 abbrev pub IsReadyPart : Layout → Part → Type 0
 IsReadyPart table part = AllByRecursion (IsReady table) part.works.items
 
--- each request of the part was run, and these are what they gave, in their order
+-- each unit of the part was run, and these are what they gave, in their order
 abbrev pub HasRunPart : Layout → Part → Vec Ran → Type 0
 HasRunPart table part rans = AllZip (HasRun table) part.works.items rans.items
 

@@ -1,32 +1,26 @@
--- A request that is run over the shards of its groups, and what comes of it.
-use Rattle.std.specs.Prelude.{◌≡◌, true, false, Option, None, option_map}
-use Rattle.command_bodies.specs.Answer.{AnswerTakesMemory}
-use Rattle.placement.specs.Groups.{groups_of}
-use Rattle.placement.specs.Layout.{Layout, IsTable}
-use Rattle.resp.specs.Content.{Content, content}
-use Rattle.resp.specs.declared.answered.Answered.{Answered}
-use Rattle.shard_maps.specs.Joined.{numbers, union, SpanHasOwnKeys, SpanRan}
+-- The requests of a unit that are run one after another over the same shards.
+use Rattle.std.specs.Prelude.{◌≡◌, List, [], ◌∷◌}
+use Rattle.std.specs.List.{AllByRecursion}
+use Rattle.placement.specs.Layout.{Layout}
+use Rattle.shard_maps.specs.Joined.{Span}
+pub use Rattle.shard_workers.specs.Tasks.{outcome}
+use Rattle.shard_workers.specs.Tasks.{IsReadyFor, HasRunOver}
+use Rattle.shard_workers.specs.declared.task.Task.{Task}
+use Rattle.shard_workers.specs.declared.task.TaskRan.{TaskRan}
 use Rattle.shard_workers.specs.declared.work.Work.{Work}
 use Rattle.shard_workers.specs.declared.work.Ran.{Ran}
 
--- the request has the shards of the groups that it addresses, each with only keys that the table places there
-pub record IsReady (table : Layout) (w : Work) : Type 0 where
-  pub is_table : IsTable table
-  pub groups : w.job.groups ≡ groups_of table w.job.command
-  pub numbers : numbers w.shards.items ≡ w.job.groups
-  pub own : SpanHasOwnKeys table w.shards.items
+-- each request of the unit has its shards
+abbrev pub IsReady : Layout → Work → Type 0
+IsReady table w = AllByRecursion (λ t. IsReadyFor table t w.shards.items) w.tasks.items
 
--- what a request is answered; nothing where it starved
-abbrev pub outcome : Option Answered → Option Content
-outcome answered = option_map (λ a. content a.reply) answered
+-- each was run over what those before it left of the shards
+abbrev pub HaveRunOver : Layout → List Task → Span → List TaskRan → Span → Type 0
+HaveRunOver table [] before [] after = after ≡ before
+HaveRunOver table [] before (r ∷ rs) after = ⊥
+HaveRunOver table (t ∷ ts) before [] after = ⊥
+HaveRunOver table (t ∷ ts) before (r ∷ rs) after = (mid : Span) × HasRunOver table t before r mid × HaveRunOver table ts mid rs after
 
--- The request was run over its shards, or it starved and they are as they were. One that is to be skipped starves;
--- another one only where its command, on what its shards have, takes memory or answers text.
-pub record HasRun (table : Layout) (w : Work) (r : Ran) : Type 0 where
-  pub place : r.place ≡ w.place
-  pub id : r.id ≡ w.job.id
-  pub stamp : r.stamp ≡ w.job.stamp
-  pub numbers : numbers r.shards.items ≡ numbers w.shards.items
-  pub ran : SpanRan table w.job.command w.shards.items (outcome r.reply) r.shards.items
-  pub skipped : w.skipped ≡ true → outcome r.reply ≡ None
-  pub starved : w.skipped ≡ false → outcome r.reply ≡ None → AnswerTakesMemory w.job.command (union w.shards.items)
+-- the unit was run, and this is what came of it
+abbrev pub HasRun : Layout → Work → Ran → Type 0
+HasRun table w r = HaveRunOver table w.tasks.items w.shards.items r.tasks.items r.shards.items

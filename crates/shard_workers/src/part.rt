@@ -1,4 +1,4 @@
-//! Requests that one worker runs in turn.
+//! Units that one worker runs in turn.
 
 ghost use Rattle.std.specs.Prelude.{◌≡◌, ◌≤◌, [], length, vec_capacity};
 
@@ -6,7 +6,7 @@ use crate::{Gate, Ran, Work};
 use placement::Table;
 use std::alloc::Global;
 
-/// Requests with their shards, which one worker runs in turn, and the room for what they give. No two share a shard.
+/// Units with their shards, which one worker runs in turn, and the room for what they give. No two share a shard.
 #[derive(Drop)]
 pub struct Part {
     works: Vec<Work>,
@@ -18,7 +18,7 @@ pub struct Part {
 impl Part {
     ghost use Rattle.shard_workers.specs.Parts.{IsReadyPart, HasRunPart};
 
-    /// The part of these requests, with the room for what they give.
+    /// The part of these units, with the room for what they give.
     pub fn new(works: Vec<Work>, rans: Vec<Ran>) -> Self
         requires none { rans.items ≡ [] }
         requires room { length works.items ≤ vec_capacity rans }
@@ -27,8 +27,8 @@ impl Part {
         Part { works, rans }
     }
 
-    /// Runs the requests in their order, and gives their shards back with what they answer. It takes memory only for
-    /// the replies and the keys and values that the requests write.
+    /// Runs the units in their order, each in one go, and gives their shards back with what they answer. It takes memory
+    /// only for the replies and the keys and values that the requests write.
     pub fn run(self, alloc: Global, table: &Table, gate: &(dyn Gate + Sync)) -> Vec<Ran>
         requires { IsReadyPart table.now self }
         ensures { HasRunPart table.now self result }

@@ -40,7 +40,7 @@ pub trait Workers {
     // Whether the room is enough for so many parts.
     ghost has_room: { Room → ℕ → Type 0 };
 
-    /// How many there are. A layer is divided into as many parts, if it has as many requests.
+    /// How many there are. A layer is divided into as many parts, if it has as many units.
     fn number(&self) -> NonZeroUsize
         ensures { non_zero_usize_get result ≡ count self.now };
 
@@ -48,8 +48,8 @@ pub trait Workers {
     fn reserve(&self, alloc: Global, parts: usize) -> Result<Room, AllocError>
         ensures { IfOk result (λ room. has_room room parts) };
 
-    /// Runs the parts, no more than there are workers, each with its requests in their order, and gives for each part
-    /// what its requests gave, in the order of the parts. The gate is told of each request that is run.
+    /// Runs the parts, no more than there are workers, each with its units in their order, and gives for each part what
+    /// its units gave, in the order of the parts. The gate is told of each request that is run.
     fn run_parts(
         &self,
         alloc: Global,
@@ -103,7 +103,7 @@ impl Workers for InTurn {
     }
 }
 
-/// Runs the parts one after another on the caller's thread, and gives for each what its requests gave.
+/// Runs the parts one after another on the caller's thread, and gives for each what its units gave.
 pub fn run_in_turn(
     alloc: Global,
     table: &Table,

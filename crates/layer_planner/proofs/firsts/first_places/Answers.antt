@@ -19,7 +19,8 @@ place_among-at-requires-clause-inside c = λ k there.
 pub loop-place-preserved : goal.loop-place-preserved
 loop-place-preserved c = elim c.if-begins.branch [
   | then-begins+in_ok-insert w ↦
-      first_more c.args.jobs.now c.loop-place.place (c.loop-place.place + 1) refl c.loop-place.begun c.begins.new.begun c.loop-place.places.items
+      first_more c.args.jobs.now c.loop-place.place
+      (c.loop-place.place + 1) refl c.loop-place.begun c.begins.new.begun c.loop-place.places.items
       c.groups_at.result c.groups_at.ensures c.loop-place.invariant c.begins.ensures.begun (sym c.begins.ensures.first ∙ w.if-begins.true)
       c.if-begins.places.items
       (ap (λ (v : Vec ℕ Global). v.items) w.places-is ∙ w.in_ok-insert.ensures.items

@@ -9,6 +9,8 @@ pub returns : goal.returns
 returns c =
     c.is_before.ensures
     ∙ ap (λ s. stamp_lt s (slice_index_or c.args.jobs.now c.args.other c.index-jobs-other.result).stamp)
-    (sym (get_or-map (λ (j : Job). j.stamp) c.args.jobs.now c.args.place c.index-jobs-place.result (record { clock = 0; group = 0 }) c.requires.place))
+    (sym (get_or-map (λ (j : Job). j.stamp) c.args.jobs.now c.args.place c.index-jobs-place.result
+    (record { clock = 0; group = 0 }) c.requires.place))
     ∙ ap (stamp_lt (stamp_at c.args.jobs.now c.args.place))
-    (sym (get_or-map (λ (j : Job). j.stamp) c.args.jobs.now c.args.other c.index-jobs-other.result (record { clock = 0; group = 0 }) c.requires.other))
+    (sym (get_or-map (λ (j : Job). j.stamp) c.args.jobs.now c.args.other c.index-jobs-other.result
+    (record { clock = 0; group = 0 }) c.requires.other))

@@ -6,8 +6,12 @@ use Rattle.layer_planner.specs.Units.{groups_each, unit_at}
 use Rattle.layer_planner.proofs.Cuts.{cut-push, AreEnds-push}
 use Rattle.layer_planner.proofs.planning.units_from.Goals as goal
 
-pub push_unit-requires : goal.push_unit-requires
-push_unit-requires c = c.requires (slice_index_or c.args.firsts.now c.loop-first.first-index 0)
+pub push_unit-requires-clause-inside : goal.push_unit-requires-clause-inside
+push_unit-requires-clause-inside c = c.requires.inside (slice_index_or c.args.firsts.now c.loop-first.first-index 0)
+    (In-get c.args.firsts.now c.loop-first.first-index 0 c.loop-first-test.true)
+
+pub push_unit-requires-clause-first : goal.push_unit-requires-clause-first
+push_unit-requires-clause-first c = c.requires.firsts (slice_index_or c.args.firsts.now c.loop-first.first-index 0)
     (In-get c.args.firsts.now c.loop-first.first-index 0 c.loop-first-test.true)
 
 pub loop-first-preserved : goal.loop-first-preserved

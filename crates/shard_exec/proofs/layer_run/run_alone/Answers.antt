@@ -1,61 +1,29 @@
-use Rattle.std.proofs.Common.{◌≡◌, [], ◌∷◌, length, sym, ap, ◌∙◌, subst}
-use Rattle.std.specs.FinMap.{empty}
-use Rattle.shard_maps.proofs.Rows.{length-emptied}
-use Rattle.shard_maps.specs.Rows.{put_span}
-use Rattle.shard_exec.specs.declared.done.Ended.{Ended}
+use Rattle.std.proofs.Common.{◌<◌, [], ◌∷◌, sym, ap, ◌∙◌, subst, refl}
+use Rattle.shard_maps.proofs.PutBack.{works_in_turn}
 use Rattle.shard_exec.specs.Layers.{IsDone}
-use Rattle.shard_exec.proofs.LayerLaws.{all_inside, all_ready, raised_same, all_below, alone_taken, alone_ran, alone_done}
+use Rattle.shard_exec.specs.declared.done.Ended.{Ended}
+use Rattle.groups.specs.GroupSet.{has}
+use Rattle.shard_workers.specs.declared.task.Task.{Task}
+use Rattle.shard_exec.proofs.InRow.{alone_done, groups_inside}
 use Rattle.shard_exec.proofs.layer_run.run_alone.Goals as goal
-
-pub take_work-work-requires-clause-inside : goal.take_work-work-requires-clause-inside
-take_work-work-requires-clause-inside g c =
-    (all_inside c.args.table.now (length c.args.row.now.items) (c.args.job ∷ []) c.requires.shards (c.requires.groups, tt)).0
-
-pub run-ran-requires : goal.run-ran-requires
-run-ran-requires g c =
-    let t = c.args.table.now in let maps = c.args.row.now.items in let j = c.args.job in let skip = c.args.skip.now in
-    (all_ready t maps skip 0 (j ∷ []) (c.take_work-work.result ∷ []) c.requires.is_table c.requires.own (c.requires.groups, tt)
-    (alone_taken t maps skip j c.take_work-work.result c.requires.groups c.take_work-work.ensures.work)).0
-
-pub put_ran-requires-clause-inside : goal.put_ran-requires-clause-inside
-put_ran-requires-clause-inside g c =
-    let t = c.args.table.now in let maps = c.args.row.now.items in let j = c.args.job in let skip = c.args.skip.now in
-    let same : length c.take_work-work.new.row.items ≡ length maps =
-    ap (λ (l : _). length l) c.take_work-work.ensures.left ∙ length-emptied empty maps j.groups in
-    (all_below t maps skip (length c.take_work-work.new.row.items) (j ∷ []) (c.run-ran.result ∷ []) (same ∙ c.requires.shards)
-    (c.requires.groups, tt)
-    (alone_ran t maps skip j c.take_work-work.result c.run-ran.result c.requires.groups c.take_work-work.ensures.work c.run-ran.ensures)).0
-
-pub put_ran-requires-clause-lasts : goal.put_ran-requires-clause-lasts
-put_ran-requires-clause-lasts g c =
-    let same : length c.take_work-work.new.row.items ≡ length c.args.row.now.items =
-    ap (λ (l : _). length l) c.take_work-work.ensures.left ∙ length-emptied empty c.args.row.now.items c.args.job.groups in
-    c.requires.lasts ∙ sym (same ∙ c.requires.shards)
 
 pub returns-clause-done : goal.returns-clause-done
 returns-clause-done g c =
-    let t = c.args.table.now in let maps = c.args.row.now.items in let j = c.args.job in let skip = c.args.skip.now in
-    let row = c.put_ran.ensures.row ∙ ap (λ r. put_span r c.run-ran.result.shards.items) c.take_work-work.ensures.left in
-    subst (λ (e : Ended). IsDone t maps skip (j ∷ []) (e ∷ []) c.put_ran.new.row.items) (sym c.put_ran.ensures.ended)
-    (alone_done t maps skip j c.take_work-work.result c.run-ran.result c.put_ran.new.row.items c.requires.is_table c.requires.shards
-    c.requires.own c.requires.groups c.take_work-work.ensures.work c.run-ran.ensures row)
+    subst (λ (e : Ended). IsDone c.args.table.now c.args.row.now.items c.args.skip.now (c.args.job ∷ []) (e ∷ [])
+    c.run_in_row-ran.new.row.items) (sym c.tell.ensures.ended)
+    (alone_done works_in_turn c.args.table.now c.args.row.now.items c.run_in_row-ran.new.row.items c.args.skip.now
+    (record { place = 0; job = c.args.job; skipped = c.is_named-skipped.result }) c.run_in_row-ran.result c.requires.is_table
+    c.requires.own c.requires.groups refl c.is_named-skipped.ensures c.run_in_row-ran.ensures.ran)
 
-pub returns-clause-lasts : goal.returns-clause-lasts
-returns-clause-lasts g c =
-    let t = c.args.table.now in let maps = c.args.row.now.items in let j = c.args.job in let skip = c.args.skip.now in
-    c.put_ran.ensures.lasts
-    ∙ raised_same t maps skip (j ∷ []) (c.run-ran.result ∷ []) c.args.lasts.now.items
-    (alone_ran t maps skip j c.take_work-work.result c.run-ran.result c.requires.groups c.take_work-work.ensures.work c.run-ran.ensures)
-
-pub returns-clause-shards : goal.returns-clause-shards
-returns-clause-shards g c =
-    c.put_ran.ensures.len
-    ∙ ap (λ (l : _). length l) c.take_work-work.ensures.left
-    ∙ length-emptied empty c.args.row.now.items c.args.job.groups
+pub tell-requires : goal.tell-requires
+tell-requires g c n there =
+    let t : Task = record { place = 0; job = c.args.job; skipped = c.is_named-skipped.result } in
+    subst (λ k. n < k) (c.requires.shards ∙ sym c.requires.lasts)
+    (groups_inside c.args.table.now c.args.row.now.items t c.requires.is_table c.requires.shards c.requires.own c.requires.groups n
+    (ap (λ gs. has gs n) (sym c.run_in_row-ran.ensures.ran.over.on.groups) ∙ there))
 
 pub returns-clause-own : goal.returns-clause-own
 returns-clause-own g c =
-    let row = c.put_ran.ensures.row ∙ ap (λ r. put_span r c.run-ran.result.shards.items) c.take_work-work.ensures.left in
-    (alone_done c.args.table.now c.args.row.now.items c.args.skip.now c.args.job c.take_work-work.result c.run-ran.result
-    c.put_ran.new.row.items c.requires.is_table c.requires.shards c.requires.own c.requires.groups c.take_work-work.ensures.work
-    c.run-ran.ensures row).own
+    (alone_done works_in_turn c.args.table.now c.args.row.now.items c.run_in_row-ran.new.row.items c.args.skip.now
+    (record { place = 0; job = c.args.job; skipped = c.is_named-skipped.result }) c.run_in_row-ran.result c.requires.is_table
+    c.requires.own c.requires.groups refl c.is_named-skipped.ensures c.run_in_row-ran.ensures.ran).own

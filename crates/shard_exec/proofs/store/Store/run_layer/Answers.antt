@@ -1,6 +1,6 @@
 use Rattle.std.proofs.Common.{length, sym, ap, ◌∙◌, subst}
 use Rattle.shard_exec.specs.Layers.{AddressTheirGroups}
-use Rattle.shard_exec.proofs.LayerLaws.{all_inside}
+use Rattle.shard_exec.proofs.StoreRows.{all_inside}
 use Rattle.shard_exec.proofs.store.Store.run_layer.Goals as goal
 
 pub admit-requires : goal.admit-requires

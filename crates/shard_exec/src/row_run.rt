@@ -1,0 +1,115 @@
+//! Requests that are run where their shards stand, in the row, one after another.
+
+ghost use Rattle.std.specs.Prelude.{◌≡◌, ◌<◌, ◌∷◌, [], length, slice_set, MatchOption};
+ghost use Rattle.std.specs.List.{AllByRecursion};
+ghost use Rattle.placement.specs.Groups.{groups_of};
+ghost use Rattle.placement.specs.Layout.{IsTable};
+ghost use Rattle.shard_maps.specs.Joined.{map_of_shard, HasOwnKeys};
+ghost use Rattle.shard_exec.specs.Dealing.{CanTake};
+ghost use Rattle.shard_exec.specs.Rooms.{FitsAlone};
+ghost use Rattle.shard_exec.specs.RowRuns.{AddressAt, FitAt, HasRunInRow, HaveRunAt};
+ghost use Rattle.shard_workers.specs.Tasks.{HasRunOn};
+
+use crate::moves::{put_back, take_shards};
+use crate::taking::take_task;
+use groups::{GroupId, Groups, RequestId};
+use layer_planner::Job;
+use placement::Table;
+use shard_workers::{Gate, Task, TaskRan};
+use shards::{Shard, ShardHasher};
+use std::alloc::Global;
+
+/// Runs the requests at these places, one after another in this order, each over the shards of its groups, and puts what
+/// became of each in its place. There is room in `spans` for each that has several groups. It takes no memory but the
+/// commands' own.
+pub fn run_places(
+    alloc: Global,
+    table: &Table,
+    hasher: ShardHasher,
+    row: &mut Vec<Shard>,
+    slots: Vec<Option<Job>>,
+    places: &[usize],
+    spans: Vec<Vec<(GroupId, Shard)>>,
+    skip: &[RequestId],
+    gate: &(dyn Gate + Sync),
+    rans: Vec<Option<TaskRan>>,
+) -> Vec<Option<TaskRan>>
+    requires is_table { IsTable table.now }
+    requires shards { length row.old.items ≡ table.now.shards }
+    requires own { HasOwnKeys table.now row.old.items }
+    requires there { CanTake slots.items places.now }
+    requires groups { AddressAt table.now slots.items }
+    requires room { FitAt slots.items places.now spans.items }
+    requires inside { AllByRecursion (λ i. i < length rans.items) places.now }
+    ensures ran { HaveRunAt table.now skip.now slots.items row.old.items places.now rans.items result.items row.new.items }
+    ensures shards { length row.new.items ≡ length row.old.items }
+{
+    let mut slots = slots;
+    let mut rans = rans;
+    let mut spans = spans.into_iter();
+    for place in places {
+        let Some(span) = spans.next() else {
+            unreachable!()
+        };
+        let task = take_task(&mut slots, *place, skip);
+        rans[*place] = Some(run_in_row(alloc, table, hasher, row, task, span, gate));
+    }
+    rans
+}
+
+/// Runs a request over the shards of its groups: one of one group over the shard where it stands, any other over its shards
+/// moved out, which `span` has room for, and back. It takes no memory but the command's own.
+pub fn run_in_row(
+    alloc: Global,
+    table: &Table,
+    hasher: ShardHasher,
+    row: &mut Vec<Shard>,
+    task: Task,
+    span: Vec<(GroupId, Shard)>,
+    gate: &(dyn Gate + Sync),
+) -> TaskRan
+    requires is_table { IsTable table.now }
+    requires shards { length row.old.items ≡ table.now.shards }
+    requires own { HasOwnKeys table.now row.old.items }
+    requires groups { task.job.groups ≡ groups_of table.now task.job.command }
+    requires room { FitsAlone task.job span }
+    ensures ran { HasRunInRow table.now task row.old.items result row.new.items }
+    ensures shards { length row.new.items ≡ length row.old.items }
+{
+    let groups = task.groups();
+    if let Some(group) = only_group(groups) {
+        return run_in_place(alloc, row, group, task, gate);
+    }
+    let shards = take_shards(alloc, hasher, row, groups, span);
+    let (ran, shards) = task.run_over(alloc, table, shards, gate);
+    put_back(row, shards);
+    ran
+}
+
+/// Runs a request over the shard of this group, where it stands.
+fn run_in_place(
+    alloc: Global,
+    row: &mut Vec<Shard>,
+    group: GroupId,
+    task: Task,
+    gate: &(dyn Gate + Sync),
+) -> TaskRan
+    requires { group < length row.old.items }
+    ensures ran { HasRunOn task (map_of_shard row.old.items group) result (map_of_shard row.new.items group) }
+    ensures row { row.new.items ≡ slice_set row.old.items group (map_of_shard row.new.items group) }
+{
+    let shard = &mut row[usize::from(group.number())];
+    task.run(alloc, shard, gate)
+}
+
+/// The group of a set that has one only.
+fn only_group(groups: Groups) -> Option<GroupId>
+    ensures { MatchOption result (length groups ≡ 1 → ⊥) (λ group. groups ≡ group ∷ []) }
+{
+    let mut rest = groups;
+    let group = rest.pop_first()?;
+    if !rest.is_empty() {
+        return None;
+    }
+    Some(group)
+}

@@ -1,0 +1,40 @@
+use Rattle.std.proofs.Common.{rules, ◌≡◌, ℕ, zero, suc, ◌<◌, List, [], ◌∷◌, length, get_or, arith, refl, sym, ap, ◌∙◌, subst}
+use Rattle.command_table.specs.Command.{keys_of}
+use Rattle.groups.specs.GroupSet.{IsAscending, has}
+use Rattle.placement.proofs.Addressed.{has-groups_of-key}
+use Rattle.placement.specs.Layout.{shard_of}
+use Rattle.shard_maps.proofs.Spans.{IsAscending-groups_of}
+use Rattle.shard_workers.proofs.Turns.{one_over}
+use Rattle.shard_workers.proofs.task.Task.run_over.Goals as goal
+
+any_default : {X : Type 0} (xs : List X) (k : ℕ) (d e : X) → k < length xs → get_or xs k d ≡ get_or xs k e
+any_default [] k d e below = absurd (omega (arith, below))
+any_default (x ∷ xs) zero d e below = refl
+any_default (x ∷ xs) (suc k) d e below = any_default xs k d e (omega (arith, below))
+
+pub run_on_all-requires-clause-shards : goal.run_on_all-requires-clause-shards
+run_on_all-requires-clause-shards g c = record {
+  numbers = refl;
+  ascending = subst IsAscending (sym (c.requires.numbers ∙ c.requires.groups))
+      (IsAscending-groups_of c.args.table.now c.args.self.job.command);
+  own = c.requires.own;
+}
+
+pub run_on_all-requires-clause-keys : goal.run_on_all-requires-clause-keys
+run_on_all-requires-clause-keys g c k d below =
+    ap (λ gs. has gs (shard_of c.args.table.now (get_or (keys_of c.args.self.job.command) k d))) (c.requires.numbers ∙ c.requires.groups)
+    ∙ has-groups_of-key c.args.table.now c.args.self.job.command (get_or (keys_of c.args.self.job.command) k d) c.requires.is_table
+    (k, below, any_default (keys_of c.args.self.job.command) k _ d below)
+
+pub returns : goal.returns
+returns g c = record {
+  numbers = c.run_on_all.ensures.shards.numbers;
+  own = c.run_on_all.ensures.shards.own;
+  on = c.run_on_all.ensures.ran;
+}
+
+pub returns-then-len-eq1 : goal.returns-then-len-eq1
+returns-then-len-eq1 g c =
+    let one : length c.args.shards.items ≡ 1 = search rules in
+    one_over c.args.table.now c.args.self c.run_on_one.result.0 c.args.shards.items c.run_on_one.result.1.items c.requires one
+    c.run_on_one.ensures.number c.run_on_one.ensures.ran

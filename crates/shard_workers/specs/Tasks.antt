@@ -1,0 +1,52 @@
+-- A request that is run on a map, or over the shards of its groups, and what comes of it.
+use Rattle.std.specs.Prelude.{◌≡◌, true, false, List, [], ◌∷◌, Option, Some, None, option_map}
+use Rattle.std.specs.FinMap.{empty}
+use Rattle.command_bodies.specs.Answer.{AnswerTakesMemory}
+use Rattle.command_bodies.specs.Command.{effect_of}
+use Rattle.command_table.specs.declared.command.Command.{Command}
+use Rattle.keyspace.specs.Map.{Map}
+use Rattle.placement.specs.Groups.{groups_of}
+use Rattle.placement.specs.Layout.{Layout, IsTable}
+use Rattle.resp.specs.Content.{Content, content}
+use Rattle.resp.specs.declared.answered.Answered.{Answered}
+use Rattle.shard_maps.specs.Joined.{Span, numbers, union, SpanHasOwnKeys}
+use Rattle.shard_workers.specs.declared.task.Task.{Task}
+use Rattle.shard_workers.specs.declared.task.TaskRan.{TaskRan}
+
+-- what a request is answered; nothing where it starved
+abbrev pub outcome : Option Answered → Option Content
+outcome answered = option_map (λ a. content a.reply) answered
+
+-- what a command left of a map, and what it answered; where it starved there is no reply, and the map is as it was
+abbrev pub MapRan : Command → Map → Option Content → Map → Type 0
+MapRan command before None after = after ≡ before
+MapRan command before (Some reply) after = (after, reply) ≡ effect_of command before
+
+-- The request was run on a map, or it starved and the map is as it was. One that is to be skipped starves; another one
+-- only where its command, on what the map has, takes memory or answers text.
+pub record HasRunOn (t : Task) (before : Map) (r : TaskRan) (after : Map) : Type 0 where
+  pub place : r.place ≡ t.place
+  pub id : r.id ≡ t.job.id
+  pub stamp : r.stamp ≡ t.job.stamp
+  pub groups : r.groups ≡ t.job.groups
+  pub ran : MapRan t.job.command before (outcome r.reply) after
+  pub skipped : t.skipped ≡ true → outcome r.reply ≡ None
+  pub starved : t.skipped ≡ false → outcome r.reply ≡ None → AnswerTakesMemory t.job.command before
+
+-- the map of the one shard that is there
+abbrev pub first_map : Span → Map
+first_map [] = empty
+first_map (s ∷ ss) = s.1
+
+-- these are the shards of the groups that the request addresses, each with only keys that the table places there
+pub record IsReadyFor (table : Layout) (t : Task) (span : Span) : Type 0 where
+  pub is_table : IsTable table
+  pub groups : t.job.groups ≡ groups_of table t.job.command
+  pub numbers : numbers span ≡ t.job.groups
+  pub own : SpanHasOwnKeys table span
+
+-- the request was run on what its shards hold together; they have the numbers that they had, and only their own keys
+pub record HasRunOver (table : Layout) (t : Task) (before : Span) (r : TaskRan) (after : Span) : Type 0 where
+  pub numbers : numbers after ≡ numbers before
+  pub own : SpanHasOwnKeys table after
+  pub on : HasRunOn t (union before) r (union after)

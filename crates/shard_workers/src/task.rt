@@ -1,0 +1,144 @@
+//! One request, over whatever keyspace has the keys of its command.
+
+ghost use Rattle.std.specs.Prelude.{◌≡◌, All, IsTrue, length};
+ghost use Rattle.command_table.specs.Command.{keys_of};
+ghost use Rattle.shard_maps.specs.Joined.{numbers, union};
+ghost use Rattle.shard_workers.specs.Tasks.{HasRunOn, IsReadyFor, HasRunOver, first_map};
+ghost use Rattle.shards.specs.Spans.{IsSpan, lies_on};
+
+use crate::Gate;
+use command_bodies::answer;
+use groups::{GroupId, Groups, RequestId, Stamp};
+use keyspace::Keyspace;
+use layer_planner::Job;
+use placement::Table;
+use resp::Answered;
+use shards::{Shard, Span, SpanFrame};
+use std::alloc::Global;
+use std::marker::Brand;
+
+/// A request that is to be run, or skipped, with its place in the layer.
+#[derive(Drop)]
+pub struct Task {
+    pub place: usize,
+    pub job: Job,
+    pub skipped: bool,
+}
+
+/// A request that was run, skipped or starved, with its place in the layer. There is a reply where it was run, with its
+/// text where that is long.
+#[derive(Drop)]
+pub struct TaskRan {
+    pub place: usize,
+    pub id: RequestId,
+    pub stamp: Stamp,
+    pub groups: Groups,
+    pub reply: Option<Answered>,
+}
+
+impl Task {
+    /// The groups that the request addresses.
+    pub fn groups(&self) -> Groups
+        ensures { result ≡ self.now.job.groups }
+    {
+        self.job.groups
+    }
+
+    /// Runs the request over a keyspace that covers its command's keys, unless it is to be skipped. The gate is told
+    /// only of what is run.
+    pub fn run<K: Keyspace>(
+        self,
+        alloc: Global,
+        keyspace: &mut K,
+        gate: &(dyn Gate + Sync),
+    ) -> TaskRan
+        requires { All (λ key. IsTrue (K.covered keyspace.old key)) (keys_of self.job.command) }
+        ensures ran { HasRunOn self (K.contents keyspace.old) result (K.contents keyspace.new) }
+        ensures covers { K.covered keyspace.new ≡ K.covered keyspace.old }
+    {
+        let Task {
+            place,
+            job,
+            skipped,
+        } = self;
+        let Job {
+            id,
+            stamp,
+            groups,
+            command,
+        } = job;
+        if skipped {
+            return TaskRan {
+                place,
+                id,
+                stamp,
+                groups,
+                reply: None,
+            };
+        }
+        gate.enter(id);
+        let outcome = answer(alloc, keyspace, command);
+        gate.leave(id);
+        TaskRan {
+            place,
+            id,
+            stamp,
+            groups,
+            reply: outcome.ok(),
+        }
+    }
+
+    /// Runs the request over the shards of its groups, and gives them back: over the shard itself where it is one, else
+    /// over all as one keyspace.
+    pub fn run_over(
+        self,
+        alloc: Global,
+        table: &Table,
+        shards: Vec<(GroupId, Shard)>,
+        gate: &(dyn Gate + Sync),
+    ) -> (TaskRan, Vec<(GroupId, Shard)>)
+        requires { IsReadyFor table.now self shards.items }
+        ensures { HasRunOver table.now self shards.items result.0 result.1.items }
+    {
+        if shards.len() == 1 {
+            return run_on_one(alloc, shards, self, gate);
+        }
+        run_on_all::<Brand>(alloc, *table, shards, self, gate)
+    }
+}
+
+/// Runs a request over the one shard that is there.
+fn run_on_one(
+    alloc: Global,
+    shards: Vec<(GroupId, Shard)>,
+    task: Task,
+    gate: &(dyn Gate + Sync),
+) -> (TaskRan, Vec<(GroupId, Shard)>)
+    requires { length shards.items ≡ 1 }
+    ensures number { numbers result.1.items ≡ numbers shards.items }
+    ensures ran { HasRunOn task (first_map shards.items) result.0 (first_map result.1.items) }
+{
+    let mut shards = shards;
+    let shard = &mut shards[0].1;
+    let ran = task.run(alloc, shard, gate);
+    (ran, shards)
+}
+
+/// Runs a request over these shards as one keyspace.
+fn run_on_all<F: SpanFrame>(
+    alloc: Global,
+    table: Table,
+    shards: Vec<(GroupId, Shard)>,
+    task: Task,
+    gate: &(dyn Gate + Sync),
+) -> (TaskRan, Vec<(GroupId, Shard)>)
+    requires table { table ≡ F.layout }
+    requires shards { IsSpan F.layout F.groups shards.items }
+    requires keys { All (λ key. IsTrue (lies_on F.layout F.groups key)) (keys_of task.job.command) }
+    ensures shards { IsSpan F.layout F.groups result.1.items }
+    ensures ran { HasRunOn task (union shards.items) result.0 (union result.1.items) }
+{
+    let mut span: Span<F> = Span::new(table, shards);
+    let ran = task.run(alloc, &mut span, gate);
+    (ran, span.into_shards())
+}
