@@ -1,5 +1,7 @@
 //! The labels of words and replies, in printable ASCII: other bytes, and the backslash, are `\xNN`.
 
+ghost use Rattle.std.specs.Prelude.{◌<◌};
+
 use picture_shapes::{ELLIPSIS, cut};
 use resp::{Reply, Request, write_reply};
 use std::alloc::{AllocError, Global};

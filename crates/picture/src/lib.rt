@@ -8,8 +8,8 @@ mod fault;
 mod labels;
 mod making;
 mod recorder;
-mod told;
+mod shown;
 
 pub use fault::PictureFault;
 pub use making::facts_of;
-pub use told::told;
+pub use shown::told;

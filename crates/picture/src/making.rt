@@ -56,7 +56,7 @@ fn make_all<P: Progress>(
     let count = steps.len();
     let mut index: usize = 0;
     while let Some(step) = steps.next(alloc)? {
-        words.push(word_of(&step))?;
+        words.push(word_of(&step)).map_err(AllocError::from)?;
         make(alloc, step, index, system, recorder)?;
         index = index.saturating_add(1);
         progress.made(index as u64, count as u64);

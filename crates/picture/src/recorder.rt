@@ -165,7 +165,7 @@ impl Recorder {
                 _ => Ok(()),
             },
             Before::Deliver { place, coming } => match coming {
-                Some(coming) => self.note_receipt(step, place, coming, system),
+                Some(coming) => self.note_receipt(step, place, &coming, system),
                 None => Ok(()),
             },
             Before::Take => self.note_take(step, system.layer()),
@@ -293,17 +293,12 @@ impl Recorder {
         &mut self,
         step: usize,
         place: u64,
-        coming: Coming,
+        coming: &Coming,
         system: &System,
     ) -> Result<(), AllocError> {
-        let Some(number) = self.under_way.remove(place as usize) else {
+        let Some(packet) = self.receive(step, place as usize) else {
             return Ok(());
         };
-        let Some(packet) = self.packets.get_mut(number) else {
-            return Ok(());
-        };
-        packet.received = Some(step);
-        let packet = *packet;
         let clock = system.clock(coming.to);
         let delivered = self.deliveries(coming, system)?;
         self.receipts.push(ReceiptFacts {
@@ -316,10 +311,18 @@ impl Recorder {
         self.note_sent(step, coming.packets.saturating_sub(1), system)
     }
 
+    /// The packet at this place of those under way, which is received now and under way no more.
+    fn receive(&mut self, step: usize, place: usize) -> Option<PacketFacts> {
+        let number = self.under_way.remove(place)?;
+        let packet = self.packets.get_mut(number)?;
+        packet.received = Some(step);
+        Some(*packet)
+    }
+
     /// What the group delivered when the packet came.
     fn deliveries(
         &self,
-        coming: Coming,
+        coming: &Coming,
         system: &System,
     ) -> Result<Vec<DeliveryFacts>, AllocError> {
         let mut delivered = Vec::new(self.alloc);
