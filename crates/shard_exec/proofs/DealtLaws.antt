@@ -109,7 +109,8 @@ made_left skip slots row (u ∷ us) (m ∷ ms) (w ∷ ws) left made =
     made_left skip (left_at slots u) (emptied empty row m.groups) us ms ws left made.2
 
 -- the units of one part, and those of the others
-pub made_both : (skip : List RequestId) (slots : List (Option Job)) (row mid left : List Map) (us us' : List (List ℕ)) (ms ms' : List UnitRoom)
+pub made_both : (skip : List RequestId) (slots : List (Option Job)) (row mid left : List Map) (us us' : List (List ℕ))
+    (ms ms' : List UnitRoom)
     (ws ws' : List Work) → MadeWorks skip slots row us ms ws mid → MadeWorks skip (left_at slots (concat us)) mid us' ms' ws' left
     → MadeWorks skip slots row (us ++ us') (ms ++ ms') (ws ++ ws') left
 made_both skip slots row mid left [] us' [] ms' [] ws' made more = subst (λ r. MadeWorks skip slots r us' ms' ws' left) made more
@@ -132,7 +133,8 @@ works_snoc (q ∷ ps) p ws =
 
 -- ---- the rooms are for the groups of the units
 
-groups_of_rooms : (sets : List (List ℕ)) (us : List (List ℕ)) (ms : List UnitRoom) (tss : List (List Task)) → AllZip (IsForGroups sets) us ms
+groups_of_rooms : (sets : List (List ℕ)) (us : List (List ℕ)) (ms : List UnitRoom) (tss : List (List Task))
+    → AllZip (IsForGroups sets) us ms
     → length tss ≡ length us
     → ◌≡◌ {A = List (List ℕ)} (room_groups ms) (map (λ (w : layers.Work). w.groups) (works_of sets us tss))
 groups_of_rooms sets [] [] [] z e = refl
@@ -246,7 +248,8 @@ below_all n (s ∷ ss) h = (h s.0 (or_left _ _ (eq-eqb s.0 s.0 refl)), below_all
 
 pub tasks_of-append : (xs ys : List Ran) → tasks_of (xs ++ ys) ≡ tasks_of xs ++ tasks_of ys
 tasks_of-append [] ys = refl
-tasks_of-append (x ∷ xs) ys = ap (λ l. x.tasks.items ++ l) (tasks_of-append xs ys) ∙ sym (append_assoc x.tasks.items (tasks_of xs) (tasks_of ys))
+tasks_of-append (x ∷ xs) ys = ap (λ l. x.tasks.items ++ l) (tasks_of-append xs ys)
+    ∙ sym (append_assoc x.tasks.items (tasks_of xs) (tasks_of ys))
 
 pub spans_of-append : (xs ys : List Ran) → ◌≡◌ {A = List Span} (spans_of (xs ++ ys)) (spans_of xs ++ spans_of ys)
 spans_of-append [] ys = refl
@@ -286,7 +289,8 @@ module _ (table : Layout) (maps : List Map) (skip : List RequestId) (layer : Lis
 
   -- each unit has its shards as they were
   has_span : (us : List (List ℕ)) (ws : List Work) → AllZip (AllZip (IsTaskOf skip layer)) us (tasks_each ws)
-      → ◌≡◌ {A = List Span} (map (λ w. w.shards.items) ws) (map (λ (w : layers.Work). span_at maps w.groups) (works_of sets us (tasks_each ws)))
+      → ◌≡◌ {A = List Span} (map (λ w. w.shards.items) ws)
+      (map (λ (w : layers.Work). span_at maps w.groups) (works_of sets us (tasks_each ws)))
       → AllZip (λ u w. w.shards.items ≡ span_at maps (unit_groups sets u)) us ws
   has_span [] [] z e = tt
   has_span [] (w ∷ ws) z e = absurd z
@@ -358,7 +362,8 @@ module _ (table : Layout) (maps : List Map) (skip : List RequestId) (layer : Lis
     runs_of outs (u ∷ us) (w ∷ ws) [] inside z e run stand = absurd run
     runs_of outs (u ∷ us) (w ∷ ws) (r ∷ rs) inside z e run stand = (
       record {
-        ran = subst (λ s. layers.UnitRan table (map (λ t. t.job.command) w.tasks.items) s (map (λ t. outcome t.reply) r.tasks.items) r.shards.items)
+        ran = subst (λ s. layers.UnitRan table (map (λ t. t.job.command) w.tasks.items) s
+            (map (λ t. outcome t.reply) r.tasks.items) r.shards.items)
             e.0 (unit_ran table w.tasks.items r.tasks.items w.shards.items r.shards.items
             (are_ready table skip layer is_table address u w.tasks.items w.shards.items (of.each u (inside u (inl refl))) z.0
             (ap numbers e.0 ∙ numbers-span_at maps (unit_groups sets u))

@@ -80,7 +80,8 @@ units_below jobs all of (u ∷ us) sub = (
   (
     (of.each u (sub u (inl refl))).some,
     all_where (λ i. i < length jobs) u (λ i there.
-        subst (λ k. i < k) (sets_length jobs) (within (length (groups_each jobs)) all of.once i (in_unit i u all there (sub u (inl refl))))),
+        subst (λ k. i < k) (sets_length jobs)
+        (within (length (groups_each jobs)) all of.once i (in_unit i u all there (sub u (inl refl))))),
   ),
   units_below jobs all of us (λ v i. sub v (inr i)),
 )

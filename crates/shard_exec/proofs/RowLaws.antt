@@ -133,7 +133,8 @@ unit_has : (layer : List Job) (u : List ℕ) → IsUnit (groups_each layer) u �
     → j.groups ≡ unit_groups (groups_each layer) u
 unit_has layer u is i j there at = sym (get_set layer i j at) ∙ has_unit_groups (groups_each layer) u is i there
 
-pub all_apart : (table : Layout) (skip : List RequestId) (layer : List Job) (us : List (List ℕ)) (slots : List (Option Job)) (row : List Map)
+pub all_apart : (table : Layout) (skip : List RequestId) (layer : List Job) (us : List (List ℕ)) (slots : List (Option Job))
+    (row : List Map)
     (rans given : List (Option TaskRan)) (left : List Map) → ((u : List ℕ) → In u us → IsUnit (groups_each layer) u)
     → ((i : ℕ) (j : Job) → slice_get slots i ≡ Some (Some j) → slice_get layer i ≡ Some j)
     → HaveRunAt table skip slots row (concat us) rans given left → AllApart table skip layer row us rans given left
@@ -188,7 +189,8 @@ runs_on table sets maps row (u ∷ us) (ts ∷ tss) (rs ∷ rss) left each once 
 
 -- ---- the layer
 
-module _ (table : Layout) (maps : List Map) (skip : List RequestId) (layer : List Job) (is_table : IsTable table) (own : HasOwnKeys table maps)
+module _ (table : Layout) (maps : List Map) (skip : List RequestId) (layer : List Job) (is_table : IsTable table)
+    (own : HasOwnKeys table maps)
     (address : AddressTheirGroups table layer) where
   works_ran : (outs : List (Option Content)) (row : List Map) (us : List (List ℕ)) (tss : List (List Task)) (rss : List (List TaskRan))
       (left : List Map) → HasOwnKeys table row → ((u : List ℕ) → In u us → IsUnit (groups_each layer) u)
@@ -250,6 +252,7 @@ module _ (table : Layout) (maps : List Map) (skip : List RequestId) (layer : Lis
       (are_works table skip layer units apart.tss address of apart.tasks)
       (outcomes_many skip layer units apart.tss apart.rss of apart.tasks tells gave put) ran in
       given skip layer units apart.tss apart.rss of apart.tasks tells gave put table maps is_table own address
-      (runs_on table (groups_each layer) maps maps units apart.tss apart.rss new of.each (once_in (length (groups_each layer)) units of.once)
+      (runs_on table (groups_each layer) maps maps units apart.tss apart.rss new of.each
+      (once_in (length (groups_each layer)) units of.once)
       (λ u i g there. refl) apart.run)
       new turn.0 turn.1 turn.2

@@ -63,7 +63,8 @@ once_in n units once i = few (nat_lt i n) _ (once i)
 
 pub all_in : (n : ℕ) (units : List (List ℕ)) → EachPlaceOnce n units → (i : ℕ) → i < n → In i (concat units)
 all_in n units once i below =
-    in_from_times i (concat units) (let e : times i (concat units) ≡ 1 = once i ∙ ap (λ b. cond b 1 0) (lt-ltb i n below) in omega (arith, e))
+    in_from_times i (concat units) (let e : times i (concat units) ≡ 1 = once i
+    ∙ ap (λ b. cond b 1 0) (lt-ltb i n below) in omega (arith, e))
 
 pub within : (n : ℕ) (units : List (List ℕ)) → EachPlaceOnce n units → (i : ℕ) → In i (concat units) → i < n
 within n units once i there =

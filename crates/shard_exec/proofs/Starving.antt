@@ -59,7 +59,8 @@ module _ (table : Layout) (c : Command) (m : Map) (is_table : IsTable table) whe
   left-own None = refl
   left-own (Some reply) = same _ _ (λ q. get-on_groups table (groups_of table c) (effect_of c m).0 q ∙ at_key q)
     where
-      at_key : (q : List ℕ) → cond (has (groups_of table c) (shard_of table q)) (get (effect_of c m).0 q) None ≡ get (effect_of c own_part).0 q
+      at_key : (q : List ℕ) → cond (has (groups_of table c) (shard_of table q)) (get (effect_of c m).0 q) None
+          ≡ get (effect_of c own_part).0 q
       at_key q = elim (has (groups_of table c) (shard_of table q)) as (λ b. has (groups_of table c) (shard_of table q) ≡ b
           → cond b (get (effect_of c m).0 q) None ≡ get (effect_of c own_part).0 q) [
             | true ↦ λ there. sym (same_there table c m own_part is_table is_part q there)
@@ -74,13 +75,15 @@ module _ (table : Layout) (c : Command) (m : Map) (is_table : IsTable table) whe
   left-other gs apart (Some reply) = same _ _ (λ q.
       get-on_groups table gs (effect_of c m).0 q ∙ at_key q ∙ sym (get-on_groups table gs m q))
     where
-      at_key : (q : List ℕ) → cond (has gs (shard_of table q)) (get (effect_of c m).0 q) None ≡ cond (has gs (shard_of table q)) (get m q) None
+      at_key : (q : List ℕ) → cond (has gs (shard_of table q)) (get (effect_of c m).0 q) None
+          ≡ cond (has gs (shard_of table q)) (get m q) None
       at_key q = elim (has gs (shard_of table q)) as (λ b. has gs (shard_of table q) ≡ b
           → cond b (get (effect_of c m).0 q) None ≡ cond b (get m q) None) [
-            | true ↦ λ there. same_elsewhere table c m own_part is_table is_part q (elim (cases_Bool (has (groups_of table c) (shard_of table q))) [
-              | inl here ↦ absurd (apart (shard_of table q) there here)
-              | inr away ↦ away
-            ])
+            | true ↦ λ there. same_elsewhere table c m own_part is_table is_part q
+                (elim (cases_Bool (has (groups_of table c) (shard_of table q))) [
+                  | inl here ↦ absurd (apart (shard_of table q) there here)
+                  | inr away ↦ away
+                ])
             | false ↦ λ _. refl
           ] refl
 
@@ -148,12 +151,14 @@ starve_turns table skip sets units t each all n (j ∷ js) (e ∷ es) m at long 
 
     moves : (unit : List ℕ) (i : In unit units) → on_groups table (unit_groups sets unit) (left_by j.command m (outcome e.reply))
         ≡ next_map (has unit n) j e (on_groups table (unit_groups sets unit) m)
-    moves unit i = elim (has unit n) as (λ b. has unit n ≡ b → on_groups table (unit_groups sets unit) (left_by j.command m (outcome e.reply))
+    moves unit i = elim (has unit n) as (λ b. has unit n ≡ b
+        → on_groups table (unit_groups sets unit) (left_by j.command m (outcome e.reply))
         ≡ next_map b j e (on_groups table (unit_groups sets unit) m)) [
           | true ↦ λ there.
               let is : groups_of table j.command ≡ unit_groups sets unit =
               sym (at_n.0 ∙ address.0) ∙ has_unit_groups sets unit (each unit i) n there in
-              subst (λ gs. on_groups table gs (left_by j.command m (outcome e.reply)) ≡ left_by j.command (on_groups table gs m) (outcome e.reply)) is
+              subst (λ gs. on_groups table gs (left_by j.command m (outcome e.reply))
+              ≡ left_by j.command (on_groups table gs m) (outcome e.reply)) is
               (left-own table j.command m t (outcome e.reply))
           | false ↦ λ away. left-other table j.command m t (unit_groups sets unit) (apart away) (outcome e.reply)
         ] refl
@@ -241,7 +246,8 @@ starve_along skip unit n (j ∷ js) (e ∷ es) is ts rs u same_has up above item
     here is same_has = (let z : n + 0 ≡ n = omega arith in subst (λ x. has unit x ≡ has is x) z (same_has 0))
 
     -- where the unit's next place isn't this one
-    skips : Again skip unit n js es → (is : List ℕ) (ts : List Task) (rs : List TaskRan) → ((k : ℕ) → has unit (n + k) ≡ has is (n + k)) → IsAscending is
+    skips : Again skip unit n js es → (is : List ℕ) (ts : List Task) (rs : List TaskRan)
+        → ((k : ℕ) → has unit (n + k) ≡ has is (n + k)) → IsAscending is
         → ((i : ℕ) → has is i ≡ true → n < i) → Items skip n (j ∷ js) (e ∷ es) is ts rs → HaveRunOn ts u rs
         → StarveAlong skip unit n (j ∷ js) (e ∷ es) u
     skips again is ts rs same_has up above items run =
@@ -297,10 +303,12 @@ starve_along skip unit n (j ∷ js) (e ∷ es) is ts rs u same_has up above item
             let ne : i ≡ suc n + k → ⊥ = λ x. absurd (omega (arith, at, x)) in
             subst (λ x. has unit x ≡ has (i ∷ is) x) z (same_has (suc k)) ∙ ap (λ b. b || has is (suc n + k)) (ne_eqb i (suc n + k) ne)
 
-    by_first : Again skip unit n js es → (is : List ℕ) (ts : List Task) (rs : List TaskRan) → ((k : ℕ) → has unit (n + k) ≡ has is (n + k)) → IsAscending is
+    by_first : Again skip unit n js es → (is : List ℕ) (ts : List Task) (rs : List TaskRan)
+        → ((k : ℕ) → has unit (n + k) ≡ has is (n + k)) → IsAscending is
         → ((i : ℕ) → has is i ≡ true → n < suc i) → Items skip n (j ∷ js) (e ∷ es) is ts rs → HaveRunOn ts u rs
         → StarveAlong skip unit n (j ∷ js) (e ∷ es) u
-    by_first again [] [] [] same_has up above items run = skips again [] [] [] same_has up (λ i there. absurd (let k = there in cc)) items run
+    by_first again [] [] [] same_has up above items run =
+        skips again [] [] [] same_has up (λ i there. absurd (let k = there in cc)) items run
     by_first again [] [] (r ∷ rs) same_has up above items run = absurd items
     by_first again [] (t ∷ ts) rs same_has up above items run = absurd items
     by_first again (i ∷ is) [] rs same_has up above items run = absurd items

@@ -119,7 +119,8 @@ pub record TellsOf (layer : List Job) (i : ℕ) (r : TaskRan) : Type 0 where
   pub stamp : r.stamp ≡ job.stamp
   pub groups : r.groups ≡ job.groups
 
-tells_of : (skip : List RequestId) (layer : List Job) (is : List ℕ) (ts : List Task) (rs : List TaskRan) → AllZip (IsTaskOf skip layer) is ts
+tells_of : (skip : List RequestId) (layer : List Job) (is : List ℕ) (ts : List Task) (rs : List TaskRan)
+    → AllZip (IsTaskOf skip layer) is ts
     → AllZip Tells ts rs → AllZip (TellsOf layer) is rs
 tells_of skip layer [] [] [] z w = tt
 tells_of skip layer [] [] (r ∷ rs) z w = absurd w
@@ -157,7 +158,8 @@ zip_in R (k ∷ is) [] z i there = absurd z
 zip_in R (k ∷ is) (y ∷ ys) z i (inl e) = (y, subst (λ x. R x y) (sym e) z.0)
 zip_in R (k ∷ is) (y ∷ ys) z i (inr later) = zip_in R is ys z.1 i later
 
-zip_two : {B : Type 0} (R S : ℕ → B → Type 0) (is : List ℕ) (ys : List B) → AllZip R is ys → AllZip S is ys → AllZip (λ i y. R i y × S i y) is ys
+zip_two : {B : Type 0} (R S : ℕ → B → Type 0) (is : List ℕ) (ys : List B) → AllZip R is ys → AllZip S is ys
+    → AllZip (λ i y. R i y × S i y) is ys
 zip_two R S [] [] z w = tt
 zip_two R S [] (y ∷ ys) z w = absurd z
 zip_two R S (i ∷ is) [] z w = absurd z
@@ -190,7 +192,8 @@ pub places_inside : (skip : List RequestId) (layer : List Job) (units : List (Li
     → AreUnitsOf (groups_each layer) units → AllZip (AllZip (IsTaskOf skip layer)) units tss → AllZip (AllZip Tells) tss rss
     → (n : ℕ) → n ≡ length layer → AreInside n (flat rss)
 places_inside skip layer units tss rss of tasks tells n long =
-    each (concat units) (flat rss) (tells_of skip layer (concat units) (flat tss) (flat rss) (zip_units (IsTaskOf skip layer) units tss tasks)
+    each (concat units) (flat rss) (tells_of skip layer (concat units) (flat tss) (flat rss)
+    (zip_units (IsTaskOf skip layer) units tss tasks)
     (zip_flat Tells tss rss tells))
   where
     each : (is : List ℕ) (rs : List TaskRan) → AllZip (TellsOf layer) is rs → AreInside n rs
@@ -303,7 +306,8 @@ module _ (skip : List RequestId) (layer : List Job) (units : List (List ℕ)) (t
       ∙ sym (length-map layer (λ (j : Job). j.command))
 
   outcome_at : (i : ℕ) (r : TaskRan) → slice_get slots i ≡ Some (Some r) → slice_get outcomes i ≡ Some (outcome r.reply)
-  outcome_at i r e = get_map (λ (d : Ended). outcome d.reply) done i (ended_of r) (get_map ended_of (filled slots) i r (at_filled slots full i r e))
+  outcome_at i r e = get_map (λ (d : Ended). outcome d.reply) done i (ended_of r)
+      (get_map ended_of (filled slots) i r (at_filled slots full i r e))
 
   -- the outcomes of a unit stand in its places
   pub outcomes_stand : (u : List ℕ) (rs : List TaskRan) → AllZip (λ i r. slice_get slots i ≡ Some (Some r)) u rs
@@ -313,7 +317,8 @@ module _ (skip : List RequestId) (layer : List Job) (units : List (List ℕ)) (t
 
   -- ---- whom it starves
 
-  module _ (table : Layout) (maps : List Map) (is_table : IsTable table) (own : HasOwnKeys table maps) (address : AddressTheirGroups table layer)
+  module _ (table : Layout) (maps : List Map) (is_table : IsTable table) (own : HasOwnKeys table maps)
+      (address : AddressTheirGroups table layer)
       (runs : UnitsRunOn (groups_each layer) maps units tss rss) where
     abbrev met_by : List ℕ → Map
     met_by u = on_groups table (unit_groups (groups_each layer) u) (joined maps)
@@ -416,7 +421,8 @@ address_at table (x ∷ jobs) a zero j e = subst (λ (v : Job). v.groups ≡ gro
 address_at table (x ∷ jobs) a (suc i) j e = address_at table jobs a.1 i j e
 
 -- each request of a unit has its groups
-pub unit_tasks : (skip : List RequestId) (layer : List Job) (unit : List ℕ) → IsUnit (groups_each layer) unit → (is : List ℕ) (ts : List Task)
+pub unit_tasks : (skip : List RequestId) (layer : List Job) (unit : List ℕ) → IsUnit (groups_each layer) unit
+    → (is : List ℕ) (ts : List Task)
     → ((i : ℕ) → has is i ≡ true → has unit i ≡ true) → AllZip (IsTaskOf skip layer) is ts
     → AllByRecursion (λ t. t.job.groups ≡ unit_groups (groups_each layer) unit) ts
 unit_tasks skip layer unit is [] [] sub z = tt
@@ -427,7 +433,8 @@ unit_tasks skip layer unit is (i ∷ js) (t ∷ ts) sub z = (
   unit_tasks skip layer unit is js ts (λ k there. sub k (or_right _ _ there)) z.1,
 )
 
-tasks_address : (table : Layout) (skip : List RequestId) (layer : List Job) → AddressTheirGroups table layer → (is : List ℕ) (ts : List Task)
+tasks_address : (table : Layout) (skip : List RequestId) (layer : List Job) → AddressTheirGroups table layer
+    → (is : List ℕ) (ts : List Task)
     → AllZip (IsTaskOf skip layer) is ts → AllByRecursion (λ t. t.job.groups ≡ groups_of table t.job.command) ts
 tasks_address table skip layer a [] [] z = tt
 tasks_address table skip layer a [] (t ∷ ts) z = absurd z
@@ -435,7 +442,8 @@ tasks_address table skip layer a (i ∷ is) [] z = absurd z
 tasks_address table skip layer a (i ∷ is) (t ∷ ts) z =
     (address_at table layer a i t.job z.0.at, tasks_address table skip layer a is ts z.1)
 
-pub are_ready : (table : Layout) (skip : List RequestId) (layer : List Job) → IsTable table → AddressTheirGroups table layer → (unit : List ℕ)
+pub are_ready : (table : Layout) (skip : List RequestId) (layer : List Job) → IsTable table → AddressTheirGroups table layer
+    → (unit : List ℕ)
     (ts : List Task) (span : Span) → IsUnit (groups_each layer) unit → AllZip (IsTaskOf skip layer) unit ts
     → numbers span ≡ unit_groups (groups_each layer) unit → SpanHasOwnKeys table span → AllByRecursion (λ t. IsReadyFor table t span) ts
 are_ready table skip layer t a unit ts span is z ns own =
@@ -451,7 +459,8 @@ pub are_works : (table : Layout) (skip : List RequestId) (layer : List Job) (uni
     → AddressTheirGroups table layer → AreUnitsOf (groups_each layer) units → AllZip (AllZip (IsTaskOf skip layer)) units tss
     → layers.AreWorksOf table (commands_of layer) (works_of (groups_each layer) units tss)
 are_works table skip layer units tss a of z = record {
-  units = subst (λ sets. AreUnitsOf sets (map (λ (w : layers.Work). w.places) (works_of (groups_each layer) units tss))) (groups_are table layer a)
+  units = subst (λ sets. AreUnitsOf sets (map (λ (w : layers.Work). w.places) (works_of (groups_each layer) units tss)))
+      (groups_are table layer a)
       (subst (AreUnitsOf (groups_each layer)) (sym (places units tss z)) of);
   stand = stand units tss z;
   groups = groups units tss (λ u i. i) z;

@@ -35,7 +35,8 @@ pub fn take_parts(
     requires inside { AllByRecursion (IsInRow (length row.old.items)) (all_rooms rooms.items) }
     requires none { parts.items ≡ [] }
     requires room { length plan.now ≤ vec_capacity parts }
-    ensures made { MadeWorks skip.now slots.items row.old.items (units_in plan.now) (all_rooms rooms.items) (all_works result.items) row.new.items }
+    ensures made { MadeWorks skip.now slots.items row.old.items (units_in plan.now) (all_rooms rooms.items)
+        (all_works result.items) row.new.items }
     ensures parts { length result.items ≡ length plan.now }
 {
     let mut slots = slots;
@@ -65,7 +66,8 @@ fn take_part(
     requires there { CanTake slots.old.items (concat part.now) }
     requires room { HaveRoomFor part.now room }
     requires inside { AllByRecursion (IsInRow (length row.old.items)) room.units.items }
-    ensures made { MadeWorks skip.now slots.old.items row.old.items part.now room.units.items result.works.items row.new.items }
+    ensures made { MadeWorks skip.now slots.old.items row.old.items part.now room.units.items
+        result.works.items row.new.items }
     ensures left { slots.new.items ≡ left_at slots.old.items (concat part.now) }
     ensures len { length row.new.items ≡ length row.old.items }
 {

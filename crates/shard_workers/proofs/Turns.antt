@@ -127,7 +127,8 @@ ready_still table t r before after (u ∷ us) run ready = (
   ready_still table t r before after us run ready.1,
 )
 
-pub unit_ran : (table : Layout) (ts : List Task) (rs : List TaskRan) (before after : Span) → AllByRecursion (λ t. IsReadyFor table t before) ts
+pub unit_ran : (table : Layout) (ts : List Task) (rs : List TaskRan) (before after : Span)
+    → AllByRecursion (λ t. IsReadyFor table t before) ts
     → HaveRunOver table ts before rs after
     → UnitRan table (map (λ t. t.job.command) ts) before (map (λ r. outcome r.reply) rs) after
 unit_ran table [] [] before after ready run = run

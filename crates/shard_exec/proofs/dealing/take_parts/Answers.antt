@@ -15,15 +15,18 @@ pub take_part-requires-clause-there : goal.take_part-requires-clause-there
 take_part-requires-clause-there c =
     let n = c.loop-part.part-index in let plan = c.args.plan.now in let p = c.part-item.result in let rest = drop (n + 1) plan in
     let next : drop n plan ≡ p ∷ rest =
-    drop-cons plan n p c.loop-part-test.true ∙ ap (λ q. q ∷ drop (suc n) plan) (sym c.part-item.is) ∙ ap (λ k. p ∷ drop k plan) (sym (add-one n)) in
+    drop-cons plan n p c.loop-part-test.true ∙ ap (λ q. q ∷ drop (suc n) plan) (sym c.part-item.is)
+    ∙ ap (λ k. p ∷ drop k plan) (sym (add-one n)) in
     can_take_first c.loop-part.slots.items (concat p) (concat (units_in rest))
-    (subst (CanTake c.loop-part.slots.items) (ap (λ l. concat (units_in l)) next ∙ concat-append p (units_in rest)) c.loop-part.invariant.there)
+    (subst (CanTake c.loop-part.slots.items) (ap (λ l. concat (units_in l)) next
+    ∙ concat-append p (units_in rest)) c.loop-part.invariant.there)
 
 pub take_part-requires-clause-room : goal.take_part-requires-clause-room
 take_part-requires-clause-room c =
     let n = c.loop-part.part-index in let plan = c.args.plan.now in let p = c.part-item.result in let rest = drop (n + 1) plan in
     let next : drop n plan ≡ p ∷ rest =
-    drop-cons plan n p c.loop-part-test.true ∙ ap (λ q. q ∷ drop (suc n) plan) (sym c.part-item.is) ∙ ap (λ k. p ∷ drop k plan) (sym (add-one n)) in
+    drop-cons plan n p c.loop-part-test.true ∙ ap (λ q. q ∷ drop (suc n) plan) (sym c.part-item.is)
+    ∙ ap (λ k. p ∷ drop k plan) (sym (add-one n)) in
     (subst (AllZip HaveRoomFor (p ∷ rest)) c.in-Some.ensures.items
     (subst (λ l. AllZip HaveRoomFor l c.loop-part.rooms.rest.items) next c.loop-part.invariant.rooms)).0
 
@@ -31,24 +34,30 @@ pub take_part-requires-clause-inside : goal.take_part-requires-clause-inside
 take_part-requires-clause-inside c =
     subst (λ k. AllByRecursion (IsInRow k) c.in-Some.room.units.items) (sym c.loop-part.invariant.len)
     (all_first _ c.in-Some.room.units.items (all_rooms c.next.new.self.rest.items)
-    (subst (λ l. AllByRecursion (IsInRow (length c.args.row.now.items)) (all_rooms l)) c.in-Some.ensures.items c.loop-part.invariant.inside)).0
+    (subst (λ l. AllByRecursion (IsInRow (length c.args.row.now.items))
+    (all_rooms l)) c.in-Some.ensures.items c.loop-part.invariant.inside)).0
 
 pub loop-part-preserved : goal.loop-part-preserved
 loop-part-preserved c =
     let n = c.loop-part.part-index in let plan = c.args.plan.now in let p = c.part-item.result in let rest = drop (n + 1) plan in
-    let inv = c.loop-part.invariant in let slots = c.loop-part.slots.items in let row = c.loop-part.row.items in let skip = c.args.skip.now in
+    let inv = c.loop-part.invariant in let slots = c.loop-part.slots.items in let row = c.loop-part.row.items in
+    let skip = c.args.skip.now in
     let room = c.in-Some.room in let rooms = c.next.new.self.rest.items in let part = c.take_part.result in
     let mid = c.take_part.new.row.items in
     let next : drop n plan ≡ p ∷ rest =
-    drop-cons plan n p c.loop-part-test.true ∙ ap (λ q. q ∷ drop (suc n) plan) (sym c.part-item.is) ∙ ap (λ k. p ∷ drop k plan) (sym (add-one n)) in
+    drop-cons plan n p c.loop-part-test.true ∙ ap (λ q. q ∷ drop (suc n) plan) (sym c.part-item.is)
+    ∙ ap (λ k. p ∷ drop k plan) (sym (add-one n)) in
     record {
       made = λ ws left h.
           subst (λ l. MadeWorks skip c.args.slots.items c.args.row.now.items (units_in plan) (all_rooms c.args.rooms.items) l left)
           (sym (ap (λ l. all_works l ++ ws) c.in-Ok.ensures.items ∙ works_snoc c.loop-part.parts.items part ws))
           (inv.made (part.works.items ++ ws) left
-          (subst (λ l. MadeWorks skip slots row (units_in l) (all_rooms c.loop-part.rooms.rest.items) (part.works.items ++ ws) left) (sym next)
-          (subst (λ l. MadeWorks skip slots row (p ++ units_in rest) (all_rooms l) (part.works.items ++ ws) left) (sym c.in-Some.ensures.items)
-          (made_both skip slots row mid left p (units_in rest) room.units.items (all_rooms rooms) part.works.items ws c.take_part.ensures.made
+          (subst (λ l. MadeWorks skip slots row (units_in l) (all_rooms c.loop-part.rooms.rest.items) (part.works.items ++ ws) left)
+          (sym next)
+          (subst (λ l. MadeWorks skip slots row (p ++ units_in rest) (all_rooms l) (part.works.items ++ ws) left)
+          (sym c.in-Some.ensures.items)
+          (made_both skip slots row mid left p (units_in rest) room.units.items
+          (all_rooms rooms) part.works.items ws c.take_part.ensures.made
           (subst (λ s. MadeWorks skip s mid (units_in rest) (all_rooms rooms) ws left) c.take_part.ensures.left h)))));
       there = subst (λ s. CanTake s (concat (units_in rest))) (sym c.take_part.ensures.left)
           (can_take_rest slots (concat p) (concat (units_in rest))
@@ -71,5 +80,6 @@ returns-clause-made c =
     subst (λ l. MadeWorks c.args.skip.now c.args.slots.items c.args.row.now.items (units_in plan) (all_rooms c.args.rooms.items) l row)
     (append-nil _)
     (inv.made [] row
-    (subst (λ l. MadeWorks c.args.skip.now c.loop-part.slots.items row (units_in l) (all_rooms c.loop-part.rooms.rest.items) [] row) (sym none)
+    (subst (λ l. MadeWorks c.args.skip.now c.loop-part.slots.items row (units_in l) (all_rooms c.loop-part.rooms.rest.items) [] row)
+    (sym none)
     (subst (λ l. MadeWorks c.args.skip.now c.loop-part.slots.items row [] (all_rooms l) [] row) (sym no_rooms) refl)))

@@ -15,7 +15,8 @@ pub take_unit-requires-clause-there : goal.take_unit-requires-clause-there
 take_unit-requires-clause-there c =
     let n = c.loop-number.number in let part = c.args.part.now in let u = c.unit-unit.result.now in let rest = drop (n + 1) part in
     let next : drop n part ≡ u ∷ rest =
-    drop-cons part n [] (omega arith) ∙ ap (λ x. x ∷ drop (suc n) part) (sym c.unit-unit.ensures) ∙ ap (λ k. u ∷ drop k part) (sym (add-one n)) in
+    drop-cons part n [] (omega arith) ∙ ap (λ x. x ∷ drop (suc n) part) (sym c.unit-unit.ensures)
+    ∙ ap (λ k. u ∷ drop k part) (sym (add-one n)) in
     can_take_first c.loop-number.slots.items u (concat rest)
     (subst (λ l. CanTake c.loop-number.slots.items (concat l)) next c.loop-number.invariant.there)
 
@@ -23,7 +24,8 @@ pub take_unit-requires-clause-room : goal.take_unit-requires-clause-room
 take_unit-requires-clause-room c =
     let n = c.loop-number.number in let part = c.args.part.now in let u = c.unit-unit.result.now in let rest = drop (n + 1) part in
     let next : drop n part ≡ u ∷ rest =
-    drop-cons part n [] (omega arith) ∙ ap (λ x. x ∷ drop (suc n) part) (sym c.unit-unit.ensures) ∙ ap (λ k. u ∷ drop k part) (sym (add-one n)) in
+    drop-cons part n [] (omega arith) ∙ ap (λ x. x ∷ drop (suc n) part) (sym c.unit-unit.ensures)
+    ∙ ap (λ k. u ∷ drop k part) (sym (add-one n)) in
     (subst (AllZip HasRoomFor (u ∷ rest)) c.in-Some.ensures.items
     (subst (λ l. AllZip HasRoomFor l c.loop-number.rooms.rest.items) next c.loop-number.invariant.rooms)).0
 
@@ -38,7 +40,8 @@ loop-number-preserved c =
     let inv = c.loop-number.invariant in let slots = c.loop-number.slots.items in let row = c.loop-number.row.items in
     let room = c.in-Some.room in let rooms = c.next.new.self.rest.items in let w = c.take_unit.result in let skip = c.args.skip.now in
     let next : drop n part ≡ u ∷ rest =
-    drop-cons part n [] (omega arith) ∙ ap (λ x. x ∷ drop (suc n) part) (sym c.unit-unit.ensures) ∙ ap (λ k. u ∷ drop k part) (sym (add-one n)) in
+    drop-cons part n [] (omega arith) ∙ ap (λ x. x ∷ drop (suc n) part) (sym c.unit-unit.ensures)
+    ∙ ap (λ k. u ∷ drop k part) (sym (add-one n)) in
     record {
       made = λ ws left h.
           subst (λ l. MadeWorks skip c.args.slots.now.items c.args.row.now.items part c.args.rooms.items l left)
@@ -75,5 +78,6 @@ returns-clause-made c =
     let no_rooms : c.loop-number.rooms.rest.items ≡ [] =
     nil_from_length _ (let e = zip_length _ _ _ inv.rooms in let f = ap (λ (l : _). length l) none in omega (arith, e, f)) in
     subst (λ l. MadeWorks c.args.skip.now c.args.slots.now.items c.args.row.now.items part c.args.rooms.items l row) (append-nil _)
-    (inv.made [] row (subst (λ us. MadeWorks c.args.skip.now c.loop-number.slots.items row us c.loop-number.rooms.rest.items [] row) (sym none)
+    (inv.made [] row (subst (λ us. MadeWorks c.args.skip.now c.loop-number.slots.items row us c.loop-number.rooms.rest.items [] row)
+    (sym none)
     (subst (λ ms. MadeWorks c.args.skip.now c.loop-number.slots.items row [] ms [] row) (sym no_rooms) refl)))

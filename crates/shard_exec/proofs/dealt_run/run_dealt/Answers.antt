@@ -53,8 +53,9 @@ put_all-requires-clause-shards g c =
     (at_filled c.args.slots.items c.requires.full) c.take_parts-parts.ensures.made taken_out_as_they_were
     (all_rans c.in-Ok.results.items) (zip_parts c.args.table.now c.take_parts-parts.result.items c.in-Ok.results.items c.in-Ok.ensures.each)
     (length c.take_parts-parts.new.row.items)
-    (ap (λ (l : List _). length l) (made_left c.args.skip.now c.args.slots.items c.args.row.now.items units (all_rooms c.args.dealt.rooms.items)
-    (all_works c.take_parts-parts.result.items) c.take_parts-parts.new.row.items c.take_parts-parts.ensures.made)
+    (ap (λ (l : List _). length l) (made_left c.args.skip.now c.args.slots.items c.args.row.now.items units
+    (all_rooms c.args.dealt.rooms.items) (all_works c.take_parts-parts.result.items) c.take_parts-parts.new.row.items
+    c.take_parts-parts.ensures.made)
     ∙ length-emptied_each empty c.args.row.now.items (map (λ m. m.groups) (all_rooms c.args.dealt.rooms.items)) ∙ c.requires.shards)
 
 pub put_all-requires-clause-places : goal.put_all-requires-clause-places

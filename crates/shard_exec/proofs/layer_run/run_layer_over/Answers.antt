@@ -17,7 +17,8 @@ run_units-requires-clause-groups g c =
 
 pub run_units-requires-clause-fits : goal.run_units-requires-clause-fits
 run_units-requires-clause-fits g c =
-    subst (λ js. FitsRuns js c.args.room.runs) (sym (ap filled c.in_slots-slots.ensures ∙ filled-some c.args.jobs.items)) c.requires.fits.runs
+    subst (λ js. FitsRuns js c.args.room.runs) (sym (ap filled c.in_slots-slots.ensures
+    ∙ filled-some c.args.jobs.items)) c.requires.fits.runs
 
 pub tell_all-requires-clause-inside : goal.tell_all-requires-clause-inside
 tell_all-requires-clause-inside g c =

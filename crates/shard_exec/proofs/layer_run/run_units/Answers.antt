@@ -24,7 +24,8 @@ run_places-requires-clause-there g c =
 
 pub run_places-requires-clause-groups : goal.run_places-requires-clause-groups
 run_places-requires-clause-groups g c place j e =
-    address_at c.args.table.now (filled c.args.slots.items) c.requires.groups place j (at_filled c.args.slots.items c.requires.full place j e)
+    address_at c.args.table.now (filled c.args.slots.items) c.requires.groups place j
+    (at_filled c.args.slots.items c.requires.full place j e)
 
 pub run_places-requires-clause-room : goal.run_places-requires-clause-room
 run_places-requires-clause-room g c =
@@ -43,8 +44,8 @@ run_places-requires-clause-inside g c =
 pub returns-in-InRow-clause-given : goal.returns-in-InRow-clause-given
 returns-in-InRow-clause-given g c =
     let layer = filled c.args.slots.items in let fits = subst (FitsRuns layer) c.in-InRow.is c.requires.fits in
-    row_given c.args.table.now c.args.row.now.items c.args.skip.now layer c.requires.is_table c.requires.own c.requires.groups works_in_turn
-    c.in-InRow.part c.args.slots.items c.args.rans.items c.run_places.result.items c.run_places.new.row.items fits.0
+    row_given c.args.table.now c.args.row.now.items c.args.skip.now layer c.requires.is_table c.requires.own c.requires.groups
+    works_in_turn c.in-InRow.part c.args.slots.items c.args.rans.items c.run_places.result.items c.run_places.new.row.items fits.0
     (at_filled c.args.slots.items c.requires.full)
     (c.requires.none ∙ ap (λ n. replicate n None) (sym (length-filled c.args.slots.items c.requires.full)))
     (subst (λ is. HaveRunAt c.args.table.now c.args.skip.now c.args.slots.items c.args.row.now.items is c.args.rans.items
@@ -53,8 +54,8 @@ returns-in-InRow-clause-given g c =
 pub returns-in-InRow-clause-own : goal.returns-in-InRow-clause-own
 returns-in-InRow-clause-own g c =
     let layer = filled c.args.slots.items in let fits = subst (FitsRuns layer) c.in-InRow.is c.requires.fits in
-    (row_given c.args.table.now c.args.row.now.items c.args.skip.now layer c.requires.is_table c.requires.own c.requires.groups works_in_turn
-    c.in-InRow.part c.args.slots.items c.args.rans.items c.run_places.result.items c.run_places.new.row.items fits.0
+    (row_given c.args.table.now c.args.row.now.items c.args.skip.now layer c.requires.is_table c.requires.own c.requires.groups
+    works_in_turn c.in-InRow.part c.args.slots.items c.args.rans.items c.run_places.result.items c.run_places.new.row.items fits.0
     (at_filled c.args.slots.items c.requires.full)
     (c.requires.none ∙ ap (λ n. replicate n None) (sym (length-filled c.args.slots.items c.requires.full)))
     (subst (λ is. HaveRunAt c.args.table.now c.args.skip.now c.args.slots.items c.args.row.now.items is c.args.rans.items

@@ -24,7 +24,8 @@ returns-then-len-gt1-clause-fits g c =
       subst (λ p. AreUnitsOf (groups_each layer) (units_in p)) (sym c.in_ok-plan.ensures.dealt)
           (planned_units (non_zero_usize_get c.number.result) layer some c.jobs-jobs.ensures.units c.requires),
       subst (λ p. FitsDealt (groups_each layer) p c.in_ok-dealt.dealt) c.as_slice.ensures.value
-          (subst (λ js. FitsDealt (groups_each js) c.as_slice.result.now c.in_ok-dealt.dealt) c.jobs-jobs.ensures.jobs c.in_ok-dealt.ensures.fits),
+          (subst (λ js. FitsDealt (groups_each js) c.as_slice.result.now c.in_ok-dealt.dealt) c.jobs-jobs.ensures.jobs
+          c.in_ok-dealt.ensures.fits),
     )
 
 pub returns-then-len-gt1-clause-few : goal.returns-then-len-gt1-clause-few
