@@ -79,7 +79,7 @@ const PARTS: [Part; 32] = [
     // Each packet once, from its sending to its receipt.
     (CROSSING, 0, ALL, "<polyline class=\"packet ", 10),
     (CROSSING, 0, ALL, "\"172,158 252,218 252,236\"><title>Start of 1.1, floor 0, to group 0, sent at step 2, received at step 4<", 1),
-    (CROSSING, 0, ALL, "292,354 292,336 452,254 452,236\"><title>proposal (1,1) for 2.1 to group 0, sent at step 5, received at step 9<", 1),
+    (CROSSING, 0, ALL, "92,354 292,336 452,254 452,236\"><title>proposal (1,1) for 2.1 to group 0, sent at step 5, received at step 9<", 1),
     // Deliveries with their final stamps, in the order of these.
     (CROSSING, 0, ALL, "<title>step 10: group 1 delivers 2.1 (2,0)</title>", 1),
     (CROSSING, 0, ALL, "\"532,269 538,275 532,281 526,275\"><title>step 11: group 0 delivers 1.1 (2,1)<", 1),
