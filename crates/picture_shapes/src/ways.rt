@@ -1,8 +1,8 @@
 //! The way of a packet: from where it is sent to its group, or to the right edge.
 
 ghost use Rattle.std.specs.Prelude.{◌≡◌, ◌++◌, ◌<◌, ◌≤◌, ◌^◌, IfOk, OnOk};
-ghost use Rattle.picture_shapes.specs.Ways.{way_of, path_through, leaving, coming, source_of, is_from_above, carried, sending_said, receipt_said};
-ghost use Rattle.picture_shapes.specs.Ways.{packet_title};
+ghost use Rattle.picture_shapes.specs.Ways.{way_of, path_through, leaving, coming, source_of, is_from_above};
+ghost use Rattle.picture_shapes.specs.Ways.{carried, sending_said, receipt_said, packet_title};
 
 use crate::facts::PacketFacts;
 use crate::frame::Frame;
