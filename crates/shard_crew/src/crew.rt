@@ -4,9 +4,14 @@ ghost use Rattle.std.specs.Prelude.{◌≡◌, [], IfOk, IfSome, OnErr, length, 
 ghost use Rattle.std.specs.List.{AllZip, AllByRecursion};
 ghost use Rattle.shard_crew.specs.Rooms.{HasRoom};
 ghost use Rattle.shard_workers.specs.Parts.{IsReadyPart, HasRunPart};
+ghost use Rattle.shard_workers.specs.contracts.part.Part as part_type;
+ghost use denote.Param.Send.{IsSend};
 
+use layer_planner::Job;
 use placement::Table;
-use shard_workers::{Child, Gate, Part, Ran, Refused, Room, RunOfPart, Workers, run_in_turn};
+use shard_workers::{
+    Child, Gate, Part, Ran, Refused, Room, RunOfPart, Task, TaskRan, Work, Workers, run_in_turn,
+};
 use std::alloc::{AllocError, Global};
 use std::num::NonZeroUsize;
 use std::snapshot::Snapshot;
@@ -170,6 +175,22 @@ fn join_all<R: Threads>(rt: &R, children: Vec<Child>, results: Vec<Vec<Ran>>) ->
     results
 }
 
+/// It does nothing: its contract says that a value of the type may go to another thread.
+fn sends<T: Send>()
+    ensures { IsSend T.row }
+{}
+
+/// It does nothing: its contract says that a part may go to another thread.
+fn part_sends()
+    ensures { IsSend part_type.the_row }
+{
+    sends::<Job>();
+    sends::<Task>();
+    sends::<TaskRan>();
+    sends::<Work>();
+    sends::<Part>();
+}
+
 /// Starts a thread that runs the part, and gives its handle. None where it could not be started: the part is lost with
 /// its shards.
 fn start<'s, E>(
@@ -186,6 +207,7 @@ fn start<'s, E>(
         table: Snapshot::of(table),
         part: Snapshot::of(&part),
     };
+    part_sends();
     match scope.spawn_with(
         promise,
         move || -> Vec<Ran>
