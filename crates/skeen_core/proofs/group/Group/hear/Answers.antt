@@ -1,37 +1,33 @@
 -- A Proposal: what the code has made is what the rule gives.
-use Rattle.std.proofs.Common.{◌≡◌, ◌+◌, ◌++◌, List, false, length, is_some, sym, ap, ◌∙◌, arith}
-use Rattle.skeen_core.specs.Heard.{clock_of}
+use Rattle.std.proofs.Common.{◌+◌, ◌++◌, List, length, is_some, sym, ap, ◌∙◌, arith}
 use Rattle.skeen_core.specs.Pending.{front}
 use Rattle.skeen_core.specs.declared.packet.Delivered.{Delivered}
-use Rattle.skeen_core.proofs.Hearings.{Hearing, Done, new, waits, less, settles, settles_free, go_few, flag_few, with_told}
+use Rattle.skeen_core.proofs.Hearings.{Hearing, Told, Done, new, waits, less, settles, settles_free, go_few, flag_few, with_told}
 use Rattle.skeen_core.proofs.Hearings.{known_done, noted_done, lowered_done, settled_done}
 use Rattle.skeen_core.proofs.group.Group.hear.Goals as goal
 use Rattle.skeen_core.proofs.group.Group.hear.Goals.{After-of-list, Else-is_some}
 use Rattle.skeen_core.proofs.group.Group.hear.Goals.{After-new-in_default, After-new-in_default-final_once, After-stayed}
 
 hears : (c : After-of-list) → Hearing c.args.self.now c.self.inside.id c.self.inside.clock c.self.inside.pending.entries
-    c.self.inside.proposals
-    c.self.inside.looks c.args.id c.args.last c.of-list.result.now
+    c.self.inside.proposals c.self.inside.looks c.args.id c.args.last c.of-list.result.now
 hears c = record { kept = c.self.invariant; shows = c.self.view_is; may = c.requires.body; tells = c.of-list.ensures }
+
+told : (c : Else-is_some) → Told c.self.inside.id c.self.inside.clock c.self.inside.pending.entries c.self.inside.proposals c.args.id
+    c.args.last
+told c = new (hears (goal.at.Else-is_some c).After-of-list)
+    (ap is_some (sym c.clock_of.ensures) ∙ sym c.is_some.ensures ∙ c.if-is_some.false)
 
 pub returns-then-is_some-clause-done : goal.returns-then-is_some-clause-done
 returns-then-is_some-clause-done c = (known_done (hears (goal.at.returns-then-is_some-clause-done c).After-of-list)
     (ap is_some (sym c.clock_of.ensures) ∙ sym c.is_some.ensures ∙ c.if-is_some.true) _ c.new.ensures.items).receipt
 
-is_new : (c : Else-is_some) → is_some (clock_of c.of-list.result.now c.args.last.from) ≡ false
-is_new c = ap is_some (sym c.clock_of.ensures) ∙ sym c.is_some.ensures ∙ c.if-is_some.false
-
 -- ---- nothing waits for it
-
 noted : (c : After-new-in_default) → Done c.args.self.now c.args.id c.args.last c.new-in_default.result.items c.self.inside.id
-    c.self.inside.clock
-    c.self.inside.pending.entries c.add.new.self c.from-self-inside.result
+    c.self.inside.clock c.self.inside.pending.entries c.add.new.self c.from-self-inside.result
 noted c =
-    let d = goal.at.returns-in_default-clause-done c in
-    let h = hears d.After-of-list in
-    noted_done h (new h (is_new d.Else-is_some)) _ c.clock_of-own.ensures (sym c.waiting.ensures
-    ∙ c.in_default.is) _ c.in_ok-add.ensures.added _
-    c.new-in_default.ensures.items _ (flag_few c.is_some-in_default.result _ c.from-self-inside.ensures)
+    let d = goal.at.After-new-in_default c in
+    noted_done (hears d.After-of-list) (told d.Else-is_some) _ c.clock_of-own.ensures (sym c.waiting.ensures ∙ c.in_default.is) _
+    c.in_ok-add.ensures.added _ c.new-in_default.ensures.items _ (flag_few c.is_some-in_default.result _ c.from-self-inside.ensures)
 
 pub invariant_of-self-in_default : goal.invariant_of-self-in_default
 invariant_of-self-in_default c = (noted c).kept
@@ -40,22 +36,17 @@ pub returns-in_default-clause-done : goal.returns-in_default-clause-done
 returns-in_default-clause-done c = (noted c).receipt
 
 -- ---- another proposal is missing
-
 pub lower-requires : goal.lower-requires
 lower-requires c =
-    let d = goal.at.lower-requires c in
-    let h = hears d.After-of-list in
-    let w = waits h _ _ _ c.clock_of-own.ensures (sym c.waiting.ensures ∙ c.in-Some.is) in
-    let fewer = less (new h (is_new d.Else-is_some)) w in
-    (c.in-Some.request, w.there, omega arith)
+    let d = goal.at.lower-requires c in let w = waits (hears d.After-of-list) _ _ _ c.clock_of-own.ensures (sym c.waiting.ensures ∙ c.in-Some.is) in
+    let fewer = less (told d.Else-is_some) w in (c.in-Some.request, w.there, omega arith)
 
 lowered : (c : After-new-in_default-final_once) → Done c.args.self.now c.args.id c.args.last c.new-in_default-final_once.result.items
     c.self.inside.id c.self.inside.clock c.lower.new.pending.entries c.add-in_default-final_once.new.self 1
 lowered c =
-    let d = goal.at.returns-in_default-final_once-clause-done c in
-    let h = hears d.After-of-list in
+    let d = goal.at.After-new-in_default-final_once c in let h = hears d.After-of-list in
     let w = waits h _ _ _ c.clock_of-own.ensures (sym c.waiting.ensures ∙ c.in-Some.is) in
-    lowered_done h (new h (is_new d.Else-is_some)) w c.in_default-final_once.ensures.few _ (c.lower.ensures c.in-Some.request w.there) _
+    lowered_done h (told d.Else-is_some) w c.in_default-final_once.ensures.few _ (c.lower.ensures c.in-Some.request w.there) _
     c.in_ok-add-2.ensures.added _ c.new-in_default-final_once.ensures.items
 
 pub invariant_of-self-in_default-final_once : goal.invariant_of-self-in_default-final_once
@@ -65,49 +56,35 @@ pub returns-in_default-final_once-clause-done : goal.returns-in_default-final_on
 returns-in_default-final_once-clause-done c = (lowered c).receipt
 
 -- ---- it was the last one
-
 pub settle-requires-clause-free : goal.settle-requires-clause-free
 settle-requires-clause-free c =
-    let d = goal.at.settle-requires-clause-free c in
-    let h = hears d.After-of-list in
-    let t = new h (is_new d.Else-is_some) in
+    let d = goal.at.settle-requires-clause-free c in let h = hears d.After-of-list in let t = told d.Else-is_some in
     let w = waits h _ _ _ c.clock_of-own.ensures (sym c.waiting.ensures ∙ c.in-Some.is) in
     settles_free t w _ (settles h t w c.in-Some-final_once.stamp c.in-Some-final_once.ensures.many c.in-Some-final_once.ensures.few)
 
 pub pop_settled-requires : goal.pop_settled-requires
 pop_settled-requires c =
-    let d = goal.at.pop_settled-requires c in
-    let h = hears d.After-of-list in
-    let t = new h (is_new d.Else-is_some) in
+    let d = goal.at.pop_settled-requires c in let h = hears d.After-of-list in let t = told d.Else-is_some in
     let w = waits h _ _ _ c.clock_of-own.ensures (sym c.waiting.ensures ∙ c.in-Some.is) in
     let is = settles h t w c.in-Some-final_once.stamp c.in-Some-final_once.ensures.many c.in-Some-final_once.ensures.few in
     let few = go_few t w _ is _ _ c.in_ok-settle.ensures.moved in
-    let room = c.in_ok-delivered.ensures.capacity in
-    let same = c.room_for.ensures in
     let none = ap (λ (l : List Delivered). length l) c.in_ok-delivered.ensures.items in
-    omega arith
+    omega (arith, c.in_ok-delivered.ensures.capacity, c.room_for.ensures)
 
-settled : (c : After-stayed) → Hearing c.args.self.now c.self.inside.id c.self.inside.clock c.self.inside.pending.entries
-    c.self.inside.proposals
-    c.self.inside.looks c.args.id c.args.last c.of-list.result.now → is_some (clock_of c.of-list.result.now c.args.last.from) ≡ false
-    → Done c.args.self.now c.args.id c.args.last c.pop_settled.new.delivered.items c.self.inside.id
+settled : (c : After-stayed) → Done c.args.self.now c.args.id c.args.last c.pop_settled.new.delivered.items c.self.inside.id
     c.max-self-inside.result c.pop_settled.new.pending.entries c.pop_settled.new.proposals (c.len.result + c.stayed.result)
-settled c h fresh =
-    let t = new h fresh in
+settled c =
+    let d = goal.at.After-stayed c in let h = hears d.After-of-list in let t = told d.Else-is_some in
     let w = waits h _ _ _ c.clock_of-own.ensures (sym c.waiting.ensures ∙ c.in-Some.is) in
     let is = settles h t w c.in-Some-final_once.stamp c.in-Some-final_once.ensures.many c.in-Some-final_once.ensures.few in
-    let count = c.len.ensures in
-    let more = c.stayed.ensures in
     settled_done h t w _ is _ c.in_ok-settle.ensures.moves c.in_ok-settle.ensures.moved _
     (c.pop_settled.ensures.delivered ∙ ap (λ l. l ++ front c.settle.new.pending.entries) c.in_ok-delivered.ensures.items)
     c.max-self-inside.result (omega (arith, c.max-self-inside.ensures)) _ c.pop_settled.ensures.pending _ _
     (c.in_ok-settle.ensures.added ∙ ap (λ i. with_told c.self.inside.proposals i c.args.last) w.named) c.pop_settled.ensures.proposals
-    (c.len.result + c.stayed.result) (omega arith) (omega arith)
+    (c.len.result + c.stayed.result) (omega (arith, c.len.ensures, c.stayed.ensures)) (omega (arith, c.len.ensures, c.stayed.ensures))
 
 pub invariant_of-self-2 : goal.invariant_of-self-2
-invariant_of-self-2 c =
-    let d = goal.at.invariant_of-self-2 c in (settled d.After-stayed (hears d.After-of-list) (is_new d.Else-is_some)).kept
+invariant_of-self-2 c = (settled (goal.at.invariant_of-self-2 c).After-stayed).kept
 
 pub returns-clause-done : goal.returns-clause-done
-returns-clause-done c =
-    let d = goal.at.returns-clause-done c in (settled d.After-stayed (hears d.After-of-list) (is_new d.Else-is_some)).receipt
+returns-clause-done c = (settled (goal.at.returns-clause-done c).After-stayed).receipt
