@@ -1,7 +1,6 @@
 -- A Proposal: what the code has made is what the rule gives.
-use Rattle.std.proofs.Common.{◌+◌, ◌++◌, List, length, is_some, sym, ap, ◌∙◌, arith}
+use Rattle.std.proofs.Common.{◌+◌, ◌++◌, length, is_some, sym, ap, ◌∙◌, arith}
 use Rattle.skeen_core.specs.Pending.{front}
-use Rattle.skeen_core.specs.declared.packet.Delivered.{Delivered}
 use Rattle.skeen_core.proofs.Hearings.{Hearing, Told, Done, new, waits, less, settles, settles_free, go_few, flag_few, with_told}
 use Rattle.skeen_core.proofs.Hearings.{known_done, noted_done, lowered_done, settled_done}
 use Rattle.skeen_core.proofs.group.Group.hear.Goals as goal
@@ -38,7 +37,8 @@ returns-in_default-clause-done c = (noted c).receipt
 -- ---- another proposal is missing
 pub lower-requires : goal.lower-requires
 lower-requires c =
-    let d = goal.at.lower-requires c in let w = waits (hears d.After-of-list) _ _ _ c.clock_of-own.ensures (sym c.waiting.ensures ∙ c.in-Some.is) in
+    let d = goal.at.lower-requires c in
+    let w = waits (hears d.After-of-list) _ _ _ c.clock_of-own.ensures (sym c.waiting.ensures ∙ c.in-Some.is) in
     let fewer = less (told d.Else-is_some) w in (c.in-Some.request, w.there, omega arith)
 
 lowered : (c : After-new-in_default-final_once) → Done c.args.self.now c.args.id c.args.last c.new-in_default-final_once.result.items
@@ -68,8 +68,7 @@ pop_settled-requires c =
     let w = waits h _ _ _ c.clock_of-own.ensures (sym c.waiting.ensures ∙ c.in-Some.is) in
     let is = settles h t w c.in-Some-final_once.stamp c.in-Some-final_once.ensures.many c.in-Some-final_once.ensures.few in
     let few = go_few t w _ is _ _ c.in_ok-settle.ensures.moved in
-    let none = ap (λ (l : List Delivered). length l) c.in_ok-delivered.ensures.items in
-    omega (arith, c.in_ok-delivered.ensures.capacity, c.room_for.ensures)
+    let none = c.in_ok-delivered.ensures.items in omega (arith, c.in_ok-delivered.ensures.capacity, c.room_for.ensures, ap length none)
 
 settled : (c : After-stayed) → Done c.args.self.now c.args.id c.args.last c.pop_settled.new.delivered.items c.self.inside.id
     c.max-self-inside.result c.pop_settled.new.pending.entries c.pop_settled.new.proposals (c.len.result + c.stayed.result)
