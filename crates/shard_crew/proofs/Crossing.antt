@@ -34,7 +34,8 @@ module _ {G : Type 0 → Type 1} (δ : Ty) (ν ν₂ : Sym) (slots : Dict → Sl
   captured_send ℓ₁ κ₁ ℓ₂ κ₂ syncs s =
       let T = type_at ν (captured ℓ₁ κ₁ ℓ₂ κ₂) in
       let sends : AllSend (declared.fields T) = (
-        s, (heap_send, (shr_send ℓ₁ κ₁ Placement.the_row table_sync, (shr_any_send slots gates syncs ν₂ (obj_ref ℓ₂) ℓ₂ κ₂, tt))),
+        s,
+        (heap_send, (shr_send ℓ₁ κ₁ Placement.the_row table_sync, (shr_any_send slots gates syncs ν₂ (obj_ref ℓ₂) ℓ₂ κ₂, tt))),
       ) in
       param_send 2 (arg δ no (declared.row T)) (arg_send δ no (declared.row T)
       (recorded_send (Struct (declared.shape T)) T.D T.to T.to_one (struct_send (declared.shape T) sends)))
