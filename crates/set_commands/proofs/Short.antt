@@ -61,7 +61,8 @@ short-combined how target values = short-stored target (option_map (combined how
 
 -- every command that isn't one of these five
 pub answers_short : (c : SetCommand) (m : Map) → ((key : Bytes) (members : List Bytes) → c ≡ Smismember key members → ⊥)
-    → ((key : Bytes) → c ≡ Smembers key → ⊥) → ((keys : List Bytes) → c ≡ Sinter keys → ⊥) → ((keys : List Bytes) → c ≡ Sunion keys → ⊥)
+    → ((key : Bytes) → c ≡ Smembers key → ⊥) → ((keys : List Bytes) → c ≡ Sinter keys → ⊥)
+    → ((keys : List Bytes) → c ≡ Sunion keys → ⊥)
     → ((keys : List Bytes) → c ≡ Sdiff keys → ⊥) → IsShort (set_command_case c m).1
 answers_short (Smismember key members) m smismember _ _ _ _ = absurd (smismember key members refl)
 answers_short (Smembers key) m _ smembers _ _ _ = absurd (smembers key refl)

@@ -1,5 +1,6 @@
 -- What the commands on strings do, by the Redis command reference.
-use Rattle.std.specs.Prelude.{◌≡◌, ℕ, suc, ◌+◌, ◌<◌, ◌++◌, ◌==◌, nat_le, ℤ, pos, negsuc, neg_ℤ, nat_abs, int_lt, List, [], length, map}
+use Rattle.std.specs.Prelude.{◌≡◌, ℕ, suc, ◌+◌, ◌<◌, ◌==◌, nat_le, ℤ, pos, negsuc, neg_ℤ, nat_abs, int_lt}
+use Rattle.std.specs.Prelude.{◌++◌, List, [], length, map}
 use Rattle.std.specs.Prelude.{codes, ⊤, Bool, true, false, not, Option, Some, None, Result, Ok, Err, IsSome, IsTrue, is_some}
 use Rattle.std.specs.Prelude.{if◌then◌else◌}
 use Rattle.std.specs.FinMap.{get}
