@@ -1,5 +1,5 @@
 //! The runs in front of the queues: what a layer takes with each request that is ready.
-ghost use Rattle.std.specs.Prelude.{◌≡◌, ◌≢◌, ◌++◌, [], ◌∷◌, length, min, MatchOption, OnOk};
+ghost use Rattle.std.specs.Prelude.{◌≡◌, ◌++◌, length, min, OnOk};
 ghost use Rattle.std.specs.List.Sorted.{IsPermutation, IsSortedByKey};
 ghost use Rattle.skeen_core.specs.Pending.{stamp_cmp};
 ghost use Rattle.skeen_core.specs.declared.packet.Delivered.{Delivered};
@@ -7,24 +7,14 @@ ghost use Rattle.delivery.specs.Queues.{queue_of, requests_of};
 ghost use Rattle.delivery.specs.Runs.{run_of, runs_of};
 
 use super::queue::Queue;
-use groups::GroupId;
 use skeen_core::Delivered;
 use std::alloc::AllocError;
-
-/// The group of a request that addresses one group alone.
-fn lone_group(request: &Delivered) -> Option<GroupId>
-    ensures { MatchOption result (length request.now.groups ≢ 1) (λ g. request.now.groups ≡ g ∷ []) }
-{
-    let mut groups = request.groups;
-    let group = groups.pop_first()?;
-    if groups.is_empty() { Some(group) } else { None }
-}
 
 /// How many requests are taken with one that is ready.
 fn run_len(queues: &[Queue], head: &Delivered) -> usize
     ensures { result ≡ length (run_of (queue_of (requests_of queues.now)) head.now) }
 {
-    let Some(group) = lone_group(head) else {
+    let Some(group) = head.groups.alone() else {
         return 1;
     };
     match queues.get(usize::from(group.number())) {
@@ -52,7 +42,7 @@ fn append_run(
 ) -> Result<(), AllocError>
     ensures { OnOk result (layer.new.items ≡ layer.old.items ++ run_of (queue_of (requests_of queues.now)) head.now) }
 {
-    let Some(group) = lone_group(head) else {
+    let Some(group) = head.groups.alone() else {
         layer.push(*head)?;
         return Ok(());
     };

@@ -1,5 +1,5 @@
 //! A set of groups in one word. The bit of a group's number is 1 where the group is in the set.
-ghost use Rattle.std.specs.Prelude.{◌≡◌, ℕ, ◌<◌, ◌≤◌, ◌^◌, List, [], ◌∷◌, ◌==◌, length, true, MatchOption, IsTrue, ◌↔◌};
+ghost use Rattle.std.specs.Prelude.{◌≡◌, ◌≢◌, ℕ, ◌<◌, ◌≤◌, ◌^◌, List, [], ◌∷◌, ◌==◌, length, true, MatchOption, IsTrue, ◌↔◌};
 ghost use Rattle.groups.specs.GroupSet.{has, with_group, chosen, IsGroupSet};
 
 use super::group_id::GroupId;
@@ -81,6 +81,15 @@ impl Groups {
         ensures { result ≡ (length self.now == 0) }
     {
         self.bits == 0
+    }
+
+    /// The group, if there is one and no other.
+    pub fn alone(&self) -> Option<GroupId>
+        ensures { MatchOption result (length self.now ≢ 1) (λ g. self.now ≡ g ∷ []) }
+    {
+        let mut rest = *self;
+        let first = rest.pop_first()?;
+        if rest.is_empty() { Some(first) } else { None }
     }
 
     /// The least group, if there is one, is taken out.

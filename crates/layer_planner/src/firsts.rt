@@ -7,7 +7,6 @@ ghost use Rattle.layer_planner.specs.Firsts.{IsRising, is_begun};
 ghost use Rattle.groups.specs.Stamp.{stamp_lt};
 ghost use Rattle.layer_planner.specs.Units.{firsts, put_by_stamp, line_up, groups_at, groups_each, stamp_at};
 
-use super::alone::alone;
 use super::job::Job;
 use groups::{Groups, Stamp};
 use std::alloc::{AllocError, Global};
@@ -32,7 +31,7 @@ fn begins(begun: &mut Groups, groups: Groups) -> bool
     ensures first { result ≡ not (is_begun begun.old groups) }
     ensures begun { (g : ℕ) → has begun.new g ≡ (line_up (g ∷ []) groups || has begun.old g) }
 {
-    let Some(group) = alone(groups) else {
+    let Some(group) = groups.alone() else {
         return true;
     };
     let first = !begun.contains(group);

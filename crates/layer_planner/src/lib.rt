@@ -5,7 +5,6 @@
 //! asks for the parts, and hands each worker the shards that its part's units address.
 #![tactic(auto)]
 
-mod alone;
 mod firsts;
 mod job;
 mod layer;

@@ -3,7 +3,6 @@ ghost use Rattle.std.specs.Prelude.{◌≡◌, ℕ, ◌<◌, [], ◌∷◌, leng
 ghost use Rattle.layer_planner.specs.Nexts.{AreNexts, linked, heads_with};
 ghost use Rattle.layer_planner.specs.Units.{groups_each};
 
-use super::alone::alone;
 use super::firsts::groups_at;
 use super::job::Job;
 use groups::Groups;
@@ -31,7 +30,7 @@ fn link(nexts: &mut Vec<usize>, heads: &mut [usize; 64], place: usize, groups: G
     ensures heads { heads.new ≡ heads_with groups place heads.old }
     ensures small { (g : ℕ) → groups ≡ g ∷ [] → g < 64 }
 {
-    if let Some(group) = alone(groups) {
+    if let Some(group) = groups.alone() {
         let index = usize::from(group.number());
         nexts[place] = heads[index];
         heads[index] = place;

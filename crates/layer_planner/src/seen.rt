@@ -6,7 +6,6 @@ ghost use Rattle.groups.specs.declared.stamp.Stamp.{Stamp};
 ghost use Rattle.layer_planner.specs.Layers.{StandTogether};
 ghost use Rattle.layer_planner.specs.Seen.{MayJoin, HasJoined};
 
-use super::alone::alone;
 use super::job::Job;
 use groups::{GroupId, Groups, Stamp};
 
@@ -50,7 +49,7 @@ impl Seen {
         ensures may { IsTrue result ↔ MayJoin self.old job.now.groups job.now.stamp }
         ensures joined { result ≡ true → HasJoined self.old job.now.groups job.now.stamp self.new }
     {
-        match alone(job.groups) {
+        match job.groups.alone() {
             Some(group) => self.join_alone(group, &job.stamp),
             None => self.join_shared(job.groups),
         }

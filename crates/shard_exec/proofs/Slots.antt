@@ -135,11 +135,6 @@ module _ {X : Type 0} where
   full-some [] = tt
   full-some (x ∷ xs) = (refl, full-some xs)
 
-  pub is_filled : (slots : List (Option X)) → AllByRecursion IsSome slots → map (λ x. Some x) (filled slots) ≡ slots
-  is_filled [] full = refl
-  is_filled (None ∷ slots) full = absurd (let f = full.0 in cc)
-  is_filled (Some x ∷ slots) full = ap (λ l. Some x ∷ l) (is_filled slots full.1)
-
   pub length-filled : (slots : List (Option X)) → AllByRecursion IsSome slots → length (filled slots) ≡ length slots
   length-filled [] full = refl
   length-filled (None ∷ slots) full = absurd (let f = full.0 in cc)

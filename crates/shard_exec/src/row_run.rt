@@ -1,6 +1,6 @@
 //! Requests that are run where their shards stand, in the row, one after another.
 
-ghost use Rattle.std.specs.Prelude.{◌≡◌, ◌<◌, ◌∷◌, [], length, slice_set, MatchOption};
+ghost use Rattle.std.specs.Prelude.{◌≡◌, ◌<◌, length, slice_set};
 ghost use Rattle.std.specs.List.{AllByRecursion};
 ghost use Rattle.placement.specs.Groups.{groups_of};
 ghost use Rattle.placement.specs.Layout.{IsTable};
@@ -12,7 +12,7 @@ ghost use Rattle.shard_workers.specs.Tasks.{HasRunOn};
 
 use crate::moves::{put_back, take_shards};
 use crate::taking::take_task;
-use groups::{GroupId, Groups, RequestId};
+use groups::{GroupId, RequestId};
 use layer_planner::Job;
 use placement::Table;
 use shard_workers::{Gate, Task, TaskRan};
@@ -77,7 +77,7 @@ pub fn run_in_row(
     ensures shards { length row.new.items ≡ length row.old.items }
 {
     let groups = task.groups();
-    if let Some(group) = only_group(groups) {
+    if let Some(group) = groups.alone() {
         return run_in_place(alloc, row, group, task, gate);
     }
     let shards = take_shards(alloc, hasher, row, groups, span);
@@ -100,16 +100,4 @@ fn run_in_place(
 {
     let shard = &mut row[usize::from(group.number())];
     task.run(alloc, shard, gate)
-}
-
-/// The group of a set that has one only.
-fn only_group(groups: Groups) -> Option<GroupId>
-    ensures { MatchOption result (length groups ≡ 1 → ⊥) (λ group. groups ≡ group ∷ []) }
-{
-    let mut rest = groups;
-    let group = rest.pop_first()?;
-    if !rest.is_empty() {
-        return None;
-    }
-    Some(group)
 }

@@ -1,16 +1,13 @@
 -- A command that was run over a span by its contract: the span is as `SpanRan` says.
-use Rattle.std.proofs.Common.{◌≡◌, Some, None, Result, Ok, Err, sym, ap, ◌∙◌, subst}
+use Rattle.std.proofs.Common.{◌≡◌, Some, None, sym, ap, ◌∙◌, subst}
 use Rattle.command_bodies.proofs.Turns.{pair}
 use Rattle.command_bodies.specs.Command.{effect_of}
-use Rattle.command_cases.specs.Case.{Does}
 use Rattle.command_table.specs.declared.command.Command.{Command}
 use Rattle.groups.specs.GroupSet.{IsAscending}
 use Rattle.placement.specs.Layout.{Layout}
-use Rattle.resp.specs.Content.{Content, content}
-use Rattle.resp.specs.declared.reply.Reply.{Reply}
+use Rattle.resp.specs.Content.{Content}
 use Rattle.shard_maps.proofs.Unions.{divided-union}
 use Rattle.shard_maps.specs.Joined.{Span, numbers, union, SpanHasOwnKeys, divided, SpanRan}
-use Rattle.shard_maps.specs.Layer.{outcome_of}
 
 module _ (table : Layout) (command : Command) (before after : Span) (up : IsAscending (numbers before))
     (kept : numbers after ≡ numbers before) (own : SpanHasOwnKeys table after) where
@@ -27,10 +24,3 @@ module _ (table : Layout) (command : Command) (before after : Span) (up : IsAsce
   pub SpanRan-starved : SpanHasOwnKeys table before → union after ≡ union before → SpanRan table command before None after
   SpanRan-starved own_before same =
       is_divided ∙ ap (divided table (numbers before)) same ∙ divided-union table before own_before up
-
-  -- what a body leaves of the union and answers
-  pub SpanRan-done : {E : Type 0} (result : Result Reply E) → SpanHasOwnKeys table before
-      → Does (effect_of command) (union before) (union after) result
-      → SpanRan table command before (outcome_of result) after
-  SpanRan-done (Ok reply) own_before did = SpanRan-answered (content reply) did
-  SpanRan-done (Err fault) own_before did = SpanRan-starved own_before did

@@ -1,5 +1,5 @@
 -- A layer: commands that are run in units, each unit over the shards of its groups, in any order and by anyone.
-use Rattle.std.specs.Prelude.{◌≡◌, ℕ, nat_eq, true, false, cond, List, [], ◌∷◌, length, map, slice_get, Option, Some, None, Result, Ok, Err}
+use Rattle.std.specs.Prelude.{◌≡◌, ℕ, nat_eq, true, false, cond, List, [], ◌∷◌, length, map, slice_get, Option, Some, None}
 use Rattle.std.specs.Cmp.Lexicographic.{pointwise}
 use Rattle.std.specs.FinMap.{empty}
 use Rattle.command_bodies.specs.Command.{effect_of}
@@ -10,8 +10,7 @@ use Rattle.keyspace.specs.Map.{Map}
 use Rattle.layer_planner.specs.Units.{AreUnitsOf}
 use Rattle.placement.specs.Groups.{groups_of}
 use Rattle.placement.specs.Layout.{Layout}
-use Rattle.resp.specs.Content.{Content, content}
-use Rattle.resp.specs.declared.reply.Reply.{Reply}
+use Rattle.resp.specs.Content.{Content}
 use Rattle.shard_maps.specs.Joined.{map_of_shard, Span, span_at, SpanRan}
 use Rattle.shard_maps.specs.Rows.{put_spans, emptied_each}
 
@@ -123,8 +122,3 @@ abbrev pub replies_of : List (Option Content) → List Content
 replies_of [] = []
 replies_of (None ∷ os) = replies_of os
 replies_of (Some reply ∷ os) = reply ∷ replies_of os
-
--- what is told of a command that a body has run: its reply, or that it starved
-abbrev pub outcome_of : {E : Type 0} → Result Reply E → Option Content
-outcome_of (Ok reply) = Some (content reply)
-outcome_of (Err fault) = None
