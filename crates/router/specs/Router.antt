@@ -6,7 +6,7 @@ use Rattle.std.specs.Ordering.{nat_cmp}
 use Rattle.router.specs.Connection.{outcome_in, is_under_way, with_standing, closed, settled_with}
 use Rattle.router.specs.declared.connection.Pending.{Pending}
 use Rattle.router.specs.declared.connection.Standing.{Standing}
-use Rattle.router.specs.declared.connection.Standing.TheVariants.{Idle, Waiting}
+use Rattle.router.specs.declared.connection.Standing.TheVariants.{Idle, Waiting, Taken}
 use Rattle.router.specs.declared.connection.Connection.{Connection}
 use Rattle.router.specs.declared.outcome.Outcome.{Outcome}
 
@@ -46,6 +46,15 @@ pending_in standing this = None
 abbrev pub pending_at : Option Connection → ℕ → Option Pending
 pending_at None seq = None
 pending_at (Some v) seq = pending_in v.standing (v.seq == seq)
+
+-- the words of the request that was taken, if it is this one
+abbrev pub taken_in : Standing → Bool → Option (List (List ℕ))
+taken_in (Taken words) this = cond this (Some words) None
+taken_in standing this = None
+
+abbrev pub taken_at : Option Connection → ℕ → Option (List (List ℕ))
+taken_at None seq = None
+taken_at (Some v) seq = taken_in v.standing (v.seq == seq)
 
 -- a connection that is closed is kept as long as its request is under way
 abbrev pub once_closed : Connection → Option Connection

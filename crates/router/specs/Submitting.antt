@@ -32,7 +32,7 @@ StandsBy id words (Err refusal) (Answered o) = answer_of o ≡ record { id = id;
 StandsBy id words (Err refusal) standing = ⊥
 StandsBy id words (Ok (Local local)) (Answered o) = answer_of o ≡ record { id = id; reply = local_reply local; stamp = None }
 StandsBy id words (Ok (Local local)) standing = ⊥
-StandsBy id words (Ok command) (Waiting pending) = (pending.words ≡ words) × (pending.command ≡ command)
+StandsBy id words (Ok command) (Waiting pending) = (pending.asked.words ≡ words) × (pending.asked.command ≡ command)
 StandsBy id words (Ok command) standing = ⊥
 
 abbrev pub next_id : ℕ → Connection → RequestId

@@ -1,18 +1,17 @@
 //! One connection, as the router keeps it.
 
 ghost use Rattle.std.specs.Prelude.{◌≡◌};
-ghost use Rattle.router.specs.Connection.{is_under_way};
 
 use super::outcome::Outcome;
-use command_table::Command;
 use packing::PackedRequest;
+use worded::Worded;
 
-/// A request that waits to be taken: its words, for the row that it will have, and the command that they say, to be
-/// run.
+/// A request that waits to be taken: what it asks, to be handed out, and its words once more, which stay when it is.
 #[derive(Drop)]
 pub struct Pending {
+    pub asked: Worded,
     pub words: PackedRequest,
-    pub command: Command,
+    ghost same: { words ≡ asked.words },
 }
 
 /// How a connection stands.
@@ -24,19 +23,21 @@ pub enum Standing {
     /// Its request waits to be taken.
     Waiting(Pending),
 
-    /// Its request was taken, and has no outcome yet.
-    Taken,
+    /// Its request was taken, and has no outcome yet. These are its words.
+    Taken(PackedRequest),
 
     /// Its request has an outcome.
     Answered(Outcome),
 }
 
 impl Standing {
+    ghost use Rattle.router.specs.Connection.{is_under_way};
+
     /// Whether a request was submitted and has no outcome yet.
     pub fn is_under_way(&self) -> bool
         ensures { result ≡ is_under_way self.now }
     {
-        matches!(self, Standing::Waiting(_) | Standing::Taken)
+        matches!(self, Standing::Waiting(_) | Standing::Taken(_))
     }
 }
 

@@ -3,19 +3,21 @@
 ghost use Rattle.std.specs.Prelude.{◌≡◌, ℕ, ◌==◌, cond, ◌<◌, ◌+◌, [], Some, None, false, Ok, IfOk, OnOk, OnErr, IfErr, IsSome, IfSome};
 ghost use Rattle.std.specs.Prelude.{IfNone, ◌≢◌, option_map, option_copied};
 ghost use Rattle.router.specs.Connection.{just_opened, with_standing};
-ghost use Rattle.router.specs.Router.{connection, is_open, waiting, pending_at, once_settled, Changes, Collects, Closes};
+ghost use Rattle.router.specs.Router.{connection, is_open, waiting, pending_at, taken_at, once_settled, Changes, Collects, Closes};
 ghost use Rattle.router.specs.declared.connection.Standing.{Standing};
 ghost use Rattle.router.specs.declared.connection.Standing.TheVariants.{Answered};
 ghost use Rattle.router.specs.Submitting.{Submits, IsRefused, IsIdle, IsIdleAt, StandsBy, groups_by};
 ghost use Rattle.router.specs.declared.submission.SubmitFault.{SubmitFault};
 ghost use Rattle.router.specs.declared.connection.Connection.{Connection};
 ghost use Rattle.command_table.specs.Reading.{reading};
+ghost use Rattle.command_table.specs.declared.command.Command.TheVariants.{Local};
+ghost use Rattle.command_table.specs.declared.local_commands.LocalCommand.{LocalCommand};
 
 use super::connection::{Connection, Pending, Standing};
 use super::outcome::Outcome;
 use super::submission::{NoConn, Submission, SubmitFault};
 use command_bodies::local;
-use command_table::{Command, read};
+use command_table::Command;
 use groups::{ConnId, Groups, RequestId, Stamp};
 use packing::PackedRequest;
 use placement::Table;
@@ -24,6 +26,7 @@ use std::alloc::{AllocError, Global};
 use std::collections::BTreeMap;
 use std::marker::Model;
 use std::mem;
+use worded::{Worded, WordedFault};
 
 /// Connections, and the requests of each, are numbered from 1 to this, so that no number passes 64 bits.
 pub const GREATEST_NUMBER: u64 = 1 << 62;
@@ -110,11 +113,8 @@ impl Router {
         ensures unchanged { OnErr result (self.new ≡ self.old) }
     {
         let Idle { seq, floor } = self.idle(conn)?;
-        let Ok(copy) = PackedRequest::copy_of(self.alloc, &words) else {
-            return Err(SubmitFault::Memory);
-        };
         let id = RequestId { conn, seq: seq + 1 };
-        let (standing, groups) = standing_of(table, id, words, copy);
+        let (standing, groups) = standing_of(self.alloc, table, id, words)?;
         self.put(
             conn,
             Connection {
@@ -139,28 +139,46 @@ impl Router {
 
     /// The command of a request that waits to be taken; none where this request doesn't. It takes no memory.
     pub fn command(&self, id: RequestId) -> Option<&Command>
-        ensures { option_copied result ≡ option_map (λ p. p.command) (pending_at (connection self.now id.conn.0) id.seq) }
+        ensures { option_copied result ≡ option_map (λ p. p.asked.command) (pending_at (connection self.now id.conn.0) id.seq) }
     {
         let connection = self.kept.get(&id.conn.0)?;
         match &connection.standing {
-            Standing::Waiting(pending) if connection.seq == id.seq => Some(&pending.command),
+            Standing::Waiting(pending) if connection.seq == id.seq => {
+                Some(pending.asked.command())
+            }
             _ => None,
         }
     }
 
-    /// Takes out the words and the command of a request that waits to be taken; none where this request doesn't. It
-    /// takes no memory.
-    pub fn take(&mut self, id: RequestId) -> Option<Pending>
-        ensures taken { result ≡ pending_at (connection self.old id.conn.0) id.seq }
-        ensures changes { IfSome result (λ p. (v : Connection) × (connection self.old id.conn.0 ≡ Some v)
-            × Changes self.old self.new id.conn.0 (Some (with_standing v Standing.Taken))) }
+    /// Takes out what a request asks that waits to be taken; none where this request doesn't. Its words stay. It takes no
+    /// memory.
+    pub fn take(&mut self, id: RequestId) -> Option<Worded>
+        ensures taken { result ≡ option_map (λ p. p.asked) (pending_at (connection self.old id.conn.0) id.seq) }
+        ensures changes { IfSome result (λ asked. (v : Connection) × (connection self.old id.conn.0 ≡ Some v)
+            × Changes self.old self.new id.conn.0 (Some (with_standing v (Standing.Taken asked.words)))) }
         ensures unchanged { IfNone result (self.new ≡ self.old) }
     {
         self.command(id)?;
         let connection = self.kept.get_mut(&id.conn.0)?;
-        match mem::replace(&mut connection.standing, Standing::Taken) {
-            Standing::Waiting(pending) => Some(pending),
-            _ => unreachable!(),
+        let Standing::Waiting(Pending { asked, words }) = mem::replace(
+            &mut connection.standing,
+            Standing::Idle,
+        ) else {
+            unreachable!()
+        };
+        discard(mem::replace(&mut connection.standing, Standing::Taken(words)));
+        Some(asked)
+    }
+
+    /// The words of a request that was taken and has no outcome yet, left in place; none where this request isn't so. It
+    /// takes no memory.
+    pub fn taken_words(&self, id: RequestId) -> Option<&PackedRequest>
+        ensures { option_copied result ≡ taken_at (connection self.now id.conn.0) id.seq }
+    {
+        let connection = self.kept.get(&id.conn.0)?;
+        match &connection.standing {
+            Standing::Taken(words) if connection.seq == id.seq => Some(words),
+            _ => None,
         }
     }
 
@@ -304,35 +322,54 @@ struct Idle {
     floor: u64,
 }
 
-/// How a connection stands that submits these words, and the groups that they address.
+/// How a connection stands that submits these words, and the groups that they address. The only fault is `Memory`.
 fn standing_of(
+    alloc: Global,
     table: &Table,
     id: RequestId,
     words: Request,
-    copy: PackedRequest,
-) -> (Standing, Groups)
-    requires { copy ≡ words }
-    ensures standing { StandsBy id words (reading words) result.0 }
-    ensures groups { result.1 ≡ groups_by table.now (reading words) }
+) -> Result<(Standing, Groups), SubmitFault>
+    ensures standing { IfOk result (λ r. StandsBy id words (reading words) r.0) }
+    ensures groups { IfOk result (λ r. r.1 ≡ groups_by table.now (reading words)) }
+    ensures fault { IfErr result (λ e. e ≡ SubmitFault.Memory) }
 {
-    match read(words) {
-        Err(refusal) => (answered(id, Reply::Error(refusal.text())), Groups::empty()),
-        Ok(command) => {
-            let groups = table.groups(&command);
-            (standing_with(id, copy, command), groups)
+    match Worded::read(alloc, words) {
+        Ok(asked) => {
+            let groups = table.groups(asked.command());
+            Ok((standing_with(id, asked)?, groups))
         }
+        Err(WordedFault::Refused(refusal)) => {
+            let reply = Reply::Error(refusal.text());
+            Ok((answered(id, reply), Groups::empty()))
+        }
+        Err(WordedFault::Memory) => Err(SubmitFault::Memory),
     }
 }
 
-/// How a connection stands whose words say this command.
-fn standing_with(id: RequestId, words: PackedRequest, command: Command) -> Standing
-    requires { reading words ≡ Ok command }
-    ensures { StandsBy id words (reading words) result }
+/// How a connection stands that asks this. The only fault is `Memory`.
+fn standing_with(id: RequestId, asked: Worded) -> Result<Standing, SubmitFault>
+    ensures standing { IfOk result (StandsBy id asked.words (Ok asked.command)) }
+    ensures fault { IfErr result (λ e. e ≡ SubmitFault.Memory) }
 {
-    match command {
-        Command::Local(command) => answered(id, local(command)),
-        command => Standing::Waiting(Pending { words, command }),
+    if let Command::Local(_) = asked.command() {
+        return Ok(standing_at_once(id, asked));
     }
+    let Ok(words) = asked.words().try_clone() else {
+        return Err(SubmitFault::Memory);
+    };
+    Ok(Standing::Waiting(Pending { asked, words }))
+}
+
+/// How a connection stands that asks a command which looks at no key.
+fn standing_at_once(id: RequestId, asked: Worded) -> Standing
+    requires { (l : LocalCommand) × (asked.command ≡ Local l) }
+    ensures { StandsBy id asked.words (Ok asked.command) result }
+{
+    let (_, command) = asked.into_parts();
+    let Command::Local(command) = command else {
+        unreachable!()
+    };
+    answered(id, local(command))
 }
 
 /// A request that addresses no group has its outcome at once.

@@ -22,9 +22,9 @@ returns-clause-submitted c =
       still = refl;
       seq = next;
       same_floor = known.floor;
-      standing = subst (λ i. StandsBy i c.args.words (reading c.args.words) c.standing_of-standing.result.0) id
-          c.standing_of-standing.ensures.standing;
+      standing = subst (λ i. StandsBy i c.args.words (reading c.args.words) c.in_ok-standing.standing) id
+          c.in_ok-standing.ensures.standing;
       id = id;
       floor = known.floor;
-      groups = c.standing_of-standing.ensures.groups;
+      groups = c.in_ok-standing.ensures.groups;
     }
