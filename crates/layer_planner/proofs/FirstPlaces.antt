@@ -104,6 +104,13 @@ by_stamps-last : (jobs : List Job) (sorted is : List ℕ) (i : ℕ)
 by_stamps-last jobs sorted [] i = refl
 by_stamps-last jobs sorted (k ∷ is) i = by_stamps-last jobs (put_by_stamp jobs k sorted) is i
 
+by_stamps-rises : (jobs : List Job) (sorted is : List ℕ) → IsRising jobs sorted → IsRising jobs (by_stamps jobs sorted is)
+by_stamps-rises jobs sorted [] up = up
+by_stamps-rises jobs sorted (i ∷ is) up = by_stamps-rises jobs (put_by_stamp jobs i sorted) is (rising_put jobs i sorted up)
+
+pub firsts_rise : (jobs : List Job) → IsRising jobs (firsts jobs)
+firsts_rise jobs = by_stamps-rises jobs [] (chosen (is_first (groups_each jobs)) 0 (length jobs)) tt
+
 -- ---- one place after another
 
 -- the first places so far

@@ -3,7 +3,8 @@ use Rattle.std.specs.Prelude.{◌≡◌, ℕ, zero, suc, ◌<◌, ◌≤◌, ◌
 use Rattle.std.specs.List.{filter, range_with_len, flat_map}
 use Rattle.layer_planner.specs.declared.job.Job.{Job}
 use Rattle.layer_planner.specs.Layers.{StandTogether}
-use Rattle.layer_planner.specs.Units.{groups_each, units, AreUnitsOf}
+use Rattle.layer_planner.specs.Firsts.{IsRising}
+use Rattle.layer_planner.specs.Units.{groups_each, firsts, units, AreUnitsOf}
 
 -- of that many units those that go to part k, ascending
 abbrev pub part : ℕ → ℕ → ℕ → List ℕ
@@ -51,6 +52,10 @@ start_of ends (suc n) = slice_index_or ends n 0
 -- `units` gives the units of a layer, in whatever parts they are
 abbrev pub UnitsAreUnits : Type 0
 UnitsAreUnits = (jobs : List Job) → StandTogether jobs → AreUnitsOf (groups_each jobs) (units jobs)
+
+-- and in the order of their first stamps: `units` goes by the first places
+abbrev pub UnitsAreInOrder : Type 0
+UnitsAreInOrder = (jobs : List Job) → IsRising jobs (firsts jobs)
 
 abbrev pub PartsAreUnits : Type 0
 PartsAreUnits =

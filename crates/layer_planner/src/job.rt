@@ -1,13 +1,14 @@
 //! A request that is to be run.
 
-use command_table::Command;
 use groups::{Groups, RequestId, Stamp};
+use worded::Worded;
 
-/// A delivered request with its command: its id, its final stamp, and the groups on which its keys lie.
+/// A delivered request with what it asks: its id, its final stamp, the groups on which its keys lie, and its command with
+/// the words that say it.
 #[derive(Drop)]
 pub struct Job {
     pub id: RequestId,
     pub stamp: Stamp,
     pub groups: Groups,
-    pub command: Command,
+    pub asked: Worded,
 }

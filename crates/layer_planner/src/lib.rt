@@ -12,6 +12,7 @@ mod nexts;
 mod part;
 mod planning;
 mod seen;
+mod standing;
 
 pub use job::Job;
 pub use layer::Layer;

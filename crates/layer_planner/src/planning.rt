@@ -3,7 +3,7 @@ ghost use Rattle.std.specs.Prelude.{◌≡◌, ℕ, ◌<◌, ◌≤◌, ◌++◌
 ghost use Rattle.std.specs.Int.NonZero.{non_zero_usize_get};
 ghost use Rattle.groups.specs.Order.{In};
 ghost use Rattle.layer_planner.specs.Nexts.{AreNexts};
-ghost use Rattle.layer_planner.specs.Parts.{planned, picked_units, part, dealt, UnitsAreUnits, PartsAreUnits};
+ghost use Rattle.layer_planner.specs.Parts.{planned, picked_units, part, dealt, UnitsAreUnits, UnitsAreInOrder, PartsAreUnits};
 ghost use Rattle.layer_planner.specs.Units.{units, unit_at, is_first, groups_each};
 
 use super::firsts::first_places;
@@ -111,9 +111,10 @@ fn deal_part(alloc: Global, units: &Part, first: usize, parts: usize) -> Result<
     Ok(dealt)
 }
 
-/// The law of the units and parts: each place of the layer is in one of them, once, and whoever shares a group with a unit
-/// is in it. It does nothing: its contract states the law.
+/// The law of the units and parts: each place of the layer is in one of them, once, whoever shares a group with a unit
+/// is in it, and no unit stands behind one whose first stamp is later. It does nothing: its contract states the law.
 pub fn law_of_units()
     ensures units { UnitsAreUnits }
+    ensures order { UnitsAreInOrder }
     ensures parts { PartsAreUnits }
 {}

@@ -1,7 +1,6 @@
 //! Jobs from the words of a request, and replies as the text that a client gets.
 
 use crate::trouble::Trouble;
-use command_table::read;
 use groups::{ConnId, RequestId, Stamp};
 use layer_planner::{Job, Layer};
 use placement::{GroupId, Table};
@@ -13,6 +12,7 @@ use std::num::NonZeroUsize;
 use std::process::Abort;
 use std::test::Fail;
 use test_support::same_text;
+use worded::Worded;
 
 /// One worker, and no thread.
 pub(crate) const ONE: InTurn = InTurn(NonZeroUsize::MIN);
@@ -53,8 +53,8 @@ pub(crate) fn job(
     if copies.is_empty() {
         return Err(Trouble::Asked);
     }
-    let command = read(Request::from_words(copies))?;
-    let groups = table.groups(&command);
+    let asked = Worded::read(alloc, Request::from_words(copies))?;
+    let groups = table.groups(asked.command());
     let mut group = GroupId::new(0);
     for other in groups.iter() {
         group = other;
@@ -66,7 +66,7 @@ pub(crate) fn job(
         },
         stamp: Stamp { clock, group },
         groups,
-        command,
+        asked,
     })
 }
 

@@ -1,8 +1,8 @@
 //! Why a test's own work ended early.
 
-use command_table::Refusal;
 use placement::TableFault;
 use std::alloc::{AllocError, AllocFailed};
+use worded::WordedFault;
 
 /// Why a test's own work ended early. A wrong answer isn't among these: it ends the test at once.
 #[derive(Clone, Copy, Debug, Drop)]
@@ -32,9 +32,12 @@ impl From<&'static str> for Trouble {
     }
 }
 
-impl From<Refusal> for Trouble {
-    fn from(_refusal: Refusal) -> Trouble {
-        Trouble::Asked
+impl From<WordedFault> for Trouble {
+    fn from(fault: WordedFault) -> Trouble {
+        match fault {
+            WordedFault::Memory => Trouble::Memory,
+            WordedFault::Refused(_) => Trouble::Asked,
+        }
     }
 }
 
