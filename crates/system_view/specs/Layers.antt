@@ -2,12 +2,11 @@
 use Rattle.std.specs.List.{AllZip}
 use Rattle.std.specs.Prelude.{◌≡◌, ℕ, true, false, List, [], ◌∷◌, Option, Some, None, Ok}
 use Rattle.command_table.specs.Reading.{reading}
-use Rattle.execution_order.specs.Entries.{Row}
+pub use Rattle.execution_order.specs.Rows.{IsRow}
 use Rattle.groups.specs.GroupSet.{has}
 use Rattle.journal.specs.Views.{RowView}
 use Rattle.layer_planner.specs.declared.job.Job.{Job}
 use Rattle.placement.specs.Layout.{Layout}
-use Rattle.resp.specs.Text.{text}
 use Rattle.resp.specs.declared.answered.Answered.{Answered}
 use Rattle.shard_workers.specs.Runs.{outcome}
 use Rattle.shard_exec.specs.Stamps.{last_of}
@@ -71,14 +70,6 @@ pub record ShowsStore (t : Layout) (s : StoreState) (w : World) : Type 0 where
       (e : Ended) × In e w.ended × (has e.groups g ≡ true) × (e.stamp ≡ stamp)
 
 -- ---- the rows
-
--- the row that is kept of an executed request: its id, its final stamp, words that say its command, and its reply's
--- text
-pub record IsRow (executed : Row) (kept : RowView) : Type 0 where
-  pub id : kept.id ≡ executed.entry.id
-  pub stamp : kept.stamp ≡ executed.entry.stamp
-  pub says : reading kept.words ≡ Ok executed.entry.command
-  pub reply : kept.reply ≡ text executed.reply
 
 -- one for each executed request, in the order of execution; those that starved have none
 abbrev pub AreRows : List Ended → List RowView → Type 0

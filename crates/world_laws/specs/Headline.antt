@@ -1,10 +1,8 @@
 -- What was executed, as one thread on one map does it.
-use Rattle.std.specs.FinMap.{empty}
-use Rattle.std.specs.Prelude.{◌≡◌, List, [], ◌∷◌, Option, Some, None}
-use Rattle.command_bodies.specs.InTurn.{solo_from}
-use Rattle.execution_order.specs.Entries.{Row, commands_of, entries_of, replies_of, rows_by_stamp}
+use Rattle.std.specs.Prelude.{List, [], ◌∷◌, Option, Some, None}
+use Rattle.execution_order.specs.Entries.{Row, rows_by_stamp}
+pub use Rattle.execution_order.specs.Rows.{IsOneThread}
 use Rattle.journal.specs.declared.step.Step.{Step}
-use Rattle.keyspace.specs.Map.{Map}
 use Rattle.placement.specs.Layout.{Layout, IsTable}
 use Rattle.resp.specs.Content.{Content}
 use Rattle.world.specs.Steps.{opening, Leads}
@@ -24,11 +22,6 @@ with_row e (Some reply) rows =
 abbrev pub rows_of : List Ended → List Row
 rows_of [] = []
 rows_of (e ∷ es) = with_row e e.reply (rows_of es)
-
--- one thread that runs the rows' commands, one after another on an empty map, leaves this map and gives each of them
--- its reply
-abbrev pub IsOneThread : Map → List Row → Type 0
-IsOneThread contents rows = (contents, replies_of rows) ≡ solo_from empty (commands_of (entries_of rows))
 
 -- ---- the laws
 
