@@ -39,6 +39,14 @@ impl PackedRequest {
         Ok(PackedRequest { bytes })
     }
 
+    /// A copy of them; `AllocError` where there is no memory for it.
+    pub fn try_clone(&self) -> Result<Self, AllocError>
+        ensures { IfOk result (λ copy. copy ≡ self.now) }
+    {
+        let bytes = Vec::from_slice(*self.bytes.allocator(), self.bytes.as_slice())?;
+        Ok(PackedRequest { bytes })
+    }
+
     /// The bytes in which the words lie: their code.
     pub fn as_bytes(&self) -> &[u8]
         ensures code { result.now ≡ words_code self.now }
