@@ -18,7 +18,7 @@ use Rattle.world.specs.Steps.{Collects as WorldCollects, at, final_clock_of, flo
 use Rattle.world.specs.World.{Standing as Stand, World, Request, Outcome, Closed, Idle, Waiting, Answered}
 use Rattle.std.proofs.lemmas.Bool.{cond-true, cond-false}
 use Rattle.world_laws.specs.Conditions.{IsFree}
-use Rattle.world_laws.specs.Good.{WorldGood}
+use Rattle.world_laws.specs.Good.{AskedGood, WorldGood}
 
 -- ---- a connection that a step leaves alone
 
@@ -135,45 +135,62 @@ alike_open w d other = record {
   layer = λ seq there. there;
 }
 
-pub shows_open : (old new : RouterView) (w : World) (t : Layout) → WorldGood t w → ShowsConnections old w →
-    new.opened ≡ old.opened + 1 →
+-- no request was submitted by the next connection to be opened
+pub record IsUnopened (w : World) : Type 0 where
+  pub standing : w.standing (suc w.opened) ≡ Closed
+  pub seq : w.seq (suc w.opened) ≡ 0
+  pub last : w.last (suc w.opened) ≡ None
+
+pub unopened : (t : Layout) (w : World) → WorldGood t w → IsUnopened w
+unopened t w good =
+    let first = good.connections.unopened (suc w.opened) (omega arith) in
+    record { standing = first.0; seq = first.1; last = first.2 }
+
+-- so it can be opened
+pub shows_opened : (old new : RouterView) (w : World) (t : Layout) → IsUnopened w → AskedGood t w.asked w.proposed w.seq w.last →
+    ShowsConnections old w → new.opened ≡ old.opened + 1 →
     ((d : ℕ) → connection new d ≡ cond (d == new.opened) (Some just_opened) (connection old d)) →
     ShowsConnections new (opened_world w)
-shows_open old new w t good shows count changes =
+shows_opened old new w t first requests shows count changes =
     let next : new.opened ≡ suc w.opened = let e = shows.opened in omega arith in
-    let first = good.connections.unopened (suc w.opened) (omega arith) in
     let changes' : (d : ℕ) → connection new d ≡ cond (d == suc w.opened) (Some just_opened) (connection old d) =
     λ d. subst (λ n. connection new d ≡ cond (d == n) (Some just_opened) (connection old d)) next (changes d) in
     record {
       opened = next;
       each = each_of old new w (opened_world w) (suc w.opened) (Some just_opened) changes' (alike_open w) shows.each (
-        sym first.1,
+        sym first.seq,
         inl (
           refl,
           (
             cond-true (suc w.opened == suc w.opened) Idle (w.standing (suc w.opened))
                 (eq-eqb (suc w.opened) (suc w.opened) refl),
-            sym (ap (final_clock_of w) first.2),
+            sym (ap (final_clock_of w) first.last),
           ),
         ),
       );
       under_way = λ i q asked. elim (shows.under_way i q asked) [
         | inl settled ↦ inl settled
-        | inr kept ↦ inr
-            (kept_else old new (suc w.opened) (Some just_opened) i changes' (unlike i q asked first.1) kept)
+        | inr kept ↦ inr (kept_else old new (suc w.opened) (Some just_opened) i changes' (unlike i q asked) kept)
       ];
     }
   where
     -- nothing was asked on a connection that wasn't open
-    unlike : (i : RequestId) (q : Request) → w.asked i ≡ Some q → w.seq (suc w.opened) ≡ 0 →
-        (i.conn.0 == suc w.opened) ≡ false
-    unlike i q asked none = elim (cases_Bool (i.conn.0 == suc w.opened)) [
+    unlike : (i : RequestId) (q : Request) → w.asked i ≡ Some q → (i.conn.0 == suc w.opened) ≡ false
+    unlike i q asked = elim (cases_Bool (i.conn.0 == suc w.opened)) [
       | inl e ↦
-          let some = good.requests.fresh i q asked in
+          let some = requests.fresh i q asked in
+          let none = first.seq in
           let here : w.seq i.conn.0 ≡ w.seq (suc w.opened) = ap w.seq (eqb-true i.conn.0 (suc w.opened) e) in
           absurd (omega arith)
       | inr e ↦ e
     ]
+
+pub shows_open : (old new : RouterView) (w : World) (t : Layout) → WorldGood t w → ShowsConnections old w →
+    new.opened ≡ old.opened + 1 →
+    ((d : ℕ) → connection new d ≡ cond (d == new.opened) (Some just_opened) (connection old d)) →
+    ShowsConnections new (opened_world w)
+shows_open old new w t good shows count changes =
+    shows_opened old new w t (unopened t w good) good.requests shows count changes
 
 -- ---- where an open connection stands alone changes
 

@@ -34,7 +34,7 @@ use Rattle.world.specs.Steps.{next_id as world_id, asks, final_clock, final_cloc
 use Rattle.world.specs.Steps.{submitted, submitted_to}
 use Rattle.world.specs.World.{World, Request, Outcome, Idle, Waiting, Answered}
 use Rattle.std.proofs.lemmas.Bool.{cond-true, cond-false}
-use Rattle.world_laws.specs.Good.{WorldGood}
+use Rattle.world_laws.specs.Good.{AskedGood, WorldGood}
 
 -- the submitting connection, as the router has it before and after
 pub record Submitter (old new : RouterView) (w : World) (c : ℕ) (was now : Connection) : Type 0 where
@@ -86,7 +86,7 @@ shows_answered old new w c was now o reply shows s is says = record {
 
 -- ---- sent to groups
 
-module _ (t : Layout) (w : World) (c : ℕ) (r : Request) (good : WorldGood t w) where
+module _ (t : Layout) (w : World) (c : ℕ) (r : Request) (good : AskedGood t w.asked w.proposed w.seq w.last) where
   other_id : (d seq : ℕ) → (d == c) ≡ false → same_id (id_of d seq) (id_of c (suc (w.seq c))) ≡ false
   other_id d seq other = elim (cases_Bool (same_id (id_of d seq) (id_of c (suc (w.seq c))))) [
     | inl e ↦ absurd (both_ways _ other (eq-eqb d c (ap (λ i. i.conn.0) (same_id-true _ _ e))))
@@ -100,7 +100,7 @@ module _ (t : Layout) (w : World) (c : ℕ) (r : Request) (good : WorldGood t w)
       by_last : (o : Option RequestId) → w.last d ≡ o → final_clock_of (multicast w c r) o ≡ final_clock_of w o
       by_last None e = refl
       by_last (Some i) e =
-          let conn = (good.requests.lasts d i e).0 in
+          let conn = (good.lasts d i e).0 in
           let unlike : (i.conn.0 == c) ≡ false = ap (λ n. n == c) conn ∙ other in
           ap (final_clock w.proposed i) (cond-false' i (other_id i.conn.0 i.seq unlike))
         where
@@ -163,7 +163,7 @@ local_effect : (l : LocalCommand) → (effect_of (Local l) empty).1 ≡ local_re
 local_effect (Ping word) = refl
 local_effect (Echo word) = refl
 
-module _ (t : Layout) (w : World) (c : ℕ) (good : WorldGood t w) (words : List (List ℕ)) where
+module _ (t : Layout) (w : World) (c : ℕ) (good : AskedGood t w.asked w.proposed w.seq w.last) (words : List (List ℕ)) where
   -- a command that addresses groups waits, and the world has sent it to them
   waits_as : (old new : RouterView) (was now : Connection) (command : Command) (p : Pending) →
       reading words ≡ Ok command → (g : ℕ) (gs : List ℕ) → groups_of t command ≡ g ∷ gs →
@@ -249,11 +249,11 @@ module _ (t : Layout) (w : World) (c : ℕ) (good : WorldGood t w) (words : List
       by_standing router.Taken e says = absurd says
       by_standing (router.Answered o) e says = absurd says
 
-  pub shows_submit : (old new : RouterView) (sent : Submission) → Addresses t (reading words) →
+  pub shows_submitted : (old new : RouterView) (sent : Submission) → Addresses t (reading words) →
       Submits t c words old sent new → ShowsConnections old w →
       (w.standing c ≡ Idle) × (sent.id ≡ world_id w c) × (sent.floor ≡ floor_of w c) × ShowsConnections new
       (submitted t w c (reading words))
-  shows_submit old new sent addresses submits shows =
+  shows_submitted old new sent addresses submits shows =
       let was = submits.was in
       let here = kept_open was w c submits.live (subst (λ x. ShowsConnection x w c) submits.kept (shows.each c)) in
       let idle : (w.standing c ≡ Idle) × (was.floor ≡ floor_of w c) =
@@ -274,3 +274,9 @@ module _ (t : Layout) (w : World) (c : ℕ) (good : WorldGood t w) (words : List
             })
             (subst (λ i. StandsBy i words (reading words) submits.now.standing) id submits.standing),
       )
+
+pub shows_submit : (t : Layout) (w : World) (c : ℕ) → WorldGood t w → (words : List (List ℕ)) (old new : RouterView)
+    (sent : Submission) → Addresses t (reading words) → Submits t c words old sent new → ShowsConnections old w →
+    (w.standing c ≡ Idle) × (sent.id ≡ world_id w c) × (sent.floor ≡ floor_of w c)
+    × ShowsConnections new (submitted t w c (reading words))
+shows_submit t w c good words = shows_submitted t w c good.requests words
