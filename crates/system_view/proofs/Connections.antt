@@ -1,22 +1,22 @@
 -- The router's calls are steps of the world.
-use Rattle.std.proofs.Common.{◌≡◌, ℕ, suc, ◌+◌, ◌==◌, true, false, cond, ◌⊎◌, inl, inr, Option, Some, None, option_map}
+use Rattle.std.proofs.Common.{◌≡◌, ℕ, suc, ◌+◌, ◌==◌, true, false, cond, List, ◌⊎◌, inl, inr, Option, Some, None, option_map}
 use Rattle.std.proofs.Common.{MatchOption, refl, sym, ap, ◌∙◌, subst, arith, eqb-true, eq-eqb}
 use Rattle.std.proofs.lemmas.Bool.{both_ways, cases_Bool}
 use Rattle.placement.specs.Layout.{Layout}
 use Rattle.router.specs.Connection.{just_opened, is_under_way, with_standing, closed, outcome_in}
 use Rattle.router.specs.Router.{RouterView, connection, Changes, Collects, Closes, once_closed}
 use Rattle.router.specs.declared.connection.Connection.{Connection}
-use Rattle.router.specs.declared.connection.Pending.{Pending}
 use Rattle.router.specs.declared.connection.Standing.{Standing}
 use Rattle.router.specs.declared.connection.Standing.TheVariants as router
 use Rattle.router.specs.declared.outcome.Outcome as kept
 use Rattle.groups.proofs.Options.{some_same}
 use Rattle.groups.specs.declared.request.RequestId.{RequestId}
-use Rattle.system_view.specs.Connections.{outcome_shown, Waits, InLayer, id_of, ShowsOpen, ShowsClosed, ShowsKept}
+use Rattle.system_view.specs.Connections.{outcome_shown, Waits, AreItsWords, InLayer, id_of, ShowsOpen, ShowsClosed, ShowsKept}
 use Rattle.system_view.specs.Connections.{ShowsConnection, IsKeptFor, ShowsConnections}
 use Rattle.world.specs.Steps.{Collects as WorldCollects, at, final_clock_of, floor_of, Collected}
 use Rattle.world.specs.World.{Standing as Stand, World, Request, Outcome, Closed, Idle, Waiting, Answered}
 use Rattle.std.proofs.lemmas.Bool.{cond-true, cond-false}
+use Rattle.worded.specs.declared.worded.Worded.{Worded}
 use Rattle.world_laws.specs.Conditions.{IsFree}
 use Rattle.world_laws.specs.Good.{AskedGood, WorldGood}
 
@@ -31,9 +31,13 @@ pub record Alike (old new : World) (c : ℕ) : Type 0 where
   pub asked : (seq : ℕ) → new.asked (id_of c seq) ≡ old.asked (id_of c seq)
   pub layer : (seq : ℕ) → InLayer old.layer (id_of c seq) → InLayer new.layer (id_of c seq)
 
-waits_alike : (old new : World) (c seq : ℕ) (p : Pending) → Alike old new c → Waits old (id_of c seq) p →
-    Waits new (id_of c seq) p
-waits_alike old new c seq p same w = (w.0, same.asked seq ∙ w.1, w.2, w.3)
+waits_alike : (old new : World) (c seq : ℕ) (asked : Worded) → Alike old new c → Waits old (id_of c seq) asked →
+    Waits new (id_of c seq) asked
+waits_alike old new c seq asked same w = (w.0, same.asked seq ∙ w.1, w.2)
+
+words_alike : (old new : World) (c seq : ℕ) (words : List (List ℕ)) → Alike old new c → AreItsWords old (id_of c seq) words →
+    AreItsWords new (id_of c seq) words
+words_alike old new c seq words same w = (w.0, same.asked seq ∙ w.1, w.2)
 
 -- who is idle or has an outcome is free
 free_at : (s s' : Stand) → s ≡ s' → IsFree s' → IsFree s
@@ -44,8 +48,9 @@ open_alike : (s : Standing) (v : Connection) (old new : World) (c : ℕ) → Ali
 open_alike router.Idle v old new c same shows =
     (same.standing ∙ shows.0, shows.1 ∙ sym (same.floor (free_at (old.standing c) Idle shows.0 tt)))
 open_alike (router.Waiting p) v old new c same shows =
-    (same.standing ∙ shows.0, waits_alike old new c v.seq p same shows.1)
-open_alike router.Taken v old new c same shows = (same.standing ∙ shows.0, same.layer v.seq shows.1)
+    (same.standing ∙ shows.0, waits_alike old new c v.seq p.asked same shows.1)
+open_alike (router.Taken words) v old new c same shows =
+    (same.standing ∙ shows.0, same.layer v.seq shows.1, words_alike old new c v.seq words same shows.2)
 open_alike (router.Answered o) v old new c same shows = (
   same.standing ∙ shows.0,
   shows.1
@@ -56,8 +61,9 @@ closed_alike : (s : Standing) (v : Connection) (old new : World) (c : ℕ) → A
     ShowsClosed s v new c
 closed_alike router.Idle v old new c same shows = absurd shows
 closed_alike (router.Waiting p) v old new c same shows =
-    (same.standing ∙ shows.0, waits_alike old new c v.seq p same shows.1)
-closed_alike router.Taken v old new c same shows = (same.standing ∙ shows.0, same.layer v.seq shows.1)
+    (same.standing ∙ shows.0, waits_alike old new c v.seq p.asked same shows.1)
+closed_alike (router.Taken words) v old new c same shows =
+    (same.standing ∙ shows.0, same.layer v.seq shows.1, words_alike old new c v.seq words same shows.2)
 closed_alike (router.Answered o) v old new c same shows = absurd shows
 
 pub connection_alike : (o : Option Connection) (old new : World) (c : ℕ) → Alike old new c → ShowsConnection o old c →
@@ -103,13 +109,13 @@ open_waits : (s : Standing) (v : Connection) (w : World) (c : ℕ) → is_under_
     w.standing c ≡ Waiting
 open_waits router.Idle v w c busy shows = absurd (both_ways _ refl busy)
 open_waits (router.Waiting p) v w c busy shows = shows.0
-open_waits router.Taken v w c busy shows = shows.0
+open_waits (router.Taken words) v w c busy shows = shows.0
 open_waits (router.Answered o) v w c busy shows = absurd (both_ways _ refl busy)
 
 closed_rests : (s : Standing) (v : Connection) (w : World) (c : ℕ) → ShowsClosed s v w c → w.standing c ≡ Closed
 closed_rests router.Idle v w c shows = absurd shows
 closed_rests (router.Waiting p) v w c shows = shows.0
-closed_rests router.Taken v w c shows = shows.0
+closed_rests (router.Taken words) v w c shows = shows.0
 closed_rests (router.Answered o) v w c shows = absurd shows
 
 -- it waits, or was closed
@@ -298,7 +304,7 @@ shows_collect old new w c given collects shows = by_standing collects.was.standi
         (collects_none old new w c Waiting (subst (λ s. ShowsOpen s collects.was w c) e here.1).0 (refl, refl)
         (subst (λ s. MatchOption (outcome_in s) (new ≡ old)
         (λ o. Changes old new c (Some (with_standing collects.was router.Idle)))) e collects.after) shows)
-    by_standing router.Taken e =
+    by_standing (router.Taken words) e =
         subst (λ g. CollectsAs new w c (option_map outcome_shown g)) (sym (collects.given ∙ ap outcome_in e))
         (collects_none old new w c Waiting (subst (λ s. ShowsOpen s collects.was w c) e here.1).0 (refl, refl)
         (subst (λ s. MatchOption (outcome_in s) (new ≡ old)
@@ -315,7 +321,7 @@ shows_collect old new w c given collects shows = by_standing collects.was.standi
 not_closed : (s : Standing) (v : Connection) (w : World) (c : ℕ) → ShowsOpen s v w c → w.standing c ≡ Closed → ⊥
 not_closed router.Idle v w c shows e = let k = sym shows.0 ∙ e in cc
 not_closed (router.Waiting p) v w c shows e = let k = sym shows.0 ∙ e in cc
-not_closed router.Taken v w c shows e = let k = sym shows.0 ∙ e in cc
+not_closed (router.Taken words) v w c shows e = let k = sym shows.0 ∙ e in cc
 not_closed (router.Answered o) v w c shows e = let k = sym shows.0 ∙ e in cc
 
 -- how it stands once it is closed
@@ -325,7 +331,7 @@ shut : (s : Standing) (v : Connection) (w : World) (c : ℕ) → (v.seq ≡ w.se
     (standing_world w c Closed) c
 shut router.Idle v w c seq shows = standing_here w c Closed
 shut (router.Waiting p) v w c seq shows = (seq, inr (refl, (standing_here w c Closed, shows.1)))
-shut router.Taken v w c seq shows = (seq, inr (refl, (standing_here w c Closed, shows.1)))
+shut (router.Taken words) v w c seq shows = (seq, inr (refl, (standing_here w c Closed, shows.1, shows.2)))
 shut (router.Answered o) v w c seq shows = standing_here w c Closed
 
 pub shows_close : (old new : RouterView) (w : World) (c : ℕ) → Closes old c new → ShowsConnections old w →

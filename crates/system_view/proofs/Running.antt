@@ -2,7 +2,7 @@
 use Rattle.std.proofs.Common.{refl, sym, ap, ◌∙◌, subst, inl, inr, eq-eqb, append-nil}
 use Rattle.std.proofs.Math.Seq.{append_snoc}
 use Rattle.std.proofs.lemmas.Bool.{or_left, or_right}
-use Rattle.std.specs.List.{AllZip, AllByRecursion}
+use Rattle.std.specs.List.{AllZip}
 use Rattle.std.specs.Prelude.{◌≡◌, ℕ, zero, suc, Bool, true, false, cond, ◌||◌, List, [], ◌∷◌, ◌++◌, map, ◌⊎◌}
 use Rattle.std.specs.Prelude.{Option, Some, None, is_none, Ok, slice_set}
 use Rattle.command_bodies.specs.Command.{effect_of}
@@ -41,6 +41,7 @@ use Rattle.groups.specs.Stamp.{stamp_lt}
 use Rattle.skeen_core.specs.declared.packet.Delivered.{Delivered}
 use Rattle.groups.specs.declared.request.RequestId.{RequestId}
 use Rattle.groups.specs.declared.stamp.Stamp.{Stamp}
+use Rattle.system_view.proofs.Jobs.{all_jobs}
 use Rattle.system_view.specs.Connections.{InLayer, id_of, ShowsOpen, ShowsClosed, ShowsConnection}
 use Rattle.system_view.specs.Connections.{IsSettled, ShowsConnections}
 use Rattle.system_view.specs.Layers.{IsJob, AreJobs, AreEnded, if_none, starved_of, ShowsStore, IsRow, AreRows}
@@ -61,54 +62,39 @@ above_of : (last : Option Stamp) (stamp : Stamp) →
 above_of None stamp above = refl
 above_of (Some before) stamp above = above before refl
 
--- what holds of each request of the layer
-all_jobs : (P : Job → Type 0) (asked : Asked) (ds : List Delivered) (js : List Job) (wss : List (List (List ℕ))) →
-    AreJobs asked ds js wss →
-    ((d : Delivered) (j : Job) (words : List (List ℕ)) → In d ds → IsJob asked d j words → P j) → AllByRecursion P js
-all_jobs P asked [] [] [] are holds = tt
-all_jobs P asked [] [] (ws ∷ wss) are holds = absurd are
-all_jobs P asked [] (j ∷ js) wss are holds = absurd are
-all_jobs P asked (d ∷ ds) [] wss are holds = absurd are
-all_jobs P asked (d ∷ ds) (j ∷ js) [] are holds = absurd are
-all_jobs P asked (d ∷ ds) (j ∷ js) (ws ∷ wss) are holds = (
-  holds d j ws (inl refl) are.0,
-  all_jobs P asked ds js wss are.1 (λ e k words there is. holds e k words (inr there) is),
-)
-
 module _ (t : Layout) (s : StoreState) (w : World) (ds : List Delivered) (good : WorldGood t w)
     (is_taken : w.layer ≡ Taken ds) (shows : ShowsStore t s w) where
-  job_addresses : (d : Delivered) (j : Job) (words : List (List ℕ)) → In d ds → IsJob w.asked d j words →
-      j.groups ≡ groups_of s.table j.command
-  job_addresses d j words there is =
+  job_addresses : (d : Delivered) (j : Job) → In d ds → IsJob w.asked d j →
+      j.groups ≡ groups_of s.table j.asked.command
+  job_addresses d j there is =
       let submitted = layer_is_submitted t w good ds is_taken d there in
       let same : submitted.0 ≡ is.asked_so.0 =
       some_same submitted.0 is.asked_so.0 (sym submitted.1.submitted ∙ is.asked_so.1) in
       is.groups ∙ submitted.2 ∙ ap (λ (q : Request). groups_of t q.command) same ∙ ap (groups_of t) is.asked_so.2
-      ∙ ap (λ (l : Layout). groups_of l j.command) (sym shows.table)
+      ∙ ap (λ (l : Layout). groups_of l j.asked.command) (sym shows.table)
 
-  job_is_fresh : (d : Delivered) (j : Job) (words : List (List ℕ)) → In d ds → IsJob w.asked d j words →
-      IsFresh s.lasts j
-  job_is_fresh d j words there is g member = above_of (last_of s.lasts g) j.stamp (λ before e.
+  job_is_fresh : (d : Delivered) (j : Job) → In d ds → IsJob w.asked d j → IsFresh s.lasts j
+  job_is_fresh d j there is g member = above_of (last_of s.lasts g) j.stamp (λ before e.
       let last = shows.lasts g before e in
       let above = layer_is_above t w good ds is_taken d there last.0 last.1 g last.2
       (subst (λ gs. has gs g ≡ true) is.groups member) in
       ap (λ x. stamp_lt x j.stamp) (sym last.3) ∙ ap (λ x. stamp_lt last.0.stamp x) is.stamp ∙ above)
 
 -- what the store asks of a layer holds of one that was taken
-pub may_be_run : (t : Layout) (s : StoreState) (w : World) (steps : List Step) (ds : List Delivered) (js : List Job)
-    (wss : List (List (List ℕ))) → Leads t opening steps w → w.layer ≡ Taken ds → AreJobs w.asked ds js wss →
-    ShowsStore t s w → AddressTheirGroups s.table js × AreFresh s.lasts js
-may_be_run t s w steps ds js wss leads is_taken are shows =
+pub may_be_run : (t : Layout) (s : StoreState) (w : World) (steps : List Step) (ds : List Delivered) (js : List Job) →
+    Leads t opening steps w → w.layer ≡ Taken ds → AreJobs w.asked ds js → ShowsStore t s w →
+    AddressTheirGroups s.table js × AreFresh s.lasts js
+may_be_run t s w steps ds js leads is_taken are shows =
     let good = good_world t steps w leads in (
-      all_jobs (λ j. j.groups ≡ groups_of s.table j.command) w.asked ds js wss are
+      all_jobs (λ j. j.groups ≡ groups_of s.table j.asked.command) w.asked ds js are
           (job_addresses t s w ds good is_taken shows),
-      all_jobs (IsFresh s.lasts) w.asked ds js wss are (job_is_fresh t s w ds good is_taken shows),
+      all_jobs (IsFresh s.lasts) w.asked ds js are (job_is_fresh t s w ds good is_taken shows),
     )
 
 -- ---- the requests that ended
 
 abbrev ended_by : Job → run.Ended → Ended
-ended_by j r = record { id = j.id; stamp = j.stamp; groups = j.groups; command = j.command; reply = outcome r.reply }
+ended_by j r = record { id = j.id; stamp = j.stamp; groups = j.groups; command = j.asked.command; reply = outcome r.reply }
 
 -- how the requests of a layer ended, as the world tells of them
 abbrev pub ended_in : List Job → List run.Ended → List Ended
@@ -116,18 +102,13 @@ ended_in [] rs = []
 ended_in (j ∷ js) [] = []
 ended_in (j ∷ js) (r ∷ rs) = ended_by j r ∷ ended_in js rs
 
-are_ended : (asked : Asked) (ds : List Delivered) (js : List Job) (wss : List (List (List ℕ))) (rs : List run.Ended) →
-    AreJobs asked ds js wss → AllZip IsOf js rs → AreEnded (ended_in js rs) rs wss
-are_ended asked [] [] [] [] are told = tt
-are_ended asked [] [] [] (r ∷ rs) are told = absurd told
-are_ended asked [] [] (ws ∷ wss) rs are told = absurd are
-are_ended asked [] (j ∷ js) wss rs are told = absurd are
-are_ended asked (d ∷ ds) [] wss rs are told = absurd are
-are_ended asked (d ∷ ds) (j ∷ js) [] rs are told = absurd are
-are_ended asked (d ∷ ds) (j ∷ js) (ws ∷ wss) [] are told = absurd told
-are_ended asked (d ∷ ds) (j ∷ js) (ws ∷ wss) (r ∷ rs) are told = (
-  record { id = told.0.0; stamp = told.0.1; reply = refl; says = are.0.says },
-  are_ended asked ds js wss rs are.1 told.1,
+are_ended : (js : List Job) (rs : List run.Ended) → AllZip IsOf js rs → AreEnded (ended_in js rs) rs
+are_ended [] [] told = tt
+are_ended [] (r ∷ rs) told = absurd told
+are_ended (j ∷ js) [] told = absurd told
+are_ended (j ∷ js) (r ∷ rs) told = (
+  record { id = told.0.0; stamp = told.0.1; reply = refl; says = ap reading told.0.2 ∙ j.asked.says },
+  are_ended js rs told.1,
 )
 
 -- ---- who starved
@@ -214,18 +195,16 @@ once_layer : (t : Layout) (w : World) (ds : List Delivered) → WorldGood t w �
 once_layer t w ds good is_taken = once_taken t w (all_delivered w.ended) ds good
     (subst (λ l. TakenGood w.asked w.proposed w.gone (all_taken w.ended l)) is_taken good.taken)
 
-ids_same : (asked : Asked) (ds : List Delivered) (js : List Job) (wss : List (List (List ℕ))) (rs : List run.Ended) →
-    AreJobs asked ds js wss → AllZip IsOf js rs → ids_delivered ds ≡ ids_run rs
-ids_same asked [] [] [] [] are told = refl
-ids_same asked [] [] [] (r ∷ rs) are told = absurd told
-ids_same asked [] [] (ws ∷ wss) rs are told = absurd are
-ids_same asked [] (j ∷ js) wss rs are told = absurd are
-ids_same asked (d ∷ ds) [] wss rs are told = absurd are
-ids_same asked (d ∷ ds) (j ∷ js) [] rs are told = absurd are
-ids_same asked (d ∷ ds) (j ∷ js) (ws ∷ wss) [] are told = absurd told
-ids_same asked (d ∷ ds) (j ∷ js) (ws ∷ wss) (r ∷ rs) are told =
+ids_same : (asked : Asked) (ds : List Delivered) (js : List Job) (rs : List run.Ended) →
+    AreJobs asked ds js → AllZip IsOf js rs → ids_delivered ds ≡ ids_run rs
+ids_same asked [] [] [] are told = refl
+ids_same asked [] [] (r ∷ rs) are told = absurd told
+ids_same asked [] (j ∷ js) rs are told = absurd are
+ids_same asked (d ∷ ds) [] rs are told = absurd are
+ids_same asked (d ∷ ds) (j ∷ js) [] are told = absurd told
+ids_same asked (d ∷ ds) (j ∷ js) (r ∷ rs) are told =
     ap (λ i. i ∷ ids_delivered ds) (sym (told.0.0 ∙ are.0.id))
-    ∙ ap (λ l. r.id ∷ l) (ids_same asked ds js wss rs are.1 told.1)
+    ∙ ap (λ l. r.id ∷ l) (ids_same asked ds js rs are.1 told.1)
 
 -- ---- one after another
 
@@ -241,15 +220,15 @@ contents_after : (m new : Map) (js : List Job) (rs : List run.Ended) →
 contents_after m new [] [] answered = answered
 contents_after m new [] (r ∷ rs) answered = absurd answered
 contents_after m new (j ∷ js) [] answered = absurd answered
-contents_after m new (j ∷ js) (r ∷ rs) answered = contents_after (map_after (outcome r.reply) j.command m) new js rs
-    (answered_first (outcome r.reply) m new j.command (commands_of js) (outcomes_of_ended rs) answered).1
+contents_after m new (j ∷ js) (r ∷ rs) answered = contents_after (map_after (outcome r.reply) j.asked.command m) new js rs
+    (answered_first (outcome r.reply) m new j.asked.command (commands_of js) (outcomes_of_ended rs) answered).1
 
 -- a request ends as the world says
-ends_as : (asked : Asked) (starved : List RequestId) (m : Map) (d : Delivered) (j : Job) (words : List (List ℕ))
-    (r : run.Ended) → (is : IsJob asked d j words) → IsOf j r → names starved r.id ≡ is_none (outcome r.reply) →
-    outcome r.reply ≡ cond (is_none (outcome r.reply)) None (Some (effect_of j.command m).1) →
+ends_as : (asked : Asked) (starved : List RequestId) (m : Map) (d : Delivered) (j : Job)
+    (r : run.Ended) → (is : IsJob asked d j) → IsOf j r → names starved r.id ≡ is_none (outcome r.reply) →
+    outcome r.reply ≡ cond (is_none (outcome r.reply)) None (Some (effect_of j.asked.command m).1) →
     ended_by j r ≡ ended_as starved m d is.asked_so.0.command
-ends_as asked starved m d j words r is of tells answer = λ i. record {
+ends_as asked starved m d j r is of tells answer = λ i. record {
   id = is.id i;
   stamp = is.stamp i;
   groups = is.groups i;
@@ -257,29 +236,27 @@ ends_as asked starved m d j words r is of tells answer = λ i. record {
   reply = reply i;
 }
   where
-    command : j.command ≡ is.asked_so.0.command
+    command : j.asked.command ≡ is.asked_so.0.command
     command = sym is.asked_so.2
 
     reply : outcome r.reply ≡ cond (names starved d.id) None (Some (effect_of is.asked_so.0.command m).1)
     reply =
-        answer ∙ ap (λ b. cond b None (Some (effect_of j.command m).1)) (sym tells ∙ ap (names starved) (of.0 ∙ is.id))
+        answer ∙ ap (λ b. cond b None (Some (effect_of j.asked.command m).1)) (sym tells ∙ ap (names starved) (of.0 ∙ is.id))
         ∙ ap (λ c. cond (names starved d.id) None (Some (effect_of c m).1)) command
 
 run_in_turn : (asked : Asked) (starved : List RequestId) (m new : Map) (ds : List Delivered) (js : List Job)
-    (wss : List (List (List ℕ))) (rs : List run.Ended) → AreJobs asked ds js wss → AllZip IsOf js rs →
+    (rs : List run.Ended) → AreJobs asked ds js → AllZip IsOf js rs →
     TellsStarved (names starved) rs → AnsweredInTurn m (commands_of js) (outcomes_of_ended rs) new →
     RunInTurn asked starved m ds (ended_in js rs)
-run_in_turn asked starved m new [] [] [] [] are told tells answered = refl
-run_in_turn asked starved m new [] [] [] (r ∷ rs) are told tells answered = absurd told
-run_in_turn asked starved m new [] [] (ws ∷ wss) rs are told tells answered = absurd are
-run_in_turn asked starved m new [] (j ∷ js) wss rs are told tells answered = absurd are
-run_in_turn asked starved m new (d ∷ ds) [] wss rs are told tells answered = absurd are
-run_in_turn asked starved m new (d ∷ ds) (j ∷ js) [] rs are told tells answered = absurd are
-run_in_turn asked starved m new (d ∷ ds) (j ∷ js) (ws ∷ wss) [] are told tells answered = absurd told
-run_in_turn asked starved m new (d ∷ ds) (j ∷ js) (ws ∷ wss) (r ∷ rs) are told tells answered =
-    let first = answered_first (outcome r.reply) m new j.command (commands_of js) (outcomes_of_ended rs) answered in (
-      (are.0.asked_so.0, are.0.asked_so.1, ends_as asked starved m d j ws r are.0 told.0 tells.0 first.0),
-      run_in_turn asked starved (map_after (outcome r.reply) j.command m) new ds js wss rs are.1 told.1 tells.1 first.1,
+run_in_turn asked starved m new [] [] [] are told tells answered = refl
+run_in_turn asked starved m new [] [] (r ∷ rs) are told tells answered = absurd told
+run_in_turn asked starved m new [] (j ∷ js) rs are told tells answered = absurd are
+run_in_turn asked starved m new (d ∷ ds) [] rs are told tells answered = absurd are
+run_in_turn asked starved m new (d ∷ ds) (j ∷ js) [] are told tells answered = absurd told
+run_in_turn asked starved m new (d ∷ ds) (j ∷ js) (r ∷ rs) are told tells answered =
+    let first = answered_first (outcome r.reply) m new j.asked.command (commands_of js) (outcomes_of_ended rs) answered in (
+      (are.0.asked_so.0, are.0.asked_so.1, ends_as asked starved m d j r are.0 told.0 tells.0 first.0),
+      run_in_turn asked starved (map_after (outcome r.reply) j.asked.command m) new ds js rs are.1 told.1 tells.1 first.1,
     )
 
 -- ---- the last stamps
@@ -367,13 +344,13 @@ module _ (w : World) (ds : List Delivered) (es : List Ended) (is_taken : w.layer
   open_run : (s : Standing) (v : Connection) (c : ℕ) → ShowsOpen s v w c → ShowsOpen s v (ran_world w es) c
   open_run router.Idle v c shows = shows
   open_run (router.Waiting p) v c shows = shows
-  open_run router.Taken v c shows = (shows.0, in_layer_run (id_of c v.seq) shows.1)
+  open_run (router.Taken words) v c shows = (shows.0, in_layer_run (id_of c v.seq) shows.1, shows.2)
   open_run (router.Answered o) v c shows = shows
 
   closed_run : (s : Standing) (v : Connection) (c : ℕ) → ShowsClosed s v w c → ShowsClosed s v (ran_world w es) c
   closed_run router.Idle v c shows = absurd shows
   closed_run (router.Waiting p) v c shows = shows
-  closed_run router.Taken v c shows = (shows.0, in_layer_run (id_of c v.seq) shows.1)
+  closed_run (router.Taken words) v c shows = (shows.0, in_layer_run (id_of c v.seq) shows.1, shows.2)
   closed_run (router.Answered o) v c shows = absurd shows
 
   connection_run : (o : Option Connection) (c : ℕ) → ShowsConnection o w c → ShowsConnection o (ran_world w es) c
@@ -402,22 +379,21 @@ module _ (w : World) (ds : List Delivered) (es : List Ended) (is_taken : w.layer
 -- ---- the layer
 
 -- the layer is run in the world, and the store and the router show the world after it
-pub record ShowsRun (t : Layout) (w : World) (r : RouterView) (wss : List (List (List ℕ))) (rs : List run.Ended)
-    (new : StoreState) : Type 0 where
+pub record ShowsRun (t : Layout) (w : World) (r : RouterView) (rs : List run.Ended) (new : StoreState) : Type 0 where
   pub es : List Ended
-  pub ended : AreEnded es rs wss
+  pub ended : AreEnded es rs
   pub starved : starved_of rs ≡ starved_among es
   pub runs : RunsLayer w (starved_of rs) (Ran (starved_of rs)) (ran_world w es)
   pub store : ShowsStore t new (ran_world w es)
   pub connections : ShowsConnections r (ran_world w es)
 
 pub shows_run : (t : Layout) (w : World) (steps : List Step) (ds : List Delivered) (js : List Job)
-    (wss : List (List (List ℕ))) (r : RouterView) (old new : StoreState) (skip : List RequestId) (rs : List run.Ended) →
-    Leads t opening steps w → w.layer ≡ Taken ds → AreJobs w.asked ds js wss → ShowsStore t old w →
-    ShowsConnections r w → HasRunLayer old skip js rs new → ShowsRun t w r wss rs new
-shows_run t w steps ds js wss r old new skip rs leads is_taken are store connections ran = record {
+    (r : RouterView) (old new : StoreState) (skip : List RequestId) (rs : List run.Ended) →
+    Leads t opening steps w → w.layer ≡ Taken ds → AreJobs w.asked ds js → ShowsStore t old w →
+    ShowsConnections r w → HasRunLayer old skip js rs new → ShowsRun t w r rs new
+shows_run t w steps ds js r old new skip rs leads is_taken are store connections ran = record {
   es = ended_in js rs;
-  ended = are_ended w.asked ds js wss rs are told;
+  ended = are_ended js rs told;
   starved = starved_same js rs told;
   runs = record {
     layer = ds;
@@ -436,11 +412,11 @@ shows_run t w steps ds js wss r old new skip rs leads is_taken are store connect
     told = ran.done.told
 
     once : EachOnce (ids_run rs)
-    once = subst EachOnce (ids_same w.asked ds js wss rs are ran.done.told)
+    once = subst EachOnce (ids_same w.asked ds js rs are ran.done.told)
         (once_layer t w ds (good_world t steps w leads) is_taken)
 
     in_turn : RunInTurn w.asked (starved_of rs) w.contents ds (ended_in js rs)
-    in_turn = run_in_turn w.asked (starved_of rs) w.contents (joined new.maps) ds js wss rs are ran.done.told
+    in_turn = run_in_turn w.asked (starved_of rs) w.contents (joined new.maps) ds js rs are ran.done.told
         (tells_starved rs once)
         (subst (λ m. AnsweredInTurn m (commands_of js) (outcomes_of_ended rs) (joined new.maps)) store.contents
         ran.done.in_turn)

@@ -229,22 +229,18 @@ pub record NextEnded (t : Layout) (w : World) (front : List Ended) (rest : List 
     (r : RouterView) : Type 0 where
   pub e : Ended
   pub back : List Ended
-  pub words : List (List (List ℕ))
   pub id : x.id ≡ e.id
   pub stamp : x.stamp ≡ e.stamp
   pub reply : outcome x.reply ≡ e.reply
-  pub others : AreEnded back rest words
+  pub others : AreEnded back rest
   pub settling : IsSettling t w front (e ∷ back) r
 
 pub next_ended : (t : Layout) (w : World) (front back : List Ended) (x : run.Ended) (rest : List run.Ended)
-    (words : List (List (List ℕ))) (r : RouterView) → AreEnded back (x ∷ rest) words →
-    IsSettling t w front back r → NextEnded t w front rest x r
-next_ended t w front [] x rest words r are is = absurd are
-next_ended t w front (e ∷ back) x rest [] r are is = absurd are
-next_ended t w front (e ∷ back) x rest (ws ∷ words) r are is = record {
+    (r : RouterView) → AreEnded back (x ∷ rest) → IsSettling t w front back r → NextEnded t w front rest x r
+next_ended t w front [] x rest r are is = absurd are
+next_ended t w front (e ∷ back) x rest r are is = record {
   e = e;
   back = back;
-  words = words;
   id = are.0.id;
   stamp = are.0.stamp;
   reply = are.0.reply;
@@ -253,9 +249,9 @@ next_ended t w front (e ∷ back) x rest (ws ∷ words) r are is = record {
 }
 
 -- once the store tells of no more, there are no more
-pub none_ended : (back : List Ended) (words : List (List (List ℕ))) → AreEnded back [] words → back ≡ []
-none_ended [] words are = refl
-none_ended (e ∷ back) words are = absurd are
+pub none_ended : (back : List Ended) → AreEnded back [] → back ≡ []
+none_ended [] are = refl
+none_ended (e ∷ back) are = absurd are
 
 -- the outcome that a connection gets of it: its reply, or that there was no memory
 pub record IsOutcomeOf (x : run.Ended) (o : kept.Outcome) : Type 0 where

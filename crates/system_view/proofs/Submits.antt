@@ -119,9 +119,9 @@ module _ (t : Layout) (w : World) (c : ℕ) (r : Request) (good : AskedGood t w.
 
   shows_multicast : (old new : RouterView) (was now : Connection) (p : Pending) → ShowsConnections old w →
       Submitter old new w c was now →
-      now.standing ≡ router.Waiting p → r.command ≡ p.command → reading p.words ≡ Ok p.command →
+      now.standing ≡ router.Waiting p → r.command ≡ p.asked.command →
       ShowsConnections new (multicast w c r)
-  shows_multicast old new was now p shows s is command says = record {
+  shows_multicast old new was now p shows s is command = record {
     opened = s.changes.opened ∙ shows.opened;
     each = each_of old new w (multicast w c r) c (Some now) s.changes.at alike_multicast shows.each (
       s.seq ∙ sym (cond-true (c == c) (suc (w.seq c)) (w.seq c) (eq-eqb c c refl)),
@@ -134,7 +134,6 @@ module _ (t : Layout) (w : World) (c : ℕ) (r : Request) (good : AskedGood t w.
             ap (λ b. cond b (Some r) (w.asked (id_of c now.seq)))
                 (eq-same_id (id_of c now.seq) (id_of c (suc (w.seq c))) (ap (id_of c) s.seq)),
             command,
-            says,
           ),
         ),
       ),
@@ -166,29 +165,29 @@ local_effect (Echo word) = refl
 module _ (t : Layout) (w : World) (c : ℕ) (good : AskedGood t w.asked w.proposed w.seq w.last) (words : List (List ℕ)) where
   -- a command that addresses groups waits, and the world has sent it to them
   waits_as : (old new : RouterView) (was now : Connection) (command : Command) (p : Pending) →
-      reading words ≡ Ok command → (g : ℕ) (gs : List ℕ) → groups_of t command ≡ g ∷ gs →
+      (g : ℕ) (gs : List ℕ) → groups_of t command ≡ g ∷ gs →
       ShowsConnections old w → Submitter old new w c was now → now.standing ≡ router.Waiting p →
-      (p.words ≡ words) × (p.command ≡ command) →
+      (p.asked.words ≡ words) × (p.asked.command ≡ command) →
       ShowsConnections new (submitted_to w c command (groups_of t command))
-  waits_as old new was now command p read g gs groups shows s is same =
+  waits_as old new was now command p g gs groups shows s is same =
       subst (λ all. ShowsConnections new (submitted_to w c command all)) (sym groups)
       (shows_multicast t w c
       (record { floor = floor_of w c; groups = g ∷ gs; command = command }) good old new was now p shows s is
-      (sym same.1) (ap reading same.0 ∙ read ∙ ap Ok (sym same.1)))
+      (sym same.1))
 
   -- the words are read; the router has done as they say, and so has the world
   by_reading : (old new : RouterView) (was now : Connection) (result : Result Command Refusal) →
-      reading words ≡ result → Addresses t result → ShowsConnections old w → Submitter old new w c was now →
+      Addresses t result → ShowsConnections old w → Submitter old new w c was now →
       StandsBy (id_of c (suc (w.seq c))) words result now.standing → ShowsConnections new (submitted t w c result)
-  by_reading old new was now (Err refusal) read addresses shows s stands = by_standing now.standing refl stands
+  by_reading old new was now (Err refusal) addresses shows s stands = by_standing now.standing refl stands
     where
       by_standing : (x : Standing) → now.standing ≡ x → StandsBy (id_of c (suc (w.seq c))) words (Err refusal) x →
           ShowsConnections new (answered w c (ErrorLine (refusal_text refusal)))
       by_standing router.Idle e says = absurd says
       by_standing (router.Waiting p) e says = absurd says
-      by_standing router.Taken e says = absurd says
+      by_standing (router.Taken w) e says = absurd says
       by_standing (router.Answered o) e says = shows_answered old new w c was now o _ shows s e (ap to_outcome says)
-  by_reading old new was now (Ok (Local l)) read addresses shows s stands =
+  by_reading old new was now (Ok (Local l)) addresses shows s stands =
       subst (λ gs. ShowsConnections new (submitted_to w c (Local l) gs)) (sym addresses)
       (by_standing now.standing refl stands)
     where
@@ -196,57 +195,57 @@ module _ (t : Layout) (w : World) (c : ℕ) (good : AskedGood t w.asked w.propos
           ShowsConnections new (answered w c (effect_of (Local l) empty).1)
       by_standing router.Idle e says = absurd says
       by_standing (router.Waiting p) e says = absurd says
-      by_standing router.Taken e says = absurd says
+      by_standing (router.Taken w) e says = absurd says
       by_standing (router.Answered o) e says =
           subst (λ reply. ShowsConnections new (answered w c reply)) (sym (local_effect l))
           (shows_answered old new w c was now o (local_reply l) shows s e (ap to_outcome says))
-  by_reading old new was now (Ok (Key k)) read addresses shows s stands = by_standing now.standing refl stands
+  by_reading old new was now (Ok (Key k)) addresses shows s stands = by_standing now.standing refl stands
     where
       by_standing : (x : Standing) → now.standing ≡ x → StandsBy (id_of c (suc (w.seq c))) words (Ok (Key k)) x →
           ShowsConnections new (submitted_to w c (Key k) (groups_of t (Key k)))
       by_standing router.Idle e says = absurd says
       by_standing (router.Waiting p) e says =
-          waits_as old new was now (Key k) p read addresses.0 addresses.1 addresses.2 shows s e says
-      by_standing router.Taken e says = absurd says
+          waits_as old new was now (Key k) p addresses.0 addresses.1 addresses.2 shows s e says
+      by_standing (router.Taken w) e says = absurd says
       by_standing (router.Answered o) e says = absurd says
-  by_reading old new was now (Ok (Str k)) read addresses shows s stands = by_standing now.standing refl stands
+  by_reading old new was now (Ok (Str k)) addresses shows s stands = by_standing now.standing refl stands
     where
       by_standing : (x : Standing) → now.standing ≡ x → StandsBy (id_of c (suc (w.seq c))) words (Ok (Str k)) x →
           ShowsConnections new (submitted_to w c (Str k) (groups_of t (Str k)))
       by_standing router.Idle e says = absurd says
       by_standing (router.Waiting p) e says =
-          waits_as old new was now (Str k) p read addresses.0 addresses.1 addresses.2 shows s e says
-      by_standing router.Taken e says = absurd says
+          waits_as old new was now (Str k) p addresses.0 addresses.1 addresses.2 shows s e says
+      by_standing (router.Taken w) e says = absurd says
       by_standing (router.Answered o) e says = absurd says
-  by_reading old new was now (Ok (command.List k)) read addresses shows s stands = by_standing now.standing refl stands
+  by_reading old new was now (Ok (command.List k)) addresses shows s stands = by_standing now.standing refl stands
     where
       by_standing : (x : Standing) → now.standing ≡ x →
           StandsBy (id_of c (suc (w.seq c))) words (Ok (command.List k)) x →
           ShowsConnections new (submitted_to w c (command.List k) (groups_of t (command.List k)))
       by_standing router.Idle e says = absurd says
       by_standing (router.Waiting p) e says =
-          waits_as old new was now (command.List k) p read addresses.0 addresses.1 addresses.2 shows s e says
-      by_standing router.Taken e says = absurd says
+          waits_as old new was now (command.List k) p addresses.0 addresses.1 addresses.2 shows s e says
+      by_standing (router.Taken w) e says = absurd says
       by_standing (router.Answered o) e says = absurd says
-  by_reading old new was now (Ok (command.Hash k)) read addresses shows s stands = by_standing now.standing refl stands
+  by_reading old new was now (Ok (command.Hash k)) addresses shows s stands = by_standing now.standing refl stands
     where
       by_standing : (x : Standing) → now.standing ≡ x →
           StandsBy (id_of c (suc (w.seq c))) words (Ok (command.Hash k)) x →
           ShowsConnections new (submitted_to w c (command.Hash k) (groups_of t (command.Hash k)))
       by_standing router.Idle e says = absurd says
       by_standing (router.Waiting p) e says =
-          waits_as old new was now (command.Hash k) p read addresses.0 addresses.1 addresses.2 shows s e says
-      by_standing router.Taken e says = absurd says
+          waits_as old new was now (command.Hash k) p addresses.0 addresses.1 addresses.2 shows s e says
+      by_standing (router.Taken w) e says = absurd says
       by_standing (router.Answered o) e says = absurd says
-  by_reading old new was now (Ok (command.Set k)) read addresses shows s stands = by_standing now.standing refl stands
+  by_reading old new was now (Ok (command.Set k)) addresses shows s stands = by_standing now.standing refl stands
     where
       by_standing : (x : Standing) → now.standing ≡ x →
           StandsBy (id_of c (suc (w.seq c))) words (Ok (command.Set k)) x →
           ShowsConnections new (submitted_to w c (command.Set k) (groups_of t (command.Set k)))
       by_standing router.Idle e says = absurd says
       by_standing (router.Waiting p) e says =
-          waits_as old new was now (command.Set k) p read addresses.0 addresses.1 addresses.2 shows s e says
-      by_standing router.Taken e says = absurd says
+          waits_as old new was now (command.Set k) p addresses.0 addresses.1 addresses.2 shows s e says
+      by_standing (router.Taken w) e says = absurd says
       by_standing (router.Answered o) e says = absurd says
 
   pub shows_submitted : (old new : RouterView) (sent : Submission) → Addresses t (reading words) →
@@ -262,7 +261,7 @@ module _ (t : Layout) (w : World) (c : ℕ) (good : AskedGood t w.asked w.propos
         idle.0,
         submits.id ∙ id,
         submits.floor ∙ idle.1,
-        by_reading old new was submits.now (reading words) refl addresses shows
+        by_reading old new was submits.now (reading words) addresses shows
             (record {
               kept = submits.kept;
               idle = submits.idle;

@@ -1,6 +1,6 @@
 -- Taking a layer out of the router, one request after another, is a step of the world.
 use Rattle.std.proofs.Common.{◌≡◌, ◌≢◌, ℕ, ◌==◌, true, cond, List, [], ◌∷◌, ◌++◌, ◌⊎◌, inl, inr, length, IfSome, Option}
-use Rattle.std.proofs.Common.{Some, None, refl, sym, ap, ◌∙◌, subst, eq-eqb, append-nil}
+use Rattle.std.proofs.Common.{Some, None, Ok, option_map, refl, sym, ap, ◌∙◌, subst, eq-eqb, append-nil}
 use Rattle.std.proofs.lemmas.Bool.{both_ways}
 use Rattle.std.proofs.Math.Seq.{append_snoc}
 use Rattle.delivery.proofs.Layers.{taken_somewhere}
@@ -25,10 +25,11 @@ use Rattle.skeen_core.specs.declared.packet.Delivered.{Delivered}
 use Rattle.groups.specs.declared.request.RequestId.{RequestId}
 use Rattle.system_view.proofs.Connections.{Alike, connection_alike, each_of, kept_here, kept_at, StandsUnderWay}
 use Rattle.system_view.proofs.Connections.{stands_under_way}
-use Rattle.system_view.specs.Connections.{Waits, InLayer, id_of, ShowsOpen, ShowsClosed, ShowsConnection, ShowsKept}
+use Rattle.system_view.specs.Connections.{Waits, AreItsWords, InLayer, id_of, ShowsOpen, ShowsClosed, ShowsConnection, ShowsKept}
 use Rattle.system_view.specs.Connections.{IsKeptFor, ShowsConnections}
 use Rattle.system_view.specs.Multicast.{ShowsMulticast}
 use Rattle.system_view.specs.Taking.{with_layer, IsTaking}
+use Rattle.worded.specs.declared.worded.Worded.{Worded}
 use Rattle.world.specs.Steps.{opening, Made, taken, Takes, Leads}
 use Rattle.world.specs.World.{World, Request, Ended, Layer, NoneTaken, Taken}
 use Rattle.world_laws.proofs.ConditionLaws.{delivered_same}
@@ -63,7 +64,11 @@ takes_layer w ds none layer some = record {
 
 -- a request that waits, and isn't taken
 abbrev IsPending : Standing → World → RequestId → Type 0
-IsPending s w i = (p : Pending) × (s ≡ router.Waiting p) × Waits w i p
+IsPending s w i = (p : Pending) × (s ≡ router.Waiting p) × Waits w i p.asked
+
+-- the words of one that waits say the command with which it was submitted
+pub its_words : (w : World) (i : RequestId) (asked : Worded) → Waits w i asked → AreItsWords w i asked.words
+its_words w i asked waits = (waits.0, waits.1, asked.says ∙ ap Ok (sym waits.2))
 
 -- under a request that is under way stands one that waits, or one that was taken
 abbrev IsTakenOr : Standing → World → RequestId → Type 0
@@ -73,14 +78,14 @@ open_pending : (s : Standing) (v : Connection) (w : World) (c : ℕ) → is_unde
     IsTakenOr s w (id_of c v.seq)
 open_pending router.Idle v w c busy shows = absurd (both_ways _ refl busy)
 open_pending (router.Waiting p) v w c busy shows = inl (p, refl, shows.1)
-open_pending router.Taken v w c busy shows = inr shows.1
+open_pending (router.Taken words) v w c busy shows = inr shows.1
 open_pending (router.Answered o) v w c busy shows = absurd (both_ways _ refl busy)
 
 closed_pending : (s : Standing) (v : Connection) (w : World) (c : ℕ) → ShowsClosed s v w c →
     IsTakenOr s w (id_of c v.seq)
 closed_pending router.Idle v w c shows = absurd shows
 closed_pending (router.Waiting p) v w c shows = inl (p, refl, shows.1)
-closed_pending router.Taken v w c shows = inr shows.1
+closed_pending (router.Taken words) v w c shows = inr shows.1
 closed_pending (router.Answered o) v w c shows = absurd shows
 
 kept_pending : (v : Connection) (w : World) (c : ℕ) → is_under_way v.standing ≡ true → ShowsKept v w c →
@@ -88,10 +93,10 @@ kept_pending : (v : Connection) (w : World) (c : ℕ) → is_under_way v.standin
 kept_pending v w c busy (seq, inl live) = open_pending v.standing v w c busy live.1
 kept_pending v w c busy (seq, inr shut) = closed_pending v.standing v w c shut.1
 
--- the connection's request was taken out of the router
-abbrev pub WasTaken : RouterView → RouterView → ℕ → Type 0
-WasTaken r r' c =
-    (v : Connection) × (connection r c ≡ Some v) × Changes r r' c (Some (with_standing v router.Taken))
+-- the connection's request was taken out of the router, and these words stay
+abbrev pub WasTaken : RouterView → RouterView → ℕ → List (List ℕ) → Type 0
+WasTaken r r' c words =
+    (v : Connection) × (connection r c ≡ Some v) × Changes r r' c (Some (with_standing v (router.Taken words)))
 
 -- ---- the next request
 
@@ -162,8 +167,8 @@ module _ (t : Layout) (w : World) (front : List Delivered) (d : Delivered) (back
         | inr out ↦ absurd (not_in_front out)
       ]
 
-  -- so the router has its words and its command
-  pub take_pending : (p : Pending) × (pending_at (connection r d.id.conn.0) d.id.seq ≡ Some p) × Waits w d.id p
+  -- so the router has its command with its words
+  pub take_pending : (p : Pending) × (pending_at (connection r d.id.conn.0) d.id.seq ≡ Some p) × Waits w d.id p.asked
   take_pending = (
     is_pending.0,
     ap (λ o. pending_at o d.id.seq) kept_for.kept
@@ -182,35 +187,42 @@ module _ (t : Layout) (w : World) (front : List Delivered) (d : Delivered) (back
   }
 
   -- its connection has given it away
-  taken_here : (v : Connection) → v.seq ≡ d.id.seq → v.seq ≡ w.seq d.id.conn.0 →
-      StandsUnderWay v before d.id.conn.0 →
-      ShowsConnection (Some (with_standing v router.Taken)) after d.id.conn.0
-  taken_here v this seq stands = (
+  taken_here : (v : Connection) (words : List (List ℕ)) → AreItsWords w d.id words → v.seq ≡ d.id.seq →
+      v.seq ≡ w.seq d.id.conn.0 → StandsUnderWay v before d.id.conn.0 →
+      ShowsConnection (Some (with_standing v (router.Taken words))) after d.id.conn.0
+  taken_here v words its this seq stands = (
     seq,
-    elim stands [ inl waits ↦ inl (waits.0, (waits.1, out)) | inr shut ↦ inr (shut.0, (shut.1, out)) ],
+    elim stands [
+      | inl waits ↦ inl (waits.0, (waits.1, out, still_its))
+      | inr shut ↦ inr (shut.0, (shut.1, out, still_its))
+    ],
   )
     where
+      still_its : AreItsWords after (id_of d.id.conn.0 v.seq) words
+      still_its = subst (λ i. AreItsWords w i words) (sym (same_request (id_of d.id.conn.0 v.seq) d.id refl this)) its
+
       out : has_id (front ++ d ∷ []) (id_of d.id.conn.0 v.seq) ≡ true
       out = subst (λ i. has_id (front ++ d ∷ []) i ≡ true)
           (sym (same_request (id_of d.id.conn.0 v.seq) d.id refl this))
           (id_there (front ++ d ∷ []) d (In-right d front (d ∷ []) (inl refl)))
 
-  pub take_next : (r' : RouterView) (v : Connection) → connection r d.id.conn.0 ≡ Some v →
-      Changes r r' d.id.conn.0 (Some (with_standing v router.Taken)) → IsTaking t w (front ++ d ∷ []) back r'
-  take_next r' v there changes = record {
+  pub take_next : (r' : RouterView) (v : Connection) (words : List (List ℕ)) → connection r d.id.conn.0 ≡ Some v →
+      AreItsWords w d.id words → Changes r r' d.id.conn.0 (Some (with_standing v (router.Taken words))) →
+      IsTaking t w (front ++ d ∷ []) back r'
+  take_next r' v words there its changes = record {
     steps = is.steps;
     leads = is.leads;
     none = is.none;
     layer = subst (λ ds. IsLayer w.queue ds) (sym (append_snoc front d back)) is.layer;
     shows = record {
       opened = changes.opened ∙ is.shows.opened;
-      each = each_of r r' before after d.id.conn.0 (Some (with_standing v router.Taken)) changes.at
+      each = each_of r r' before after d.id.conn.0 (Some (with_standing v (router.Taken words))) changes.at
           (λ c other. alike_taken c) is.shows.each
-          (taken_here v seq here.0 (stands_under_way v before d.id.conn.0 busy here));
+          (taken_here v words its seq here.0 (stands_under_way v before d.id.conn.0 busy here));
       under_way = λ i q asked. elim (is.shows.under_way i q asked) [
         | inl done ↦ inl done
-        | inr kept ↦ inr (kept_here r r' d.id.conn.0 v (Some (with_standing v router.Taken)) i there changes.at
-            (λ waits. (with_standing v router.Taken, refl, refl, refl)) kept)
+        | inr kept ↦ inr (kept_here r r' d.id.conn.0 v (Some (with_standing v (router.Taken words))) i there changes.at
+            (λ waits. (with_standing v (router.Taken words), refl, refl, refl)) kept)
       ];
     };
   }
@@ -228,13 +240,16 @@ module _ (t : Layout) (w : World) (front : List Delivered) (d : Delivered) (back
       seq = subst (λ (u : Connection). u.seq ≡ d.id.seq) same kept_for.seq
 
   -- so much the router's take gives and does
-  pub take_did : (r' : RouterView) (o : Option Pending) → o ≡ pending_at (connection r d.id.conn.0) d.id.seq →
-      IfSome o (λ p. WasTaken r r' d.id.conn.0) →
-      (p : Pending) × (o ≡ Some p) × Waits w d.id p × IsTaking t w (front ++ d ∷ []) back r'
+  pub take_did : (r' : RouterView) (o : Option Worded) →
+      o ≡ option_map (λ p. p.asked) (pending_at (connection r d.id.conn.0) d.id.seq) →
+      IfSome o (λ asked. WasTaken r r' d.id.conn.0 asked.words) →
+      (asked : Worded) × (o ≡ Some asked) × Waits w d.id asked × IsTaking t w (front ++ d ∷ []) back r'
   take_did r' o given did =
-      let some : o ≡ Some take_pending.0 = given ∙ take_pending.1 in
-      let was : WasTaken r r' d.id.conn.0 = subst (λ x. IfSome x (λ p. WasTaken r r' d.id.conn.0)) some did in
-      (take_pending.0, some, take_pending.2, take_next r' was.0 was.1 was.2)
+      let asked : Worded = take_pending.0.asked in
+      let some : o ≡ Some asked = given ∙ ap (option_map (λ (p : Pending). p.asked)) take_pending.1 in
+      let was : WasTaken r r' d.id.conn.0 asked.words =
+      subst (λ x. IfSome x (λ (a : Worded). WasTaken r r' d.id.conn.0 a.words)) some did in
+      (asked, some, take_pending.2, take_next r' was.0 asked.words was.1 (its_words w d.id asked take_pending.2) was.2)
 
 -- ---- the first and the last
 

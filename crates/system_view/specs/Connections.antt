@@ -10,7 +10,6 @@ use Rattle.resp.specs.Content.{content}
 use Rattle.router.specs.Connection.{is_under_way}
 use Rattle.router.specs.Router.{RouterView, connection}
 use Rattle.router.specs.declared.connection.Connection.{Connection}
-use Rattle.router.specs.declared.connection.Pending.{Pending}
 use Rattle.router.specs.declared.connection.Standing.{Standing}
 use Rattle.router.specs.declared.connection.Standing.TheVariants as router
 use Rattle.router.specs.declared.outcome.Outcome as kept
@@ -18,6 +17,7 @@ use Rattle.groups.specs.declared.request.RequestId.{RequestId}
 use Rattle.world.specs.Steps.{floor_of}
 use Rattle.world.specs.World.{World, Request, Outcome, Closed, Idle, Waiting, Answered, Ended, Layer, NoneTaken, Taken}
 use Rattle.world.specs.World.{HasRun}
+use Rattle.worded.specs.declared.worded.Worded.{Worded}
 use Rattle.world_laws.specs.Good.{Named, run_in, all_delivered}
 use Rattle.skeen_core.specs.Group.{has_id}
 
@@ -25,10 +25,13 @@ use Rattle.skeen_core.specs.Group.{has_id}
 abbrev pub outcome_shown : kept.Outcome → Outcome
 outcome_shown o = record { id = o.id; reply = content o.reply; stamp = o.stamp }
 
--- the words and the command of a request that waits to be taken: it was submitted with that command, which the words
--- say
-abbrev pub Waits : World → RequestId → Pending → Type 0
-Waits w id p = (q : Request) × (w.asked id ≡ Some q) × (q.command ≡ p.command) × (reading p.words ≡ Ok p.command)
+-- what a request asks that waits to be taken: it was submitted with that command
+abbrev pub Waits : World → RequestId → Worded → Type 0
+Waits w id asked = (q : Request) × (w.asked id ≡ Some q) × (q.command ≡ asked.command)
+
+-- these words say the command with which the request was submitted
+abbrev pub AreItsWords : World → RequestId → List (List ℕ) → Type 0
+AreItsWords w id words = (q : Request) × (w.asked id ≡ Some q) × (reading words ≡ Ok q.command)
 
 -- the request is in the layer, run or not
 abbrev pub InLayer : Layer → RequestId → Type 0
@@ -43,15 +46,17 @@ id_of c seq = record { conn = record { 0 = c }; seq = seq }
 -- how an open connection stands
 abbrev pub ShowsOpen : Standing → Connection → World → ℕ → Type 0
 ShowsOpen router.Idle v w c = (w.standing c ≡ Idle) × (v.floor ≡ floor_of w c)
-ShowsOpen (router.Waiting p) v w c = (w.standing c ≡ Waiting) × Waits w (id_of c v.seq) p
-ShowsOpen router.Taken v w c = (w.standing c ≡ Waiting) × InLayer w.layer (id_of c v.seq)
+ShowsOpen (router.Waiting p) v w c = (w.standing c ≡ Waiting) × Waits w (id_of c v.seq) p.asked
+ShowsOpen (router.Taken words) v w c =
+    (w.standing c ≡ Waiting) × InLayer w.layer (id_of c v.seq) × AreItsWords w (id_of c v.seq) words
 ShowsOpen (router.Answered o) v w c = (w.standing c ≡ Answered (outcome_shown o)) × (v.floor ≡ floor_of w c)
 
 -- how a closed one does, which is kept as long as its request is under way
 abbrev pub ShowsClosed : Standing → Connection → World → ℕ → Type 0
 ShowsClosed router.Idle v w c = ⊥
-ShowsClosed (router.Waiting p) v w c = (w.standing c ≡ Closed) × Waits w (id_of c v.seq) p
-ShowsClosed router.Taken v w c = (w.standing c ≡ Closed) × InLayer w.layer (id_of c v.seq)
+ShowsClosed (router.Waiting p) v w c = (w.standing c ≡ Closed) × Waits w (id_of c v.seq) p.asked
+ShowsClosed (router.Taken words) v w c =
+    (w.standing c ≡ Closed) × InLayer w.layer (id_of c v.seq) × AreItsWords w (id_of c v.seq) words
 ShowsClosed (router.Answered o) v w c = ⊥
 
 abbrev pub ShowsKept : Connection → World → ℕ → Type 0

@@ -23,32 +23,27 @@ use Rattle.world_laws.specs.Headline.{rows_of}
 
 -- ---- a layer that was taken
 
--- a delivered request, ready to be run: the command is the one that was submitted, and its words say it
-pub record IsJob (asked : Asked) (d : Delivered) (j : Job) (words : List (List ℕ)) : Type 0 where
+-- a delivered request, ready to be run: the command is the one that was submitted
+pub record IsJob (asked : Asked) (d : Delivered) (j : Job) : Type 0 where
   pub id : j.id ≡ d.id
   pub stamp : j.stamp ≡ d.stamp
   pub groups : j.groups ≡ d.groups
-  pub asked_so : (q : Request) × (asked d.id ≡ Some q) × (q.command ≡ j.command)
-  pub says : reading words ≡ Ok j.command
+  pub asked_so : (q : Request) × (asked d.id ≡ Some q) × (q.command ≡ j.asked.command)
 
-abbrev pub AreJobs : Asked → List Delivered → List Job → List (List (List ℕ)) → Type 0
-AreJobs asked [] [] [] = Unit {0}
-AreJobs asked (d ∷ ds) (j ∷ js) (ws ∷ wss) = IsJob asked d j ws × AreJobs asked ds js wss
-AreJobs asked _ _ _ = ⊥
+abbrev pub AreJobs : Asked → List Delivered → List Job → Type 0
+AreJobs asked ds js = AllZip (IsJob asked) ds js
 
 -- ---- a layer that was run
 
--- a request of it, as the store tells of it, with its words
-pub record IsEnded (e : Ended) (r : run.Ended) (words : List (List ℕ)) : Type 0 where
+-- a request of it, as the store tells of it: its words say the command that was run
+pub record IsEnded (e : Ended) (r : run.Ended) : Type 0 where
   pub id : r.id ≡ e.id
   pub stamp : r.stamp ≡ e.stamp
   pub reply : outcome r.reply ≡ e.reply
-  pub says : reading words ≡ Ok e.command
+  pub says : reading r.words ≡ Ok e.command
 
-abbrev pub AreEnded : List Ended → List run.Ended → List (List (List ℕ)) → Type 0
-AreEnded [] [] [] = Unit {0}
-AreEnded (e ∷ es) (r ∷ rs) (ws ∷ wss) = IsEnded e r ws × AreEnded es rs wss
-AreEnded _ _ _ = ⊥
+abbrev pub AreEnded : List Ended → List run.Ended → Type 0
+AreEnded es rs = AllZip IsEnded es rs
 
 abbrev pub if_none : Option Answered → RequestId → List RequestId → List RequestId
 if_none None id ids = id ∷ ids
