@@ -11,8 +11,8 @@ use Rattle.delivery.specs.Queues.{queue_of}
 use Rattle.delivery.specs.Ready.{QueueOf, IsReady}
 use Rattle.journal.specs.declared.step.Step.{Step}
 use Rattle.journal.specs.declared.step.Step.TheVariants as step
-use Rattle.layer_planner.specs.declared.job.Job.{Job}
 use Rattle.placement.specs.Layout.{Layout}
+use Rattle.shard_workers.proofs.Zips.{zip_length}
 use Rattle.skeen_core.specs.declared.packet.Delivered.{Delivered}
 use Rattle.groups.specs.declared.request.RequestId.{RequestId}
 use Rattle.system.specs.Parts.{ShowsStage, progress_of, to_run, effect_shown, stored}
@@ -24,7 +24,7 @@ use Rattle.system.specs.declared.fault.StepFault.TheVariants as fault
 use Rattle.system.specs.declared.stage.Progress.TheVariants as progress
 use Rattle.system.specs.declared.stage.Stage.{Stage}
 use Rattle.system.specs.declared.stage.Stage.TheVariants as stage
-use Rattle.system_view.specs.Layers.{AreJobs}
+use Rattle.system_view.specs.Layers.{IsJob}
 use Rattle.world.specs.Steps.{Steps, NoLayer, NothingToRun, NothingToSettle, IsInFlight, RunInTurn, starved_among, if_starved}
 use Rattle.world.specs.Steps as world
 use Rattle.world.specs.World.{World, Ended, NoneTaken, Taken, HasRun}
@@ -270,15 +270,6 @@ if_err P Q (Err e) so holds = so e holds
 
 -- ---- no more starve than are run
 
-jobs_count : (asked : Asked) (ds : List Delivered) (js : List Job) (wss : List (List (List ℕ))) → AreJobs asked ds js wss →
-    length ds ≡ length js
-jobs_count asked [] [] [] are = refl
-jobs_count asked (d ∷ ds) (j ∷ js) (ws ∷ wss) are = ap suc (jobs_count asked ds js wss are.1)
-jobs_count asked [] [] (ws ∷ wss) are = absurd are
-jobs_count asked [] (j ∷ js) wss are = absurd are
-jobs_count asked (d ∷ ds) [] wss are = absurd are
-jobs_count asked (d ∷ ds) (j ∷ js) [] are = absurd are
-
 in_turn_count : (asked : Asked) (starved : List RequestId) (ds : List Delivered) (es : List Ended) (m : Map) →
     RunInTurn asked starved m ds es → length es ≡ length ds
 in_turn_count asked starved [] es m ran = ap length ran
@@ -299,7 +290,7 @@ run_of : (s : Stage) (w : World) (layer : List Delivered) → w.layer ≡ Taken 
 run_of stage.Free w layer there shows = absurd (let k = sym there ∙ shows in cc)
 run_of (stage.Taken taken) w layer there shows =
     let same : shows.0 ≡ layer = let k = sym shows.1 ∙ there in cc in
-    sym (jobs_count w.asked shows.0 _ _ shows.2) ∙ ap length same
+    zip_length (IsJob w.asked) shows.0 taken shows.2 ∙ ap length same
 run_of (stage.HasRun ran) w layer there shows = absurd (let k = sym there ∙ shows.1 in cc)
 
 ran_same : (xs ys : List RequestId) → world.Ran xs ≡ world.Ran ys → xs ≡ ys

@@ -31,7 +31,6 @@ use Rattle.system.specs.declared.effect.Effect.TheVariants.{Made, Ran}
 use Rattle.system.specs.declared.parts.Parts.{Parts}
 use Rattle.system.specs.declared.stage.Stage.{Stage}
 use Rattle.system.specs.declared.stage.Stage.TheVariants as stage
-use Rattle.system.specs.declared.stage.TakenLayer.{TakenLayer}
 use Rattle.system_view.proofs.Running.{ran_world, may_be_run, shows_run}
 use Rattle.system_view.proofs.Settling.{all_settled, settle_starts, settle_ends}
 use Rattle.system_view.proofs.Taking.{take_starts, take_ends, take_queues}
@@ -55,12 +54,12 @@ starved_among-append (e ∷ es) fs = ap (if_starved e.reply e.id) (starved_among
 
 -- ---- Take
 
-module _ (old : Parts) (r : RouterView) (m : MulticastView) (layer : TakenLayer) (ds : List Delivered) where
+module _ (old : Parts) (r : RouterView) (m : MulticastView) (layer : List Job) (ds : List Delivered) where
   abbrev pub taken_parts : Parts
   taken_parts = record old { router = r; multicast = m; stage = stage.Taken layer }
 
   pub take_makes : old.stage ≡ stage.Free → IsLayer (queue_of old.multicast.queues) ds → ds ≢ [] →
-      ((t : Layout) (w : World) → IsTaking t w [] ds old.router → IsTaking t w ds [] r × AreJobs w.asked ds layer.layer layer.words.items) →
+      ((t : Layout) (w : World) → IsTaking t w [] ds old.router → IsTaking t w ds [] r × AreJobs w.asked ds layer) →
       LosesLayer old.multicast ds m → Makes old step.Take Made taken_parts
   take_makes is_free ready some takes loses = record {
     table = refl;
@@ -117,15 +116,15 @@ module _ (old : Parts) (r : RouterView) (outcomes : Vec kept.Outcome) where
 
 -- ---- Run
 
-module _ (old : Parts) (store : StoreState) (taken : TakenLayer) (outcomes : Vec kept.Outcome) (rows : RowsView) (starved : Vec RequestId)
+module _ (old : Parts) (store : StoreState) (taken : List Job) (outcomes : Vec kept.Outcome) (rows : RowsView) (starved : Vec RequestId)
     (ended : List run.Ended) where
   abbrev pub ran_parts : Parts
   ran_parts = record old { store = store; stage = stage.HasRun outcomes; rows = rows; starved = starved }
 
-  pub run_makes : (skip ids : List RequestId) → old.stage ≡ stage.Taken taken → AddressTheirGroups old.store.table taken.layer →
-      HasRunLayer old.store skip taken.layer ended store →
-      ((es : List Ended) → AreEnded es ended taken.words.items → AllZip IsOutcome es outcomes.items) →
-      ((before es : List Ended) → AreEnded es ended taken.words.items → AreRows before old.rows.rows → AreRows (before ++ es) rows.rows) →
+  pub run_makes : (skip ids : List RequestId) → old.stage ≡ stage.Taken taken → AddressTheirGroups old.store.table taken →
+      HasRunLayer old.store skip taken ended store →
+      ((es : List Ended) → AreEnded es ended → AllZip IsOutcome es outcomes.items) →
+      ((before es : List Ended) → AreEnded es ended → AreRows before old.rows.rows → AreRows (before ++ es) rows.rows) →
       ((more : List RowView) × (rows.rows ≡ old.rows.rows ++ more)) →
       ids ≡ starved_of ended → starved.items ≡ old.starved.items ++ starved_of ended →
       Makes old (step.Run skip) (Ran ids) ran_parts
@@ -134,18 +133,18 @@ module _ (old : Parts) (store : StoreState) (taken : TakenLayer) (outcomes : Vec
     rows = more;
     starves = λ h w at'.
         let shows = subst (λ s. ShowsStage s w) is_taken at'.shows.stage in
-        let run = shows_run old.store.table w h shows.0 taken.layer taken.words.items old.router old.store store skip
+        let run = shows_run old.store.table w h shows.0 taken old.router old.store store skip
         ended at'.leads shows.1 shows.2 at'.shows.store at'.shows.connections runs in
         subst (λ is. StarvesRightly old skip is w) (sym ids_are)
-        (starves_rightly old w skip shows.0 taken.layer taken.words.items ended store run shows.1 shows.2 address runs.done.told
-        (subst (λ m. MayStarveInTurn old.store.table m skip taken.layer ended) at'.shows.store.contents runs.done.starved));
+        (starves_rightly old w skip shows.0 taken ended store run shows.1 shows.2 address runs.done.told
+        (subst (λ m. MayStarveInTurn old.store.table m skip taken ended) at'.shows.store.contents runs.done.starved));
     from_each = λ h w at'. by_stage h w at' (subst (λ s. ShowsStage s w) is_taken at'.shows.stage);
   }
     where
       by_stage : (h : List Step) (w : World) → IsAt old h w → ShowsStage (stage.Taken taken) w →
           (w' : World) × RunsLayer w ids (world.Ran ids) w' × IsAt ran_parts (h ++ step.Run ids ∷ []) w'
       by_stage h w at' shows =
-          let run = shows_run old.store.table w h shows.0 taken.layer taken.words.items old.router old.store store skip
+          let run = shows_run old.store.table w h shows.0 taken old.router old.store store skip
           ended at'.leads shows.1 shows.2 at'.shows.store at'.shows.connections runs in
           let after = ran_world w run.es in
           makes_to old ran_parts (step.Run skip) (Ran ids) h w after runs.table at'
@@ -161,21 +160,21 @@ module _ (old : Parts) (store : StoreState) (taken : TakenLayer) (outcomes : Vec
           })
 
 -- the requests of the layer that was run, as the world has them
-pub run_ended : (p : Parts) → Lives p → (taken : TakenLayer) → p.stage ≡ stage.Taken taken → (skip : List RequestId)
-    (ended : List run.Ended) (store : StoreState) → HasRunLayer p.store skip taken.layer ended store →
-    (es : List Ended) × AreEnded es ended taken.words.items
+pub run_ended : (p : Parts) → Lives p → (taken : List Job) → p.stage ≡ stage.Taken taken → (skip : List RequestId)
+    (ended : List run.Ended) (store : StoreState) → HasRunLayer p.store skip taken ended store →
+    (es : List Ended) × AreEnded es ended
 run_ended p lives taken is_taken skip ended store runs =
     let shows = subst (λ s. ShowsStage s lives.world) is_taken lives.at.shows.stage in
-    let run = shows_run p.store.table lives.world lives.history shows.0 taken.layer taken.words.items p.router p.store store skip
+    let run = shows_run p.store.table lives.world lives.history shows.0 taken p.router p.store store skip
     ended lives.at.leads shows.1 shows.2 lives.at.shows.store lives.at.shows.connections runs in
     (run.es, run.ended)
 
 -- what running asks of the layer holds of it
-pub run_may : (p : Parts) → Lives p → (taken : TakenLayer) → p.stage ≡ stage.Taken taken →
-    AddressTheirGroups p.store.table taken.layer × AreFresh p.store.lasts taken.layer
+pub run_may : (p : Parts) → Lives p → (taken : List Job) → p.stage ≡ stage.Taken taken →
+    AddressTheirGroups p.store.table taken × AreFresh p.store.lasts taken
 run_may p lives taken is_taken =
     let shows = subst (λ s. ShowsStage s lives.world) is_taken lives.at.shows.stage in
-    may_be_run p.store.table p.store lives.world lives.history shows.0 taken.layer taken.words.items lives.at.leads shows.1 shows.2
+    may_be_run p.store.table p.store lives.world lives.history shows.0 taken lives.at.leads shows.1 shows.2
     lives.at.shows.store
 
 -- as many requests ended as were in the layer
@@ -187,11 +186,11 @@ ended_count (j ∷ js) (r ∷ rs) told = ap suc (ended_count js rs told.1)
 
 -- ---- what is in a stage
 
-abbrev taken_or : Stage → TakenLayer → TakenLayer
+abbrev taken_or : Stage → List Job → List Job
 taken_or (stage.Taken taken) other = taken
 taken_or _ other = other
 
-pub same_taken : (s : Stage) (a b : TakenLayer) → s ≡ stage.Taken a → s ≡ stage.Taken b → b ≡ a
+pub same_taken : (s : Stage) (a b : List Job) → s ≡ stage.Taken a → s ≡ stage.Taken b → b ≡ a
 same_taken s a b is_a is_b = ap (λ x. taken_or x a) (sym is_b ∙ is_a)
 
 -- ---- what settling asks

@@ -70,7 +70,7 @@ few_asked p lives c v kept =
 closed_stands : (s : Standing) (v : Connection) (w : World) (c : ℕ) → ShowsClosed s v w c → w.standing c ≡ Closed
 closed_stands router.Idle v w c shows = absurd shows
 closed_stands (router.Waiting p) v w c shows = shows.0
-closed_stands router.Taken v w c shows = shows.0
+closed_stands (router.Taken words) v w c shows = shows.0
 closed_stands (router.Answered o) v w c shows = absurd shows
 
 kept_closed : (v : Connection) (w : World) (c : ℕ) → v.is_open ≡ false → ShowsKept v w c → w.standing c ≡ Closed
@@ -97,7 +97,7 @@ shows_live o v w c kept live shows = kept_live v w c live (subst (λ x. ShowsCon
 busy_stands : (s : Standing) (v : Connection) (w : World) (c : ℕ) → s ≢ router.Idle → ShowsOpen s v w c → IsBusy (w.standing c)
 busy_stands router.Idle v w c busy shows = absurd (busy refl)
 busy_stands (router.Waiting p) v w c busy shows = subst IsBusy (sym shows.0) tt
-busy_stands router.Taken v w c busy shows = subst IsBusy (sym shows.0) tt
+busy_stands (router.Taken words) v w c busy shows = subst IsBusy (sym shows.0) tt
 busy_stands (router.Answered o) v w c busy shows = subst IsBusy (sym shows.0) tt
 
 idle_stands : (s : Standing) (v : Connection) (w : World) (c : ℕ) → s ≡ router.Idle → ShowsOpen s v w c → w.standing c ≡ Idle
@@ -130,7 +130,7 @@ submit_refused p conn words submit.Memory refused = (
 open_stands : (s : Standing) (v : Connection) (w : World) (c : ℕ) → ShowsOpen s v w c → w.standing c ≢ Closed
 open_stands router.Idle v w c shows shut = let k = sym shows.0 ∙ shut in cc
 open_stands (router.Waiting p) v w c shows shut = let k = sym shows.0 ∙ shut in cc
-open_stands router.Taken v w c shows shut = let k = sym shows.0 ∙ shut in cc
+open_stands (router.Taken words) v w c shows shut = let k = sym shows.0 ∙ shut in cc
 open_stands (router.Answered o) v w c shows shut = let k = sym shows.0 ∙ shut in cc
 
 collect_not : (w : World) (conn : ConnId) → w.standing conn.0 ≢ Closed → (fault : OwnFault) → ¬ Refused w (step.Collect conn) fault

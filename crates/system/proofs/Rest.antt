@@ -1,5 +1,5 @@
 -- What the parts behind the router show of a world in which they are the same.
-use Rattle.std.proofs.Common.{◌≡◌, ℕ, true, List, [], ◌∷◌, Some, sym, ap, ◌∙◌, subst}
+use Rattle.std.proofs.Common.{◌≡◌, true, List, [], ◌∷◌, Some, sym, ap, ◌∙◌, subst}
 use Rattle.groups.specs.GroupSet.{has}
 use Rattle.layer_planner.specs.declared.job.Job.{Job}
 use Rattle.multicast.specs.Multicast.{MulticastView}
@@ -20,29 +20,26 @@ use Rattle.world_laws.specs.Good.{Asked}
 abbrev pub KeepsAsked : Asked → Asked → Type 0
 KeepsAsked asked asked' = (i : RequestId) (q : Request) → asked i ≡ Some q → asked' i ≡ Some q
 
-jobs_asked : (asked asked' : Asked) (ds : List Delivered) (js : List Job) (wss : List (List (List ℕ))) → KeepsAsked asked asked' →
-    AreJobs asked ds js wss → AreJobs asked' ds js wss
-jobs_asked asked asked' [] [] [] keeps are = tt
-jobs_asked asked asked' (d ∷ ds) (j ∷ js) (ws ∷ wss) keeps are = (
+jobs_asked : (asked asked' : Asked) (ds : List Delivered) (js : List Job) → KeepsAsked asked asked' →
+    AreJobs asked ds js → AreJobs asked' ds js
+jobs_asked asked asked' [] [] keeps are = tt
+jobs_asked asked asked' (d ∷ ds) (j ∷ js) keeps are = (
   record {
     id = are.0.id;
     stamp = are.0.stamp;
     groups = are.0.groups;
     asked_so = (are.0.asked_so.0, keeps d.id are.0.asked_so.0 are.0.asked_so.1, are.0.asked_so.2);
-    says = are.0.says;
   },
-  jobs_asked asked asked' ds js wss keeps are.1,
+  jobs_asked asked asked' ds js keeps are.1,
 )
-jobs_asked asked asked' [] [] (ws ∷ wss) keeps are = absurd are
-jobs_asked asked asked' [] (j ∷ js) wss keeps are = absurd are
-jobs_asked asked asked' (d ∷ ds) [] wss keeps are = absurd are
-jobs_asked asked asked' (d ∷ ds) (j ∷ js) [] keeps are = absurd are
+jobs_asked asked asked' [] (j ∷ js) keeps are = absurd are
+jobs_asked asked asked' (d ∷ ds) [] keeps are = absurd are
 
 pub stage_same : (stage : Stage) (w w' : World) → KeepsAsked w.asked w'.asked → w'.layer ≡ w.layer → ShowsStage stage w →
     ShowsStage stage w'
 stage_same Free w w' keeps same shows = same ∙ shows
-stage_same (Taken taken) w w' keeps same shows =
-    (shows.0, same ∙ shows.1, jobs_asked w.asked w'.asked shows.0 taken.layer taken.words.items keeps shows.2)
+stage_same (Taken jobs) w w' keeps same shows =
+    (shows.0, same ∙ shows.1, jobs_asked w.asked w'.asked shows.0 jobs keeps shows.2)
 stage_same (HasRun outcomes) w w' keeps same shows = (shows.0, same ∙ shows.1, shows.2)
 
 pub store_same : (t : Layout) (s : StoreState) (w w' : World) → w'.ended ≡ w.ended → w'.contents ≡ w.contents → ShowsStore t s w →

@@ -1,6 +1,6 @@
 -- Of a layer that was run: each request that was named starved, and each other one that starved is one that there may have
 -- been no memory to answer.
-use Rattle.std.proofs.Common.{◌≡◌, ℕ, true, false, ◌||◌, inl, inr, List, [], ◌∷◌, Option, Some, None, refl, sym, ap, ◌∙◌, subst}
+use Rattle.std.proofs.Common.{◌≡◌, true, false, ◌||◌, inl, inr, List, [], ◌∷◌, Option, Some, None, refl, sym, ap, ◌∙◌, subst}
 use Rattle.std.specs.List.{AllZip}
 use Rattle.std.proofs.lemmas.Bool.{or_right}
 use Rattle.command_bodies.specs.Answer.{AnswerTakesMemory}
@@ -25,7 +25,7 @@ use Rattle.skeen_core.specs.declared.packet.Delivered.{Delivered}
 use Rattle.system.specs.Parts.{WantInTurn, StarvesRightly}
 use Rattle.system.specs.declared.parts.Parts.{Parts}
 use Rattle.system_view.proofs.Running.{ShowsRun}
-use Rattle.system_view.specs.Layers.{IsJob, AreJobs, IsEnded, AreEnded, if_none, starved_of}
+use Rattle.system_view.specs.Layers.{AreJobs, IsEnded, AreEnded, if_none, starved_of}
 use Rattle.world.specs.Steps.{names, map_after}
 use Rattle.world.specs.World.{World, Ended, Taken}
 use Rattle.world_laws.specs.Good.{Asked, run_in, taken_in}
@@ -47,21 +47,20 @@ names_later (Some reply) i id ids later = later
 
 -- a request of the layer that was to be skipped is among the starved
 named_starve : (table : Layout) (m : Map) (skip : List RequestId) (asked : Asked) (ds : List Delivered) (js : List Job)
-    (wss : List (List (List ℕ))) (rs : List run.Ended) → AreJobs asked ds js wss → AllZip IsOf js rs →
+    (rs : List run.Ended) → AreJobs asked ds js → AllZip IsOf js rs →
     MayStarveInTurn table m skip js rs →
     (d : Delivered) → In d ds → names skip d.id ≡ true → names (starved_of rs) d.id ≡ true
-named_starve table m skip asked [] js wss rs are told starve d there skipped = absurd there
-named_starve table m skip asked (e ∷ ds) [] wss rs are told starve d there skipped = absurd are
-named_starve table m skip asked (e ∷ ds) (j ∷ js) [] rs are told starve d there skipped = absurd are
-named_starve table m skip asked (e ∷ ds) (j ∷ js) (ws ∷ wss) [] are told starve d there skipped = absurd told
-named_starve table m skip asked (e ∷ ds) (j ∷ js) (ws ∷ wss) (r ∷ rs) are told starve d (inl first) skipped =
+named_starve table m skip asked [] js rs are told starve d there skipped = absurd there
+named_starve table m skip asked (e ∷ ds) [] rs are told starve d there skipped = absurd are
+named_starve table m skip asked (e ∷ ds) (j ∷ js) [] are told starve d there skipped = absurd told
+named_starve table m skip asked (e ∷ ds) (j ∷ js) (r ∷ rs) are told starve d (inl first) skipped =
     let job : j.id ≡ d.id = are.0.id ∙ sym (ap (λ (x : Delivered). x.id) first) in
     let named : is_named skip j.id ≡ true = ap (is_named skip) job ∙ sym (names-is_named skip d.id) ∙ skipped in
     subst (λ i. names (if_none r.reply r.id (starved_of rs)) i ≡ true) (told.0.0 ∙ job)
     (names_first r.reply r.id (starved_of rs) (starve.0.skipped named))
-named_starve table m skip asked (e ∷ ds) (j ∷ js) (ws ∷ wss) (r ∷ rs) are told starve d (inr there) skipped =
+named_starve table m skip asked (e ∷ ds) (j ∷ js) (r ∷ rs) are told starve d (inr there) skipped =
     names_later r.reply r.id d.id (starved_of rs)
-    (named_starve table (left_by j.command m (outcome r.reply)) skip asked ds js wss rs are.1 told.1 starve.1 d there skipped)
+    (named_starve table (left_by j.asked.command m (outcome r.reply)) skip asked ds js rs are.1 told.1 starve.1 d there skipped)
 
 -- ---- the others
 
@@ -70,53 +69,50 @@ left_same command m None = refl
 left_same command m (Some reply) = refl
 
 -- the words of a request say its command, before and after
-same_command : (asked : Asked) (d : Delivered) (j : Job) (words : List (List ℕ)) (e : Ended) (r : run.Ended) →
-    IsJob asked d j words → IsEnded e r words → j.command ≡ e.command
-same_command asked d j words e r job ended =
-    let both = sym job.says ∙ ended.says in cc
+same_command : (j : Job) (e : Ended) (r : run.Ended) → IsOf j r → IsEnded e r → j.asked.command ≡ e.command
+same_command j e r of ended =
+    let both = sym j.asked.says ∙ ap reading (sym of.2) ∙ ended.says in cc
 
-wants : (table : Layout) (m : Map) (skip : List RequestId) (asked : Asked) (d : Delivered) (j : Job) (words : List (List ℕ))
-    (e : Ended) (r : run.Ended) → IsJob asked d j words → j.groups ≡ groups_of table j.command → IsOf j r → IsEnded e r words →
-    (is_named skip j.id ≡ false → outcome r.reply ≡ None → AnswerTakesMemory j.command (on_groups table j.groups m)) →
+wants : (table : Layout) (m : Map) (skip : List RequestId) (j : Job) (e : Ended) (r : run.Ended) →
+    j.groups ≡ groups_of table j.asked.command → IsOf j r → IsEnded e r →
+    (is_named skip j.id ≡ false → outcome r.reply ≡ None → AnswerTakesMemory j.asked.command (on_groups table j.groups m)) →
     e.reply ≡ None → names skip e.id ≡ false → AnswerTakesMemory e.command (on_groups table (groups_of table e.command) m)
-wants table m skip asked d j words e r is address of ended starve none passed =
+wants table m skip j e r address of ended starve none passed =
     let job : j.id ≡ e.id = sym of.0 ∙ ended.id in
     let named : is_named skip j.id ≡ false = ap (is_named skip) job ∙ sym (names-is_named skip e.id) ∙ passed in
-    subst (λ c. AnswerTakesMemory c (on_groups table (groups_of table c) m)) (same_command asked d j words e r is ended)
-    (subst (λ gs. AnswerTakesMemory j.command (on_groups table gs m)) address (starve named (ended.reply ∙ none)))
+    subst (λ c. AnswerTakesMemory c (on_groups table (groups_of table c) m)) (same_command j e r of ended)
+    (subst (λ gs. AnswerTakesMemory j.asked.command (on_groups table gs m)) address (starve named (ended.reply ∙ none)))
 
-want_in_turn : (table : Layout) (m : Map) (skip : List RequestId) (asked : Asked) (ds : List Delivered) (js : List Job)
-    (wss : List (List (List ℕ))) (rs : List run.Ended) (es : List Ended) → AreJobs asked ds js wss → AddressTheirGroups table js →
-    AllZip IsOf js rs → AreEnded es rs wss → MayStarveInTurn table m skip js rs → WantInTurn table skip m es
-want_in_turn table m skip asked ds js wss rs [] are address told ended starve = tt
-want_in_turn table m skip asked ds js wss [] (e ∷ es) are address told ended starve = absurd ended
-want_in_turn table m skip asked ds js [] (r ∷ rs) (e ∷ es) are address told ended starve = absurd ended
-want_in_turn table m skip asked ds [] (ws ∷ wss) (r ∷ rs) (e ∷ es) are address told ended starve = absurd told
-want_in_turn table m skip asked [] (j ∷ js) (ws ∷ wss) (r ∷ rs) (e ∷ es) are address told ended starve = absurd are
-want_in_turn table m skip asked (d ∷ ds) (j ∷ js) (ws ∷ wss) (r ∷ rs) (e ∷ es) are address told ended starve = (
-  wants table m skip asked d j ws e r are.0 address.0 told.0 ended.0 starve.0.starved,
-  want_in_turn table (map_after e.reply e.command m) skip asked ds js wss rs es are.1 address.1 told.1 ended.1
+want_in_turn : (table : Layout) (m : Map) (skip : List RequestId) (js : List Job) (rs : List run.Ended) (es : List Ended) →
+    AddressTheirGroups table js → AllZip IsOf js rs → AreEnded es rs → MayStarveInTurn table m skip js rs →
+    WantInTurn table skip m es
+want_in_turn table m skip js rs [] address told ended starve = tt
+want_in_turn table m skip js [] (e ∷ es) address told ended starve = absurd ended
+want_in_turn table m skip [] (r ∷ rs) (e ∷ es) address told ended starve = absurd told
+want_in_turn table m skip (j ∷ js) (r ∷ rs) (e ∷ es) address told ended starve = (
+  wants table m skip j e r address.0 told.0 ended.0 starve.0.starved,
+  want_in_turn table (map_after e.reply e.command m) skip js rs es address.1 told.1 ended.1
       (subst (λ l. MayStarveInTurn table l skip js rs) left starve.1),
 )
   where
-    left : left_by j.command m (outcome r.reply) ≡ map_after e.reply e.command m
-    left = left_same j.command m (outcome r.reply) ∙ ap (λ o. map_after o j.command m) ended.0.reply
-        ∙ ap (λ c. map_after e.reply c m) (same_command asked d j ws e r are.0 ended.0)
+    left : left_by j.asked.command m (outcome r.reply) ≡ map_after e.reply e.command m
+    left = left_same j.asked.command m (outcome r.reply) ∙ ap (λ o. map_after o j.asked.command m) ended.0.reply
+        ∙ ap (λ c. map_after e.reply c m) (same_command j e r told.0 ended.0)
 
 -- ---- both
 
 pub starves_rightly : (p : Parts) (w : World) (skip : List RequestId) (ds : List Delivered) (js : List Job)
-    (wss : List (List (List ℕ))) (rs : List run.Ended) (new : StoreState) → ShowsRun p.store.table w p.router wss rs new →
-    w.layer ≡ Taken ds → AreJobs w.asked ds js wss → AddressTheirGroups p.store.table js → AllZip IsOf js rs →
+    (rs : List run.Ended) (new : StoreState) → ShowsRun p.store.table w p.router rs new →
+    w.layer ≡ Taken ds → AreJobs w.asked ds js → AddressTheirGroups p.store.table js → AllZip IsOf js rs →
     MayStarveInTurn p.store.table w.contents skip js rs → StarvesRightly p skip (starved_of rs) w
-starves_rightly p w skip ds js wss rs new run is_taken are address told starve = record {
+starves_rightly p w skip ds js rs new run is_taken are address told starve = record {
   named = λ l is d there skipped.
       let same : l ≡ ds = ap taken_in (sym is ∙ is_taken) in
-      named_starve p.store.table w.contents skip w.asked ds js wss rs are told starve d (subst (In d) same there) skipped;
+      named_starve p.store.table w.contents skip w.asked ds js rs are told starve d (subst (In d) same there) skipped;
   requests = run.runs.layer;
   taken = run.runs.there;
   outcomes = run.runs.outcomes;
   ran = run.runs.in_turn;
   others = subst (λ l. WantInTurn p.store.table skip w.contents l) (ap (λ (v : World). run_in v.layer) run.runs.after)
-      (want_in_turn p.store.table w.contents skip w.asked ds js wss rs run.es are address told run.ended starve);
+      (want_in_turn p.store.table w.contents skip js rs run.es address told run.ended starve);
 }

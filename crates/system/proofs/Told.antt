@@ -29,84 +29,71 @@ turn_at ended i e within is =
     let next : suc i ≡ i + 1 = omega arith in
     subst (λ n. drop i ended ≡ e ∷ drop n ended) next (drop-cons ended i e within ∙ ap (λ x. x ∷ drop (suc i) ended) (sym is))
 
--- what the first request of those that are left is in the world, and its words
-pub record Turn (es : List Ended) (r : run.Ended) (rs : List run.Ended) (ws : List (List ℕ)) (wss : List (List (List ℕ))) : Type 0 where
+-- what the first request of those that are left is in the world
+pub record Turn (es : List Ended) (r : run.Ended) (rs : List run.Ended) : Type 0 where
   pub e : Ended
   pub back : List Ended
   pub split : es ≡ e ∷ back
-  pub is : IsEnded e r ws
-  pub others : AreEnded back rs wss
+  pub is : IsEnded e r
+  pub others : AreEnded back rs
 
-pub turn : (es : List Ended) (r : run.Ended) (rs : List run.Ended) (ws : List (List ℕ)) (wss : List (List (List ℕ))) →
-    AreEnded es (r ∷ rs) (ws ∷ wss) → Turn es r rs ws wss
-turn [] r rs ws wss are = absurd are
-turn (e ∷ es) r rs ws wss are = record { e = e; back = es; split = refl; is = are.0; others = are.1 }
+pub turn : (es : List Ended) (r : run.Ended) (rs : List run.Ended) → AreEnded es (r ∷ rs) → Turn es r rs
+turn [] r rs are = absurd are
+turn (e ∷ es) r rs are = record { e = e; back = es; split = refl; is = are.0; others = are.1 }
 
 -- a list of no length is empty
 pub no_length : {A : Type 0} (xs : List A) → length xs ≡ 0 → xs ≡ []
 no_length [] e = refl
 no_length (x ∷ xs) e = absurd (omega arith)
 
--- where there are no words left there is no request left
-pub no_words : (es : List Ended) (r : run.Ended) (rs : List run.Ended) → AreEnded es (r ∷ rs) [] → ⊥
-no_words [] r rs are = are
-no_words (e ∷ es) r rs are = are
-
 -- where there is no request left nothing is left
-pub none_left : (es : List Ended) (rs : List run.Ended) (wss : List (List (List ℕ))) → rs ≡ [] → AreEnded es rs wss → es ≡ []
-none_left [] rs wss none are = refl
-none_left (e ∷ es) [] wss none are = absurd are
-none_left (e ∷ es) (r ∷ rs) wss none are = cc
+pub none_left : (es : List Ended) (rs : List run.Ended) → rs ≡ [] → AreEnded es rs → es ≡ []
+none_left [] rs none are = refl
+none_left (e ∷ es) [] none are = absurd are
+none_left (e ∷ es) (r ∷ rs) none are = cc
 
 -- the row of a request that was executed
-pub row_added : (before : List Ended) (e : Ended) (r : run.Ended) (ws : List (List ℕ)) (answered : Answered) (rows rows' : List RowView) →
-    IsEnded e r ws → r.reply ≡ Some answered → rows' ≡ rows ++ row_view r.id r.stamp ws (text (content answered.reply)) ∷ [] →
+pub row_added : (before : List Ended) (e : Ended) (r : run.Ended) (answered : Answered) (rows rows' : List RowView) →
+    IsEnded e r → r.reply ≡ Some answered → rows' ≡ rows ++ row_view r.id r.stamp r.words (text (content answered.reply)) ∷ [] →
     AreRows before rows → AreRows (before ++ e ∷ []) rows'
-row_added before e r ws answered rows rows' is some adds are =
+row_added before e r answered rows rows' is some adds are =
     subst (λ all. AreRows (before ++ e ∷ []) all) (sym adds)
-    (rows_executed before e rows (row_view r.id r.stamp ws (text (content answered.reply))) ws (content answered.reply) are
+    (rows_executed before e rows (row_view r.id r.stamp r.words (text (content answered.reply))) r.words (content answered.reply) are
     (sym is.reply ∙ ap outcome some)
-    (ap (λ i. row_view i r.stamp ws (text (content answered.reply))) is.id
-    ∙ ap (λ s. row_view e.id s ws (text (content answered.reply))) is.stamp) is.says)
+    (ap (λ i. row_view i r.stamp r.words (text (content answered.reply))) is.id
+    ∙ ap (λ s. row_view e.id s r.words (text (content answered.reply))) is.stamp) is.says)
 
 -- one that starved has none
-pub row_left_out : (before : List Ended) (e : Ended) (r : run.Ended) (ws : List (List ℕ)) (rows : List RowView) → IsEnded e r ws →
+pub row_left_out : (before : List Ended) (e : Ended) (r : run.Ended) (rows : List RowView) → IsEnded e r →
     r.reply ≡ None → AreRows before rows → AreRows (before ++ e ∷ []) rows
-row_left_out before e r ws rows is none are = rows_starved before e rows are (sym is.reply ∙ ap outcome none)
+row_left_out before e r rows is none are = rows_starved before e rows are (sym is.reply ∙ ap outcome none)
 
 -- the outcome of a request
-pub outcome_told : (e : Ended) (r : run.Ended) (ws : List (List ℕ)) (o : kept.Outcome) → IsEnded e r ws → o.id ≡ r.id →
+pub outcome_told : (e : Ended) (r : run.Ended) (o : kept.Outcome) → IsEnded e r → o.id ≡ r.id →
     content o.reply ≡ reply_of (outcome r.reply) → o.stamp ≡ Some r.stamp → IsOutcome e o
-outcome_told e r ws o is id reply stamp =
+outcome_told e r o is id reply stamp =
     shown_as o e (id ∙ is.id) (reply ∙ ap reply_of is.reply) (stamp ∙ ap Some is.stamp)
 
 -- ---- a layer that is half told
 
 -- those in front have their rows and outcomes, and those behind are the rest
-pub record HalfTold (es before : List Ended) (ended : List run.Ended) (words : List (List (List ℕ))) (rows rows' : List RowView)
-    (outcomes : List kept.Outcome) : Type 0 where
+pub record HalfTold (es before : List Ended) (ended : List run.Ended) (rows rows' : List RowView) (outcomes : List kept.Outcome) :
+    Type 0 where
   pub front : List Ended
   pub back : List Ended
   pub split : es ≡ front ++ back
-  pub are : AreEnded back ended words
+  pub are : AreEnded back ended
   pub added : AreRows before rows → AreRows (before ++ front) rows'
   pub told : AllZip IsOutcome front outcomes
 
--- the next one with its words
-pub in_turn : (back : List Ended) (ended : List run.Ended) (words : List (List (List ℕ))) (x : run.Ended) (rest : List run.Ended)
-    (ws : List (List ℕ)) (wss : List (List (List ℕ))) → ended ≡ x ∷ rest → words ≡ ws ∷ wss → AreEnded back ended words →
-    Turn back x rest ws wss
-in_turn back ended words x rest ws wss e f are =
-    turn back x rest ws wss (subst (λ wl. AreEnded back (x ∷ rest) wl) f (subst (λ xs. AreEnded back xs words) e are))
-
-pub told_more : (es before : List Ended) (ended : List run.Ended) (words : List (List (List ℕ))) (x : run.Ended) (rest : List run.Ended)
-    (ws : List (List ℕ)) (wss : List (List (List ℕ))) (rows rows' rows'' : List RowView) (outcomes outcomes' : List kept.Outcome)
-    (o : kept.Outcome) → ended ≡ x ∷ rest → words ≡ ws ∷ wss → HalfTold es before ended words rows rows' outcomes →
-    ((before : List Ended) (e : Ended) → IsEnded e x ws → AreRows before rows' → AreRows (before ++ e ∷ []) rows'') →
-    ((e : Ended) → IsEnded e x ws → IsOutcome e o) → outcomes' ≡ outcomes ++ o ∷ [] →
-    HalfTold es before rest wss rows rows'' outcomes'
-told_more es before ended words x rest ws wss rows rows' rows'' outcomes outcomes' o e f half adds tells push =
-    let at = in_turn half.back ended words x rest ws wss e f half.are in record {
+pub told_more : (es before : List Ended) (ended : List run.Ended) (x : run.Ended) (rest : List run.Ended)
+    (rows rows' rows'' : List RowView) (outcomes outcomes' : List kept.Outcome) (o : kept.Outcome) →
+    ended ≡ x ∷ rest → HalfTold es before ended rows rows' outcomes →
+    ((before : List Ended) (e : Ended) → IsEnded e x → AreRows before rows' → AreRows (before ++ e ∷ []) rows'') →
+    ((e : Ended) → IsEnded e x → IsOutcome e o) → outcomes' ≡ outcomes ++ o ∷ [] →
+    HalfTold es before rest rows rows'' outcomes'
+told_more es before ended x rest rows rows' rows'' outcomes outcomes' o e half adds tells push =
+    let at = turn half.back x rest (subst (AreEnded half.back) e half.are) in record {
       front = half.front ++ at.e ∷ [];
       back = at.back;
       split = half.split ∙ ap (λ b. half.front ++ b) at.split ∙ sym (append_assoc half.front (at.e ∷ []) at.back);
@@ -117,10 +104,10 @@ told_more es before ended words x rest ws wss rows rows' rows'' outcomes outcome
           (zip_push IsOutcome half.front outcomes at.e o half.told (tells at.e at.is));
     }
 
-module _ (es before : List Ended) (ended : List run.Ended) (words : List (List (List ℕ))) (rows rows' : List RowView)
-    (outcomes : List kept.Outcome) (none : ended ≡ []) (half : HalfTold es before ended words rows rows' outcomes) where
+module _ (es before : List Ended) (ended : List run.Ended) (rows rows' : List RowView) (outcomes : List kept.Outcome)
+    (none : ended ≡ []) (half : HalfTold es before ended rows rows' outcomes) where
   all_told : es ≡ half.front
-  all_told = half.split ∙ ap (λ b. half.front ++ b) (none_left half.back ended words none half.are) ∙ append-nil half.front
+  all_told = half.split ∙ ap (λ b. half.front ++ b) (none_left half.back ended none half.are) ∙ append-nil half.front
 
   pub added_all : AreRows before rows → AreRows (before ++ es) rows'
   added_all are = subst (λ l. AreRows (before ++ l) rows') (sym all_told) (half.added are)

@@ -34,22 +34,22 @@ use Rattle.world.specs.World as layer
 -- how far the layer is
 abbrev pub ShowsStage : Stage → World → Type 0
 ShowsStage Free w = w.layer ≡ layer.NoneTaken
-ShowsStage (Taken taken) w = (ds : List _) × (w.layer ≡ layer.Taken ds) × AreJobs w.asked ds taken.layer taken.words.items
+ShowsStage (Taken jobs) w = (ds : List _) × (w.layer ≡ layer.Taken ds) × AreJobs w.asked ds jobs
 ShowsStage (HasRun outcomes) w = (es : List _) × (w.layer ≡ layer.HasRun es) × AllZip IsOutcome es outcomes.items
 
 abbrev pub progress_of : Stage → Progress
 progress_of Free = progress.Free
-progress_of (Taken taken) = progress.Taken
+progress_of (Taken jobs) = progress.Taken
 progress_of (HasRun outcomes) = progress.HasRun
 
 -- how many requests are to be run
 abbrev pub to_run : Stage → ℕ
-to_run (Taken taken) = length taken.layer
+to_run (Taken jobs) = length jobs
 to_run stage = 0
 
 -- the requests that are to be run
 abbrev pub layer_of : Stage → List Job
-layer_of (Taken taken) = taken.layer
+layer_of (Taken jobs) = jobs
 layer_of stage = []
 
 pub record Shows (p : Parts) (w : World) : Type 0 where

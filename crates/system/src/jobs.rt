@@ -8,40 +8,26 @@ ghost use Rattle.world.specs.World.{World};
 
 use groups::Stamp;
 use layer_planner::Job;
-use packing::PackedRequest;
-use router::{Pending, Router};
+use router::Router;
 use skeen_core::Delivered;
 
-/// Takes the requests of a layer out of the router: the command of each with its id, its stamp and its groups, and beside
-/// it its words. There is room for all of them.
-pub(super) fn take_all(
-    router: &mut Router,
-    ready: &[Delivered],
-    jobs: &mut Vec<Job>,
-    words: &mut Vec<PackedRequest>,
-)
+/// Takes the requests of a layer out of the router: what each asks, with its id, its stamp and its groups. There is room
+/// for all of them.
+pub(super) fn take_all(router: &mut Router, ready: &[Delivered], jobs: &mut Vec<Job>)
     requires waits { (t : Layout) × (w : World) × IsTaking t w [] ready.now router.old }
     requires no_jobs { (jobs.old.items ≡ []) × (length ready.now ≤ vec_capacity jobs.old) }
-    requires no_words { (words.old.items ≡ []) × (length ready.now ≤ vec_capacity words.old) }
     ensures taken { (t : Layout) (w : World) → IsTaking t w [] ready.now router.old → IsTaking t w ready.now [] router.new
-        × AreJobs w.asked ready.now jobs.new.items words.new.items }
+        × AreJobs w.asked ready.now jobs.new.items }
 {
     for request in ready {
-        let Some(
-            Pending {
-                words: said,
-                command,
-            },
-        ) = router.take(request.id)
-        else {
+        let Some(asked) = router.take(request.id) else {
             unreachable!()
         };
         jobs.push_reserved(Job {
             id: request.id,
             stamp: Stamp { ..request.stamp },
             groups: request.groups,
-            command,
+            asked,
         });
-        words.push_reserved(said);
     }
 }

@@ -11,7 +11,6 @@ ghost use Rattle.world.specs.World.{World, Ended as EndedThere};
 
 use groups::{RequestId, Stamp};
 use journal::Rows;
-use packing::PackedRequest;
 use resp::Reply;
 use router::{Outcome, Router};
 use shard_exec::Ended;
@@ -32,40 +31,36 @@ pub(super) fn note_starved(ended: &[Ended], starved: &mut Vec<RequestId>, all: &
 }
 
 /// Each executed request of a layer gets its row, and each request its outcome. There is room for all of them.
-pub(super) fn tell_all(
-    rows: &mut Rows,
-    outcomes: &mut Vec<Outcome>,
-    ended: Vec<Ended>,
-    words: Vec<PackedRequest>,
-)
-    requires are { (es : List EndedThere) × AreEnded es ended.items words.items }
+pub(super) fn tell_all(rows: &mut Rows, outcomes: &mut Vec<Outcome>, ended: Vec<Ended>)
+    requires are { (es : List EndedThere) × AreEnded es ended.items }
     requires rows { length ended.items ≤ rows.old.room }
     requires none { outcomes.old.items ≡ [] }
     requires outcomes { length ended.items ≤ vec_capacity outcomes.old }
-    ensures added { (before es : List EndedThere) → AreEnded es ended.items words.items → AreRows before rows.old.rows
+    ensures added { (before es : List EndedThere) → AreEnded es ended.items → AreRows before rows.old.rows
         → AreRows (before ++ es) rows.new.rows }
-    ensures told { (es : List EndedThere) → AreEnded es ended.items words.items → AllZip IsOutcome es outcomes.new.items }
+    ensures told { (es : List EndedThere) → AreEnded es ended.items → AllZip IsOutcome es outcomes.new.items }
     ensures more { (more : List RowView) × (rows.new.rows ≡ rows.old.rows ++ more) }
 {
-    let mut each = words.into_iter();
     for request in ended {
-        let Some(words) = each.next() else {
-            unreachable!();
-        };
-        outcomes.push_reserved(tell(rows, request, words));
+        outcomes.push_reserved(tell(rows, request));
     }
 }
 
 /// Adds the row of a request, for which there is room, if it was executed, and gives its outcome.
-fn tell(rows: &mut Rows, request: Ended, words: PackedRequest) -> Outcome
+fn tell(rows: &mut Rows, request: Ended) -> Outcome
     requires room { 0 < rows.old.room }
-    ensures told { (e : EndedThere) → IsEnded e request words → IsOutcome e result }
-    ensures added { (before : List EndedThere) (e : EndedThere) → IsEnded e request words → AreRows before rows.old.rows
+    ensures told { (e : EndedThere) → IsEnded e request → IsOutcome e result }
+    ensures added { (before : List EndedThere) (e : EndedThere) → IsEnded e request → AreRows before rows.old.rows
         → AreRows (before ++ e ∷ []) rows.new.rows }
     ensures more { (more : List RowView) × (rows.new.rows ≡ rows.old.rows ++ more) }
     ensures room { rows.old.room ≤ rows.new.room + 1 }
 {
-    let Ended { id, stamp, reply } = request;
+    let Ended {
+        id,
+        stamp,
+        words,
+        reply,
+    } = request;
     let Some(answered) = reply else {
         return Outcome {
             id,

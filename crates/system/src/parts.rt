@@ -12,7 +12,7 @@ use super::effect::Effect;
 use super::fault::StepFault;
 use super::jobs::take_all;
 use super::outcomes::{note_starved, settle_all, tell_all};
-use super::stage::{Stage, TakenLayer};
+use super::stage::Stage;
 use groups::{ConnId, RequestId};
 use journal::{RequestIds, Rows, Step};
 use layer_planner::Layer;
@@ -111,8 +111,8 @@ impl Parts {
         Ok(Effect::Made)
     }
 
-    /// All requests that are ready or lined up are taken as the next layer: their commands and words out of the router, and
-    /// they themselves out of the queues.
+    /// All requests that are ready or lined up are taken as the next layer: what they ask out of the router, and they
+    /// themselves out of the queues.
     #[inline(never)]
     fn take(&mut self, alloc: Global) -> Result<Effect, StepFault>
         requires { Lives self.old }
@@ -133,15 +133,12 @@ impl Parts {
         let Ok(mut jobs) = Vec::with_capacity(alloc, ready.len()) else {
             return Err(StepFault::Memory);
         };
-        let Ok(mut words) = Vec::with_capacity(alloc, ready.len()) else {
-            return Err(StepFault::Memory);
-        };
-        take_all(&mut self.router, ready.as_slice(), &mut jobs, &mut words);
+        take_all(&mut self.router, ready.as_slice(), &mut jobs);
         self.multicast.lose_layer(ready.as_slice());
         let Some(layer) = Layer::gather(jobs) else {
             unreachable!()
         };
-        set_stage(&mut self.stage, Stage::Taken(TakenLayer { layer, words }));
+        set_stage(&mut self.stage, Stage::Taken(layer));
         Ok(Effect::Made)
     }
 
@@ -164,13 +161,12 @@ impl Parts {
         let Stage::Taken(taken) = &self.stage else {
             return Err(StepFault::NoLayer);
         };
-        let count = taken.layer.len();
+        let count = taken.len();
         self.starved.reserve(count)?;
         self.rows.reserve(count)?;
         let mut starved = Vec::with_capacity(alloc, count)?;
         let mut outcomes = Vec::with_capacity(alloc, count)?;
-        let Stage::Taken(TakenLayer { layer, words }) = mem::replace(&mut self.stage, Stage::Free)
-        else {
+        let Stage::Taken(layer) = mem::replace(&mut self.stage, Stage::Free) else {
             unreachable!()
         };
         match self
@@ -179,16 +175,17 @@ impl Parts {
         {
             Ok(ended) => {
                 note_starved(ended.as_slice(), &mut starved, &mut self.starved);
-                tell_all(&mut self.rows, &mut outcomes, ended, words);
+                tell_all(&mut self.rows, &mut outcomes, ended);
                 set_stage(&mut self.stage, Stage::HasRun(outcomes));
                 Ok(Effect::Ran(RequestIds::from(starved)))
             }
             Err(ExecFault::Memory(layer)) => {
-                set_stage(&mut self.stage, Stage::Taken(TakenLayer { layer, words }));
+                set_stage(&mut self.stage, Stage::Taken(layer));
                 Err(StepFault::Memory)
             }
             Err(ExecFault::Failed) => Err(StepFault::Failed),
             Err(ExecFault::Stale(_)) => unreachable!(),
+            Err(ExecFault::Foreign(_)) => unreachable!(),
         }
     }
 

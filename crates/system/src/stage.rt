@@ -1,15 +1,7 @@
 //! The layer that is under way.
 
 use layer_planner::Layer;
-use packing::PackedRequest;
 use router::Outcome;
-
-/// A layer that was taken: its requests, and beside each its words.
-#[derive(Drop)]
-pub struct TakenLayer {
-    pub layer: Layer,
-    pub words: Vec<PackedRequest>,
-}
 
 /// How far the layer is that is under way, if one is.
 #[derive(Drop)]
@@ -17,7 +9,7 @@ pub enum Stage {
     /// None is.
     Free,
     /// It was taken, and is to be run.
-    Taken(TakenLayer),
+    Taken(Layer),
     /// It was run, and what came of each of its requests is to go to its connection.
     HasRun(Vec<Outcome>),
 }

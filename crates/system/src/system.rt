@@ -225,7 +225,7 @@ impl System {
         ensures { result ≡ to_run self.now }
     {
         match &self.parts.stage {
-            Stage::Taken(taken) => taken.layer.len(),
+            Stage::Taken(layer) => layer.len(),
             _ => 0,
         }
     }
@@ -369,7 +369,7 @@ impl System {
         ensures { result.now ≡ layer_of self.now }
     {
         match &self.parts.stage {
-            Stage::Taken(taken) => taken.layer.jobs(),
+            Stage::Taken(layer) => layer.jobs(),
             _ => &[],
         }
     }

@@ -25,9 +25,7 @@ pub loop-request-init : goal.loop-request-init
 loop-request-init c = record {
   out = λ t w is. (is, search rules);
   jobs = search rules;
-  words = search rules;
   room_of_jobs = c.requires.no_jobs.1;
-  room_of_words = c.requires.no_words.1;
 }
 
 pub unreachable-requires : goal.unreachable-requires
@@ -50,42 +48,28 @@ push_reserved-requires c =
     let count = inv.jobs in
     search rules
 
-pub push_reserved-requires-in-loop-request : goal.push_reserved-requires-in-loop-request
-push_reserved-requires-in-loop-request c =
-    let inv = c.loop-request.invariant in
-    let within = c.loop-request-test.true in
-    let room = inv.room_of_words in
-    let count = inv.words in
-    search rules
-
 pub loop-request-preserved : goal.loop-request-preserved
 loop-request-preserved c =
     let ready = c.args.ready.now in
     let i = c.loop-request.request-index in
     let d = c.request-item.result in
     let inv = c.loop-request.invariant in
-    let p = c.in-Some.field-0 in
-    let j : Job = record { id = d.id; stamp = d.stamp; groups = d.groups; command = p.command } in
+    let asked = c.in-Some.asked in
+    let j : Job = record { id = d.id; stamp = d.stamp; groups = d.groups; asked = asked } in
     record {
       out = λ t w is.
           let now = inv.out t w is in
           let next = subst (λ ds. IsTaking t w (take i ready) ds c.loop-request.router)
           (here ready i d c.loop-request-test.true c.request-item.is) now.0 in
-          let one = take_one t w (take i ready) d (drop (i + 1) ready) c.loop-request.router next c.take.new.self p
-          c.loop-request.jobs.items j
-          c.loop-request.words.items (sym c.take.ensures.taken ∙ c.in-Some.is) c.in-Some.ensures.changes now.1 refl refl refl refl in
+          let one = take_one t w (take i ready) d (drop (i + 1) ready) c.loop-request.router next c.take.new.self asked
+          c.loop-request.jobs.items j (sym c.take.ensures.taken ∙ c.in-Some.is) c.in-Some.ensures.changes now.1 refl refl refl refl in
           let front = sym (passed ready i d c.loop-request-test.true c.request-item.is) in (
             subst (λ ds. IsTaking t w ds (drop (i + 1) ready) c.take.new.self) front one.0,
-            subst (λ ds. AreJobs w.asked ds c.push_reserved.new.self.items c.push_reserved-in-loop-request.new.self.items) front
-                (subst (λ js. AreJobs w.asked (take i ready ++ d ∷ []) js c.push_reserved-in-loop-request.new.self.items)
-                (sym c.push_reserved.ensures.items)
-                (subst (λ wss. AreJobs w.asked (take i ready ++ d ∷ []) (c.loop-request.jobs.items ++ j ∷ []) wss)
-                (sym c.push_reserved-in-loop-request.ensures.items) one.1)),
+            subst (λ ds. AreJobs w.asked ds c.push_reserved.new.self.items) front
+                (subst (AreJobs w.asked (take i ready ++ d ∷ [])) (sym c.push_reserved.ensures.items) one.1),
           );
       jobs = search rules;
-      words = search rules;
       room_of_jobs = search rules;
-      room_of_words = search rules;
     }
 
 pub returns : goal.returns
@@ -98,6 +82,6 @@ returns c = record {
       let back = drop_all i ready c.loop-request-test.false in (
         subst (λ ds. IsTaking t w ds [] c.loop-request.router) front
             (subst (λ ds. IsTaking t w (take i ready) ds c.loop-request.router) back now.0),
-        subst (λ ds. AreJobs w.asked ds c.loop-request.jobs.items c.loop-request.words.items) front now.1,
+        subst (λ ds. AreJobs w.asked ds c.loop-request.jobs.items) front now.1,
       );
 }

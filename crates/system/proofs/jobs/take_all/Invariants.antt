@@ -10,9 +10,7 @@ abbrev pub invariant-loop-request : goal.invariant-loop-request
 invariant-loop-request l = record {
   out : (t : Layout) (w : World) → IsTaking t w [] l.fn.ready l.fn.router →
       IsTaking t w (take l.request-index l.fn.ready) (drop l.request-index l.fn.ready) l.router
-      × AreJobs w.asked (take l.request-index l.fn.ready) l.jobs.items l.words.items;
+      × AreJobs w.asked (take l.request-index l.fn.ready) l.jobs.items;
   jobs : length l.jobs.items ≡ l.request-index;
-  words : length l.words.items ≡ l.request-index;
   room_of_jobs : length l.fn.ready ≤ vec_capacity l.jobs;
-  room_of_words : length l.fn.ready ≤ vec_capacity l.words;
 }

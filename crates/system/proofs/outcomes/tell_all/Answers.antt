@@ -5,16 +5,14 @@ use Rattle.system.specs.Outcomes.{IsOutcome}
 use Rattle.world.specs.World.{Ended}
 use Rattle.std.specs.List.{AllZip}
 use Rattle.system.proofs.Connecting.{no_more}
-use Rattle.system.proofs.Told.{no_length, no_words, told_more, added_all, told_all}
+use Rattle.system.proofs.Told.{no_length, told_more, added_all, told_all}
 use Rattle.system.proofs.outcomes.tell_all.Goals as goal
 use Rattle.system.proofs.outcomes.tell_all.Goals.{After-into_iter-request-iterator}
 
 -- at first all are left
-all_left : (c : After-into_iter-request-iterator) (es : List Ended) → AreEnded es c.args.ended.items c.args.words.items →
-    AreEnded es c.into_iter-request-iterator.result.rest.items c.into_iter-each.result.rest.items
-all_left c es are =
-    subst (λ xs. AreEnded es xs c.into_iter-each.result.rest.items) (sym c.into_iter-request-iterator.ensures.into_iter_gives.0)
-    (subst (λ ws. AreEnded es c.args.ended.items ws) (sym c.into_iter-each.ensures.rest) are)
+all_left : (c : After-into_iter-request-iterator) (es : List Ended) → AreEnded es c.args.ended.items →
+    AreEnded es c.into_iter-request-iterator.result.rest.items
+all_left c es are = subst (AreEnded es) (sym c.into_iter-request-iterator.ensures.into_iter_gives.0) are
 
 pub loop-request-init : goal.loop-request-init
 loop-request-init c =
@@ -32,15 +30,6 @@ loop-request-init c =
       places = omega (arith, all, ap length c.requires.none, c.requires.outcomes);
     }
 
-pub unreachable-requires : goal.unreachable-requires
-unreachable-requires c =
-    let q = c.requires.are in
-    let half = c.loop-request.invariant.half q.0 [] q.1 in
-    let none : length c.loop-request.each.rest.items ≡ 0 = search rules in
-    no_words half.back c.in-Some.request c.next.new.self.rest.items
-    (subst (λ ws. AreEnded half.back (c.in-Some.request ∷ c.next.new.self.rest.items) ws) (no_length c.loop-request.each.rest.items none)
-    (subst (λ xs. AreEnded half.back xs c.loop-request.each.rest.items) c.in-Some.ensures.steps.0 half.are))
-
 pub loop-request-preserved : goal.loop-request-preserved
 loop-request-preserved c =
     let x = c.in-Some.request in
@@ -49,9 +38,9 @@ loop-request-preserved c =
     let told = c.tell.ensures in
     let push = c.push_reserved.ensures.items in record {
       half = λ es before are.
-          told_more es before _ _ x c.next.new.self.rest.items c.in-Some-next.words c.next-in-loop-request.new.self.rest.items
+          told_more es before _ x c.next.new.self.rest.items
           c.args.rows.now.rows c.loop-request.rows.rows c.tell.new.rows.rows c.loop-request.outcomes.items c.push_reserved.new.self.items
-          c.tell.result c.in-Some.ensures.steps.0 c.in-Some-next.ensures.items (inv.half es before are) told.added told.told push;
+          c.tell.result c.in-Some.ensures.steps.0 (inv.half es before are) told.added told.told push;
       more = (
         inv.more.0 ++ told.more.0,
         told.more.1 ∙ ap (λ rows. rows ++ told.more.0) inv.more.1 ∙ append_assoc c.args.rows.now.rows inv.more.0 told.more.0,
@@ -63,13 +52,13 @@ loop-request-preserved c =
 pub returns-clause-added : goal.returns-clause-added
 returns-clause-added c = λ before es are.
     let none : length c.loop-request.request-iterator.rest.items ≡ 0 = search rules in
-    added_all es before c.loop-request.request-iterator.rest.items c.loop-request.each.rest.items c.args.rows.now.rows
+    added_all es before c.loop-request.request-iterator.rest.items c.args.rows.now.rows
     c.loop-request.rows.rows c.loop-request.outcomes.items (no_length c.loop-request.request-iterator.rest.items none)
     (c.loop-request.invariant.half es before are)
 
 pub returns-clause-told : goal.returns-clause-told
 returns-clause-told c = λ es are.
     let none : length c.loop-request.request-iterator.rest.items ≡ 0 = search rules in
-    told_all es [] c.loop-request.request-iterator.rest.items c.loop-request.each.rest.items c.args.rows.now.rows
+    told_all es [] c.loop-request.request-iterator.rest.items c.args.rows.now.rows
     c.loop-request.rows.rows c.loop-request.outcomes.items (no_length c.loop-request.request-iterator.rest.items none)
     (c.loop-request.invariant.half es [] are)

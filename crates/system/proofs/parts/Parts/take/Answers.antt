@@ -10,7 +10,7 @@ use Rattle.system.proofs.Layering.{take_may_start, take_makes}
 use Rattle.system.proofs.Refusals.{take_memory, take_no_layer, some_ready, none_listed}
 use Rattle.system.specs.Parts.{Makes}
 use Rattle.system.specs.declared.effect.Effect.TheVariants.{Made}
-use Rattle.system_view.proofs.Jobs.{jobs_stand_together}
+use Rattle.system_view.proofs.Jobs.{jobs_may_stand}
 use Rattle.system_view.specs.Layers.{AreJobs}
 use Rattle.system_view.specs.Taking.{IsTaking}
 use Rattle.world.specs.World.{World}
@@ -33,14 +33,6 @@ returns-in_default-with_capacity-clause-fault c = (
       (λ e. let count = ap length e in search rules)),
 )
 
-pub returns-in_default-with_capacity-2-clause-fault : goal.returns-in_default-with_capacity-2-clause-fault
-returns-in_default-with_capacity-2-clause-fault c = (
-  tt,
-  take_memory c.args.self.now c.in-Free.is
-      (some_ready (queue_of c.args.self.now.multicast.queues) c.in-Ok.ready.items c.in-Ok.ensures.layer
-      (λ e. let count = ap length e in search rules)),
-)
-
 pub take_all-requires-clause-waits : goal.take_all-requires-clause-waits
 take_all-requires-clause-waits c =
     let old = c.args.self.now in
@@ -50,14 +42,12 @@ take_all-requires-clause-waits c =
 pub unreachable-requires : goal.unreachable-requires
 unreachable-requires c =
     let old = c.args.self.now in
-    let queue = queue_of old.multicast.queues in
     let ready = c.in-Ok.ready.items in
     let start = take_may_start old c.requires c.in-Free.is ready c.in-Ok.ensures.layer in
     let first = subst (λ ds. IsTaking start.0 start.1 [] ds old.router) (sym c.as_slice.ensures.value) start.2 in
     let jobs = (c.take_all.ensures.taken start.0 start.1 first).1 in
-    let together = jobs_stand_together queue start.1.asked c.as_slice.result.now c.take_all.new.jobs.items c.take_all.new.words.items
-    (subst (IsLayer queue) (sym c.as_slice.ensures.value) c.in-Ok.ensures.layer) jobs in
-    let k = subst IsSome c.in_default-gather.is (c.gather.ensures.just_where.1 together) in
+    let may = jobs_may_stand start.0 start.1 c.as_slice.result.now old.router first c.take_all.new.jobs.items jobs in
+    let k = subst IsSome c.in_default-gather.is (c.gather.ensures.just_where.1 may) in
     cc
 
 pub returns-clause-made : goal.returns-clause-made
@@ -66,17 +56,16 @@ returns-clause-made c =
     let ready = c.in-Ok.ready.items in
     let slice = c.as_slice.ensures.value in
     let jobs = c.take_all.new.jobs.items in
-    let words = c.take_all.new.words.items in
     let r = c.take_all.new.router in
     let m = c.lose_layer.new.self in
     let layer = c.in-Some.layer in
     subst (λ s. Makes old Take Made (record old { router = r; multicast = m; stage = s })) (sym c.set_stage.ensures)
-    (take_makes old r m (record { layer = layer; words = c.take_all.new.words }) ready c.in-Free.is c.in-Ok.ensures.layer
+    (take_makes old r m layer ready c.in-Free.is c.in-Ok.ensures.layer
     (λ e. let count = ap length e in search rules)
     (λ t w is.
     let after = c.take_all.ensures.taken t w (subst (λ xs. IsTaking t w [] xs old.router) (sym slice) is) in (
       subst (λ xs. IsTaking t w xs [] r) slice after.0,
-      subst (λ (js : List Job). AreJobs w.asked ready js words) (sym c.in-Some.ensures.gathered)
-          (subst (λ xs. AreJobs w.asked xs jobs words) slice after.1),
+      subst (λ (js : List Job). AreJobs w.asked ready js) (sym c.in-Some.ensures.gathered)
+          (subst (λ xs. AreJobs w.asked xs jobs) slice after.1),
     ))
     (subst (λ xs. LosesLayer old.multicast xs m) c.as_slice-2.ensures.value c.lose_layer.ensures))
