@@ -17,6 +17,7 @@ fn came_back(outcome: Result<Vec<Ended>, ExecFault>) -> Option<usize> {
         Ok(_) => None,
         Err(ExecFault::Memory(_)) => None,
         Err(ExecFault::Failed) => None,
+        Err(ExecFault::Foreign(_)) => None,
     }
 }
 

@@ -142,6 +142,7 @@ fn handed_back<W: Workers>(
         Err(ExecFault::Memory(layer)) => Ok(Some(layer)),
         Err(ExecFault::Stale(_)) => panic!(rt; "stale"),
         Err(ExecFault::Failed) => panic!(rt; "failed"),
+        Err(ExecFault::Foreign(_)) => panic!(rt; "foreign"),
     }
 }
 

@@ -218,7 +218,7 @@ unit_inside table layer units a of (p ∷ u) i g there = at_place (some_job laye
     some_job (j ∷ js) (suc k) h = some_job js k (omega (arith, h))
 
     at_place : (j : Job) × (slice_get layer p ≡ Some j) → g < table.shards
-    at_place j = groups_of-below table j.0.command g
+    at_place j = groups_of-below table j.0.asked.command g
         (ap (λ gs. has gs g) (sym (address_at table layer a p j.0 j.1)) ∙ ap (λ gs. has gs g) (sym (get_set layer p j.0 j.1)) ∙ there)
 
 pub rooms_inside : (table : Layout) (layer : List Job) (units : List (List ℕ)) (n : ℕ) → n ≡ table.shards → AddressTheirGroups table layer
@@ -362,7 +362,7 @@ module _ (table : Layout) (maps : List Map) (skip : List RequestId) (layer : Lis
     runs_of outs (u ∷ us) (w ∷ ws) [] inside z e run stand = absurd run
     runs_of outs (u ∷ us) (w ∷ ws) (r ∷ rs) inside z e run stand = (
       record {
-        ran = subst (λ s. layers.UnitRan table (map (λ t. t.job.command) w.tasks.items) s
+        ran = subst (λ s. layers.UnitRan table (map (λ t. t.job.asked.command) w.tasks.items) s
             (map (λ t. outcome t.reply) r.tasks.items) r.shards.items)
             e.0 (unit_ran table w.tasks.items r.tasks.items w.shards.items r.shards.items
             (are_ready table skip layer is_table address u w.tasks.items w.shards.items (of.each u (inside u (inl refl))) z.0

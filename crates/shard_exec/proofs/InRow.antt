@@ -27,10 +27,10 @@ use Rattle.shard_exec.specs.RowRuns.{HasRunInRow}
 use Rattle.shard_exec.proofs.RowLaws.{own_span, row_given}
 
 module _ (table : Layout) (maps : List Map) (t : Task) (is_table : IsTable table) (long : length maps ≡ table.shards)
-    (own : HasOwnKeys table maps) (groups : t.job.groups ≡ groups_of table t.job.command) where
+    (own : HasOwnKeys table maps) (groups : t.job.groups ≡ groups_of table t.job.asked.command) where
   -- its shards are in the row
   pub groups_inside : (g : ℕ) → has t.job.groups g ≡ true → g < length maps
-  groups_inside g there = subst (λ n. g < n) (sym long) (groups_of-below table t.job.command g (ap (λ gs. has gs g) (sym groups) ∙ there))
+  groups_inside g there = subst (λ n. g < n) (sym long) (groups_of-below table t.job.asked.command g (ap (λ gs. has gs g) (sym groups) ∙ there))
 
   pub group_inside : (g : ℕ) → t.job.groups ≡ g ∷ [] → g < length maps
   group_inside g lone = groups_inside g (ap (λ gs. has gs g) lone ∙ or_left _ _ (eq-eqb g g refl))
@@ -56,7 +56,7 @@ module _ (table : Layout) (maps : List Map) (t : Task) (is_table : IsTable table
   }
 
   up : IsAscending t.job.groups
-  up = subst IsAscending (sym groups) (IsAscending-groups_of table t.job.command)
+  up = subst IsAscending (sym groups) (IsAscending-groups_of table t.job.asked.command)
 
   -- over its shards moved out
   pub moved_ready : (span : Span) → span ≡ taken_out empty maps t.job.groups → IsReadyFor table t span
@@ -127,7 +127,7 @@ lone_unit gs = record { each = each; once = once }
         ap (λ x. 0 + cond x 1 0) a ∙ ap (λ x. cond x 1 0) (sym b))
 
 pub alone_done : WorksAreInTurn → (table : Layout) (maps new : List Map) (skip : List RequestId) (t : Task) (r : TaskRan) → IsTable table
-    → HasOwnKeys table maps → t.job.groups ≡ groups_of table t.job.command → t.place ≡ 0 → t.skipped ≡ is_named skip t.job.id
+    → HasOwnKeys table maps → t.job.groups ≡ groups_of table t.job.asked.command → t.place ≡ 0 → t.skipped ≡ is_named skip t.job.id
     → HasRunInRow table t maps r new → IsDone table maps skip (t.job ∷ []) (ended_of r ∷ []) new
 alone_done law table maps new skip t r is_table own groups place skipped run =
     (row_given table maps skip (t.job ∷ []) is_table own (groups, tt) law ((0 ∷ []) ∷ []) (Some t.job ∷ []) (None ∷ []) (Some r ∷ []) new

@@ -7,3 +7,4 @@ pub mod RowLaws
 pub mod DealtLaws
 pub mod InRow
 pub mod Plans
+pub mod LastStamps

@@ -92,10 +92,10 @@ module _ (table : Layout) (c : Command) (m : Map) (is_table : IsTable table) whe
 -- the request starves only where it may, on this map
 pub record StarvesOn (skip : List RequestId) (j : Job) (e : Ended) (u : Map) : Type 0 where
   pub skipped : is_named skip j.id ≡ true → outcome e.reply ≡ None
-  pub starved : is_named skip j.id ≡ false → outcome e.reply ≡ None → AnswerTakesMemory j.command u
+  pub starved : is_named skip j.id ≡ false → outcome e.reply ≡ None → AnswerTakesMemory j.asked.command u
 
 abbrev next_map : Bool → Job → Ended → Map → Map
-next_map b j e u = cond b (left_by j.command u (outcome e.reply)) u
+next_map b j e u = cond b (left_by j.asked.command u (outcome e.reply)) u
 
 -- from the n-th place of the layer on: each request of the unit on what those of the unit before it left
 abbrev pub StarveAlong : List RequestId → List ℕ → ℕ → List Job → List Ended → Map → Type 0
@@ -130,7 +130,7 @@ starve_turns table skip sets units t each all n (j ∷ js) (e ∷ es) m at long 
     skipped = here.skipped;
     starved = here.starved;
   },
-  starve_turns table skip sets units t each all (suc n) js es (left_by j.command m (outcome e.reply)) later
+  starve_turns table skip sets units t each all (suc n) js es (left_by j.asked.command m (outcome e.reply)) later
       (omega (arith, long)) address.1
       (λ unit i. subst (StarveAlong skip unit (suc n) js es) (sym (moves unit i)) (along unit i).1),
 )
@@ -149,21 +149,21 @@ starve_turns table skip sets units t each all n (j ∷ js) (e ∷ es) m at long 
     later k i e = (let z : n + suc k ≡ suc n + k = omega arith in
         (ap (groups_at sets) (sym z) ∙ (at (suc k) i e).0, subst (λ x. x < length sets) z (at (suc k) i e).1))
 
-    moves : (unit : List ℕ) (i : In unit units) → on_groups table (unit_groups sets unit) (left_by j.command m (outcome e.reply))
+    moves : (unit : List ℕ) (i : In unit units) → on_groups table (unit_groups sets unit) (left_by j.asked.command m (outcome e.reply))
         ≡ next_map (has unit n) j e (on_groups table (unit_groups sets unit) m)
     moves unit i = elim (has unit n) as (λ b. has unit n ≡ b
-        → on_groups table (unit_groups sets unit) (left_by j.command m (outcome e.reply))
+        → on_groups table (unit_groups sets unit) (left_by j.asked.command m (outcome e.reply))
         ≡ next_map b j e (on_groups table (unit_groups sets unit) m)) [
           | true ↦ λ there.
-              let is : groups_of table j.command ≡ unit_groups sets unit =
+              let is : groups_of table j.asked.command ≡ unit_groups sets unit =
               sym (at_n.0 ∙ address.0) ∙ has_unit_groups sets unit (each unit i) n there in
-              subst (λ gs. on_groups table gs (left_by j.command m (outcome e.reply))
-              ≡ left_by j.command (on_groups table gs m) (outcome e.reply)) is
-              (left-own table j.command m t (outcome e.reply))
-          | false ↦ λ away. left-other table j.command m t (unit_groups sets unit) (apart away) (outcome e.reply)
+              subst (λ gs. on_groups table gs (left_by j.asked.command m (outcome e.reply))
+              ≡ left_by j.asked.command (on_groups table gs m) (outcome e.reply)) is
+              (left-own table j.asked.command m t (outcome e.reply))
+          | false ↦ λ away. left-other table j.asked.command m t (unit_groups sets unit) (apart away) (outcome e.reply)
         ] refl
       where
-        apart : has unit n ≡ false → (g : ℕ) → has (unit_groups sets unit) g ≡ true → has (groups_of table j.command) g ≡ true → ⊥
+        apart : has unit n ≡ false → (g : ℕ) → has (unit_groups sets unit) g ≡ true → has (groups_of table j.asked.command) g ≡ true → ⊥
         apart away g there its = first unit (each unit i) away there
           where
             first : (unit : List ℕ) → IsUnit sets unit → has unit n ≡ false → has (unit_groups sets unit) g ≡ true → ⊥
@@ -219,10 +219,10 @@ items_later skip n j js e es (i ∷ is) (t ∷ ts) (r ∷ rs) above z =
     )
 
 -- what a request left
-left_is : (t : Task) (u : Map) (r : TaskRan) (mid : Map) → HasRunOn t u r mid → mid ≡ left_by t.job.command u (outcome r.reply)
+left_is : (t : Task) (u : Map) (r : TaskRan) (mid : Map) → HasRunOn t u r mid → mid ≡ left_by t.job.asked.command u (outcome r.reply)
 left_is t u r mid run = by_outcome (outcome r.reply) run.ran
   where
-    by_outcome : (o : Option Content) → MapRan t.job.command u o mid → mid ≡ left_by t.job.command u o
+    by_outcome : (o : Option Content) → MapRan t.job.asked.command u o mid → mid ≡ left_by t.job.asked.command u o
     by_outcome None ran = ran
     by_outcome (Some reply) ran = ap (λ p. p.0) ran
 
@@ -284,11 +284,11 @@ starve_along skip unit n (j ∷ js) (e ∷ es) is ts rs u same_has up above item
         let reply : outcome e.reply ≡ outcome r.reply = ap (λ (x : Ended). outcome x.reply) told in
         let named : t.skipped ≡ is_named skip j.id = items.0.2 ∙ ap (λ (x : Job). is_named skip x.id) (sym job) in
         let left : run.0 ≡ next_map true j e u =
-        left_is t u r run.0 run.1 ∙ ap (λ (x : Job). left_by x.command u (outcome r.reply)) (sym job)
-        ∙ ap (left_by j.command u) (sym reply) in (
+        left_is t u r run.0 run.1 ∙ ap (λ (x : Job). left_by x.asked.command u (outcome r.reply)) (sym job)
+        ∙ ap (left_by j.asked.command u) (sym reply) in (
           λ _. record {
             skipped = λ is_skipped. reply ∙ run.1.skipped (named ∙ is_skipped);
-            starved = λ passed none. subst (λ (x : Job). AnswerTakesMemory x.command u) (sym job)
+            starved = λ passed none. subst (λ (x : Job). AnswerTakesMemory x.asked.command u) (sym job)
                 (run.1.starved (named ∙ passed) (sym reply ∙ none));
           },
           subst (λ b. StarveAlong skip unit (suc n) js es (next_map b j e u)) (sym there)

@@ -110,6 +110,7 @@ pub record Tells (t : Task) (r : TaskRan) : Type 0 where
   pub id : r.id ≡ t.job.id
   pub stamp : r.stamp ≡ t.job.stamp
   pub groups : r.groups ≡ t.job.groups
+  pub words : r.words ≡ t.job.asked.words
 
 pub record TellsOf (layer : List Job) (i : ℕ) (r : TaskRan) : Type 0 where
   pub job : Job
@@ -118,6 +119,7 @@ pub record TellsOf (layer : List Job) (i : ℕ) (r : TaskRan) : Type 0 where
   pub id : r.id ≡ job.id
   pub stamp : r.stamp ≡ job.stamp
   pub groups : r.groups ≡ job.groups
+  pub words : r.words ≡ job.asked.words
 
 tells_of : (skip : List RequestId) (layer : List Job) (is : List ℕ) (ts : List Task) (rs : List TaskRan)
     → AllZip (IsTaskOf skip layer) is ts
@@ -135,6 +137,7 @@ tells_of skip layer (i ∷ is) (t ∷ ts) (r ∷ rs) z w = (
     id = w.0.id;
     stamp = w.0.stamp;
     groups = w.0.groups;
+    words = w.0.words;
   },
   tells_of skip layer is ts rs z.1 w.1,
 )
@@ -145,7 +148,7 @@ tells_all table [] [] before after run = tt
 tells_all table [] (r ∷ rs) before after run = absurd run
 tells_all table (t ∷ ts) [] before after run = absurd run
 tells_all table (t ∷ ts) (r ∷ rs) before after run = (
-  record { place = run.1.on.place; id = run.1.on.id; stamp = run.1.on.stamp; groups = run.1.on.groups },
+  record { place = run.1.on.place; id = run.1.on.id; stamp = run.1.on.stamp; groups = run.1.on.groups; words = run.1.on.words },
   tells_all table ts rs run.0 after run.2,
 )
 
@@ -245,22 +248,23 @@ module _ (skip : List RequestId) (layer : List Job) (units : List (List ℕ)) (t
   full = full_from slots (λ i b. let e = each_there i (subst (λ n. i < n) as_many b) in (e.0, e.2))
 
   -- what holds of each request and what became of it
-  of_each : (R : Job → TaskRan → Type 0) → ((j : Job) (r : TaskRan) → r.id ≡ j.id → r.stamp ≡ j.stamp → r.groups ≡ j.groups → R j r)
+  of_each : (R : Job → TaskRan → Type 0)
+      → ((j : Job) (r : TaskRan) → r.id ≡ j.id → r.stamp ≡ j.stamp → r.groups ≡ j.groups → r.words ≡ j.asked.words → R j r)
       → AllZip R layer (filled slots)
   of_each R holds = from_places R layer (filled slots) (length-filled slots full ∙ as_many) (λ i j r at there.
       let e = each_there i (slice_get_within layer i j at) in
       let same_ran : e.0 ≡ r = same_some e.0 r (same_some _ _ (sym e.2 ∙ at_slot slots full i r there)) in
       let same_job : e.1.job ≡ j = same_some e.1.job j (sym e.1.at ∙ at) in
-      subst (R j) same_ran (subst (λ k. R k e.0) same_job (holds e.1.job e.0 e.1.id e.1.stamp e.1.groups)))
+      subst (R j) same_ran (subst (λ k. R k e.0) same_job (holds e.1.job e.0 e.1.id e.1.stamp e.1.groups e.1.words)))
 
   pub have_groups : AllZip HasItsGroups layer (filled slots)
-  have_groups = of_each HasItsGroups (λ j r id stamp groups. (groups, stamp))
+  have_groups = of_each HasItsGroups (λ j r id stamp groups words. (groups, stamp))
 
   abbrev pub done : List Ended
   done = map ended_of (filled slots)
 
   pub told : AllZip IsOf layer done
-  told = through layer (filled slots) (of_each (λ j r. IsOf j (ended_of r)) (λ j r id stamp groups. (id, stamp)))
+  told = through layer (filled slots) (of_each (λ j r. IsOf j (ended_of r)) (λ j r id stamp groups words. (id, stamp, words)))
     where
       through : (js : List Job) (rs : List TaskRan) → AllZip (λ j r. IsOf j (ended_of r)) js rs → AllZip IsOf js (map ended_of rs)
       through [] [] z = tt
@@ -303,7 +307,7 @@ module _ (skip : List RequestId) (layer : List Job) (units : List (List ℕ)) (t
 
   pub outcomes_many : length outcomes ≡ length (commands_of layer)
   outcomes_many = length-map done (λ (d : Ended). outcome d.reply) ∙ length-map (filled slots) ended_of ∙ length-filled slots full ∙ as_many
-      ∙ sym (length-map layer (λ (j : Job). j.command))
+      ∙ sym (length-map layer (λ (j : Job). j.asked.command))
 
   outcome_at : (i : ℕ) (r : TaskRan) → slice_get slots i ≡ Some (Some r) → slice_get outcomes i ≡ Some (outcome r.reply)
   outcome_at i r e = get_map (λ (d : Ended). outcome d.reply) done i (ended_of r)
@@ -397,7 +401,7 @@ groups_in_row table n [] (r ∷ rs) long a z = absurd z
 groups_in_row table n (j ∷ js) [] long a z = tt
 groups_in_row table n (j ∷ js) (r ∷ rs) long a z = (
   (λ g there. subst (λ m. g < m) (sym long)
-      (groups_of-below table j.command g (ap (λ gs. has gs g) (sym (z.0.0 ∙ a.0)) ∙ there))),
+      (groups_of-below table j.asked.command g (ap (λ gs. has gs g) (sym (z.0.0 ∙ a.0)) ∙ there))),
   groups_in_row table n js rs long a.1 z.1,
 )
 
@@ -405,19 +409,19 @@ groups_in_row table n (j ∷ js) (r ∷ rs) long a z = (
 
 abbrev pub works_of : List (List ℕ) → List (List ℕ) → List (List Task) → List layers.Work
 works_of sets (u ∷ us) (ts ∷ tss) =
-    record { places = u; commands = map (λ t. t.job.command) ts; groups = unit_groups sets u } ∷ works_of sets us tss
+    record { places = u; commands = map (λ t. t.job.asked.command) ts; groups = unit_groups sets u } ∷ works_of sets us tss
 works_of sets _ _ = []
 
 groups_are : (table : Layout) (jobs : List Job) → AddressTheirGroups table jobs
     → groups_each jobs ≡ map (groups_of table) (commands_of jobs)
 groups_are table [] a = refl
 groups_are table (j ∷ js) a =
-    ap (λ (g : List ℕ). g ∷ groups_each js) a.0 ∙ ap (λ (l : List (List ℕ)). groups_of table j.command ∷ l) (groups_are table js a.1)
+    ap (λ (g : List ℕ). g ∷ groups_each js) a.0 ∙ ap (λ (l : List (List ℕ)). groups_of table j.asked.command ∷ l) (groups_are table js a.1)
 
 pub address_at : (table : Layout) (jobs : List Job) → AddressTheirGroups table jobs → (i : ℕ) (j : Job) → slice_get jobs i ≡ Some j
-    → j.groups ≡ groups_of table j.command
+    → j.groups ≡ groups_of table j.asked.command
 address_at table [] a i j e = absurd (let k = e in cc)
-address_at table (x ∷ jobs) a zero j e = subst (λ (v : Job). v.groups ≡ groups_of table v.command) (same_some x j e) a.0
+address_at table (x ∷ jobs) a zero j e = subst (λ (v : Job). v.groups ≡ groups_of table v.asked.command) (same_some x j e) a.0
 address_at table (x ∷ jobs) a (suc i) j e = address_at table jobs a.1 i j e
 
 -- each request of a unit has its groups
@@ -435,7 +439,7 @@ unit_tasks skip layer unit is (i ∷ js) (t ∷ ts) sub z = (
 
 tasks_address : (table : Layout) (skip : List RequestId) (layer : List Job) → AddressTheirGroups table layer
     → (is : List ℕ) (ts : List Task)
-    → AllZip (IsTaskOf skip layer) is ts → AllByRecursion (λ t. t.job.groups ≡ groups_of table t.job.command) ts
+    → AllZip (IsTaskOf skip layer) is ts → AllByRecursion (λ t. t.job.groups ≡ groups_of table t.job.asked.command) ts
 tasks_address table skip layer a [] [] z = tt
 tasks_address table skip layer a [] (t ∷ ts) z = absurd z
 tasks_address table skip layer a (i ∷ is) [] z = absurd z
@@ -450,7 +454,7 @@ are_ready table skip layer t a unit ts span is z ns own =
     each ts (unit_tasks skip layer unit is unit ts (λ i h. h) z) (tasks_address table skip layer a unit ts z)
   where
     each : (us : List Task) → AllByRecursion (λ u. u.job.groups ≡ unit_groups (groups_each layer) unit) us
-        → AllByRecursion (λ u. u.job.groups ≡ groups_of table u.job.command) us → AllByRecursion (λ u. IsReadyFor table u span) us
+        → AllByRecursion (λ u. u.job.groups ≡ groups_of table u.job.asked.command) us → AllByRecursion (λ u. IsReadyFor table u span) us
     each [] g b = tt
     each (u ∷ us) g b = (record { is_table = t; groups = b.0; numbers = ns ∙ sym g.0; own = own }, each us g.1 b.1)
 
@@ -474,16 +478,16 @@ are_works table skip layer units tss a of z = record {
     places (u ∷ us) (xs ∷ xss) z = ap (λ (l : List (List ℕ)). u ∷ l) (places us xss z.1)
 
     commands : (is : List ℕ) (ts : List Task) → AllZip (IsTaskOf skip layer) is ts
-        → AllZip (λ i t. slice_get (commands_of layer) i ≡ Some t.job.command) is ts
-    commands is ts z = zip_map (IsTaskOf skip layer) (λ i t. slice_get (commands_of layer) i ≡ Some t.job.command)
-        (λ i t of. get_map (λ (j : Job). j.command) layer i t.job of.at) is ts z
+        → AllZip (λ i t. slice_get (commands_of layer) i ≡ Some t.job.asked.command) is ts
+    commands is ts z = zip_map (IsTaskOf skip layer) (λ i t. slice_get (commands_of layer) i ≡ Some t.job.asked.command)
+        (λ i t of. get_map (λ (j : Job). j.asked.command) layer i t.job of.at) is ts z
 
     stand : (us : List (List ℕ)) (xss : List (List Task)) → AllZip (AllZip (IsTaskOf skip layer)) us xss → (w : layers.Work)
         → In w (works_of (groups_each layer) us xss) → layers.StandAt (commands_of layer) w.places w.commands
     stand [] xss z w there = absurd there
     stand (u ∷ us) [] z w there = absurd there
     stand (u ∷ us) (xs ∷ xss) z w (inl e) = subst (λ v. layers.StandAt (commands_of layer) v.places v.commands) (sym e)
-        (stand_at (commands_of layer) (λ t. t.job.command) u xs (commands u xs z.0))
+        (stand_at (commands_of layer) (λ t. t.job.asked.command) u xs (commands u xs z.0))
     stand (u ∷ us) (xs ∷ xss) z w (inr later) = stand us xss z.1 w later
 
     groups : (us : List (List ℕ)) (xss : List (List Task)) → ((u : List ℕ) → In u us → In u units)
@@ -496,7 +500,7 @@ are_works table skip layer units tss a of z = record {
         (subst (λ v. In c v.commands) e in_it))
       where
         one : (ts : List Task) → AllByRecursion (λ t. t.job.groups ≡ unit_groups (groups_each layer) u) ts
-            → AllByRecursion (λ t. t.job.groups ≡ groups_of table t.job.command) ts → In c (map (λ t. t.job.command) ts)
+            → AllByRecursion (λ t. t.job.groups ≡ groups_of table t.job.asked.command) ts → In c (map (λ t. t.job.asked.command) ts)
             → groups_of table c ≡ unit_groups (groups_each layer) u
         one [] g b there = absurd there
         one (t ∷ ts) g b (inl e) = ap (groups_of table) e ∙ sym b.0 ∙ g.0

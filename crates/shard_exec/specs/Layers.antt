@@ -22,11 +22,11 @@ use Rattle.shard_workers.specs.declared.task.Task.{Task}
 use Rattle.shard_workers.specs.declared.task.TaskRan.{TaskRan}
 
 abbrev pub commands_of : List Job → List Command
-commands_of jobs = map (λ j. j.command) jobs
+commands_of jobs = map (λ j. j.asked.command) jobs
 
 -- each request addresses the groups that the table gives its command
 abbrev pub AddressTheirGroups : Layout → List Job → Type 0
-AddressTheirGroups table jobs = AllByRecursion (λ j. j.groups ≡ groups_of table j.command) jobs
+AddressTheirGroups table jobs = AllByRecursion (λ j. j.groups ≡ groups_of table j.asked.command) jobs
 
 -- the request is one of those that are to be skipped
 abbrev pub is_named : List RequestId → RequestId → Bool
@@ -45,7 +45,7 @@ on_groups table groups m = retain_keys m (λ key. has groups (shard_of table key
 pub record MayStarve (table : Layout) (met : Map) (skip : List RequestId) (j : Job) (e : Ended) : Type 0 where
   pub skipped : is_named skip j.id ≡ true → outcome e.reply ≡ None
   pub starved : is_named skip j.id ≡ false → outcome e.reply ≡ None
-      → AnswerTakesMemory j.command (on_groups table j.groups met)
+      → AnswerTakesMemory j.asked.command (on_groups table j.groups met)
 
 -- what a command leaves of the map that it meets, by what it answers: where it starves, the map as it is
 abbrev pub left_by : Command → Map → Option Content → Map
@@ -59,11 +59,11 @@ MayStarveInTurn table met skip [] [] = Unit {0}
 MayStarveInTurn table met skip [] (e ∷ es) = ⊥
 MayStarveInTurn table met skip (j ∷ js) [] = ⊥
 MayStarveInTurn table met skip (j ∷ js) (e ∷ es) =
-    MayStarve table met skip j e × MayStarveInTurn table (left_by j.command met (outcome e.reply)) skip js es
+    MayStarve table met skip j e × MayStarveInTurn table (left_by j.asked.command met (outcome e.reply)) skip js es
 
--- the rows tell of these requests, in their order
+-- the rows tell of these requests, in their order, each with its words
 abbrev pub IsOf : Job → Ended → Type 0
-IsOf j e = (e.id ≡ j.id) × (e.stamp ≡ j.stamp)
+IsOf j e = (e.id ≡ j.id) × (e.stamp ≡ j.stamp) × (e.words ≡ j.asked.words)
 
 -- The requests of a layer were run over the shards, unit by unit, each over those of its groups, which comes to the same as
 -- one after another on the joined map, in the order of the layer, the starved ones skipped. Other shards are as they were,
@@ -96,7 +96,7 @@ TookTasks skip slots (i ∷ is) [] = ⊥
 TookTasks skip slots (i ∷ is) (t ∷ ts) = IsTaskAt skip slots i t × TookTasks skip (slice_set slots i None) is ts
 
 abbrev pub ended_of : TaskRan → Ended
-ended_of r = record { id = r.id; stamp = r.stamp; reply = r.reply }
+ended_of r = record { id = r.id; stamp = r.stamp; words = r.words; reply = r.reply }
 
 -- it has the request's groups and stamp
 abbrev pub HasItsGroups : Job → TaskRan → Type 0

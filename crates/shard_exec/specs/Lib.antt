@@ -1,5 +1,6 @@
 pub mod Dealing
 pub mod Stamps
+pub mod Reached
 pub mod Layers
 pub mod DealtRooms
 pub mod Rooms

@@ -22,7 +22,7 @@ pub record HasRunInRow (table : Layout) (t : Task) (old : List Map) (r : TaskRan
 
 -- the requests in the slots address the groups that the table gives their commands
 abbrev pub AddressAt : Layout → List (Option Job) → Type 0
-AddressAt table slots = (place : ℕ) (j : Job) → slice_get slots place ≡ Some (Some j) → j.groups ≡ groups_of table j.command
+AddressAt table slots = (place : ℕ) (j : Job) → slice_get slots place ≡ Some (Some j) → j.groups ≡ groups_of table j.asked.command
 
 -- there is room for the requests at these places
 abbrev pub FitAt : List (Option Job) → List ℕ → List (Vec (ℕ × Map)) → Type 0

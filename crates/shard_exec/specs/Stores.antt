@@ -8,7 +8,7 @@ use Rattle.groups.specs.declared.request.RequestId.{RequestId}
 use Rattle.groups.specs.declared.stamp.Stamp.{Stamp}
 use Rattle.shard_exec.specs.declared.done.Ended.{Ended}
 use Rattle.shard_exec.specs.declared.done.ExecFault.{ExecFault}
-use Rattle.shard_exec.specs.declared.done.ExecFault.TheVariants.{Stale, Memory, Failed}
+use Rattle.shard_exec.specs.declared.done.ExecFault.TheVariants.{Stale, Memory, Failed, Foreign}
 use Rattle.shard_exec.specs.Layers.{IsDone}
 use Rattle.shard_exec.specs.Stamps.{AreFresh, raised}
 use Rattle.shard_exec.specs.StoreStates.{StoreState}
@@ -28,6 +28,7 @@ pub record HasRunLayer (old : StoreState) (skip : List RequestId) (layer : List 
 
 -- Why it was not: the first that applies. Stale and Memory hand it back with nothing changed, and an empty layer needs
 -- no memory. Failed comes where the store has failed before, and then changes nothing, or where a start was refused.
+-- Foreign never comes: that no layer is, is for the caller to see to.
 abbrev pub HasFailed : Bool → StoreState → List Job → ExecFault → StoreState → Type 0
 HasFailed may_refuse old layer (Stale back) new = (old.failed ≡ false) × (AreFresh old.lasts layer → ⊥) × (back ≡ layer) × (new ≡ old)
 HasFailed may_refuse old layer (Memory back) new =
@@ -35,9 +36,11 @@ HasFailed may_refuse old layer (Memory back) new =
 HasFailed may_refuse old layer Failed new =
     ((old.failed ≡ true) × (new ≡ old)) ⊎
     ((may_refuse ≡ true) × (old.failed ≡ false) × AreFresh old.lasts layer × (new.failed ≡ true) × (new.table ≡ old.table))
+HasFailed may_refuse old layer (Foreign back) new = ⊥
 
 -- why a layer is not even begun: the store has failed before, or a stamp is not above the last one of a shard
 abbrev pub IsNotAdmitted : Bool → List (Option Stamp) → List Job → ExecFault → Type 0
 IsNotAdmitted failed lasts layer (Stale back) = (failed ≡ false) × (AreFresh lasts layer → ⊥) × (back ≡ layer)
 IsNotAdmitted failed lasts layer (Memory back) = ⊥
 IsNotAdmitted failed lasts layer Failed = failed ≡ true
+IsNotAdmitted failed lasts layer (Foreign back) = ⊥

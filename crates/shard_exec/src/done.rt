@@ -2,13 +2,16 @@
 
 use groups::{RequestId, Stamp};
 use layer_planner::Layer;
+use packing::PackedRequest;
 use resp::Answered;
 
-/// A request that was run, with its reply and the text of that where it is long, or that starved: then there is none.
+/// A request that was run, with its words, its reply, and the text of that where it is long; or one that starved, and then
+/// has no reply.
 #[derive(Drop)]
 pub struct Ended {
     pub id: RequestId,
     pub stamp: Stamp,
+    pub words: PackedRequest,
     pub reply: Option<Answered>,
 }
 
@@ -21,4 +24,7 @@ pub enum ExecFault {
     Memory(Layer),
     /// 3: a worker could not be started, now or earlier. No later layer is run.
     Failed,
+    /// 4: one of its requests addresses other groups than the table gives its command. Nothing has changed. A store asks
+    /// its caller to see to that, and never answers it.
+    Foreign(Layer),
 }

@@ -141,7 +141,7 @@ pub fn run_alone(
     requires shards { length row.old.items ≡ table.now.shards }
     requires lasts { length lasts.old.items ≡ table.now.shards }
     requires own { HasOwnKeys table.now row.old.items }
-    requires groups { job.groups ≡ groups_of table.now job.command }
+    requires groups { job.groups ≡ groups_of table.now job.asked.command }
     requires room { FitsAlone job span }
     ensures done { IsDone table.now row.old.items skip.now (job ∷ []) (result ∷ []) row.new.items }
     ensures lasts { lasts.new.items ≡ raised lasts.old.items (job ∷ []) }

@@ -71,7 +71,7 @@ pub fn run_in_row(
     requires is_table { IsTable table.now }
     requires shards { length row.old.items ≡ table.now.shards }
     requires own { HasOwnKeys table.now row.old.items }
-    requires groups { task.job.groups ≡ groups_of table.now task.job.command }
+    requires groups { task.job.groups ≡ groups_of table.now task.job.asked.command }
     requires room { FitsAlone task.job span }
     ensures ran { HasRunInRow table.now task row.old.items result row.new.items }
     ensures shards { length row.new.items ≡ length row.old.items }

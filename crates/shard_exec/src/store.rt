@@ -115,6 +115,16 @@ impl Store {
         address_their_groups(&self.table, layer.jobs())
     }
 
+    /// Whether the stamp of each request of the layer is above the last one of each of its shards: else `run_layer` answers
+    /// that the layer is stale. For callers that have a fault of their own to tell of after that one.
+    pub fn is_fresh(&self, layer: &Layer) -> bool
+        requires { AddressTheirGroups self.now.table layer.now }
+        ensures fresh { OnTrue result (AreFresh self.now.lasts layer.now) }
+        ensures stale { OnFalse result (AreFresh self.now.lasts layer.now → ⊥) }
+    {
+        are_fresh(self.lasts.as_slice(), layer.jobs())
+    }
+
     /// Runs the requests of a layer by these workers, and tells what became of each, in the order of the layer. Those that
     /// address one group alone are run in one go, by one worker, in their order; one worker takes these units, and each
     /// other request, in the order of their first stamps. The gate is told of each request that is run.
@@ -259,10 +269,10 @@ fn address_their_groups(table: &Table, jobs: &[Job]) -> bool
 
 /// Whether the request addresses the groups that the table gives its command.
 fn addresses_its_groups(table: &Table, job: &Job) -> bool
-    ensures its { OnTrue result (job.now.groups ≡ groups_of table.now job.now.command) }
-    ensures others { OnFalse result (job.now.groups ≡ groups_of table.now job.now.command → ⊥) }
+    ensures its { OnTrue result (job.now.groups ≡ groups_of table.now job.now.asked.command) }
+    ensures others { OnFalse result (job.now.groups ≡ groups_of table.now job.now.asked.command → ⊥) }
 {
-    job.groups == table.groups(&job.command)
+    job.groups == table.groups(job.asked.command())
 }
 
 /// Whether the stamp of each request is above the last one of each of its shards.

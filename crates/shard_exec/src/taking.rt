@@ -123,8 +123,14 @@ pub fn tell(lasts: &mut Vec<Option<Stamp>>, ran: TaskRan) -> Ended
         id,
         stamp,
         groups,
+        words,
         reply,
     } = ran;
     raise(lasts, groups, &stamp);
-    Ended { id, stamp, reply }
+    Ended {
+        id,
+        stamp,
+        words,
+        reply,
+    }
 }

@@ -90,13 +90,13 @@ one_over table t r (b ∷ c ∷ more) after ready one kept run = absurd (omega (
 one_over table t r (b ∷ []) [] ready one kept run = absurd (let e = kept in cc)
 one_over table t r (b ∷ []) (a ∷ c ∷ more) ready one kept run = absurd (let e : numbers (a ∷ c ∷ more) ≡ b.0 ∷ [] = kept in cc)
 one_over table t r (b ∷ []) (a ∷ []) ready one kept run =
-    let lone : groups_of table t.job.command ≡ b.0 ∷ [] = sym ready.groups ∙ sym ready.numbers in
+    let lone : groups_of table t.job.asked.command ≡ b.0 ∷ [] = sym ready.groups ∙ sym ready.numbers in
     let same_number : a.0 ≡ b.0 = (let e : a.0 ∷ [] ≡ b.0 ∷ [] = kept in cc) in
     record {
       numbers = kept;
       own = (
         subst (λ n. HasKeysOf table n a.1) (sym same_number)
-            (own_after table t.job.command b.0 b.1 ready.is_table lone ready.own.0 (outcome r.reply) a.1 run.ran),
+            (own_after table t.job.asked.command b.0 b.1 ready.is_table lone ready.own.0 (outcome r.reply) a.1 run.ran),
         tt,
       );
       on = subst (λ m. HasRunOn t m r (joined (a.1 ∷ []))) (sym (joined-one b.1))
@@ -107,10 +107,10 @@ one_over table t r (b ∷ []) (a ∷ []) ready one kept run =
 
 -- a request that was run over shards has run its command over them
 pub over_ran : (table : Layout) (t : Task) (r : TaskRan) (before after : Span) → IsReadyFor table t before
-    → HasRunOver table t before r after → SpanRan table t.job.command before (outcome r.reply) after
+    → HasRunOver table t before r after → SpanRan table t.job.asked.command before (outcome r.reply) after
 over_ran table t r before after ready run =
-    span_ran table t.job.command before after
-    (subst IsAscending (sym (ready.numbers ∙ ready.groups)) (IsAscending-groups_of table t.job.command))
+    span_ran table t.job.asked.command before after
+    (subst IsAscending (sym (ready.numbers ∙ ready.groups)) (IsAscending-groups_of table t.job.asked.command))
     run.numbers ready.own run.own (outcome r.reply) run.on.ran
 
 -- the next one has the shards that it left
@@ -130,7 +130,7 @@ ready_still table t r before after (u ∷ us) run ready = (
 pub unit_ran : (table : Layout) (ts : List Task) (rs : List TaskRan) (before after : Span)
     → AllByRecursion (λ t. IsReadyFor table t before) ts
     → HaveRunOver table ts before rs after
-    → UnitRan table (map (λ t. t.job.command) ts) before (map (λ r. outcome r.reply) rs) after
+    → UnitRan table (map (λ t. t.job.asked.command) ts) before (map (λ r. outcome r.reply) rs) after
 unit_ran table [] [] before after ready run = run
 unit_ran table [] (r ∷ rs) before after ready run = absurd run
 unit_ran table (t ∷ ts) [] before after ready run = absurd run

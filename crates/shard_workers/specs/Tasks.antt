@@ -1,5 +1,5 @@
 -- A request that is run on a map, or over the shards of its groups, and what comes of it.
-use Rattle.std.specs.Prelude.{◌≡◌, true, false, List, [], ◌∷◌, Option, Some, None, option_map}
+use Rattle.std.specs.Prelude.{◌≡◌, true, false, [], ◌∷◌, Option, Some, None, option_map}
 use Rattle.std.specs.FinMap.{empty}
 use Rattle.command_bodies.specs.Answer.{AnswerTakesMemory}
 use Rattle.command_bodies.specs.Command.{effect_of}
@@ -29,9 +29,10 @@ pub record HasRunOn (t : Task) (before : Map) (r : TaskRan) (after : Map) : Type
   pub id : r.id ≡ t.job.id
   pub stamp : r.stamp ≡ t.job.stamp
   pub groups : r.groups ≡ t.job.groups
-  pub ran : MapRan t.job.command before (outcome r.reply) after
+  pub words : r.words ≡ t.job.asked.words
+  pub ran : MapRan t.job.asked.command before (outcome r.reply) after
   pub skipped : t.skipped ≡ true → outcome r.reply ≡ None
-  pub starved : t.skipped ≡ false → outcome r.reply ≡ None → AnswerTakesMemory t.job.command before
+  pub starved : t.skipped ≡ false → outcome r.reply ≡ None → AnswerTakesMemory t.job.asked.command before
 
 -- the map of the one shard that is there
 abbrev pub first_map : Span → Map
@@ -41,7 +42,7 @@ first_map (s ∷ ss) = s.1
 -- these are the shards of the groups that the request addresses, each with only keys that the table places there
 pub record IsReadyFor (table : Layout) (t : Task) (span : Span) : Type 0 where
   pub is_table : IsTable table
-  pub groups : t.job.groups ≡ groups_of table t.job.command
+  pub groups : t.job.groups ≡ groups_of table t.job.asked.command
   pub numbers : numbers span ≡ t.job.groups
   pub own : SpanHasOwnKeys table span
 

@@ -11,6 +11,7 @@ use command_bodies::answer;
 use groups::{GroupId, Groups, RequestId, Stamp};
 use keyspace::Keyspace;
 use layer_planner::Job;
+use packing::PackedRequest;
 use placement::Table;
 use resp::Answered;
 use shards::{Shard, Span, SpanFrame};
@@ -25,14 +26,15 @@ pub struct Task {
     pub skipped: bool,
 }
 
-/// A request that was run, skipped or starved, with its place in the layer. There is a reply where it was run, with its
-/// text where that is long.
+/// A request that was run, skipped or starved, with its place in the layer and its words. There is a reply where it was run,
+/// with its text where that is long.
 #[derive(Drop)]
 pub struct TaskRan {
     pub place: usize,
     pub id: RequestId,
     pub stamp: Stamp,
     pub groups: Groups,
+    pub words: PackedRequest,
     pub reply: Option<Answered>,
 }
 
@@ -44,15 +46,15 @@ impl Task {
         self.job.groups
     }
 
-    /// Runs the request over a keyspace that covers its command's keys, unless it is to be skipped. The gate is told
-    /// only of what is run.
+    /// Runs the request over a keyspace that covers its command's keys, unless it is to be skipped. The command is used up,
+    /// and the words are kept. The gate is told only of what is run.
     pub fn run<K: Keyspace>(
         self,
         alloc: Global,
         keyspace: &mut K,
         gate: &(dyn Gate + Sync),
     ) -> TaskRan
-        requires { All (λ key. IsTrue (K.covered keyspace.old key)) (keys_of self.job.command) }
+        requires { All (λ key. IsTrue (K.covered keyspace.old key)) (keys_of self.job.asked.command) }
         ensures ran { HasRunOn self (K.contents keyspace.old) result (K.contents keyspace.new) }
         ensures covers { K.covered keyspace.new ≡ K.covered keyspace.old }
     {
@@ -65,14 +67,16 @@ impl Task {
             id,
             stamp,
             groups,
-            command,
+            asked,
         } = job;
+        let (words, command) = asked.into_parts();
         if skipped {
             return TaskRan {
                 place,
                 id,
                 stamp,
                 groups,
+                words,
                 reply: None,
             };
         }
@@ -84,6 +88,7 @@ impl Task {
             id,
             stamp,
             groups,
+            words,
             reply: outcome.ok(),
         }
     }
@@ -134,7 +139,7 @@ fn run_on_all<F: SpanFrame>(
 ) -> (TaskRan, Vec<(GroupId, Shard)>)
     requires table { table ≡ F.layout }
     requires shards { IsSpan F.layout F.groups shards.items }
-    requires keys { All (λ key. IsTrue (lies_on F.layout F.groups key)) (keys_of task.job.command) }
+    requires keys { All (λ key. IsTrue (lies_on F.layout F.groups key)) (keys_of task.job.asked.command) }
     ensures shards { IsSpan F.layout F.groups result.1.items }
     ensures ran { HasRunOn task (union shards.items) result.0 (union result.1.items) }
 {

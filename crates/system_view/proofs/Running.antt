@@ -1,10 +1,9 @@
 -- A layer that is run in the system is run in the world.
-use Rattle.std.proofs.Common.{refl, sym, ap, ◌∙◌, subst, inl, inr, eq-eqb, append-nil}
+use Rattle.std.proofs.Common.{refl, sym, ap, ◌∙◌, subst, inl, inr, append-nil}
 use Rattle.std.proofs.Math.Seq.{append_snoc}
-use Rattle.std.proofs.lemmas.Bool.{or_left, or_right}
 use Rattle.std.specs.List.{AllZip}
-use Rattle.std.specs.Prelude.{◌≡◌, ℕ, zero, suc, Bool, true, false, cond, ◌||◌, List, [], ◌∷◌, ◌++◌, map, ◌⊎◌}
-use Rattle.std.specs.Prelude.{Option, Some, None, is_none, Ok, slice_set}
+use Rattle.std.specs.Prelude.{◌≡◌, ℕ, Bool, true, false, cond, ◌||◌, List, [], ◌∷◌, ◌++◌, map}
+use Rattle.std.specs.Prelude.{Option, Some, None, is_none, Ok}
 use Rattle.command_bodies.specs.Command.{effect_of}
 use Rattle.command_table.specs.Reading.{reading}
 use Rattle.command_table.specs.declared.command.Command.{Command}
@@ -24,9 +23,10 @@ use Rattle.router.specs.declared.connection.Connection.{Connection}
 use Rattle.router.specs.declared.connection.Standing.{Standing}
 use Rattle.router.specs.declared.connection.Standing.TheVariants as router
 use Rattle.shard_workers.proofs.Zips.{zip_push}
+use Rattle.shard_exec.proofs.LastStamps.{raised_last}
 use Rattle.shard_exec.specs.Layers.{commands_of, AddressTheirGroups, outcomes_of_ended, IsOf}
 use Rattle.shard_workers.specs.Runs.{outcome}
-use Rattle.shard_exec.specs.Stamps.{last_of, is_above, IsFresh, AreFresh, raise, raised}
+use Rattle.shard_exec.specs.Stamps.{last_of, is_above, IsFresh, AreFresh, raised}
 use Rattle.shard_exec.specs.StoreStates.{StoreState}
 use Rattle.shard_exec.specs.Stores.{HasRunLayer}
 use Rattle.shard_exec.specs.declared.done.Ended as run
@@ -260,39 +260,6 @@ run_in_turn asked starved m new (d ∷ ds) (j ∷ js) (r ∷ rs) are told tells 
     )
 
 -- ---- the last stamps
-
-set_last : (lasts : List (Option Stamp)) (g : ℕ) (x : Option Stamp) (n : ℕ) →
-    (last_of (slice_set lasts g x) n ≡ last_of lasts n) ⊎ ((g ≡ n) × (last_of (slice_set lasts g x) n ≡ x))
-set_last [] g x n = inl refl
-set_last (l ∷ ls) zero x zero = inr (refl, refl)
-set_last (l ∷ ls) zero x (suc n) = inl refl
-set_last (l ∷ ls) (suc g) x zero = inl refl
-set_last (l ∷ ls) (suc g) x (suc n) = elim (set_last ls g x n) [ inl e ↦ inl e | inr e ↦ inr (ap suc e.0, e.1) ]
-
-raise_last : (lasts : List (Option Stamp)) (gs : List ℕ) (stamp : Stamp) (n : ℕ) →
-    (last_of (raise lasts gs stamp) n ≡ last_of lasts n)
-    ⊎ ((has gs n ≡ true) × (last_of (raise lasts gs stamp) n ≡ Some stamp))
-raise_last lasts [] stamp n = inl refl
-raise_last lasts (g ∷ gs) stamp n = elim (raise_last (slice_set lasts g (Some stamp)) gs stamp n) [
-  | inr e ↦ inr (or_right _ _ e.0, e.1)
-  | inl e ↦ elim (set_last lasts g (Some stamp) n) [
-    | inl d ↦ inl (e ∙ d)
-    | inr d ↦ inr (or_left _ _ (eq-eqb g n d.0), e ∙ d.1)
-  ]
-]
-
--- a shard's last stamp is as it was, or that of a request of the layer which addresses the shard
-raised_last : (lasts : List (Option Stamp)) (js : List Job) (n : ℕ) →
-    (last_of (raised lasts js) n ≡ last_of lasts n)
-    ⊎ ((j : Job) × In j js × (has j.groups n ≡ true) × (last_of (raised lasts js) n ≡ Some j.stamp))
-raised_last lasts [] n = inl refl
-raised_last lasts (j ∷ js) n = elim (raised_last (raise lasts j.groups j.stamp) js n) [
-  | inr e ↦ inr (e.0, inr e.1, e.2, e.3)
-  | inl e ↦ elim (raise_last lasts j.groups j.stamp n) [
-    | inl d ↦ inl (e ∙ d)
-    | inr d ↦ inr (j, inl refl, d.0, e ∙ d.1)
-  ]
-]
 
 -- each request of the layer ended
 in_ended : (js : List Job) (rs : List run.Ended) (j : Job) → AllZip IsOf js rs → In j js →

@@ -55,3 +55,8 @@ loop-place-preserved g c =
       len = c.run_in_row.ensures.shards ∙ inv.len;
       len_rans = length-set rans i (Some r) ∙ inv.len_rans;
     }
+
+pub run_in_row-requires-clause-groups : goal.run_in_row-requires-clause-groups
+run_in_row-requires-clause-groups g c =
+    let i = get_or c.args.places.now c.loop-place.place-index 0 in let job = c.take_task-task.result.job in
+    c.requires.groups i job (c.loop-place.invariant.among i job c.take_task-task.ensures.taken.there)

@@ -16,15 +16,15 @@ pub run_on_all-requires-clause-shards : goal.run_on_all-requires-clause-shards
 run_on_all-requires-clause-shards g c = record {
   numbers = refl;
   ascending = subst IsAscending (sym (c.requires.numbers ∙ c.requires.groups))
-      (IsAscending-groups_of c.args.table.now c.args.self.job.command);
+      (IsAscending-groups_of c.args.table.now c.args.self.job.asked.command);
   own = c.requires.own;
 }
 
 pub run_on_all-requires-clause-keys : goal.run_on_all-requires-clause-keys
 run_on_all-requires-clause-keys g c k d below =
-    ap (λ gs. has gs (shard_of c.args.table.now (get_or (keys_of c.args.self.job.command) k d))) (c.requires.numbers ∙ c.requires.groups)
-    ∙ has-groups_of-key c.args.table.now c.args.self.job.command (get_or (keys_of c.args.self.job.command) k d) c.requires.is_table
-    (k, below, any_default (keys_of c.args.self.job.command) k _ d below)
+    ap (λ gs. has gs (shard_of c.args.table.now (get_or (keys_of c.args.self.job.asked.command) k d))) (c.requires.numbers ∙ c.requires.groups)
+    ∙ has-groups_of-key c.args.table.now c.args.self.job.asked.command (get_or (keys_of c.args.self.job.asked.command) k d) c.requires.is_table
+    (k, below, any_default (keys_of c.args.self.job.asked.command) k _ d below)
 
 pub returns : goal.returns
 returns g c = record {
