@@ -4,7 +4,6 @@ use Rattle.std.proofs.Common.{◌≡◌, true, false, ◌||◌, inl, inr, List, 
 use Rattle.std.specs.List.{AllZip}
 use Rattle.std.proofs.lemmas.Bool.{or_right}
 use Rattle.command_bodies.specs.Answer.{AnswerTakesMemory}
-use Rattle.command_bodies.specs.Command.{effect_of}
 use Rattle.command_table.specs.Reading.{reading}
 use Rattle.command_table.specs.declared.command.Command.{Command}
 use Rattle.groups.proofs.Ids.{same_id-refl, same_id-sym}

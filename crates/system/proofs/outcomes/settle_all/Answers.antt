@@ -4,7 +4,7 @@ use Rattle.std.specs.List.{AllZip}
 use Rattle.system.specs.Outcomes.{IsOutcome}
 use Rattle.system_view.proofs.Settling.{settle_may, settle_did}
 use Rattle.world.specs.World.{Outcome}
-use Rattle.system.proofs.Told.{NextOutcome, no_length, next_outcome, settled_all}
+use Rattle.system.proofs.Told.{no_length, next_outcome, settled_all}
 use Rattle.system.proofs.outcomes.settle_all.Goals as goal
 use Rattle.system.proofs.outcomes.settle_all.Goals.{In-Some}
 

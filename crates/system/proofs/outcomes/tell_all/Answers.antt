@@ -1,5 +1,4 @@
-use Rattle.std.proofs.Common.{rules, ◌≡◌, ◌≤◌, ◌++◌, List, [], length, arith, refl, sym, ap, ◌∙◌, subst, append-nil, append_assoc}
-use Rattle.journal.specs.Views.{RowView}
+use Rattle.std.proofs.Common.{rules, ◌≡◌, ◌++◌, List, [], length, arith, refl, sym, ap, ◌∙◌, subst, append-nil, append_assoc}
 use Rattle.system_view.specs.Layers.{AreEnded, AreRows}
 use Rattle.system.specs.Outcomes.{IsOutcome}
 use Rattle.world.specs.World.{Ended}

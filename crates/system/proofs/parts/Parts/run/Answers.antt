@@ -1,4 +1,4 @@
-use Rattle.std.proofs.Common.{◌++◌, List, length, refl, sym, ap, ◌∙◌, subst, arith}
+use Rattle.std.proofs.Common.{◌++◌, List, length, sym, ap, ◌∙◌, subst, arith}
 use Rattle.journal.specs.declared.step.Step.TheVariants.{Run}
 use Rattle.shard_exec.specs.Stores.{HasRunLayer, HasFailed}
 use Rattle.system.proofs.Layering.{ended_count, same_taken, run_may, run_ended, run_makes}
