@@ -48,13 +48,13 @@ by_open : (s : Standing) (o : kept.Outcome) (v : Connection) (w : World) (c : �
     w.standing c ≡ Answered (outcome_shown o)
 by_open router.Idle o v w c is shows = absurd (let k = is in cc)
 by_open (router.Waiting p) o v w c is shows = absurd (let k = is in cc)
-by_open router.Taken o v w c is shows = absurd (let k = is in cc)
+by_open (router.Taken words) o v w c is shows = absurd (let k = is in cc)
 by_open (router.Answered p) o v w c is shows = shows.0 ∙ ap (λ x. Answered (outcome_shown x)) (some_same p o is)
 
 by_closed : (s : Standing) (o : kept.Outcome) (v : Connection) (w : World) (c : ℕ) → outcome_in s ≡ Some o → ShowsClosed s v w c → ⊥
 by_closed router.Idle o v w c is shows = shows
 by_closed (router.Waiting p) o v w c is shows = let k = is in cc
-by_closed router.Taken o v w c is shows = let k = is in cc
+by_closed (router.Taken words) o v w c is shows = let k = is in cc
 by_closed (router.Answered p) o v w c is shows = shows
 
 by_connection : (x : Option Connection) (o : kept.Outcome) (w : World) (c : ℕ) → outcome_at x ≡ Some o → ShowsConnection x w c →
