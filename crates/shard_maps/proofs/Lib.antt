@@ -7,3 +7,4 @@ pub mod Layers
 pub mod Works
 pub mod Runs
 pub mod PutBack
+pub mod Empty

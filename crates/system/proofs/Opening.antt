@@ -3,16 +3,16 @@ use Rattle.std.proofs.Common.{◌≡◌, ℕ, zero, suc, List, [], ◌∷◌, le
 use Rattle.std.proofs.Common.{◌∙◌, subst, arith}
 use Rattle.std.proofs.Math.ListN.{replicate}
 use Rattle.std.specs.BTreeMap.{is_at}
-use Rattle.std.specs.FinMap.{empty, entries, len-entries, len-empty}
+use Rattle.std.specs.FinMap.{empty}
 use Rattle.std.specs.Map.{lookup}
 use Rattle.std.specs.Ordering.{nat_cmp}
 use Rattle.delivery.specs.Queues.{queue_of}
-use Rattle.keyspace.specs.Map.{Map, with_entries}
 use Rattle.multicast.specs.Multicast.{group_of}
 use Rattle.placement.specs.Layout.{Layout}
 use Rattle.router.specs.Router.{RouterView}
 use Rattle.shard_exec.specs.Stamps.{last_of}
 use Rattle.shard_exec.specs.Stores.{empty_store}
+use Rattle.shard_maps.proofs.Empty.{joined-empty}
 use Rattle.shard_maps.specs.Joined.{joined}
 use Rattle.skeen_core.specs.Group.{fresh}
 use Rattle.system.specs.Parts.{IsAt, ShowsStage}
@@ -21,21 +21,6 @@ use Rattle.system.specs.declared.stage.Stage.TheVariants.{Free}
 use Rattle.system_view.specs.Connections.{ShowsConnections, ShowsConnection}
 use Rattle.system_view.specs.Layers.{AreRows, ShowsStore}
 use Rattle.world.specs.Steps.{opening}
-
-no_length : {X : Type 0} (xs : List X) → length xs ≡ 0 → xs ≡ []
-no_length [] none = refl
-no_length (x ∷ xs) none = absurd (omega arith)
-
-abbrev no_keys : Map
-no_keys = empty
-
-no_entries : entries no_keys ≡ []
-no_entries = no_length (entries no_keys) (sym (len-entries no_keys) ∙ len-empty _ _)
-
--- maps that are all empty are one empty map
-joined-empty : (n : ℕ) → joined (replicate n empty) ≡ empty
-joined-empty zero = refl
-joined-empty (suc n) = ap (with_entries (joined (replicate n empty))) no_entries ∙ joined-empty n
 
 none_last : (n shard : ℕ) → last_of (replicate n None) shard ≡ None
 none_last zero shard = refl

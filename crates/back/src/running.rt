@@ -1,0 +1,125 @@
+//! A layer that is run over the store, and the rows that come of it.
+
+ghost use Rattle.std.specs.Prelude.{◌≡◌, ◌+◌, ◌++◌, ◌<◌, ◌≤◌, [], length, IfErr, OnOk, vec_capacity};
+ghost use Rattle.back.specs.Backs.{back_of};
+ghost use Rattle.back.specs.Rooms.{FitsEnded};
+ghost use Rattle.back.specs.Rows.{with_row, rows_of, with_done, with_starved, results_of};
+ghost use Rattle.back.specs.Runs.{HasRun, IsRefused, WhyUnrun};
+ghost use Rattle.shard_exec.specs.Layers.{AddressTheirGroups};
+
+use crate::room::ResultsRoom;
+use groups::{RequestId, Stamp};
+use journal::Rows;
+use layer_planner::Layer;
+use layer_results::{Done, DoneRow};
+use packing::PackedRequest;
+use shard_exec::{Ended, ExecFault, Store};
+use shard_workers::{Gate, Workers};
+use std::alloc::Global;
+
+/// Runs a layer over the store, adds the rows of what was executed, and puts what came of the layer in the place of what
+/// came of the last one. All memory for that is taken before the first request is run.
+pub fn run_over<W: Workers>(
+    alloc: Global,
+    store: &mut Store,
+    rows: &mut Rows,
+    last: &mut Done,
+    layer: Layer,
+    skip: &[RequestId],
+    workers: &W,
+    gate: &(dyn Gate + Sync),
+) -> Result<(), ExecFault>
+    ensures run { OnOk result (HasRun (back_of store.old rows.old.rows last.old) skip.now layer
+        (back_of store.new rows.new.rows last.new)) }
+    ensures fault { IfErr result (λ fault. IsRefused (W.may_refuse workers.now) (back_of store.old rows.old.rows last.old) layer fault
+        (back_of store.new rows.new.rows last.new)) }
+{
+    if store.has_failed() {
+        return Err(ExecFault::Failed);
+    }
+    if !store.may_run(&layer) {
+        return Err(ExecFault::Foreign(layer));
+    }
+    let Ok(room) = ResultsRoom::reserve(alloc, layer.jobs(), rows) else {
+        return Err(unrun(store, layer));
+    };
+    match store.run_layer(alloc, layer, skip, workers, gate) {
+        Ok(ended) => {
+            *last = tell_all(rows, ended, room);
+            Ok(())
+        }
+        Err(fault) => Err(fault),
+    }
+}
+
+/// Why a layer isn't run for whose rows there is no memory: where it is stale as well, that comes first.
+fn unrun(store: &Store, layer: Layer) -> ExecFault
+    requires { AddressTheirGroups store.now.table layer }
+    ensures { WhyUnrun store.now layer result }
+{
+    if store.is_fresh(&layer) {
+        ExecFault::Memory(layer)
+    } else {
+        ExecFault::Stale(layer)
+    }
+}
+
+/// Adds the row of each request that was executed, and gives what came of the layer. There is room for all of it.
+fn tell_all(rows: &mut Rows, ended: Vec<Ended>, room: ResultsRoom) -> Done
+    requires room { FitsEnded ended.items room }
+    requires rows { length ended.items ≤ rows.old.room }
+    ensures rows { rows.new.rows ≡ rows.old.rows ++ rows_of ended.items }
+    ensures done { result ≡ results_of ended.items }
+{
+    let ResultsRoom {
+        words,
+        rows: mut done,
+        mut starved,
+    } = room;
+    let mut copies = words.into_iter();
+    for request in ended {
+        let Some(copy) = copies.next() else {
+            unreachable!()
+        };
+        tell(rows, request, copy, &mut done, &mut starved);
+    }
+    Done::new(done, starved)
+}
+
+/// Adds the row of a request, if it was executed, and notes what came of it, with this copy of its words. There is room.
+fn tell(
+    rows: &mut Rows,
+    request: Ended,
+    copy: PackedRequest,
+    done: &mut Vec<DoneRow>,
+    starved: &mut Vec<(RequestId, Stamp)>,
+)
+    requires copy { copy ≡ request.words }
+    requires row { 0 < rows.old.room }
+    requires done { length done.old.items < vec_capacity done.old }
+    requires starved { length starved.old.items < vec_capacity starved.old }
+    ensures row { rows.new.rows ≡ rows.old.rows ++ with_row request request.reply [] }
+    ensures row_room { rows.old.room ≤ rows.new.room + 1 }
+    ensures done { done.new.items ≡ done.old.items ++ with_done request request.reply [] }
+    ensures done_room { vec_capacity done.old ≤ vec_capacity done.new }
+    ensures starved { starved.new.items ≡ starved.old.items ++ with_starved request request.reply [] }
+    ensures starved_room { vec_capacity starved.old ≤ vec_capacity starved.new }
+{
+    let Ended {
+        id,
+        stamp,
+        words,
+        reply,
+    } = request;
+    let Some(answered) = reply else {
+        starved.push_reserved((id, stamp));
+        return;
+    };
+    let reply = rows.push(id, &stamp, words, answered);
+    done.push_reserved(DoneRow {
+        id,
+        stamp,
+        words: copy,
+        reply,
+    });
+}
