@@ -67,10 +67,14 @@ take_memory f none some = λ h w told at' fault refused.
     by_fault w free some NoLayer refused = some refused.1
 
 -- where no request is ready there is no layer to be taken
+pub take_unready : (f : FrontView) → f.out ≡ [] → ((d : Delivered) → ¬ IsReady (queue_of f.multicast.queues) d) → Refuses f step.Take NoLayer
+take_unready f none unready = λ h w told at'. (
+  none_out f none h w told at',
+  subst (λ (q : QueueOf). (d : Delivered) → ¬ IsReady q d) (queues_are f h w told at') unready,
+)
+
 pub take_no_layer : (f : FrontView) → f.out ≡ [] → IsLayer (queue_of f.multicast.queues) [] → Refuses f step.Take NoLayer
-take_no_layer f none ready = λ h w told at'.
-    (none_out f none h w told at', subst (λ (q : QueueOf). (d : Delivered) → ¬ IsReady q d) (queues_are f h w told at')
-    (λ d is. ready.all d (inl is)))
+take_no_layer f none ready = take_unready f none (λ d is. ready.all d (inl is))
 
 -- a layer that isn't empty has a ready request
 pub some_ready : (queue : QueueOf) (ds : List Delivered) → IsLayer queue ds → ds ≢ [] → ((d : Delivered) → ¬ IsReady queue d) → ⊥

@@ -6,3 +6,4 @@ pub mod Settling
 pub mod Outcomes
 pub mod Room
 pub mod Taking
+pub mod Looking
