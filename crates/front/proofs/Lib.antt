@@ -10,6 +10,7 @@ pub mod Opening
 pub mod Parts
 pub mod Refusals
 pub mod Retelling
+pub mod Retold
 pub mod Running
 pub mod SettleFronts
 pub mod SettleMakes

@@ -2,10 +2,11 @@
 use Rattle.std.specs.Prelude.{◌≡◌, ◌+◌, List, [], ◌∷◌, ◌++◌, Option, option_map}
 use Rattle.front.specs.Fronts.{FrontView, Told, retold_outcome, FrontIsAt}
 use Rattle.groups.specs.declared.request.ConnId.{ConnId}
+use Rattle.groups.specs.declared.request.RequestId.{RequestId}
 use Rattle.journal.specs.declared.step.Step.{Step}
 use Rattle.journal.specs.declared.step.Step.TheVariants.{Run, Collect}
 use Rattle.router.specs.declared.outcome.Outcome as kept
-use Rattle.system_view.specs.Connections.{outcome_shown}
+use Rattle.system_view.specs.Connections.{outcome_shown, IsSettled}
 use Rattle.world.specs.Steps.{Effect, Collected, Steps}
 use Rattle.world.specs.World.{World, Outcome}
 
@@ -37,3 +38,8 @@ abbrev pub SeesNoRun : FrontView → Type 0
 SeesNoRun f = (h : List Step) (w : World) (told : Told) → FrontIsAt f h w told →
     (starved : List _) (effect : Effect) (w' : World) → Steps f.table w (Run starved) effect w' →
     FrontIsAt f (h ++ Run starved ∷ []) w' told
+
+-- what it was told of a request that isn't settled there counts for nothing yet
+abbrev pub MayBeRetold : FrontView → Type 0
+MayBeRetold f = (h : List Step) (w : World) (before now : Told) → FrontIsAt f h w before →
+    ((i : RequestId) → IsSettled w i → now i ≡ before i) → FrontIsAt f h w now

@@ -4,7 +4,7 @@ ghost use Rattle.std.specs.Prelude.{◌≡◌, ◌≢◌, ◌↔◌, [], length,
 ghost use Rattle.delivery.specs.Queues.{queue_of};
 ghost use Rattle.delivery.specs.Ready.{IsReady};
 ghost use Rattle.front.specs.Fronts.{IsFront};
-ghost use Rattle.front.specs.Making.{SeesNoRun};
+ghost use Rattle.front.specs.Making.{SeesNoRun, MayBeRetold};
 ghost use Rattle.front.specs.Looking.{IsQuiet};
 ghost use Rattle.multicast.specs.Multicast.{group_of};
 ghost use Rattle.router.specs.Router.{waiting};
@@ -18,13 +18,15 @@ use router::Outcome;
 use skeen_core::{Delivered, Packet};
 
 impl Front {
-    /// It does nothing: its contract says what each front is, and that it is at the same where its layer is run.
+    /// It does nothing: its contract says what each front is.
     ///
     /// Some history has led here, of the steps that its calls made and of a Run for each layer that was settled; and the
-    /// front shows the world of that history as it was told.
+    /// front shows the world of that history as it was told. It is at the same where its layer is run. And what it will be
+    /// told of requests that aren't settled yet may be said before.
     pub fn holds(&self)
         ensures is_front { IsFront self.now }
         ensures no_run { SeesNoRun self.now }
+        ensures retold { MayBeRetold self.now }
     {
         let _ = &self.router;
     }
