@@ -1,14 +1,13 @@
 -- Open, Collect and Close of a front are steps of the world.
-use Rattle.std.proofs.Common.{◌≡◌, ◌≢◌, ℕ, suc, ◌+◌, ◌==◌, true, false, cond, List, [], ◌∷◌, ◌++◌, Option, Some, None, option_map}
+use Rattle.std.proofs.Common.{◌≡◌, ℕ, suc, ◌+◌, ◌==◌, cond, List, [], ◌∷◌, ◌++◌, Option, Some, None, option_map}
 use Rattle.std.proofs.Common.{refl, sym, ap, ◌∙◌, subst, arith}
-use Rattle.front.proofs.Retelling.{was_closed, at_retold, same_standings}
+use Rattle.front.proofs.Retelling.{at_retold, same_standings}
 use Rattle.front.proofs.Showing.{stepped, is_stepped, by_messages, is_after}
-use Rattle.front.specs.Fronts.{FrontView, Told, retold_outcome, retold_standing, retold_world, FrontShows, FrontIsAt}
+use Rattle.front.specs.Fronts.{FrontView, Told, retold_outcome, retold_standing, retold_world, FrontIsAt}
 use Rattle.front.specs.Making.{Makes, Collects}
 use Rattle.groups.specs.declared.request.ConnId.{ConnId}
 use Rattle.journal.specs.declared.step.Step.{Step}
 use Rattle.journal.specs.declared.step.Step.TheVariants.{Open, Collect, Close}
-use Rattle.multicast.specs.Multicast.{MulticastView}
 use Rattle.router.specs.Connection.{just_opened}
 use Rattle.router.specs.Router.{RouterView, connection}
 use Rattle.router.specs.Router as router

@@ -1,6 +1,6 @@
 -- The outcomes of a layer go to their connections, one after another, in whatever order, as the front was told of them.
-use Rattle.std.proofs.Common.{◌≡◌, ℕ, ◌==◌, Bool, true, false, cond, ◌||◌, List, [], ◌∷◌, ◌++◌, ◌⊎◌, inl, inr, Some, None, refl, sym}
-use Rattle.std.proofs.Common.{ap, ◌∙◌, subst, eqb-true, eq-eqb, append_assoc, append-nil}
+use Rattle.std.proofs.Common.{◌≡◌, ℕ, ◌==◌, Bool, true, false, cond, ◌||◌, List, [], ◌∷◌, ◌++◌, inl, inr, Some, None, refl, sym}
+use Rattle.std.proofs.Common.{ap, ◌∙◌, subst, eqb-true, eq-eqb}
 use Rattle.std.proofs.Math.Seq.{append_snoc}
 use Rattle.std.proofs.lemmas.Bool.{both_ways, cases_Bool, cond-true, cond-false}
 use Rattle.std.proofs.lemmas.List.{append_cancel_right}
@@ -12,7 +12,6 @@ use Rattle.groups.specs.Order.{In}
 use Rattle.groups.specs.Request.{same_id}
 use Rattle.groups.specs.declared.request.RequestId.{RequestId}
 use Rattle.groups.specs.declared.stamp.Stamp.{Stamp}
-use Rattle.journal.specs.declared.step.Step.{Step}
 use Rattle.placement.specs.Layout.{Layout}
 use Rattle.router.specs.Connection.{is_under_way, settled_with}
 use Rattle.router.specs.Router.{RouterView, connection, once_settled, Changes}
@@ -20,9 +19,9 @@ use Rattle.router.specs.declared.connection.Connection.{Connection}
 use Rattle.router.specs.declared.outcome.Outcome as kept
 use Rattle.skeen_core.specs.Group.{EachOnce, has_id}
 use Rattle.system_view.proofs.Connections.{Alike, each_of, kept_else, kept_at, StandsUnderWay, stands_under_way}
-use Rattle.system_view.specs.Connections.{outcome_shown, id_of, ShowsConnection, ShowsKept, IsSettled, IsKeptFor, ShowsConnections}
-use Rattle.world.specs.Steps.{opening, at, floor_of, outcome_of, given, Leads}
-use Rattle.world.specs.World.{World, Outcome, Standing, Closed, Idle, Waiting, Answered, Ended, Layer, HasRun}
+use Rattle.system_view.specs.Connections.{outcome_shown, id_of, ShowsConnection, ShowsKept, IsSettled, IsKeptFor}
+use Rattle.world.specs.Steps.{at, floor_of, given}
+use Rattle.world.specs.World.{World, Outcome, Standing, Closed, Waiting, Answered, Ended}
 use Rattle.world_laws.proofs.Floors.{floor_is_final, run_is_last}
 use Rattle.world_laws.proofs.Values.{same_request, closed_not_waiting}
 use Rattle.world_laws.proofs.Worlds.{good_world}
@@ -145,9 +144,11 @@ module _ (t : Layout) (w : World) (done : List Ended) (e : Ended) (back : List E
 
     -- so much the router's settle asks
     pub settle_may : (k : kept.Outcome) → outcome_shown k ≡ o → (v : Connection) × (connection r k.id.conn.0 ≡ Some v)
-    settle_may k same =
-        (kept_for.v, ap (λ (x : Outcome). connection r x.id.conn.0) same
-        ∙ ap (λ (i : RequestId). connection r i.conn.0) id ∙ kept_for.kept)
+    settle_may k same = (
+      kept_for.v,
+      ap (λ (x : Outcome). connection r x.id.conn.0) same
+          ∙ ap (λ (i : RequestId). connection r i.conn.0) id ∙ kept_for.kept,
+    )
 
     settle_next : (v : Connection) → connection r o.id.conn.0 ≡ Some v → (r' : RouterView) (k : kept.Outcome) →
         outcome_shown k ≡ o → Changes r r' o.id.conn.0 (once_settled v e.stamp.clock k) →

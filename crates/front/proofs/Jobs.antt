@@ -1,6 +1,5 @@
 -- The requests of a layer, ready to be run.
 use Rattle.std.proofs.Common.{◌≡◌, ℕ, true, List, [], ◌∷◌, ◌++◌, inl, inr, Some, None, option_map, refl, sym, ap, ◌∙◌, subst}
-use Rattle.std.specs.List.{AllByRecursion}
 use Rattle.delivery.proofs.Layers.{layers_are_units, taken_somewhere}
 use Rattle.groups.specs.GroupSet.{has}
 use Rattle.groups.specs.Units.{MayFollow, AreUnits}

@@ -1,5 +1,5 @@
 -- What came of the requests that are out, from the first request on.
-use Rattle.std.proofs.Common.{◌≡◌, ℕ, zero, suc, List, [], ◌∷◌, inl, inr, ◌↔◌, drop, refl, sym, ap, ◌∙◌, subst}
+use Rattle.std.proofs.Common.{◌≡◌, ℕ, zero, suc, List, [], ◌∷◌, inl, inr, ◌↔◌, drop, refl, sym, ◌∙◌, subst}
 use Rattle.front.proofs.Running.{ids_out, rows_out}
 use Rattle.front.specs.Settling.{FollowsRow, FollowsName, Merge}
 use Rattle.groups.specs.Order.{In}

@@ -1,5 +1,5 @@
 -- Submit and Deliver of a front are steps of the world.
-use Rattle.std.proofs.Common.{◌≡◌, ℕ, zero, suc, Bool, ◌≤◌, true, false, cond, List, [], ◌∷◌, ◌++◌, length, Some, None, ◌⊎◌}
+use Rattle.std.proofs.Common.{◌≡◌, ℕ, zero, suc, Bool, ◌≤◌, true, false, cond, List, [], ◌∷◌, ◌++◌, length, None, ◌⊎◌}
 use Rattle.std.proofs.Common.{Result, Ok, Err, refl, sym, ap, ◌∙◌, subst, arith, append-nil}
 use Rattle.command_table.specs.Reading.{reading}
 use Rattle.command_table.specs.declared.command.Command.{Command}
@@ -7,7 +7,7 @@ use Rattle.command_table.specs.declared.refusal.Refusal.{Refusal}
 use Rattle.delivery.specs.Queues.{queue_of}
 use Rattle.front.proofs.Retelling.{was_idle, at_retold, same_standings, alike_retold}
 use Rattle.front.proofs.Showing.{stepped, is_stepped, by_messages, is_after}
-use Rattle.front.specs.Fronts.{FrontView, Told, retold_standing, retold_world, FrontShows, FrontIsAt, roomless}
+use Rattle.front.specs.Fronts.{FrontView, Told, retold_world, FrontShows, roomless}
 use Rattle.front.specs.Making.{Makes}
 use Rattle.groups.specs.GroupSet.{chosen}
 use Rattle.groups.specs.declared.request.ConnId.{ConnId}
@@ -17,7 +17,7 @@ use Rattle.journal.specs.declared.step.Step.TheVariants.{Submit, Deliver}
 use Rattle.multicast.specs.Multicast.{MulticastView, IsSame, Begins, Delivers, group_of, starts_to}
 use Rattle.placement.specs.Groups.{groups_of}
 use Rattle.placement.specs.Layout.{Layout, IsTable}
-use Rattle.resp.specs.Content.{Content, ErrorLine}
+use Rattle.resp.specs.Content.{Content}
 use Rattle.router.specs.Router.{RouterView, connection}
 use Rattle.router.specs.Submitting.{Submits, groups_by}
 use Rattle.router.specs.declared.submission.Submission.{Submission}
@@ -30,7 +30,7 @@ use Rattle.system_view.proofs.Submits.{shows_submitted}
 use Rattle.system_view.specs.Connections.{InLayer, IsSettled, IsKeptFor, ShowsConnections}
 use Rattle.system_view.specs.Multicast.{ShowsMulticast}
 use Rattle.world.specs.Steps.{Made, Submitted, opening, next_id, starts, multicast, answered, submitted, submitted_to, floor_of, Comes, Leads, Steps}
-use Rattle.world.specs.World.{World, Request, Standing, Idle, Waiting, Answered}
+use Rattle.world.specs.World.{World, Request, Waiting, Answered}
 use Rattle.world_laws.proofs.Floors.{floors_stay}
 use Rattle.world_laws.proofs.Worlds.{good_world}
 

@@ -1,5 +1,5 @@
 -- Each request of a layer stands once in its two parts, too.
-use Rattle.std.proofs.Common.{◌≡◌, ℕ, ◌==◌, true, false, List, [], ◌∷◌, ◌++◌, ◌⊎◌, inl, inr, Option, Some, None, is_none, refl, sym, ap, ◌∙◌, subst}
+use Rattle.std.proofs.Common.{◌≡◌, ◌==◌, true, false, List, [], ◌∷◌, ◌++◌, inl, inr, Option, Some, None, is_none, refl, sym, ap, ◌∙◌, subst}
 use Rattle.std.proofs.Common.{eqb-true}
 use Rattle.std.proofs.lemmas.Bool.{both_ways, cases_Bool}
 use Rattle.front.proofs.Parts.{executed, starving, if_executed, if_starving, in_parts, in_either, executed_in, starving_in, parts_in, ConnsApart}

@@ -1,5 +1,5 @@
 -- A layer that has run, in its two parts: those that were executed, and those that starved.
-use Rattle.std.proofs.Common.{◌≡◌, ℕ, ◌==◌, Bool, true, false, cond, List, [], ◌∷◌, ◌++◌, ◌⊎◌, inl, inr, map, Option, Some, None, is_none}
+use Rattle.std.proofs.Common.{◌≡◌, ℕ, ◌==◌, false, cond, List, [], ◌∷◌, ◌++◌, ◌⊎◌, inl, inr, map, Option, Some, None, is_none}
 use Rattle.std.proofs.Common.{refl, sym, ap, ◌∙◌, subst, eqb-true, eq-eqb, ne_eqb}
 use Rattle.std.proofs.lemmas.Bool.{both_ways, cases_Bool, cond-true, cond-false}
 use Rattle.std.specs.List.{AllZip}
@@ -13,10 +13,9 @@ use Rattle.groups.specs.declared.stamp.Stamp.{Stamp}
 use Rattle.layer_results.specs.declared.done.DoneRow.{DoneRow}
 use Rattle.resp.specs.Content.{Content}
 use Rattle.skeen_core.specs.Group.{EachOnce}
-use Rattle.skeen_core.specs.declared.packet.Delivered.{Delivered}
 use Rattle.world.specs.Steps.{outcome_of, given, if_starved, starved_among, settled}
 use Rattle.world.specs.World.{Outcome, Standing, Ended}
-use Rattle.world_laws.specs.Good.{delivered_of, all_delivered}
+use Rattle.world_laws.specs.Good.{all_delivered}
 
 -- ---- zips
 
@@ -80,7 +79,7 @@ starving_in (e ∷ es) x there = by_reply e.reply (starving_in es x) there
 pub in_either : {X : Type 0} (xs ys : List X) (x : X) → In x (xs ++ ys) → In x xs ⊎ In x ys
 in_either [] ys x there = inr there
 in_either (y ∷ xs) ys x (inl same) = inl (inl same)
-in_either (y ∷ xs) ys x (inr later) = elim (in_either xs ys x later) [ | inl here ↦ inl (inr here) | inr there ↦ inr there ]
+in_either (y ∷ xs) ys x (inr later) = elim (in_either xs ys x later) [ inl here ↦ inl (inr here) | inr there ↦ inr there ]
 
 -- what is in the parts is in the layer
 pub parts_in : (es : List Ended) (x : Ended) → In x (in_parts es) → In x es

@@ -1,12 +1,11 @@
 -- What a front refuses the world refuses, and what its parts ask of their numbers holds.
-use Rattle.std.proofs.Common.{◌≡◌, ◌≢◌, ℕ, ◌<◌, ◌≤◌, true, false, List, [], ◌∷◌, length, inl, inr, Option, Some, None, refl, sym}
+use Rattle.std.proofs.Common.{◌≡◌, ◌≢◌, ℕ, ◌<◌, ◌≤◌, true, false, List, length, Some, refl, sym}
 use Rattle.std.proofs.Common.{ap, ◌∙◌, subst, arith}
 use Rattle.front.proofs.Retelling.{was_closed, was_idle, was_busy}
 use Rattle.front.proofs.Standings.{shut_stands, shows_live, busy_stands, idle_stands, open_stands}
 use Rattle.front.specs.Faults.{of_submit, of_deliver}
 use Rattle.front.specs.Fronts.{FrontView, Told, retold_standing, retold_world, FrontIsAt, IsFront}
-use Rattle.front.specs.Refusing.{Refuses, RefusesNot, IsFault, MayStep}
-use Rattle.front.specs.declared.fault.FrontFault.{FrontFault}
+use Rattle.front.specs.Refusing.{RefusesNot, IsFault, MayStep}
 use Rattle.groups.specs.declared.request.ConnId.{ConnId}
 use Rattle.journal.specs.declared.step.Step.{Step}
 use Rattle.journal.specs.declared.step.Step.TheVariants as step
@@ -16,11 +15,10 @@ use Rattle.multicast.specs.declared.multicast.DeliverFault.TheVariants as delive
 use Rattle.router.specs.Router.{connection, is_open}
 use Rattle.router.specs.Submitting.{IsRefused}
 use Rattle.router.specs.declared.connection.Connection.{Connection}
-use Rattle.router.specs.declared.connection.Standing.TheVariants as router
 use Rattle.router.specs.declared.router.TheConstants.{GREATEST_NUMBER}
 use Rattle.router.specs.declared.submission.SubmitFault.{SubmitFault}
 use Rattle.router.specs.declared.submission.SubmitFault.TheVariants as submit
-use Rattle.system_view.specs.Connections.{ShowsOpen, ShowsConnection}
+use Rattle.system_view.specs.Connections.{ShowsConnection}
 use Rattle.world.specs.Steps.{OwnFault, Busy, NoConn, NoPacket, InFlight, NoLayer, Refused, IsBusy}
 use Rattle.world.specs.World.{World, Closed, Idle}
 use Rattle.world_laws.proofs.Bounds.{bounded_world}

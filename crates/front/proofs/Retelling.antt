@@ -1,5 +1,5 @@
 -- Worlds as a front was told of them: where connections stand there, and what steps do.
-use Rattle.std.proofs.Common.{◌≡◌, ◌≢◌, ℕ, ◌==◌, true, false, cond, refl, ap, subst}
+use Rattle.std.proofs.Common.{◌≡◌, ℕ, ◌==◌, true, false, cond, refl, ap, subst}
 use Rattle.front.specs.Fronts.{Told, retold_standing, retold_world}
 use Rattle.router.specs.Router.{RouterView}
 use Rattle.system_view.proofs.Connections.{Alike}

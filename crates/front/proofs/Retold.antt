@@ -1,5 +1,5 @@
 -- What a front is told of requests that aren't settled changes nothing that it shows.
-use Rattle.std.proofs.Common.{◌≡◌, ℕ, List, ◌++◌, inl, inr, Option, Some, None, is_none, refl, sym, ap, ◌∙◌, subst}
+use Rattle.std.proofs.Common.{◌≡◌, ℕ, List, inl, inr, Option, Some, None, is_none, refl, sym, ap, ◌∙◌, subst}
 use Rattle.journal.specs.declared.step.Step.{Step}
 use Rattle.front.proofs.Parts.{in_either}
 use Rattle.front.proofs.Retelling.{same_standings}

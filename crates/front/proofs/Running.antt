@@ -1,10 +1,10 @@
 -- A layer that is run: the front shows the world after it as well, and each layer that is taken can be run.
-use Rattle.std.proofs.Common.{◌≡◌, ◌≢◌, ℕ, Bool, true, false, cond, ◌||◌, List, [], ◌∷◌, ◌++◌, inl, inr, map, Option, Some, None, refl, sym}
+use Rattle.std.proofs.Common.{◌≡◌, ◌≢◌, true, false, cond, ◌||◌, List, [], ◌∷◌, ◌++◌, inl, inr, map, Some, None, refl, sym}
 use Rattle.std.proofs.Common.{ap, ◌∙◌, subst, append-nil}
 use Rattle.command_bodies.specs.Command.{effect_of}
 use Rattle.front.proofs.Showing.{is_after}
 use Rattle.std.proofs.Math.Seq.{append_snoc}
-use Rattle.front.specs.Fronts.{FrontView, Told, retold_world, IsOut, FrontShows, FrontIsAt}
+use Rattle.front.specs.Fronts.{FrontView, Told, retold_world, IsOut, FrontShows}
 use Rattle.front.specs.Making.{SeesNoRun}
 use Rattle.front.specs.Settling.{Merge}
 use Rattle.groups.proofs.Ids.{same_id-refl, ne-same_id}
@@ -13,17 +13,14 @@ use Rattle.groups.specs.Order.{In}
 use Rattle.groups.specs.Request.{same_id}
 use Rattle.groups.specs.declared.request.RequestId.{RequestId}
 use Rattle.groups.specs.declared.stamp.Stamp.{Stamp}
-use Rattle.journal.specs.declared.step.Step.{Step}
 use Rattle.journal.specs.declared.step.Step.TheVariants.{Run}
 use Rattle.keyspace.specs.Map.{Map}
 use Rattle.layer_results.specs.declared.done.DoneRow.{DoneRow}
 use Rattle.placement.specs.Layout.{Layout}
-use Rattle.resp.specs.Content.{Content}
 use Rattle.skeen_core.specs.Group.{EachOnce}
 use Rattle.skeen_core.specs.declared.packet.Delivered.{Delivered}
 use Rattle.system_view.proofs.Running.{connections_run}
-use Rattle.system_view.specs.Multicast.{ShowsMulticast}
-use Rattle.world.specs.Steps.{Effect, Ran, names, map_after, ended_as, RunInTurn, if_starved, starved_among, RunsLayer, Steps}
+use Rattle.world.specs.Steps.{Effect, names, map_after, ended_as, RunInTurn, if_starved, starved_among, RunsLayer}
 use Rattle.world.specs.World.{World, Request, Ended, Layer, Taken, HasRun}
 use Rattle.world_laws.proofs.Layers.{run_of_layer, taken_once}
 use Rattle.world_laws.specs.Good.{Asked, run_in, all_delivered, all_taken, TakenGood, WorldGood}

@@ -1,12 +1,11 @@
 -- What settling asks of a front, and that it is then as each front is.
-use Rattle.std.proofs.Common.{◌≡◌, ◌+◌, List, [], ◌∷◌, ◌++◌, length, refl, sym, ap, ◌∙◌, subst, arith, length-append}
+use Rattle.std.proofs.Common.{◌≡◌, ◌+◌, [], ◌∷◌, ◌++◌, length, refl, sym, subst, arith, length-append}
 use Rattle.front.proofs.Running.{ids_out, once_taken}
 use Rattle.front.proofs.SettleMakes.{settled_front, RanSo, ran_so, may_settle_rows, may_settle_names, settles}
 use Rattle.front.proofs.Telling.{now_told, is_told}
-use Rattle.front.specs.Fronts.{FrontView, Told, IsOut, HasNotRun, IsFront}
+use Rattle.front.specs.Fronts.{FrontView, IsOut, HasNotRun, IsFront}
 use Rattle.front.specs.Outcomes.{IsToldBy, IsNamedBy, MaySettle, AreSettled}
 use Rattle.front.specs.Settling.{IsOfLayer, ids_starved, IsToldOf}
-use Rattle.journal.specs.declared.step.Step.{Step}
 use Rattle.journal.specs.declared.step.Step.TheVariants.{Run, Settle}
 use Rattle.layer_results.specs.Results.{Results}
 use Rattle.router.specs.Router.{RouterView}

@@ -1,22 +1,21 @@
 -- Settle of a front is the world's, and with a Run before it where the layer was taken.
-use Rattle.std.proofs.Common.{◌≡◌, ◌≢◌, ℕ, ◌+◌, ◌==◌, Bool, true, false, cond, List, [], ◌∷◌, ◌++◌, ◌⊎◌, inl, inr, length, map, Option, Some, None, is_none, Ok}
-use Rattle.std.proofs.Common.{refl, sym, ap, ◌∙◌, subst, arith, append-nil, append_assoc, length-append}
+use Rattle.std.proofs.Common.{◌≡◌, ℕ, ◌+◌, ◌==◌, Bool, true, false, List, [], ◌∷◌, ◌++◌, ◌⊎◌, inl, inr, map, Some, is_none, Ok}
+use Rattle.std.proofs.Common.{refl, sym, ap, ◌∙◌, subst, append-nil, append_assoc}
 use Rattle.std.proofs.lemmas.List.{map-append}
 use Rattle.std.specs.List.{AllZip}
 use Rattle.command_table.specs.Reading.{reading}
 use Rattle.execution_order.specs.Rows.{IsRow}
 use Rattle.front.proofs.Once.{of_id, once_right}
-use Rattle.front.proofs.Parts.{zip_in, zip_append, executed, starving, in_parts, in_the_parts, in_either, executed_in, starving_in, IsRowOf, IsNameOf, parts_of}
+use Rattle.front.proofs.Parts.{zip_in, zip_append, executed, starving, in_parts, in_the_parts, in_either, executed_in, IsRowOf, IsNameOf, parts_of}
 use Rattle.front.proofs.Retelling.{same_standings}
 use Rattle.front.proofs.Running.{ids_out, AreAsked, runs_so, starve_so, starved_out, rows_out, sees_no_run, once_taken}
 use Rattle.front.proofs.Histories.{leads_more}
 use Rattle.front.proofs.Settled.{once_ended, in_ended, kept_for, apart, settle_starts, settle_ends}
 use Rattle.front.proofs.Handing.{ends_apart}
 use Rattle.front.proofs.Told.{IsToldRow, rows_told, rows_same, rows_of-append, starved-append, stands_same}
-use Rattle.front.specs.Fronts.{FrontView, Told, retold, retold_standing, retold_world, IsOut, FrontShows, FrontIsAt, HasNotRun, IsFront}
+use Rattle.front.specs.Fronts.{FrontView, Told, retold, retold_standing, retold_world, IsOut, FrontShows, FrontIsAt, HasNotRun}
 use Rattle.front.specs.Outcomes.{IsSettling, IsToldBy, IsNamedBy, MaySettle, AreSettled}
-use Rattle.front.specs.Settling.{Merge, HasItsWords, IsOfLayer, row_of, ids_starved, IsIn, IsToldOf, RunsAndSettles, SettlesAfterRun, Settles}
-use Rattle.groups.proofs.Lists.{In-left, In-right}
+use Rattle.front.specs.Settling.{Merge, IsOfLayer, row_of, ids_starved, IsToldOf, RunsAndSettles, SettlesAfterRun, Settles}
 use Rattle.groups.proofs.Options.{some_same}
 use Rattle.groups.specs.Order.{In}
 use Rattle.groups.specs.declared.request.RequestId.{RequestId}
@@ -26,24 +25,20 @@ use Rattle.journal.specs.declared.step.Step.TheVariants.{Run, Settle}
 use Rattle.layer_results.specs.Results.{Results}
 use Rattle.layer_results.specs.declared.done.DoneRow.{DoneRow}
 use Rattle.placement.specs.Layout.{Layout}
-use Rattle.resp.specs.Content.{content}
 use Rattle.router.specs.Router.{RouterView, connection, taken_in, taken_at}
 use Rattle.router.specs.declared.connection.Connection.{Connection}
 use Rattle.router.specs.declared.connection.Standing.{Standing as Stands}
 use Rattle.router.specs.declared.connection.Standing.TheVariants as router
 use Rattle.skeen_core.specs.Group.{EachOnce}
-use Rattle.skeen_core.specs.declared.packet.Delivered.{Delivered}
 use Rattle.system_view.proofs.Connections.{kept_at}
 use Rattle.system_view.specs.Connections.{AreItsWords, id_of, ShowsOpen, ShowsClosed, ShowsKept, ShowsConnections}
 use Rattle.system_view.specs.Layers.{AreRows}
-use Rattle.world.specs.Steps.{Ran, Made, opening, after_all, names, settled, starved_among, RunInTurn, RunsLayer, Leads, Steps}
+use Rattle.world.specs.Steps.{Ran, Made, opening, after_all, settled, starved_among, Steps}
 use Rattle.world.specs.World.{World, Request, Standing, Ended, Layer, NoneTaken, Taken, HasRun}
 use Rattle.world_laws.proofs.ConditionLaws.{layer_is_submitted}
-use Rattle.world_laws.proofs.Layers.{run_of_layer}
-use Rattle.world_laws.proofs.OrderLaws.{ends_once}
 use Rattle.world_laws.proofs.Values.{same_request}
 use Rattle.world_laws.proofs.Worlds.{good_world}
-use Rattle.world_laws.specs.Good.{Named, run_in, all_delivered, all_taken, TakenGood}
+use Rattle.world_laws.specs.Good.{Named, run_in, all_delivered}
 use Rattle.world_laws.specs.Headline.{rows_of}
 use Rattle.world_laws.specs.Order.{ids_of}
 
@@ -355,32 +350,32 @@ module _ (old : FrontView) (done : Results) (of : IsOfLayer old done) where
   -- ---- both
 
   module _ (mid r : RouterView) (first : AreSettled IsToldBy done.rows old.router mid) (then : AreSettled IsNamedBy done.starved mid r)
-      where
-    settles_after_run : SettlesAfterRun old done (settled_front old r done)
-    settles_after_run h w before now at' told es has_run starve =
-        settles_run h w before now at' told es has_run starve mid first r then
+    where
+      settles_after_run : SettlesAfterRun old done (settled_front old r done)
+      settles_after_run h w before now at' told es has_run starve =
+          settles_run h w before now at' told es has_run starve mid first r then
 
-    runs_and_settles : RunsAndSettles old done (settled_front old r done)
-    runs_and_settles h w before now at' told not_run =
-        let ran = ran_so h w before at' not_run in
-        let last = settles_run (h ++ Run (ids_starved done) ∷ []) ran.after before now ran.at told ran.es ran.has_run ran.starve
-        mid first r then in (
-          ran.after,
-          last.0,
-          ran.runs,
-          last.1,
-          subst (λ l. FrontIsAt (settled_front old r done) l last.0 now) (append_assoc h (Run (ids_starved done) ∷ []) (Settle ∷ []))
-              last.2,
-        )
+      runs_and_settles : RunsAndSettles old done (settled_front old r done)
+      runs_and_settles h w before now at' told not_run =
+          let ran = ran_so h w before at' not_run in
+          let last = settles_run (h ++ Run (ids_starved done) ∷ []) ran.after before now ran.at told ran.es ran.has_run ran.starve
+          mid first r then in (
+            ran.after,
+            last.0,
+            ran.runs,
+            last.1,
+            subst (λ l. FrontIsAt (settled_front old r done) l last.0 now) (append_assoc h (Run (ids_starved done) ∷ []) (Settle ∷ []))
+                last.2,
+          )
 
-    pub settles : Settles old done (settled_front old r done)
-    settles = record {
-      table = refl;
-      steps = refl;
-      layers = refl;
-      out = refl;
-      rows = refl;
-      starved = refl;
-      from_taken = runs_and_settles;
-      from_run = settles_after_run;
-    }
+      pub settles : Settles old done (settled_front old r done)
+      settles = record {
+        table = refl;
+        steps = refl;
+        layers = refl;
+        out = refl;
+        rows = refl;
+        starved = refl;
+        from_taken = runs_and_settles;
+        from_run = settles_after_run;
+      }

@@ -1,7 +1,7 @@
 -- What a front shows after a step that settles nothing, and that it is then as each front is.
-use Rattle.std.proofs.Common.{◌≡◌, ℕ, ◌+◌, List, [], ◌∷◌, ◌++◌, length, map, refl, sym, ap, ◌∙◌, subst, arith, length-append}
+use Rattle.std.proofs.Common.{◌≡◌, ℕ, ◌+◌, List, [], ◌∷◌, ◌++◌, length, refl, sym, ap, ◌∙◌, subst, arith, length-append}
 use Rattle.front.proofs.Histories.{leads_more}
-use Rattle.front.specs.Fronts.{FrontView, Told, retold, retold_world, IsOut, FrontShows, FrontIsAt, HasNotRun, IsFront, roomless}
+use Rattle.front.specs.Fronts.{FrontView, Told, retold_world, IsOut, FrontShows, FrontIsAt, HasNotRun, IsFront, roomless}
 use Rattle.front.specs.Making.{IsStep, Makes, Collects}
 use Rattle.journal.specs.declared.step.Step.{Step}
 use Rattle.journal.specs.declared.step.Step.TheVariants.{Open, Submit, Deliver, Take, Run, Settle, Collect, Close}
@@ -13,7 +13,7 @@ use Rattle.multicast.specs.Multicast.{MulticastView, IsSame}
 use Rattle.placement.specs.Groups.{groups_of}
 use Rattle.placement.specs.Layout.{Layout, IsTable}
 use Rattle.router.specs.Router.{RouterView}
-use Rattle.std.proofs.Common.{Result, Ok, Err, Option, Some, None}
+use Rattle.std.proofs.Common.{Result, Ok, Err, Option}
 use Rattle.system_view.specs.Connections.{ShowsConnections}
 use Rattle.system_view.specs.Multicast.{ShowsMulticast}
 use Rattle.world.specs.Steps.{opening, Effect, Steps, Leads, submitted, submitted_to}

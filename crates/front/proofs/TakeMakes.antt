@@ -1,12 +1,11 @@
 -- Take of a front is the world's.
-use Rattle.std.proofs.Common.{◌≡◌, ◌≢◌, ℕ, ◌+◌, List, [], ◌∷◌, ◌++◌, inl, length, refl, sym, ap, ◌∙◌, subst, arith, append-nil}
+use Rattle.std.proofs.Common.{◌≡◌, ◌≢◌, ℕ, ◌+◌, List, [], ◌∷◌, ◌++◌, inl, length, refl, sym, ap, ◌∙◌, subst, arith}
 use Rattle.delivery.specs.Queues.{queue_of}
 use Rattle.delivery.specs.Ready.{QueueOf, IsReady, IsLayer}
 use Rattle.delivery.proofs.Layers.{one_is_ready}
 use Rattle.front.proofs.Showing.{is_after, goes_on}
 use Rattle.front.proofs.Taking.{take_starts, take_ends, take_queues}
-use Rattle.front.specs.Fronts.{FrontView, Told, retold_standing, retold_world, IsOut, FrontShows, FrontIsAt, IsFront, roomless}
-use Rattle.front.specs.Making.{IsStep}
+use Rattle.front.specs.Fronts.{FrontView, Told, retold_standing, IsOut, FrontIsAt, IsFront, roomless}
 use Rattle.front.specs.Refusing.{Refuses, RefusesNot}
 use Rattle.front.specs.Taking.{IsTaking, Takes}
 use Rattle.journal.specs.declared.step.Step.{Step}
@@ -17,7 +16,7 @@ use Rattle.placement.specs.Layout.{Layout}
 use Rattle.router.specs.Router.{RouterView}
 use Rattle.skeen_core.specs.declared.packet.Delivered.{Delivered}
 use Rattle.system_view.specs.Layers.{AreJobs}
-use Rattle.world.specs.Steps.{Made, taken, Steps, OwnFault, Busy, NoConn, NoPacket, InFlight, NoLayer, Refused, IsInFlight}
+use Rattle.world.specs.Steps.{Made, taken, OwnFault, Busy, NoConn, NoPacket, InFlight, NoLayer, Refused, IsInFlight}
 use Rattle.world.specs.World.{World, Standing, Layer, NoneTaken, Taken, HasRun}
 use Rattle.world_laws.specs.Good.{run_in, all_delivered}
 

@@ -1,10 +1,10 @@
 -- What a front is told of a layer can be told: each of its requests stands in what came of it once.
-use Rattle.std.proofs.Common.{◌≡◌, cond, true, false, Bool, List, [], ◌∷◌, ◌⊎◌, inl, inr, map, Option, Some, None, refl, sym, ap, ◌∙◌, subst}
+use Rattle.std.proofs.Common.{◌≡◌, cond, List, [], ◌∷◌, ◌⊎◌, inl, inr, Some, None, refl, sym, ap, ◌∙◌, subst}
 use Rattle.std.proofs.lemmas.Bool.{cases_Bool, cond-true, cond-false}
 use Rattle.front.proofs.Running.{ids_out, rows_out, starved_out}
 use Rattle.front.proofs.SettleMakes.{names_in}
 use Rattle.front.specs.Fronts.{Told}
-use Rattle.front.specs.Settling.{Merge, IsIn, IsToldOf}
+use Rattle.front.specs.Settling.{Merge, IsToldOf}
 use Rattle.groups.proofs.Ids.{same_id-true, same_id-refl, ne-same_id}
 use Rattle.groups.specs.Order.{In}
 use Rattle.groups.specs.Request.{same_id}
@@ -12,7 +12,7 @@ use Rattle.groups.specs.declared.request.RequestId.{RequestId}
 use Rattle.groups.specs.declared.stamp.Stamp.{Stamp}
 use Rattle.layer_results.specs.Results.{Results}
 use Rattle.layer_results.specs.declared.done.DoneRow.{DoneRow}
-use Rattle.resp.specs.Content.{Content, content}
+use Rattle.resp.specs.Content.{content}
 use Rattle.skeen_core.specs.Group.{EachOnce}
 use Rattle.skeen_core.specs.declared.packet.Delivered.{Delivered}
 

@@ -1,30 +1,24 @@
 -- What a front is told of a layer changes nothing that it shows of the requests before.
-use Rattle.std.proofs.Common.{◌≡◌, ℕ, true, false, List, [], ◌∷◌, ◌++◌, ◌⊎◌, inl, inr, map, Option, Some, None, is_none, Ok, refl, sym}
+use Rattle.std.proofs.Common.{◌≡◌, ℕ, true, List, [], ◌∷◌, ◌++◌, ◌⊎◌, inl, inr, map, Option, Some, None, is_none, Ok, refl, sym}
 use Rattle.std.proofs.Common.{ap, ◌∙◌, subst}
 use Rattle.std.specs.List.{AllZip}
 use Rattle.command_table.specs.Reading.{reading}
 use Rattle.execution_order.specs.Rows.{IsRow}
-use Rattle.front.proofs.Parts.{zip_in, zip_append, executed, if_executed, IsRowOf}
-use Rattle.front.proofs.Handing.{ends_apart}
+use Rattle.front.proofs.Parts.{executed, if_executed, IsRowOf}
 use Rattle.front.specs.Fronts.{Told, retold, retold_reply, retold_outcome, retold_standing}
 use Rattle.front.specs.Settling.{row_of}
 use Rattle.groups.specs.Order.{In}
 use Rattle.groups.specs.declared.request.RequestId.{RequestId}
-use Rattle.groups.specs.declared.stamp.Stamp.{Stamp}
-use Rattle.journal.specs.Views.{RowView}
-use Rattle.journal.specs.declared.step.Step.{Step}
 use Rattle.layer_results.specs.declared.done.DoneRow.{DoneRow}
 use Rattle.placement.specs.Layout.{Layout}
 use Rattle.resp.specs.Content.{Content, content}
-use Rattle.skeen_core.specs.Group.{EachOnce}
 use Rattle.system_view.specs.Layers.{AreRows}
-use Rattle.world.specs.Steps.{opening, if_starved, starved_among, Leads}
-use Rattle.world.specs.World.{World, Outcome, Standing, Closed, Idle, Waiting, Answered, Ended, Layer, HasRun}
+use Rattle.world.specs.Steps.{if_starved, starved_among}
+use Rattle.world.specs.World.{World, Outcome, Standing, Closed, Idle, Waiting, Answered, Ended, HasRun}
 use Rattle.world_laws.proofs.Values.{answered_open, answered_not_waiting}
-use Rattle.world_laws.proofs.Worlds.{good_world, run_is_pending}
+use Rattle.world_laws.proofs.Worlds.{run_is_pending}
 use Rattle.world_laws.specs.Good.{Named, Pending, WorldGood}
 use Rattle.world_laws.specs.Headline.{with_row, rows_of}
-use Rattle.world_laws.specs.Order.{ids_of}
 
 -- ---- what waits is of an earlier layer than the one that has run
 
@@ -119,6 +113,7 @@ rows_told now (e ∷ es) rows truly zip =
         some_row [] zip = absurd zip
         some_row (r ∷ rs) zip =
             subst (λ o. AllZip IsRow (with_row (retold now e) o (rows_of (map (retold now) es))) (map row_of (r ∷ rs)))
-            (sym zip.0.reply)
-            (record { id = zip.0.of.id; stamp = zip.0.of.stamp; says = zip.0.says; reply = refl },
-            further rs zip.1)
+            (sym zip.0.reply) (
+              record { id = zip.0.of.id; stamp = zip.0.of.stamp; says = zip.0.says; reply = refl },
+              further rs zip.1,
+            )

@@ -1,5 +1,4 @@
 -- A front by its fields, and what is asked of its numbers.
-use Rattle.std.proofs.Common.{◌≡◌, subst, sym}
 use Rattle.front.specs.Fronts.{FrontView, roomless}
 use Rattle.front.specs.declared.front.Front.TheInside.{Inside}
 

@@ -2,7 +2,7 @@
 use Rattle.std.specs.Prelude.{◌≡◌, ◌≢◌, ◌+◌, ◌<◌, List, [], ◌∷◌, ◌++◌, ◌⊎◌, map, Some, None}
 use Rattle.front.specs.Fronts.{FrontView, Told, FrontIsAt, HasNotRun}
 use Rattle.front.specs.declared.fault.FrontFault.{FrontFault}
-use Rattle.front.specs.declared.fault.FrontFault.TheVariants.{Busy, NoConn, NoPacket, InFlight, NoLayer, Memory}
+use Rattle.front.specs.declared.fault.FrontFault.TheVariants.{NoLayer, Memory}
 use Rattle.groups.specs.Order.{In}
 use Rattle.groups.specs.declared.request.RequestId.{RequestId}
 use Rattle.groups.specs.declared.stamp.Stamp.{Stamp}

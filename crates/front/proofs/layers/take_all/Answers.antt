@@ -1,8 +1,6 @@
-use Rattle.std.proofs.Common.{rules, ◌≡◌, ◌<◌, ◌+◌, [], ◌∷◌, ◌++◌, suc, List, length, take, drop, slice_index_or, refl, sym, ap, ◌∙◌, subst}
-use Rattle.std.proofs.Common.{arith}
+use Rattle.std.proofs.Common.{rules, ◌+◌, [], ◌∷◌, ◌++◌, take, drop, refl, sym, ◌∙◌, subst}
 use Rattle.std.proofs.lemmas.List.{take_all, drop_all}
 use Rattle.layer_planner.specs.declared.job.Job.{Job}
-use Rattle.skeen_core.specs.declared.packet.Delivered.{Delivered}
 use Rattle.front.proofs.Jobs.{take_some, take_one}
 use Rattle.front.proofs.Turns.{turn_at, passed_at}
 use Rattle.system_view.specs.Layers.{AreJobs}

@@ -1,4 +1,4 @@
-use Rattle.std.proofs.Common.{◌≡◌, ◌+◌, ◌∷◌, drop, refl, sym, ap, subst}
+use Rattle.std.proofs.Common.{◌≡◌, ◌+◌, drop, subst}
 use Rattle.front.proofs.Merging.{by_row, by_name, by_none, go_on, once_drop}
 use Rattle.front.proofs.Running.{ids_out}
 use Rattle.front.proofs.Turns.{turn_at}

@@ -1,4 +1,4 @@
-use Rattle.std.proofs.Common.{rules, ◌↔◌, ◌≡◌, ◌∷◌, [], take, true, false, inl, inr, IsTrue, sym, ap, ◌∙◌, subst}
+use Rattle.std.proofs.Common.{rules, ◌∷◌, [], take, inl, inr, sym, subst}
 use Rattle.std.proofs.lemmas.Bool.{both_ways}
 use Rattle.front.proofs.Parts.{in_either}
 use Rattle.front.proofs.Turns.{passed_at, is_there}

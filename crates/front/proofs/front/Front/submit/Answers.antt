@@ -1,4 +1,4 @@
-use Rattle.std.proofs.Common.{length, sym, ap, ◌∙◌, subst, arith}
+use Rattle.std.proofs.Common.{length, sym, ap, subst, arith}
 use Rattle.command_table.specs.Reading.{reading}
 use Rattle.front.proofs.Messages.{begins_roomless, groups_few, submit_makes}
 use Rattle.front.proofs.Refusals.{few_asked, submit_refused}

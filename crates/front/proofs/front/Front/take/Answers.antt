@@ -1,16 +1,15 @@
-use Rattle.std.proofs.Common.{rules, ◌≡◌, ◌≢◌, ℕ, List, [], length, sym, ap, subst}
+use Rattle.std.proofs.Common.{rules, ◌≡◌, ℕ, [], length, sym, ap, subst}
 use Rattle.std.specs.Prelude.{IsOk, IsSome}
 use Rattle.delivery.specs.Queues.{queue_of}
 use Rattle.delivery.specs.Ready.{IsLayer}
 use Rattle.front.proofs.Jobs.{jobs_may_stand}
 use Rattle.front.proofs.TakeMakes.{taken_front, take_memory, take_no_layer, some_ready, none_listed, take_may_start, take_makes, once_taken_out, loses_roomless}
 use Rattle.front.proofs.Views.{seen}
-use Rattle.front.specs.Fronts.{FrontView, IsFront, roomless}
+use Rattle.front.specs.Fronts.{roomless}
 use Rattle.front.specs.Refusing.{Refuses, IsFault}
 use Rattle.front.specs.Taking.{IsTaking, Takes}
 use Rattle.front.specs.declared.fault.FrontFault.TheVariants.{Memory}
 use Rattle.journal.specs.declared.step.Step.TheVariants.{Take}
-use Rattle.layer_planner.specs.declared.job.Job.{Job}
 use Rattle.multicast.specs.Multicast.{LosesLayer}
 use Rattle.placement.specs.Layout.{Layout}
 use Rattle.system_view.specs.Layers.{AreJobs}
@@ -38,9 +37,11 @@ pub returns-in_default-with_capacity-clause-refused : goal.returns-in_default-wi
 returns-in_default-with_capacity-clause-refused c =
     let old = seen c.self.inside in
     let none : old.out ≡ [] = none_listed old.out (search rules) in
-    subst (λ f. IsFault f Take Memory) c.self.view_is
-    (tt, take_memory old none (some_ready (queue_of c.self.inside.multicast.queues) c.in-Ok.ready.items c.in-Ok.ensures.layer
-    (λ e. let count = ap length e in search rules)))
+    subst (λ f. IsFault f Take Memory) c.self.view_is (
+      tt,
+      take_memory old none (some_ready (queue_of c.self.inside.multicast.queues) c.in-Ok.ready.items c.in-Ok.ensures.layer
+          (λ e. let count = ap length e in search rules)),
+    )
 
 pub take_all-requires-clause-waits : goal.take_all-requires-clause-waits
 take_all-requires-clause-waits c =

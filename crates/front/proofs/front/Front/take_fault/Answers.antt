@@ -1,4 +1,4 @@
-use Rattle.std.proofs.Common.{rules, ◌≡◌, [], subst, refl}
+use Rattle.std.proofs.Common.{rules, ◌≡◌, [], subst}
 use Rattle.std.proofs.lemmas.Bool.{both_ways}
 use Rattle.front.proofs.TakeMakes.{none_listed, take_memory, take_unready}
 use Rattle.front.proofs.Views.{seen}
