@@ -12,7 +12,8 @@ use Rattle.router.specs.Connection.{just_opened}
 use Rattle.router.specs.Router.{RouterView, connection}
 use Rattle.router.specs.Router as router
 use Rattle.router.specs.declared.outcome.Outcome as kept
-use Rattle.system_view.proofs.Connections.{IsUnopened, opened_world, standing_world, unopened, shows_opened, shows_collect, shows_close}
+use Rattle.system_view.proofs.Connections.{IsUnopened, opened_world, standing_world, unopened, shows_opened}
+use Rattle.system_view.proofs.Connections.{shows_collect, shows_close}
 use Rattle.system_view.specs.Connections.{outcome_shown, ShowsConnections}
 use Rattle.system_view.specs.Multicast.{ShowsMulticast}
 use Rattle.world.specs.Steps.{Opened, Collected, Made, Steps}

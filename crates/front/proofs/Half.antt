@@ -1,5 +1,6 @@
 -- Along the outcomes of a layer: some have gone, and the others are still to go.
-use Rattle.std.proofs.Common.{◌≡◌, ℕ, List, [], ◌∷◌, ◌++◌, map, Some, refl, sym, ap, ◌∙◌, subst, append-nil, append_assoc}
+use Rattle.std.proofs.Common.{◌≡◌, ℕ, List, [], ◌∷◌, ◌++◌, map, Some, refl, sym, ap, ◌∙◌, subst, append-nil}
+use Rattle.std.proofs.Common.{append_assoc}
 use Rattle.std.specs.List.{AllZip}
 use Rattle.front.proofs.Handing.{WasSettled, once_given, settle_may, settle_did}
 use Rattle.front.specs.Fronts.{Told, retold}
@@ -96,7 +97,8 @@ module _ {X : Type 0} (Tells : Told → Ended → X → Type 0) (t : Layout) (w 
     settling =
         subst (λ f. IsSettling t w (done ++ (front ++ next.e ∷ [])) (next.behind ++ back) f r') (sym (more_settled front next.e standing))
         (subst (λ l. IsSettling t w l (next.behind ++ back)
-        (once_given (outcome_of (retold now next.e)) (settled (map (retold now) front) standing)) r') (append_assoc done front (next.e ∷ []))
+        (once_given (outcome_of (retold now next.e)) (settled (map (retold now) front) standing)) r')
+        (append_assoc done front (next.e ∷ []))
         (settle_did t w (done ++ front) next.e (next.behind ++ back) _ r next.settling (outcome_of (retold now next.e)) refl refl
         r' k s shown stamp did));
   }

@@ -1,5 +1,6 @@
 -- The requests of a layer, ready to be run.
-use Rattle.std.proofs.Common.{◌≡◌, ℕ, true, List, [], ◌∷◌, ◌++◌, inl, inr, Some, None, option_map, refl, sym, ap, ◌∙◌, subst}
+use Rattle.std.proofs.Common.{◌≡◌, ℕ, true, List, [], ◌∷◌, ◌++◌, inl, inr, Some, None, option_map, refl, sym}
+use Rattle.std.proofs.Common.{ap, ◌∙◌, subst}
 use Rattle.delivery.proofs.Layers.{layers_are_units, taken_somewhere}
 use Rattle.groups.specs.GroupSet.{has}
 use Rattle.groups.specs.Units.{MayFollow, AreUnits}
@@ -30,8 +31,8 @@ use Rattle.world_laws.specs.Order.{HasFinal}
 
 -- ---- out of the router
 
-module _ (t : Layout) (w : World) (standing : ℕ → Standing) (front : List Delivered) (d : Delivered) (back : List Delivered) (r : RouterView)
-    (is : IsTaking t w standing front (d ∷ back) r) where
+module _ (t : Layout) (w : World) (standing : ℕ → Standing) (front : List Delivered) (d : Delivered) (back : List Delivered)
+    (r : RouterView) (is : IsTaking t w standing front (d ∷ back) r) where
   -- the router has the next request
   pub take_some : option_map (λ (p : Pending). p.asked) (pending_at (connection r d.id.conn.0) d.id.seq) ≡ None → ⊥
   take_some none = None≢Some pending.0.asked (sym none ∙ ap (option_map (λ (p : Pending). p.asked)) pending.1)

@@ -29,7 +29,8 @@ use Rattle.system_view.proofs.Delivering.{shows_deliver}
 use Rattle.system_view.proofs.Submits.{shows_submitted}
 use Rattle.system_view.specs.Connections.{InLayer, IsSettled, IsKeptFor, ShowsConnections}
 use Rattle.system_view.specs.Multicast.{ShowsMulticast}
-use Rattle.world.specs.Steps.{Made, Submitted, opening, next_id, starts, multicast, answered, submitted, submitted_to, floor_of, Comes, Leads, Steps}
+use Rattle.world.specs.Steps.{Made, Submitted, opening, next_id, starts, multicast, answered, submitted}
+use Rattle.world.specs.Steps.{submitted_to, floor_of, Comes, Leads, Steps}
 use Rattle.world.specs.World.{World, Request, Waiting, Answered}
 use Rattle.world_laws.proofs.Floors.{floors_stay}
 use Rattle.world_laws.proofs.Worlds.{good_world}

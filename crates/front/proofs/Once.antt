@@ -1,8 +1,10 @@
 -- Each request of a layer stands once in its two parts, too.
-use Rattle.std.proofs.Common.{◌≡◌, ◌==◌, true, false, List, [], ◌∷◌, ◌++◌, inl, inr, Option, Some, None, is_none, refl, sym, ap, ◌∙◌, subst}
+use Rattle.std.proofs.Common.{◌≡◌, ◌==◌, true, false, List, [], ◌∷◌, ◌++◌, inl, inr, Option, Some, None}
+use Rattle.std.proofs.Common.{is_none, refl, sym, ap, ◌∙◌, subst}
 use Rattle.std.proofs.Common.{eqb-true}
 use Rattle.std.proofs.lemmas.Bool.{both_ways, cases_Bool}
-use Rattle.front.proofs.Parts.{executed, starving, if_executed, if_starving, in_parts, in_either, executed_in, starving_in, parts_in, ConnsApart}
+use Rattle.front.proofs.Parts.{executed, starving, if_executed, if_starving, in_parts, in_either, executed_in}
+use Rattle.front.proofs.Parts.{starving_in, parts_in, ConnsApart}
 use Rattle.front.proofs.Handing.{in_ids, ends_apart}
 use Rattle.groups.proofs.Options.{some_same}
 use Rattle.groups.specs.Order.{In}

@@ -12,12 +12,14 @@ use Rattle.groups.specs.declared.stamp.Stamp.{Stamp}
 use Rattle.resp.specs.Content.{Content}
 use Rattle.system_view.specs.Connections.{IsSettled}
 use Rattle.system_view.specs.Layers.{AreRows}
-use Rattle.world.specs.World.{World, Outcome, Standing, Closed, Idle, Waiting, Answered, Ended, Layer, NoneTaken, Taken, HasRun}
+use Rattle.world.specs.World.{World, Outcome, Standing, Closed, Idle, Waiting, Answered, Ended, Layer}
+use Rattle.world.specs.World.{NoneTaken, Taken, HasRun}
 use Rattle.world_laws.proofs.Worlds.{good_world}
 use Rattle.world_laws.specs.Good.{run_in, OutcomeGood}
 
 -- an outcome without a stamp, and one of which the same is told
-unstamped : (stamp : Option Stamp) (x y : Option Content) (reply : Content) → stamp ≡ None → retold_reply stamp x reply ≡ retold_reply stamp y reply
+unstamped : (stamp : Option Stamp) (x y : Option Content) (reply : Content) → stamp ≡ None →
+    retold_reply stamp x reply ≡ retold_reply stamp y reply
 unstamped None x y reply none = refl
 unstamped (Some s) x y reply none = cc
 

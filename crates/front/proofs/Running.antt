@@ -1,5 +1,6 @@
 -- A layer that is run: the front shows the world after it as well, and each layer that is taken can be run.
-use Rattle.std.proofs.Common.{◌≡◌, ◌≢◌, true, false, cond, ◌||◌, List, [], ◌∷◌, ◌++◌, inl, inr, map, Some, None, refl, sym}
+use Rattle.std.proofs.Common.{◌≡◌, ◌≢◌, true, false, cond, ◌||◌, List, [], ◌∷◌, ◌++◌, inl, inr, map, Some}
+use Rattle.std.proofs.Common.{None, refl, sym}
 use Rattle.std.proofs.Common.{ap, ◌∙◌, subst, append-nil}
 use Rattle.command_bodies.specs.Command.{effect_of}
 use Rattle.front.proofs.Showing.{is_after}

@@ -1,21 +1,25 @@
 -- Settle of a front is the world's, and with a Run before it where the layer was taken.
-use Rattle.std.proofs.Common.{◌≡◌, ℕ, ◌+◌, ◌==◌, Bool, true, false, List, [], ◌∷◌, ◌++◌, ◌⊎◌, inl, inr, map, Some, is_none, Ok}
+use Rattle.std.proofs.Common.{◌≡◌, ℕ, ◌+◌, ◌==◌, Bool, true, false, List, [], ◌∷◌, ◌++◌, ◌⊎◌, inl, inr, map}
+use Rattle.std.proofs.Common.{Some, is_none, Ok}
 use Rattle.std.proofs.Common.{refl, sym, ap, ◌∙◌, subst, append-nil, append_assoc}
 use Rattle.std.proofs.lemmas.List.{map-append}
 use Rattle.std.specs.List.{AllZip}
 use Rattle.command_table.specs.Reading.{reading}
 use Rattle.execution_order.specs.Rows.{IsRow}
 use Rattle.front.proofs.Once.{of_id, once_right}
-use Rattle.front.proofs.Parts.{zip_in, zip_append, executed, starving, in_parts, in_the_parts, in_either, executed_in, IsRowOf, IsNameOf, parts_of}
+use Rattle.front.proofs.Parts.{zip_in, zip_append, executed, starving, in_parts, in_the_parts, in_either}
+use Rattle.front.proofs.Parts.{executed_in, IsRowOf, IsNameOf, parts_of}
 use Rattle.front.proofs.Retelling.{same_standings}
 use Rattle.front.proofs.Running.{ids_out, AreAsked, runs_so, starve_so, starved_out, rows_out, sees_no_run, once_taken}
 use Rattle.front.proofs.Histories.{leads_more}
 use Rattle.front.proofs.Settled.{once_ended, in_ended, kept_for, apart, settle_starts, settle_ends}
 use Rattle.front.proofs.Handing.{ends_apart}
 use Rattle.front.proofs.Told.{IsToldRow, rows_told, rows_same, rows_of-append, starved-append, stands_same}
-use Rattle.front.specs.Fronts.{FrontView, Told, retold, retold_standing, retold_world, IsOut, FrontShows, FrontIsAt, HasNotRun}
+use Rattle.front.specs.Fronts.{FrontView, Told, retold, retold_standing, retold_world, IsOut, FrontShows}
+use Rattle.front.specs.Fronts.{FrontIsAt, HasNotRun}
 use Rattle.front.specs.Outcomes.{IsSettling, IsToldBy, IsNamedBy, MaySettle, AreSettled}
-use Rattle.front.specs.Settling.{Merge, IsOfLayer, row_of, ids_starved, IsToldOf, RunsAndSettles, SettlesAfterRun, Settles}
+use Rattle.front.specs.Settling.{Merge, IsOfLayer, row_of, ids_starved, IsToldOf, RunsAndSettles}
+use Rattle.front.specs.Settling.{SettlesAfterRun, Settles}
 use Rattle.groups.proofs.Options.{some_same}
 use Rattle.groups.specs.Order.{In}
 use Rattle.groups.specs.declared.request.RequestId.{RequestId}

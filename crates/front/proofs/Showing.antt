@@ -1,7 +1,8 @@
 -- What a front shows after a step that settles nothing, and that it is then as each front is.
 use Rattle.std.proofs.Common.{◌≡◌, ℕ, ◌+◌, List, [], ◌∷◌, ◌++◌, length, refl, sym, ap, ◌∙◌, subst, arith, length-append}
 use Rattle.front.proofs.Histories.{leads_more}
-use Rattle.front.specs.Fronts.{FrontView, Told, retold_world, IsOut, FrontShows, FrontIsAt, HasNotRun, IsFront, roomless}
+use Rattle.front.specs.Fronts.{FrontView, Told, retold_world, IsOut, FrontShows, FrontIsAt, HasNotRun}
+use Rattle.front.specs.Fronts.{IsFront, roomless}
 use Rattle.front.specs.Making.{IsStep, Makes, Collects}
 use Rattle.journal.specs.declared.step.Step.{Step}
 use Rattle.journal.specs.declared.step.Step.TheVariants.{Open, Submit, Deliver, Take, Run, Settle, Collect, Close}

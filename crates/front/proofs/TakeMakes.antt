@@ -66,7 +66,8 @@ take_memory f none some = λ h w told at' fault refused.
     by_fault w free some NoLayer refused = some refused.1
 
 -- where no request is ready there is no layer to be taken
-pub take_unready : (f : FrontView) → f.out ≡ [] → ((d : Delivered) → ¬ IsReady (queue_of f.multicast.queues) d) → Refuses f step.Take NoLayer
+pub take_unready : (f : FrontView) → f.out ≡ [] → ((d : Delivered) → ¬ IsReady (queue_of f.multicast.queues) d) →
+    Refuses f step.Take NoLayer
 take_unready f none unready = λ h w told at'. (
   none_out f none h w told at',
   subst (λ (q : QueueOf). (d : Delivered) → ¬ IsReady q d) (queues_are f h w told at') unready,
@@ -121,6 +122,23 @@ module _ (old : FrontView) (none : old.out ≡ []) (ds : List Delivered) (ready 
             }),
           );
     }
+
+-- the same, of lists that lie in slices, and of a layer that was gathered
+pub take_made : (old : FrontView) (none : old.out ≡ []) (ds taken-ds lost : List Delivered) →
+    IsLayer (queue_of old.multicast.queues) ds → ds ≢ [] → (r : RouterView) (m : MulticastView) (jobs layer : List Job) →
+    taken-ds ≡ ds → lost ≡ ds → layer ≡ jobs →
+    ((t : Layout) (w : World) (standing : ℕ → Standing) → IsTaking t w standing [] taken-ds old.router →
+    IsTaking t w standing taken-ds [] r × AreJobs w.asked taken-ds jobs) →
+    LosesLayer old.multicast lost m → Takes old layer (taken_front old r m ds)
+take_made old none ds taken-ds lost ready some r m jobs layer slice slice' gathered takes loses =
+    subst (λ js. Takes old js (taken_front old r m ds)) (sym gathered)
+    (take_makes old none ds ready some r m jobs
+    (λ t w standing is.
+    let after = takes t w standing (subst (λ xs. IsTaking t w standing [] xs old.router) (sym slice) is) in (
+      subst (λ xs. IsTaking t w standing xs [] r) slice after.0,
+      subst (λ xs. AreJobs w.asked xs jobs) slice after.1,
+    ))
+    (subst (λ xs. LosesLayer old.multicast xs m) slice' loses))
 
 -- the front is then as each front is
 pub once_taken_out : (old new : FrontView) (jobs : List Job) → IsFront old → Takes old jobs new → IsFront new

@@ -25,7 +25,8 @@ use Rattle.skeen_core.specs.declared.packet.Delivered.{Delivered}
 use Rattle.groups.specs.declared.request.RequestId.{RequestId}
 use Rattle.system_view.proofs.Connections.{Alike, connection_alike, each_of, kept_here, kept_at, StandsUnderWay}
 use Rattle.system_view.proofs.Connections.{stands_under_way}
-use Rattle.system_view.specs.Connections.{Waits, AreItsWords, InLayer, id_of, ShowsOpen, ShowsClosed, ShowsConnection, ShowsKept}
+use Rattle.system_view.specs.Connections.{Waits, AreItsWords, InLayer, id_of, ShowsOpen, ShowsClosed}
+use Rattle.system_view.specs.Connections.{ShowsConnection, ShowsKept}
 use Rattle.system_view.specs.Connections.{IsKeptFor, ShowsConnections}
 use Rattle.system_view.specs.Multicast.{ShowsMulticast}
 use Rattle.front.specs.Taking.{with_layer, IsTaking}
@@ -268,7 +269,8 @@ take_starts t steps w standing ds r leads none layer shows = record {
   layer = layer;
   shows = record {
     opened = shows.opened;
-    each = λ c. connection_alike (connection r c) (record w { standing = standing }) (with_layer w standing (Taken [])) c (alike c) (shows.each c);
+    each = λ c. connection_alike (connection r c) (record w { standing = standing }) (with_layer w standing (Taken [])) c (alike c)
+        (shows.each c);
     under_way = λ i q asked. elim (shows.under_way i q asked) [
       | inl done ↦ inl (subst (λ l. SettledUnder w l i) none done)
       | inr kept ↦ inr kept
@@ -285,13 +287,15 @@ take_starts t steps w standing ds r leads none layer shows = record {
       layer = λ seq there. absurd (subst (λ (l : Layer). InLayer l (id_of c seq)) none there);
     }
 
-pub take_ends : (t : Layout) (w : World) (standing : ℕ → Stand) (ds : List Delivered) (r : RouterView) → IsTaking t w standing ds [] r → ds ≢ [] →
+pub take_ends : (t : Layout) (w : World) (standing : ℕ → Stand) (ds : List Delivered) (r : RouterView) →
+    IsTaking t w standing ds [] r → ds ≢ [] →
     Takes w Made (taken w ds) × ShowsConnections r (record (taken w ds) { standing = standing })
 take_ends t w standing ds r is some = (
   takes_layer w ds is.none (subst (λ l. IsLayer w.queue l) (append-nil ds) is.layer) some,
   record {
     opened = is.shows.opened;
-    each = λ c. connection_alike (connection r c) (with_layer w standing (Taken ds)) (record (taken w ds) { standing = standing }) c (alike c) (is.shows.each c);
+    each = λ c. connection_alike (connection r c) (with_layer w standing (Taken ds)) (record (taken w ds) { standing = standing }) c
+        (alike c) (is.shows.each c);
     under_way = is.shows.under_way;
   },
 )

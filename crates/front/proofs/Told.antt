@@ -1,5 +1,6 @@
 -- What a front is told of a layer changes nothing that it shows of the requests before.
-use Rattle.std.proofs.Common.{◌≡◌, ℕ, true, List, [], ◌∷◌, ◌++◌, ◌⊎◌, inl, inr, map, Option, Some, None, is_none, Ok, refl, sym}
+use Rattle.std.proofs.Common.{◌≡◌, ℕ, true, List, [], ◌∷◌, ◌++◌, ◌⊎◌, inl, inr, map, Option, Some, None}
+use Rattle.std.proofs.Common.{is_none, Ok, refl, sym}
 use Rattle.std.proofs.Common.{ap, ◌∙◌, subst}
 use Rattle.std.specs.List.{AllZip}
 use Rattle.command_table.specs.Reading.{reading}

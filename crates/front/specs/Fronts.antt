@@ -15,7 +15,8 @@ use Rattle.system_view.specs.Connections.{ShowsConnections}
 use Rattle.system_view.specs.Layers.{AreRows}
 use Rattle.system_view.specs.Multicast.{ShowsMulticast}
 use Rattle.world.specs.Steps.{opening, reply_of, starved_among, Leads}
-use Rattle.world.specs.World.{World, Outcome, Standing, Closed, Idle, Waiting, Answered, Ended, Layer, NoneTaken, Taken, HasRun}
+use Rattle.world.specs.World.{World, Outcome, Standing, Closed, Idle, Waiting, Answered, Ended, Layer}
+use Rattle.world.specs.World.{NoneTaken, Taken, HasRun}
 use Rattle.world_laws.specs.Good.{run_in, all_delivered}
 
 -- the multicast, apart from how many more packets fit without memory

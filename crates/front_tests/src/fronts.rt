@@ -21,7 +21,8 @@ fn has_steps(front: &Front) -> bool
 
 /// A front on two shards: `a`, `b` and `y` lie on 0, `c`, `d`, `x` and `z` on 1.
 pub(crate) fn two_shards(alloc: Global) -> Result<Front, Trouble> {
-    let text = "shards = 2\n[[range]]\nfrom = 0\nto = 511\nshard = 0\n[[range]]\nfrom = 512\nto = 1023\nshard = 1\n";
+    let text =
+        "shards = 2\n[[range]]\nfrom = 0\nto = 511\nshard = 0\n[[range]]\nfrom = 512\nto = 1023\nshard = 1\n";
     Ok(Front::new(alloc, Table::from_toml(alloc, text)?)?)
 }
 

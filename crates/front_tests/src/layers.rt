@@ -19,12 +19,24 @@ fn requests_come_while_a_layer_is_out(rt: HostRuntime) -> Result<(), Fail> {
     holds("none is quiet", !front.quiet())?;
     let done = done_of(alloc, layer, 0)?;
     holds("the layer is settled", settle(&mut front, done)?.is_none())?;
-    same_bytes("the first", collect(alloc, &mut front, first)?.as_slice(), b":0\r\n")?;
-    same_bytes("not yet", collect(alloc, &mut front, second)?.as_slice(), b"")?;
+    same_bytes(
+        "the first",
+        collect(alloc, &mut front, first)?.as_slice(),
+        b":0\r\n",
+    )?;
+    same_bytes(
+        "not yet",
+        collect(alloc, &mut front, second)?.as_slice(),
+        b"",
+    )?;
     let layer = take(&mut front)?;
     let done = done_of(alloc, layer, 0)?;
     holds("the next one too", settle(&mut front, done)?.is_none())?;
-    same_bytes("the second", collect(alloc, &mut front, second)?.as_slice(), b":0\r\n")?;
+    same_bytes(
+        "the second",
+        collect(alloc, &mut front, second)?.as_slice(),
+        b":0\r\n",
+    )?;
     same_count("rows", front.rows().len(), 2)?;
     holds("it is quiet", front.quiet())
 }
@@ -41,8 +53,16 @@ fn those_that_starve_are_told(rt: HostRuntime) -> Result<(), Fail> {
     let layer = take(&mut front)?;
     let done = done_of(alloc, layer, 1)?;
     holds("the layer is settled", settle(&mut front, done)?.is_none())?;
-    same_bytes("starved", collect(alloc, &mut front, first)?.as_slice(), b"-ERR out of memory\r\n")?;
-    same_bytes("executed", collect(alloc, &mut front, second)?.as_slice(), b":1\r\n")?;
+    same_bytes(
+        "starved",
+        collect(alloc, &mut front, first)?.as_slice(),
+        b"-ERR out of memory\r\n",
+    )?;
+    same_bytes(
+        "executed",
+        collect(alloc, &mut front, second)?.as_slice(),
+        b":1\r\n",
+    )?;
     same_count("rows", front.rows().len(), 1)?;
     same_count("names", front.starved().len(), 1)
 }

@@ -43,11 +43,17 @@ fn one_layer_is_out_at_a_time(rt: HostRuntime) -> Result<(), Fail> {
     let mut front = two_shards(alloc)?;
     let conn = open(&mut front)?;
     let none = take(&mut front);
-    holds("none is ready", matches!(none, Err(Trouble::Refused(FrontFault::NoLayer))))?;
+    holds(
+        "none is ready",
+        matches!(none, Err(Trouble::Refused(FrontFault::NoLayer))),
+    )?;
     submit(alloc, &mut front, conn, "SET a 1")?;
     deliver_all(&mut front)?;
     let layer = take(&mut front)?;
     let second = take(&mut front);
-    holds("one is out", matches!(second, Err(Trouble::Refused(FrontFault::InFlight))))?;
+    holds(
+        "one is out",
+        matches!(second, Err(Trouble::Refused(FrontFault::InFlight))),
+    )?;
     holds("it has one request", layer.len() == 1)
 }

@@ -25,7 +25,7 @@ loop-row-init c =
           (subst (λ l. AllZip (IsToldBy now) es l) (sym all) told) settling;
       rows = ap (λ l. c.args.kept.now.rows ++ map row_of l) all;
       room = let long = ap length all in let room = c.requires.room in omega arith;
-      blocks = subst (λ l. AllZip Holds l c.into_iter-each.result.rest.items) (sym all)
+      texts = subst (λ l. AllZip Holds l c.into_iter-each.result.rest.items) (sym all)
           (subst (λ l. AllZip Holds c.args.rows.items l) (sym c.into_iter-each.ensures.rest) c.requires.blocks);
     }
 
@@ -50,7 +50,7 @@ loop-row-preserved c =
     let steps = c.in-Some.ensures.steps.0 in
     let k : kept.Outcome = record { id = x.id; reply = c.push-reply.result; stamp = Some x.stamp } in
     let block = subst (λ l. AllZip Holds (x ∷ ys) l) c.in-Some-next.ensures.items
-    (subst (λ l. AllZip Holds l c.loop-row.each.rest.items) steps inv.blocks) in
+    (subst (λ l. AllZip Holds l c.loop-row.each.rest.items) steps inv.texts) in
     record {
       half = λ t w now done es back standing told settling.
           let half = inv.half t w now done es back standing told settling in
@@ -64,7 +64,7 @@ loop-row-preserved c =
           ∙ append_snoc c.loop-row.kept.rows (row_of x) (map row_of ys)
           ∙ ap (λ l. c.loop-row.kept.rows ++ map row_of l) (sym steps) ∙ inv.rows;
       room = let long = ap length steps in let room = inv.room in let push = c.push-reply.ensures.room in omega arith;
-      blocks = block.1;
+      texts = block.1;
     }
 
 pub returns-clause-settled : goal.returns-clause-settled

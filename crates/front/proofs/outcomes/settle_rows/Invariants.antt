@@ -17,5 +17,5 @@ invariant-loop-row l = record {
       HalfSettled IsToldBy t w now done es back standing l.row-iterator.rest.items l.router;
   rows : l.kept.rows ++ map row_of l.row-iterator.rest.items ≡ l.fn.kept.rows ++ map row_of l.fn.rows.items;
   room : length l.row-iterator.rest.items ≤ l.kept.room;
-  blocks : AllZip Holds l.row-iterator.rest.items l.each.rest.items;
+  texts : AllZip Holds l.row-iterator.rest.items l.each.rest.items;
 }

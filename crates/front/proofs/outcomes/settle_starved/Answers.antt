@@ -1,4 +1,5 @@
-use Rattle.std.proofs.Common.{rules, ◌+◌, ◌++◌, ◌∷◌, [], Some, map, length, take, drop, refl, sym, ap, ◌∙◌, append_assoc}
+use Rattle.std.proofs.Common.{rules, ◌+◌, ◌++◌, ◌∷◌, [], Some, map, length, take, drop, refl, sym, ap, ◌∙◌}
+use Rattle.std.proofs.Common.{append_assoc}
 use Rattle.std.proofs.lemmas.List.{map-append, drop_all}
 use Rattle.front.proofs.Half.{next_outcome, next_may, next_did, half_ends, named_shown}
 use Rattle.front.proofs.Turns.{turn_at, passed_at}

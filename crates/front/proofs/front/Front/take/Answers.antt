@@ -3,7 +3,8 @@ use Rattle.std.specs.Prelude.{IsOk, IsSome}
 use Rattle.delivery.specs.Queues.{queue_of}
 use Rattle.delivery.specs.Ready.{IsLayer}
 use Rattle.front.proofs.Jobs.{jobs_may_stand}
-use Rattle.front.proofs.TakeMakes.{taken_front, take_memory, take_no_layer, some_ready, none_listed, take_may_start, take_makes, once_taken_out, loses_roomless}
+use Rattle.front.proofs.TakeMakes.{taken_front, take_memory, take_no_layer, some_ready, none_listed}
+use Rattle.front.proofs.TakeMakes.{take_may_start, take_made, once_taken_out, loses_roomless}
 use Rattle.front.proofs.Views.{seen}
 use Rattle.front.specs.Fronts.{roomless}
 use Rattle.front.specs.Refusing.{Refuses, IsFault}
@@ -15,7 +16,6 @@ use Rattle.placement.specs.Layout.{Layout}
 use Rattle.system_view.specs.Layers.{AreJobs}
 use Rattle.world.specs.Steps.{NoLayer}
 use Rattle.world.specs.World.{World, Standing}
-use Rattle.front.proofs.front.Front.take.Goals.{After-self-1}
 use Rattle.front.proofs.front.Front.take.Goals as goal
 
 pub returns-in_default-clause-refused : goal.returns-in_default-clause-refused
@@ -61,35 +61,26 @@ unreachable-requires c =
     let k = subst IsSome c.in_default-gather.is (c.gather.ensures.just_where.1 may) in
     cc
 
--- the layer was taken
-made : (c : After-self-1) →
-    Takes (seen c.self.inside) c.in-Some.layer
-    (taken_front (seen c.self.inside) c.take_all.new.router (roomless c.lose_layer.new.self) c.in-Ok.ready.items)
-made c =
-    let old = seen c.self.inside in
-    let ready = c.in-Ok.ready.items in
-    let slice = c.as_slice.ensures.value in
-    let r = c.take_all.new.router in
-    let m = c.lose_layer.new.self in
-    let jobs = c.take_all.new.jobs.items in
-    let none : old.out ≡ [] = none_listed old.out (search rules) in
-    subst (λ js. Takes old js (taken_front old r (roomless m) ready)) (sym c.in-Some.ensures.gathered)
-    (take_makes old none ready c.in-Ok.ensures.layer (λ e. let count = ap length e in search rules) r (roomless m) jobs
-    (λ t w standing is.
-    let after = c.take_all.ensures.taken t w standing (subst (λ xs. IsTaking t w standing [] xs old.router) (sym slice) is) in (
-      subst (λ xs. IsTaking t w standing xs [] r) slice after.0,
-      subst (λ xs. AreJobs w.asked xs jobs) slice after.1,
-    ))
-    (loses_roomless c.self.inside.multicast m ready
-    (subst (λ xs. LosesLayer c.self.inside.multicast xs m) c.as_slice-2.ensures.value c.lose_layer.ensures)))
-
 pub invariant_of-self : goal.invariant_of-self
 invariant_of-self c =
-    once_taken_out (seen c.self.inside)
-    (taken_front (seen c.self.inside) c.take_all.new.router (roomless c.lose_layer.new.self) c.in-Ok.ready.items)
-    c.in-Some.layer c.self.invariant (made c)
+    let old = seen c.self.inside in
+    let ready = c.in-Ok.ready.items in
+    let m = c.lose_layer.new.self in
+    let none : old.out ≡ [] = none_listed old.out (search rules) in
+    once_taken_out old (taken_front old c.take_all.new.router (roomless m) ready) c.in-Some.layer c.self.invariant
+    (take_made old none ready c.as_slice.result.now c.as_slice-2.result.now c.in-Ok.ensures.layer
+    (λ e. let count = ap length e in search rules) c.take_all.new.router (roomless m) c.take_all.new.jobs.items c.in-Some.layer
+    c.as_slice.ensures.value c.as_slice-2.ensures.value c.in-Some.ensures.gathered c.take_all.ensures.taken
+    (loses_roomless c.self.inside.multicast m c.as_slice-2.result.now c.lose_layer.ensures))
 
 pub returns-clause-made : goal.returns-clause-made
 returns-clause-made c =
-    subst (λ f. Takes f c.in-Some.layer
-    (taken_front (seen c.self.inside) c.take_all.new.router (roomless c.lose_layer.new.self) c.in-Ok.ready.items)) c.self.view_is (made c)
+    let old = seen c.self.inside in
+    let ready = c.in-Ok.ready.items in
+    let m = c.lose_layer.new.self in
+    let none : old.out ≡ [] = none_listed old.out (search rules) in
+    subst (λ f. Takes f c.in-Some.layer (taken_front old c.take_all.new.router (roomless m) ready)) c.self.view_is
+    (take_made old none ready c.as_slice.result.now c.as_slice-2.result.now c.in-Ok.ensures.layer
+    (λ e. let count = ap length e in search rules) c.take_all.new.router (roomless m) c.take_all.new.jobs.items c.in-Some.layer
+    c.as_slice.ensures.value c.as_slice-2.ensures.value c.in-Some.ensures.gathered c.take_all.ensures.taken
+    (loses_roomless c.self.inside.multicast m c.as_slice-2.result.now c.lose_layer.ensures))
