@@ -1,0 +1,202 @@
+-- Submit and Deliver of a front are steps of the world.
+use Rattle.std.proofs.Common.{◌≡◌, ℕ, zero, suc, Bool, ◌≤◌, true, false, cond, List, [], ◌∷◌, ◌++◌, length, None, ◌⊎◌}
+use Rattle.std.proofs.Common.{Result, Ok, Err, refl, sym, ap, ◌∙◌, subst, arith, append-nil}
+use Rattle.command_table.specs.Reading.{reading}
+use Rattle.command_table.specs.declared.command.Command.{Command}
+use Rattle.command_table.specs.declared.refusal.Refusal.{Refusal}
+use Rattle.delivery.specs.Queues.{queue_of}
+use Rattle.front.proofs.Retelling.{was_idle, at_retold, same_standings, alike_retold}
+use Rattle.front.proofs.Showing.{stepped, is_stepped, by_messages, is_after}
+use Rattle.front.specs.Fronts.{FrontView, Told, retold_world, FrontShows, roomless}
+use Rattle.front.specs.Making.{Makes}
+use Rattle.groups.specs.GroupSet.{chosen}
+use Rattle.groups.specs.declared.request.ConnId.{ConnId}
+use Rattle.groups.specs.declared.request.RequestId.{RequestId}
+use Rattle.journal.specs.declared.step.Step.{Step}
+use Rattle.journal.specs.declared.step.Step.TheVariants.{Submit, Deliver}
+use Rattle.multicast.specs.Multicast.{MulticastView, IsSame, Begins, Delivers, group_of, starts_to}
+use Rattle.placement.specs.Groups.{groups_of}
+use Rattle.placement.specs.Layout.{Layout, IsTable}
+use Rattle.resp.specs.Content.{Content}
+use Rattle.router.specs.Router.{RouterView, connection}
+use Rattle.router.specs.Submitting.{Submits, groups_by}
+use Rattle.router.specs.declared.submission.Submission.{Submission}
+use Rattle.skeen_core.specs.declared.packet.Body.TheVariants.{Start}
+use Rattle.skeen_core.specs.declared.packet.Packet.{Packet}
+use Rattle.system_view.proofs.Addresses.{addresses}
+use Rattle.system_view.proofs.Connections.{Alike, connection_alike}
+use Rattle.system_view.proofs.Delivering.{shows_deliver}
+use Rattle.system_view.proofs.Submits.{shows_submitted}
+use Rattle.system_view.specs.Connections.{InLayer, IsSettled, IsKeptFor, ShowsConnections}
+use Rattle.system_view.specs.Multicast.{ShowsMulticast}
+use Rattle.world.specs.Steps.{Made, Submitted, opening, next_id, starts, multicast, answered, submitted}
+use Rattle.world.specs.Steps.{submitted_to, floor_of, Comes, Leads, Steps}
+use Rattle.world.specs.World.{World, Request, Waiting, Answered}
+use Rattle.world_laws.proofs.Floors.{floors_stay}
+use Rattle.world_laws.proofs.Worlds.{good_world}
+
+-- ---- Submit
+
+-- a set of the first so many groups has at most as many
+length-chosen : (test : ℕ → Bool) (a m : ℕ) → length (chosen test a m) ≤ m
+unfolding chosen
+length-chosen test a zero = omega arith
+length-chosen test a (suc m) =
+    let rest = length-chosen test (suc a) m in
+    elim (test a) as (λ b. length (cond b (a ∷ chosen test (suc a) m) (chosen test (suc a) m)) ≤ suc m) [
+      | true ↦ omega arith
+      | false ↦ omega arith
+    ]
+
+-- words address no more groups than there are
+pub groups_few : (t : Layout) (result : Result Command Refusal) → length (groups_by t result) ≤ t.shards
+groups_few t (Ok command) = length-chosen _ 0 t.shards
+groups_few t (Err refusal) = omega arith
+
+-- room is no part of what is shown
+pub begins_roomless : (old mid new : MulticastView) (id : RequestId) (floor : ℕ) (groups : List ℕ) → IsSame old mid →
+    Begins mid id floor groups new → Begins (roomless old) id floor groups (roomless new)
+begins_roomless old mid new id floor groups same begins = record {
+  groups = begins.groups ∙ same.groups;
+  packets = begins.packets ∙ ap (λ (ps : List Packet). ps ++ starts_to id floor groups groups) same.packets;
+  queues = begins.queues ∙ same.queues;
+}
+
+starts_same : (id : RequestId) (q : Request) (gs : List ℕ) → starts_to id q.floor q.groups gs ≡ starts id q gs
+starts_same id q [] = refl
+starts_same id q (g ∷ gs) = ap (λ (ps : List Packet). record { to = g; id = id; body = Start q.floor q.groups } ∷ ps) (starts_same id q gs)
+
+module _ (t : Layout) (old m : MulticastView) (w : World) (c : ℕ) (shows : ShowsMulticast t old w) where
+  -- one Start goes to each group
+  shows_starts : (sent : Submission) (q : Request) → Begins old sent.id sent.floor sent.groups m → sent.id ≡ next_id w c →
+      sent.floor ≡ q.floor → sent.groups ≡ q.groups → ShowsMulticast t m (multicast w c q)
+  shows_starts sent q begins id floor groups = record {
+    count = ap length begins.groups ∙ shows.count;
+    groups = λ g. ap (λ gs. group_of gs g) begins.groups ∙ shows.groups g;
+    packets = begins.packets ∙ ap (λ ps. old.packets ++ ps) sent_as ∙ ap (λ ps. ps ++ starts (next_id w c) q q.groups) shows.packets;
+    queues = λ g. ap (λ qs. queue_of qs g) begins.queues ∙ shows.queues g;
+  }
+    where
+      sent_as : starts_to sent.id sent.floor sent.groups sent.groups ≡ starts (next_id w c) q q.groups
+      sent_as =
+          ap (λ i. starts_to i sent.floor sent.groups sent.groups) id
+          ∙ ap (λ n. starts_to (next_id w c) n sent.groups sent.groups) floor
+          ∙ ap (λ gs. starts_to (next_id w c) q.floor gs gs) groups
+          ∙ starts_same (next_id w c) q q.groups
+
+  -- none goes to no group
+  shows_none : (sent : Submission) (reply : Content) → Begins old sent.id sent.floor sent.groups m → sent.groups ≡ [] →
+      ShowsMulticast t m (answered w c reply)
+  shows_none sent reply begins none = record {
+    count = ap length begins.groups ∙ shows.count;
+    groups = λ g. ap (λ gs. group_of gs g) begins.groups ∙ shows.groups g;
+    packets = begins.packets ∙ ap (λ gs. old.packets ++ starts_to sent.id sent.floor sent.groups gs) none ∙ append-nil old.packets
+        ∙ shows.packets;
+    queues = λ g. ap (λ qs. queue_of qs g) begins.queues ∙ shows.queues g;
+  }
+
+module _ (told : Told) (old : FrontView) (r : RouterView) (m : MulticastView) (w : World) (c : ℕ) (sent : Submission)
+    (shows : FrontShows told old w) (begins : Begins old.multicast sent.id sent.floor sent.groups m)
+    (id : sent.id ≡ next_id w c) (floor : sent.floor ≡ floor_of w c) where
+  -- an answer at once is told by no layer
+  shows_reply : (reply : Content) → sent.groups ≡ [] → ShowsConnections r (answered (retold_world told w) c reply) →
+      FrontShows told (stepped old r m) (answered w c reply)
+  shows_reply reply groups connections =
+      by_messages told old r m w (answered w c reply) refl refl shows
+      (same_standings r (retold_world told (answered w c reply)) (answered (retold_world told w) c reply).standing
+      (retold_world told (answered w c reply)).standing
+      (at_retold told w.standing c (Answered (record { id = next_id w c; reply = reply; stamp = None }))) connections)
+      (shows_none old.table old.multicast m w c shows.multicast sent reply begins groups)
+
+  by_groups : (command : Command) (gs : List ℕ) → sent.groups ≡ gs →
+      ShowsConnections r (submitted_to (retold_world told w) c command gs) →
+      FrontShows told (stepped old r m) (submitted_to w c command gs)
+  by_groups command [] groups connections = shows_reply _ groups connections
+  by_groups command (g ∷ gs) groups connections =
+      let q : Request = record { floor = floor_of w c; groups = g ∷ gs; command = command } in
+      by_messages told old r m w (multicast w c q) refl refl shows
+      (same_standings r (retold_world told (multicast w c q)) (multicast (retold_world told w) c q).standing
+      (retold_world told (multicast w c q)).standing (at_retold told w.standing c Waiting) connections)
+      (shows_starts old.table old.multicast m w c shows.multicast sent q begins id floor groups)
+
+  by_words : (read : Result Command Refusal) → sent.groups ≡ groups_by old.table read →
+      ShowsConnections r (submitted old.table (retold_world told w) c read) →
+      FrontShows told (stepped old r m) (submitted old.table w c read)
+  by_words (Err refusal) groups connections = shows_reply _ groups connections
+  by_words (Ok command) groups connections = by_groups command (groups_of old.table command) groups connections
+
+pub submit_makes : (old : FrontView) (r : RouterView) (m : MulticastView) (conn : ConnId) (words : List (List ℕ)) (sent : Submission) →
+    IsTable old.table → Submits old.table conn.0 words old.router sent r →
+    Begins old.multicast sent.id sent.floor sent.groups m →
+    Makes old (Submit conn words) (Submitted sent.id) (stepped old r m)
+submit_makes old r m conn words sent table submits begins = record {
+  is_step = is_stepped old r m;
+  from_each = λ h w told at'.
+      let good = good_world old.table h w at'.leads in
+      let as_world = shows_submitted old.table (retold_world told w) conn.0 good.requests words old.router r sent
+      (addresses old.table table words) submits at'.shows.connections in
+      let after = submitted old.table w conn.0 (reading words) in
+      let made : Steps old.table w (Submit conn words) (Submitted sent.id) after = record {
+        idle = was_idle told (w.standing conn.0) as_world.0;
+        answers = ap Submitted as_world.1;
+        after = refl;
+      } in (
+        after,
+        made,
+        is_after told old (stepped old r m) h w after (Submit conn words) (Submitted sent.id) refl at' made
+            (by_words told old r m w conn.0 sent at'.shows begins as_world.1 as_world.2 (reading words) submits.groups as_world.3),
+      );
+}
+
+-- ---- Deliver
+
+pub delivers_roomless : (old new : MulticastView) (place : ℕ) → Delivers old place new → Delivers (roomless old) place (roomless new)
+delivers_roomless old new place d = record {
+  packet = d.packet;
+  sent = d.sent;
+  delivered = d.delivered;
+  state = d.state;
+  there = d.there;
+  receives = d.receives;
+  packets = d.packets;
+  group = d.group;
+  queue = d.queue;
+  count = d.count;
+}
+
+-- a packet that comes changes nothing that the router shows
+module _ (t : Layout) (h : List Step) (w w' : World) (k : ℕ) (told : Told) (leads : Leads t opening h w) (comes : Comes w k Made w') where
+  alike_received : (c : ℕ) → Alike w w' c
+  alike_received c = record {
+    standing = ap (λ (v : World). v.standing c) comes.after;
+    seq = ap (λ (v : World). v.seq c) comes.after;
+    floor = λ free. floors_stay t h w w' (Deliver k) Made leads comes c free (ap (λ (v : World). v.last c) comes.after);
+    asked = λ seq. ap (λ (v : World). v.asked (record { conn = record { 0 = c }; seq = seq })) comes.after;
+    layer = λ seq there. subst (λ l. InLayer l (record { conn = record { 0 = c }; seq = seq }))
+        (sym (ap (λ (v : World). v.layer) comes.after)) there;
+  }
+
+  shows_received : (r : RouterView) → ShowsConnections r (retold_world told w) → ShowsConnections r (retold_world told w')
+  shows_received r shows = record {
+    opened = shows.opened ∙ sym (ap (λ (v : World). v.opened) comes.after);
+    each = λ c. connection_alike (connection r c) (retold_world told w) (retold_world told w') c
+        (alike_retold told w w' c (alike_received c)) (shows.each c);
+    under_way = λ id q asked. subst (λ (v : World). IsSettled v id ⊎ IsKeptFor r id) (sym comes.after)
+        (shows.under_way id q (sym (ap (λ (v : World). v.asked id) comes.after) ∙ asked));
+  }
+
+pub deliver_makes : (old : FrontView) (m : MulticastView) (place : ℕ) → Delivers old.multicast place m →
+    Makes old (Deliver place) Made (stepped old old.router m)
+deliver_makes old m place delivers = record {
+  is_step = is_stepped old old.router m;
+  from_each = λ h w told at'.
+      let as_world = shows_deliver old.table old.multicast w at'.shows.multicast m place delivers in
+      let comes : Comes w place Made as_world.0 = as_world.1 in (
+        as_world.0,
+        comes,
+        is_after told old (stepped old old.router m) h w as_world.0 (Deliver place) Made refl at' comes
+            (by_messages told old old.router m w as_world.0 (ap (λ (v : World). v.layer) comes.after)
+            (ap (λ (v : World). v.ended) comes.after) at'.shows
+            (shows_received old.table h w as_world.0 place told at'.leads comes old.router at'.shows.connections) as_world.2),
+      );
+}

@@ -1,0 +1,47 @@
+-- What a new front shows, whatever it is told.
+use Rattle.std.proofs.Common.{◌≡◌, ℕ, [], length, refl, sym, subst}
+use Rattle.std.specs.BTreeMap.{is_at}
+use Rattle.std.specs.Map.{lookup}
+use Rattle.std.specs.Ordering.{nat_cmp}
+use Rattle.delivery.specs.Queues.{queue_of}
+use Rattle.front.specs.Fronts.{FrontView, Told, retold_world, FrontIsAt}
+use Rattle.multicast.specs.Multicast.{group_of}
+use Rattle.router.specs.Router.{RouterView}
+use Rattle.skeen_core.specs.Group.{fresh}
+use Rattle.system_view.specs.Connections.{ShowsConnections, ShowsConnection}
+use Rattle.system_view.specs.Layers.{AreRows}
+use Rattle.world.specs.Steps.{opening}
+
+connections : (told : Told) (r : RouterView) → r.opened ≡ 0 → r.kept ≡ [] → ShowsConnections r (retold_world told opening)
+connections told r opened none = record {
+  opened = opened;
+  each = λ c. subst (λ kept. ShowsConnection (lookup (is_at (nat_cmp c)) kept) (retold_world told opening) c) (sym none) refl;
+  under_way = λ id q asked. absurd (let k = asked in cc);
+}
+
+-- what each part is when nothing has happened
+pub record IsOpening (f : FrontView) : Type 0 where
+  pub opened : f.router.opened ≡ 0
+  pub kept : f.router.kept ≡ []
+  pub count : length f.multicast.groups ≡ f.table.shards
+  pub fresh : (g : ℕ) → group_of f.multicast.groups g ≡ fresh
+  pub packets : f.multicast.packets ≡ []
+  pub empty : (g : ℕ) → queue_of f.multicast.queues g ≡ []
+  pub out : f.out ≡ []
+  pub rows : f.rows ≡ []
+  pub starved : f.starved ≡ []
+
+pub opening_shown : (f : FrontView) → IsOpening f → (told : Told) → FrontIsAt f [] opening told
+opening_shown f is told = record {
+  leads = ([], (refl, refl));
+  shows = record {
+    connections = connections told f.router is.opened is.kept;
+    multicast = record { count = is.count; groups = is.fresh; packets = is.packets; queues = is.empty };
+    out = is.out;
+    settled = [];
+    split = refl;
+    truly = λ e there. absurd there;
+    rows = subst (λ rows. AreRows [] rows) (sym is.rows) tt;
+    starved = is.starved;
+  };
+}

@@ -1,0 +1,138 @@
+-- What a front refuses the world refuses, and what its parts ask of their numbers holds.
+use Rattle.std.proofs.Common.{◌≡◌, ◌≢◌, ℕ, ◌<◌, ◌≤◌, true, false, List, length, Some, refl, sym}
+use Rattle.std.proofs.Common.{ap, ◌∙◌, subst, arith}
+use Rattle.front.proofs.Retelling.{was_closed, was_idle, was_busy}
+use Rattle.front.proofs.Standings.{shut_stands, shows_live, busy_stands, idle_stands, open_stands}
+use Rattle.front.specs.Faults.{of_submit, of_deliver}
+use Rattle.front.specs.Fronts.{FrontView, Told, retold_standing, retold_world, FrontIsAt, IsFront}
+use Rattle.front.specs.Refusing.{RefusesNot, IsFault, MayStep}
+use Rattle.groups.specs.declared.request.ConnId.{ConnId}
+use Rattle.journal.specs.declared.step.Step.{Step}
+use Rattle.journal.specs.declared.step.Step.TheVariants as step
+use Rattle.journal.specs.declared.trace.TheConstants.{GREATEST_STEPS}
+use Rattle.multicast.specs.declared.multicast.DeliverFault.{DeliverFault}
+use Rattle.multicast.specs.declared.multicast.DeliverFault.TheVariants as deliver
+use Rattle.router.specs.Router.{connection, is_open}
+use Rattle.router.specs.Submitting.{IsRefused}
+use Rattle.router.specs.declared.connection.Connection.{Connection}
+use Rattle.router.specs.declared.router.TheConstants.{GREATEST_NUMBER}
+use Rattle.router.specs.declared.submission.SubmitFault.{SubmitFault}
+use Rattle.router.specs.declared.submission.SubmitFault.TheVariants as submit
+use Rattle.system_view.specs.Connections.{ShowsConnection}
+use Rattle.world.specs.Steps.{OwnFault, Busy, NoConn, NoPacket, InFlight, NoLayer, Refused, IsBusy}
+use Rattle.world.specs.World.{World, Closed, Idle}
+use Rattle.world_laws.proofs.Bounds.{bounded_world}
+
+-- ---- numbers
+
+module _ (f : FrontView) (is : IsFront f) (may : MayStep f) where
+  pub few_steps : length is.history < GREATEST_STEPS
+  few_steps = let count = is.count in omega arith
+
+  pub few_opened : f.router.opened < GREATEST_NUMBER
+  few_opened =
+      let opened = (bounded_world f.table is.history is.world is.at.leads).connections in
+      let same = is.at.shows.connections.opened in
+      let few = few_steps in
+      omega arith
+
+  pub few_asked : (c : ℕ) (v : Connection) → connection f.router c ≡ Some v → v.seq < GREATEST_NUMBER
+  few_asked c v kept =
+      let asked = (bounded_world f.table is.history is.world is.at.leads).requests c in
+      let same = (subst (λ x. ShowsConnection x (retold_world is.told is.world) c) kept (is.at.shows.connections.each c)).0 in
+      let few = few_steps in
+      omega arith
+
+-- ---- connections
+
+-- a connection that isn't open stands closed
+pub stands_closed : (f : FrontView) (c : ℕ) → is_open (connection f.router c) ≡ false → (h : List Step) (w : World) (told : Told) →
+    FrontIsAt f h w told → w.standing c ≡ Closed
+stands_closed f c shut h w told at' =
+    was_closed told (w.standing c)
+    (shut_stands (connection f.router c) (retold_world told w) c shut (at'.shows.connections.each c))
+
+-- an idle connection's submit has no fault of its own
+not_refused : (w : World) (conn : ConnId) (words : List (List ℕ)) → w.standing conn.0 ≡ Idle → (fault : OwnFault) →
+    ¬ Refused w (step.Submit conn words) fault
+not_refused w conn words idle Busy refused = subst IsBusy idle refused
+not_refused w conn words idle NoConn refused = let k = sym idle ∙ refused in cc
+not_refused w conn words idle NoPacket refused = refused
+not_refused w conn words idle InFlight refused = refused
+not_refused w conn words idle NoLayer refused = refused
+
+-- why the router refuses a submit is why the world does
+pub submit_refused : (f : FrontView) (conn : ConnId) (words : List (List ℕ)) (fault : SubmitFault) →
+    IsRefused (connection f.router conn.0) fault → IsFault f (step.Submit conn words) (of_submit fault)
+submit_refused f conn words submit.Busy refused = λ h w told at'.
+    was_busy told (w.standing conn.0)
+    (busy_stands refused.was.standing refused.was (retold_world told w) conn.0 refused.busy
+    (shows_live _ refused.was (retold_world told w) conn.0 refused.kept refused.live (at'.shows.connections.each conn.0)))
+submit_refused f conn words submit.NoConn refused = stands_closed f conn.0 refused
+submit_refused f conn words submit.Memory refused = (
+  tt,
+  λ h w told at'.
+      not_refused w conn words (was_idle told (w.standing conn.0)
+      (idle_stands refused.was.standing refused.was (retold_world told w) conn.0 refused.idle
+      (shows_live _ refused.was (retold_world told w) conn.0 refused.kept refused.live (at'.shows.connections.each conn.0)))),
+)
+
+collect_not : (w : World) (conn : ConnId) → w.standing conn.0 ≢ Closed → (fault : OwnFault) → ¬ Refused w (step.Collect conn) fault
+collect_not w conn stands Busy refused = refused
+collect_not w conn stands NoConn refused = stands refused
+collect_not w conn stands NoPacket refused = refused
+collect_not w conn stands InFlight refused = refused
+collect_not w conn stands NoLayer refused = refused
+
+close_not : (w : World) (conn : ConnId) → w.standing conn.0 ≢ Closed → (fault : OwnFault) → ¬ Refused w (step.Close conn) fault
+close_not w conn stands Busy refused = refused
+close_not w conn stands NoConn refused = stands refused
+close_not w conn stands NoPacket refused = refused
+close_not w conn stands InFlight refused = refused
+close_not w conn stands NoLayer refused = refused
+
+-- an open connection may collect, and be closed
+pub open_admitted : (f : FrontView) (conn : ConnId) (v : Connection) → connection f.router conn.0 ≡ Some v → v.is_open ≡ true →
+    RefusesNot f (step.Collect conn) × RefusesNot f (step.Close conn)
+open_admitted f conn v kept live = (
+  λ h w told at'. collect_not w conn (stands w told (at'.shows.connections.each conn.0)),
+  λ h w told at'. close_not w conn (stands w told (at'.shows.connections.each conn.0)),
+)
+  where
+    stands : (w : World) (told : Told) → ShowsConnection (connection f.router conn.0) (retold_world told w) conn.0 →
+        w.standing conn.0 ≢ Closed
+    stands w told shows closed =
+        open_stands v.standing v (retold_world told w) conn.0 (shows_live _ v (retold_world told w) conn.0 kept live shows)
+        (ap (retold_standing told) closed)
+
+-- ---- Open
+
+open_not : (w : World) (fault : OwnFault) → ¬ Refused w step.Open fault
+open_not w Busy refused = refused
+open_not w NoConn refused = refused
+open_not w NoPacket refused = refused
+open_not w InFlight refused = refused
+open_not w NoLayer refused = refused
+
+pub open_admits : (f : FrontView) → RefusesNot f step.Open
+open_admits f = λ h w told at' fault refused. open_not w fault refused
+
+-- ---- Deliver
+
+deliver_not : (w : World) (place : ℕ) → place < length w.packets → (fault : OwnFault) → ¬ Refused w (step.Deliver place) fault
+deliver_not w place there Busy refused = refused
+deliver_not w place there NoConn refused = refused
+deliver_not w place there NoPacket refused = omega arith
+deliver_not w place there InFlight refused = refused
+deliver_not w place there NoLayer refused = refused
+
+-- why the multicast brings no packet is why the world doesn't
+pub deliver_refused : (f : FrontView) (place : ℕ) (fault : DeliverFault) →
+    (fault ≡ deliver.NoPacket → length f.multicast.packets ≤ place) →
+    (fault ≡ deliver.Memory → place < length f.multicast.packets) → IsFault f (step.Deliver place) (of_deliver fault)
+deliver_refused f place deliver.NoPacket none there = λ h w told at'.
+    subst (λ ps. length ps ≤ place) at'.shows.multicast.packets (none refl)
+deliver_refused f place deliver.Memory none there = (
+  tt,
+  λ h w told at'. deliver_not w place (subst (λ ps. place < length ps) at'.shows.multicast.packets (there refl)),
+)

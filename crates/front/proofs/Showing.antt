@@ -1,0 +1,147 @@
+-- What a front shows after a step that settles nothing, and that it is then as each front is.
+use Rattle.std.proofs.Common.{◌≡◌, ℕ, ◌+◌, List, [], ◌∷◌, ◌++◌, length, refl, sym, ap, ◌∙◌, subst, arith, length-append}
+use Rattle.front.proofs.Histories.{leads_more}
+use Rattle.front.specs.Fronts.{FrontView, Told, retold_world, IsOut, FrontShows, FrontIsAt, HasNotRun}
+use Rattle.front.specs.Fronts.{IsFront, roomless}
+use Rattle.front.specs.Making.{IsStep, Makes, Collects}
+use Rattle.journal.specs.declared.step.Step.{Step}
+use Rattle.journal.specs.declared.step.Step.TheVariants.{Open, Submit, Deliver, Take, Run, Settle, Collect, Close}
+use Rattle.groups.specs.declared.request.ConnId.{ConnId}
+use Rattle.command_table.specs.Reading.{reading}
+use Rattle.command_table.specs.declared.command.Command.{Command}
+use Rattle.command_table.specs.declared.refusal.Refusal.{Refusal}
+use Rattle.multicast.specs.Multicast.{MulticastView, IsSame}
+use Rattle.placement.specs.Groups.{groups_of}
+use Rattle.placement.specs.Layout.{Layout, IsTable}
+use Rattle.router.specs.Router.{RouterView}
+use Rattle.std.proofs.Common.{Result, Ok, Err, Option}
+use Rattle.system_view.specs.Connections.{ShowsConnections}
+use Rattle.system_view.specs.Multicast.{ShowsMulticast}
+use Rattle.world.specs.Steps.{opening, Effect, Steps, Leads, submitted, submitted_to}
+use Rattle.world.specs.Steps as world
+use Rattle.world.specs.World.{World, Standing, Closed, Idle, Waiting, Answered, Layer}
+use Rattle.world_laws.specs.Good.{run_in}
+
+-- ---- room
+
+pub without_room : (t : Layout) (m : MulticastView) (w : World) → ShowsMulticast t m w → ShowsMulticast t (roomless m) w
+without_room t m w shows =
+    record { count = shows.count; groups = shows.groups; packets = shows.packets; queues = shows.queues }
+
+pub with_room : (t : Layout) (m : MulticastView) (w : World) → ShowsMulticast t (roomless m) w → ShowsMulticast t m w
+with_room t m w shows =
+    record { count = shows.count; groups = shows.groups; packets = shows.packets; queues = shows.queues }
+
+pub same_but_room : (old new : MulticastView) → IsSame old new → roomless new ≡ roomless old
+same_but_room old new same = λ k. record {
+  groups = same.groups k;
+  packets = same.packets k;
+  queues = same.queues k;
+  room = 0;
+}
+
+-- ---- a step that settles nothing
+
+-- the front once router and multicast made a step
+abbrev pub stepped : FrontView → RouterView → MulticastView → FrontView
+stepped f r m = record f { router = r; multicast = m; steps = f.steps + 1 }
+
+pub is_stepped : (f : FrontView) (r : RouterView) (m : MulticastView) → IsStep f (stepped f r m)
+is_stepped f r m = record { table = refl; steps = refl; layers = refl; rows = refl; starved = refl }
+
+-- a step that leaves the layer and what has ended alone
+pub by_messages : (told : Told) (f : FrontView) (r : RouterView) (m : MulticastView) (w w' : World) → w'.layer ≡ w.layer →
+    w'.ended ≡ w.ended → FrontShows told f w → ShowsConnections r (retold_world told w') → ShowsMulticast f.table m w' →
+    FrontShows told (stepped f r m) w'
+by_messages told f r m w w' layer ended shows connections packets = record {
+  connections = connections;
+  multicast = packets;
+  out = subst (λ (l : Layer). IsOut l f.out) (sym layer) shows.out;
+  settled = shows.settled;
+  split = ended ∙ shows.split ∙ ap (λ (l : Layer). shows.settled ++ run_in l) (sym layer);
+  truly = shows.truly;
+  rows = shows.rows;
+  starved = shows.starved;
+}
+
+-- the front is at the world that the step leads to
+pub is_after : (told : Told) (old new : FrontView) (h : List Step) (w w' : World) (step : Step) (effect : Effect) →
+    new.table ≡ old.table → FrontIsAt old h w told → Steps old.table w step effect w' → FrontShows told new w' →
+    FrontIsAt new (h ++ step ∷ []) w' told
+is_after told old new h w w' step effect table at' made shows = record {
+  leads = subst (λ t. Leads t opening (h ++ step ∷ []) w') (sym table)
+      (leads_more old.table opening w w' h step effect at'.leads made);
+  shows = shows;
+}
+
+-- ---- each front
+
+abbrev pub NoRun : Step → Type 0
+NoRun (Run starved) = ⊥
+NoRun step = Unit {0}
+
+unrun : (w w' after : World) → w' ≡ after → HasNotRun after.layer → HasNotRun w'.layer
+unrun w w' after is not_run = subst (λ (v : World). HasNotRun v.layer) (sym is) not_run
+
+submit_unrun : (t : Layout) (w : World) (c : ℕ) (read : Result Command Refusal) → HasNotRun w.layer →
+    HasNotRun (submitted t w c read).layer
+submit_unrun t w c (Err refusal) not_run = not_run
+submit_unrun t w c (Ok command) not_run = by_groups (groups_of t command)
+  where
+    by_groups : (gs : List ℕ) → HasNotRun (submitted_to w c command gs).layer
+    by_groups [] = not_run
+    by_groups (g ∷ gs) = not_run
+
+collect_unrun : (s : Standing) (w w' : World) (c : ℕ) (effect : Effect) → world.Collects s w c effect w' → HasNotRun w.layer →
+    HasNotRun w'.layer
+collect_unrun Closed w w' c effect made not_run = absurd made
+collect_unrun Idle w w' c effect made not_run = unrun w w' w made.1 not_run
+collect_unrun Waiting w w' c effect made not_run = unrun w w' w made.1 not_run
+collect_unrun (Answered o) w w' c effect made not_run = unrun w w' _ made.1 not_run
+
+-- only a Run leaves a layer that has run
+pub still_unrun : (t : Layout) (w w' : World) (step : Step) (effect : Effect) → NoRun step → Steps t w step effect w' →
+    HasNotRun w.layer → HasNotRun w'.layer
+still_unrun t w w' Open effect plain made not_run = unrun w w' _ made.after not_run
+still_unrun t w w' (Submit conn words) effect plain made not_run =
+    unrun w w' _ made.after (submit_unrun t w conn.0 (reading words) not_run)
+still_unrun t w w' (Deliver k) effect plain made not_run = unrun w w' _ made.after not_run
+still_unrun t w w' Take effect plain made not_run = unrun w w' _ made.after tt
+still_unrun t w w' (Run starved) effect plain made not_run = absurd plain
+still_unrun t w w' Settle effect plain made not_run = unrun w w' _ made.after tt
+still_unrun t w w' (Collect conn) effect plain made not_run = collect_unrun (w.standing conn.0) w w' conn.0 effect made not_run
+still_unrun t w w' (Close conn) effect plain made not_run = unrun w w' _ made.after not_run
+
+-- the front after a step is as each front is
+module _ (old new : FrontView) (is : IsFront old) (step : Step) (plain : NoRun step) (counts : IsStep old new) where
+  pub goes_on : (effect : Effect) (w' : World) → Steps old.table is.world step effect w' →
+      FrontIsAt new (is.history ++ step ∷ []) w' is.told → IsFront new
+  goes_on effect w' made at' = record {
+    is_table = subst IsTable (sym counts.table) is.is_table;
+    history = is.history ++ step ∷ [];
+    world = w';
+    told = is.told;
+    at = at';
+    count = counted;
+    not_run = still_unrun old.table is.world w' step effect plain made is.not_run;
+  }
+    where
+      counted : length (is.history ++ step ∷ []) ≡ new.steps + new.layers
+      counted =
+          let long = length-append is.history (step ∷ []) in
+          let count = is.count in
+          let steps = counts.steps in
+          let layers = counts.layers in
+          omega arith
+
+pub once_made : (old new : FrontView) → IsFront old → (step : Step) → NoRun step → (effect : Effect) → Makes old step effect new →
+    IsFront new
+once_made old new is step plain effect makes =
+    let next = makes.from_each is.history is.world is.told is.at in
+    goes_on old new is step plain makes.is_step effect next.0 next.1 next.2
+
+pub once_collected : (old new : FrontView) → IsFront old → (conn : ConnId) (given : Option _) → Collects old conn given new →
+    IsFront new
+once_collected old new is conn given collects =
+    let next = collects.from_each is.history is.world is.told is.at in
+    goes_on old new is (Collect conn) tt collects.is_step (world.Collected next.0) next.1 next.2 next.4

@@ -1,0 +1,57 @@
+//! Connections: opening them, what they collect, and closing them.
+
+ghost use Rattle.std.specs.Prelude.{◌≡◌, ◌<◌, ◌+◌, IfOk, IfErr, OnOk, OnErr};
+ghost use Rattle.front.specs.Making.{Makes, Collects};
+ghost use Rattle.front.specs.Refusing.{IsFault, MayStep};
+ghost use Rattle.front.specs.declared.fault.FrontFault.{FrontFault};
+ghost use Rattle.journal.specs.declared.step.Step.{Step};
+ghost use Rattle.world.specs.Steps.{Opened, Made};
+
+use super::fault::FrontFault;
+use super::front::Front;
+use groups::ConnId;
+use router::Outcome;
+
+impl Front {
+    /// Opens the next connection and gives its number. The only error is `Memory`, which changes nothing.
+    pub fn open(&mut self) -> Result<ConnId, FrontFault>
+        requires { MayStep self.old }
+        ensures made { IfOk result (λ conn. Makes self.old Step.Open (Opened conn.0) self.new) }
+        ensures refused { IfErr result (λ fault. (fault ≡ FrontFault.Memory) × IsFault self.old Step.Open fault) }
+        ensures unchanged { OnErr result (self.new ≡ self.old) }
+    {
+        let conn = self.router.open()?;
+        self.steps += 1;
+        Ok(conn)
+    }
+
+    /// A connection takes the outcome of its request, if it is there: the reply is what the front was told of it. The only
+    /// error is `NoConn`, which changes nothing. It takes no memory.
+    pub fn collect(&mut self, conn: ConnId) -> Result<Option<Outcome>, FrontFault>
+        requires { MayStep self.old }
+        ensures made { IfOk result (λ given. Collects self.old conn given self.new) }
+        ensures refused { IfErr result (λ fault. (fault ≡ FrontFault.NoConn) × IsFault self.old (Step.Collect conn) fault) }
+        ensures unchanged { OnErr result (self.new ≡ self.old) }
+    {
+        let Ok(outcome) = self.router.collect(conn) else {
+            return Err(FrontFault::NoConn);
+        };
+        self.steps += 1;
+        Ok(outcome)
+    }
+
+    /// Closes a connection. What it waits for still runs, and its outcome is dropped. The only error is `NoConn`, which
+    /// changes nothing. It takes no memory.
+    pub fn close(&mut self, conn: ConnId) -> Result<(), FrontFault>
+        requires { MayStep self.old }
+        ensures made { OnOk result (Makes self.old (Step.Close conn) Made self.new) }
+        ensures refused { IfErr result (λ fault. (fault ≡ FrontFault.NoConn) × IsFault self.old (Step.Close conn) fault) }
+        ensures unchanged { OnErr result (self.new ≡ self.old) }
+    {
+        let Ok(()) = self.router.close(conn) else {
+            return Err(FrontFault::NoConn);
+        };
+        self.steps += 1;
+        Ok(())
+    }
+}

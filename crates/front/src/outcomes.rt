@@ -1,0 +1,72 @@
+//! The outcomes of a layer that is settled, and its rows.
+
+ghost use Rattle.std.specs.Prelude.{◌≡◌, ◌≤◌, ◌+◌, ◌++◌, map, length, vec_capacity};
+ghost use Rattle.std.specs.List.{AllZip};
+ghost use Rattle.front.specs.Outcomes.{IsToldBy, IsNamedBy, MaySettle, AreSettled};
+ghost use Rattle.front.specs.Room.{Holds};
+ghost use Rattle.front.specs.Settling.{row_of};
+
+use groups::{RequestId, Stamp};
+use journal::Rows;
+use layer_results::DoneRow;
+use resp::{Answered, Reply};
+use router::{Outcome, Router};
+
+/// Each executed request gets its row, for which there is room, and its connection its outcome.
+pub(super) fn settle_rows(
+    router: &mut Router,
+    kept: &mut Rows,
+    rows: Vec<DoneRow>,
+    blocks: Vec<Vec<u8>>,
+)
+    requires settling { MaySettle IsToldBy rows.items router.old }
+    requires room { length rows.items ≤ kept.old.room }
+    requires blocks { AllZip Holds rows.items blocks.items }
+    ensures rows { kept.new.rows ≡ kept.old.rows ++ map row_of rows.items }
+    ensures settled { AreSettled IsToldBy rows.items router.old router.new }
+{
+    let mut each = blocks.into_iter();
+    for row in rows {
+        let Some(block) = each.next() else {
+            unreachable!();
+        };
+        let DoneRow {
+            id,
+            stamp,
+            words,
+            reply,
+        } = row;
+        let reply = kept.push(id, &stamp, words, Answered::in_block(reply, block));
+        let clock = Stamp { ..stamp };
+        router.settle(
+            clock,
+            Outcome {
+                id,
+                reply,
+                stamp: Some(stamp),
+            },
+        );
+    }
+}
+
+/// Each request that starved gets its name among those that did, for which there is room, and its connection its outcome.
+pub(super) fn settle_starved(
+    router: &mut Router,
+    kept: &mut Vec<RequestId>,
+    starved: &[(RequestId, Stamp)],
+)
+    requires settling { MaySettle IsNamedBy starved.now router.old }
+    requires room { length kept.old.items + length starved.now ≤ vec_capacity kept.old }
+    ensures names { kept.new.items ≡ kept.old.items ++ map (λ s. s.0) starved.now }
+    ensures settled { AreSettled IsNamedBy starved.now router.old router.new }
+{
+    for (id, stamp) in starved {
+        kept.push_reserved(*id);
+        let outcome = Outcome {
+            id: *id,
+            reply: Reply::out_of_memory(),
+            stamp: Some(Stamp { ..*stamp }),
+        };
+        router.settle(Stamp { ..*stamp }, outcome);
+    }
+}

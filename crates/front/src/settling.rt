@@ -1,0 +1,78 @@
+//! What came of the layer that is out is told, and its outcomes go to their connections.
+
+ghost use Rattle.std.specs.Prelude.{◌≡◌, ◌+◌, ◌++◌, ◌≤◌, length, IfErr, OnOk, OnErr, IfOk, vec_capacity};
+ghost use Rattle.std.specs.List.{AllZip};
+ghost use Rattle.front.specs.Room.{Holds};
+ghost use Rattle.front.specs.Settling.{Settles, IsSettleFault, MaySettle};
+
+use super::fault::FrontFault;
+use super::front::Front;
+use super::outcomes::{settle_rows, settle_starved};
+use super::results::is_of_layer;
+use groups::RequestId;
+use journal::Rows;
+use layer_results::{Done, DoneRow};
+use resp::{text_block, text_size};
+use std::alloc::{AllocError, Global};
+
+impl Front {
+    /// Tells what came of the layer that is out: its executed requests get their rows, and each of its requests its outcome,
+    /// that of a closed connection dropped. In the history it is a Run, with these starving, and a Settle. Of the replies the
+    /// front knows nothing: it keeps what it is told.
+    ///
+    /// Errors, with nothing changed and the `Done` given back: `NoLayer`, it isn't what came of the layer that is out, request
+    /// by request and word by word; `Memory`.
+    pub fn settle(&mut self, done: Done) -> Result<(), (Done, FrontFault)>
+        requires { MaySettle self.old }
+        ensures settled { OnOk result (Settles self.old done self.new) }
+        ensures refused { IfErr result (λ back. (back.0 ≡ done) × IsSettleFault self.old done back.1) }
+        ensures unchanged { OnErr result (self.new ≡ self.old) }
+    {
+        if !is_of_layer(&self.router, self.out.as_slice(), &done) {
+            return Err((done, FrontFault::NoLayer));
+        }
+        let Ok(blocks) = room_for(self.alloc, &mut self.rows, &mut self.starved, &done) else {
+            return Err((done, FrontFault::Memory));
+        };
+        let (rows, starved) = done.into_parts();
+        settle_rows(&mut self.router, &mut self.rows, rows, blocks);
+        settle_starved(&mut self.router, &mut self.starved, starved.as_slice());
+        self.out.clear();
+        self.steps += 1;
+        self.layers += 1;
+        Ok(())
+    }
+}
+
+/// Takes the room for the rows and the names of what came of a layer, and for each row a block for its reply's text, if that
+/// is long. The only error is want of memory; the rows and the names stay.
+fn room_for(
+    alloc: Global,
+    rows: &mut Rows,
+    starved: &mut Vec<RequestId>,
+    done: &Done,
+) -> Result<Vec<Vec<u8>>, AllocError>
+    ensures rows { rows.new.rows ≡ rows.old.rows }
+    ensures starved { starved.new.items ≡ starved.old.items }
+    ensures room_of_rows { OnOk result (length done.now.rows ≤ rows.new.room) }
+    ensures room_of_starved { OnOk result (length starved.new.items + length done.now.starved ≤ vec_capacity starved.new) }
+    ensures blocks { IfOk result (λ blocks. AllZip Holds done.now.rows blocks.items) }
+{
+    rows.reserve(done.rows().len())?;
+    starved.reserve(done.starved().len())?;
+    blocks_for(alloc, done.rows())
+}
+
+/// For each row a block for its reply's text.
+fn blocks_for(alloc: Global, rows: &[DoneRow]) -> Result<Vec<Vec<u8>>, AllocError>
+    ensures { IfOk result (λ blocks. AllZip Holds rows.now blocks.items) }
+{
+    let mut blocks = Vec::with_capacity(alloc, rows.len())?;
+    for row in rows {
+        let Some(size) = text_size(&row.reply) else {
+            return Err(AllocError);
+        };
+        blocks.push(text_block(alloc, size)?)?;
+    }
+    Ok(blocks)
+}
