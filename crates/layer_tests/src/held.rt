@@ -90,7 +90,7 @@ fn workers_in_turn_do_not(rt: HostRuntime) -> Result<(), Fail> {
 
 /// Two workers of which none can be started.
 #[derive(Drop)]
-struct Unwilling;
+pub(crate) struct Unwilling;
 
 impl Workers for Unwilling {
     ghost use Rattle.std.specs.Prelude.{true};

@@ -2,6 +2,8 @@
 #![tactic(auto)]
 
 #[cfg(test)]
+mod backs;
+#[cfg(test)]
 mod held;
 #[cfg(test)]
 mod jobs;
