@@ -1,0 +1,5 @@
+mod Stepping
+mod Flying
+mod Landing
+mod Runs
+mod Recording

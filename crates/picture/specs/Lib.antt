@@ -1,2 +1,5 @@
-pub mod Faults
 pub mod Words
+pub mod Run
+pub mod Flights
+pub mod Ran
+pub mod Told

@@ -1,15 +1,15 @@
 //! The picture of a run: a trace's steps are made again, what happens at each is put down, and this is drawn.
 //!
 //! `told` reads a table and a trace, and writes the picture of a window of the steps. What the shapes are and how they are
-//! written is `picture_shapes`.
+//! written is `picture_shapes` and `picture_text`.
 #![tactic(auto)]
 
-mod fault;
+mod flights;
 mod labels;
 mod making;
 mod recorder;
 mod shown;
 
-pub use fault::PictureFault;
 pub use making::facts_of;
+pub use replay::ShowFault;
 pub use shown::told;

@@ -1,15 +1,26 @@
 //! The steps of a trace, made again while their facts are put down.
 
-ghost use Rattle.std.specs.Prelude.{◌≡◌, ◌++◌, map, IfOk, OnOk};
+ghost use Rattle.std.specs.Prelude.{◌≡◌, ◌++◌, ◌∷◌, List, [], ℕ, true, false, length, map, IfOk, IfErr, OnOk, IsTrue};
+ghost use Rattle.std.specs.List.{AllByRecursion};
+ghost use Rattle.groups.specs.declared.request.RequestId.{RequestId};
+ghost use Rattle.journal.specs.declared.step.Step.{Step};
+ghost use Rattle.placement.specs.Layout.{Layout};
+ghost use Rattle.picture.specs.Told.{IsFactsOf};
 ghost use Rattle.picture.specs.Words.{word_of};
+ghost use Rattle.picture.specs.Ran.{Ran};
+ghost use Rattle.replay.specs.Replay.{IsFaultOf, IsRefusalOf, named_in};
+ghost use Rattle.system.specs.Reads.{table_of};
+ghost use Rattle.system.specs.declared.effect.Effect.{Effect};
+ghost use Rattle.world.specs.Steps.{names};
 
-use crate::fault::PictureFault;
+use crate::flights::{Flights, arrival_in, kept_at};
 use crate::recorder::{Before, Recorder};
 use groups::RequestId;
 use journal::{Step, Steps, Trace};
 use picture_shapes::{RunFacts, StepWord};
 use placement::Table;
 use progress::Progress;
+use replay::ReplayFault;
 use shard_workers::{InTurn, Open};
 use std::alloc::{AllocError, Global};
 use std::num::NonZeroUsize;
@@ -23,44 +34,59 @@ pub fn facts_of<P: Progress>(
     table: Table,
     trace: &Trace,
     progress: &mut P,
-) -> Result<RunFacts, PictureFault>
-    ensures groups { IfOk result (λ facts. facts.groups ≡ table.shards) }
-    ensures steps { IfOk result (λ facts. facts.steps.items ≡ map word_of trace.now.steps) }
+) -> Result<RunFacts, ReplayFault>
+    ensures facts { IfOk result (IsFactsOf table trace.now.steps) }
+    ensures fault { IfErr result (IsFaultOf false table trace.now.max trace.now.steps) }
 {
     let groups = table.shards();
     let mut system = System::new(alloc, table, trace.max())?;
     let mut recorder = Recorder::new(alloc);
-    let mut words = Vec::with_capacity(alloc, trace.len())?;
-    make_all(
+    let mut flights = Flights::new(alloc);
+    let words = make_all(
         alloc,
         trace.steps(),
         &mut system,
         &mut recorder,
-        &mut words,
+        &mut flights,
         progress,
     )?;
-    Ok(recorder.into_facts(groups, words))
+    Ok(recorder.into_facts(groups, words, flights.packets))
 }
 
-/// Makes the steps, up to the first that isn't accepted, and tells of each that was made.
+/// Makes the steps, up to the first that isn't accepted, tells of each that was made, and answers their words.
 fn make_all<P: Progress>(
     alloc: Global,
     mut steps: Steps<'_>,
     system: &mut System,
     recorder: &mut Recorder,
-    words: &mut Vec<StepWord>,
+    flights: &mut Flights,
     progress: &mut P,
-) -> Result<(), PictureFault>
-    ensures { OnOk result (words.new.items ≡ words.old.items ++ map word_of steps.entry) }
+) -> Result<Vec<StepWord>, ReplayFault>
+    requires { Ran (table_of system.old) system.old.max_steps [] system.old flights.old }
+    ensures words { IfOk result (λ words. words.items ≡ map word_of steps.entry) }
+    ensures made { OnOk result (Ran (table_of system.old) system.old.max_steps steps.entry system.new flights.new) }
+    ensures fault { IfErr result (IsFaultOf false (table_of system.old) system.old.max_steps steps.entry) }
 {
     let count = steps.len();
-    let mut index: usize = 0;
-    while let Some(step) = steps.next(alloc)? {
-        words.push(word_of(&step)).map_err(AllocError::from)?;
-        make(alloc, step, index, system, recorder)?;
-        index = index.saturating_add(1);
-        progress.made(index as u64, count as u64);
+    let mut words = Vec::with_capacity(alloc, count)?;
+    for index in 0..count {
+        let Some(step) = steps.next(alloc)? else {
+            unreachable!()
+        };
+        put_word(&step, &mut words)?;
+        if let Err(fault) = make(alloc, step, index, system, recorder, flights) {
+            return Err(fault);
+        }
+        progress.made(index as u64 + 1, count as u64);
     }
+    Ok(words)
+}
+
+/// Appends the word of a step.
+fn put_word(step: &Step, words: &mut Vec<StepWord>) -> Result<(), AllocError>
+    ensures { OnOk result (words.new.items ≡ words.old.items ++ word_of step.now ∷ []) }
+{
+    words.push(word_of(step))?;
     Ok(())
 }
 
@@ -87,44 +113,72 @@ fn make(
     index: usize,
     system: &mut System,
     recorder: &mut Recorder,
-) -> Result<(), PictureFault> {
+    flights: &mut Flights,
+) -> Result<(), ReplayFault>
+    ensures made { OnOk result ((t : Layout) (most : ℕ) (before : List Step) → index ≡ length before
+        → Ran t most before system.old flights.old → Ran t most (before ++ step ∷ []) system.new flights.new) }
+    ensures fault { IfErr result (IsRefusalOf false system.old step index system.new) }
+{
     let before = Before::of(alloc, &step, system)?;
     let named = named_in(alloc, &step)?;
+    let arrival = arrival_in(&step);
+    let kept = kept_at(arrival, system.packets());
     let Some(one) = NonZeroUsize::new(1) else {
-        return Err(PictureFault::Memory);
+        unreachable!()
     };
     let effect = match system.step(step, &InTurn(one), &Open) {
         Ok(effect) => effect,
-        Err(StepFault::Memory) => return Err(PictureFault::Memory),
+        Err(StepFault::Memory) => return Err(ReplayFault::Memory),
         Err(fault) => {
             let index = index as u64;
-            return Err(PictureFault::Step { index, fault });
+            return Err(ReplayFault::Step { index, fault });
         }
     };
     if !are_named(&effect, named.as_slice()) {
-        return Err(PictureFault::Memory);
+        return Err(ReplayFault::Memory);
     }
-    recorder.note(index, before, &effect, system)?;
+    let landed = flights.land(index, arrival);
+    recorder.note(index, before, landed, &effect, system)?;
+    flights.send(index, kept, recorder.last(), system)?;
     Ok(())
 }
 
+/// Whether all that starved are among those that were named to starve.
+fn are_named(effect: &Effect, named: &[RequestId]) -> bool
+    ensures { IsTrue result → (starved : List RequestId) → effect.now ≡ Effect.Ran starved
+        → AllByRecursion (λ id. names named.now id ≡ true) starved }
+{
+    match effect {
+        Effect::Ran(starved) => are_among(starved.as_slice(), named),
+        _ => true,
+    }
+}
+
 /// The ids that a Run names; none of another step.
-fn named_in(alloc: Global, step: &Step) -> Result<Vec<RequestId>, AllocError> {
+fn named_in(alloc: Global, step: &Step) -> Result<Vec<RequestId>, AllocError>
+    ensures { IfOk result (λ named. named.items ≡ named_in step.now) }
+{
     match step {
         Step::Run { starved } => starved.as_slice().to_vec(alloc),
         _ => Ok(Vec::new(alloc)),
     }
 }
 
-/// Whether all that starved are among those that were named to starve.
-fn are_named(effect: &Effect, named: &[RequestId]) -> bool {
-    let Effect::Ran(starved) = effect else {
-        return true;
-    };
-    for id in starved.as_slice() {
-        if !named.contains(id) {
+/// Whether each of these ids is one of the others.
+fn are_among(ids: &[RequestId], others: &[RequestId]) -> bool
+    ensures { IsTrue result → AllByRecursion (λ id. names others.now id ≡ true) ids.now }
+{
+    for id in ids {
+        if !is_among(id, others) {
             return false;
         }
     }
     true
+}
+
+/// Whether the id is one of the others.
+fn is_among(id: &RequestId, others: &[RequestId]) -> bool
+    ensures { result ≡ names others.now id.now }
+{
+    others.contains(id)
 }

@@ -2,31 +2,30 @@
 
 ghost use Rattle.std.specs.Prelude.{◌≡◌};
 
+use crate::flights::{asked, last_of, place_of};
 use crate::labels::{LONG, SHORT, reply_label, words_label};
-use groups::{ConnId, GroupId, RequestId};
+use groups::{ConnId, GroupId, Groups, RequestId};
 use journal::Step;
 use layer_planner::Job;
 use picture_shapes::{
     Asked, ConnectionFacts, DeliveryFacts, JobFacts, LayerFacts, PacketFacts, ReceiptFacts,
-    RequestFacts, RunFacts, StepWord,
+    ReplyFacts, RequestFacts, RunFacts, StepWord,
 };
 use resp::Request;
-use skeen_core::{Body, Packet};
 use std::alloc::{AllocError, Global};
-use std::collections::VecDeque;
 use system::{Effect, System};
 
-/// The facts of the steps that were made. It knows which of the packets each one under way is, and of each connection the
-/// place of its last request.
+/// The facts of the steps that were made, but for those of packets. It knows of each connection the place of its last
+/// request.
 #[derive(Drop)]
 pub(super) struct Recorder {
     alloc: Global,
     connections: Vec<ConnectionFacts>,
     requests: Vec<RequestFacts>,
-    packets: Vec<PacketFacts>,
     receipts: Vec<ReceiptFacts>,
+    deliveries: Vec<DeliveryFacts>,
     layers: Vec<LayerFacts>,
-    under_way: VecDeque<usize>,
+    replies: Vec<ReplyFacts>,
     last: Vec<Option<usize>>,
 }
 
@@ -38,10 +37,8 @@ pub(super) enum Before {
         conn: ConnId,
         words: Vec<u8>,
         title: Vec<u8>,
-        packets: usize,
     },
     Deliver {
-        place: u64,
         coming: Option<Coming>,
     },
     Take,
@@ -55,14 +52,13 @@ pub(super) enum Before {
     },
 }
 
-/// What is to be known of a receipt before the packet comes: where it goes, the clock there, how many requests that group
-/// has delivered that aren't taken, and how many packets are under way.
+/// What is to be known of a receipt before the packet comes: where it goes, the clock there, and how many requests that
+/// group has delivered that aren't taken.
 #[derive(Clone, Copy)]
 pub(super) struct Coming {
     to: GroupId,
     clock: u64,
     queued: usize,
-    packets: usize,
 }
 
 impl Before {
@@ -74,10 +70,8 @@ impl Before {
                 conn: *conn,
                 words: words_label(alloc, words, SHORT)?,
                 title: words_label(alloc, words, LONG)?,
-                packets: system.packets(),
             },
             Step::Deliver { place } => Before::Deliver {
-                place: *place,
                 coming: coming_at(*place, system),
             },
             Step::Take => Before::Take,
@@ -96,7 +90,6 @@ fn coming_at(place: u64, system: &System) -> Option<Coming> {
         to,
         clock: system.clock(to),
         queued: system.queued(to),
-        packets: system.packets(),
     })
 }
 
@@ -107,27 +100,33 @@ impl Recorder {
             alloc,
             connections: Vec::new(alloc),
             requests: Vec::new(alloc),
-            packets: Vec::new(alloc),
             receipts: Vec::new(alloc),
+            deliveries: Vec::new(alloc),
             layers: Vec::new(alloc),
-            under_way: VecDeque::new(alloc),
+            replies: Vec::new(alloc),
             last: Vec::new(alloc),
         }
     }
 
     /// The facts of a run of these steps over so many groups.
-    pub(super) fn into_facts(self, groups: u8, steps: Vec<StepWord>) -> RunFacts
+    pub(super) fn into_facts(
+        self,
+        groups: u8,
+        steps: Vec<StepWord>,
+        packets: Vec<PacketFacts>,
+    ) -> RunFacts
         ensures groups { result.groups ≡ groups }
         ensures steps { result.steps.items ≡ steps.items }
+        ensures packets { result.packets.items ≡ packets.items }
     {
         let Recorder {
             alloc: _,
             connections,
             requests,
-            packets,
             receipts,
+            deliveries,
             layers,
-            under_way: _,
+            replies,
             last: _,
         } = self;
         RunFacts {
@@ -137,7 +136,9 @@ impl Recorder {
             requests,
             packets,
             receipts,
+            deliveries,
             layers,
+            replies,
         }
     }
 
@@ -146,27 +147,22 @@ impl Recorder {
         &mut self,
         step: usize,
         before: Before,
+        landed: Option<PacketFacts>,
         effect: &Effect,
         system: &System,
     ) -> Result<(), AllocError> {
         match before {
             Before::Open => self.note_open(step),
-            Before::Submit {
-                conn,
-                words,
-                title,
-                packets,
-            } => match effect {
+            Before::Submit { conn, words, title } => match effect {
                 Effect::Submitted(id) => {
                     self.note_submit(step, *id, words, title)?;
-                    self.note_answer(step, conn, system)?;
-                    self.note_sent(step, packets, system)
+                    self.note_answer(step, conn, system)
                 }
                 _ => Ok(()),
             },
-            Before::Deliver { place, coming } => match coming {
-                Some(coming) => self.note_receipt(step, place, &coming, system),
-                None => Ok(()),
+            Before::Deliver { coming } => match (coming, landed) {
+                (Some(coming), Some(packet)) => self.note_receipt(step, packet, &coming, system),
+                _ => Ok(()),
             },
             Before::Take => self.note_take(step, system.layer()),
             Before::Run => match effect {
@@ -249,91 +245,57 @@ impl Recorder {
         Ok(())
     }
 
-    /// The packets from this place on were sent.
-    fn note_sent(&mut self, step: usize, from: usize, system: &System) -> Result<(), AllocError> {
-        for place in from..system.packets() {
-            if let Some(packet) = system.packet(place) {
-                self.note_packet(step, packet)?;
-            }
-        }
-        Ok(())
+    /// Of each connection the place of its last request.
+    pub(super) fn last(&self) -> &[Option<usize>] {
+        self.last.as_slice()
     }
 
-    /// A packet was sent.
-    fn note_packet(&mut self, step: usize, packet: &Packet) -> Result<(), AllocError> {
-        let (from, clock) = match &packet.body {
-            Body::Start { floor, groups: _ } => (None, *floor),
-            Body::Proposal { from, clock } => (Some(*from), *clock),
-        };
-        let number = self.packets.len();
-        let asked = self.asked(packet.id);
-        self.packets.push(PacketFacts {
-            asked,
-            from,
-            to: packet.to,
-            clock,
-            sent: step,
-            received: None,
-        })?;
-        self.under_way.push_back(number)?;
-        Ok(())
-    }
-
-    /// A request with its number. A connection has one request under way at a time, its last one.
+    /// A request with its number.
     fn asked(&self, id: RequestId) -> Asked {
-        let number = match last_of(self.last.as_slice(), id.conn) {
-            Some(number) => number,
-            None => 0,
-        };
-        Asked { id, number }
+        asked(self.last.as_slice(), id)
     }
 
-    /// The packet at this place came to its group.
+    /// A packet came to its group.
     fn note_receipt(
         &mut self,
         step: usize,
-        place: u64,
+        packet: PacketFacts,
         coming: &Coming,
         system: &System,
     ) -> Result<(), AllocError> {
-        let Some(packet) = self.receive(step, place as usize) else {
-            return Ok(());
-        };
         let clock = system.clock(coming.to);
-        let delivered = self.deliveries(coming, system)?;
         self.receipts.push(ReceiptFacts {
             step,
             packet,
             clock,
             rose: clock > coming.clock,
-            delivered,
         })?;
-        self.note_sent(step, coming.packets.saturating_sub(1), system)
-    }
-
-    /// The packet at this place of those under way, which is received now and under way no more.
-    fn receive(&mut self, step: usize, place: usize) -> Option<PacketFacts> {
-        let number = self.under_way.remove(place)?;
-        let packet = self.packets.get_mut(number)?;
-        packet.received = Some(step);
-        Some(*packet)
+        self.note_deliveries(step, coming, system)
     }
 
     /// What the group delivered when the packet came.
-    fn deliveries(
-        &self,
+    fn note_deliveries(
+        &mut self,
+        step: usize,
         coming: &Coming,
         system: &System,
-    ) -> Result<Vec<DeliveryFacts>, AllocError> {
-        let mut delivered = Vec::new(self.alloc);
-        for place in coming.queued..system.queued(coming.to) {
+    ) -> Result<(), AllocError> {
+        let queued = system.queued(coming.to);
+        let last = place_in(queued.saturating_sub(coming.queued).saturating_sub(1));
+        for place in coming.queued..queued {
             if let Some(request) = system.delivered(coming.to, place) {
-                let asked = self.asked(request.id);
-                let stamp = request.stamp;
-                delivered.push(DeliveryFacts { asked, stamp })?;
+                let (asked, stamp) = (self.asked(request.id), request.stamp);
+                self.deliveries.push(DeliveryFacts {
+                    step,
+                    group: coming.to,
+                    asked,
+                    stamp,
+                    place: place_in(place.saturating_sub(coming.queued)),
+                    last,
+                })?;
             }
         }
-        Ok(delivered)
+        Ok(())
     }
 
     /// A layer was taken.
@@ -345,13 +307,15 @@ impl Recorder {
                 stamp: job.stamp,
                 groups: job.groups,
                 starved: false,
-                dropped: false,
             })?;
         }
+        let number = self.layers.len().saturating_add(1);
         self.layers.push(LayerFacts {
+            number,
             take: step,
             run: None,
             settle: None,
+            groups: touched_by(layer),
             jobs,
         })?;
         Ok(())
@@ -379,10 +343,12 @@ impl Recorder {
             return Ok(());
         };
         layer.settle = Some(step);
-        for job in layer.jobs.iter_mut() {
-            let conn = job.asked.id.conn;
-            job.dropped = system.waits(conn).is_none();
-            self.note_answer(step, conn, system)?;
+        for job in &layer.jobs {
+            let asked = job.asked;
+            if system.waits(asked.id.conn).is_some() {
+                self.replies.push(ReplyFacts { step, asked })?;
+            }
+            self.note_answer(step, asked.id.conn, system)?;
         }
         self.layers.push(layer)?;
         Ok(())
@@ -409,15 +375,18 @@ impl Recorder {
     }
 }
 
-/// Where the facts of a connection lie: connections are numbered from 1.
-fn place_of(conn: ConnId) -> usize {
-    conn.0.saturating_sub(1) as usize
+/// A place among what a group delivers at a step; those from 2^32 on stand at the last one before it.
+fn place_in(place: usize) -> u32 {
+    place.min(u32::MAX as usize) as u32
 }
 
-/// The place of a connection's last request.
-fn last_of(last: &[Option<usize>], conn: ConnId) -> Option<usize> {
-    match last.get(place_of(conn)) {
-        Some(Some(number)) => Some(*number),
-        _ => None,
+/// The groups of all these requests.
+fn touched_by(jobs: &[Job]) -> Groups {
+    let mut touched = Groups::empty();
+    for job in jobs {
+        for group in job.groups.iter() {
+            touched = touched.with(group);
+        }
     }
+    touched
 }

@@ -1,23 +1,26 @@
 //! A table's text and a trace's text, to a picture that is written.
 
-ghost use Rattle.std.specs.Prelude.{◌≡◌, IfOk, OnOk};
+ghost use Rattle.std.specs.Prelude.{ℕ, false, IfOk, IfErr, OnOk, List, Option};
 ghost use Rattle.std.specs.Io.KnownBytes.{Appends};
-ghost use Rattle.picture_shapes.specs.Svg.{svg_text};
-ghost use Rattle.picture_shapes.specs.declared.drawing.Picture.{Picture};
+ghost use Rattle.picture.specs.Told.{IsTold};
+ghost use Rattle.picture_text.specs.Svg.{svg_text};
+ghost use Rattle.replay.specs.Show.{IsShowFault};
 
-use crate::fault::PictureFault;
 use crate::making::facts_of;
-use journal::{Trace, TraceFault, read_trace};
-use picture_shapes::{Picture, picture_of, write_svg};
+use journal::{TraceFault, read_trace};
+use picture_shapes::{Picture, picture_of};
+use picture_text::{SvgFault, write_svg};
 use placement::{Table, TableFault};
 use progress::Progress;
+use replay::{ReplayFault, ShowFault};
 use std::alloc::Global;
 use std::io::Write;
 
-/// Writes the picture of the steps of a window, from the first to before the second of these, as far as the trace has them. The table
-/// is read first. Nothing is written before the watcher knows that the picture is there.
+/// Writes the picture of the steps of a window, from the first to before the second of these, as far as the trace has
+/// them. The table is read first. Nothing is written before the watcher knows that the picture is there.
 ///
-/// What is written is the text of one picture's shapes. `PictureFault` says why there is none, or not all of it.
+/// What is written is the text of the picture of the trace's run. `ShowFault` says what is wrong with the texts, the
+/// first fault of the table before one of the trace; `Memory` and `Write` say nothing of them.
 pub fn told<P: Progress, O: Write>(
     alloc: Global,
     table: &[u8],
@@ -25,8 +28,9 @@ pub fn told<P: Progress, O: Write>(
     window: (usize, usize),
     progress: &mut P,
     writer: &mut O,
-) -> Result<(), PictureFault>
-    ensures { OnOk result ((p : Picture) × Appends (O.contents writer.old) (O.contents writer.new) (svg_text p)) }
+) -> Result<(), ShowFault>
+    ensures told { OnOk result (IsTold table.now trace.now window.0 window.1 (O.contents writer.old) (O.contents writer.new)) }
+    ensures fault { IfErr result (IsShowFault false table.now trace.now) }
 {
     let picture = match found(alloc, table, trace, window, progress) {
         Ok(picture) => picture,
@@ -36,44 +40,49 @@ pub fn told<P: Progress, O: Write>(
         }
     };
     progress.ended();
-    write_svg(alloc, &picture, writer)?;
-    match writer.flush() {
-        Ok(()) => Ok(()),
-        Err(_) => Err(PictureFault::Write),
+    match write_svg(alloc, &picture, writer) {
+        Ok(()) => {}
+        Err(SvgFault::Memory) => return Err(ShowFault::Memory),
+        Err(SvgFault::Write) => return Err(ShowFault::Write),
     }
+    let Ok(()) = writer.flush() else {
+        return Err(ShowFault::Write);
+    };
+    Ok(())
 }
 
-/// The picture of these steps.
+/// The picture of these steps. The table is read first.
 fn found<P: Progress>(
     alloc: Global,
     table: &[u8],
     trace: &[u8],
-    (from, to): (usize, usize),
+    window: (usize, usize),
     progress: &mut P,
-) -> Result<Picture, PictureFault> {
-    let table = table_in(alloc, table)?;
-    let trace = trace_in(alloc, trace)?;
-    let facts = facts_of(alloc, table, &trace, progress)?;
-    Ok(picture_of(alloc, &facts, from, to)?)
-}
-
-/// The table that a text is.
-fn table_in(alloc: Global, text: &[u8]) -> Result<Table, PictureFault> {
-    let Ok(text) = str::from_utf8(text) else {
-        return Err(PictureFault::Encoding);
+) -> Result<Picture, ShowFault>
+    ensures told { IfOk result (λ picture. (before after : Option (List ℕ)) → Appends before after (svg_text picture)
+        → IsTold table.now trace.now window.0 window.1 before after) }
+    ensures fault { IfErr result (IsShowFault false table.now trace.now) }
+{
+    let Ok(text) = str::from_utf8(table) else {
+        return Err(ShowFault::Encoding);
     };
-    match Table::from_toml(alloc, text) {
-        Ok(table) => Ok(table),
-        Err(TableFault::Memory) => Err(PictureFault::Memory),
-        Err(fault) => Err(PictureFault::Table(fault)),
-    }
-}
-
-/// The trace that a text is.
-fn trace_in(alloc: Global, text: &[u8]) -> Result<Trace, PictureFault> {
-    match read_trace(alloc, text) {
-        Ok(trace) => Ok(trace),
-        Err(TraceFault::Bad { line }) => Err(PictureFault::Trace { line }),
-        Err(TraceFault::Memory) => Err(PictureFault::Memory),
+    let table = match Table::from_toml(alloc, text) {
+        Ok(table) => table,
+        Err(TableFault::Memory) => return Err(ShowFault::Memory),
+        Err(fault) => return Err(ShowFault::Table(fault)),
+    };
+    let trace = match read_trace(alloc, trace) {
+        Ok(trace) => trace,
+        Err(TraceFault::Bad { line }) => return Err(ShowFault::Trace { line }),
+        Err(TraceFault::Memory) => return Err(ShowFault::Memory),
+    };
+    let facts = match facts_of(alloc, table, &trace, progress) {
+        Ok(facts) => facts,
+        Err(ReplayFault::Step { index, fault }) => return Err(ShowFault::Step { index, fault }),
+        Err(ReplayFault::Memory) => return Err(ShowFault::Memory),
+    };
+    match picture_of(alloc, &facts, window.0, window.1) {
+        Ok(picture) => Ok(picture),
+        Err(_) => Err(ShowFault::Memory),
     }
 }

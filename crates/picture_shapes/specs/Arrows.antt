@@ -1,13 +1,12 @@
--- The arrows of a picture: the line of each request that goes to its groups within the window, the way of each reply of a
--- layer that is settled in it, and the line of each packet that is under way in it, each once.
+-- The arrows of a picture: the line of each request that goes to its groups within the window, the way of each reply that
+-- goes to its connection in it, and the line of each packet that is under way in it, each once.
 use Rattle.std.specs.Prelude.{ℕ, ◌+◌, ◌||◌, not, nat_le, cond, List, [], ◌∷◌, ◌++◌, codes, Option, Some, None}
 use Rattle.std.specs.List.{flat_map}
 use Rattle.picture_shapes.specs.Frames.{is_at, is_past, row_of, shows, strip_of, x_of}
 use Rattle.picture_shapes.specs.Shapes.{ShapeView, coloured, line_form}
 use Rattle.picture_shapes.specs.Ways.{packet_title, way_of}
-use Rattle.picture_shapes.specs.declared.facts.JobFacts.{JobFacts}
-use Rattle.picture_shapes.specs.declared.facts.LayerFacts.{LayerFacts}
 use Rattle.picture_shapes.specs.declared.facts.PacketFacts.{PacketFacts}
+use Rattle.picture_shapes.specs.declared.facts.ReplyFacts.{ReplyFacts}
 use Rattle.picture_shapes.specs.declared.facts.RequestFacts.{RequestFacts}
 use Rattle.picture_shapes.specs.declared.facts.RunFacts.{RunFacts}
 use Rattle.picture_shapes.specs.declared.frame.Frame.{Frame}
@@ -29,20 +28,13 @@ drops_of f r =
 -- ---- replies
 
 -- from the strip of layers up to the row of its connection, if that is drawn
-abbrev pub reply_to : Frame → ℕ → JobFacts → Option ℕ → List ShapeView
-reply_to f x job None = []
-reply_to f x job (Some row) = coloured (codes "back") job.asked.number (line_form x (strip_of f) x (row + 31)) [] ∷ []
+abbrev pub back_to : Frame → ReplyFacts → Option ℕ → List ShapeView
+back_to f r None = []
+back_to f r (Some row) =
+    coloured (codes "back") r.asked.number (line_form (x_of f r.step) (strip_of f) (x_of f r.step) (row + 31)) [] ∷ []
 
--- a connection that was closed before gets none
-abbrev pub reply_way : Frame → ℕ → JobFacts → List ShapeView
-reply_way f x job = cond job.dropped [] (reply_to f x job (row_of f job.asked.id.conn.0))
-
-abbrev pub backs_at : Frame → List JobFacts → Option ℕ → List ShapeView
-backs_at f jobs None = []
-backs_at f jobs (Some step) = cond (shows f step) (flat_map (reply_way f (x_of f step)) jobs) []
-
-abbrev pub backs_of : Frame → LayerFacts → List ShapeView
-backs_of f layer = backs_at f layer.jobs.items layer.settle
+abbrev pub backs_of : Frame → ReplyFacts → List ShapeView
+backs_of f r = cond (shows f r.step) (back_to f r (row_of f r.asked.id.conn.0)) []
 
 -- ---- packets
 
@@ -56,4 +48,4 @@ lines_of f p =
 
 abbrev pub arrows_of : Frame → RunFacts → List ShapeView
 arrows_of f run =
-    flat_map (drops_of f) run.requests.items ++ flat_map (backs_of f) run.layers.items ++ flat_map (lines_of f) run.packets.items
+    flat_map (drops_of f) run.requests.items ++ flat_map (backs_of f) run.replies.items ++ flat_map (lines_of f) run.packets.items

@@ -53,6 +53,9 @@ row_of f conn = cond (conn == 0) None (row_at (slice_get f.rows.items (conn - 1)
 abbrev pub strip_of : Frame → ℕ
 strip_of f = f.gate + 12
 
--- the line of a group
+-- the lane of a group, and the line in it
+abbrev pub top_of : Frame → ℕ → ℕ
+top_of f group = f.gate + 34 + 118 * group
+
 abbrev pub line_of : Frame → ℕ → ℕ
-line_of f group = f.gate + 34 + 118 * group + 44
+line_of f group = top_of f group + 44

@@ -3,4 +3,6 @@ pub mod Shapes
 pub mod Frames
 pub mod Ways
 pub mod Arrows
-pub mod Svg
+pub mod Bands
+pub mod Marks
+pub mod Drawn

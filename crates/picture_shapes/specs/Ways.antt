@@ -1,6 +1,7 @@
 -- The way of a packet: from where it is sent to its group, or to the right edge.
 use Rattle.std.specs.Prelude.{ℕ, ◌+◌, ◌-◌, ◌&&◌, ◌||◌, not, nat_lt, cond, Bool, true}
-use Rattle.std.specs.Prelude.{false, List, [], ◌∷◌, ◌++◌, codes, decimal, Option, Some, None, is_none}
+use Rattle.std.specs.Prelude.{false, List, [], ◌∷◌, codes, decimal, Option, Some, None, is_none}
+use Rattle.std.specs.List.{concat}
 use Rattle.groups.specs.declared.stamp.Stamp.{Stamp}
 use Rattle.picture_shapes.specs.Frames.{line_of, shows_some, x_of, x_or_end}
 use Rattle.picture_shapes.specs.Labels.{id_label, stamp_label}
@@ -40,10 +41,10 @@ coming f p =
     (Some (record { x = x_or_end f p.received; y = cond (is_from_above p) (line_of f p.to - 18) (line_of f p.to + 18) })) None
 
 abbrev pub path_through : Point → Option Point → Option Point → Point → Path
-path_through first None None last = Two (first ∷ last ∷ [])
-path_through first (Some second) None last = Three (first ∷ second ∷ last ∷ [])
-path_through first None (Some third) last = Three (first ∷ third ∷ last ∷ [])
-path_through first (Some second) (Some third) last = Four (first ∷ second ∷ third ∷ last ∷ [])
+path_through first None None last = Two first last
+path_through first (Some second) None last = Three first second last
+path_through first None (Some third) last = Three first third last
+path_through first (Some second) (Some third) last = Four first second third last
 
 -- from the step at which it is sent, or the left edge, to that at which it is received, or the right edge
 abbrev pub way_of : Frame → PacketFacts → Path
@@ -54,21 +55,19 @@ way_of f p =
 -- ---- its words
 
 abbrev pub carried_by : Option ℕ → PacketFacts → List ℕ
-carried_by None p = codes "Start of " ++ id_label p.asked.id ++ codes ", floor " ++ decimal p.clock ++ codes ","
+carried_by None p = concat (codes "Start of " ∷ id_label p.asked.id ∷ codes ", floor " ∷ decimal p.clock ∷ codes "," ∷ [])
 carried_by (Some group) p =
-    codes "proposal " ++ stamp_label (record { clock = p.clock; group = group }) ++ codes " for " ++ id_label p.asked.id
+    concat (codes "proposal " ∷ stamp_label (record { clock = p.clock; group = group }) ∷ codes " for " ∷ id_label p.asked.id ∷ [])
 
 -- what it carries
 abbrev pub carried : PacketFacts → List ℕ
 carried p = carried_by p.from p
 
 abbrev pub receipt_said : Option ℕ → List ℕ
-receipt_said None = codes ", under way"
-receipt_said (Some step) = codes ", received at step " ++ decimal step
-
-unfoldable pub sending_said : ℕ → ℕ → List ℕ
-sending_said to sent = codes " to group " ++ decimal to ++ codes ", sent at step " ++ decimal sent
+receipt_said None = concat (codes ", under way" ∷ [])
+receipt_said (Some step) = concat (codes ", received at step " ∷ decimal step ∷ [])
 
 -- what is said of it
-unfoldable pub packet_title : PacketFacts → List ℕ
-packet_title p = carried p ++ sending_said p.to p.sent ++ receipt_said p.received
+abbrev pub packet_title : PacketFacts → List ℕ
+packet_title p =
+    concat (carried p ∷ codes " to group " ∷ decimal p.to ∷ codes ", sent at step " ∷ decimal p.sent ∷ receipt_said p.received ∷ [])

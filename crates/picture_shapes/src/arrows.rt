@@ -2,12 +2,14 @@
 
 ghost use Rattle.std.specs.Prelude.{◌≡◌, ◌++◌, OnOk, IfOk};
 ghost use Rattle.std.specs.List.{flat_map};
-ghost use Rattle.picture_shapes.specs.Arrows.{arrows_of, backs_of, drops_of, lines_of, reply_way};
+ghost use Rattle.picture_shapes.specs.Arrows.{arrows_of, backs_of, drops_of, lines_of};
 
-use crate::facts::{JobFacts, LayerFacts, PacketFacts, RequestFacts, RunFacts};
+use crate::facts::{PacketFacts, ReplyFacts, RequestFacts, RunFacts};
 use crate::frame::Frame;
-use crate::shape::{Form, Look, Shape, line};
-use crate::ways::{packet_title, way_of};
+use crate::label::Piece;
+use crate::shape::{Form, Look, Shape, line, put_shape};
+use crate::titles::packet_title;
+use crate::ways::way_of;
 use std::alloc::{AllocError, Global};
 
 /// The arrows of a run within a frame.
@@ -19,15 +21,14 @@ pub(super) fn arrows_of(
     ensures { IfOk result (λ arrows. arrows.items ≡ arrows_of frame.now run.now) }
 {
     let mut arrows = Vec::new(alloc);
-    put_drops(alloc, run.requests.as_slice(), frame, &mut arrows)?;
-    put_backs(alloc, run.layers.as_slice(), frame, &mut arrows)?;
+    put_drops(run.requests.as_slice(), frame, &mut arrows)?;
+    put_backs(run.replies.as_slice(), frame, &mut arrows)?;
     put_lines(alloc, run.packets.as_slice(), frame, &mut arrows)?;
     Ok(arrows)
 }
 
 /// Appends the lines from the requests to their groups.
 fn put_drops(
-    alloc: Global,
     requests: &[RequestFacts],
     frame: &Frame,
     arrows: &mut Vec<Shape>,
@@ -35,14 +36,13 @@ fn put_drops(
     ensures { OnOk result (arrows.new.items ≡ arrows.old.items ++ flat_map (drops_of frame.now) requests.now) }
 {
     for request in requests {
-        put_drop(alloc, request, frame, arrows)?;
+        put_drop(request, frame, arrows)?;
     }
     Ok(())
 }
 
 /// Appends the line from a connection to its groups, where the request goes to any within the window.
 fn put_drop(
-    alloc: Global,
     request: &RequestFacts,
     frame: &Frame,
     arrows: &mut Vec<Shape>,
@@ -56,87 +56,37 @@ fn put_drop(
         return Ok(());
     }
     let x = frame.x(request.submit);
-    let words = Vec::new(alloc);
-    arrows.push(Shape::new(
-        Look::of("drop", request.asked.number),
-        line(x, row + 24, x, frame.gate()),
-        words,
-    ))?;
-    Ok(())
+    let look = Look::of("drop", request.asked.number);
+    put_shape(arrows, look, line(x, row + 24, x, frame.gate()), &[])
 }
 
-/// Appends the ways of the replies of these layers.
+/// Appends the ways of the replies.
 fn put_backs(
-    alloc: Global,
-    layers: &[LayerFacts],
+    replies: &[ReplyFacts],
     frame: &Frame,
     arrows: &mut Vec<Shape>,
 ) -> Result<(), AllocError>
-    ensures { OnOk result (arrows.new.items ≡ arrows.old.items ++ flat_map (backs_of frame.now) layers.now) }
+    ensures { OnOk result (arrows.new.items ≡ arrows.old.items ++ flat_map (backs_of frame.now) replies.now) }
 {
-    for layer in layers {
-        put_backs_of(alloc, layer, frame, arrows)?;
+    for reply in replies {
+        put_back(reply, frame, arrows)?;
     }
     Ok(())
 }
 
-/// Appends the ways of the replies of a layer that is settled within the window.
-fn put_backs_of(
-    alloc: Global,
-    layer: &LayerFacts,
-    frame: &Frame,
-    arrows: &mut Vec<Shape>,
-) -> Result<(), AllocError>
-    ensures { OnOk result (arrows.new.items ≡ arrows.old.items ++ backs_of frame.now layer.now) }
+/// Appends the way of a reply from its layer to its connection, where it goes there within the window.
+fn put_back(reply: &ReplyFacts, frame: &Frame, arrows: &mut Vec<Shape>) -> Result<(), AllocError>
+    ensures { OnOk result (arrows.new.items ≡ arrows.old.items ++ backs_of frame.now reply.now) }
 {
-    let Some(settle) = layer.settle else {
+    let Some(row) = frame.row(reply.asked.id.conn) else {
         return Ok(());
     };
-    if !frame.shows(settle) {
+    if !frame.shows(reply.step) {
         return Ok(());
     }
-    put_backs_at(alloc, layer.jobs.as_slice(), frame.x(settle), frame, arrows)
-}
-
-/// Appends the ways of the replies of these requests, at this place.
-fn put_backs_at(
-    alloc: Global,
-    jobs: &[JobFacts],
-    x: u64,
-    frame: &Frame,
-    arrows: &mut Vec<Shape>,
-) -> Result<(), AllocError>
-    ensures { OnOk result (arrows.new.items ≡ arrows.old.items ++ flat_map (reply_way frame.now x) jobs.now) }
-{
-    for job in jobs {
-        put_reply_way(alloc, job, x, frame, arrows)?;
-    }
-    Ok(())
-}
-
-/// Appends the way of a reply from its layer to its connection, unless that was closed before.
-fn put_reply_way(
-    alloc: Global,
-    job: &JobFacts,
-    x: u64,
-    frame: &Frame,
-    arrows: &mut Vec<Shape>,
-) -> Result<(), AllocError>
-    ensures { OnOk result (arrows.new.items ≡ arrows.old.items ++ reply_way frame.now x job.now) }
-{
-    let Some(row) = frame.row(job.asked.id.conn) else {
-        return Ok(());
-    };
-    if job.dropped {
-        return Ok(());
-    }
-    let words = Vec::new(alloc);
-    arrows.push(Shape::new(
-        Look::of("back", job.asked.number),
-        line(x, frame.strip(), x, row + 31),
-        words,
-    ))?;
-    Ok(())
+    let x = frame.x(reply.step);
+    let look = Look::of("back", reply.asked.number);
+    put_shape(arrows, look, line(x, frame.strip(), x, row + 31), &[])
 }
 
 /// Appends the lines of the packets that are under way within the window.
@@ -166,11 +116,8 @@ fn put_line(
     if packet.sent >= frame.to() || frame.is_past(packet.received) {
         return Ok(());
     }
-    let words = packet_title(alloc, packet)?;
-    arrows.push(Shape::new(
-        Look::of("packet", packet.asked.number),
-        Form::Line(way_of(packet, frame)),
-        words,
-    ))?;
-    Ok(())
+    let title = packet_title(alloc, packet)?;
+    let look = Look::of("packet", packet.asked.number);
+    let form = Form::Line(way_of(packet, frame));
+    put_shape(arrows, look, form, &[Piece::Text(title.as_slice())])
 }

@@ -6,14 +6,14 @@ ghost use Rattle.picture_shapes.specs.Frames.{is_at};
 use groups::{GroupId, Groups, RequestId, Stamp};
 
 /// A request, and how many Submits stand before its own in the run.
-#[derive(Clone, Copy, Debug)]
+#[derive(Clone, Copy)]
 pub struct Asked {
     pub id: RequestId,
     pub number: usize,
 }
 
 /// The word of a step.
-#[derive(Clone, Copy, Debug)]
+#[derive(Clone, Copy)]
 pub enum StepWord {
     Open,
     Submit,
@@ -27,7 +27,7 @@ pub enum StepWord {
 }
 
 /// A connection: the steps at which it was opened and closed.
-#[derive(Clone, Copy, Debug)]
+#[derive(Clone, Copy)]
 pub struct ConnectionFacts {
     pub opened: usize,
     pub closed: Option<usize>,
@@ -68,7 +68,7 @@ impl RequestFacts {
 }
 
 /// A packet: a Start where it comes from no group, and else a proposal of that group.
-#[derive(Clone, Copy, Debug)]
+#[derive(Clone, Copy)]
 pub struct PacketFacts {
     pub asked: Asked,
     pub from: Option<GroupId>,
@@ -79,40 +79,52 @@ pub struct PacketFacts {
     pub received: Option<usize>,
 }
 
-/// A request that a group delivered, with its final stamp.
-#[derive(Clone, Copy, Debug)]
-pub struct DeliveryFacts {
-    pub asked: Asked,
-    pub stamp: Stamp,
-}
-
-/// A packet that came to its group: the group's clock after it, whether that rose, and what the group delivered then.
-#[derive(Drop)]
+/// A packet that came to its group: the group's clock after it, and whether that rose.
+#[derive(Clone, Copy)]
 pub struct ReceiptFacts {
     pub step: usize,
     pub packet: PacketFacts,
     pub clock: u64,
     pub rose: bool,
-    pub delivered: Vec<DeliveryFacts>,
+}
+
+/// A request that a group delivered, with its final stamp: the step, and its place among what the group delivered then.
+#[derive(Clone, Copy)]
+pub struct DeliveryFacts {
+    pub step: usize,
+    pub group: GroupId,
+    pub asked: Asked,
+    pub stamp: Stamp,
+    pub place: u32,
+    /// The place of the last of these.
+    pub last: u32,
 }
 
 /// A request of a layer.
-#[derive(Clone, Copy, Debug)]
+#[derive(Clone, Copy)]
 pub struct JobFacts {
     pub asked: Asked,
     pub stamp: Stamp,
     pub groups: Groups,
     pub starved: bool,
-    /// Its connection was closed before the Settle, which dropped its reply.
-    pub dropped: bool,
 }
 
-/// A layer: the steps at which it was taken, run and settled, and its requests.
+/// A reply that went to its connection: the step at which its layer was settled, and its request.
+#[derive(Clone, Copy)]
+pub struct ReplyFacts {
+    pub step: usize,
+    pub asked: Asked,
+}
+
+/// A layer, counted from 1: the steps at which it was taken, run and settled, its requests, and the groups that they
+/// address.
 #[derive(Drop)]
 pub struct LayerFacts {
+    pub number: usize,
     pub take: usize,
     pub run: Option<usize>,
     pub settle: Option<usize>,
+    pub groups: Groups,
     pub jobs: Vec<JobFacts>,
 }
 
@@ -125,5 +137,7 @@ pub struct RunFacts {
     pub requests: Vec<RequestFacts>,
     pub packets: Vec<PacketFacts>,
     pub receipts: Vec<ReceiptFacts>,
+    pub deliveries: Vec<DeliveryFacts>,
     pub layers: Vec<LayerFacts>,
+    pub replies: Vec<ReplyFacts>,
 }

@@ -36,6 +36,7 @@ pub(super) struct Frame {
     end: u64,
     width: u64,
     rows: Vec<Option<u32>>,
+    shown: u32,
     gate: u64,
     ghost steps: { to ≤ from + 2 ^ 32 },
     ghost pitch_least: { 14 ≤ pitch },
@@ -57,7 +58,7 @@ fn pitch_of(count: u64) -> u64
 }
 
 impl Frame {
-    ghost use Rattle.picture_shapes.specs.Frames.{IsWindow, is_past, line_of, row_of, shows, shows_some, strip_of, x_of, x_or_end};
+    ghost use Rattle.picture_shapes.specs.Frames.{IsWindow, is_past, line_of, row_of, shows, shows_some, strip_of, top_of, x_of, x_or_end};
 
     /// The frame of the steps from the first to before the last of these, as far as the run has them.
     pub(super) fn new(
@@ -85,6 +86,7 @@ impl Frame {
             end,
             width: (end + margin).max(LEAST),
             rows,
+            shown,
             gate: TOP + ROW * u64::from(shown) + 6,
         })
     }
@@ -138,6 +140,11 @@ impl Frame {
             Some(step) => step < self.from,
             None => false,
         }
+    }
+
+    /// Whether what happens at this step, if ever, is behind the window.
+    pub(super) fn is_behind(&self, step: Option<usize>) -> bool {
+        is_from(step, self.to)
     }
 
     /// Where a step is. One before the window is at its left edge, one behind it at its right edge.
@@ -197,13 +204,7 @@ impl Frame {
 
     /// How many connections are shown.
     pub(super) fn shown(&self) -> u64 {
-        let mut shown: u64 = 0;
-        for row in &self.rows {
-            if row.is_some() {
-                shown = shown.saturating_add(1);
-            }
-        }
-        shown
+        u64::from(self.shown)
     }
 
     /// Where the connection is drawn, if it is.
@@ -238,7 +239,7 @@ impl Frame {
 
     /// Where the lane of a group is.
     pub(super) fn top(&self, group: GroupId) -> u64
-        ensures value { result ≡ self.now.gate + 34 + 118 * group }
+        ensures value { result ≡ top_of self.now group }
         ensures least { 136 ≤ result }
         ensures most { result < 2 ^ 38 + 2 ^ 16 }
     {
@@ -256,7 +257,7 @@ impl Frame {
 
     /// Where what is below so many groups begins.
     pub(super) fn below(&self, groups: u8) -> u64
-        ensures value { result ≡ self.now.gate + 34 + 118 * groups }
+        ensures value { result ≡ top_of self.now groups }
         ensures least { 136 ≤ result }
         ensures most { result < 2 ^ 38 + 2 ^ 16 }
     {

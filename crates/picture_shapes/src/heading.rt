@@ -1,103 +1,94 @@
 //! What a picture says in words: its heading, what there is how often, and the order of execution.
 
-use crate::drawing::Picture;
+use crate::canvas::Canvas;
 use crate::facts::{JobFacts, LayerFacts, RunFacts};
 use crate::frame::Frame;
-use crate::label::{ELLIPSIS, MIDDLE_DOT, put_count, put_id, put_many, put_number, put_stamp};
+use crate::label::{ELLIPSIS, MIDDLE_DOT, Piece, put_pieces, text};
 use crate::shape::Look;
 use std::alloc::{AllocError, Global};
 
 /// How many executed requests the description names.
 const NAMED: u64 = 20;
 
-/// How often there is what within the window.
-#[derive(Clone, Copy)]
-struct Counts {
-    groups: u64,
-    connections: u64,
-    requests: u64,
-    executed: u64,
-    starved: u64,
-    packets: u64,
-    waiting: u64,
-    layers: u64,
-}
+/// Something, and how often it is there within the window.
+type Count = (&'static [u8], u64);
 
-/// The heading, the counts, and the description.
+/// Writes the heading and the counts, and answers the description: both, and the order of execution.
 pub(super) fn draw_heading(
     alloc: Global,
     run: &RunFacts,
     frame: &Frame,
-    picture: &mut Picture,
-) -> Result<(), AllocError> {
-    let heading = heading_of(alloc, run, frame)?;
+    canvas: &mut Canvas,
+) -> Result<Vec<u8>, AllocError> {
     let counts = counts_of(run, frame);
-    let mut description = heading.clone()?;
-    picture.write(Look::plain("title"), 12, 28, heading)?;
-    let mut listed = Vec::new(alloc);
-    put_counts(&counts, &[b' ', MIDDLE_DOT, b' '], &mut listed)?;
-    picture.write(Look::plain("sub"), 12, 48, listed)?;
+    let heading = heading_of(alloc, run.steps.len(), frame)?;
+    let listed = listed(alloc, &counts, &[b' ', MIDDLE_DOT, b' '])?;
+    let title = [Piece::Text(heading.as_slice())];
+    let sub = [Piece::Text(listed.as_slice())];
+    canvas.write(Look::plain("title"), 12, 28, &title);
+    canvas.write(Look::plain("sub"), 12, 48, &sub);
+    let mut description = heading;
     description.extend_from_slice(b": ")?;
-    put_counts(&counts, b", ", &mut description)?;
+    description.extend_from_slice(self::listed(alloc, &counts, b", ")?.as_slice())?;
     description.extend_from_slice(b". Executed in this order: ")?;
-    put_order(
-        run.layers.as_slice(),
-        frame,
-        counts.executed,
-        &mut description,
-    )?;
+    put_order(run.layers.as_slice(), frame, &mut description)?;
     description.extend_from_slice(b".")?;
-    picture.description = description;
-    Ok(())
+    Ok(description)
 }
 
-/// Which steps the picture shows.
-fn heading_of(alloc: Global, run: &RunFacts, frame: &Frame) -> Result<Vec<u8>, AllocError> {
-    let all = run.steps.len();
-    let (from, to) = (frame.from(), frame.to());
-    let mut heading = Vec::new(alloc);
+/// Which of so many steps the picture shows.
+fn heading_of(alloc: Global, all: usize, frame: &Frame) -> Result<Vec<u8>, AllocError> {
+    let (from, to, count) = (frame.from(), frame.to(), Piece::Number(all as u64));
     if from == 0 && to == all {
-        heading.extend_from_slice(b"A run of ")?;
-        put_many(all as u64, b"step", &mut heading)?;
+        let name: &[u8] = if all == 1 { b" step" } else { b" steps" };
+        text(
+            alloc,
+            &[Piece::Text(b"A run of "), count, Piece::Text(name)],
+        )
     } else if from < to {
-        heading.extend_from_slice(b"Steps ")?;
-        put_number(from as u64, &mut heading)?;
-        heading.extend_from_slice(b" to ")?;
-        put_number((to - 1) as u64, &mut heading)?;
-        heading.extend_from_slice(b" of ")?;
-        put_count(all as u64, &mut heading)?;
+        let (first, last) = (Piece::Number(from as u64), Piece::Number((to - 1) as u64));
+        text(
+            alloc,
+            &[
+                Piece::Text(b"Steps "),
+                first,
+                Piece::Text(b" to "),
+                last,
+                Piece::Text(b" of "),
+                count,
+            ],
+        )
     } else {
-        heading.extend_from_slice(b"No step of ")?;
-        put_count(all as u64, &mut heading)?;
+        text(alloc, &[Piece::Text(b"No step of "), count])
     }
-    Ok(heading)
 }
 
 /// What there is how often.
-fn counts_of(run: &RunFacts, frame: &Frame) -> Counts {
-    let mut counts = Counts {
-        groups: u64::from(run.groups),
-        connections: frame.shown(),
-        requests: 0,
-        executed: 0,
-        starved: 0,
-        packets: 0,
-        waiting: frame.waiting(),
-        layers: 0,
-    };
+fn counts_of(run: &RunFacts, frame: &Frame) -> [Count; 8] {
+    let (mut requests, mut packets, mut layers) = (0, 0, 0);
+    let (mut executed, mut starved) = (0, 0);
     for request in &run.requests {
-        add_where(frame.shows(request.submit), &mut counts.requests);
+        add_where(frame.shows(request.submit), &mut requests);
     }
     for packet in &run.packets {
-        add_where(frame.shows(packet.sent), &mut counts.packets);
+        add_where(frame.shows(packet.sent), &mut packets);
     }
     for layer in &run.layers {
-        add_where(frame.shows(layer.take), &mut counts.layers);
+        add_where(frame.shows(layer.take), &mut layers);
         if frame.shows_some(layer.run) {
-            count_jobs(layer.jobs.as_slice(), &mut counts);
+            count_jobs(layer.jobs.as_slice(), &mut executed, &mut starved);
         }
     }
-    counts
+    [
+        (b"groups", u64::from(run.groups)),
+        (b"connections", frame.shown()),
+        (b"requests", requests),
+        (b"executed", executed),
+        (b"starved", starved),
+        (b"packets", packets),
+        (b"under way", frame.waiting()),
+        (b"layers", layers),
+    ]
 }
 
 /// Counts one more where it is one.
@@ -108,73 +99,58 @@ fn add_where(is_one: bool, count: &mut u64) {
 }
 
 /// Counts the requests of a layer that was run.
-fn count_jobs(jobs: &[JobFacts], counts: &mut Counts) {
+fn count_jobs(jobs: &[JobFacts], executed: &mut u64, starved: &mut u64) {
     for job in jobs {
-        add_where(!job.starved, &mut counts.executed);
-        add_where(job.starved, &mut counts.starved);
+        add_where(!job.starved, executed);
+        add_where(job.starved, starved);
     }
 }
 
-/// Appends the counts, with this between them.
-fn put_counts(counts: &Counts, between: &[u8], out: &mut Vec<u8>) -> Result<(), AllocError> {
-    put_many(counts.groups, b"group", out)?;
-    out.extend_from_slice(between)?;
-    put_many(counts.connections, b"connection", out)?;
-    out.extend_from_slice(between)?;
-    put_many(counts.requests, b"request", out)?;
-    out.extend_from_slice(between)?;
-    put_count(counts.executed, out)?;
-    out.extend_from_slice(b" executed")?;
-    out.extend_from_slice(between)?;
-    put_count(counts.starved, out)?;
-    out.extend_from_slice(b" starved")?;
-    out.extend_from_slice(between)?;
-    put_many(counts.packets, b"packet", out)?;
-    out.extend_from_slice(between)?;
-    put_count(counts.waiting, out)?;
-    out.extend_from_slice(b" under way")?;
-    out.extend_from_slice(between)?;
-    put_many(counts.layers, b"layer", out)
+/// The counts, with this between them.
+fn listed(alloc: Global, counts: &[Count], between: &[u8]) -> Result<Vec<u8>, AllocError> {
+    let mut listed = Vec::new(alloc);
+    let mut before: &[u8] = b"";
+    for (name, count) in counts {
+        let pieces = [
+            Piece::Text(before),
+            Piece::Text(name),
+            Piece::Text(b" "),
+            Piece::Number(*count),
+        ];
+        put_pieces(&pieces, &mut listed)?;
+        before = between;
+    }
+    Ok(listed)
 }
 
 /// Appends the first executed requests with their stamps.
-fn put_order(
-    layers: &[LayerFacts],
-    frame: &Frame,
-    executed: u64,
-    out: &mut Vec<u8>,
-) -> Result<(), AllocError> {
-    if executed == 0 {
-        return out.extend_from_slice(b"none");
-    }
+fn put_order(layers: &[LayerFacts], frame: &Frame, out: &mut Vec<u8>) -> Result<(), AllocError> {
     let mut named = 0;
     for layer in layers {
         if frame.shows_some(layer.run) {
             put_jobs(layer.jobs.as_slice(), &mut named, out)?;
         }
-        if named >= NAMED {
-            break;
-        }
     }
-    if executed > NAMED {
-        out.extend_from_slice(&[b' ', ELLIPSIS])?;
+    if named == 0 {
+        out.extend_from_slice(b"none")?;
     }
     Ok(())
 }
 
-/// Appends the executed requests of a layer, as far as they are among the first ones.
+/// Appends the executed requests of a layer, as far as they are among the first ones, and an ellipsis behind those.
 fn put_jobs(jobs: &[JobFacts], named: &mut u64, out: &mut Vec<u8>) -> Result<(), AllocError> {
     for job in jobs {
-        if job.starved || *named >= NAMED {
+        if job.starved || *named > NAMED {
             continue;
         }
-        if *named > 0 {
-            out.extend_from_slice(b", ")?;
+        let between: &[u8] = if *named > 0 { b", " } else { b"" };
+        if *named == NAMED {
+            put_pieces(&[Piece::Text(between), Piece::Text(&[ELLIPSIS])], out)?;
+        } else {
+            let (id, stamp) = (Piece::Id(job.asked.id), Piece::Stamp(job.stamp));
+            put_pieces(&[Piece::Text(between), id, Piece::Text(b" "), stamp], out)?;
         }
-        put_id(job.asked.id, out)?;
-        out.extend_from_slice(b" ")?;
-        put_stamp(job.stamp, out)?;
-        *named += 1;
+        *named = named.saturating_add(1);
     }
     Ok(())
 }

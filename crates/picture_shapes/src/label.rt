@@ -1,7 +1,7 @@
 //! Labels: a character a byte. Printable ASCII stands for itself, and three bytes beyond it for signs.
 
 ghost use Rattle.std.specs.Prelude.{◌≡◌, ◌++◌, OnOk, IfOk, decimal};
-ghost use Rattle.picture_shapes.specs.Labels.{cut_label, id_label, stamp_label};
+ghost use Rattle.picture_shapes.specs.Labels.{piece_text, text_of, cut_label};
 
 use groups::{RequestId, Stamp};
 use itoa::Buffer;
@@ -11,96 +11,69 @@ use std::alloc::{AllocError, Global};
 pub const ELLIPSIS: u8 = 0x80;
 
 /// The byte that stands for a dot at middle height.
-pub(super) const MIDDLE_DOT: u8 = 0x81;
+pub const MIDDLE_DOT: u8 = 0x81;
 
 /// The byte that stands for an arrow to the right.
-pub(super) const ARROW: u8 = 0x82;
+pub const ARROW: u8 = 0x82;
+
+/// A piece of a text.
+#[derive(Clone, Copy)]
+pub enum Piece<'a> {
+    Text(&'a [u8]),
+    /// In decimal digits.
+    Number(u64),
+    /// A connection and the number of a request there, with a dot between them.
+    Id(RequestId),
+    /// A clock and a group, in parentheses.
+    Stamp(Stamp),
+}
+
+/// Appends the text of these pieces. With `AllocError` a part of it may stand there.
+pub fn put_pieces(pieces: &[Piece<'_>], out: &mut Vec<u8>) -> Result<(), AllocError>
+    ensures { OnOk result (out.new.items ≡ out.old.items ++ text_of pieces.now) }
+{
+    for piece in pieces {
+        put_piece(piece, out)?;
+    }
+    Ok(())
+}
+
+/// Appends the text of a piece.
+fn put_piece(piece: &Piece<'_>, out: &mut Vec<u8>) -> Result<(), AllocError>
+    ensures { OnOk result (out.new.items ≡ out.old.items ++ piece_text piece.now) }
+{
+    match piece {
+        Piece::Text(bytes) => out.extend_from_slice(bytes),
+        Piece::Number(number) => put_number(*number, out),
+        Piece::Id(id) => {
+            put_number(id.conn.0, out)?;
+            out.push(b'.')?;
+            put_number(id.seq, out)
+        }
+        Piece::Stamp(stamp) => {
+            out.push(b'(')?;
+            put_number(stamp.clock, out)?;
+            out.push(b',')?;
+            put_number(u64::from(stamp.group.number()), out)?;
+            out.extend_from_slice(b")")
+        }
+    }
+}
 
 /// Appends a number in decimal digits.
-pub(super) fn put_number(number: u64, out: &mut Vec<u8>) -> Result<(), AllocError>
+fn put_number(number: u64, out: &mut Vec<u8>) -> Result<(), AllocError>
     ensures { OnOk result (out.new.items ≡ out.old.items ++ decimal number) }
 {
     out.extend_from_slice(Buffer::new().format(number).as_bytes())
 }
 
-/// Appends a request's id: its connection and its number there, with a dot between them.
-pub(super) fn put_id(id: RequestId, out: &mut Vec<u8>) -> Result<(), AllocError>
-    ensures { OnOk result (out.new.items ≡ out.old.items ++ id_label id) }
+/// The text of these pieces.
+pub(super) fn text(alloc: Global, pieces: &[Piece<'_>]) -> Result<Vec<u8>, AllocError>
+    ensures { IfOk result (λ text. text.items ≡ text_of pieces.now) }
 {
-    put_number(id.conn.0, out)?;
-    out.extend_from_slice(b".")?;
-    put_number(id.seq, out)
-}
-
-/// Appends a stamp: its clock and its group, in parentheses.
-pub(super) fn put_stamp(stamp: Stamp, out: &mut Vec<u8>) -> Result<(), AllocError>
-    ensures { OnOk result (out.new.items ≡ out.old.items ++ stamp_label stamp) }
-{
-    out.extend_from_slice(b"(")?;
-    put_number(stamp.clock, out)?;
-    out.extend_from_slice(b",")?;
-    put_number(u64::from(stamp.group.number()), out)?;
-    out.extend_from_slice(b")")
-}
-
-/// Appends a number in decimal digits, with a comma before each three of them.
-pub(super) fn put_count(count: u64, out: &mut Vec<u8>) -> Result<(), AllocError> {
-    let mut buffer = Buffer::new();
-    let digits = buffer.format(count).as_bytes();
-    for (place, digit) in digits.iter().enumerate() {
-        if place > 0 && (digits.len() - place) % 3 == 0 {
-            out.push(b',')?;
-        }
-        out.push(*digit)?;
-    }
-    Ok(())
-}
-
-/// Appends how many there are of what has this name, with an s where there isn't one.
-pub(super) fn put_many(count: u64, name: &[u8], out: &mut Vec<u8>) -> Result<(), AllocError> {
-    put_count(count, out)?;
-    out.extend_from_slice(b" ")?;
-    out.extend_from_slice(name)?;
-    if count != 1 {
-        out.extend_from_slice(b"s")?;
-    }
-    Ok(())
-}
-
-/// The label of a number.
-pub(super) fn number_label(alloc: Global, number: u64) -> Result<Vec<u8>, AllocError>
-    ensures { IfOk result (λ label. label.items ≡ decimal number) }
-{
-    let mut label = Vec::new(alloc);
-    put_number(number, &mut label)?;
-    Ok(label)
-}
-
-/// The label of a request's id.
-pub(super) fn id_label(alloc: Global, id: RequestId) -> Result<Vec<u8>, AllocError>
-    ensures { IfOk result (λ label. label.items ≡ id_label id) }
-{
-    let mut label = Vec::new(alloc);
-    put_id(id, &mut label)?;
-    Ok(label)
-}
-
-/// The label of a stamp.
-pub(super) fn stamp_label(alloc: Global, stamp: Stamp) -> Result<Vec<u8>, AllocError>
-    ensures { IfOk result (λ label. label.items ≡ stamp_label stamp) }
-{
-    let mut label = Vec::new(alloc);
-    put_stamp(stamp, &mut label)?;
-    Ok(label)
-}
-
-/// The label of a name and a number behind it.
-pub(super) fn numbered(alloc: Global, name: &[u8], number: u64) -> Result<Vec<u8>, AllocError>
-    ensures { IfOk result (λ label. label.items ≡ name.now ++ decimal number) }
-{
-    let mut label = name.to_vec(alloc)?;
-    put_number(number, &mut label)?;
-    Ok(label)
+    let mut text = Vec::new(alloc);
+    put_pieces(pieces, &mut text)?;
+    Ok(text)
 }
 
 /// Cuts the label to this many characters: what is cut ends with an ellipsis, and one character is no label.
@@ -117,25 +90,4 @@ pub fn cut(label: &mut Vec<u8>, room: usize) -> Result<(), AllocError>
     label.truncate(room - 1);
     label.push(ELLIPSIS)?;
     Ok(())
-}
-
-/// The first label, and the rest behind a space, in this many characters. The first is never cut: it stands alone where
-/// there is no room for two more characters, or not at all.
-pub(super) fn cut_after(
-    alloc: Global,
-    first: &[u8],
-    rest: &[u8],
-    room: usize,
-) -> Result<Vec<u8>, AllocError> {
-    if first.len() > room {
-        return Ok(Vec::new(alloc));
-    }
-    let mut label = first.to_vec(alloc)?;
-    if rest.is_empty() || room - first.len() < 3 {
-        return Ok(label);
-    }
-    label.extend_from_slice(b" ")?;
-    label.extend_from_slice(rest)?;
-    cut(&mut label, room)?;
-    Ok(label)
 }

@@ -2,49 +2,38 @@
 
 ghost use Rattle.std.specs.Prelude.{◌<◌, ◌^◌};
 
-use crate::drawing::Picture;
+use crate::canvas::Canvas;
 use crate::facts::{ConnectionFacts, ReceiptFacts, RunFacts, StepWord};
 use crate::frame::{Frame, LANE, LEFT};
-use crate::label::{number_label, numbered, put_number};
-use crate::shape::{Form, Look, line};
+use crate::label::Piece;
+use crate::shape::{Look, bar, line};
 use groups::{ConnId, GroupId};
-use std::alloc::{AllocError, Global};
 
 /// How far the names of the groups are apart.
 const NAMES: u64 = 1200;
 
 /// The number of every few steps, and the word of each where there is room.
-pub(super) fn draw_steps(
-    alloc: Global,
-    run: &RunFacts,
-    frame: &Frame,
-    picture: &mut Picture,
-) -> Result<(), AllocError> {
+pub(super) fn draw_steps(run: &RunFacts, frame: &Frame, canvas: &mut Canvas) {
     let every = if frame.pitch() >= 20 { 5 } else { 10 };
     let bottom = frame.below(run.groups) - 6;
     for step in frame.from()..frame.to() {
         let x = frame.x(step);
         if step % every == 0 {
-            picture.draw_ground(Look::plain("grid"), line(x, 76, x, bottom))?;
-            picture.write(
-                Look::plain("mute mid"),
-                x,
-                72,
-                number_label(alloc, step as u64)?,
-            )?;
+            let number = Piece::Number(step as u64);
+            canvas.ground(Look::plain("grid"), line(x, 76, x, bottom));
+            canvas.write(Look::plain("mute mid"), x, 72, &[number]);
         }
         if frame.pitch() == 40 {
-            picture.write(Look::plain("mute mid"), x, 86, word_of(alloc, run, step)?)?;
+            write_word(run.steps.get(step), x, canvas);
         }
     }
-    Ok(())
 }
 
 /// The word of a step.
-fn word_of(alloc: Global, run: &RunFacts, step: usize) -> Result<Vec<u8>, AllocError> {
-    let word: &[u8] = match run.steps.get(step) {
+fn write_word(word: Option<&StepWord>, x: u64, canvas: &mut Canvas) {
+    let name: &[u8] = match word {
         None => b"",
-        Some(StepWord::Deliver(place)) => return numbered(alloc, b"#", *place),
+        Some(StepWord::Deliver(_)) => b"#",
         Some(StepWord::Open) => b"open",
         Some(StepWord::Submit) => b"submit",
         Some(StepWord::Take) => b"take",
@@ -53,65 +42,42 @@ fn word_of(alloc: Global, run: &RunFacts, step: usize) -> Result<Vec<u8>, AllocE
         Some(StepWord::Collect) => b"collect",
         Some(StepWord::Close) => b"close",
     };
-    word.to_vec(alloc)
+    let (look, name) = (Look::plain("mute mid"), Piece::Text(name));
+    match word {
+        Some(StepWord::Deliver(place)) => {
+            canvas.write(look, x, 86, &[name, Piece::Number(*place)]);
+        }
+        _ => canvas.write(look, x, 86, &[name]),
+    }
 }
 
 /// The lane of each group, its name, and its clock at the left edge.
-pub(super) fn draw_groups(
-    alloc: Global,
-    run: &RunFacts,
-    frame: &Frame,
-    picture: &mut Picture,
-) -> Result<(), AllocError> {
+pub(super) fn draw_groups(run: &RunFacts, frame: &Frame, canvas: &mut Canvas) {
     let clocks = clocks_before(run.receipts.as_slice(), frame.from());
     for number in 0..run.groups.min(64) {
         let group = GroupId::new(number);
-        draw_group(alloc, group, clocks[usize::from(number)], frame, picture)?;
+        draw_group(group, clocks[usize::from(number)], frame, canvas);
     }
     let gate = frame.gate();
-    picture.draw_ground(Look::plain("gate"), line(LEFT, gate, frame.end(), gate))
+    canvas.ground(Look::plain("gate"), line(LEFT, gate, frame.end(), gate));
 }
 
 /// The lane of a group.
-fn draw_group(
-    alloc: Global,
-    group: GroupId,
-    clock: u64,
-    frame: &Frame,
-    picture: &mut Picture,
-) -> Result<(), AllocError> {
-    let number = u64::from(group.number());
+fn draw_group(group: GroupId, clock: u64, frame: &Frame, canvas: &mut Canvas) {
+    let name = [
+        Piece::Text(b"group "),
+        Piece::Number(u64::from(group.number())),
+    ];
+    let clock = [Piece::Text(b"clock "), Piece::Number(clock)];
     let (top, axis) = (frame.top(group), frame.line(group));
-    let lane = Form::Rect {
-        x: 0,
-        y: top,
-        width: frame.width(),
-        height: LANE - 6,
-    };
-    picture.draw_ground(Look::plain("lane"), lane)?;
-    picture.draw_ground(Look::plain("axis"), line(LEFT, axis, frame.end(), axis))?;
-    picture.write(
-        Look::plain("name"),
-        12,
-        axis + 1,
-        numbered(alloc, b"group ", number)?,
-    )?;
-    picture.write(
-        Look::plain("mute"),
-        12,
-        axis + 15,
-        numbered(alloc, b"clock ", clock)?,
-    )?;
+    canvas.ground(Look::plain("lane"), bar(0, top, frame.width(), LANE - 6));
+    canvas.ground(Look::plain("axis"), line(LEFT, axis, frame.end(), axis));
+    canvas.write(Look::plain("name"), 12, axis + 1, &name);
+    canvas.write(Look::plain("mute"), 12, axis + 15, &clock);
     for count in 0..frame.end().saturating_sub(LEFT + 61) / NAMES {
         let x = LEFT + NAMES + NAMES * count;
-        picture.write(
-            Look::plain("mute"),
-            x,
-            top + 11,
-            numbered(alloc, b"group ", number)?,
-        )?;
+        canvas.write(Look::plain("mute"), x, top + 11, &name);
     }
-    Ok(())
 }
 
 /// The clock of each group before this step.
@@ -127,77 +93,41 @@ fn clocks_before(receipts: &[ReceiptFacts], step: usize) -> [u64; 64] {
 
 /// The line of each connection that is shown, its name, and where it is opened and closed.
 pub(super) fn draw_connections(
-    alloc: Global,
-    run: &RunFacts,
+    connections: &[ConnectionFacts],
     frame: &Frame,
-    picture: &mut Picture,
-) -> Result<(), AllocError> {
+    canvas: &mut Canvas,
+) {
     let mut number: u64 = 0;
-    for connection in &run.connections {
+    for connection in connections {
         number = number.saturating_add(1);
         if let Some(row) = frame.row(ConnId(number)) {
-            draw_connection(alloc, number, connection, row, frame, picture)?;
+            draw_connection(number, connection, row, frame, canvas);
         }
     }
-    Ok(())
 }
 
 /// The line of a connection.
 fn draw_connection(
-    alloc: Global,
     number: u64,
     connection: &ConnectionFacts,
     row: u64,
     frame: &Frame,
-    picture: &mut Picture,
-) -> Result<(), AllocError>
+    canvas: &mut Canvas,
+)
     requires { row < 2 ^ 38 }
 {
     let y = row + 24;
-    let (x0, x1) = (
-        frame.x(connection.opened),
-        frame.x_or_end(connection.closed),
-    );
-    picture.write(
-        Look::plain("name"),
-        12,
-        y - 6,
-        numbered(alloc, b"conn ", number)?,
-    )?;
-    picture.draw_ground(Look::plain("axis"), line(x0, y, x1, y))?;
-    if frame.shows(connection.opened) {
-        let words = connection_title(alloc, connection.opened, number, b" is opened")?;
-        picture.mark(Look::plain("tick"), line(x0, y - 6, x0, y + 6), words)?;
+    let (opened, closed) = (connection.opened, connection.closed);
+    let (x0, x1) = (frame.x(opened), frame.x_or_end(closed));
+    let name = [Piece::Text(b"conn "), Piece::Number(number)];
+    let tick = Look::plain("tick");
+    canvas.write(Look::plain("name"), 12, row + 18, &name);
+    canvas.ground(Look::plain("axis"), line(x0, y, x1, y));
+    if frame.shows(opened) {
+        canvas.bar(tick, line(x0, row + 18, x0, row + 30), &name);
     }
-    if let Some(closed) = connection.closed
-        && frame.shows(closed)
-    {
-        let words = connection_title(alloc, closed, number, b" is closed")?;
-        picture.mark(
-            Look::plain("tick"),
-            line(x1 - 4, y - 4, x1 + 4, y + 4),
-            words,
-        )?;
-        let empty = Vec::new(alloc);
-        picture.mark(
-            Look::plain("tick"),
-            line(x1 - 4, y + 4, x1 + 4, y - 4),
-            empty,
-        )?;
+    if frame.shows_some(closed) {
+        canvas.bar(tick, line(x1 - 4, row + 20, x1 + 4, row + 28), &name);
+        canvas.bar(tick, line(x1 - 4, row + 28, x1 + 4, row + 20), &name);
     }
-    Ok(())
-}
-
-/// What is said of a connection at a step.
-fn connection_title(
-    alloc: Global,
-    step: usize,
-    number: u64,
-    what: &[u8],
-) -> Result<Vec<u8>, AllocError> {
-    let mut words = numbered(alloc, b"step ", step as u64)?;
-    words.extend_from_slice(b": connection ")?;
-    put_number(number, &mut words)?;
-    words.extend_from_slice(what)?;
-    Ok(words)
 }

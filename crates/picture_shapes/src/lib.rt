@@ -1,11 +1,12 @@
-//! A picture of a run: its facts, the shapes that show them, and the text of these shapes.
+//! A picture of a run: its facts, and the shapes that show them.
 //!
 //! A run's facts are plain data (`RunFacts`): what happened to whom at which step. `picture_of` draws those of a window of
-//! steps as shapes, and `write_svg` writes the shapes as SVG.
+//! steps as shapes.
 #![tactic(auto)]
 
 mod arrows;
-mod drawing;
+mod bands;
+mod canvas;
 mod drawn;
 mod facts;
 mod frame;
@@ -13,20 +14,18 @@ mod heading;
 mod label;
 mod lanes;
 mod layers;
-mod legend;
+mod marks;
 mod packets;
 mod receipts;
 mod requests;
 mod shape;
-mod style;
-mod svg;
+mod titles;
 mod ways;
 
-pub use drawing::Picture;
-pub use drawn::picture_of;
+pub use drawn::{Picture, picture_of};
 pub use facts::{
     Asked, ConnectionFacts, DeliveryFacts, JobFacts, LayerFacts, PacketFacts, ReceiptFacts,
-    RequestFacts, RunFacts, StepWord,
+    ReplyFacts, RequestFacts, RunFacts, StepWord,
 };
-pub use label::{ELLIPSIS, cut};
-pub use svg::{SvgFault, write_svg};
+pub use label::{ARROW, ELLIPSIS, MIDDLE_DOT, Piece, cut, put_pieces};
+pub use shape::{Form, Path, Point, Shape};

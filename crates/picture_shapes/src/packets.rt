@@ -1,12 +1,12 @@
 //! Packets that are under way behind the window: a mark at the right edge, and the id of each.
 
-use crate::drawing::Picture;
+use crate::canvas::Canvas;
 use crate::facts::PacketFacts;
 use crate::frame::Frame;
-use crate::label::{ELLIPSIS, id_label};
+use crate::label::{ELLIPSIS, Piece};
 use crate::shape::{Form, Look, Path, Point};
-use crate::ways::packet_title;
-use std::alloc::{AllocError, Global};
+use crate::titles::packet_title;
+use std::alloc::Global;
 
 /// How many ids stand one below another where packets are under way behind the window.
 const WAITING: u8 = 3;
@@ -16,20 +16,16 @@ pub(super) fn draw_packets(
     alloc: Global,
     packets: &[PacketFacts],
     frame: &Frame,
-    picture: &mut Picture,
-) -> Result<(), AllocError> {
+    canvas: &mut Canvas,
+) {
     let mut waiting = [0u8; 64];
     for packet in packets {
-        if packet.sent >= frame.to() || frame.is_past(packet.received) {
-            continue;
-        }
-        let place = usize::from(packet.to.number());
-        if !frame.shows_some(packet.received) {
-            draw_waiting(alloc, packet, waiting[place], frame, picture)?;
+        if packet.sent < frame.to() && frame.is_behind(packet.received) {
+            let place = usize::from(packet.to.number());
+            draw_waiting(alloc, packet, waiting[place], frame, canvas);
             waiting[place] = waiting[place].saturating_add(1).min(WAITING + 1);
         }
     }
-    Ok(())
 }
 
 /// The mark of a packet that isn't received within the window, and its id behind it, below so many others.
@@ -38,43 +34,24 @@ fn draw_waiting(
     packet: &PacketFacts,
     others: u8,
     frame: &Frame,
-    picture: &mut Picture,
-) -> Result<(), AllocError> {
-    let (x1, y1) = (frame.end(), frame.line(packet.to));
-    let last = Point { x: x1, y: y1 };
-    let number = packet.asked.number;
-    let chevron = Form::Line(Path::Three([
-        Point {
-            x: x1 - 5,
-            y: y1 - 5,
-        },
-        last,
-        Point {
-            x: x1 - 5,
-            y: y1 + 5,
-        },
-    ]));
-    picture.mark(
-        Look::of("edge", number),
-        chevron,
-        packet_title(alloc, packet)?,
-    )?;
-    let label = waiting_label(alloc, packet, others)?;
-    picture.write(
-        Look::plain("small"),
-        x1 + 6,
-        y1 + 4 + 11 * u64::from(others),
-        label,
-    )
-}
-
-/// The label of a packet that waits below so many others: its id, an ellipsis behind the last of them, or nothing.
-fn waiting_label(alloc: Global, packet: &PacketFacts, others: u8) -> Result<Vec<u8>, AllocError> {
-    if others < WAITING {
-        return id_label(alloc, packet.asked.id);
+    canvas: &mut Canvas,
+) {
+    let (x, y) = (frame.end(), frame.line(packet.to));
+    let above = Point { x: x - 5, y: y - 5 };
+    let below = Point { x: x - 5, y: y + 5 };
+    let chevron = Form::Line(Path::Three(above, Point { x, y }, below));
+    let look = Look::of("edge", packet.asked.number);
+    match packet_title(alloc, packet) {
+        Ok(title) => canvas.bar(look, chevron, &[Piece::Text(title.as_slice())]),
+        Err(error) => canvas.state = Err(error),
     }
-    if others == WAITING {
-        return [ELLIPSIS].to_vec(alloc);
+    let label = if others < WAITING {
+        Piece::Id(packet.asked.id)
+    } else {
+        Piece::Text(&[ELLIPSIS])
+    };
+    if others <= WAITING {
+        let y = y + 4 + 11 * u64::from(others);
+        canvas.write(Look::plain("small"), x + 6, y, &[label]);
     }
-    Ok(Vec::new(alloc))
 }

@@ -1,15 +1,11 @@
 //! The way of a packet: from where it is sent to its group, or to the right edge.
 
-ghost use Rattle.std.specs.Prelude.{◌≡◌, ◌++◌, ◌<◌, ◌≤◌, ◌^◌, IfOk, OnOk};
+ghost use Rattle.std.specs.Prelude.{◌≡◌, ◌<◌, ◌≤◌, ◌^◌};
 ghost use Rattle.picture_shapes.specs.Ways.{way_of, path_through, leaving, coming, source_of, is_from_above};
-ghost use Rattle.picture_shapes.specs.Ways.{carried, sending_said, receipt_said, packet_title};
 
 use crate::facts::PacketFacts;
 use crate::frame::Frame;
-use crate::label::{put_id, put_number, put_stamp};
 use crate::shape::{Path, Point};
-use groups::Stamp;
-use std::alloc::{AllocError, Global};
 
 /// How far before its receipt, and behind its sending, a packet's line bends.
 const BEND: u64 = 18;
@@ -34,10 +30,10 @@ fn path_through(first: Point, second: Option<Point>, third: Option<Point>, last:
     ensures { result ≡ path_through first second third last }
 {
     match (second, third) {
-        (None, None) => Path::Two([first, last]),
-        (Some(second), None) => Path::Three([first, second, last]),
-        (None, Some(third)) => Path::Three([first, third, last]),
-        (Some(second), Some(third)) => Path::Four([first, second, third, last]),
+        (None, None) => Path::Two(first, last),
+        (Some(second), None) => Path::Three(first, second, last),
+        (None, Some(third)) => Path::Three(first, third, last),
+        (Some(second), Some(third)) => Path::Four(first, second, third, last),
     }
 }
 
@@ -93,63 +89,4 @@ fn coming(packet: &PacketFacts, frame: &Frame) -> Option<Point>
         target + BEND
     };
     Some(Point { x, y })
-}
-
-/// Appends what a packet carries.
-pub(super) fn put_carried(packet: &PacketFacts, out: &mut Vec<u8>) -> Result<(), AllocError>
-    ensures { OnOk result (out.new.items ≡ out.old.items ++ carried packet.now) }
-{
-    match packet.from {
-        None => {
-            out.extend_from_slice(b"Start of ")?;
-            put_id(packet.asked.id, out)?;
-            out.extend_from_slice(b", floor ")?;
-            put_number(packet.clock, out)?;
-            out.extend_from_slice(b",")
-        }
-        Some(group) => {
-            let clock = packet.clock;
-            out.extend_from_slice(b"proposal ")?;
-            put_stamp(Stamp { clock, group }, out)?;
-            out.extend_from_slice(b" for ")?;
-            put_id(packet.asked.id, out)
-        }
-    }
-}
-
-/// What is said of a packet.
-#[tactic(auto, unfolding(crate::specs::Ways::packet_title))]
-pub(super) fn packet_title(alloc: Global, packet: &PacketFacts) -> Result<Vec<u8>, AllocError>
-    ensures { IfOk result (λ words. words.items ≡ packet_title packet.now) }
-{
-    let mut words = Vec::new(alloc);
-    put_carried(packet, &mut words)?;
-    put_sending(u64::from(packet.to.number()), packet.sent, &mut words)?;
-    put_receipt(packet.received, &mut words)?;
-    Ok(words)
-}
-
-/// Appends where a packet goes, and when it was sent.
-
-fn put_sending(to: u64, sent: usize, out: &mut Vec<u8>) -> Result<(), AllocError>
-    ensures { OnOk result (out.new.items ≡ out.old.items ++ sending_said to sent) }
-{
-    out.extend_from_slice(b" to group ")?;
-    put_number(to, out)?;
-    out.extend_from_slice(b", sent at step ")?;
-    put_number(sent as u64, out)?;
-    Ok(())
-}
-
-/// Appends when a packet is received, if ever.
-fn put_receipt(received: Option<usize>, out: &mut Vec<u8>) -> Result<(), AllocError>
-    ensures { OnOk result (out.new.items ≡ out.old.items ++ receipt_said received) }
-{
-    match received {
-        Some(step) => {
-            out.extend_from_slice(b", received at step ")?;
-            put_number(step as u64, out)
-        }
-        None => out.extend_from_slice(b", under way"),
-    }
 }

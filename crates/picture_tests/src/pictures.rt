@@ -1,6 +1,6 @@
 //! Parts of pictures, in the window that shows them.
 
-use picture::{PictureFault, told};
+use picture::{ShowFault, told};
 use progress::Unwatched;
 use std::alloc::Global;
 use std::test::Fail;
@@ -70,10 +70,10 @@ type Part = (&'static str, usize, usize, &'static str, usize);
 const ALL: usize = usize::MAX;
 
 #[rattlefmt::skip]
-const PARTS: [Part; 32] = [
+const PARTS: [Part; 34] = [
     (EMPTY, 0, ALL, ">A run of 0 steps<", 1),
     (EMPTY, 0, ALL, " width=\"880\" height=\"504\" viewBox=\"0 0 880 504\"", 1),
-    (EMPTY, 0, ALL, ": 2 groups, 0 connections, 0 requests, 0 executed, 0 starved, 0 packets, 0 under way, 0 layers. ", 1),
+    (EMPTY, 0, ALL, ": groups 2, connections 0, requests 0, executed 0, starved 0, packets 0, under way 0, layers 0. ", 1),
     (EMPTY, 0, ALL, ". Executed in this order: none.<", 1),
     (CROSSING, 0, ALL, ". Executed in this order: 2.1 (2,0), 1.1 (2,1).<", 1),
     // Each packet once, from its sending to its receipt.
@@ -85,7 +85,10 @@ const PARTS: [Part; 32] = [
     (CROSSING, 0, ALL, "\"532,269 538,275 532,281 526,275\"><title>step 11: group 0 delivers 1.1 (2,1)<", 1),
     (CROSSING, 0, ALL, "<polygon class=\"done ", 5),
     (CROSSING, 0, ALL, "<polyline class=\"back ", 3),
-    (CROSSING, 0, ALL, "; reply OK at (2,1)<", 1),
+    (CROSSING, 0, ALL, "; reply OK<", 2),
+    // Layers with their requests.
+    (CROSSING, 0, ALL, "<title>layer 2, taken at step 15, requests: 1<", 3),
+    (CROSSING, 0, ALL, "<title>request 1.1 at (2,1) <", 2),
     // A window: a packet that was under way before it comes from its left edge, and one that is under way behind it goes
     // to its right edge.
     (CROSSING, 4, 8, ">Steps 4 to 7 of 20<", 1),
@@ -104,15 +107,15 @@ const PARTS: [Part; 32] = [
     (WORDS, 0, ALL, " 0123456789ABCDE; reply -ERR unknown command<", 1),
     (WORDS, 0, ALL, ">1.1 &lt;&amp;&quot;&gt; &#8230;</text>", 1),
     (WORDS, 0, ALL, ">1.2</text>", 1),
-    (WORDS, 0, ALL, "<title>step 4: connection 1 is closed</title>", 1),
+    (WORDS, 0, ALL, "<polyline class=\"tick\" ", 6),
     // What starved is told in another look.
     (STARVED, 0, ALL, "<rect class=\"job c0 bad\" ", 2),
-    (STARVED, 0, ALL, "; reply -ERR out of memory at (1,0)<", 1),
+    (STARVED, 0, ALL, "; reply -ERR out of memory<", 1),
     (STARVED, 0, ALL, ", sent at step 7, under way<", 2),
 ];
 
 /// The picture of a window of a trace.
-fn drawn(alloc: Global, trace: &str, window: (usize, usize)) -> Result<Vec<u8>, PictureFault> {
+fn drawn(alloc: Global, trace: &str, window: (usize, usize)) -> Result<Vec<u8>, ShowFault> {
     let mut sink = Sink::new(alloc, 4096);
     told(
         alloc,

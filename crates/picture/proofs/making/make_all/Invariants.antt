@@ -1,10 +1,12 @@
-use Rattle.std.proofs.Common.{◌≡◌, ◌++◌, map, length}
+use Rattle.std.proofs.Common.{◌≡◌, drop, map, take}
+use Rattle.picture.specs.Ran.{Ran}
 use Rattle.picture.specs.Words.{word_of}
+use Rattle.system.specs.Reads.{table_of}
 use Rattle.picture.proofs.making.make_all.Given as goal
 
--- the words that were put down, and those of the steps that are left, are the words of all steps
-abbrev pub invariant-loop-step : goal.invariant-loop-step
-invariant-loop-step g l = l.words.items ++ map word_of l.steps ≡ l.fn.words.items ++ map word_of l.fn.steps
-
-abbrev pub decreases-loop-step : goal.decreases-loop-step
-decreases-loop-step g l = length l.steps
+-- the steps so far were made, and their words put down
+abbrev pub invariant-loop-index : goal.invariant-loop-index
+invariant-loop-index g l =
+    (l.steps ≡ drop l.index l.fn.steps)
+    × Ran (table_of l.fn.system) l.fn.system.max_steps (take l.index l.fn.steps) l.system l.flights
+    × (l.words.items ≡ map word_of (take l.index l.fn.steps))

@@ -3,5 +3,5 @@ use Rattle.std.specs.List.{flat_map}
 use Rattle.picture_shapes.specs.Arrows.{backs_of}
 use Rattle.picture_shapes.proofs.arrows.put_backs.Given as goal
 
-abbrev pub invariant-loop-layer : goal.invariant-loop-layer
-invariant-loop-layer l = l.arrows.items ≡ l.fn.arrows.items ++ flat_map (backs_of l.frame) (take l.layer-index l.layers)
+abbrev pub invariant-loop-reply : goal.invariant-loop-reply
+invariant-loop-reply l = l.arrows.items ≡ l.fn.arrows.items ++ flat_map (backs_of l.frame) (take l.reply-index l.replies)

@@ -1,0 +1,86 @@
+-- A run, one step after another.
+use Rattle.std.proofs.Common.{◌≡◌, ◌∙◌, ℕ, zero, suc, ◌+◌, ◌<◌, ◌≤◌, List, [], ◌∷◌, ◌++◌, Option, Some, None, Result, Ok, Err, length, map, drop}
+use Rattle.std.proofs.Common.{refl, sym, ap, subst, arith}
+use Rattle.std.proofs.lemmas.List.{append-nil}
+use Rattle.command_table.specs.declared.command.Command.{Command}
+use Rattle.command_table.specs.declared.refusal.Refusal.{Refusal}
+use Rattle.command_table.specs.Reading.{reading}
+use Rattle.journal.specs.declared.step.Step.{Step}
+use Rattle.journal.specs.declared.step.Step.TheVariants as step
+use Rattle.picture.specs.Flights.{arrival_in, kept_at}
+use Rattle.picture.specs.Run.{Moment, Walks, InEach, last_of, steps_of}
+use Rattle.placement.specs.Groups.{groups_of}
+use Rattle.placement.specs.Layout.{Layout}
+use Rattle.skeen_core.specs.declared.packet.Packet.{Packet}
+use Rattle.world.specs.Steps.{Effect, Steps, Collects, submitted, submitted_to, starts, next_id, floor_of}
+use Rattle.world.specs.World.{World, Standing, Closed, Idle, Waiting, Answered}
+
+-- ---- one moment more
+
+pub walks_more : (t : Layout) (w new : World) (ms : List Moment) (s : Step) (e : Effect) → Walks t w ms → Steps t (last_of w ms) s e new →
+    Walks t w (ms ++ record { step = s; after = new } ∷ [])
+walks_more t w new [] s e walks made = ((e, made), tt)
+walks_more t w new (m ∷ ms) s e walks made = (walks.0, walks_more t m.after new ms s e walks.1 made)
+
+pub last_more : (w : World) (ms : List Moment) (m : Moment) → last_of w (ms ++ m ∷ []) ≡ m.after
+last_more w [] m = refl
+last_more w (n ∷ ms) m = last_more n.after ms m
+
+pub steps_more : (ms : List Moment) (m : Moment) → steps_of (ms ++ m ∷ []) ≡ steps_of ms ++ m.step ∷ []
+steps_more [] m = refl
+steps_more (n ∷ ms) m = ap (λ l. n.step ∷ l) (steps_more ms m)
+
+pub length_steps : (ms : List Moment) → length (steps_of ms) ≡ length ms
+length_steps [] = refl
+length_steps (m ∷ ms) = ap suc (length_steps ms)
+
+pub each_more : (P Q : ℕ → World → Type 0) (n : ℕ) (w : World) (ms : List Moment) (m : Moment) → InEach P n w ms →
+    ((i : ℕ) (v : World) → i ≤ n + length ms → P i v → Q i v) → Q (suc (n + length ms)) m.after → InEach Q n w (ms ++ m ∷ [])
+each_more P Q n w [] m each goes next =
+    (goes n w (omega arith) each, subst (λ k. Q (suc k) m.after) (let e : n + 0 ≡ n = omega arith in e) next)
+each_more P Q n w (k ∷ ms) m each goes next =
+    let same : n + suc (length ms) ≡ suc n + length ms = omega arith in (
+      goes n w (omega arith) each.0,
+      each_more P Q (suc n) k.after ms m each.1 (λ i v less. goes i v (subst (λ l. i ≤ l) (sym same) less))
+          (subst (λ l. Q (suc l) m.after) same next),
+    )
+
+-- ---- packets
+
+-- what stands behind the first ones
+pub behind : {A : Type 0} (xs ks ss : List A) → xs ≡ ks ++ ss → xs ≡ ks ++ drop (length ks) xs
+behind xs ks ss is = is ∙ ap (λ l. ks ++ l) (sym (ap (drop (length ks)) is ∙ dropped ks ss))
+  where
+    dropped : {A : Type 0} (ks ss : List A) → drop (length ks) (ks ++ ss) ≡ ss
+    dropped [] ss = refl
+    dropped (k ∷ ks) ss = dropped ks ss
+
+sent_to : (t : Layout) (w : World) (c : ℕ) (command : Command) (gs : List ℕ) →
+    (ss : List Packet) × ((submitted_to w c command gs).packets ≡ w.packets ++ ss)
+sent_to t w c command [] = ([], sym (append-nil w.packets))
+sent_to t w c command (g ∷ gs) =
+    (starts (next_id w c) (record { floor = floor_of w c; groups = g ∷ gs; command = command }) (g ∷ gs), refl)
+
+sent_where : (t : Layout) (w : World) (c : ℕ) (r : Result Command Refusal) → (ss : List Packet) × ((submitted t w c r).packets ≡ w.packets ++ ss)
+sent_where t w c (Err refusal) = ([], sym (append-nil w.packets))
+sent_where t w c (Ok command) = sent_to t w c command (groups_of t command)
+
+collected : (o : Standing) (old new : World) (c : ℕ) (e : Effect) → Collects o old c e new → new.packets ≡ old.packets
+collected Closed old new c e is = absurd is
+collected Idle old new c e is = ap (λ w. w.packets) is.1
+collected Waiting old new c e is = ap (λ w. w.packets) is.1
+collected (Answered outcome) old new c e is = ap (λ w. w.packets) is.1
+
+-- a step leaves those that it doesn't bring to their groups, and sends others behind them
+pub packets_after : (t : Layout) (old new : World) (s : Step) (e : Effect) → Steps t old s e new →
+    (ss : List Packet) × (new.packets ≡ kept_at (arrival_in s) old.packets ++ ss)
+packets_after t old new step.Open e is = ([], ap (λ w. w.packets) is.after ∙ sym (append-nil old.packets))
+packets_after t old new (step.Submit conn words) e is =
+    let sent = sent_where t old conn.0 (reading words) in (sent.0, ap (λ w. w.packets) is.after ∙ sent.1)
+packets_after t old new (step.Deliver k) e is = (is.sent, ap (λ w. w.packets) is.after)
+packets_after t old new step.Take e is = ([], ap (λ w. w.packets) is.after ∙ sym (append-nil old.packets))
+packets_after t old new (step.Run starved) e is = ([], ap (λ w. w.packets) is.after ∙ sym (append-nil old.packets))
+packets_after t old new step.Settle e is = ([], ap (λ w. w.packets) is.after ∙ sym (append-nil old.packets))
+packets_after t old new (step.Collect conn) e is =
+    ([], collected (old.standing conn.0) old new conn.0 e is ∙ sym (append-nil old.packets))
+packets_after t old new (step.Close conn) e is = ([], ap (λ w. w.packets) is.after ∙ sym (append-nil old.packets))
