@@ -9,8 +9,8 @@ abbrev pub words_of : List Job → List (List (List ℕ))
 words_of jobs = map (λ j. j.asked.words) jobs
 
 -- nothing is in it yet, there is room for so many, and these are their words
-pub record HasRoom (count : ℕ) (wordss : List (List (List ℕ))) (room : ResultsRoom) : Type 0 where
-  pub words : room.words.items ≡ wordss
+pub record HasRoom (count : ℕ) (asked : List (List (List ℕ))) (room : ResultsRoom) : Type 0 where
+  pub words : room.words.items ≡ asked
   pub no_rows : room.rows.items ≡ []
   pub rows : count ≤ vec_capacity room.rows
   pub none_starved : room.starved.items ≡ []

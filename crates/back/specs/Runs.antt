@@ -48,6 +48,14 @@ IsRefused may_refuse old layer (Memory back) new =
     (old.store.failed ≡ false) × AddressTheirGroups old.store.table layer × AreFresh old.store.lasts layer
     × (layer ≡ [] → ⊥) × (back ≡ layer) × (new ≡ old)
 
+-- why a layer is not even begun: the store has failed before, or a request addresses other groups
+abbrev pub IsNotAdmitted : StoreState → List Job → ExecFault → Type 0
+IsNotAdmitted store layer Failed = store.failed ≡ true
+IsNotAdmitted store layer (Foreign back) =
+    (store.failed ≡ false) × (AddressTheirGroups store.table layer → ⊥) × (back ≡ layer)
+IsNotAdmitted store layer (Stale back) = ⊥
+IsNotAdmitted store layer (Memory back) = ⊥
+
 -- why a layer isn't run for whose rows there is no memory: it is stale, or fresh
 abbrev pub WhyUnrun : StoreState → List Job → ExecFault → Type 0
 WhyUnrun store layer (Stale back) = (AreFresh store.lasts layer → ⊥) × (back ≡ layer)

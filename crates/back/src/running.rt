@@ -1,10 +1,10 @@
 //! A layer that is run over the store, and the rows that come of it.
 
-ghost use Rattle.std.specs.Prelude.{◌≡◌, ◌+◌, ◌++◌, ◌<◌, ◌≤◌, [], length, IfErr, OnOk, vec_capacity};
+ghost use Rattle.std.specs.Prelude.{◌≡◌, ◌+◌, ◌++◌, ◌<◌, ◌≤◌, [], false, length, IfOk, IfErr, OnOk, vec_capacity};
 ghost use Rattle.back.specs.Backs.{back_of};
 ghost use Rattle.back.specs.Rooms.{FitsEnded};
 ghost use Rattle.back.specs.Rows.{with_row, rows_of, with_done, with_starved, results_of};
-ghost use Rattle.back.specs.Runs.{HasRun, IsRefused, WhyUnrun};
+ghost use Rattle.back.specs.Runs.{HasRun, IsRefused, IsNotAdmitted, WhyUnrun};
 ghost use Rattle.shard_exec.specs.Layers.{AddressTheirGroups};
 
 use crate::room::ResultsRoom;
@@ -34,12 +34,10 @@ pub fn run_over<W: Workers>(
     ensures fault { IfErr result (λ fault. IsRefused (W.may_refuse workers.now) (back_of store.old rows.old.rows last.old) layer fault
         (back_of store.new rows.new.rows last.new)) }
 {
-    if store.has_failed() {
-        return Err(ExecFault::Failed);
-    }
-    if !store.may_run(&layer) {
-        return Err(ExecFault::Foreign(layer));
-    }
+    let layer = match admit(store, layer) {
+        Ok(layer) => layer,
+        Err(fault) => return Err(fault),
+    };
     let Ok(room) = ResultsRoom::reserve(alloc, layer.jobs(), rows) else {
         return Err(unrun(store, layer));
     };
@@ -50,6 +48,22 @@ pub fn run_over<W: Workers>(
         }
         Err(fault) => Err(fault),
     }
+}
+
+/// The layer, if the store has not failed and the layer's requests address the groups of its table; else why it isn't run.
+fn admit(store: &Store, layer: Layer) -> Result<Layer, ExecFault>
+    ensures admitted { IfOk result (λ back. back ≡ layer) }
+    ensures lives { OnOk result (store.now.failed ≡ false) }
+    ensures addressed { OnOk result (AddressTheirGroups store.now.table layer) }
+    ensures refused { IfErr result (IsNotAdmitted store.now layer) }
+{
+    if store.has_failed() {
+        return Err(ExecFault::Failed);
+    }
+    if !store.may_run(&layer) {
+        return Err(ExecFault::Foreign(layer));
+    }
+    Ok(layer)
 }
 
 /// Why a layer isn't run for whose rows there is no memory: where it is stale as well, that comes first.
