@@ -43,7 +43,8 @@ zip_append R (a ∷ as_) cs (b ∷ bs) ds z w = (z.0, zip_append R as_ cs bs ds 
 -- ---- nothing was run yet
 
 pub new_kept : (table : Layout) (store : StoreState) (rows : List RowView) → store ≡ empty_store table → rows ≡ [] → IsBack store rows
-new_kept table store rows is none = subst (λ (s : StoreState). IsBack s rows) (sym is) (subst (IsBack (empty_store table)) (sym none) opened)
+new_kept table store rows is none =
+    subst (λ (s : StoreState). IsBack s rows) (sym is) (subst (IsBack (empty_store table)) (sym none) opened)
   where
     opened : IsBack (empty_store table) []
     opened = record {
