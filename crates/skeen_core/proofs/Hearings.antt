@@ -9,7 +9,6 @@ use Rattle.std.specs.BTreeMap.{insert_entry}
 use Rattle.std.specs.FinMap.{FinMap, get, insert}
 use Rattle.std.specs.List.Sorted.{IsStrictlySortedBy}
 use Rattle.std.specs.Map.{keys_of, remove_entry}
-use Rattle.std.proofs.lemmas.Cmp.{tied_itself}
 use Rattle.std.specs.Ordering.{match_ordering, is_eq}
 use Rattle.std.specs.declared.cmp.Ordering.TheVariants.{Less, Equal, Greater}
 use Rattle.groups.specs.GroupSet.{has}
@@ -20,24 +19,25 @@ use Rattle.groups.specs.Request.{same_id, source_cmp}
 use Rattle.groups.specs.Stamp.{stamp_lt, final, place_by}
 use Rattle.groups.proofs.Ids.{same_id-true, eq-same_id}
 use Rattle.groups.proofs.Options.{some_same}
-use Rattle.groups.proofs.Stamps.{final_proposed, final_above, le_antisym, lt_le}
+use Rattle.groups.proofs.Stamps.{final_proposed, final_above, lt_le}
 use Rattle.skeen_core.specs.Group.{heard, or_zero, with_proposal, final_of, lift, lifted, Delivering}
 use Rattle.skeen_core.specs.Group.{GroupView, BodyMayCome, IsReceipt}
 use Rattle.skeen_core.specs.Heard.{clock_of, with_heard, missing}
 use Rattle.skeen_core.specs.Kept.{state_of, groups_in, StandsAt, ArePlaced, IsKept}
 use Rattle.skeen_core.specs.Lawful.{Sound}
-use Rattle.skeen_core.specs.Pending.{stamp_cmp, is_place, Entry, at, delivered, first_is_settled, front, behind, forgotten, Moves, moved}
-use Rattle.skeen_core.specs.Pending.{waiting, if_waits}
+use Rattle.skeen_core.specs.Pending.{stamp_cmp, is_place, Entry, at, delivered, first_is_settled, front, behind, forgotten}
+use Rattle.skeen_core.specs.Pending.{settled, Moves, moved, waiting, if_waits}
 use Rattle.skeen_core.specs.Pending.{room_for}
 use Rattle.skeen_core.specs.declared.heard.Heard.{Heard}
 use Rattle.skeen_core.specs.declared.packet.Body.TheVariants.{Proposal}
 use Rattle.skeen_core.specs.declared.packet.Delivered.{Delivered}
 use Rattle.skeen_core.specs.declared.pending.Pending.{Pending}
 use Rattle.skeen_core.proofs.Changes.{Replaces, replaces_moved, clocks, clocks_same, clocks_other, placed_replaced, starts_same}
+use Rattle.skeen_core.proofs.Firsts.{past_first, moved_here, moved_past}
 use Rattle.skeen_core.proofs.Fronts.{front_ends, finds, found_as, started-state_of, len-started}
 use Rattle.skeen_core.proofs.Lawful.{None≢Some, sound_proposal, stuck_proposal, same_proposal, same_lifted, delivers_none, without_none}
 use Rattle.skeen_core.proofs.Missing.{none_missing, some_missing, untouched, one_less}
-use Rattle.skeen_core.proofs.Places.{stamp_total, gt_greater, in_place, same_place, is_itself, above_first, at_its_place}
+use Rattle.skeen_core.proofs.Places.{gt_greater, in_place, same_place, is_itself, above_first, at_its_place}
 use Rattle.skeen_core.proofs.Receipts.{Comes, comes_as, comes_front, comes_none, stuck_front, kept_front}
 use Rattle.skeen_core.proofs.Starts.{own, view, none_of, some_of}
 
@@ -59,6 +59,13 @@ pub record Waits (me : ℕ) (es : List Entry) (ps : FinMap source_cmp ℕ) (id :
   pub there : at es s ≡ Some r
   pub named : r.id ≡ id
   pub member : has r.groups from ≡ true
+
+-- the Proposal is the last one that it waits for, and its final stamp is u
+pub record Settles (me c : ℕ) (es : List Entry) (ps : FinMap source_cmp ℕ) (id : RequestId) (p : Heard) (s : Stamp) (r : Pending)
+    (u : Stamp) : Type 0 where
+  pub told : Told me c es ps id p
+  pub waits : Waits me es ps id p.from s r
+  pub final : final (with_heard p (clocks ps id)) r.groups ≡ Some u
 
 pub waits_of : (me : ℕ) (es : List Entry) (ps : FinMap source_cmp ℕ) (id : RequestId) (from : ℕ) (s : Stamp) (r : Pending)
     → waiting me (clocks ps id me) id from es ≡ Some (s, r) → Waits me es ps id from s r
@@ -319,11 +326,11 @@ module _ {me c : ℕ} {es : List Entry} {ps : FinMap source_cmp ℕ} {id : Reque
 
     pub settled_comes : Told me c es ps id p → Waits me es ps id p.from s r → (u : Stamp)
         → final (with_heard p (clocks ps id)) r.groups ≡ Some u
-        → (es' : List Entry) → Moves s u (record r { missing = 0 }) es es'
+        → (es' : List Entry) → Moves s u (settled r) es es'
         → Comes me (lifted (with_proposal (state_of c es ps) id p.from p.clock) id) (front es') (max c u.clock) (behind es')
         (forgotten (front es') (with_told ps id p))
     settled_comes t w u is es' moves =
-        let q = record r { missing = 0 } in
+        let q = settled r in
         let replaced = replaces_moved s u r q es es' t.kept.placed.rise t.kept.placed.once moves w.there refl (settles_free t w u is) in
         let placed = moved_placed t w u q es' replaced w.named (record {
           ascending = (stands t w).ascending;
@@ -378,29 +385,17 @@ entered_few t p (x ∷ xs) free = elim (stamp_cmp t x.0) as (λ r. stamp_cmp t x
 first_moves : (s t : Stamp) (p : Pending) (x : Entry) (xs : List Entry) → s ≡ x.0 → stamp_lt t s ≡ false → (t ≡ s) ⊎ (at (x ∷ xs) t ≡ None)
     → length (front (moved s t p (x ∷ xs))) ≤ suc (length (front xs))
 first_moves s t p x xs is not_below free = elim (cases_Bool (is_place s t)) [
-  | inl e ↦
-      let same : stamp_cmp t x.0 ≡ Equal = ap (λ u. stamp_cmp u x.0) (sym (same_place s t e) ∙ is) ∙ tied_itself stamp_total x.0 in
-      ap-le (ap (λ b. cond b (insert_entry stamp_cmp (x ∷ xs) t p) (remove_entry (is_place s) (insert_entry stamp_cmp (x ∷ xs) t p))) e
-      ∙ ap (λ r. match_ordering r ((t, p) ∷ x ∷ xs) ((x.0, p) ∷ xs) (x ∷ insert_entry stamp_cmp xs t p)) same)
+  | inl e ↦ ap-le (moved_here s t p x xs is e)
       (elim (p.missing == 0) as (λ b. length (cond b (delivered (x.0, p) ∷ front xs) []) ≤ suc (length (front xs))) [
         | true ↦ omega arith
         | false ↦ omega arith
       ])
   | inr e ↦
-      let below : stamp_lt s t ≡ true = elim (cases_Bool (stamp_lt s t)) [
-        | inl lower ↦ lower
-        | inr not_less ↦ absurd (both_ways _ e (is_itself s t (le_antisym s t not_less not_below)))
-      ] in
-      let greater : stamp_cmp t x.0 ≡ Greater = gt_greater x.0 t (ap (λ u. stamp_lt u t) (sym is) ∙ below) in
       let none : at xs t ≡ None = elim free [
         | inl here ↦ absurd (both_ways _ e (is_itself s t (sym here)))
-        | inr none ↦ sym (ap (λ r. cond (is_eq r) (Some x.1) (at xs t)) greater) ∙ none
+        | inr none ↦ sym (ap (λ r. cond (is_eq r) (Some x.1) (at xs t)) (past_first s t p x xs is not_below e)) ∙ none
       ] in
-      ap-le (ap (λ b. cond b (insert_entry stamp_cmp (x ∷ xs) t p) (remove_entry (is_place s) (insert_entry stamp_cmp (x ∷ xs) t p))) e
-      ∙ ap (λ r. remove_entry (is_place s) (match_ordering r ((t, p) ∷ x ∷ xs) ((x.0, p) ∷ xs) (x ∷ insert_entry stamp_cmp xs t p))) greater
-      ∙ ap (λ b. cond b (insert_entry stamp_cmp xs t p) (x ∷ remove_entry (is_place s) (insert_entry stamp_cmp xs t p)))
-      (is_itself s x.0 is))
-      (entered_few t p xs none)
+      ap-le (moved_past s t p x xs is not_below e) (entered_few t p xs none)
 ]
   where
     ap-le : {fs gs : List Entry} {m : ℕ} → fs ≡ gs → length (front gs) ≤ m → length (front fs) ≤ m
@@ -425,10 +420,9 @@ first_stands s t p x xs before not_below waits =
 -- there is room for all that go
 pub go_few : {me c : ℕ} {es : List Entry} {ps : FinMap source_cmp ℕ} {id : RequestId} {p : Heard} {s : Stamp} {r : Pending}
     → Told me c es ps id p
-    → Waits me es ps id p.from s r → (u : Stamp) → final (with_heard p (clocks ps id)) r.groups ≡ Some u → (q : Pending) (es' : List Entry)
-    → es' ≡ moved s u q es → length (front es') ≤ room_for s es
-go_few {me} {c} {es} {ps} {id} {p} {s} {r} t w u is q es' made =
-    subst (λ l. length (front l) ≤ room_for s es) (sym made) (by_list es refl)
+    → Waits me es ps id p.from s r → (u : Stamp) → final (with_heard p (clocks ps id)) r.groups ≡ Some u → (q : Pending)
+    → length (front (moved s u q es)) ≤ room_for s es
+go_few {me} {c} {es} {ps} {id} {p} {s} {r} t w u is q = by_list es refl
   where
     by_list : (fs : List Entry) → es ≡ fs → length (front (moved s u q fs)) ≤ room_for s fs
     by_list [] e = absurd (None≢Some r (ap (λ l. at l s) (sym e) ∙ w.there))
@@ -545,18 +539,18 @@ module _ {v : GroupView} {me c : ℕ} {es : List Entry} {ps : FinMap source_cmp 
       -- it was the last one
       pub settles : Hearing v me c es ps k id p list → Told me c es ps id p → Waits me es ps id p.from s r → (u : Stamp)
           → (1 < r.missing → Some u ≡ None) → (r.missing ≤ 1 → Some u ≡ final (with_heard p (clock_of list)) r.groups)
-          → final (with_heard p (clocks ps id)) r.groups ≡ Some u
-      settles h t w u none test = its_stamp u none (λ few. test few ∙ told_final h r.groups) t w
+          → Settles me c es ps id p s r u
+      settles h t w u none test = record { told = t; waits = w; final = its_stamp u none (λ few. test few ∙ told_final h r.groups) t w }
 
-      pub settled_done : Hearing v me c es ps k id p list → Told me c es ps id p → Waits me es ps id p.from s r → (u : Stamp)
-          → final (with_heard p (clocks ps id)) r.groups ≡ Some u → (es' : List Entry)
-          → Moves s u (record r { missing = 0 }) es es'
-          → es' ≡ moved s u (record r { missing = 0 }) es → (ds : List Delivered) → ds ≡ front es' → (c' : ℕ)
-          → max c u.clock ≡ c' → (es'' : List Entry) → es'' ≡ behind es' → (ps' ps'' : FinMap source_cmp ℕ) → ps' ≡ with_told ps id p
-          → ps'' ≡ forgotten (front es') ps' → (k' : ℕ) → length ds ≤ k' → k' ≤ length ds + 2 → Done v id p ds me c' es'' ps'' k'
-      settled_done h t w u is es' moves made ds went c' clock es'' left ps' ps'' kept forgot k' least most =
-          let few = go_few t w u is _ es' made in
+      pub settled_done : Hearing v me c es ps k id p list → (u : Stamp) → Settles me c es ps id p s r u
+          → Moves s u (settled r) es (moved s u (settled r) es) → (ds : List Delivered) → ds ≡ front (moved s u (settled r) es)
+          → (c' : ℕ) → max c u.clock ≡ c' → (es' : List Entry) → es' ≡ behind (moved s u (settled r) es) → (ps' : FinMap source_cmp ℕ)
+          → ps' ≡ forgotten (front (moved s u (settled r) es)) (with_told ps r.id p) → (k' : ℕ) → length ds ≤ k' → k' ≤ length ds + 2
+          → Done v id p ds me c' es' ps' k'
+      settled_done h u it moves ds went c' clock es' left ps' forgot k' least most =
+          let few = go_few it.told it.waits u it.final (settled r) in
           let all = room_few s es in
           let long = ap (λ (l : List Delivered). length l) went in
-          done h ds c' es'' ps'' k' (comes_as (sym went) clock (sym left) (sym (forgot ∙ ap (forgotten (front es')) kept))
-          (settled_comes t w u is es' moves)) (omega arith) least most
+          let kept = ap (λ i. forgotten (front (moved s u (settled r) es)) (with_told ps i p)) (sym it.waits.named) in
+          done h ds c' es' ps' k' (comes_as (sym went) clock (sym left) (kept ∙ sym forgot)
+          (settled_comes it.told it.waits u it.final (moved s u (settled r) es) moves)) (omega arith) least most

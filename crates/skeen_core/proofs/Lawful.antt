@@ -219,28 +219,6 @@ sound_proposal me grp id from n sound other single = record {
 -- ---- what isn't settled lets nothing go
 
 -- where the packet's request isn't settled, nothing more may go
-pub stuck_start : (me : ℕ) (grp : GroupState) (id : RequestId) (floor : ℕ) (groups : List ℕ) → Lawful me grp → get grp.started id ≡ None →
-    final (heard (with_start me grp id floor groups) id) groups ≡ None → (d : Delivered)
-    → MayGo me (lifted (with_start me grp id floor groups) id) d → ⊥
-stuck_start me grp id floor groups lawful absent unsettled_one d may = elim (cases_Bool (same_id d.id id)) [
-  | inl p ↦ let same : groups ≡ d.groups = some_same _ _ (sym (start_there me grp id floor groups d.id p) ∙ may.started) in
-      None≢Some d.stamp (sym unsettled_one ∙ ap (λ gs. final (heard (with_start me grp id floor groups) id) gs) same
-      ∙ ap (λ i. final (heard (with_start me grp id floor groups) i) d.groups) (sym (same_id-true d.id id p)) ∙ may.stamp)
-  | inr p ↦ lawful.stuck d (record {
-    started = sym (but.started d.id p) ∙ may.started;
-    stamp = sym (same_final (with_start me grp id floor groups) grp d.id d.groups (λ g. but.heard d.id g p)) ∙ may.stamp;
-    below = λ u gs there unsettled. elim (cases_Bool (same_id u id)) [
-      | inl q ↦ absurd (None≢Some gs (sym absent ∙ ap (λ i. get grp.started i) (sym (same_id-true u id q)) ∙ there))
-      | inr q ↦ subst (λ o. stamp_lt d.stamp (record { clock = or_zero o; group = me }) ≡ true) (but.heard u me q)
-          (may.below u gs (but.started u q ∙ there) (same_final (with_start me grp id floor groups) grp u gs (λ g. but.heard u g q)
-          ∙ unsettled))
-    ];
-  })
-]
-  where
-    but : SameBut id grp (with_start me grp id floor groups)
-    but = but_start me grp id floor groups
-
 pub stuck_proposal : (me : ℕ) (grp : GroupState) (id : RequestId) (from n : ℕ) → Lawful me grp → from ≢ me →
     final_of (with_proposal grp id from n) id (get grp.started id) ≡ None → (d : Delivered)
     → MayGo me (lifted (with_proposal grp id from n) id) d → ⊥

@@ -5,6 +5,7 @@ pub mod ProposalLists
 pub mod Missing
 pub mod Lawful
 pub mod Fronts
+pub mod Firsts
 pub mod Receipts
 pub mod Changes
 pub mod Starts

@@ -4,6 +4,8 @@ use Rattle.std.proofs.Common.{List, ◌∷◌, inl, inr}
 use Rattle.std.proofs.lemmas.Bool.{and_parts, cases_Bool}
 use Rattle.std.proofs.lemmas.Bool.Decides.{nat_tests}
 use Rattle.std.proofs.Common.{arith}
+use Rattle.std.proofs.lemmas.Cmp.{eq_by_cmp_equiv}
+use Rattle.std.proofs.lemmas.Map.Keys.{sorted_head, IsDistinct-from_sorted}
 use Rattle.std.proofs.lemmas.Map.Lookups.{CmpEqualImpliesEq}
 use Rattle.std.specs.Cmp.{IsTotalOrder, on_total, then_total, nat_cmp_total, unsigned_tied, tied_then}
 use Rattle.std.specs.List.Sorted.{IsStrictlySortedBy}
@@ -14,7 +16,7 @@ use Rattle.groups.specs.Stamp.{stamp_lt}
 use Rattle.groups.specs.declared.stamp.Stamp.{Stamp}
 use Rattle.skeen_core.specs.Pending.{stamp_cmp, is_place, Entry, at}
 use Rattle.skeen_core.specs.declared.pending.Pending.{Pending}
-use Rattle.skeen_core.proofs.Entries.{same_key, key_same, below_first, found, stands}
+use Rattle.skeen_core.proofs.Entries.{all_keys, same_key, key_same, found, stands}
 
 pub stamp_total : IsTotalOrder stamp_cmp
 stamp_total = then_total (on_total (λ (s : Stamp). s.clock) nat_cmp_total) (on_total (λ (s : Stamp). s.group) nat_cmp_total)
@@ -49,13 +51,15 @@ is_other s t ne = elim (cases_Bool (is_place s t)) [ inl e ↦ absurd (ne (same_
 -- ---- entries in the order of their places
 
 pub above_first : (x e : Entry) (es : List Entry) → IsStrictlySortedBy stamp_cmp (keys_of (x ∷ es)) → In e es → stamp_lt x.0 e.0 ≡ true
-above_first x e es rise there = less_lt x.0 e.0 (below_first stamp_total stamp_exact x e es rise there)
+above_first x e es rise there = less_lt x.0 e.0
+    (all_keys (λ y. stamp_cmp x.0 y ≡ Less) es e (sorted_head stamp_cmp x.0 (keys_of es) rise) there)
 
 pub at_its_place : (es : List Entry) (e : Entry) → IsStrictlySortedBy stamp_cmp (keys_of es) → In e es → at es e.0 ≡ Some e.1
-at_its_place es e rise there = found stamp_total stamp_exact es e rise there
+at_its_place es e rise there =
+    found (eq_by_cmp_equiv stamp_total) es e (IsDistinct-from_sorted stamp_cmp (keys_of es) rise) there
 
 pub in_place : (es : List Entry) (s : Stamp) (p : Pending) → at es s ≡ Some p → In (s, p) es
-in_place es s p e = stands stamp_total stamp_exact es s p e
+in_place es s p e = stands same_place es s p e
 
 pub absorbed : {X : Type 0} (b : Bool) (x y z : X) → cond b x (cond b y z) ≡ cond b x z
 absorbed true x y z = refl

@@ -4,20 +4,17 @@ use Rattle.std.proofs.Common.{List, [], ◌∷◌, ◌++◌, Option, Some}
 use Rattle.std.proofs.Common.{None, IsSome, is_some, suc, ◌⊎◌, length, refl, sym, ap, ◌∙◌, subst, arith, inl, inr, eq-eqb, eqb-true}
 use Rattle.std.proofs.Common.{length-append}
 use Rattle.std.proofs.lemmas.Bool.{both_ways, cases_Bool, and_parts, and_from, or_cases}
-use Rattle.std.proofs.lemmas.Cmp.{eq_by_cmp_equiv}
 use Rattle.std.proofs.lemmas.Map.{lookup-none}
 use Rattle.std.proofs.lemmas.Map.Entries.{none_past_head}
-use Rattle.std.proofs.lemmas.Map.Keys.{IsDistinct-from_sorted, sorted_tail}
-use Rattle.std.specs.BTreeMap.{is_at}
+use Rattle.std.proofs.lemmas.Map.Keys.{IsDistinct-tail}
+use Rattle.std.specs.Cmp.{IsEquivalence}
 use Rattle.std.specs.FinMap.{FinMap, get, insert, find, from_entries, retain_keys, get-insert, get-from_entries, get-retain_keys, same_map}
-use Rattle.std.specs.List.Sorted.{IsStrictlySortedBy}
+use Rattle.std.specs.List.{IsDistinct}
 use Rattle.std.specs.Map.{keys_of, lookup}
 use Rattle.groups.specs.declared.request.RequestId.{RequestId}
 use Rattle.groups.specs.Order.{In}
-use Rattle.groups.specs.Request.{same_id, id_cmp, Source, source_cmp}
-use Rattle.groups.proofs.Ids.{id_total, source_total, id_antisym, source_antisym, id_tied, source_tied, same_id-true, eq-same_id}
-use Rattle.groups.proofs.Ids.{same_id-sym}
-use Rattle.groups.proofs.Ids.{same_id-refl}
+use Rattle.groups.specs.Request.{same_id, Source, source_cmp}
+use Rattle.groups.proofs.Ids.{source_total, source_antisym, source_tied, same_id-true, eq-same_id, same_id-sym, same_id-refl}
 use Rattle.skeen_core.specs.Group.{EachOnce}
 use Rattle.skeen_core.specs.Heard.{clock_of}
 use Rattle.skeen_core.specs.Proposals.{sources_of, clocks_of, AreLists, CountsNamed, is_clock, are_single}
@@ -37,7 +34,7 @@ or_empty None = []
 or_empty (Some ps) = ps
 
 abbrev pub list_at : Lists → RequestId → Option (List Heard)
-list_at es i = lookup (is_at (id_cmp i)) es
+list_at es i = lookup (same_id i) es
 
 abbrev or_else : Option ℕ → Option ℕ → Option ℕ
 or_else None o = o
@@ -63,66 +60,66 @@ find_list i j g (p ∷ ps) rest =
       | false ↦ refl
     ]
 
-find_all : (es : Lists) (i : RequestId) (g : ℕ) → IsStrictlySortedBy id_cmp (keys_of es)
+pub id_equal : IsEquivalence same_id
+id_equal = record {
+  refl = same_id-refl;
+  symm = same_id-sym;
+  congr = λ i j k e. ap (λ x. same_id x k) (same_id-true i j e);
+}
+
+find_all : (es : Lists) (i : RequestId) (g : ℕ) → IsDistinct same_id (keys_of es)
     → find source_cmp (source i g) (clocks_of es) ≡ clock_of (or_empty (list_at es i)) g
-find_all [] i g sorted = refl
-find_all (e ∷ es) i g sorted =
-    let rest = find_all es i g (sorted_tail id_cmp e.0 (keys_of es) sorted) in
+find_all [] i g once = refl
+find_all (e ∷ es) i g once =
+    let rest = find_all es i g (IsDistinct-tail same_id e.0 (keys_of es) once) in
     find_list i e.0 g e.1 (clocks_of es)
-    ∙ elim (is_at (id_cmp i) e.0) as (λ b. is_at (id_cmp i) e.0 ≡ b
-    → cond (same_id i e.0) (or_else (clock_of e.1 g) (find source_cmp (source i g) (clocks_of es)))
+    ∙ elim (same_id i e.0) as (λ b. same_id i e.0 ≡ b
+    → cond b (or_else (clock_of e.1 g) (find source_cmp (source i g) (clocks_of es)))
     (find source_cmp (source i g) (clocks_of es))
     ≡ clock_of (or_empty (cond b (Some e.1) (list_at es i))) g) [
       | true ↦ λ p.
-          let none : list_at es i ≡ None = lookup-none (is_at (id_cmp i)) es (none_past_head (eq_by_cmp_equiv id_total) i e es
-          (IsDistinct-from_sorted id_cmp (keys_of (e ∷ es)) sorted) p) in
-          ap (λ b. cond b (or_else (clock_of e.1 g) (find source_cmp (source i g) (clocks_of es)))
-          (find source_cmp (source i g) (clocks_of es)))
-          (sym (id_tied i e.0) ∙ p)
-          ∙ ap (or_else (clock_of e.1 g)) (rest ∙ ap (λ o. clock_of (or_empty o) g) none) ∙ or_none (clock_of e.1 g)
-      | false ↦ λ p.
-          ap (λ b. cond b (or_else (clock_of e.1 g) (find source_cmp (source i g) (clocks_of es)))
-          (find source_cmp (source i g) (clocks_of es)))
-          (sym (id_tied i e.0) ∙ p) ∙ rest
+          let none : list_at es i ≡ None = lookup-none (same_id i) es (none_past_head id_equal i e es once p) in
+          ap (or_else (clock_of e.1 g)) (rest ∙ ap (λ o. clock_of (or_empty o) g) none) ∙ or_none (clock_of e.1 g)
+      | false ↦ λ p. rest
     ] refl
 
 abbrev pub shown : Lists → FinMap source_cmp ℕ
 shown es = from_entries (clocks_of es)
 
-pub get_shown : (es : Lists) (i : RequestId) (g : ℕ) → IsStrictlySortedBy id_cmp (keys_of es)
+pub get_shown : (es : Lists) (i : RequestId) (g : ℕ) → IsDistinct same_id (keys_of es)
     → get (shown es) (source i g) ≡ clock_of (or_empty (list_at es i)) g
-get_shown es i g sorted = get-from_entries source_total (clocks_of es) (source i g) ∙ find_all es i g sorted
+get_shown es i g once = get-from_entries source_total (clocks_of es) (source i g) ∙ find_all es i g once
 
 -- ---- one request's list changed
 
 -- the lists es' have w as the list of id, and the others of es
 pub record Changed (id : RequestId) (w : Option (List Heard)) (es es' : Lists) : Type 0 where
-  pub sorted : IsStrictlySortedBy id_cmp (keys_of es')
-  pub at : (q : RequestId) → list_at es' q ≡ cond (is_at (id_cmp id) q) w (list_at es q)
+  pub once : IsDistinct same_id (keys_of es')
+  pub at : (q : RequestId) → list_at es' q ≡ cond (same_id id q) w (list_at es q)
 
 pub get_changed : (id : RequestId) (w : Option (List Heard)) (es es' : Lists) → AreLists es → Changed id w es es' → (i : RequestId) (g : ℕ)
     → get (shown es') (source i g) ≡ cond (same_id i id) (clock_of (or_empty w) g) (get (shown es) (source i g))
 get_changed id w es es' lists changed i g =
-    get_shown es' i g changed.sorted ∙ ap (λ o. clock_of (or_empty o) g) (changed.at i)
-    ∙ ap (λ b. clock_of (or_empty (cond b w (list_at es i))) g) (id_tied id i ∙ same_id-sym id i)
+    get_shown es' i g changed.once ∙ ap (λ o. clock_of (or_empty o) g) (changed.at i)
+    ∙ ap (λ b. clock_of (or_empty (cond b w (list_at es i))) g) (same_id-sym id i)
     ∙ elim (same_id i id) as (λ b. clock_of (or_empty (cond b w (list_at es i))) g
     ≡ cond b (clock_of (or_empty w) g) (get (shown es) (source i g))) [
       | true ↦ refl
-      | false ↦ sym (get_shown es i g lists.sorted)
+      | false ↦ sym (get_shown es i g lists.once)
     ]
 
 pub lists_changed : (id : RequestId) (w : Option (List Heard)) (es es' : Lists) → AreLists es → Changed id w es es'
     → ((ps : List Heard) → w ≡ Some ps → 0 < length ps) → AreLists es'
 lists_changed id w es es' lists changed some = record {
-  sorted = changed.sorted;
-  some = λ e there. by_key e there (cases_Bool (is_at (id_cmp id) e.0));
+  once = changed.once;
+  some = λ e there. by_key e there (cases_Bool (same_id id e.0));
 }
   where
-    by_key : (e : RequestId × List Heard) → In e es' → (is_at (id_cmp id) e.0 ≡ true) ⊎ (is_at (id_cmp id) e.0 ≡ false) → 0 < length e.1
+    by_key : (e : RequestId × List Heard) → In e es' → (same_id id e.0 ≡ true) ⊎ (same_id id e.0 ≡ false) → 0 < length e.1
     by_key e there (inl p) = some e.1 (sym (ap (λ b. cond b w (list_at es e.0)) p) ∙ sym (changed.at e.0)
-        ∙ found id_total id_antisym es' e changed.sorted there)
-    by_key e there (inr p) = lists.some (e.0, e.1) (stands id_total id_antisym es e.0 e.1 (sym (ap (λ b. cond b w (list_at es e.0)) p)
-        ∙ sym (changed.at e.0) ∙ found id_total id_antisym es' e changed.sorted there))
+        ∙ found id_equal es' e changed.once there)
+    by_key e there (inr p) = lists.some (e.0, e.1) (stands same_id-true es e.0 e.1 (sym (ap (λ b. cond b w (list_at es e.0)) p)
+        ∙ sym (changed.at e.0) ∙ found id_equal es' e changed.once there))
 
 -- ---- a proposal more
 
@@ -157,8 +154,8 @@ added id p es es' lists changed none = same_map source_total source_antisym (sho
         ≡ cond (same_id s.id id && s.from == p.from) (Some p.clock) (get (shown es) s)
     by_id s (inl e) =
         ap (λ b. cond b (clock_of (or_empty (list_at es id) ++ p ∷ []) s.from) (get (shown es) s)) e
-        ∙ clock_of-push (or_empty (list_at es id)) p s.from (sym (get_shown es id p.from lists.sorted) ∙ none)
-        ∙ ap (cond (s.from == p.from) (Some p.clock)) (sym (get_shown es id s.from lists.sorted)
+        ∙ clock_of-push (or_empty (list_at es id)) p s.from (sym (get_shown es id p.from lists.once) ∙ none)
+        ∙ ap (cond (s.from == p.from) (Some p.clock)) (sym (get_shown es id s.from lists.once)
         ∙ ap (λ i. get (shown es) (source i s.from)) (sym (same_id-true s.id id e)))
         ∙ ap (λ b. cond (b && s.from == p.from) (Some p.clock) (get (shown es) s)) (sym e)
     by_id s (inr e) =
@@ -181,12 +178,11 @@ forgot id es es' lists changed = same_map source_total source_antisym (shown es'
 
 -- ---- reads
 
-ids_once : (es : Lists) → IsStrictlySortedBy id_cmp (keys_of es) → EachOnce (keys_of es)
-ids_once [] sorted = tt
-ids_once (e ∷ es) sorted = (
-  λ there. absurd (both_ways _ (none there) (some there)),
-  ids_once es
-      (sorted_tail id_cmp e.0 (keys_of es) sorted),
+ids_once : (es : Lists) → IsDistinct same_id (keys_of es) → EachOnce (keys_of es)
+ids_once [] once = tt
+ids_once (e ∷ es) once = (
+  λ there. absurd (both_ways _ (none there) (same_id-refl e.0)),
+  ids_once es (IsDistinct-tail same_id e.0 (keys_of es) once),
 )
   where
     entry : (fs : Lists) → In e.0 (keys_of fs) → (v : List Heard) × In (e.0, v) fs
@@ -194,11 +190,8 @@ ids_once (e ∷ es) sorted = (
     entry (f ∷ fs) (inl same) = (f.1, inl (λ i. (same i, f.1)))
     entry (f ∷ fs) (inr there) = let rest = entry fs there in (rest.0, inr rest.1)
 
-    none : In e.0 (keys_of es) → is_at (id_cmp e.0) e.0 ≡ false
-    none there = let it = entry es there in not_first id_total id_antisym e (e.0, it.0) es sorted it.1
-
-    some : In e.0 (keys_of es) → is_at (id_cmp e.0) e.0 ≡ true
-    some there = id_tied e.0 e.0 ∙ same_id-refl e.0
+    none : In e.0 (keys_of es) → same_id e.0 e.0 ≡ false
+    none there = let it = entry es there in not_first id_equal e (e.0, it.0) es once it.1
 
 first_clock : (ps : List Heard) → 0 < length ps → (g : ℕ) × IsSome (clock_of ps g)
 first_clock [] some = absurd (omega arith)
@@ -217,7 +210,7 @@ in_key (e ∷ es) i (inr there) = let rest = in_key es i there in (rest.0, inr r
 listed : (es : Lists) (i : RequestId) (g : ℕ) (o : Option (List Heard)) → list_at es i ≡ o → IsSome (clock_of (or_empty o) g)
     → In i (keys_of es)
 listed es i g None e some = absurd (both_ways _ refl some)
-listed es i g (Some v) e some = key_in es i v (stands id_total id_antisym es i v e)
+listed es i g (Some v) e some = key_in es i v (stands same_id-true es i v e)
 
 length-keys : (es : Lists) → length (keys_of es) ≡ length es
 length-keys [] = refl
@@ -226,14 +219,14 @@ length-keys (e ∷ es) = ap suc (length-keys es)
 pub counted : (es : Lists) (n : ℕ) → AreLists es → n ≡ length es → CountsNamed (shown es) n
 counted es n lists count = record {
   ids = keys_of es;
-  once = ids_once es lists.sorted;
+  once = ids_once es lists.once;
   named = λ i. (
     λ there.
         let v = in_key es i there in
-        let at : list_at es i ≡ Some v.0 = found id_total id_antisym es (i, v.0) lists.sorted v.1 in
+        let at : list_at es i ≡ Some v.0 = found id_equal es (i, v.0) lists.once v.1 in
         let first = first_clock v.0 (lists.some (i, v.0) v.1) in
-        (first.0, subst (λ o. IsSome o) (sym (get_shown es i first.0 lists.sorted ∙ ap (λ o. clock_of (or_empty o) first.0) at)) first.1),
-    λ it. listed es i it.0 (list_at es i) refl (subst (λ o. IsSome o) (get_shown es i it.0 lists.sorted) it.1),
+        (first.0, subst (λ o. IsSome o) (sym (get_shown es i first.0 lists.once ∙ ap (λ o. clock_of (or_empty o) first.0) at)) first.1),
+    λ it. listed es i it.0 (list_at es i) refl (subst (λ o. IsSome o) (get_shown es i it.0 lists.once) it.1),
   );
   count = length-keys es ∙ sym count;
 }
@@ -248,7 +241,7 @@ same_lists id w es es' lists changed same = same_map source_total source_antisym
         → cond (same_id s.id id) (clock_of (or_empty w) s.from) (get (shown es) s) ≡ get (shown es) s
     by_id s (inl e) =
         ap (λ b. cond b (clock_of (or_empty w) s.from) (get (shown es) s)) e ∙ ap (λ o. clock_of (or_empty o) s.from) (sym same)
-        ∙ sym (get_shown es id s.from lists.sorted) ∙ ap (λ i. get (shown es) (source i s.from)) (sym (same_id-true s.id id e))
+        ∙ sym (get_shown es id s.from lists.once) ∙ ap (λ i. get (shown es) (source i s.from)) (sym (same_id-true s.id id e))
     by_id s (inr e) = ap (λ b. cond b (clock_of (or_empty w) s.from) (get (shown es) s)) e
 
 -- ---- the test of a single proposal
@@ -293,11 +286,11 @@ at_single id from n (x ∷ xs) single = and_from _ _ (elim (cases_Bool (is_clock
 pub single_is : (es : Lists) (id : RequestId) (from n : ℕ) (r : Bool) → AreLists es → r ≡ are_single id from n es
     → IsTrue r ↔ ((i : RequestId) → get (shown es) (source i from) ≡ Some n → i ≡ id)
 single_is es id from n r lists is = (
-  λ h i told. by_list h i (list_at es i) refl (sym (get_shown es i from lists.sorted) ∙ told),
-  λ single. is ∙ at_single id from n es (λ e there told. single e.0 (get_shown es e.0 from lists.sorted
-      ∙ ap (λ o. clock_of (or_empty o) from) (found id_total id_antisym es e lists.sorted there) ∙ told)),
+  λ h i told. by_list h i (list_at es i) refl (sym (get_shown es i from lists.once) ∙ told),
+  λ single. is ∙ at_single id from n es (λ e there told. single e.0 (get_shown es e.0 from lists.once
+      ∙ ap (λ o. clock_of (or_empty o) from) (found id_equal es e lists.once there) ∙ told)),
 )
   where
     by_list : IsTrue r → (i : RequestId) (o : Option (List Heard)) → list_at es i ≡ o → clock_of (or_empty o) from ≡ Some n → i ≡ id
     by_list h i None e told = absurd (cc)
-    by_list h i (Some v) e told = single_at id from n es (sym is ∙ h) (i, v) (stands id_total id_antisym es i v e) told
+    by_list h i (Some v) e told = single_at id from n es (sym is ∙ h) (i, v) (stands same_id-true es i v e) told

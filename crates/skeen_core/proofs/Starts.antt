@@ -78,10 +78,6 @@ low me c es ps kept e there = by_final (final (clocks ps e.1.id) e.1.groups) ref
 
 module _ {me c : ℕ} {es : List Entry} {ps : FinMap source_cmp ℕ} {id : RequestId} {floor : ℕ} {groups : List ℕ} {n : ℕ} {o : Option Stamp}
     {m : ℕ} where
-  own_heard : Begun me c es ps id floor groups n o m → clocks (with_own ps id me n) id me ≡ Some n
-  own_heard b = ap (λ (f : ℕ → Option ℕ). f me) (clocks_same ps id (record { from = me; clock = n }))
-      ∙ ap (λ t. cond t (Some n) (clocks ps id me)) (eq-eqb me me refl)
-
   -- its final stamp, if it is known, is at least its own
   high : Begun me c es ps id floor groups n o m → n ≤ (place_by o (own me n)).clock
   high b = by_final o refl

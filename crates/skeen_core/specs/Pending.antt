@@ -1,5 +1,5 @@
 -- The started requests by their places.
-use Rattle.std.specs.Prelude.{◌≡◌, ℕ, suc, ◌==◌, ◌&&◌, not, Bool, false, cond, List, [], ◌∷◌, length, Option, Some, None}
+use Rattle.std.specs.Prelude.{◌≡◌, ℕ, suc, ◌==◌, ◌&&◌, not, Bool, true, false, cond, List, [], ◌∷◌, length, Option, Some, None}
 use Rattle.std.specs.BTreeMap.{is_at, insert_entry}
 use Rattle.std.specs.FinMap.{FinMap, retain_keys}
 use Rattle.std.specs.List.Sorted.{IsStrictlySortedBy}
@@ -8,6 +8,7 @@ use Rattle.std.specs.Ordering.{nat_cmp, ordering_then}
 use Rattle.std.specs.declared.cmp.Ordering.{Ordering}
 use Rattle.groups.specs.GroupSet.{has}
 use Rattle.groups.specs.Request.{same_id, source_cmp}
+use Rattle.groups.specs.Stamp.{stamp_lt}
 use Rattle.groups.specs.declared.request.RequestId.{RequestId}
 use Rattle.groups.specs.declared.stamp.Stamp.{Stamp}
 use Rattle.skeen_core.specs.Group.{has_id}
@@ -54,6 +55,10 @@ forgotten ds ps = retain_keys ps (λ s. not (has_id ds s.id))
 
 -- ---- changes
 
+-- no proposal is missing of it any more
+abbrev pub settled : Pending → Pending
+settled p = record p { missing = 0 }
+
 abbrev pub if_waits : Stamp → RequestId → ℕ → Option Pending → Option Entry
 if_waits s i from None = None
 if_waits s i from (Some p) = cond (same_id p.id i && has p.groups from) (Some (s, p)) None
@@ -67,6 +72,15 @@ waiting me (Some n) i from es = if_waits (record { clock = n; group = me }) i fr
 abbrev pub room_for : Stamp → List Entry → ℕ
 room_for s [] = 0
 room_for s (e ∷ es) = cond (is_place s e.0) (suc (length (front es))) 0
+
+abbrev pub is_before : Stamp → List Entry → Bool
+is_before t [] = true
+is_before t (e ∷ es) = stamp_lt t e.0
+
+-- whether it is the first, and stays so at the place t
+abbrev pub stays_first : Stamp → Stamp → List Entry → Bool
+stays_first s t [] = false
+stays_first s t (e ∷ es) = is_place s e.0 && is_before t es
 
 -- the request that stood at the place s stands at the place t, as p
 pub record Moves (s t : Stamp) (p : Pending) (old new : List Entry) : Type 0 where

@@ -3,10 +3,10 @@ use Rattle.std.specs.Prelude.{◌≡◌, ℕ, ◌<◌, ◌==◌, ◌↔◌, ◌&
 use Rattle.std.specs.Prelude.{None, IsSome}
 use Rattle.std.specs.Coded.{Coded, code_by, coded×, coded_ℕ}
 use Rattle.std.specs.FinMap.{FinMap, get}
-use Rattle.std.specs.List.Sorted.{IsStrictlySortedBy}
+use Rattle.std.specs.List.{IsDistinct}
 use Rattle.std.specs.Map.{keys_of}
 use Rattle.groups.specs.Order.{In}
-use Rattle.groups.specs.Request.{same_id, id_cmp, Source, source_cmp}
+use Rattle.groups.specs.Request.{same_id, Source, source_cmp}
 use Rattle.groups.specs.declared.request.RequestId.{RequestId}
 use Rattle.skeen_core.specs.Group.{EachOnce}
 use Rattle.skeen_core.specs.Heard.{clock_of}
@@ -32,9 +32,9 @@ abbrev pub clocks_of : List (RequestId × List Heard) → List (Source × ℕ)
 clocks_of [] = []
 clocks_of (e ∷ es) = sources_of e.0 e.1 ++ clocks_of es
 
--- in the order of the requests, and no list is empty
+-- each request once, and no list is empty
 pub record AreLists (es : List (RequestId × List Heard)) : Type 0 where
-  pub sorted : IsStrictlySortedBy id_cmp (keys_of es)
+  pub once : IsDistinct same_id (keys_of es)
   pub some : (e : RequestId × List Heard) → In e es → 0 < length e.1
 
 -- ---- reads

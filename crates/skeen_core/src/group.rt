@@ -9,7 +9,7 @@ ghost use Rattle.skeen_core.specs.declared.coming.TheConstants.{GREATEST_CLOCK};
 
 use super::heard::{Heard, clock_of, final_stamp, missing};
 use super::packet::{Body, Delivered, Packet};
-use super::pending::{Pending, enter, lower, pop_settled, room_for, settle, waiting};
+use super::pending::{Pending, enter, lower, settle, waiting};
 use super::proposals::Proposals;
 use super::tell::tell;
 use groups::{GroupId, Groups, RequestId, Stamp};
@@ -177,8 +177,7 @@ impl Group {
             return Ok(Vec::new(alloc));
         };
         let least = stamp.clock;
-        let mut delivered = Vec::with_capacity(alloc, room_for(&self.pending, &place))?;
-        settle(
+        let delivered = settle(
             &mut self.pending,
             &mut self.proposals,
             alloc,
@@ -187,7 +186,6 @@ impl Group {
             request,
             last,
         )?;
-        pop_settled(&mut self.pending, &mut self.proposals, &mut delivered);
         self.clock = self.clock.max(least);
         self.looks = delivered.len() as u64 + stayed(&self.pending, &stamp);
         Ok(delivered)
@@ -243,5 +241,8 @@ fn final_once(list: &[Heard], last: &Heard, request: &Pending) -> Option<Stamp>
 fn stayed(pending: &BTreeMap<Stamp, Pending>, stamp: &Stamp) -> u64
     ensures { result ≤ 2 }
 {
-    u64::from(!pending.is_empty()) + u64::from(pending.contains_key(stamp))
+    match pending.first_key_value() {
+        Some((first, _)) => 1 + u64::from(first < stamp),
+        None => 0,
+    }
 }

@@ -1,10 +1,12 @@
 //! The requests that have started, by their places: a settled one stands at its final stamp, any other at the group's
 //! own proposal. Those that are delivered stand in front.
-ghost use Rattle.std.specs.Prelude.{◌≡◌, ◌+◌, ◌-◌, ◌<◌, ◌≤◌, ◌++◌, ◌⊎◌, length, Some, None, IsSome, OnOk, OnErr};
+ghost use Rattle.std.specs.Prelude.{◌≡◌, ◌+◌, ◌-◌, ◌<◌, ◌≤◌, ◌++◌, ◌⊎◌, false, length, Some, None, IsSome, IfOk, OnOk, OnErr};
 ghost use Rattle.std.specs.BTreeMap.{insert_entry};
 ghost use Rattle.std.specs.FinMap.{insert, get};
 ghost use Rattle.std.specs.Vec.{vec_capacity};
-ghost use Rattle.skeen_core.specs.Pending.{stamp_cmp, at, first_is_settled, room_for, waiting, front, behind, Moves, moved, forgotten};
+ghost use Rattle.groups.specs.Stamp.{stamp_lt};
+ghost use Rattle.skeen_core.specs.Pending.{stamp_cmp, at, first_is_settled, room_for, stays_first, waiting, front, behind};
+ghost use Rattle.skeen_core.specs.Pending.{settled, Moves, moved, forgotten};
 ghost use Rattle.skeen_core.specs.declared.pending.Pending.{Pending};
 
 use super::heard::Heard;
@@ -22,26 +24,34 @@ pub struct Pending {
     pub missing: u64,
 }
 
-/// How many go once the request at this place is settled, at most: it and the settled ones right behind it, if it is
-/// the first.
-pub fn room_for(pending: &BTreeMap<Stamp, Pending>, place: &Stamp) -> usize
-    ensures { result ≡ room_for place.now pending.now.entries }
+/// How many go once the request at this place is settled at `stamp`, at most: it and the settled ones right behind it,
+/// if it is the first. Beside it, whether it stays the first at `stamp`.
+fn room_for(pending: &BTreeMap<Stamp, Pending>, place: &Stamp, stamp: &Stamp) -> (usize, bool)
+    ensures room { result.0 ≡ room_for place.now pending.now.entries }
+    ensures stays { result.1 ≡ stays_first place.now stamp.now pending.now.entries }
 {
     let mut entries = pending.iter();
     let Some((first, _)) = entries.next() else {
-        return 0;
+        return (0, false);
     };
     if first != place {
-        return 0;
+        return (0, false);
     }
-    let mut room = 1;
+    let Some((second, next)) = entries.next() else {
+        return (1, true);
+    };
+    let stays = stamp < second;
+    if next.missing > 0 {
+        return (1, stays);
+    }
+    let mut room = 2;
     for (_, request) in entries {
         if request.missing > 0 {
             break;
         }
         room += 1;
     }
-    room
+    (room, stays)
 }
 
 /// The request, with its place, if it has started and waits for a proposal of the group `from`. `own` is the proposal
@@ -107,7 +117,7 @@ pub fn enter(
 
 /// The request at `own`, the group's own proposal for it, is settled by the proposal `last`: it enters the place of its
 /// final stamp before it leaves the old one. The only error is want of memory, and it changes nothing.
-pub fn settle(
+fn move_settled(
     pending: &mut BTreeMap<Stamp, Pending>,
     proposals: &mut Proposals,
     alloc: Global,
@@ -119,8 +129,8 @@ pub fn settle(
     requires there { IsSome (at pending.old.entries own) }
     requires free { (stamp ≡ own) ⊎ (at pending.old.entries stamp ≡ None) }
     requires single { get proposals.old (record { id = request.id; from = last.from }) ≡ None }
-    ensures moves { OnOk result (Moves own stamp (record request { missing = 0 }) pending.old.entries pending.new.entries) }
-    ensures moved { OnOk result (pending.new.entries ≡ moved own stamp (record request { missing = 0 }) pending.old.entries) }
+    ensures moves { OnOk result (Moves own stamp (settled request) pending.old.entries pending.new.entries) }
+    ensures moved { OnOk result (pending.new.entries ≡ moved own stamp (settled request) pending.old.entries) }
     ensures added { OnOk result (proposals.new ≡ insert proposals.old (record { id = request.id; from = last.from }) last.clock) }
     ensures pending_kept { OnErr result (pending.new.entries ≡ pending.old.entries) }
     ensures proposals_kept { OnErr result (proposals.new ≡ proposals.old) }
@@ -150,7 +160,7 @@ fn first_is_settled(pending: &BTreeMap<Stamp, Pending>) -> bool
 }
 
 /// Takes the settled requests in front out, and forgets their proposals.
-pub fn pop_settled(
+fn pop_settled(
     pending: &mut BTreeMap<Stamp, Pending>,
     proposals: &mut Proposals,
     delivered: &mut Vec<Delivered>,
@@ -171,4 +181,49 @@ pub fn pop_settled(
             groups: request.groups,
         });
     }
+}
+
+/// The request at `own`, the group's own proposal for it, is settled by the proposal `last`, and the settled requests in
+/// front are taken out. One that stays the first at its final stamp is taken out from where it stands. The only error is
+/// want of memory, and it changes nothing.
+pub fn settle(
+    pending: &mut BTreeMap<Stamp, Pending>,
+    proposals: &mut Proposals,
+    alloc: Global,
+    own: Stamp,
+    stamp: Stamp,
+    request: Pending,
+    last: Heard,
+) -> Result<Vec<Delivered>, AllocError>
+    requires there { at pending.old.entries own ≡ Some request }
+    requires free { (stamp ≡ own) ⊎ (at pending.old.entries stamp ≡ None) }
+    requires not_below { stamp_lt stamp own ≡ false }
+    requires single { get proposals.old (record { id = request.id; from = last.from }) ≡ None }
+    requires few { length (front (moved own stamp (settled request) pending.old.entries)) ≤ room_for own pending.old.entries }
+    ensures moves { OnOk result (Moves own stamp (settled request) pending.old.entries
+        (moved own stamp (settled request) pending.old.entries)) }
+    ensures delivered { IfOk result (λ ds. ds.items ≡ front (moved own stamp (settled request) pending.old.entries)) }
+    ensures pending { OnOk result (pending.new.entries ≡ behind (moved own stamp (settled request) pending.old.entries)) }
+    ensures proposals { OnOk result (proposals.new
+        ≡ forgotten (front (moved own stamp (settled request) pending.old.entries))
+        (insert proposals.old (record { id = request.id; from = last.from }) last.clock)) }
+    ensures pending_kept { OnErr result (pending.new.entries ≡ pending.old.entries) }
+    ensures proposals_kept { OnErr result (proposals.new ≡ proposals.old) }
+{
+    let (room, stays) = room_for(pending, &own, &stamp);
+    let mut delivered = Vec::with_capacity(alloc, room)?;
+    if stays {
+        let _ = pending.pop_first();
+        proposals.forget(request.id);
+        delivered.push_reserved(Delivered {
+            id: request.id,
+            stamp,
+            groups: request.groups,
+        });
+        pop_settled(pending, proposals, &mut delivered);
+        return Ok(delivered);
+    }
+    move_settled(pending, proposals, alloc, own, stamp, request, last)?;
+    pop_settled(pending, proposals, &mut delivered);
+    Ok(delivered)
 }

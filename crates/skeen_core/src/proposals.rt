@@ -9,13 +9,14 @@ ghost use Rattle.skeen_core.specs.Proposals.{CountsNamed, is_clock, are_single};
 use super::heard::{Heard, HeardList, clock_of};
 use groups::{GroupId, RequestId};
 use std::alloc::{AllocError, Global};
-use std::collections::BTreeMap;
+use std::collections::HashMap;
 use std::marker::Model;
 
-/// The proposals that a group has, its own among them. A contract sees the clocks by request and group.
+/// The proposals that a group has, its own among them. A contract sees the clocks by request and group. They are found
+/// by hashing, so that a packet costs the same however many requests are open.
 #[derive(Drop)]
 pub struct Proposals {
-    lists: BTreeMap<RequestId, HeardList>,
+    lists: HashMap<RequestId, HeardList>,
 }
 
 impl Model for Proposals {
@@ -40,7 +41,7 @@ impl Proposals {
         ensures { result ≡ empty }
     {
         Proposals {
-            lists: BTreeMap::new(alloc),
+            lists: HashMap::new(alloc),
         }
     }
 
@@ -94,7 +95,7 @@ impl Proposals {
 
 /// Whether none of these but the request's own has that proposal.
 fn are_single(
-    lists: &BTreeMap<RequestId, HeardList>,
+    lists: &HashMap<RequestId, HeardList>,
     id: RequestId,
     from: GroupId,
     clock: u64,

@@ -1,11 +1,10 @@
 -- A Proposal: what the code has made is what the rule gives.
-use Rattle.std.proofs.Common.{◌+◌, ◌++◌, length, is_some, sym, ap, ◌∙◌, arith}
-use Rattle.skeen_core.specs.Pending.{front}
-use Rattle.skeen_core.proofs.Hearings.{Hearing, Told, Done, new, waits, less, settles, settles_free, go_few, flag_few, with_told}
+use Rattle.std.proofs.Common.{◌+◌, is_some, sym, ap, ◌∙◌, arith}
+use Rattle.skeen_core.proofs.Hearings.{Hearing, Told, Settles, Done, new, waits, less, settles, no_lower, settles_free, go_few, flag_few}
 use Rattle.skeen_core.proofs.Hearings.{known_done, noted_done, lowered_done, settled_done}
 use Rattle.skeen_core.proofs.group.Group.hear.Goals as goal
-use Rattle.skeen_core.proofs.group.Group.hear.Goals.{After-of-list, Else-is_some}
-use Rattle.skeen_core.proofs.group.Group.hear.Goals.{After-new-in_default, After-new-in_default-final_once, After-stayed}
+use Rattle.skeen_core.proofs.group.Group.hear.Goals.{After-of-list, Else-is_some, After-new-in_default, In-Some-final_once}
+use Rattle.skeen_core.proofs.group.Group.hear.Goals.{After-new-in_default-final_once, After-stayed}
 
 hears : (c : After-of-list) → Hearing c.args.self.now c.self.inside.id c.self.inside.clock c.self.inside.pending.entries
     c.self.inside.proposals c.self.inside.looks c.args.id c.args.last c.of-list.result.now
@@ -56,34 +55,37 @@ pub returns-in_default-final_once-clause-done : goal.returns-in_default-final_on
 returns-in_default-final_once-clause-done c = (lowered c).receipt
 
 -- ---- it was the last one
+
+last_one : (c : In-Some-final_once) → Settles c.self.inside.id c.self.inside.clock c.self.inside.pending.entries c.self.inside.proposals
+    c.args.id c.args.last c.in-Some.place c.in-Some.request c.in-Some-final_once.stamp
+last_one c =
+    let d = goal.at.In-Some-final_once c in let h = hears d.After-of-list in
+    settles h (told d.Else-is_some) (waits h _ _ _ c.clock_of-own.ensures (sym c.waiting.ensures ∙ c.in-Some.is))
+    c.in-Some-final_once.stamp c.in-Some-final_once.ensures.many c.in-Some-final_once.ensures.few
+
 pub settle-requires-clause-free : goal.settle-requires-clause-free
 settle-requires-clause-free c =
-    let d = goal.at.settle-requires-clause-free c in let h = hears d.After-of-list in let t = told d.Else-is_some in
-    let w = waits h _ _ _ c.clock_of-own.ensures (sym c.waiting.ensures ∙ c.in-Some.is) in
-    settles_free t w _ (settles h t w c.in-Some-final_once.stamp c.in-Some-final_once.ensures.many c.in-Some-final_once.ensures.few)
+    let it = last_one (goal.at.settle-requires-clause-free c).In-Some-final_once in settles_free it.told it.waits _ it.final
 
-pub pop_settled-requires : goal.pop_settled-requires
-pop_settled-requires c =
-    let d = goal.at.pop_settled-requires c in let h = hears d.After-of-list in let t = told d.Else-is_some in
-    let w = waits h _ _ _ c.clock_of-own.ensures (sym c.waiting.ensures ∙ c.in-Some.is) in
-    let is = settles h t w c.in-Some-final_once.stamp c.in-Some-final_once.ensures.many c.in-Some-final_once.ensures.few in
-    let few = go_few t w _ is _ _ c.in_ok-settle.ensures.moved in
-    let none = c.in_ok-delivered.ensures.items in omega (arith, c.in_ok-delivered.ensures.capacity, c.room_for.ensures, ap length none)
+pub settle-requires-clause-not_below : goal.settle-requires-clause-not_below
+settle-requires-clause-not_below c =
+    let it = last_one (goal.at.settle-requires-clause-not_below c).In-Some-final_once in no_lower it.told it.waits _ it.final
 
-settled : (c : After-stayed) → Done c.args.self.now c.args.id c.args.last c.pop_settled.new.delivered.items c.self.inside.id
-    c.max-self-inside.result c.pop_settled.new.pending.entries c.pop_settled.new.proposals (c.len.result + c.stayed.result)
-settled c =
-    let d = goal.at.After-stayed c in let h = hears d.After-of-list in let t = told d.Else-is_some in
-    let w = waits h _ _ _ c.clock_of-own.ensures (sym c.waiting.ensures ∙ c.in-Some.is) in
-    let is = settles h t w c.in-Some-final_once.stamp c.in-Some-final_once.ensures.many c.in-Some-final_once.ensures.few in
-    settled_done h t w _ is _ c.in_ok-settle.ensures.moves c.in_ok-settle.ensures.moved _
-    (c.pop_settled.ensures.delivered ∙ ap (λ l. l ++ front c.settle.new.pending.entries) c.in_ok-delivered.ensures.items)
-    c.max-self-inside.result (omega (arith, c.max-self-inside.ensures)) _ c.pop_settled.ensures.pending _ _
-    (c.in_ok-settle.ensures.added ∙ ap (λ i. with_told c.self.inside.proposals i c.args.last) w.named) c.pop_settled.ensures.proposals
+pub settle-requires-clause-few : goal.settle-requires-clause-few
+settle-requires-clause-few c =
+    let it = last_one (goal.at.settle-requires-clause-few c).In-Some-final_once in go_few it.told it.waits _ it.final _
+
+all_settled : (c : After-stayed) → Done c.args.self.now c.args.id c.args.last c.in_ok-delivered.delivered.items c.self.inside.id
+    c.max-self-inside.result c.settle.new.pending.entries c.settle.new.proposals (c.len.result + c.stayed.result)
+all_settled c =
+    let d = goal.at.After-stayed c in
+    settled_done (hears d.After-of-list) _ (last_one d.In-Some-final_once) c.in_ok-delivered.ensures.moves _
+    c.in_ok-delivered.ensures.delivered c.max-self-inside.result (omega (arith, c.max-self-inside.ensures)) _
+    c.in_ok-delivered.ensures.pending _ c.in_ok-delivered.ensures.proposals
     (c.len.result + c.stayed.result) (omega (arith, c.len.ensures, c.stayed.ensures)) (omega (arith, c.len.ensures, c.stayed.ensures))
 
 pub invariant_of-self-2 : goal.invariant_of-self-2
-invariant_of-self-2 c = (settled (goal.at.invariant_of-self-2 c).After-stayed).kept
+invariant_of-self-2 c = (all_settled (goal.at.invariant_of-self-2 c).After-stayed).kept
 
 pub returns-clause-done : goal.returns-clause-done
-returns-clause-done c = (settled (goal.at.returns-clause-done c).After-stayed).receipt
+returns-clause-done c = (all_settled (goal.at.returns-clause-done c).After-stayed).receipt

@@ -5,7 +5,6 @@ use Rattle.skeen_core.specs.Kept.{IsKept}
 use Rattle.skeen_core.specs.Pending.{stamp_cmp}
 use Rattle.skeen_core.proofs.Lawful.{lawful_fresh}
 use Rattle.skeen_core.proofs.Receipts.{kept_new}
-use Rattle.skeen_core.proofs.Starts.{}
 use Rattle.skeen_core.proofs.group.Group.new.Goals as goal
 
 pub invariant_of-result : goal.invariant_of-result

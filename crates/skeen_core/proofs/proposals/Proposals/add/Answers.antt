@@ -1,11 +1,10 @@
 use Rattle.std.proofs.Common.{◌≡◌, ◌<◌, [], ◌∷◌, ◌++◌, length, cond, Some, None, IsSome, OnOk, OnErr, Ok, Err, Result, ap, ◌∙◌, sym, subst}
 use Rattle.std.proofs.Common.{refl}
 use Rattle.std.proofs.Common.{◌⊎◌, inl, inr}
-use Rattle.std.specs.BTreeMap.{is_at}
 use Rattle.std.specs.FinMap.{get, insert}
-use Rattle.groups.specs.Request.{id_cmp}
+use Rattle.groups.specs.Request.{same_id}
 use Rattle.groups.proofs.Options.{some_same}
-use Rattle.groups.proofs.Ids.{id_total, id_antisym}
+use Rattle.groups.proofs.Ids.{same_id-true}
 use Rattle.skeen_core.proofs.Entries.{stands}
 use Rattle.skeen_core.proofs.ProposalLists.{Changed, source, or_empty, list_at, added, lists_changed, longer, same_lists}
 use Rattle.skeen_core.proofs.proposals.Proposals.add.Goals as goal
@@ -31,7 +30,7 @@ written : (c : After-push) → Changed c.args.id (Some c.push.new.self) c.self.i
     (c.get_mut.follows.lender c.push.new.self).entries
 written c =
     let holds = c.get_mut.follows.holds c.push.new.self in
-    record { sorted = holds.4; at = (holds.3 (subst (λ o. IsSome o) (sym (had c)) refl)).0 }
+    record { once = holds.4; at = (holds.3 (subst (λ o. IsSome o) (sym (had c)) refl)).0 }
 
 pub invariant_of-self : goal.invariant_of-self
 invariant_of-self c =
@@ -41,7 +40,7 @@ invariant_of-self c =
     subst (λ l. 0 < length l) same (elim (either c.push.result c.push.ensures.pushed c.push.ensures.unchanged) [
       | inl new ↦ longer c.in-Some.list.now c.args.proposal _ (ap Some (sym new))
       | inr old ↦ subst (λ l. 0 < length l) (sym old)
-          (c.self.invariant.some (c.args.id, c.in-Some.list.now) (stands id_total id_antisym _ c.args.id _ (had d)))
+          (c.self.invariant.some (c.args.id, c.in-Some.list.now) (stands same_id-true _ c.args.id _ (had d)))
     ]))
 
 pub returns-in-Some-clause-added : goal.returns-in-Some-clause-added
@@ -68,9 +67,9 @@ entered : (c : In_ok-insert) → Changed c.args.id (Some (or_empty (list_at c.se
 entered c =
     let none : list_at c.self.inside.lists.entries c.args.id ≡ None = sym c.in_default.ensures.value in
     record {
-      sorted = c.in_ok-insert.ensures.ordered;
+      once = c.in_ok-insert.ensures.unique;
       at = λ q.
-          let here = is_at (id_cmp c.args.id) q in
+          let here = same_id c.args.id q in
           c.in_ok-insert.ensures.updates.0 q
           ∙ ap (λ l. cond here (Some l) (list_at c.get_mut.follows.lender-at-none.entries q)) c.in_ok-list.ensures
           ∙ ap (λ m. cond here (Some (c.args.proposal ∷ [])) (list_at m.entries q)) c.get_mut.follows.holds-at-none

@@ -6,7 +6,7 @@ use Rattle.skeen_core.proofs.proposals.Proposals.forget.Goals as goal
 use Rattle.skeen_core.proofs.proposals.Proposals.forget.Goals.{After-remove}
 
 taken : (c : After-remove) → Changed c.args.id None c.self.inside.lists.entries c.remove.new.self.entries
-taken c = record { sorted = c.remove.ensures.ordered; at = c.remove.ensures.updates.0 }
+taken c = record { once = c.remove.ensures.unique; at = c.remove.ensures.updates.0 }
 
 pub invariant_of-self : goal.invariant_of-self
 invariant_of-self c = lists_changed c.args.id None c.self.inside.lists.entries _ c.self.invariant

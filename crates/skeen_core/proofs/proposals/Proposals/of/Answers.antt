@@ -8,9 +8,9 @@ pub returns-in-Some : goal.returns-in-Some
 returns-in-Some c = λ g.
     ap (λ l. clock_of l g) c.as_slice.ensures
     ∙ ap (λ o. clock_of (or_empty o) g) (c.in-Some.ensures.value)
-    ∙ sym (get_shown c.self.inside.lists.entries c.args.id g c.self.invariant.sorted) ∙ ap (λ m. get m (source c.args.id g)) c.self.view_is
+    ∙ sym (get_shown c.self.inside.lists.entries c.args.id g c.self.invariant.once) ∙ ap (λ m. get m (source c.args.id g)) c.self.view_is
 
 pub returns-in-None : goal.returns-in-None
 returns-in-None c = λ g.
     ap (λ o. clock_of (or_empty o) g) c.in-None.ensures.value
-    ∙ sym (get_shown c.self.inside.lists.entries c.args.id g c.self.invariant.sorted) ∙ ap (λ m. get m (source c.args.id g)) c.self.view_is
+    ∙ sym (get_shown c.self.inside.lists.entries c.args.id g c.self.invariant.once) ∙ ap (λ m. get m (source c.args.id g)) c.self.view_is
