@@ -5,6 +5,7 @@ ghost use Rattle.back.specs.Backs.{new_back, IsLawful};
 ghost use Rattle.back.specs.Runs.{HasRun, IsRefused};
 ghost use Rattle.dumps.specs.Dump.{dump_text};
 ghost use Rattle.layer_results.specs.Results.{AreCopies, no_results};
+ghost use Rattle.shard_exec.specs.StoreStates.{IsStore};
 ghost use Rattle.shard_maps.specs.Joined.{joined};
 
 use crate::running::run_over;
@@ -115,9 +116,10 @@ impl Back {
         &self.rows
     }
 
-    /// The table that places its keys.
+    /// The table that places its keys. Each shard has only keys that it places there.
     pub fn table(&self) -> &Table
-        ensures { result.now ≡ self.now.store.table }
+        ensures table { result.now ≡ self.now.store.table }
+        ensures is_store { IsStore self.now.store }
     {
         self.store.table()
     }

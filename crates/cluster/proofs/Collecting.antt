@@ -27,6 +27,7 @@ use Rattle.groups.specs.Order.{In}
 use Rattle.groups.specs.declared.request.ConnId.{ConnId}
 use Rattle.groups.specs.declared.request.RequestId.{RequestId}
 use Rattle.system.specs.Parts.{effect_shown}
+use Rattle.system.specs.Reads.{table_of}
 use Rattle.system.specs.declared.effect.Effect.{Effect}
 use Rattle.system.specs.declared.effect.Effect.TheVariants as effect
 use Rattle.system.specs.declared.fault.StepFault.{StepFault}
@@ -83,14 +84,14 @@ pub some_collected : (h h' : HistoryView) (s : SeatView) (e : Effect) (w : World
     IsMade h (Collect s.conn) e h' → (given : kept.Outcome) × (e ≡ effect.Collected (Some given))
 some_collected h h' s e w can shown made =
     let next = made.from_each w shown in
-    let standing = stands h.system.parts.router can.outcome w s.conn.0 shown.at.shows.connections can.waits in
+    let standing = stands h.system.parts.front.router can.outcome w s.conn.0 shown.at.shows.connections can.waits in
     by_effect w next.0 s.conn.0 (outcome_shown can.outcome) e
     (subst (λ st. Collects st w s.conn.0 (effect_shown e) next.0) standing next.1)
 
 pub record IsCollected (h h' : HistoryView) (s : SeatView) (o waits : Outcome) (w : World) : Type 0 where
   pub same : o ≡ waits
   pub standing : w.standing s.conn.0 ≡ Answered o
-  pub step : Steps h.system.parts.store.table w (Collect s.conn) (world.Collected (Some o)) (record w {
+  pub step : Steps (table_of h.system) w (Collect s.conn) (world.Collected (Some o)) (record w {
     standing = at w.standing s.conn.0 Idle;
   })
   pub shows : IsIn h' (record w { standing = at w.standing s.conn.0 Idle })
@@ -99,13 +100,13 @@ pub collected : (h h' : HistoryView) (s : SeatView) (o : kept.Outcome) (w : Worl
     IsMade h (Collect s.conn) (effect.Collected (Some o)) h' → IsCollected h h' s (outcome_shown o) (outcome_shown can.outcome) w
 collected h h' s o w can shown made =
     let next = made.from_each w shown in
-    let standing = stands h.system.parts.router can.outcome w s.conn.0 shown.at.shows.connections can.waits in
+    let standing = stands h.system.parts.front.router can.outcome w s.conn.0 shown.at.shows.connections can.waits in
     let step = subst (λ st. Collects st w s.conn.0 (world.Collected (Some (outcome_shown o))) next.0) standing next.1 in
     let same = same_collected (outcome_shown o) (outcome_shown can.outcome) step.0 in
     record {
       same = same;
       standing = standing ∙ ap Answered (sym same);
-      step = subst (λ v. Steps h.system.parts.store.table w (Collect s.conn) (world.Collected (Some (outcome_shown o))) v) step.1 next.1;
+      step = subst (λ v. Steps (table_of h.system) w (Collect s.conn) (world.Collected (Some (outcome_shown o))) v) step.1 next.1;
       shows = subst (λ v. IsIn h' v) step.1 next.2;
     }
 
@@ -180,7 +181,7 @@ said_of t test i (s ∷ h) (e ∷ es) old new made (inr later) =
 pub own : (h h' : HistoryView) (s : SeatView) (o waits : Outcome) (w : World) → IsIn h w → Fits s h.steps → IsCollected h h' s o waits w →
     o.id ≡ last_id s
 own h h' s o waits w shown fits is =
-    let t = h.system.parts.store.table in
+    let t = table_of h.system in
     let law = collects_its_own t h.steps shown.at.leads.0 w _ shown.at.leads.1 s.conn o is.step in
     let seq = counts t h.steps w s.conn.0 shown.at.leads in
     let counted = fits.counted in
@@ -236,7 +237,7 @@ from_ended h h' s o waits w words e None shown is there so reply =
       reply = ap (λ (x : Outcome). x.reply) so ∙ ap reply_of reply;
     }))
 from_ended h h' s o waits w words e (Some reply') shown is there so reply =
-    let found = zip_at IsRow (rows_of w.ended) h'.system.parts.rows.rows (row_of e reply') is.shows.at.shows.rows
+    let found = zip_at IsRow (rows_of w.ended) h'.system.parts.back.rows (row_of e reply') is.shows.at.shows.rows
     (in_rows w.ended e reply' there reply) in
     inl (record {
       row = found.0;
@@ -249,11 +250,11 @@ from_ended h h' s o waits w words e (Some reply') shown is there so reply =
 -- of words that were answered at once
 at_once : (h h' : HistoryView) (s : SeatView) (o waits : Outcome) (w : World) (shown : IsIn h w) → Fits s h.steps →
     IsCollected h h' s o waits w →
-    o.id ≡ last_id s → o.stamp ≡ None → h'.system.parts.store.table ≡ h.system.parts.store.table →
-    WasSubmitted (λ words. reply_at_once h.system.parts.store.table (reading words) ≡ Some o.reply) o.id h.steps shown.at.leads.0 →
+    o.id ≡ last_id s → o.stamp ≡ None → table_of h'.system ≡ table_of h.system →
+    WasSubmitted (λ words. reply_at_once (table_of h.system) (reading words) ≡ Some o.reply) o.id h.steps shown.at.leads.0 →
     ComesFrom h'.system s.words o
 at_once h h' s o waits w shown fits is id none table was =
-    let t = h.system.parts.store.table in
+    let t = table_of h.system in
     let said = said_of t _ o.id h.steps shown.at.leads.0 opening w shown.at.leads.1 was in
     let number = said.number in
     let seq = ap (λ (i : RequestId). i.seq) id in
@@ -267,9 +268,9 @@ at_once h h' s o waits w shown fits is id none table was =
     }))
 
 pub from : (h h' : HistoryView) (s : SeatView) (o waits : Outcome) (w : World) → IsIn h w → Fits s h.steps → IsCollected h h' s o waits w →
-    h'.system.parts.store.table ≡ h.system.parts.store.table → ComesFrom h'.system s.words o
+    table_of h'.system ≡ table_of h.system → ComesFrom h'.system s.words o
 from h h' s o waits w shown fits is table =
-    let t = h.system.parts.store.table in
+    let t = table_of h.system in
     let law = collects_its_own t h.steps shown.at.leads.0 w _ shown.at.leads.1 s.conn o is.step in
     let id = own h h' s o waits w shown fits is in
     elim law.1 [
@@ -296,7 +297,7 @@ collect_fault h s fault.Failed can why = why
 some_submitted : (h h' : HistoryView) (s : SeatView) (o waits : Outcome) (w : World) → IsIn h w → Fits s h.steps →
     IsCollected h h' s o waits w → 0 < s.count
 some_submitted h h' s o waits w shown fits is =
-    let t = h.system.parts.store.table in
+    let t = table_of h.system in
     let law = collects_its_own t h.steps shown.at.leads.0 w _ shown.at.leads.1 s.conn o is.step in
     let seq = ap (λ (i : RequestId). i.seq) (own h h' s o waits w shown fits is) in
     elim law.1 [

@@ -27,10 +27,10 @@ last_is : (lasts : List (ℕ × Last)) (steps : List Step) (i : ℕ) (last : Las
 last_is lasts steps i last are is = subst (λ o. IsLastOf steps i o) is (are i)
 
 -- steps may be made where it isn't so that none is
-pub going : (h : HistoryView) (s : SystemView) (failed all : Bool) → s ≡ h.system → failed ≡ s.parts.store.failed → failed ≡ false →
+pub going : (h : HistoryView) (s : SystemView) (failed all : Bool) → s ≡ h.system → failed ≡ s.parts.back.store.failed → failed ≡ false →
     (all ≡ false → length h.steps < h.max_steps) → all ≡ false → MayGoOn h
 going h s failed all same is none left some =
-    record { lives = ap (λ (s : SystemView). s.parts.store.failed) (sym same) ∙ (sym is ∙ none); left = left some }
+    record { lives = ap (λ (s : SystemView). s.parts.back.store.failed) (sym same) ∙ (sym is ∙ none); left = left some }
 
 -- what tells whether the trace has these words at a place
 abbrev pub Tells : List Step → SeatView → ℕ → Bool → Type 0

@@ -6,7 +6,7 @@ use Rattle.cluster.specs.Histories.{HistoryView, has_failed, IsIn, IsLawful, Has
 use Rattle.cluster.specs.Histories.{IsRefused, HasNoFault, IsFault, Fails, IsLeft, IsNoRun}
 use Rattle.journal.specs.declared.step.Step.{Step}
 use Rattle.journal.specs.declared.step.Step.TheVariants.{Open, Submit, Deliver, Take, Run, Settle, Collect, Close}
-use Rattle.system.proofs.Lasting.{still_at}
+use Rattle.system.proofs.Lasting.{still_at, same_parts, same_store, same_rows}
 use Rattle.system.specs.Parts.{stored}
 use Rattle.system.specs.Reads.{table_of}
 use Rattle.system.specs.Reads as reads
@@ -122,7 +122,7 @@ in_still old new still w shown = subst (λ h. ShowsHistory new.system h w) (sym 
 })
 
 pub failed_still : (old new : HistoryView) → IsUnchanged old new → has_failed new ≡ has_failed old
-failed_still old new still = ap (λ s. s.failed) still.system.parts.store
+failed_still old new still = ap (λ s. s.failed) (same_store still.system.parts)
 
 pub history_still : (old new : HistoryView) → IsHistory old → IsUnchanged old new → IsHistory new
 history_still old new is still =
@@ -138,24 +138,14 @@ history_still old new is still =
             world = lawful.world;
             shows = in_still old new still lawful.world lawful.shows;
             one_thread = subst (λ (s : StoreState). IsOneThread (joined s.maps) (rows_by_stamp (rows_of lawful.world.ended)))
-                (sym still.system.parts.store) lawful.one_thread;
+                (sym (same_store still.system.parts)) lawful.one_thread;
           };
-      rows = rows_kept old new (ap (λ s. s.table) still.system.parts.store) still.system.parts.rows still.steps is.rows;
+      rows = rows_kept old new (ap (λ s. s.table) (same_store still.system.parts)) (same_rows still.system.parts) still.steps is.rows;
     }
 
 pub kept_same : (old new : SystemView) → new ≡ old → IsSameButRoom old new
-kept_same old new same = subst (λ s. IsSameButRoom old s) (sym same) (record {
-  max_steps = refl;
-  steps = refl;
-  parts = record {
-    router = refl;
-    multicast = record { groups = refl; packets = refl; queues = refl };
-    store = refl;
-    stage = refl;
-    rows = refl;
-    starved = refl;
-  };
-})
+kept_same old new same =
+    subst (λ s. IsSameButRoom old s) (sym same) (record { max_steps = refl; steps = refl; parts = same_parts old.parts })
 
 -- ---- why it was not
 

@@ -19,6 +19,7 @@ use Rattle.journal.specs.declared.step.Step.{Step}
 use Rattle.journal.specs.declared.step.Step.TheVariants.{Open, Submit, Deliver, Take, Run, Settle, Collect, Close}
 use Rattle.groups.specs.declared.request.ConnId.{ConnId}
 use Rattle.system.specs.Parts.{effect_shown}
+use Rattle.system.specs.Reads.{table_of}
 use Rattle.system.specs.declared.effect.Effect.{Effect}
 use Rattle.system.specs.declared.fault.StepFault.{StepFault}
 use Rattle.system.specs.declared.fault.StepFault.TheVariants as fault
@@ -84,8 +85,8 @@ seated_still lasts sat h h' s e made plain seated =
     record {
       world = next.0;
       shows = next.2;
-      opened = opened_stays h.system.parts.store.table seated.world next.0 s (effect_shown e) plain next.1 ∙ seated.opened;
-      known = λ i. known_still (last_of lasts i) _ _ (closed_stays h.system.parts.store.table seated.world next.0 s (effect_shown e) i
+      opened = opened_stays (table_of h.system) seated.world next.0 s (effect_shown e) plain next.1 ∙ seated.opened;
+      known = λ i. known_still (last_of lasts i) _ _ (closed_stays (table_of h.system) seated.world next.0 s (effect_shown e) i
           plain next.1)
           (seated.known i);
     }
@@ -202,7 +203,7 @@ record IsNext (h : HistoryView) (sat : ℕ) (world : World) : Type 0 where
 
 is_next : (lasts : List (ℕ × Last)) (h : HistoryView) (sat : ℕ) (seated : IsSeated lasts sat h) → IsNext h sat seated.world
 is_next lasts h sat seated =
-    let t = h.system.parts.store.table in
+    let t = table_of h.system in
     let good = good_world t h.steps seated.world seated.shows.at.leads in
     let opened = seated.opened in
     let unopened = good.connections.unopened (sat + 1) (omega arith) in
@@ -391,11 +392,11 @@ cluster_submitted all parts requests lasts lasts' h h' book sat stood back conn 
           record {
             world = next.0;
             shows = next.2;
-            opened = opened_stays h.system.parts.store.table seated.world next.0 (Submit conn words) (effect_shown e) tt next.1
+            opened = opened_stays (table_of h.system) seated.world next.0 (Submit conn words) (effect_shown e) tt next.1
                 ∙ seated.opened;
             known = λ i. put_cases lasts lasts' conn.0 i _ (λ o. IsKnown o (next.0.standing i)) puts (λ here. tt)
                 (λ other. known_still (last_of lasts i) _ _
-                (closed_stays h.system.parts.store.table seated.world next.0 (Submit conn words) (effect_shown e) i tt next.1)
+                (closed_stays (table_of h.system) seated.world next.0 (Submit conn words) (effect_shown e) i tt next.1)
                 (seated.known i));
           };
     }
@@ -405,7 +406,7 @@ pub submitted_is : (h h' : HistoryView) (conn : ConnId) (words : List (List ℕ)
     IsMade h (Submit conn words) (Submitted id) h' → count ≡ submits_by conn.0 h.steps → id ≡ record { conn = conn; seq = count + 1 }
 submitted_is h h' conn words id count w shown made counted =
     let next = made.from_each w shown in
-    let seq = counts h.system.parts.store.table h.steps w conn.0 shown.at.leads in
+    let seq = counts (table_of h.system) h.steps w conn.0 shown.at.leads in
     let same : suc (w.seq conn.0) ≡ count + 1 = omega arith in
     submitted_same id conn (suc (w.seq conn.0)) next.1.answers ∙ (λ k. record { conn = conn; seq = same k })
   where
@@ -445,12 +446,12 @@ cluster_closed all parts requests lasts lasts' h h' book sat stood back conn e m
           record {
             world = next.0;
             shows = next.2;
-            opened = opened_stays h.system.parts.store.table seated.world next.0 (Close conn) (effect_shown e) tt next.1 ∙ seated.opened;
+            opened = opened_stays (table_of h.system) seated.world next.0 (Close conn) (effect_shown e) tt next.1 ∙ seated.opened;
             known = λ i. put_cases lasts lasts' conn.0 i None (λ o. IsKnown o (next.0.standing i)) puts
                 (λ here. ap next.0.standing (sym here) ∙ (ap (λ (w : World). w.standing conn.0) next.1.after
                 ∙ at_here seated.world.standing conn.0 Closed))
                 (λ other. known_still (last_of lasts i) _ _
-                (closed_stays h.system.parts.store.table seated.world next.0 (Close conn) (effect_shown e) i tt next.1) (seated.known i));
+                (closed_stays (table_of h.system) seated.world next.0 (Close conn) (effect_shown e) i tt next.1) (seated.known i));
           };
     }
 
@@ -532,7 +533,7 @@ pub cluster_new : (all parts : ℕ) (lasts : List (ℕ × Last)) (h : HistoryVie
     h.steps ≡ [] → h.max_steps ≡ most → most < all → most ≤ GREATEST_STEPS → IsLawful h →
     IsCluster all parts 0 lasts (cluster h book 0 0 back)
 cluster_new all parts lasts h book most back whole nothing zero' none same enough few lawful =
-    let leads = subst (λ hs. Leads h.system.parts.store.table opening hs lawful.world) none lawful.shows.at.leads in
+    let leads = subst (λ hs. Leads (table_of h.system) opening hs lawful.world) none lawful.shows.at.leads in
     let steps = ap length none in
     record {
       booked = zero' ∙ sym (ap submits none);

@@ -15,7 +15,9 @@ use Rattle.placement.specs.Layout.{Layout}
 use Rattle.shard_workers.proofs.Zips.{zip_length}
 use Rattle.skeen_core.specs.declared.packet.Delivered.{Delivered}
 use Rattle.groups.specs.declared.request.RequestId.{RequestId}
+use Rattle.system.proofs.Lasting.{same_parts, same_store, same_packets, same_queues, same_twice}
 use Rattle.system.specs.Parts.{ShowsStage, progress_of, to_run, effect_shown, stored}
+use Rattle.system.specs.Reads.{table_of}
 use Rattle.system.specs.System.{SystemView, IsQuiet, IsStep}
 use Rattle.system.specs.declared.effect.Effect.{Effect}
 use Rattle.system.specs.declared.effect.Effect.TheVariants as effect
@@ -89,14 +91,7 @@ unchanged h = record {
   system = record {
     max_steps = refl;
     steps = refl;
-    parts = record {
-      router = refl;
-      multicast = record { groups = refl; packets = refl; queues = refl };
-      store = refl;
-      stage = refl;
-      rows = refl;
-      starved = refl;
-    };
+    parts = same_parts h.system.parts;
   };
   max_steps = refl;
   steps = refl;
@@ -108,7 +103,7 @@ made_after old mid new s e still made =
     let count = ap length still.steps in
     let most = still.max_steps in
     let left = made.left in
-    let table = ap (λ s. s.table) still.system.parts.store in
+    let table = ap (λ s. s.table) (same_store still.system.parts) in
     record {
       lived = sym (failed_still old mid still) ∙ made.lived;
       lives = made.lives;
@@ -125,7 +120,7 @@ pub delivers : (pick : ℕ → ℕ) (old mid new : HistoryView) → progress_of 
     IsRefused old step.Take NoLayer → IsUnchanged old mid → Delivers pick mid new → TurnsOn pick old new
 delivers pick old mid new is refused still came =
     let none = sym (none_taken _ refused.world is refused.shows.at.shows.stage) in
-    let packets = still.system.parts.multicast.packets ∙ refused.shows.at.shows.multicast.packets in
+    let packets = same_packets still.system.parts ∙ refused.shows.at.shows.multicast.packets in
     record {
       step = step.Deliver came.place;
       effect = effect.Made;
@@ -142,11 +137,11 @@ delivers pick old mid new is refused still came =
 
 -- the same where the Take isn't tried, since no request is ready
 pub delivers_next : (pick : ℕ → ℕ) (old new : HistoryView) → progress_of old.system.parts.stage ≡ progress.Free →
-    ((d : Delivered) → ¬ IsReady (queue_of old.system.parts.multicast.queues) d) → (has_failed old ≡ false → IsLawful old) →
+    ((d : Delivered) → ¬ IsReady (queue_of old.system.parts.front.multicast.queues) d) → (has_failed old ≡ false → IsLawful old) →
     Delivers pick old new → TurnsOn pick old new
 delivers_next pick old new is none_ready lawful came =
     let was = lawful came.made.lived in
-    let queues : queue_of old.system.parts.multicast.queues ≡ was.world.queue = λ k g. was.shows.at.shows.multicast.queues g k in
+    let queues : queue_of old.system.parts.front.multicast.queues ≡ was.world.queue = λ k g. was.shows.at.shows.multicast.queues g k in
     let refused : IsRefused old step.Take NoLayer = record {
       world = was.world;
       shows = was.shows;
@@ -158,12 +153,12 @@ delivers_next pick old new is none_ready lawful came =
     delivers pick old old new is refused (unchanged old) came
 
 pub quiet : (old mid : HistoryView) → progress_of old.system.parts.stage ≡ progress.Free → IsRefused old step.Take NoLayer →
-    IsUnchanged old mid → mid.system.parts.multicast.packets ≡ [] → IsQuiet old.system
+    IsUnchanged old mid → mid.system.parts.front.multicast.packets ≡ [] → IsQuiet old.system
 quiet old mid is refused still none =
-    let queues : queue_of old.system.parts.multicast.queues ≡ refused.world.queue =
+    let queues : queue_of old.system.parts.front.multicast.queues ≡ refused.world.queue =
     λ k g. refused.shows.at.shows.multicast.queues g k in
     record {
-      packets = sym still.system.parts.multicast.packets ∙ none;
+      packets = sym (same_packets still.system.parts) ∙ none;
       layer = free_stage _ is;
       none_ready = subst (λ (q : QueueOf). (d : Delivered) → ¬ IsReady q d) (sym queues) refused.refused.1;
     }
@@ -179,7 +174,7 @@ under_way may old new step busy why still = (why.0, busy, still)
 take_under_way : (old : HistoryView) → progress_of old.system.parts.stage ≡ progress.Free → HasNoFault old step.Take →
     ¬ IsQuiet old.system
 take_under_way old is free quiet =
-    let queues : queue_of old.system.parts.multicast.queues ≡ free.world.queue = λ k g. free.shows.at.shows.multicast.queues g k in
+    let queues : queue_of old.system.parts.front.multicast.queues ≡ free.world.queue = λ k g. free.shows.at.shows.multicast.queues g k in
     free.none NoLayer (
       none_taken _ free.world is free.shows.at.shows.stage,
       subst (λ (q : QueueOf). (d : Delivered) → ¬ IsReady q d) queues quiet.none_ready,
@@ -200,37 +195,23 @@ take_fault may old new fault.Failed is other why still = inl (why, still)
 
 -- twice nothing has changed but room
 unchanged_twice : (old mid new : HistoryView) → IsUnchanged old mid → IsUnchanged mid new → IsUnchanged old new
-unchanged_twice old mid new one two =
-    let p = one.system.parts in
-    let q = two.system.parts in
-    record {
-      system = record {
-        max_steps = two.system.max_steps ∙ one.system.max_steps;
-        steps = two.system.steps ∙ one.system.steps;
-        parts = record {
-          router = q.router ∙ p.router;
-          multicast = record {
-            groups = q.multicast.groups ∙ p.multicast.groups;
-            packets = q.multicast.packets ∙ p.multicast.packets;
-            queues = q.multicast.queues ∙ p.multicast.queues;
-          };
-          store = q.store ∙ p.store;
-          stage = q.stage ∙ p.stage;
-          rows = q.rows ∙ p.rows;
-          starved = q.starved ∙ p.starved;
-        };
-      };
-      max_steps = two.max_steps ∙ one.max_steps;
-      steps = two.steps ∙ one.steps;
-    }
+unchanged_twice old mid new one two = record {
+  system = record {
+    max_steps = two.system.max_steps ∙ one.system.max_steps;
+    steps = two.system.steps ∙ one.system.steps;
+    parts = same_twice one.system.parts two.system.parts;
+  };
+  max_steps = two.max_steps ∙ one.max_steps;
+  steps = two.steps ∙ one.steps;
+}
 
 quiet_still : (old mid : HistoryView) → IsUnchanged old mid → IsQuiet old.system → IsQuiet mid.system
 quiet_still old mid still quiet =
     let parts = still.system.parts in
     record {
-      packets = parts.multicast.packets ∙ quiet.packets;
+      packets = same_packets parts ∙ quiet.packets;
       layer = parts.stage ∙ quiet.layer;
-      none_ready = subst (λ qs. (d : Delivered) → ¬ IsReady (queue_of qs) d) (sym parts.multicast.queues) quiet.none_ready;
+      none_ready = subst (λ qs. (d : Delivered) → ¬ IsReady (queue_of qs) d) (sym (same_queues parts)) quiet.none_ready;
     }
 
 -- why no turn was made of a history in which only room has changed
@@ -321,4 +302,4 @@ pub run_answers : (h : HistoryView) (new : SystemView) (skip : List RequestId) (
     IsStep h.system (step.Run skip) e new → (starved : List RequestId) × (e ≡ effect.Ran starved)
 run_answers h new skip e lawful made =
     let next = made.makes.from_each h.steps lawful.world lawful.shows.at in
-    ran_answers h.system.parts.store.table lawful.world next.0 skip e next.1
+    ran_answers (table_of h.system) lawful.world next.0 skip e next.1

@@ -6,6 +6,7 @@ ghost use Rattle.shard_exec.specs.contracts.store.Store as store_type;
 ghost use Rattle.multicast.specs.contracts.multicast.Multicast as multicast_type;
 ghost use Rattle.journal.specs.contracts.rows.Rows as rows_type;
 ghost use Rattle.system.specs.contracts.system.System as system_type;
+ghost use Rattle.layer_results.specs.contracts.done.Done as done_type;
 ghost use Rattle.layer_planner.specs.contracts.layer.Layer as layer_type;
 ghost use Rattle.router.specs.contracts.outcome.Outcome as outcome_type;
 ghost use Rattle.resp.specs.contracts.request.Request as request_type;
@@ -13,6 +14,7 @@ ghost use Rattle.resp.specs.contracts.request.Request as request_type;
 use command_table::Command;
 use journal::Rows;
 use layer_planner::Layer;
+use layer_results::Done;
 use multicast::Multicast;
 use resp::{Reply, Request};
 use router::{Outcome, Router};
@@ -62,6 +64,13 @@ fn layer_sends()
     sends::<Layer>();
 }
 
+fn done_sends()
+    ensures { IsSend done_type.the_row }
+{
+    sends::<Reply>();
+    sends::<Done>();
+}
+
 fn outcome_sends()
     ensures { IsSend outcome_type.the_row }
 {
@@ -80,6 +89,7 @@ pub fn system_sends()
     ensures { IsSend system_type.the_row }
 {
     layer_sends();
+    done_sends();
     outcome_sends();
     request_sends();
     router_sends();

@@ -41,7 +41,7 @@ opening_shown f is told = record {
     settled = [];
     split = refl;
     truly = λ e there. absurd there;
-    rows = subst (λ rows. AreRows [] rows) (sym is.rows) tt;
-    starved = is.starved;
+    rows = λ whole. subst (λ rows. AreRows [] rows) (sym is.rows) tt;
+    starved = λ whole. is.starved;
   };
 }

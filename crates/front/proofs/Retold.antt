@@ -69,7 +69,7 @@ module _ (f : FrontView) (h : List Step) (w : World) (before now : Told) (at' : 
       settled = at'.shows.settled;
       split = at'.shows.split;
       truly = λ e there. ap is_none (of_settled e there) ∙ at'.shows.truly e there;
-      rows = subst (λ l. AreRows l f.rows) (sym (rows_same before now at'.shows.settled of_settled)) at'.shows.rows;
+      rows = λ whole. subst (λ l. AreRows l f.rows) (sym (rows_same before now at'.shows.settled of_settled)) (at'.shows.rows whole);
       starved = at'.shows.starved;
     };
   }

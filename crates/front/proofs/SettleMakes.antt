@@ -2,6 +2,7 @@
 use Rattle.std.proofs.Common.{◌≡◌, ℕ, ◌+◌, ◌==◌, Bool, true, false, List, [], ◌∷◌, ◌++◌, ◌⊎◌, inl, inr, map}
 use Rattle.std.proofs.Common.{Some, is_none, Ok}
 use Rattle.std.proofs.Common.{refl, sym, ap, ◌∙◌, subst, append-nil, append_assoc}
+use Rattle.std.proofs.lemmas.Bool.{both_ways}
 use Rattle.std.proofs.lemmas.List.{map-append}
 use Rattle.std.specs.List.{AllZip}
 use Rattle.command_table.specs.Reading.{reading}
@@ -18,12 +19,13 @@ use Rattle.front.proofs.Told.{IsToldRow, rows_told, rows_same, rows_of-append, s
 use Rattle.front.specs.Fronts.{FrontView, Told, retold, retold_standing, retold_world, IsOut, FrontShows}
 use Rattle.front.specs.Fronts.{FrontIsAt, HasNotRun}
 use Rattle.front.specs.Outcomes.{IsSettling, IsToldBy, IsNamedBy, MaySettle, AreSettled}
-use Rattle.front.specs.Settling.{Merge, IsOfLayer, row_of, ids_starved, IsToldOf, RunsAndSettles}
-use Rattle.front.specs.Settling.{SettlesAfterRun, Settles}
+use Rattle.front.specs.Settling.{Merge, CameOf, HasItsWords, IsOfLayer, row_of, ids_starved, IsToldOf, RunsAndSettles}
+use Rattle.front.specs.Settling.{SettlesAfterRun, Settles, HandsOn}
 use Rattle.groups.proofs.Options.{some_same}
 use Rattle.groups.specs.Order.{In}
 use Rattle.groups.specs.declared.request.RequestId.{RequestId}
 use Rattle.groups.specs.declared.stamp.Stamp.{Stamp}
+use Rattle.journal.specs.Views.{RowView}
 use Rattle.journal.specs.declared.step.Step.{Step}
 use Rattle.journal.specs.declared.step.Step.TheVariants.{Run, Settle}
 use Rattle.layer_results.specs.Results.{Results}
@@ -46,16 +48,32 @@ use Rattle.world_laws.specs.Good.{Named, run_in, all_delivered}
 use Rattle.world_laws.specs.Headline.{rows_of}
 use Rattle.world_laws.specs.Order.{ids_of}
 
--- the front once the layer that is out is settled
-abbrev pub settled_front : FrontView → RouterView → Results → FrontView
-settled_front old r done = record old {
+-- the front once the layer that is out is settled, with these rows and names
+abbrev pub front_after : FrontView → RouterView → List RowView → List RequestId → Bool → FrontView
+front_after old r rows starved whole = record old {
   router = r;
   out = [];
-  rows = old.rows ++ map row_of done.rows;
-  starved = old.starved ++ ids_starved done;
+  rows = rows;
+  starved = starved;
+  whole = whole;
   steps = old.steps + 1;
   layers = old.layers + 1;
 }
+
+-- with those of the layer behind the others
+abbrev pub settled_front : FrontView → RouterView → Results → FrontView
+settled_front old r done = front_after old r (old.rows ++ map row_of done.rows) (old.starved ++ ids_starved done) old.whole
+
+-- and without
+abbrev pub handed_front : FrontView → RouterView → FrontView
+handed_front old r = front_after old r old.rows old.starved false
+
+-- the words of the rows are those of their requests
+abbrev pub HaveTheirWords : RouterView → Results → Type 0
+HaveTheirWords r done = (row : DoneRow) → In row done.rows → HasItsWords r row
+
+pub came_of : (f : FrontView) (done : Results) → IsOfLayer f done → CameOf f.out done
+came_of f done of = record { some = of.some; merge = of.merge }
 
 -- ---- lists
 
@@ -107,7 +125,7 @@ kept_words v b w c words is (seq, inr shut) = closed_words v.standing b v w c wo
 
 -- ---- the layer has run
 
-module _ (old : FrontView) (done : Results) (of : IsOfLayer old done) where
+module _ (old : FrontView) (done : Results) (of : CameOf old.out done) where
   module _ (h : List Step) (w : World) (before now : Told) (at' : FrontIsAt old h w before) (told : IsToldOf done before now)
       (es : List Ended) (has_run : w.layer ≡ HasRun es) (starve : starved_among es ≡ ids_starved done) where
     abbrev t : Layout
@@ -145,12 +163,13 @@ module _ (old : FrontView) (done : Results) (of : IsOfLayer old done) where
         (stands_same old.table w (good_world old.table h w at'.leads) es has_run before now others) at'.shows.connections
 
     -- the words of a row say its command
-    says : (e : Ended) (row : DoneRow) → In e es → In row done.rows → row.id ≡ e.id → reading row.words ≡ Ok e.command
-    says e row here there id =
+    says : HaveTheirWords old.router done → (e : Ended) (row : DoneRow) → In e es → In row done.rows → row.id ≡ e.id →
+        reading row.words ≡ Ok e.command
+    says have e row here there id =
         let kept = kept_for old.table h w es at'.shows.settled now at'.leads has_run split old.router connections e here in
         let same : connection old.router row.id.conn.0 ≡ Some kept.v =
         ap (λ (i : RequestId). connection old.router i.conn.0) id ∙ kept.kept in
-        let words = ap (λ o. taken_at o row.id.seq) (sym same) ∙ of.words row there in
+        let words = ap (λ o. taken_at o row.id.seq) (sym same) ∙ have row there in
         let shown = kept_words kept.v (kept.v.seq == row.id.seq) (retold_world now w) e.id.conn.0 row.words words
         (kept_at old.router (retold_world now w) e.id.conn.0 kept.v kept.kept connections) in
         let this : id_of e.id.conn.0 kept.v.seq ≡ e.id = same_request (id_of e.id.conn.0 kept.v.seq) e.id refl kept.seq in
@@ -163,16 +182,16 @@ module _ (old : FrontView) (done : Results) (of : IsOfLayer old done) where
     parts : AllZip IsRowOf (executed es) done.rows × AllZip IsNameOf (starving es) done.starved
     parts = parts_of es done.rows done.starved merge once_out starve
 
-    rows : AllZip (IsToldRow now) (executed es) done.rows
-    rows = zip_in IsRowOf (IsToldRow now) (executed es) done.rows (λ e row here there is. record {
+    rows : HaveTheirWords old.router done → AllZip (IsToldRow now) (executed es) done.rows
+    rows have = zip_in IsRowOf (IsToldRow now) (executed es) done.rows (λ e row here there is. record {
       of = is;
       reply = ap now (sym is.id) ∙ told.rows row there;
-      says = says e row (executed_in es e here) there is.id;
+      says = says have e row (executed_in es e here) there is.id;
     }) parts.0
 
     told_by : AllZip (IsToldBy now) (executed es) done.rows
-    told_by = zip_in (IsToldRow now) (IsToldBy now) (executed es) done.rows
-        (λ e row here there is. record { id = is.of.id; stamp = is.of.stamp; reply = is.reply }) rows
+    told_by = zip_in IsRowOf (IsToldBy now) (executed es) done.rows
+        (λ e row here there is. record { id = is.id; stamp = is.stamp; reply = ap now (sym is.id) ∙ told.rows row there }) parts.0
 
     named_by : AllZip (IsNamedBy now) (starving es) done.starved
     named_by = zip_in IsNameOf (IsNamedBy now) (starving es) done.starved
@@ -181,7 +200,9 @@ module _ (old : FrontView) (done : Results) (of : IsOfLayer old done) where
     truly : (e : Ended) → In e es → is_none (now e.id) ≡ is_none e.reply
     truly e there = elim (in_either (executed es) (starving es) e (in_the_parts es e there)) [
       | inl here ↦
-          let row = zip_find (IsToldRow now) (executed es) done.rows e rows here in ap is_none row.2.reply ∙ sym row.2.of.executed
+          let row = zip_find (IsToldBy now) (executed es) done.rows e told_by here in
+          let kept = zip_find IsRowOf (executed es) done.rows e parts.0 here in
+          ap is_none row.2.reply ∙ sym kept.2.executed
       | inr here ↦
           let named = zip_find (IsNamedBy now) (starving es) done.starved e named_by here in
           let starved = zip_find IsNameOf (starving es) done.starved e parts.1 here in
@@ -228,17 +249,32 @@ module _ (old : FrontView) (done : Results) (of : IsOfLayer old done) where
       | inr here ↦ truly e here
     ]
 
-    rows_after : AreRows (map (retold now) (at'.shows.settled ++ es)) (old.rows ++ map row_of done.rows)
-    rows_after =
+    rows_after : HaveTheirWords old.router done → old.whole ≡ true →
+        AreRows (map (retold now) (at'.shows.settled ++ es)) (old.rows ++ map row_of done.rows)
+    rows_after have whole =
         subst (λ l. AllZip IsRow l (old.rows ++ map row_of done.rows)) (sym all_rows)
         (zip_append IsRow (rows_of (map (retold now) at'.shows.settled)) old.rows (rows_of (map (retold now) es)) (map row_of done.rows)
-        (subst (λ l. AreRows l old.rows) (sym (rows_same before now at'.shows.settled same_before)) at'.shows.rows)
-        (rows_told now es done.rows truly rows))
+        (subst (λ l. AreRows l old.rows) (sym (rows_same before now at'.shows.settled same_before)) (at'.shows.rows whole))
+        (rows_told now es done.rows truly (rows have)))
       where
         all_rows : rows_of (map (retold now) (at'.shows.settled ++ es))
             ≡ rows_of (map (retold now) at'.shows.settled) ++ rows_of (map (retold now) es)
         all_rows = ap rows_of (map-append (retold now) at'.shows.settled es)
             ∙ rows_of-append (map (retold now) at'.shows.settled) (map (retold now) es)
+
+    names_after : old.whole ≡ true → old.starved ++ ids_starved done ≡ starved_among (at'.shows.settled ++ es)
+    names_after whole =
+        ap (λ l. l ++ ids_starved done) (at'.shows.starved whole) ∙ ap (λ l. starved_among at'.shows.settled ++ l) (sym starve)
+        ∙ sym (starved-append at'.shows.settled es)
+
+    -- these are the rows and the names of all that is settled then
+    pub record AreKept (rows : List RowView) (starved : List RequestId) : Type 0 where
+      pub kept : AreRows (map (retold now) (at'.shows.settled ++ es)) rows
+      pub names : starved ≡ starved_among (at'.shows.settled ++ es)
+
+    pub kept_after : HaveTheirWords old.router done → old.whole ≡ true →
+        AreKept (old.rows ++ map row_of done.rows) (old.starved ++ ids_starved done)
+    kept_after have whole = record { kept = rows_after have whole; names = names_after whole }
 
     -- once the outcomes of the executed ones have gone
     module _ (mid : RouterView) (first : AreSettled IsToldBy done.rows old.router mid) where
@@ -273,8 +309,9 @@ module _ (old : FrontView) (done : Results) (of : IsOfLayer old done) where
         connections_after = settle_ends old.table h w es at'.shows.settled now at'.leads has_run split r
             (apart old.table h w es at'.shows.settled now at'.leads has_run split old.router connections) at_end
 
-        shows_after : FrontShows now (settled_front old r done) after
-        shows_after = record {
+        shows_after : (rows : List RowView) (starved : List RequestId) (whole : Bool) → (whole ≡ true → AreKept rows starved) →
+            FrontShows now (front_after old r rows starved whole) after
+        shows_after rows starved whole kept = record {
           connections = connections_after;
           multicast = record {
             count = at'.shows.multicast.count;
@@ -286,19 +323,20 @@ module _ (old : FrontView) (done : Results) (of : IsOfLayer old done) where
           settled = at'.shows.settled ++ es;
           split = split ∙ sym (append-nil (at'.shows.settled ++ es));
           truly = all_truly;
-          rows = rows_after;
-          starved = ap (λ l. l ++ ids_starved done) at'.shows.starved ∙ ap (λ l. starved_among at'.shows.settled ++ l) (sym starve)
-              ∙ sym (starved-append at'.shows.settled es);
+          rows = λ yes. (kept yes).kept;
+          starved = λ yes. (kept yes).names;
         }
 
-        pub settles_run : (w' : World) × Steps old.table w Settle Made w' × FrontIsAt (settled_front old r done) (h ++ Settle ∷ []) w' now
-        settles_run = (
+        pub settles_run : (rows : List RowView) (starved : List RequestId) (whole : Bool) → (whole ≡ true → AreKept rows starved) →
+            (w' : World) × Steps old.table w Settle Made w'
+            × FrontIsAt (front_after old r rows starved whole) (h ++ Settle ∷ []) w' now
+        settles_run rows starved whole kept = (
           after,
           record { outcomes = es; there = has_run; answers = refl; after = refl },
           record {
             leads = leads_more old.table opening w after h Settle Made at'.leads
                 (record { outcomes = es; there = has_run; answers = refl; after = refl });
-            shows = shows_after;
+            shows = shows_after rows starved whole kept;
           },
         )
 
@@ -353,33 +391,58 @@ module _ (old : FrontView) (done : Results) (of : IsOfLayer old done) where
 
   -- ---- both
 
+  -- wherever the layer has run these are the rows and the names of all that is settled then
+  abbrev pub AreKeptThere : List RowView → List RequestId → Type 0
+  AreKeptThere rows starved = (h : List Step) (w : World) (before now : Told) (at' : FrontIsAt old h w before)
+      (told : IsToldOf done before now) (es : List Ended) (has_run : w.layer ≡ HasRun es) (starve : starved_among es ≡ ids_starved done) →
+      AreKept h w before now at' told es has_run starve rows starved
+
   module _ (mid r : RouterView) (first : AreSettled IsToldBy done.rows old.router mid) (then : AreSettled IsNamedBy done.starved mid r)
     where
-      settles_after_run : SettlesAfterRun old done (settled_front old r done)
-      settles_after_run h w before now at' told es has_run starve =
-          settles_run h w before now at' told es has_run starve mid first r then
+      module _ (rows : List RowView) (starved : List RequestId) (whole : Bool) (kept : whole ≡ true → AreKeptThere rows starved) where
+        after_run : SettlesAfterRun old done (front_after old r rows starved whole)
+        after_run h w before now at' told es has_run starve =
+            settles_run h w before now at' told es has_run starve mid first r then rows starved whole
+            (λ yes. kept yes h w before now at' told es has_run starve)
 
-      runs_and_settles : RunsAndSettles old done (settled_front old r done)
-      runs_and_settles h w before now at' told not_run =
-          let ran = ran_so h w before at' not_run in
-          let last = settles_run (h ++ Run (ids_starved done) ∷ []) ran.after before now ran.at told ran.es ran.has_run ran.starve
-          mid first r then in (
-            ran.after,
-            last.0,
-            ran.runs,
-            last.1,
-            subst (λ l. FrontIsAt (settled_front old r done) l last.0 now) (append_assoc h (Run (ids_starved done) ∷ []) (Settle ∷ []))
-                last.2,
-          )
+        run_and_settle : RunsAndSettles old done (front_after old r rows starved whole)
+        run_and_settle h w before now at' told not_run =
+            let ran = ran_so h w before at' not_run in
+            let last = after_run (h ++ Run (ids_starved done) ∷ []) ran.after before now ran.at told ran.es ran.has_run ran.starve in (
+              ran.after,
+              last.0,
+              ran.runs,
+              last.1,
+              subst (λ l. FrontIsAt (front_after old r rows starved whole) l last.0 now)
+                  (append_assoc h (Run (ids_starved done) ∷ []) (Settle ∷ [])) last.2,
+            )
 
-      pub settles : Settles old done (settled_front old r done)
-      settles = record {
+      pub settles : HaveTheirWords old.router done → Settles old done (settled_front old r done)
+      settles have = record {
         table = refl;
         steps = refl;
         layers = refl;
         out = refl;
         rows = refl;
         starved = refl;
-        from_taken = runs_and_settles;
-        from_run = settles_after_run;
+        whole = refl;
+        from_taken = run_and_settle (old.rows ++ map row_of done.rows) (old.starved ++ ids_starved done) old.whole kept;
+        from_run = after_run (old.rows ++ map row_of done.rows) (old.starved ++ ids_starved done) old.whole kept;
+      }
+        where
+          kept : old.whole ≡ true → AreKeptThere (old.rows ++ map row_of done.rows) (old.starved ++ ids_starved done)
+          kept whole h w before now at' told es has_run starve =
+              kept_after h w before now at' told es has_run starve have whole
+
+      pub hands_on : HandsOn old done (handed_front old r)
+      hands_on = record {
+        table = refl;
+        steps = refl;
+        layers = refl;
+        out = refl;
+        rows = refl;
+        starved = refl;
+        whole = refl;
+        from_taken = run_and_settle old.rows old.starved false (λ yes. absurd (both_ways false refl yes));
+        from_run = after_run old.rows old.starved false (λ yes. absurd (both_ways false refl yes));
       }

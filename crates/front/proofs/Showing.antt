@@ -47,7 +47,7 @@ abbrev pub stepped : FrontView → RouterView → MulticastView → FrontView
 stepped f r m = record f { router = r; multicast = m; steps = f.steps + 1 }
 
 pub is_stepped : (f : FrontView) (r : RouterView) (m : MulticastView) → IsStep f (stepped f r m)
-is_stepped f r m = record { table = refl; steps = refl; layers = refl; rows = refl; starved = refl }
+is_stepped f r m = record { table = refl; steps = refl; layers = refl; rows = refl; starved = refl; whole = refl }
 
 -- a step that leaves the layer and what has ended alone
 pub by_messages : (told : Told) (f : FrontView) (r : RouterView) (m : MulticastView) (w w' : World) → w'.layer ≡ w.layer →

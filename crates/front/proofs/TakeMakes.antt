@@ -103,7 +103,7 @@ module _ (old : FrontView) (none : old.out ≡ []) (ds : List Delivered) (ready 
       IsTaking t w standing ds [] r × AreJobs w.asked ds jobs) (loses : LosesLayer old.multicast ds m) where
     pub take_makes : Takes old jobs (taken_front old r m ds)
     take_makes = record {
-      is_step = record { table = refl; steps = refl; layers = refl; rows = refl; starved = refl };
+      is_step = record { table = refl; steps = refl; layers = refl; rows = refl; starved = refl; whole = refl };
       from_each = λ h w told at'.
           let standing : ℕ → Standing = λ c. retold_standing told (w.standing c) in
           let last = takes old.table w standing (starts h w told at') in

@@ -11,6 +11,7 @@ seen f = record {
   out = f.out.items;
   rows = f.rows.rows;
   starved = f.starved.items;
+  whole = f.whole;
   steps = f.steps;
   layers = f.layers;
 }

@@ -1,6 +1,6 @@
 -- What a front shows of a world: connections, groups, packets and queues are the world's, but of a layer that was run it
 -- knows what it was told alone, once it was told.
-use Rattle.std.specs.Prelude.{◌≡◌, ◌≢◌, ℕ, ◌+◌, List, [], ◌++◌, length, map, Option, Some, None, is_none}
+use Rattle.std.specs.Prelude.{◌≡◌, ◌≢◌, ℕ, ◌+◌, Bool, true, List, [], ◌++◌, length, map, Option, Some, None, is_none}
 use Rattle.groups.specs.Order.{In}
 use Rattle.groups.specs.declared.request.RequestId.{RequestId}
 use Rattle.groups.specs.declared.stamp.Stamp.{Stamp}
@@ -30,6 +30,7 @@ pub record FrontView : Type 0 where
   pub out : List Delivered  -- the requests of the layer that is out, in its order; none where none is
   pub rows : List RowView  -- of the executed requests of settled layers, in the order of execution
   pub starved : List RequestId  -- those of them that starved
+  pub whole : Bool  -- whether these are the rows and the names of all that was settled
   pub steps : ℕ  -- how many calls made a step
   pub layers : ℕ  -- how many layers were settled
 
@@ -73,12 +74,13 @@ pub record FrontShows (told : Told) (f : FrontView) (w : World) : Type 0 where
   pub connections : ShowsConnections f.router (retold_world told w)
   pub multicast : ShowsMulticast f.table f.multicast w
   pub out : IsOut w.layer f.out
-  -- the requests of the layers that were settled: it was told truly which of them starved, and keeps what it was told
+  -- the requests of the layers that were settled: it was told truly which of them starved, and keeps what it was told, where
+  -- it keeps that of all
   pub settled : List Ended
   pub split : w.ended ≡ settled ++ run_in w.layer
   pub truly : (e : Ended) → In e settled → is_none (told e.id) ≡ is_none e.reply
-  pub rows : AreRows (map (retold told) settled) f.rows
-  pub starved : f.starved ≡ starved_among settled
+  pub rows : f.whole ≡ true → AreRows (map (retold told) settled) f.rows
+  pub starved : f.whole ≡ true → f.starved ≡ starved_among settled
 
 -- these steps lead to the world, and the front shows it, told so
 pub record FrontIsAt (f : FrontView) (h : List Step) (w : World) (told : Told) : Type 0 where
@@ -107,4 +109,5 @@ pub record IsNew (t : Layout) (f : FrontView) : Type 0 where
   pub table : f.table ≡ t
   pub no_steps : f.steps ≡ 0
   pub no_layers : f.layers ≡ 0
+  pub whole : f.whole ≡ true
   pub at : (told : Told) → FrontIsAt f [] opening told

@@ -17,6 +17,7 @@ pub record IsStep (old new : FrontView) : Type 0 where
   pub layers : new.layers ≡ old.layers
   pub rows : new.rows ≡ old.rows
   pub starved : new.starved ≡ old.starved
+  pub whole : new.whole ≡ old.whole
 
 -- in each world that the front was at the step is accepted and answers so, and the front is at the world after it, told
 -- what it was told before

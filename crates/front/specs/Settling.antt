@@ -1,5 +1,5 @@
 -- What came of the layer that is out, and how it is settled.
-use Rattle.std.specs.Prelude.{◌≡◌, ◌≢◌, ◌+◌, ◌<◌, List, [], ◌∷◌, ◌++◌, ◌⊎◌, map, Some, None}
+use Rattle.std.specs.Prelude.{◌≡◌, ◌≢◌, ◌+◌, ◌<◌, false, List, [], ◌∷◌, ◌++◌, ◌⊎◌, map, Some, None}
 use Rattle.front.specs.Fronts.{FrontView, Told, FrontIsAt, HasNotRun}
 use Rattle.front.specs.declared.fault.FrontFault.{FrontFault}
 use Rattle.front.specs.declared.fault.FrontFault.TheVariants.{NoLayer, Memory}
@@ -42,11 +42,16 @@ Merge (d ∷ ds) rows starved =
     ((rest : List DoneRow) × FollowsRow d rows rest × Merge ds rest starved)
     ⊎ ((rest : List (RequestId × Stamp)) × FollowsName d starved rest × Merge ds rows rest)
 
+-- this came of the requests that are out: of all of them, and of no others
+pub record CameOf (out : List Delivered) (done : Results) : Type 0 where
+  pub some : out ≢ []
+  pub merge : Merge out done.rows done.starved
+
 -- the row's words are those that the router keeps of its request
 abbrev pub HasItsWords : RouterView → DoneRow → Type 0
 HasItsWords r row = taken_at (connection r row.id.conn.0) row.id.seq ≡ Some row.words
 
--- this came of the requests that are out
+-- this came of the requests that are out, each row with the words of its request
 pub record IsResultOf (r : RouterView) (out : List Delivered) (done : Results) : Type 0 where
   pub some : out ≢ []
   pub merge : Merge out done.rows done.starved
@@ -95,6 +100,19 @@ pub record Settles (old : FrontView) (done : Results) (new : FrontView) : Type 0
   pub out : new.out ≡ []
   pub rows : new.rows ≡ old.rows ++ map row_of done.rows
   pub starved : new.starved ≡ old.starved ++ ids_starved done
+  pub whole : new.whole ≡ old.whole
+  pub from_taken : RunsAndSettles old done new
+  pub from_run : SettlesAfterRun old done new
+
+-- so too where its outcomes alone are handed on: no row and no name of it is kept
+pub record HandsOn (old : FrontView) (done : Results) (new : FrontView) : Type 0 where
+  pub table : new.table ≡ old.table
+  pub steps : new.steps ≡ old.steps + 1
+  pub layers : new.layers ≡ old.layers + 1
+  pub out : new.out ≡ []
+  pub rows : new.rows ≡ old.rows
+  pub starved : new.starved ≡ old.starved
+  pub whole : new.whole ≡ false
   pub from_taken : RunsAndSettles old done new
   pub from_run : SettlesAfterRun old done new
 

@@ -16,7 +16,8 @@ use std::marker::Model;
 ///
 /// Contracts see its parts, how many of its calls made a step, and how many layers were settled. For some history of these
 /// steps and of a run of each of these layers it shows the world of that history, with what it was told of the layers in
-/// place of the replies. How many more packets or rows fit without memory is no part of what contracts see.
+/// place of the replies. Its rows and names are those of all that was settled, unless the outcomes of a layer were handed on
+/// alone. How many more packets or rows fit without memory is no part of what contracts see.
 #[derive(Drop)]
 pub struct Front {
     pub(super) alloc: Global,
@@ -26,6 +27,7 @@ pub struct Front {
     pub(super) out: Vec<Delivered>,
     pub(super) rows: Rows,
     pub(super) starved: Vec<RequestId>,
+    pub(super) whole: bool,
     pub(super) steps: u64,
     pub(super) layers: u64,
 }
@@ -47,6 +49,7 @@ impl Model for Front {
       out = f.out.items;
       rows = f.rows.rows;
       starved = f.starved.items;
+      whole = f.whole;
       steps = f.steps;
       layers = f.layers;
     } };
@@ -58,6 +61,7 @@ impl Model for Front {
       out = f.out.items;
       rows = f.rows.rows;
       starved = f.starved.items;
+      whole = f.whole;
       steps = f.steps;
       layers = f.layers;
     }) };
@@ -77,6 +81,7 @@ impl Front {
             out: Vec::new(alloc),
             rows: Rows::new(alloc),
             starved: Vec::new(alloc),
+            whole: true,
             steps: 0,
             layers: 0,
         })

@@ -49,19 +49,46 @@ pub(super) fn settle_rows(
     }
 }
 
-/// Each request that starved gets its name among those that did, for which there is room, and its connection its outcome.
-pub(super) fn settle_starved(
-    router: &mut Router,
-    kept: &mut Vec<RequestId>,
-    starved: &[(RequestId, Stamp)],
-)
-    requires settling { MaySettle IsNamedBy starved.now router.old }
-    requires room { length kept.old.items + length starved.now ≤ vec_capacity kept.old }
-    ensures names { kept.new.items ≡ kept.old.items ++ map (λ s. s.0) starved.now }
-    ensures settled { AreSettled IsNamedBy starved.now router.old router.new }
+/// Each request that was executed gets its outcome, and its row is let go. It takes no memory.
+pub(super) fn hand_rows(router: &mut Router, rows: Vec<DoneRow>)
+    requires { MaySettle IsToldBy rows.items router.old }
+    ensures { AreSettled IsToldBy rows.items router.old router.new }
+{
+    for row in rows {
+        let DoneRow {
+            id,
+            stamp,
+            words: _words,
+            reply,
+        } = row;
+        let clock = Stamp { ..stamp };
+        router.settle(
+            clock,
+            Outcome {
+                id,
+                reply,
+                stamp: Some(stamp),
+            },
+        );
+    }
+}
+
+/// Each request that starved gets its name among those that did, for which there is room.
+pub(super) fn keep_names(kept: &mut Vec<RequestId>, starved: &[(RequestId, Stamp)])
+    requires { length kept.old.items + length starved.now ≤ vec_capacity kept.old }
+    ensures { kept.new.items ≡ kept.old.items ++ map (λ s. s.0) starved.now }
+{
+    for (id, _) in starved {
+        kept.push_reserved(*id);
+    }
+}
+
+/// Each request that starved gets its outcome. It takes no memory.
+pub(super) fn hand_starved(router: &mut Router, starved: &[(RequestId, Stamp)])
+    requires { MaySettle IsNamedBy starved.now router.old }
+    ensures { AreSettled IsNamedBy starved.now router.old router.new }
 {
     for (id, stamp) in starved {
-        kept.push_reserved(*id);
         let outcome = Outcome {
             id: *id,
             reply: Reply::out_of_memory(),

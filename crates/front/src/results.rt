@@ -1,7 +1,7 @@
 //! Whether something came of the layer that is out.
 
 ghost use Rattle.std.specs.Prelude.{IsTrue, ◌↔◌, IfSome, IfNone, List, map};
-ghost use Rattle.front.specs.Settling.{FollowsRow, FollowsName, Merge, HasItsWords, IsResultOf};
+ghost use Rattle.front.specs.Settling.{FollowsRow, FollowsName, Merge, CameOf, HasItsWords, IsResultOf};
 ghost use Rattle.groups.specs.Order.{In};
 ghost use Rattle.layer_results.specs.declared.done.DoneRow.{DoneRow};
 ghost use Rattle.skeen_core.specs.Group.{EachOnce};
@@ -21,6 +21,15 @@ pub(super) fn is_of_layer(router: &Router, out: &[Delivered], done: &Done) -> bo
         return false;
     }
     are_merged(out, done.rows(), done.starved()) && have_their_words(router, done.rows())
+}
+
+/// Whether this came of the requests that are out, in whose order each of its lists is: of all of them, and of no others. Words
+/// aren't looked at. It takes no memory.
+pub(super) fn came_of(out: &[Delivered], done: &Done) -> bool
+    requires { EachOnce (map (λ d. d.id) out.now) }
+    ensures { IsTrue result ↔ CameOf out.now done.now }
+{
+    !out.is_empty() && are_merged(out, done.rows(), done.starved())
 }
 
 /// Whether the requests that are out, one after another, are those of the rows and those that starved.

@@ -3,12 +3,12 @@
 ghost use Rattle.std.specs.Prelude.{◌≡◌, ◌+◌, ◌++◌, ◌≤◌, length, IfErr, OnOk, OnErr, IfOk, vec_capacity};
 ghost use Rattle.std.specs.List.{AllZip};
 ghost use Rattle.front.specs.Room.{Holds};
-ghost use Rattle.front.specs.Settling.{Settles, IsSettleFault, MaySettle};
+ghost use Rattle.front.specs.Settling.{CameOf, Settles, HandsOn, IsSettleFault, MaySettle};
 
 use super::fault::FrontFault;
 use super::front::Front;
-use super::outcomes::{settle_rows, settle_starved};
-use super::results::is_of_layer;
+use super::outcomes::{hand_rows, hand_starved, keep_names, settle_rows};
+use super::results::{came_of, is_of_layer};
 use groups::RequestId;
 use journal::Rows;
 use layer_results::{Done, DoneRow};
@@ -36,8 +36,33 @@ impl Front {
         };
         let (rows, starved) = done.into_parts();
         settle_rows(&mut self.router, &mut self.rows, rows, blocks);
-        settle_starved(&mut self.router, &mut self.starved, starved.as_slice());
+        keep_names(&mut self.starved, starved.as_slice());
+        hand_starved(&mut self.router, starved.as_slice());
         self.out.clear();
+        self.steps += 1;
+        self.layers += 1;
+        Ok(())
+    }
+
+    /// Tells what came of the layer that is out, for who keeps the rows elsewhere: each of its requests gets its outcome, and
+    /// neither a row nor a name is kept. In the history it is a Run, with these starving, and a Settle. It takes no memory.
+    ///
+    /// The only error is that it isn't what came of the layer that is out, request by request; then nothing is changed and the
+    /// `Done` is given back. At words it doesn't look, since it keeps none.
+    pub fn settle_outcomes(&mut self, done: Done) -> Result<(), Done>
+        requires { MaySettle self.old }
+        ensures settled { OnOk result (HandsOn self.old done self.new) }
+        ensures refused { IfErr result (λ back. (back ≡ done) × (¬ CameOf self.old.out done)) }
+        ensures unchanged { OnErr result (self.new ≡ self.old) }
+    {
+        if !came_of(self.out.as_slice(), &done) {
+            return Err(done);
+        }
+        let (rows, starved) = done.into_parts();
+        hand_rows(&mut self.router, rows);
+        hand_starved(&mut self.router, starved.as_slice());
+        self.out.clear();
+        self.whole = false;
         self.steps += 1;
         self.layers += 1;
         Ok(())

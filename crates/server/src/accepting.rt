@@ -1,6 +1,6 @@
 //! Taking the connections that come to a listener.
 
-use crate::connection::{Service, say, serve_connection};
+use crate::connection::{Service, WITHOUT_MEMORY, say, serve_connection};
 use crate::faults::{FirstFault, HostFault};
 use crate::streams::Streams;
 use cluster_sending::{syncs, system_sends};
@@ -108,7 +108,7 @@ fn prepared<R: Wait + AllocGlobal + Clock>(
     let stream = match Arc::new(rt.alloc(), stream) {
         Ok(stream) => stream,
         Err(refused) => {
-            say(rt, &refused.value, "out of memory", SHORTLY);
+            say(rt, &refused.value, WITHOUT_MEMORY, SHORTLY);
             return None;
         }
     };
@@ -118,7 +118,7 @@ fn prepared<R: Wait + AllocGlobal + Clock>(
     {
         return Some(stream);
     }
-    say(rt, &stream, "out of memory", SHORTLY);
+    say(rt, &stream, WITHOUT_MEMORY, SHORTLY);
     None
 }
 

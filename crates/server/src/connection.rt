@@ -17,6 +17,10 @@ const LINGERING: u64 = 300;
 /// How many bytes an error line has at most.
 const LONGEST_LINE: usize = 128;
 
+/// By what a connection is ended that can't go on for want of memory. It is another line than that of a command that found
+/// none: that one changed nothing, while of the request whose reply can't be sent it isn't said.
+pub(crate) const WITHOUT_MEMORY: &str = "no memory for this connection";
+
 /// How much of what still comes is read at once.
 const DROPPED: usize = 4096;
 
@@ -54,7 +58,7 @@ where
     match served {
         Ok(Served::End | Served::Inside) | Err(ServeFault::Read | ServeFault::Write) => {}
         Ok(Served::Protocol(_)) => linger(rt, stream, Duration::from_millis(LINGERING)),
-        Err(ServeFault::Memory) => say(rt, stream, "out of memory", LINGERING),
+        Err(ServeFault::Memory) => say(rt, stream, WITHOUT_MEMORY, LINGERING),
         Err(ServeFault::Door(fault)) => end_by(rt, service, stream, fault),
     }
 }

@@ -13,22 +13,27 @@ use Rattle.groups.specs.Order.{In}
 use Rattle.skeen_core.specs.declared.packet.Delivered.{Delivered}
 use Rattle.skeen_core.specs.declared.packet.Packet.{Packet}
 use Rattle.groups.specs.declared.request.RequestId.{RequestId}
-use Rattle.system.proofs.Refusals.{take_memory}
+use Rattle.front.proofs.TakeMakes.{take_memory}
+use Rattle.front.specs.Fronts.{IsOut}
+use Rattle.system.proofs.Fronting.{front_at}
+use Rattle.system.proofs.Layering.{run_admitted}
 use Rattle.system.proofs.Submitted.{was_asked}
 use Rattle.system.specs.Endings.{IsExecuted, HasStarved, EachHasEnded, MayBeMade, SomeMayBeMade, TurnsAreFew}
 use Rattle.system.specs.Faults.{own_fault}
+use Rattle.system.specs.Outcomes.{replies_in}
 use Rattle.system.specs.Parts.{IsAt, ShowsStage, progress_of}
 use Rattle.system.specs.Reads.{table_of}
 use Rattle.system.specs.Refusing.{Refuses, RefusesNot}
 use Rattle.system.specs.System.{SystemView, IsSystem, IsRefused, IsQuiet}
 use Rattle.system.specs.declared.fault.StepFault.{StepFault}
 use Rattle.system.specs.declared.fault.StepFault.TheVariants.{Busy, NoConn, NoPacket, InFlight, NoLayer, Exhausted, Memory, Failed}
+use Rattle.system.specs.declared.parts.Parts.{Parts}
 use Rattle.system.specs.declared.stage.Stage.{Stage}
 use Rattle.system.specs.declared.stage.Stage.TheVariants as stage
 use Rattle.system_view.specs.Layers.{IsRow}
-use Rattle.world.specs.Steps.{opening, OwnFault, NothingToRun, NothingToSettle, Refused, if_starved, starved_among}
+use Rattle.world.specs.Steps.{opening, OwnFault, NothingToSettle, Refused, if_starved, starved_among}
 use Rattle.world.specs.Steps as world
-use Rattle.world.specs.World.{World, Ended, Taken, HasRun}
+use Rattle.world.specs.World.{World, Ended, Layer, NoneTaken, Taken, HasRun}
 use Rattle.world_laws.proofs.BoundLaws.{turns_are_bounded}
 use Rattle.world_laws.proofs.QuietLaws.{quiet_means_ended}
 use Rattle.world_laws.proofs.Worlds.{good_opening}
@@ -77,7 +82,7 @@ kept (y ∷ xs) (row ∷ rows) x all (inr later) = let rest = kept xs rows x all
 
 quiet_there : (s : SystemView) → IsQuiet s → (h : List Step) (w : World) → IsAt s.parts h w → quiet.IsQuiet w
 quiet_there s is h w at' =
-    let queues : queue_of s.parts.multicast.queues ≡ w.queue = λ k g. at'.shows.multicast.queues g k in
+    let queues : queue_of s.parts.front.multicast.queues ≡ w.queue = λ k g. at'.shows.multicast.queues g k in
     record {
       packets = sym at'.shows.multicast.packets ∙ is.packets;
       layer = subst (λ x. ShowsStage x w) is.layer at'.shows.stage;
@@ -98,7 +103,7 @@ each_has_ended s is h w at' effects made i submitted = (ended, shown)
     shown : IsExecuted s i ⊎ HasStarved s i
     shown = elim (told w.ended ended.0 ended.1) [
       | inl executed ↦
-          let row = kept (rows_of w.ended) s.parts.rows.rows executed.0 at'.shows.rows executed.1 in
+          let row = kept (rows_of w.ended) s.parts.back.rows executed.0 at'.shows.rows executed.1 in
           inl (row.0, row.1, row.2.id ∙ (executed.2 ∙ ended.2))
       | inr starved ↦
           inr (subst (λ ids. In i ids) (sym at'.shows.starved) (subst (λ j. In j (starved_among w.ended)) ended.2 starved))
@@ -108,7 +113,7 @@ each_has_ended s is h w at' effects made i submitted = (ended, shown)
 
 -- the world to which the system's history led does not refuse what no world does
 not_there : (s : SystemView) (step : Step) → IsSystem s → RefusesNot s.parts step → (fault : OwnFault) →
-    s.parts.store.failed ≡ false → Refuses s.parts step fault → ⊥
+    s.parts.back.store.failed ≡ false → Refuses s.parts step fault → ⊥
 not_there s step is none fault lived why =
     let shown = is.shows lived in none shown.0 shown.1 shown.2.at fault (why shown.0 shown.1 shown.2.at)
 
@@ -135,15 +140,6 @@ deliver_not w packet rest some world.NoPacket refused = let longer = ap (λ (ps 
 deliver_not w packet rest some world.InFlight refused = refused
 deliver_not w packet rest some world.NoLayer refused = refused
 
--- a layer that was taken can be run
-run_not : (w : World) (ds : List Delivered) (starved : List RequestId) → w.layer ≡ Taken ds → (fault : OwnFault) →
-    ¬ Refused w (steps.Run starved) fault
-run_not w ds starved taken world.Busy refused = refused
-run_not w ds starved taken world.NoConn refused = refused
-run_not w ds starved taken world.NoPacket refused = refused
-run_not w ds starved taken world.InFlight refused = refused
-run_not w ds starved taken world.NoLayer refused = subst NothingToRun taken refused
-
 -- a layer that was run can be settled
 settle_not : (w : World) (es : List Ended) → w.layer ≡ HasRun es → (fault : OwnFault) → ¬ Refused w steps.Settle fault
 settle_not w es ran world.Busy refused = refused
@@ -152,18 +148,25 @@ settle_not w es ran world.NoPacket refused = refused
 settle_not w es ran world.InFlight refused = refused
 settle_not w es ran world.NoLayer refused = subst NothingToSettle ran refused
 
+-- where no layer is there and one could be taken a Take has no fault of its own
+take_not : (p : Parts) → p.stage ≡ stage.Free → (((d : Delivered) → ¬ IsReady (queue_of p.front.multicast.queues) d) → ⊥) →
+    RefusesNot p steps.Take
+take_not p is_free some = λ h w at' fault refused.
+    let free : w.layer ≡ NoneTaken = subst (λ s. ShowsStage s w) is_free at'.shows.stage in
+    let none = subst (λ (l : Layer). IsOut l p.front.out) free at'.shows.front.out in
+    take_memory p.front none some h w (replies_in w.ended) (front_at p h w at') fault refused
+
 by_packets : (s : SystemView) (packets : List Packet) → IsSystem s → ¬ IsQuiet s → s.parts.stage ≡ stage.Free →
-    s.parts.multicast.packets ≡ packets → MayBeMade s steps.Take ⊎ MayBeMade s (steps.Deliver 0)
+    s.parts.front.multicast.packets ≡ packets → MayBeMade s steps.Take ⊎ MayBeMade s (steps.Deliver 0)
 by_packets s [] is busy free none =
-    inl (may_be_made s steps.Take is (take_memory s.parts free (λ idle. busy (record { packets = none; layer = free; none_ready = idle }))))
+    inl (may_be_made s steps.Take is (take_not s.parts free (λ idle. busy (record { packets = none; layer = free; none_ready = idle }))))
 by_packets s (packet ∷ rest) is busy free some =
     inr (may_be_made s (steps.Deliver 0) is (λ h w at'. deliver_not w packet rest (sym at'.shows.multicast.packets ∙ some)))
 
 by_stage : (s : SystemView) (now : Stage) → IsSystem s → ¬ IsQuiet s → s.parts.stage ≡ now → SomeMayBeMade (progress_of now) s
-by_stage s stage.Free is busy same = by_packets s s.parts.multicast.packets is busy same refl
+by_stage s stage.Free is busy same = by_packets s s.parts.front.multicast.packets is busy same refl
 by_stage s (stage.Taken taken) is busy same = λ starved.
-    may_be_made s (steps.Run starved) is (λ h w at'.
-    let there = subst (λ x. ShowsStage x w) same at'.shows.stage in run_not w there.0 starved there.1)
+    may_be_made s (steps.Run starved) is (run_admitted s.parts taken same starved)
 by_stage s (stage.HasRun ran) is busy same =
     may_be_made s steps.Settle is (λ h w at'.
     let there = subst (λ x. ShowsStage x w) same at'.shows.stage in settle_not w there.0 there.1)

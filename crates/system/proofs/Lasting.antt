@@ -2,18 +2,20 @@
 use Rattle.std.proofs.Common.{◌≡◌, ◌≢◌, ℕ, suc, ◌+◌, ◌<◌, Bool, false, List, [], ◌∷◌, ◌++◌, length, ◌⊎◌, inl, inr, refl, sym, ap}
 use Rattle.std.proofs.Common.{◌∙◌, subst, arith, length-append}
 use Rattle.std.proofs.lemmas.Bool.{both_ways}
+use Rattle.back.specs.Backs.{BackState}
 use Rattle.execution_order.specs.Entries.{rows_by_stamp}
+use Rattle.front.specs.Fronts.{FrontView, FrontShows}
 use Rattle.journal.specs.declared.step.Step.{Step}
-use Rattle.multicast.specs.Multicast.{MulticastView, IsSame, group_of}
-use Rattle.delivery.specs.Queues.{queue_of}
-use Rattle.placement.specs.Layout.{Layout, IsTable}
-use Rattle.system.specs.Parts.{IsAt, ShowsStage, Makes, Keeps, stored}
+use Rattle.placement.specs.Layout.{IsTable}
+use Rattle.system.specs.Outcomes.{replies_in}
+use Rattle.system.specs.Parts.{IsAt, ShowsStage, Makes, Keeps, stored, ran_in, count_of}
 use Rattle.system.specs.Refusing.{Lives, IsFault, MayFail, HasFailed}
 use Rattle.system.specs.System.{SystemView, ShowsHistory, IsSystem, IsStep, MayGoOn, Refuses, IsRefused, ObeysOneThread}
 use Rattle.system.specs.declared.effect.Effect.{Effect}
 use Rattle.system.specs.declared.fault.StepFault.{StepFault}
 use Rattle.system.specs.declared.fault.StepFault.TheVariants.{Busy, NoConn, NoPacket, InFlight, NoLayer, Exhausted, Memory, Failed}
 use Rattle.system.specs.declared.parts.Parts.{Parts}
+use Rattle.system.specs.declared.stage.Stage.{Stage}
 use Rattle.system_view.specs.Connections.{ShowsConnections}
 use Rattle.system_view.specs.Layers.{AreRows, ShowsStore}
 use Rattle.system_view.specs.Multicast.{ShowsMulticast}
@@ -25,19 +27,25 @@ use Rattle.world_laws.specs.Headline.{IsOneThread, rows_of}
 -- ---- the headline
 
 -- whatever history led here, replies and contents are those of one thread
-pub obeys : (s : SystemView) → IsTable s.parts.store.table → ObeysOneThread s
+pub obeys : (s : SystemView) → IsTable s.parts.back.store.table → ObeysOneThread s
 obeys s is_table = λ h w at'. subst (λ m. IsOneThread m (rows_by_stamp (rows_of w.ended))) (sym at'.shows.store.contents)
-    (headline_holds s.parts.store.table h w is_table at'.leads)
+    (headline_holds s.parts.back.store.table h w is_table at'.leads)
 
 -- ---- a step that was made
 
 -- a system that lives and may make a step has come by few steps
-pub lives : (s : SystemView) → IsSystem s → s.parts.store.failed ≡ false → s.steps < s.max_steps → Lives s.parts
+pub lives : (s : SystemView) → IsSystem s → s.parts.back.store.failed ≡ false → s.steps < s.max_steps → Lives s.parts
 lives s is alive left =
     let shown = is.shows alive in
     let count = shown.2.count in
     let few = is.few in
-    record { history = shown.0; world = shown.1; at = shown.2.at; few = omega arith }
+    record {
+      history = shown.0;
+      world = shown.1;
+      at = shown.2.at;
+      few = omega arith;
+      counted = is.counted alive ∙ sym shown.2.count;
+    }
 
 one_more : (h : List Step) (s : Step) (old new : ℕ) → length h ≡ old → new ≡ suc old → length (h ++ s ∷ []) ≡ new
 one_more h s old new count next = let k = length-append h (s ∷ []) in omega arith
@@ -59,10 +67,11 @@ goes_on old new step effect is made =
             next.0,
             record { at = next.2; count = one_more shown.0 (stored step effect) old.steps new.steps shown.2.count made.counted },
           );
+      counted = λ alive. made.makes.counted ∙ ap suc (is.counted made.lived) ∙ sym made.counted;
     }
 
 -- the parts made the step: so did the system
-pub made_so : (old : SystemView) (step : Step) (effect : Effect) (parts : Parts) → IsSystem old → old.parts.store.failed ≡ false →
+pub made_so : (old : SystemView) (step : Step) (effect : Effect) (parts : Parts) → IsSystem old → old.parts.back.store.failed ≡ false →
     old.steps < old.max_steps → Makes old.parts step effect parts →
     IsStep old step effect (record { max_steps = old.max_steps; steps = old.steps + 1; parts = parts })
 made_so old step effect parts is alive left makes = record {
@@ -76,41 +85,55 @@ made_so old step effect parts is alive left makes = record {
 
 -- ---- a step that was not
 
-multicast_kept : (t : Layout) (old new : MulticastView) (w : World) → IsSame old new → ShowsMulticast t old w → ShowsMulticast t new w
-multicast_kept t old new w same shows = record {
-  count = ap length same.groups ∙ shows.count;
-  groups = λ g. ap (λ gs. group_of gs g) same.groups ∙ shows.groups g;
-  packets = same.packets ∙ shows.packets;
-  queues = λ g. ap (λ qs. queue_of qs g) same.queues ∙ shows.queues g;
-}
-
 -- parts that are as they were but for room show what they showed
 pub still_at : (old new : Parts) → Keeps old new → (h : List Step) (w : World) → IsAt old h w → IsAt new h w
 still_at old new keeps h w at' = record {
-  leads = subst (λ s. Leads s.table opening h w) (sym keeps.store) at'.leads;
+  leads = subst (λ (b : BackState). Leads b.store.table opening h w) (sym keeps.back) at'.leads;
   shows = record {
-    connections = subst (λ r. ShowsConnections r w) (sym keeps.router) at'.shows.connections;
-    multicast = subst (λ s. ShowsMulticast s.table new.multicast w) (sym keeps.store)
-        (multicast_kept old.store.table old.multicast new.multicast w keeps.multicast at'.shows.multicast);
-    store = subst (λ s. ShowsStore s.table s w) (sym keeps.store) at'.shows.store;
+    front = subst (λ f. FrontShows (replies_in w.ended) f w) (sym keeps.front) at'.shows.front;
+    connections = subst (λ (f : FrontView). ShowsConnections f.router w) (sym keeps.front) at'.shows.connections;
+    multicast = subst (λ (f : FrontView). ShowsMulticast f.table f.multicast w) (sym keeps.front) at'.shows.multicast;
+    table = ap (λ (f : FrontView). f.table) keeps.front ∙ at'.shows.table ∙ ap (λ (b : BackState). b.store.table) (sym keeps.back);
+    store = subst (λ (b : BackState). ShowsStore b.store.table b.store w) (sym keeps.back) at'.shows.store;
     stage = subst (λ s. ShowsStage s w) (sym keeps.stage) at'.shows.stage;
-    rows = subst (λ rs. AreRows w.ended rs) (sym keeps.rows) at'.shows.rows;
+    rows = subst (λ (b : BackState). AreRows w.ended b.rows) (sym keeps.back) at'.shows.rows;
     starved = keeps.starved ∙ at'.shows.starved;
   };
+}
+
+-- what they show is the same
+pub same_store : {old new : Parts} → Keeps old new → new.back.store ≡ old.back.store
+same_store keeps = ap (λ (b : BackState). b.store) keeps.back
+
+pub same_rows : {old new : Parts} → Keeps old new → new.back.rows ≡ old.back.rows
+same_rows keeps = ap (λ (b : BackState). b.rows) keeps.back
+
+pub same_packets : {old new : Parts} → Keeps old new → new.front.multicast.packets ≡ old.front.multicast.packets
+same_packets keeps = ap (λ (f : FrontView). f.multicast.packets) keeps.front
+
+pub same_queues : {old new : Parts} → Keeps old new → new.front.multicast.queues ≡ old.front.multicast.queues
+same_queues keeps = ap (λ (f : FrontView). f.multicast.queues) keeps.front
+
+pub same_twice : {old mid new : Parts} → Keeps old mid → Keeps mid new → Keeps old new
+same_twice one two = record {
+  front = two.front ∙ one.front;
+  back = two.back ∙ one.back;
+  stage = two.stage ∙ one.stage;
+  starved = two.starved ∙ one.starved;
 }
 
 -- what a refusal leaves: all as before but for room, or a system that has failed
 abbrev pub Leaves : Parts → Parts → Type 0
 Leaves old new = Keeps old new ⊎ HasFailed old new
 
-pub table_left : (old new : Parts) → Leaves old new → new.store.table ≡ old.store.table
-table_left old new (inl keeps) = ap (λ s. s.table) keeps.store
+pub table_left : (old new : Parts) → Leaves old new → new.back.store.table ≡ old.back.store.table
+table_left old new (inl keeps) = ap (λ s. s.table) (same_store keeps)
 table_left old new (inr failed) = failed.table
 
 still_shows : (old new : SystemView) → IsSystem old → new.steps ≡ old.steps → Leaves old.parts new.parts →
-    new.parts.store.failed ≡ false → (h : List Step) × (w : World) × ShowsHistory new h w
+    new.parts.back.store.failed ≡ false → (h : List Step) × (w : World) × ShowsHistory new h w
 still_shows old new is same (inl keeps) alive =
-    let shown = is.shows (ap (λ s. s.failed) (sym keeps.store) ∙ alive) in (
+    let shown = is.shows (ap (λ s. s.failed) (sym (same_store keeps)) ∙ alive) in (
       shown.0,
       shown.1,
       record {
@@ -119,6 +142,15 @@ still_shows old new is same (inl keeps) alive =
       },
     )
 still_shows old new is same (inr failed) alive = absurd (both_ways _ alive failed.failed)
+
+-- and have counted as many steps
+still_counts : (old new : SystemView) → IsSystem old → new.steps ≡ old.steps → Leaves old.parts new.parts →
+    new.parts.back.store.failed ≡ false → count_of new.parts ≡ new.steps
+still_counts old new is same (inl keeps) alive =
+    ap (λ (f : FrontView). f.steps + f.layers + ran_in new.parts.stage) keeps.front
+    ∙ ap (λ (s : Stage). old.parts.front.steps + old.parts.front.layers + ran_in s) keeps.stage
+    ∙ is.counted (ap (λ s. s.failed) (sym (same_store keeps)) ∙ alive) ∙ sym same
+still_counts old new is same (inr failed) alive = absurd (both_ways _ alive failed.failed)
 
 pub stays : (old new : SystemView) → IsSystem old → new.steps ≡ old.steps → new.max_steps ≡ old.max_steps →
     Leaves old.parts new.parts → IsSystem new
@@ -130,6 +162,7 @@ stays old new is steps most leaves =
       within = omega arith;
       few = omega arith;
       shows = still_shows old new is steps leaves;
+      counted = still_counts old new is steps leaves;
     }
 
 failed_or_not : (f : StepFault) → (f ≡ Failed) ⊎ (f ≢ Failed)
@@ -154,14 +187,14 @@ leaves fault old new keeps fails = leaves_by fault old new keeps fails (failed_o
 
 -- ---- why it was not
 
-refused_by : (old new : SystemView) (step : Step) (fault : StepFault) → old.parts.store.failed ≡ false →
+refused_by : (old new : SystemView) (step : Step) (fault : StepFault) → old.parts.back.store.failed ≡ false →
     old.steps < old.max_steps → new.steps ≡ old.steps → new.max_steps ≡ old.max_steps →
     IsFault old.parts step fault × Keeps old.parts new.parts → Refuses old step fault new
 refused_by old new step fault alive left steps most told =
     record { lived = alive; left = left; why = told.0; kept = record { max_steps = most; steps = steps; parts = told.1 } }
 
 -- what the parts answer, the system answers
-pub refused_so : (may_refuse : Bool) (old new : SystemView) (step : Step) (fault : StepFault) → old.parts.store.failed ≡ false →
+pub refused_so : (may_refuse : Bool) (old new : SystemView) (step : Step) (fault : StepFault) → old.parts.back.store.failed ≡ false →
     old.steps < old.max_steps → new.steps ≡ old.steps → new.max_steps ≡ old.max_steps →
     (fault ≢ Failed → IsFault old.parts step fault × Keeps old.parts new.parts) →
     (fault ≡ Failed → MayFail may_refuse old.parts step × HasFailed old.parts new.parts) → IsRefused may_refuse old step fault new
@@ -183,15 +216,8 @@ refused_so may old new step Failed alive left steps most keeps fails =
 
 -- ---- a step that is looked at
 
-same_parts : (p : Parts) → Keeps p p
-same_parts p = record {
-  router = refl;
-  multicast = record { groups = refl; packets = refl; queues = refl };
-  store = refl;
-  stage = refl;
-  rows = refl;
-  starved = refl;
-}
+pub same_parts : (p : Parts) → Keeps p p
+same_parts p = record { front = refl; back = refl; stage = refl; starved = refl }
 
 -- a fault of a step's own refuses it, with nothing changed
 pub refused_still : (s : SystemView) (step : Step) (fault : StepFault) → MayGoOn s → IsFault s.parts step fault →

@@ -1,13 +1,10 @@
-pub mod Histories
+pub mod Replies
 pub mod Rest
-pub mod Connecting
-pub mod Messages
+pub mod Fronting
+pub mod Opening
 pub mod Starving
 pub mod Layering
-pub mod Refusals
-pub mod Told
 pub mod Lasting
-pub mod Opening
 pub mod Runs
 pub mod Quiet
 pub mod Submitted

@@ -1,8 +1,13 @@
--- What the parts behind the router show of a world in which they are the same.
-use Rattle.std.proofs.Common.{◌≡◌, true, List, [], ◌∷◌, Some, sym, ap, ◌∙◌, subst}
+-- What is the same in the worlds before and after a step of the front, and what the parts show of it.
+use Rattle.std.proofs.Common.{◌≡◌, ℕ, true, List, [], ◌∷◌, Some, refl, sym, ◌∙◌, subst, Result, Ok, Err}
+use Rattle.command_table.specs.Reading.{reading}
+use Rattle.command_table.specs.declared.command.Command.{Command}
+use Rattle.command_table.specs.declared.refusal.Refusal.{Refusal}
 use Rattle.groups.specs.GroupSet.{has}
+use Rattle.journal.specs.declared.step.Step.{Step}
+use Rattle.journal.specs.declared.step.Step.TheVariants.{Open, Submit, Deliver, Take, Run, Settle, Collect, Close}
 use Rattle.layer_planner.specs.declared.job.Job.{Job}
-use Rattle.multicast.specs.Multicast.{MulticastView}
+use Rattle.placement.specs.Groups.{groups_of}
 use Rattle.placement.specs.Layout.{Layout}
 use Rattle.shard_exec.specs.StoreStates.{StoreState}
 use Rattle.groups.specs.Order.{In}
@@ -10,15 +15,69 @@ use Rattle.skeen_core.specs.declared.packet.Delivered.{Delivered}
 use Rattle.groups.specs.declared.request.RequestId.{RequestId}
 use Rattle.system.specs.Parts.{ShowsStage}
 use Rattle.system.specs.declared.stage.Stage.{Stage}
-use Rattle.system.specs.declared.stage.Stage.TheVariants.{Free, Taken, HasRun}
+use Rattle.system.specs.declared.stage.Stage.TheVariants as stage
 use Rattle.system_view.specs.Layers.{AreJobs, ShowsStore}
-use Rattle.system_view.specs.Multicast.{ShowsMulticast}
-use Rattle.world.specs.World.{World, Request}
-use Rattle.world_laws.specs.Good.{Asked}
+use Rattle.world.specs.Steps.{Effect, Steps, submitted, submitted_to}
+use Rattle.world.specs.Steps as world
+use Rattle.world.specs.World.{World, Request, Standing, Closed, Idle, Waiting, Answered}
+use Rattle.world_laws.proofs.Floors.{knows_more}
+use Rattle.world_laws.specs.Good.{Asked, WorldGood}
+
+-- ---- a step that leaves the layer alone
+
+-- the layer, what has ended and the contents are the same
+pub record IsRest (w w' : World) : Type 0 where
+  pub layer : w'.layer ≡ w.layer
+  pub ended : w'.ended ≡ w.ended
+  pub contents : w'.contents ≡ w.contents
+
+rest_of : (w w' after : World) → w' ≡ after → IsRest w after → IsRest w w'
+rest_of w w' after is rest = subst (λ v. IsRest w v) (sym is) rest
+
+submit_rest : (t : Layout) (w : World) (c : ℕ) (read : Result Command Refusal) → IsRest w (submitted t w c read)
+submit_rest t w c (Err refusal) = record { layer = refl; ended = refl; contents = refl }
+submit_rest t w c (Ok command) = by_groups (groups_of t command)
+  where
+    by_groups : (gs : List ℕ) → IsRest w (submitted_to w c command gs)
+    by_groups [] = record { layer = refl; ended = refl; contents = refl }
+    by_groups (g ∷ gs) = record { layer = refl; ended = refl; contents = refl }
+
+collect_rest : (s : Standing) (w w' : World) (c : ℕ) (effect : Effect) → world.Collects s w c effect w' → IsRest w w'
+collect_rest Closed w w' c effect made = absurd made
+collect_rest Idle w w' c effect made = rest_of w w' w made.1 (record { layer = refl; ended = refl; contents = refl })
+collect_rest Waiting w w' c effect made = rest_of w w' w made.1 (record { layer = refl; ended = refl; contents = refl })
+collect_rest (Answered o) w w' c effect made = rest_of w w' _ made.1 (record { layer = refl; ended = refl; contents = refl })
+
+abbrev pub LeavesLayer : Step → Type 0
+LeavesLayer Take = ⊥
+LeavesLayer (Run starved) = ⊥
+LeavesLayer Settle = ⊥
+LeavesLayer Open = Unit {0}
+LeavesLayer (Submit conn words) = Unit {0}
+LeavesLayer (Deliver place) = Unit {0}
+LeavesLayer (Collect conn) = Unit {0}
+LeavesLayer (Close conn) = Unit {0}
+
+pub is_rest : (t : Layout) (w w' : World) (step : Step) (effect : Effect) → LeavesLayer step → Steps t w step effect w' → IsRest w w'
+is_rest t w w' Open effect leaves made = rest_of w w' _ made.after (record { layer = refl; ended = refl; contents = refl })
+is_rest t w w' (Submit conn words) effect leaves made =
+    rest_of w w' (submitted t w conn.0 (reading words)) made.after (submit_rest t w conn.0 (reading words))
+is_rest t w w' (Deliver place) effect leaves made = rest_of w w' _ made.after (record { layer = refl; ended = refl; contents = refl })
+is_rest t w w' Take effect leaves made = absurd leaves
+is_rest t w w' (Run starved) effect leaves made = absurd leaves
+is_rest t w w' Settle effect leaves made = absurd leaves
+is_rest t w w' (Collect conn) effect leaves made = collect_rest (w.standing conn.0) w w' conn.0 effect made
+is_rest t w w' (Close conn) effect leaves made = rest_of w w' _ made.after (record { layer = refl; ended = refl; contents = refl })
+
+-- ---- what the parts show
 
 -- the requests of the first world are asked in the second
 abbrev pub KeepsAsked : Asked → Asked → Type 0
 KeepsAsked asked asked' = (i : RequestId) (q : Request) → asked i ≡ Some q → asked' i ≡ Some q
+
+pub keeps_asked : (t : Layout) (w w' : World) (step : Step) (effect : Effect) → Steps t w step effect w' → WorldGood t w →
+    KeepsAsked w.asked w'.asked
+keeps_asked t w w' step effect made good = (knows_more t w w' step effect made good).0
 
 jobs_asked : (asked asked' : Asked) (ds : List Delivered) (js : List Job) → KeepsAsked asked asked' →
     AreJobs asked ds js → AreJobs asked' ds js
@@ -35,12 +94,11 @@ jobs_asked asked asked' (d ∷ ds) (j ∷ js) keeps are = (
 jobs_asked asked asked' [] (j ∷ js) keeps are = absurd are
 jobs_asked asked asked' (d ∷ ds) [] keeps are = absurd are
 
-pub stage_same : (stage : Stage) (w w' : World) → KeepsAsked w.asked w'.asked → w'.layer ≡ w.layer → ShowsStage stage w →
-    ShowsStage stage w'
-stage_same Free w w' keeps same shows = same ∙ shows
-stage_same (Taken jobs) w w' keeps same shows =
+pub stage_same : (s : Stage) (w w' : World) → KeepsAsked w.asked w'.asked → w'.layer ≡ w.layer → ShowsStage s w → ShowsStage s w'
+stage_same stage.Free w w' keeps same shows = same ∙ shows
+stage_same (stage.Taken jobs) w w' keeps same shows =
     (shows.0, same ∙ shows.1, jobs_asked w.asked w'.asked shows.0 jobs keeps shows.2)
-stage_same (HasRun outcomes) w w' keeps same shows = (shows.0, same ∙ shows.1, shows.2)
+stage_same (stage.HasRun done) w w' keeps same shows = (shows.0, same ∙ shows.1, shows.2)
 
 pub store_same : (t : Layout) (s : StoreState) (w w' : World) → w'.ended ≡ w.ended → w'.contents ≡ w.contents → ShowsStore t s w →
     ShowsStore t s w'
@@ -50,13 +108,4 @@ store_same t s w w' ended contents shows = record {
   contents = shows.contents ∙ sym contents;
   lasts = λ g stamp last. subst (λ es. (e : _) × In e es × (has e.groups g ≡ true) × (e.stamp ≡ stamp)) (sym ended)
       (shows.lasts g stamp last);
-}
-
-pub multicast_same : (t : Layout) (v : MulticastView) (w w' : World) → w'.group ≡ w.group → w'.packets ≡ w.packets → w'.queue ≡ w.queue →
-    ShowsMulticast t v w → ShowsMulticast t v w'
-multicast_same t v w w' group packets queue shows = record {
-  count = shows.count;
-  groups = λ g. shows.groups g ∙ sym (ap (λ f. f g) group);
-  packets = shows.packets ∙ sym packets;
-  queues = λ g. shows.queues g ∙ sym (ap (λ f. f g) queue);
 }

@@ -20,7 +20,7 @@ made_more old mid new (s ∷ ss) (e ∷ es) step effect made next obeys =
     (made.0, made.1, made.2, made_more made.0 mid new ss es step effect made.3 next obeys)
 
 same_table : (old new : SystemView) (step : Step) (effect : Effect) → IsStep old step effect new →
-    new.parts.store.table ≡ old.parts.store.table
+    new.parts.back.store.table ≡ old.parts.back.store.table
 same_table old new step effect made = made.makes.table
 
 -- steps that were made lead, in whatever world the system showed, to the world that it shows then

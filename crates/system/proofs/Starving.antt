@@ -101,17 +101,17 @@ want_in_turn table m skip (j ∷ js) (r ∷ rs) (e ∷ es) address told ended st
 -- ---- both
 
 pub starves_rightly : (p : Parts) (w : World) (skip : List RequestId) (ds : List Delivered) (js : List Job)
-    (rs : List run.Ended) (new : StoreState) → ShowsRun p.store.table w p.router rs new →
-    w.layer ≡ Taken ds → AreJobs w.asked ds js → AddressTheirGroups p.store.table js → AllZip IsOf js rs →
-    MayStarveInTurn p.store.table w.contents skip js rs → StarvesRightly p skip (starved_of rs) w
+    (rs : List run.Ended) (new : StoreState) → ShowsRun p.back.store.table w p.front.router rs new →
+    w.layer ≡ Taken ds → AreJobs w.asked ds js → AddressTheirGroups p.back.store.table js → AllZip IsOf js rs →
+    MayStarveInTurn p.back.store.table w.contents skip js rs → StarvesRightly p skip (starved_of rs) w
 starves_rightly p w skip ds js rs new run is_taken are address told starve = record {
   named = λ l is d there skipped.
       let same : l ≡ ds = ap taken_in (sym is ∙ is_taken) in
-      named_starve p.store.table w.contents skip w.asked ds js rs are told starve d (subst (In d) same there) skipped;
+      named_starve p.back.store.table w.contents skip w.asked ds js rs are told starve d (subst (In d) same there) skipped;
   requests = run.runs.layer;
   taken = run.runs.there;
   outcomes = run.runs.outcomes;
   ran = run.runs.in_turn;
-  others = subst (λ l. WantInTurn p.store.table skip w.contents l) (ap (λ (v : World). run_in v.layer) run.runs.after)
-      (want_in_turn p.store.table w.contents skip js rs run.es address told run.ended starve);
+  others = subst (λ l. WantInTurn p.back.store.table skip w.contents l) (ap (λ (v : World). run_in v.layer) run.runs.after)
+      (want_in_turn p.back.store.table w.contents skip js rs run.es address told run.ended starve);
 }

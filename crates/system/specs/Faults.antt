@@ -1,22 +1,19 @@
--- How the refusals of the parts are told.
+-- How the refusals of the front are told.
 use Rattle.std.specs.Prelude.{Option, Some, None}
-use Rattle.multicast.specs.declared.multicast.DeliverFault.{DeliverFault}
-use Rattle.multicast.specs.declared.multicast.DeliverFault.TheVariants as deliver
-use Rattle.router.specs.declared.submission.SubmitFault.{SubmitFault}
-use Rattle.router.specs.declared.submission.SubmitFault.TheVariants as submit
+use Rattle.front.specs.declared.fault.FrontFault.{FrontFault}
+use Rattle.front.specs.declared.fault.FrontFault.TheVariants as front
 use Rattle.system.specs.declared.fault.StepFault.{StepFault}
 use Rattle.system.specs.declared.fault.StepFault.TheVariants.{Busy, NoConn, NoPacket, InFlight, NoLayer, Exhausted, Memory, Failed}
 use Rattle.world.specs.Steps.{OwnFault}
 use Rattle.world.specs.Steps as world
 
-abbrev pub of_submit : SubmitFault → StepFault
-of_submit submit.Busy = Busy
-of_submit submit.NoConn = NoConn
-of_submit submit.Memory = Memory
-
-abbrev pub of_deliver : DeliverFault → StepFault
-of_deliver deliver.NoPacket = NoPacket
-of_deliver deliver.Memory = Memory
+abbrev pub of_front : FrontFault → StepFault
+of_front front.Busy = Busy
+of_front front.NoConn = NoConn
+of_front front.NoPacket = NoPacket
+of_front front.InFlight = InFlight
+of_front front.NoLayer = NoLayer
+of_front front.Memory = Memory
 
 -- a step's own fault
 abbrev pub own_fault : StepFault → Option OwnFault

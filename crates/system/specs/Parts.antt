@@ -1,13 +1,12 @@
--- What the parts of the system show, together, of a world.
-use Rattle.std.specs.List.{AllZip}
-use Rattle.std.specs.Prelude.{◌≡◌, ℕ, true, false, List, [], ◌∷◌, ◌++◌, length, None, option_map}
+-- What the two halves of the system show, together, of a world.
+use Rattle.std.specs.Prelude.{◌≡◌, ℕ, suc, ◌+◌, true, false, List, [], ◌∷◌, ◌++◌, length, None, option_map}
 use Rattle.command_bodies.specs.Answer.{AnswerTakesMemory}
 use Rattle.command_table.specs.declared.command.Command.{Command}
+use Rattle.front.specs.Fronts.{FrontShows}
 use Rattle.journal.specs.Views.{RowView}
 use Rattle.journal.specs.declared.step.Step.{Step}
 use Rattle.journal.specs.declared.step.Step.TheVariants.{Run}
 use Rattle.layer_planner.specs.declared.job.Job.{Job}
-use Rattle.multicast.specs.Multicast.{IsSame}
 use Rattle.groups.specs.Order.{In}
 use Rattle.groups.specs.declared.request.RequestId.{RequestId}
 use Rattle.keyspace.specs.Map.{Map}
@@ -15,7 +14,7 @@ use Rattle.placement.specs.Groups.{groups_of}
 use Rattle.placement.specs.Layout.{Layout}
 use Rattle.shard_exec.specs.Layers.{on_groups}
 use Rattle.skeen_core.specs.declared.packet.Delivered.{Delivered}
-use Rattle.system.specs.Outcomes.{IsOutcome}
+use Rattle.system.specs.Outcomes.{IsWhatCameOf, replies_in}
 use Rattle.system.specs.declared.effect.Effect.{Effect}
 use Rattle.system.specs.declared.effect.Effect.TheVariants.{Opened, Submitted, Ran, Collected, Made}
 use Rattle.system.specs.declared.parts.Parts.{Parts}
@@ -35,12 +34,12 @@ use Rattle.world.specs.World as layer
 abbrev pub ShowsStage : Stage → World → Type 0
 ShowsStage Free w = w.layer ≡ layer.NoneTaken
 ShowsStage (Taken jobs) w = (ds : List _) × (w.layer ≡ layer.Taken ds) × AreJobs w.asked ds jobs
-ShowsStage (HasRun outcomes) w = (es : List _) × (w.layer ≡ layer.HasRun es) × AllZip IsOutcome es outcomes.items
+ShowsStage (HasRun done) w = (es : List _) × (w.layer ≡ layer.HasRun es) × IsWhatCameOf es done
 
 abbrev pub progress_of : Stage → Progress
 progress_of Free = progress.Free
 progress_of (Taken jobs) = progress.Taken
-progress_of (HasRun outcomes) = progress.HasRun
+progress_of (HasRun done) = progress.HasRun
 
 -- how many requests are to be run
 abbrev pub to_run : Stage → ℕ
@@ -52,18 +51,30 @@ abbrev pub layer_of : Stage → List Job
 layer_of (Taken jobs) = jobs
 layer_of stage = []
 
+-- the front was told of each request what came of it there, so that what it shows is the world itself
 pub record Shows (p : Parts) (w : World) : Type 0 where
-  pub connections : ShowsConnections p.router w
-  pub multicast : ShowsMulticast p.store.table p.multicast w
-  pub store : ShowsStore p.store.table p.store w
+  pub front : FrontShows (replies_in w.ended) p.front w
+  pub connections : ShowsConnections p.front.router w
+  pub multicast : ShowsMulticast p.front.table p.front.multicast w
+  pub table : p.front.table ≡ p.back.store.table
+  pub store : ShowsStore p.back.store.table p.back.store w
   pub stage : ShowsStage p.stage w
-  pub rows : AreRows w.ended p.rows.rows
+  pub rows : AreRows w.ended p.back.rows
   pub starved : p.starved.items ≡ starved_among w.ended
 
 -- these steps lead to the world, and the parts show it
 pub record IsAt (p : Parts) (h : List Step) (w : World) : Type 0 where
-  pub leads : Leads p.store.table opening h w
+  pub leads : Leads p.back.store.table opening h w
   pub shows : Shows p w
+
+-- how many steps were made: those of the front, a run of each layer that was settled, and that of a layer which isn't yet
+abbrev pub ran_in : Stage → ℕ
+ran_in Free = 0
+ran_in (Taken jobs) = 0
+ran_in (HasRun done) = 1
+
+abbrev pub count_of : Parts → ℕ
+count_of p = p.front.steps + p.front.layers + ran_in p.stage
 
 -- ---- a step
 
@@ -101,7 +112,7 @@ pub record StarvesRightly (p : Parts) (skip starved : List RequestId) (w : World
   pub taken : w.layer ≡ layer.Taken requests
   pub outcomes : List Ended
   pub ran : RunInTurn w.asked starved w.contents requests outcomes
-  pub others : WantInTurn p.store.table skip w.contents outcomes
+  pub others : WantInTurn p.back.store.table skip w.contents outcomes
 
 -- whom the step starves
 abbrev pub Starves : Parts → Step → Effect → World → Type 0
@@ -110,19 +121,18 @@ Starves p step effect w = Unit {0}
 
 -- in each world that the parts showed the step is accepted and answers so, and they show the world after it
 pub record Makes (old : Parts) (step : Step) (effect : Effect) (new : Parts) : Type 0 where
-  pub table : new.store.table ≡ old.store.table
+  pub table : new.back.store.table ≡ old.back.store.table
+  pub counted : count_of new ≡ suc (count_of old)
   pub from_each : (h : List Step) (w : World) → IsAt old h w →
-      (w' : World) × Steps old.store.table w (stored step effect) (effect_shown effect) w'
+      (w' : World) × Steps old.back.store.table w (stored step effect) (effect_shown effect) w'
       × IsAt new (h ++ stored step effect ∷ []) w'
   pub starves : (h : List Step) (w : World) → IsAt old h w → Starves old step effect w
   -- the rows that were there stay, words included
-  pub rows : (more : List RowView) × (new.rows.rows ≡ old.rows.rows ++ more)
+  pub rows : (more : List RowView) × (new.back.rows ≡ old.back.rows ++ more)
 
 -- nothing has changed but room
 pub record Keeps (old new : Parts) : Type 0 where
-  pub router : new.router ≡ old.router
-  pub multicast : IsSame old.multicast new.multicast
-  pub store : new.store ≡ old.store
+  pub front : new.front ≡ old.front
+  pub back : new.back ≡ old.back
   pub stage : new.stage ≡ old.stage
-  pub rows : new.rows.rows ≡ old.rows.rows
   pub starved : new.starved.items ≡ old.starved.items

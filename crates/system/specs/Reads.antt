@@ -19,15 +19,15 @@ use Rattle.system.specs.declared.stage.Progress.{Progress}
 
 -- where keys lie
 abbrev pub table_of : SystemView → Layout
-table_of s = s.parts.store.table
+table_of s = s.parts.back.store.table
 
 -- whether a worker's start was refused
 abbrev pub failed : SystemView → Bool
-failed s = s.parts.store.failed
+failed s = s.parts.back.store.failed
 
 -- the map of each shard
 abbrev pub maps_of : SystemView → List Map
-maps_of s = s.parts.store.maps
+maps_of s = s.parts.back.store.maps
 
 -- what the shards hold together
 abbrev pub contents_of : SystemView → Map
@@ -35,7 +35,7 @@ contents_of s = joined (maps_of s)
 
 -- what was executed, in the order of execution
 abbrev pub rows_of : SystemView → List RowView
-rows_of s = s.parts.rows.rows
+rows_of s = s.parts.back.rows
 
 -- what starved, in the order of turns
 abbrev pub starved_of : SystemView → List RequestId
@@ -43,11 +43,11 @@ starved_of s = s.parts.starved.items
 
 -- the packets under way, oldest first
 abbrev pub packets_of : SystemView → List Packet
-packets_of s = s.parts.multicast.packets
+packets_of s = s.parts.front.multicast.packets
 
 -- what a group has delivered and no layer has taken
 abbrev pub queues_of : SystemView → QueueOf
-queues_of s = queue_of s.parts.multicast.queues
+queues_of s = queue_of s.parts.front.multicast.queues
 
 -- how far the layer is that is under way
 abbrev pub progress_of : SystemView → Progress
@@ -59,15 +59,15 @@ to_run s = parts.to_run s.parts.stage
 
 -- the connection of a number, if it is kept
 abbrev pub connection_of : SystemView → ℕ → Option Connection
-connection_of s = router.connection s.parts.router
+connection_of s = router.connection s.parts.front.router
 
 -- the outcome that waits for a connection
 abbrev pub waiting_for : SystemView → ℕ → Option Outcome
-waiting_for s = router.waiting s.parts.router
+waiting_for s = router.waiting s.parts.front.router
 
 -- the clock of a group
 abbrev pub clock_of : SystemView → ℕ → ℕ
-clock_of s g = (group_of s.parts.multicast.groups g).clock
+clock_of s g = (group_of s.parts.front.multicast.groups g).clock
 
 -- the requests that are to be run
 abbrev pub layer_of : SystemView → List Job

@@ -2,7 +2,7 @@
 use Rattle.std.specs.Prelude.{◌≡◌, ◌<◌, Bool, true, List, length}
 use Rattle.journal.specs.declared.step.Step.{Step}
 use Rattle.journal.specs.declared.step.Step.TheVariants.{Run, Settle, Collect, Close}
-use Rattle.system.specs.Parts.{IsAt}
+use Rattle.system.specs.Parts.{IsAt, count_of}
 use Rattle.system.specs.declared.fault.StepFault.{StepFault}
 use Rattle.system.specs.declared.fault.StepFault.TheVariants.{Busy, NoConn, NoPacket, InFlight, NoLayer, Exhausted, Memory, Failed}
 use Rattle.system.specs.declared.parts.Parts.{Parts}
@@ -11,12 +11,13 @@ use Rattle.world.specs.Steps as world
 use Rattle.world.specs.World.{World}
 use Rattle.journal.specs.declared.trace.TheConstants.{GREATEST_STEPS}
 
--- some history led here, of so few steps that no number has grown too large
+-- some history led here, of so few steps that no number has grown too large, and they were counted
 pub record Lives (p : Parts) : Type 0 where
   pub history : List Step
   pub world : World
   pub at : IsAt p history world
   pub few : length history < GREATEST_STEPS
+  pub counted : count_of p ≡ length history
 
 -- in each world that the parts show the step is refused so
 abbrev pub Refuses : Parts → Step → OwnFault → Type 0
@@ -56,6 +57,6 @@ pub record MayFail (may_refuse : Bool) (p : Parts) (step : Step) : Type 0 where
 
 -- a worker's start was refused: of shards, layer and connections nothing is said, and the rows stay
 pub record HasFailed (old new : Parts) : Type 0 where
-  pub failed : new.store.failed ≡ true
-  pub table : new.store.table ≡ old.store.table
-  pub rows : new.rows.rows ≡ old.rows.rows
+  pub failed : new.back.store.failed ≡ true
+  pub table : new.back.store.table ≡ old.back.store.table
+  pub rows : new.back.rows ≡ old.back.rows

@@ -27,7 +27,7 @@ all_stored (step ∷ steps) (effect ∷ effects) = stored step effect ∷ all_st
 -- system shows the world of that history and these steps
 abbrev pub LeadsTo : SystemView → List Step → List Effect → SystemView → Type 0
 LeadsTo old steps effects new = (h : List Step) (w : World) → IsAt old.parts h w →
-    (w' : World) × Makes old.parts.store.table w (all_stored steps effects) (map effect_shown effects) w'
+    (w' : World) × Makes old.parts.back.store.table w (all_stored steps effects) (map effect_shown effects) w'
     × IsAt new.parts (h ++ all_stored steps effects) w'
 
 -- behind the steps that were made either none is left, or one that was refused, and why
@@ -51,7 +51,7 @@ pub record AreRun (may_refuse : Bool) (old : SystemView) (steps : List Step) (ef
 pub record HasNoRoom (old : SystemView) (steps : List Step) (effects : List Effect) (fault : Option StepFault) (new : SystemView) :
     Type 0 where
   pub some : steps ≢ []
-  pub lives : old.parts.store.failed ≡ false
+  pub lives : old.parts.back.store.failed ≡ false
   pub left : old.steps < old.max_steps
   pub none_made : effects ≡ []
   pub is_memory : fault ≡ Some Memory

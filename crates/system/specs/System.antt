@@ -6,7 +6,7 @@ use Rattle.journal.specs.declared.step.Step.{Step}
 use Rattle.placement.specs.Layout.{Layout, IsTable}
 use Rattle.shard_maps.specs.Joined.{joined}
 use Rattle.skeen_core.specs.declared.packet.Delivered.{Delivered}
-use Rattle.system.specs.Parts.{IsAt, Makes, Keeps}
+use Rattle.system.specs.Parts.{IsAt, count_of, Makes, Keeps}
 use Rattle.system.specs.Refusing.{IsFault, RefusesNot, MayFail, HasFailed}
 use Rattle.system.specs.declared.effect.Effect.{Effect}
 use Rattle.system.specs.declared.fault.StepFault.{StepFault}
@@ -30,27 +30,29 @@ pub record ShowsHistory (s : SystemView) (h : List Step) (w : World) : Type 0 wh
   pub at : IsAt s.parts h w
   pub count : length h ≡ s.steps
 
--- what each system is: unless a worker's start was refused, it shows the world of some history
+-- what each system is: unless a worker's start was refused, it shows the world of some history, and its halves have counted
+-- its steps
 pub record IsSystem (s : SystemView) : Type 0 where
-  pub is_table : IsTable s.parts.store.table
+  pub is_table : IsTable s.parts.back.store.table
   pub within : s.steps ≤ s.max_steps
   pub few : s.max_steps ≤ GREATEST_STEPS
-  pub shows : s.parts.store.failed ≡ false → (h : List Step) × (w : World) × ShowsHistory s h w
+  pub shows : s.parts.back.store.failed ≡ false → (h : List Step) × (w : World) × ShowsHistory s h w
+  pub counted : s.parts.back.store.failed ≡ false → count_of s.parts ≡ s.steps
 
 -- a new system: nothing has happened
 pub record IsNew (t : Layout) (most : ℕ) (s : SystemView) : Type 0 where
   pub max_steps : s.max_steps ≡ most
   pub none : s.steps ≡ 0
-  pub table : s.parts.store.table ≡ t
-  pub lives : s.parts.store.failed ≡ false
+  pub table : s.parts.back.store.table ≡ t
+  pub lives : s.parts.back.store.failed ≡ false
   pub shows : ShowsHistory s [] opening
 
 -- ---- a step
 
 -- it was made: whatever world the system showed, the step is accepted there, and the system shows the world after it
 pub record IsStep (old : SystemView) (step : Step) (effect : Effect) (new : SystemView) : Type 0 where
-  pub lived : old.parts.store.failed ≡ false
-  pub lives : new.parts.store.failed ≡ false
+  pub lived : old.parts.back.store.failed ≡ false
+  pub lives : new.parts.back.store.failed ≡ false
   pub left : old.steps < old.max_steps
   pub counted : new.steps ≡ suc old.steps
   pub max_steps : new.max_steps ≡ old.max_steps
@@ -63,14 +65,14 @@ pub record IsSameButRoom (old new : SystemView) : Type 0 where
   pub parts : Keeps old.parts new.parts
 
 pub record Refuses (old : SystemView) (step : Step) (fault : StepFault) (new : SystemView) : Type 0 where
-  pub lived : old.parts.store.failed ≡ false
+  pub lived : old.parts.back.store.failed ≡ false
   pub left : old.steps < old.max_steps
   pub why : IsFault old.parts step fault
   pub kept : IsSameButRoom old new
 
 -- steps may be made: no worker's start was refused, and fewer were made than may be
 pub record MayGoOn (s : SystemView) : Type 0 where
-  pub lives : s.parts.store.failed ≡ false
+  pub lives : s.parts.back.store.failed ≡ false
   pub left : s.steps < s.max_steps
 
 -- and the step has no fault of its own
@@ -80,28 +82,28 @@ pub record IsAdmitted (s : SystemView) (step : Step) : Type 0 where
 
 -- a worker's start was refused now
 pub record Fails (may_refuse : Bool) (old : SystemView) (step : Step) (new : SystemView) : Type 0 where
-  pub lived : old.parts.store.failed ≡ false
+  pub lived : old.parts.back.store.failed ≡ false
   pub left : old.steps < old.max_steps
   pub may_fail : MayFail may_refuse old.parts step
   pub failed : HasFailed old.parts new.parts
 
 -- why it was not made
 abbrev pub IsRefused : Bool → SystemView → Step → StepFault → SystemView → Type 0
-IsRefused may_refuse old step Failed new = ((old.parts.store.failed ≡ true) × (new ≡ old)) ⊎ Fails may_refuse old step new
+IsRefused may_refuse old step Failed new = ((old.parts.back.store.failed ≡ true) × (new ≡ old)) ⊎ Fails may_refuse old step new
 IsRefused may_refuse old step Exhausted new =
-    (old.parts.store.failed ≡ false) × (old.steps ≡ old.max_steps) × (new ≡ old)
+    (old.parts.back.store.failed ≡ false) × (old.steps ≡ old.max_steps) × (new ≡ old)
 IsRefused may_refuse old step fault new = Refuses old step fault new
 
 -- ---- what it shows
 
 -- no packet is under way, no layer is there, and no request is ready
 pub record IsQuiet (s : SystemView) : Type 0 where
-  pub packets : s.parts.multicast.packets ≡ []
+  pub packets : s.parts.front.multicast.packets ≡ []
   pub layer : s.parts.stage ≡ Free
-  pub none_ready : (d : Delivered) → ¬ IsReady (queue_of s.parts.multicast.queues) d
+  pub none_ready : (d : Delivered) → ¬ IsReady (queue_of s.parts.front.multicast.queues) d
 
 -- The headline: whatever history led here, what the shards hold together, and the replies to all that was executed, are
 -- those of one thread that runs the executed requests, sorted by their final stamps, on one map.
 abbrev pub ObeysOneThread : SystemView → Type 0
 ObeysOneThread s = (h : List Step) (w : World) → IsAt s.parts h w →
-    IsOneThread (joined s.parts.store.maps) (rows_by_stamp (rows_of w.ended))
+    IsOneThread (joined s.parts.back.store.maps) (rows_by_stamp (rows_of w.ended))

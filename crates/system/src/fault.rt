@@ -1,11 +1,10 @@
 //! Why a step isn't made.
 
 ghost use Rattle.std.specs.Prelude.{◌≡◌};
-ghost use Rattle.system.specs.Faults.{of_submit, of_deliver};
+ghost use Rattle.system.specs.Faults.{of_front};
 ghost use Rattle.system.specs.declared.fault.StepFault.TheVariants as step_fault;
 
-use multicast::DeliverFault;
-use router::SubmitFault;
+use front::FrontFault;
 use std::alloc::AllocError;
 use thiserror::Error;
 
@@ -54,25 +53,17 @@ impl From<AllocError> for StepFault {
     }
 }
 
-impl From<SubmitFault> for StepFault {
-    ghost from_gives = { λ refused fault. fault ≡ of_submit refused };
+impl From<FrontFault> for StepFault {
+    ghost from_gives = { λ refused fault. fault ≡ of_front refused };
 
-    fn from(refused: SubmitFault) -> StepFault {
+    fn from(refused: FrontFault) -> StepFault {
         match refused {
-            SubmitFault::Busy => StepFault::Busy,
-            SubmitFault::NoConn => StepFault::NoConn,
-            SubmitFault::Memory => StepFault::Memory,
-        }
-    }
-}
-
-impl From<DeliverFault> for StepFault {
-    ghost from_gives = { λ refused fault. fault ≡ of_deliver refused };
-
-    fn from(refused: DeliverFault) -> StepFault {
-        match refused {
-            DeliverFault::NoPacket => StepFault::NoPacket,
-            DeliverFault::Memory => StepFault::Memory,
+            FrontFault::Busy => StepFault::Busy,
+            FrontFault::NoConn => StepFault::NoConn,
+            FrontFault::NoPacket => StepFault::NoPacket,
+            FrontFault::InFlight => StepFault::InFlight,
+            FrontFault::NoLayer => StepFault::NoLayer,
+            FrontFault::Memory => StepFault::Memory,
         }
     }
 }

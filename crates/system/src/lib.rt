@@ -1,5 +1,6 @@
 //! The system: connections, groups, queues and shards as one machine of eight steps.
 //!
+//! It is two halves in one hand: the front, which makes every step but Run, and the store with its rows, which runs layers.
 //! It knows no thread and no socket. Whoever has it chooses the steps: which connection asks, which packet comes next,
 //! when a layer is taken, run and settled. Contracts say that it shows the world of the steps that were made, and so
 //! all that holds of every such world holds of it: the replies and the contents are those of one thread on one map.
@@ -7,7 +8,6 @@
 
 mod effect;
 mod fault;
-mod jobs;
 mod outcomes;
 mod own_fault;
 mod parts;

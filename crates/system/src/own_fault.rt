@@ -10,7 +10,6 @@ use super::parts::Parts;
 use super::stage::Stage;
 use groups::ConnId;
 use journal::Step;
-use router::SubmitFault;
 
 impl Parts {
     /// The fault that the step has of its own, if it has one.
@@ -34,9 +33,9 @@ impl Parts {
         ensures some { IfSome result (λ fault. (words : List (List ℕ)) → IsFault self.now (Step.Submit conn words) fault) }
         ensures none { IfNone result ((words : List (List ℕ)) → RefusesNot self.now (Step.Submit conn words)) }
     {
-        match self.router.may_submit(conn) {
-            Ok(()) => None,
-            Err(refused) => Some(StepFault::from(refused)),
+        match self.front.submit_fault(conn) {
+            None => None,
+            Some(fault) => Some(StepFault::from(fault)),
         }
     }
 
@@ -44,10 +43,9 @@ impl Parts {
         ensures some { IfSome result (IsFault self.now (Step.Deliver place)) }
         ensures none { IfNone result (RefusesNot self.now (Step.Deliver place)) }
     {
-        if place < self.multicast.packets() as u64 {
-            None
-        } else {
-            Some(StepFault::NoPacket)
+        match self.front.deliver_fault(place) {
+            None => None,
+            Some(fault) => Some(StepFault::from(fault)),
         }
     }
 
@@ -55,13 +53,9 @@ impl Parts {
         ensures some { IfSome result (IsFault self.now Step.Take) }
         ensures none { IfNone result (RefusesNot self.now Step.Take) }
     {
-        let Stage::Free = &self.stage else {
-            return Some(StepFault::InFlight);
-        };
-        if self.multicast.has_ready() {
-            None
-        } else {
-            Some(StepFault::NoLayer)
+        match self.front.take_fault() {
+            None => None,
+            Some(fault) => Some(StepFault::from(fault)),
         }
     }
 
@@ -90,11 +84,9 @@ impl Parts {
         ensures some { IfSome result (λ fault. IsFault self.now (Step.Collect conn) fault × IsFault self.now (Step.Close conn) fault) }
         ensures none { IfNone result (RefusesNot self.now (Step.Collect conn) × RefusesNot self.now (Step.Close conn)) }
     {
-        match self.router.may_submit(conn) {
-            Ok(()) => None,
-            Err(SubmitFault::Busy) => None,
-            Err(SubmitFault::NoConn) => Some(StepFault::NoConn),
-            Err(SubmitFault::Memory) => None,
+        match self.front.collect_fault(conn) {
+            None => None,
+            Some(fault) => Some(StepFault::from(fault)),
         }
     }
 }

@@ -1,8 +1,6 @@
-//! The parts of the system, and what each kind of step does to them.
+//! The two halves of the system, and what each kind of step does to them.
 
 ghost use Rattle.std.specs.Prelude.{◌≡◌, ◌≢◌, IfOk, IfErr, OnErr};
-ghost use Rattle.router.specs.Router.{connection};
-ghost use Rattle.router.specs.Submitting.{IsRefused};
 ghost use Rattle.system.specs.Parts.{Makes, Keeps};
 ghost use Rattle.system.specs.Refusing.{Lives, IsFault, MayFail, HasFailed};
 ghost use Rattle.system.specs.declared.fault.StepFault.{StepFault};
@@ -10,29 +8,25 @@ ghost use Rattle.journal.specs.declared.step.Step.{Step};
 
 use super::effect::Effect;
 use super::fault::StepFault;
-use super::jobs::take_all;
-use super::outcomes::{note_starved, settle_all, tell_all};
+use super::outcomes::note_starved;
 use super::stage::Stage;
+use back::Back;
+use front::Front;
 use groups::{ConnId, RequestId};
-use journal::{RequestIds, Rows, Step};
-use layer_planner::Layer;
-use multicast::Multicast;
+use journal::{RequestIds, Step};
 use resp::Request;
-use router::{Router, SubmitFault};
-use shard_exec::{ExecFault, Store};
+use shard_exec::ExecFault;
 use shard_workers::{Gate, Workers};
 use std::alloc::Global;
 use std::mem;
 
-/// The connections, the groups with their packets and queues, the shards, the layer that is under way, the rows of what
-/// was executed, and the ids of what starved.
+/// The front, with the connections and the groups; the back, with the shards and the rows of what was executed; the layer
+/// that is under way between them; and the ids of what starved.
 #[derive(Drop)]
 pub struct Parts {
-    pub router: Router,
-    pub multicast: Multicast,
-    pub store: Store,
+    pub front: Front,
+    pub back: Back,
     pub stage: Stage,
-    pub rows: Rows,
     pub starved: Vec<RequestId>,
 }
 
@@ -57,7 +51,7 @@ impl Parts {
             Step::Open => self.open(),
             Step::Submit { conn, words } => self.submit(conn, words),
             Step::Deliver { place } => self.deliver(place),
-            Step::Take => self.take(alloc),
+            Step::Take => self.take(),
             Step::Run { starved } => self.run(alloc, starved, workers, gate),
             Step::Settle => self.settle(),
             Step::Collect { conn } => self.collect(conn),
@@ -73,8 +67,10 @@ impl Parts {
         ensures no_failure { IfErr result (λ fault. fault ≢ StepFault.Failed) }
         ensures keeps { OnErr result (Keeps self.old self.new) }
     {
-        let conn = self.router.open()?;
-        Ok(Effect::Opened(conn))
+        match self.front.open() {
+            Ok(conn) => Ok(Effect::Opened(conn)),
+            Err(fault) => Err(StepFault::from(fault)),
+        }
     }
 
     /// A connection submits a request of these words; a Start goes to each of its groups.
@@ -86,16 +82,10 @@ impl Parts {
         ensures no_failure { IfErr result (λ fault. fault ≢ StepFault.Failed) }
         ensures keeps { OnErr result (Keeps self.old self.new) }
     {
-        let groups = usize::from(self.store.table().shards());
-        let Ok(()) = self.multicast.reserve(groups) else {
-            return Err(StepFault::from(unsent(&self.router, conn)));
-        };
-        let sent = match self.router.submit(self.store.table(), conn, words) {
-            Ok(sent) => sent,
-            Err(refused) => return Err(StepFault::from(refused)),
-        };
-        self.multicast.start(sent.id, sent.floor, sent.groups);
-        Ok(Effect::Submitted(sent.id))
+        match self.front.submit(conn, words) {
+            Ok(id) => Ok(Effect::Submitted(id)),
+            Err(fault) => Err(StepFault::from(fault)),
+        }
     }
 
     /// The packet at this place comes to its group.
@@ -107,42 +97,32 @@ impl Parts {
         ensures no_failure { IfErr result (λ fault. fault ≢ StepFault.Failed) }
         ensures keeps { OnErr result (Keeps self.old self.new) }
     {
-        self.multicast.deliver(place as usize)?;
-        Ok(Effect::Made)
+        match self.front.deliver(place) {
+            Ok(()) => Ok(Effect::Made),
+            Err(fault) => Err(StepFault::from(fault)),
+        }
     }
 
-    /// All requests that are ready or lined up are taken as the next layer: what they ask out of the router, and they
-    /// themselves out of the queues.
+    /// The front hands out all requests that are ready or lined up as the next layer.
     #[inline(never)]
-    fn take(&mut self, alloc: Global) -> Result<Effect, StepFault>
+    fn take(&mut self) -> Result<Effect, StepFault>
         requires { Lives self.old }
         ensures made { IfOk result (λ effect. Makes self.old Step.Take effect self.new) }
         ensures fault { IfErr result (IsFault self.old Step.Take) }
         ensures no_failure { IfErr result (λ fault. fault ≢ StepFault.Failed) }
         ensures keeps { OnErr result (Keeps self.old self.new) }
     {
-        let Stage::Free = &self.stage else {
-            return Err(StepFault::InFlight);
-        };
-        let Ok(ready) = self.multicast.ready() else {
-            return Err(StepFault::Memory);
-        };
-        if ready.is_empty() {
-            return Err(StepFault::NoLayer);
+        match self.front.take() {
+            Ok(layer) => {
+                set_stage(&mut self.stage, Stage::Taken(layer));
+                Ok(Effect::Made)
+            }
+            Err(fault) => Err(StepFault::from(fault)),
         }
-        let Ok(mut jobs) = Vec::with_capacity(alloc, ready.len()) else {
-            return Err(StepFault::Memory);
-        };
-        take_all(&mut self.router, ready.as_slice(), &mut jobs);
-        self.multicast.lose_layer(ready.as_slice());
-        let Some(layer) = Layer::gather(jobs) else {
-            unreachable!()
-        };
-        set_stage(&mut self.stage, Stage::Taken(layer));
-        Ok(Effect::Made)
     }
 
-    /// Runs the layer that was taken, but for the requests of `skip`, which count as starved.
+    /// The back runs the layer that was taken, but for the requests of `skip`, which count as starved, and hands over what
+    /// came of it.
     #[inline(never)]
     fn run<W: Workers>(
         &mut self,
@@ -158,25 +138,21 @@ impl Parts {
         ensures failed { IfErr result (λ fault. fault ≡ StepFault.Failed
             → MayFail (W.may_refuse workers.now) self.old (Step.Run skip) × HasFailed self.old self.new) }
     {
+        self.front.holds();
         let Stage::Taken(taken) = &self.stage else {
             return Err(StepFault::NoLayer);
         };
         let count = taken.len();
         self.starved.reserve(count)?;
-        self.rows.reserve(count)?;
         let mut starved = Vec::with_capacity(alloc, count)?;
-        let mut outcomes = Vec::with_capacity(alloc, count)?;
         let Stage::Taken(layer) = mem::replace(&mut self.stage, Stage::Free) else {
             unreachable!()
         };
-        match self
-            .store
-            .run_layer(alloc, layer, skip.as_slice(), workers, gate)
-        {
-            Ok(ended) => {
-                note_starved(ended.as_slice(), &mut starved, &mut self.starved);
-                tell_all(&mut self.rows, &mut outcomes, ended);
-                set_stage(&mut self.stage, Stage::HasRun(outcomes));
+        match self.back.run(layer, skip.as_slice(), workers, gate) {
+            Ok(()) => {
+                let done = self.back.hand_over();
+                note_starved(done.starved(), &mut starved, &mut self.starved);
+                set_stage(&mut self.stage, Stage::HasRun(done));
                 Ok(Effect::Ran(RequestIds::from(starved)))
             }
             Err(ExecFault::Memory(layer)) => {
@@ -189,7 +165,7 @@ impl Parts {
         }
     }
 
-    /// The outcomes of the layer that was run go to their connections. It takes no memory.
+    /// The front is told what came of the layer that was run. It takes no memory.
     #[inline(never)]
     fn settle(&mut self) -> Result<Effect, StepFault>
         requires { Lives self.old }
@@ -201,11 +177,13 @@ impl Parts {
         let Stage::HasRun(_) = &self.stage else {
             return Err(StepFault::NoLayer);
         };
-        let Stage::HasRun(outcomes) = mem::replace(&mut self.stage, Stage::Free) else {
+        let Stage::HasRun(done) = mem::replace(&mut self.stage, Stage::Free) else {
             unreachable!()
         };
-        settle_all(&mut self.router, outcomes);
-        Ok(Effect::Made)
+        match self.front.settle_outcomes(done) {
+            Ok(()) => Ok(Effect::Made),
+            Err(_) => unreachable!(),
+        }
     }
 
     /// Collects the outcome that waits for a connection, if one does. It takes no memory.
@@ -217,9 +195,9 @@ impl Parts {
         ensures no_conn { IfErr result (λ fault. fault ≡ StepFault.NoConn) }
         ensures keeps { OnErr result (Keeps self.old self.new) }
     {
-        match self.router.collect(conn) {
+        match self.front.collect(conn) {
             Ok(outcome) => Ok(Effect::Collected(outcome)),
-            Err(_) => Err(StepFault::NoConn),
+            Err(fault) => Err(StepFault::from(fault)),
         }
     }
 
@@ -231,20 +209,10 @@ impl Parts {
         ensures no_conn { IfErr result (λ fault. fault ≡ StepFault.NoConn) }
         ensures keeps { OnErr result (Keeps self.old self.new) }
     {
-        match self.router.close(conn) {
+        match self.front.close(conn) {
             Ok(()) => Ok(Effect::Made),
-            Err(_) => Err(StepFault::NoConn),
+            Err(fault) => Err(StepFault::from(fault)),
         }
-    }
-}
-
-/// Why a connection submits nothing where there is no memory: what the connection itself is refused for comes first.
-fn unsent(router: &Router, conn: ConnId) -> SubmitFault
-    ensures { IsRefused (connection router.now conn.0) result }
-{
-    match router.may_submit(conn) {
-        Ok(()) => SubmitFault::Memory,
-        Err(refused) => refused,
     }
 }
 

@@ -1,7 +1,7 @@
 //! The layer that is under way.
 
 use layer_planner::Layer;
-use router::Outcome;
+use layer_results::Done;
 
 /// How far the layer is that is under way, if one is.
 #[derive(Drop)]
@@ -10,8 +10,8 @@ pub enum Stage {
     Free,
     /// It was taken, and is to be run.
     Taken(Layer),
-    /// It was run, and what came of each of its requests is to go to its connection.
-    HasRun(Vec<Outcome>),
+    /// It was run, and what came of it is to be told to the front.
+    HasRun(Done),
 }
 
 /// How far the layer is that is under way, apart from what is in it.

@@ -24,13 +24,13 @@ use super::effect::Effect;
 use super::fault::StepFault;
 use super::parts::Parts;
 use super::stage::{Progress, Stage};
+use back::Back;
+use front::Front;
 use groups::{ConnId, GroupId, RequestId};
 use journal::{Rows, Step};
 use layer_planner::Job;
-use multicast::Multicast;
 use placement::Table;
-use router::{Outcome, Router};
-use shard_exec::Store;
+use router::Outcome;
 use shard_workers::{Gate, Workers};
 use shards::ShardHasher;
 use skeen_core::{Delivered, Packet};
@@ -90,14 +90,13 @@ impl System {
         requires few { max_steps ≤ GREATEST_STEPS }
         ensures { IfOk result (IsNew table max_steps) }
     {
-        let multicast = Multicast::new(alloc, table.shards())?;
-        let store = Store::with_hasher(alloc, table, hasher)?;
+        let front = Front::new(alloc, table)?;
+        let back = Back::new(alloc, table, hasher)?;
+        front.holds();
         let parts = Parts {
-            router: Router::new(alloc),
-            multicast,
-            store,
+            front,
+            back,
             stage: Stage::Free,
-            rows: Rows::new(alloc),
             starved: Vec::new(alloc),
         };
         Ok(System {
@@ -173,7 +172,7 @@ impl System {
         ensures some { IfSome result (λ fault. (may_refuse : Bool) (step : Step) → IsRefused may_refuse self.now step fault self.now) }
         ensures none { IfNone result (MayGoOn self.now) }
     {
-        if self.parts.store.has_failed() {
+        if self.parts.back.has_failed() {
             return Some(StepFault::Failed);
         }
         if self.steps == self.max_steps {
@@ -205,7 +204,7 @@ impl System {
     pub fn has_failed(&self) -> bool
         ensures { result ≡ failed self.now }
     {
-        self.parts.store.has_failed()
+        self.parts.back.has_failed()
     }
 
     /// How far the layer is that is under way: which of Take, Run and Settle may come next.
@@ -234,14 +233,14 @@ impl System {
     pub fn packets(&self) -> usize
         ensures { result ≡ length (packets_of self.now) }
     {
-        self.parts.multicast.packets()
+        self.parts.front.packets()
     }
 
     /// The rows of what was executed, in the order of execution.
     pub fn rows(&self) -> &Rows
         ensures { result.now.rows ≡ rows_of self.now }
     {
-        &self.parts.rows
+        self.parts.back.rows()
     }
 
     /// The ids of the requests that starved, in the order in which their turns came.
@@ -258,7 +257,7 @@ impl System {
         ensures ok { OnOk result (out.new.items ≡ out.old.items ++ dump_text (contents_of self.now)) }
         ensures err { OnErr result (out.new.items ≡ out.old.items) }
     {
-        self.parts.store.dump(self.alloc, out)
+        self.parts.back.dump(out)
     }
 
     /// Whether some request is ready: it stands at the head of the queue of each of its groups, and a Take would take it.
@@ -266,7 +265,7 @@ impl System {
     pub fn has_ready(&self) -> bool
         ensures { IsTrue result ↔ ((d : Delivered) × IsReady (queues_of self.now) d) }
     {
-        self.parts.multicast.has_ready()
+        self.parts.front.has_ready()
     }
 
     /// Whether nothing is under way: no packet, no layer, and no request that is ready. It takes no memory.
@@ -276,10 +275,10 @@ impl System {
         let Stage::Free = &self.parts.stage else {
             return false;
         };
-        if self.parts.multicast.packets() != 0 {
+        if self.parts.front.packets() != 0 {
             return false;
         }
-        !self.parts.multicast.has_ready()
+        !self.parts.front.has_ready()
     }
 
     /// It does nothing: its contract says that what is under way can be brought to an end.
@@ -326,27 +325,28 @@ impl System {
     {
         order_of_requests();
         collecting_of_outcomes();
-        let _ = self.parts.store.table();
+        let _ = self.parts.back.table();
     }
 
     /// The outcome that waits for a connection, left in place. It takes no memory.
     pub fn waits(&self, conn: ConnId) -> Option<&Outcome>
         ensures { option_copied result ≡ waiting_for self.now conn.0 }
     {
-        self.parts.router.waits(conn)
+        self.parts.front.waits(conn)
     }
+
     /// The packet at this place of those under way, counted from 0 in order of sending.
     pub fn packet(&self, place: usize) -> Option<&Packet>
         ensures { option_copied result ≡ slice_get (packets_of self.now) place }
     {
-        self.parts.multicast.packet(place)
+        self.parts.front.packet(place)
     }
 
     /// The clock of a group. A group that isn't there has the clock of a new one.
     pub fn clock(&self, group: GroupId) -> u64
         ensures { result ≡ clock_of self.now group }
     {
-        self.parts.multicast.clock(group)
+        self.parts.front.clock(group)
     }
 
     /// The request at this place of those that the group has delivered and no layer has taken, counted from 0 from the
@@ -354,14 +354,14 @@ impl System {
     pub fn delivered(&self, group: GroupId, place: usize) -> Option<&Delivered>
         ensures { option_copied result ≡ slice_get (queues_of self.now group) place }
     {
-        self.parts.multicast.delivered(group, place)
+        self.parts.front.delivered(group, place)
     }
 
     /// How many requests the group has delivered that no layer has taken.
     pub fn queued(&self, group: GroupId) -> usize
         ensures { result ≡ length (queues_of self.now group) }
     {
-        self.parts.multicast.queued(group)
+        self.parts.front.queued(group)
     }
 
     /// The requests of the layer that was taken and is to be run, in their order; none where none is.

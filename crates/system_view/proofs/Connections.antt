@@ -191,13 +191,6 @@ shows_opened old new w t first requests shows count changes =
       | inr e ↦ e
     ]
 
-pub shows_open : (old new : RouterView) (w : World) (t : Layout) → WorldGood t w → ShowsConnections old w →
-    new.opened ≡ old.opened + 1 →
-    ((d : ℕ) → connection new d ≡ cond (d == new.opened) (Some just_opened) (connection old d)) →
-    ShowsConnections new (opened_world w)
-shows_open old new w t good shows count changes =
-    shows_opened old new w t (unopened t w good) good.requests shows count changes
-
 -- ---- where an open connection stands alone changes
 
 abbrev pub standing_world : World → ℕ → Stand → World

@@ -3,7 +3,4 @@ pub mod Running
 pub mod Submits
 pub mod Addresses
 pub mod Delivering
-pub mod Settling
-pub mod Taking
 pub mod Jobs
-pub mod Received

@@ -3,26 +3,22 @@ use Rattle.std.proofs.Common.{refl, sym, ap, ◌∙◌, subst, inl, inr, append-
 use Rattle.std.proofs.Math.Seq.{append_snoc}
 use Rattle.std.specs.List.{AllZip}
 use Rattle.std.specs.Prelude.{◌≡◌, ℕ, Bool, true, false, cond, ◌||◌, List, [], ◌∷◌, ◌++◌, map}
-use Rattle.std.specs.Prelude.{Option, Some, None, is_none, Ok}
+use Rattle.std.specs.Prelude.{Option, Some, None, is_none}
 use Rattle.command_bodies.specs.Command.{effect_of}
 use Rattle.command_table.specs.Reading.{reading}
 use Rattle.command_table.specs.declared.command.Command.{Command}
-use Rattle.execution_order.specs.Entries.{Row}
 use Rattle.groups.specs.GroupSet.{has}
 use Rattle.keyspace.specs.Map.{Map}
-use Rattle.journal.specs.Views.{RowView, row_view}
 use Rattle.journal.specs.declared.step.Step.{Step}
 use Rattle.layer_planner.specs.declared.job.Job.{Job}
 use Rattle.placement.specs.Groups.{groups_of}
 use Rattle.placement.specs.Layout.{Layout}
 use Rattle.resp.specs.Content.{Content}
-use Rattle.resp.specs.Text.{text}
 use Rattle.resp.specs.declared.answered.Answered.{Answered}
 use Rattle.router.specs.Router.{RouterView, connection}
 use Rattle.router.specs.declared.connection.Connection.{Connection}
 use Rattle.router.specs.declared.connection.Standing.{Standing}
 use Rattle.router.specs.declared.connection.Standing.TheVariants as router
-use Rattle.shard_workers.proofs.Zips.{zip_push}
 use Rattle.shard_exec.proofs.LastStamps.{raised_last}
 use Rattle.shard_exec.specs.Layers.{commands_of, AddressTheirGroups, outcomes_of_ended, IsOf}
 use Rattle.shard_workers.specs.Runs.{outcome}
@@ -44,7 +40,7 @@ use Rattle.groups.specs.declared.stamp.Stamp.{Stamp}
 use Rattle.system_view.proofs.Jobs.{all_jobs}
 use Rattle.system_view.specs.Connections.{InLayer, id_of, ShowsOpen, ShowsClosed, ShowsConnection}
 use Rattle.system_view.specs.Connections.{IsSettled, ShowsConnections}
-use Rattle.system_view.specs.Layers.{IsJob, AreJobs, AreEnded, if_none, starved_of, ShowsStore, IsRow, AreRows}
+use Rattle.system_view.specs.Layers.{IsJob, AreJobs, AreEnded, if_none, starved_of, ShowsStore}
 use Rattle.world.specs.Steps.{opening, Ran, names, map_after, after_all, ended_as, RunInTurn}
 use Rattle.world.specs.Steps.{if_starved, starved_among, RunsLayer, Leads}
 use Rattle.world.specs.World.{World, Request, Ended, Layer, Taken, HasRun}
@@ -52,7 +48,6 @@ use Rattle.world_laws.proofs.ConditionLaws.{layer_is_submitted, layer_is_above}
 use Rattle.world_laws.proofs.Layers.{run_of_layer, taken_once}
 use Rattle.world_laws.proofs.Worlds.{good_world}
 use Rattle.world_laws.specs.Good.{Asked, run_in, all_delivered, all_taken, TakenGood, WorldGood}
-use Rattle.world_laws.specs.Headline.{with_row, rows_of}
 
 -- ---- a layer that was taken may be run
 
@@ -387,47 +382,3 @@ shows_run t w steps ds js r old new skip rs leads is_taken are store connections
         (tells_starved rs once)
         (subst (λ m. AnsweredInTurn m (commands_of js) (outcomes_of_ended rs) (joined new.maps)) store.contents
         ran.done.in_turn)
-
--- ---- the rows
-
-abbrev row_of : Ended → Content → Row
-row_of e reply = record {
-  entry = record { id = e.id; stamp = e.stamp; groups = e.groups; command = e.command };
-  reply = reply;
-}
-
-with_row-append : (e : Ended) (o : Option Content) (xs ys : List Row) → with_row e o (xs ++ ys) ≡ with_row e o xs ++ ys
-with_row-append e None xs ys = refl
-with_row-append e (Some reply) xs ys = refl
-
-rows_of-append : (es : List Ended) (e : Ended) → rows_of (es ++ e ∷ []) ≡ rows_of es ++ with_row e e.reply []
-rows_of-append [] e = refl
-rows_of-append (x ∷ xs) e =
-    ap (with_row x x.reply) (rows_of-append xs e) ∙ with_row-append x x.reply (rows_of xs) (with_row e e.reply [])
-
--- one that starved has no row
-pub rows_starved : (es : List Ended) (e : Ended) (kept : List RowView) → AreRows es kept → e.reply ≡ None →
-    AreRows (es ++ e ∷ []) kept
-rows_starved es e kept are none = subst (λ rows. AllZip IsRow rows kept) (sym same) are
-  where
-    same : rows_of (es ++ e ∷ []) ≡ rows_of es
-    same = rows_of-append es e ∙ ap (λ o. rows_of es ++ with_row e o []) none ∙ append-nil (rows_of es)
-
--- one that was executed has one
-pub rows_executed : (es : List Ended) (e : Ended) (kept : List RowView) (row : RowView) (words : List (List ℕ))
-    (reply : Content) → AreRows es kept → e.reply ≡ Some reply → row ≡ row_view e.id e.stamp words (text reply) →
-    reading words ≡ Ok e.command → AreRows (es ++ e ∷ []) (kept ++ row ∷ [])
-rows_executed es e kept row words reply are some is says =
-    subst (λ rows. AllZip IsRow rows (kept ++ row ∷ [])) (sym same)
-    (zip_push IsRow (rows_of es) kept (row_of e reply) row are is_row)
-  where
-    same : rows_of (es ++ e ∷ []) ≡ rows_of es ++ row_of e reply ∷ []
-    same = rows_of-append es e ∙ ap (λ o. rows_of es ++ with_row e o []) some
-
-    is_row : IsRow (row_of e reply) row
-    is_row = record {
-      id = ap (λ (r : RowView). r.id) is;
-      stamp = ap (λ (r : RowView). r.stamp) is;
-      says = ap (λ (r : RowView). reading r.words) is ∙ says;
-      reply = ap (λ (r : RowView). r.reply) is;
-    }

@@ -34,7 +34,7 @@ use Rattle.world.specs.Steps.{next_id as world_id, asks, final_clock, final_cloc
 use Rattle.world.specs.Steps.{submitted, submitted_to}
 use Rattle.world.specs.World.{World, Request, Outcome, Idle, Waiting, Answered}
 use Rattle.std.proofs.lemmas.Bool.{cond-true, cond-false}
-use Rattle.world_laws.specs.Good.{AskedGood, WorldGood}
+use Rattle.world_laws.specs.Good.{AskedGood}
 
 -- the submitting connection, as the router has it before and after
 pub record Submitter (old new : RouterView) (w : World) (c : ℕ) (was now : Connection) : Type 0 where
@@ -273,9 +273,3 @@ module _ (t : Layout) (w : World) (c : ℕ) (good : AskedGood t w.asked w.propos
             })
             (subst (λ i. StandsBy i words (reading words) submits.now.standing) id submits.standing),
       )
-
-pub shows_submit : (t : Layout) (w : World) (c : ℕ) → WorldGood t w → (words : List (List ℕ)) (old new : RouterView)
-    (sent : Submission) → Addresses t (reading words) → Submits t c words old sent new → ShowsConnections old w →
-    (w.standing c ≡ Idle) × (sent.id ≡ world_id w c) × (sent.floor ≡ floor_of w c)
-    × ShowsConnections new (submitted t w c (reading words))
-shows_submit t w c good words = shows_submitted t w c good.requests words

@@ -1,5 +1,6 @@
 -- Connections, at each step that touches them.
-use Rattle.std.proofs.Common.{◌≡◌, ℕ, suc, ◌≤◌, ◌<◌, ◌==◌, false, List, [], ◌∷◌, ◌++◌, ◌⊎◌, inl, inr, Option, Some, None, refl, sym, ap}
+use Rattle.std.proofs.Common.{◌≡◌, ℕ, suc, ◌≤◌, ◌<◌, ◌==◌, false, List, [], ◌∷◌, ◌++◌, ◌⊎◌, inl, inr}
+use Rattle.std.proofs.Common.{Option, Some, None, refl, sym, ap}
 use Rattle.std.proofs.Common.{◌∙◌, subst, arith, eqb-true, eq-eqb, append-nil}
 use Rattle.std.proofs.lemmas.Bool.{both_ways, cases_Bool}
 use Rattle.groups.proofs.Ids.{same_id-true, eq-same_id}

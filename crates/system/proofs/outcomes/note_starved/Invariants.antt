@@ -1,12 +1,11 @@
-use Rattle.std.proofs.Common.{◌≡◌, ◌≤◌, ◌+◌, ◌++◌, length, vec_capacity, drop}
-use Rattle.system_view.specs.Layers.{starved_of}
+use Rattle.std.proofs.Common.{◌≡◌, ◌≤◌, ◌+◌, ◌++◌, map, length, vec_capacity, take, drop}
 use Rattle.system.proofs.outcomes.note_starved.Given as goal
 
--- those behind are still to be noted, and there is room for all of them
-abbrev pub invariant-loop-request : goal.invariant-loop-request
-invariant-loop-request l = record {
-  starved : l.starved.items ++ starved_of (drop l.request-index l.fn.ended) ≡ starved_of l.fn.ended;
-  all : l.all.items ++ starved_of (drop l.request-index l.fn.ended) ≡ l.fn.all.items ++ starved_of l.fn.ended;
-  room : length l.starved.items + length (drop l.request-index l.fn.ended) ≤ vec_capacity l.starved;
-  room_of_all : length l.all.items + length (drop l.request-index l.fn.ended) ≤ vec_capacity l.all;
+-- those in front are noted, and there is room for those behind
+abbrev pub invariant-loop-id : goal.invariant-loop-id
+invariant-loop-id l = record {
+  starved : l.starved.items ≡ map (λ s. s.0) (take l.id-index l.fn.names);
+  all : l.all.items ≡ l.fn.all.items ++ map (λ s. s.0) (take l.id-index l.fn.names);
+  room : length l.starved.items + length (drop l.id-index l.fn.names) ≤ vec_capacity l.starved;
+  room_of_all : length l.all.items + length (drop l.id-index l.fn.names) ≤ vec_capacity l.all;
 }

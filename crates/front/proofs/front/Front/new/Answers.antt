@@ -1,4 +1,4 @@
-use Rattle.std.proofs.Common.{[], None, refl, ◌∙◌}
+use Rattle.std.proofs.Common.{true, [], None, refl, ◌∙◌}
 use Rattle.front.proofs.Opening.{IsOpening, opening_shown}
 use Rattle.front.specs.Fronts.{FrontView, roomless}
 use Rattle.world.specs.Steps.{opening}
@@ -13,6 +13,7 @@ new_front c = record {
   out = c.new-3.result.items;
   rows = c.new-4.result.rows;
   starved = c.new-5.result.items;
+  whole = true;
   steps = 0;
   layers = 0;
 }
@@ -43,4 +44,4 @@ invariant_of-result c = record {
 }
 
 pub returns : goal.returns
-returns c = record { table = refl; no_steps = refl; no_layers = refl; at = opening_shown (new_front c) (is_opening c) }
+returns c = record { table = refl; no_steps = refl; no_layers = refl; whole = refl; at = opening_shown (new_front c) (is_opening c) }

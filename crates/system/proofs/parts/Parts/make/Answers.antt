@@ -1,6 +1,6 @@
 use Rattle.std.proofs.Common.{◌≢◌, sym, subst}
 use Rattle.std.specs.Prelude.{IfErr}
-use Rattle.system.proofs.Refusals.{told_fault}
+use Rattle.system.proofs.Fronting.{told_fault}
 use Rattle.system.specs.Parts.{Keeps}
 use Rattle.system.specs.Refusing.{IsFault}
 use Rattle.system.specs.declared.fault.StepFault.TheVariants.{Failed}

@@ -1,6 +1,6 @@
 use Rattle.std.proofs.Common.{sym, subst}
 use Rattle.std.specs.Prelude.{IfSome, IfNone}
-use Rattle.system.proofs.Refusals.{some_of, none_of}
+use Rattle.system.proofs.Fronting.{some_of, none_of}
 use Rattle.system.specs.Refusing.{IsFault, RefusesNot}
 use Rattle.system.proofs.parts.Parts.own_fault.Goals as goal
 

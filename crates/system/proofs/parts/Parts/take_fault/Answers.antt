@@ -1,7 +1,10 @@
-use Rattle.system.proofs.Refusals.{take_memory}
+use Rattle.journal.specs.declared.step.Step.TheVariants.{Take}
+use Rattle.system.proofs.Fronting.{admitted, refused_as}
 use Rattle.system.proofs.parts.Parts.take_fault.Goals as goal
 
-pub returns-then-has_ready-clause-none : goal.returns-then-has_ready-clause-none
-returns-then-has_ready-clause-none c =
-    take_memory c.args.self.now c.in-Free.is
-    (λ none. let some = c.has_ready.ensures.0 c.if-has_ready.true in none some.0 some.1)
+pub returns-in-None-clause-none : goal.returns-in-None-clause-none
+returns-in-None-clause-none c = admitted c.args.self.now Take c.in-None.ensures.none
+
+pub returns-in-Some-clause-some : goal.returns-in-Some-clause-some
+returns-in-Some-clause-some c =
+    refused_as c.args.self.now Take c.in-Some.fault c.from.result c.from.ensures (λ wants. wants) c.in-Some.ensures.some

@@ -11,4 +11,5 @@ pub returns : goal.returns
 returns c =
     subst (λ (s : SystemView). IsTrue (not c.has_ready.result) ↔ IsQuiet s) c.self.view_is
     (quiet_by c.has_ready.result (was c.self.inside)
-    (no_packets c.self.inside.parts.multicast.packets (sym c.packets.ensures ∙ c.if-packets-ne0.false)) c.in-Free.is c.has_ready.ensures)
+    (no_packets c.self.inside.parts.front.multicast.packets (sym c.packets.ensures ∙ c.if-packets-ne0.false)) c.in-Free.is
+    c.has_ready.ensures)
