@@ -1,24 +1,20 @@
 -- Packets under way, by their places.
-use Rattle.std.proofs.Common.{◌≡◌, ◌∙◌, ℕ, zero, suc, ◌+◌, ◌<◌, ◌≤◌, Bool, true, false, cond, List, [], ◌∷◌, ◌++◌, Option, Some, None}
+use Rattle.std.proofs.Common.{◌≡◌, ◌∙◌, ℕ, zero, suc, ◌+◌, ◌<◌, ◌≤◌}
+use Rattle.std.proofs.Common.{Bool, true, false, cond, List, [], ◌∷◌, ◌++◌, Option, Some, None}
 use Rattle.std.proofs.Common.{length, map, take, drop, slice_get, refl, sym, ap, subst, arith}
+use Rattle.std.proofs.lemmas.List.{append-nil}
+use Rattle.std.proofs.lemmas.List.Elements.{filter-append}
 use Rattle.std.specs.List.{AllByRecursion, filter, remove, slice_set}
 use Rattle.picture.specs.Flights.{places_from}
 
 -- ---- one more at the end
 
 pub filter-more : {A : Type 0} (f : A → Bool) (xs : List A) (x : A) → f x ≡ true → filter f (xs ++ x ∷ []) ≡ filter f xs ++ x ∷ []
-filter-more f [] x is = rw is refl
-filter-more f (y ∷ ys) x is = elim (f y) as (λ t. cond t (y ∷ filter f (ys ++ x ∷ [])) (filter f (ys ++ x ∷ [])) ≡ cond t (y ∷ filter f ys) (filter f ys) ++ x ∷ []) [
-  | true ↦ ap (λ zs. y ∷ zs) (filter-more f ys x is)
-  | false ↦ filter-more f ys x is
-]
+filter-more f xs x is = filter-append f xs (x ∷ []) ∙ ap (λ t. filter f xs ++ cond t (x ∷ []) []) is
 
 pub filter-same : {A : Type 0} (f : A → Bool) (xs : List A) (x : A) → f x ≡ false → filter f (xs ++ x ∷ []) ≡ filter f xs
-filter-same f [] x is = rw is refl
-filter-same f (y ∷ ys) x is = elim (f y) as (λ t. cond t (y ∷ filter f (ys ++ x ∷ [])) (filter f (ys ++ x ∷ [])) ≡ cond t (y ∷ filter f ys) (filter f ys)) [
-  | true ↦ ap (λ zs. y ∷ zs) (filter-same f ys x is)
-  | false ↦ filter-same f ys x is
-]
+filter-same f xs x is =
+    filter-append f xs (x ∷ []) ∙ ap (λ t. filter f xs ++ cond t (x ∷ []) []) is ∙ append-nil (filter f xs)
 
 pub places-more : {A : Type 0} (f : A → Bool) (n : ℕ) (xs : List A) (x : A) → f x ≡ true →
     places_from f n (xs ++ x ∷ []) ≡ places_from f n xs ++ (n + length xs) ∷ []
@@ -104,20 +100,22 @@ place_of {A} f n (x ∷ xs) k j is =
         }
 
 -- where another is put that is told the same, and passes if it does, the same is told
-pub told_same : {A B : Type 0} (f : A → Bool) (h : A → B) (xs : List A) (d : ℕ) (x y : A) → slice_get xs d ≡ Some x → f y ≡ f x → h y ≡ h x →
-    map h (filter f (slice_set xs d y)) ≡ map h (filter f xs)
+pub told_same : {A B : Type 0} (f : A → Bool) (h : A → B) (xs : List A) (d : ℕ) (x y : A) → slice_get xs d ≡ Some x →
+    f y ≡ f x → h y ≡ h x → map h (filter f (slice_set xs d y)) ≡ map h (filter f xs)
 told_same f h [] d x y is same told = cc
 told_same f h (z ∷ zs) zero x y is same told =
     let e : z ≡ x = cc in
     let pass : f y ≡ f z = same ∙ ap f (sym e) in
     let say : h y ≡ h z = told ∙ ap h (sym e) in
-    elim (f z) as (λ t. f y ≡ t → map h (cond (f y) (y ∷ filter f zs) (filter f zs)) ≡ map h (cond t (z ∷ filter f zs) (filter f zs))) [
-      | true ↦ λ p. rw p (ap (λ b. b ∷ map h (filter f zs)) say)
+    let rest = filter f zs in
+    elim (f z) as (λ t. f y ≡ t → map h (cond (f y) (y ∷ rest) rest) ≡ map h (cond t (z ∷ rest) rest)) [
+      | true ↦ λ p. rw p (ap (λ b. b ∷ map h rest) say)
       | false ↦ λ p. rw p refl
     ] pass
 told_same f h (z ∷ zs) (suc d) x y is same told =
     let rest = told_same f h zs d x y is same told in
-    elim (f z) as (λ t. map h (cond t (z ∷ filter f (slice_set zs d y)) (filter f (slice_set zs d y))) ≡ map h (cond t (z ∷ filter f zs) (filter f zs))) [
+    let now = filter f (slice_set zs d y) in
+    elim (f z) as (λ t. map h (cond t (z ∷ now) now) ≡ map h (cond t (z ∷ filter f zs) (filter f zs))) [
       | true ↦ ap (λ bs. h z ∷ bs) rest
       | false ↦ rest
     ]

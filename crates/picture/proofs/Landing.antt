@@ -1,16 +1,20 @@
 -- What a receipt and a sending make of the packets that are under way.
-use Rattle.std.proofs.Common.{◌≡◌, ◌∙◌, ℕ, zero, suc, ◌+◌, ◌<◌, ◌≤◌, not, ◌&&◌, nat_lt, Bool, true, false, cond, List, [], ◌∷◌}
+use Rattle.std.proofs.Common.{◌≡◌, ◌∙◌, ℕ, zero, suc, ◌+◌, ◌<◌, ◌≤◌, not, ◌&&◌, nat_lt}
+use Rattle.std.proofs.Common.{Bool, true, false, cond, List, [], ◌∷◌}
 use Rattle.std.proofs.Common.{◌++◌, Option, Some, None}
 use Rattle.std.proofs.Common.{length, map, take, drop, slice_get, refl, sym, ap, subst, arith, append_assoc}
 use Rattle.std.proofs.Common.{lt-ltb, le-ltb}
-use Rattle.std.proofs.lemmas.List.{append-nil, map-append}
-use Rattle.std.specs.Prelude.{is_none}
+use Rattle.std.proofs.lemmas.List.{append-nil, drop_all, length-map, map-append}
+use Rattle.std.proofs.lemmas.Option.{slice_get-map}
+use Rattle.std.specs.Prelude.{is_none, option_map}
 use Rattle.std.specs.List.{AllByRecursion, filter, remove, slice_set}
-use Rattle.picture.specs.Flights.{IsFlying, Continues, Sends, Lands, Flies, is_up, places_from, kept_at, landed_at}
+use Rattle.picture.specs.Flights.{IsFlying, Continues, Sends, Lands, Flies, is_up, places_from, coming_in, kept_at}
+use Rattle.picture.specs.Flights.{landed_at}
 use Rattle.picture.specs.Run.{Flight, AreFlying, IsPast, ReceivedBetween, flies_at, flies_still, flight_in, flight_of}
 use Rattle.picture.specs.declared.flights.Flights.{Flights}
 use Rattle.picture.proofs.Flying.{IsPlace, place_of, told_same, filter_agree, filter-more, filter-same, places-more}
 use Rattle.picture_shapes.specs.declared.facts.PacketFacts.{PacketFacts}
+use Rattle.replay.proofs.Places.{drop_at}
 use Rattle.skeen_core.specs.declared.packet.Packet.{Packet}
 use Rattle.world.specs.World.{World}
 
@@ -32,15 +36,6 @@ remove_none [] (suc k) far = refl
 remove_none (x ∷ xs) zero far = absurd (omega (arith, far))
 remove_none (x ∷ xs) (suc k) far = ap (λ l. x ∷ l) (remove_none xs k (omega (arith, far)))
 
-pub length-remove : {A : Type 0} (xs : List A) (k : ℕ) → k < length xs → suc (length (remove xs k)) ≡ length xs
-length-remove [] k less = absurd (omega (arith, less))
-length-remove (x ∷ xs) zero less = refl
-length-remove (x ∷ xs) (suc k) less = ap suc (length-remove xs k (omega (arith, less)))
-
-pub length-map' : {A B : Type 0} (f : A → B) (xs : List A) → length (map f xs) ≡ length xs
-length-map' f [] = refl
-length-map' f (x ∷ xs) = ap suc (length-map' f xs)
-
 pub length-places : {A : Type 0} (f : A → Bool) (n : ℕ) (xs : List A) → length (places_from f n xs) ≡ length (filter f xs)
 length-places f n [] = refl
 length-places f n (x ∷ xs) = elim (f x) as (λ t. length (cond t (n ∷ places_from f (suc n) xs) (places_from f (suc n) xs))
@@ -53,19 +48,15 @@ pub all_more : {A : Type 0} (P : A → Type 0) (xs : List A) (x : A) → AllByRe
 all_more P [] x all is = (is, tt)
 all_more P (y ∷ ys) x all is = (all.0, all_more P ys x all.1 is)
 
-pub all_set : {A : Type 0} (P Q : A → Type 0) (xs : List A) (d : ℕ) (x y : A) → ((z : A) → P z → Q z) → slice_get xs d ≡ Some x → AllByRecursion P xs →
-    (P x → Q y) → AllByRecursion Q (slice_set xs d y)
-all_set P Q [] d x y goes is all new = cc
-all_set P Q (z ∷ zs) zero x y goes is all new = let e : z ≡ x = cc in (new (subst P e all.0), all_weaker zs all.1)
-  where
-    all_weaker : (zs : List _) → AllByRecursion P zs → AllByRecursion Q zs
-    all_weaker [] all = tt
-    all_weaker (z ∷ zs) all = (goes z all.0, all_weaker zs all.1)
-all_set P Q (z ∷ zs) (suc d) x y goes is all new = (goes z all.0, all_set P Q zs d x y goes is all.1 new)
-
 pub all_later : {A : Type 0} (P Q : A → Type 0) (xs : List A) → ((z : A) → P z → Q z) → AllByRecursion P xs → AllByRecursion Q xs
 all_later P Q [] goes all = tt
 all_later P Q (z ∷ zs) goes all = (goes z all.0, all_later P Q zs goes all.1)
+
+pub all_set : {A : Type 0} (P Q : A → Type 0) (xs : List A) (d : ℕ) (x y : A) → ((z : A) → P z → Q z) → slice_get xs d ≡ Some x →
+    AllByRecursion P xs → (P x → Q y) → AllByRecursion Q (slice_set xs d y)
+all_set P Q [] d x y goes is all new = cc
+all_set P Q (z ∷ zs) zero x y goes is all new = let e : z ≡ x = cc in (new (subst P e all.0), all_later P Q zs goes all.1)
+all_set P Q (z ∷ zs) (suc d) x y goes is all new = (goes z all.0, all_set P Q zs d x y goes is all.1 new)
 
 -- ---- time
 
@@ -103,8 +94,10 @@ same_flight n i p up less = ap (λ b. nat_lt p.sent i && b) (not_yet p.received 
     not_yet (Some step) up = cc
 
 pub lands_none : (n : ℕ) (old new : Flights) → new.packets.items ≡ old.packets.items → new.under_way.items ≡ old.under_way.items →
-    (arrival : Option ℕ) → ((now : List Flight) → IsFlying old now → kept_at arrival now ≡ now) → Lands n arrival old new
-lands_none n old new packets under arrival kept = record {
+    (arrival : Option ℕ) → ((now : List Flight) → IsFlying old now → kept_at arrival now ≡ now) →
+    ((now : List Flight) → IsFlying old now → coming_in arrival now ≡ None) → Lands n arrival old new None
+lands_none n old new packets under arrival kept none = record {
+  answer = λ now is. sym (none now is);
   flying = λ now is. record {
     places = under ∙ is.places ∙ ap (places_from is_up 0) (sym packets);
     shown = ap (λ ps. map flight_in (filter is_up ps)) packets ∙ is.shown ∙ sym (kept now is);
@@ -117,7 +110,7 @@ lands_none n old new packets under arrival kept = record {
 -- the list of the packets under way has as many as there are
 pub count_of : (f : Flights) (now : List Flight) → IsFlying f now → length f.under_way.items ≡ length now
 count_of f now is = ap (λ (l : List ℕ). length l) is.places ∙ length-places is_up 0 f.packets.items
-    ∙ sym (length-map' flight_in (filter is_up f.packets.items)) ∙ ap (λ (l : List Flight). length l) is.shown
+    ∙ sym (length-map (filter is_up f.packets.items) flight_in) ∙ ap (λ (l : List Flight). length l) is.shown
 
 module _ (n k j : ℕ) (old new : Flights) (packet : PacketFacts) (there : slice_get old.under_way.items k ≡ Some j)
     (under : new.under_way.items ≡ remove old.under_way.items k) (is_packet : slice_get old.packets.items j ≡ Some packet)
@@ -129,15 +122,21 @@ module _ (n k j : ℕ) (old new : Flights) (packet : PacketFacts) (there : slice
   some_same : {A : Type 0} (x y : A) → Some x ≡ Some y → x ≡ y
   some_same x y is = cc
 
-  up : (now : List Flight) → IsFlying old now → is_up packet ≡ true
-  up now is =
+  same : (now : List Flight) (is : IsFlying old now) → (place now is).x ≡ packet
+  same now is =
       let p = place now is in
       let at : j ≡ p.d = (let a = p.at in omega arith) in
-      let same : p.x ≡ packet = some_same p.x packet (sym p.there ∙ sym (ap (slice_get old.packets.items) at) ∙ is_packet) in
-      subst (λ x. is_up x ≡ true) same p.passes
+      some_same p.x packet (sym p.there ∙ sym (ap (slice_get old.packets.items) at) ∙ is_packet)
 
-  pub lands_at : Lands n (Some k) old new
+  up : (now : List Flight) → IsFlying old now → is_up packet ≡ true
+  up now is = subst (λ x. is_up x ≡ true) (same now is) (place now is).passes
+
+  pub lands_at : Lands n (Some k) old new (Some (landed_at n packet))
   lands_at = record {
+    answer = λ now is.
+        sym
+        (ap (λ l. slice_get l k) (sym is.shown) ∙ slice_get-map flight_in (filter is_up old.packets.items) k
+        ∙ ap (option_map flight_in) (place now is).kept ∙ ap (λ x. Some (flight_in x)) (same now is));
     flying = λ now is.
         let p = place now is in
         let at : j ≡ p.d = (let a = p.at in omega arith) in
@@ -159,8 +158,9 @@ module _ (n k j : ℕ) (old new : Flights) (packet : PacketFacts) (there : slice
 
 -- a place of no packet is none of those under way
 pub lands_never : (n k j : ℕ) (old new : Flights) → slice_get old.under_way.items k ≡ Some j → slice_get old.packets.items j ≡ None →
-    new.packets.items ≡ old.packets.items → Lands n (Some k) old new
+    new.packets.items ≡ old.packets.items → Lands n (Some k) old new None
 lands_never n k j old new there none packets = record {
+  answer = λ now is. absurd (never now is);
   flying = λ now is. absurd (never now is);
   earlier = λ now is. absurd (never now is);
   past = λ all. subst (λ ps. AllByRecursion (IsPast (suc n)) ps) (sym packets)
@@ -181,9 +181,11 @@ pub sends_one : (n : ℕ) (p : PacketFacts) (old new : Flights) → p.sent ≡ n
 sends_one n p old new at none packets under = record {
   flying = λ now is. record {
     places = under ∙ ap (λ l. l ++ length old.packets.items ∷ []) is.places
-        ∙ ap (λ k. places_from is_up 0 old.packets.items ++ k ∷ []) (let e : length old.packets.items ≡ 0 + length old.packets.items = omega arith in e)
+        ∙ ap (λ k. places_from is_up 0 old.packets.items ++ k ∷ [])
+        (let e : length old.packets.items ≡ 0 + length old.packets.items = omega arith in e)
         ∙ sym (places-more is_up 0 old.packets.items p (ap is_none none)) ∙ ap (places_from is_up 0) (sym packets);
-    shown = ap (λ ps. map flight_in (filter is_up ps)) packets ∙ ap (map flight_in) (filter-more is_up old.packets.items p (ap is_none none))
+    shown = ap (λ ps. map flight_in (filter is_up ps)) packets
+        ∙ ap (map flight_in) (filter-more is_up old.packets.items p (ap is_none none))
         ∙ map-append flight_in (filter is_up old.packets.items) (p ∷ []) ∙ ap (λ l. l ++ flight_in p ∷ []) is.shown;
   };
   earlier = λ i less. ap (λ ps. map flight_in (filter (flies_at i) ps)) packets
@@ -210,9 +212,10 @@ sends_on n old mid new xs ys one two = record {
 
 -- ---- a step
 
-pub flies : (n : ℕ) (arrival : Option ℕ) (before after : List Packet) (old mid new : Flights) (kept : ℕ) → Lands n arrival old mid →
-    length (kept_at arrival before) ≡ kept → Sends n mid (map flight_of (drop kept after)) new → Flies n arrival before after old new
-flies n arrival before after old mid new kept lands count sends = record {
+pub flies : (n : ℕ) (arrival : Option ℕ) (before after : List Packet) (old mid new : Flights) (landed : Option PacketFacts) (kept : ℕ) →
+    Lands n arrival old mid landed → length (kept_at arrival before) ≡ kept → Sends n mid (map flight_of (drop kept after)) new →
+    Flies n arrival before after old new
+flies n arrival before after old mid new landed kept lands count sends = record {
   flying = λ is. subst (λ k. IsFlying new (kept_at arrival (map flight_of before) ++ map flight_of (drop k after))) (sym count)
       (sends.flying (kept_at arrival (map flight_of before)) (lands.flying (map flight_of before) is));
   earlier = λ is i less. sends.earlier i less ∙ lands.earlier (map flight_of before) is i less;
@@ -220,17 +223,6 @@ flies n arrival before after old mid new kept lands count sends = record {
 }
 
 -- ---- a list from a place on
-
-pub drop_at : {A : Type 0} (xs : List A) (n : ℕ) (x : A) → slice_get xs n ≡ Some x → drop n xs ≡ x ∷ drop (suc n) xs
-drop_at [] n x is = cc
-drop_at (y ∷ ys) zero x is = let same : y ≡ x = cc in ap (λ z. z ∷ ys) same
-drop_at (y ∷ ys) (suc n) x is = drop_at ys n x is
-
-pub drop_all : {A : Type 0} (xs : List A) (n : ℕ) → length xs ≤ n → drop n xs ≡ []
-drop_all [] zero far = refl
-drop_all [] (suc n) far = refl
-drop_all (x ∷ xs) zero far = absurd (omega (arith, far))
-drop_all (x ∷ xs) (suc n) far = drop_all xs n (omega (arith, far))
 
 -- what was sent so far, and what is left, are all from a place on
 abbrev pub SendsSo : ℕ → ℕ → ℕ → List Packet → Flights → Flights → Type 0
@@ -246,7 +238,8 @@ sends_more n from place ps p old mid new there so one =
     let next : suc place ≡ place + 1 = omega arith in (
       so.0 ++ flight_of p ∷ [],
       sends_on n old mid new so.0 (flight_of p ∷ []) so.1 one,
-      so.2 ∙ ap (λ l. so.0 ++ map flight_of l) (drop_at ps place p there) ∙ sym (append_assoc so.0 (flight_of p ∷ []) (map flight_of (drop (suc place) ps)))
+      so.2 ∙ ap (λ l. so.0 ++ map flight_of l) (drop_at ps place p there)
+          ∙ sym (append_assoc so.0 (flight_of p ∷ []) (map flight_of (drop (suc place) ps)))
           ∙ ap (λ k. (so.0 ++ flight_of p ∷ []) ++ map flight_of (drop k ps)) next,
     )
 
@@ -254,4 +247,4 @@ pub sends_end : (n from place : ℕ) (ps : List Packet) (old new : Flights) → 
     Sends n old (map flight_of (drop from ps)) new
 sends_end n from place ps old new far so =
     subst (λ l. Sends n old l new)
-    (sym (so.2 ∙ ap (λ l. so.0 ++ map flight_of l) (drop_all ps place far) ∙ append-nil so.0)) so.1
+    (sym (so.2 ∙ ap (λ l. so.0 ++ map flight_of l) (drop_all place ps far) ∙ append-nil so.0)) so.1

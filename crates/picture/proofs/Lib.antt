@@ -1,5 +1,7 @@
-mod Stepping
 mod Flying
 mod Landing
 mod Runs
+mod Putting
+mod Lasts
+mod Noting
 mod Recording

@@ -1,7 +1,6 @@
 -- A run, one step after another.
 use Rattle.std.proofs.Common.{◌≡◌, ◌∙◌, ℕ, zero, suc, ◌+◌, ◌<◌, ◌≤◌, List, [], ◌∷◌, ◌++◌, Option, Some, None, Result, Ok, Err}
-use Rattle.std.proofs.Common.{length, map, drop}
-use Rattle.std.proofs.Common.{refl, sym, ap, subst, arith}
+use Rattle.std.proofs.Common.{length, drop, refl, sym, ap, subst, arith, append_assoc}
 use Rattle.std.proofs.lemmas.List.{append-nil}
 use Rattle.command_table.specs.declared.command.Command.{Command}
 use Rattle.command_table.specs.declared.refusal.Refusal.{Refusal}
@@ -9,7 +8,7 @@ use Rattle.command_table.specs.Reading.{reading}
 use Rattle.journal.specs.declared.step.Step.{Step}
 use Rattle.journal.specs.declared.step.Step.TheVariants as step
 use Rattle.picture.specs.Flights.{arrival_in, kept_at}
-use Rattle.picture.specs.Run.{Moment, Walks, InEach, last_of, steps_of}
+use Rattle.picture.specs.Run.{Moment, Walks, InEach, last_of, made_by, steps_of, told_by}
 use Rattle.placement.specs.Groups.{groups_of}
 use Rattle.placement.specs.Layout.{Layout}
 use Rattle.skeen_core.specs.declared.packet.Packet.{Packet}
@@ -46,6 +45,27 @@ each_more P Q n w (k ∷ ms) m each goes next =
           (subst (λ l. Q (suc l) m.after) same next),
     )
 
+pub told_more : {X : Type 0} (f : ℕ → World → Step → World → List X) (n : ℕ) (w : World) (ms : List Moment) (m : Moment) →
+    told_by f n w (ms ++ m ∷ []) ≡ told_by f n w ms ++ f (n + length ms) (last_of w ms) m.step m.after
+told_more f n w [] m =
+    let e : n ≡ n + 0 = omega arith in append-nil (f n w m.step m.after) ∙ ap (λ k. f k w m.step m.after) e
+told_more f n w (k ∷ ms) m =
+    let e : suc n + length ms ≡ n + suc (length ms) = omega arith in
+    let first = f n w k.step k.after in
+    let rest = told_by f (suc n) k.after ms in
+    ap (λ l. first ++ l) (told_more f (suc n) k.after ms m)
+    ∙ ap (λ i. first ++ (rest ++ f i (last_of k.after ms) m.step m.after)) e
+    ∙ sym (append_assoc first rest (f (n + suc (length ms)) (last_of k.after ms) m.step m.after))
+
+pub made_more : {X : Type 0} (f : ℕ → World → Step → World → X → X) (n : ℕ) (w : World) (ms : List Moment) (m : Moment) (x : X) →
+    made_by f n w (ms ++ m ∷ []) x ≡ f (n + length ms) (last_of w ms) m.step m.after (made_by f n w ms x)
+made_more f n w [] m x = let e : n ≡ n + 0 = omega arith in ap (λ k. f k w m.step m.after x) e
+made_more f n w (k ∷ ms) m x =
+    let e : suc n + length ms ≡ n + suc (length ms) = omega arith in
+    let next = f n w k.step k.after x in
+    made_more f (suc n) k.after ms m next
+    ∙ ap (λ i. f i (last_of k.after ms) m.step m.after (made_by f (suc n) k.after ms next)) e
+
 -- ---- packets
 
 -- what stands behind the first ones
@@ -62,7 +82,8 @@ sent_to t w c command [] = ([], sym (append-nil w.packets))
 sent_to t w c command (g ∷ gs) =
     (starts (next_id w c) (record { floor = floor_of w c; groups = g ∷ gs; command = command }) (g ∷ gs), refl)
 
-sent_where : (t : Layout) (w : World) (c : ℕ) (r : Result Command Refusal) → (ss : List Packet) × ((submitted t w c r).packets ≡ w.packets ++ ss)
+sent_where : (t : Layout) (w : World) (c : ℕ) (r : Result Command Refusal) →
+    (ss : List Packet) × ((submitted t w c r).packets ≡ w.packets ++ ss)
 sent_where t w c (Err refusal) = ([], sym (append-nil w.packets))
 sent_where t w c (Ok command) = sent_to t w c command (groups_of t command)
 
@@ -85,3 +106,20 @@ packets_after t old new step.Settle e is = ([], ap (λ w. w.packets) is.after �
 packets_after t old new (step.Collect conn) e is =
     ([], collected (old.standing conn.0) old new conn.0 e is ∙ sym (append-nil old.packets))
 packets_after t old new (step.Close conn) e is = ([], ap (λ w. w.packets) is.after ∙ sym (append-nil old.packets))
+
+-- ---- the layer
+
+sent_layer : (t : Layout) (w : World) (c : ℕ) (command : Command) (gs : List ℕ) → (submitted_to w c command gs).layer ≡ w.layer
+sent_layer t w c command [] = refl
+sent_layer t w c command (g ∷ gs) = refl
+
+-- a Submit and a Collect leave it
+pub submitted_layer : (t : Layout) (w : World) (c : ℕ) (r : Result Command Refusal) → (submitted t w c r).layer ≡ w.layer
+submitted_layer t w c (Err refusal) = refl
+submitted_layer t w c (Ok command) = sent_layer t w c command (groups_of t command)
+
+pub collected_layer : (o : Standing) (old new : World) (c : ℕ) (e : Effect) → Collects o old c e new → new.layer ≡ old.layer
+collected_layer Closed old new c e is = absurd is
+collected_layer Idle old new c e is = ap (λ w. w.layer) is.1
+collected_layer Waiting old new c e is = ap (λ w. w.layer) is.1
+collected_layer (Answered outcome) old new c e is = ap (λ w. w.layer) is.1

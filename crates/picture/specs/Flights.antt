@@ -1,5 +1,6 @@
 -- Which packets of a list are under way, and how the list goes on.
-use Rattle.std.specs.Prelude.{◌≡◌, ℕ, suc, ◌≤◌, cond, Bool, List, [], ◌∷◌, ◌++◌, length, map, drop, remove, Option, None, Some, is_none}
+use Rattle.std.specs.Prelude.{◌≡◌, ℕ, suc, ◌≤◌, cond, Bool, List, [], ◌∷◌, ◌++◌, length, map, drop, remove, Option, None, Some}
+use Rattle.std.specs.Prelude.{is_none, option_map, slice_get}
 use Rattle.std.specs.List.{AllByRecursion, filter}
 use Rattle.journal.specs.declared.step.Step.{Step}
 use Rattle.journal.specs.declared.step.Step.TheVariants.{Deliver}
@@ -48,8 +49,14 @@ abbrev pub kept_at : {A : Type 0} → Option ℕ → List A → List A
 kept_at None ps = ps
 kept_at (Some k) ps = remove ps k
 
--- at the step behind so many, the one at this place of those under way is received
-pub record Lands (n : ℕ) (arrival : Option ℕ) (old : Flights) (new : Flights) : Type 0 where
+-- what stands at this place of these, if one is told
+abbrev pub coming_in : {A : Type 0} → Option ℕ → List A → Option A
+coming_in None ps = None
+coming_in (Some k) ps = slice_get ps k
+
+-- at the step behind so many, the one at this place of those under way is received, which is this packet
+pub record Lands (n : ℕ) (arrival : Option ℕ) (old : Flights) (new : Flights) (landed : Option PacketFacts) : Type 0 where
+  pub answer : (now : List Flight) → IsFlying old now → option_map flight_in landed ≡ coming_in arrival now
   pub flying : (now : List Flight) → IsFlying old now → IsFlying new (kept_at arrival now)
   pub earlier : (now : List Flight) → IsFlying old now → Continues n old new
   pub past : AllByRecursion (IsPast n) old.packets.items → AllByRecursion (IsPast (suc n)) new.packets.items

@@ -1,12 +1,8 @@
 -- The facts of a run, and the worlds that its steps lead through.
-use Rattle.std.specs.Prelude.{◌≡◌, ℕ, suc, ◌<◌, nat_lt, not, ◌&&◌, Bool, true, false, List, [], ◌∷◌, ◌++◌, length, map, drop}
-use Rattle.std.specs.Prelude.{slice_get, Option, Some, None}
+use Rattle.std.specs.Prelude.{◌≡◌, ℕ, suc, ◌<◌, nat_lt, not, ◌&&◌, Bool, true, List, [], ◌∷◌, ◌++◌, map, Option, Some, None}
 use Rattle.std.specs.List.{AllByRecursion, filter}
 use Rattle.groups.specs.declared.request.RequestId.{RequestId}
-use Rattle.groups.specs.declared.stamp.Stamp.{Stamp}
 use Rattle.journal.specs.declared.step.Step.{Step}
-use Rattle.journal.specs.declared.step.Step.TheVariants.{Deliver}
-use Rattle.picture_shapes.specs.declared.facts.DeliveryFacts.{DeliveryFacts}
 use Rattle.picture_shapes.specs.declared.facts.PacketFacts.{PacketFacts}
 use Rattle.placement.specs.Layout.{Layout}
 use Rattle.skeen_core.specs.declared.packet.Body.{Body}
@@ -44,6 +40,11 @@ InEach P n w (m ∷ ms) = P n w × InEach P (suc n) m.after ms
 abbrev pub told_by : {X : Type 0} → (ℕ → World → Step → World → List X) → ℕ → World → List Moment → List X
 told_by f n old [] = []
 told_by f n old (m ∷ ms) = f n old m.step m.after ++ told_by f (suc n) m.after ms
+
+-- what the steps make of it, one after another
+abbrev pub made_by : {X : Type 0} → (ℕ → World → Step → World → X → X) → ℕ → World → List Moment → X → X
+made_by f n old [] x = x
+made_by f n old (m ∷ ms) x = made_by f (suc n) m.after ms (f n old m.step m.after x)
 
 -- ---- packets
 
@@ -88,25 +89,3 @@ ReceivedBetween (Some step) sent n = (sent < step) × (step < n)
 
 abbrev pub IsPast : ℕ → PacketFacts → Type 0
 IsPast n p = (p.sent < n) × ReceivedBetween p.received p.sent n
-
--- ---- deliveries
-
--- the step, the group, and what it delivers then
-pub record Delivery : Type 0 where
-  pub step : ℕ
-  pub group : ℕ
-  pub id : RequestId
-  pub stamp : Stamp
-
-abbrev pub delivery_in : DeliveryFacts → Delivery
-delivery_in d = record { step = d.step; group = d.group; id = d.asked.id; stamp = d.stamp }
-
--- what stands behind what the packet's group had delivered
-abbrev pub delivered_to : ℕ → World → Option Packet → World → List Delivery
-delivered_to n old None new = []
-delivered_to n old (Some p) new =
-    map (λ d. record { step = n; group = p.to; id = d.id; stamp = d.stamp }) (drop (length (old.queue p.to)) (new.queue p.to))
-
-abbrev pub delivered_by : ℕ → World → Step → World → List Delivery
-delivered_by n old (Deliver k) new = delivered_to n old (slice_get old.packets k) new
-delivered_by n old step new = []

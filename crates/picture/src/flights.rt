@@ -33,9 +33,9 @@ impl Flights {
         }
     }
 
-    /// The packet at this place of those under way, if one arrives, is received at this step.
+    /// The packet at this place of those under way, if one arrives, is received at this step, and answered.
     pub(super) fn land(&mut self, step: usize, arrival: Option<usize>) -> Option<PacketFacts>
-        ensures { Lands step arrival self.old self.new }
+        ensures { Lands step arrival self.old self.new result }
     {
         let place = arrival?;
         let number = self.under_way.remove(place)?;

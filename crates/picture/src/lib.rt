@@ -4,10 +4,13 @@
 //! written is `picture_shapes` and `picture_text`.
 #![tactic(auto)]
 
+mod arrivals;
 mod flights;
 mod labels;
+mod layers;
 mod making;
 mod recorder;
+mod requests;
 mod shown;
 
 pub use making::facts_of;

@@ -1,30 +1,25 @@
 //! The steps of a trace, made again while their facts are put down.
 
-ghost use Rattle.std.specs.Prelude.{◌≡◌, ◌++◌, ◌∷◌, List, [], ℕ, true, false, length, map, IfOk, IfErr, OnOk, IsTrue};
-ghost use Rattle.std.specs.List.{AllByRecursion};
-ghost use Rattle.groups.specs.declared.request.RequestId.{RequestId};
+ghost use Rattle.std.specs.Prelude.{◌≡◌, ◌++◌, ◌∷◌, List, [], ℕ, false, length, map, IfOk, IfErr, OnOk};
 ghost use Rattle.journal.specs.declared.step.Step.{Step};
 ghost use Rattle.placement.specs.Layout.{Layout};
 ghost use Rattle.picture.specs.Told.{IsFactsOf};
 ghost use Rattle.picture.specs.Words.{word_of};
 ghost use Rattle.picture.specs.Ran.{Ran};
-ghost use Rattle.replay.specs.Replay.{IsFaultOf, IsRefusalOf, named_in};
+ghost use Rattle.replay.specs.Replay.{IsFaultOf, IsRefusalOf};
 ghost use Rattle.system.specs.Reads.{table_of};
-ghost use Rattle.system.specs.declared.effect.Effect.{Effect};
-ghost use Rattle.world.specs.Steps.{names};
 
 use crate::flights::{Flights, arrival_in, kept_at};
 use crate::recorder::{Before, Recorder};
-use groups::RequestId;
 use journal::{Step, Steps, Trace};
 use picture_shapes::{RunFacts, StepWord};
 use placement::Table;
 use progress::Progress;
-use replay::ReplayFault;
+use replay::{ReplayFault, are_named, named_in};
 use shard_workers::{InTurn, Open};
 use std::alloc::{AllocError, Global};
 use std::num::NonZeroUsize;
-use system::{Effect, StepFault, System};
+use system::{StepFault, System};
 
 /// The facts of the run that this trace makes in a new system of this table.
 ///
@@ -62,9 +57,9 @@ fn make_all<P: Progress>(
     flights: &mut Flights,
     progress: &mut P,
 ) -> Result<Vec<StepWord>, ReplayFault>
-    requires { Ran (table_of system.old) system.old.max_steps [] system.old flights.old }
+    requires { Ran (table_of system.old) system.old.max_steps [] system.old flights.old recorder.old }
     ensures words { IfOk result (λ words. words.items ≡ map word_of steps.entry) }
-    ensures made { OnOk result (Ran (table_of system.old) system.old.max_steps steps.entry system.new flights.new) }
+    ensures made { OnOk result (Ran (table_of system.old) system.old.max_steps steps.entry system.new flights.new recorder.new) }
     ensures fault { IfErr result (IsFaultOf false (table_of system.old) system.old.max_steps steps.entry) }
 {
     let count = steps.len();
@@ -116,13 +111,15 @@ fn make(
     flights: &mut Flights,
 ) -> Result<(), ReplayFault>
     ensures made { OnOk result ((t : Layout) (most : ℕ) (before : List Step) → index ≡ length before
-        → Ran t most before system.old flights.old → Ran t most (before ++ step ∷ []) system.new flights.new) }
+        → Ran t most before system.old flights.old recorder.old
+        → Ran t most (before ++ step ∷ []) system.new flights.new recorder.new) }
     ensures fault { IfErr result (IsRefusalOf false system.old step index system.new) }
 {
-    let before = Before::of(alloc, &step, system)?;
     let named = named_in(alloc, &step)?;
     let arrival = arrival_in(&step);
     let kept = kept_at(arrival, system.packets());
+    let landed = flights.land(index, arrival);
+    let before = Before::of(alloc, &step, landed, system)?;
     let Some(one) = NonZeroUsize::new(1) else {
         unreachable!()
     };
@@ -137,48 +134,7 @@ fn make(
     if !are_named(&effect, named.as_slice()) {
         return Err(ReplayFault::Memory);
     }
-    let landed = flights.land(index, arrival);
-    recorder.note(index, before, landed, &effect, system)?;
+    recorder.note(index, before, &effect, system)?;
     flights.send(index, kept, recorder.last(), system)?;
     Ok(())
-}
-
-/// Whether all that starved are among those that were named to starve.
-fn are_named(effect: &Effect, named: &[RequestId]) -> bool
-    ensures { IsTrue result → (starved : List RequestId) → effect.now ≡ Effect.Ran starved
-        → AllByRecursion (λ id. names named.now id ≡ true) starved }
-{
-    match effect {
-        Effect::Ran(starved) => are_among(starved.as_slice(), named),
-        _ => true,
-    }
-}
-
-/// The ids that a Run names; none of another step.
-fn named_in(alloc: Global, step: &Step) -> Result<Vec<RequestId>, AllocError>
-    ensures { IfOk result (λ named. named.items ≡ named_in step.now) }
-{
-    match step {
-        Step::Run { starved } => starved.as_slice().to_vec(alloc),
-        _ => Ok(Vec::new(alloc)),
-    }
-}
-
-/// Whether each of these ids is one of the others.
-fn are_among(ids: &[RequestId], others: &[RequestId]) -> bool
-    ensures { IsTrue result → AllByRecursion (λ id. names others.now id ≡ true) ids.now }
-{
-    for id in ids {
-        if !is_among(id, others) {
-            return false;
-        }
-    }
-    true
-}
-
-/// Whether the id is one of the others.
-fn is_among(id: &RequestId, others: &[RequestId]) -> bool
-    ensures { result ≡ names others.now id.now }
-{
-    others.contains(id)
 }

@@ -20,4 +20,5 @@ pub put_more : {A B : Type 0} (code : A → List B) (old now new : List B) (xs :
     now ≡ old ++ flat_map code (take i xs) → new ≡ now ++ code x → i < length xs → x ≡ get_or xs i x →
     new ≡ old ++ flat_map code (take (i + 1) xs)
 put_more code old now new xs i x before grown lt is =
-    grown ∙ ap (λ l. l ++ code x) before ∙ append_assoc old (flat_map code (take i xs)) (code x) ∙ ap (λ l. old ++ l) (put_one code xs i x lt is)
+    grown ∙ ap (λ l. l ++ code x) before ∙ append_assoc old (flat_map code (take i xs)) (code x)
+    ∙ ap (λ l. old ++ l) (put_one code xs i x lt is)

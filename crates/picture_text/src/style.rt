@@ -32,7 +32,7 @@ text{font:11px monospace;fill:#1b1f24}\n\
 .name{font:600 12px sans-serif}\n\
 .sub{font:12px sans-serif}\n\
 .key{font:11px sans-serif}\n\
-.mute{font:9px monospace}\n\
+.mute{font:8.5px monospace}\n\
 .small,.on{font-size:10px}\n\
 .sub,.key,.mute,.small,.clock{fill:#57606a}\n\
 .mid{text-anchor:middle}\n\

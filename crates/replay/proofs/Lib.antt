@@ -1,5 +1,5 @@
-mod Places
+pub mod Places
 mod Sorting
 mod Comparing
-mod Making
+pub mod Making
 mod Writing

@@ -2,15 +2,15 @@
 use Rattle.std.proofs.Common.{◌≡◌, ◌≢◌, ℕ, suc, ◌+◌, Bool, true, false, cond, ◌||◌, List, [], ◌∷◌, ◌++◌}
 use Rattle.std.proofs.Common.{length, take, drop, zero, ◌<◌, inl, inr, Option, Some, None}
 use Rattle.std.proofs.Common.{refl, sym, ap, ◌∙◌, subst, arith, length-append}
-use Rattle.std.proofs.lemmas.Bool.{or_cases}
-use Rattle.std.specs.List.{AllByRecursion, list_any}
+use Rattle.std.proofs.lemmas.Bool.{and_parts, or_cases}
+use Rattle.std.specs.List.{AllByRecursion, list_all, list_any}
 use Rattle.command_bodies.specs.Command.{effect_of}
 use Rattle.journal.specs.declared.step.Step.{Step}
 use Rattle.journal.specs.declared.step.Step.TheVariants as step
 use Rattle.keyspace.specs.Map.{Map}
 use Rattle.placement.specs.Layout.{Layout}
 use Rattle.replay.proofs.Places.{split_at, take_next}
-use Rattle.replay.specs.Replay.{IsRefusal, IsRefusedAt, StandsAt, IsFaultOf, IsRefusalOf, named_in}
+use Rattle.replay.specs.Replay.{IsRefusal, IsRefusedAt, StandsAt, IsFaultOf, IsRefusalOf, named_in, starved_in}
 use Rattle.replay.specs.declared.fault.ReplayFault.{ReplayFault}
 use Rattle.replay.specs.declared.fault.ReplayFault.TheVariants as replay
 use Rattle.std.specs.Option.{MatchOption}
@@ -19,7 +19,7 @@ use Rattle.groups.specs.Order.{In}
 use Rattle.groups.specs.Request.{same_id}
 use Rattle.skeen_core.specs.declared.packet.Delivered.{Delivered}
 use Rattle.groups.specs.declared.request.RequestId.{RequestId}
-use Rattle.system.proofs.Histories.{leads_more}
+use Rattle.front.proofs.Histories.{leads_more}
 use Rattle.system.specs.Parts.{Starves, effect_shown, stored}
 use Rattle.system.specs.Reads.{table_of, failed}
 use Rattle.system.specs.System.{SystemView, IsStep, IsRefused}
@@ -103,16 +103,20 @@ named_other step.Settle e apart = tt
 named_other (step.Collect conn) e apart = tt
 named_other (step.Close conn) e apart = tt
 
-pub named_all : (s : Step) (e : Effect) (ids : List RequestId) → ids ≡ named_in s →
-    ((starved : List RequestId) → e ≡ effect.Ran starved → AllByRecursion (λ i. names ids i ≡ true) starved) → AreNamed s e
-named_all s (effect.Ran starved) ids is are = named_run s ids starved is (are starved refl)
+all_pass : {A : Type 0} (p : A → Bool) (xs : List A) → list_all p xs ≡ true → AllByRecursion (λ x. p x ≡ true) xs
+all_pass p [] pass = tt
+all_pass p (x ∷ xs) pass = let parts = and_parts (p x) (list_all p xs) pass in (parts.0, all_pass p xs parts.1)
+
+pub named_all : (s : Step) (e : Effect) (ids : List RequestId) → ids ≡ named_in s → list_all (names ids) (starved_in e) ≡ true →
+    AreNamed s e
+named_all s (effect.Ran starved) ids is are = named_run s ids starved is (all_pass (names ids) starved are)
 named_all s (effect.Opened conn) ids is are = named_other s (effect.Opened conn) (λ starved e. cc)
 named_all s (effect.Submitted id) ids is are = named_other s (effect.Submitted id) (λ starved e. cc)
 named_all s (effect.Collected outcome) ids is are = named_other s (effect.Collected outcome) (λ starved e. cc)
 named_all s effect.Made ids is are = named_other s effect.Made (λ starved e. cc)
 
 -- so the step itself is the world's, and not only the one that is stored
-made_itself : (p : Parts) (t : Layout) (w w' : World) (s : Step) (e : Effect) → Starves p s e w → AreNamed s e →
+pub made_itself : (p : Parts) (t : Layout) (w w' : World) (s : Step) (e : Effect) → Starves p s e w → AreNamed s e →
     Steps t w (stored s e) (effect_shown e) w' → Steps t w s (effect_shown e) w'
 made_itself p t w w' step.Open e starve named made = made
 made_itself p t w w' (step.Submit conn words) e starve named made = made
@@ -250,11 +254,16 @@ fault_at may_refuse t most steps left rest n s old new (replay.Step index why) a
     refused_at may_refuse t most steps (take n steps) rest old new s index why made.0 (is.0 ∙ made.1) stands is.1 is.2
 fault_at may_refuse t most steps left rest n s old new replay.Memory are next stands is = tt
 
-pub one_more_made : (t : Layout) (most : ℕ) (steps left rest : List Step) (n : ℕ) (s : Step) (new : SystemView) → left ≡ drop n steps →
-    left ≡ s ∷ rest → StandsAt t most (take n steps ++ s ∷ []) new → (rest ≡ drop (n + 1) steps) × StandsAt t most (take (n + 1) steps) new
-one_more_made t most steps left rest n s new are next stands =
+-- what holds of those that were made and of one more
+pub one_more_made : (P : List Step → Type 0) (steps left rest : List Step) (n : ℕ) (s : Step) → left ≡ drop n steps → left ≡ s ∷ rest →
+    P (take n steps ++ s ∷ []) → (rest ≡ drop (n + 1) steps) × P (take (n + 1) steps)
+one_more_made P steps left rest n s are next stands =
     let made = made_before steps left n s are rest next in
     let one : suc n ≡ n + 1 = omega arith in (
       made.3 ∙ ap (λ k. drop k steps) one,
-      subst (λ l. StandsAt t most l new) (sym made.2 ∙ ap (λ k. take k steps) one) stands,
+      subst P (sym made.2 ∙ ap (λ k. take k steps) one) stands,
     )
+
+-- so many were made
+pub made_count : (steps left rest : List Step) (n : ℕ) (s : Step) → left ≡ drop n steps → left ≡ s ∷ rest → n ≡ length (take n steps)
+made_count steps left rest n s are next = let made = made_before steps left n s are rest next in made.1

@@ -12,6 +12,8 @@ use Rattle.system.specs.Parts.{IsAt}
 use Rattle.system.specs.Reads.{table_of, failed}
 use Rattle.system.specs.Refusing.{IsRun}
 use Rattle.system.specs.System.{SystemView, IsRefused}
+use Rattle.system.specs.declared.effect.Effect.{Effect}
+use Rattle.system.specs.declared.effect.Effect.TheVariants.{Ran}
 use Rattle.system.specs.declared.fault.StepFault.{StepFault}
 use Rattle.system.specs.declared.fault.StepFault.TheVariants.{Busy, NoConn, NoPacket, InFlight, NoLayer, Exhausted, Memory, Failed}
 use Rattle.world.specs.Steps.{opening, OwnFault, Leads, Refused}
@@ -65,6 +67,11 @@ IsFaultOf may_refuse t most steps replay.Memory = Unit {0}
 abbrev pub named_in : Step → List RequestId
 named_in (Run starved) = starved
 named_in step = []
+
+-- the ids of the requests that a Run starved; none of another step
+abbrev pub starved_in : Effect → List RequestId
+starved_in (Ran starved) = starved
+starved_in effect = []
 
 -- the fault of a step with this index: it is the system's, and not want of memory
 abbrev pub IsRefusalOf : Bool → SystemView → Step → ℕ → SystemView → ReplayFault → Type 0

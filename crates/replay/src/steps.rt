@@ -1,24 +1,20 @@
 //! The steps of a trace, made again.
 
-ghost use Rattle.std.specs.Prelude.{◌≡◌, ℕ, ◌++◌, ◌∷◌, List, [], IfOk, IfErr, OnOk, true, IsTrue};
-ghost use Rattle.std.specs.List.{AllByRecursion};
+ghost use Rattle.std.specs.Prelude.{ℕ, ◌++◌, ◌∷◌, List, [], IfOk, IfErr, OnOk};
 ghost use Rattle.journal.specs.declared.step.Step.{Step};
 ghost use Rattle.placement.specs.Layout.{Layout};
-ghost use Rattle.groups.specs.declared.request.RequestId.{RequestId};
 ghost use Rattle.system.specs.Reads.{table_of};
-ghost use Rattle.system.specs.declared.effect.Effect.{Effect};
-ghost use Rattle.world.specs.Steps.{names};
-ghost use Rattle.replay.specs.Replay.{IsReport, IsFaultOf, IsRefusalOf, StandsAt, named_in};
+ghost use Rattle.replay.specs.Replay.{IsReport, IsFaultOf, IsRefusalOf, StandsAt};
 
 use crate::fault::ReplayFault;
+use crate::named::{are_named, named_in};
 use crate::report::{Report, report_of};
-use groups::RequestId;
 use journal::{Step, Steps, Trace};
 use placement::Table;
 use progress::{Progress, Unwatched};
 use shard_workers::{Open, Workers};
-use std::alloc::{AllocError, Global};
-use system::{Effect, StepFault, System};
+use std::alloc::Global;
+use system::{StepFault, System};
 
 /// Makes the steps of the trace again in a new system of this table, and reports on the run: the executed requests by
 /// their stamps, those that starved, the contents, and whether one thread on one map comes to the same.
@@ -93,7 +89,7 @@ fn make<W: Workers>(
     let named = named_in(alloc, &step)?;
     match system.step(step, workers, &Open) {
         Ok(effect) => {
-            if are_named(effect, named.as_slice()) {
+            if are_named(&effect, named.as_slice()) {
                 Ok(())
             } else {
                 Err(ReplayFault::Memory)
@@ -102,44 +98,4 @@ fn make<W: Workers>(
         Err(StepFault::Memory) => Err(ReplayFault::Memory),
         Err(fault) => Err(ReplayFault::Step { index, fault }),
     }
-}
-
-/// Whether all that starved are among those that were named to starve.
-fn are_named(effect: Effect, named: &[RequestId]) -> bool
-    ensures { IsTrue result → (starved : List RequestId) → effect ≡ Effect.Ran starved
-        → AllByRecursion (λ id. names named.now id ≡ true) starved }
-{
-    match effect {
-        Effect::Ran(starved) => are_among(starved.as_slice(), named),
-        _ => true,
-    }
-}
-
-/// The ids that a Run names; none of another step.
-fn named_in(alloc: Global, step: &Step) -> Result<Vec<RequestId>, AllocError>
-    ensures { IfOk result (λ named. named.items ≡ named_in step.now) }
-{
-    match step {
-        Step::Run { starved } => starved.as_slice().to_vec(alloc),
-        _ => Ok(Vec::new(alloc)),
-    }
-}
-
-/// Whether each of these ids is one of the others.
-fn are_among(ids: &[RequestId], others: &[RequestId]) -> bool
-    ensures { IsTrue result → AllByRecursion (λ id. names others.now id ≡ true) ids.now }
-{
-    for id in ids {
-        if !is_among(id, others) {
-            return false;
-        }
-    }
-    true
-}
-
-/// Whether the id is one of the others.
-fn is_among(id: &RequestId, others: &[RequestId]) -> bool
-    ensures { result ≡ names others.now id.now }
-{
-    others.contains(id)
 }

@@ -1,12 +1,11 @@
-use Rattle.std.proofs.Common.{◌≡◌, true, List, length, subst, sym}
-use Rattle.std.specs.List.{AllByRecursion}
-use Rattle.groups.specs.declared.request.RequestId.{RequestId}
+use Rattle.std.proofs.Common.{◌≡◌, ◌∙◌, true, length, subst, sym}
+use Rattle.std.specs.List.{list_all}
 use Rattle.picture.specs.Flights.{Lands, arrival_in, kept_at}
 use Rattle.picture.proofs.Landing.{flies}
 use Rattle.picture.proofs.Recording.{ran_next}
-use Rattle.picture.proofs.Stepping.{named_all}
+use Rattle.replay.proofs.Making.{named_all}
+use Rattle.replay.specs.Replay.{starved_in}
 use Rattle.system.specs.Reads.{packets_of}
-use Rattle.system.specs.declared.effect.Effect.TheVariants as effect
 use Rattle.world.specs.Steps.{names}
 use Rattle.picture.proofs.making.make.Goals as goal
 
@@ -14,13 +13,22 @@ pub returns-clause-made : goal.returns-clause-made
 returns-clause-made c = λ t most before at ran.
     let old = c.args.system.now in
     let new = c.step.new.self in
-    let named = named_all c.args.step c.in-Ok.effect c.in_ok-named.named.items c.in_ok-named.ensures
-    (subst (λ l. (starved : List RequestId) → c.in-Ok.effect ≡ effect.Ran starved → AllByRecursion (λ i. names l i ≡ true) starved)
-    c.as_slice.ensures.value (c.are_named.ensures c.if-not-are_named.false)) in
-    let lands = subst (λ a. Lands c.args.index a c.args.flights.now c.land-landed.new.self) c.arrival_in-arrival.ensures c.land-landed.ensures in
-    ran_next t most before old new c.args.step c.in-Ok.effect c.args.flights.now c.send.new.self c.args.index c.in-Ok.ensures.made named at
-    (flies c.args.index (arrival_in c.args.step) (packets_of old) (packets_of new) c.args.flights.now c.land-landed.new.self c.send.new.self
-    c.kept_at-kept.result lands
-    (subst (λ a. length (kept_at a (packets_of old)) ≡ c.kept_at-kept.result) c.arrival_in-arrival.ensures
-    (c.kept_at-kept.ensures (packets_of old) (sym c.packets.ensures)))
-    c.in_ok-send.ensures) ran
+    let index = c.args.index in
+    let step = c.args.step in
+    let effect = c.in-Ok.effect in
+    let flights = c.args.flights.now in
+    let mid = c.land-landed.new.self in
+    let landed = c.land-landed.result in
+    let kept = c.kept_at-kept.result in
+    let named = named_all step effect c.in_ok-named.named.items c.in_ok-named.ensures
+    (subst (λ l. list_all (names l) (starved_in effect) ≡ true) c.as_slice.ensures.value
+    (sym c.are_named.ensures ∙ c.if-not-are_named.false)) in
+    let lands = subst (λ a. Lands index a flights mid landed) c.arrival_in-arrival.ensures c.land-landed.ensures in
+    let count = subst (λ a. length (kept_at a (packets_of old)) ≡ kept) c.arrival_in-arrival.ensures
+    (c.kept_at-kept.ensures (packets_of old) (sym c.packets.ensures)) in
+    ran_next t most before old new step effect flights c.send.new.self c.args.recorder.now c.note.new.self c.in_ok-before.before landed
+    index
+    c.in-Ok.ensures.made named at
+    (flies index (arrival_in step) (packets_of old) (packets_of new) flights mid c.send.new.self landed kept lands count
+    c.in_ok-send.ensures)
+    c.in_ok-before.ensures lands.answer c.in_ok-note.ensures ran

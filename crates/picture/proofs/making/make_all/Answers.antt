@@ -2,7 +2,7 @@ use Rattle.std.proofs.Common.{◌≡◌, ◌∙◌, ◌<◌, false, [], ◌∷�
 use Rattle.std.proofs.lemmas.List.{map-append}
 use Rattle.picture.specs.Ran.{Ran}
 use Rattle.picture.specs.Words.{word_of}
-use Rattle.picture.proofs.Stepping.{none_left, next_none, next_some, fault_at, made_count, one_more_made}
+use Rattle.replay.proofs.Making.{none_left, next_none, next_some, fault_at, made_count, one_more_made}
 use Rattle.picture.proofs.Recording.{stands}
 use Rattle.system.specs.Reads.{table_of}
 use Rattle.picture.proofs.making.make_all.Goals as goal
@@ -27,10 +27,11 @@ loop-index-preserved g c =
     let t = table_of c.args.system.now in
     let most = c.args.system.now.max_steps in
     let n = c.loop-index.index in
-    let next = next_some c.in_ok-step.field-0 c.loop-index.steps c.next.new.self c.in-Some.step c.in-Some.is c.in_ok-step.ensures.next in
+    let next =
+    next_some c.in_ok-step.field-0 c.loop-index.steps c.next.new.self c.in-Some.step c.in-Some.is c.in_ok-step.ensures.next in
     let count = made_count c.args.steps c.loop-index.steps c.next.new.self n c.in-Some.step c.loop-index.invariant.0 next in
-    let made = one_more_made (λ made. Ran t most made c.make.new.system c.make.new.flights) c.args.steps c.loop-index.steps c.next.new.self n
-    c.in-Some.step c.loop-index.invariant.0 next
+    let made = one_more_made (λ made. Ran t most made c.make.new.system c.make.new.flights c.make.new.recorder) c.args.steps
+    c.loop-index.steps c.next.new.self n c.in-Some.step c.loop-index.invariant.0 next
     (c.in_default-make.ensures.made t most (take n c.args.steps) count c.loop-index.invariant.1) in
     let words = one_more_made (λ made. c.put_word.new.words.items ≡ map word_of made) c.args.steps c.loop-index.steps c.next.new.self n
     c.in-Some.step c.loop-index.invariant.0 next

@@ -8,5 +8,5 @@ use Rattle.picture.proofs.making.make_all.Given as goal
 abbrev pub invariant-loop-index : goal.invariant-loop-index
 invariant-loop-index g l =
     (l.steps ≡ drop l.index l.fn.steps)
-    × Ran (table_of l.fn.system) l.fn.system.max_steps (take l.index l.fn.steps) l.system l.flights
+    × Ran (table_of l.fn.system) l.fn.system.max_steps (take l.index l.fn.steps) l.system l.flights l.recorder
     × (l.words.items ≡ map word_of (take l.index l.fn.steps))

@@ -1,5 +1,6 @@
 use Rattle.std.proofs.Common.{◌<◌, length, take, arith}
 use Rattle.replay.proofs.Making.{none_left, next_none, next_some, fault_at, one_more_made}
+use Rattle.replay.specs.Replay.{StandsAt}
 use Rattle.system.specs.Reads.{table_of}
 use Rattle.replay.proofs.steps.make_all.Goals as goal
 
@@ -22,7 +23,8 @@ pub loop-index-preserved : goal.loop-index-preserved
 loop-index-preserved g c =
     let t = table_of c.args.system.now in
     let most = c.args.system.now.max_steps in
-    one_more_made t most c.args.steps c.loop-index.steps c.next.new.self c.loop-index.index c.in-Some.step c.make.new.system
+    one_more_made (λ made. StandsAt t most made c.make.new.system) c.args.steps c.loop-index.steps c.next.new.self c.loop-index.index
+    c.in-Some.step
     c.loop-index.invariant.0
     (next_some c.in_ok-step.field-0 c.loop-index.steps c.next.new.self c.in-Some.step c.in-Some.is c.in_ok-step.ensures.next)
     (c.in_default-make.ensures.made t most (take c.loop-index.index c.args.steps) c.loop-index.invariant.1)

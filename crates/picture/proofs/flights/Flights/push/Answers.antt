@@ -18,10 +18,11 @@ returns c =
       sent = c.args.step;
       received = None;
     } in
-    let told : flight_in packet ≡ flight_of c.args.packet.now =
+    let flight = flight_of c.args.packet.now in
+    let told : flight_in packet ≡ flight =
     ap (λ f. record { from = f; clock = packet.clock; to = packet.to; id = packet.asked.id }) c.carried_by-from.ensures.from
-    ∙ ap (λ k. record { from = (flight_of c.args.packet.now).from; clock = k; to = packet.to; id = packet.asked.id }) c.carried_by-from.ensures.clock
-    ∙ ap (λ i. record { from = (flight_of c.args.packet.now).from; clock = (flight_of c.args.packet.now).clock; to = packet.to; id = i }) c.asked.ensures in
+    ∙ ap (λ k. record { from = flight.from; clock = k; to = packet.to; id = packet.asked.id }) c.carried_by-from.ensures.clock
+    ∙ ap (λ i. record { from = flight.from; clock = flight.clock; to = packet.to; id = i }) c.asked.ensures in
     subst (λ (f : Flight). Sends c.args.step old (f ∷ []) new) told
     (sends_one c.args.step packet old new refl refl c.in_ok-push.ensures.items
     (c.in_ok-push_back.ensures.items ∙ ap (λ k. old.under_way.items ++ k ∷ []) (c.len-number.ensures ∙ old.packets.ok.0)))
