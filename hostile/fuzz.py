@@ -1,0 +1,150 @@
+#!/usr/bin/env python3
+"""Random input to the programs: fuzz.py PROGRAMS [SECONDS] [SEED]
+
+For some seconds (20 unless told), from a seed that is printed: random bytes, and valid streams of requests with some bytes changed, go
+to `solo`, whole and in pieces cut anywhere, which has to answer both alike; random tables and traces, and valid ones with some bytes
+changed, go to `replay` with one worker and with two. Each program ends by a status that it has for such an input, says on standard
+error why where it refuses, and writes nothing then but what came before; a trace that can be replayed agrees.
+"""
+import contextlib
+import os
+import random
+import subprocess
+import sys
+import tempfile
+import time
+
+from clients import replies, request
+
+TOP = os.path.join(os.path.dirname(os.path.abspath(__file__)), "..")
+KEYS = [b"a", b"b", b"c", b"d", b"", b"{a}1", b"key"]
+WORDS = KEYS + [b"0", b"1", b"-1", b"9223372036854775807", b"-9223372036854775808", b"2x", b"NX", b"LEFT", b"BEFORE", b"\r\n", b"*1"]
+NAMES = """PING ECHO GET SET SETNX GETSET GETDEL MGET STRLEN GETRANGE INCR DECR INCRBY DECRBY APPEND SETRANGE MSET MSETNX RENAME DEL UNLINK
+EXISTS TYPE RENAMENX DBSIZE FLUSHALL HSET HMSET HSETNX HINCRBY HGET HMGET HDEL HEXISTS HLEN HKEYS HVALS HGETALL HSTRLEN LPUSH
+RPUSH LPUSHX RPUSHX LPOP RPOP LLEN LINDEX LSET LRANGE LTRIM LREM LINSERT LMOVE RPOPLPUSH SADD SREM SISMEMBER SMISMEMBER SCARD
+SMEMBERS SMOVE SINTER SUNION SDIFF SINTERSTORE SUNIONSTORE SDIFFSTORE""".split()
+
+
+def words_of(dice):
+    return [dice.choice(NAMES).encode()] + [dice.choice(WORDS) for _ in range(dice.randrange(6))]
+
+
+def changed(dice, text, most=3):
+    """The text with some bytes of it changed, left out or put in."""
+    for _ in range(dice.randrange(most + 1)):
+        place = dice.randrange(len(text) + 1)
+        kind = dice.randrange(3)
+        byte = bytes([dice.choice(b"0123456789*$\r\n -ax#[]=\xff\x00")])
+        text = text[:place] + (byte if kind else b"") + text[place + (kind != 2):]
+    return text
+
+
+def stream(dice):
+    """A stream of requests, valid or not."""
+    if dice.randrange(8) == 0:
+        return bytes(dice.choice(b"*$0123456789\r\nPING\xff") for _ in range(dice.randrange(300)))
+    return changed(dice, b"".join(request(*words_of(dice)) for _ in range(dice.randrange(20))))
+
+
+def trace(dice):
+    """A trace as a server writes it, of some connections, with some steps that may be refused."""
+    lines, connections = ["open"] * 3, 3
+    for _ in range(dice.randrange(60)):
+        conn = dice.randrange(1, connections + 1)
+        lines.append(dice.choice([
+            "submit %d %s" % (conn, " ".join(word.hex() or "-" for word in words_of(dice))),
+            "deliver 0", "deliver 0", "deliver 0", "deliver 1", "take", "run", "settle", "collect %d" % conn]))
+    text = "shardkv-trace 1\nmax %d\n" % dice.choice([1000, 1 << 62, 40]) + "".join(line + "\n" for line in lines)
+    return changed(dice, (text + "end %d\n" % len(lines)).encode(), 1)
+
+
+def driven(dice):
+    """A trace in which each request is brought to its end."""
+    lines = ["open"] * 3
+    for _ in range(dice.randrange(1, 8)):
+        conn = dice.randrange(1, 4)
+        lines.append("submit %d %s" % (conn, " ".join(word.hex() or "-" for word in words_of(dice))))
+        lines += ["deliver 0"] * 4 + ["take", "run", "settle", "collect %d" % conn]
+    return lines
+
+
+def table(dice):
+    with open(os.path.join(TOP, "examples", dice.choice(["two-shards.toml", "four-shards.toml"])), "rb") as text:
+        return changed(dice, text.read())
+
+
+class Fuzz:
+    def __init__(self, folder, seed):
+        self.folder, self.dice, self.runs, self.room = folder, random.Random(seed), 0, tempfile.TemporaryDirectory()
+
+    def program(self, name):
+        return os.path.join(self.folder, f"shardkv_{name}", "out", f"shardkv_{name}")
+
+    def file(self, name, text):
+        path = os.path.join(self.room.name, name)
+        with open(path, "wb") as it:
+            it.write(text)
+        return path
+
+    def cut(self, text):
+        """What solo says where the input comes in pieces."""
+        with subprocess.Popen([self.program("solo")], bufsize=0, stdin=subprocess.PIPE, stdout=subprocess.PIPE,
+                              stderr=subprocess.PIPE) as solo:
+            # A store that met a fault reads no more.
+            with contextlib.suppress(BrokenPipeError):
+                while text:
+                    size = self.dice.randrange(1, 40)
+                    solo.stdin.write(text[:size])
+                    text = text[size:]
+            said, told = solo.communicate()
+        return solo.returncode, said, told
+
+    def solo(self):
+        text = stream(self.dice)
+        ran = subprocess.run([self.program("solo")], input=text, capture_output=True, timeout=60)
+        faults = [f"status {ran.returncode}: {ran.stderr}"] if ran.returncode not in (0, 1) else []
+        faults += [f"no reply: {left}" for left in replies(ran.stdout)[1:] if left]
+        cut = self.cut(text)
+        if cut != (ran.returncode, ran.stdout, ran.stderr):
+            faults.append(f"cut it says {cut}, and whole {(ran.returncode, ran.stdout, ran.stderr)}")
+        return text, faults
+
+    def replay(self):
+        table_text = table(self.dice) if self.dice.randrange(3) == 0 else open(os.path.join(TOP, "examples/two-shards.toml"), "rb").read()
+        lines = driven(self.dice)
+        trace_text = trace(self.dice) if self.dice.randrange(2) else (
+            "shardkv-trace 1\nmax 1000\n" + "".join(line + "\n" for line in lines) + "end %d\n" % len(lines)).encode()
+        files = ["--table", self.file("table", table_text), "--trace", self.file("trace", trace_text)]
+        said = []
+        faults = []
+        for workers in ("1", "2"):
+            ran = subprocess.run([self.program("replay"), *files, "--workers", workers], capture_output=True, timeout=60)
+            said.append((ran.returncode, ran.stdout, ran.stderr))
+            if ran.returncode not in (0, 3, 4, 5):
+                faults.append(f"status {ran.returncode}: {ran.stderr}")
+            if (ran.returncode == 0) != ran.stdout.endswith(b"agree\n") or (ran.returncode != 0 and (ran.stdout or not ran.stderr)):
+                faults.append(f"status {ran.returncode} with {ran.stdout[-100:]!r}, {ran.stderr!r}")
+        faults += [f"one worker says {said[0]}, two say {said[1]}" for _ in range(said[0] != said[1])]
+        return table_text + trace_text, faults
+
+    def one(self):
+        self.runs += 1
+        return self.solo() if self.dice.randrange(2) else self.replay()
+
+
+def main():
+    folder, *more = sys.argv[1:]
+    seconds = float(more[0]) if more else 20.0
+    seed = int(more[1]) if len(more) > 1 else time.time_ns()
+    print(f"seed {seed}", flush=True)
+    fuzz, ends, failed = Fuzz(folder, seed), time.time() + seconds, 0
+    while time.time() < ends and failed < 3:
+        given, faults = fuzz.one()
+        failed += bool(faults)
+        for fault in faults:
+            print(f"  FAILED: {fault}\n    of {given!r}")
+    print(f"{fuzz.runs - failed} passed, {failed} failed")
+    sys.exit(failed > 0)
+
+
+main()

@@ -1,0 +1,236 @@
+#!/usr/bin/env python3
+"""Each growth refused in turn: growths.py PROGRAMS REFUSE [NAME ..]
+
+PROGRAMS is a folder with the programs shardkv_solo, shardkv_server, shardkv_replay and shardkv_picture, each in
+NAME/out/NAME, as the gate leaves them. REFUSE is the library that refuse.c becomes. Each program is run with the Nth block
+of memory that it asks for refused, N from 1 until a run meets no refusal; then with that block and all behind it, or, of a server,
+those of a streak.
+
+- `solo`: each reply is the error line for want of memory, or what a store answers that is asked the other requests alone.
+  Where the store ends for want of memory, its replies are the beginning of such a list.
+- `server`, with one worker and with two: so too, over two connections, one of which may be refused or ended; and where a
+  trace was written, a replay of it agrees, and has a row for each request that was answered by its shards.
+- `replay` and `picture`: the whole output and its status, or the status for want of memory (or for a thread).
+
+The line of each says how far N went and how many runs met a refusal; the last one is `N passed, M failed`.
+"""
+import os
+import subprocess
+import sys
+import tempfile
+
+from clients import NO_MEMORY, NO_THREAD, OUT_OF_MEMORY, Client, Ended, Server, replies, request, requests
+
+TOP = os.path.join(os.path.dirname(os.path.abspath(__file__)), "..")
+TABLE = os.path.join(TOP, "examples/two-shards.toml")
+
+# Strings and whole numbers, ranges, lists beside wrong types, hashes, sets.
+SOLO = [
+    "SET '' ''; GET ''; GET a; SET b long-long-long-long-long; GETSET b short; DEL '' b; GET b",
+    "SET a 9223372036854775807; INCR a; GET a; DECRBY a -9223372036854775808; INCR b; INCRBY b +1; GET b",
+    "LPUSH a 1; GET a; MGET a c; LMOVE a c LEFT RIGHT; EXISTS a c c; LRANGE c 0 -1; RPUSH c 2 3; LINSERT c BEFORE 3 x; LRANGE c 0 9",
+    "HSET a f 1 g 2 f 3; HGETALL a; HSET a f; FOO; SET b 1 NX XX; SET b 1 EX 10; HINCRBY a f 4; HDEL a g; HGETALL a; TYPE b",
+    "SADD a m; SMOVE a a m; SMOVE y a m; SETRANGE b 3 x; GET b; SETRANGE b -1 x; SADD c m n o; SINTERSTORE d a c; SMEMBERS d; DBSIZE",
+    "MSET a 1 c 2 a 3; MGET a c; RENAME a d; APPEND d 45; MSETNX d 1 e 2; KEYS; FLUSHALL; DBSIZE; MGET a c d e",
+]
+
+# Over two shards by two connections: what lies on one, on the other and on both.
+SERVER = [
+    (0, "MSET a 1 c 2"), (1, "MSET a 3 c 4"), (0, "GET a"), (1, "GET c"),
+    (0, "INCR a"), (0, "RPUSH y 1 2 3"), (1, "LMOVE y x LEFT RIGHT"), (0, "SADD z m n"), (1, "SINTERSTORE b z z"),
+    (0, "RENAME a d"), (1, "HSET h f 1"), (0, "MGET a c d"), (1, "SMEMBERS b"), (1, "LRANGE y 0 -1"), (0, "DBSIZE"),
+]
+
+# How many blocks a server is refused in a row: then there is memory again, and each request that was let in comes to its end.
+STREAK = 20
+
+# How many lists of requests that may have been served are looked at, where some were not answered.
+MOST = 32
+
+# The statuses of the programs for want of memory, and of a thread.
+STATUSES = {"solo": (3,), "replay": (6, 5), "picture": (6,), "server": (7,)}
+
+
+class Programs:
+    def __init__(self, folder, refuse):
+        self.folder, self.refuse, self.rooms = folder, refuse, tempfile.TemporaryDirectory()
+        self.mark = os.path.join(self.rooms.name, "met")
+
+    def path(self, name):
+        return os.path.join(self.folder, f"shardkv_{name}", "out", f"shardkv_{name}")
+
+    def file(self, name):
+        return os.path.join(self.rooms.name, name)
+
+    def refusing(self, which):
+        """The environment of a program that is refused `which`, N or N.., or nothing where it is empty."""
+        wanted = {"REFUSE": which} if which else {}
+        return {**os.environ, "LD_PRELOAD": self.refuse, "REFUSE_MET": self.mark, **wanted}
+
+    def met(self):
+        """Whether the last program met a refusal."""
+        try:
+            os.remove(self.mark)
+            return True
+        except FileNotFoundError:
+            return False
+
+    def run(self, name, words, which="", given=b""):
+        return subprocess.run([self.path(name), *words], input=given, capture_output=True, env=self.refusing(which), timeout=60)
+
+
+class Plain:
+    """What a store answers that meets no refusal, by the list of its requests."""
+
+    def __init__(self, programs):
+        self.programs, self.known = programs, {}
+
+    def answers(self, asked):
+        key = b"".join(request(*words) for words in asked)
+        if key not in self.known:
+            ran = self.programs.run("solo", [], given=key)
+            self.known[key] = replies(ran.stdout)[0]
+        return self.known[key]
+
+    def faults(self, asked, said):
+        """What is wrong with these replies to as many requests. One for which there was no memory changed nothing; of one that wasn't
+        answered (None) it isn't known, so it may have been served or not."""
+        served = [[]]
+        for number, (words, reply) in enumerate(zip(asked, said), 1):
+            if reply is None:
+                served = (served + [before + [words] for before in served])[:MOST]
+            elif reply != OUT_OF_MEMORY:
+                wanted = [self.answers(before + [words])[-1] for before in served]
+                served = [before + [words] for before, answer in zip(served, wanted) if answer == reply]
+                if not served:
+                    return [f"to request {number}, {words}, came {reply}, and one of {wanted} was wanted"]
+        return []
+
+
+def each_refusal(programs, run, streak=None):
+    """Runs with each block refused alone, and then with each one and all behind it, or with one streak behind another, until none is met:
+    how far that went, how many runs met a refusal, and the faults. `run` says what is wrong."""
+    faults, refusals, far = [], 0, 0
+    for step, size in ((1, 1), (streak or 1, streak)):
+        number, meets = 1, True
+        while meets:
+            which = f"{number}..{number + size - 1 if size else ''}"
+            wrong = run(which)
+            meets = programs.met()
+            refusals += meets
+            faults += [f"REFUSE={which}: {fault}" for fault in wrong]
+            number += step
+        far = max(far, number - 1 - step)
+    return far, refusals, faults
+
+
+def solo(programs, plain, text):
+    asked = requests(text)
+    given = b"".join(request(*words) for words in asked)
+
+    def run(which):
+        ran = programs.run("solo", [], which, given)
+        said, rest = replies(ran.stdout)
+        wrong = plain.faults(asked[:len(said)], said) + [f"a beginning of a reply: {rest}" for _ in range(bool(rest))]
+        if ran.returncode not in (0, *STATUSES["solo"]) or (ran.returncode == 0 and len(said) != len(asked)):
+            wrong.append(f"status {ran.returncode} behind {len(said)} replies")
+        return wrong
+    return each_refusal(programs, run)
+
+
+def whole_or_refused(programs, name, words):
+    """A program that says all of its output, or that memory is wanting."""
+    wanted = programs.run(name, words)
+
+    def run(which):
+        ran = programs.run(name, words, which)
+        if ran.returncode in STATUSES[name]:
+            wrong = [] if wanted.stdout.startswith(ran.stdout) else ["other output"]
+        else:
+            wrong = [] if (ran.returncode, ran.stdout) == (wanted.returncode, wanted.stdout) else [f"status {ran.returncode}, other output"]
+        return wrong
+    return each_refusal(programs, run)
+
+
+class Asking:
+    """Two clients that ask one after another. One that is refused or ended isn't answered, and comes back."""
+
+    def __init__(self, port):
+        self.port, self.clients, self.said = port, {}, []
+
+    def ask(self, who, words):
+        try:
+            if who not in self.clients:
+                self.clients[who] = Client(self.port, timeout=5.0)
+            self.clients[who].send(*words)
+            said = self.clients[who].whole_reply()
+        except (Ended, OSError):
+            said = NO_MEMORY
+        if said in (NO_MEMORY, NO_THREAD):
+            self.clients.pop(who, None)
+        self.said.append(None if said == NO_MEMORY else OUT_OF_MEMORY if said == NO_THREAD else said)
+
+    def close(self):
+        for client in self.clients.values():
+            client.close()
+
+
+def replayed(programs, trace, workers):
+    """What is wrong with a trace that was written."""
+    ran = programs.run("replay", ["--table", TABLE, "--trace", trace, "--workers", str(workers)])
+    return [] if ran.returncode == 0 and ran.stdout.endswith(b"agree\n") else [f"the replay ended by {ran.returncode}: {ran.stderr}"]
+
+
+def server(programs, plain, workers):
+    trace = programs.file("run.trace")
+    asked = [(who, requests(line)[0]) for who, line in SERVER]
+
+    def run(which):
+        for left in (trace, trace + ".part"):
+            if os.path.exists(left):
+                os.remove(left)
+        with Server(programs.path("server"), TABLE, "--workers", str(workers), "--connections", "5", "--trace", trace,
+                    env=programs.refusing(which)) as begun:
+            asking = Asking(begun.port)
+            if begun.port is not None:
+                for who, words in asked:
+                    asking.ask(who, words)
+                asking.close()
+            status, said, told = begun.ended_soon()
+        wrong = plain.faults([words for _, words in asked[:len(asking.said)]], asking.said)
+        if status not in (0, *STATUSES["server"]):
+            wrong.append(f"status {status}: {said}{told}")
+        if status == 0 or os.path.exists(trace):
+            wrong += replayed(programs, trace, workers)
+        return wrong
+    return each_refusal(programs, run, STREAK)
+
+
+def cases(programs):
+    plain = Plain(programs)
+    crossing = ["--table", TABLE, "--trace", os.path.join(TOP, "examples/crossing.trace")]
+    for number, text in enumerate(SOLO, 1):
+        yield f"solo {number}", lambda text=text: solo(programs, plain, text)
+    for workers in (1, 2):
+        yield f"replay {workers}", lambda workers=workers: whole_or_refused(programs, "replay", [*crossing, "--workers", str(workers)])
+    yield "picture", lambda: whole_or_refused(programs, "picture", crossing)
+    for workers in (1, 2):
+        yield f"server {workers}", lambda workers=workers: server(programs, plain, workers)
+
+
+def main():
+    folder, refuse, *wanted = sys.argv[1:]
+    programs, passed, failed = Programs(folder, os.path.abspath(refuse)), 0, 0
+    for name, case in cases(programs):
+        if wanted and name.split()[0] not in wanted:
+            continue
+        far, refusals, faults = case()
+        print(f"{name}: each of {far} blocks refused, in {refusals} runs")
+        for fault in faults[:5]:
+            print(f"  FAILED: {fault}")
+        passed, failed = passed + (not faults), failed + bool(faults)
+    print(f"{passed} passed, {failed} failed")
+    sys.exit(failed > 0)
+
+
+main()
