@@ -1,5 +1,6 @@
 -- Which shard has a slot, and the table that a placement document gives.
-use Rattle.std.specs.Prelude.{ℤ, pos, ◌≤ℤ◌, ◌<ℤ◌, map, ◌≡◌, ℕ, ◌<◌, ◌≤◌, Bool, ◌&&◌, nat_le, List, [], ◌∷◌, length, slice_index, All}
+use Rattle.std.specs.Prelude.{ℤ, pos, ◌≤ℤ◌, ◌<ℤ◌, map, ◌≡◌, ℕ, ◌<◌, ◌≤◌}
+use Rattle.std.specs.Prelude.{Bool, ◌&&◌, nat_le, List, [], ◌∷◌, length, slice_index, All}
 use Rattle.std.specs.Prelude.{filter, Some, None}
 use Rattle.placement.specs.Document.{Document, document_in}
 use Rattle.placement.specs.Slot.{slot}

@@ -30,7 +30,8 @@ module _ (table : Layout) (maps : List Map) (t : Task) (is_table : IsTable table
     (own : HasOwnKeys table maps) (groups : t.job.groups ≡ groups_of table t.job.asked.command) where
   -- its shards are in the row
   pub groups_inside : (g : ℕ) → has t.job.groups g ≡ true → g < length maps
-  groups_inside g there = subst (λ n. g < n) (sym long) (groups_of-below table t.job.asked.command g (ap (λ gs. has gs g) (sym groups) ∙ there))
+  groups_inside g there =
+      subst (λ n. g < n) (sym long) (groups_of-below table t.job.asked.command g (ap (λ gs. has gs g) (sym groups) ∙ there))
 
   pub group_inside : (g : ℕ) → t.job.groups ≡ g ∷ [] → g < length maps
   group_inside g lone = groups_inside g (ap (λ gs. has gs g) lone ∙ or_left _ _ (eq-eqb g g refl))

@@ -22,9 +22,10 @@ run_on_all-requires-clause-shards g c = record {
 
 pub run_on_all-requires-clause-keys : goal.run_on_all-requires-clause-keys
 run_on_all-requires-clause-keys g c k d below =
-    ap (λ gs. has gs (shard_of c.args.table.now (get_or (keys_of c.args.self.job.asked.command) k d))) (c.requires.numbers ∙ c.requires.groups)
-    ∙ has-groups_of-key c.args.table.now c.args.self.job.asked.command (get_or (keys_of c.args.self.job.asked.command) k d) c.requires.is_table
-    (k, below, any_default (keys_of c.args.self.job.asked.command) k _ d below)
+    let command = c.args.self.job.asked.command in
+    let key = get_or (keys_of command) k d in
+    ap (λ gs. has gs (shard_of c.args.table.now key)) (c.requires.numbers ∙ c.requires.groups)
+    ∙ has-groups_of-key c.args.table.now command key c.requires.is_table (k, below, any_default (keys_of command) k _ d below)
 
 pub returns : goal.returns
 returns g c = record {
