@@ -12,7 +12,7 @@ use placement::Table;
 use resp::{Reply, Request, write_reply};
 use std::alloc::Global;
 use std::test::Fail;
-use test_support::same_bytes;
+use test_support::{TWO_SHARDS, same_bytes};
 
 /// Whether steps may still be made: no test makes more than these.
 fn has_steps(front: &Front) -> bool
@@ -23,9 +23,7 @@ fn has_steps(front: &Front) -> bool
 
 /// A front on two shards: `a`, `b` and `y` lie on 0, `c`, `d`, `x` and `z` on 1.
 pub(crate) fn two_shards(alloc: Global) -> Result<Front, Trouble> {
-    let text =
-        "shards = 2\n[[range]]\nfrom = 0\nto = 511\nshard = 0\n[[range]]\nfrom = 512\nto = 1023\nshard = 1\n";
-    Ok(Front::new(alloc, Table::from_toml(alloc, text)?)?)
+    Ok(Front::new(alloc, Table::from_toml(alloc, TWO_SHARDS)?)?)
 }
 
 /// Opens a connection.
@@ -89,6 +87,14 @@ pub(crate) fn settle(front: &mut Front, done: Done) -> Result<Option<FrontFault>
         Ok(()) => Ok(None),
         Err((_done, fault)) => Ok(Some(fault)),
     }
+}
+
+/// Hands on the outcomes of the layer that is out; whether that was done.
+pub(crate) fn settle_outcomes(front: &mut Front, done: Done) -> Result<bool, Trouble> {
+    if !has_steps(front) {
+        return Err(Trouble::Asked);
+    }
+    Ok(front.settle_outcomes(done).is_ok())
 }
 
 /// The text of what a connection collects; no text where nothing waits for it.

@@ -1,6 +1,8 @@
 //! Requests from submit to collect, while other requests come.
 
-use crate::fronts::{asks, close, collects, done_of, settle, settle_next, take, two_shards};
+use crate::fronts::{
+    asks, close, collects, done_of, settle, settle_next, settle_outcomes, take, two_shards,
+};
 use front::Front;
 use groups::ConnId;
 use std::alloc::Global;
@@ -47,6 +49,22 @@ fn some_starve(alloc: Global, front: &mut Front) -> Result<(), Fail> {
 fn those_that_starve_are_told(rt: HostRuntime) -> Result<(), Fail> {
     let mut front = two_shards(rt.alloc())?;
     some_starve(rt.alloc(), &mut front)
+}
+
+fn outcomes_go_alone(alloc: Global, front: &mut Front) -> Result<(), Fail> {
+    let conn = asks(alloc, front, "SET a 1")?;
+    let layer = take(front)?;
+    let done = done_of(alloc, layer, 0)?;
+    holds("the outcomes are handed on", settle_outcomes(front, done)?)?;
+    collects(alloc, front, conn, b":0\r\n")?;
+    same_count("rows", front.rows().len(), 0)?;
+    holds("it is quiet", front.quiet())
+}
+
+#[test]
+fn outcomes_are_handed_on_without_rows(rt: HostRuntime) -> Result<(), Fail> {
+    let mut front = two_shards(rt.alloc())?;
+    outcomes_go_alone(rt.alloc(), &mut front)
 }
 
 fn is_closed_before(alloc: Global, front: &mut Front) -> Result<(), Fail> {

@@ -4,37 +4,7 @@ use picture::{ShowFault, told};
 use progress::Unwatched;
 use std::alloc::Global;
 use std::test::Fail;
-use test_support::{Sink, holds, same_count};
-
-/// The slots 0 to 511 on shard 0, and the rest on shard 1: `a` (61) lies on shard 0, and `c` (63) on shard 1.
-pub(crate) const TABLE: &str =
-    "shards = 2\n[[range]]\nfrom = 0\nto = 511\nshard = 0\n[[range]]\nfrom = 512\nto = 1023\nshard = 1\n";
-
-/// MSET a 1 c 2 and MSET a 3 c 4 cross: each comes to another group first.
-pub(crate) const CROSSING: &str = "shardkv-trace 1
-max 1000
-open
-open
-submit 1 4d534554 61 31 63 32
-submit 2 4d534554 61 33 63 34
-deliver 0
-deliver 2
-deliver 1
-deliver 0
-deliver 0
-deliver 0
-deliver 0
-deliver 0
-take
-run
-settle
-take
-run
-settle
-collect 1
-collect 2
-end 20
-";
+use test_support::{CROSSING, Sink, TWO_SHARDS, holds, same_count};
 
 /// Nothing happens.
 const EMPTY: &str = "shardkv-trace 1\nmax 1\nend 0\n";
@@ -119,7 +89,7 @@ fn drawn(alloc: Global, trace: &str, window: (usize, usize)) -> Result<Vec<u8>, 
     let mut sink = Sink::new(alloc, 4096);
     told(
         alloc,
-        TABLE.as_bytes(),
+        TWO_SHARDS.as_bytes(),
         trace.as_bytes(),
         window,
         &mut Unwatched,

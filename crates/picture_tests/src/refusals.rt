@@ -1,20 +1,23 @@
 //! Texts of which there is no picture, a writer that fails, and the words of the command line.
 
-use crate::pictures::{CROSSING, TABLE};
 use options::picture::{OptionsFault, read_options};
 use picture::told;
 use progress::Unwatched;
 use std::alloc::Global;
 use std::test::Fail;
-use test_support::{Sink, holds, same_count, same_number, same_text};
+use test_support::{CROSSING, Sink, TWO_SHARDS, holds, same_count, same_number, same_text};
 
 /// A table, a trace, and the status that they end with.
 const REFUSED: [(&str, &str, u8); 5] = [
     ("shards = 0\n", CROSSING, 3),
-    (TABLE, "shardkv-trace 1\nmax 1\nend 1\n", 4),
-    (TABLE, "shardkv-trace 1\nmax 1\ntake\nend 1\n", 5),
-    (TABLE, "shardkv-trace 1\nmax 1\nopen\nopen\nend 2\n", 5),
-    (TABLE, "shardkv-trace 1\nmax 2\nopen\ndeliver 0\nend 2\n", 5),
+    (TWO_SHARDS, "shardkv-trace 1\nmax 1\nend 1\n", 4),
+    (TWO_SHARDS, "shardkv-trace 1\nmax 1\ntake\nend 1\n", 5),
+    (TWO_SHARDS, "shardkv-trace 1\nmax 1\nopen\nopen\nend 2\n", 5),
+    (
+        TWO_SHARDS,
+        "shardkv-trace 1\nmax 2\nopen\ndeliver 0\nend 2\n",
+        5,
+    ),
 ];
 
 /// The status with which a picture of these ends, by this writer.
@@ -42,7 +45,7 @@ fn a_failed_write_is_told(rt: HostRuntime) -> Result<(), Fail> {
     for fails_at in [0, 2] {
         let mut sink = Sink::new(rt.alloc(), 1000);
         sink.fails_at = fails_at;
-        let ended = status(rt.alloc(), TABLE, CROSSING, &mut sink);
+        let ended = status(rt.alloc(), TWO_SHARDS, CROSSING, &mut sink);
         same_number("the status", u64::from(ended), 7)?;
         same_count("what was taken", sink.taken.len(), 1000 * fails_at)?;
     }

@@ -4,8 +4,8 @@
 //! turn: what that call was asked for isn't begun, and the next one does all of it. Where the allocation is the test's
 //! own, the test begins anew.
 
-use crate::traces::{CROSSING, LAYER_OF_TWO, Row, STARVED, TABLE};
-use command_table::read;
+use crate::traces::{CROSSING, LAYER_OF_TWO, Row, STARVED};
+use command_table::{Command, read};
 use journal::{Step, Trace, TraceFault, read_trace, write_trace};
 use placement::{Table, TableFault};
 use replay::{ShowFault, told};
@@ -19,7 +19,7 @@ use std::num::NonZeroUsize;
 use std::process::Abort;
 use std::test::Fail;
 use system::{StepFault, System};
-use test_support::Sink;
+use test_support::{Sink, TWO_SHARDS};
 
 const ONE: InTurn = InTurn(NonZeroUsize::MIN);
 
@@ -56,14 +56,19 @@ fn assert_behind(rt: &impl Abort, alloc: Global, out: &[u8], text: &str) -> Resu
     Ok(())
 }
 
+/// The text of a trace comes behind what is there, or nothing does.
+fn writes(rt: &impl Abort, alloc: Global, trace: &Trace, text: &str) -> Result<(), AllocError> {
+    let mut out = Vec::from_slice(alloc, BEFORE)?;
+    if write_trace(trace, &mut out).is_err() {
+        assert_behind(rt, alloc, out.as_slice(), "")?;
+        write_trace(trace, &mut out)?;
+    }
+    assert_behind(rt, alloc, out.as_slice(), text)
+}
+
 fn read_and_written(rt: &impl Abort, alloc: Global, row: Row) -> Result<(), AllocError> {
     let trace = trace_of(rt, alloc, row.trace)?;
-    let mut out = Vec::from_slice(alloc, BEFORE)?;
-    if write_trace(&trace, &mut out).is_err() {
-        assert_behind(rt, alloc, out.as_slice(), "")?;
-        write_trace(&trace, &mut out)?;
-    }
-    assert_behind(rt, alloc, out.as_slice(), row.trace)
+    writes(rt, alloc, &trace, row.trace)
 }
 
 #[test]
@@ -78,7 +83,7 @@ fn traces_are_read_and_written_where_memory_fails(rt: HostRuntime) -> Result<(),
 
 /// The table of two shards; no memory is the only fault.
 fn table(rt: &impl Abort, alloc: Global) -> Result<Table, AllocError> {
-    match Table::from_toml(alloc, TABLE) {
+    match Table::from_toml(alloc, TWO_SHARDS) {
         Ok(table) => Ok(table),
         Err(TableFault::Memory) => Err(AllocError),
         Err(_) => panic!(rt; "no table"),
@@ -92,15 +97,6 @@ fn make(rt: &impl Abort, system: &mut System, step: Step) -> Result<(), AllocErr
         Err(StepFault::Memory) => Err(AllocError),
         Err(fault) => panic!(rt; "{fault}"),
     }
-}
-
-/// The system after the steps of the crossing requests.
-fn crossed(rt: &impl Abort, alloc: Global) -> Result<System, AllocError> {
-    let table = table(rt, alloc)?;
-    let trace = trace_of(rt, alloc, CROSSING.trace)?;
-    let mut system = System::new(alloc, table, trace.max())?;
-    make_each(rt, alloc, &trace, &mut system)?;
-    Ok(system)
 }
 
 /// Makes the steps of a trace in turn.
@@ -130,13 +126,26 @@ fn dumps(rt: &impl Abort, alloc: Global, system: &System, lines: &str) -> Result
     assert_behind(rt, alloc, out.as_slice(), lines)
 }
 
-fn system_dumped(rt: &impl Abort, alloc: Global) -> Result<(), AllocError> {
-    let system = crossed(rt, alloc)?;
+/// Makes the steps of the crossing requests. What lies there then is dumped.
+fn crosses(
+    rt: &impl Abort,
+    alloc: Global,
+    trace: &Trace,
+    system: &mut System,
+) -> Result<(), AllocError> {
+    make_each(rt, alloc, trace, system)?;
     if !system.starved().is_empty() {
         return Err(AllocError);
     }
     let lines = "key 61 string 31\nkey 63 string 32\n";
-    dumps(rt, alloc, &system, lines)
+    dumps(rt, alloc, system, lines)
+}
+
+fn system_dumped(rt: &impl Abort, alloc: Global) -> Result<(), AllocError> {
+    let table = table(rt, alloc)?;
+    let trace = trace_of(rt, alloc, CROSSING.trace)?;
+    let mut system = System::new(alloc, table, trace.max())?;
+    crosses(rt, alloc, &trace, &mut system)
 }
 
 #[test]
@@ -159,13 +168,19 @@ fn ask(
     if words.is_empty() {
         panic!(rt; "no words")
     }
-    let Ok(command) = read(Request::copy_of(alloc, words)?) else {
-        panic!(rt; "a command is refused")
-    };
-    if solo.try_run(command).is_err() {
-        return Err(AllocError);
+    let request = Request::copy_of(alloc, words)?;
+    match read(request) {
+        Ok(command) => is_run(solo, command),
+        Err(_) => panic!(rt; "a command is refused"),
     }
-    Ok(())
+}
+
+/// Runs a command that was read.
+fn is_run(solo: &mut Store, command: Command) -> Result<(), AllocError> {
+    match solo.try_run(command) {
+        Ok(_) => Ok(()),
+        Err(_) => Err(AllocError),
+    }
 }
 
 /// Puts a set, a list and a hash.
@@ -175,16 +190,26 @@ fn fill(rt: &impl Abort, alloc: Global, solo: &mut Store) -> Result<(), AllocErr
     ask(rt, alloc, solo, &[b"HSET", b"a", b"f", b"1"])
 }
 
-fn solo_dumped(rt: &impl Abort, alloc: Global) -> Result<(), AllocError> {
-    let mut solo = Solo::new(alloc, BuildHasherDefault::<FoldHasher>::new());
-    fill(rt, alloc, &mut solo)?;
+/// The dump of a store comes behind what is there, or nothing does.
+fn store_dumps(
+    rt: &impl Abort,
+    alloc: Global,
+    solo: &Store,
+    lines: &str,
+) -> Result<(), AllocError> {
     let mut out = Vec::from_slice(alloc, BEFORE)?;
     if solo.dump(&mut out).is_err() {
         assert_behind(rt, alloc, out.as_slice(), "")?;
         solo.dump(&mut out)?;
     }
-    let lines = "key - list - 78\nkey 61 hash 66 31\nkey 63 set 6d 6e\n";
     assert_behind(rt, alloc, out.as_slice(), lines)
+}
+
+fn solo_dumped(rt: &impl Abort, alloc: Global) -> Result<(), AllocError> {
+    let mut solo = Solo::new(alloc, BuildHasherDefault::<FoldHasher>::new());
+    fill(rt, alloc, &mut solo)?;
+    let lines = "key - list - 78\nkey 61 hash 66 31\nkey 63 set 6d 6e\n";
+    store_dumps(rt, alloc, &solo, lines)
 }
 
 #[test]
@@ -205,16 +230,29 @@ fn shown<W: Workers>(
 ) -> Result<(), AllocError> {
     let mut sink = Sink::new(alloc, 100);
     sink.taken.reserve(row.report.len())?;
-    let (table, trace) = (TABLE.as_bytes(), row.trace.as_bytes());
-    let mut ended = told(alloc, table, trace, workers, &mut sink);
-    if let Err(fault) = ended {
-        assert!(rt; is_no_memory(&fault), "{fault}");
-        assert_eq!(rt; sink.writes, 0);
-        ended = told(alloc, table, trace, workers, &mut sink);
-    }
+    let ended = told_at_last(rt, alloc, row.trace, workers, &mut sink);
     assert!(rt; matches!(ended, Ok(true)));
     assert_bytes(rt, sink.taken.as_slice(), row.report.as_bytes());
     Ok(())
+}
+
+/// What a replay ends with. Where it wants memory, nothing was written, and it is begun again.
+fn told_at_last<W: Workers>(
+    rt: &impl Abort,
+    alloc: Global,
+    trace: &str,
+    workers: &W,
+    sink: &mut Sink,
+) -> Result<bool, ShowFault> {
+    let (table, trace) = (TWO_SHARDS.as_bytes(), trace.as_bytes());
+    match told(alloc, table, trace, workers, sink) {
+        Err(fault) => {
+            assert!(rt; is_no_memory(&fault), "{fault}");
+            assert_eq!(rt; sink.writes, 0);
+            told(alloc, table, trace, workers, sink)
+        }
+        ended => ended,
+    }
 }
 
 fn is_no_memory(fault: &ShowFault) -> bool {

@@ -1,15 +1,17 @@
 //! Texts that are no table or no trace, and traces of which a step is refused.
 
 use crate::showing::is_shown;
-use crate::traces::{CROSSING, Row, STARVED, TABLE};
+use crate::traces::{CROSSING, Row, STARVED};
 use journal::read_trace;
 use placement::{Table, TableFault};
 use replay::{ReplayFault, ShowFault, replay, show, told};
 use shard_workers::InTurn;
 use std::alloc::Global;
 use std::num::NonZeroUsize;
+use std::sync::Wait;
 use std::test::Fail;
-use test_support::{Sink, holds, same_count, same_number, same_text};
+use std::thread::Threads;
+use test_support::{Sink, TWO_SHARDS, holds, same_count, same_number, same_text};
 
 const ONE: InTurn = InTurn(NonZeroUsize::MIN);
 
@@ -21,7 +23,7 @@ fn with(alloc: Global, text: &str, part: &str, other: &str) -> Result<String, Fa
 
 /// The place of the first step that is refused, counted from 0, and why it is.
 fn refused_step(alloc: Global, trace: &str) -> Result<String, Fail> {
-    let table = Table::from_toml(alloc, TABLE)?;
+    let table = Table::from_toml(alloc, TWO_SHARDS)?;
     let trace = read_trace(alloc, trace.as_bytes())?;
     match replay(alloc, trace, table, &ONE) {
         Err(ReplayFault::Step { index, fault }) => { Ok(format!(in alloc; "{index}: {fault:?}")?) }
@@ -55,14 +57,24 @@ const REFUSALS: [Refusal; 7] = [
 
 #[test]
 fn the_first_refused_step_is_told(rt: HostRuntime) -> Result<(), Fail> {
-    let alloc = rt.alloc();
-    for (row, part, other, refused) in &REFUSALS {
-        let trace = with(alloc, row.trace, part, other)?;
-        let told = refused_step(alloc, trace.as_str())?;
-        same_text(other, told.as_str(), refused)?;
-        is_shown(&rt, alloc, refused, trace.as_str(), 5, "")?;
+    for refusal in &REFUSALS {
+        is_told(&rt, rt.alloc(), refusal)?;
     }
     Ok(())
+}
+
+/// The step is told, and the trace ends by 5.
+fn is_told<R: Threads + Wait>(rt: &R, alloc: Global, refusal: &Refusal) -> Result<(), Fail> {
+    let (row, part, other, refused) = refusal;
+    let trace = with(alloc, row.trace, part, other)?;
+    is_refused(alloc, trace.as_str(), refused)?;
+    is_shown(rt, alloc, refused, trace.as_str(), 5, "")
+}
+
+/// The first step that is refused is this one, for this fault.
+fn is_refused(alloc: Global, trace: &str, wanted: &str) -> Result<(), Fail> {
+    let refused = refused_step(alloc, trace)?;
+    same_text(trace, refused.as_str(), wanted)
 }
 
 /// A part of the crossing requests' trace, what stands in its place, and the number of the first bad line then.
@@ -75,7 +87,13 @@ const BAD_LINES: [(&str, &str, u64); 3] = [
 /// The number of the first line that is bad. It is 0 where none is told.
 fn bad_line(alloc: Global, trace: &str) -> u64 {
     let mut sink = Sink::new(alloc, 100);
-    match told(alloc, TABLE.as_bytes(), trace.as_bytes(), &ONE, &mut sink) {
+    match told(
+        alloc,
+        TWO_SHARDS.as_bytes(),
+        trace.as_bytes(),
+        &ONE,
+        &mut sink,
+    ) {
         Err(ShowFault::Trace { line }) => line,
         _ => 0,
     }
@@ -83,13 +101,23 @@ fn bad_line(alloc: Global, trace: &str) -> u64 {
 
 #[test]
 fn the_first_bad_line_is_told(rt: HostRuntime) -> Result<(), Fail> {
-    let alloc = rt.alloc();
     for (part, other, wanted) in &BAD_LINES {
-        let trace = with(alloc, CROSSING.trace, part, other)?;
-        same_number(other, bad_line(alloc, trace.as_str()), *wanted)?;
-        is_shown(&rt, alloc, other, trace.as_str(), 4, "")?;
+        is_bad(&rt, rt.alloc(), part, other, *wanted)?;
     }
     Ok(())
+}
+
+/// The trace with that part in another form is bad at this line, and ends by 4.
+fn is_bad<R: Threads + Wait>(
+    rt: &R,
+    alloc: Global,
+    part: &str,
+    other: &str,
+    wanted: u64,
+) -> Result<(), Fail> {
+    let trace = with(alloc, CROSSING.trace, part, other)?;
+    same_number(other, bad_line(alloc, trace.as_str()), wanted)?;
+    is_shown(rt, alloc, other, trace.as_str(), 4, "")
 }
 
 /// These texts end with this status, and nothing is written.
@@ -100,17 +128,22 @@ fn ends_by(alloc: Global, line: &str, table: &[u8], trace: &[u8], status: u8) ->
     same_count(line, sink.taken.len(), 0)
 }
 
+/// A table without a slot is told of before the trace.
+fn slot_is_missing(alloc: Global) -> Result<(), Fail> {
+    let table = with(alloc, TWO_SHARDS, "from = 512", "from = 513")?;
+    let mut sink = Sink::new(alloc, 100);
+    let ended = told(alloc, table.as_bytes(), b"", &ONE, &mut sink);
+    let missing = matches!(ended, Err(ShowFault::Table(TableFault::Missing)));
+    holds("a slot is missing", missing)
+}
+
 #[test]
 fn the_table_is_read_before_the_trace(rt: HostRuntime) -> Result<(), Fail> {
     let alloc = rt.alloc();
-    let (table, trace) = (TABLE.as_bytes(), CROSSING.trace.as_bytes());
+    let (table, trace) = (TWO_SHARDS.as_bytes(), CROSSING.trace.as_bytes());
     ends_by(alloc, "no ranges", b"shards = 2\n", trace, 3)?;
     ends_by(alloc, "no text", b"\xff", trace, 3)?;
     ends_by(alloc, "neither is a text", b"\xff", b"\xff", 3)?;
     ends_by(alloc, "a trace that is no text", table, b"\xff", 4)?;
-    let other = with(alloc, TABLE, "from = 512", "from = 513")?;
-    let mut sink = Sink::new(alloc, 100);
-    let ended = told(alloc, other.as_bytes(), b"", &ONE, &mut sink);
-    let missing = matches!(ended, Err(ShowFault::Table(TableFault::Missing)));
-    holds("a slot is missing", missing)
+    slot_is_missing(alloc)
 }

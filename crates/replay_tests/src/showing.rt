@@ -1,6 +1,5 @@
 //! One call of the replayer, and what has to come of it whoever the workers are.
 
-use crate::traces::TABLE;
 use replay::show;
 use shard_crew::Crew;
 use shard_workers::{InTurn, Workers};
@@ -9,7 +8,7 @@ use std::num::NonZeroUsize;
 use std::sync::Wait;
 use std::test::Fail;
 use std::thread::Threads;
-use test_support::{Sink, same_bytes, same_count, same_number};
+use test_support::{Sink, TWO_SHARDS, same_bytes, same_count, same_number};
 
 /// The trace ends with this status and this report, by 1, 2 and 8 workers that take turns, and by as many that are
 /// threads.
@@ -44,7 +43,7 @@ fn is_shown_by<W: Workers>(
     let mut sink = Sink::new(alloc, 100);
     let ended = show(
         alloc,
-        TABLE.as_bytes(),
+        TWO_SHARDS.as_bytes(),
         trace.as_bytes(),
         workers,
         &mut sink,

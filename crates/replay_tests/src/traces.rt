@@ -8,37 +8,10 @@ pub(crate) struct Row {
     pub(crate) report: &'static str,
 }
 
-/// The slots 0 to 511 on shard 0, and the rest on shard 1.
-pub(crate) const TABLE: &str =
-    "shards = 2\n[[range]]\nfrom = 0\nto = 511\nshard = 0\n[[range]]\nfrom = 512\nto = 1023\nshard = 1\n";
-
 /// MSET a 1 c 2 and MSET a 3 c 4 cross: each comes to another group first.
 pub(crate) const CROSSING: Row = Row {
     name: "crossing",
-    trace: "shardkv-trace 1
-max 1000
-open
-open
-submit 1 4d534554 61 31 63 32
-submit 2 4d534554 61 33 63 34
-deliver 0
-deliver 2
-deliver 1
-deliver 0
-deliver 0
-deliver 0
-deliver 0
-deliver 0
-take
-run
-settle
-take
-run
-settle
-collect 1
-collect 2
-end 20
-",
+    trace: test_support::CROSSING,
     report: "row 2.0 2.1 mset 2b4f4b0d0a
 row 2.1 1.1 mset 2b4f4b0d0a
 key 61 string 31
@@ -50,26 +23,7 @@ agree
 /// MSET a 1 c 2 starves, and GET a finds nothing.
 pub(crate) const STARVED: Row = Row {
     name: "starved",
-    trace: "shardkv-trace 1
-max 50
-open
-submit 1 4d534554 61 31 63 32
-deliver 0
-deliver 0
-deliver 0
-deliver 0
-take
-run 1.1
-settle
-collect 1
-submit 1 474554 61
-deliver 0
-take
-run
-settle
-collect 1
-end 16
-",
+    trace: test_support::STARVED,
     report: "row 2.0 1.2 get 242d310d0a
 starved 1.1
 agree

@@ -1,12 +1,12 @@
 //! What a watcher of a replay is told: each step once, of all that the trace has, and then that it is at its end.
 
-use crate::traces::{CROSSING, TABLE};
+use crate::traces::CROSSING;
 use replay::{Progress, ShowFault, told_watched};
 use shard_workers::InTurn;
 use std::alloc::Global;
 use std::num::NonZeroUsize;
 use std::test::Fail;
-use test_support::{Sink, holds, same_bytes, same_count, same_number};
+use test_support::{Sink, TWO_SHARDS, holds, same_bytes, same_count, same_number};
 
 const ONE: InTurn = InTurn(NonZeroUsize::MIN);
 
@@ -57,7 +57,7 @@ fn watched(
         late: 0,
     };
     let mut sink = Sink::new(alloc, 100);
-    let (table, trace) = (TABLE.as_bytes(), trace.as_bytes());
+    let (table, trace) = (TWO_SHARDS.as_bytes(), trace.as_bytes());
     let ended = told_watched(alloc, table, trace, &ONE, &mut watcher, &mut sink);
     was_told(&watcher, made, all)?;
     same_bytes("the report", sink.taken.as_slice(), report.as_bytes())?;

@@ -1,6 +1,6 @@
 //! A writer that fails at one of its calls.
 
-use crate::traces::{CROSSING, TABLE};
+use crate::traces::CROSSING;
 use replay::show;
 use shard_workers::InTurn;
 use std::alloc::Global;
@@ -8,7 +8,7 @@ use std::io;
 use std::io::{ErrorKind, Write};
 use std::num::NonZeroUsize;
 use std::test::Fail;
-use test_support::{NEVER, same_bytes, same_count, same_number};
+use test_support::{NEVER, TWO_SHARDS, same_bytes, same_count, same_number};
 
 /// How many bytes a write takes at most.
 const MOST: usize = 10;
@@ -66,7 +66,7 @@ fn ends_with(
     calls: usize,
 ) -> Result<(), Fail> {
     let mut writer = Failing::new(alloc, fails_at);
-    let (table, trace) = (TABLE.as_bytes(), CROSSING.trace.as_bytes());
+    let (table, trace) = (TWO_SHARDS.as_bytes(), CROSSING.trace.as_bytes());
     let ended = show(alloc, table, trace, &InTurn(NonZeroUsize::MIN), &mut writer);
     same_number("the status", u64::from(ended), u64::from(status))?;
     same_bytes("what was taken", writer.taken.as_slice(), taken)?;

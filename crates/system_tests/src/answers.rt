@@ -24,8 +24,21 @@ pub(crate) struct Row {
     pub script: &'static str,
 }
 
+/// Follows the script of each row in a new system.
+pub(crate) fn follow_rows<W: Workers>(
+    rt: &impl Abort,
+    alloc: Global,
+    rows: &[Row],
+    workers: &W,
+) -> Result<(), Trouble> {
+    for row in rows {
+        follow_row(rt, alloc, *row, workers)?;
+    }
+    Ok(())
+}
+
 /// Follows a row's script in a new system.
-pub(crate) fn follow_row<W: Workers>(
+fn follow_row<W: Workers>(
     rt: &impl Abort,
     alloc: Global,
     row: Row,
@@ -101,12 +114,27 @@ fn made<W: Workers>(
     workers: &W,
 ) -> Result<String, Trouble> {
     let before = state(alloc, system)?;
-    let (effects, fault) = system.run(steps_of(alloc, list)?, workers, &Open);
-    if effects.is_empty() && !matches!(fault, Some(StepFault::Failed)) {
-        let after = state(alloc, system)?;
-        assert_same(rt, list, after.as_str(), before.as_str());
+    let steps = steps_of(alloc, list)?;
+    let (effects, fault) = system.run(steps, workers, &Open);
+    let none_made = effects.is_empty() && !matches!(fault, Some(StepFault::Failed));
+    let told = effects_and_fault(alloc, effects, fault);
+    if none_made {
+        assert_unchanged(rt, alloc, system, list, before.as_str())?;
     }
-    effects_and_fault(alloc, effects, fault)
+    told
+}
+
+/// All that can be looked at is as it was before; else the test ends.
+pub(crate) fn assert_unchanged(
+    rt: &impl Abort,
+    alloc: Global,
+    system: &System,
+    said: &str,
+    before: &str,
+) -> Result<(), Trouble> {
+    let after = state(alloc, system)?;
+    assert_same(rt, said, after.as_str(), before);
+    Ok(())
 }
 
 fn effects_and_fault(
@@ -115,16 +143,23 @@ fn effects_and_fault(
     fault: Option<StepFault>,
 ) -> Result<String, Trouble> {
     let mut text = String::new(alloc);
-    for effect in effects {
-        part(&mut text)?;
-        push_effect(alloc, &mut text, &effect)?;
-        discard(effect);
-    }
+    let pushed = push_effects(alloc, &mut text, effects.as_slice());
+    discard(effects);
+    pushed?;
     if let Some(fault) = fault {
         part(&mut text)?;
         push_fault(&mut text, fault)?;
     }
     Ok(text)
+}
+
+/// Adds what steps came to.
+fn push_effects(alloc: Global, text: &mut String, effects: &[Effect]) -> Result<(), Trouble> {
+    for effect in effects {
+        part(text)?;
+        push_effect(alloc, text, effect)?;
+    }
+    Ok(())
 }
 
 /// Adds `; ` behind what is there, if something is.
@@ -189,13 +224,22 @@ pub(crate) fn ask<W: Workers>(
     asked: &str,
     workers: &W,
 ) -> Result<String, Trouble> {
-    let (conn, _) = first_word(asked);
     let submit = format!(in alloc; "submit {asked}")?;
-    let collect = format!(in alloc; "collect {conn}")?;
-    make(alloc, system, submit.as_str(), workers)?;
+    discard(make(alloc, system, submit.as_str(), workers)?);
     deliver_all(system, workers)?;
     run_layers(alloc, system, workers)?;
-    make(alloc, system, collect.as_str(), workers)
+    collect(alloc, system, first_word(asked).0, workers)
+}
+
+/// Collects at the connection of this number. What was collected.
+fn collect<W: Workers>(
+    alloc: Global,
+    system: &mut System,
+    conn: &str,
+    workers: &W,
+) -> Result<String, Trouble> {
+    let words = format!(in alloc; "collect {conn}")?;
+    make(alloc, system, words.as_str(), workers)
 }
 
 /// Makes a step, which is made, and tells what it came to.
@@ -205,10 +249,12 @@ pub(crate) fn make<W: Workers>(
     words: &str,
     workers: &W,
 ) -> Result<String, Trouble> {
-    let effect = system.step(step_of(alloc, words)?, workers, &Open)?;
+    let step = step_of(alloc, words)?;
+    let effect = system.step(step, workers, &Open)?;
     let mut text = String::new(alloc);
-    push_effect(alloc, &mut text, &effect)?;
+    let pushed = push_effect(alloc, &mut text, &effect);
     discard(effect);
+    pushed?;
     Ok(text)
 }
 
@@ -233,9 +279,15 @@ pub(crate) fn run_layers<W: Workers>(
         if system.quiet() {
             return Ok(());
         }
-        for words in &["take", "run", "settle"] {
-            make(alloc, system, words, workers)?;
-        }
+        run_layer(alloc, system, workers)?;
     }
     Err("layers are left".into())
+}
+
+/// Takes, runs and settles a layer.
+fn run_layer<W: Workers>(alloc: Global, system: &mut System, workers: &W) -> Result<(), Trouble> {
+    for words in &["take", "run", "settle"] {
+        make(alloc, system, words, workers)?;
+    }
+    Ok(())
 }

@@ -6,6 +6,7 @@ use crate::tables::system_of;
 use crate::trouble::Trouble;
 use crate::wording::{by_stamp, push_rows};
 use command_table::read;
+use groups::RequestId;
 use journal::{Row, Rows};
 use resp::{Reply, write_reply};
 use router::Outcome;
@@ -18,23 +19,10 @@ use std::num::NonZeroUsize;
 use std::process::Abort;
 use std::test::Fail;
 use system::{Effect, StepFault, System};
-use test_support::same_text;
+use test_support::{Dice, same_text};
 
-/// Marsaglia's xorshift: numbers that look like chance, and are the same in each run.
-#[derive(Drop)]
-struct Dice {
-    state: u64,
-}
-
-impl Dice {
-    /// A number below `count`, or 0.
-    fn below(&mut self, count: u64) -> u64 {
-        self.state ^= self.state << 13;
-        self.state ^= self.state >> 7;
-        self.state ^= self.state << 17;
-        if count == 0 { 0 } else { self.state % count }
-    }
-}
+/// One store on one map.
+type Store = Solo<BuildHasherDefault<FoldHasher>>;
 
 /// How many connections ask.
 const CONNECTIONS: u64 = 8;
@@ -121,20 +109,30 @@ fn make_or_not<W: Workers>(
     words: &str,
     workers: &W,
 ) -> Result<(), Trouble> {
-    match system.step(step_of(alloc, words)?, workers, &Open) {
-        Ok(Effect::Collected(Some(outcome))) => {
-            look_at_reply(rt, alloc, system.rows(), &outcome)?;
-            discard(outcome);
-            Ok(())
-        }
+    let step = step_of(alloc, words)?;
+    match system.step(step, workers, &Open) {
         Ok(effect) => {
+            let looked = look_at_effect(rt, alloc, system.rows(), &effect);
             discard(effect);
-            Ok(())
+            looked
         }
         Err(StepFault::Exhausted | StepFault::Memory | StepFault::Failed) => {
             Err("not the step's own fault".into())
         }
         Err(_) => Ok(()),
+    }
+}
+
+/// Looks at the reply, if one was collected.
+fn look_at_effect(
+    rt: &impl Abort,
+    alloc: Global,
+    rows: &Rows,
+    effect: &Effect,
+) -> Result<(), Trouble> {
+    match effect {
+        Effect::Collected(Some(outcome)) => look_at_reply(rt, alloc, rows, outcome),
+        _ => Ok(()),
     }
 }
 
@@ -148,14 +146,21 @@ fn look_at_reply(
     if outcome.stamp.is_none() {
         return Ok(());
     }
+    let place = place_in(rows, outcome.id).ok_or("a request without a row")?;
+    let row = rows.row(place).ok_or("no such row")?;
+    assert_reply(rt, alloc, &row, &outcome.reply)
+}
+
+/// The place of a request's row.
+fn place_in(rows: &Rows, id: RequestId) -> Option<usize> {
     for place in 0..rows.len() {
         if let Some(row) = rows.row(place) {
-            if row.id() == outcome.id {
-                return assert_reply(rt, alloc, &row, &outcome.reply);
+            if row.id() == id {
+                return Some(place);
             }
         }
     }
-    Err("a request without a row".into())
+    None
 }
 
 /// This is the reply of the row.
@@ -181,9 +186,7 @@ fn play<W: Workers>(
     for _ in 0..CONNECTIONS {
         make(alloc, system, "open", workers)?;
     }
-    let mut dice = Dice {
-        state: 88_172_645_463_325_252,
-    };
+    let mut dice = Dice::new(88_172_645_463_325_252);
     for _ in 0..10_000u32 {
         let words = some_step(alloc, system.packets(), &mut dice)?;
         make_or_not(rt, alloc, system, words.as_str(), workers)?;
@@ -218,45 +221,71 @@ fn is_counted(places: &[usize]) -> bool {
     true
 }
 
+/// Looks whether the reply of the row at this place is what one store gives now.
+fn look_at_row(
+    rt: &impl Abort,
+    alloc: Global,
+    one: &mut Store,
+    rows: &Rows,
+    place: usize,
+) -> Result<(), Trouble> {
+    let row = rows.row(place).ok_or("no such row")?;
+    match read(row.request(alloc)?) {
+        Ok(command) => assert_reply(rt, alloc, &row, &one.run(command)),
+        Err(_) => Err("a refused request".into()),
+    }
+}
+
 /// Looks whether the replies are those of one store that runs the executed requests in the order of these places, which
 /// are ascending by stamp.
 fn look_at_rows(
     rt: &impl Abort,
     alloc: Global,
+    one: &mut Store,
     rows: &Rows,
-    places: Vec<usize>,
+    places: &[usize],
 ) -> Result<(), Trouble> {
-    let mut one = Solo::new(alloc, BuildHasherDefault::<FoldHasher>::new());
     for place in places {
-        let row = rows.row(place).ok_or("no such row")?;
-        let Ok(command) = read(row.request(alloc)?) else {
-            return Err("a refused request".into());
-        };
-        assert_reply(rt, alloc, &row, &one.run(command))?;
+        look_at_row(rt, alloc, one, rows, *place)?;
     }
     Ok(())
 }
 
-/// Plays in a new system of four shards.
-fn played<W: Workers>(rt: &impl Abort, alloc: Global, workers: &W) -> Result<System, Trouble> {
-    let mut system = system_of(alloc, 4, 1_000_000)?;
-    play(rt, alloc, &mut system, workers)?;
-    Ok(system)
-}
-
-/// What was played is at rest, and its rows, more than 300 and not executed in the order of their stamps, are answered
-/// as by one store. All rows as text.
-fn rows_of(rt: &impl Abort, alloc: Global, system: &System) -> Result<String, Trouble> {
-    assert!(rt; system.quiet(), "something is under way");
-    assert!(rt; system.rows().len() > 300, "few requests");
-    assert!(rt; system.starved().is_empty(), "a request starved");
-    let places = by_stamp(alloc, system.rows())?;
+/// The rows, more than 300 and not executed in the order of their stamps, are answered as by one new store.
+fn assert_as_one(rt: &impl Abort, alloc: Global, rows: &Rows) -> Result<(), Trouble> {
+    assert!(rt; rows.len() > 300, "few requests");
+    let places = by_stamp(alloc, rows)?;
     let counted = is_counted(places.as_slice());
     assert!(rt; !counted, "executed in the order of stamps");
-    look_at_rows(rt, alloc, system.rows(), places)?;
+    let mut one = Solo::new(alloc, BuildHasherDefault::<FoldHasher>::new());
+    look_at_rows(rt, alloc, &mut one, rows, places.as_slice())
+}
+
+/// What was played is at rest, and its rows are those of one store. All rows as text.
+fn rows_of(rt: &impl Abort, alloc: Global, system: &System) -> Result<String, Trouble> {
+    assert!(rt; system.quiet(), "something is under way");
+    assert!(rt; system.starved().is_empty(), "a request starved");
+    assert_as_one(rt, alloc, system.rows())?;
     let mut text = String::new(alloc);
     push_rows(alloc, &mut text, system.rows())?;
     Ok(text)
+}
+
+/// Plays in a system, and looks at its rows. All rows as text.
+fn rows_in<W: Workers>(
+    rt: &impl Abort,
+    alloc: Global,
+    system: &mut System,
+    workers: &W,
+) -> Result<String, Trouble> {
+    play(rt, alloc, system, workers)?;
+    rows_of(rt, alloc, system)
+}
+
+/// Plays in a new system of four shards. All rows as text.
+fn played<W: Workers>(rt: &impl Abort, alloc: Global, workers: &W) -> Result<String, Trouble> {
+    let mut system = system_of(alloc, 4, 1_000_000)?;
+    rows_in(rt, alloc, &mut system, workers)
 }
 
 /// Plays by these workers: the rows are to be the same.
@@ -266,19 +295,17 @@ fn same_rows<W: Workers>(
     workers: &W,
     first: &str,
 ) -> Result<(), Fail> {
-    let system = played(rt, alloc, workers)?;
-    let rows = rows_of(rt, alloc, &system)?;
+    let rows = played(rt, alloc, workers)?;
     same_text("the rows of several workers", rows.as_str(), first)
 }
 
 #[test]
 fn as_one_store_in_the_order_of_stamps(rt: HostRuntime) -> Result<(), Fail> {
-    let alloc = rt.alloc();
-    let first = rows_of(&rt, alloc, &played(&rt, alloc, &InTurn(NonZeroUsize::MIN))?)?;
+    let first = played(&rt, rt.alloc(), &InTurn(NonZeroUsize::MIN))?;
     for number in [2, 8] {
         let number = NonZeroUsize::new(number).ok_or("a number of workers")?;
-        same_rows(&rt, alloc, &InTurn(number), first.as_str())?;
-        same_rows(&rt, alloc, &Crew::new(&rt, number), first.as_str())?;
+        same_rows(&rt, rt.alloc(), &InTurn(number), first.as_str())?;
+        same_rows(&rt, rt.alloc(), &Crew::new(&rt, number), first.as_str())?;
     }
     Ok(())
 }

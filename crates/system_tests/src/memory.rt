@@ -3,7 +3,7 @@
 //! Where all succeed these tests say no more than others do. They are meant to be run with each allocation failing in
 //! turn.
 
-use crate::answers::{answer, assert_same, discard, follow, state};
+use crate::answers::{answer, assert_same, assert_unchanged, discard, follow, state};
 use crate::steps::{first_word, step_of};
 use crate::tables::system_of;
 use crate::trouble::Trouble;
@@ -131,6 +131,12 @@ fn push_said(text: &mut String, said: &str) -> Result<(), Trouble> {
     Ok(())
 }
 
+/// Adds what is looked at and what it is.
+fn push_looked(text: &mut String, said: &str, answered: &str) -> Result<(), Trouble> {
+    push_said(text, said)?;
+    Ok(text.push_str(answered)?)
+}
+
 /// Adds a line: what is looked at, or a step and what it came to.
 fn push_line<W: Workers>(
     rt: &impl Abort,
@@ -143,16 +149,12 @@ fn push_line<W: Workers>(
 ) -> Result<(), Trouble> {
     if matches!(first_word(said).0, "rows" | "row" | "starved") {
         let answered = answer(rt, alloc, system, said, workers)?;
-        push_said(text, said)?;
-        return Ok(text.push_str(answered.as_str())?);
+        return push_looked(text, said, answered.as_str());
     }
-    match made_at_last(rt, alloc, system, said, wanted, workers)? {
-        Ok(effect) => push_made(alloc, text, said, effect),
-        Err(fault) => {
-            push_said(text, said)?;
-            push_fault(text, fault)
-        }
-    }
+    let made = made_at_last(rt, alloc, system, said, wanted, workers)?;
+    let pushed = push_made(alloc, text, said, &made);
+    discard(made);
+    pushed
 }
 
 /// Makes a step. Where it is refused for want of memory, nothing has changed, and it is made again.
@@ -165,14 +167,15 @@ fn made_at_last<W: Workers>(
     workers: &W,
 ) -> Result<Result<Effect, StepFault>, Trouble> {
     let before = state(alloc, system)?;
-    match system.step(step_of(alloc, said)?, workers, &Open) {
-        Err(StepFault::Memory) => (),
+    let step = step_of(alloc, said)?;
+    match system.step(step, workers, &Open) {
+        Err(StepFault::Memory) => {}
         made => return Ok(made),
     }
     assert!(rt; !is_own_fault(wanted), "{said} was refused for memory");
-    let after = state(alloc, system)?;
-    assert_same(rt, said, after.as_str(), before.as_str());
-    Ok(system.step(step_of(alloc, said)?, workers, &Open))
+    assert_unchanged(rt, alloc, system, said, before.as_str())?;
+    let step = step_of(alloc, said)?;
+    Ok(system.step(step, workers, &Open))
 }
 
 /// Whether this is the name of a fault that comes before want of memory.
@@ -183,16 +186,30 @@ fn is_own_fault(answer: &str) -> bool {
     )
 }
 
+/// Adds a step and what it came to, or why it wasn't made.
+fn push_made(
+    alloc: Global,
+    text: &mut String,
+    said: &str,
+    made: &Result<Effect, StepFault>,
+) -> Result<(), Trouble> {
+    match made {
+        Ok(effect) => push_told(alloc, text, said, effect),
+        Err(fault) => {
+            push_said(text, said)?;
+            push_fault(text, *fault)
+        }
+    }
+}
+
 /// Adds a step and what it came to. A run in which requests starved is told to let them starve.
-fn push_made(alloc: Global, text: &mut String, said: &str, effect: Effect) -> Result<(), Trouble> {
+fn push_told(alloc: Global, text: &mut String, said: &str, effect: &Effect) -> Result<(), Trouble> {
     text.push_str(said)?;
-    if let Effect::Ran(starved) = &effect {
+    if let Effect::Ran(starved) = effect {
         push_ids(text, starved.as_slice())?;
     }
     text.push_str(" => ")?;
-    push_effect(alloc, text, &effect)?;
-    discard(effect);
-    Ok(())
+    push_effect(alloc, text, effect)
 }
 
 /// Follows the script in a new system. Where no request starved, all is as if memory had always been there; where one
@@ -210,8 +227,19 @@ fn attempt<W: Workers>(
         assert_same(rt, "all steps", again.as_str(), script);
         return Ok(());
     }
+    follow_anew(rt, alloc, max_steps, again.as_str(), workers)
+}
+
+/// Follows a script in a new system.
+fn follow_anew<W: Workers>(
+    rt: &impl Abort,
+    alloc: Global,
+    max_steps: u64,
+    script: &str,
+    workers: &W,
+) -> Result<(), Trouble> {
     let mut told = system_of(alloc, 2, max_steps)?;
-    follow(rt, alloc, &mut told, again.as_str(), workers)
+    follow(rt, alloc, &mut told, script, workers)
 }
 
 /// Follows the script, and once more where an allocation of the test's own failed.

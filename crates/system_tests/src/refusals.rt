@@ -1,12 +1,15 @@
 //! When a step isn't made, and what then is as it was.
 
-use crate::answers::{Row, follow, follow_row};
+use crate::answers::{Row, follow, follow_rows};
 use crate::tables::system_of;
+use crate::trouble::Trouble;
 use placement::Table;
 use shard_workers::{Gate, InTurn, Part, Ran, Refused, Room, Workers};
 use std::alloc::{AllocError, Global};
 use std::num::NonZeroUsize;
+use std::process::Abort;
 use std::test::Fail;
+use system::System;
 
 const ONE: InTurn = InTurn(NonZeroUsize::MIN);
 
@@ -158,7 +161,7 @@ collect 1; collect 2; close 1 => 1.1 at 1.0 +OK|; NoConn
 close 1 => made",
 };
 
-pub(crate) const REFUSALS: [Row; 7] = [
+const REFUSALS: [Row; 7] = [
     BUSY,
     NO_CONN,
     NO_PACKET,
@@ -170,9 +173,7 @@ pub(crate) const REFUSALS: [Row; 7] = [
 
 #[test]
 fn steps_are_refused_in_turn(rt: HostRuntime) -> Result<(), Fail> {
-    for row in REFUSALS {
-        follow_row(&rt, rt.alloc(), row, &ONE)?;
-    }
+    follow_rows(&rt, rt.alloc(), &REFUSALS, &ONE)?;
     Ok(())
 }
 
@@ -232,11 +233,15 @@ row 0 => 1.1 at 1.0 SET b 0 +OK|
 starved => 0:
 steps => 13";
 
+fn fails_for_good(rt: &impl Abort, alloc: Global, system: &mut System) -> Result<(), Trouble> {
+    follow(rt, alloc, system, BEFORE_THE_START, &Unwilling)?;
+    follow(rt, alloc, system, "run => Failed", &Unwilling)?;
+    follow(rt, alloc, system, AFTER_THE_START, &ONE)
+}
+
 #[test]
 fn a_refused_start_is_for_good(rt: HostRuntime) -> Result<(), Fail> {
     let mut system = system_of(rt.alloc(), 2, 1000)?;
-    follow(&rt, rt.alloc(), &mut system, BEFORE_THE_START, &Unwilling)?;
-    follow(&rt, rt.alloc(), &mut system, "run => Failed", &Unwilling)?;
-    follow(&rt, rt.alloc(), &mut system, AFTER_THE_START, &ONE)?;
+    fails_for_good(&rt, rt.alloc(), &mut system)?;
     Ok(())
 }

@@ -1,7 +1,7 @@
 //! Scripts on small systems, followed by workers of every kind. With two shards `a`, `b` and `y` lie on shard 0, and
 //! `c`, `d`, `x` and `z` on shard 1.
 
-use crate::answers::{Row, follow_row};
+use crate::answers::{Row, follow_rows};
 use shard_crew::Crew;
 use shard_workers::InTurn;
 use std::num::NonZeroUsize;
@@ -408,22 +408,18 @@ const ROWS: [Row; 17] = [
 
 #[test]
 fn scripts_are_answered_in_turn(rt: HostRuntime) -> Result<(), Fail> {
-    for row in ROWS {
-        for number in [1, 2, 8] {
-            let number = NonZeroUsize::new(number).ok_or("a number of workers")?;
-            follow_row(&rt, rt.alloc(), row, &InTurn(number))?;
-        }
+    for number in [1, 2, 8] {
+        let number = NonZeroUsize::new(number).ok_or("a number of workers")?;
+        follow_rows(&rt, rt.alloc(), &ROWS, &InTurn(number))?;
     }
     Ok(())
 }
 
 #[test]
 fn scripts_are_answered_on_threads(rt: HostRuntime) -> Result<(), Fail> {
-    for row in ROWS {
-        for number in [1, 2, 8] {
-            let number = NonZeroUsize::new(number).ok_or("a number of workers")?;
-            follow_row(&rt, rt.alloc(), row, &Crew::new(&rt, number))?;
-        }
+    for number in [1, 2, 8] {
+        let number = NonZeroUsize::new(number).ok_or("a number of workers")?;
+        follow_rows(&rt, rt.alloc(), &ROWS, &Crew::new(&rt, number))?;
     }
     Ok(())
 }

@@ -3,7 +3,7 @@
 use crate::trouble::Trouble;
 use groups::{RequestId, Stamp};
 use journal::{Row, Rows};
-use resp::write_reply;
+use resp::{Request, write_reply};
 use router::Outcome;
 use std::alloc::Global;
 use system::{Effect, StepFault};
@@ -100,11 +100,18 @@ pub(crate) fn push_row(alloc: Global, text: &mut String, row: &Row<'_>) -> Resul
     push_id(text, &row.id())?;
     text.push(' ')?;
     push_stamp(text, row.stamp())?;
-    for word in row.request(alloc)?.into_words() {
-        push_reply(text, word.as_slice())?;
+    let request = row.request(alloc)?;
+    push_words(text, &request)?;
+    push_reply(text, row.reply())
+}
+
+/// Adds the words of a request, a blank behind each.
+fn push_words(text: &mut String, request: &Request) -> Result<(), Trouble> {
+    for place in 0..request.len() {
+        push_reply(text, request.word(place))?;
         text.push(' ')?;
     }
-    push_reply(text, row.reply())
+    Ok(())
 }
 
 /// Adds all rows in the order of execution.
@@ -120,16 +127,22 @@ pub(crate) fn push_rows(alloc: Global, text: &mut String, rows: &Rows) -> Result
 
 /// The places of the rows, from 0, ascending by their stamps.
 pub(crate) fn by_stamp(alloc: Global, rows: &Rows) -> Result<Vec<usize>, Trouble> {
-    let mut stamps = Vec::new(alloc);
-    for place in 0..rows.len() {
-        if let Some(row) = rows.row(place) {
-            stamps.push((row.stamp().clock, row.stamp().group.number(), place))?;
-        }
-    }
+    let mut stamps = stamps_of(alloc, rows)?;
     stamps.sort()?;
     let mut places = Vec::new(alloc);
     for (_, _, place) in stamps {
         places.push(place)?;
     }
     Ok(places)
+}
+
+/// The clock, the group and the place of each row's stamp.
+fn stamps_of(alloc: Global, rows: &Rows) -> Result<Vec<(u64, u8, usize)>, Trouble> {
+    let mut stamps = Vec::new(alloc);
+    for place in 0..rows.len() {
+        if let Some(row) = rows.row(place) {
+            stamps.push((row.stamp().clock, row.stamp().group.number(), place))?;
+        }
+    }
+    Ok(stamps)
 }
