@@ -2,9 +2,9 @@
 """Each growth refused in turn: growths.py PROGRAMS REFUSE [NAME ..]
 
 PROGRAMS is a folder with the programs shardkv_solo, shardkv_server, shardkv_replay and shardkv_picture, each in
-NAME/out/NAME, as the gate leaves them. REFUSE is the library that refuse.c becomes. Each program is run with the Nth block
-of memory that it asks for refused, N from 1 until a run meets no refusal; then with that block and all behind it, or, of a server,
-those of a streak.
+NAME/out/NAME, and the programs of unit tests, NAME/out/NAME_tests, as the gate leaves them. REFUSE is the library that refuse.c
+becomes. Each program is run with the Nth block of memory that it asks for refused, N from 1 until a run meets no refusal; then with
+that block and all behind it, or, of a server, those of a streak.
 
 - `solo`: each reply is the error line for want of memory, or what a store answers that is asked the other requests alone.
   Where the store ends for want of memory, its replies are the beginning of such a list.
@@ -39,6 +39,24 @@ SERVER = [
     (0, "MSET a 1 c 2"), (1, "MSET a 3 c 4"), (0, "GET a"), (1, "GET c"),
     (0, "INCR a"), (0, "RPUSH y 1 2 3"), (1, "LMOVE y x LEFT RIGHT"), (0, "SADD z m n"), (1, "SINTERSTORE b z z"),
     (0, "RENAME a d"), (1, "HSET h f 1"), (0, "MGET a c d"), (1, "SMEMBERS b"), (1, "LRANGE y 0 -1"), (0, "DBSIZE"),
+]
+
+# Unit tests that are written for a block that is refused: they try again where it was one of their own.
+TESTS = [
+    ("data_tests", "decoder::goes_on_where_memory_was_refused"),
+    ("solo_tests", "connections::replies_are_whole_where_memory_fails"),
+    ("layer_tests", "memory::one_in_turn_where_memory_fails"),
+    ("layer_tests", "memory::two_in_turn_where_memory_fails"),
+    ("layer_tests", "memory::a_crew_where_memory_fails"),
+    ("system_tests", "memory::crossing_where_memory_fails"),
+    ("system_tests", "memory::crossing_by_two_where_memory_fails"),
+    ("system_tests", "memory::same_key_twice_where_memory_fails"),
+    ("system_tests", "memory::own_faults_come_before_memory"),
+    ("replay_tests", "memory::traces_are_read_and_written_where_memory_fails"),
+    ("replay_tests", "memory::a_system_is_dumped_where_memory_fails"),
+    ("replay_tests", "memory::a_store_on_one_map_is_dumped_where_memory_fails"),
+    ("replay_tests", "memory::reports_come_whole_where_memory_fails"),
+    ("replay_tests", "memory::reports_of_a_crew_come_whole_where_memory_fails"),
 ]
 
 # How many blocks a server is refused in a row: then there is memory again, and each request that was let in comes to its end.
@@ -107,11 +125,16 @@ class Plain:
         return []
 
 
-def each_refusal(programs, run, streak=None):
-    """Runs with each block refused alone, and then with each one and all behind it, or with one streak behind another, until none is met:
-    how far that went, how many runs met a refusal, and the faults. `run` says what is wrong."""
+# Which blocks are refused, by how much later those of the next run begin and how many they are: each alone; each and all behind it; one streak
+# behind another.
+ALONE, ALL_BEHIND, STREAKS = (1, 1), (1, None), (STREAK, STREAK)
+
+
+def each_refusal(programs, run, *ways):
+    """Runs with blocks refused in each of these ways, until none is met: how far that went, how many runs met a refusal, and the faults.
+    `run` says what is wrong."""
     faults, refusals, far = [], 0, 0
-    for step, size in ((1, 1), (streak or 1, streak)):
+    for step, size in ways:
         number, meets = 1, True
         while meets:
             which = f"{number}..{number + size - 1 if size else ''}"
@@ -135,7 +158,7 @@ def solo(programs, plain, text):
         if ran.returncode not in (0, *STATUSES["solo"]) or (ran.returncode == 0 and len(said) != len(asked)):
             wrong.append(f"status {ran.returncode} behind {len(said)} replies")
         return wrong
-    return each_refusal(programs, run)
+    return each_refusal(programs, run, ALONE, ALL_BEHIND)
 
 
 def whole_or_refused(programs, name, words):
@@ -149,7 +172,17 @@ def whole_or_refused(programs, name, words):
         else:
             wrong = [] if (ran.returncode, ran.stdout) == (wanted.returncode, wanted.stdout) else [f"status {ran.returncode}, other output"]
         return wrong
-    return each_refusal(programs, run)
+    return each_refusal(programs, run, ALONE, ALL_BEHIND)
+
+
+def unit_test(programs, crate, name):
+    """A unit test that is written for a block that is refused, and so passes whichever it is."""
+    program = os.path.join(programs.folder, crate, "out", f"{crate}_tests")
+
+    def run(which):
+        ran = subprocess.run([program, name], capture_output=True, env=programs.refusing(which), timeout=60)
+        return [] if ran.returncode == 0 and ran.stdout.strip() == b"test result: ok" else [f"status {ran.returncode}: {ran.stdout}{ran.stderr}"]
+    return each_refusal(programs, run, ALONE)
 
 
 class Asking:
@@ -203,7 +236,7 @@ def server(programs, plain, workers):
         if status == 0 or os.path.exists(trace):
             wrong += replayed(programs, trace, workers)
         return wrong
-    return each_refusal(programs, run, STREAK)
+    return each_refusal(programs, run, ALONE, STREAKS)
 
 
 def cases(programs):
@@ -213,6 +246,8 @@ def cases(programs):
         yield f"solo {number}", lambda text=text: solo(programs, plain, text)
     for workers in (1, 2):
         yield f"replay {workers}", lambda workers=workers: whole_or_refused(programs, "replay", [*crossing, "--workers", str(workers)])
+    for crate, name in TESTS:
+        yield f"{crate} {name}", lambda crate=crate, name=name: unit_test(programs, crate, name)
     yield "picture", lambda: whole_or_refused(programs, "picture", crossing)
     for workers in (1, 2):
         yield f"server {workers}", lambda workers=workers: server(programs, plain, workers)
