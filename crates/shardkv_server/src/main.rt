@@ -6,9 +6,6 @@
 //! wanting, or a thread couldn't be started. What went wrong is told on standard error.
 #![tactic(auto)]
 
-#[cfg(test)]
-mod tests;
-
 use options::server::{Options, read_options};
 use placement::{Table, TableFault};
 use server::host;
