@@ -25,11 +25,11 @@ fn stand_behind(alloc: Global, row: &Given) -> Result<(), Fail> {
     let (given, replies) = *row;
     let line = format!(in alloc; "behind {given}")?;
     let input = requests_of(alloc, INPUT)?;
+    let wanted = bytes_of(alloc, replies)?;
     let mut reader = Source::new(&input, 1);
     reader.fails_at = given;
     let mut output = Vec::new(alloc);
     let ended = empty_store(alloc).serve(&mut reader, &mut output);
-    let wanted = bytes_of(alloc, replies)?;
     came(line.as_str(), (&ended, &output), (&READ, &wanted))
 }
 
@@ -55,12 +55,17 @@ fn stands(alloc: Global, replies: &[u8], room: usize, fails_at: usize) -> Result
     came(line.as_str(), (&ended, &output.taken), (&WRITE, replies))
 }
 
+/// Each beginning of these replies stands where the write behind it fails, or takes nothing.
+fn each_stands(alloc: Global, replies: &[u8]) -> Result<(), Fail> {
+    for written in 0..replies.len() {
+        stands(alloc, &replies[..written], written, NEVER)?;
+        stands(alloc, &replies[..written], NEVER, written)?;
+    }
+    Ok(())
+}
+
 #[test]
 fn a_beginning_stands_where_a_write_fails(rt: HostRuntime) -> Result<(), Fail> {
     let replies = bytes_of(rt.alloc(), REPLIES)?;
-    for written in 0..replies.len() {
-        stands(rt.alloc(), &replies[..written], written, NEVER)?;
-        stands(rt.alloc(), &replies[..written], NEVER, written)?;
-    }
-    Ok(())
+    each_stands(rt.alloc(), &replies)
 }

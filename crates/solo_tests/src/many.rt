@@ -1,6 +1,6 @@
 //! Many requests, and large ones.
 
-use crate::store::{Row, answers, empty_store};
+use crate::store::{Row, Store, answers, answers_text, empty_store};
 use std::alloc::{AllocError, Global};
 use std::test::Fail;
 use test_support::{bytes_of, requests_of};
@@ -44,18 +44,31 @@ fn filled(alloc: Global, text: &str, numbers: (u32, u32), step: u32) -> Result<S
     Ok(filled)
 }
 
-/// Has an empty store answer these in turn.
-fn answer_numbered(alloc: Global, rows: &[Numbered]) -> Result<(), Fail> {
-    let mut store = empty_store(alloc);
+/// Has the store answer this row.
+fn answers_numbered(alloc: Global, store: &mut Store, row: &Numbered) -> Result<(), Fail> {
+    let numbers = (row.first, row.end);
+    let requests = filled(alloc, row.requests, numbers, row.step)?;
+    let replies = filled(alloc, row.replies, numbers, 1)?;
+    answers_text(
+        store,
+        alloc,
+        row.requests,
+        requests.as_str(),
+        replies.as_str(),
+    )
+}
+
+/// Has the store answer these in turn.
+fn answers_each(alloc: Global, store: &mut Store, rows: &[Numbered]) -> Result<(), Fail> {
     for row in rows {
-        let numbers = (row.first, row.end);
-        let requests = filled(alloc, row.requests, numbers, row.step)?;
-        let replies = filled(alloc, row.replies, numbers, 1)?;
-        let input = requests_of(alloc, requests.as_str())?;
-        let wanted = bytes_of(alloc, replies.as_str())?;
-        answers(&mut store, alloc, row.requests, &input, &wanted)?;
+        answers_numbered(alloc, store, row)?;
     }
     Ok(())
+}
+
+/// Has an empty store answer these in turn.
+fn answer_numbered(alloc: Global, rows: &[Numbered]) -> Result<(), Fail> {
+    answers_each(alloc, &mut empty_store(alloc), rows)
 }
 
 const TWO_THOUSAND: [Numbered; 1] = [Numbered {
@@ -166,18 +179,37 @@ fn append(out: &mut Vec<u8>, bytes: &[u8], mark: &[u8], value: &[u8]) -> Result<
     }
 }
 
+/// The requests of these rows, with the value in them.
+fn requests_with(alloc: Global, rows: &[Row], value: &[u8]) -> Result<Vec<u8>, AllocError> {
+    let mut requests = Vec::new(alloc);
+    for (request, _) in rows {
+        let sent = requests_of(alloc, request)?;
+        append(&mut requests, &sent, b"$1\r\n@\r\n", value)?;
+    }
+    Ok(requests)
+}
+
+/// The replies of these rows, with the value in them.
+fn replies_with(alloc: Global, rows: &[Row], value: &[u8]) -> Result<Vec<u8>, AllocError> {
+    let mut replies = Vec::new(alloc);
+    for (_, reply) in rows {
+        let bytes = bytes_of(alloc, reply)?;
+        append(&mut replies, &bytes, b"@", value)?;
+    }
+    Ok(replies)
+}
+
+/// Has an empty store answer these rows at once, with this value.
+fn answer_with(alloc: Global, rows: &[Row], value: &[u8]) -> Result<(), Fail> {
+    let input = requests_with(alloc, rows, value)?;
+    let replies = replies_with(alloc, rows, value)?;
+    answers(&mut empty_store(alloc), alloc, "all", &input, &replies)
+}
+
 /// Has an empty store answer these rows at once, with a value of so many thousand bytes.
 fn answer_large(alloc: Global, thousands: u32, rows: &[Row]) -> Result<(), Fail> {
     let value = large_value(alloc, thousands)?;
-    let mut input = Vec::new(alloc);
-    let mut replies = Vec::new(alloc);
-    for row in rows {
-        let (request, reply) = *row;
-        let sent = requests_of(alloc, request)?;
-        append(&mut input, &sent, b"$1\r\n@\r\n", &value)?;
-        append(&mut replies, &bytes_of(alloc, reply)?, b"@", &value)?;
-    }
-    answers(&mut empty_store(alloc), alloc, "all", &input, &replies)
+    answer_with(alloc, rows, &value)
 }
 
 #[test]
