@@ -2,6 +2,7 @@
 //! RESP2 specification and of this project's texts for faults; `|` stands for CR LF.
 
 use crate::doors::Echo;
+use crate::many::large_value;
 use resp_decoder::{Fault, Limits};
 use serving::{Door, ServeFault, Served, serve};
 use std::alloc::{AllocError, Global};
@@ -122,15 +123,6 @@ fn replies_are_written_once_before_each_read(rt: HostRuntime) -> Result<(), Fail
     takes(rt.alloc(), (&input, 33, 3), (&wanted, NEVER, 2))
 }
 
-/// A word of so many bytes as it stands in a request and in a reply.
-fn word_of(alloc: Global, len: usize) -> Result<Vec<u8>, Fail> {
-    let mut word = Vec::new(alloc);
-    write!(word, "${len}\r\n")?;
-    word.extend_from_slice(&vec![in alloc; b'x'; len]?)?;
-    word.extend_from_slice(b"\r\n")?;
-    Ok(word)
-}
-
 /// The request of one word.
 fn request_of(alloc: Global, word: &[u8]) -> Result<Vec<u8>, AllocError> {
     let mut request = bytes_of(alloc, "*1|")?;
@@ -147,7 +139,7 @@ fn comes_in_pieces(alloc: Global, word: &[u8], request: &[u8]) -> Result<(), Fai
 
 #[test]
 fn two_thousand_pieces_and_two_million_bytes_are_served(rt: HostRuntime) -> Result<(), Fail> {
-    let word = word_of(rt.alloc(), 1000)?;
+    let word = large_value(rt.alloc(), 1)?;
     let request = request_of(rt.alloc(), &word)?;
     comes_in_pieces(rt.alloc(), &word, &request)
 }
@@ -163,7 +155,7 @@ fn replies_are_written_when_enough_is_gathered(rt: HostRuntime) -> Result<(), Fa
 /// One reply of 20,010 bytes, written in as many writes.
 #[test]
 fn a_reply_is_written_byte_by_byte(rt: HostRuntime) -> Result<(), Fail> {
-    let word = word_of(rt.alloc(), 20_000)?;
+    let word = large_value(rt.alloc(), 20)?;
     let input = request_of(rt.alloc(), &word)?;
     takes(rt.alloc(), (&input, NEVER, 2), (&word, 1, 20_010))
 }

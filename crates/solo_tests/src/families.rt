@@ -1,6 +1,6 @@
 //! What each family of commands answers, row by row.
 
-use crate::store::{END, Row, each_answers, empty_store};
+use crate::store::{END, Ending, Row, each_answers, empty_store};
 use std::alloc::Global;
 use std::test::Fail;
 use test_support::{holds, requests_of, same};
@@ -122,13 +122,18 @@ const REFUSED: [(&str, &[&str]); 12] = [
 
 const WRONG_KIND: &[u8] = b"-WRONGTYPE Operation against a key holding the wrong kind of value\r\n";
 
+/// Serving ended well, and the last reply is a refusal.
+fn is_refusal(row: &str, ending: &Ending, replies: &[u8]) -> Result<(), Fail> {
+    same(row, ending, &END)?;
+    holds(row, replies.ends_with(WRONG_KIND))
+}
+
 /// The last of these requests is refused by an empty store.
 fn refuses_last(alloc: Global, row: &str) -> Result<(), Fail> {
     let input = requests_of(alloc, row)?;
     let mut output = Vec::new(alloc);
     let ending = empty_store(alloc).serve(&mut input.as_slice(), &mut output);
-    same(row, &ending, &END)?;
-    holds(row, output.ends_with(WRONG_KIND))
+    is_refusal(row, &ending, &output)
 }
 
 /// Each command is refused where this request came before.

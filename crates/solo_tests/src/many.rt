@@ -16,17 +16,23 @@ struct Numbered {
     replies: &'static str,
 }
 
+/// Appends this form with a number in its place.
+fn append_form(out: &mut String, form: &str, number: u32) -> Result<(), Fail> {
+    for (part, text) in form.split('@').enumerate() {
+        if part > 0 {
+            write!(out, "{number}")?;
+        }
+        out.push_str(text)?;
+    }
+    Ok(())
+}
+
 /// Appends this form once for each number.
 fn append_each(out: &mut String, form: &str, numbers: (u32, u32), step: u32) -> Result<(), Fail> {
     let (first, end) = numbers;
     for place in first..end {
         let number = first + (place - first).wrapping_mul(step) % (end - first);
-        for (part, text) in form.split('@').enumerate() {
-            if part > 0 {
-                write!(out, "{number}")?;
-            }
-            out.push_str(text)?;
-        }
+        append_form(out, form, number)?;
     }
     Ok(())
 }
@@ -157,13 +163,19 @@ const LARGEST: [Row; 3] = [("SET a @", "+OK|"), ("GET a", "@"), ("GET a", "@")];
 
 const ECHOES: [Row; 300] = [("ECHO @", "@"); 300];
 
-/// A value of so many thousand bytes, as it is sent and answered.
-fn large_value(alloc: Global, thousands: u32) -> Result<Vec<u8>, Fail> {
-    let head = format!(in alloc; "${thousands}000\r\n")?;
-    let mut value = Vec::from_slice(alloc, head.as_bytes())?;
+/// Appends so many thousand bytes.
+fn append_thousands(value: &mut Vec<u8>, thousands: u32) -> Result<(), AllocError> {
     for _ in 0..thousands {
         value.extend_from_slice(&[b'x'; 1000])?;
     }
+    Ok(())
+}
+
+/// A value of so many thousand bytes, as it is sent and answered.
+pub(crate) fn large_value(alloc: Global, thousands: u32) -> Result<Vec<u8>, AllocError> {
+    let head = format!(in alloc; "${thousands}000\r\n")?;
+    let mut value = Vec::from_slice(alloc, head.as_bytes())?;
+    append_thousands(&mut value, thousands)?;
     value.extend_from_slice(b"\r\n")?;
     Ok(value)
 }
