@@ -6,17 +6,29 @@ use std::alloc::{AllocError, Global};
 use std::test::Fail;
 use test_support::{bytes_of, holds, same, same_bytes, same_count};
 
+/// Adds the words of a request in brackets.
+fn push_words(out: &mut Vec<u8>, request: &Request) -> Result<(), AllocError> {
+    for place in 0..request.len() {
+        out.push(b'[')?;
+        out.extend_from_slice(request.word(place))?;
+        out.push(b']')?;
+    }
+    out.push(b';')?;
+    Ok(())
+}
+
+/// Adds the words of each request.
+fn push_requests(out: &mut Vec<u8>, requests: &[Request]) -> Result<(), AllocError> {
+    for request in requests {
+        push_words(out, request)?;
+    }
+    Ok(())
+}
+
 /// The words of each request in brackets, and the fault behind the requests.
 fn shown(alloc: Global, decoded: &Decoded) -> Result<Vec<u8>, AllocError> {
     let mut out = Vec::new(alloc);
-    for request in &decoded.requests {
-        for i in 0..request.len() {
-            out.push(b'[')?;
-            out.extend_from_slice(request.word(i))?;
-            out.push(b']')?;
-        }
-        out.push(b';')?;
-    }
+    push_requests(&mut out, &decoded.requests)?;
     if let Some(fault) = decoded.fault {
         out.extend_from_slice(format!(in alloc; "{fault}")?.as_bytes())?;
     }
@@ -117,17 +129,10 @@ fn retried(decoder: &mut Decoder) -> Result<Option<Request>, Fault> {
 }
 
 /// The request is ECHO hi.
-fn is_echo(request: Option<Request>) -> Result<(), Fail> {
-    let request = request.ok_or("no request")?;
+fn is_echo(request: &Request) -> Result<(), Fail> {
     same_count("words", request.len(), 2)?;
     same_bytes("the first word", request.word(0), b"ECHO")?;
     same_bytes("the second word", request.word(1), b"hi")
-}
-
-/// The request is PING.
-fn is_ping(request: Option<Request>) -> Result<(), Fail> {
-    let request = request.ok_or("no last request")?;
-    same_count("words of the last request", request.len(), 1)
 }
 
 /// Feeds a decoder, once more where there was no memory. What it then answers.
@@ -138,15 +143,41 @@ fn answered(decoder: &mut Decoder, piece: &[u8]) -> Result<Option<Request>, Fail
     Ok(retried(decoder)?)
 }
 
+/// A decoder that is fed this has no request yet.
+fn waits(decoder: &mut Decoder, piece: &[u8]) -> Result<(), Fail> {
+    match answered(decoder, piece)? {
+        Some(_) => Err("a request came".into()),
+        None => Ok(()),
+    }
+}
+
+/// A decoder that is fed this has ECHO hi.
+fn has_echo(decoder: &mut Decoder, piece: &[u8]) -> Result<(), Fail> {
+    match answered(decoder, piece)? {
+        Some(request) => is_echo(&request),
+        None => Err("no request".into()),
+    }
+}
+
+/// Behind it a decoder has PING, and nothing else.
+fn has_ping(decoder: &mut Decoder) -> Result<(), Fail> {
+    match retried(decoder)? {
+        Some(request) => same_count("words of the last request", request.len(), 1)?,
+        None => return Err("no last request".into()),
+    }
+    holds("all is read", !decoder.pending())
+}
+
+fn goes_on(decoder: &mut Decoder) -> Result<(), Fail> {
+    waits(decoder, b"*0\r\n*2\r\n$4\r\nECHO\r\n$2\r\nh")?;
+    has_echo(decoder, b"i\r\n*0\r\n*1\r\n$4\r\nPING\r\n")?;
+    has_ping(decoder)
+}
+
 /// It passes as well where any one allocation fails: nothing that was held is lost.
 #[test]
 fn goes_on_where_memory_was_refused(rt: HostRuntime) -> Result<(), Fail> {
-    let decoder = &mut Decoder::new(rt.alloc(), Limits::DEFAULT);
-    let none = answered(decoder, b"*0\r\n*2\r\n$4\r\nECHO\r\n$2\r\nh")?;
-    holds("no request yet", none.is_none())?;
-    is_echo(answered(decoder, b"i\r\n*0\r\n*1\r\n$4\r\nPING\r\n")?)?;
-    is_ping(retried(decoder)?)?;
-    holds("all is read", !decoder.pending())
+    goes_on(&mut Decoder::new(rt.alloc(), Limits::DEFAULT))
 }
 
 /// A request of one word of 2 MB.
@@ -227,12 +258,15 @@ fn sees_the_second_words_ahead(rt: HostRuntime) -> Result<(), Fail> {
     shows_each_ahead(rt.alloc(), &AHEAD)
 }
 
+/// A decoder with an open request sees what comes behind it.
+fn sees_behind(alloc: Global, decoder: &mut Decoder) -> Result<(), Fail> {
+    waits(decoder, b"*3\r\n$3\r\nSET\r\n$1\r\na\r\n$2")?;
+    let row = "|xy|*2|$3|GET|$1|b|*2|$3|GET|$1|c|";
+    shows_behind(alloc, decoder, row, " b c")
+}
+
 #[test]
 fn sees_behind_a_request_that_is_open(rt: HostRuntime) -> Result<(), Fail> {
-    let alloc = rt.alloc();
-    let mut decoder = Decoder::new(alloc, Limits::DEFAULT);
-    decoder.feed(b"*3\r\n$3\r\nSET\r\n$1\r\na\r\n$2")?;
-    holds("a request is open", decoder.next()?.is_none())?;
-    let row = "|xy|*2|$3|GET|$1|b|*2|$3|GET|$1|c|";
-    shows_behind(alloc, &mut decoder, row, " b c")
+    let mut decoder = Decoder::new(rt.alloc(), Limits::DEFAULT);
+    sees_behind(rt.alloc(), &mut decoder)
 }

@@ -16,16 +16,40 @@ fn texts(alloc: Global, words: &[&str]) -> Result<Vec<Vec<u8>>, Fail> {
     Ok(texts)
 }
 
-/// A map with each kind of value.
-fn filled(alloc: Global) -> Result<Keys, Fail> {
-    let mut keys = no_keys(alloc);
-    let text = Text::copy_of(alloc, b"1")?;
-    put(alloc, &mut keys, b"c", Value::Str(text))?;
-    put(alloc, &mut keys, b"", Value::Str(Text::empty(alloc)))?;
-    put(alloc, &mut keys, b"bc", list(alloc)?)?;
-    put(alloc, &mut keys, b"b", hash(alloc)?)?;
-    put(alloc, &mut keys, b"\xff", set(alloc)?)?;
-    Ok(keys)
+/// What lies at a key.
+#[derive(Clone, Copy)]
+enum Kind {
+    One,
+    EmptyText,
+    List,
+    Hash,
+    Set,
+}
+
+const FILLED: [(&[u8], Kind); 5] = [
+    (b"c", Kind::One),
+    (b"", Kind::EmptyText),
+    (b"bc", Kind::List),
+    (b"b", Kind::Hash),
+    (b"\xff", Kind::Set),
+];
+
+fn value_of(alloc: Global, kind: Kind) -> Result<Value, Fail> {
+    match kind {
+        Kind::One => Ok(Value::Str(Text::copy_of(alloc, b"1")?)),
+        Kind::EmptyText => Ok(Value::Str(Text::empty(alloc))),
+        Kind::List => list(alloc),
+        Kind::Hash => hash(alloc),
+        Kind::Set => set(alloc),
+    }
+}
+
+/// Puts each kind of value.
+fn fill(alloc: Global, keys: &mut Keys) -> Result<(), Fail> {
+    for (key, kind) in FILLED {
+        put(alloc, keys, key, value_of(alloc, kind)?)?;
+    }
+    Ok(())
 }
 
 fn list(alloc: Global) -> Result<Value, Fail> {
@@ -47,15 +71,28 @@ fn set(alloc: Global) -> Result<Value, Fail> {
     Ok(Value::Set(set))
 }
 
-#[test]
-fn each_kind_of_value(rt: HostRuntime) -> Result<(), Fail> {
-    let alloc = rt.alloc();
-    let keys = filled(alloc)?;
-    let mut dump = Dump::new(alloc);
-    dump.add_all(&keys)?;
+/// The dump is written behind what is there.
+fn is_written(alloc: Global, dump: &Dump<'_>, want: &[u8]) -> Result<(), Fail> {
     let mut out = b"before ".to_vec(alloc)?;
     dump.write(&mut out)?;
+    same_bytes("the dump", &out, want)
+}
+
+/// The dump of these keys is this text.
+fn is_dumped(alloc: Global, keys: &Keys, want: &[u8]) -> Result<(), Fail> {
+    let mut dump = Dump::new(alloc);
+    dump.add_all(keys)?;
+    is_written(alloc, &dump, want)
+}
+
+fn fill_and_dump(alloc: Global, keys: &mut Keys) -> Result<(), Fail> {
+    fill(alloc, keys)?;
     let want =
         b"before key - string -\nkey 62 hash 67 32 66 6a6b\nkey 6263 list 62 - 61\nkey 63 string 31\nkey ff set 6d 6e\n";
-    same_bytes("the dump", &out, want)
+    is_dumped(alloc, keys, want)
+}
+
+#[test]
+fn each_kind_of_value(rt: HostRuntime) -> Result<(), Fail> {
+    fill_and_dump(rt.alloc(), &mut no_keys(rt.alloc()))
 }

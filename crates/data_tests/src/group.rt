@@ -1,401 +1,483 @@
 //! What happens packet by packet, with the clocks worked out by hand from the rule.
-ghost use Rattle.std.specs.Prelude.{◌<◌};
 
-use groups::{ConnId, GroupId, Groups, RequestId, Stamp};
-use skeen_core::{Body, Delivered, Group, Links, Packet};
-use std::alloc::Global;
+use crate::watched::{Watched, request};
+use groups::{GroupId, Groups, Stamp};
+use skeen_core::{Body, Delivered, Links, Packet};
+use std::alloc::{AllocError, Global};
 use std::test::Fail;
 use test_support::{holds, same, same_count, same_number};
 
-/// The only request of a connection.
-pub fn request(conn: u64) -> RequestId {
-    RequestId {
-        conn: ConnId(conn),
-        seq: 1,
+/// Groups: the first of them, and the end.
+type Set = (u8, u8);
+
+/// A packet to the group of the first number, about the request of a connection.
+#[derive(Clone, Copy)]
+enum Told {
+    /// The request begins, with this floor and these groups.
+    Start(u8, u64, u64, Set),
+
+    /// A group proposes a stamp with this clock.
+    Proposal(u8, u64, u8, u64),
+}
+
+/// A request that is delivered: its connection, the clock and the group of its final stamp, and its groups.
+type Goes = (u64, u64, u8, Set);
+
+/// What a packet must lead to: what the group sends and delivers, its clock, and how many requests it keeps.
+type Wanted<'a> = (&'a [Told], &'a [Goes], u64, usize);
+
+/// A packet in words, the packet, and what it must lead to.
+type Step<'a> = (&'a str, Told, Wanted<'a>);
+
+/// A packet in words, the place from which it is taken, and what it must lead to.
+type Row<'a> = (&'a str, usize, Wanted<'a>);
+
+const BOTH: Set = (0, 2);
+
+const ALONE: Set = (0, 1);
+
+const ALL: Set = (0, 64);
+
+/// The group of this number, which is at most 63.
+fn group_of(number: u8) -> GroupId {
+    GroupId::new(number.min(63))
+}
+
+fn groups_of(set: Set) -> Groups {
+    let (first, end) = set;
+    let mut groups = Groups::empty();
+    for number in first..end {
+        groups = groups.with(group_of(number));
     }
+    groups
 }
 
-fn both() -> Groups {
-    Groups::all(2)
-}
-
-fn start(to: u8, conn: u64, floor: u64, groups: Groups) -> Packet
-    requires { to < 64 }
-{
-    Packet {
-        to: GroupId::new(to),
-        id: request(conn),
-        body: Body::Start { floor, groups },
-    }
-}
-
-fn proposal(to: u8, conn: u64, from: u8, clock: u64) -> Packet
-    requires to { to < 64 }
-    requires from { from < 64 }
-{
-    Packet {
-        to: GroupId::new(to),
-        id: request(conn),
-        body: Body::Proposal {
-            from: GroupId::new(from),
+fn body_of(told: Told) -> Body {
+    match told {
+        Told::Start(_, _, floor, set) => Body::Start {
+            floor,
+            groups: groups_of(set),
+        },
+        Told::Proposal(_, _, from, clock) => Body::Proposal {
+            from: group_of(from),
             clock,
         },
     }
 }
 
-fn delivered(conn: u64, clock: u64, group: u8, groups: Groups) -> Delivered
-    requires { group < 64 }
-{
+fn packet_of(told: Told) -> Packet {
+    let (to, conn) = match told {
+        Told::Start(to, conn, _, _) => (to, conn),
+        Told::Proposal(to, conn, _, _) => (to, conn),
+    };
+    Packet {
+        to: group_of(to),
+        id: request(conn),
+        body: body_of(told),
+    }
+}
+
+fn delivered_of(goes: Goes) -> Delivered {
+    let (conn, clock, group, set) = goes;
     Delivered {
         id: request(conn),
         stamp: Stamp {
             clock,
-            group: GroupId::new(group),
+            group: group_of(group),
         },
-        groups,
+        groups: groups_of(set),
     }
 }
 
-/// What a packet must lead to: what the group sends and delivers, its clock, and how many requests it keeps.
-#[derive(Clone, Copy)]
-struct Wanted<'a> {
-    sends: &'a [Packet],
-    delivers: &'a [Delivered],
-    clock: u64,
-    kept: usize,
-}
-
-/// The group has this clock and keeps so many requests.
-fn shows(name: &str, group: &Group, clock: u64, kept: usize) -> Result<(), Fail> {
-    same_number(name, group.clock(), clock)?;
-    same_count(name, group.kept(), kept)
-}
-
-/// What the group sends and delivers for a packet. Where memory is refused nothing has changed, and the packet is handed
-/// to it again. Of its started requests it looked at those that it delivers, and two more at most.
-pub fn received(
-    name: &str,
-    alloc: Global,
-    group: &mut Group,
-    packet: Packet,
-) -> Result<(Vec<Packet>, Vec<Delivered>), Fail> {
-    let (clock, kept) = (group.clock(), group.kept());
-    holds(name, group.may_come(&packet))?;
-    if let Ok((sent, delivered)) = group.receive(alloc, Packet { ..packet }) {
-        looks_few(name, group, delivered.len())?;
-        return Ok((sent, delivered));
+/// These packets are sent.
+fn are_sent(name: &str, sent: &[Packet], wanted: &[Told]) -> Result<(), Fail> {
+    same_count(name, sent.len(), wanted.len())?;
+    for (packet, told) in sent.iter().zip(wanted) {
+        same(name, packet, &packet_of(*told))?;
     }
-    shows(name, group, clock, kept)?;
-    holds(name, group.may_come(&packet))?;
-    Ok(group.receive(alloc, packet)?)
+    Ok(())
 }
 
-/// In its last receipt the group looked at the requests that it delivered, and at two more at most.
-fn looks_few(name: &str, group: &Group, delivered: usize) -> Result<(), Fail> {
-    let looks = group.looks();
-    holds(
-        name,
-        delivered as u64 <= looks && looks <= (delivered as u64).saturating_add(2),
-    )
+/// These requests are delivered.
+fn are_delivered(name: &str, delivered: &[Delivered], wanted: &[Goes]) -> Result<(), Fail> {
+    same_count(name, delivered.len(), wanted.len())?;
+    for (request, goes) in delivered.iter().zip(wanted) {
+        same(name, request, &delivered_of(*goes))?;
+    }
+    Ok(())
+}
+
+/// This packet is sent, and no other.
+fn is_sent(sent: &[Packet], wanted: Told) -> Result<(), Fail> {
+    same_count("packets", sent.len(), 1)?;
+    match sent.first() {
+        Some(packet) => same("a packet", packet, &packet_of(wanted)),
+        None => Err("no packet".into()),
+    }
+}
+
+/// This request is delivered, and no other.
+fn is_delivered(delivered: &[Delivered], wanted: Goes) -> Result<(), Fail> {
+    same_count("deliveries", delivered.len(), 1)?;
+    match delivered.first() {
+        Some(request) => same("a delivery", request, &delivered_of(wanted)),
+        None => Err("no delivery".into()),
+    }
 }
 
 /// Hands the packet to the group and looks at what it does.
 fn step(
     name: &str,
     alloc: Global,
-    group: &mut Group,
+    group: &mut Watched,
     packet: Packet,
     wanted: Wanted,
-) -> Result<Vec<Packet>, Fail> {
-    let (sent, delivered) = received(name, alloc, group, packet)?;
-    same(name, &sent.as_slice(), &wanted.sends)?;
-    same(name, &delivered.as_slice(), &wanted.delivers)?;
-    shows(name, group, wanted.clock, wanted.kept)?;
-    Ok(sent)
+) -> Result<(), Fail> {
+    let (sends, delivers, clock, kept) = wanted;
+    group.receive(name, alloc, packet)?;
+    are_sent(name, &group.sent, sends)?;
+    are_delivered(name, &group.delivered, delivers)?;
+    group.shows(name, clock, kept)
+}
+
+/// Hands the packets of these rows to the group in turn.
+fn step_each(alloc: Global, group: &mut Watched, rows: &[Step]) -> Result<(), Fail> {
+    for row in rows {
+        let (name, told, wanted) = *row;
+        step(name, alloc, group, packet_of(told), wanted)?;
+    }
+    Ok(())
 }
 
 /// Two groups and the packets between them.
 #[derive(Drop)]
 struct Pair {
     links: Links,
-    zero: Group,
-    one: Group,
+    zero: Watched,
+    one: Watched,
 }
 
 impl Pair {
     fn new(alloc: Global) -> Self {
         Pair {
             links: Links::new(alloc),
-            zero: Group::new(alloc, GroupId::new(0)),
-            one: Group::new(alloc, GroupId::new(1)),
+            zero: Watched::new(alloc, GroupId::new(0)),
+            one: Watched::new(alloc, GroupId::new(1)),
         }
-    }
-
-    /// Sends a packet. Where memory is refused nothing has changed, and it is sent again.
-    fn send(&mut self, packet: Packet) -> Result<(), Fail> {
-        let len = self.links.len();
-        if self.links.send(Packet { ..packet }).is_err() {
-            same_count("packets", self.links.len(), len)?;
-            self.links.send(Packet { ..packet })?;
-        }
-        Ok(())
-    }
-
-    fn send_all(&mut self, packets: &[Packet]) -> Result<(), Fail> {
-        for packet in packets {
-            self.send(*packet)?;
-        }
-        Ok(())
     }
 
     /// Takes out the packet at this place, hands it to its group, and sends what that one sends.
-    fn deliver(
-        &mut self,
-        name: &str,
-        alloc: Global,
-        place: usize,
-        wanted: Wanted,
-    ) -> Result<(), Fail> {
+    fn deliver(&mut self, alloc: Global, row: &Row) -> Result<(), Fail> {
+        let (name, place, wanted) = *row;
         let packet = self.links.take(place).ok_or("no packet at that place")?;
-        let group = if packet.to.number() == 0 {
-            &mut self.zero
+        if packet.to.number() == 0 {
+            hand(name, alloc, &mut self.links, &mut self.zero, packet, wanted)
         } else {
-            &mut self.one
-        };
-        let sent = step(name, alloc, group, Packet { ..packet }, wanted)?;
-        self.send_all(&sent)
+            hand(name, alloc, &mut self.links, &mut self.one, packet, wanted)
+        }
     }
 
     /// Delivers the packets of these rows in turn.
     fn deliver_each(&mut self, alloc: Global, rows: &[Row]) -> Result<(), Fail> {
         for row in rows {
-            let (name, place, sends, delivers, clock, kept) = *row;
-            let wanted = Wanted {
-                sends,
-                delivers,
-                clock,
-                kept,
-            };
-            self.deliver(name, alloc, place, wanted)?;
+            self.deliver(alloc, row)?;
         }
         Ok(())
     }
+
+    /// Sends the first packets, and delivers those of the rows in turn, behind which none is left.
+    fn follow(&mut self, alloc: Global, first: &[Told], rows: &[Row]) -> Result<(), Fail> {
+        begin(&mut self.links, first)?;
+        self.deliver_each(alloc, rows)?;
+        holds("no packet is left", self.links.is_empty())
+    }
 }
 
-/// A packet in words, the place from which it is taken, and what it must lead to.
-type Row<'a> = (&'a str, usize, &'a [Packet], &'a [Delivered], u64, usize);
+/// Hands the packet to the group, looks at what it does, and sends what it sends.
+fn hand(
+    name: &str,
+    alloc: Global,
+    links: &mut Links,
+    group: &mut Watched,
+    packet: Packet,
+    wanted: Wanted,
+) -> Result<(), Fail> {
+    step(name, alloc, group, packet, wanted)?;
+    send_all(links, &group.sent)
+}
 
-/// A packet in words, the packet, and what it must lead to.
-type Step<'a> = (&'a str, Packet, &'a [Packet], &'a [Delivered], u64, usize);
-
-/// Hands the packets of these rows to the group in turn.
-fn step_each(alloc: Global, group: &mut Group, rows: &[Step]) -> Result<(), Fail> {
-    for row in rows {
-        let (name, packet, sends, delivers, clock, kept) = *row;
-        let wanted = Wanted {
-            sends,
-            delivers,
-            clock,
-            kept,
-        };
-        let _ = step(name, alloc, group, packet, wanted)?;
+/// Sends a packet. Where memory is refused nothing has changed, and it is sent again.
+fn send(links: &mut Links, packet: Packet) -> Result<(), Fail> {
+    let len = links.len();
+    if links.send(Packet { ..packet }).is_err() {
+        same_count("packets", links.len(), len)?;
+        links.send(packet)?;
     }
     Ok(())
 }
 
+/// Sends packets in turn.
+pub(crate) fn send_all(links: &mut Links, packets: &[Packet]) -> Result<(), Fail> {
+    for packet in packets {
+        send(links, *packet)?;
+    }
+    Ok(())
+}
+
+/// Sends the first packets in turn.
+fn begin(links: &mut Links, first: &[Told]) -> Result<(), Fail> {
+    for told in first {
+        send(links, packet_of(*told))?;
+    }
+    Ok(())
+}
+
+/// Connections of one request each.
+const A: u64 = 1;
+
+const B: u64 = 2;
+
+const C: u64 = 3;
+
+#[rattlefmt::skip]
+const ONE_GROUP: [Step; 5] = [
+    ("Start a", Told::Start(0, A, 0, BOTH), (&[Told::Proposal(1, A, 0, 1)], &[], 1, 1)),
+    ("Start a again", Told::Start(0, A, 0, BOTH), (&[], &[], 1, 1)),
+    ("Start b", Told::Start(0, B, 0, ALONE), (&[], &[], 2, 2)),
+    ("a's proposal", Told::Proposal(0, A, 1, 5), (&[], &[(B, 2, 0, ALONE), (A, 5, 1, BOTH)], 5, 0)),
+    ("Start c", Told::Start(0, C, 7, ALONE), (&[], &[(C, 8, 0, ALONE)], 8, 0)),
+];
+
 #[test]
 fn one_group_packet_by_packet(rt: HostRuntime) -> Result<(), Fail> {
-    let alloc = rt.alloc();
-    let mut group = Group::new(alloc, GroupId::new(0));
-    let alone = Groups::all(1);
-    let (a, b, c) = (1, 2, 3);
-    let told = [proposal(1, a, 0, 1)];
-    let two = [delivered(b, 2, 0, alone), delivered(a, 5, 1, both())];
-    let last = [delivered(c, 8, 0, alone)];
-    let rows: [Step; 5] = [
-        ("Start a", start(0, a, 0, both()), &told, &[], 1, 1),
-        ("Start a again", start(0, a, 0, both()), &[], &[], 1, 1),
-        ("Start b", start(0, b, 0, alone), &[], &[], 2, 2),
-        ("a's proposal", proposal(0, a, 1, 5), &[], &two, 5, 0),
-        ("Start c", start(0, c, 7, alone), &[], &last, 8, 0),
-    ];
-    step_each(alloc, &mut group, &rows)
+    let mut group = Watched::new(rt.alloc(), GroupId::new(0));
+    step_each(rt.alloc(), &mut group, &ONE_GROUP)
 }
+
+const TWO_STARTS: [Told; 4] = [
+    Told::Start(0, A, 0, BOTH),
+    Told::Start(1, A, 0, BOTH),
+    Told::Start(0, B, 0, BOTH),
+    Told::Start(1, B, 0, BOTH),
+];
+
+const IN_ORDER: [Goes; 2] = [(B, 2, 0, BOTH), (A, 2, 1, BOTH)];
+
+#[rattlefmt::skip]
+const CROSSING: [Row; 8] = [
+    ("Start a at 0", 0, (&[Told::Proposal(1, A, 0, 1)], &[], 1, 1)),
+    ("Start b at 1", 2, (&[Told::Proposal(0, B, 1, 1)], &[], 1, 1)),
+    ("Start b at 0", 1, (&[Told::Proposal(1, B, 0, 2)], &[], 2, 2)),
+    ("Start a at 1", 0, (&[Told::Proposal(0, A, 1, 2)], &[], 2, 2)),
+    ("a's proposal at 1", 0, (&[], &[], 2, 2)),
+    ("b's proposal at 0", 0, (&[], &[], 2, 2)),
+    ("b's proposal at 1", 0, (&[], &IN_ORDER, 2, 0)),
+    ("a's proposal at 0", 0, (&[], &IN_ORDER, 2, 0)),
+];
 
 #[test]
 fn crossing_requests_come_in_one_order(rt: HostRuntime) -> Result<(), Fail> {
-    let alloc = rt.alloc();
-    let mut pair = Pair::new(alloc);
-    let (x, y) = (1, 2);
-    pair.send_all(&[
-        start(0, x, 0, both()),
-        start(1, x, 0, both()),
-        start(0, y, 0, both()),
-        start(1, y, 0, both()),
-    ])?;
-    let in_order = [delivered(y, 2, 0, both()), delivered(x, 2, 1, both())];
-    let rows: [Row; 8] = [
-        ("Start x at 0", 0, &[proposal(1, x, 0, 1)], &[], 1, 1),
-        ("Start y at 1", 2, &[proposal(0, y, 1, 1)], &[], 1, 1),
-        ("Start y at 0", 1, &[proposal(1, y, 0, 2)], &[], 2, 2),
-        ("Start x at 1", 0, &[proposal(0, x, 1, 2)], &[], 2, 2),
-        ("x's proposal at 1", 0, &[], &[], 2, 2),
-        ("y's proposal at 0", 0, &[], &[], 2, 2),
-        ("y's proposal at 1", 0, &[], &in_order, 2, 0),
-        ("x's proposal at 0", 0, &[], &in_order, 2, 0),
-    ];
-    pair.deliver_each(alloc, &rows)?;
-    holds("no packet is left", pair.links.is_empty())
+    let mut pair = Pair::new(rt.alloc());
+    pair.follow(rt.alloc(), &TWO_STARTS, &CROSSING)
 }
+
+const ONE_START: [Told; 2] = [Told::Start(0, A, 0, BOTH), Told::Start(1, A, 0, BOTH)];
+
+#[rattlefmt::skip]
+const BEFORE_ITS_START: [Row; 4] = [
+    ("Start at 0", 0, (&[Told::Proposal(1, A, 0, 1)], &[], 1, 1)),
+    ("the proposal at 1", 1, (&[], &[], 0, 1)),
+    ("Start at 1", 0, (&[Told::Proposal(0, A, 1, 1)], &[(A, 1, 1, BOTH)], 1, 0)),
+    ("the proposal at 0", 0, (&[], &[(A, 1, 1, BOTH)], 1, 0)),
+];
 
 #[test]
 fn a_proposal_may_come_before_its_start(rt: HostRuntime) -> Result<(), Fail> {
-    let alloc = rt.alloc();
-    let mut pair = Pair::new(alloc);
-    pair.send_all(&[start(0, 1, 0, both()), start(1, 1, 0, both())])?;
-    let last = [delivered(1, 1, 1, both())];
-    let rows: [Row; 4] = [
-        ("Start at 0", 0, &[proposal(1, 1, 0, 1)], &[], 1, 1),
-        ("the proposal at 1", 1, &[], &[], 0, 1),
-        ("Start at 1", 0, &[proposal(0, 1, 1, 1)], &last, 1, 0),
-        ("the proposal at 0", 0, &[], &last, 1, 0),
-    ];
-    pair.deliver_each(alloc, &rows)
+    let mut pair = Pair::new(rt.alloc());
+    pair.follow(rt.alloc(), &ONE_START, &BEFORE_ITS_START)
 }
+
+#[rattlefmt::skip]
+const FLOOR: [Step; 1] = [("a Start with a floor", Told::Start(1, A, 5, (1, 2)), (&[], &[(A, 6, 1, (1, 2))], 6, 0))];
 
 #[test]
 fn a_floor_lifts_the_proposal(rt: HostRuntime) -> Result<(), Fail> {
-    let alloc = rt.alloc();
-    let mut group = Group::new(alloc, GroupId::new(1));
-    let alone = Groups::empty().with(GroupId::new(1));
-    let delivers = [delivered(1, 6, 1, alone)];
-    let wanted = Wanted {
-        sends: &[],
-        delivers: &delivers,
-        clock: 6,
-        kept: 0,
-    };
-    let packet = start(1, 1, 5, alone);
-    let _ = step("a Start with a floor", alloc, &mut group, packet, wanted)?;
-    Ok(())
+    let mut group = Watched::new(rt.alloc(), GroupId::new(1));
+    step_each(rt.alloc(), &mut group, &FLOOR)
+}
+
+/// The proposals of group 0 to all others.
+fn told_to_63(alloc: Global) -> Result<Vec<Told>, AllocError> {
+    let mut told = Vec::new(alloc);
+    for to in 1..64u8 {
+        told.push(Told::Proposal(to, A, 0, 1))?;
+    }
+    Ok(told)
 }
 
 #[test]
 fn a_start_for_64_groups_is_told_to_63(rt: HostRuntime) -> Result<(), Fail> {
-    let alloc = rt.alloc();
-    let mut group = Group::new(alloc, GroupId::new(0));
-    let mut told = Vec::new(alloc);
-    for to in 1..64u8 {
-        told.push(proposal(to, 1, 0, 1))?;
+    let told = told_to_63(rt.alloc())?;
+    let mut group = Watched::new(rt.alloc(), GroupId::new(0));
+    let start = packet_of(Told::Start(0, A, 0, ALL));
+    step(
+        "a Start for all",
+        rt.alloc(),
+        &mut group,
+        start,
+        (&told, &[], 1, 1),
+    )
+}
+
+/// The Start of a connection's request comes to an idle group, which delivers it.
+fn goes_at_once(alloc: Global, group: &mut Watched, conn: u64) -> Result<(), Fail> {
+    let start = packet_of(Told::Start(0, conn, 0, ALONE));
+    group.receive("a Start", alloc, start)?;
+    same_count("packets", group.sent.len(), 0)?;
+    is_delivered(&group.delivered, (conn, conn, 0, ALONE))?;
+    group.shows("a Start", conn, 0)?;
+    same_count("started requests", group.group.started(), 0)?;
+    same_number("looks", group.group.looks(), 1)
+}
+
+fn each_goes_at_once(alloc: Global, group: &mut Watched) -> Result<(), Fail> {
+    same_number("looks before the first packet", group.group.looks(), 0)?;
+    for conn in 1..5 {
+        goes_at_once(alloc, group, conn)?;
     }
-    let wanted = Wanted {
-        sends: &told,
-        delivers: &[],
-        clock: 1,
-        kept: 1,
-    };
-    let packet = start(0, 1, 0, Groups::all(64));
-    let _ = step("a Start for all", alloc, &mut group, packet, wanted)?;
     Ok(())
 }
 
 #[test]
 fn a_start_at_an_idle_group_is_delivered_at_once(rt: HostRuntime) -> Result<(), Fail> {
-    let alloc = rt.alloc();
-    let mut group = Group::new(alloc, GroupId::new(0));
-    same_number("looks before the first packet", group.looks(), 0)?;
-    let alone = Groups::all(1);
-    for conn in 1..5 {
-        let delivers = [delivered(conn, conn, 0, alone)];
-        let wanted = Wanted {
-            sends: &[],
-            delivers: &delivers,
-            clock: conn,
-            kept: 0,
-        };
-        let packet = start(0, conn, 0, alone);
-        let _ = step("a Start", alloc, &mut group, packet, wanted)?;
-        same_count("started requests", group.started(), 0)?;
-        same_number("looks", group.looks(), 1)?;
+    let mut group = Watched::new(rt.alloc(), GroupId::new(0));
+    each_goes_at_once(rt.alloc(), &mut group)
+}
+
+/// The Start of a connection's request comes, which then waits, as all before it.
+fn is_open(alloc: Global, group: &mut Watched, conn: u64) -> Result<(), Fail> {
+    let start = packet_of(Told::Start(0, conn, 0, BOTH));
+    group.receive("a Start", alloc, start)?;
+    is_sent(&group.sent, Told::Proposal(1, conn, 0, conn))?;
+    same_count("deliveries", group.delivered.len(), 0)?;
+    group.shows("a Start", conn, conn as usize)
+}
+
+/// Gives group 0 the Starts of 100 requests of two groups, which wait for the other one's proposals. Its own are 1 to 100.
+fn open_100(alloc: Global, group: &mut Watched) -> Result<(), Fail> {
+    for conn in 1..101 {
+        is_open(alloc, group, conn)?;
+    }
+    same_count("started requests", group.group.started(), 100)
+}
+
+/// The other group's proposal for a request comes, whose clock is the request's own.
+fn is_answered(alloc: Global, group: &mut Watched, conn: u64) -> Result<(), Fail> {
+    let answer = packet_of(Told::Proposal(0, conn, 1, conn));
+    group.receive("a proposal", alloc, answer)
+}
+
+/// Proposals come for all requests but the oldest one, the newest first, and nothing is delivered.
+fn newer_wait(alloc: Global, group: &mut Watched) -> Result<(), Fail> {
+    for newer in 0..99 {
+        is_answered(alloc, group, 100 - newer)?;
+        same_count("deliveries", group.delivered.len(), 0)?;
+        holds("no more than two are looked at", group.group.looks() <= 2)?;
     }
     Ok(())
 }
 
-/// Group 0 with 100 requests of two groups that wait for the other one's proposals. Its own are 1 to 100.
-fn with_100_open(alloc: Global) -> Result<Group, Fail> {
-    let mut group = Group::new(alloc, GroupId::new(0));
-    for conn in 1..101 {
-        let told = [proposal(1, conn, 0, conn)];
-        let wanted = Wanted {
-            sends: &told,
-            delivers: &[],
-            clock: conn,
-            kept: conn as usize,
-        };
-        let packet = start(0, conn, 0, both());
-        let _ = step("a Start", alloc, &mut group, packet, wanted)?;
+/// All 100 requests are delivered.
+fn all_go(delivered: &[Delivered]) -> Result<(), Fail> {
+    same_count("deliveries", delivered.len(), 100)?;
+    for (request, conn) in delivered.iter().zip(1..101) {
+        same("a delivery", request, &delivered_of((conn, conn, 1, BOTH)))?;
     }
-    same_count("started requests", group.started(), 100)?;
-    Ok(group)
+    Ok(())
+}
+
+/// The proposal for the oldest of 100 requests lets all go.
+fn oldest_lets_go(alloc: Global, group: &mut Watched) -> Result<(), Fail> {
+    is_answered(alloc, group, 1)?;
+    all_go(&group.delivered)?;
+    holds("no more than 102 are looked at", group.group.looks() <= 102)?;
+    group.shows("the end", 100, 0)
+}
+
+fn wait_and_go(alloc: Global, group: &mut Watched) -> Result<(), Fail> {
+    open_100(alloc, group)?;
+    newer_wait(alloc, group)?;
+    oldest_lets_go(alloc, group)
 }
 
 #[test]
 fn the_oldest_of_100_lets_all_go(rt: HostRuntime) -> Result<(), Fail> {
-    let alloc = rt.alloc();
-    let mut group = with_100_open(alloc)?;
-    for newer in 0..99u64 {
-        let conn = 100 - newer;
-        let packet = proposal(0, conn, 1, conn);
-        let (_, delivered) = received("a newer one's proposal", alloc, &mut group, packet)?;
-        same_count("deliveries", delivered.len(), 0)?;
-        holds("no more than two are looked at", group.looks() <= 2)?;
-    }
-    let mut all = Vec::new(alloc);
+    let mut group = Watched::new(rt.alloc(), GroupId::new(0));
+    wait_and_go(rt.alloc(), &mut group)
+}
+
+/// Proposals come for all requests, the oldest first, and each lets its own go.
+fn each_goes(alloc: Global, group: &mut Watched) -> Result<(), Fail> {
     for conn in 1..101 {
-        all.push(delivered(conn, conn, 1, both()))?;
+        is_answered(alloc, group, conn)?;
+        is_delivered(&group.delivered, (conn, conn, 1, BOTH))?;
+        holds("no more than three are looked at", group.group.looks() <= 3)?;
     }
-    let packet = proposal(0, 1, 1, 1);
-    let (_, went) = received("the oldest one's proposal", alloc, &mut group, packet)?;
-    same("deliveries", &went.as_slice(), &all.as_slice())?;
-    holds("no more than 102 are looked at", group.looks() <= 102)?;
-    shows("the end", &group, 100, 0)
+    Ok(())
+}
+
+fn go_one_by_one(alloc: Global, group: &mut Watched) -> Result<(), Fail> {
+    open_100(alloc, group)?;
+    each_goes(alloc, group)?;
+    group.shows("the end", 100, 0)
 }
 
 #[test]
 fn each_of_100_goes_where_the_oldest_is_first(rt: HostRuntime) -> Result<(), Fail> {
-    let alloc = rt.alloc();
-    let mut group = with_100_open(alloc)?;
-    for conn in 1..101 {
-        let delivers = [delivered(conn, conn, 1, both())];
-        let packet = proposal(0, conn, 1, conn);
-        let (_, went) = received("the oldest one's proposal", alloc, &mut group, packet)?;
-        same("deliveries", &went.as_slice(), &delivers.as_slice())?;
-        holds("no more than three are looked at", group.looks() <= 3)?;
-    }
-    shows("the end", &group, 100, 0)
+    let mut group = Watched::new(rt.alloc(), GroupId::new(0));
+    go_one_by_one(rt.alloc(), &mut group)
 }
 
-/// The packet at this place is the Start of this connection; it is taken, and so many are left.
+/// The packet at this place is the Start of this connection's request; it is taken, and so many are left.
 fn takes(links: &mut Links, place: usize, conn: u64, left: usize) -> Result<(), Fail> {
-    let named = links.packet(place).ok_or("no packet at that place")?.id;
-    same("the request at a place", &named, &request(conn))?;
-    let taken = links.take(place).ok_or("no packet at that place")?;
-    same("a packet taken out", &taken, &start(0, conn, 0, both()))?;
+    let start = packet_of(Told::Start(0, conn, 0, BOTH));
+    same("the packet at a place", &links.packet(place), &Some(&start))?;
+    same("the packet taken out", &links.take(place), &Some(start))?;
     same_count("packets left", links.len(), left)
+}
+
+const STARTS: [Told; 4] = [
+    Told::Start(0, 1, 0, BOTH),
+    Told::Start(0, 2, 0, BOTH),
+    Told::Start(0, 3, 0, BOTH),
+    Told::Start(0, 4, 0, BOTH),
+];
+
+/// Places from which packets are taken, the connections of those, and how many are left.
+const TAKEN: [(usize, u64, usize); 4] = [(1, 2, 3), (1, 3, 2), (1, 4, 1), (0, 1, 0)];
+
+fn takes_each(links: &mut Links) -> Result<(), Fail> {
+    for (place, conn, left) in TAKEN {
+        takes(links, place, conn, left)?;
+    }
+    holds("no packet is left", links.take(0).is_none())
+}
+
+/// Takes room for four packets, once more where there was no memory.
+fn reserves(links: &mut Links) -> Result<(), Fail> {
+    if links.reserve(4).is_err() {
+        links.reserve(4)?;
+    }
+    Ok(())
+}
+
+fn sends_and_takes(links: &mut Links) -> Result<(), Fail> {
+    reserves(links)?;
+    begin(links, &STARTS)?;
+    takes_each(links)
 }
 
 #[test]
 fn links_keep_the_order_of_sending(rt: HostRuntime) -> Result<(), Fail> {
-    let mut links = Links::new(rt.alloc());
-    if links.reserve(4).is_err() {
-        links.reserve(4)?;
-    }
-    for conn in 1..5 {
-        links.send(start(0, conn, 0, both()))?;
-    }
-    takes(&mut links, 1, 2, 3)?;
-    takes(&mut links, 1, 3, 2)?;
-    takes(&mut links, 1, 4, 1)?;
-    takes(&mut links, 0, 1, 0)?;
-    holds("no packet is left", links.take(0).is_none())
+    sends_and_takes(&mut Links::new(rt.alloc()))
 }

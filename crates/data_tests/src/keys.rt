@@ -45,21 +45,39 @@ fn goes(line: &str, keys: &mut Keys, key: &[u8]) -> Result<(), Fail> {
     holds(line, keys.look(key).is_none())
 }
 
-#[test]
-fn keys_come_and_go(rt: HostRuntime) -> Result<(), Fail> {
-    let keys = &mut no_keys(rt.alloc());
-    put_text(rt.alloc(), keys, b"a", b"1")?;
+/// Keys are put, one of them again, and so many are there each time.
+fn come(alloc: Global, keys: &mut Keys) -> Result<(), Fail> {
+    put_text(alloc, keys, b"a", b"1")?;
     counts("a", keys, 1)?;
-    put_text(rt.alloc(), keys, b"", b"2")?;
+    put_text(alloc, keys, b"", b"2")?;
     counts("the empty key", keys, 2)?;
-    put_text(rt.alloc(), keys, b"a", b"3")?;
-    counts("a again", keys, 2)?;
+    put_text(alloc, keys, b"a", b"3")?;
+    counts("a again", keys, 2)
+}
+
+/// What was put last lies there.
+fn stay(keys: &Keys) -> Result<(), Fail> {
     has("a", keys, b"a", b"3")?;
     has("the empty key", keys, b"", b"2")?;
-    holds("b is not there", keys.look(b"b").is_none())?;
+    holds("b is not there", keys.look(b"b").is_none())
+}
+
+/// One key goes, and then all.
+fn go(keys: &mut Keys) -> Result<(), Fail> {
     goes("a", keys, b"a")?;
     keys.clear();
     counts("all are gone", keys, 0)
+}
+
+fn come_and_go(alloc: Global, keys: &mut Keys) -> Result<(), Fail> {
+    come(alloc, keys)?;
+    stay(keys)?;
+    go(keys)
+}
+
+#[test]
+fn keys_come_and_go(rt: HostRuntime) -> Result<(), Fail> {
+    come_and_go(rt.alloc(), &mut no_keys(rt.alloc()))
 }
 
 /// The key of this number.
@@ -91,14 +109,22 @@ fn has_each(keys: &Keys, first: u32, end: u32) -> Result<(), Fail> {
     Ok(())
 }
 
-#[test]
-fn room_of_keys_that_went_is_given_back(rt: HostRuntime) -> Result<(), Fail> {
-    let keys = &mut no_keys(rt.alloc());
-    put_each(rt.alloc(), keys, 5000)?;
+/// All keys but the last ten go, and most of the room with them.
+fn most_go(alloc: Global, keys: &mut Keys) -> Result<(), Fail> {
+    put_each(alloc, keys, 5000)?;
     holds("room for all", keys.capacity() >= 5000)?;
     each_goes(keys, 4990)?;
     holds("room for few", keys.capacity() <= 1024)?;
-    has_each(keys, 4990, 5000)?;
+    has_each(keys, 4990, 5000)
+}
+
+fn room_goes(alloc: Global, keys: &mut Keys) -> Result<(), Fail> {
+    most_go(alloc, keys)?;
     keys.clear();
     holds("no room", keys.capacity() < 10)
+}
+
+#[test]
+fn room_of_keys_that_went_is_given_back(rt: HostRuntime) -> Result<(), Fail> {
+    room_goes(rt.alloc(), &mut no_keys(rt.alloc()))
 }

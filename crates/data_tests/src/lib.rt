@@ -25,6 +25,8 @@ mod trace;
 #[cfg(test)]
 mod value_types;
 #[cfg(test)]
+mod watched;
+#[cfg(test)]
 mod whole_numbers;
 #[cfg(test)]
 mod written;

@@ -1,182 +1,218 @@
-//! The rule of one group as a plain program, which looks through all that it keeps for the request at the least place:
-//! what a `Group` is compared with.
+//! The rule of one group of three as a plain program, which looks through all that it keeps for the request at the least
+//! place: what a `Group` is compared with.
 
 use groups::{GroupId, Groups, RequestId, Stamp};
 use skeen_core::{Body, Delivered, Packet};
 use std::alloc::{AllocError, Global};
 
-/// A request that has started, with the group's own proposal, and its final stamp once that is known.
+/// A request of which the group has heard.
 #[derive(Clone, Copy)]
-struct Started {
+struct Heard {
     id: RequestId,
-    groups: Groups,
-    own: Stamp,
-    final_stamp: Option<Stamp>,
+
+    /// Its groups, once its Start has come.
+    groups: Option<Groups>,
+
+    /// The clock of each group's proposal.
+    proposals: [Option<u64>; 3],
 }
 
-impl Started {
-    /// Where it stands: at its final stamp if that is known, else at the own proposal.
-    fn place(&self) -> Stamp {
-        match self.final_stamp {
-            Some(stamp) => stamp,
-            None => Stamp { ..self.own },
+impl Heard {
+    /// The proposal of a group.
+    fn proposal(&self, group: GroupId) -> Option<Stamp> {
+        let proposed = self.proposals.get(usize::from(group.number()))?;
+        match *proposed {
+            Some(clock) => Some(Stamp { clock, group }),
+            None => None,
+        }
+    }
+
+    /// A group proposes this clock. What it proposed before stands.
+    fn hear(&mut self, group: GroupId, clock: u64) {
+        if let Some(proposed) = self.proposals.get_mut(usize::from(group.number())) {
+            if proposed.is_none() {
+                *proposed = Some(clock);
+            }
+        }
+    }
+
+    /// The greatest proposal, if the request has started and each of its groups has made one.
+    fn final_stamp(&self) -> Option<Stamp> {
+        let groups = self.groups?;
+        let mut greatest = None;
+        for group in groups.iter() {
+            greatest = greatest.max(Some(self.proposal(group)?));
+        }
+        greatest
+    }
+
+    /// Where it stands at this group, if it has started: at its final stamp if that is known, else at the own proposal.
+    fn place(&self, me: GroupId) -> Option<Stamp> {
+        if self.groups.is_none() {
+            return None;
+        }
+        match self.final_stamp() {
+            Some(stamp) => Some(stamp),
+            None => self.proposal(me),
         }
     }
 }
 
-/// A proposal for a request.
-#[derive(Clone, Copy)]
-struct Told {
-    id: RequestId,
-    stamp: Stamp,
-}
-
-/// A group that keeps two lists.
+/// A group that keeps a list.
 #[derive(Drop)]
-pub struct PlainGroup {
+pub(crate) struct PlainGroup {
     me: GroupId,
     clock: u64,
-    started: Vec<Started>,
-    proposals: Vec<Told>,
+    heard: Vec<Heard>,
+
+    /// What it sent for the last packet.
+    pub(crate) sent: Vec<Packet>,
+
+    /// What it delivered for the last packet.
+    pub(crate) delivered: Vec<Delivered>,
 }
 
 impl PlainGroup {
-    pub fn new(alloc: Global, me: GroupId) -> Self {
+    pub(crate) fn new(alloc: Global, me: GroupId) -> Self {
         PlainGroup {
             me,
             clock: 0,
-            started: Vec::new(alloc),
-            proposals: Vec::new(alloc),
+            heard: Vec::new(alloc),
+            sent: Vec::new(alloc),
+            delivered: Vec::new(alloc),
         }
     }
 
-    pub fn clock(&self) -> u64 {
+    pub(crate) fn clock(&self) -> u64 {
         self.clock
     }
 
-    /// For how many requests it has proposals.
-    pub fn kept(&self) -> usize {
-        let mut count = 0usize;
-        for (place, told) in self.proposals.iter().enumerate() {
-            let id = told.id;
-            if !self.proposals[..place]
-                .iter()
-                .any(|earlier| earlier.id == id)
-            {
-                count = count.saturating_add(1);
-            }
-        }
-        count
+    /// Of how many requests it has heard that it hasn't delivered.
+    pub(crate) fn kept(&self) -> usize {
+        self.heard.len()
     }
 
-    /// What it sends and delivers.
-    pub fn receive(
-        &mut self,
-        alloc: Global,
-        packet: &Packet,
-    ) -> Result<(Vec<Packet>, Vec<Delivered>), AllocError> {
-        let mut sent = Vec::new(alloc);
-        let id = packet.id;
+    /// A packet comes.
+    pub(crate) fn receive(&mut self, packet: &Packet) -> Result<(), AllocError> {
+        self.sent.clear();
+        self.delivered.clear();
+        let place = self.place_of(packet.id)?;
         match packet.body {
-            Body::Start { floor, groups } => {
-                if self.started.iter().any(|request| request.id == id) {
-                    return Ok((sent, Vec::new(alloc)));
-                }
-                let clock = self.clock.max(floor).saturating_add(1);
-                let me = self.me;
-                self.clock = clock;
-                self.started.push(Started {
-                    id,
-                    groups,
-                    own: Stamp { clock, group: me },
-                    final_stamp: None,
-                })?;
-                self.hear(id, Stamp { clock, group: me })?;
-                for to in groups.iter() {
-                    if to != me {
-                        let body = Body::Proposal { from: me, clock };
-                        sent.push(Packet { to, id, body })?;
-                    }
-                }
-            }
-            Body::Proposal { from, clock } => self.hear(id, Stamp { clock, group: from })?,
+            Body::Start { floor, groups } => self.start(place, floor, groups)?,
+            Body::Proposal { from, clock } => self.hear(place, from, clock),
         }
         self.settle();
-        let delivered = self.deliver(alloc)?;
-        Ok((sent, delivered))
+        self.deliver()
     }
 
-    fn hear(&mut self, id: RequestId, stamp: Stamp) -> Result<(), AllocError> {
-        let group = stamp.group;
-        if self
-            .proposals
-            .iter()
-            .any(|told| told.id == id && told.stamp.group == group)
-        {
+    /// The place of a request in the list, to which it is added if it isn't there.
+    fn place_of(&mut self, id: RequestId) -> Result<usize, AllocError> {
+        for (place, request) in self.heard.iter().enumerate() {
+            if request.id == id {
+                return Ok(place);
+            }
+        }
+        let place = self.heard.len();
+        self.heard.push(Heard {
+            id,
+            groups: None,
+            proposals: [None; 3],
+        })?;
+        Ok(place)
+    }
+
+    fn hear(&mut self, place: usize, from: GroupId, clock: u64) {
+        if let Some(request) = self.heard.get_mut(place) {
+            request.hear(from, clock);
+        }
+    }
+
+    /// The request at this place begins, unless it has begun.
+    fn start(&mut self, place: usize, floor: u64, groups: Groups) -> Result<(), AllocError> {
+        let me = self.me;
+        let clock = self.clock.max(floor).saturating_add(1);
+        let Some(request) = self.heard.get_mut(place) else {
+            return Ok(());
+        };
+        if request.groups.is_some() {
             return Ok(());
         }
-        self.proposals.push(Told { id, stamp })?;
+        request.groups = Some(groups);
+        request.hear(me, clock);
+        self.clock = clock;
+        let id = request.id;
+        self.tell(id, clock, groups)
+    }
+
+    /// Tells the other groups of the own proposal.
+    fn tell(&mut self, id: RequestId, clock: u64, groups: Groups) -> Result<(), AllocError> {
+        let from = self.me;
+        for to in groups.iter() {
+            if to != from {
+                let body = Body::Proposal { from, clock };
+                self.sent.push(Packet { to, id, body })?;
+            }
+        }
         Ok(())
     }
 
-    /// Each request whose groups have all proposed has its final stamp, and the clock is at least that of each.
+    /// The clock is at least that of each final stamp.
     fn settle(&mut self) {
-        for request in &mut self.started {
-            request.final_stamp = greatest(&self.proposals, request.id, request.groups);
-            if let Some(stamp) = request.final_stamp {
-                let clock = stamp.clock;
-                self.clock = self.clock.max(clock);
+        for request in &self.heard {
+            if let Some(stamp) = request.final_stamp() {
+                self.clock = self.clock.max(stamp.clock);
             }
         }
     }
 
-    /// Takes out the request at the least place again and again, until that one isn't settled.
-    fn deliver(&mut self, alloc: Global) -> Result<Vec<Delivered>, AllocError> {
-        let mut delivered = Vec::new(alloc);
-        for _ in 0..self.started.len() {
-            let Some(request) = least(&self.started) else {
-                break;
-            };
-            let Started {
-                id,
-                groups,
-                own: _,
-                final_stamp,
-            } = request;
-            let Some(stamp) = final_stamp else {
-                break;
-            };
-            delivered.push(Delivered { id, stamp, groups })?;
-            self.started.retain(|other| other.id != id);
-            self.proposals.retain(|told| told.id != id);
+    /// The place in the list of the request that stands at the least place.
+    fn least(&self) -> Option<usize> {
+        let mut least: Option<(Stamp, usize)> = None;
+        for (place, request) in self.heard.iter().enumerate() {
+            if let Some(stamp) = request.place(self.me) {
+                if is_before(&stamp, &least) {
+                    least = Some((stamp, place));
+                }
+            }
         }
-        Ok(delivered)
+        match least {
+            Some((_, place)) => Some(place),
+            None => None,
+        }
     }
-}
 
-/// The greatest proposal for the request, if each of these groups has made one.
-fn greatest(proposals: &[Told], id: RequestId, groups: Groups) -> Option<Stamp> {
-    let mut greatest = None;
-    for group in groups.iter() {
-        let told = proposals
-            .iter()
-            .find(|told| told.id == id && told.stamp.group == group)?;
-        greatest = greatest.max(Some(told.stamp));
+    /// Takes out the request at the least place again and again, until that one has no final stamp.
+    fn deliver(&mut self) -> Result<(), AllocError> {
+        for _ in 0..self.heard.len() {
+            if !self.deliver_least()? {
+                break;
+            }
+        }
+        Ok(())
     }
-    greatest
-}
 
-/// The request at the least place.
-fn least(started: &[Started]) -> Option<Started> {
-    let mut least: Option<Started> = None;
-    for request in started {
-        let before = match &least {
-            Some(other) => request.place() < other.place(),
-            None => true,
+    /// Takes out the request at the least place, if it has its final stamp. Whether it has.
+    fn deliver_least(&mut self) -> Result<bool, AllocError> {
+        let Some(place) = self.least() else {
+            return Ok(false);
         };
-        if before {
-            least = Some(*request);
-        }
+        let Some(request) = self.heard.get(place) else {
+            return Ok(false);
+        };
+        let (id, groups, stamp) = (request.id, request.groups, request.final_stamp());
+        let (Some(groups), Some(stamp)) = (groups, stamp) else {
+            return Ok(false);
+        };
+        self.delivered.push(Delivered { id, stamp, groups })?;
+        self.heard.remove(place);
+        Ok(true)
     }
-    least
+}
+
+/// Whether the stamp is before the least one so far, if there is one.
+fn is_before(stamp: &Stamp, least: &Option<(Stamp, usize)>) -> bool {
+    match least {
+        Some((other, _)) => stamp < other,
+        None => true,
+    }
 }

@@ -33,12 +33,17 @@ fn line_behind(text: &[u8]) -> u64 {
     line
 }
 
+/// The text of a trace, behind what is there.
+fn written(alloc: Global, trace: &Trace) -> Result<Vec<u8>, TraceFault> {
+    let mut out = Vec::from_slice(alloc, b"before ")?;
+    write_trace(trace, &mut out)?;
+    Ok(out)
+}
+
 /// The text of the trace that this text spells.
 fn written_again(alloc: Global, text: &str) -> Result<Vec<u8>, TraceFault> {
     let trace = read_trace(alloc, text.as_bytes())?;
-    let mut out = Vec::from_slice(alloc, b"before ")?;
-    write_trace(&trace, &mut out)?;
-    Ok(out)
+    written(alloc, &trace)
 }
 
 /// A name, a text, and how it is written.
@@ -55,12 +60,16 @@ const KNOWN: [Known; 3] = [
     ),
 ];
 
+fn is_written(alloc: Global, known: &Known) -> Result<(), Fail> {
+    let (name, text, written) = *known;
+    let again = written_again(alloc, text)?;
+    let want = format!(in alloc; "before {written}")?;
+    same_bytes(name, &again, want.as_bytes())
+}
+
 fn each_is_written(alloc: Global, texts: &[Known]) -> Result<(), Fail> {
     for known in texts {
-        let (name, text, written) = *known;
-        let again = written_again(alloc, text)?;
-        let want = format!(in alloc; "before {written}")?;
-        same_bytes(name, &again, want.as_bytes())?;
+        is_written(alloc, known)?;
     }
     Ok(())
 }
@@ -188,15 +197,21 @@ fn has_words(request: &Request, second: &[u8]) -> Result<(), Fail> {
     same_bytes("the second of them", request.word(1), second)
 }
 
+/// This reply is that of the row of this number.
+fn is_reply(alloc: Global, reply: &[u8], seq: u64) -> Result<(), Fail> {
+    let wanted = reply_of_row(alloc, seq)?;
+    let mut text = Vec::new(alloc);
+    write_reply(&wanted, &mut text)?;
+    same_bytes("its reply", reply, text.as_slice())
+}
+
 /// The row is that of this number.
 fn is_row(alloc: Global, row: &Row, seq: u64) -> Result<(), Fail> {
     same("its request", &row.id(), &request_of(seq))?;
     same_number("its clock", row.stamp().clock, seq)?;
     same_count("its words", row.word_count(), 3)?;
     has_words(&row.request(alloc)?, second_word(seq))?;
-    let mut text = Vec::new(alloc);
-    write_reply(&reply_of_row(alloc, seq)?, &mut text)?;
-    same_bytes("its reply", row.reply(), text.as_slice())
+    is_reply(alloc, row.reply(), seq)
 }
 
 /// Adds the row of this number.
@@ -223,74 +238,112 @@ fn are_kept(alloc: Global, rows: &Rows) -> Result<(), Fail> {
     Ok(())
 }
 
+/// Adds 300 rows.
+fn add_each(alloc: Global, rows: &mut Rows) -> Result<(), Fail> {
+    for seq in 0..300 {
+        add(alloc, rows, seq)?;
+    }
+    Ok(())
+}
+
+fn are_added_and_kept(alloc: Global, rows: &mut Rows) -> Result<(), Fail> {
+    add_each(alloc, rows)?;
+    same_count("rows", rows.len(), 300)?;
+    holds("a row behind the last", rows.row(300).is_none())?;
+    are_kept(alloc, rows)
+}
+
 #[test]
 fn rows_are_kept_short_and_long(rt: HostRuntime) -> Result<(), Fail> {
     let mut rows = Rows::new(rt.alloc());
-    for seq in 0..300 {
-        add(rt.alloc(), &mut rows, seq)?;
+    are_added_and_kept(rt.alloc(), &mut rows)
+}
+
+/// Adds 20,000 Delivers.
+fn deliver_often(trace: &mut Trace) -> Result<(), AllocError> {
+    for place in 0..20_000 {
+        trace.push(&Step::Deliver { place })?;
     }
-    same_count("rows", rows.len(), 300)?;
-    holds("a row behind the last", rows.row(300).is_none())?;
-    are_kept(rt.alloc(), &rows)
+    Ok(())
 }
 
 /// A trace of 20,000 Delivers, whose text is four pieces and a rest.
 fn long_trace(alloc: Global) -> Result<Trace, AllocError> {
     let mut trace = Trace::new(alloc, 1 << 40);
-    for place in 0..20_000 {
-        trace.push(&Step::Deliver { place })?;
-    }
+    deliver_often(&mut trace)?;
     Ok(trace)
+}
+
+/// The trace is sent as its text.
+fn is_sent(alloc: Global, trace: &Trace) -> Result<(), Fail> {
+    let mut text = Vec::new(alloc);
+    write_trace(trace, &mut text)?;
+    let mut sink = Sink::new(alloc, 10_000);
+    same("sent", &send_trace(alloc, trace, &mut sink), &Ok(()))?;
+    same_bytes("its text", sink.taken.as_slice(), text.as_slice())
 }
 
 #[test]
 fn a_trace_is_sent_by_pieces(rt: HostRuntime) -> Result<(), Fail> {
-    let alloc = rt.alloc();
-    let trace = long_trace(alloc)?;
-    let mut text = Vec::new(alloc);
-    write_trace(&trace, &mut text)?;
-    let mut sink = Sink::new(alloc, 10_000);
-    same("sent", &send_trace(alloc, &trace, &mut sink), &Ok(()))?;
-    same_bytes("its text", sink.taken.as_slice(), text.as_slice())
+    let trace = long_trace(rt.alloc())?;
+    is_sent(rt.alloc(), &trace)
+}
+
+/// The trace isn't sent where this write fails.
+fn is_not_sent(alloc: Global, trace: &Trace, failing: usize) -> Result<(), Fail> {
+    let mut sink = Sink::new(alloc, NEVER);
+    sink.fails_at = failing;
+    let sent = send_trace(alloc, trace, &mut sink);
+    same("sent", &sent, &Err(SendFault::Write))
 }
 
 /// Each piece is taken by one write, of which one fails.
+fn each_write_fails(alloc: Global, trace: &Trace) -> Result<(), Fail> {
+    for failing in 0..5 {
+        is_not_sent(alloc, trace, failing)?;
+    }
+    Ok(())
+}
+
 #[test]
 fn a_trace_whose_write_fails(rt: HostRuntime) -> Result<(), Fail> {
-    let alloc = rt.alloc();
-    let trace = long_trace(alloc)?;
-    for failing in 0..5 {
-        let mut sink = Sink::new(alloc, NEVER);
-        sink.fails_at = failing;
-        same(
-            "sent",
-            &send_trace(alloc, &trace, &mut sink),
-            &Err(SendFault::Write),
-        )?;
-    }
+    let trace = long_trace(rt.alloc())?;
+    each_write_fails(rt.alloc(), &trace)
+}
+
+/// Adds a Submit and the Deliver of place 1000.
+fn add_both(alloc: Global, trace: &mut Trace) -> Result<(), Fail> {
+    let step = Step::Submit {
+        conn: ConnId(1),
+        words: get(alloc)?,
+    };
+    trace.reserve(&step)?;
+    trace.push(&step)?;
+    trace.push(&Step::Deliver { place: 1000 })?;
     Ok(())
 }
 
 #[test]
 fn a_reserved_step_is_added(rt: HostRuntime) -> Result<(), Fail> {
     let mut trace = Trace::new(rt.alloc(), 7);
-    let step = Step::Submit {
-        conn: ConnId(1),
-        words: get(rt.alloc())?,
-    };
-    trace.reserve(&step)?;
-    trace.push(&step)?;
-    trace.push(&Step::Deliver { place: 1000 })?;
-    holds_both(rt.alloc(), &read_back(rt.alloc(), &trace)?)
+    add_both(rt.alloc(), &mut trace)?;
+    let again = read_back(rt.alloc(), &trace)?;
+    holds_both(rt.alloc(), &again)
 }
 
-/// The next step is a Submit, if `submits`, and else the Deliver of place 1000.
-fn comes(alloc: Global, steps: &mut Steps<'_>, submits: bool) -> Result<(), Fail> {
-    match steps.next(alloc)? {
+/// It is a Submit, if `submits`, and else the Deliver of place 1000.
+fn is_step(step: &Option<Step>, submits: bool) -> Result<(), Fail> {
+    match step {
         Some(Step::Submit { .. }) => holds("a Submit", submits),
         Some(Step::Deliver { place: 1000 }) => holds("a Deliver", !submits),
         _ => Err("another step, or none".into()),
     }
+}
+
+/// The next step is a Submit, if `submits`, and else the Deliver of place 1000.
+fn comes(alloc: Global, steps: &mut Steps<'_>, submits: bool) -> Result<(), Fail> {
+    let step = steps.next(alloc)?;
+    is_step(&step, submits)
 }
 
 /// A trace of a Submit and the Deliver of place 1000.

@@ -38,12 +38,22 @@ const ADDRESSED: [(&str, &[u8]); 6] = [
     ("GET ", &[50]), ("DEL c a", &[8, 63]), ("DEL z a b {a}1 z", &[8, 26, 38]), ("SET y a", &[21]), ("PING", &[]), ("ECHO a", &[]),
 ];
 
+/// The words of this line address the groups of these numbers.
+fn addresses(alloc: Global, table: &Table, line: &str, wanted: &[u8]) -> Result<(), Fail> {
+    let numbers = groups_addressed(alloc, table, line)?;
+    same_bytes(line, &numbers, wanted)
+}
+
+fn each_addresses(alloc: Global, table: &Table) -> Result<(), Fail> {
+    for (line, wanted) in &ADDRESSED {
+        addresses(alloc, table, line, wanted)?;
+    }
+    Ok(())
+}
+
 #[test]
 fn requests_address_the_shards_of_their_keys(rt: HostRuntime) -> Result<(), Fail> {
     let text = table_of_64_shards(rt.alloc())?;
     let table = Table::from_toml(rt.alloc(), text.as_str())?;
-    for (line, wanted) in &ADDRESSED {
-        same_bytes(line, &groups_addressed(rt.alloc(), &table, line)?, wanted)?;
-    }
-    Ok(())
+    each_addresses(rt.alloc(), &table)
 }

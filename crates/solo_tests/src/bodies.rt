@@ -2,18 +2,27 @@
 //!
 //! A line is a request and, behind ` = `, its reply, both as in the rows of `test_support`.
 
-use crate::store::{answers_row, empty_store};
+use crate::store::{Store, answers_row, empty_store};
 use std::alloc::Global;
 use std::test::Fail;
 
-/// Has an empty store answer these lines in turn.
-fn answer_in_turn(alloc: Global, lines: &str) -> Result<(), Fail> {
-    let mut store = empty_store(alloc);
+/// Has the store answer this line.
+fn answers_line(alloc: Global, store: &mut Store, line: &str) -> Result<(), Fail> {
+    let (request, reply) = line.split_once(" = ").ok_or("a line has no reply")?;
+    answers_row(store, alloc, request, reply)
+}
+
+/// Has the store answer these lines in turn.
+fn answers_lines(alloc: Global, store: &mut Store, lines: &str) -> Result<(), Fail> {
     for line in lines.split('\n') {
-        let (request, reply) = line.split_once(" = ").ok_or("a line has no reply")?;
-        answers_row(&mut store, alloc, request, reply)?;
+        answers_line(alloc, store, line)?;
     }
     Ok(())
+}
+
+/// Has an empty store answer these lines in turn.
+fn answer_in_turn(alloc: Global, lines: &str) -> Result<(), Fail> {
+    answers_lines(alloc, &mut empty_store(alloc), lines)
 }
 
 /// The commands that came first.

@@ -2,9 +2,10 @@
 //! RESP2 specification and of this project's texts for faults; `|` stands for CR LF.
 
 use crate::doors::Echo;
+use crate::many::large_value;
 use resp_decoder::{Fault, Limits};
 use serving::{Door, ServeFault, Served, serve};
-use std::alloc::Global;
+use std::alloc::{AllocError, Global};
 use std::io::{ErrorKind, Read, Write};
 use std::test::Fail;
 use test_support::{NEVER, Sink, Source, bytes_of, holds, same, same_bytes, same_count, same_text};
@@ -92,6 +93,17 @@ fn rows_are_answered_however_they_are_cut(rt: HostRuntime) -> Result<(), Fail> {
     Ok(())
 }
 
+/// Serving ended well, with these bytes written, by so many reads and so many writes.
+fn took(
+    ended: &Outcome,
+    (reader, reads): (&Source<'_>, usize),
+    (writer, wanted, writes): (&Sink, &[u8], usize),
+) -> Result<(), Fail> {
+    comes("in pieces", (ended, writer), (&WELL, wanted))?;
+    same_count("reads", reader.reads, reads)?;
+    same_count("writes", writer.writes, writes)
+}
+
 /// The input in such pieces is answered by these bytes, by so many reads and so many writes of at most `most` bytes.
 fn takes(
     alloc: Global,
@@ -101,9 +113,7 @@ fn takes(
     let mut reader = Source::new(input, piece);
     let mut writer = Sink::new(alloc, most);
     let ended = served(alloc, &mut reader, &mut writer);
-    comes("in pieces", (&ended, &writer), (&WELL, wanted))?;
-    same_count("reads", reader.reads, reads)?;
-    same_count("writes", writer.writes, writes)
+    took(&ended, (&reader, reads), (&writer, wanted, writes))
 }
 
 #[test]
@@ -113,27 +123,25 @@ fn replies_are_written_once_before_each_read(rt: HostRuntime) -> Result<(), Fail
     takes(rt.alloc(), (&input, 33, 3), (&wanted, NEVER, 2))
 }
 
-/// A word of so many bytes as it stands in a request and in a reply.
-fn word_of(alloc: Global, len: usize) -> Result<Vec<u8>, Fail> {
-    let mut word = Vec::new(alloc);
-    write!(word, "${len}\r\n")?;
-    word.extend_from_slice(&vec![in alloc; b'x'; len]?)?;
-    word.extend_from_slice(b"\r\n")?;
-    Ok(word)
+/// The request of one word.
+fn request_of(alloc: Global, word: &[u8]) -> Result<Vec<u8>, AllocError> {
+    let mut request = bytes_of(alloc, "*1|")?;
+    request.extend_from_slice(word)?;
+    Ok(request)
+}
+
+/// The request of a word comes 2,000 times, in a piece each.
+fn comes_in_pieces(alloc: Global, word: &[u8], request: &[u8]) -> Result<(), Fail> {
+    let input = request.repeat(alloc, 2000)?;
+    let wanted = word.repeat(alloc, 2000)?;
+    takes(alloc, (&input, request.len(), 2001), (&wanted, NEVER, 2000))
 }
 
 #[test]
 fn two_thousand_pieces_and_two_million_bytes_are_served(rt: HostRuntime) -> Result<(), Fail> {
-    let word = word_of(rt.alloc(), 1000)?;
-    let mut request = bytes_of(rt.alloc(), "*1|")?;
-    request.extend_from_slice(&word)?;
-    let input = request.repeat(rt.alloc(), 2000)?;
-    let wanted = word.repeat(rt.alloc(), 2000)?;
-    takes(
-        rt.alloc(),
-        (&input, request.len(), 2001),
-        (&wanted, NEVER, 2000),
-    )
+    let word = large_value(rt.alloc(), 1)?;
+    let request = request_of(rt.alloc(), &word)?;
+    comes_in_pieces(rt.alloc(), &word, &request)
 }
 
 /// One piece of 52,000 bytes, with 80,000 bytes of replies.
@@ -147,9 +155,8 @@ fn replies_are_written_when_enough_is_gathered(rt: HostRuntime) -> Result<(), Fa
 /// One reply of 20,010 bytes, written in as many writes.
 #[test]
 fn a_reply_is_written_byte_by_byte(rt: HostRuntime) -> Result<(), Fail> {
-    let word = word_of(rt.alloc(), 20_000)?;
-    let mut input = bytes_of(rt.alloc(), "*1|")?;
-    input.extend_from_slice(&word)?;
+    let word = large_value(rt.alloc(), 20)?;
+    let input = request_of(rt.alloc(), &word)?;
     takes(rt.alloc(), (&input, NEVER, 2), (&word, 1, 20_010))
 }
 
@@ -161,12 +168,11 @@ const READS: [(usize, usize, &str); 6] = [
 
 fn read_fails(alloc: Global, piece: usize, fails_at: usize, wanted: &str) -> Result<(), Fail> {
     let line = format!(in alloc; "read {fails_at} of {piece} bytes")?;
-    let input = bytes_of(alloc, "*1|$4|PING|*1|$")?;
-    let mut reader = Source::new(&input, piece);
+    let wanted = bytes_of(alloc, wanted)?;
+    let mut reader = Source::new(b"*1\r\n$4\r\nPING\r\n*1\r\n$", piece);
     reader.fails_at = fails_at;
     let mut writer = Sink::new(alloc, NEVER);
     let ended = served(alloc, &mut reader, &mut writer);
-    let wanted = bytes_of(alloc, wanted)?;
     comes(
         line.as_str(),
         (&ended, &writer),
@@ -182,17 +188,33 @@ fn a_failed_read_is_told_behind_all_replies(rt: HostRuntime) -> Result<(), Fail>
     Ok(())
 }
 
+/// A PING and a fault, and what is written for them.
+const PING_AND_FAULT: &[u8] = b"*1\r\n$4\r\nPING\r\n+";
+
+const PONG_AND_LINE: &[u8] = b"$4\r\nPING\r\n-ERR Protocol error: expected '*'\r\n";
+
+/// Serving ended by a failed write, with so many bytes written, or all.
+fn stands(line: &str, ended: &Outcome, taken: &[u8], count: usize) -> Result<(), Fail> {
+    same(line, ended, &Err(ServeFault::Write))?;
+    same_bytes(
+        line,
+        taken,
+        &PONG_AND_LINE[..count.min(PONG_AND_LINE.len())],
+    )
+}
+
 /// Of a writer that takes `most` bytes at once this write fails: only what was taken before stands.
 fn write_fails(alloc: Global, most: usize, fails_at: usize) -> Result<(), Fail> {
     let line = format!(in alloc; "write {fails_at} of {most} bytes")?;
-    let input = bytes_of(alloc, "*1|$4|PING|+")?;
-    let output = bytes_of(alloc, "$4|PING|-ERR Protocol error: expected '*'|")?;
     let mut writer = Sink::new(alloc, most);
     writer.fails_at = fails_at;
-    let ended = served(alloc, &mut Source::new(&input, NEVER), &mut writer);
-    same(line.as_str(), &ended, &Err(ServeFault::Write))?;
-    let stands = most.saturating_mul(fails_at).min(output.len());
-    same_bytes(line.as_str(), &writer.taken, &output[..stands])
+    let ended = served(alloc, &mut Source::new(PING_AND_FAULT, NEVER), &mut writer);
+    stands(
+        line.as_str(),
+        &ended,
+        &writer.taken,
+        most.saturating_mul(fails_at),
+    )
 }
 
 #[test]
@@ -238,6 +260,16 @@ fn count_replies(bytes: &[u8]) -> Option<usize> {
     None
 }
 
+/// All three replies came, or fewer, and then there was no memory.
+fn are_whole(ended: &Outcome, taken: &[u8]) -> Result<(), Fail> {
+    let count = count_replies(taken).ok_or("a reply in part")?;
+    if count == 3 {
+        return same("all replies", ended, &WELL);
+    }
+    holds("at most three replies", count < 3)?;
+    same("some replies", ended, &Err(ServeFault::Memory))
+}
+
 /// With ample memory this is three replies. Run with the Nth allocation failing, for each N, it says what is left to
 /// promise.
 #[test]
@@ -249,12 +281,7 @@ fn replies_are_whole_where_memory_fails(rt: HostRuntime) -> Result<(), Fail> {
     let mut writer = Sink::new(rt.alloc(), NEVER);
     writer.taken = held;
     let ended = served(rt.alloc(), &mut Source::new(input, 11), &mut writer);
-    let count = count_replies(&writer.taken).ok_or("a reply in part")?;
-    if count == 3 {
-        return same("all replies", &ended, &WELL);
-    }
-    holds("at most three replies", count < 3)?;
-    same("some replies", &ended, &Err(ServeFault::Memory))
+    are_whole(&ended, &writer.taken)
 }
 
 /// Faults and their texts.
@@ -265,10 +292,15 @@ const FAULTS: [(ServeFault<&str>, &str); 4] = [
     (ServeFault::Door("enough"), "enough"),
 ];
 
+fn says(alloc: Global, fault: &ServeFault<&str>, wanted: &str) -> Result<(), Fail> {
+    let text = format!(in alloc; "{fault}")?;
+    same_text(wanted, text.as_str(), wanted)
+}
+
 #[test]
 fn faults_say_why_serving_failed(rt: HostRuntime) -> Result<(), Fail> {
     for (fault, wanted) in &FAULTS {
-        same_text(wanted, format!(in rt.alloc(); "{fault}")?.as_str(), wanted)?;
+        says(rt.alloc(), fault, wanted)?;
     }
     Ok(())
 }

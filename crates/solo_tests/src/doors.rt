@@ -1,7 +1,7 @@
 //! Doors of the tests' own, and what stands before them: an echo, and those that see when a door rests, what it is told, and
 //! when its replies are passed on.
 
-use crate::connections::{WELL, comes, served_by};
+use crate::connections::{Outcome, WELL, comes, served_by};
 use resp::{Reply, Request};
 use resp_decoder::Ahead;
 use serving::{Door, DoorFault};
@@ -79,23 +79,35 @@ impl Read for WaitsForReply<'_> {
     }
 }
 
-#[test]
-fn each_reply_is_passed_on_before_the_next_read(rt: HostRuntime) -> Result<(), Fail> {
-    let request = bytes_of(rt.alloc(), "*1|$1|a|")?;
-    let passed_on = &Cell::new(0);
+/// It ends well behind five requests, whose replies are all passed on.
+fn all_came(ended: &Outcome, asked: usize, passed_on: usize) -> Result<(), Fail> {
+    same("how it ends", ended, &WELL)?;
+    same_count("requests", asked, 5)?;
+    same_count("bytes that were passed on", passed_on, 35)
+}
+
+/// The request comes five times, each time once the reply to the one before it was passed on.
+fn comes_behind_replies(
+    alloc: Global,
+    request: &[u8],
+    passed_on: &Cell<usize>,
+) -> Result<(), Fail> {
     let mut reader = WaitsForReply {
-        request: &request,
+        request,
         reply: 7,
         asked: 0,
         passed_on,
     };
-    let taken = Vec::new(rt.alloc());
+    let taken = Vec::new(alloc);
     let mut writer = KeepsBack { taken, passed_on };
-    let mut door = Echo { alloc: rt.alloc() };
-    let ended = served_by(rt.alloc(), &mut reader, &mut writer, &mut door);
-    same("how it ends", &ended, &WELL)?;
-    same_count("requests", reader.asked, 5)?;
-    same_count("bytes that were passed on", passed_on.get(), 35)
+    let ended = served_by(alloc, &mut reader, &mut writer, &mut Echo { alloc });
+    all_came(&ended, reader.asked, passed_on.get())
+}
+
+#[test]
+fn each_reply_is_passed_on_before_the_next_read(rt: HostRuntime) -> Result<(), Fail> {
+    let request = bytes_of(rt.alloc(), "*1|$1|a|")?;
+    comes_behind_replies(rt.alloc(), &request, &Cell::new(0))
 }
 
 /// Echoes, and rests where it is told to.
@@ -162,20 +174,28 @@ impl Write for RestedSink<'_> {
     }
 }
 
-#[test]
-fn a_door_rests_before_each_read_and_write(rt: HostRuntime) -> Result<(), Fail> {
-    let alloc = rt.alloc();
-    let input = bytes_of(alloc, "*1|$1|a|*1|$1|b|*1|$1|c|")?;
-    let at_rest = &Cell::new(false);
-    let inner = Source::new(&input, 15);
+/// The input is answered so where the door rests before each read and each write.
+fn comes_rested(
+    alloc: Global,
+    input: &[u8],
+    wanted: &[u8],
+    at_rest: &Cell<bool>,
+) -> Result<(), Fail> {
+    let inner = Source::new(input, 15);
     let mut reader = RestedSource { inner, at_rest };
     let inner = Sink::new(alloc, NEVER);
     let mut writer = RestedSink { inner, at_rest };
     let echo = Echo { alloc };
     let mut door = Rests { echo, at_rest };
     let ended = served_by(alloc, &mut reader, &mut writer, &mut door);
-    let wanted = bytes_of(alloc, "$1|a|$1|b|$1|c|")?;
-    comes("rests", (&ended, &writer.inner), (&WELL, &wanted))
+    comes("rests", (&ended, &writer.inner), (&WELL, wanted))
+}
+
+#[test]
+fn a_door_rests_before_each_read_and_write(rt: HostRuntime) -> Result<(), Fail> {
+    let input = bytes_of(rt.alloc(), "*1|$1|a|*1|$1|b|*1|$1|c|")?;
+    let wanted = bytes_of(rt.alloc(), "$1|a|$1|b|$1|c|")?;
+    comes_rested(rt.alloc(), &input, &wanted, &Cell::new(false))
 }
 
 /// Answers each request by more than is gathered at once, and counts how often it is told what comes next, and of how
@@ -209,20 +229,29 @@ impl Door for Told<'_> {
     }
 }
 
-#[test]
-fn a_door_is_told_what_comes_once_for_thirty_two_requests(rt: HostRuntime) -> Result<(), Fail> {
-    let alloc = rt.alloc();
-    let input = bytes_of(alloc, "*2|$1|a|$1|b|")?.repeat(alloc, 70)?;
-    let (calls, requests) = (&Cell::new(0), &Cell::new(0));
+/// How serving this input by such a door ends.
+fn served_told(alloc: Global, input: &[u8], calls: &Cell<u64>, requests: &Cell<u64>) -> Outcome {
     let mut door = Told {
         alloc,
         calls,
         requests,
     };
-    let mut reader = Source::new(&input, NEVER);
+    let mut reader = Source::new(input, NEVER);
     let mut writer = Sink::new(alloc, NEVER);
-    let ended = served_by(alloc, &mut reader, &mut writer, &mut door);
+    served_by(alloc, &mut reader, &mut writer, &mut door)
+}
+
+/// Of 70 requests in one piece the door is told at the first, the 33rd and the 65th.
+fn is_told(alloc: Global, input: &[u8]) -> Result<(), Fail> {
+    let (calls, requests) = (Cell::new(0), Cell::new(0));
+    let ended = served_told(alloc, input, &calls, &requests);
     same("how it ends", &ended, &WELL)?;
     same_number("times", calls.get(), 3)?;
     same_number("requests", requests.get(), 70 + 38 + 6)
+}
+
+#[test]
+fn a_door_is_told_what_comes_once_for_thirty_two_requests(rt: HostRuntime) -> Result<(), Fail> {
+    let input = bytes_of(rt.alloc(), "*2|$1|a|$1|b|")?.repeat(rt.alloc(), 70)?;
+    is_told(rt.alloc(), &input)
 }

@@ -1,6 +1,6 @@
 //! What each family of commands answers, row by row.
 
-use crate::store::{END, Row, each_answers, empty_store};
+use crate::store::{END, Ending, Row, each_answers, empty_store};
 use std::alloc::Global;
 use std::test::Fail;
 use test_support::{holds, requests_of, same};
@@ -14,21 +14,36 @@ const STRINGS: [Row; 8] = [
     ("SET a v; RENAMENX a b; RENAME b b; DBSIZE; FLUSHALL now; FLUSHALL async; DBSIZE", "+OK|:1|+OK|:1|-ERR syntax error|+OK|:0|"),
     ("SET a 01; INCR a; GETDEL a; DECR a", "+OK|-ERR value is not an integer or out of range|$2|01|:-1|"),
     ("SETRANGE b 3 x; GET b; SETRANGE b -1 x", ":4|$4|\0\0\0x|-ERR offset is out of range|"),
-    ("SET a v; SADD c m; RENAME a c; TYPE c; TYPE a; RENAME a c; RENAME c c; RENAMENX c c", "+OK|:1|+OK|+string|+none|-ERR no such key|+OK|:0|"),
+    (
+        "SET a v; SADD c m; RENAME a c; TYPE c; TYPE a; RENAME a c; RENAME c c; RENAMENX c c",
+        "+OK|:1|+OK|+string|+none|-ERR no such key|+OK|:0|",
+    ),
 ];
 
 #[rattlefmt::skip]
 const LISTS: [Row; 4] = [
-    ("LPUSH a 1; GET a; MGET a c; LMOVE a c LEFT RIGHT; EXISTS a c c", ":1|-WRONGTYPE Operation against a key holding the wrong kind of value|*2|$-1|$-1|$1|1|:2|"),
+    (
+        "LPUSH a 1; GET a; MGET a c; LMOVE a c LEFT RIGHT; EXISTS a c c",
+        ":1|-WRONGTYPE Operation against a key holding the wrong kind of value|*2|$-1|$-1|$1|1|:2|",
+    ),
     ("RPUSH a 1 2 1 3 1; LREM a -2 1; LMOVE a a LEFT RIGHT; LINSERT a AFTER 3 x; LRANGE a 0 -1", ":5|:2|$1|1|:4|*4|$1|2|$1|3|$1|x|$1|1|"),
     ("RPUSH a 2 3 x 1; LINSERT a BEFORE 9 y; LTRIM a 5 9; EXISTS a; LINSERT a BEFORE 9 y", ":4|:-1|+OK|:0|:0|"),
-    ("SET b v; LMOVE a b LEFT LEFT; SMOVE a b m; LPUSH c 1; LMOVE c b LEFT LEFT", "+OK|$-1|:0|:1|-WRONGTYPE Operation against a key holding the wrong kind of value|"),
+    (
+        "SET b v; LMOVE a b LEFT LEFT; SMOVE a b m; LPUSH c 1; LMOVE c b LEFT LEFT",
+        "+OK|$-1|:0|:1|-WRONGTYPE Operation against a key holding the wrong kind of value|",
+    ),
 ];
 
 #[rattlefmt::skip]
 const HASHES: [Row; 2] = [
-    ("HSET a f 1 g 2 f 3; HGETALL a; HSET a f; FOO", ":2|*4|$1|f|$1|3|$1|g|$1|2|-ERR wrong number of arguments for 'hset' command|-ERR unknown command|"),
-    ("HSET h f 1 g 2; HDEL h f; HSET h f x; HKEYS h; HINCRBY h f 1; HDEL h f g g; TYPE h", ":2|:1|:1|*2|$1|g|$1|f|-ERR hash value is not an integer|:2|+none|"),
+    (
+        "HSET a f 1 g 2 f 3; HGETALL a; HSET a f; FOO",
+        ":2|*4|$1|f|$1|3|$1|g|$1|2|-ERR wrong number of arguments for 'hset' command|-ERR unknown command|",
+    ),
+    (
+        "HSET h f 1 g 2; HDEL h f; HSET h f x; HKEYS h; HINCRBY h f 1; HDEL h f g g; TYPE h",
+        ":2|:1|:1|*2|$1|g|$1|f|-ERR hash value is not an integer|:2|+none|",
+    ),
 ];
 
 #[rattlefmt::skip]
@@ -107,13 +122,18 @@ const REFUSED: [(&str, &[&str]); 12] = [
 
 const WRONG_KIND: &[u8] = b"-WRONGTYPE Operation against a key holding the wrong kind of value\r\n";
 
+/// Serving ended well, and the last reply is a refusal.
+fn is_refusal(row: &str, ending: &Ending, replies: &[u8]) -> Result<(), Fail> {
+    same(row, ending, &END)?;
+    holds(row, replies.ends_with(WRONG_KIND))
+}
+
 /// The last of these requests is refused by an empty store.
 fn refuses_last(alloc: Global, row: &str) -> Result<(), Fail> {
     let input = requests_of(alloc, row)?;
     let mut output = Vec::new(alloc);
     let ending = empty_store(alloc).serve(&mut input.as_slice(), &mut output);
-    same(row, &ending, &END)?;
-    holds(row, output.ends_with(WRONG_KIND))
+    is_refusal(row, &ending, &output)
 }
 
 /// Each command is refused where this request came before.

@@ -20,47 +20,76 @@ type Given = (usize, &'static str);
 #[rattlefmt::skip]
 const GIVEN: [Given; 5] = [(0, ""), (26, ""), (27, "+OK|"), (46, "+OK|"), (47, "+OK|$1|1|")];
 
-/// Just the replies of this row stand where a read fails.
-fn stand_behind(alloc: Global, row: &Given) -> Result<(), Fail> {
-    let (given, replies) = *row;
-    let line = format!(in alloc; "behind {given}")?;
-    let input = requests_of(alloc, INPUT)?;
-    let mut reader = Source::new(&input, 1);
-    reader.fails_at = given;
+/// These replies stand where this read of the input fails.
+fn stand(
+    alloc: Global,
+    line: &str,
+    input: &[u8],
+    fails_at: usize,
+    wanted: &[u8],
+) -> Result<(), Fail> {
+    let mut reader = Source::new(input, 1);
+    reader.fails_at = fails_at;
     let mut output = Vec::new(alloc);
     let ended = empty_store(alloc).serve(&mut reader, &mut output);
-    let wanted = bytes_of(alloc, replies)?;
-    came(line.as_str(), (&ended, &output), (&READ, &wanted))
+    came(line, (&ended, &output), (&READ, wanted))
 }
 
-fn each_stands_behind(alloc: Global, rows: &[Given]) -> Result<(), Fail> {
+/// Just the replies of this row stand where a read of this input fails.
+fn stand_behind(alloc: Global, input: &[u8], row: &Given) -> Result<(), Fail> {
+    let (given, replies) = *row;
+    let line = format!(in alloc; "behind {given}")?;
+    let wanted = bytes_of(alloc, replies)?;
+    stand(alloc, line.as_str(), input, given, &wanted)
+}
+
+fn each_stands_behind(alloc: Global, input: &[u8], rows: &[Given]) -> Result<(), Fail> {
     for row in rows {
-        stand_behind(alloc, row)?;
+        stand_behind(alloc, input, row)?;
     }
     Ok(())
 }
 
 #[test]
 fn replies_stand_where_a_read_fails(rt: HostRuntime) -> Result<(), Fail> {
-    each_stands_behind(rt.alloc(), &GIVEN)
+    let input = requests_of(rt.alloc(), INPUT)?;
+    each_stands_behind(rt.alloc(), &input, &GIVEN)
 }
 
 /// Only these replies are taken by a writer of bytes, with room for so many, whose write of number `fails_at` fails.
-fn stands(alloc: Global, replies: &[u8], room: usize, fails_at: usize) -> Result<(), Fail> {
-    let input = requests_of(alloc, INPUT)?;
-    let line = format!(in alloc; "after {}", replies.len())?;
+fn are_taken(
+    alloc: Global,
+    line: &str,
+    input: &[u8],
+    replies: &[u8],
+    (room, fails_at): (usize, usize),
+) -> Result<(), Fail> {
+    let mut rest = input;
     let mut output = Sink::new(alloc, 1);
     (output.room, output.fails_at) = (room, fails_at);
-    let ended = empty_store(alloc).serve(&mut input.as_slice(), &mut output);
-    came(line.as_str(), (&ended, &output.taken), (&WRITE, replies))
+    let ended = empty_store(alloc).serve(&mut rest, &mut output);
+    came(line, (&ended, &output.taken), (&WRITE, replies))
+}
+
+/// Only these replies stand where the write behind them fails, or takes nothing.
+fn stands(alloc: Global, input: &[u8], replies: &[u8]) -> Result<(), Fail> {
+    let written = replies.len();
+    let line = format!(in alloc; "after {written}")?;
+    are_taken(alloc, line.as_str(), input, replies, (written, NEVER))?;
+    are_taken(alloc, line.as_str(), input, replies, (NEVER, written))
+}
+
+/// Each beginning of these replies stands where the write behind it fails, or takes nothing.
+fn each_stands(alloc: Global, input: &[u8], replies: &[u8]) -> Result<(), Fail> {
+    for written in 0..replies.len() {
+        stands(alloc, input, &replies[..written])?;
+    }
+    Ok(())
 }
 
 #[test]
 fn a_beginning_stands_where_a_write_fails(rt: HostRuntime) -> Result<(), Fail> {
+    let input = requests_of(rt.alloc(), INPUT)?;
     let replies = bytes_of(rt.alloc(), REPLIES)?;
-    for written in 0..replies.len() {
-        stands(rt.alloc(), &replies[..written], written, NEVER)?;
-        stands(rt.alloc(), &replies[..written], NEVER, written)?;
-    }
-    Ok(())
+    each_stands(rt.alloc(), &input, &replies)
 }

@@ -1,6 +1,6 @@
 //! Many requests, and large ones.
 
-use crate::store::{Row, answers, empty_store};
+use crate::store::{Row, Store, answers, answers_text, empty_store};
 use std::alloc::{AllocError, Global};
 use std::test::Fail;
 use test_support::{bytes_of, requests_of};
@@ -16,17 +16,23 @@ struct Numbered {
     replies: &'static str,
 }
 
+/// Appends this form with a number in its place.
+fn append_form(out: &mut String, form: &str, number: u32) -> Result<(), Fail> {
+    for (part, text) in form.split('@').enumerate() {
+        if part > 0 {
+            write!(out, "{number}")?;
+        }
+        out.push_str(text)?;
+    }
+    Ok(())
+}
+
 /// Appends this form once for each number.
 fn append_each(out: &mut String, form: &str, numbers: (u32, u32), step: u32) -> Result<(), Fail> {
     let (first, end) = numbers;
     for place in first..end {
         let number = first + (place - first).wrapping_mul(step) % (end - first);
-        for (part, text) in form.split('@').enumerate() {
-            if part > 0 {
-                write!(out, "{number}")?;
-            }
-            out.push_str(text)?;
-        }
+        append_form(out, form, number)?;
     }
     Ok(())
 }
@@ -44,18 +50,31 @@ fn filled(alloc: Global, text: &str, numbers: (u32, u32), step: u32) -> Result<S
     Ok(filled)
 }
 
-/// Has an empty store answer these in turn.
-fn answer_numbered(alloc: Global, rows: &[Numbered]) -> Result<(), Fail> {
-    let mut store = empty_store(alloc);
+/// Has the store answer this row.
+fn answers_numbered(alloc: Global, store: &mut Store, row: &Numbered) -> Result<(), Fail> {
+    let numbers = (row.first, row.end);
+    let requests = filled(alloc, row.requests, numbers, row.step)?;
+    let replies = filled(alloc, row.replies, numbers, 1)?;
+    answers_text(
+        store,
+        alloc,
+        row.requests,
+        requests.as_str(),
+        replies.as_str(),
+    )
+}
+
+/// Has the store answer these in turn.
+fn answers_each(alloc: Global, store: &mut Store, rows: &[Numbered]) -> Result<(), Fail> {
     for row in rows {
-        let numbers = (row.first, row.end);
-        let requests = filled(alloc, row.requests, numbers, row.step)?;
-        let replies = filled(alloc, row.replies, numbers, 1)?;
-        let input = requests_of(alloc, requests.as_str())?;
-        let wanted = bytes_of(alloc, replies.as_str())?;
-        answers(&mut store, alloc, row.requests, &input, &wanted)?;
+        answers_numbered(alloc, store, row)?;
     }
     Ok(())
+}
+
+/// Has an empty store answer these in turn.
+fn answer_numbered(alloc: Global, rows: &[Numbered]) -> Result<(), Fail> {
+    answers_each(alloc, &mut empty_store(alloc), rows)
 }
 
 const TWO_THOUSAND: [Numbered; 1] = [Numbered {
@@ -144,13 +163,19 @@ const LARGEST: [Row; 3] = [("SET a @", "+OK|"), ("GET a", "@"), ("GET a", "@")];
 
 const ECHOES: [Row; 300] = [("ECHO @", "@"); 300];
 
-/// A value of so many thousand bytes, as it is sent and answered.
-fn large_value(alloc: Global, thousands: u32) -> Result<Vec<u8>, Fail> {
-    let head = format!(in alloc; "${thousands}000\r\n")?;
-    let mut value = Vec::from_slice(alloc, head.as_bytes())?;
+/// Appends so many thousand bytes.
+fn append_thousands(value: &mut Vec<u8>, thousands: u32) -> Result<(), AllocError> {
     for _ in 0..thousands {
         value.extend_from_slice(&[b'x'; 1000])?;
     }
+    Ok(())
+}
+
+/// A value of so many thousand bytes, as it is sent and answered.
+pub(crate) fn large_value(alloc: Global, thousands: u32) -> Result<Vec<u8>, AllocError> {
+    let head = format!(in alloc; "${thousands}000\r\n")?;
+    let mut value = Vec::from_slice(alloc, head.as_bytes())?;
+    append_thousands(&mut value, thousands)?;
     value.extend_from_slice(b"\r\n")?;
     Ok(value)
 }
@@ -166,18 +191,37 @@ fn append(out: &mut Vec<u8>, bytes: &[u8], mark: &[u8], value: &[u8]) -> Result<
     }
 }
 
+/// The requests of these rows, with the value in them.
+fn requests_with(alloc: Global, rows: &[Row], value: &[u8]) -> Result<Vec<u8>, AllocError> {
+    let mut requests = Vec::new(alloc);
+    for (request, _) in rows {
+        let sent = requests_of(alloc, request)?;
+        append(&mut requests, &sent, b"$1\r\n@\r\n", value)?;
+    }
+    Ok(requests)
+}
+
+/// The replies of these rows, with the value in them.
+fn replies_with(alloc: Global, rows: &[Row], value: &[u8]) -> Result<Vec<u8>, AllocError> {
+    let mut replies = Vec::new(alloc);
+    for (_, reply) in rows {
+        let bytes = bytes_of(alloc, reply)?;
+        append(&mut replies, &bytes, b"@", value)?;
+    }
+    Ok(replies)
+}
+
+/// Has an empty store answer these rows at once, with this value.
+fn answer_with(alloc: Global, rows: &[Row], value: &[u8]) -> Result<(), Fail> {
+    let input = requests_with(alloc, rows, value)?;
+    let replies = replies_with(alloc, rows, value)?;
+    answers(&mut empty_store(alloc), alloc, "all", &input, &replies)
+}
+
 /// Has an empty store answer these rows at once, with a value of so many thousand bytes.
 fn answer_large(alloc: Global, thousands: u32, rows: &[Row]) -> Result<(), Fail> {
     let value = large_value(alloc, thousands)?;
-    let mut input = Vec::new(alloc);
-    let mut replies = Vec::new(alloc);
-    for row in rows {
-        let (request, reply) = *row;
-        let sent = requests_of(alloc, request)?;
-        append(&mut input, &sent, b"$1\r\n@\r\n", &value)?;
-        append(&mut replies, &bytes_of(alloc, reply)?, b"@", &value)?;
-    }
-    answers(&mut empty_store(alloc), alloc, "all", &input, &replies)
+    answer_with(alloc, rows, &value)
 }
 
 #[test]

@@ -19,7 +19,11 @@ const COMMANDS: [Row; 11] = [
     ("ECHO ''; FOO", "$0||-ERR unknown command|"),
     ("SET a 1 XX; SET a 1 nx NX; SET a 2 NX; GET a", "$-1|+OK|$-1|$1|1|"),
     ("SET b 1 NX XX; SET b 1 EX 10; GET b", "-ERR syntax error|-ERR syntax error|$-1|"),
-    ("GET; DEL; SET a", "-ERR wrong number of arguments for 'get' command|-ERR wrong number of arguments for 'del' command|-ERR wrong number of arguments for 'set' command|"),
+    (
+        "GET; DEL; SET a",
+        "-ERR wrong number of arguments for 'get' command|-ERR wrong number of arguments for 'del' command|\
+        -ERR wrong number of arguments for 'set' command|",
+    ),
     ("SET a 1; SET b 2; DEL a c b a; del b", "+OK|+OK|:2|:0|"),
     ("SET a 9223372036854775807; INCR a; GET a", "+OK|-ERR increment or decrement would overflow|$19|9223372036854775807|"),
     ("DECRBY a -9223372036854775808; INCR b", "-ERR increment or decrement would overflow|:1|"),
@@ -86,11 +90,13 @@ fn answers_cut(alloc: Global, first: &[u8], second: &[u8]) -> Result<(), Fail> {
     came(line.as_str(), (&ended, &output), (&END, b"+OK\r\n"))
 }
 
+/// SET a 1.
+const SET: &[u8] = b"*3\r\n$3\r\nSET\r\n$1\r\na\r\n$1\r\n1\r\n";
+
 #[test]
 fn a_request_may_be_cut_anywhere(rt: HostRuntime) -> Result<(), Fail> {
-    let input = bytes_of(rt.alloc(), "*3|$3|SET|$1|a|$1|1|")?;
-    for cut in 0..=input.len() {
-        let (first, second) = input.split_at(cut);
+    for cut in 0..=SET.len() {
+        let (first, second) = SET.split_at(cut);
         answers_cut(rt.alloc(), first, second)?;
     }
     Ok(())

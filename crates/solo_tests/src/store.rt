@@ -50,6 +50,19 @@ pub(crate) fn answers(
     came(line, (&ended, &output), (&END, replies))
 }
 
+/// Has the store answer these requests, and looks at its replies.
+pub(crate) fn answers_text(
+    store: &mut Store,
+    alloc: Global,
+    line: &str,
+    requests: &str,
+    replies: &str,
+) -> Result<(), Fail> {
+    let input = requests_of(alloc, requests)?;
+    let wanted = bytes_of(alloc, replies)?;
+    answers(store, alloc, line, &input, &wanted)
+}
+
 /// Has the store answer the requests of a row, and looks at its replies.
 pub(crate) fn answers_row(
     store: &mut Store,
@@ -57,9 +70,7 @@ pub(crate) fn answers_row(
     requests: &str,
     replies: &str,
 ) -> Result<(), Fail> {
-    let input = requests_of(alloc, requests)?;
-    let wanted = bytes_of(alloc, replies)?;
-    answers(store, alloc, requests, &input, &wanted)
+    answers_text(store, alloc, requests, requests, replies)
 }
 
 /// Has an empty store answer each row, and looks at its replies.

@@ -53,6 +53,11 @@ pub(crate) fn assert_same(rt: &impl Abort, said: &str, answered: &str, wanted: &
     assert_eq!(rt; answered, wanted, "{said}");
 }
 
+/// It is so; else the test ends.
+pub(crate) fn assert_holds(rt: &impl Abort, said: &str, condition: bool) {
+    assert!(rt; condition, "{said}: it is not so");
+}
+
 /// Makes the steps of each line of the script, and looks whether they are answered as it says.
 pub(crate) fn follow<W: Workers>(
     rt: &impl Abort,
@@ -114,14 +119,29 @@ fn made<W: Workers>(
     workers: &W,
 ) -> Result<String, Trouble> {
     let before = state(alloc, system)?;
+    let mut text = String::new(alloc);
+    if push_made(alloc, &mut text, system, list, workers)? {
+        return Ok(text);
+    }
+    assert_unchanged(rt, alloc, system, list, before.as_str())?;
+    Ok(text)
+}
+
+/// Runs the steps and adds what they came to. Whether anything may have changed.
+fn push_made<W: Workers>(
+    alloc: Global,
+    text: &mut String,
+    system: &mut System,
+    list: &str,
+    workers: &W,
+) -> Result<bool, Trouble> {
     let steps = steps_of(alloc, list)?;
     let (effects, fault) = system.run(steps, workers, &Open);
-    let none_made = effects.is_empty() && !matches!(fault, Some(StepFault::Failed));
-    let told = effects_and_fault(alloc, effects, fault);
-    if none_made {
-        assert_unchanged(rt, alloc, system, list, before.as_str())?;
-    }
-    told
+    let pushed = push_effects_and_fault(alloc, text, effects.as_slice(), fault);
+    let some_made = !effects.is_empty() || matches!(fault, Some(StepFault::Failed));
+    discard(effects);
+    pushed?;
+    Ok(some_made)
 }
 
 /// All that can be looked at is as it was before; else the test ends.
@@ -137,20 +157,21 @@ pub(crate) fn assert_unchanged(
     Ok(())
 }
 
-fn effects_and_fault(
+/// Adds what steps came to, and behind it a fault, if there is one.
+fn push_effects_and_fault(
     alloc: Global,
-    effects: Vec<Effect>,
+    text: &mut String,
+    effects: &[Effect],
     fault: Option<StepFault>,
-) -> Result<String, Trouble> {
-    let mut text = String::new(alloc);
-    let pushed = push_effects(alloc, &mut text, effects.as_slice());
-    discard(effects);
-    pushed?;
-    if let Some(fault) = fault {
-        part(&mut text)?;
-        push_fault(&mut text, fault)?;
+) -> Result<(), Trouble> {
+    push_effects(alloc, text, effects)?;
+    match fault {
+        Some(fault) => {
+            part(text)?;
+            push_fault(text, fault)
+        }
+        None => Ok(()),
     }
-    Ok(text)
 }
 
 /// Adds what steps came to.
@@ -175,20 +196,33 @@ pub(crate) fn discard<T: Drop>(_value: T) {}
 
 /// All that can be looked at.
 pub(crate) fn state(alloc: Global, system: &System) -> Result<String, Trouble> {
-    let mut text = format!(in alloc;
-        "{} steps, {} packets, quiet {}\nstarved",
+    let mut text = String::new(alloc);
+    push_state(alloc, &mut text, system)?;
+    Ok(text)
+}
+
+/// Adds all that can be looked at.
+fn push_state(alloc: Global, text: &mut String, system: &System) -> Result<(), Trouble> {
+    write!(
+        text,
+        "{} steps, {} packets",
         system.steps(),
-        system.packets(),
-        system.quiet()
+        system.packets()
     )?;
-    push_ids(&mut text, system.starved())?;
+    write!(text, ", quiet {}\nstarved", system.quiet())?;
+    push_ids(text, system.starved())?;
     text.push('\n')?;
-    push_rows(alloc, &mut text, system.rows())?;
+    push_rows(alloc, text, system.rows())?;
+    push_outcomes(alloc, text, system)
+}
+
+/// Adds the outcomes that wait at the first connections.
+fn push_outcomes(alloc: Global, text: &mut String, system: &System) -> Result<(), Trouble> {
     for conn in 0..4 {
-        push_waiting(alloc, &mut text, system.waits(ConnId(conn)))?;
+        push_waiting(alloc, text, system.waits(ConnId(conn)))?;
         text.push('\n')?;
     }
-    Ok(text)
+    Ok(())
 }
 
 fn row_at(alloc: Global, system: &System, place: usize) -> Result<String, Trouble> {

@@ -1,6 +1,6 @@
 //! Many requests of several connections, whose packets come in any order, against one store on one map.
 
-use crate::answers::{ask, deliver_all, discard, make, run_layers};
+use crate::answers::{ask, assert_holds, deliver_all, discard, make, run_layers};
 use crate::steps::step_of;
 use crate::tables::system_of;
 use crate::trouble::Trouble;
@@ -64,21 +64,29 @@ const LOOKS: [(&str, &str); 5] = [
     ("SMEMBERS", ""),
 ];
 
-/// One of the requests, with its keys and numbers.
-fn request(alloc: Global, dice: &mut Dice) -> Result<String, Trouble> {
+/// Adds one of the requests, with its keys and numbers, a blank before each word.
+fn push_request(text: &mut String, dice: &mut Dice) -> Result<(), Trouble> {
     let place = dice.below(24) as usize;
     let pattern = REQUESTS.get(place).ok_or("no such request")?;
-    let mut text = String::new(alloc);
     for word in pattern.split(' ') {
-        if !text.is_empty() {
-            text.push(' ')?;
-        }
-        match word {
-            "K" => write!(text, "k{}", dice.below(12))?,
-            "N" => write!(text, "{}", dice.below(50))?,
-            word => text.push_str(word)?,
-        }
+        push_word(text, word, dice)?;
     }
+    Ok(())
+}
+
+/// Adds a word of a request, with a key or a number in its place, behind a blank.
+fn push_word(text: &mut String, word: &str, dice: &mut Dice) -> Result<(), Trouble> {
+    match word {
+        "K" => Ok(write!(text, " k{}", dice.below(12))?),
+        "N" => Ok(write!(text, " {}", dice.below(50))?),
+        word => Ok(write!(text, " {word}")?),
+    }
+}
+
+/// A request of this connection.
+fn some_submit(alloc: Global, conn: u64, dice: &mut Dice) -> Result<String, Trouble> {
+    let mut text = format!(in alloc; "submit {conn}")?;
+    push_request(&mut text, dice)?;
     Ok(text)
 }
 
@@ -86,10 +94,7 @@ fn request(alloc: Global, dice: &mut Dice) -> Result<String, Trouble> {
 fn some_step(alloc: Global, packets: usize, dice: &mut Dice) -> Result<String, Trouble> {
     let conn = dice.below(CONNECTIONS).wrapping_add(1);
     match dice.below(16) {
-        0..=2 => {
-            let words = request(alloc, dice)?;
-            Ok(format!(in alloc; "submit {conn} {words}")?)
-        }
+        0..=2 => some_submit(alloc, conn, dice),
         3..=10 => {
             let place = dice.below(packets as u64);
             Ok(format!(in alloc; "deliver {place}")?)
@@ -172,8 +177,55 @@ fn assert_reply(
 ) -> Result<(), Trouble> {
     let mut text = Vec::new(alloc);
     write_reply(reply, &mut text)?;
-    assert!(rt; row.reply() == text.as_slice(), "another reply");
+    assert_holds(rt, "the reply of the row", row.reply() == text.as_slice());
     Ok(())
+}
+
+/// Opens the connections.
+fn open_each<W: Workers>(alloc: Global, system: &mut System, workers: &W) -> Result<(), Trouble> {
+    for _ in 0..CONNECTIONS {
+        make(alloc, system, "open", workers)?;
+    }
+    Ok(())
+}
+
+/// Makes a step at random, if it can be made now.
+fn play_step<W: Workers>(
+    rt: &impl Abort,
+    alloc: Global,
+    system: &mut System,
+    dice: &mut Dice,
+    workers: &W,
+) -> Result<(), Trouble> {
+    let words = some_step(alloc, system.packets(), dice)?;
+    make_or_not(rt, alloc, system, words.as_str(), workers)
+}
+
+/// Makes 10,000 steps at random.
+fn play_steps<W: Workers>(
+    rt: &impl Abort,
+    alloc: Global,
+    system: &mut System,
+    workers: &W,
+) -> Result<(), Trouble> {
+    let mut dice = Dice::new(88_172_645_463_325_252);
+    for _ in 0..10_000u32 {
+        play_step(rt, alloc, system, &mut dice, workers)?;
+    }
+    Ok(())
+}
+
+/// Ends what is under way.
+fn end<W: Workers>(
+    rt: &impl Abort,
+    alloc: Global,
+    system: &mut System,
+    workers: &W,
+) -> Result<(), Trouble> {
+    make_or_not(rt, alloc, system, "run", workers)?;
+    make_or_not(rt, alloc, system, "settle", workers)?;
+    deliver_all(system, workers)?;
+    run_layers(alloc, system, workers)
 }
 
 /// Makes steps at random, then ends what is under way, and at last asks for all that lies at the keys.
@@ -183,19 +235,9 @@ fn play<W: Workers>(
     system: &mut System,
     workers: &W,
 ) -> Result<(), Trouble> {
-    for _ in 0..CONNECTIONS {
-        make(alloc, system, "open", workers)?;
-    }
-    let mut dice = Dice::new(88_172_645_463_325_252);
-    for _ in 0..10_000u32 {
-        let words = some_step(alloc, system.packets(), &mut dice)?;
-        make_or_not(rt, alloc, system, words.as_str(), workers)?;
-    }
-    for words in ["run", "settle"] {
-        make_or_not(rt, alloc, system, words, workers)?;
-    }
-    deliver_all(system, workers)?;
-    run_layers(alloc, system, workers)?;
+    open_each(alloc, system, workers)?;
+    play_steps(rt, alloc, system, workers)?;
+    end(rt, alloc, system, workers)?;
     look_at_all(alloc, system, workers)
 }
 
@@ -203,10 +245,21 @@ fn play<W: Workers>(
 fn look_at_all<W: Workers>(alloc: Global, system: &mut System, workers: &W) -> Result<(), Trouble> {
     make(alloc, system, "open", workers)?;
     for key in 0..12u32 {
-        for (before, behind) in LOOKS {
-            let asked = format!(in alloc; "9 {before} k{key}{behind}")?;
-            ask(alloc, system, asked.as_str(), workers)?;
-        }
+        look_at_key(alloc, system, key, workers)?;
+    }
+    Ok(())
+}
+
+/// Has the ninth connection ask for all that lies at a key.
+fn look_at_key<W: Workers>(
+    alloc: Global,
+    system: &mut System,
+    key: u32,
+    workers: &W,
+) -> Result<(), Trouble> {
+    for (before, behind) in LOOKS {
+        let asked = format!(in alloc; "9 {before} k{key}{behind}")?;
+        ask(alloc, system, asked.as_str(), workers)?;
     }
     Ok(())
 }
@@ -253,18 +306,22 @@ fn look_at_rows(
 
 /// The rows, more than 300 and not executed in the order of their stamps, are answered as by one new store.
 fn assert_as_one(rt: &impl Abort, alloc: Global, rows: &Rows) -> Result<(), Trouble> {
-    assert!(rt; rows.len() > 300, "few requests");
+    assert_holds(rt, "many requests", rows.len() > 300);
     let places = by_stamp(alloc, rows)?;
     let counted = is_counted(places.as_slice());
-    assert!(rt; !counted, "executed in the order of stamps");
+    assert_holds(
+        rt,
+        "executed in another order than that of stamps",
+        !counted,
+    );
     let mut one = Solo::new(alloc, BuildHasherDefault::<FoldHasher>::new());
     look_at_rows(rt, alloc, &mut one, rows, places.as_slice())
 }
 
 /// What was played is at rest, and its rows are those of one store. All rows as text.
 fn rows_of(rt: &impl Abort, alloc: Global, system: &System) -> Result<String, Trouble> {
-    assert!(rt; system.quiet(), "something is under way");
-    assert!(rt; system.starved().is_empty(), "a request starved");
+    assert_holds(rt, "nothing is under way", system.quiet());
+    assert_holds(rt, "no request starved", system.starved().is_empty());
     assert_as_one(rt, alloc, system.rows())?;
     let mut text = String::new(alloc);
     push_rows(alloc, &mut text, system.rows())?;

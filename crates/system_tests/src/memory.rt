@@ -3,7 +3,7 @@
 //! Where all succeed these tests say no more than others do. They are meant to be run with each allocation failing in
 //! turn.
 
-use crate::answers::{answer, assert_same, assert_unchanged, discard, follow, state};
+use crate::answers::{answer, assert_holds, assert_same, assert_unchanged, discard, follow, state};
 use crate::steps::{first_word, step_of};
 use crate::tables::system_of;
 use crate::trouble::Trouble;
@@ -104,24 +104,30 @@ submit 1 SET a 2 => Exhausted
 submit 2 SET a 2 => Exhausted
 take => Exhausted";
 
-/// Makes the steps of each line, and again where there was no memory for it. What is given is a script again: what each
+/// Makes the steps of each line, and again where there was no memory for it. What is added is a script again: what each
 /// step came to, and in each run the requests that starved.
-fn followed<W: Workers>(
+fn push_followed<W: Workers>(
     rt: &impl Abort,
     alloc: Global,
     system: &mut System,
+    text: &mut String,
     script: &str,
     workers: &W,
-) -> Result<String, Trouble> {
-    let mut again = String::new(alloc);
+) -> Result<(), Trouble> {
     for line in script.split('\n') {
         let (said, wanted) = line.split_once(" => ").ok_or("no answer is wanted")?;
-        if !again.is_empty() {
-            again.push('\n')?;
-        }
-        push_line(rt, alloc, system, &mut again, said, wanted, workers)?;
+        push_line_end(text)?;
+        push_line(rt, alloc, system, text, said, wanted, workers)?;
     }
-    Ok(again)
+    Ok(())
+}
+
+/// Ends the line before, if there is one.
+fn push_line_end(text: &mut String) -> Result<(), Trouble> {
+    if !text.is_empty() {
+        text.push('\n')?;
+    }
+    Ok(())
 }
 
 /// Adds what was said, and the arrow behind it.
@@ -172,7 +178,7 @@ fn made_at_last<W: Workers>(
         Err(StepFault::Memory) => {}
         made => return Ok(made),
     }
-    assert!(rt; !is_own_fault(wanted), "{said} was refused for memory");
+    assert_holds(rt, said, !is_own_fault(wanted));
     assert_unchanged(rt, alloc, system, said, before.as_str())?;
     let step = step_of(alloc, said)?;
     Ok(system.step(step, workers, &Open))
@@ -212,8 +218,26 @@ fn push_told(alloc: Global, text: &mut String, said: &str, effect: &Effect) -> R
     push_effect(alloc, text, effect)
 }
 
-/// Follows the script in a new system. Where no request starved, all is as if memory had always been there; where one
+/// Follows the script in this system. Where no request starved, all is as if memory had always been there; where one
 /// did, all is as in a run that is told to let it starve.
+fn attempt_in<W: Workers>(
+    rt: &impl Abort,
+    alloc: Global,
+    system: &mut System,
+    max_steps: u64,
+    script: &str,
+    workers: &W,
+) -> Result<(), Trouble> {
+    let mut again = String::new(alloc);
+    push_followed(rt, alloc, system, &mut again, script, workers)?;
+    if system.starved().is_empty() {
+        assert_same(rt, "all steps", again.as_str(), script);
+        return Ok(());
+    }
+    follow_anew(rt, alloc, max_steps, again.as_str(), workers)
+}
+
+/// The same in a new system.
 fn attempt<W: Workers>(
     rt: &impl Abort,
     alloc: Global,
@@ -222,12 +246,7 @@ fn attempt<W: Workers>(
     workers: &W,
 ) -> Result<(), Trouble> {
     let mut system = system_of(alloc, 2, max_steps)?;
-    let again = followed(rt, alloc, &mut system, script, workers)?;
-    if system.starved().is_empty() {
-        assert_same(rt, "all steps", again.as_str(), script);
-        return Ok(());
-    }
-    follow_anew(rt, alloc, max_steps, again.as_str(), workers)
+    attempt_in(rt, alloc, &mut system, max_steps, script, workers)
 }
 
 /// Follows a script in a new system.
