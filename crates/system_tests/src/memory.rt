@@ -1,6 +1,6 @@
 //! What becomes of a run in which one allocation fails.
 //!
-//! Where all succeed these tests say no more than others do. They are meant to be run with each allocation failing in
+//! Where all succeed these tests say no more than others do. The gate runs each of them with each allocation failing in
 //! turn.
 
 use crate::answers::{answer, assert_holds, assert_same, assert_unchanged, discard, follow, state};
@@ -8,6 +8,7 @@ use crate::steps::{first_word, step_of};
 use crate::tables::system_of;
 use crate::trouble::Trouble;
 use crate::wording::{push_effect, push_fault, push_ids};
+use shard_crew::Crew;
 use shard_workers::{InTurn, Open, Workers};
 use std::alloc::Global;
 use std::num::NonZeroUsize;
@@ -103,6 +104,48 @@ open => Exhausted
 submit 1 SET a 2 => Exhausted
 submit 2 SET a 2 => Exhausted
 take => Exhausted";
+
+/// Requests of one group are taken together with the ready one that they stand behind.
+const RUNS: &str = "open => opened 1
+open => opened 2
+open => opened 3
+open => opened 4
+open => opened 5
+submit 1 SET a 1 => submitted 1.1
+submit 2 INCR a => submitted 2.1
+submit 3 MSET a 5 c 6 => submitted 3.1
+submit 4 GET a => submitted 4.1
+submit 5 SET c 9 => submitted 5.1
+deliver 0 => made
+deliver 0 => made
+deliver 0 => made
+deliver 0 => made
+deliver 0 => made
+deliver 0 => made
+deliver 0 => made
+deliver 0 => made
+take => made
+run => ran
+settle => made
+rows => 3
+take => made
+run => ran
+settle => made
+take => made
+run => ran
+settle => made
+collect 1 => 1.1 at 1.0 +OK|
+collect 2 => 2.1 at 2.0 :2|
+collect 3 => 3.1 at 3.0 +OK|
+collect 4 => 4.1 at 4.0 $1|5|
+collect 5 => 5.1 at 2.1 +OK|
+rows => 5
+row 0 => 1.1 at 1.0 SET a 1 +OK|
+row 1 => 2.1 at 2.0 INCR a :2|
+row 2 => 5.1 at 2.1 SET c 9 +OK|
+row 3 => 3.1 at 3.0 MSET a 5 c 6 +OK|
+row 4 => 4.1 at 4.0 GET a $1|5|
+starved => 0:";
 
 /// Makes the steps of each line, and again where there was no memory for it. What is added is a script again: what each
 /// step came to, and in each run the requests that starved.
@@ -230,11 +273,29 @@ fn attempt_in<W: Workers>(
 ) -> Result<(), Trouble> {
     let mut again = String::new(alloc);
     push_followed(rt, alloc, system, &mut again, script, workers)?;
+    if system.has_failed() {
+        return stays_failed(rt, alloc, system, workers);
+    }
     if system.starved().is_empty() {
         assert_same(rt, "all steps", again.as_str(), script);
         return Ok(());
     }
     follow_anew(rt, alloc, max_steps, again.as_str(), workers)
+}
+
+/// A worker's start was refused: no step is made any more.
+fn stays_failed<W: Workers>(
+    rt: &impl Abort,
+    alloc: Global,
+    system: &mut System,
+    workers: &W,
+) -> Result<(), Trouble> {
+    let step = step_of(alloc, "take")?;
+    let made = system.step(step, workers, &Open);
+    let failed = matches!(&made, Err(StepFault::Failed));
+    assert_holds(rt, "failed for good", failed);
+    discard(made);
+    Ok(())
 }
 
 /// The same in a new system.
@@ -303,5 +364,26 @@ fn same_key_twice_where_memory_fails(rt: HostRuntime) -> Result<(), Fail> {
 #[test]
 fn own_faults_come_before_memory(rt: HostRuntime) -> Result<(), Fail> {
     attempts(&rt, rt.alloc(), 7, OWN_FAULTS, &InTurn(NonZeroUsize::MIN))?;
+    Ok(())
+}
+
+#[test]
+fn runs_where_memory_fails(rt: HostRuntime) -> Result<(), Fail> {
+    let two = NonZeroUsize::new(2).ok_or("two")?;
+    attempts(&rt, rt.alloc(), 1000, RUNS, &InTurn(two))?;
+    Ok(())
+}
+
+#[test]
+fn runs_by_a_crew_of_one_where_memory_fails(rt: HostRuntime) -> Result<(), Fail> {
+    let crew = Crew::new(&rt, NonZeroUsize::MIN);
+    attempts(&rt, rt.alloc(), 1000, RUNS, &crew)?;
+    Ok(())
+}
+
+#[test]
+fn runs_by_a_crew_of_two_where_memory_fails(rt: HostRuntime) -> Result<(), Fail> {
+    let two = NonZeroUsize::new(2).ok_or("two")?;
+    attempts(&rt, rt.alloc(), 1000, RUNS, &Crew::new(&rt, two))?;
     Ok(())
 }
