@@ -8,7 +8,7 @@ ghost use Rattle.front_cluster.specs.Answers.{shown_outcome, IsReplied};
 ghost use Rattle.front_cluster.specs.Endings.{IsCloseFault, IsRight};
 ghost use Rattle.front_cluster.specs.Clusters.{IsNew, SameBook, Fits, next_id, last_id, IsForeign, IsSubmitFault, IsCollectFault};
 ghost use Rattle.front_cluster.specs.Clusters.{last_of, AreLasts, IsPut, IsSeated, CanCollect, HasClosed, StaysOpen};
-ghost use Rattle.front_cluster.specs.Histories.{IsLawful, IsMade, IsUnchanged, IsFault};
+ghost use Rattle.front_cluster.specs.Histories.{kept_for, IsLawful, IsMade, IsUnchanged, IsFault};
 ghost use Rattle.front_cluster.specs.Layers.{HandsOut, IsSettled, IsSettleFault};
 ghost use Rattle.front_cluster.specs.Outcomes.{ComesFrom, IsAbove, raised};
 ghost use Rattle.front_cluster.specs.Making.{effect_shown};
@@ -551,6 +551,15 @@ impl<L: Ledger> Cluster<L> {
         ensures { result.now ≡ self.now.history.front }
     {
         self.history.front()
+    }
+
+    /// Whether no seat may do anything any more: as many steps were made as may be, but for the two that are kept back while a
+    /// layer is out.
+    pub fn is_exhausted(&self) -> bool
+        ensures all { result ≡ true → self.now.history.max_steps ≤ length self.now.history.steps + kept_for self.now.history.front.out }
+        ensures left { result ≡ false → length self.now.history.steps + kept_for self.now.history.front.out < self.now.history.max_steps }
+    {
+        self.history.is_exhausted()
     }
 
     /// It does nothing: its contract says that the cluster is lawful.
