@@ -75,8 +75,9 @@ may_settle h is some =
 settled_so : (mid w' : World) → Settles mid Made w' → HasNotRun w'.layer
 settled_so mid w' step = subst (λ (v : World). HasNotRun v.layer) (sym step.after) tt
 
-pub settled : (old new : HistoryView) (done : Results) → IsHistory old → old.front.out ≢ [] → IsFront new.front → settling.Settles old.front done new.front →
-    new.max_steps ≡ old.max_steps → new.steps ≡ old.steps ++ Run (ids_starved done) ∷ Settle ∷ [] → IsSettled old done new
+pub settled : (old new : HistoryView) (done : Results) → IsHistory old → old.front.out ≢ [] → IsFront new.front →
+    settling.Settles old.front done new.front → new.max_steps ≡ old.max_steps →
+    new.steps ≡ old.steps ++ Run (ids_starved done) ∷ Settle ∷ [] → IsSettled old done new
 settled old new done is some front settles most steps = record {
   left = let within = is.within in let kept = kept_some old.front.out some in omega arith;
   max_steps = most;
@@ -103,7 +104,8 @@ settled old new done is some front settles most steps = record {
       };
 }
 
-pub history_settled : (old new : HistoryView) (done : Results) → IsHistory old → settling.Settles old.front done new.front → IsSettled old done new → IsHistory new
+pub history_settled : (old new : HistoryView) (done : Results) → IsHistory old → settling.Settles old.front done new.front →
+    IsSettled old done new → IsHistory new
 history_settled old new done is counts settled =
     let now = settled.told is.lawful.told in
     let next = settled.from_each is.lawful.world is.lawful.told now.0 is.lawful.shows now.1 in

@@ -11,8 +11,8 @@ use Rattle.front_cluster.proofs.Effects.{opened_so, submitted_so}
 use Rattle.front_cluster.proofs.Histories.{in_still}
 use Rattle.front_cluster.proofs.Submits.{submits-append, submits-one, submits_by-one, other_submit, no_submit, last_still, last_now}
 use Rattle.front_cluster.proofs.Worlds.{counts, IsNoOpen, opened_stays, closed_stays}
-use Rattle.front_cluster.specs.Clusters.{ClusterView, last_of, IsLastOf, AreLasts, IsKnown, IsSeated, IsCluster, IsPut, HasClosed, StaysOpen}
-use Rattle.front_cluster.specs.Clusters.{KeepsRoom}
+use Rattle.front_cluster.specs.Clusters.{ClusterView, last_of, IsLastOf, AreLasts, IsKnown, IsSeated, IsCluster, IsPut, HasClosed}
+use Rattle.front_cluster.specs.Clusters.{StaysOpen, KeepsRoom}
 use Rattle.front_cluster.specs.Histories.{HistoryView, IsLawful, IsMade, IsUnchanged}
 use Rattle.front_cluster.specs.Layers.{HandsOut, IsSettled}
 use Rattle.front_cluster.specs.Turns.{Delivers}

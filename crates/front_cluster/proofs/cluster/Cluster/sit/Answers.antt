@@ -22,8 +22,9 @@ pub invariant_of-self-2 : goal.invariant_of-self-2
 invariant_of-self-2 g c =
     let in' = c.self.inside in (
       cluster_sat g.L.Ledger.parts in'.pool.parts c.split_off.new.self.parts in'.requests in'.lasts.entries c.insert.new.self.entries
-          in'.history c.make.new.self in'.book.total in'.sat in'.stood in'.pool.amount c.split_off.new.self.amount (effect_shown c.in-Ok-make.effect)
-          c.in-Ok-make.ensures.made c.in-Ok.ensures.updates.0 c.split_off.ensures.parts_left c.self.invariant.0,
+          in'.history c.make.new.self in'.book.total in'.sat in'.stood in'.pool.amount c.split_off.new.self.amount
+          (effect_shown c.in-Ok-make.effect) c.in-Ok-make.ensures.made
+          c.in-Ok.ensures.updates.0 c.split_off.ensures.parts_left c.self.invariant.0,
       room_sat in'.kept c.in-Some.kept in'.history c.make.new.self in'.book.total in'.sat in'.stood in'.pool.amount
           c.split_off.new.self.amount c.in-Some.ensures.1 c.in-Ok-make.ensures.room c.self.invariant.1,
     )

@@ -10,8 +10,8 @@ returns-in-Some c =
     let in' = c.self.inside in
     let h = history in'.front in'.trace.max in'.trace.steps in'.trace.room in
     subst (λ h. IsFault h Take c.from.result) c.self.view_is
-    (told_as h Take c.in-Some.fault c.from.result c.self.invariant c.from.ensures (subst (λ h. MayGoOn h Take) (sym c.self.view_is) c.requires)
-    c.in-Some.ensures.some)
+    (told_as h Take c.in-Some.fault c.from.result c.self.invariant c.from.ensures
+    (subst (λ h. MayGoOn h Take) (sym c.self.view_is) c.requires) c.in-Some.ensures.some)
 
 pub returns-in-None : goal.returns-in-None
 returns-in-None c =
