@@ -65,13 +65,24 @@ fn decodes(alloc: Global, line: &str, pieces: &[&[u8]], want: &[u8]) -> Result<(
     same_bytes(line, &got, want)
 }
 
+/// The stream is decoded so where it is cut here.
+fn decodes_cut_at(
+    alloc: Global,
+    row: &str,
+    stream: &[u8],
+    cut: usize,
+    want: &str,
+) -> Result<(), Fail> {
+    let line = format!(in alloc; "{row} cut at {cut}")?;
+    let (first, second) = stream.split_at(cut.min(stream.len()));
+    decodes(alloc, line.as_str(), &[first, second], want.as_bytes())
+}
+
 /// The stream is decoded so wherever it is cut.
 fn decodes_cut(alloc: Global, row: &str, want: &str) -> Result<(), Fail> {
     let stream = bytes_of(alloc, row)?;
     for cut in 0..stream.len() {
-        let line = format!(in alloc; "{row} cut at {cut}")?;
-        let pieces: &[&[u8]] = &[&stream[..cut], &stream[cut..]];
-        decodes(alloc, line.as_str(), pieces, want.as_bytes())?;
+        decodes_cut_at(alloc, row, &stream, cut, want)?;
     }
     Ok(())
 }

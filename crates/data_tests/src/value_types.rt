@@ -29,15 +29,21 @@ fn pairs(alloc: Global, text: &str) -> Result<Pairs, Fail> {
     Ok(Pairs::from_turns(turns))
 }
 
-/// The items, with a space between each two, are these.
-fn are(alloc: Global, items: Items<'_>, want: &str) -> Result<(), Fail> {
-    let mut shown = Vec::new(alloc);
+/// Adds the items, with a space between each two.
+fn push_items(shown: &mut Vec<u8>, items: Items<'_>) -> Result<(), Fail> {
     for item in items {
         if !shown.is_empty() {
             shown.push(b' ')?;
         }
         shown.extend_from_slice(item)?;
     }
+    Ok(())
+}
+
+/// The items, with a space between each two, are these.
+fn are(alloc: Global, items: Items<'_>, want: &str) -> Result<(), Fail> {
+    let mut shown = Vec::new(alloc);
+    push_items(&mut shown, items)?;
     same_bytes("items", &shown, want.as_bytes())
 }
 

@@ -14,6 +14,7 @@ pub(crate) fn request(conn: u64) -> RequestId {
     }
 }
 
+/// A group, and what came of the last packet.
 #[derive(Drop)]
 pub(crate) struct Watched {
     pub(crate) group: Group,

@@ -1,6 +1,6 @@
 //! Many requests of several connections, whose packets come in any order, against one store on one map.
 
-use crate::answers::{ask, assert_holds, deliver_all, discard, make, run_layers};
+use crate::answers::{ask, assert_holds, deliver_all, discard, follow, make, run_layers};
 use crate::steps::step_of;
 use crate::tables::system_of;
 use crate::trouble::Trouble;
@@ -26,6 +26,9 @@ type Store = Solo<BuildHasherDefault<FoldHasher>>;
 
 /// How many connections ask.
 const CONNECTIONS: u64 = 8;
+
+const OPENED: &str = "open; open; open; open => opened 1; opened 2; opened 3; opened 4
+open; open; open; open => opened 5; opened 6; opened 7; opened 8";
 
 /// Requests in which `K` stands for one of 12 keys, and `N` for a number below 50.
 const REQUESTS: [&str; 24] = [
@@ -76,11 +79,19 @@ fn push_request(text: &mut String, dice: &mut Dice) -> Result<(), Trouble> {
 
 /// Adds a word of a request, with a key or a number in its place, behind a blank.
 fn push_word(text: &mut String, word: &str, dice: &mut Dice) -> Result<(), Trouble> {
+    text.push(' ')?;
     match word {
-        "K" => Ok(write!(text, " k{}", dice.below(12))?),
-        "N" => Ok(write!(text, " {}", dice.below(50))?),
-        word => Ok(write!(text, " {word}")?),
+        "K" => {
+            text.push('k')?;
+            push_number(text, dice.below(12))
+        }
+        "N" => push_number(text, dice.below(50)),
+        word => Ok(text.push_str(word)?),
     }
+}
+
+fn push_number(text: &mut String, number: u64) -> Result<(), Trouble> {
+    Ok(write!(text, "{number}")?)
 }
 
 /// A request of this connection.
@@ -181,14 +192,6 @@ fn assert_reply(
     Ok(())
 }
 
-/// Opens the connections.
-fn open_each<W: Workers>(alloc: Global, system: &mut System, workers: &W) -> Result<(), Trouble> {
-    for _ in 0..CONNECTIONS {
-        make(alloc, system, "open", workers)?;
-    }
-    Ok(())
-}
-
 /// Makes a step at random, if it can be made now.
 fn play_step<W: Workers>(
     rt: &impl Abort,
@@ -235,7 +238,7 @@ fn play<W: Workers>(
     system: &mut System,
     workers: &W,
 ) -> Result<(), Trouble> {
-    open_each(alloc, system, workers)?;
+    follow(rt, alloc, system, OPENED, workers)?;
     play_steps(rt, alloc, system, workers)?;
     end(rt, alloc, system, workers)?;
     look_at_all(alloc, system, workers)
