@@ -79,38 +79,18 @@ fn run_both<W: Workers>(
     )
 }
 
-/// Runs both, of which this gate holds the first until it is given up or not.
-fn run_held<W: Workers, R: Clock + Sync>(
-    rt: &impl Abort,
-    alloc: Global,
-    workers: &W,
-    gate: &Held<'_, R>,
-    line: &str,
-    missed: bool,
-) -> Result<(), Fail> {
-    run_both(rt, alloc, workers, gate)?;
-    holds(line, gate.missed.load(Ordering::SeqCst) == missed)
-}
-
 #[test]
 fn a_crew_of_two_runs_both_at_once(rt: HostRuntime) -> Result<(), Fail> {
     let gate = holding(&rt, 10_000);
-    let crew = Crew::new(&rt, number_of(2));
-    run_held(&rt, rt.alloc(), &crew, &gate, "two threads ran them", false)
+    run_both(&rt, rt.alloc(), &Crew::new(&rt, number_of(2)), &gate)?;
+    holds("two threads ran them", !gate.missed.load(Ordering::SeqCst))
 }
 
 #[test]
 fn workers_in_turn_do_not(rt: HostRuntime) -> Result<(), Fail> {
     let gate = holding(&rt, 10);
-    let workers = InTurn(number_of(2));
-    run_held(
-        &rt,
-        rt.alloc(),
-        &workers,
-        &gate,
-        "one thread ran them",
-        true,
-    )
+    run_both(&rt, rt.alloc(), &InTurn(number_of(2)), &gate)?;
+    holds("one thread ran them", gate.missed.load(Ordering::SeqCst))
 }
 
 /// Two workers of which none can be started.
