@@ -1,8 +1,8 @@
 //! Which texts are kept beside their replies: those of more than 128 bytes.
 
-use crate::jobs::{ONE, layer_of, run_or_not, two_shards};
+use crate::jobs::{ONE, discard, layer_of, run_or_not, two_shards};
 use placement::Table;
-use shard_exec::{Ended, Store};
+use shard_exec::{Ended, ExecFault, Store};
 use shard_workers::Open;
 use std::alloc::Global;
 use std::process::Abort;
@@ -28,6 +28,14 @@ fn is_kept(words: &str, ended: &Ended, size: usize) -> Result<(), Fail> {
     }
 }
 
+/// The layer was run, and the text that is kept has this size.
+fn keeps(words: &str, outcome: &Result<Vec<Ended>, ExecFault>, size: usize) -> Result<(), Fail> {
+    match outcome {
+        Ok(done) => are_kept(words, done.as_slice(), size),
+        Err(_) => Err("not run".into()),
+    }
+}
+
 /// Runs a request, and looks at the text that is kept.
 fn keep_row(
     rt: &impl Abort,
@@ -38,10 +46,10 @@ fn keep_row(
 ) -> Result<(), Fail> {
     let (clock, words, size) = *row;
     let asked = layer_of(alloc, table, clock, &[words])?;
-    match run_or_not(rt, alloc, store, asked, &[], &ONE, &Open) {
-        Ok(done) => are_kept(words, done.as_slice(), size),
-        Err(_) => Err("not run".into()),
-    }
+    let outcome = run_or_not(rt, alloc, store, asked, &[], &ONE, &Open);
+    let kept = keeps(words, &outcome, size);
+    discard(outcome);
+    kept
 }
 
 /// Runs requests one after another.

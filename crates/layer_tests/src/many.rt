@@ -94,6 +94,18 @@ fn push_layer<W: Workers>(
     Ok(all.push_str(answered.as_str())?)
 }
 
+/// What is answered of a key.
+fn value(
+    rt: &impl Abort,
+    alloc: Global,
+    store: &mut Store,
+    table: &Table,
+    key: &str,
+) -> Result<String, Trouble> {
+    let words = format!(in alloc; "GET {key}")?;
+    ask(rt, alloc, store, table, 3, words.as_str())
+}
+
 /// Puts behind what is at a key.
 fn push_value(
     rt: &impl Abort,
@@ -103,9 +115,8 @@ fn push_value(
     key: &str,
     all: &mut String,
 ) -> Result<(), Trouble> {
-    let words = format!(in alloc; "GET {key}")?;
-    let answered = ask(rt, alloc, store, table, 3, words.as_str())?;
-    Ok(all.push_str(answered.as_str())?)
+    let value = value(rt, alloc, store, table, key)?;
+    Ok(all.push_str(value.as_str())?)
 }
 
 /// Puts behind what is at each key.

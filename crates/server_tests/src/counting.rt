@@ -1,7 +1,6 @@
 //! What clients that count together ask, and what they are to be told.
 
 use std::alloc::{AllocError, Global};
-use std::str::Lines;
 use test_support::requests_of;
 
 /// One round: an INCR of `a`, two more on `c`, the one member that `y` and `z` share put at `x`, the digit to `b` and `d`
@@ -34,49 +33,27 @@ pub(crate) fn count_requests(
 
 /// Whether these are the replies to so many rounds: the sums rise, and `b` and `d` are one and the same each time.
 pub(crate) fn are_counted(rounds: usize, replies: &[u8]) -> bool {
-    match str::from_utf8(replies) {
-        Ok(text) => are_rounds(rounds, &mut text.lines()),
-        Err(_) => false,
-    }
-}
-
-/// Whether these are the lines of so many rounds, and no others.
-fn are_rounds(rounds: usize, lines: &mut Lines<'_>) -> bool {
+    let Ok(text) = str::from_utf8(replies) else {
+        return false;
+    };
+    let mut lines = text.lines();
     let mut sums = (0, 0);
     for _ in 0..rounds {
-        match round(lines, sums) {
-            Some(next) => sums = next,
-            None => return false,
+        match (integer(lines.next()), integer(lines.next())) {
+            (Some(ones), Some(twos)) if sums.0 < ones && sums.1 < twos => sums = (ones, twos),
+            _ => return false,
         }
-    }
-    lines.next().is_none()
-}
-
-/// The sums of a round, which are above the last ones; none where these aren't the lines of a round.
-fn round(lines: &mut Lines<'_>, sums: (u64, u64)) -> Option<(u64, u64)> {
-    let ones = integer(lines.next())?;
-    let twos = integer(lines.next())?;
-    if sums.0 < ones && sums.1 < twos && are_next(lines) && is_a_pair(lines) {
-        Some((ones, twos))
-    } else {
-        None
-    }
-}
-
-/// Whether these are the next lines: one member put, two keys set, and the head of two values.
-fn are_next(lines: &mut Lines<'_>) -> bool {
-    for line in [":1", "+OK", "*2", "$1"] {
-        if lines.next() != Some(line) {
+        for line in [":1", "+OK", "*2", "$1"] {
+            if lines.next() != Some(line) {
+                return false;
+            }
+        }
+        let second = lines.next();
+        if lines.next() != Some("$1") || second.is_none() || lines.next() != second {
             return false;
         }
     }
-    true
-}
-
-/// Whether the next lines are a value, and then the same value with its head.
-fn is_a_pair(lines: &mut Lines<'_>) -> bool {
-    let second = lines.next();
-    lines.next() == Some("$1") && second.is_some() && lines.next() == second
+    lines.next().is_none()
 }
 
 /// The number of an integer's line.

@@ -87,7 +87,12 @@ fn often(alloc: Global, text: &str, last: &str) -> Result<String, AllocError> {
 }
 
 /// A client sends the first bytes and then the second ones, and gets these replies and its end.
-fn is_ended_behind<R>(rt: &R, first: &str, second: &str, replies: &str) -> Result<(), Fail>
+fn is_ended_behind<'a, R>(
+    rt: &R,
+    first: &'a str,
+    second: &'a str,
+    replies: &'a str,
+) -> Result<(), Fail>
 where
     R: Threads
         + Wait

@@ -58,6 +58,13 @@ struct Wanted<'a> {
     numbers: Numbers,
 }
 
+/// That came of a connection, how it ended and how many requests its seat has, which is wanted.
+fn same_came(came: (&str, u64), replies: &[u8], wanted: &Wanted<'_>) -> Result<(), Fail> {
+    same_text("how it ends", came.0, wanted.ended)?;
+    same_bytes("the replies", replies, wanted.replies)?;
+    same_number("the requests of the seat", came.1, wanted.numbers.0)
+}
+
 /// Serves a connection. That comes of it which is wanted, and the cluster closes, since its seat has stood.
 fn comes_over<L: Ledger, R: Wait + Clock>(
     rt: &R,
@@ -67,10 +74,8 @@ fn comes_over<L: Ledger, R: Wait + Clock>(
     writer: &mut Sink,
     wanted: &Wanted<'_>,
 ) -> Result<(), Fail> {
-    let (ended, count) = serve_one(rt, alloc, shared, reader, writer)?;
-    same_text("how it ends", ended, wanted.ended)?;
-    same_bytes("the replies", writer.taken.as_slice(), wanted.replies)?;
-    same_number("the requests of the seat", count, wanted.numbers.0)?;
+    let came = serve_one(rt, alloc, shared, reader, writer)?;
+    same_came(came, writer.taken.as_slice(), wanted)?;
     closes(shared.close(rt), wanted.numbers)
 }
 
@@ -161,10 +166,11 @@ struct Texts<'a> {
     replies: &'a [u8],
 }
 
-/// At which call something fails, how many bytes are read at once, and how many are written.
+/// Which read and which write fail, and how many bytes are read and written at once.
 #[derive(Clone, Copy)]
 struct Way {
-    call: usize,
+    read: usize,
+    write: usize,
     piece: usize,
     most: usize,
 }
@@ -184,6 +190,21 @@ fn wanted_of<'a>(
     })
 }
 
+/// Serves a connection in this way, and what comes is that.
+fn comes_by<R: Wait + Clock>(
+    rt: &R,
+    alloc: Global,
+    texts: &Texts<'_>,
+    way: Way,
+    wanted: &Wanted<'_>,
+) -> Result<(), Fail> {
+    let mut reader = Source::new(texts.sent, way.piece);
+    reader.fails_at = way.read;
+    let mut writer = Sink::new(alloc, way.most);
+    writer.fails_at = way.write;
+    comes(rt, alloc, &mut reader, &mut writer, wanted)
+}
+
 /// The read of this number fails: just the replies to the requests stand that were read whole. Whether there was such a
 /// read.
 fn read_fails<R: Wait + Clock>(
@@ -192,15 +213,12 @@ fn read_fails<R: Wait + Clock>(
     texts: &Texts<'_>,
     way: Way,
 ) -> Result<bool, Fail> {
-    let given = way.call.saturating_mul(way.piece);
+    let given = way.read.saturating_mul(way.piece);
     let fails = given < ALL.sent.saturating_add(way.piece);
     let place = behind_sent(given);
     let ended = if fails { "read" } else { "end" };
     let wanted = wanted_of(texts, ended, place.replied, place)?;
-    let mut reader = Source::new(texts.sent, way.piece);
-    reader.fails_at = way.call;
-    let mut writer = Sink::new(alloc, way.most);
-    comes(rt, alloc, &mut reader, &mut writer, &wanted)?;
+    comes_by(rt, alloc, texts, way, &wanted)?;
     Ok(fails)
 }
 
@@ -213,7 +231,8 @@ fn each_read_fails<R: Wait + Clock>(
 ) -> Result<(), Fail> {
     for call in 0..1000 {
         let way = Way {
-            call,
+            read: call,
+            write: NEVER,
             piece,
             most: 100,
         };
@@ -232,7 +251,7 @@ fn write_fails<R: Wait + Clock>(
     texts: &Texts<'_>,
     way: Way,
 ) -> Result<bool, Fail> {
-    let taken = way.call.saturating_mul(way.most);
+    let taken = way.write.saturating_mul(way.most);
     let fails = taken < ALL.replied;
     let place = if way.piece == 1 {
         behind_replied(taken)
@@ -241,10 +260,7 @@ fn write_fails<R: Wait + Clock>(
     };
     let ended = if fails { "write" } else { "end" };
     let wanted = wanted_of(texts, ended, taken.min(ALL.replied), place)?;
-    let mut reader = Source::new(texts.sent, way.piece);
-    let mut writer = Sink::new(alloc, way.most);
-    writer.fails_at = way.call;
-    comes(rt, alloc, &mut reader, &mut writer, &wanted)?;
+    comes_by(rt, alloc, texts, way, &wanted)?;
     Ok(fails)
 }
 
@@ -257,7 +273,12 @@ fn each_write_fails<R: Wait + Clock>(
     most: usize,
 ) -> Result<(), Fail> {
     for call in 0..1000 {
-        let way = Way { call, piece, most };
+        let way = Way {
+            read: NEVER,
+            write: call,
+            piece,
+            most,
+        };
         if !write_fails(rt, alloc, texts, way)? {
             return Ok(());
         }
@@ -305,20 +326,10 @@ const ONE_AND_A_BIT: &[u8] = b"*1\r\n$4\r\nPING\r\n*1\r\n$";
 /// One request, which no shard executes.
 const ONE: Numbers = (1, 0, 0);
 
-/// The read of number `read` fails, or the write of number `write`, and what comes is that.
-fn comes_of_ping<R: Wait + Clock>(
-    rt: &R,
-    alloc: Global,
-    read: usize,
-    write: usize,
-    wanted: &Wanted<'_>,
-) -> Result<(), Fail> {
-    let mut reader = Source::new(ONE_AND_A_BIT, 100);
-    reader.fails_at = read;
-    let mut writer = Sink::new(alloc, 3);
-    writer.fails_at = write;
-    comes(rt, alloc, &mut reader, &mut writer, wanted)
-}
+const PING: Texts<'static> = Texts {
+    sent: ONE_AND_A_BIT,
+    replies: b"+PONG\r\n",
+};
 
 #[test]
 fn half_a_request_has_no_reply(rt: HostRuntime) -> Result<(), Fail> {
@@ -327,7 +338,13 @@ fn half_a_request_has_no_reply(rt: HostRuntime) -> Result<(), Fail> {
         replies: b"+PONG\r\n",
         numbers: ONE,
     };
-    comes_of_ping(&rt, rt.alloc(), 1, NEVER, &wanted)
+    let way = Way {
+        read: 1,
+        write: NEVER,
+        piece: 100,
+        most: 100,
+    };
+    comes_by(&rt, rt.alloc(), &PING, way, &wanted)
 }
 
 #[test]
@@ -337,5 +354,11 @@ fn half_a_reply_is_written(rt: HostRuntime) -> Result<(), Fail> {
         replies: b"+PO",
         numbers: ONE,
     };
-    comes_of_ping(&rt, rt.alloc(), NEVER, 1, &wanted)
+    let way = Way {
+        read: NEVER,
+        write: 1,
+        piece: 100,
+        most: 3,
+    };
+    comes_by(&rt, rt.alloc(), &PING, way, &wanted)
 }

@@ -8,6 +8,7 @@ use crate::asking::{Numbers, closes, request, same_reply, stays, text};
 use crate::hosting::as_wanted;
 use cluster::{CloseFault, First, Seat};
 use placement::Table;
+use resp::{Reply, Request};
 use server::shared_syncs;
 use shard_workers::{InTurn, Open};
 use shards::ShardHasher;
@@ -114,8 +115,21 @@ fn ask_row<L: Ledger, R: Wait + Clock>(
     words: &str,
 ) -> Option<String> {
     let request = request(alloc, words).ok()?;
-    let answer = shared.ask(rt, seat, request).ok()?;
-    text(alloc, answer.reply()).ok()
+    ask_words(rt, alloc, shared, seat, request)
+}
+
+/// The same, of a request of these words.
+fn ask_words<L: Ledger, R: Wait + Clock>(
+    rt: &R,
+    alloc: Global,
+    shared: &Shared<L>,
+    seat: &mut Seat<L>,
+    request: Request,
+) -> Option<String> {
+    match shared.ask(rt, seat, request) {
+        Ok(answer) => text(alloc, answer.reply()).ok(),
+        Err(_) => None,
+    }
 }
 
 /// Two threads ask their rows, and then the cluster is shut. The first replies of each that aren't the wanted ones.
@@ -297,6 +311,16 @@ const TURNED: Rows<'static> = &[
     ("FOO", "-ERR unknown command\r\n"),
 ];
 
+/// The reply to a request, for which the thread that asks makes the turns.
+fn turned<L: Ledger, R: Wait + Clock>(
+    rt: &R,
+    shared: &Shared<L>,
+    seat: &mut Seat<L>,
+    request: Request,
+) -> Result<Reply, Fail> {
+    Ok(shared.ask_turning(rt, seat, request)?.open())
+}
+
 /// Asks at a seat and makes the turns: the reply is to have this text.
 fn turn_row<L: Ledger, R: Wait + Clock>(
     rt: &R,
@@ -307,7 +331,7 @@ fn turn_row<L: Ledger, R: Wait + Clock>(
     wanted: &str,
 ) -> Result<(), Fail> {
     let request = request(alloc, words)?;
-    let reply = shared.ask_turning(rt, seat, request)?.open();
+    let reply = turned(rt, shared, seat, request)?;
     same_reply(alloc, words, &reply, wanted)
 }
 
@@ -413,6 +437,11 @@ fn exhausts<L: Ledger, R: Wait + Clock>(
 ) -> Result<(), Fail> {
     refuses(rt, alloc, shared, seat, "SET a 1", FaultKind::Exhausted, 1)?;
     refuses(rt, alloc, shared, seat, "SET a 1", FaultKind::Exhausted, 1)?;
+    drives_no_more(rt, shared)
+}
+
+/// It can't be driven, since no more steps may be made.
+fn drives_no_more<L: Ledger, R: Wait + Clock>(rt: &R, shared: &Shared<L>) -> Result<(), Fail> {
     is_refused(driven(rt, shared), FaultKind::Exhausted)
 }
 

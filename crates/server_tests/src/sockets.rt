@@ -63,7 +63,7 @@ fn push_acts(acts: &mut Vec<Act<'static>>) -> Result<(), AllocError> {
 
 /// The same, as acts of their own.
 fn acts_of_many(alloc: Global) -> Result<Vec<Act<'static>>, AllocError> {
-    let mut acts = Vec::new(alloc);
+    let mut acts: Vec<Act<'static>> = Vec::new(alloc);
     push_acts(&mut acts)?;
     Ok(acts)
 }
