@@ -270,7 +270,7 @@ pub(crate) fn ask_anew(rt: &impl Abort, alloc: Global, rows: &[Asked]) -> Result
     ask_rows(rt, alloc, &mut store, &table, rows)
 }
 
-/// Runs the layer of the requests of these words at this clock, which have to be answered so.
+/// Runs a layer. That becomes of it which is wanted.
 pub(crate) fn ask_all<W: Workers>(
     rt: &impl Abort,
     alloc: Global,
@@ -281,5 +281,5 @@ pub(crate) fn ask_all<W: Workers>(
     wanted: &str,
 ) -> Result<(), Fail> {
     let answered = answers(rt, alloc, store, asked, workers, gate)?;
-    same_text("the answers of a layer", answered.as_str(), wanted)
+    same_text("what became of a layer", answered.as_str(), wanted)
 }
