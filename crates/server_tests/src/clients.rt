@@ -7,7 +7,7 @@ use std::net::{Net, Shutdown, SocketAddr, TcpListener, TcpStream};
 use test_support::{bytes_of, requests_of};
 
 /// What a client does. In a row of bytes `|` stands for CR LF.
-#[derive(Clone, Copy, Debug)]
+#[derive(Clone, Copy)]
 pub(crate) enum Does<'a> {
     /// Sends these requests, parted by `; `.
     Asks(&'a str),
