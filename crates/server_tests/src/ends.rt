@@ -158,7 +158,7 @@ fn stand_still<R: AllocGlobal + Files>(rt: &R, path: &str, part: &str) -> Result
 }
 
 /// A trace that can't be written in this file leaves what stands there.
-fn leaves<R>(rt: &R, path: &str, part: &str) -> Result<(), Fail>
+fn leaves<R>(rt: &R, path: &str) -> Result<(), Fail>
 where
     R: Threads
         + Wait
@@ -170,15 +170,15 @@ where
         + Sync
         + Net<Listener = TcpListener, Stream = TcpStream>,
 {
-    stand_before(rt, path, part)?;
+    let part = format!(in rt.alloc(); "{path}.part")?;
+    stand_before(rt, path, part.as_str())?;
     writes_no_trace(rt, path)?;
-    stand_still(rt, path, part)
+    stand_still(rt, path, part.as_str())
 }
 
 /// A trace that can't be written leaves what stands under its name.
 #[test]
 fn an_older_trace_stays(rt: HostRuntime) -> Result<(), Fail> {
     let path = path_of(&rt, "older")?;
-    let part = format!(in rt.alloc(); "{path}.part")?;
-    leaves(&rt, path.as_str(), part.as_str())
+    leaves(&rt, path.as_str())
 }

@@ -349,6 +349,17 @@ fn turn_rows<L: Ledger, R: Wait + Clock>(
     Ok(())
 }
 
+/// A request is refused for a fault of this kind, where the thread that asks would make the turns.
+fn turning_is_refused<L: Ledger, R: Wait + Clock>(
+    rt: &R,
+    shared: &Shared<L>,
+    seat: &mut Seat<L>,
+    request: Request,
+    kind: FaultKind,
+) -> Result<(), Fail> {
+    is_refused(shared.ask_turning(rt, seat, request), kind)
+}
+
 /// A request at a seat is refused for a fault of this kind, and then the seat has so many requests.
 fn refuses<L: Ledger, R: Wait + Clock>(
     rt: &R,
@@ -360,7 +371,7 @@ fn refuses<L: Ledger, R: Wait + Clock>(
     count: u64,
 ) -> Result<(), Fail> {
     let request = request(alloc, words)?;
-    is_refused(shared.ask_turning(rt, seat, request), kind)?;
+    turning_is_refused(rt, shared, seat, request, kind)?;
     same_number("the requests of the seat", seat.count(), count)
 }
 
@@ -390,8 +401,9 @@ fn turn_and_close<L: Ledger, R: Wait + Clock>(
     shared: &Shared<L>,
 ) -> Result<(), Fail> {
     let mut seat = shared.sit(rt)?;
-    turn_and_shut(rt, alloc, shared, &mut seat)?;
+    let shut = turn_and_shut(rt, alloc, shared, &mut seat);
     shared.stand(rt, seat);
+    shut?;
     closes_shut(rt, shared)
 }
 
@@ -462,8 +474,9 @@ fn exhaust<L: Ledger, R: Wait + Clock>(
     shared: &Shared<L>,
 ) -> Result<(), Fail> {
     let mut seat = shared.sit(rt)?;
-    exhausts(rt, alloc, shared, &mut seat)?;
+    let exhausted = exhausts(rt, alloc, shared, &mut seat);
     shared.stand(rt, seat);
+    exhausted?;
     stays(shared.close(rt), CloseFault::NotQuiet)?;
     has_three(rt, alloc, shared)
 }
