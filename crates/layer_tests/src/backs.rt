@@ -1,17 +1,20 @@
 //! The store with its rows: what comes of the layers that it is brought, and which of them come back.
 
+use crate::backs::Does::{
+    Brings, BringsHalf, BringsToUnwilling, HandsOver, HasFailed, HasRows, Holds, Tells,
+};
 use crate::held::Unwilling;
-use crate::jobs::{ONE, layer_of, table_of, two_shards};
+use crate::jobs::{ONE, discard, layer_of, string, table_of, two_shards};
 use crate::trouble::Trouble;
 use back::Back;
 use groups::{ConnId, RequestId};
-use layer_results::Done;
+use layer_results::{Done, DoneRow};
 use placement::Table;
 use resp::write_reply;
 use shard_exec::ExecFault;
 use shard_workers::{Open, Workers};
 use shards::ShardHasher;
-use std::alloc::Global;
+use std::alloc::{AllocError, Global};
 use std::test::Fail;
 use test_support::{holds, same_bytes, same_count, same_text};
 
@@ -21,147 +24,232 @@ const SECOND: RequestId = RequestId {
     seq: 2,
 };
 
+/// The words of a layer's requests, and their clock.
+type Brought = (u64, &'static [&'static str]);
+
+/// What became of a layer, and how many of its requests come back.
+type Became = (&'static str, usize);
+
+const RUN: Became = ("run", 0);
+
+const FAILED: Became = ("failed", 0);
+
+/// What is done with a store, or looked at.
+#[derive(Clone, Copy)]
+enum Does {
+    /// It is brought this layer, and that becomes of it.
+    Brings(Brought, Became),
+    /// The same, by workers of which none can be started.
+    BringsToUnwilling(Brought, Became),
+    /// It is brought this layer of two requests, of which the second is to starve. It is run.
+    BringsHalf(Brought),
+    /// This came of the last layer.
+    Tells(&'static str),
+    /// The same, which is handed over.
+    HandsOver(&'static str),
+    /// It has so many rows.
+    HasRows(usize),
+    /// The shards hold this.
+    Holds(&'static str),
+    /// It has failed.
+    HasFailed,
+}
+
 /// A store of these shards with no rows.
 fn new_back(alloc: Global, table: &Table) -> Result<Back, Trouble> {
     Ok(Back::new(alloc, *table, ShardHasher::Fixed)?)
 }
 
-/// What became of a layer, and how many of its requests come back.
-fn word(outcome: Result<(), ExecFault>) -> (&'static str, usize) {
+/// What became of a layer.
+fn became(outcome: &Result<(), ExecFault>) -> Became {
     match outcome {
-        Ok(()) => ("run", 0),
+        Ok(()) => RUN,
         Err(ExecFault::Stale(layer)) => ("stale", layer.len()),
         Err(ExecFault::Memory(layer)) => ("memory", layer.len()),
-        Err(ExecFault::Failed) => ("failed", 0),
+        Err(ExecFault::Failed) => FAILED,
         Err(ExecFault::Foreign(layer)) => ("foreign", layer.len()),
     }
 }
 
-/// Brings a layer of these requests at this clock, with the groups of this table: that has to become of it, and so many
-/// requests come back.
+/// That became of a layer which is wanted.
+fn same_became(got: Became, wanted: Became) -> Result<(), Fail> {
+    same_text("what became of a layer", got.0, wanted.0)?;
+    same_count("how many come back", got.1, wanted.1)
+}
+
+/// Brings a layer, of which these requests are to starve: that becomes of it.
 fn bring<W: Workers>(
     alloc: Global,
     back: &mut Back,
     table: &Table,
-    clock: u64,
-    asked: &[&str],
+    brought: &Brought,
+    starved: &[RequestId],
     workers: &W,
-    wanted: (&str, usize),
+    wanted: Became,
 ) -> Result<(), Fail> {
-    let layer = layer_of(alloc, table, clock, asked)?;
-    let (became, count) = word(back.run(layer, &[], workers, &Open));
-    same_text("what became of a layer", became, wanted.0)?;
-    same_count("how many come back", count, wanted.1)
+    let layer = layer_of(alloc, table, brought.0, brought.1)?;
+    let outcome = back.run(layer, starved, workers, &Open);
+    let got = became(&outcome);
+    discard(outcome);
+    same_became(got, wanted)
 }
 
-/// Brings a layer of two requests at this clock, of which the second is to starve: it has to be run.
-fn bring_half(
-    alloc: Global,
-    back: &mut Back,
-    table: &Table,
-    clock: u64,
-    asked: [&str; 2],
-) -> Result<(), Fail> {
-    let layer = layer_of(alloc, table, clock, &asked)?;
-    let (became, _) = word(back.run(layer, &[SECOND], &ONE, &Open));
-    same_text("what became of a layer", became, "run")
+/// Puts the replies behind, with a blank behind each.
+fn push_replies(bytes: &mut Vec<u8>, rows: &[DoneRow]) -> Result<(), AllocError> {
+    for row in rows {
+        write_reply(&row.reply, bytes)?;
+        bytes.extend_from_slice(b" ")?;
+    }
+    Ok(())
+}
+
+/// Puts the numbers of the requests that starved behind.
+fn push_starved(alloc: Global, bytes: &mut Vec<u8>, done: &Done) -> Result<(), AllocError> {
+    for (id, _) in done.starved() {
+        let line = format!(in alloc; "{} starved ", id.seq)?;
+        bytes.extend_from_slice(line.as_bytes())?;
+    }
+    Ok(())
 }
 
 /// The replies, and the numbers of the requests that starved, with a blank behind each.
 fn told(alloc: Global, done: &Done) -> Result<String, Trouble> {
     let mut bytes = Vec::new(alloc);
-    for row in done.rows() {
-        write_reply(&row.reply, &mut bytes)?;
-        bytes.push(b' ')?;
-    }
-    for (id, _) in done.starved() {
-        let line = format!(in alloc; "{} starved ", id.seq)?;
-        bytes.extend_from_slice(line.as_bytes())?;
-    }
-    Ok(String::from_utf8(bytes).ok().ok_or("not text")?)
+    push_replies(&mut bytes, done.rows())?;
+    push_starved(alloc, &mut bytes, done)?;
+    string(bytes)
 }
 
-/// This has to have come of the last layer.
-fn same_done(alloc: Global, done: &Done, wanted: &str) -> Result<(), Fail> {
+/// This came of a layer.
+fn same_told(alloc: Global, done: &Done, wanted: &str) -> Result<(), Fail> {
     let text = told(alloc, done)?;
     same_text("what came of a layer", text.as_str(), wanted)
 }
 
-/// The shards have to hold this.
+/// This came of the last layer.
+fn same_done(alloc: Global, back: &Back, wanted: &str) -> Result<(), Fail> {
+    let done = back.done()?;
+    same_told(alloc, &done, wanted)
+}
+
+/// This came of the last layer, and is handed over.
+fn same_handed_over(alloc: Global, back: &mut Back, wanted: &str) -> Result<(), Fail> {
+    let done = back.hand_over();
+    same_told(alloc, &done, wanted)
+}
+
+/// The shards hold this.
 fn same_dump(alloc: Global, back: &Back, wanted: &str) -> Result<(), Fail> {
     let mut dump = Vec::new(alloc);
     back.dump(&mut dump)?;
     same_bytes("the dump", dump.as_slice(), wanted.as_bytes())
 }
 
+/// Does it, with the groups of this table.
+fn act(alloc: Global, back: &mut Back, table: &Table, does: &Does) -> Result<(), Fail> {
+    match does {
+        Brings(brought, wanted) => bring(alloc, back, table, brought, &[], &ONE, *wanted),
+        BringsToUnwilling(brought, wanted) => {
+            bring(alloc, back, table, brought, &[], &Unwilling, *wanted)
+        }
+        BringsHalf(brought) => bring(alloc, back, table, brought, &[SECOND], &ONE, RUN),
+        Tells(wanted) => same_done(alloc, back, wanted),
+        HandsOver(wanted) => same_handed_over(alloc, back, wanted),
+        HasRows(wanted) => same_count("rows", back.rows().len(), *wanted),
+        Holds(wanted) => same_dump(alloc, back, wanted),
+        HasFailed => holds("it has failed", back.has_failed()),
+    }
+}
+
+/// Does one after another, with the groups of this table.
+fn follow(alloc: Global, back: &mut Back, table: &Table, acts: &[Does]) -> Result<(), Fail> {
+    for does in acts {
+        act(alloc, back, table, does)?;
+    }
+    Ok(())
+}
+
+/// Does one after another with a new store of two shards, with the groups of this table.
+fn follow_anew(alloc: Global, table: &Table, acts: &[Does]) -> Result<(), Fail> {
+    let two = two_shards(alloc)?;
+    let mut back = new_back(alloc, &two)?;
+    follow(alloc, &mut back, table, acts)
+}
+
+/// The same, with its own groups.
+fn follow_own(alloc: Global, acts: &[Does]) -> Result<(), Fail> {
+    let table = two_shards(alloc)?;
+    follow_anew(alloc, &table, acts)
+}
+
+#[rattlefmt::skip]
+const EXECUTED: [Does; 7] = [
+    Tells(""),
+    Brings((1, &["SET a 1", "SET c 2"]), RUN),
+    Tells("+OK\r\n +OK\r\n "),
+    BringsHalf((2, &["GET a", "DEL c"])),
+    Tells("$1\r\n1\r\n 2 starved "),
+    HasRows(3),
+    Holds("key 61 string 31\nkey 63 string 32\n"),
+];
+
 #[test]
 fn each_executed_request_has_its_row(rt: HostRuntime) -> Result<(), Fail> {
-    let alloc = rt.alloc();
-    let table = two_shards(alloc)?;
-    let mut back = new_back(alloc, &table)?;
-    same_done(alloc, &back.done()?, "")?;
-    let sets = ["SET a 1", "SET c 2"];
-    bring(alloc, &mut back, &table, 1, &sets, &ONE, ("run", 0))?;
-    same_done(alloc, &back.done()?, "+OK\r\n +OK\r\n ")?;
-    bring_half(alloc, &mut back, &table, 2, ["GET a", "DEL c"])?;
-    same_done(alloc, &back.done()?, "$1\r\n1\r\n 2 starved ")?;
-    same_count("rows", back.rows().len(), 3)?;
-    same_dump(alloc, &back, "key 61 string 31\nkey 63 string 32\n")
+    follow_own(rt.alloc(), &EXECUTED)
 }
+
+#[rattlefmt::skip]
+const HANDED_OVER: [Does; 7] = [
+    Brings((1, &["GET a"]), RUN),
+    HandsOver("$-1\r\n "),
+    Tells(""),
+    Brings((2, &["GET c"]), RUN),
+    Brings((2, &[]), RUN),
+    HandsOver(""),
+    HasRows(2),
+];
 
 #[test]
 fn what_came_last_is_handed_over_once(rt: HostRuntime) -> Result<(), Fail> {
-    let alloc = rt.alloc();
-    let table = two_shards(alloc)?;
-    let mut back = new_back(alloc, &table)?;
-    bring(alloc, &mut back, &table, 1, &["GET a"], &ONE, ("run", 0))?;
-    same_done(alloc, &back.hand_over(), "$-1\r\n ")?;
-    same_done(alloc, &back.done()?, "")?;
-    bring(alloc, &mut back, &table, 2, &["GET c"], &ONE, ("run", 0))?;
-    bring(alloc, &mut back, &table, 2, &[], &ONE, ("run", 0))?;
-    same_done(alloc, &back.hand_over(), "")?;
-    same_count("rows", back.rows().len(), 2)
+    follow_own(rt.alloc(), &HANDED_OVER)
 }
+
+#[rattlefmt::skip]
+const OF_ANOTHER_TABLE: [Does; 3] = [
+    Brings((1, &["SET a 1", "SET z 2"]), ("foreign", 2)),
+    HasRows(0),
+    Brings((1, &["SET a 1"]), RUN),
+];
 
 #[test]
 fn a_layer_of_another_table_comes_back(rt: HostRuntime) -> Result<(), Fail> {
-    let alloc = rt.alloc();
-    let mut back = new_back(alloc, &two_shards(alloc)?)?;
-    let other = table_of(alloc, 4)?;
-    let sets = ["SET a 1", "SET z 2"];
-    bring(alloc, &mut back, &other, 1, &sets, &ONE, ("foreign", 2))?;
-    same_count("rows", back.rows().len(), 0)?;
-    bring(alloc, &mut back, &other, 1, &["SET a 1"], &ONE, ("run", 0))
+    let other = table_of(rt.alloc(), 4)?;
+    follow_anew(rt.alloc(), &other, &OF_ANOTHER_TABLE)
 }
+
+#[rattlefmt::skip]
+const LATE: [Does; 4] = [
+    Brings((8, &["SET a 1"]), RUN),
+    Brings((8, &["SET y 1"]), ("stale", 1)),
+    Brings((1, &["SET c 1"]), RUN),
+    Holds("key 61 string 31\nkey 63 string 31\n"),
+];
 
 #[test]
 fn a_late_layer_comes_back(rt: HostRuntime) -> Result<(), Fail> {
-    let alloc = rt.alloc();
-    let table = two_shards(alloc)?;
-    let mut back = new_back(alloc, &table)?;
-    bring(alloc, &mut back, &table, 8, &["SET a 1"], &ONE, ("run", 0))?;
-    bring(
-        alloc,
-        &mut back,
-        &table,
-        8,
-        &["SET y 1"],
-        &ONE,
-        ("stale", 1),
-    )?;
-    bring(alloc, &mut back, &table, 1, &["SET c 1"], &ONE, ("run", 0))?;
-    same_dump(alloc, &back, "key 61 string 31\nkey 63 string 31\n")
+    follow_own(rt.alloc(), &LATE)
 }
+
+#[rattlefmt::skip]
+const REFUSED: [Does; 5] = [
+    Brings((1, &["SET a 1"]), RUN),
+    BringsToUnwilling((2, &["GET a", "GET c"]), FAILED),
+    Brings((3, &["GET c"]), FAILED),
+    HasFailed,
+    HasRows(1),
+];
 
 #[test]
 fn its_rows_outlive_a_refused_start(rt: HostRuntime) -> Result<(), Fail> {
-    let alloc = rt.alloc();
-    let table = two_shards(alloc)?;
-    let mut back = new_back(alloc, &table)?;
-    bring(alloc, &mut back, &table, 1, &["SET a 1"], &ONE, ("run", 0))?;
-    let two = ["GET a", "GET c"];
-    bring(alloc, &mut back, &table, 2, &two, &Unwilling, ("failed", 0))?;
-    bring(alloc, &mut back, &table, 3, &["GET c"], &ONE, ("failed", 0))?;
-    holds("it has failed", back.has_failed())?;
-    same_count("rows", back.rows().len(), 1)
+    follow_own(rt.alloc(), &REFUSED)
 }

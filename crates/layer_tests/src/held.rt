@@ -1,12 +1,12 @@
 //! That a crew of two really runs two requests at once, and what a refused start leaves.
 
-use crate::jobs::{ONE, layer_of, run, run_or_not, same_answers, two_shards};
+use crate::jobs::{ONE, ask_all, layer_of, number_of, two_shards};
 use crate::trouble::Trouble;
 use groups::RequestId;
 use layer_planner::Layer;
 use placement::Table;
 use shard_crew::Crew;
-use shard_exec::{ExecFault, Store};
+use shard_exec::Store;
 use shard_workers::{Gate, InTurn, Open, Part, Ran, Refused, Room, Workers};
 use std::alloc::{AllocError, Global};
 use std::num::NonZeroUsize;
@@ -68,23 +68,28 @@ fn run_both<W: Workers>(
     let table = two_shards(alloc)?;
     let mut store = Store::new(alloc, table)?;
     let requests = two_requests(alloc, &table)?;
-    let done = run(rt, alloc, &mut store, requests, workers, gate)?;
-    same_answers(alloc, done.as_slice(), "+OK\r\n +OK\r\n ")
+    ask_all(
+        rt,
+        alloc,
+        &mut store,
+        requests,
+        workers,
+        gate,
+        "+OK\r\n +OK\r\n ",
+    )
 }
 
 #[test]
 fn a_crew_of_two_runs_both_at_once(rt: HostRuntime) -> Result<(), Fail> {
-    let two = NonZeroUsize::new(2).ok_or("two")?;
     let gate = holding(&rt, 10_000);
-    run_both(&rt, rt.alloc(), &Crew::new(&rt, two), &gate)?;
+    run_both(&rt, rt.alloc(), &Crew::new(&rt, number_of(2)), &gate)?;
     holds("two threads ran them", !gate.missed.load(Ordering::SeqCst))
 }
 
 #[test]
 fn workers_in_turn_do_not(rt: HostRuntime) -> Result<(), Fail> {
-    let two = NonZeroUsize::new(2).ok_or("two")?;
     let gate = holding(&rt, 10);
-    run_both(&rt, rt.alloc(), &InTurn(two), &gate)?;
+    run_both(&rt, rt.alloc(), &InTurn(number_of(2)), &gate)?;
     holds("one thread ran them", gate.missed.load(Ordering::SeqCst))
 }
 
@@ -130,19 +135,25 @@ fn fails<W: Workers>(
     workers: &W,
 ) -> Result<(), Fail> {
     let requests = two_requests(alloc, table)?;
-    let outcome = run_or_not(rt, alloc, store, requests, &[], workers, &Open);
-    holds("Failed", matches!(outcome, Err(ExecFault::Failed)))
+    ask_all(rt, alloc, store, requests, workers, &Open, "failed")
+}
+
+/// A start is refused, and then no layer is run.
+fn fails_for_good(
+    rt: &impl Abort,
+    alloc: Global,
+    store: &mut Store,
+    table: &Table,
+) -> Result<(), Fail> {
+    fails(rt, alloc, store, table, &Unwilling)?;
+    holds("it has failed", store.has_failed())?;
+    fails(rt, alloc, store, table, &ONE)?;
+    fails(rt, alloc, store, table, &ONE)
 }
 
 #[test]
 fn a_refused_start_is_for_good(rt: HostRuntime) -> Result<(), Fail> {
-    let alloc = rt.alloc();
-    let table = two_shards(alloc)?;
-    let mut store = Store::new(alloc, table)?;
-    fails(&rt, alloc, &mut store, &table, &Unwilling)?;
-    holds("it has failed", store.has_failed())?;
-    for _ in 0..2 {
-        fails(&rt, alloc, &mut store, &table, &ONE)?;
-    }
-    Ok(())
+    let table = two_shards(rt.alloc())?;
+    let mut store = Store::new(rt.alloc(), table)?;
+    fails_for_good(&rt, rt.alloc(), &mut store, &table)
 }

@@ -1,13 +1,13 @@
 //! Jobs from the words of a request, and replies as the text that a client gets.
 
 use crate::trouble::Trouble;
-use groups::{ConnId, RequestId, Stamp};
+use groups::{ConnId, Groups, RequestId, Stamp};
 use layer_planner::{Job, Layer};
 use placement::{GroupId, Table};
-use resp::{Request, write_reply};
+use resp::{Answered, Request, write_reply};
 use shard_exec::{Ended, ExecFault, Store};
 use shard_workers::{Gate, InTurn, Open, Workers};
-use std::alloc::Global;
+use std::alloc::{AllocError, Global};
 use std::num::NonZeroUsize;
 use std::process::Abort;
 use std::test::Fail;
@@ -16,6 +16,11 @@ use worded::Worded;
 
 /// One worker, and no thread.
 pub(crate) const ONE: InTurn = InTurn(NonZeroUsize::MIN);
+
+/// So many workers, or one.
+pub(crate) fn number_of(workers: usize) -> NonZeroUsize {
+    NonZeroUsize::new(workers).unwrap_or(NonZeroUsize::MIN)
+}
 
 /// Two shards: `a`, `b` and `y` lie on 0, `c`, `d`, `x` and `z` on 1.
 pub(crate) fn two_shards(alloc: Global) -> Result<Table, Trouble> {
@@ -38,36 +43,63 @@ pub(crate) fn table_of(alloc: Global, shards: u64) -> Result<Table, Trouble> {
     Ok(Table::from_toml(alloc, text.as_str())?)
 }
 
-/// The job of these words, separated by blanks: its id is (1, seq), and its stamp is of its greatest group.
-pub(crate) fn job(
-    alloc: Global,
-    table: &Table,
-    seq: u64,
-    clock: u64,
-    words: &str,
-) -> Result<Job, Trouble> {
-    let mut copies = Vec::new(alloc);
+/// Puts the words behind that are separated by blanks.
+fn push_words(alloc: Global, copies: &mut Vec<Vec<u8>>, words: &str) -> Result<(), AllocError> {
     for word in words.split(' ') {
         copies.push(Vec::from_slice(alloc, word.as_bytes())?)?;
     }
+    Ok(())
+}
+
+/// The request of these words, separated by blanks.
+fn request(alloc: Global, words: &str) -> Result<Request, Trouble> {
+    let mut copies = Vec::new(alloc);
+    push_words(alloc, &mut copies, words)?;
     if copies.is_empty() {
         return Err(Trouble::Asked);
     }
-    let asked = Worded::read(alloc, Request::from_words(copies))?;
-    let groups = table.groups(asked.command());
-    let mut group = GroupId::new(0);
-    for other in groups.iter() {
-        group = other;
+    Ok(Request::from_words(copies))
+}
+
+/// The greatest of these groups, or 0.
+pub(crate) fn last_of(groups: &Groups) -> GroupId {
+    let mut last = GroupId::new(0);
+    for group in groups.iter() {
+        last = group;
     }
-    Ok(Job {
+    last
+}
+
+/// The job of what is asked: its id is (1, seq), and its stamp is of its greatest group.
+fn job_of(table: &Table, seq: u64, clock: u64, asked: Worded) -> Job {
+    let groups = table.groups(asked.command());
+    Job {
         id: RequestId {
             conn: ConnId(1),
             seq,
         },
-        stamp: Stamp { clock, group },
+        stamp: Stamp {
+            clock,
+            group: last_of(&groups),
+        },
         groups,
         asked,
-    })
+    }
+}
+
+/// Puts the job of these words behind. Its id is (1, seq).
+pub(crate) fn push_job(
+    alloc: Global,
+    table: &Table,
+    jobs: &mut Vec<Job>,
+    seq: u64,
+    clock: u64,
+    words: &str,
+) -> Result<(), Trouble> {
+    let request = request(alloc, words)?;
+    let asked = Worded::read(alloc, request)?;
+    jobs.push(job_of(table, seq, clock, asked))?;
+    Ok(())
 }
 
 /// The layer of these jobs.
@@ -83,42 +115,28 @@ pub(crate) fn layer_of(
     asked: &[&str],
 ) -> Result<Layer, Trouble> {
     let mut jobs = Vec::new(alloc);
-    let mut seq = 0u64;
-    for words in asked {
-        seq = seq.wrapping_add(1);
-        jobs.push(job(alloc, table, seq, clock, words)?)?;
-    }
+    push_jobs(alloc, table, &mut jobs, clock, asked)?;
     layer(jobs)
 }
 
-/// Runs one request and gives its reply's text.
-pub(crate) fn ask(
-    rt: &impl Abort,
+/// Puts the jobs of the requests of these words behind, all at this clock.
+fn push_jobs(
     alloc: Global,
-    store: &mut Store,
     table: &Table,
+    jobs: &mut Vec<Job>,
     clock: u64,
-    words: &str,
-) -> Result<String, Trouble> {
-    let asked = layer_of(alloc, table, clock, &[words])?;
-    let done = run(rt, alloc, store, asked, &ONE, &Open)?;
-    text(alloc, done.as_slice())
-}
-
-/// Runs requests one after another: each has its clock and the text that it has to be answered.
-pub(crate) fn ask_rows(
-    rt: &impl Abort,
-    alloc: Global,
-    store: &mut Store,
-    table: &Table,
-    rows: &[(u64, &str, &str)],
-) -> Result<(), Fail> {
-    for (clock, words, wanted) in rows {
-        let answered = ask(rt, alloc, store, table, *clock, words)?;
-        same_text(words, answered.as_str(), wanted)?;
+    asked: &[&str],
+) -> Result<(), Trouble> {
+    let mut seq = 0u64;
+    for words in asked {
+        seq = seq.wrapping_add(1);
+        push_job(alloc, table, jobs, seq, clock, words)?;
     }
     Ok(())
 }
+
+/// Lets a value go. What that takes for each of its kinds is seen here alone.
+pub(crate) fn discard<T: Drop>(_value: T) {}
 
 /// Runs a layer, and lets these of its requests starve.
 pub(crate) fn run_or_not<W: Workers>(
@@ -134,34 +152,134 @@ pub(crate) fn run_or_not<W: Workers>(
     store.run_layer(alloc, layer, starved, workers, gate)
 }
 
-/// Runs a layer, which has to be run.
-pub(crate) fn run<W: Workers>(
+/// Runs a layer. What its requests were answered, or why it wasn't run.
+pub(crate) fn answers<W: Workers>(
     rt: &impl Abort,
     alloc: Global,
     store: &mut Store,
     layer: Layer,
     workers: &W,
     gate: &(dyn Gate + Sync),
-) -> Result<Vec<Ended>, Trouble> {
-    let outcome = run_or_not(rt, alloc, store, layer, &[], workers, gate);
-    Ok(outcome.ok().ok_or("not run")?)
+) -> Result<String, Trouble> {
+    answers_but(rt, alloc, store, layer, &[], workers, gate)
+}
+
+/// The same, where these of its requests are to starve.
+pub(crate) fn answers_but<W: Workers>(
+    rt: &impl Abort,
+    alloc: Global,
+    store: &mut Store,
+    layer: Layer,
+    starved: &[RequestId],
+    workers: &W,
+    gate: &(dyn Gate + Sync),
+) -> Result<String, Trouble> {
+    let outcome = run_or_not(rt, alloc, store, layer, starved, workers, gate);
+    let told = told(alloc, &outcome);
+    discard(outcome);
+    told
+}
+
+/// What became of a layer: what its requests were answered, or why it wasn't run and how many of them come back.
+fn told(alloc: Global, outcome: &Result<Vec<Ended>, ExecFault>) -> Result<String, Trouble> {
+    match outcome {
+        Ok(done) => text(alloc, done.as_slice()),
+        Err(ExecFault::Stale(layer)) => Ok(format!(in alloc; "stale {}", layer.len())?),
+        Err(ExecFault::Memory(layer)) => Ok(format!(in alloc; "no memory {}", layer.len())?),
+        Err(ExecFault::Failed) => Ok(String::from_str(alloc, "failed")?),
+        Err(ExecFault::Foreign(layer)) => Ok(format!(in alloc; "foreign {}", layer.len())?),
+    }
 }
 
 /// What was answered, with blanks between; `starved` where there is no reply.
 pub(crate) fn text(alloc: Global, done: &[Ended]) -> Result<String, Trouble> {
     let mut bytes = Vec::new(alloc);
-    for ended in done {
-        match &ended.reply {
-            Some(answered) => write_reply(&answered.reply, &mut bytes)?,
-            None => bytes.extend_from_slice(b"starved")?,
-        }
-        bytes.push(b' ')?;
-    }
+    push_answers(&mut bytes, done)?;
+    string(bytes)
+}
+
+/// The text of these bytes.
+pub(crate) fn string(bytes: Vec<u8>) -> Result<String, Trouble> {
     Ok(String::from_utf8(bytes).ok().ok_or("not text")?)
 }
 
-/// These requests have to be answered so.
-pub(crate) fn same_answers(alloc: Global, done: &[Ended], wanted: &str) -> Result<(), Fail> {
-    let answered = text(alloc, done)?;
-    same_text("the answers of a layer", answered.as_str(), wanted)
+/// Puts behind what was answered.
+fn push_answers(bytes: &mut Vec<u8>, done: &[Ended]) -> Result<(), AllocError> {
+    for ended in done {
+        push_answer(bytes, ended.reply.as_ref())?;
+    }
+    Ok(())
+}
+
+/// Puts a reply behind, or `starved`, and a blank.
+fn push_answer(bytes: &mut Vec<u8>, answered: Option<&Answered>) -> Result<(), AllocError> {
+    match answered {
+        Some(answered) => write_reply(&answered.reply, bytes)?,
+        None => bytes.extend_from_slice(b"starved")?,
+    }
+    bytes.extend_from_slice(b" ")
+}
+
+/// Runs a layer of one request, and gives what became of it.
+pub(crate) fn ask(
+    rt: &impl Abort,
+    alloc: Global,
+    store: &mut Store,
+    table: &Table,
+    clock: u64,
+    words: &str,
+) -> Result<String, Trouble> {
+    let asked = layer_of(alloc, table, clock, &[words])?;
+    answers(rt, alloc, store, asked, &ONE, &Open)
+}
+
+/// A layer of one request: its clock, its words, and what becomes of it.
+pub(crate) type Asked = (u64, &'static str, &'static str);
+
+/// Runs layers of one request one after another.
+pub(crate) fn ask_rows(
+    rt: &impl Abort,
+    alloc: Global,
+    store: &mut Store,
+    table: &Table,
+    rows: &[Asked],
+) -> Result<(), Fail> {
+    for row in rows {
+        ask_row(rt, alloc, store, table, row)?;
+    }
+    Ok(())
+}
+
+/// Runs a layer of one request. That becomes of it which is wanted.
+fn ask_row(
+    rt: &impl Abort,
+    alloc: Global,
+    store: &mut Store,
+    table: &Table,
+    row: &Asked,
+) -> Result<(), Fail> {
+    let (clock, words, wanted) = *row;
+    let answered = ask(rt, alloc, store, table, clock, words)?;
+    same_text(words, answered.as_str(), wanted)
+}
+
+/// Runs layers of one request one after another, in a new store of two shards.
+pub(crate) fn ask_anew(rt: &impl Abort, alloc: Global, rows: &[Asked]) -> Result<(), Fail> {
+    let table = two_shards(alloc)?;
+    let mut store = Store::new(alloc, table)?;
+    ask_rows(rt, alloc, &mut store, &table, rows)
+}
+
+/// Runs a layer. That becomes of it which is wanted.
+pub(crate) fn ask_all<W: Workers>(
+    rt: &impl Abort,
+    alloc: Global,
+    store: &mut Store,
+    asked: Layer,
+    workers: &W,
+    gate: &(dyn Gate + Sync),
+    wanted: &str,
+) -> Result<(), Fail> {
+    let answered = answers(rt, alloc, store, asked, workers, gate)?;
+    same_text("what became of a layer", answered.as_str(), wanted)
 }

@@ -1,117 +1,97 @@
 //! What becomes of one layer after another.
 
-use crate::jobs::{ONE, ask_rows, layer_of, run, run_or_not, same_answers, two_shards};
+use crate::jobs::{Asked, ONE, answers_but, ask_all, ask_anew, ask_rows, layer_of, two_shards};
 use groups::{ConnId, RequestId};
+use layer_planner::Job;
 use placement::Table;
-use shard_exec::{Ended, ExecFault, Store};
+use shard_exec::Store;
 use shard_workers::Open;
 use std::alloc::Global;
 use std::process::Abort;
 use std::test::Fail;
-use test_support::same_count;
+use test_support::{same_count, same_text};
 
-/// How many requests the layer has that was stale; none where it was run.
-fn came_back(outcome: Result<Vec<Ended>, ExecFault>) -> Option<usize> {
-    match outcome {
-        Err(ExecFault::Stale(layer)) => Some(layer.len()),
-        Ok(_) => None,
-        Err(ExecFault::Memory(_)) => None,
-        Err(ExecFault::Failed) => None,
-        Err(ExecFault::Foreign(_)) => None,
-    }
-}
-
-/// A layer of one request at this clock comes back.
-fn is_stale(
-    rt: &impl Abort,
-    alloc: Global,
-    store: &mut Store,
-    table: &Table,
-    clock: u64,
-    words: &str,
-) -> Result<(), Fail> {
-    let late = layer_of(alloc, table, clock, &[words])?;
-    let outcome = run_or_not(rt, alloc, store, late, &[], &ONE, &Open);
-    same_count(words, came_back(outcome).ok_or("it was run")?, 1)
-}
+/// One that is stale comes back, with its one request.
+#[rattlefmt::skip]
+const STALE: [Asked; 5] = [
+    (8, "SET a 1", "+OK\r\n "),
+    (3, "SET y 1", "stale 1"),
+    (1, "SET c 1", "+OK\r\n "),
+    (9, "GET y", "$-1\r\n "),
+    (10, "GET a", "$1\r\n1\r\n "),
+];
 
 #[test]
 fn stale_comes_back(rt: HostRuntime) -> Result<(), Fail> {
-    let alloc = rt.alloc();
-    let table = two_shards(alloc)?;
-    let mut store = Store::new(alloc, table)?;
-    ask_rows(
-        &rt,
-        alloc,
-        &mut store,
-        &table,
-        &[(8, "SET a 1", "+OK\r\n ")],
-    )?;
-    is_stale(&rt, alloc, &mut store, &table, 3, "SET y 1")?;
-    let rows = [
-        (1, "SET c 1", "+OK\r\n "),
-        (9, "GET y", "$-1\r\n "),
-        (10, "GET a", "$1\r\n1\r\n "),
-    ];
-    ask_rows(&rt, alloc, &mut store, &table, &rows)
+    ask_anew(&rt, rt.alloc(), &STALE)
 }
 
-/// A store on which `SET a 1` and `SET c 2` were run as one layer, at the clock 1.
-fn store_of_two(rt: &impl Abort, alloc: Global, table: &Table) -> Result<Store, Fail> {
-    let mut store = Store::new(alloc, *table)?;
-    let first = layer_of(alloc, table, 1, &["SET a 1", "SET c 2"])?;
-    let done = run(rt, alloc, &mut store, first, &ONE, &Open)?;
-    same_answers(alloc, done.as_slice(), "+OK\r\n +OK\r\n ")?;
-    Ok(store)
+/// Runs `SET a 1` and `SET c 2` as one layer, at the clock 1.
+fn set_both(rt: &impl Abort, alloc: Global, store: &mut Store, table: &Table) -> Result<(), Fail> {
+    let both = layer_of(alloc, table, 1, &["SET a 1", "SET c 2"])?;
+    ask_all(rt, alloc, store, both, &ONE, &Open, "+OK\r\n +OK\r\n ")
+}
+
+/// Each has two groups.
+fn have_two_groups(jobs: &[Job]) -> Result<(), Fail> {
+    for job in jobs {
+        same_count("the groups of DEL a c", job.groups.len(), 2)?;
+    }
+    Ok(())
 }
 
 /// Lets `DEL a c` starve at the clock 5.
 fn skip_both(rt: &impl Abort, alloc: Global, store: &mut Store, table: &Table) -> Result<(), Fail> {
     let both = layer_of(alloc, table, 5, &["DEL a c"])?;
-    for job in both.jobs() {
-        same_count("the groups of DEL a c", job.groups.len(), 2)?;
-    }
+    have_two_groups(both.jobs())?;
     let id = RequestId {
         conn: ConnId(1),
         seq: 1,
     };
-    let outcome = run_or_not(rt, alloc, store, both, &[id], &ONE, &Open);
-    same_answers(alloc, outcome.ok().ok_or("not run")?.as_slice(), "starved ")
+    let answered = answers_but(rt, alloc, store, both, &[id], &ONE, &Open)?;
+    same_text("DEL a c", answered.as_str(), "starved ")
+}
+
+#[rattlefmt::skip]
+const SKIPPED: [Asked; 4] = [
+    (4, "GET a", "stale 1"),
+    (4, "GET c", "stale 1"),
+    (6, "GET a", "$1\r\n1\r\n "),
+    (6, "GET c", "$1\r\n2\r\n "),
+];
+
+/// Only the last stamps are others behind one that was skipped.
+fn skips(rt: &impl Abort, alloc: Global, store: &mut Store, table: &Table) -> Result<(), Fail> {
+    set_both(rt, alloc, store, table)?;
+    skip_both(rt, alloc, store, table)?;
+    ask_rows(rt, alloc, store, table, &SKIPPED)
 }
 
 #[test]
 fn skipped_changes_nothing_but_the_last_stamps(rt: HostRuntime) -> Result<(), Fail> {
-    let alloc = rt.alloc();
-    let table = two_shards(alloc)?;
-    let mut store = store_of_two(&rt, alloc, &table)?;
-    skip_both(&rt, alloc, &mut store, &table)?;
-    is_stale(&rt, alloc, &mut store, &table, 4, "GET a")?;
-    is_stale(&rt, alloc, &mut store, &table, 4, "GET c")?;
-    let rows = [(6, "GET a", "$1\r\n1\r\n "), (6, "GET c", "$1\r\n2\r\n ")];
-    ask_rows(&rt, alloc, &mut store, &table, &rows)
+    let table = two_shards(rt.alloc())?;
+    let mut store = Store::new(rt.alloc(), table)?;
+    skips(&rt, rt.alloc(), &mut store, &table)
 }
+
+#[rattlefmt::skip]
+const OF_TWO_SHARDS: [Asked; 5] = [
+    (1, "SET a 1", "+OK\r\n "),
+    (1, "SET c 2", "+OK\r\n "),
+    (2, "DEL a c x", ":2\r\n "),
+    (3, "GET a", "$-1\r\n "),
+    (3, "GET c", "$-1\r\n "),
+];
 
 #[test]
 fn a_request_of_two_shards(rt: HostRuntime) -> Result<(), Fail> {
-    let alloc = rt.alloc();
-    let table = two_shards(alloc)?;
-    let mut store = Store::new(alloc, table)?;
-    let rows = [
-        (1, "SET a 1", "+OK\r\n "),
-        (1, "SET c 2", "+OK\r\n "),
-        (2, "DEL a c x", ":2\r\n "),
-        (3, "GET a", "$-1\r\n "),
-        (3, "GET c", "$-1\r\n "),
-    ];
-    ask_rows(&rt, alloc, &mut store, &table, &rows)
+    ask_anew(&rt, rt.alloc(), &OF_TWO_SHARDS)
 }
 
 #[test]
 fn an_empty_layer_needs_nothing(rt: HostRuntime) -> Result<(), Fail> {
-    let alloc = rt.alloc();
-    let table = two_shards(alloc)?;
-    let mut store = Store::new(alloc, table)?;
-    let empty = layer_of(alloc, &table, 1, &[])?;
-    let done = run(&rt, alloc, &mut store, empty, &ONE, &Open)?;
-    same_count("the answers of an empty layer", done.len(), 0)
+    let table = two_shards(rt.alloc())?;
+    let mut store = Store::new(rt.alloc(), table)?;
+    let empty = layer_of(rt.alloc(), &table, 1, &[])?;
+    ask_all(&rt, rt.alloc(), &mut store, empty, &ONE, &Open, "")
 }

@@ -1,28 +1,36 @@
 //! A layer of 64 requests over 64 shards gives the same whoever runs it.
 
-use crate::jobs::{ONE, ask, job, layer, run, table_of, text};
+use crate::jobs::{ONE, answers, ask, layer, number_of, push_job, table_of};
 use crate::trouble::Trouble;
-use layer_planner::Layer;
+use layer_planner::{Job, Layer};
 use placement::Table;
 use shard_crew::Crew;
 use shard_exec::Store;
 use shard_workers::{InTurn, Open, Workers};
 use std::alloc::{AllocError, Global};
-use std::num::NonZeroUsize;
 use std::process::Abort;
+use std::sync::Wait;
 use std::test::Fail;
+use std::thread::Threads;
 use test_support::{holds, same_count, same_text};
 
-/// For each shard a key that lies there, found by trying `0`, `1`, `2` and so on.
+/// The first of `0`, `1`, `2` and so on that lies on this shard, of 10,000.
+fn key_of(alloc: Global, table: &Table, shard: u8) -> Result<Option<String>, AllocError> {
+    for number in 0..10_000u32 {
+        let key = format!(in alloc; "{number}")?;
+        if table.shard_of(key.as_bytes()).number() == shard {
+            return Ok(Some(key));
+        }
+    }
+    Ok(None)
+}
+
+/// For each shard a key that lies there.
 fn keys(alloc: Global, table: &Table) -> Result<Vec<String>, AllocError> {
     let mut keys = Vec::new(alloc);
     for shard in 0..64u8 {
-        for number in 0..10_000u32 {
-            let key = format!(in alloc; "{number}")?;
-            if table.shard_of(key.as_bytes()).number() == shard {
-                keys.push(key)?;
-                break;
-            }
+        if let Some(key) = key_of(alloc, table, shard)? {
+            keys.push(key)?;
         }
     }
     Ok(keys)
@@ -37,20 +45,114 @@ fn asked_of(alloc: Global, clock: u64, number: u64, key: &str) -> Result<String,
     }
 }
 
-/// The layer of 64 requests at this clock.
-fn layer_at(alloc: Global, table: &Table, keys: &[String], clock: u64) -> Result<Layer, Trouble> {
-    let mut jobs = Vec::new(alloc);
+/// Puts the job of the request about the key of this number behind.
+fn push_asked(
+    alloc: Global,
+    table: &Table,
+    jobs: &mut Vec<Job>,
+    clock: u64,
+    number: u64,
+    key: &str,
+) -> Result<(), Trouble> {
+    let words = asked_of(alloc, clock, number, key)?;
+    push_job(alloc, table, jobs, number, clock, words.as_str())
+}
+
+/// Puts the jobs of the requests about the keys behind.
+fn push_all(
+    alloc: Global,
+    table: &Table,
+    jobs: &mut Vec<Job>,
+    keys: &[String],
+    clock: u64,
+) -> Result<(), Trouble> {
     let mut number = 0u64;
     for key in keys {
         number = number.wrapping_add(1);
-        let words = asked_of(alloc, clock, number, key.as_str())?;
-        jobs.push(job(alloc, table, number, clock, words.as_str())?)?;
+        push_asked(alloc, table, jobs, clock, number, key.as_str())?;
     }
+    Ok(())
+}
+
+/// The layer of 64 requests at this clock.
+fn layer_at(alloc: Global, table: &Table, keys: &[String], clock: u64) -> Result<Layer, Trouble> {
+    let mut jobs = Vec::new(alloc);
+    push_all(alloc, table, &mut jobs, keys, clock)?;
     layer(jobs)
 }
 
-/// Runs two layers of 64 requests. What was answered, and then what is at each key.
-fn answers<W: Workers>(
+/// Runs a layer of 64 requests, and puts behind what was answered.
+fn push_layer<W: Workers>(
+    rt: &impl Abort,
+    alloc: Global,
+    store: &mut Store,
+    requests: Layer,
+    workers: &W,
+    all: &mut String,
+) -> Result<(), Trouble> {
+    let answered = answers(rt, alloc, store, requests, workers, &Open)?;
+    Ok(all.push_str(answered.as_str())?)
+}
+
+/// What is answered of a key.
+fn value(
+    rt: &impl Abort,
+    alloc: Global,
+    store: &mut Store,
+    table: &Table,
+    key: &str,
+) -> Result<String, Trouble> {
+    let words = format!(in alloc; "GET {key}")?;
+    ask(rt, alloc, store, table, 3, words.as_str())
+}
+
+/// Puts behind what is at a key.
+fn push_value(
+    rt: &impl Abort,
+    alloc: Global,
+    store: &mut Store,
+    table: &Table,
+    key: &str,
+    all: &mut String,
+) -> Result<(), Trouble> {
+    let value = value(rt, alloc, store, table, key)?;
+    Ok(all.push_str(value.as_str())?)
+}
+
+/// Puts behind what is at each key.
+fn push_values(
+    rt: &impl Abort,
+    alloc: Global,
+    store: &mut Store,
+    table: &Table,
+    keys: &[String],
+    all: &mut String,
+) -> Result<(), Trouble> {
+    for key in keys {
+        push_value(rt, alloc, store, table, key.as_str(), all)?;
+    }
+    Ok(())
+}
+
+/// Runs two layers of 64 requests. Puts behind what was answered, and then what is at each key.
+fn push_answers<W: Workers>(
+    rt: &impl Abort,
+    alloc: Global,
+    store: &mut Store,
+    table: &Table,
+    keys: &[String],
+    workers: &W,
+    all: &mut String,
+) -> Result<(), Trouble> {
+    let first = layer_at(alloc, table, keys, 1)?;
+    push_layer(rt, alloc, store, first, workers, all)?;
+    let second = layer_at(alloc, table, keys, 2)?;
+    push_layer(rt, alloc, store, second, workers, all)?;
+    push_values(rt, alloc, store, table, keys, all)
+}
+
+/// What is answered to two layers of 64 requests, in a new store, and then what is at each key.
+fn answers_of<W: Workers>(
     rt: &impl Abort,
     alloc: Global,
     table: &Table,
@@ -59,15 +161,7 @@ fn answers<W: Workers>(
 ) -> Result<String, Trouble> {
     let mut store = Store::new(alloc, *table)?;
     let mut all = String::new(alloc);
-    for clock in 1..3 {
-        let requests = layer_at(alloc, table, keys, clock)?;
-        let done = run(rt, alloc, &mut store, requests, workers, &Open)?;
-        all.push_str(text(alloc, done.as_slice())?.as_str())?;
-    }
-    for key in keys {
-        let words = format!(in alloc; "GET {key}")?;
-        all.push_str(ask(rt, alloc, &mut store, table, 3, words.as_str())?.as_str())?;
-    }
+    push_answers(rt, alloc, &mut store, table, keys, workers, &mut all)?;
     Ok(all)
 }
 
@@ -80,24 +174,54 @@ fn same_of<W: Workers>(
     workers: &W,
     first: &str,
 ) -> Result<(), Fail> {
-    let all = answers(rt, alloc, table, keys, workers)?;
+    let all = answers_of(rt, alloc, table, keys, workers)?;
     same_text("the answers of more workers", all.as_str(), first)
+}
+
+/// So many workers give the same answers, in turn and on threads.
+fn same_of_number<R: Abort + Threads + Wait>(
+    rt: &R,
+    alloc: Global,
+    table: &Table,
+    keys: &[String],
+    number: usize,
+    first: &str,
+) -> Result<(), Fail> {
+    let number = number_of(number);
+    same_of(rt, alloc, table, keys, &InTurn(number), first)?;
+    same_of(rt, alloc, table, keys, &Crew::new(rt, number), first)
+}
+
+/// One worker's answers are those of more.
+fn same_of_all<R: Abort + Threads + Wait>(
+    rt: &R,
+    alloc: Global,
+    table: &Table,
+    keys: &[String],
+    first: &str,
+) -> Result<(), Fail> {
+    holds("the last key is gone", first.ends_with("$-1\r\n "))?;
+    for number in [1, 2, 8, 64] {
+        same_of_number(rt, alloc, table, keys, number, first)?;
+    }
+    Ok(())
+}
+
+/// The answers about these keys are the same of all workers.
+fn as_one<R: Abort + Threads + Wait>(
+    rt: &R,
+    alloc: Global,
+    table: &Table,
+    keys: &[String],
+) -> Result<(), Fail> {
+    same_count("keys", keys.len(), 64)?;
+    let first = answers_of(rt, alloc, table, keys, &ONE)?;
+    same_of_all(rt, alloc, table, keys, first.as_str())
 }
 
 #[test]
 fn as_one_worker_does(rt: HostRuntime) -> Result<(), Fail> {
-    let alloc = rt.alloc();
-    let table = table_of(alloc, 64)?;
-    let keys = keys(alloc, &table)?;
-    same_count("keys", keys.len(), 64)?;
-    let keys = keys.as_slice();
-    let first = answers(&rt, alloc, &table, keys, &ONE)?;
-    let first = first.as_str();
-    holds("the last key is gone", first.ends_with("$-1\r\n "))?;
-    for number in [1, 2, 8, 64] {
-        let number = NonZeroUsize::new(number).ok_or("a number of workers")?;
-        same_of(&rt, alloc, &table, keys, &InTurn(number), first)?;
-        same_of(&rt, alloc, &table, keys, &Crew::new(&rt, number), first)?;
-    }
-    Ok(())
+    let table = table_of(rt.alloc(), 64)?;
+    let keys = keys(rt.alloc(), &table)?;
+    as_one(&rt, rt.alloc(), &table, keys.as_slice())
 }

@@ -3,7 +3,7 @@
 //! Where all succeed these tests say no more than others do. They are meant to be run with each allocation failing in
 //! turn.
 
-use crate::jobs::{ONE, layer_of, run_or_not, table_of, text};
+use crate::jobs::{ONE, discard, layer_of, number_of, run_or_not, table_of, text};
 use crate::trouble::Trouble;
 use layer_planner::Layer;
 use placement::Table;
@@ -11,7 +11,6 @@ use shard_crew::Crew;
 use shard_exec::{Ended, ExecFault, Store};
 use shard_workers::{InTurn, Open, Workers};
 use std::alloc::{AllocError, Global};
-use std::num::NonZeroUsize;
 use std::process::Abort;
 use std::test::Fail;
 
@@ -33,35 +32,47 @@ key 7a string 6265666f7265
 
 /// What the shards hold, where the requests whose places are in `starved` left no trace.
 fn left(alloc: Global, starved: &[bool]) -> Result<String, AllocError> {
-    let mut held = String::new(alloc);
-    if starved.first() == Some(&true) {
-        held.push_str("key 61 string 6265666f7265\n")?;
+    let first = if starved.first() == Some(&true) {
+        "key 61 string 6265666f7265\n"
     } else {
-        held.push_str("key 61 string 31\nkey 62 string 32\n")?;
-    }
-    held.push_str("key 78 string 6265666f7265\n")?;
-    if starved.get(1) == Some(&true) {
-        held.push_str("key 7a string 6265666f7265\n")?;
+        "key 61 string 31\nkey 62 string 32\n"
+    };
+    let last = if starved.get(1) == Some(&true) {
+        "key 7a string 6265666f7265\n"
     } else {
-        held.push_str("key 7a string 33\n")?;
-    }
-    Ok(held)
+        "key 7a string 33\n"
+    };
+    format!(in alloc; "{first}key 78 string 6265666f7265\n{last}")
 }
 
-/// A store that holds what is there before. A request of this test's own that starves ends the attempt.
-fn store_before(rt: &impl Abort, alloc: Global, table: &Table) -> Result<Store, Trouble> {
-    let mut store = Store::new(alloc, *table)?;
-    let requests = layer_of(alloc, table, 1, &SET_BEFORE)?;
-    let Ok(done) = run_or_not(rt, alloc, &mut store, requests, &[], &ONE, &Open) else {
-        return Err(Trouble::Memory);
-    };
-    for ended in &done {
+/// Each has a reply.
+fn none_starved(done: &[Ended]) -> bool {
+    for ended in done {
         if ended.reply.is_none() {
-            return Err(Trouble::Memory);
+            return false;
         }
     }
-    assert_holds(rt, alloc, &store, BEFORE)?;
-    Ok(store)
+    true
+}
+
+/// The layer was run, and each of its requests has a reply.
+fn is_answered(outcome: &Result<Vec<Ended>, ExecFault>) -> bool {
+    match outcome {
+        Ok(done) => none_starved(done.as_slice()),
+        Err(_) => false,
+    }
+}
+
+/// Puts what is there before. A request of this test's own that starves ends the attempt.
+fn fill(rt: &impl Abort, alloc: Global, store: &mut Store, table: &Table) -> Result<(), Trouble> {
+    let requests = layer_of(alloc, table, 1, &SET_BEFORE)?;
+    let outcome = run_or_not(rt, alloc, store, requests, &[], &ONE, &Open);
+    let answered = is_answered(&outcome);
+    discard(outcome);
+    if !answered {
+        return Err(Trouble::Memory);
+    }
+    assert_holds(rt, alloc, store, BEFORE)
 }
 
 /// This text came; else the test ends.
@@ -97,56 +108,63 @@ fn wanted_of(alloc: Global, starved: &[bool]) -> Result<String, AllocError> {
     Ok(wanted)
 }
 
-/// Holds a layer that was run to its replies and to what is there then. Gives how many of its requests starved.
+/// The requests are numbered from 1, and as many as the layer has.
+fn assert_numbered(rt: &impl Abort, done: &[Ended]) {
+    let mut seq = 0u64;
+    for ended in done {
+        seq = seq.wrapping_add(1);
+        assert_count(rt, "the number of a request", ended.id.seq, seq);
+    }
+    assert_count(rt, "requests", seq, ASKED.len() as u64);
+}
+
+/// Which of the requests starved.
+fn starved_of(alloc: Global, done: &[Ended]) -> Result<Vec<bool>, AllocError> {
+    let mut starved = Vec::new(alloc);
+    for ended in done {
+        starved.push(ended.reply.is_none())?;
+    }
+    Ok(starved)
+}
+
+/// The requests are answered so, where those starved whose places are in `starved`.
+fn assert_answered(
+    rt: &impl Abort,
+    alloc: Global,
+    done: &[Ended],
+    starved: &[bool],
+) -> Result<(), Trouble> {
+    let wanted = wanted_of(alloc, starved)?;
+    let answered = text(alloc, done)?;
+    assert_text(rt, answered.as_bytes(), wanted.as_str());
+    Ok(())
+}
+
+/// The store holds what is left where those requests starved whose places are in `starved`.
+fn assert_left(
+    rt: &impl Abort,
+    alloc: Global,
+    store: &Store,
+    starved: &[bool],
+) -> Result<(), Trouble> {
+    let left = left(alloc, starved)?;
+    assert_holds(rt, alloc, store, left.as_str())
+}
+
+/// Holds a layer that was run to its replies and to what is there then.
 fn assert_ran(
     rt: &impl Abort,
     alloc: Global,
     store: &Store,
     done: &[Ended],
-) -> Result<u64, Trouble> {
-    let mut starved = Vec::new(alloc);
-    let mut count = 0u64;
-    let mut seq = 0u64;
-    for ended in done {
-        seq = seq.wrapping_add(1);
-        assert_count(rt, "the number of a request", ended.id.seq, seq);
-        starved.push(ended.reply.is_none())?;
-        if ended.reply.is_none() {
-            count = count.wrapping_add(1);
-        }
-    }
-    assert_count(rt, "requests", seq, ASKED.len() as u64);
-    let starved = starved.as_slice();
-    assert_text(
-        rt,
-        text(alloc, done)?.as_bytes(),
-        wanted_of(alloc, starved)?.as_str(),
-    );
-    assert_holds(rt, alloc, store, left(alloc, starved)?.as_str())?;
-    Ok(count)
+) -> Result<(), Trouble> {
+    assert_numbered(rt, done);
+    let starved = starved_of(alloc, done)?;
+    assert_answered(rt, alloc, done, starved.as_slice())?;
+    assert_left(rt, alloc, store, starved.as_slice())
 }
 
-/// The layer that was handed back for want of memory; none where it was run, after it was held to its replies.
-fn handed_back<W: Workers>(
-    rt: &impl Abort,
-    alloc: Global,
-    store: &mut Store,
-    requests: Layer,
-    workers: &W,
-) -> Result<Option<Layer>, Trouble> {
-    match run_or_not(rt, alloc, store, requests, &[], workers, &Open) {
-        Ok(done) => {
-            assert_ran(rt, alloc, store, done.as_slice())?;
-            Ok(None)
-        }
-        Err(ExecFault::Memory(layer)) => Ok(Some(layer)),
-        Err(ExecFault::Stale(_)) => panic!(rt; "stale"),
-        Err(ExecFault::Failed) => panic!(rt; "failed"),
-        Err(ExecFault::Foreign(_)) => panic!(rt; "foreign"),
-    }
-}
-
-/// Runs the layer again, for which memory is there now: none of its requests starves.
+/// Runs the layer again, where nothing has changed and for which memory is there now: none of its requests starves.
 fn run_again<W: Workers>(
     rt: &impl Abort,
     alloc: Global,
@@ -154,24 +172,55 @@ fn run_again<W: Workers>(
     back: Layer,
     workers: &W,
 ) -> Result<(), Trouble> {
-    let Ok(done) = run_or_not(rt, alloc, store, back, &[], workers, &Open) else {
-        panic!(rt; "not run again")
-    };
-    let starved = assert_ran(rt, alloc, store, done.as_slice())?;
-    assert_count(rt, "starved at the second time", starved, 0);
+    match run_or_not(rt, alloc, store, back, &[], workers, &Open) {
+        Ok(done) => ran_whole(rt, alloc, store, done.as_slice()),
+        Err(_) => panic!(rt; "not run again"),
+    }
+}
+
+/// Holds a layer that was run again to its replies. None of its requests starved.
+fn ran_whole(rt: &impl Abort, alloc: Global, store: &Store, done: &[Ended]) -> Result<(), Trouble> {
+    assert_ran(rt, alloc, store, done)?;
+    assert!(rt; none_starved(done), "starved at the second time");
     Ok(())
 }
 
 /// Runs the layer. Where it is handed back, nothing has changed, and it is run again: then no memory is wanting.
+fn attempt_in<W: Workers>(
+    rt: &impl Abort,
+    alloc: Global,
+    store: &mut Store,
+    requests: Layer,
+    workers: &W,
+) -> Result<(), Trouble> {
+    match run_or_not(rt, alloc, store, requests, &[], workers, &Open) {
+        Ok(done) => assert_ran(rt, alloc, store, done.as_slice()),
+        Err(ExecFault::Memory(layer)) => attempt_again(rt, alloc, store, layer, workers),
+        Err(ExecFault::Stale(_)) => panic!(rt; "stale"),
+        Err(ExecFault::Failed) => panic!(rt; "failed"),
+        Err(ExecFault::Foreign(_)) => panic!(rt; "foreign"),
+    }
+}
+
+/// The layer was handed back: nothing has changed, and it is run again.
+fn attempt_again<W: Workers>(
+    rt: &impl Abort,
+    alloc: Global,
+    store: &mut Store,
+    back: Layer,
+    workers: &W,
+) -> Result<(), Trouble> {
+    assert_holds(rt, alloc, store, BEFORE)?;
+    run_again(rt, alloc, store, back, workers)
+}
+
+/// Fills a new store, and runs the layer there.
 fn attempt<W: Workers>(rt: &impl Abort, alloc: Global, workers: &W) -> Result<(), Trouble> {
     let table = table_of(alloc, 4)?;
-    let mut store = store_before(rt, alloc, &table)?;
+    let mut store = Store::new(alloc, table)?;
+    fill(rt, alloc, &mut store, &table)?;
     let requests = layer_of(alloc, &table, 2, &ASKED)?;
-    if let Some(back) = handed_back(rt, alloc, &mut store, requests, workers)? {
-        assert_holds(rt, alloc, &store, BEFORE)?;
-        run_again(rt, alloc, &mut store, back, workers)?;
-    }
-    Ok(())
+    attempt_in(rt, alloc, &mut store, requests, workers)
 }
 
 /// Attempts it, and once more where an allocation of the test's own failed.
@@ -190,14 +239,12 @@ fn one_in_turn_where_memory_fails(rt: HostRuntime) -> Result<(), Fail> {
 
 #[test]
 fn two_in_turn_where_memory_fails(rt: HostRuntime) -> Result<(), Fail> {
-    let two = NonZeroUsize::new(2).ok_or("two")?;
-    attempts(&rt, rt.alloc(), &InTurn(two))?;
+    attempts(&rt, rt.alloc(), &InTurn(number_of(2)))?;
     Ok(())
 }
 
 #[test]
 fn a_crew_where_memory_fails(rt: HostRuntime) -> Result<(), Fail> {
-    let two = NonZeroUsize::new(2).ok_or("two")?;
-    attempts(&rt, rt.alloc(), &Crew::new(&rt, two))?;
+    attempts(&rt, rt.alloc(), &Crew::new(&rt, number_of(2)))?;
     Ok(())
 }

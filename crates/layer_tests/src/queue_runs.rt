@@ -9,28 +9,20 @@ use skeen_core::Delivered;
 use std::alloc::{AllocError, Global};
 use std::marker::Model;
 use std::test::Fail;
-use test_support::{holds, same_count};
+use test_support::{Dice, holds, same_count};
 
 /// How many groups there are.
 const GROUPS: u8 = 4;
 
-/// Marsaglia's xorshift: numbers that look like chance, and are the same in each run.
-#[derive(Drop)]
-struct Dice {
-    state: u64,
-}
+// ---- the old search, over plain lists
 
-impl Dice {
-    /// A number below `count`, or 0.
-    fn below(&mut self, count: u64) -> u64 {
-        self.state ^= self.state << 13;
-        self.state ^= self.state >> 7;
-        self.state ^= self.state << 17;
-        if count == 0 { 0 } else { self.state % count }
+/// The list begins with the request of that id.
+fn begins_with(list: &[Delivered], id: RequestId) -> bool {
+    match list.first() {
+        Some(head) => head.id == id,
+        None => false,
     }
 }
-
-// ---- the old search, over plain lists
 
 /// Each of the request's lists begins with it.
 fn heads_all(lists: &[Vec<Delivered>], request: &Delivered) -> bool {
@@ -38,13 +30,8 @@ fn heads_all(lists: &[Vec<Delivered>], request: &Delivered) -> bool {
         let Some(list) = lists.get(usize::from(group.number())) else {
             return false;
         };
-        match list.first() {
-            Some(head) => {
-                if head.id != request.id {
-                    return false;
-                }
-            }
-            None => return false,
+        if !begins_with(list.as_slice(), request.id) {
+            return false;
         }
     }
     true
@@ -93,10 +80,15 @@ fn layer_in(alloc: Global, lists: &[Vec<Delivered>]) -> Result<Vec<Delivered>, A
 fn take_out(lists: &mut [Vec<Delivered>], request: &Delivered) {
     for group in request.groups.iter() {
         if let Some(list) = lists.get_mut(usize::from(group.number())) {
-            if !list.is_empty() {
-                let _ = list.remove(0);
-            }
+            take_first(list);
         }
+    }
+}
+
+/// Takes the first request out, if there is one.
+fn take_first(list: &mut Vec<Delivered>) {
+    if !list.is_empty() {
+        let _ = list.remove(0);
     }
 }
 
@@ -244,6 +236,13 @@ fn deliver_next(
     Ok(false)
 }
 
+/// Takes the requests out of the lists that they head.
+fn take_each(lists: &mut [Vec<Delivered>], requests: &[Delivered]) {
+    for request in requests {
+        take_out(lists, request);
+    }
+}
+
 /// Takes the layer out, or only the first `count` of it.
 fn take_some(
     alloc: Global,
@@ -251,9 +250,8 @@ fn take_some(
     lists: &mut [Vec<Delivered>],
     count: usize,
 ) -> Result<(), AllocError> {
-    for request in &fed.pop_some(alloc, count)? {
-        take_out(lists, request);
-    }
+    let layer = fed.pop_some(alloc, count)?;
+    take_each(lists, layer.as_slice());
     Ok(())
 }
 
@@ -276,14 +274,20 @@ fn take_by_chance(
 fn ascends(requests: &[Delivered]) -> bool {
     let mut last: Option<Stamp> = None;
     for request in requests {
-        if let Some(last) = last {
-            if !(last < request.stamp) {
-                return false;
-            }
+        if !is_below(last, request.stamp) {
+            return false;
         }
         last = Some(request.stamp);
     }
     true
+}
+
+/// The last stamp, if there is one, is below this one.
+fn is_below(last: Option<Stamp>, stamp: Stamp) -> bool {
+    match last {
+        Some(last) => last < stamp,
+        None => true,
+    }
 }
 
 /// The layer ascends, and has what the search finds and nothing else.
@@ -298,15 +302,36 @@ fn is_found(layer: &[Delivered], found: &[Delivered]) -> Result<(), Fail> {
 /// The queues tell of the layer as the search does.
 fn is_searched(alloc: Global, fed: &Fed, lists: &[Vec<Delivered>]) -> Result<(), Fail> {
     let found = layer_in(alloc, lists)?;
+    tells_of(alloc, fed, found.as_slice())
+}
+
+/// The queues tell of a layer of these.
+fn tells_of(alloc: Global, fed: &Fed, found: &[Delivered]) -> Result<(), Fail> {
     let layer = fed.queues.ready(alloc)?;
-    is_found(layer.as_slice(), found.as_slice())?;
+    is_found(layer.as_slice(), found)?;
     holds(
         "whether one is ready",
         fed.queues.has_ready() != found.is_empty(),
     )
 }
 
-/// Steps by chance: mostly a group delivers, else the layer is taken, or some of it.
+/// A step by chance: mostly a group delivers, else the layer is taken, or some of it.
+fn step(
+    alloc: Global,
+    dice: &mut Dice,
+    fed: &mut Fed,
+    lists: &mut [Vec<Delivered>],
+    requests: &[Delivered],
+) -> Result<(), AllocError> {
+    if dice.below(4) == 0 {
+        take_by_chance(alloc, dice, fed, lists)
+    } else {
+        deliver_next(fed, lists, requests, any_group(dice))?;
+        Ok(())
+    }
+}
+
+/// 100 steps by chance.
 fn steps(
     alloc: Global,
     dice: &mut Dice,
@@ -315,11 +340,7 @@ fn steps(
     requests: &[Delivered],
 ) -> Result<(), Fail> {
     for _ in 0..100 {
-        if dice.below(4) == 0 {
-            take_by_chance(alloc, dice, fed, lists)?;
-        } else {
-            deliver_next(fed, lists, requests, any_group(dice))?;
-        }
+        step(alloc, dice, fed, lists, requests)?;
         is_searched(alloc, fed, lists)?;
     }
     Ok(())
@@ -362,28 +383,51 @@ fn nothing_left(fed: &Fed, lists: &[Vec<Delivered>]) -> Result<(), Fail> {
     holds("none is ready at the end", !fed.queues.has_ready())
 }
 
+/// Each group delivers all the requests that it may.
+fn deliver_all(
+    fed: &mut Fed,
+    lists: &mut [Vec<Delivered>],
+    requests: &[Delivered],
+) -> Result<(), AllocError> {
+    for number in 0..GROUPS {
+        deliver_rest(fed, lists, requests, GroupId::new(number))?;
+    }
+    Ok(())
+}
+
 /// Steps by chance; then each group delivers the rest, and all is taken.
+fn run_on(
+    alloc: Global,
+    dice: &mut Dice,
+    fed: &mut Fed,
+    lists: &mut [Vec<Delivered>],
+    requests: &[Delivered],
+) -> Result<(), Fail> {
+    steps(alloc, dice, fed, lists, requests)?;
+    deliver_all(fed, lists, requests)?;
+    take_rest(alloc, fed, lists, requests.len())?;
+    nothing_left(fed, lists)
+}
+
+/// The same with new queues.
 fn run(alloc: Global, dice: &mut Dice) -> Result<(), Fail> {
     let requests = requests(alloc, dice, 24)?;
-    let mut fed = Fed::new(alloc)?;
     let mut lists = empty_lists(alloc)?;
-    let lists = lists.as_mut_slice();
-    steps(alloc, dice, &mut fed, lists, requests.as_slice())?;
-    for number in 0..GROUPS {
-        deliver_rest(&mut fed, lists, requests.as_slice(), GroupId::new(number))?;
-    }
-    take_rest(alloc, &mut fed, lists, requests.len())?;
-    nothing_left(&fed, lists)
+    let mut fed = Fed::new(alloc)?;
+    run_on(
+        alloc,
+        dice,
+        &mut fed,
+        lists.as_mut_slice(),
+        requests.as_slice(),
+    )
 }
 
 #[test]
 fn the_layer_is_what_a_search_finds(rt: HostRuntime) -> Result<(), Fail> {
-    let alloc = rt.alloc();
-    let mut dice = Dice {
-        state: 88_172_645_463_325_252,
-    };
+    let mut dice = Dice::new(88_172_645_463_325_252);
     for _ in 0..20 {
-        run(alloc, &mut dice)?;
+        run(rt.alloc(), &mut dice)?;
     }
     Ok(())
 }

@@ -76,10 +76,17 @@ fn with_room(alloc: Global) -> Result<Queues, AllocError>
 }
 
 /// The group's queue is headed by this request, or empty.
-fn has_head(queues: &Queues, number: u8, want: Option<&Delivered>) -> bool
+fn is_head(queues: &Queues, line: &str, number: u8, want: Option<&Delivered>) -> Result<(), Fail>
     requires { number < 64 }
 {
-    queues.head(GroupId::new(number)) == want
+    holds(line, queues.head(GroupId::new(number)) == want)
+}
+
+/// A request is ready, and these are the heads.
+fn are_headed(queues: &Queues, first: &Delivered, second: &Delivered) -> Result<(), Fail> {
+    holds("a request is ready", queues.has_ready())?;
+    is_head(queues, "the head of group 0", 0, Some(first))?;
+    is_head(queues, "the head of group 1", 1, Some(second))
 }
 
 /// The layer is this request alone.
@@ -87,46 +94,70 @@ fn is_one(layer: &[Delivered], want: &Delivered) -> bool {
     layer == [*want].as_slice()
 }
 
-#[test]
+/// The layer is this request alone, and is taken.
 #[tactic(auto, using(delivery::proofs::Layers::layers_can_be_popped))]
+fn takes_one(alloc: Global, queues: &mut Queues, line: &str, want: &Delivered) -> Result<(), Fail>
+    ensures { length queues.new.queues ≡ length queues.old.queues }
+{
+    let layer = queues.ready(alloc)?;
+    queues.pop_all(layer.as_slice());
+    holds(line, is_one(layer.as_slice(), want))
+}
+
+/// Nothing is left.
+fn are_empty(alloc: Global, queues: &Queues) -> Result<(), Fail> {
+    holds("none is ready", !queues.has_ready())?;
+    is_head(queues, "no head of group 0", 0, None)?;
+    let layer = queues.ready(alloc)?;
+    holds("an empty layer", layer.is_empty())
+}
+
+/// The first is taken, and then the second.
+fn take_both(
+    alloc: Global,
+    queues: &mut Queues,
+    first: &Delivered,
+    second: &Delivered,
+) -> Result<(), Fail>
+    requires { length queues.old.queues ≡ 2 }
+{
+    takes_one(alloc, queues, "the first alone", first)?;
+    takes_one(alloc, queues, "the second alone", second)?;
+    are_empty(alloc, queues)?;
+    queues.reserve(GroupId::new(1), 3)?;
+    Ok(())
+}
+
+#[test]
 fn a_request_waits_until_it_heads_all_its_queues(rt: HostRuntime) -> Result<(), Fail> {
-    let alloc = rt.alloc();
     let one = Groups::empty().with(GroupId::new(0));
     let first = request(1, one);
     let second = request(2, one.with(GroupId::new(1)));
-    let mut queues = filled(alloc, &first, &second)?;
-    holds("a request is ready", queues.has_ready())?;
-    holds("the head of group 0", has_head(&queues, 0, Some(&first)))?;
-    holds("the head of group 1", has_head(&queues, 1, Some(&second)))?;
-    holds("no head of group 2", has_head(&queues, 2, None))?;
-    let layer = queues.ready(alloc)?;
-    holds("the first alone", is_one(layer.as_slice(), &first))?;
-    queues.pop_all(layer.as_slice());
-    let layer = queues.ready(alloc)?;
-    holds("the second alone", is_one(layer.as_slice(), &second))?;
-    queues.pop_all(layer.as_slice());
-    holds("none is ready", !queues.has_ready())?;
-    holds("no head of group 0", has_head(&queues, 0, None))?;
-    holds("an empty layer", queues.ready(alloc)?.is_empty())?;
-    queues.reserve(GroupId::new(1), 3)?;
-    Ok(())
+    let mut queues = filled(rt.alloc(), &first, &second)?;
+    are_headed(&queues, &first, &second)?;
+    is_head(&queues, "no head of group 2", 2, None)?;
+    take_both(rt.alloc(), &mut queues, &first, &second)
+}
+
+/// Two empty queues with room, also where an allocation failed once.
+fn with_room_at_last(alloc: Global) -> Result<Queues, AllocError>
+    ensures two { IfOk result (λ q. length q.queues ≡ 2) }
+    ensures none { IfOk result (λ q. (g : ℕ) → queue_of q.queues g ≡ []) }
+{
+    match with_room(alloc) {
+        Ok(queues) => Ok(queues),
+        Err(_) => with_room(alloc),
+    }
 }
 
 /// Meant to be run with each allocation failing in turn: none is made where there is room.
 #[test]
 fn what_has_room_is_appended(rt: HostRuntime) -> Result<(), Fail> {
-    let alloc = rt.alloc();
     let one = Groups::empty().with(GroupId::new(0));
     let first = request(1, one);
     let second = request(2, one.with(GroupId::new(1)));
-    let mut queues = match with_room(alloc) {
-        Ok(queues) => queues,
-        Err(_) => with_room(alloc)?,
-    };
+    let mut queues = with_room_at_last(rt.alloc())?;
     let appended = fill(&mut queues, &first, &second).is_ok();
     holds("all are appended", appended)?;
-    holds("a request is ready", queues.has_ready())?;
-    holds("the head of group 0", has_head(&queues, 0, Some(&first)))?;
-    holds("the head of group 1", has_head(&queues, 1, Some(&second)))?;
-    Ok(())
+    are_headed(&queues, &first, &second)
 }

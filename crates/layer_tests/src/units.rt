@@ -1,30 +1,37 @@
 //! Requests of one group in one layer are run in one go, in their order, whoever runs them.
 
-use crate::jobs::{ONE, ask, job, layer, run, table_of, text};
+use crate::jobs::{Asked, ONE, ask_all, ask_rows, layer, number_of, push_job, table_of};
 use crate::trouble::Trouble;
 use groups::RequestId;
-use layer_planner::Layer;
+use layer_planner::{Job, Layer};
 use placement::Table;
 use shard_crew::Crew;
 use shard_exec::Store;
 use shard_workers::{Gate, InTurn, Open, Workers};
 use std::alloc::{AllocError, Global};
-use std::num::NonZeroUsize;
 use std::process::Abort;
+use std::sync::Wait;
 use std::sync::atomic::{AtomicU64, Ordering};
 use std::test::Fail;
-use test_support::{same_number, same_text};
+use std::thread::Threads;
+use test_support::same_number;
 
 /// How often a key is counted up.
 const TIMES: u64 = 200;
 
+/// Puts the jobs of 200 requests behind that count one key up.
+fn push_counting(alloc: Global, table: &Table, jobs: &mut Vec<Job>) -> Result<(), Trouble> {
+    for number in 0..TIMES {
+        let seq = number.wrapping_add(1);
+        push_job(alloc, table, jobs, seq, seq, "INCR a")?;
+    }
+    Ok(())
+}
+
 /// A layer of 200 requests that count one key up.
 fn counting(alloc: Global, table: &Table) -> Result<Layer, Trouble> {
     let mut jobs = Vec::new(alloc);
-    for number in 0..TIMES {
-        let seq = number.wrapping_add(1);
-        jobs.push(job(alloc, table, seq, seq, "INCR a")?)?;
-    }
+    push_counting(alloc, table, &mut jobs)?;
     layer(jobs)
 }
 
@@ -32,45 +39,72 @@ fn counting(alloc: Global, table: &Table) -> Result<Layer, Trouble> {
 fn counted(alloc: Global) -> Result<String, AllocError> {
     let mut answers = String::new(alloc);
     for number in 0..TIMES {
-        let answer = format!(in alloc; ":{}\r\n ", number.wrapping_add(1))?;
-        answers.push_str(answer.as_str())?;
+        write!(answers, ":{}\r\n ", number.wrapping_add(1))?;
     }
     Ok(answers)
 }
 
+/// What lies at the key in the end.
+const LAST: [Asked; 1] = [(1000, "GET a", "$3\r\n200\r\n ")];
+
 /// These workers run them so, and the key is counted up in the end.
+fn count_in<W: Workers>(
+    rt: &impl Abort,
+    alloc: Global,
+    store: &mut Store,
+    table: &Table,
+    workers: &W,
+    wanted: &str,
+) -> Result<(), Fail> {
+    let requests = counting(alloc, table)?;
+    ask_all(rt, alloc, store, requests, workers, &Open, wanted)?;
+    ask_rows(rt, alloc, store, table, &LAST)
+}
+
+/// These workers do so in a new store.
 fn count_with<W: Workers>(
     rt: &impl Abort,
     alloc: Global,
     table: &Table,
     workers: &W,
+    wanted: &str,
 ) -> Result<(), Fail> {
     let mut store = Store::new(alloc, *table)?;
-    let done = run(
-        rt,
-        alloc,
-        &mut store,
-        counting(alloc, table)?,
-        workers,
-        &Open,
-    )?;
-    let answers = text(alloc, done.as_slice())?;
-    same_text("the answers", answers.as_str(), counted(alloc)?.as_str())?;
-    let last = ask(rt, alloc, &mut store, table, 1000, "GET a")?;
-    same_text("the key", last.as_str(), "$3\r\n200\r\n ")
+    count_in(rt, alloc, &mut store, table, workers, wanted)
+}
+
+/// So many workers do so, in turn and on threads.
+fn count_with_number<R: Abort + Threads + Wait>(
+    rt: &R,
+    alloc: Global,
+    table: &Table,
+    number: usize,
+    wanted: &str,
+) -> Result<(), Fail> {
+    let number = number_of(number);
+    count_with(rt, alloc, table, &InTurn(number), wanted)?;
+    count_with(rt, alloc, table, &Crew::new(rt, number), wanted)
+}
+
+/// Workers of every kind do so.
+fn count_with_all<R: Abort + Threads + Wait>(
+    rt: &R,
+    alloc: Global,
+    table: &Table,
+    wanted: &str,
+) -> Result<(), Fail> {
+    count_with(rt, alloc, table, &ONE, wanted)?;
+    for number in [1, 2, 8] {
+        count_with_number(rt, alloc, table, number, wanted)?;
+    }
+    Ok(())
 }
 
 #[test]
 fn two_hundred_of_one_group(rt: HostRuntime) -> Result<(), Fail> {
-    let alloc = rt.alloc();
-    let table = table_of(alloc, 4)?;
-    count_with(&rt, alloc, &table, &ONE)?;
-    for number in [1, 2, 8] {
-        let number = NonZeroUsize::new(number).ok_or("a number of workers")?;
-        count_with(&rt, alloc, &table, &InTurn(number))?;
-        count_with(&rt, alloc, &table, &Crew::new(&rt, number))?;
-    }
-    Ok(())
+    let table = table_of(rt.alloc(), 4)?;
+    let wanted = counted(rt.alloc())?;
+    count_with_all(&rt, rt.alloc(), &table, wanted.as_str())
 }
 
 /// Writes down the numbers of requests, each a digit, as they are run.
@@ -101,6 +135,37 @@ const ASKED: [&str; 6] = [
     "APPEND a 2",
 ];
 
+/// Puts their jobs behind, each at the clock of its number.
+fn push_asked(alloc: Global, table: &Table, jobs: &mut Vec<Job>) -> Result<(), Trouble> {
+    let mut number = 0u64;
+    for words in ASKED {
+        number = number.wrapping_add(1);
+        push_job(alloc, table, jobs, number, number, words)?;
+    }
+    Ok(())
+}
+
+/// The layer.
+fn asked(alloc: Global, table: &Table) -> Result<Layer, Trouble> {
+    let mut jobs = Vec::new(alloc);
+    push_asked(alloc, table, &mut jobs)?;
+    layer(jobs)
+}
+
+/// These workers run the layer so in a new store, and the gate is told.
+fn run_anew<W: Workers>(
+    rt: &impl Abort,
+    alloc: Global,
+    table: &Table,
+    workers: &W,
+    gate: &(dyn Gate + Sync),
+) -> Result<(), Fail> {
+    let mut store = Store::new(alloc, *table)?;
+    let requests = asked(alloc, table)?;
+    let wanted = "+OK\r\n +OK\r\n $1\r\n1\r\n +OK\r\n $1\r\n1\r\n :2\r\n ";
+    ask_all(rt, alloc, &mut store, requests, workers, gate, wanted)
+}
+
 /// These workers run the layer in this order.
 fn runs_in<W: Workers>(
     rt: &impl Abort,
@@ -109,30 +174,17 @@ fn runs_in<W: Workers>(
     workers: &W,
     order: u64,
 ) -> Result<(), Fail> {
-    let mut jobs = Vec::new(alloc);
-    let mut number = 0u64;
-    for words in ASKED {
-        number = number.wrapping_add(1);
-        jobs.push(job(alloc, table, number, number, words)?)?;
-    }
     let gate = Noted {
         order: AtomicU64::new(0),
     };
-    let mut store = Store::new(alloc, *table)?;
-    let done = run(rt, alloc, &mut store, layer(jobs)?, workers, &gate)?;
-    let answers = text(alloc, done.as_slice())?;
-    let wanted = "+OK\r\n +OK\r\n $1\r\n1\r\n +OK\r\n $1\r\n1\r\n :2\r\n ";
-    same_text("the answers", answers.as_str(), wanted)?;
+    run_anew(rt, alloc, table, workers, &gate)?;
     same_number("the order", gate.order.load(Ordering::SeqCst), order)
 }
 
 #[test]
 fn units_run_by_their_first_stamps(rt: HostRuntime) -> Result<(), Fail> {
-    let alloc = rt.alloc();
-    let table = table_of(alloc, 4)?;
-    runs_in(&rt, alloc, &table, &ONE, 136_245)?;
-    let two = NonZeroUsize::new(2).ok_or("two")?;
-    runs_in(&rt, alloc, &table, &InTurn(two), 136_452)?;
-    let eight = NonZeroUsize::new(8).ok_or("eight")?;
-    runs_in(&rt, alloc, &table, &InTurn(eight), 136_245)
+    let table = table_of(rt.alloc(), 4)?;
+    runs_in(&rt, rt.alloc(), &table, &ONE, 136_245)?;
+    runs_in(&rt, rt.alloc(), &table, &InTurn(number_of(2)), 136_452)?;
+    runs_in(&rt, rt.alloc(), &table, &InTurn(number_of(8)), 136_245)
 }

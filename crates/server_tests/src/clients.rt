@@ -7,7 +7,7 @@ use std::net::{Net, Shutdown, SocketAddr, TcpListener, TcpStream};
 use test_support::{bytes_of, requests_of};
 
 /// What a client does. In a row of bytes `|` stands for CR LF.
-#[derive(Clone, Copy, Debug)]
+#[derive(Clone, Copy)]
 pub(crate) enum Does<'a> {
     /// Sends these requests, parted by `; `.
     Asks(&'a str),
@@ -34,6 +34,9 @@ pub(crate) enum Does<'a> {
 /// A client, by its number from 0, and what it does next.
 pub(crate) type Act<'a> = (usize, Does<'a>);
 
+/// The connections of the clients, by their numbers; none where a client has left.
+type Streams = Vec<Option<TcpStream>>;
+
 /// Has so many clients act in order. A client connects when it first acts, and the numbers say in which order they do.
 /// Gives what came of the first act that came out otherwise. At the end the clients that are left connect and leave.
 pub(crate) fn follow<R: Net<Stream = TcpStream>>(
@@ -43,87 +46,178 @@ pub(crate) fn follow<R: Net<Stream = TcpStream>>(
     clients: usize,
     acts: &[Act<'_>],
 ) -> Option<String> {
-    let Ok(address) = listener.local_addr() else {
-        return Some(String::new(alloc));
-    };
+    match listener.local_addr() {
+        Ok(address) => follow_at(rt, alloc, listener, address, clients, acts),
+        Err(_) => Some(String::new(alloc)),
+    }
+}
+
+/// The same, at this address.
+fn follow_at<R: Net<Stream = TcpStream>>(
+    rt: &R,
+    alloc: Global,
+    listener: &TcpListener,
+    address: SocketAddr,
+    clients: usize,
+    acts: &[Act<'_>],
+) -> Option<String> {
     let mut streams = Vec::new(alloc);
-    let mut otherwise = None;
-    for (place, (client, does)) in acts.iter().enumerate() {
-        if let Does::Unlists = does {
-            let _ = listener.set_nonblocking(true);
-            continue;
-        }
-        let text = match act(rt, alloc, address, &mut streams, *client, does) {
-            Ok((true, _)) => continue,
-            Ok((false, read)) => {
-                let read = str::from_utf8(read.as_slice()).unwrap_or("bytes");
-                format!(in alloc; "act {place} of client {client}: {read:?}")
-            }
-            Err(fault) => format!(in alloc; "act {place} of client {client}: {fault}"),
-        };
-        otherwise = Some(text.unwrap_or(String::new(alloc)));
-        break;
-    }
-    for _ in streams.len()..clients {
-        let _ = TcpStream::connect(rt, address);
-    }
+    let otherwise = act_each(rt, alloc, listener, address, &mut streams, acts);
+    connect_rest(rt, address, streams.len(), clients);
     otherwise
 }
 
-/// Has a client act, which connects if it is the next one. Whether it came out as it was to, and what was read.
-fn act<R: Net<Stream = TcpStream>>(
+/// The clients from this number on connect and leave.
+fn connect_rest<R: Net<Stream = TcpStream>>(
+    rt: &R,
+    address: SocketAddr,
+    first: usize,
+    clients: usize,
+) {
+    for _ in first..clients {
+        let _ = TcpStream::connect(rt, address);
+    }
+}
+
+/// Has clients act in order. Gives what came of the first act that came out otherwise.
+fn act_each<R: Net<Stream = TcpStream>>(
+    rt: &R,
+    alloc: Global,
+    listener: &TcpListener,
+    address: SocketAddr,
+    streams: &mut Streams,
+    acts: &[Act<'_>],
+) -> Option<String> {
+    for (place, act) in acts.iter().enumerate() {
+        let otherwise = act_one(rt, alloc, listener, address, streams, place, act);
+        if otherwise.is_some() {
+            return otherwise;
+        }
+    }
+    None
+}
+
+/// Has a client act. Gives what came of it, where it came out otherwise.
+fn act_one<R: Net<Stream = TcpStream>>(
+    rt: &R,
+    alloc: Global,
+    listener: &TcpListener,
+    address: SocketAddr,
+    streams: &mut Streams,
+    place: usize,
+    act: &Act<'_>,
+) -> Option<String> {
+    let (client, does) = act;
+    if let Does::Unlists = does {
+        let _ = listener.set_nonblocking(true);
+        return None;
+    }
+    let mut read = Vec::new(alloc);
+    match come(rt, alloc, address, streams, *client, does, &mut read) {
+        Ok(true) => None,
+        Ok(false) => Some(told_read(alloc, place, *client, read.as_slice())),
+        Err(fault) => Some(told_fault(alloc, place, *client, &fault)),
+    }
+}
+
+/// What an act is told by, where what was read isn't what was wanted.
+fn told_read(alloc: Global, place: usize, client: usize, read: &[u8]) -> String {
+    let read = str::from_utf8(read).unwrap_or("bytes");
+    let told = format!(in alloc; "act {place} of client {client}: {read:?}");
+    told.unwrap_or(String::new(alloc))
+}
+
+/// What an act is told by that failed.
+fn told_fault(alloc: Global, place: usize, client: usize, fault: &io::Error) -> String {
+    let told = format!(in alloc; "act {place} of client {client}: {fault}");
+    told.unwrap_or(String::new(alloc))
+}
+
+/// Has a client act, which connects if it is the next one. Whether it came out as it was to.
+fn come<R: Net<Stream = TcpStream>>(
     rt: &R,
     alloc: Global,
     address: SocketAddr,
-    streams: &mut Vec<Option<TcpStream>>,
+    streams: &mut Streams,
     client: usize,
     does: &Does<'_>,
-) -> io::Result<(bool, Vec<u8>)> {
+    read: &mut Vec<u8>,
+) -> io::Result<bool> {
     if client == streams.len() {
-        streams.push(Some(TcpStream::connect(rt, address)?))?;
+        connect(rt, address, streams)?;
     }
-    let Some(slot) = streams.get_mut(client) else {
-        return Err(ErrorKind::NotFound.into());
-    };
+    match streams.get_mut(client) {
+        Some(slot) => act_at(alloc, slot, does, read),
+        None => Err(ErrorKind::NotFound.into()),
+    }
+}
+
+/// The next client connects.
+fn connect<R: Net<Stream = TcpStream>>(
+    rt: &R,
+    address: SocketAddr,
+    streams: &mut Streams,
+) -> io::Result<()> {
+    let stream = TcpStream::connect(rt, address)?;
+    streams.push(Some(stream))?;
+    Ok(())
+}
+
+/// Has the client of this connection act.
+fn act_at(
+    alloc: Global,
+    slot: &mut Option<TcpStream>,
+    does: &Does<'_>,
+    read: &mut Vec<u8>,
+) -> io::Result<bool> {
     if let Does::Leaves = does {
         *slot = None;
-        return Ok((true, Vec::new(alloc)));
+        return Ok(true);
     }
     match slot {
-        Some(stream) => speak(alloc, stream, does),
+        Some(stream) => speak(alloc, stream, does, read),
         None => Err(ErrorKind::NotConnected.into()),
     }
 }
 
-/// Whether it came out as it was to, and what was read.
-fn speak(alloc: Global, stream: &mut TcpStream, does: &Does<'_>) -> io::Result<(bool, Vec<u8>)> {
-    let mut read = Vec::new(alloc);
-    let wanted = match does {
+/// Whether it came out as it was to.
+fn speak(
+    alloc: Global,
+    stream: &mut TcpStream,
+    does: &Does<'_>,
+    read: &mut Vec<u8>,
+) -> io::Result<bool> {
+    match does {
         Does::Asks(requests) => send(stream, requests_of(alloc, requests)),
         Does::Sends(bytes) => send(stream, bytes_of(alloc, bytes)),
         Does::Counts(rounds, digit) => send(stream, count_requests(alloc, *rounds, *digit)),
-        Does::Gets(bytes) => gets(alloc, stream, bytes, &mut read),
+        Does::Gets(bytes) => gets(alloc, stream, bytes, read),
         Does::Sees => sees(stream),
-        Does::Ends => ends(stream, true, &mut read),
-        Does::IsEnded => ends(stream, false, &mut read),
-        Does::IsCounted(rounds) => is_counted(stream, *rounds, &mut read),
+        Does::Ends => ends(stream, true, read),
+        Does::IsEnded => ends(stream, false, read),
+        Does::IsCounted(rounds) => is_counted(stream, *rounds, read),
         Does::Leaves | Does::Unlists => Ok(true),
-    };
-    Ok((wanted?, read))
+    }
 }
 
 /// Sends bytes, if there was memory for them.
 fn send(stream: &mut TcpStream, bytes: Result<Vec<u8>, AllocError>) -> io::Result<bool> {
-    stream.write_all(bytes?.as_slice())?;
+    let bytes = bytes?;
+    stream.write_all(bytes.as_slice())?;
     Ok(true)
 }
 
 /// Reads as many bytes as stand in a row. Whether they are those.
 fn gets(alloc: Global, stream: &TcpStream, row: &str, read: &mut Vec<u8>) -> io::Result<bool> {
     let bytes = bytes_of(alloc, row)?;
+    reads(stream, bytes.as_slice(), read)
+}
+
+/// Reads as many bytes as these are. Whether they are these.
+fn reads(stream: &TcpStream, bytes: &[u8], read: &mut Vec<u8>) -> io::Result<bool> {
     let mut next = stream.take(bytes.len() as u64);
     next.read_to_end(read)?;
-    Ok(read.as_slice() == bytes.as_slice())
+    Ok(read.as_slice() == bytes)
 }
 
 /// Waits for a byte, and leaves it unread.

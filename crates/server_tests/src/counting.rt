@@ -3,22 +3,32 @@
 use std::alloc::{AllocError, Global};
 use test_support::requests_of;
 
-/// So many rounds: an INCR of `a`, two more on `c`, the one member that `y` and `z` share put at `x`, the digit to `b` and
-/// `d` at once, and both of these read.
+/// One round: an INCR of `a`, two more on `c`, the one member that `y` and `z` share put at `x`, the digit to `b` and `d`
+/// at once, and both of these read.
+fn round_of(alloc: Global, digit: usize) -> Result<Vec<u8>, AllocError> {
+    let round = format!(in alloc;
+        "INCR a; INCRBY c 2; SINTERSTORE x y z; MSET b {digit} d {digit}; MGET d b"
+    )?;
+    requests_of(alloc, round.as_str())
+}
+
+/// These bytes so many times.
+fn often(alloc: Global, bytes: &[u8], times: usize) -> Result<Vec<u8>, AllocError> {
+    let mut all = Vec::new(alloc);
+    for _ in 0..times {
+        all.extend_from_slice(bytes)?;
+    }
+    Ok(all)
+}
+
+/// So many rounds of this digit.
 pub(crate) fn count_requests(
     alloc: Global,
     rounds: usize,
     digit: usize,
 ) -> Result<Vec<u8>, AllocError> {
-    let round = format!(in alloc;
-        "INCR a; INCRBY c 2; SINTERSTORE x y z; MSET b {digit} d {digit}; MGET d b"
-    )?;
-    let round = requests_of(alloc, round.as_str())?;
-    let mut requests = Vec::new(alloc);
-    for _ in 0..rounds {
-        requests.extend_from_slice(round.as_slice())?;
-    }
-    Ok(requests)
+    let round = round_of(alloc, digit)?;
+    often(alloc, round.as_slice(), rounds)
 }
 
 /// Whether these are the replies to so many rounds: the sums rise, and `b` and `d` are one and the same each time.

@@ -1,61 +1,70 @@
 //! How a server ends, and what clients are told who meet its end or their own.
 
-ghost use Rattle.std.specs.Prelude.{IfOk};
-ghost use Rattle.options.specs.Server.{InRange};
-
+use crate::clients::Act;
 use crate::clients::Does::{Asks, Gets, IsEnded, Sends};
-use crate::hosting::{as_wanted, beside, options, replay_trace};
-use options::server::Options;
+use crate::hosting::{End, MANY, options, replay_trace, serve_by};
 use std::alloc::{AllocError, Global};
-use std::net::TcpListener;
+use std::net::{Net, TcpListener, TcpStream};
+use std::random::RandomSource;
+use std::rt::Files;
+use std::sync::Wait;
 use std::test::Fail;
+use std::thread::Threads;
+use std::time::Clock;
 use std::{env, fs, process};
-use test_support::{same_bytes, same_number};
+use test_support::same_bytes;
 
 /// The path of a file of this name, which no other process writes.
-fn path_of(rt: &HostRuntime, name: &str) -> Result<String, Fail> {
+pub(crate) fn path_of(rt: &HostRuntime, name: &str) -> Result<String, Fail> {
     let id = process::id(rt.process());
     Ok(format!(in rt.alloc(); "{}/shardkv-{name}-{id}", env::temp_dir(rt)?.display())?)
 }
 
-/// Options for a server of so many steps, with its trace in this file.
-fn limited<'a>(workers: usize, max_steps: u64, path: &'a str) -> Result<Options<'a>, Fail>
-    ensures { IfOk result InRange }
+/// What three clients do where the steps run out that two requests take.
+#[rattlefmt::skip]
+const RUN_OUT: [Act<'static>; 9] = [
+    (0, Asks("SET a 1")),
+    (0, Gets("+OK|")),
+    (1, Asks("SET c 2")),
+    (1, Gets("+OK|")),
+    (2, Asks("GET a")),
+    (2, Gets("-ERR no more steps may be made|")),
+    (2, IsEnded),
+    (0, IsEnded),
+    (1, IsEnded),
+];
+
+/// What is left then.
+const LEFT: &[u8] = b"key 61 string 31\nkey 63 string 32\nagree\n";
+
+/// So many steps run out for so many workers.
+fn run_out<R>(rt: &R, path: &str, max_steps: u64, workers: usize) -> Result<(), Fail>
+where
+    R: Threads
+        + Wait
+        + AllocGlobal
+        + Files
+        + RandomSource
+        + Eprint
+        + Clock
+        + Sync
+        + Net<Listener = TcpListener, Stream = TcpStream>,
 {
-    let options = options(workers, 1000, Some(path))?;
-    if max_steps == 0 || max_steps > options.max_steps {
-        return Err("1 to 1,000,000 steps".into());
-    }
-    Ok(Options {
-        max_steps,
-        ..options
-    })
+    let options = options(workers, 1000, max_steps, Some(path))?;
+    serve_by(rt, &options, 3, &RUN_OUT, End::By(5))?;
+    replay_trace(rt, path, 2, LEFT)
 }
+
+/// Numbers of steps that run out, each for so many workers.
+const STEPS: [(u64, usize); 5] = [(14, 1), (15, 1), (16, 1), (17, 1), (15, 2)];
 
 /// Two requests take their steps; the third client is refused its seat, its submit or its first turn, the others are
 /// ended. The status is 5, and the trace of what was done replays.
 #[test]
 fn steps_that_run_out(rt: HostRuntime) -> Result<(), Fail> {
-    let acts = [
-        (0, Asks("SET a 1")),
-        (0, Gets("+OK|")),
-        (1, Asks("SET c 2")),
-        (1, Gets("+OK|")),
-        (2, Asks("GET a")),
-        (2, Gets("-ERR no more steps may be made|")),
-        (2, IsEnded),
-        (0, IsEnded),
-        (1, IsEnded),
-    ];
     let path = path_of(&rt, "ended")?;
-    for (max_steps, workers) in [(14, 1), (15, 1), (16, 1), (17, 1), (15, 2)] {
-        let listener = TcpListener::bind(&rt, "127.0.0.1:0")?;
-        let options = limited(workers, max_steps, path.as_str())?;
-        let (ended, otherwise) = beside(&rt, &listener, &options, 3, acts.as_slice());
-        as_wanted(otherwise.as_ref())?;
-        same_number("the status", u64::from(ended.0), 5)?;
-        let ending = b"key 61 string 31\nkey 63 string 32\nagree\n";
-        replay_trace(&rt, path.as_str(), 2, ending)?;
+    for (max_steps, workers) in STEPS {
+        run_out(&rt, path.as_str(), max_steps, workers)?;
     }
     Ok(())
 }
@@ -77,41 +86,99 @@ fn often(alloc: Global, text: &str, last: &str) -> Result<String, AllocError> {
     Ok(all)
 }
 
+/// A client sends the first bytes and then the second ones, and gets these replies and its end.
+fn is_ended_behind<'a, R>(
+    rt: &R,
+    first: &'a str,
+    second: &'a str,
+    replies: &'a str,
+) -> Result<(), Fail>
+where
+    R: Threads
+        + Wait
+        + AllocGlobal
+        + Files
+        + RandomSource
+        + Eprint
+        + Clock
+        + Sync
+        + Net<Listener = TcpListener, Stream = TcpStream>,
+{
+    let acts = [
+        (0, Sends(first)),
+        (0, Sends(second)),
+        (0, Gets(replies)),
+        (0, IsEnded),
+    ];
+    let options = options(1, 1, MANY, None)?;
+    serve_by(rt, &options, 1, acts.as_slice(), End::By(0))
+}
+
 /// A fault stands between two times 5,000 requests: all replies to the first ones arrive, and its line.
 #[test]
 fn replies_before_a_fault_arrive(rt: HostRuntime) -> Result<(), Fail> {
-    let alloc = rt.alloc();
-    let listener = TcpListener::bind(&rt, "127.0.0.1:0")?;
-    let options = options(1, 1, None)?;
-    let first = often(alloc, REQUESTS, "*1|+PING|")?;
-    let second = often(alloc, REQUESTS, "")?;
-    let replies = often(alloc, REPLIES, "-ERR Protocol error: expected '$'|")?;
-    let acts = [
-        (0, Sends(first.as_str())),
-        (0, Sends(second.as_str())),
-        (0, Gets(replies.as_str())),
-        (0, IsEnded),
-    ];
-    let (ended, otherwise) = beside(&rt, &listener, &options, 1, acts.as_slice());
-    as_wanted(otherwise.as_ref())?;
-    same_number("the status", u64::from(ended.0), 0)
+    let first = often(rt.alloc(), REQUESTS, "*1|+PING|")?;
+    let second = often(rt.alloc(), REQUESTS, "")?;
+    let replies = often(rt.alloc(), REPLIES, "-ERR Protocol error: expected '$'|")?;
+    is_ended_behind(&rt, first.as_str(), second.as_str(), replies.as_str())
+}
+
+const ASKS_ONCE: [Act<'static>; 2] = [(0, Asks("SET a 1")), (0, Gets("+OK|"))];
+
+/// A server whose trace would be in this file isn't able to write it.
+fn writes_no_trace<R>(rt: &R, path: &str) -> Result<(), Fail>
+where
+    R: Threads
+        + Wait
+        + AllocGlobal
+        + Files
+        + RandomSource
+        + Eprint
+        + Clock
+        + Sync
+        + Net<Listener = TcpListener, Stream = TcpStream>,
+{
+    let options = options(1, 1, MANY, Some(path))?;
+    serve_by(rt, &options, 1, &ASKS_ONCE, End::By(6))
+}
+
+/// A file stands under this name, and a folder under the one that its trace would be written to first.
+fn stand_before<R: Files>(rt: &R, path: &str, part: &str) -> Result<(), Fail> {
+    fs::write(rt, path, "older")?;
+    fs::create_dir(rt, part)?;
+    Ok(())
+}
+
+/// The file that stood there stands there still. Both are removed.
+fn stand_still<R: AllocGlobal + Files>(rt: &R, path: &str, part: &str) -> Result<(), Fail> {
+    fs::remove_dir(rt, part)?;
+    let left = fs::read(rt, path)?;
+    fs::remove_file(rt, path)?;
+    same_bytes("the older trace", left.as_slice(), b"older")
+}
+
+/// A trace that can't be written in this file leaves what stands there.
+fn leaves<R>(rt: &R, path: &str) -> Result<(), Fail>
+where
+    R: Threads
+        + Wait
+        + AllocGlobal
+        + Files
+        + RandomSource
+        + Eprint
+        + Clock
+        + Sync
+        + Net<Listener = TcpListener, Stream = TcpStream>,
+{
+    let part = format!(in rt.alloc(); "{path}.part")?;
+    stand_before(rt, path, part.as_str())?;
+    writes_no_trace(rt, path)?;
+    stand_still(rt, path, part.as_str())
 }
 
 /// A trace that can't be written leaves what stands under its name.
 #[test]
 fn an_older_trace_stays(rt: HostRuntime) -> Result<(), Fail> {
     let path = path_of(&rt, "older")?;
-    let part = format!(in rt.alloc(); "{path}.part")?;
-    fs::write(&rt, path.as_str(), "older")?;
-    fs::create_dir(&rt, part.as_str())?;
-    let acts = [(0, Asks("SET a 1")), (0, Gets("+OK|"))];
-    let listener = TcpListener::bind(&rt, "127.0.0.1:0")?;
-    let options = options(1, 1, Some(path.as_str()))?;
-    let (ended, otherwise) = beside(&rt, &listener, &options, 1, acts.as_slice());
-    let left = fs::read(&rt, path.as_str())?;
-    fs::remove_dir(&rt, part.as_str())?;
-    fs::remove_file(&rt, path.as_str())?;
-    as_wanted(otherwise.as_ref())?;
-    same_number("the status", u64::from(ended.0), 6)?;
-    same_bytes("the older trace", left.as_slice(), b"older")
+    leaves(&rt, path.as_str())
 }

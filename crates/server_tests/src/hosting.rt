@@ -19,16 +19,16 @@ use std::sync::Wait;
 use std::test::Fail;
 use std::thread::{Threads, join};
 use std::time::Clock;
-use test_support::{holds, same_bytes, same_count, same_number, same_text};
+use test_support::{TWO_SHARDS, holds, same_bytes, same_count, same_number, same_text};
 
-/// `a`, `b` and `y` lie on the first shard, `c`, `d`, `x` and `z` on the second.
-pub(crate) const TWO_SHARDS: &str =
-    "shards = 2\n[[range]]\nfrom = 0\nto = 511\nshard = 0\n[[range]]\nfrom = 512\nto = 1023\nshard = 1\n";
+/// At most how many steps a server makes where a test has no other number.
+pub(crate) const MANY: u64 = 1_000_000;
 
 /// Options for tests.
 pub(crate) fn options<'a>(
     workers: usize,
     connections: u64,
+    max_steps: u64,
     trace: Option<&'a str>,
 ) -> Result<Options<'a>, Fail>
     ensures { IfOk result InRange }
@@ -40,12 +40,15 @@ pub(crate) fn options<'a>(
     if connections == 0 {
         return Err("a connection".into());
     }
+    if max_steps == 0 || max_steps > MANY {
+        return Err("1 to 1,000,000 steps".into());
+    }
     Ok(Options {
         table: "",
         port: 0,
         workers,
         connections,
-        max_steps: 1_000_000,
+        max_steps,
         trace,
     })
 }
@@ -60,16 +63,16 @@ where
     requires { InRange options.now }
 {
     let mut printed = Vec::new(rt.alloc());
-    let Ok(table) = Table::from_toml(rt.alloc(), TWO_SHARDS) else {
-        return (7, printed);
+    let status = match Table::from_toml(rt.alloc(), TWO_SHARDS) {
+        Ok(table) => host(rt, listener, options, table, &mut printed),
+        Err(_) => 7,
     };
-    let status = host(rt, listener, options, table, &mut printed);
     (status, printed)
 }
 
 /// Hosts at a listener on two shards, beside so many clients that act in order. How the host ended, and what `follow`
 /// tells of the clients.
-pub(crate) fn beside<R>(
+fn beside<R>(
     rt: &R,
     listener: &TcpListener,
     options: &Options<'_>,
@@ -98,6 +101,59 @@ where
     (ended, otherwise)
 }
 
+/// How a host is to end.
+#[derive(Clone, Copy)]
+pub(crate) enum End<'a> {
+    /// By status 0. It told first where it listens, and its last line begins so.
+    Well(&'a str),
+    /// By this status.
+    By(u8),
+    /// By this status, and it told where it listens and nothing else.
+    Bare(u8),
+}
+
+/// Hosts at a listener on two shards, beside so many clients that act in order. All comes out as the acts say, and the
+/// host ends so.
+fn serve_at<R>(
+    rt: &R,
+    listener: &TcpListener,
+    options: &Options<'_>,
+    clients: usize,
+    acts: &[Act<'_>],
+    end: End<'_>,
+) -> Result<(), Fail>
+where
+    R: Threads
+        + Wait
+        + AllocGlobal
+        + Files
+        + RandomSource
+        + Eprint
+        + Clock
+        + Sync
+        + Net<Listener = TcpListener, Stream = TcpStream>,
+    requires { InRange options.now }
+{
+    let (hosted, otherwise) = beside(rt, listener, options, clients, acts);
+    came(rt.alloc(), listener, &hosted, otherwise.as_ref(), end)
+}
+
+/// All came out as the acts say, and the host ended so.
+fn came(
+    alloc: Global,
+    listener: &TcpListener,
+    hosted: &Hosted,
+    otherwise: Option<&String>,
+    end: End<'_>,
+) -> Result<(), Fail> {
+    as_wanted(otherwise)?;
+    match end {
+        End::Well(last) => ended_well(alloc, listener, hosted, last),
+        End::By(status) => same_status(hosted, status),
+        End::Bare(status) => ended_by(alloc, listener, hosted, status),
+    }
+}
+
 /// The last line of a text.
 fn last_line(text: &[u8]) -> &str {
     match str::from_utf8(text) {
@@ -119,6 +175,11 @@ fn first_line(alloc: Global, listener: &TcpListener) -> Result<String, Fail> {
     Ok(format!(in alloc; "listening {}\n", listener.local_addr()?)?)
 }
 
+/// A host ended by this status.
+fn same_status(hosted: &Hosted, status: u8) -> Result<(), Fail> {
+    same_number("the status", u64::from(hosted.0), u64::from(status))
+}
+
 /// A host ended by this status, and told where it listens and nothing else.
 pub(crate) fn ended_by(
     alloc: Global,
@@ -126,9 +187,21 @@ pub(crate) fn ended_by(
     hosted: &Hosted,
     status: u8,
 ) -> Result<(), Fail> {
+    same_status(hosted, status)?;
     let wanted = first_line(alloc, listener)?;
-    same_bytes("what is told", hosted.1.as_slice(), wanted.as_bytes())?;
-    same_number("the status", u64::from(hosted.0), u64::from(status))
+    same_bytes("what is told", hosted.1.as_slice(), wanted.as_bytes())
+}
+
+/// This is told first.
+fn tells_first(told: &[u8], first: &str) -> Result<(), Fail> {
+    let tells = told.starts_with(first.as_bytes());
+    holds("the address is told first", tells)
+}
+
+/// A host told first where it listens.
+fn tells_address(alloc: Global, listener: &TcpListener, told: &[u8]) -> Result<(), Fail> {
+    let first = first_line(alloc, listener)?;
+    tells_first(told, first.as_str())
 }
 
 /// A host ended by status 0. It told first where it listens, and its last line begins so.
@@ -138,19 +211,38 @@ fn ended_well(
     hosted: &Hosted,
     last: &str,
 ) -> Result<(), Fail> {
-    same_number("the status", u64::from(hosted.0), 0)?;
-    let told = hosted.1.as_slice();
-    let first = first_line(alloc, listener)?;
-    holds(
-        "the address is told first",
-        told.starts_with(first.as_bytes()),
-    )?;
-    let closed = last_line(told);
+    same_status(hosted, 0)?;
+    tells_address(alloc, listener, hosted.1.as_slice())?;
+    let closed = last_line(hosted.1.as_slice());
     holds(closed, closed.starts_with(last))
 }
 
-/// Has so many clients act in order beside a server. All comes out as the acts say, and the server ends by status 0
-/// with a last line that begins so.
+/// The same at a listener of its own.
+pub(crate) fn serve_by<R>(
+    rt: &R,
+    options: &Options<'_>,
+    clients: usize,
+    acts: &[Act<'_>],
+    end: End<'_>,
+) -> Result<(), Fail>
+where
+    R: Threads
+        + Wait
+        + AllocGlobal
+        + Files
+        + RandomSource
+        + Eprint
+        + Clock
+        + Sync
+        + Net<Listener = TcpListener, Stream = TcpStream>,
+    requires { InRange options.now }
+{
+    let listener = TcpListener::bind(rt, "127.0.0.1:0")?;
+    serve_at(rt, &listener, options, clients, acts, end)
+}
+
+/// Has so many clients act in order beside a server of so many workers. All comes out as the acts say, and the server
+/// ends by status 0 with a last line that begins so.
 pub(crate) fn serve_acts<R>(
     rt: &R,
     workers: usize,
@@ -170,11 +262,8 @@ where
         + Sync
         + Net<Listener = TcpListener, Stream = TcpStream>,
 {
-    let listener = TcpListener::bind(rt, "127.0.0.1:0")?;
-    let options = options(workers, clients as u64, trace)?;
-    let (hosted, otherwise) = beside(rt, &listener, &options, clients, acts);
-    as_wanted(otherwise.as_ref())?;
-    ended_well(rt.alloc(), &listener, &hosted, last)
+    let options = options(workers, clients as u64, MANY, trace)?;
+    serve_by(rt, &options, clients, acts, End::Well(last))
 }
 
 /// The trace in this file is replayed: its report agrees, has so many rows, and ends so. The file is removed.
@@ -186,32 +275,41 @@ pub(crate) fn replay_trace<R: Wait + AllocGlobal + Files>(
 ) -> Result<(), Fail> {
     let trace = fs::read(rt, path)?;
     fs::remove_file(rt, path)?;
-    let mut report = Vec::new(rt.alloc());
+    replays(rt.alloc(), trace.as_slice(), rows, ending)
+}
+
+/// A trace is replayed: its report agrees, has so many rows, and ends so.
+fn replays(alloc: Global, trace: &[u8], rows: usize, ending: &[u8]) -> Result<(), Fail> {
+    let mut report = Vec::new(alloc);
     let one = InTurn(NonZeroUsize::MIN);
-    let status = show(
-        rt.alloc(),
-        TWO_SHARDS.as_bytes(),
-        trace.as_slice(),
-        &one,
-        &mut report,
-    );
+    let status = show(alloc, TWO_SHARDS.as_bytes(), trace, &one, &mut report);
     same_number("the status of the replay", u64::from(status), 0)?;
-    let report = report.as_slice();
+    reports(report.as_slice(), rows, ending)
+}
+
+/// A report agrees, has so many rows, and ends so.
+fn reports(report: &[u8], rows: usize, ending: &[u8]) -> Result<(), Fail> {
     same_text("the last line of the report", last_line(report), "agree")?;
     same_count("rows", lines_with(report, "row "), rows)?;
-    holds(
-        "the report ends with the contents",
-        report.ends_with(ending),
-    )
+    let ends = report.ends_with(ending);
+    holds("the report ends with the contents", ends)
 }
 
 /// How many lines of a text begin so.
 fn lines_with(text: &[u8], beginning: &str) -> usize {
     match str::from_utf8(text) {
-        Ok(text) => text
-            .lines()
-            .filter(|line| line.starts_with(beginning))
-            .count(),
+        Ok(text) => count_lines(text, beginning),
         Err(_) => 0,
     }
+}
+
+/// How many lines of a text begin so.
+fn count_lines(text: &str, beginning: &str) -> usize {
+    let mut count = 0usize;
+    for line in text.lines() {
+        if line.starts_with(beginning) {
+            count = count.saturating_add(1);
+        }
+    }
+    count
 }

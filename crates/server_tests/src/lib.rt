@@ -11,6 +11,8 @@ mod counting;
 #[cfg(test)]
 mod ends;
 #[cfg(test)]
+mod faults;
+#[cfg(test)]
 mod hosting;
 #[cfg(test)]
 mod limits;

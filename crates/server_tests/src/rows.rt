@@ -4,10 +4,11 @@ ghost use Rattle.std.specs.Prelude.{◌≡◌, ◌<◌, ◌≤◌};
 ghost use Rattle.std.specs.Thread.{IsSync};
 ghost use Rattle.journal.specs.declared.trace.TheConstants.{GREATEST_STEPS};
 
-use crate::asking::{Numbers, closes, request, stays, text};
-use crate::hosting::{TWO_SHARDS, as_wanted};
+use crate::asking::{Numbers, closes, request, same_reply, stays, text};
+use crate::hosting::as_wanted;
 use cluster::{CloseFault, First, Seat};
 use placement::Table;
+use resp::{Reply, Request};
 use server::shared_syncs;
 use shard_workers::{InTurn, Open};
 use shards::ShardHasher;
@@ -20,13 +21,13 @@ use std::sync::ledger::{Blank, Ledger};
 use std::test::Fail;
 use std::thread::{Threads, join};
 use std::time::Clock;
-use test_support::{holds, same_bytes, same_number, same_text};
+use test_support::{TWO_SHARDS, holds, same_bytes, same_number};
 
 /// At most how many steps the clusters here make.
-const MOST: u64 = 1000;
+pub(crate) const MOST: u64 = 1000;
 
 /// A cluster over two shards that makes so many steps at most.
-fn shared<L: Ledger>(alloc: Global, most: u64, blank: Blank) -> Result<Shared<L>, Fail>
+pub(crate) fn shared<L: Ledger>(alloc: Global, most: u64, blank: Blank) -> Result<Shared<L>, Fail>
     requires ledger { (blank.name ≡ L.name) × (blank.parts ≡ L.parts) × (most < blank.parts) }
     requires most { (1 ≤ most) × (most ≤ GREATEST_STEPS) }
 {
@@ -45,19 +46,64 @@ fn ask_rows<L: Ledger, R: Wait + Clock>(
     shared: &Shared<L>,
     rows: Rows<'_>,
 ) -> Option<String> {
-    let Ok(mut seat) = shared.sit(rt) else {
-        return Some(String::new(alloc));
-    };
-    let mut other = None;
-    for (words, wanted) in rows {
-        match ask_row(rt, alloc, shared, &mut seat, words) {
-            Some(reply) if reply.as_str() == *wanted => {}
-            Some(reply) => other = Some(reply),
-            None => other = Some(String::new(alloc)),
-        }
+    match shared.sit(rt) {
+        Ok(seat) => ask_and_stand(rt, alloc, shared, seat, rows),
+        Err(_) => Some(String::new(alloc)),
     }
+}
+
+/// The same at this seat, which stands then.
+fn ask_and_stand<L: Ledger, R: Wait + Clock>(
+    rt: &R,
+    alloc: Global,
+    shared: &Shared<L>,
+    mut seat: Seat<L>,
+    rows: Rows<'_>,
+) -> Option<String> {
+    let other = ask_each(rt, alloc, shared, &mut seat, rows);
     shared.stand(rt, seat);
     other
+}
+
+/// Asks the requests in order at a seat. Gives the first reply that isn't the wanted one.
+fn ask_each<L: Ledger, R: Wait + Clock>(
+    rt: &R,
+    alloc: Global,
+    shared: &Shared<L>,
+    seat: &mut Seat<L>,
+    rows: Rows<'_>,
+) -> Option<String> {
+    for (words, wanted) in rows {
+        let other = otherwise(rt, alloc, shared, seat, words, wanted);
+        if other.is_some() {
+            return other;
+        }
+    }
+    None
+}
+
+/// The text of the reply to one request, where it isn't the wanted one. It is empty where there is none.
+fn otherwise<L: Ledger, R: Wait + Clock>(
+    rt: &R,
+    alloc: Global,
+    shared: &Shared<L>,
+    seat: &mut Seat<L>,
+    words: &str,
+    wanted: &str,
+) -> Option<String> {
+    match ask_row(rt, alloc, shared, seat, words) {
+        Some(reply) => unless_same(reply, wanted),
+        None => Some(String::new(alloc)),
+    }
+}
+
+/// A text, where it isn't this one.
+fn unless_same(text: String, wanted: &str) -> Option<String> {
+    if text.as_str() == wanted {
+        None
+    } else {
+        Some(text)
+    }
 }
 
 /// The text of the reply to one request; none where it isn't answered.
@@ -69,8 +115,21 @@ fn ask_row<L: Ledger, R: Wait + Clock>(
     words: &str,
 ) -> Option<String> {
     let request = request(alloc, words).ok()?;
-    let answer = shared.ask(rt, seat, request).ok()?;
-    text(alloc, answer.reply()).ok()
+    ask_words(rt, alloc, shared, seat, request)
+}
+
+/// The same, of a request of these words.
+fn ask_words<L: Ledger, R: Wait + Clock>(
+    rt: &R,
+    alloc: Global,
+    shared: &Shared<L>,
+    seat: &mut Seat<L>,
+    request: Request,
+) -> Option<String> {
+    match shared.ask(rt, seat, request) {
+        Ok(answer) => text(alloc, answer.reply()).ok(),
+        Err(_) => None,
+    }
 }
 
 /// Two threads ask their rows, and then the cluster is shut. The first replies of each that aren't the wanted ones.
@@ -97,6 +156,34 @@ fn driven<L: Ledger, R: Wait + Clock>(rt: &R, shared: &Shared<L>) -> Result<AtRe
     shared.drive(rt, &First, &InTurn(NonZeroUsize::MIN), &Open)
 }
 
+/// What came of two threads that asked their rows, beside how the thread that drove ended.
+type Asked = (Result<AtRest, AskFault>, (Option<String>, Option<String>));
+
+/// Two threads ask their rows beside one that drives.
+fn ask_beside<L: Ledger + Send + Sync, R: Threads + Wait + Clock + Sync>(
+    rt: &R,
+    alloc: Global,
+    shared: &Shared<L>,
+    one: Rows<'_>,
+    two: Rows<'_>,
+) -> Asked {
+    shared_syncs::<L>();
+    syncs::<R>();
+    join(
+        rt,
+        move || driven(rt, shared),
+        move || ask_and_shut(rt, alloc, shared, one, two),
+    )
+}
+
+/// The thread that drove came to rest, and both others were answered as they wanted.
+fn are_as_wanted(asked: &Asked) -> Result<(), Fail> {
+    let (ended, (first, second)) = asked;
+    holds("the cluster came to rest", ended.is_ok())?;
+    as_wanted(first.as_ref())?;
+    as_wanted(second.as_ref())
+}
+
 /// Two threads ask their rows beside one that drives. The cluster is to close with these numbers.
 fn two_ask<L: Ledger + Send + Sync, R: Threads + Wait + Clock + Sync>(
     rt: &R,
@@ -108,18 +195,21 @@ fn two_ask<L: Ledger + Send + Sync, R: Threads + Wait + Clock + Sync>(
 ) -> Result<(), Fail>
     requires { (blank.name ≡ L.name) × (blank.parts ≡ L.parts) × (1000 < blank.parts) }
 {
-    shared_syncs::<L>();
-    syncs::<R>();
     let shared: Shared<L> = shared(alloc, MOST, blank)?;
-    let shared = &shared;
-    let (ended, (first, second)) = join(
-        rt,
-        move || driven(rt, shared),
-        move || ask_and_shut(rt, alloc, shared, one, two),
-    );
-    ended?;
-    as_wanted(first.as_ref())?;
-    as_wanted(second.as_ref())?;
+    asks_both(rt, alloc, &shared, one, two, numbers)
+}
+
+/// The same over this cluster.
+fn asks_both<L: Ledger + Send + Sync, R: Threads + Wait + Clock + Sync>(
+    rt: &R,
+    alloc: Global,
+    shared: &Shared<L>,
+    one: Rows<'_>,
+    two: Rows<'_>,
+    numbers: Numbers,
+) -> Result<(), Fail> {
+    let asked = ask_beside(rt, alloc, shared, one, two);
+    are_as_wanted(&asked)?;
     closes(shared.close(rt), numbers)
 }
 
@@ -141,57 +231,69 @@ fn ask_both<R: Threads + Wait + Clock + Sync>(
     two_ask::<Brand, R>(rt, alloc, blank, one, two, (requests, executed, 0))
 }
 
+#[rattlefmt::skip]
+const STRINGS: Rows<'static> = &[
+    ("SET  ", "+OK\r\n"),
+    ("GET ", "$0\r\n\r\n"),
+    ("GET a", "$-1\r\n"),
+    ("SET a 9223372036854775807", "+OK\r\n"),
+    ("INCR a", "-ERR increment or decrement would overflow\r\n"),
+    ("GET a", "$19\r\n9223372036854775807\r\n"),
+    ("DECRBY a -9223372036854775808", "-ERR increment or decrement would overflow\r\n"),
+    ("INCR b", ":1\r\n"),
+    ("INCRBY b +1", "-ERR value is not an integer or out of range\r\n"),
+];
+
+#[rattlefmt::skip]
+const BESIDE_STRINGS: Rows<'static> = &[
+    ("PiNG", "+PONG\r\n"),
+    ("SET d 1", "+OK\r\n"),
+    ("MSET d 2 x 3", "+OK\r\n"),
+    ("MGET x d", "*2\r\n$1\r\n3\r\n$1\r\n2\r\n"),
+];
+
 #[test]
 fn strings_and_integers(rt: HostRuntime) -> Result<(), Fail> {
-    let one = [
-        ("SET  ", "+OK\r\n"),
-        ("GET ", "$0\r\n\r\n"),
-        ("GET a", "$-1\r\n"),
-        ("SET a 9223372036854775807", "+OK\r\n"),
-        ("INCR a", "-ERR increment or decrement would overflow\r\n"),
-        ("GET a", "$19\r\n9223372036854775807\r\n"),
-        (
-            "DECRBY a -9223372036854775808",
-            "-ERR increment or decrement would overflow\r\n",
-        ),
-        ("INCR b", ":1\r\n"),
-        (
-            "INCRBY b +1",
-            "-ERR value is not an integer or out of range\r\n",
-        ),
-    ];
-    let two = [
-        ("PiNG", "+PONG\r\n"),
-        ("SET d 1", "+OK\r\n"),
-        ("MSET d 2 x 3", "+OK\r\n"),
-        ("MGET x d", "*2\r\n$1\r\n3\r\n$1\r\n2\r\n"),
-    ];
-    ask_both(&rt, rt.alloc(), one.as_slice(), two.as_slice(), 13, 11)
+    ask_both(&rt, rt.alloc(), STRINGS, BESIDE_STRINGS, 13, 11)
 }
+
+#[rattlefmt::skip]
+const TWICE: Rows<'static> = &[
+    ("MSET a 1 c 2 a 3", "+OK\r\n"),
+    ("GET a", "$1\r\n3\r\n"),
+];
+
+#[rattlefmt::skip]
+const BESIDE_TWICE: Rows<'static> = &[
+    ("FOO", "-ERR unknown command\r\n"),
+    ("GET d", "$-1\r\n"),
+];
 
 #[test]
 fn a_key_twice(rt: HostRuntime) -> Result<(), Fail> {
-    let one = [("MSET a 1 c 2 a 3", "+OK\r\n"), ("GET a", "$1\r\n3\r\n")];
-    let two = [("FOO", "-ERR unknown command\r\n"), ("GET d", "$-1\r\n")];
-    ask_both(&rt, rt.alloc(), one.as_slice(), two.as_slice(), 4, 3)
+    ask_both(&rt, rt.alloc(), TWICE, BESIDE_TWICE, 4, 3)
 }
+
+#[rattlefmt::skip]
+const SETS: Rows<'static> = &[
+    ("SADD a m", ":1\r\n"),
+    ("SMOVE a a m", ":1\r\n"),
+    ("SMOVE y a m", ":0\r\n"),
+    ("SETRANGE b 3 x", ":4\r\n"),
+    ("GET b", "$4\r\n\0\0\0x\r\n"),
+    ("SETRANGE b -1 x", "-ERR offset is out of range\r\n"),
+];
+
+#[rattlefmt::skip]
+const BESIDE_SETS: Rows<'static> = &[
+    ("LPUSH c 1", ":1\r\n"),
+    ("LMOVE c d LEFT RIGHT", "$1\r\n1\r\n"),
+    ("EXISTS c d d", ":2\r\n"),
+];
 
 #[test]
 fn sets_and_ranges(rt: HostRuntime) -> Result<(), Fail> {
-    let one = [
-        ("SADD a m", ":1\r\n"),
-        ("SMOVE a a m", ":1\r\n"),
-        ("SMOVE y a m", ":0\r\n"),
-        ("SETRANGE b 3 x", ":4\r\n"),
-        ("GET b", "$4\r\n\0\0\0x\r\n"),
-        ("SETRANGE b -1 x", "-ERR offset is out of range\r\n"),
-    ];
-    let two = [
-        ("LPUSH c 1", ":1\r\n"),
-        ("LMOVE c d LEFT RIGHT", "$1\r\n1\r\n"),
-        ("EXISTS c d d", ":2\r\n"),
-    ];
-    ask_both(&rt, rt.alloc(), one.as_slice(), two.as_slice(), 9, 9)
+    ask_both(&rt, rt.alloc(), SETS, BESIDE_SETS, 9, 9)
 }
 
 /// Nothing was done or given, for a fault of this kind.
@@ -209,6 +311,30 @@ const TURNED: Rows<'static> = &[
     ("FOO", "-ERR unknown command\r\n"),
 ];
 
+/// The reply to a request, for which the thread that asks makes the turns.
+fn turned<L: Ledger, R: Wait + Clock>(
+    rt: &R,
+    shared: &Shared<L>,
+    seat: &mut Seat<L>,
+    request: Request,
+) -> Result<Reply, Fail> {
+    Ok(shared.ask_turning(rt, seat, request)?.open())
+}
+
+/// Asks at a seat and makes the turns: the reply is to have this text.
+fn turn_row<L: Ledger, R: Wait + Clock>(
+    rt: &R,
+    alloc: Global,
+    shared: &Shared<L>,
+    seat: &mut Seat<L>,
+    words: &str,
+    wanted: &str,
+) -> Result<(), Fail> {
+    let request = request(alloc, words)?;
+    let reply = turned(rt, shared, seat, request)?;
+    same_reply(alloc, words, &reply, wanted)
+}
+
 /// Asks at a seat and makes the turns: the replies are to have these texts.
 fn turn_rows<L: Ledger, R: Wait + Clock>(
     rt: &R,
@@ -218,27 +344,67 @@ fn turn_rows<L: Ledger, R: Wait + Clock>(
     rows: Rows<'_>,
 ) -> Result<(), Fail> {
     for (words, wanted) in rows {
-        let reply = shared.ask_turning(rt, seat, request(alloc, words)?)?;
-        same_text(words, text(alloc, &reply.open())?.as_str(), wanted)?;
+        turn_row(rt, alloc, shared, seat, words, wanted)?;
     }
     Ok(())
 }
 
-/// Shuts the cluster, which then takes no request and gives no seat. It closes when the seat has stood.
-fn shut_refuses<L: Ledger, R: Wait + Clock>(
+/// A request is refused for a fault of this kind, where the thread that asks would make the turns.
+fn turning_is_refused<L: Ledger, R: Wait + Clock>(
+    rt: &R,
+    shared: &Shared<L>,
+    seat: &mut Seat<L>,
+    request: Request,
+    kind: FaultKind,
+) -> Result<(), Fail> {
+    is_refused(shared.ask_turning(rt, seat, request), kind)
+}
+
+/// A request at a seat is refused for a fault of this kind, and then the seat has so many requests.
+fn refuses<L: Ledger, R: Wait + Clock>(
     rt: &R,
     alloc: Global,
     shared: &Shared<L>,
-    mut seat: Seat<L>,
+    seat: &mut Seat<L>,
+    words: &str,
+    kind: FaultKind,
+    count: u64,
 ) -> Result<(), Fail> {
+    let request = request(alloc, words)?;
+    turning_is_refused(rt, shared, seat, request, kind)?;
+    same_number("the requests of the seat", seat.count(), count)
+}
+
+/// Asks, and then shuts the cluster, which then takes no request.
+fn turn_and_shut<L: Ledger, R: Wait + Clock>(
+    rt: &R,
+    alloc: Global,
+    shared: &Shared<L>,
+    seat: &mut Seat<L>,
+) -> Result<(), Fail> {
+    turn_rows(rt, alloc, shared, seat, TURNED)?;
     stays(shared.close(rt), CloseFault::SeatsOut)?;
     shared.shut(rt);
-    let outcome = shared.ask_turning(rt, &mut seat, request(alloc, "PING")?);
-    is_refused(outcome, FaultKind::Closed)?;
-    same_number("the requests of the seat", seat.count(), 5)?;
-    shared.stand(rt, seat);
+    refuses(rt, alloc, shared, seat, "PING", FaultKind::Closed, 5)
+}
+
+/// A cluster that is shut gives no seat. It closes when all seats have stood.
+fn closes_shut<L: Ledger, R: Wait + Clock>(rt: &R, shared: &Shared<L>) -> Result<(), Fail> {
     is_refused(shared.sit(rt), FaultKind::Closed)?;
     closes(shared.close(rt), (5, 3, 0))
+}
+
+/// Asks at a seat of a cluster, which is shut, and closes when the seat has stood.
+fn turn_and_close<L: Ledger, R: Wait + Clock>(
+    rt: &R,
+    alloc: Global,
+    shared: &Shared<L>,
+) -> Result<(), Fail> {
+    let mut seat = shared.sit(rt)?;
+    let shut = turn_and_shut(rt, alloc, shared, &mut seat);
+    shared.stand(rt, seat);
+    shut?;
+    closes_shut(rt, shared)
 }
 
 /// The thread that asks makes the turns.
@@ -252,9 +418,7 @@ fn asks_turning<L: Ledger, R: Wait + Clock>(
     requires most { (1 ≤ most) × (most ≤ GREATEST_STEPS) }
 {
     let shared: Shared<L> = shared(alloc, most, blank)?;
-    let mut seat = shared.sit(rt)?;
-    turn_rows(rt, alloc, &shared, &mut seat, TURNED)?;
-    shut_refuses(rt, alloc, &shared, seat)
+    turn_and_close(rt, alloc, &shared)
 }
 
 /// Asks of a new cluster that makes so many steps at most.
@@ -283,28 +447,46 @@ fn exhausts<L: Ledger, R: Wait + Clock>(
     shared: &Shared<L>,
     seat: &mut Seat<L>,
 ) -> Result<(), Fail> {
-    let outcome = shared.ask_turning(rt, seat, request(alloc, "SET a 1")?);
-    is_refused(outcome, FaultKind::Exhausted)?;
-    same_number("the requests of the seat", seat.count(), 1)
+    refuses(rt, alloc, shared, seat, "SET a 1", FaultKind::Exhausted, 1)?;
+    refuses(rt, alloc, shared, seat, "SET a 1", FaultKind::Exhausted, 1)?;
+    drives_no_more(rt, shared)
+}
+
+/// It can't be driven, since no more steps may be made.
+fn drives_no_more<L: Ledger, R: Wait + Clock>(rt: &R, shared: &Shared<L>) -> Result<(), Fail> {
+    is_refused(driven(rt, shared), FaultKind::Exhausted)
 }
 
 /// The trace of three steps.
 const THREE: &[u8] = b"shardkv-trace 1\nmax 3\nopen\nsubmit 1 534554 61 31\ndeliver 0\nend 3\n";
 
+/// The trace of a cluster is that of three steps.
+fn has_three<L: Ledger, R: Wait>(rt: &R, alloc: Global, shared: &Shared<L>) -> Result<(), Fail> {
+    let mut trace = Vec::new(alloc);
+    shared.write_trace(rt, &mut trace)?;
+    same_bytes("the trace", trace.as_slice(), THREE)
+}
+
 /// The seat is the first of three steps, its request the second, and its packet the third.
+fn exhaust<L: Ledger, R: Wait + Clock>(
+    rt: &R,
+    alloc: Global,
+    shared: &Shared<L>,
+) -> Result<(), Fail> {
+    let mut seat = shared.sit(rt)?;
+    let exhausted = exhausts(rt, alloc, shared, &mut seat);
+    shared.stand(rt, seat);
+    exhausted?;
+    stays(shared.close(rt), CloseFault::NotQuiet)?;
+    has_three(rt, alloc, shared)
+}
+
+/// The same over a new cluster.
 fn three_steps<L: Ledger, R: Wait + Clock>(rt: &R, alloc: Global, blank: Blank) -> Result<(), Fail>
     requires { (blank.name ≡ L.name) × (blank.parts ≡ L.parts) × (3 < blank.parts) }
 {
     let shared: Shared<L> = shared(alloc, 3, blank)?;
-    let mut seat = shared.sit(rt)?;
-    exhausts(rt, alloc, &shared, &mut seat)?;
-    exhausts(rt, alloc, &shared, &mut seat)?;
-    is_refused(driven(rt, &shared), FaultKind::Exhausted)?;
-    shared.stand(rt, seat);
-    stays(shared.close(rt), CloseFault::NotQuiet)?;
-    let mut trace = Vec::new(alloc);
-    shared.write_trace(rt, &mut trace)?;
-    same_bytes("the trace", trace.as_slice(), THREE)
+    exhaust(rt, alloc, &shared)
 }
 
 /// Makes three steps of a new cluster.

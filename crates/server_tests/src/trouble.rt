@@ -2,130 +2,185 @@
 
 use crate::clients::Act;
 use crate::clients::Does::{Asks, Ends, Gets, IsEnded, Leaves, Sees, Sends};
-use crate::hosting::{ended_by, hosted, options, replay_trace, serve_acts};
+use crate::ends::path_of;
+use crate::hosting::{MANY, ended_by, hosted, options, replay_trace, serve_acts};
 use std::alloc::{AllocError, Global};
 use std::io::{Read, Write};
-use std::net::{Shutdown, TcpListener, TcpStream};
+use std::net::{Net, Shutdown, TcpListener, TcpStream};
+use std::random::RandomSource;
+use std::rt::Files;
+use std::sync::Wait;
 use std::test::Fail;
-use std::{env, process};
+use std::thread::Threads;
+use std::time::Clock;
 use test_support::same_bytes;
 
 /// One leaves with half a request sent, one with a request under way; one ends inside a request.
+#[rattlefmt::skip]
+const LEAVING: [Act<'static>; 9] = [
+    (0, Sends("*2|$3|GET|$1|a")),
+    (0, Leaves),
+    (1, Asks("SET a 1")),
+    (1, Leaves),
+    (2, Sends("*1|$4|PI")),
+    (2, Ends),
+    (3, Asks("SET c 2; GET c")),
+    (3, Gets("+OK|$1|2|")),
+    (3, Ends),
+];
+
 #[test]
 fn clients_that_leave(rt: HostRuntime) -> Result<(), Fail> {
-    let alloc = rt.alloc();
-    let acts = [
-        (0, Sends("*2|$3|GET|$1|a")),
-        (0, Leaves),
-        (1, Asks("SET a 1")),
-        (1, Leaves),
-        (2, Sends("*1|$4|PI")),
-        (2, Ends),
-        (3, Asks("SET c 2; GET c")),
-        (3, Gets("+OK|$1|2|")),
-        (3, Ends),
-    ];
-    let id = process::id(rt.process());
-    let path = format!(in alloc; "{}/shardkv-left-{id}", env::temp_dir(&rt)?.display())?;
+    let path = path_of(&rt, "left")?;
+    let path = path.as_str();
     for workers in [1, 2] {
-        serve_acts(
-            &rt,
-            workers,
-            Some(path.as_str()),
-            4,
-            acts.as_slice(),
-            "closed requests=3 executed=3 starved=0",
-        )?;
+        let closed = "closed requests=3 executed=3 starved=0";
+        serve_acts(&rt, workers, Some(path), 4, &LEAVING, closed)?;
         let ending = b"key 61 string 31\nkey 63 string 32\nagree\n";
-        replay_trace(&rt, path.as_str(), 3, ending)?;
+        replay_trace(&rt, path, 3, ending)?;
     }
     Ok(())
 }
 
 /// Each fault ends its own connection, behind the replies to what came before it.
+#[rattlefmt::skip]
+const FAULTY: [Act<'static>; 26] = [
+    (0, Asks("SET a 1")),
+    (0, Gets("+OK|")),
+    (1, Sends("*1|$4|PING|foo")),
+    (1, Gets("+PONG|-ERR Protocol error: expected '*'|")),
+    (1, IsEnded),
+    (2, Sends("*1|$03|GET|")),
+    (2, Gets("-ERR Protocol error: invalid length|")),
+    (2, IsEnded),
+    (3, Sends("*1|$536870913")),
+    (3, Gets("-ERR Protocol error: invalid length|")),
+    (3, IsEnded),
+    (4, Sends("PING|")),
+    (4, Gets("-ERR Protocol error: expected '*'|")),
+    (4, IsEnded),
+    (5, Sends("*1|+PING|")),
+    (5, Gets("-ERR Protocol error: expected '$'|")),
+    (5, IsEnded),
+    (6, Sends("*1|$4|PINGxx")),
+    (6, Gets("-ERR Protocol error: expected CRLF|")),
+    (6, IsEnded),
+    (7, Sends("*0|*-1|*1|$4|PING|")),
+    (7, Gets("+PONG|")),
+    (7, Ends),
+    (0, Asks("GET a")),
+    (0, Gets("$1|1|")),
+    (0, Ends),
+];
+
 #[test]
 fn clients_that_send_no_requests(rt: HostRuntime) -> Result<(), Fail> {
-    let acts = [
-        (0, Asks("SET a 1")),
-        (0, Gets("+OK|")),
-        (1, Sends("*1|$4|PING|foo")),
-        (1, Gets("+PONG|-ERR Protocol error: expected '*'|")),
-        (1, IsEnded),
-        (2, Sends("*1|$03|GET|")),
-        (2, Gets("-ERR Protocol error: invalid length|")),
-        (2, IsEnded),
-        (3, Sends("*1|$536870913")),
-        (3, Gets("-ERR Protocol error: invalid length|")),
-        (3, IsEnded),
-        (4, Sends("PING|")),
-        (4, Gets("-ERR Protocol error: expected '*'|")),
-        (4, IsEnded),
-        (5, Sends("*1|+PING|")),
-        (5, Gets("-ERR Protocol error: expected '$'|")),
-        (5, IsEnded),
-        (6, Sends("*1|$4|PINGxx")),
-        (6, Gets("-ERR Protocol error: expected CRLF|")),
-        (6, IsEnded),
-        (7, Sends("*0|*-1|*1|$4|PING|")),
-        (7, Gets("+PONG|")),
-        (7, Ends),
-        (0, Asks("GET a")),
-        (0, Gets("$1|1|")),
-        (0, Ends),
-    ];
     for workers in [1, 2] {
-        serve_acts(
-            &rt,
-            workers,
-            None,
-            8,
-            acts.as_slice(),
-            "closed requests=4 executed=2 starved=0",
-        )?;
+        let closed = "closed requests=4 executed=2 starved=0";
+        serve_acts(&rt, workers, None, 8, &FAULTY, closed)?;
+    }
+    Ok(())
+}
+
+/// A value of 65,536 bytes.
+const LONG: [Act<'static>; 2] = [(0, Asks("SETRANGE a 65535 x")), (0, Gets(":65536|"))];
+
+/// Its replies lie unread, and another client is served.
+#[rattlefmt::skip]
+const BESIDE: [Act<'static>; 3] = [
+    (0, Sees),
+    (1, Asks("SET c 1")),
+    (1, Gets("+OK|")),
+];
+
+/// Two keys are there.
+const BOTH: [Act<'static>; 2] = [(1, Asks("EXISTS a c")), (1, Gets(":2|"))];
+
+/// The one leaves, and the other is served still.
+#[rattlefmt::skip]
+const BEHIND: [Act<'static>; 4] = [
+    (0, Leaves),
+    (1, Asks("APPEND a y; SET c 2; GET c")),
+    (1, Gets(":65537|+OK|$1|2|")),
+    (1, Ends),
+];
+
+/// The value is asked for 200 times.
+fn push_asking(acts: &mut Vec<Act<'static>>) -> Result<(), AllocError> {
+    for _ in 0..200 {
+        acts.push((0, Asks("GET a")))?;
+    }
+    Ok(())
+}
+
+/// The keys are looked for 50 times.
+fn push_looking(acts: &mut Vec<Act<'static>>) -> Result<(), AllocError> {
+    for _ in 0..50 {
+        acts.extend_from_slice(&BOTH)?;
     }
     Ok(())
 }
 
 /// Behind 13 million bytes of replies that lie unread another client's requests go to the same shard.
+fn push_acts(acts: &mut Vec<Act<'static>>) -> Result<(), AllocError> {
+    acts.extend_from_slice(&LONG)?;
+    push_asking(acts)?;
+    acts.extend_from_slice(&BESIDE)?;
+    push_looking(acts)?;
+    acts.extend_from_slice(&BEHIND)
+}
+
+/// The same, as acts of their own.
 fn acts_of_two(alloc: Global) -> Result<Vec<Act<'static>>, AllocError> {
     let mut acts: Vec<Act<'static>> = Vec::new(alloc);
-    acts.extend_from_slice(&[(0, Asks("SETRANGE a 65535 x")), (0, Gets(":65536|"))])?;
-    for _ in 0..200 {
-        acts.push((0, Asks("GET a")))?;
-    }
-    acts.extend_from_slice(&[(0, Sees), (1, Asks("SET c 1")), (1, Gets("+OK|"))])?;
-    for _ in 0..50 {
-        acts.extend_from_slice(&[(1, Asks("EXISTS a c")), (1, Gets(":2|"))])?;
-    }
-    acts.extend_from_slice(&[
-        (0, Leaves),
-        (1, Asks("APPEND a y; SET c 2; GET c")),
-        (1, Gets(":65537|+OK|$1|2|")),
-        (1, Ends),
-    ])?;
+    push_acts(&mut acts)?;
     Ok(acts)
 }
 
 #[test]
 fn a_client_that_never_reads(rt: HostRuntime) -> Result<(), Fail> {
     let acts = acts_of_two(rt.alloc())?;
-    for workers in [1, 2] {
-        serve_acts(&rt, workers, None, 2, acts.as_slice(), "closed requests=")?;
-    }
+    serve_acts(&rt, 1, None, 2, acts.as_slice(), "closed requests=")?;
+    serve_acts(&rt, 2, None, 2, acts.as_slice(), "closed requests=")
+}
+
+/// Sends a request, and then no more.
+fn ask_once(stream: &mut TcpStream) -> Result<(), Fail> {
+    stream.write_all(b"*1\r\n$4\r\nPING\r\n")?;
+    stream.shutdown(Shutdown::Write)?;
     Ok(())
+}
+
+/// A server whose trace can't be written ends by 6.
+fn ends_without_trace<R>(rt: &R, listener: &TcpListener) -> Result<(), Fail>
+where
+    R: Threads + Wait + AllocGlobal + Files + RandomSource + Eprint + Net + Clock + Sync,
+{
+    let options = options(1, 1, MANY, Some("/"))?;
+    let hosted = hosted(rt, listener, &options);
+    ended_by(rt.alloc(), listener, &hosted, 6)
+}
+
+/// All that comes are these bytes.
+fn gets_all(alloc: Global, stream: &mut TcpStream, wanted: &[u8]) -> Result<(), Fail> {
+    let mut replies = Vec::new(alloc);
+    stream.read_to_end(&mut replies)?;
+    same_bytes("the replies", replies.as_slice(), wanted)
+}
+
+/// A client connects, and asks.
+fn asking(rt: &HostRuntime, listener: &TcpListener) -> Result<TcpStream, Fail> {
+    let address = listener.local_addr()?;
+    let mut stream = TcpStream::connect(rt, address)?;
+    ask_once(&mut stream)?;
+    Ok(stream)
 }
 
 /// The client is served, the status is 6, and no end is told.
 #[test]
 fn a_trace_that_cannot_be_written(rt: HostRuntime) -> Result<(), Fail> {
-    let alloc = rt.alloc();
     let listener = TcpListener::bind(&rt, "127.0.0.1:0")?;
-    let mut stream = TcpStream::connect(&rt, listener.local_addr()?)?;
-    stream.write_all(b"*1\r\n$4\r\nPING\r\n")?;
-    stream.shutdown(Shutdown::Write)?;
-    let options = options(1, 1, Some("/"))?;
-    ended_by(alloc, &listener, &hosted(&rt, &listener, &options), 6)?;
-    let mut replies = Vec::new(alloc);
-    stream.read_to_end(&mut replies)?;
-    same_bytes("the replies", replies.as_slice(), b"+PONG\r\n")
+    let mut stream = asking(&rt, &listener)?;
+    ends_without_trace(&rt, &listener)?;
+    gets_all(rt.alloc(), &mut stream, b"+PONG\r\n")
 }

@@ -2,8 +2,7 @@
 
 ghost use Rattle.std.specs.Prelude.{◌≡◌, ◌<◌};
 
-use crate::asking::{closes, request, stays, text};
-use crate::hosting::TWO_SHARDS;
+use crate::asking::{closes, request, same_reply, stays};
 use crate::rows::Rows;
 use cluster::{Answer, CloseFault, Cluster, First, Seat};
 use placement::Table;
@@ -16,7 +15,7 @@ use std::num::NonZeroUsize;
 use std::sync::ledger::{Blank, Ledger};
 use std::test::Fail;
 use system::StepFault;
-use test_support::{same_bytes, same_count, same_number, same_text};
+use test_support::{TWO_SHARDS, same_bytes, same_count, same_number};
 
 /// At most how many steps the clusters here make.
 const MOST: u64 = 1000;
@@ -51,6 +50,20 @@ fn reply<L: Ledger>(cluster: &mut Cluster<L>, seat: &mut Seat<L>) -> Result<Repl
     Err("no outcome came".into())
 }
 
+/// Asks at a seat, and the reply is to have this text.
+fn ask_row<L: Ledger>(
+    alloc: Global,
+    cluster: &mut Cluster<L>,
+    seat: &mut Seat<L>,
+    words: &str,
+    wanted: &str,
+) -> Result<(), Fail> {
+    let request = request(alloc, words)?;
+    cluster.submit(seat, request)?;
+    let reply = reply(cluster, seat)?;
+    same_reply(alloc, words, &reply, wanted)
+}
+
 /// Asks at a seat, and the replies are to have these texts.
 fn ask_rows<L: Ledger>(
     alloc: Global,
@@ -59,9 +72,7 @@ fn ask_rows<L: Ledger>(
     rows: Rows<'_>,
 ) -> Result<(), Fail> {
     for (words, wanted) in rows {
-        cluster.submit(seat, request(alloc, words)?)?;
-        let reply = reply(cluster, seat)?;
-        same_text(words, text(alloc, &reply)?.as_str(), wanted)?;
+        ask_row(alloc, cluster, seat, words, wanted)?;
     }
     Ok(())
 }
@@ -76,74 +87,110 @@ fn rest<L: Ledger>(cluster: &mut Cluster<L>) -> Result<(), Fail> {
     Err("it doesn't come to rest".into())
 }
 
-/// Runs a test on a cluster of a ledger with parts enough.
+/// A cluster of a ledger with parts enough.
 fn cluster<L: Ledger>(alloc: Global, blank: Blank) -> Result<Cluster<L>, Fail>
     requires { (blank.name ≡ L.name) × (blank.parts ≡ L.parts) × (1000 < blank.parts) }
 {
-    Ok(Cluster::new(
-        alloc,
-        Table::from_toml(alloc, TWO_SHARDS)?,
-        MOST,
-        ShardHasher::Fixed,
-        blank,
-    )?)
+    let table = Table::from_toml(alloc, TWO_SHARDS)?;
+    Ok(Cluster::new(alloc, table, MOST, ShardHasher::Fixed, blank)?)
 }
 
 /// The answer to the fifth request of a seat, `INCR a`, has its words and its id.
+fn is_of_incr(alloc: Global, answer: &Answer) -> Result<(), Fail> {
+    same_number("the number of the request", answer.id().seq, 5)?;
+    same_count("its words", answer.words().len(), 2)?;
+    same_bytes("its second word", answer.words().word(1), b"a")?;
+    same_reply(alloc, "INCR a", answer.reply(), ":3\r\n")
+}
+
+/// Asks `INCR a` as the fifth request of a seat.
 fn has_an_answer<L: Ledger>(
     alloc: Global,
     cluster: &mut Cluster<L>,
     seat: &mut Seat<L>,
 ) -> Result<(), Fail> {
-    cluster.submit(seat, request(alloc, "INCR a")?)?;
+    let request = request(alloc, "INCR a")?;
+    cluster.submit(seat, request)?;
     let answer = answer(cluster, seat)?;
-    same_number("the number of the request", answer.id().seq, 5)?;
-    same_count("its words", answer.words().len(), 2)?;
-    same_bytes("its second word", answer.words().word(1), b"a")?;
-    same_text("INCR a", text(alloc, answer.reply())?.as_str(), ":3\r\n")
+    is_of_incr(alloc, &answer)
 }
 
-/// Both seats stand, the second with a request under way.
-fn both_stand<L: Ledger>(
+const FIRST: Rows<'static> = &[("SET a 1", "+OK\r\n")];
+
+const SECOND: Rows<'static> = &[("GET a", "$1\r\n1\r\n")];
+
+const THIRD: Rows<'static> = &[("MSET a 2 c 3", "+OK\r\n")];
+
+#[rattlefmt::skip]
+const FOURTH: Rows<'static> = &[
+    ("MGET c a", "*2\r\n$1\r\n3\r\n$1\r\n2\r\n"),
+    ("PING", "+PONG\r\n"),
+    ("FOO", "-ERR unknown command\r\n"),
+];
+
+/// Two seats ask in turn, and the second leaves a request under way.
+fn both_ask<L: Ledger>(
     alloc: Global,
     cluster: &mut Cluster<L>,
-    one: Seat<L>,
-    mut two: Seat<L>,
+    one: &mut Seat<L>,
+    two: &mut Seat<L>,
 ) -> Result<(), Fail> {
-    stays(cluster.closing(), CloseFault::SeatsOut)?;
-    cluster.stand(one);
-    cluster.submit(&mut two, request(alloc, "GET a")?)?;
-    cluster.stand(two);
+    ask_rows(alloc, cluster, one, FIRST)?;
+    ask_rows(alloc, cluster, two, SECOND)?;
+    ask_rows(alloc, cluster, one, THIRD)?;
+    ask_rows(alloc, cluster, two, FOURTH)?;
+    has_an_answer(alloc, cluster, two)?;
+    stays(cluster.closing(), CloseFault::SeatsOut)
+}
+
+/// The seat submits a request.
+fn leaves_one<L: Ledger>(
+    alloc: Global,
+    cluster: &mut Cluster<L>,
+    seat: &mut Seat<L>,
+) -> Result<(), Fail> {
+    let request = request(alloc, "GET a")?;
+    cluster.submit(seat, request)?;
+    Ok(())
+}
+
+/// Both seats stood, the second with a request under way.
+fn closes_at_rest<L: Ledger>(cluster: &mut Cluster<L>) -> Result<(), Fail> {
     stays(cluster.closing(), CloseFault::NotQuiet)?;
     rest(cluster)?;
     closes(cluster.closing(), (8, 6, 0))
 }
 
-fn two_seats_ask<L: Ledger>(alloc: Global, blank: Blank) -> Result<(), Fail>
+/// Both seats ask and stand, the second with a request under way.
+fn both_stand<L: Ledger>(
+    alloc: Global,
+    cluster: &mut Cluster<L>,
+    mut one: Seat<L>,
+    mut two: Seat<L>,
+) -> Result<(), Fail> {
+    both_ask(alloc, cluster, &mut one, &mut two)?;
+    cluster.stand(one);
+    leaves_one(alloc, cluster, &mut two)?;
+    cluster.stand(two);
+    closes_at_rest(cluster)
+}
+
+/// The same in this cluster.
+fn two_seats_ask<L: Ledger>(alloc: Global, cluster: &mut Cluster<L>) -> Result<(), Fail> {
+    let one = cluster.sit()?;
+    let two = cluster.sit()?;
+    both_stand(alloc, cluster, one, two)
+}
+
+/// The same in a new cluster.
+fn ask_anew<L: Ledger>(alloc: Global, blank: Blank) -> Result<(), Fail>
     requires { (blank.name ≡ L.name) × (blank.parts ≡ L.parts) × (1000 < blank.parts) }
 {
     let mut cluster: Cluster<L> = cluster(alloc, blank)?;
-    let mut one = cluster.sit()?;
-    let mut two = cluster.sit()?;
-    ask_rows(alloc, &mut cluster, &mut one, &[("SET a 1", "+OK\r\n")])?;
-    ask_rows(alloc, &mut cluster, &mut two, &[("GET a", "$1\r\n1\r\n")])?;
-    ask_rows(
-        alloc,
-        &mut cluster,
-        &mut one,
-        &[("MSET a 2 c 3", "+OK\r\n")],
-    )?;
-    let rows = [
-        ("MGET c a", "*2\r\n$1\r\n3\r\n$1\r\n2\r\n"),
-        ("PING", "+PONG\r\n"),
-        ("FOO", "-ERR unknown command\r\n"),
-    ];
-    ask_rows(alloc, &mut cluster, &mut two, &rows)?;
-    has_an_answer(alloc, &mut cluster, &mut two)?;
-    both_stand(alloc, &mut cluster, one, two)
+    two_seats_ask(alloc, &mut cluster)
 }
 
 #[test]
 fn seats_ask_and_stand(rt: HostRuntime) -> Result<(), Fail> {
-    two_seats_ask::<Brand>(rt.alloc(), Blank::new(MOST + 1))
+    ask_anew::<Brand>(rt.alloc(), Blank::new(MOST + 1))
 }

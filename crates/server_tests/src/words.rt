@@ -1,17 +1,30 @@
 //! The words that the server is started with, good and bad.
 
-use options::server::{Options, read_options};
+use options::server::{Options, OptionsFault, read_options};
 use std::alloc::{AllocError, Global};
 use std::test::Fail;
 use test_support::{same_number, same_text};
 
+/// Puts a word behind.
+fn push_word(alloc: Global, words: &mut Vec<String>, word: &str) -> Result<(), AllocError> {
+    let copy = String::from_str(alloc, word)?;
+    words.push(copy)?;
+    Ok(())
+}
+
+/// Puts the words of a line behind.
+fn push_words(alloc: Global, words: &mut Vec<String>, line: &str) -> Result<(), AllocError> {
+    for word in line.split(' ') {
+        push_word(alloc, words, word)?;
+    }
+    Ok(())
+}
+
 /// The words of a line, behind the name of the program.
 pub(crate) fn words_of(alloc: Global, line: &str) -> Result<Vec<String>, AllocError> {
     let mut words = Vec::new(alloc);
-    words.push(String::from_str(alloc, "shardkv-server")?)?;
-    for word in line.split(' ') {
-        words.push(String::from_str(alloc, word)?)?;
-    }
+    push_word(alloc, &mut words, "shardkv-server")?;
+    push_words(alloc, &mut words, line)?;
     Ok(words)
 }
 
@@ -28,11 +41,22 @@ fn shown(alloc: Global, options: &Options<'_>) -> Result<String, AllocError> {
     )
 }
 
+/// These are the options that a line asks for.
+fn same_options(
+    alloc: Global,
+    line: &str,
+    options: &Options<'_>,
+    wanted: &str,
+) -> Result<(), Fail> {
+    let shown = shown(alloc, options)?;
+    same_text(line, shown.as_str(), wanted)
+}
+
 /// A line asks for these options.
 fn asks_for(alloc: Global, line: &str, wanted: &str) -> Result<(), Fail> {
     let words = words_of(alloc, line)?;
     let options = read_options(alloc, words.as_slice())?;
-    same_text(line, shown(alloc, &options)?.as_str(), wanted)
+    same_options(alloc, line, &options, wanted)
 }
 
 /// Lines, and what they ask for.
@@ -56,6 +80,20 @@ fn good_lines(rt: HostRuntime) -> Result<(), Fail> {
     Ok(())
 }
 
+/// A fault of a line has this first line of the text that is told, and this status.
+fn same_fault<R: Print + Eprint>(
+    rt: &R,
+    alloc: Global,
+    line: &str,
+    fault: &OptionsFault,
+    told: &str,
+    status: u8,
+) -> Result<(), Fail> {
+    let text = format!(in alloc; "{fault}")?;
+    same_text(line, text.as_str().lines().next().unwrap_or(""), told)?;
+    same_number(line, u64::from(fault.tell(rt)), u64::from(status))
+}
+
 /// A line is no options: the first line of the text that is told, and the status.
 fn refused<R: Print + Eprint>(
     rt: &R,
@@ -65,13 +103,10 @@ fn refused<R: Print + Eprint>(
     status: u8,
 ) -> Result<(), Fail> {
     let words = words_of(alloc, line)?;
-    let read = read_options(alloc, words.as_slice());
-    let Err(fault) = read else {
-        return Err("it was read".into());
-    };
-    let text = format!(in alloc; "{fault}")?;
-    same_text(line, text.as_str().lines().next().unwrap_or(""), told)?;
-    same_number(line, u64::from(fault.tell(rt)), u64::from(status))
+    match read_options(alloc, words.as_slice()) {
+        Ok(_) => Err("it was read".into()),
+        Err(fault) => same_fault(rt, alloc, line, &fault, told, status),
+    }
 }
 
 /// Lines that are no options, and the first line of what is told.
@@ -109,12 +144,11 @@ const BAD: [(&str, &str); 8] = [
 
 #[test]
 fn bad_lines(rt: HostRuntime) -> Result<(), Fail> {
-    let alloc = rt.alloc();
     for (line, told) in &BAD {
-        refused(&rt, alloc, line, told, 2)?;
+        refused(&rt, rt.alloc(), line, told, 2)?;
     }
     let usage = "Usage: shardkv-server [OPTIONS] --table <FILE>";
-    refused(&rt, alloc, "--help", usage, 0)
+    refused(&rt, rt.alloc(), "--help", usage, 0)
 }
 
 /// Numbers of the command line that are out of their ranges.
@@ -126,13 +160,22 @@ const OUT_OF_RANGE: [(&str, &str); 5] = [
     ("max-steps", "4611686018427387905"),
 ];
 
+/// A number of that name is out of its range.
+fn is_out_of_range<R: Print + Eprint>(
+    rt: &R,
+    alloc: Global,
+    name: &str,
+    value: &str,
+) -> Result<(), Fail> {
+    let line = format!(in alloc; "--table t --{name} {value}")?;
+    let told = format!(in alloc; "error: the value of --{name} is out of its range")?;
+    refused(rt, alloc, line.as_str(), told.as_str(), 2)
+}
+
 #[test]
 fn numbers_out_of_their_ranges(rt: HostRuntime) -> Result<(), Fail> {
-    let alloc = rt.alloc();
     for (name, value) in &OUT_OF_RANGE {
-        let line = format!(in alloc; "--table t --{name} {value}")?;
-        let told = format!(in alloc; "error: the value of --{name} is out of its range")?;
-        refused(&rt, alloc, line.as_str(), told.as_str(), 2)?;
+        is_out_of_range(&rt, rt.alloc(), name, value)?;
     }
     Ok(())
 }

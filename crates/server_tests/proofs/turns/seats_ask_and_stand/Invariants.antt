@@ -1,4 +1,4 @@
 use Rattle.server_tests.proofs.turns.seats_ask_and_stand.Given as goal
 
-abbrev pub ghosts-two_seats_ask : goal.ghosts-two_seats_ask
-ghosts-two_seats_ask a = record { name = a.blank.name; parts = a.blank.parts }
+abbrev pub ghosts-ask_anew : goal.ghosts-ask_anew
+ghosts-ask_anew a = record { name = a.blank.name; parts = a.blank.parts }
