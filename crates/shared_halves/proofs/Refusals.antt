@@ -1,5 +1,5 @@
 -- What is told of a step that is refused.
-use Rattle.std.proofs.Common.{◌≡◌, ◌≢◌, ℕ, List, Bool, true, false, inl, Some, Result, Ok, Err, IfErr}
+use Rattle.std.proofs.Common.{◌≡◌, ◌≢◌, ℕ, List, Bool, true, false, inl, Some, Result, Ok, Err, IfErr, subst}
 use Rattle.front_cluster.specs.Clusters.{SeatView}
 use Rattle.front_cluster.specs.Histories.{HistoryView, IsLawful}
 use Rattle.front_cluster.specs.declared.fault.StepFault.{StepFault}
@@ -7,7 +7,11 @@ use Rattle.shared_halves.specs.Asks.{told, unless_memory, lasting, Refuses, IsSt
 use Rattle.shared_halves.specs.Asks.{RefusesSit, RefusesSubmit, RefusesCollect, RefusesTurn, IsSitFault, IsSubmitFault, IsCollectFault, IsStopped}
 use Rattle.shared_halves.specs.declared.fault.FaultKind.{FaultKind}
 use Rattle.shared_halves.specs.declared.fault.FaultKind.TheVariants.{Closed, Memory, Exhausted, Failed, NoConn}
+use Rattle.layer_results.specs.Results.{Results}
+use Rattle.shared_halves.specs.Turning.{RefusesSettle}
 use Rattle.shared_halves.specs.declared.held.AskFault.{AskFault}
+use Rattle.shared_halves.specs.declared.held.Unsettled.{Unsettled}
+use Rattle.shared_halves.specs.declared.held.Unsettled.TheVariants.{Starved, Foreign}
 
 -- ---- behind the lock
 
@@ -48,3 +52,9 @@ pub found_collect : {X : Type 0} (r : Result X AskFault) (stopped : Bool) (h : H
     → IfErr r (RefusesCollect stopped h s) → IfErr r (IsCollectFault s)
 found_collect (Ok got) stopped h s refused = tt
 found_collect (Err fault) stopped h s refused = inl (stopped, h, refused)
+
+pub found_unsettled : (h : HistoryView) (done : Results) (u : Unsettled) (fault : AskFault) → RefusesSettle h done u
+    → u ≡ Foreign fault → IsStopped fault
+found_unsettled h done (Starved given) fault refused is = cc
+found_unsettled h done (Foreign why) fault refused is =
+    let same : why ≡ fault = cc in (true, h, subst (RefusesTurn true h) same refused.1)

@@ -266,7 +266,10 @@ impl<L: Ledger> Held<L> {
         ensures { IsTrue result ↔ MayTake self.now.cluster.history }
     {
         let front = self.cluster.front();
-        !front.is_out() && front.has_ready()
+        if front.is_out() {
+            return false;
+        }
+        front.has_ready()
     }
 
     /// Takes the next layer.

@@ -355,10 +355,7 @@ impl<L: Ledger> Shared<L> {
     {
         if *may_wait && hand.is_free() {
             *may_wait = false;
-            let mut held = self.front.lock(rt);
-            if held.stopped || held.cluster.front().waits(seat.conn()).is_some() {
-                return held.collect_reply(seat);
-            }
+            return self.look(rt, seat);
         }
         match self.advance(rt, hand, &First, &InTurn(NonZeroUsize::MIN), &Open) {
             Ok(Turn::Quiet) => {
@@ -376,6 +373,20 @@ impl<L: Ledger> Shared<L> {
             Err(fault) => return Err(fault),
         }
         Ok(None)
+    }
+
+    /// Collects what came of the seat's last request, if it is there.
+    fn look<R: Wait>(&self, rt: &R, seat: &mut Seat<L>) -> Result<Option<SealedReply>, AskFault>
+        ensures replied { IfOk result (λ reply. IfSome reply (λ r. IsReplied seat.old (content r.reply) seat.new)) }
+        ensures unasked { IfOk result (λ reply. IfNone reply (seat.new ≡ seat.old)) }
+        ensures refused { IfErr result (IsCollectFault seat.old) }
+        ensures unchanged { OnErr result (seat.new ≡ seat.old) }
+    {
+        let mut held = self.front.lock(rt);
+        if !held.stopped && held.cluster.front().waits(seat.conn()).is_none() {
+            return Ok(None);
+        }
+        held.collect_reply(seat)
     }
 
     /// Sleeps where there was no memory for a turn, outside the turnstile, so that others are answered and may give
@@ -489,17 +500,19 @@ impl<L: Ledger> Shared<L> {
         let mut held = self.front.lock(rt);
         // They come to the lock once it is let go.
         self.wake_outcomes(&done);
-        match held.settle(done) {
+        let unsettled = match held.settle(done) {
             Ok(()) => {
                 self.wake_next(&held);
-                Ok(Turn::Made { settled: true })
+                return Ok(Turn::Made { settled: true });
             }
-            Err(Unsettled::Starved(done)) => {
-                *hand = Hand::HasRun(done);
-                Ok(Turn::Starved)
-            }
-            Err(Unsettled::Foreign(fault)) => Err(fault),
-        }
+            Err(unsettled) => unsettled,
+        };
+        let done = match unsettled {
+            Unsettled::Starved(done) => done,
+            Unsettled::Foreign(fault) => return Err(fault),
+        };
+        *hand = Hand::HasRun(done);
+        Ok(Turn::Starved)
     }
 
     /// Runs the layer, under the store's lock alone. It stays in the hand where there is no memory for that.
