@@ -4,7 +4,8 @@ use Rattle.front_cluster.specs.Clusters.{SeatView}
 use Rattle.front_cluster.specs.Histories.{HistoryView, IsLawful}
 use Rattle.front_cluster.specs.declared.fault.StepFault.{StepFault}
 use Rattle.shared_halves.specs.Asks.{told, unless_memory, lasting, Refuses, IsStoppedOr, RefusesAsk}
-use Rattle.shared_halves.specs.Asks.{RefusesSit, RefusesSubmit, RefusesCollect, RefusesTurn, IsSitFault, IsSubmitFault, IsCollectFault, IsStopped}
+use Rattle.shared_halves.specs.Asks.{RefusesSit, RefusesSubmit, RefusesCollect, RefusesTurn}
+use Rattle.shared_halves.specs.Asks.{IsSitFault, IsSubmitFault, IsCollectFault, IsStopped}
 use Rattle.shared_halves.specs.declared.fault.FaultKind.{FaultKind}
 use Rattle.shared_halves.specs.declared.fault.FaultKind.TheVariants.{Closed, Memory, Exhausted, Failed, NoConn}
 use Rattle.layer_results.specs.Results.{Results}
