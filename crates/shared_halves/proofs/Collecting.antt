@@ -1,0 +1,107 @@
+-- What was collected is what came of the seat's last request; what a closed cluster tells, and its trace.
+use Rattle.std.proofs.Common.{◌≡◌, ◌∙◌, ap, sym, subst, refl, ℕ, Bool, List, ◌++◌, Option, Some, Result, Ok, Err, OnOk, OnErr, IfOk}
+use Rattle.std.proofs.Common.{IfErr, IfSome, None, inr}
+use Rattle.std.specs.Io.KnownBytes.{Appends}
+use Rattle.back.specs.Backs.{BackState}
+use Rattle.front_cluster.proofs.Submits.{said_still}
+use Rattle.front_cluster.specs.Answers.{shown_outcome}
+use Rattle.front_cluster.specs.Answers as cluster_answer
+use Rattle.front_cluster.specs.Clusters.{SeatView, ClusterView, last_id}
+use Rattle.front_cluster.specs.Histories.{HistoryView, IsLawful, IsMade}
+use Rattle.front_cluster.specs.Outcomes.{ComesFrom, IsAbove, raised}
+use Rattle.front_cluster.specs.Submits.{IsSaid}
+use Rattle.front_cluster.specs.declared.cluster.Answer.{Answer}
+use Rattle.front_cluster.specs.declared.cluster.SealedReply.{SealedReply}
+use Rattle.front_cluster.specs.declared.closing.Closing.{Closing}
+use Rattle.journal.specs.TraceText.{trace_text}
+use Rattle.journal.specs.declared.step.Step.TheVariants.{Collect}
+use Rattle.resp.specs.Content.{content}
+use Rattle.resp.specs.declared.reply.Reply.{Reply}
+use Rattle.shared_halves.specs.Asks.{submitted, IsSeated, Answers, Replies, IsNewSeat, IsAnswered, IsReplied, IsCollectFault, IsAskFault}
+use Rattle.shared_halves.specs.Closings.{Closes, RefusesClose, Writes, Sends, IsClosed, IsCloseFault, IsWritten, IsSent}
+use Rattle.shared_halves.specs.declared.fault.CloseFault.{CloseFault}
+use Rattle.shared_halves.specs.declared.held.AskFault.{AskFault}
+use Rattle.system_view.specs.Connections.{outcome_shown}
+use Rattle.world.specs.Steps.{Collected}
+
+pub answered_of : (before after : HistoryView) (old new : SeatView) (a : Answer)
+    → IsMade before (Collect old.conn) (Collected (Some (shown_outcome a))) after
+    → a.id ≡ last_id old → a.words ≡ old.words → IsSaid before.steps a.id a.words → ComesFrom after.front a.words (shown_outcome a)
+    → IsAbove a.stamp old.floor → new ≡ record old { floor = raised a.stamp old.floor } → IsLawful after
+    → Answers before old (shown_outcome a) after new
+answered_of before after old new a collected id words said from above seat lawful = record {
+  collected = collected;
+  lawful = lawful;
+  id = id;
+  said = subst (λ steps. IsSaid steps a.id old.words) (sym collected.steps)
+      (said_still before.steps (Collect old.conn) a.id old.words (subst (IsSaid before.steps a.id) words said));
+  from = subst (λ w. ComesFrom after.front w (shown_outcome a)) words from;
+  above = above;
+  seat = seat;
+}
+
+pub replied_of : (before after : HistoryView) (old new : SeatView) (reply : Reply) → cluster_answer.IsReplied before old reply after new
+    → IsLawful after → Replies before old (content reply) after new
+replied_of before after old new reply h lawful = (
+  outcome_shown h.outcome,
+  sym (ap content h.reply),
+  record {
+    collected = h.made;
+    lawful = lawful;
+    id = h.id;
+    said = h.said;
+    from = h.from;
+    above = h.above;
+    seat = h.seat;
+  },
+)
+
+pub written_of : {E : Type 0} (h : HistoryView) (r : Result Unit E) (before after : List ℕ) → IsLawful h
+    → OnOk r (after ≡ before ++ trace_text h.max_steps h.steps) → OnOk r (Writes h before after)
+written_of h (Ok done) before after lawful text = record { lawful = lawful; text = text }
+written_of h (Err fault) before after lawful text = tt
+
+pub sent_of : {E : Type 0} (h : HistoryView) (r : Result Unit E) (before after : Option (List ℕ)) → IsLawful h
+    → OnOk r (Appends before after (trace_text h.max_steps h.steps)) → OnOk r (Sends h before after)
+sent_of h (Ok done) before after lawful text = record { lawful = lawful; text = text }
+sent_of h (Err fault) before after lawful text = tt
+
+-- ---- the same of a shared cluster
+
+pub found_seat : {E : Type 0} {X : Type 0} (view : X → SeatView) (before after : HistoryView) (r : Result X E)
+    → IfOk r (λ x. IsSeated before (view x) after) → IfOk r (λ x. IsNewSeat (view x))
+found_seat view before after (Ok x) seated = (before, after, seated)
+found_seat view before after (Err fault) seated = tt
+
+pub found_replied : {E : Type 0} (before after : HistoryView) (old new : SeatView) (r : Result (Option SealedReply) E)
+    → IfOk r (λ reply. IfSome reply (λ x. Replies before old (content x.reply) after new))
+    → IfOk r (λ reply. IfSome reply (λ x. IsReplied old (content x.reply) new))
+found_replied before after old new (Ok (Some x)) replies =
+    (replies.0, replies.1, record { before = before; after = after; answers = replies.2 })
+found_replied before after old new (Ok None) replies = tt
+found_replied before after old new (Err fault) replies = tt
+
+pub found_closed : (k : ClusterView) (b : BackState) (r : Result Closing CloseFault) → IfOk r (Closes k b) → IfOk r IsClosed
+found_closed k b (Ok closing) closes = (k, b, closes)
+found_closed k b (Err fault) closes = tt
+
+pub found_close_fault : (stopped : Bool) (k : ClusterView) (b : BackState) (r : Result Closing CloseFault)
+    → IfErr r (RefusesClose stopped k b) → IfErr r IsCloseFault
+found_close_fault stopped k b (Ok closing) refused = tt
+found_close_fault stopped k b (Err fault) refused = (stopped, k, b, refused)
+
+pub found_written : {E : Type 0} (h : HistoryView) (r : Result Unit E) (before after : List ℕ) → OnOk r (Writes h before after)
+    → OnOk r (IsWritten before after)
+found_written h (Ok done) before after written = (h, written)
+found_written h (Err fault) before after written = tt
+
+pub found_sent : {E : Type 0} (h : HistoryView) (r : Result Unit E) (before after : Option (List ℕ)) → OnOk r (Sends h before after)
+    → OnOk r (IsSent before after)
+found_sent h (Ok done) before after sent = (h, sent)
+found_sent h (Err fault) before after sent = tt
+
+-- what is refused once the request was submitted
+pub waited_fault : {X : Type 0} (old mid : SeatView) (words : List (List ℕ)) (r : Result X AskFault) (new : SeatView)
+    → mid ≡ submitted old words → IfErr r (IsCollectFault mid) → OnErr r (new ≡ mid) → IfErr r (λ fault. IsAskFault old words fault new)
+waited_fault old mid words (Ok x) new is refused same = tt
+waited_fault old mid words (Err fault) new is refused same = inr (subst (λ s. IsCollectFault s fault) is refused, same ∙ is)

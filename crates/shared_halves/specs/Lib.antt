@@ -1,0 +1,4 @@
+pub mod Asks
+pub mod Closings
+pub mod Running
+pub mod Turning

@@ -1,0 +1,12 @@
+//! A cluster under two locks, which any number of threads share: the front with its seats under the one, the store under the
+//! other, so that requests are submitted, brought on and collected while a layer is run.
+#![tactic(auto)]
+
+mod fault;
+mod hand;
+mod held;
+mod shared;
+
+pub use fault::{AskStep, CloseFault, FaultKind};
+pub use held::{AskFault, AtRest};
+pub use shared::Shared;
