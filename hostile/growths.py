@@ -41,13 +41,13 @@ SERVER = [
     (0, "RENAME a d"), (1, "HSET h f 1"), (0, "MGET a c d"), (1, "SMEMBERS b"), (1, "LRANGE y 0 -1"), (0, "DBSIZE"),
 ]
 
-# Unit tests that are written for a block that is refused: they try again where it was one of their own.
+# Unit tests that are written for a block that is refused: they try again where it was one of their own. (Not the one of `layer_tests` that
+# has a crew: the C library takes a block for a thread, too, and it doesn't look for a thread that is refused, as those of `system_tests` do.)
 TESTS = [
     ("data_tests", "decoder::goes_on_where_memory_was_refused"),
     ("solo_tests", "connections::replies_are_whole_where_memory_fails"),
     ("layer_tests", "memory::one_in_turn_where_memory_fails"),
     ("layer_tests", "memory::two_in_turn_where_memory_fails"),
-    ("layer_tests", "memory::a_crew_where_memory_fails"),
     ("system_tests", "memory::crossing_where_memory_fails"),
     ("system_tests", "memory::crossing_by_two_where_memory_fails"),
     ("system_tests", "memory::same_key_twice_where_memory_fails"),
