@@ -34,30 +34,21 @@ fn open(front: &mut Front) -> Result<ConnId, Trouble> {
     Ok(front.open()?)
 }
 
-/// The request of these words, which are separated by blanks.
-pub(crate) fn request_of(alloc: Global, words: &str) -> Result<Request, Trouble> {
-    let mut copies = Vec::new(alloc);
-    for word in words.split(' ') {
-        copies.push(Vec::from_slice(alloc, word.as_bytes())?)?;
-    }
-    if copies.is_empty() {
-        return Err(Trouble::Asked);
-    }
-    Ok(Request::from_words(copies))
-}
-
-/// A connection submits these words.
+/// A connection submits these words, separated by blanks.
 fn submit(
     alloc: Global,
     front: &mut Front,
     conn: ConnId,
     words: &str,
 ) -> Result<RequestId, Trouble> {
-    let request = request_of(alloc, words)?;
-    if !has_steps(front) {
+    let mut copies = Vec::new(alloc);
+    for word in words.split(' ') {
+        copies.push(Vec::from_slice(alloc, word.as_bytes())?)?;
+    }
+    if copies.is_empty() || !has_steps(front) {
         return Err(Trouble::Asked);
     }
-    Ok(front.submit(conn, request)?)
+    Ok(front.submit(conn, Request::from_words(copies))?)
 }
 
 /// Brings all packets, the oldest first.
