@@ -1,16 +1,28 @@
 -- What a seat collects.
-use Rattle.std.proofs.Common.{◌≡◌, ℕ, suc, ◌+◌, ◌<◌, List, [], ◌∷◌, ◌++◌, inl, inr, Option, Some, None}
+use Rattle.std.proofs.Common.{◌≡◌, ℕ, suc, ◌+◌, ◌<◌, true, List, [], ◌∷◌, ◌++◌, map, inl, inr, Option, Some, None, option_map}
 use Rattle.std.proofs.Common.{IsSome}
 use Rattle.std.proofs.Common.{refl, sym, ap, ◌∙◌, subst, arith}
 use Rattle.std.specs.List.{AllZip}
-use Rattle.cluster.proofs.Submits.{said_once}
-use Rattle.cluster.proofs.Worlds.{step_seq, counts}
-use Rattle.cluster.specs.Clusters.{SeatView, last_id, Fits, CanCollect, IsCollectFault}
-use Rattle.cluster.specs.Histories.{HistoryView, IsIn, IsMade, IsFault}
-use Rattle.cluster.specs.Outcomes.{ComesFrom, IsAbove}
-use Rattle.cluster.specs.Submits.{submits_by, IsSaid}
 use Rattle.command_table.specs.Reading.{reading}
 use Rattle.execution_order.specs.Entries.{Row}
+use Rattle.front.specs.Fronts.{FrontView, Told, retold, retold_reply, retold_outcome, retold_standing, retold_world}
+use Rattle.cluster.proofs.Effects.{by_collected}
+use Rattle.cluster.proofs.Submits.{said_once}
+use Rattle.cluster.proofs.Telling.{all_settled, starved_retold}
+use Rattle.cluster.proofs.Worlds.{step_seq, counts}
+use Rattle.cluster.specs.Clusters.{SeatView, last_id, Fits, CanCollect, IsCollectFault}
+use Rattle.cluster.specs.Histories.{HistoryView, IsIn, retold_effect, IsMade, IsFault}
+use Rattle.cluster.specs.Outcomes.{IsOfRow, HasStarved, IsAtOnce, ComesFrom, IsAbove}
+use Rattle.cluster.specs.Making.{effect_shown}
+use Rattle.cluster.specs.Submits.{submits_by, IsSaid}
+use Rattle.cluster.specs.declared.effect.Effect as ours
+use Rattle.cluster.specs.declared.effect.Effect.TheVariants as effect
+use Rattle.cluster.specs.declared.fault.StepFault.{StepFault}
+use Rattle.cluster.specs.declared.fault.StepFault.TheVariants as fault
+use Rattle.groups.proofs.Options.{some_same}
+use Rattle.groups.specs.Order.{In}
+use Rattle.groups.specs.declared.request.ConnId.{ConnId}
+use Rattle.groups.specs.declared.request.RequestId.{RequestId}
 use Rattle.journal.specs.declared.step.Step.{Step}
 use Rattle.journal.specs.declared.step.Step.TheVariants.{Open, Submit, Deliver, Take, Run, Settle, Collect, Close}
 use Rattle.placement.specs.Layout.{Layout}
@@ -19,24 +31,14 @@ use Rattle.resp.specs.Text.{text}
 use Rattle.router.specs.Connection.{outcome_in}
 use Rattle.router.specs.Router.{RouterView, connection, outcome_at, waiting}
 use Rattle.router.specs.declared.connection.Connection.{Connection}
-use Rattle.router.specs.declared.connection.Standing.{Standing}
-use Rattle.router.specs.declared.connection.Standing.TheVariants as router
+use Rattle.router.specs.declared.connection.Standing as router
+use Rattle.router.specs.declared.connection.Standing.TheVariants as stand
 use Rattle.router.specs.declared.outcome.Outcome as kept
-use Rattle.groups.proofs.Options.{some_same}
-use Rattle.groups.specs.Order.{In}
-use Rattle.groups.specs.declared.request.ConnId.{ConnId}
-use Rattle.groups.specs.declared.request.RequestId.{RequestId}
-use Rattle.system.specs.Parts.{effect_shown}
-use Rattle.system.specs.Reads.{table_of}
-use Rattle.system.specs.declared.effect.Effect.{Effect}
-use Rattle.system.specs.declared.effect.Effect.TheVariants as effect
-use Rattle.system.specs.declared.fault.StepFault.{StepFault}
-use Rattle.system.specs.declared.fault.StepFault.TheVariants as fault
 use Rattle.system_view.specs.Connections.{outcome_shown, ShowsOpen, ShowsClosed, ShowsConnection, ShowsConnections}
-use Rattle.system_view.specs.Layers.{IsRow}
+use Rattle.system_view.specs.Layers.{AreRows, IsRow}
 use Rattle.world.specs.Steps.{opening, Collects, Steps, Makes, starved_among, if_starved, reply_of, outcome_of, at}
 use Rattle.world.specs.Steps as world
-use Rattle.world.specs.World.{World, Outcome, Idle, Answered, Ended}
+use Rattle.world.specs.World.{World, Outcome, Standing, Closed, Idle, Waiting, Answered, Ended}
 use Rattle.world_laws.proofs.Telling.{collects_its_own}
 use Rattle.world_laws.proofs.Values.{same_collected}
 use Rattle.world_laws.proofs.Worlds.{good_world}
@@ -45,18 +47,18 @@ use Rattle.world_laws.specs.Headline.{rows_of, with_row}
 
 -- ---- an outcome waits
 
-by_open : (s : Standing) (o : kept.Outcome) (v : Connection) (w : World) (c : ℕ) → outcome_in s ≡ Some o → ShowsOpen s v w c →
+by_open : (s : router.Standing) (o : kept.Outcome) (v : Connection) (w : World) (c : ℕ) → outcome_in s ≡ Some o → ShowsOpen s v w c →
     w.standing c ≡ Answered (outcome_shown o)
-by_open router.Idle o v w c is shows = absurd (let k = is in cc)
-by_open (router.Waiting p) o v w c is shows = absurd (let k = is in cc)
-by_open (router.Taken words) o v w c is shows = absurd (let k = is in cc)
-by_open (router.Answered p) o v w c is shows = shows.0 ∙ ap (λ x. Answered (outcome_shown x)) (some_same p o is)
+by_open stand.Idle o v w c is shows = absurd (let k = is in cc)
+by_open (stand.Waiting p) o v w c is shows = absurd (let k = is in cc)
+by_open (stand.Taken words) o v w c is shows = absurd (let k = is in cc)
+by_open (stand.Answered p) o v w c is shows = shows.0 ∙ ap (λ x. Answered (outcome_shown x)) (some_same p o is)
 
-by_closed : (s : Standing) (o : kept.Outcome) (v : Connection) (w : World) (c : ℕ) → outcome_in s ≡ Some o → ShowsClosed s v w c → ⊥
-by_closed router.Idle o v w c is shows = shows
-by_closed (router.Waiting p) o v w c is shows = let k = is in cc
-by_closed (router.Taken words) o v w c is shows = let k = is in cc
-by_closed (router.Answered p) o v w c is shows = shows
+by_closed : (s : router.Standing) (o : kept.Outcome) (v : Connection) (w : World) (c : ℕ) → outcome_in s ≡ Some o → ShowsClosed s v w c → ⊥
+by_closed stand.Idle o v w c is shows = shows
+by_closed (stand.Waiting p) o v w c is shows = let k = is in cc
+by_closed (stand.Taken words) o v w c is shows = let k = is in cc
+by_closed (stand.Answered p) o v w c is shows = shows
 
 by_connection : (x : Option Connection) (o : kept.Outcome) (w : World) (c : ℕ) → outcome_at x ≡ Some o → ShowsConnection x w c →
     w.standing c ≡ Answered (outcome_shown o)
@@ -68,51 +70,68 @@ pub stands : (r : RouterView) (o : kept.Outcome) (w : World) (c : ℕ) → Shows
     w.standing c ≡ Answered (outcome_shown o)
 stands r o w c shows is = by_connection (connection r c) o w c is (shows.each c)
 
+-- as it was told: in the world an outcome waits that is told so
+was_answered : (told : Told) (s : Standing) (o : Outcome) → retold_standing told s ≡ Answered o →
+    (there : Outcome) × (s ≡ Answered there) × (retold_outcome told there ≡ o)
+was_answered told Closed o is = absurd (let k = is in cc)
+was_answered told Idle o is = absurd (let k = is in cc)
+was_answered told Waiting o is = absurd (let k = is in cc)
+was_answered told (Answered there) o is = (there, refl, (let k = is in cc))
+
+waits_there : (h : HistoryView) (s : SeatView) (w : World) (told : Told) (can : CanCollect h s) → IsIn h w told →
+    (there : Outcome) × (w.standing s.conn.0 ≡ Answered there) × (retold_outcome told there ≡ outcome_shown can.outcome)
+waits_there h s w told can shown =
+    was_answered told (w.standing s.conn.0) (outcome_shown can.outcome)
+    (stands h.front.router can.outcome (retold_world told w) s.conn.0 shown.at.shows.connections can.waits)
+
 -- ---- it is collected
 
-by_effect : (w w' : World) (c : ℕ) (o : Outcome) (e : Effect) → Collects (Answered o) w c (effect_shown e) w' →
-    (given : kept.Outcome) × (e ≡ effect.Collected (Some given))
-by_effect w w' c o (effect.Opened conn) step = absurd (let k = step.0 in cc)
-by_effect w w' c o (effect.Submitted id) step = absurd (let k = step.0 in cc)
-by_effect w w' c o (effect.Ran starved) step = absurd (let k = step.0 in cc)
-by_effect w w' c o (effect.Collected None) step = absurd (let k = step.0 in cc)
-by_effect w w' c o (effect.Collected (Some given)) step = (given, refl)
-by_effect w w' c o effect.Made step = absurd (let k = step.0 in cc)
+some_given : (given : Option kept.Outcome) (o : Outcome) → world.Collected (option_map outcome_shown given) ≡ world.Collected (Some o) →
+    (outcome : kept.Outcome) × (given ≡ Some outcome)
+some_given None o same = absurd (let k = same in cc)
+some_given (Some outcome) o same = (outcome, refl)
 
 -- where an outcome waits it is what a Collect answers
-pub some_collected : (h h' : HistoryView) (s : SeatView) (e : Effect) (w : World) → CanCollect h s → IsIn h w →
-    IsMade h (Collect s.conn) e h' → (given : kept.Outcome) × (e ≡ effect.Collected (Some given))
-some_collected h h' s e w can shown made =
-    let next = made.from_each w shown in
-    let standing = stands h.system.parts.front.router can.outcome w s.conn.0 shown.at.shows.connections can.waits in
-    by_effect w next.0 s.conn.0 (outcome_shown can.outcome) e
-    (subst (λ st. Collects st w s.conn.0 (effect_shown e) next.0) standing next.1)
+pub some_collected : (h h' : HistoryView) (s : SeatView) (e : ours.Effect) (w : World) (told : Told) → CanCollect h s → IsIn h w told →
+    IsMade h (Collect s.conn) (effect_shown e) h' → (given : kept.Outcome) × (e ≡ effect.Collected (Some given))
+some_collected h h' s e w told can shown made =
+    let next = made.from_each w told shown in
+    let waits = waits_there h s w told can shown in
+    let step = subst (λ st. Collects st w s.conn.0 next.answer next.after) waits.1 next.makes in
+    let says : effect_shown e ≡ world.Collected (Some (retold_outcome told waits.0)) =
+    next.tells ∙ ap (retold_effect told) step.0 in
+    let given = by_collected e (Some (retold_outcome told waits.0)) says in
+    let some = some_given given.0 (retold_outcome told waits.0) (sym (ap effect_shown given.1) ∙ says) in
+    (some.0, given.1 ∙ ap effect.Collected some.1)
 
-pub record IsCollected (h h' : HistoryView) (s : SeatView) (o waits : Outcome) (w : World) : Type 0 where
-  pub same : o ≡ waits
-  pub standing : w.standing s.conn.0 ≡ Answered o
-  pub step : Steps (table_of h.system) w (Collect s.conn) (world.Collected (Some o)) (record w {
+-- the outcome in the world, which the seat is given as it was told
+pub record IsCollected (h h' : HistoryView) (s : SeatView) (o : Outcome) (w : World) (told : Told) : Type 0 where
+  pub there : Outcome
+  pub same : o ≡ retold_outcome told there
+  pub step : Steps h.front.table w (Collect s.conn) (world.Collected (Some there)) (record w {
     standing = at w.standing s.conn.0 Idle;
   })
-  pub shows : IsIn h' (record w { standing = at w.standing s.conn.0 Idle })
 
-pub collected : (h h' : HistoryView) (s : SeatView) (o : kept.Outcome) (w : World) (can : CanCollect h s) → IsIn h w →
-    IsMade h (Collect s.conn) (effect.Collected (Some o)) h' → IsCollected h h' s (outcome_shown o) (outcome_shown can.outcome) w
-collected h h' s o w can shown made =
-    let next = made.from_each w shown in
-    let standing = stands h.system.parts.front.router can.outcome w s.conn.0 shown.at.shows.connections can.waits in
-    let step = subst (λ st. Collects st w s.conn.0 (world.Collected (Some (outcome_shown o))) next.0) standing next.1 in
-    let same = same_collected (outcome_shown o) (outcome_shown can.outcome) step.0 in
-    record {
-      same = same;
-      standing = standing ∙ ap Answered (sym same);
-      step = subst (λ v. Steps (table_of h.system) w (Collect s.conn) (world.Collected (Some (outcome_shown o))) v) step.1 next.1;
-      shows = subst (λ v. IsIn h' v) step.1 next.2;
-    }
+pub collected : (h h' : HistoryView) (s : SeatView) (o : kept.Outcome) (w : World) (told : Told) (can : CanCollect h s) → IsIn h w told →
+    IsMade h (Collect s.conn) (world.Collected (Some (outcome_shown o))) h' →
+    IsCollected h h' s (outcome_shown o) w told × (outcome_shown o ≡ outcome_shown can.outcome)
+collected h h' s o w told can shown made =
+    let next = made.from_each w told shown in
+    let waits = waits_there h s w told can shown in
+    let step = subst (λ st. Collects st w s.conn.0 next.answer next.after) waits.1 next.makes in
+    let same = same_collected (outcome_shown o) (retold_outcome told waits.0) (next.tells ∙ ap (retold_effect told) step.0) in (
+      record {
+        there = waits.0;
+        same = same;
+        step = subst (λ a. Steps h.front.table w (Collect s.conn) a (record w { standing = at w.standing s.conn.0 Idle })) step.0
+            (subst (λ v. Steps h.front.table w (Collect s.conn) next.answer v) step.1 next.makes);
+      },
+      same ∙ waits.2,
+    )
 
-pub above : (h h' : HistoryView) (s : SeatView) (o : kept.Outcome) (w : World) (can : CanCollect h s) →
-    IsCollected h h' s (outcome_shown o) (outcome_shown can.outcome) w → IsAbove o.stamp s.floor
-above h h' s o w can is = subst (λ (x : Outcome). IsAbove x.stamp s.floor) (sym is.same) can.above
+pub above : (h : HistoryView) (s : SeatView) (o : kept.Outcome) (can : CanCollect h s) → outcome_shown o ≡ outcome_shown can.outcome →
+    IsAbove o.stamp s.floor
+above h s o can same = subst (λ (x : Outcome). IsAbove x.stamp s.floor) (sym same) can.above
 
 -- ---- whose it is
 
@@ -178,15 +197,19 @@ said_of t test i (s ∷ h) (e ∷ es) old new made (inr later) =
     }
 
 -- it is the connection's last request
-pub own : (h h' : HistoryView) (s : SeatView) (o waits : Outcome) (w : World) → IsIn h w → Fits s h.steps → IsCollected h h' s o waits w →
-    o.id ≡ last_id s
-own h h' s o waits w shown fits is =
-    let t = table_of h.system in
-    let law = collects_its_own t h.steps shown.at.leads.0 w _ shown.at.leads.1 s.conn o is.step in
+own_there : (h h' : HistoryView) (s : SeatView) (o : Outcome) (w : World) (told : Told) → IsIn h w told → Fits s h.steps →
+    (is : IsCollected h h' s o w told) → is.there.id ≡ last_id s
+own_there h h' s o w told shown fits is =
+    let t = h.front.table in
+    let law = collects_its_own t h.steps shown.at.leads.0 w _ shown.at.leads.1 s.conn is.there is.step in
     let seq = counts t h.steps w s.conn.0 shown.at.leads in
     let counted = fits.counted in
     let same : w.seq s.conn.0 ≡ s.count = omega arith in
     law.0 ∙ (λ k. record { conn = s.conn; seq = same k })
+
+pub own : (h h' : HistoryView) (s : SeatView) (o : Outcome) (w : World) (told : Told) → IsIn h w told → Fits s h.steps →
+    IsCollected h h' s o w told → o.id ≡ last_id s
+own h h' s o w told shown fits is = ap (λ (x : Outcome). x.id) is.same ∙ own_there h h' s o w told shown fits is
 
 -- ---- where it comes from
 
@@ -224,21 +247,23 @@ in_starved (f ∷ es) e (inl here) is =
     (subst (λ r. In e.id (if_starved r e.id (starved_among es))) (sym is) (inl refl))
 in_starved (f ∷ es) e (inr later) is = in_if f.reply f.id e.id (starved_among es) (in_starved es e later is)
 
+in_map : (told : Told) (es : List Ended) (e : Ended) → In e es → In (retold told e) (map (retold told) es)
+in_map told [] e there = absurd there
+in_map told (f ∷ es) e (inl here) = inl (ap (retold told) here)
+in_map told (f ∷ es) e (inr later) = inr (in_map told es e later)
+
 -- of a request that was run
-from_ended : (h h' : HistoryView) (s : SeatView) (o waits : Outcome) (w : World) (words : List (List ℕ)) (e : Ended)
-    (reply : Option Content) →
-    IsIn h w → IsCollected h h' s o waits w → In e w.ended → o ≡ outcome_of e → e.reply ≡ reply →
-    ComesFrom h'.system words o
-from_ended h h' s o waits w words e None shown is there so reply =
+by_reply : (f : FrontView) (es : List Ended) (o : Outcome) (words : List (List ℕ)) (e : Ended) (reply : Option Content) →
+    AreRows es f.rows → f.starved ≡ starved_among es → In e es → o ≡ outcome_of e → e.reply ≡ reply → ComesFrom f words o
+by_reply f es o words e None rows names there so reply =
     inr (inl (record {
-      there = subst (λ i. In i h'.system.parts.starved.items) (sym (ap (λ (x : Outcome). x.id) so))
-          (subst (λ l. In e.id l) (sym is.shows.at.shows.starved) (in_starved w.ended e there reply));
+      there = subst (λ i. In i f.starved) (sym (ap (λ (x : Outcome). x.id) so))
+          (subst (λ l. In e.id l) (sym names) (in_starved es e there reply));
       stamp = subst (λ (x : Outcome). IsSome x.stamp) (sym so) refl;
       reply = ap (λ (x : Outcome). x.reply) so ∙ ap reply_of reply;
     }))
-from_ended h h' s o waits w words e (Some reply') shown is there so reply =
-    let found = zip_at IsRow (rows_of w.ended) h'.system.parts.back.rows (row_of e reply') is.shows.at.shows.rows
-    (in_rows w.ended e reply' there reply) in
+by_reply f es o words e (Some reply') rows names there so reply =
+    let found = zip_at IsRow (rows_of es) f.rows (row_of e reply') rows (in_rows es e reply' there reply) in
     inl (record {
       row = found.0;
       there = found.1;
@@ -247,14 +272,22 @@ from_ended h h' s o waits w words e (Some reply') shown is there so reply =
       reply = found.2.reply ∙ ap text (sym (ap (λ (x : Outcome). x.reply) so ∙ ap reply_of reply));
     })
 
+from_ended : (h : HistoryView) (o : Outcome) (w : World) (told : Told) (words : List (List ℕ)) (e : Ended) → h.front.whole ≡ true →
+    IsIn h w told → In e w.ended → o ≡ outcome_of (retold told e) → ComesFrom h.front words o
+from_ended h o w told words e whole shown there so =
+    let shows = shown.at.shows in
+    let all = all_settled w.ended shows.settled w.layer shows.split shown.not_run in
+    by_reply h.front (map (retold told) shows.settled) o words (retold told e) (told e.id) (shows.rows whole)
+    (shows.starved whole ∙ sym (starved_retold told shows.settled shows.truly))
+    (in_map told shows.settled e (subst (λ es. In e es) all there)) so refl
+
 -- of words that were answered at once
-at_once : (h h' : HistoryView) (s : SeatView) (o waits : Outcome) (w : World) (shown : IsIn h w) → Fits s h.steps →
-    IsCollected h h' s o waits w →
-    o.id ≡ last_id s → o.stamp ≡ None → table_of h'.system ≡ table_of h.system →
-    WasSubmitted (λ words. reply_at_once (table_of h.system) (reading words) ≡ Some o.reply) o.id h.steps shown.at.leads.0 →
-    ComesFrom h'.system s.words o
-at_once h h' s o waits w shown fits is id none table was =
-    let t = table_of h.system in
+at_once : (h : HistoryView) (s : SeatView) (o : Outcome) (w : World) (told : Told) (shown : IsIn h w told) → Fits s h.steps →
+    o.id ≡ last_id s → o.stamp ≡ None →
+    WasSubmitted (λ words. reply_at_once h.front.table (reading words) ≡ Some o.reply) o.id h.steps shown.at.leads.0 →
+    ComesFrom h.front s.words o
+at_once h s o w told shown fits id none was =
+    let t = h.front.table in
     let said = said_of t _ o.id h.steps shown.at.leads.0 opening w shown.at.leads.1 was in
     let number = said.number in
     let seq = ap (λ (i : RequestId). i.seq) id in
@@ -262,21 +295,33 @@ at_once h h' s o waits w shown fits is id none table was =
     record { before = said.before; behind = said.behind; split = said.split; number = omega arith } in
     let mine : IsSaid h.steps o.id s.words = subst (λ i. IsSaid h.steps i s.words) (sym id) (fits.said (omega arith)) in
     let same = said_once h.steps o.id said.words s.words here mine in
-    inr (inr (record {
-      stamp = none;
-      reply = ap (λ t. reply_at_once t (reading s.words)) table ∙ (ap (λ ws. reply_at_once t (reading ws)) (sym same) ∙ said.passes);
-    }))
+    inr (inr (record { stamp = none; reply = ap (λ ws. reply_at_once t (reading ws)) (sym same) ∙ said.passes }))
 
-pub from : (h h' : HistoryView) (s : SeatView) (o waits : Outcome) (w : World) → IsIn h w → Fits s h.steps → IsCollected h h' s o waits w →
-    table_of h'.system ≡ table_of h.system → ComesFrom h'.system s.words o
-from h h' s o waits w shown fits is table =
-    let t = table_of h.system in
-    let law = collects_its_own t h.steps shown.at.leads.0 w _ shown.at.leads.1 s.conn o is.step in
-    let id = own h h' s o waits w shown fits is in
-    elim law.1 [
-      | inl ended ↦ from_ended h h' s o waits w s.words ended.0 ended.0.reply shown is ended.1 ended.2 refl
-      | inr once ↦ at_once h h' s o waits w shown fits is id once.0 table once.1
-    ]
+-- an outcome without a stamp is not told otherwise
+untold : (told : Told) (o : Outcome) → o.stamp ≡ None → retold_outcome told o ≡ o
+untold told o none = λ k. record {
+  id = o.id;
+  reply = ap (λ s. retold_reply s (told o.id) o.reply) none k;
+  stamp = o.stamp;
+}
+
+-- rows, names and table stay
+passes : (f f' : FrontView) (words : List (List ℕ)) (o : Outcome) → f'.rows ≡ f.rows → f'.starved ≡ f.starved → f'.table ≡ f.table →
+    ComesFrom f words o → ComesFrom f' words o
+passes f f' words o rows starved table (inl row) = inl (subst (λ rs. IsOfRow rs o) (sym rows) row)
+passes f f' words o rows starved table (inr (inl name)) = inr (inl (subst (λ is. HasStarved is o) (sym starved) name))
+passes f f' words o rows starved table (inr (inr once)) = inr (inr (subst (λ t. IsAtOnce t words o) (sym table) once))
+
+pub from : (h h' : HistoryView) (s : SeatView) (o : Outcome) (w : World) (told : Told) (e : world.Effect) → IsIn h w told →
+    h.front.whole ≡ true → Fits s h.steps → IsCollected h h' s o w told → IsMade h (Collect s.conn) e h' → ComesFrom h'.front s.words o
+from h h' s o w told e shown whole fits is made =
+    let t = h.front.table in
+    let law = collects_its_own t h.steps shown.at.leads.0 w _ shown.at.leads.1 s.conn is.there is.step in
+    passes h.front h'.front s.words o made.rows made.starved made.table (elim law.1 [
+      | inl ended ↦ from_ended h o w told s.words ended.0 whole shown ended.1 (is.same ∙ ap (retold_outcome told) ended.2)
+      | inr once ↦ subst (ComesFrom h.front s.words) (sym (is.same ∙ untold told is.there once.0))
+          (at_once h s is.there w told shown fits (own_there h h' s o w told shown fits is) once.0 once.1)
+    ])
 
 -- ---- why it isn't
 
@@ -290,16 +335,15 @@ collect_fault h s fault.InFlight can why = why
 collect_fault h s fault.NoLayer can why = why
 collect_fault h s fault.Exhausted can why = why
 collect_fault h s fault.Memory can why = can
-collect_fault h s fault.Failed can why = why
 
 -- ---- which request it is
 
-some_submitted : (h h' : HistoryView) (s : SeatView) (o waits : Outcome) (w : World) → IsIn h w → Fits s h.steps →
-    IsCollected h h' s o waits w → 0 < s.count
-some_submitted h h' s o waits w shown fits is =
-    let t = table_of h.system in
-    let law = collects_its_own t h.steps shown.at.leads.0 w _ shown.at.leads.1 s.conn o is.step in
-    let seq = ap (λ (i : RequestId). i.seq) (own h h' s o waits w shown fits is) in
+some_submitted : (h h' : HistoryView) (s : SeatView) (o : Outcome) (w : World) (told : Told) → IsIn h w told → Fits s h.steps →
+    IsCollected h h' s o w told → 0 < s.count
+some_submitted h h' s o w told shown fits is =
+    let t = h.front.table in
+    let law = collects_its_own t h.steps shown.at.leads.0 w _ shown.at.leads.1 s.conn is.there is.step in
+    let seq = ap (λ (i : RequestId). i.seq) (own_there h h' s o w told shown fits is) in
     elim law.1 [
       | inl ended ↦
           let good = good_world t h.steps w shown.at.leads in
@@ -308,13 +352,13 @@ some_submitted h h' s o waits w shown fits is =
           let same = ap (λ (x : Outcome). x.id.seq) ended.2 in
           omega arith
       | inr once ↦
-          let number = (said_of t _ o.id h.steps shown.at.leads.0 opening w shown.at.leads.1 once.1).number in
+          let number = (said_of t _ is.there.id h.steps shown.at.leads.0 opening w shown.at.leads.1 once.1).number in
           omega arith
     ]
 
 -- the trace has the seat's words for it
-pub said : (h h' : HistoryView) (s : SeatView) (o waits : Outcome) (w : World) → IsIn h w → (fits : Fits s h.steps) →
-    IsCollected h h' s o waits w → IsSaid h.steps o.id s.words
-said h h' s o waits w shown fits is =
-    subst (λ i. IsSaid h.steps i s.words) (sym (own h h' s o waits w shown fits is))
-    (fits.said (some_submitted h h' s o waits w shown fits is))
+pub said : (h h' : HistoryView) (s : SeatView) (o : Outcome) (w : World) (told : Told) → IsIn h w told → (fits : Fits s h.steps) →
+    IsCollected h h' s o w told → IsSaid h.steps o.id s.words
+said h h' s o w told shown fits is =
+    subst (λ i. IsSaid h.steps i s.words) (sym (own h h' s o w told shown fits is))
+    (fits.said (some_submitted h h' s o w told shown fits is))

@@ -1,23 +1,23 @@
 -- Whether a seat is as the trace has it.
 use Rattle.std.proofs.Common.{◌≡◌, ℕ, zero, suc, ◌<◌, Bool, true, false, List, ◌∷◌, ◌++◌, Some, None, IsTrue, ◌↔◌}
 use Rattle.std.proofs.Common.{refl, sym}
-use Rattle.std.proofs.Common.{◌∙◌, ap, subst, arith, inl, inr, length}
+use Rattle.std.proofs.Common.{◌∙◌, subst, arith, inl, inr}
 use Rattle.std.proofs.lemmas.Bool.{both_ways}
 use Rattle.cluster.proofs.Submits.{lies_said, said_once}
 use Rattle.cluster.specs.Clusters.{SeatView, last_of, IsLastOf, AreLasts, IsKnown, IsSeated, Fits, IsForeign}
-use Rattle.cluster.specs.Histories.{HistoryView, MayGoOn}
+use Rattle.cluster.specs.Histories.{HistoryView}
 use Rattle.cluster.specs.Submits.{IsSaid, IsLast}
 use Rattle.cluster.specs.declared.cluster.Last.{Last}
 use Rattle.journal.specs.Codes.{steps_size}
 use Rattle.journal.specs.declared.step.Step.{Step}
 use Rattle.journal.specs.declared.step.Step.TheVariants.{Submit}
-use Rattle.system.specs.System.{SystemView}
 
 -- a connection of which nothing is known is closed
 pub shut : (lasts : List (ℕ × Last)) (sat : ℕ) (h : HistoryView) (s : SeatView) → IsSeated lasts sat h → last_of lasts s.conn.0 ≡ None →
     IsForeign h s
 shut lasts sat h s seated none = inl (record {
   world = seated.world;
+  told = seated.told;
   shows = seated.shows;
   refused = subst (λ o. IsKnown o (seated.world.standing s.conn.0)) none (seated.known s.conn.0);
 })
@@ -25,12 +25,6 @@ shut lasts sat h s seated none = inl (record {
 last_is : (lasts : List (ℕ × Last)) (steps : List Step) (i : ℕ) (last : Last) → AreLasts lasts steps → last_of lasts i ≡ Some last →
     IsLast steps i last.count last.place
 last_is lasts steps i last are is = subst (λ o. IsLastOf steps i o) is (are i)
-
--- steps may be made where it isn't so that none is
-pub going : (h : HistoryView) (s : SystemView) (failed all : Bool) → s ≡ h.system → failed ≡ s.parts.back.store.failed → failed ≡ false →
-    (all ≡ false → length h.steps < h.max_steps) → all ≡ false → MayGoOn h
-going h s failed all same is none left some =
-    record { lives = ap (λ (s : SystemView). s.parts.back.store.failed) (sym same) ∙ (sym is ∙ none); left = left some }
 
 -- what tells whether the trace has these words at a place
 abbrev pub Tells : List Step → SeatView → ℕ → Bool → Type 0

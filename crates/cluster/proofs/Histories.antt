@@ -1,297 +1,273 @@
 -- A history stays one, whether a step is made or not.
-use Rattle.std.proofs.Common.{◌≡◌, ℕ, suc, ◌<◌, ◌≤◌, Bool, false, List, [], ◌∷◌, ◌++◌, length, inl, inr, refl, sym, ap, ◌∙◌}
-use Rattle.std.proofs.Common.{subst, arith, length-append}
-use Rattle.std.proofs.lemmas.Bool.{both_ways}
-use Rattle.cluster.specs.Histories.{HistoryView, has_failed, IsIn, IsLawful, HasItsRows, IsHistory, IsMade, IsUnchanged, MayGoOn}
-use Rattle.cluster.specs.Histories.{IsRefused, HasNoFault, IsFault, Fails, IsLeft, IsNoRun}
+use Rattle.std.proofs.Common.{◌≡◌, ◌≢◌, ℕ, ◌+◌, ◌<◌, ◌≤◌, List, [], ◌∷◌, ◌++◌, length, None, Result, Ok, Err, refl, sym}
+use Rattle.std.proofs.Common.{ap, ◌∙◌, subst, arith, length-append}
+use Rattle.command_table.specs.Reading.{reading}
+use Rattle.command_table.specs.declared.command.Command.{Command}
+use Rattle.command_table.specs.declared.refusal.Refusal.{Refusal}
+use Rattle.front.proofs.Showing.{NoRun, still_unrun}
+use Rattle.front.specs.Fronts.{FrontView, Told, IsOut, FrontIsAt, HasNotRun}
+use Rattle.front.specs.Fronts as front
+use Rattle.front.specs.Making.{IsStep}
+use Rattle.front.specs.Refusing as refusing
+use Rattle.front.specs.Refusing.{MayStep}
+use Rattle.front.specs.declared.fault.FrontFault.{FrontFault}
+use Rattle.front.specs.declared.fault.FrontFault.TheVariants as front_fault
+use Rattle.cluster.specs.Histories.{HistoryView, IsIn, IsLawful, kept_for, IsHistory, kept_back, MayGoOn}
+use Rattle.cluster.specs.Histories.{IsMade, IsUnchanged, IsRefused, HasNoFault, IsFault, IsPlain}
+use Rattle.cluster.specs.Making.{Makes, of_front}
+use Rattle.cluster.specs.declared.fault.StepFault.{StepFault}
+use Rattle.cluster.specs.declared.fault.StepFault.TheVariants.{Memory}
 use Rattle.journal.specs.declared.step.Step.{Step}
 use Rattle.journal.specs.declared.step.Step.TheVariants.{Open, Submit, Deliver, Take, Run, Settle, Collect, Close}
-use Rattle.system.proofs.Lasting.{still_at, same_parts, same_store, same_rows}
-use Rattle.system.specs.Parts.{stored}
-use Rattle.system.specs.Reads.{table_of}
-use Rattle.system.specs.Reads as reads
-use Rattle.system.specs.Refusing.{Refuses, RefusesNot}
-use Rattle.system.specs.System.{SystemView, ShowsHistory, IsStep, IsSameButRoom, ObeysOneThread}
-use Rattle.system.specs.System as system
-use Rattle.system.specs.declared.effect.Effect.{Effect}
-use Rattle.system.specs.declared.fault.StepFault.{StepFault}
-use Rattle.system.specs.declared.fault.StepFault.TheVariants.{Busy, NoConn, NoPacket, InFlight, NoLayer, Exhausted, Memory, Failed}
-use Rattle.execution_order.specs.Entries.{rows_by_stamp}
-use Rattle.shard_exec.specs.StoreStates.{StoreState}
-use Rattle.shard_maps.specs.Joined.{joined}
-use Rattle.world_laws.specs.Headline.{IsOneThread, rows_of}
-use Rattle.placement.specs.Layout.{Layout}
-use Rattle.system_view.specs.Layers.{AreRows}
-use Rattle.world.specs.Steps.{OwnFault, opening, Leads}
-use Rattle.world.specs.Steps as world
-use Rattle.world.specs.World.{World}
 use Rattle.journal.specs.declared.trace.TheConstants.{GREATEST_STEPS}
+use Rattle.placement.specs.Groups.{groups_of}
+use Rattle.placement.specs.Layout.{Layout}
+use Rattle.skeen_core.specs.declared.packet.Delivered.{Delivered}
+use Rattle.world.specs.Steps.{OwnFault, opening, Effect, Collects, Steps, submitted, submitted_to}
+use Rattle.world.specs.Steps as world
+use Rattle.world.specs.World.{World, Standing, Closed, Idle, Waiting, Answered, Layer, NoneTaken, Taken, HasRun}
+
+abbrev pub history : FrontView → ℕ → List Step → ℕ → HistoryView
+history f most steps room = record { front = f; max_steps = most; steps = steps; room = room }
+
+-- ---- numbers
+
+pub plain_kept : (step : Step) (out : List Delivered) → IsPlain step → kept_back step out ≡ kept_for out
+plain_kept Open out plain = refl
+plain_kept (Submit conn words) out plain = refl
+plain_kept (Deliver place) out plain = refl
+plain_kept Take out plain = absurd plain
+plain_kept (Run starved) out plain = absurd plain
+plain_kept Settle out plain = absurd plain
+plain_kept (Collect conn) out plain = refl
+plain_kept (Close conn) out plain = refl
+
+pub kept_few : (out : List Delivered) → kept_for out ≤ 2
+kept_few [] = omega arith
+kept_few (d ∷ ds) = omega arith
+
+pub kept_some : (out : List Delivered) → out ≢ [] → kept_for out ≡ 2
+kept_some [] some = absurd (some refl)
+kept_some (d ∷ ds) some = refl
+
+pub kept_none : (out : List Delivered) → out ≡ [] → kept_for out ≡ 0
+kept_none out none = ap kept_for none
+
+-- where so many steps are left one more may be made
+pub goes_on : (h : HistoryView) (step : Step) → IsPlain step → length h.steps + kept_for h.front.out < h.max_steps → MayGoOn h step
+goes_on h step plain left = let kept = plain_kept step h.front.out plain in omega arith
+
+-- no number of the front has grown too large
+pub may_step : (h : HistoryView) → IsHistory h → length h.steps < h.max_steps → MayStep h.front
+may_step h is left = let few = is.few in let counted = is.counted in omega arith
 
 -- ---- a step that was made
 
-abbrev pub history : SystemView → ℕ → List Step → ℕ → HistoryView
-history s most steps room = record { system = s; max_steps = most; steps = steps; room = room }
+no_run : (step : Step) → IsPlain step → NoRun step
+no_run Open plain = tt
+no_run (Submit conn words) plain = tt
+no_run (Deliver place) plain = tt
+no_run Take plain = absurd plain
+no_run (Run starved) plain = absurd plain
+no_run Settle plain = absurd plain
+no_run (Collect conn) plain = tt
+no_run (Close conn) plain = tt
 
-pub made : (old new : HistoryView) (step : Step) (effect : Effect) → IsHistory old → IsStep old.system step effect new.system →
-    new.max_steps ≡ old.max_steps → new.steps ≡ old.steps ++ stored step effect ∷ [] → IsMade old (stored step effect) effect new
-made old new step effect is step_made most steps =
-    let lawful = is.lawful step_made.lived in
-    let count = lawful.shows.count in
-    let left = step_made.left in
-    let same = is.max_steps step_made.lived in
-    record {
-      lived = step_made.lived;
-      lives = step_made.lives;
-      left = omega arith;
-      max_steps = most;
-      steps = steps;
-      table = step_made.makes.table;
-      from_each = λ w shown.
-          let next = step_made.makes.from_each old.steps w shown.at in (
-            next.0,
-            next.1,
-            subst (λ h. ShowsHistory new.system h next.0) (sym steps)
-                (record {
-                  at = next.2;
-                  count = one_more old.steps (stored step effect) old.system.steps new.system.steps shown.count
-                      step_made.counted;
-                }),
-          );
-    }
-  where
-    one_more : (h : List Step) (s : Step) (before behind : ℕ) → length h ≡ before → behind ≡ suc before → length (h ++ s ∷ []) ≡ behind
-    one_more h s before behind count next = let k = length-append h (s ∷ []) in omega arith
-
--- a step that runs no layer stands in the trace as it was handed in
-stored_plain : (step : Step) (effect : Effect) → IsNoRun step → stored step effect ≡ step
-stored_plain Open effect plain = refl
-stored_plain (Submit conn words) effect plain = refl
-stored_plain (Deliver place) effect plain = refl
-stored_plain Take effect plain = refl
-stored_plain (Run starved) effect plain = absurd plain
-stored_plain Settle effect plain = refl
-stored_plain (Collect conn) effect plain = refl
-stored_plain (Close conn) effect plain = refl
-
-pub made_plain : (old new : HistoryView) (step : Step) (effect : Effect) → IsNoRun step → IsHistory old →
-    IsStep old.system step effect new.system → new.max_steps ≡ old.max_steps → new.steps ≡ old.steps ++ step ∷ [] →
+pub made : (old new : HistoryView) (step : Step) (effect : Effect) → NoRun step → MayGoOn old step →
+    Makes old.front step effect new.front → new.max_steps ≡ old.max_steps → new.steps ≡ old.steps ++ step ∷ [] →
     IsMade old step effect new
-made_plain old new step effect plain is step_made most steps =
-    let same = stored_plain step effect plain in
-    subst (λ s. IsMade old s effect new) same
-    (made old new step effect is step_made most (steps ∙ ap (λ s. old.steps ++ s ∷ []) (sym same)))
-
--- the rows of a lawful history are those of its trace
-pub rows_of_lawful : (h : HistoryView) → IsLawful h → HasItsRows h
-rows_of_lawful h lawful = record { world = lawful.world; leads = lawful.shows.at.leads; rows = lawful.shows.at.shows.rows }
-
--- and stay so as long as neither changes
-rows_kept : (old new : HistoryView) → table_of new.system ≡ table_of old.system → reads.rows_of new.system ≡ reads.rows_of old.system →
-    new.steps ≡ old.steps → HasItsRows old → HasItsRows new
-rows_kept old new table rows steps is = record {
-  world = is.world;
-  leads = subst (λ t. Leads t opening new.steps is.world) (sym table)
-      (subst (λ h. Leads (table_of old.system) opening h is.world) (sym steps) is.leads);
-  rows = subst (λ rs. AreRows is.world.ended rs) (sym rows) is.rows;
+made old new step effect plain left makes most steps = record {
+  left = left;
+  max_steps = most;
+  steps = steps;
+  table = makes.is_step.table;
+  rows = makes.is_step.rows;
+  starved = makes.is_step.starved;
+  from_each = λ w told shown.
+      let next = makes.from_each old.steps w told shown.at in
+      record {
+        answer = next.0;
+        after = next.1;
+        makes = next.2;
+        tells = next.3;
+        shows = record {
+          at = subst (λ h. FrontIsAt new.front h next.1 told) (sym steps) next.4;
+          not_run = still_unrun old.front.table w next.1 step next.0 plain next.2 shown.not_run;
+        };
+      };
 }
 
-pub history_made : (old new : HistoryView) (step : Step) (effect : Effect) → IsHistory old → IsMade old step effect new →
-    new.system.max_steps ≡ old.system.max_steps → ObeysOneThread new.system → IsHistory new
-history_made old new step effect is made most obeys =
+pub made_plain : (old new : HistoryView) (step : Step) (effect : Effect) → IsPlain step →
+    length old.steps + kept_for old.front.out < old.max_steps → Makes old.front step effect new.front →
+    new.max_steps ≡ old.max_steps → new.steps ≡ old.steps ++ step ∷ [] → IsMade old step effect new
+made_plain old new step effect plain left makes most steps =
+    made old new step effect (no_run step plain) (goes_on old step plain left) makes most steps
+
+-- ---- what is out stays out
+
+submitted_to_layer : (w : World) (c : ℕ) (command : Command) (gs : List ℕ) → (submitted_to w c command gs).layer ≡ w.layer
+submitted_to_layer w c command [] = refl
+submitted_to_layer w c command (g ∷ gs) = refl
+
+submitted_layer : (t : Layout) (w : World) (c : ℕ) (r : Result Command Refusal) → (submitted t w c r).layer ≡ w.layer
+submitted_layer t w c (Err refusal) = refl
+submitted_layer t w c (Ok command) = submitted_to_layer w c command (groups_of t command)
+
+collects_layer : (w w' : World) (c : ℕ) (standing : Standing) (e : Effect) → Collects standing w c e w' → w'.layer ≡ w.layer
+collects_layer w w' c Closed e step = absurd step
+collects_layer w w' c Idle e step = ap (λ v. v.layer) step.1
+collects_layer w w' c Waiting e step = ap (λ v. v.layer) step.1
+collects_layer w w' c (Answered o) e step = ap (λ v. v.layer) step.1
+
+layer_stays : (t : Layout) (w w' : World) (s : Step) (e : Effect) → IsPlain s → Steps t w s e w' → w'.layer ≡ w.layer
+layer_stays t w w' Open e plain step = ap (λ v. v.layer) step.after
+layer_stays t w w' (Submit conn words) e plain step = ap (λ v. v.layer) step.after ∙ submitted_layer t w conn.0 (reading words)
+layer_stays t w w' (Deliver k) e plain step = ap (λ v. v.layer) step.after
+layer_stays t w w' Take e plain step = absurd plain
+layer_stays t w w' (Run starved) e plain step = absurd plain
+layer_stays t w w' Settle e plain step = absurd plain
+layer_stays t w w' (Collect conn) e plain step = collects_layer w w' conn.0 (w.standing conn.0) e step
+layer_stays t w w' (Close conn) e plain step = ap (λ v. v.layer) step.after
+
+same_out : (l : Layer) (a b : List Delivered) → IsOut l a → IsOut l b → a ≡ b
+same_out NoneTaken a b here there = here ∙ sym there
+same_out (Taken ds) a b here there = here.0 ∙ sym there.0
+same_out (HasRun es) a b here there = here.0 ∙ sym there.0
+
+pub out_stays : (old new : HistoryView) (step : Step) (effect : Effect) → IsLawful old → IsPlain step → IsMade old step effect new →
+    new.front.out ≡ old.front.out
+out_stays old new step effect lawful plain is =
+    let next = is.from_each lawful.world lawful.told lawful.shows in
+    let same = layer_stays old.front.table lawful.world next.after step next.answer plain next.makes in
+    same_out lawful.world.layer new.front.out old.front.out
+    (subst (λ (l : Layer). IsOut l new.front.out) same next.shows.at.shows.out) lawful.shows.at.shows.out
+
+pub history_made : (old new : HistoryView) (step : Step) (effect : Effect) → IsHistory old → IsPlain step → IsStep old.front new.front →
+    IsMade old step effect new → IsHistory new
+history_made old new step effect is plain counts made =
+    let next = made.from_each is.lawful.world is.lawful.told is.lawful.shows in
+    let out = ap kept_for (out_stays old new step effect is.lawful plain made) in
+    let kept = plain_kept step old.front.out plain in
     let longer = ap length made.steps in
     let one = length-append old.steps (step ∷ []) in
     let left = made.left in
     let same = made.max_steps in
     let few = is.few in
-    let next = made.from_each (is.lawful made.lived).world (is.lawful made.lived).shows in
-    let lawful : IsLawful new = record { world = next.0; shows = next.2; one_thread = obeys new.steps next.0 next.2.at } in
+    let counted = is.counted in
+    let steps = counts.steps in
+    let layers = counts.layers in
     record {
       few = omega arith;
       within = omega arith;
-      max_steps = λ lives. most ∙ is.max_steps made.lived ∙ sym made.max_steps;
-      lawful = λ lives. lawful;
-      rows = rows_of_lawful new lawful;
+      counted = omega arith;
+      whole = counts.whole ∙ is.whole;
+      lawful = record { world = next.after; told = is.lawful.told; shows = next.shows };
     }
 
 -- ---- a step that was not
 
-pub in_still : (old new : HistoryView) → IsUnchanged old new → (w : World) → IsIn old w → IsIn new w
-in_still old new still w shown = subst (λ h. ShowsHistory new.system h w) (sym still.steps) (record {
-  at = still_at old.system.parts new.system.parts still.system.parts old.steps w shown.at;
-  count = shown.count ∙ sym still.system.steps;
-})
-
-pub failed_still : (old new : HistoryView) → IsUnchanged old new → has_failed new ≡ has_failed old
-failed_still old new still = ap (λ s. s.failed) (same_store still.system.parts)
+pub in_still : (old new : HistoryView) → IsUnchanged old new → (w : World) (told : Told) → IsIn old w told → IsIn new w told
+in_still old new still w told shown = record {
+  at = subst (λ f. FrontIsAt f new.steps w told) (sym still.front)
+      (subst (λ h. FrontIsAt old.front h w told) (sym still.steps) shown.at);
+  not_run = shown.not_run;
+}
 
 pub history_still : (old new : HistoryView) → IsHistory old → IsUnchanged old new → IsHistory new
 history_still old new is still =
     let most = still.max_steps in
     let few = is.few in
+    let within = is.within in
+    let counted = is.counted in
+    let same = ap length still.steps in
+    let out = ap (λ (f : FrontView). kept_for f.out) still.front in
+    let steps = ap (λ (f : FrontView). f.steps) still.front in
+    let layers = ap (λ (f : FrontView). f.layers) still.front in
     record {
       few = omega arith;
-      within = let within = is.within in let same = ap length still.steps in omega arith;
-      max_steps = λ lives. still.system.max_steps ∙ is.max_steps (sym (failed_still old new still) ∙ lives) ∙ sym most;
-      lawful = λ lives.
-          let lawful = is.lawful (sym (failed_still old new still) ∙ lives) in
-          record {
-            world = lawful.world;
-            shows = in_still old new still lawful.world lawful.shows;
-            one_thread = subst (λ (s : StoreState). IsOneThread (joined s.maps) (rows_by_stamp (rows_of lawful.world.ended)))
-                (sym (same_store still.system.parts)) lawful.one_thread;
-          };
-      rows = rows_kept old new (ap (λ s. s.table) (same_store still.system.parts)) (same_rows still.system.parts) still.steps is.rows;
+      within = omega arith;
+      counted = omega arith;
+      whole = ap (λ (f : FrontView). f.whole) still.front ∙ is.whole;
+      lawful = record {
+        world = is.lawful.world;
+        told = is.lawful.told;
+        shows = in_still old new still is.lawful.world is.lawful.told is.lawful.shows;
+      };
     }
 
-pub kept_same : (old new : SystemView) → new ≡ old → IsSameButRoom old new
-kept_same old new same =
-    subst (λ s. IsSameButRoom old s) (sym same) (record { max_steps = refl; steps = refl; parts = same_parts old.parts })
+-- what it leaves, where only room has changed
+pub left_so : (old : HistoryView) (f : FrontView) (most : ℕ) (steps : List Step) (room : ℕ) → f ≡ old.front → most ≡ old.max_steps →
+    steps ≡ old.steps → IsUnchanged old (history f most steps room)
+left_so old f most steps room front same stays = record { front = front; max_steps = same; steps = stays }
 
 -- ---- why it was not
 
--- what is refused in each world that the parts show is refused in that of the trace
-there : (h : HistoryView) (step : Step) (fault : OwnFault) → IsHistory h → has_failed h ≡ false → Refuses h.system.parts step fault →
-    IsRefused h step fault
-there h step fault is lives refuses =
-    let lawful = is.lawful lives in
-    record { world = lawful.world; shows = lawful.shows; refused = refuses h.steps lawful.world lawful.shows.at }
+-- what is refused in each world that the front is at is refused in that of the trace
+there : (h : HistoryView) (step : Step) (fault : OwnFault) → IsLawful h → refusing.Refuses h.front step fault → IsRefused h step fault
+there h step fault lawful refuses = record {
+  world = lawful.world;
+  told = lawful.told;
+  shows = lawful.shows;
+  refused = refuses h.steps lawful.world lawful.told lawful.shows.at;
+}
 
-free : (h : HistoryView) (step : Step) → IsHistory h → has_failed h ≡ false → RefusesNot h.system.parts step → HasNoFault h step
-free h step is lives none =
-    let lawful = is.lawful lives in
-    record { world = lawful.world; shows = lawful.shows; none = none h.steps lawful.world lawful.shows.at }
+free : (h : HistoryView) (step : Step) → IsLawful h → refusing.RefusesNot h.front step → HasNoFault h step
+free h step lawful none = record {
+  world = lawful.world;
+  told = lawful.told;
+  shows = lawful.shows;
+  none = none h.steps lawful.world lawful.told lawful.shows.at;
+}
 
-steps_left : (h : HistoryView) → IsHistory h → has_failed h ≡ false → h.system.steps < h.system.max_steps → MayGoOn h
-steps_left h is lives left =
-    let count = (is.lawful lives).shows.count in
-    let most = is.max_steps lives in
-    record { lives = lives; left = omega arith }
+pub fault_of : (h : HistoryView) (step : Step) (fault : FrontFault) → IsHistory h → MayGoOn h step →
+    refusing.IsFault h.front step fault → IsFault h step (of_front fault)
+fault_of h step front_fault.Busy is left why = (left, there h step world.Busy is.lawful why)
+fault_of h step front_fault.NoConn is left why = (left, there h step world.NoConn is.lawful why)
+fault_of h step front_fault.NoPacket is left why = (left, there h step world.NoPacket is.lawful why)
+fault_of h step front_fault.InFlight is left why = (left, there h step world.InFlight is.lawful why)
+fault_of h step front_fault.NoLayer is left why = (left, there h step world.NoLayer is.lawful why)
+fault_of h step front_fault.Memory is left why = (left, free h step is.lawful why.1)
 
--- what a refused step tells of the system
-pub record IsTold (old : HistoryView) (step : Step) (fault : StepFault) (new : SystemView) : Type 0 where
-  pub why : IsFault old step fault
-  pub kept : IsSameButRoom old.system new
-
-told : (old : HistoryView) (new : SystemView) (step : Step) (own : OwnFault) (fault : StepFault) → IsHistory old → has_failed old ≡ false →
-    (MayGoOn old → IsRefused old step own → IsFault old step fault) → old.system.steps < old.system.max_steps →
-    Refuses old.system.parts step own → IsSameButRoom old.system new → IsTold old step fault new
-told old new step own fault is lives why left refuses kept =
-    record { why = why (steps_left old is lives left) (there old step own is lives refuses); kept = kept }
-
-exhausted : (h : HistoryView) → IsHistory h → has_failed h ≡ false → h.system.steps ≡ h.system.max_steps → length h.steps ≡ h.max_steps
-exhausted h is lives all = (is.lawful lives).shows.count ∙ (all ∙ is.max_steps lives)
-
-pub told_of : (old : HistoryView) (new : SystemView) (step : Step) (fault : StepFault) → IsHistory old → has_failed old ≡ false →
-    system.IsRefused false old.system step fault new → IsTold old step fault new
-told_of old new step Busy is lives refused =
-    told old new step world.Busy Busy is lives (λ l r. (l, r)) refused.left refused.why refused.kept
-told_of old new step NoConn is lives refused =
-    told old new step world.NoConn NoConn is lives (λ l r. (l, r)) refused.left refused.why refused.kept
-told_of old new step NoPacket is lives refused =
-    told old new step world.NoPacket NoPacket is lives (λ l r. (l, r)) refused.left refused.why refused.kept
-told_of old new step InFlight is lives refused =
-    told old new step world.InFlight InFlight is lives (λ l r. (l, r)) refused.left refused.why refused.kept
-told_of old new step NoLayer is lives refused =
-    told old new step world.NoLayer NoLayer is lives (λ l r. (l, r)) refused.left refused.why refused.kept
-told_of old new step Exhausted is lives refused =
-    record { why = (lives, exhausted old is lives refused.1); kept = kept_same old.system new refused.2 }
-told_of old new step Memory is lives refused =
-    record { why = (steps_left old is lives refused.left, free old step is lives refused.why.1); kept = refused.kept }
-told_of old new step Failed is lives (inl failed) = absurd (both_ways _ lives failed.0)
-told_of old new step Failed is lives (inr failed) = absurd (both_ways _ refl failed.may_fail.refusable)
-
--- why it would not be, as things are
-pub fault_of : (h : HistoryView) (step : Step) (fault : StepFault) → IsHistory h → system.IsRefused false h.system step fault h.system →
-    IsFault h step fault
-fault_of h step Busy is refused = (told_of h h.system step Busy is refused.lived refused).why
-fault_of h step NoConn is refused = (told_of h h.system step NoConn is refused.lived refused).why
-fault_of h step NoPacket is refused = (told_of h h.system step NoPacket is refused.lived refused).why
-fault_of h step InFlight is refused = (told_of h h.system step InFlight is refused.lived refused).why
-fault_of h step NoLayer is refused = (told_of h h.system step NoLayer is refused.lived refused).why
-fault_of h step Exhausted is refused = (told_of h h.system step Exhausted is refused.0 refused).why
-fault_of h step Memory is refused = (told_of h h.system step Memory is refused.lived refused).why
-fault_of h step Failed is (inl failed) = failed.0
-fault_of h step Failed is (inr failed) = absurd (both_ways _ refl failed.may_fail.refusable)
+-- the fault that is answered for it
+pub told_as : (h : HistoryView) (step : Step) (fault : FrontFault) (told : StepFault) → IsHistory h → told ≡ of_front fault →
+    MayGoOn h step → refusing.IsFault h.front step fault → IsFault h step told
+told_as h step fault told is same left why = subst (IsFault h step) (sym same) (fault_of h step fault is left why)
 
 -- want of memory in the trace refuses what nothing else does
-pub memory_of : (h : HistoryView) (step : Step) → IsHistory h → has_failed h ≡ false → h.system.steps < h.system.max_steps →
-    RefusesNot h.system.parts step → IsFault h step Memory
-memory_of h step is lives left none = (steps_left h is lives left, free h step is lives none)
+pub memory_of : (h : HistoryView) (step : Step) → IsHistory h → MayGoOn h step → refusing.RefusesNot h.front step →
+    IsFault h step Memory
+memory_of h step is left none = (left, free h step is.lawful none)
 
--- what it leaves, where only room has changed
-pub left_so : (old : HistoryView) (s : SystemView) (most : ℕ) (steps : List Step) (room : ℕ) → IsSameButRoom old.system s →
-    most ≡ old.max_steps → steps ≡ old.steps → IsUnchanged old (history s most steps room)
-left_so old s most steps room kept same stays = record { system = kept; max_steps = same; steps = stays }
-
-leaves : (old : HistoryView) (new : SystemView) (room : ℕ) (step : Step) (fault : StepFault) → IsTold old step fault new →
-    IsFault old step fault × IsUnchanged old (history new old.max_steps old.steps room)
-leaves old new room step fault told = (told.why, left_so old new old.max_steps old.steps room told.kept refl refl)
-
-pub left_of : (may_refuse : Bool) (old : HistoryView) (new : SystemView) (room : ℕ) (step : Step) (fault : StepFault) → IsHistory old →
-    has_failed old ≡ false → system.IsRefused may_refuse old.system step fault new →
-    IsLeft may_refuse old step fault (history new old.max_steps old.steps room)
-left_of may old new room step Busy is lives refused = leaves old new room step Busy (told_of old new step Busy is lives refused)
-left_of may old new room step NoConn is lives refused = leaves old new room step NoConn (told_of old new step NoConn is lives refused)
-left_of may old new room step NoPacket is lives refused = leaves old new room step NoPacket (told_of old new step NoPacket is lives refused)
-left_of may old new room step InFlight is lives refused = leaves old new room step InFlight (told_of old new step InFlight is lives refused)
-left_of may old new room step NoLayer is lives refused = leaves old new room step NoLayer (told_of old new step NoLayer is lives refused)
-left_of may old new room step Exhausted is lives refused = leaves old new room step Exhausted
-    (told_of old new step Exhausted is lives refused)
-left_of may old new room step Memory is lives refused = leaves old new room step Memory (told_of old new step Memory is lives refused)
-left_of may old new room step Failed is lives (inl failed) = absurd (both_ways _ lives failed.0)
-left_of may old new room step Failed is lives (inr failed) = inr (
-  failed.may_fail.refusable,
-  record {
-    going = steps_left old is lives failed.left;
-    failed = failed.failed.failed;
-    table = failed.failed.table;
-    rows = failed.failed.rows;
-    max_steps = refl;
-    steps = refl;
-  },
-)
-
--- a history that has failed is one: its rows and its trace stand
-pub history_failed : (old new : HistoryView) → IsHistory old → Fails old new → IsHistory new
-history_failed old new is fails =
-    let most = fails.max_steps in
-    let few = is.few in
-    record {
-      few = omega arith;
-      within = let within = is.within in let same = ap length fails.steps in omega arith;
-      max_steps = λ lives. absurd (both_ways _ lives fails.failed);
-      lawful = λ lives. absurd (both_ways _ lives fails.failed);
-      rows = rows_kept old new fails.table fails.rows fails.steps is.rows;
-    }
-
--- whatever a refused step leaves is a history
-pub history_left : (may_refuse : Bool) (old new : HistoryView) (step : Step) (fault : StepFault) → IsHistory old →
-    IsLeft may_refuse old step fault new → IsHistory new
-history_left may old new step Busy is left = history_still old new is left.1
-history_left may old new step NoConn is left = history_still old new is left.1
-history_left may old new step NoPacket is left = history_still old new is left.1
-history_left may old new step InFlight is left = history_still old new is left.1
-history_left may old new step NoLayer is left = history_still old new is left.1
-history_left may old new step Exhausted is left = history_still old new is left.1
-history_left may old new step Memory is left = history_still old new is left.1
-history_left may old new step Failed is (inl left) = history_still old new is left.1
-history_left may old new step Failed is (inr left) = history_failed old new is left.1
+-- where there was no memory for a step that wants none, it is not for that
+pub wants_of : (step : Step) (fault : FrontFault) (f : FrontView) (told : StepFault) → told ≡ of_front fault →
+    refusing.IsFault f step fault → told ≡ Memory → refusing.WantsMemory step
+wants_of step front_fault.Busy f told same why memory = absurd (let k = sym same ∙ memory in cc)
+wants_of step front_fault.NoConn f told same why memory = absurd (let k = sym same ∙ memory in cc)
+wants_of step front_fault.NoPacket f told same why memory = absurd (let k = sym same ∙ memory in cc)
+wants_of step front_fault.InFlight f told same why memory = absurd (let k = sym same ∙ memory in cc)
+wants_of step front_fault.NoLayer f told same why memory = absurd (let k = sym same ∙ memory in cc)
+wants_of step front_fault.Memory f told same why memory = why.0
 
 -- ---- none
 
 -- no step was made
-pub history_new : (t : Layout) (most : ℕ) (s : SystemView) (max : ℕ) (steps : List Step) (room : ℕ) → most ≤ GREATEST_STEPS →
-    system.IsNew t most s → max ≡ most → steps ≡ [] → IsHistory (history s max steps room)
-history_new t most s max steps room few is same none =
-    let lawful : IsLawful (history s max steps room) = record {
-      world = opening;
-      shows = subst (λ h. ShowsHistory s h opening) (sym none) is.shows;
-      one_thread = subst (λ m. IsOneThread m (rows_by_stamp (rows_of []))) (sym is.shows.at.shows.store.contents) refl;
-    } in
+pub history_new : (t : Layout) (most : ℕ) (f : FrontView) (max : ℕ) (steps : List Step) (room : ℕ) → most ≤ GREATEST_STEPS →
+    front.IsNew t f → max ≡ most → steps ≡ [] → IsHistory (history f max steps room)
+history_new t most f max steps room few is same none =
+    let told : Told = λ i. None in
+    let at' = is.at told in
+    let count = ap length none in
+    let out = kept_none f.out at'.shows.out in
+    let made = is.no_steps in
+    let settled = is.no_layers in
     record {
       few = omega arith;
-      within = let k = ap length none in omega arith;
-      max_steps = λ lives. is.max_steps ∙ sym same;
-      lawful = λ lives. lawful;
-      rows = rows_of_lawful (history s max steps room) lawful;
+      within = omega arith;
+      counted = omega arith;
+      whole = is.whole;
+      lawful = record {
+        world = opening;
+        told = told;
+        shows = record { at = subst (λ h. FrontIsAt f h opening told) (sym none) at'; not_run = tt };
+      };
     }

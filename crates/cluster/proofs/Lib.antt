@@ -1,4 +1,8 @@
 pub mod Histories
+pub mod Making
+pub mod Effects
+pub mod Telling
+pub mod Layers
 pub mod Turns
 pub mod Submits
 pub mod Worlds
@@ -6,3 +10,5 @@ pub mod Seats
 pub mod Collecting
 pub mod Fitting
 pub mod Submitting
+pub mod Endings
+pub mod SameRows

@@ -1,36 +1,36 @@
 -- What a cluster is, it is after each of its steps.
 use Rattle.std.proofs.Common.{◌≡◌, ℕ, suc, ◌+◌, ◌<◌, ◌≤◌, ◌==◌, cond, Bool, true, false, List, [], ◌∷◌, ◌++◌, ◌⊎◌}
-use Rattle.std.proofs.Common.{length, Option, Some, None, Result, Ok, Err, IfOk, IfErr}
+use Rattle.std.proofs.Common.{length, Option, Some, None, Result, Ok, Err, IfOk, OnOk, OnErr}
 use Rattle.std.proofs.Common.{refl, sym, ap, ◌∙◌, subst, arith, inl, inr, length-append, eqb-true, eq-eqb}
 use Rattle.std.proofs.lemmas.Bool.{both_ways, cond-true, cond-false, cases_Bool}
+use Rattle.std.proofs.lemmas.List.{append_assoc}
 use Rattle.std.specs.Cmp.{unsigned_tied}
 use Rattle.std.specs.Ordering.{is_eq, nat_cmp}
-use Rattle.cluster.proofs.Histories.{in_still, failed_still}
-use Rattle.cluster.proofs.Submits.{submits-one, submits_by-one, other_submit, no_submit, last_still, last_now}
+use Rattle.front.specs.Settling.{ids_starved}
+use Rattle.cluster.proofs.Effects.{opened_so, submitted_so}
+use Rattle.cluster.proofs.Histories.{in_still}
+use Rattle.cluster.proofs.Submits.{submits-append, submits-one, submits_by-one, other_submit, no_submit, last_still, last_now}
 use Rattle.cluster.proofs.Worlds.{counts, IsNoOpen, opened_stays, closed_stays}
-use Rattle.cluster.specs.Clusters.{ClusterView, last_of, IsLastOf, AreLasts, IsKnown, IsSeated, IsCluster, IsPut, HasClosed, StaysOpen}
-use Rattle.cluster.specs.Clusters.{KeepsRoom}
-use Rattle.cluster.specs.Histories.{HistoryView, IsIn, IsLawful, IsMade, IsUnchanged, Fails}
-use Rattle.cluster.specs.Turns.{IsTurn, TurnsOn, IsTurnFault}
+use Rattle.cluster.specs.Clusters.{ClusterView, last_of, IsLastOf, AreLasts, IsKnown, IsSeated, IsCluster, IsPut, HasClosed}
+use Rattle.cluster.specs.Clusters.{StaysOpen, KeepsRoom}
+use Rattle.cluster.specs.Histories.{HistoryView, IsLawful, IsMade, IsUnchanged}
+use Rattle.cluster.specs.Layers.{HandsOut, IsSettled}
+use Rattle.cluster.specs.Turns.{Delivers}
 use Rattle.cluster.specs.Submits.{submit_in, submits, submit_by, submits_by, IsLast}
 use Rattle.cluster.specs.declared.cluster.Last.{Last}
+use Rattle.cluster.specs.declared.fault.StepFault.{StepFault}
+use Rattle.groups.specs.declared.request.ConnId.{ConnId}
+use Rattle.groups.specs.declared.request.RequestId.{RequestId}
 use Rattle.journal.specs.Codes.{steps_size}
 use Rattle.journal.specs.declared.step.Step.{Step}
 use Rattle.journal.specs.declared.step.Step.TheVariants.{Open, Submit, Deliver, Take, Run, Settle, Collect, Close}
-use Rattle.groups.specs.declared.request.ConnId.{ConnId}
-use Rattle.system.specs.Parts.{effect_shown}
-use Rattle.system.specs.Reads.{table_of}
-use Rattle.system.specs.declared.effect.Effect.{Effect}
-use Rattle.system.specs.declared.fault.StepFault.{StepFault}
-use Rattle.system.specs.declared.fault.StepFault.TheVariants as fault
-use Rattle.system.specs.declared.effect.Effect.TheVariants.{Opened, Submitted, Made}
-use Rattle.groups.specs.declared.request.RequestId.{RequestId}
-use Rattle.world.specs.Steps.{at, opening, Leads}
-use Rattle.world.specs.Steps as world
+use Rattle.journal.specs.declared.trace.TheConstants.{GREATEST_STEPS}
+use Rattle.layer_planner.specs.declared.job.Job.{Job}
+use Rattle.layer_results.specs.Results.{Results}
+use Rattle.world.specs.Steps.{at, opening, Leads, Effect, Opened, Submitted, Ran, Made}
 use Rattle.world.specs.World.{World, Standing, Closed, Idle}
 use Rattle.world_laws.proofs.Values.{at_here}
 use Rattle.world_laws.proofs.Worlds.{good_world}
-use Rattle.journal.specs.declared.trace.TheConstants.{GREATEST_STEPS}
 
 abbrev pub cluster : HistoryView → ℕ → ℕ → ℕ → ℕ → ClusterView
 cluster h book sat stood back = record { history = h; book = book; sat = sat; stood = stood; back = back }
@@ -81,13 +81,14 @@ known_still (Some last) a b stays known = tt
 seated_still : (lasts : List (ℕ × Last)) (sat : ℕ) (h h' : HistoryView) (s : Step) (e : Effect) → IsMade h s e h' → IsNoOpen s →
     IsSeated lasts sat h → IsSeated lasts sat h'
 seated_still lasts sat h h' s e made plain seated =
-    let next = made.from_each seated.world seated.shows in
+    let next = made.from_each seated.world seated.told seated.shows in
     record {
-      world = next.0;
-      shows = next.2;
-      opened = opened_stays (table_of h.system) seated.world next.0 s (effect_shown e) plain next.1 ∙ seated.opened;
-      known = λ i. known_still (last_of lasts i) _ _ (closed_stays (table_of h.system) seated.world next.0 s (effect_shown e) i
-          plain next.1)
+      world = next.after;
+      told = seated.told;
+      shows = next.shows;
+      opened = opened_stays h.front.table seated.world next.after s next.answer plain next.makes ∙ seated.opened;
+      known = λ i. known_still (last_of lasts i) _ _ (closed_stays h.front.table seated.world next.after s next.answer i
+          plain next.makes)
           (seated.known i);
     }
 
@@ -119,7 +120,7 @@ cluster_other all parts requests lasts h h' book sat stood back s e other made i
       most = omega arith;
       few = omega arith;
       are_lasts = subst (AreLasts lasts) (sym made.steps) (lasts_still lasts h.steps s none is.are_lasts);
-      seated = λ lives. seated_still lasts sat h h' s e made other.no_open (is.seated made.lived);
+      seated = seated_still lasts sat h h' s e made other.no_open is.seated;
     }
 
 -- ---- no step
@@ -144,37 +145,13 @@ cluster_still all parts requests lasts h h' book sat stood back still is =
       most = omega arith;
       few = omega arith;
       are_lasts = subst (AreLasts lasts) (sym still.steps) is.are_lasts;
-      seated = λ lives.
-          let seated = is.seated (sym (failed_still h h' still) ∙ lives) in
-          record {
-            world = seated.world;
-            shows = in_still h h' still seated.world seated.shows;
-            opened = seated.opened;
-            known = seated.known;
-          };
-    }
-
-pub cluster_failed : (all parts requests : ℕ) (lasts : List (ℕ × Last)) (h h' : HistoryView) (book sat stood back : ℕ) → Fails h h' →
-    IsCluster all parts requests lasts (cluster h book sat stood back) → IsCluster all parts requests lasts (cluster h' book sat stood back)
-cluster_failed all parts requests lasts h h' book sat stood back fails is =
-    let same = ap length fails.steps in
-    let more = ap submits fails.steps in
-    let most = fails.max_steps in
-    let booked = is.booked in
-    let sits = is.sits in
-    let within = is.within in
-    let enough = is.most in
-    let few = is.few in
-    record {
-      booked = omega arith;
-      counted = is.counted;
-      seats = is.seats;
-      sits = omega arith;
-      within = omega arith;
-      most = omega arith;
-      few = omega arith;
-      are_lasts = subst (AreLasts lasts) (sym fails.steps) is.are_lasts;
-      seated = λ lives. absurd (both_ways _ lives fails.failed);
+      seated = record {
+        world = is.seated.world;
+        told = is.seated.told;
+        shows = in_still h h' still is.seated.world is.seated.told is.seated.shows;
+        opened = is.seated.opened;
+        known = is.seated.known;
+      };
     }
 
 -- ---- what is known of one connection changes
@@ -203,7 +180,7 @@ record IsNext (h : HistoryView) (sat : ℕ) (world : World) : Type 0 where
 
 is_next : (lasts : List (ℕ × Last)) (h : HistoryView) (sat : ℕ) (seated : IsSeated lasts sat h) → IsNext h sat seated.world
 is_next lasts h sat seated =
-    let t = table_of h.system in
+    let t = h.front.table in
     let good = good_world t h.steps seated.world seated.shows.at.leads in
     let opened = seated.opened in
     let unopened = good.connections.unopened (sat + 1) (omega arith) in
@@ -214,12 +191,10 @@ no_request = record { count = 0; place = 0 }
 
 -- which connection an Open opens
 pub opened_is : (lasts : List (ℕ × Last)) (h h' : HistoryView) (sat : ℕ) (conn : ConnId) → IsSeated lasts sat h →
-    IsMade h Open (Opened conn) h' → conn ≡ record { 0 = sat + 1 }
+    IsMade h Open (Opened conn.0) h' → conn ≡ record { 0 = sat + 1 }
 opened_is lasts h h' sat conn seated made =
-    let next = made.from_each seated.world seated.shows in
+    let number = opened_so h h' conn.0 seated.world seated.told seated.shows made in
     let opened = seated.opened in
-    let answers = next.1.answers in
-    let number : conn.0 ≡ suc seated.world.opened = cc in
     let same : conn.0 ≡ sat + 1 = omega arith in
     λ k. record { 0 = same k }
 
@@ -235,8 +210,8 @@ pub cluster_sat : (all parts rest requests : ℕ) (lasts lasts' : List (ℕ × L
     IsCluster all parts requests lasts (cluster h book sat stood back) →
     IsCluster all rest requests lasts' (cluster h' book (sat + 1) stood back')
 cluster_sat all parts rest requests lasts lasts' h h' book sat stood back back' e made puts one is =
-    let seated = is.seated made.lived in
-    let next = made.from_each seated.world seated.shows in
+    let seated = is.seated in
+    let next = made.from_each seated.world seated.told seated.shows in
     let free = is_next lasts h sat seated in
     let longer = one_more h.steps h'.steps Open made.steps in
     let more = ap submits made.steps in
@@ -248,7 +223,7 @@ cluster_sat all parts rest requests lasts lasts' h h' book sat stood back back' 
     let few = is.few in
     let seats = is.seats in
     let opened = seated.opened in
-    let now = ap (λ (w : World). w.opened) next.1.after in
+    let now = ap (λ (w : World). w.opened) next.makes.after in
     let number : sat + 1 ≡ suc seated.world.opened = omega arith in
     record {
       booked = omega (arith, submits-one h.steps Open);
@@ -262,13 +237,14 @@ cluster_sat all parts rest requests lasts lasts' h h' book sat stood back back' 
           (λ o. IsLastOf (h.steps ++ Open ∷ []) i o) puts
           (λ here. subst (λ c. IsLast (h.steps ++ Open ∷ []) c 0 0) here (opened_last h.steps (sat + 1) free.none))
           (λ other. last_of_still h.steps i Open (last_of lasts i) refl (is.are_lasts i)));
-      seated = λ lives. record {
-        world = next.0;
-        shows = next.2;
+      seated = record {
+        world = next.after;
+        told = seated.told;
+        shows = next.shows;
         opened = omega arith;
-        known = λ i. put_cases lasts lasts' (sat + 1) i (Some no_request) (λ o. IsKnown o (next.0.standing i)) puts
+        known = λ i. put_cases lasts lasts' (sat + 1) i (Some no_request) (λ o. IsKnown o (next.after.standing i)) puts
             (λ here. tt)
-            (λ other. known_still (last_of lasts i) _ _ (λ shut. ap (λ (w : World). w.standing i) next.1.after
+            (λ other. known_still (last_of lasts i) _ _ (λ shut. ap (λ (w : World). w.standing i) next.makes.after
             ∙ open_closed seated.world.standing i (suc seated.world.opened)
             (subst (λ n. (i == n) ≡ false) number (differs i (sat + 1) other)) shut) (seated.known i));
       };
@@ -291,10 +267,11 @@ cluster_unsat all parts requests lasts lasts' lasts'' h h' book sat stood back s
       are_lasts = λ i. put_cases lasts' lasts'' (sat + 1) i None (λ o. IsLastOf h.steps i o) loses (λ here. tt) (λ other.
           subst (λ o. IsLastOf h.steps i o)
           (sym (puts i ∙ cond-false (is_eq (nat_cmp (sat + 1) i)) (Some no_request) (last_of lasts i) other)) (is.are_lasts i));
-      seated = λ lives.
-          let seated = is.seated lives in
+      seated =
+          let seated = is.seated in
           record {
             world = seated.world;
+            told = seated.told;
             shows = seated.shows;
             opened = seated.opened;
             known = λ i. put_cases lasts' lasts'' (sat + 1) i None (λ o. IsKnown o (seated.world.standing i)) loses
@@ -386,33 +363,30 @@ cluster_submitted all parts requests lasts lasts' h h' book sat stood back conn 
           (last_now h.steps conn words count place asked begins))
           (λ other. last_of_still h.steps i (Submit conn words) (last_of lasts i)
           (other_submit i conn words (differs i conn.0 other)) (is.are_lasts i)));
-      seated = λ lives.
-          let seated = is.seated made.lived in
-          let next = made.from_each seated.world seated.shows in
+      seated =
+          let seated = is.seated in
+          let next = made.from_each seated.world seated.told seated.shows in
           record {
-            world = next.0;
-            shows = next.2;
-            opened = opened_stays (table_of h.system) seated.world next.0 (Submit conn words) (effect_shown e) tt next.1
+            world = next.after;
+            told = seated.told;
+            shows = next.shows;
+            opened = opened_stays h.front.table seated.world next.after (Submit conn words) next.answer tt next.makes
                 ∙ seated.opened;
-            known = λ i. put_cases lasts lasts' conn.0 i _ (λ o. IsKnown o (next.0.standing i)) puts (λ here. tt)
+            known = λ i. put_cases lasts lasts' conn.0 i _ (λ o. IsKnown o (next.after.standing i)) puts (λ here. tt)
                 (λ other. known_still (last_of lasts i) _ _
-                (closed_stays (table_of h.system) seated.world next.0 (Submit conn words) (effect_shown e) i tt next.1)
+                (closed_stays h.front.table seated.world next.after (Submit conn words) next.answer i tt next.makes)
                 (seated.known i));
           };
     }
 
 -- the id of the request
-pub submitted_is : (h h' : HistoryView) (conn : ConnId) (words : List (List ℕ)) (id : RequestId) (count : ℕ) (w : World) → IsIn h w →
+pub submitted_is : (h h' : HistoryView) (conn : ConnId) (words : List (List ℕ)) (id : RequestId) (count : ℕ) → IsLawful h →
     IsMade h (Submit conn words) (Submitted id) h' → count ≡ submits_by conn.0 h.steps → id ≡ record { conn = conn; seq = count + 1 }
-submitted_is h h' conn words id count w shown made counted =
-    let next = made.from_each w shown in
-    let seq = counts (table_of h.system) h.steps w conn.0 shown.at.leads in
+submitted_is h h' conn words id count lawful made counted =
+    let w = lawful.world in
+    let seq = counts h.front.table h.steps w conn.0 lawful.shows.at.leads in
     let same : suc (w.seq conn.0) ≡ count + 1 = omega arith in
-    submitted_same id conn (suc (w.seq conn.0)) next.1.answers ∙ (λ k. record { conn = conn; seq = same k })
-  where
-    submitted_same : (i : RequestId) (c : ConnId) (seq : ℕ) → world.Submitted i ≡ world.Submitted (record { conn = c; seq = seq }) →
-        i ≡ record { conn = c; seq = seq }
-    submitted_same i c seq same = let k = same in cc
+    submitted_so h h' conn words id w lawful.told lawful.shows made ∙ (λ k. record { conn = conn; seq = same k })
 
 -- ---- collect
 
@@ -440,18 +414,19 @@ cluster_closed all parts requests lasts lasts' h h' book sat stood back conn e m
       most = mid.most;
       few = mid.few;
       are_lasts = λ i. put_cases lasts lasts' conn.0 i None (λ o. IsLastOf h'.steps i o) puts (λ here. tt) (λ other. mid.are_lasts i);
-      seated = λ lives.
-          let seated = is.seated made.lived in
-          let next = made.from_each seated.world seated.shows in
+      seated =
+          let seated = is.seated in
+          let next = made.from_each seated.world seated.told seated.shows in
           record {
-            world = next.0;
-            shows = next.2;
-            opened = opened_stays (table_of h.system) seated.world next.0 (Close conn) (effect_shown e) tt next.1 ∙ seated.opened;
-            known = λ i. put_cases lasts lasts' conn.0 i None (λ o. IsKnown o (next.0.standing i)) puts
-                (λ here. ap next.0.standing (sym here) ∙ (ap (λ (w : World). w.standing conn.0) next.1.after
+            world = next.after;
+            told = seated.told;
+            shows = next.shows;
+            opened = opened_stays h.front.table seated.world next.after (Close conn) next.answer tt next.makes ∙ seated.opened;
+            known = λ i. put_cases lasts lasts' conn.0 i None (λ o. IsKnown o (next.after.standing i)) puts
+                (λ here. ap next.after.standing (sym here) ∙ (ap (λ (w : World). w.standing conn.0) next.makes.after
                 ∙ at_here seated.world.standing conn.0 Closed))
                 (λ other. known_still (last_of lasts i) _ _
-                (closed_stays (table_of h.system) seated.world next.0 (Close conn) (effect_shown e) i tt next.1) (seated.known i));
+                (closed_stays h.front.table seated.world next.after (Close conn) next.answer i tt next.makes) (seated.known i));
           };
     }
 
@@ -486,46 +461,81 @@ cluster_stood all parts parts' requests lasts lasts' h h' book sat stood back ba
 
 -- ---- turn
 
-turn_other : (pick : ℕ → ℕ) (w : World) (s : Step) → IsTurn pick w s → IsOther s
-turn_other pick w Open is = absurd is
-turn_other pick w (Submit conn words) is = absurd is
-turn_other pick w (Deliver place) is = record { no_open = tt; no_submit = refl }
-turn_other pick w Take is = record { no_open = tt; no_submit = refl }
-turn_other pick w (Run starved) is = record { no_open = tt; no_submit = refl }
-turn_other pick w Settle is = record { no_open = tt; no_submit = refl }
-turn_other pick w (Collect conn) is = absurd is
-turn_other pick w (Close conn) is = absurd is
-
-turn_still : (all parts requests : ℕ) (lasts : List (ℕ × Last)) (h h' : HistoryView) (book sat stood back : ℕ) (may : Bool)
-    (f : StepFault) → IsTurnFault may h f h' → IsCluster all parts requests lasts (cluster h book sat stood back) →
-    IsCluster all parts requests lasts (cluster h' book sat stood back)
-turn_still all parts requests lasts h h' book sat stood back may fault.Busy why is = absurd why
-turn_still all parts requests lasts h h' book sat stood back may fault.NoConn why is = absurd why
-turn_still all parts requests lasts h h' book sat stood back may fault.NoPacket why is = absurd why
-turn_still all parts requests lasts h h' book sat stood back may fault.InFlight why is = absurd why
-turn_still all parts requests lasts h h' book sat stood back may fault.NoLayer why is = absurd why
-turn_still all parts requests lasts h h' book sat stood back may fault.Exhausted why is =
-    cluster_still all parts requests lasts h h' book sat stood back why.2 is
-turn_still all parts requests lasts h h' book sat stood back may fault.Memory why is =
-    cluster_still all parts requests lasts h h' book sat stood back why.2 is
-turn_still all parts requests lasts h h' book sat stood back may fault.Failed (inl why) is =
-    cluster_still all parts requests lasts h h' book sat stood back why.1 is
-turn_still all parts requests lasts h h' book sat stood back may fault.Failed (inr why) is =
-    cluster_failed all parts requests lasts h h' book sat stood back why.1 is
-
 -- whatever a turn answers it leaves a cluster
 pub cluster_turned : (all parts requests : ℕ) (lasts : List (ℕ × Last)) (h h' : HistoryView) (book sat stood back : ℕ) (pick : ℕ → ℕ)
-    (may : Bool) (r : Result Bool StepFault) → IfOk r (λ made. made ≡ true → TurnsOn pick h h') →
-    IfOk r (λ made. made ≡ false → IsUnchanged h h') → IfErr r (λ f. IsTurnFault may h f h') →
-    IsCluster all parts requests lasts (cluster h book sat stood back) →
+    (r : Result Bool StepFault) → IfOk r (λ made. made ≡ true → Delivers pick h h') → IfOk r (λ made. made ≡ false → h' ≡ h) →
+    OnErr r (IsUnchanged h h') → IsCluster all parts requests lasts (cluster h book sat stood back) →
     IsCluster all parts requests lasts (cluster h' book sat stood back)
-cluster_turned all parts requests lasts h h' book sat stood back pick may (Ok true) made unmade why is =
-    let on = made refl in
-    cluster_other all parts requests lasts h h' book sat stood back on.step on.effect (turn_other pick on.world on.step on.turn) on.made is
-cluster_turned all parts requests lasts h h' book sat stood back pick may (Ok false) made unmade why is =
-    cluster_still all parts requests lasts h h' book sat stood back (unmade refl) is
-cluster_turned all parts requests lasts h h' book sat stood back pick may (Err f) made unmade why is =
-    turn_still all parts requests lasts h h' book sat stood back may f why is
+cluster_turned all parts requests lasts h h' book sat stood back pick (Ok true) made unmade still is =
+    let came = made refl in
+    cluster_other all parts requests lasts h h' book sat stood back (Deliver came.place) Made (record { no_open = tt; no_submit = refl })
+    came.made is
+cluster_turned all parts requests lasts h h' book sat stood back pick (Ok false) made unmade still is =
+    subst (λ h. IsCluster all parts requests lasts (cluster h book sat stood back)) (sym (unmade refl)) is
+cluster_turned all parts requests lasts h h' book sat stood back pick (Err f) made unmade still is =
+    cluster_still all parts requests lasts h h' book sat stood back still is
+
+-- ---- layers
+
+-- whatever a take answers it leaves a cluster
+pub cluster_taken : (all parts requests : ℕ) (lasts : List (ℕ × Last)) (h h' : HistoryView) (book sat stood back : ℕ)
+    (r : Result (List Job) StepFault) → IfOk r (λ jobs. HandsOut h jobs h') → OnErr r (IsUnchanged h h') →
+    IsCluster all parts requests lasts (cluster h book sat stood back) → IsCluster all parts requests lasts (cluster h' book sat stood back)
+cluster_taken all parts requests lasts h h' book sat stood back (Ok jobs) out still is =
+    cluster_other all parts requests lasts h h' book sat stood back Take Made (record { no_open = tt; no_submit = refl }) out.made is
+cluster_taken all parts requests lasts h h' book sat stood back (Err f) out still is =
+    cluster_still all parts requests lasts h h' book sat stood back still is
+
+-- two steps more, neither of which opens a connection or submits a request
+cluster_settled : (all parts requests : ℕ) (lasts : List (ℕ × Last)) (h h' : HistoryView) (book sat stood back : ℕ) (done : Results) →
+    IsSettled h done h' → IsCluster all parts requests lasts (cluster h book sat stood back) →
+    IsCluster all parts requests lasts (cluster h' book sat stood back)
+cluster_settled all parts requests lasts h h' book sat stood back done settled is =
+    let run = Run (ids_starved done) in
+    let seated = is.seated in
+    let now = settled.told seated.told in
+    let next = settled.from_each seated.world seated.told now.0 seated.shows now.1 in
+    let longer = ap length settled.steps in
+    let two = length-append h.steps (run ∷ Settle ∷ []) in
+    let more = ap submits settled.steps in
+    let none = submits-append h.steps (run ∷ Settle ∷ []) in
+    let most = settled.max_steps in
+    let left = settled.left in
+    let booked = is.booked in
+    let sits = is.sits in
+    let enough = is.most in
+    let few = is.few in
+    let twice = settled.steps ∙ sym (append_assoc h.steps (run ∷ []) (Settle ∷ [])) in
+    record {
+      booked = omega arith;
+      counted = is.counted;
+      seats = is.seats;
+      sits = omega arith;
+      within = omega arith;
+      most = omega arith;
+      few = omega arith;
+      are_lasts = subst (AreLasts lasts) (sym twice)
+          (lasts_still lasts (h.steps ++ run ∷ []) Settle refl (lasts_still lasts h.steps run refl is.are_lasts));
+      seated = record {
+        world = next.after;
+        told = now.0;
+        shows = next.shows;
+        opened = opened_stays h.front.table next.mid next.after Settle Made tt next.settles
+            ∙ (opened_stays h.front.table seated.world next.mid run (Ran (ids_starved done)) tt next.runs ∙ seated.opened);
+        known = λ i. known_still (last_of lasts i) _ _ (closed_stays h.front.table next.mid next.after Settle Made i tt next.settles)
+            (known_still (last_of lasts i) _ _
+            (closed_stays h.front.table seated.world next.mid run (Ran (ids_starved done)) i tt next.runs) (seated.known i));
+      };
+    }
+
+-- whatever a settle answers it leaves a cluster
+pub cluster_told : (all parts requests : ℕ) (lasts : List (ℕ × Last)) (h h' : HistoryView) (book sat stood back : ℕ) (done : Results)
+    {E : Type 0} (r : Result (Unit {0}) E) → OnOk r (IsSettled h done h') → OnErr r (IsUnchanged h h') →
+    IsCluster all parts requests lasts (cluster h book sat stood back) → IsCluster all parts requests lasts (cluster h' book sat stood back)
+cluster_told all parts requests lasts h h' book sat stood back done (Ok u) settled still is =
+    cluster_settled all parts requests lasts h h' book sat stood back done settled is
+cluster_told all parts requests lasts h h' book sat stood back done (Err e) settled still is =
+    cluster_still all parts requests lasts h h' book sat stood back still is
 
 -- ---- none
 
@@ -533,7 +543,7 @@ pub cluster_new : (all parts : ℕ) (lasts : List (ℕ × Last)) (h : HistoryVie
     h.steps ≡ [] → h.max_steps ≡ most → most < all → most ≤ GREATEST_STEPS → IsLawful h →
     IsCluster all parts 0 lasts (cluster h book 0 0 back)
 cluster_new all parts lasts h book most back whole nothing zero' none same enough few lawful =
-    let leads = subst (λ hs. Leads (table_of h.system) opening hs lawful.world) none lawful.shows.at.leads in
+    let leads = subst (λ hs. Leads h.front.table opening hs lawful.world) none lawful.shows.at.leads in
     let steps = ap length none in
     record {
       booked = zero' ∙ sym (ap submits none);
@@ -544,8 +554,9 @@ cluster_new all parts lasts h book most back whole nothing zero' none same enoug
       most = omega arith;
       few = omega arith;
       are_lasts = λ i. subst (λ l. IsLastOf h.steps i (last_of l i)) (sym nothing) tt;
-      seated = λ lives. record {
+      seated = record {
         world = lawful.world;
+        told = lawful.told;
         shows = lawful.shows;
         opened = ap (λ (w : World). w.opened) leads.1.1;
         known = λ i. subst (λ l. IsKnown (last_of l i) (lawful.world.standing i)) (sym nothing)

@@ -9,8 +9,8 @@ use Rattle.journal.specs.declared.step.Step.TheVariants.{Collect}
 use Rattle.resp.specs.Content.{content}
 use Rattle.resp.specs.declared.reply.Reply.{Reply}
 use Rattle.router.specs.declared.outcome.Outcome as router
-use Rattle.system.specs.declared.effect.Effect.TheVariants.{Collected}
 use Rattle.system_view.specs.Connections.{outcome_shown}
+use Rattle.world.specs.Steps.{Collected}
 use Rattle.world.specs.World.{Outcome}
 
 -- an answer, apart from how its reply lies in memory
@@ -23,9 +23,9 @@ shown_outcome a = record { id = a.id; reply = content a.reply; stamp = a.stamp }
 pub record IsReplied (old : HistoryView) (s : SeatView) (r : Reply) (new : HistoryView) (after : SeatView) : Type 0 where
   pub outcome : router.Outcome
   pub reply : r ≡ outcome.reply
-  pub made : IsMade old (Collect s.conn) (Collected (Some outcome)) new
+  pub made : IsMade old (Collect s.conn) (Collected (Some (outcome_shown outcome))) new
   pub id : outcome.id ≡ last_id s
   pub said : IsSaid new.steps outcome.id s.words
-  pub from : ComesFrom new.system s.words (outcome_shown outcome)
+  pub from : ComesFrom new.front s.words (outcome_shown outcome)
   pub above : IsAbove outcome.stamp s.floor
   pub seat : after ≡ record s { floor = raised outcome.stamp s.floor }

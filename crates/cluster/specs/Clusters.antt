@@ -2,12 +2,11 @@
 use Rattle.std.specs.BTreeMap.{is_at}
 use Rattle.std.specs.Map.{lookup}
 use Rattle.std.specs.Ordering.{is_eq, nat_cmp}
-use Rattle.std.specs.Prelude.{◌≡◌, ◌≢◌, ℕ, ◌+◌, ◌*◌, ◌<◌, ◌≤◌, cond, true, false, List, [], length, ◌⊎◌, Option, Some, None}
-use Rattle.cluster.specs.Histories.{HistoryView, has_failed, IsIn, IsMade, IsUnchanged, MayGoOn, IsRefused, IsFault}
+use Rattle.std.specs.Prelude.{◌≡◌, ◌≢◌, ℕ, ◌+◌, ◌*◌, ◌<◌, ◌≤◌, cond, List, [], length, ◌⊎◌, Option, Some, None}
+use Rattle.front.specs.Fronts.{Told}
+use Rattle.cluster.specs.Histories.{HistoryView, IsIn, IsMade, IsUnchanged, MayGoOn, IsRefused, IsFault}
 use Rattle.cluster.specs.Outcomes.{IsAbove}
 use Rattle.cluster.specs.Submits.{submits, submits_by, IsSaid, IsLast}
-use Rattle.cluster.specs.declared.cluster.CloseFault.{CloseFault}
-use Rattle.cluster.specs.declared.cluster.CloseFault.TheVariants as close
 use Rattle.cluster.specs.declared.cluster.Last.{Last}
 use Rattle.journal.specs.declared.step.Step.{Step}
 use Rattle.journal.specs.declared.step.Step.TheVariants.{Submit, Collect, Close}
@@ -15,11 +14,10 @@ use Rattle.router.specs.declared.outcome.Outcome.{Outcome}
 use Rattle.groups.specs.declared.request.ConnId.{ConnId}
 use Rattle.groups.specs.declared.request.RequestId.{RequestId}
 use Rattle.placement.specs.Layout.{Layout}
-use Rattle.system.specs.Reads.{table_of, waiting_for}
-use Rattle.system.specs.System.{IsQuiet}
-use Rattle.system.specs.declared.effect.Effect.TheVariants.{Made}
-use Rattle.system.specs.declared.fault.StepFault.{StepFault}
-use Rattle.system.specs.declared.fault.StepFault.TheVariants.{NoConn, Memory}
+use Rattle.cluster.specs.declared.fault.StepFault.{StepFault}
+use Rattle.cluster.specs.declared.fault.StepFault.TheVariants.{NoConn, Memory}
+use Rattle.router.specs.Router.{waiting}
+use Rattle.world.specs.Steps.{Made}
 use Rattle.world.specs.Steps as world
 use Rattle.world.specs.World.{World, Standing, Closed}
 use Rattle.cluster.specs.declared.cluster.TheConstants.{GREATEST_CLOSE}
@@ -50,7 +48,7 @@ pub record Fits (s : SeatView) (steps : List Step) : Type 0 where
 
 -- ---- a cluster
 
--- its system and trace, the ledger's book, how many seats sat and stood, and how many requests those submitted that
+-- its front and trace, the ledger's book, how many seats sat and stood, and how many requests those submitted that
 -- stood
 pub record ClusterView : Type 0 where
   pub history : HistoryView
@@ -89,7 +87,8 @@ IsKnown (Some last) standing = Unit {0}
 -- known.
 pub record IsSeated (lasts : List (ℕ × Last)) (sat : ℕ) (h : HistoryView) : Type 0 where
   pub world : World
-  pub shows : IsIn h world
+  pub told : Told
+  pub shows : IsIn h world told
   pub opened : world.opened ≡ sat
   pub known : (i : ℕ) → IsKnown (last_of lasts i) (world.standing i)
 
@@ -104,7 +103,7 @@ pub record IsCluster (all parts requests : ℕ) (lasts : List (ℕ × Last)) (c 
   pub most : c.history.max_steps < all
   pub few : c.history.max_steps ≤ GREATEST_STEPS
   pub are_lasts : AreLasts lasts c.history.steps
-  pub seated : has_failed c.history ≡ false → IsSeated lasts c.sat c.history
+  pub seated : IsSeated lasts c.sat c.history
 
 -- For each seat that hasn't stood, room is kept in the trace for the Close of its connection, so many bytes for all.
 pub record KeepsRoom (kept : ℕ) (c : ClusterView) : Type 0 where
@@ -113,10 +112,9 @@ pub record KeepsRoom (kept : ℕ) (c : ClusterView) : Type 0 where
 
 -- a new cluster: no step was made, and keys lie by this table
 pub record IsNew (t : Layout) (most : ℕ) (c : ClusterView) : Type 0 where
-  pub table : table_of c.history.system ≡ t
+  pub table : c.history.front.table ≡ t
   pub steps : c.history.steps ≡ []
   pub max_steps : c.history.max_steps ≡ most
-  pub lives : has_failed c.history ≡ false
   pub book : c.book ≡ 0
   pub sat : c.sat ≡ 0
   pub stood : c.stood ≡ 0
@@ -136,27 +134,27 @@ IsForeign h s = IsRefused h (Collect s.conn) world.NoConn ⊎ ¬ Fits s h.steps
 
 -- why a seat's submit isn't made
 abbrev pub IsSubmitFault : HistoryView → SeatView → List (List ℕ) → StepFault → Type 0
-IsSubmitFault h s words NoConn = MayGoOn h × IsForeign h s
+IsSubmitFault h s words NoConn = MayGoOn h (Submit s.conn words) × IsForeign h s
 IsSubmitFault h s words Memory = Fits s h.steps × IsFault h (Submit s.conn words) Memory
 IsSubmitFault h s words fault = IsFault h (Submit s.conn words) fault
 
 -- an outcome waits for the seat, and its stamp isn't above the seat's floor
 pub record IsBelow (h : HistoryView) (s : SeatView) : Type 0 where
   pub outcome : Outcome
-  pub waits : waiting_for h.system s.conn.0 ≡ Some outcome
+  pub waits : waiting h.front.router s.conn.0 ≡ Some outcome
   pub below : ¬ IsAbove outcome.stamp s.floor
 
 -- the seat is as the trace has it, an outcome waits for it whose stamp is above its floor, and a step may be made
 pub record CanCollect (h : HistoryView) (s : SeatView) : Type 0 where
-  pub left : MayGoOn h
+  pub left : MayGoOn h (Collect s.conn)
   pub fits : Fits s h.steps
   pub outcome : Outcome
-  pub waits : waiting_for h.system s.conn.0 ≡ Some outcome
+  pub waits : waiting h.front.router s.conn.0 ≡ Some outcome
   pub above : IsAbove outcome.stamp s.floor
 
 -- why a seat collects nothing
 abbrev pub IsCollectFault : HistoryView → SeatView → StepFault → Type 0
-IsCollectFault h s NoConn = MayGoOn h × (IsForeign h s ⊎ IsBelow h s)
+IsCollectFault h s NoConn = MayGoOn h (Collect s.conn) × (IsForeign h s ⊎ IsBelow h s)
 IsCollectFault h s Memory = CanCollect h s
 IsCollectFault h s fault = IsFault h (Collect s.conn) fault
 
@@ -166,9 +164,3 @@ pub record StaysOpen (conn : ConnId) (old new : HistoryView) : Type 0 where
   pub why : IsFault old (Close conn) fault
   pub ample : fault ≢ Memory
   pub unchanged : IsUnchanged old new
-
--- why a cluster isn't closed: the first that applies
-abbrev pub IsCloseFault : ClusterView → CloseFault → Type 0
-IsCloseFault c close.Failed = has_failed c.history ≡ true
-IsCloseFault c close.SeatsOut = (has_failed c.history ≡ false) × (c.stood ≢ c.sat)
-IsCloseFault c close.NotQuiet = (has_failed c.history ≡ false) × (c.stood ≡ c.sat) × ¬ IsQuiet c.history.system

@@ -1,142 +1,147 @@
--- A system beside the trace of the steps that it made.
-use Rattle.std.specs.Prelude.{◌≡◌, ℕ, ◌<◌, ◌≤◌, Bool, true, false, List, [], ◌∷◌, ◌++◌, length, ◌⊎◌}
-use Rattle.execution_order.specs.Entries.{rows_by_stamp}
+-- A front beside the trace of the steps that were made.
+use Rattle.std.specs.Prelude.{◌≡◌, ℕ, ◌+◌, ◌<◌, ◌≤◌, true, List, [], ◌∷◌, ◌++◌, length, option_map}
+use Rattle.front.specs.Fronts.{FrontView, Told, retold_outcome, FrontIsAt, HasNotRun}
+use Rattle.cluster.specs.declared.fault.StepFault.{StepFault}
+use Rattle.cluster.specs.declared.fault.StepFault.TheVariants.{Busy, NoConn, NoPacket, InFlight, NoLayer, Exhausted, Memory}
 use Rattle.journal.specs.declared.step.Step.{Step}
 use Rattle.journal.specs.declared.step.Step.TheVariants.{Open, Submit, Deliver, Take, Run, Settle, Collect, Close}
-use Rattle.system.specs.Parts.{effect_shown}
-use Rattle.system.specs.Reads.{table_of, failed, contents_of}
-use Rattle.system.specs.Reads as reads
-use Rattle.system.specs.System.{SystemView, ShowsHistory, IsSameButRoom}
-use Rattle.system.specs.declared.effect.Effect.{Effect}
-use Rattle.system.specs.declared.fault.StepFault.{StepFault}
-use Rattle.system.specs.declared.fault.StepFault.TheVariants.{Busy, NoConn, NoPacket, InFlight, NoLayer, Exhausted, Memory, Failed}
-use Rattle.system_view.specs.Layers.{AreRows}
-use Rattle.world.specs.Steps.{OwnFault, opening, Leads, Steps, Refused}
+use Rattle.journal.specs.declared.trace.TheConstants.{GREATEST_STEPS}
+use Rattle.skeen_core.specs.declared.packet.Delivered.{Delivered}
+use Rattle.world.specs.Steps.{OwnFault, Effect, Opened, Submitted, Ran, Collected, Made, Steps, Refused}
 use Rattle.world.specs.Steps as world
 use Rattle.world.specs.World.{World}
-use Rattle.world_laws.specs.Headline.{IsOneThread, rows_of}
-use Rattle.journal.specs.declared.trace.TheConstants.{GREATEST_STEPS}
 
--- the system, at most how many steps may be made, and the trace: those that were made, as they are stored, and for how
+-- the front, at most how many steps may be made, and the trace: those that were made, as they are stored, and for how
 -- many bytes more there is room
 pub record HistoryView : Type 0 where
-  pub system : SystemView
+  pub front : FrontView
   pub max_steps : ℕ
   pub steps : List Step
   pub room : ℕ
 
--- whether a worker's start was refused
-abbrev pub has_failed : HistoryView → Bool
-has_failed h = failed h.system
+-- The trace leads to this world, and the front shows it, told so. A layer there may be taken, but none has run that
+-- isn't settled: a Run and its Settle are made at once.
+pub record IsIn (h : HistoryView) (w : World) (told : Told) : Type 0 where
+  pub at : FrontIsAt h.front h.steps w told
+  pub not_run : HasNotRun w.layer
 
--- the trace leads to this world, and the system shows it
-abbrev pub IsIn : HistoryView → World → Type 0
-IsIn h w = ShowsHistory h.system h.steps w
-
--- The system shows the world of its own trace; and what the shards hold together and the replies to all that was
--- executed are those of one thread that runs the executed requests, sorted by their final stamps, on one map.
+-- the front shows the world of its own trace, as it was told
 pub record IsLawful (h : HistoryView) : Type 0 where
   pub world : World
-  pub shows : IsIn h world
-  pub one_thread : IsOneThread (contents_of h.system) (rows_by_stamp (rows_of world.ended))
+  pub told : Told
+  pub shows : IsIn h world told
 
--- the trace leads to a world of which these are the rows
-pub record HasItsRows (h : HistoryView) : Type 0 where
-  pub world : World
-  pub leads : Leads (table_of h.system) opening h.steps world
-  pub rows : AreRows world.ended (reads.rows_of h.system)
+-- how many steps are kept back while these are out: the Run and the Settle of their layer
+abbrev pub kept_for : List Delivered → ℕ
+kept_for [] = 0
+kept_for (d ∷ ds) = 2
 
--- What each history is: it is lawful, unless a worker's start was refused. Trace and rows stand also then.
+-- What each history is: it is lawful, its rows and names are those of all that was settled, its front has counted the
+-- steps, and those that are kept back fit behind them.
 pub record IsHistory (h : HistoryView) : Type 0 where
   pub few : h.max_steps ≤ GREATEST_STEPS
-  pub within : length h.steps ≤ h.max_steps
-  pub max_steps : has_failed h ≡ false → h.system.max_steps ≡ h.max_steps
-  pub lawful : has_failed h ≡ false → IsLawful h
-  pub rows : HasItsRows h
+  pub within : length h.steps + kept_for h.front.out ≤ h.max_steps
+  pub counted : h.front.steps + h.front.layers ≡ length h.steps
+  pub whole : h.front.whole ≡ true
+  pub lawful : IsLawful h
 
 -- ---- a step
 
--- The step was made, answered so, and is the last of the trace: whatever world the history was in, the step is accepted
--- there, and the history is in the world after it. A Run stands there with the ids that starved.
+-- how many steps are kept back beside this one: the Run and the Settle of the layer that is out, or that it takes
+abbrev pub kept_back : Step → List Delivered → ℕ
+kept_back Take out = 2
+kept_back Open out = kept_for out
+kept_back (Submit conn words) out = kept_for out
+kept_back (Deliver place) out = kept_for out
+kept_back (Run starved) out = kept_for out
+kept_back Settle out = kept_for out
+kept_back (Collect conn) out = kept_for out
+kept_back (Close conn) out = kept_for out
+
+-- the step may be made: fewer were made than may be, apart from those that are kept back
+abbrev pub MayGoOn : HistoryView → Step → Type 0
+MayGoOn h step = length h.steps + kept_back step h.front.out < h.max_steps
+
+-- what a world answers, as it was told
+abbrev pub retold_effect : Told → Effect → Effect
+retold_effect told (Opened conn) = Opened conn
+retold_effect told (Submitted id) = Submitted id
+retold_effect told (Ran ids) = Ran ids
+retold_effect told (Collected outcome) = Collected (option_map (retold_outcome told) outcome)
+retold_effect told Made = Made
+
+-- in this world, told so, the step is accepted and answers so, as it was told; and the history is in the world after it,
+-- told the same
+pub record IsMadeIn (old : HistoryView) (step : Step) (effect : Effect) (new : HistoryView) (w : World) (told : Told) : Type 0 where
+  pub answer : Effect
+  pub after : World
+  pub makes : Steps old.front.table w step answer after
+  pub tells : effect ≡ retold_effect told answer
+  pub shows : IsIn new after told
+
+-- The step was made, answered so, and is the last of the trace: so it is in whatever world the history was, whatever it
+-- was told. Rows and names stay.
 pub record IsMade (old : HistoryView) (step : Step) (effect : Effect) (new : HistoryView) : Type 0 where
-  pub lived : has_failed old ≡ false
-  pub lives : has_failed new ≡ false
-  pub left : length old.steps < old.max_steps
+  pub left : MayGoOn old step
   pub max_steps : new.max_steps ≡ old.max_steps
   pub steps : new.steps ≡ old.steps ++ step ∷ []
-  pub table : table_of new.system ≡ table_of old.system
-  pub from_each : (w : World) → IsIn old w →
-      (w' : World) × Steps (table_of old.system) w step (effect_shown effect) w' × IsIn new w'
+  pub table : new.front.table ≡ old.front.table
+  pub rows : new.front.rows ≡ old.front.rows
+  pub starved : new.front.starved ≡ old.front.starved
+  pub from_each : (w : World) (told : Told) → IsIn old w told → IsMadeIn old step effect new w told
 
 -- nothing has changed but room
 pub record IsUnchanged (old new : HistoryView) : Type 0 where
-  pub system : IsSameButRoom old.system new.system
+  pub front : new.front ≡ old.front
   pub max_steps : new.max_steps ≡ old.max_steps
   pub steps : new.steps ≡ old.steps
 
 -- ---- refusals
 
--- steps may be made: no worker's start was refused, and fewer were made than may be
-pub record MayGoOn (h : HistoryView) : Type 0 where
-  pub lives : has_failed h ≡ false
-  pub left : length h.steps < h.max_steps
-
 -- in the world of the trace the step is refused so
 pub record IsRefused (h : HistoryView) (step : Step) (fault : OwnFault) : Type 0 where
   pub world : World
-  pub shows : IsIn h world
+  pub told : Told
+  pub shows : IsIn h world told
   pub refused : Refused world step fault
 
 -- in the world of the trace the step has no fault of its own
 pub record HasNoFault (h : HistoryView) (step : Step) : Type 0 where
   pub world : World
-  pub shows : IsIn h world
+  pub told : Told
+  pub shows : IsIn h world told
   pub none : (fault : OwnFault) → ¬ Refused world step fault
 
--- Why a step isn't made: the first that applies of Failed, Exhausted, a fault of the step's own, and Memory.
+-- Why a step isn't made: the first that applies of Exhausted, a fault of the step's own, and Memory.
 abbrev pub IsFault : HistoryView → Step → StepFault → Type 0
-IsFault h step Failed = has_failed h ≡ true
-IsFault h step Exhausted = (has_failed h ≡ false) × (length h.steps ≡ h.max_steps)
-IsFault h step Busy = MayGoOn h × IsRefused h step world.Busy
-IsFault h step NoConn = MayGoOn h × IsRefused h step world.NoConn
-IsFault h step NoPacket = MayGoOn h × IsRefused h step world.NoPacket
-IsFault h step InFlight = MayGoOn h × IsRefused h step world.InFlight
-IsFault h step NoLayer = MayGoOn h × IsRefused h step world.NoLayer
-IsFault h step Memory = MayGoOn h × HasNoFault h step
+IsFault h step Busy = MayGoOn h step × IsRefused h step world.Busy
+IsFault h step NoConn = MayGoOn h step × IsRefused h step world.NoConn
+IsFault h step NoPacket = MayGoOn h step × IsRefused h step world.NoPacket
+IsFault h step InFlight = MayGoOn h step × IsRefused h step world.InFlight
+IsFault h step NoLayer = MayGoOn h step × IsRefused h step world.NoLayer
+IsFault h step Exhausted = h.max_steps ≤ length h.steps + kept_back step h.front.out
+IsFault h step Memory = MayGoOn h step × HasNoFault h step
 
--- a worker's start was refused now: the trace and the rows stand, and nothing else is said
-pub record Fails (old new : HistoryView) : Type 0 where
-  pub going : MayGoOn old
-  pub failed : has_failed new ≡ true
-  pub table : table_of new.system ≡ table_of old.system
-  pub rows : reads.rows_of new.system ≡ reads.rows_of old.system
-  pub max_steps : new.max_steps ≡ old.max_steps
-  pub steps : new.steps ≡ old.steps
+-- ---- kinds of step
 
--- why a step that workers make isn't made, and what it leaves
-abbrev pub IsLeft : Bool → HistoryView → Step → StepFault → HistoryView → Type 0
-IsLeft may_refuse old step Failed new =
-    ((has_failed old ≡ true) × IsUnchanged old new) ⊎ ((may_refuse ≡ true) × Fails old new)
-IsLeft may_refuse old step fault new = IsFault old step fault × IsUnchanged old new
+-- the step hands no layer out and tells nothing of one
+abbrev pub IsPlain : Step → Type 0
+IsPlain Open = Unit {0}
+IsPlain (Submit conn words) = Unit {0}
+IsPlain (Deliver place) = Unit {0}
+IsPlain Take = ⊥
+IsPlain (Run starved) = ⊥
+IsPlain Settle = ⊥
+IsPlain (Collect conn) = Unit {0}
+IsPlain (Close conn) = Unit {0}
 
--- the step runs no layer
-abbrev pub IsNoRun : Step → Type 0
-IsNoRun (Run starved) = ⊥
-IsNoRun Open = Unit {0}
-IsNoRun (Submit conn words) = Unit {0}
-IsNoRun (Deliver place) = Unit {0}
-IsNoRun Take = Unit {0}
-IsNoRun Settle = Unit {0}
-IsNoRun (Collect conn) = Unit {0}
-IsNoRun (Close conn) = Unit {0}
-
--- the step answers nothing
+-- and it answers nothing
 abbrev pub IsUnanswered : Step → Type 0
 IsUnanswered Open = ⊥
 IsUnanswered (Submit conn words) = ⊥
 IsUnanswered (Deliver place) = Unit {0}
-IsUnanswered Take = Unit {0}
+IsUnanswered Take = ⊥
 IsUnanswered (Run starved) = ⊥
-IsUnanswered Settle = Unit {0}
+IsUnanswered Settle = ⊥
 IsUnanswered (Collect conn) = ⊥
 IsUnanswered (Close conn) = Unit {0}

@@ -1,6 +1,9 @@
 pub mod Submits
 pub mod Histories
+pub mod Making
+pub mod Layers
 pub mod Turns
 pub mod Outcomes
 pub mod Clusters
 pub mod Answers
+pub mod Endings

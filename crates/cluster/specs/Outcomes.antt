@@ -1,6 +1,7 @@
 -- Where what a connection collects comes from.
 use Rattle.std.specs.Prelude.{◌≡◌, ℕ, ◌<◌, List, ◌⊎◌, Option, Some, None, IsSome}
 use Rattle.command_table.specs.Reading.{reading}
+use Rattle.front.specs.Fronts.{FrontView}
 use Rattle.journal.specs.Views.{RowView}
 use Rattle.placement.specs.Layout.{Layout}
 use Rattle.resp.specs.Content.{out_of_memory}
@@ -8,8 +9,6 @@ use Rattle.resp.specs.Text.{text}
 use Rattle.groups.specs.Order.{In}
 use Rattle.groups.specs.declared.request.RequestId.{RequestId}
 use Rattle.groups.specs.declared.stamp.Stamp.{Stamp}
-use Rattle.system.specs.Reads.{table_of, rows_of, starved_of}
-use Rattle.system.specs.System.{SystemView}
 use Rattle.world.specs.World.{Outcome}
 use Rattle.world_laws.specs.Collecting.{reply_at_once}
 
@@ -32,8 +31,8 @@ pub record IsAtOnce (t : Layout) (words : List (List ℕ)) (o : Outcome) : Type 
   pub stamp : o.stamp ≡ None
   pub reply : reply_at_once t (reading words) ≡ Some o.reply
 
-abbrev pub ComesFrom : SystemView → List (List ℕ) → Outcome → Type 0
-ComesFrom s words o = IsOfRow (rows_of s) o ⊎ (HasStarved (starved_of s) o ⊎ IsAtOnce (table_of s) words o)
+abbrev pub ComesFrom : FrontView → List (List ℕ) → Outcome → Type 0
+ComesFrom f words o = IsOfRow f.rows o ⊎ (HasStarved f.starved o ⊎ IsAtOnce f.table words o)
 
 -- ---- floors
 

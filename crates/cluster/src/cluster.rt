@@ -2,39 +2,47 @@
 
 ghost use Rattle.std.specs.Prelude.{◌≡◌, ◌≤◌, ◌<◌, ◌+◌, [], ◌⊎◌, false, length, true, Some, None};
 ghost use Rattle.std.specs.Prelude.{IfOk, IfErr, OnOk, OnErr, IfSome, IfNone, option_copied, IsTrue, ◌↔◌, ℕ};
+ghost use Rattle.back.specs.Backs as store;
+ghost use Rattle.front.specs.Looking.{IsQuiet};
 ghost use Rattle.cluster.specs.Answers.{shown_outcome, IsReplied};
-ghost use Rattle.cluster.specs.Clusters.{IsNew, SameBook, Fits, next_id, last_id, IsForeign, IsSubmitFault, IsCollectFault, IsCloseFault};
+ghost use Rattle.cluster.specs.Endings.{IsCloseFault, IsRight};
+ghost use Rattle.cluster.specs.Clusters.{IsNew, SameBook, Fits, next_id, last_id, IsForeign, IsSubmitFault, IsCollectFault};
 ghost use Rattle.cluster.specs.Clusters.{last_of, AreLasts, IsPut, IsSeated, CanCollect, HasClosed, StaysOpen};
-ghost use Rattle.cluster.specs.Histories.{has_failed, IsLawful, HasItsRows, IsMade, IsUnchanged, IsFault};
+ghost use Rattle.cluster.specs.Histories.{kept_for, IsLawful, IsMade, IsUnchanged, IsFault};
+ghost use Rattle.cluster.specs.Layers.{HandsOut, IsSettled, IsSettleFault};
 ghost use Rattle.cluster.specs.Outcomes.{ComesFrom, IsAbove, raised};
+ghost use Rattle.cluster.specs.Making.{effect_shown};
 ghost use Rattle.cluster.specs.Submits.{submits, submits_by, IsSaid};
+ghost use Rattle.cluster.specs.Turns.{Delivers, IsTurnFault};
 ghost use Rattle.journal.specs.Codes.{steps_size};
-ghost use Rattle.cluster.specs.Turns.{TurnsOn, IsTurnFault};
 ghost use Rattle.journal.specs.declared.step.Step.{Step};
-ghost use Rattle.router.specs.declared.outcome.Outcome.{Outcome};
-ghost use Rattle.system.specs.Reads.{rows_of, starved_of, waiting_for};
-ghost use Rattle.system.specs.System.{IsQuiet};
-ghost use Rattle.system.specs.declared.effect.Effect.{Effect};
-ghost use Rattle.system_view.specs.Connections.{outcome_shown};
 ghost use Rattle.journal.specs.declared.trace.TheConstants.{GREATEST_STEPS};
+ghost use Rattle.router.specs.Router.{waiting};
+ghost use Rattle.router.specs.declared.outcome.Outcome.{Outcome};
+ghost use Rattle.system_view.specs.Connections.{outcome_shown};
+ghost use Rattle.world.specs.Steps.{Opened, Submitted, Collected, Made};
 
+use super::agreeing::are_same;
 use super::closing::Closing;
+use super::effect::Effect;
+use super::fault::StepFault;
 use super::history::History;
 use super::pick::Pick;
+use back::Back;
+use front::Front;
 use groups::{ConnId, RequestId, Stamp};
 use journal::{Step, Trace};
+use layer_planner::Layer;
+use layer_results::Done;
 use packing::PackedWords;
 use placement::Table;
 use resp::{Reply, Request};
 use router::Outcome;
-use shard_workers::{Gate, Workers};
-use shards::ShardHasher;
 use std::alloc::{AllocError, Global};
 use std::collections::BTreeMap;
 use std::marker::Model;
 use std::mem;
 use std::sync::ledger::{Blank, Book, Ledger, Share};
-use system::{Effect, StepFault, System};
 use thiserror::Error;
 
 /// How many bytes a Close takes in the trace at most.
@@ -164,8 +172,7 @@ impl SealedReply {
     }
 }
 
-/// Why a cluster isn't closed. Nothing was changed. Where several apply it is the first of `Failed`, `SeatsOut` and
-/// `NotQuiet`.
+/// Why a cluster isn't closed. Nothing was changed. Where several apply it is the first.
 #[derive(Clone, Copy, Debug, Drop, PartialEq, Eq, Error)]
 pub enum CloseFault {
     /// Not as many seats stood as sat.
@@ -176,15 +183,15 @@ pub enum CloseFault {
     #[error("a request is under way")]
     NotQuiet,
 
-    /// A worker could not be started.
-    #[error("a worker could not be started")]
-    Failed,
+    /// What was told of the layers is not what the store has kept of them.
+    #[error("the rows that were told are not those of the store")]
+    Disagree,
 }
 
-/// A system with the trace of its steps, and the book of its seats.
+/// A front with the trace of its steps, and the book of its seats.
 ///
-/// Unless a worker's start was refused, the system shows the world of the trace. The book of the ledger is the number
-/// of Submits in the trace, and each seat's share of it is the number of its own.
+/// The front shows the world of the trace, as it was told what came of the layers that it handed out. The book of the ledger is
+/// the number of Submits in the trace, and each seat's share of it is the number of its own.
 #[derive(Drop)]
 pub struct Cluster<L: Ledger> {
     alloc: Global,
@@ -203,13 +210,12 @@ pub struct Cluster<L: Ledger> {
 impl<L: Ledger> Model for Cluster<L> {
     ghost use Rattle.std.specs.Coded.{codes};
     ghost use Rattle.resp.specs.contracts.reply.Reply as reply;
-    ghost use Rattle.shard_exec.specs.StoreStates.{state_code};
     ghost use Rattle.skeen_core.specs.Kept.{group_code};
     ghost use Rattle.cluster.specs.Clusters.{ClusterView, IsCluster, KeepsRoom};
 
     ghost Value = { ClusterView };
 
-    ghost coded = { Prim.hlevel (codes, reply.the_row.coded, group_code, state_code) };
+    ghost coded = { Prim.hlevel (codes, reply.the_row.coded, group_code) };
 
     ghost view = { λ c. record { history = c.history; book = c.book.total; sat = c.sat; stood = c.stood; back = c.pool.amount } };
 
@@ -220,15 +226,14 @@ impl<L: Ledger> Model for Cluster<L> {
 }
 
 impl<L: Ledger> Cluster<L> {
-    /// A cluster without seats, whose system has made no step and makes `max_steps` at most. Keys lie as the table
-    /// says, and each shard hashes them by a copy of `hasher`. The only error is want of memory.
+    /// A cluster without seats, of which no step was made and `max_steps` at most are. Keys lie as the table says. The only error
+    /// is want of memory.
     ///
     /// The blank ledger has more parts than steps are ever made, so each seat gets one.
     pub fn new(
         alloc: Global,
         table: Table,
         max_steps: u64,
-        hasher: ShardHasher,
         blank: Blank,
     ) -> Result<Self, AllocError>
         requires name { blank.name ≡ L.name }
@@ -238,7 +243,7 @@ impl<L: Ledger> Cluster<L> {
         requires few { max_steps ≤ GREATEST_STEPS }
         ensures { IfOk result (IsNew table max_steps) }
     {
-        let history = History::new(alloc, table, max_steps, hasher)?;
+        let history = History::new(alloc, table, max_steps)?;
         history.lawful();
         let (book, pool) = blank.open::<L>();
         Ok(Cluster {
@@ -255,19 +260,17 @@ impl<L: Ledger> Cluster<L> {
         })
     }
 
-    /// Opens a connection, and gives the seat that has it. The errors are `Failed`, `Exhausted` and `Memory`; they
-    /// change nothing but room.
+    /// Opens a connection, and gives the seat that has it. The errors are `Exhausted` and `Memory`; they change
+    /// nothing but room.
     pub fn sit(&mut self) -> Result<Seat<L>, StepFault>
-        ensures opened { IfOk result (λ seat. IsMade self.old.history Step.Open (Effect.Opened seat.conn) self.new.history) }
+        ensures opened { IfOk result (λ seat. IsMade self.old.history Step.Open (Opened seat.conn.0) self.new.history) }
         ensures seat { IfOk result (λ seat. seat ≡ record { conn = record { 0 = self.old.sat + 1 }; floor = 0; count = 0; words = [] }) }
         ensures sat { OnOk result (self.new.sat ≡ self.old.sat + 1) }
         ensures book { SameBook self.old self.new }
         ensures refused { IfErr result (IsFault self.old.history Step.Open) }
         ensures unchanged { OnErr result (IsUnchanged self.old.history self.new.history × (self.new.sat ≡ self.old.sat)) }
     {
-        if self.history.system().has_failed() {
-            return Err(StepFault::Failed);
-        }
+        self.history.lawful();
         let number = self.sat + 1;
         let Some(kept) = self.kept.checked_add(GREATEST_CLOSE) else {
             return Err(self.sit_refusal());
@@ -310,9 +313,6 @@ impl<L: Ledger> Cluster<L> {
     pub fn submit_refusal(&self, seat: &Seat<L>, words: Request) -> StepFault
         ensures { IsSubmitFault self.now.history seat.now words result }
     {
-        if self.history.system().has_failed() {
-            return StepFault::Failed;
-        }
         if self.history.is_exhausted() {
             return StepFault::Exhausted;
         }
@@ -325,12 +325,12 @@ impl<L: Ledger> Cluster<L> {
 
     /// Submits a request of these words, and gives its id. The seat counts it and keeps a copy of the words.
     ///
-    /// The errors change nothing but room. They are the first that applies of `Failed`, `Exhausted`, `NoConn` where the
+    /// The errors change nothing but room. They are the first that applies of `Exhausted`, `NoConn` where the
     /// seat's connection isn't open or the seat is not as the trace has it, `Busy` where it hasn't collected its last
     /// outcome, and `Memory`.
     pub fn submit(&mut self, seat: &mut Seat<L>, words: Request) -> Result<RequestId, StepFault>
         ensures submitted { IfOk result (λ id.
-            IsMade self.old.history (Step.Submit seat.old.conn words) (Effect.Submitted id) self.new.history) }
+            IsMade self.old.history (Step.Submit seat.old.conn words) (Submitted id) self.new.history) }
         ensures id { IfOk result (λ id. id ≡ next_id seat.old) }
         ensures seat { OnOk result (seat.new
             ≡ record { conn = seat.old.conn; floor = seat.old.floor; count = seat.old.count + 1; words = words }) }
@@ -341,9 +341,6 @@ impl<L: Ledger> Cluster<L> {
         ensures unchanged { OnErr result (IsUnchanged self.old.history self.new.history × (self.new.book ≡ self.old.book)
             × (seat.new ≡ seat.old)) }
     {
-        if self.history.system().has_failed() {
-            return Err(StepFault::Failed);
-        }
         if self.history.is_exhausted() {
             return Err(StepFault::Exhausted);
         }
@@ -371,41 +368,61 @@ impl<L: Ledger> Cluster<L> {
         Ok(id)
     }
 
-    /// Makes a turn: the first of Settle, Run, Take and Deliver that applies, the last with the packet that is picked.
-    /// Says whether one was made; none is where nothing is under way.
+    /// Makes a turn: the Deliver of the packet that is picked. Says whether one was made; none is where no packet is under way.
     ///
-    /// The errors are `Failed`, `Exhausted` and, where something is under way, `Memory`. They change nothing but room,
-    /// unless a worker's start is refused now: then the trace and the rows stand, no step is made any more, and nothing
-    /// else is said.
-    pub fn turn<P: Pick, W: Workers>(
-        &mut self,
-        pick: &P,
-        workers: &W,
-        gate: &(dyn Gate + Sync),
-    ) -> Result<bool, StepFault>
-        ensures made { IfOk result (λ made. made ≡ true → TurnsOn (P.picks pick.now) self.old.history self.new.history) }
-        ensures quiet { IfOk result (λ made. made ≡ false → IsQuiet self.old.history.system) }
-        ensures unmade { IfOk result (λ made. made ≡ false → IsUnchanged self.old.history self.new.history) }
+    /// The errors are `Exhausted` and, where a packet is under way, `Memory`. They change nothing but room.
+    pub fn turn<P: Pick>(&mut self, pick: &P) -> Result<bool, StepFault>
+        ensures made { IfOk result (λ made. made ≡ true → Delivers (P.picks pick.now) self.old.history self.new.history) }
+        ensures none { IfOk result (λ made. made ≡ false → self.old.history.front.multicast.packets ≡ []) }
+        ensures unmade { IfOk result (λ made. made ≡ false → self.new.history ≡ self.old.history) }
         ensures rest { SameBook self.old self.new × (self.new.sat ≡ self.old.sat) }
-        ensures refused { IfErr result (λ fault. IsTurnFault (W.may_refuse workers.now) self.old.history fault self.new.history) }
+        ensures refused { IfErr result (IsTurnFault self.old.history) }
+        ensures unchanged { OnErr result (IsUnchanged self.old.history self.new.history) }
     {
-        self.history.turn(pick, workers, gate, self.kept)
+        self.history.turn(pick, self.kept)
+    }
+
+    /// Takes all requests that are ready or lined up as the next layer, and hands them out to be run. Until what came of them is
+    /// settled no other layer is taken, and two steps are kept back for their Run and their Settle.
+    ///
+    /// The errors change nothing but room. They are the first that applies of `Exhausted`, where no three steps more may be
+    /// made, `InFlight` where a layer is out, `NoLayer` where no request is ready, and `Memory`.
+    pub fn take(&mut self) -> Result<Layer, StepFault>
+        ensures taken { IfOk result (λ layer. HandsOut self.old.history layer self.new.history) }
+        ensures rest { SameBook self.old self.new × (self.new.sat ≡ self.old.sat) }
+        ensures refused { IfErr result (IsFault self.old.history Step.Take) }
+        ensures unchanged { OnErr result (IsUnchanged self.old.history self.new.history) }
+    {
+        self.history.take(self.kept)
+    }
+
+    /// Tells what came of the layer that is out: each of its requests gets its outcome, and its Run and its Settle are made.
+    ///
+    /// The errors change nothing but room, and give back what was told. They are `NoLayer`, it isn't what came of the layer that
+    /// is out, and `Memory`. Steps are always left for it.
+    pub fn settle(&mut self, done: Done) -> Result<(), (Done, StepFault)>
+        ensures settled { OnOk result (IsSettled self.old.history done self.new.history) }
+        ensures rest { SameBook self.old self.new × (self.new.sat ≡ self.old.sat) }
+        ensures refused { IfErr result (λ back. (back.0 ≡ done) × IsSettleFault self.old.history done back.1) }
+        ensures unchanged { OnErr result (IsUnchanged self.old.history self.new.history) }
+    {
+        self.history.settle(done, self.kept)
     }
 
     /// Collects what came of the seat's last request, if its outcome is there; else no step is made.
     ///
-    /// The errors change nothing but room. They are the first that applies of `Failed`, `Exhausted`, `NoConn` where the
+    /// The errors change nothing but room. They are the first that applies of `Exhausted`, `NoConn` where the
     /// seat's connection isn't open, the seat is not as the trace has it, or the outcome's stamp isn't above the seat's
     /// floor, and `Memory`, for the copy of the words too.
     pub fn collect(&mut self, seat: &mut Seat<L>) -> Result<Option<Answer>, StepFault>
-        ensures none { IfOk result (λ answer. IfNone answer (waiting_for self.old.history.system seat.old.conn.0 ≡ None)) }
+        ensures none { IfOk result (λ answer. IfNone answer (waiting self.old.history.front.router seat.old.conn.0 ≡ None)) }
         ensures unasked { IfOk result (λ answer. IfNone answer ((self.new ≡ self.old) × (seat.new ≡ seat.old))) }
-        ensures collected { IfOk result (λ answer. IfSome answer (λ a. (outcome : Outcome) × (shown_outcome a ≡ outcome_shown outcome)
-            × IsMade self.old.history (Step.Collect seat.old.conn) (Effect.Collected (Some outcome)) self.new.history)) }
+        ensures collected { IfOk result (λ answer. IfSome answer (λ a.
+            IsMade self.old.history (Step.Collect seat.old.conn) (Collected (Some (shown_outcome a))) self.new.history)) }
         ensures id { IfOk result (λ answer. IfSome answer (λ a. a.id ≡ last_id seat.old)) }
         ensures words { IfOk result (λ answer. IfSome answer (λ a. a.words ≡ seat.old.words)) }
         ensures said { IfOk result (λ answer. IfSome answer (λ a. IsSaid self.old.history.steps a.id a.words)) }
-        ensures from { IfOk result (λ answer. IfSome answer (λ a. ComesFrom self.new.history.system a.words (shown_outcome a))) }
+        ensures from { IfOk result (λ answer. IfSome answer (λ a. ComesFrom self.new.history.front a.words (shown_outcome a))) }
         ensures above { IfOk result (λ answer. IfSome answer (λ a. IsAbove a.stamp seat.old.floor)) }
         ensures seat { IfOk result (λ answer. IfSome answer (λ a. seat.new ≡ record seat.old { floor = raised a.stamp seat.old.floor })) }
         ensures rest { SameBook self.old self.new × (self.new.sat ≡ self.old.sat) }
@@ -422,7 +439,7 @@ impl<L: Ledger> Cluster<L> {
         let Ok(words) = seat.words.try_clone() else {
             return Err(StepFault::Memory);
         };
-        let outcome = match take(&mut self.history, seat, self.kept) {
+        let outcome = match take_outcome(&mut self.history, seat, self.kept) {
             Ok(outcome) => outcome,
             Err(fault) => return Err(fault),
         };
@@ -436,7 +453,7 @@ impl<L: Ledger> Cluster<L> {
 
     /// The reply alone of what `collect` would give, and its errors: it copies no words.
     pub fn collect_reply(&mut self, seat: &mut Seat<L>) -> Result<Option<SealedReply>, StepFault>
-        ensures none { IfOk result (λ reply. IfNone reply (waiting_for self.old.history.system seat.old.conn.0 ≡ None)) }
+        ensures none { IfOk result (λ reply. IfNone reply (waiting self.old.history.front.router seat.old.conn.0 ≡ None)) }
         ensures unasked { IfOk result (λ reply. IfNone reply ((self.new ≡ self.old) × (seat.new ≡ seat.old))) }
         ensures replied { IfOk result (λ reply. IfSome reply (λ r. IsReplied self.old.history seat.old r.reply self.new.history seat.new)) }
         ensures rest { SameBook self.old self.new × (self.new.sat ≡ self.old.sat) }
@@ -450,7 +467,7 @@ impl<L: Ledger> Cluster<L> {
         if !some {
             return Ok(None);
         }
-        let outcome = match take(&mut self.history, seat, self.kept) {
+        let outcome = match take_outcome(&mut self.history, seat, self.kept) {
             Ok(outcome) => outcome,
             Err(fault) => return Err(fault),
         };
@@ -465,7 +482,7 @@ impl<L: Ledger> Cluster<L> {
         ensures stood { self.new.stood ≡ self.old.stood + 1 }
         ensures back { self.new.back ≡ self.old.back + seat.count }
         ensures rest { (self.new.book ≡ self.old.book) × (self.new.sat ≡ self.old.sat) }
-        ensures closed { IsMade self.old.history (Step.Close seat.conn) Effect.Made self.new.history
+        ensures closed { IsMade self.old.history (Step.Close seat.conn) Made self.new.history
             ⊎ StaysOpen seat.conn self.old.history self.new.history }
     {
         let Seat { conn, share, .. } = seat;
@@ -475,31 +492,36 @@ impl<L: Ledger> Cluster<L> {
         self.stood += 1;
     }
 
-    /// What is told of the cluster when it is closed: all seats have stood, and nothing is under way. It takes no
-    /// memory and changes nothing.
-    pub fn closing(&mut self) -> Result<Closing, CloseFault>
+    /// What is told of the cluster when it is closed: all seats have stood, nothing is under way, and the rows that it was told
+    /// are those of this store. It takes no memory and changes nothing.
+    pub fn closing(&mut self, back: &Back) -> Result<Closing, CloseFault>
         ensures seats { OnOk result (self.old.stood ≡ self.old.sat) }
         ensures share { OnOk result (self.old.back ≡ self.old.book) }
-        ensures quiet { OnOk result (IsQuiet self.old.history.system) }
+        ensures quiet { OnOk result (IsQuiet self.old.history.front) }
         ensures lawful { OnOk result (IsLawful self.old.history) }
+        ensures agree { OnOk result (self.old.history.front.rows ≡ back.now.rows) }
+        ensures back { OnOk result (store.IsLawful back.now.store back.now.rows) }
+        ensures right { OnOk result (IsRight self.old.history back.now) }
         ensures requests { IfOk result (λ closing. closing.requests ≡ submits self.old.history.steps) }
-        ensures executed { IfOk result (λ closing. closing.executed ≡ length (rows_of self.old.history.system)) }
-        ensures starved { IfOk result (λ closing. closing.starved ≡ length (starved_of self.old.history.system)) }
-        ensures refused { IfErr result (IsCloseFault self.old) }
+        ensures executed { IfOk result (λ closing. closing.executed ≡ length self.old.history.front.rows) }
+        ensures starved { IfOk result (λ closing. closing.starved ≡ length self.old.history.front.starved) }
+        ensures refused { IfErr result (IsCloseFault self.old back.now.rows) }
         ensures same { self.new ≡ self.old }
     {
-        let system = self.history.system();
-        if system.has_failed() {
-            return Err(CloseFault::Failed);
-        }
         if self.stood != self.sat {
             return Err(CloseFault::SeatsOut);
         }
-        if !system.quiet() {
+        let front = self.history.front();
+        if !front.quiet() {
             return Err(CloseFault::NotQuiet);
         }
-        let executed = system.rows().len() as u64;
-        let starved = system.starved().len() as u64;
+        if !are_same(front.rows(), back.rows()) {
+            return Err(CloseFault::Disagree);
+        }
+        let executed = front.rows().len() as u64;
+        let starved = front.starved().len() as u64;
+        front.holds();
+        back.lawful();
         self.history.lawful();
         self.book.audit(&mut self.pool);
         Ok(Closing {
@@ -524,17 +546,25 @@ impl<L: Ledger> Cluster<L> {
         self.history.trace()
     }
 
-    /// The system, to be looked at.
-    pub fn system(&self) -> &System
-        ensures { result.now ≡ self.now.history.system }
+    /// The front, to be looked at.
+    pub fn front(&self) -> &Front
+        ensures { result.now ≡ self.now.history.front }
     {
-        self.history.system()
+        self.history.front()
     }
 
-    /// It does nothing: its contract says that the cluster is lawful, and that its rows are those of its trace.
+    /// Whether no seat may do anything any more: as many steps were made as may be, but for the two that are kept back while a
+    /// layer is out.
+    pub fn is_exhausted(&self) -> bool
+        ensures all { result ≡ true → self.now.history.max_steps ≤ length self.now.history.steps + kept_for self.now.history.front.out }
+        ensures left { result ≡ false → length self.now.history.steps + kept_for self.now.history.front.out < self.now.history.max_steps }
+    {
+        self.history.is_exhausted()
+    }
+
+    /// It does nothing: its contract says that the cluster is lawful.
     pub fn lawful(&self)
-        ensures lawful { has_failed self.now.history ≡ false → IsLawful self.now.history }
-        ensures rows { HasItsRows self.now.history }
+        ensures lawful { IsLawful self.now.history }
         ensures book { self.now.book ≡ submits self.now.history.steps }
     {
         self.history.lawful();
@@ -545,10 +575,10 @@ impl<L: Ledger> Cluster<L> {
 /// Submits lies the trace has the seat's words.
 fn fits<L: Ledger>(history: &History, lasts: &BTreeMap<u64, Last>, seat: &Seat<L>) -> bool
     requires lasts { AreLasts lasts.now.entries history.now.steps }
-    requires seated { (sat : ℕ) × (has_failed history.now ≡ false → IsSeated lasts.now.entries sat history.now) }
+    requires seated { (sat : ℕ) × IsSeated lasts.now.entries sat history.now }
     ensures fits { result ≡ true → Fits seat.now history.now.steps }
     ensures known { result ≡ true → (last : Last) × (last_of lasts.now.entries seat.now.conn.0 ≡ Some last) }
-    ensures foreign { result ≡ false → has_failed history.now ≡ false → IsForeign history.now seat.now }
+    ensures foreign { result ≡ false → IsForeign history.now seat.now }
 {
     let Some(last) = lasts.get(&seat.conn.0) else {
         return false;
@@ -574,7 +604,7 @@ fn make_submit(
     requires known { (last : Last) × (last_of lasts.old.entries conn.0 ≡ Some last) }
     requires counted { count ≡ submits_by conn.0 history.old.steps }
     requires few { count ≤ GREATEST_STEPS }
-    ensures made { IfOk result (λ id. IsMade history.old (Step.Submit conn words) (Effect.Submitted id) history.new) }
+    ensures made { IfOk result (λ id. IsMade history.old (Step.Submit conn words) (Submitted id) history.new) }
     ensures id { IfOk result (λ id. id ≡ record { conn = conn; seq = count + 1 }) }
     ensures noted { OnOk result (IsPut lasts.old.entries conn.0
         (Some (record { count = count + 1; place = steps_size history.old.steps })) lasts.new.entries) }
@@ -607,21 +637,18 @@ fn awaits<L: Ledger>(
     seat: &Seat<L>,
 ) -> Result<bool, StepFault>
     requires lasts { AreLasts lasts.now.entries history.now.steps }
-    requires seated { (sat : ℕ) × (has_failed history.now ≡ false → IsSeated lasts.now.entries sat history.now) }
-    ensures none { IfOk result (λ some. some ≡ false → waiting_for history.now.system seat.now.conn.0 ≡ None) }
+    requires seated { (sat : ℕ) × IsSeated lasts.now.entries sat history.now }
+    ensures none { IfOk result (λ some. some ≡ false → waiting history.now.front.router seat.now.conn.0 ≡ None) }
     ensures some { IfOk result (λ some. some ≡ true → CanCollect history.now seat.now) }
     ensures refused { IfErr result (IsCollectFault history.now seat.now) }
 {
-    if history.system().has_failed() {
-        return Err(StepFault::Failed);
-    }
     if history.is_exhausted() {
         return Err(StepFault::Exhausted);
     }
     if !fits(history, lasts, seat) {
         return Err(StepFault::NoConn);
     }
-    let Some(outcome) = history.system().waits(seat.conn) else {
+    let Some(outcome) = history.front().waits(seat.conn) else {
         return Ok(false);
     };
     if !is_above(&outcome.stamp, seat.floor) {
@@ -631,17 +658,18 @@ fn awaits<L: Ledger>(
 }
 
 /// Collects the outcome that waits for the seat, and raises the seat's floor.
-fn take<L: Ledger>(
+fn take_outcome<L: Ledger>(
     history: &mut History,
     seat: &mut Seat<L>,
     kept: usize,
 ) -> Result<Outcome, StepFault>
     requires { CanCollect history.old seat.old }
-    ensures taken { IfOk result (λ outcome. IsMade history.old (Step.Collect seat.old.conn) (Effect.Collected (Some outcome)) history.new) }
+    ensures taken { IfOk result (λ outcome. IsMade history.old (Step.Collect seat.old.conn)
+        (Collected (Some (outcome_shown outcome))) history.new) }
     ensures above { IfOk result (λ outcome. IsAbove outcome.stamp seat.old.floor) }
     ensures id { IfOk result (λ outcome. outcome.id ≡ last_id seat.old) }
     ensures said { IfOk result (λ outcome. IsSaid history.old.steps outcome.id seat.old.words) }
-    ensures from { IfOk result (λ outcome. ComesFrom history.new.system seat.old.words (outcome_shown outcome)) }
+    ensures from { IfOk result (λ outcome. ComesFrom history.new.front seat.old.words (outcome_shown outcome)) }
     ensures seat { IfOk result (λ outcome. seat.new ≡ record seat.old { floor = raised outcome.stamp seat.old.floor }) }
     ensures refused { IfErr result (IsCollectFault history.old seat.old) }
     ensures unchanged { OnErr result (IsUnchanged history.old history.new × (seat.new ≡ seat.old)) }

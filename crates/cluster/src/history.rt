@@ -1,87 +1,84 @@
-//! A system beside the trace of the steps that it made.
+//! A front beside the trace of the steps that were made.
 
-ghost use Rattle.std.specs.Prelude.{◌≡◌, ◌+◌, ◌≤◌, ◌<◌, true, false, [], length, IfOk, IfErr, OnOk, OnErr};
-ghost use Rattle.std.specs.Bool.{OnTrue};
-ghost use Rattle.cluster.specs.Histories.{has_failed, IsLawful, HasItsRows, IsMade, IsUnchanged, IsFault, IsLeft, IsNoRun, IsUnanswered};
-ghost use Rattle.cluster.specs.Turns.{TurnsOn, Delivers, IsTurnFault};
-ghost use Rattle.delivery.specs.Ready.{IsReady};
+ghost use Rattle.std.specs.Prelude.{◌≡◌, ◌+◌, ◌++◌, ◌∷◌, ◌≤◌, ◌<◌, true, false, [], length, map, IfOk, IfErr, OnOk, OnErr};
+ghost use Rattle.cluster.specs.Histories.{kept_for, IsLawful, IsMade, IsUnchanged, IsFault, IsPlain, IsUnanswered};
+ghost use Rattle.cluster.specs.Layers.{HandsOut, IsSettled, IsSettleFault};
+ghost use Rattle.cluster.specs.Making.{effect_shown};
+ghost use Rattle.cluster.specs.Turns.{Delivers, IsTurnFault};
+ghost use Rattle.cluster.specs.declared.fault.StepFault.{StepFault};
+ghost use Rattle.front.specs.Refusing.{WantsMemory};
 ghost use Rattle.journal.specs.Codes.{step_size, steps_size};
 ghost use Rattle.journal.specs.declared.step.Step.{Step};
-ghost use Rattle.journal.specs.declared.request_ids.RequestIds.{RequestIds};
-ghost use Rattle.skeen_core.specs.declared.packet.Delivered.{Delivered};
-ghost use Rattle.system.specs.Reads.{table_of, packets_of, queues_of};
-ghost use Rattle.system.specs.Refusing.{WantsMemory};
-ghost use Rattle.system.specs.System.{IsQuiet};
-ghost use Rattle.system.specs.declared.effect.Effect.{Effect};
-ghost use Rattle.system.specs.declared.fault.StepFault.{StepFault};
 ghost use Rattle.journal.specs.declared.trace.TheConstants.{GREATEST_STEPS};
+ghost use Rattle.world.specs.Steps.{Made};
 
+use super::effect::Effect;
+use super::fault::StepFault;
 use super::pick::Pick;
+use super::steps::{make, own_fault};
+use front::Front;
+use groups::{RequestId, Stamp};
 use journal::{RequestIds, Step, Trace};
+use layer_planner::Layer;
+use layer_results::Done;
 use placement::Table;
-use shard_workers::{Gate, InTurn, Open, Workers};
-use shards::ShardHasher;
 use std::alloc::{AllocError, Global};
 use std::marker::Model;
-use std::num::NonZeroUsize;
-use system::{Effect, Progress, StepFault, System};
 
-/// A system, and the trace of all steps that it made. Contracts see both, and that the system shows the world of its
-/// trace, unless a worker's start was refused.
+/// How many steps are kept back for a layer that is out: its Run and its Settle.
+const KEPT_BACK: u64 = 2;
+
+/// How many bytes a Settle takes in the trace.
+const SETTLE_SIZE: usize = 1;
+
+/// A front, and the trace of all steps that were made. Contracts see both, and that the front shows the world of its trace, as
+/// it was told.
 #[derive(Drop)]
 pub(super) struct History {
     alloc: Global,
-    system: System,
+    front: Front,
     trace: Trace,
 }
 
 impl Model for History {
     ghost use Rattle.std.specs.Coded.{codes};
     ghost use Rattle.resp.specs.contracts.reply.Reply as reply;
-    ghost use Rattle.shard_exec.specs.StoreStates.{state_code};
     ghost use Rattle.skeen_core.specs.Kept.{group_code};
     ghost use Rattle.cluster.specs.Histories.{HistoryView, IsHistory};
 
     ghost Value = { HistoryView };
 
-    ghost coded = { Prim.hlevel (codes, reply.the_row.coded, group_code, state_code) };
+    ghost coded = { Prim.hlevel (codes, reply.the_row.coded, group_code) };
 
-    ghost view = { λ h. record { system = h.system; max_steps = h.trace.max; steps = h.trace.steps; room = h.trace.room } };
+    ghost view = { λ h. record { front = h.front; max_steps = h.trace.max; steps = h.trace.steps; room = h.trace.room } };
 
     ghost invariant = { λ h. IsHistory
-        (record { system = h.system; max_steps = h.trace.max; steps = h.trace.steps; room = h.trace.room }) };
+        (record { front = h.front; max_steps = h.trace.max; steps = h.trace.steps; room = h.trace.room }) };
 }
 
 impl History {
-    /// No step was made. Keys lie as the table says, and each shard hashes them by a copy of `hasher`. The only error
-    /// is want of memory.
-    pub fn new(
-        alloc: Global,
-        table: Table,
-        max_steps: u64,
-        hasher: ShardHasher,
-    ) -> Result<Self, AllocError>
+    /// No step was made. Keys lie as the table says. The only error is want of memory.
+    pub fn new(alloc: Global, table: Table, max_steps: u64) -> Result<Self, AllocError>
         requires some { 1 ≤ max_steps }
         requires few { max_steps ≤ GREATEST_STEPS }
         ensures steps { IfOk result (λ h. h.steps ≡ []) }
         ensures max_steps { IfOk result (λ h. h.max_steps ≡ max_steps) }
-        ensures lives { IfOk result (λ h. has_failed h ≡ false) }
-        ensures table { IfOk result (λ h. table_of h.system ≡ table) }
+        ensures table { IfOk result (λ h. h.front.table ≡ table) }
     {
-        let system = System::with_hasher(alloc, table, max_steps, hasher)?;
+        let front = Front::new(alloc, table)?;
         let trace = Trace::new(alloc, max_steps);
         Ok(History {
             alloc,
-            system,
+            front,
             trace,
         })
     }
 
-    /// The system.
-    pub fn system(&self) -> &System
-        ensures { result.now ≡ self.now.system }
+    /// The front.
+    pub fn front(&self) -> &Front
+        ensures { result.now ≡ self.now.front }
     {
-        &self.system
+        &self.front
     }
 
     /// The trace.
@@ -94,38 +91,43 @@ impl History {
 
     /// It does nothing: its contract says what the history is.
     pub fn lawful(&self)
-        ensures lawful { has_failed self.now ≡ false → IsLawful self.now }
-        ensures rows { HasItsRows self.now }
+        ensures lawful { IsLawful self.now }
+        ensures whole { self.now.front.whole ≡ true }
     {
-        let _ = &self.system;
+        let _ = &self.front;
     }
 
-    /// Whether as many steps were made as may be.
+    /// Whether as many steps were made as may be, but for those that are kept back for a layer that is out.
     pub fn is_exhausted(&self) -> bool
-        ensures all { result ≡ true → length self.now.steps ≡ self.now.max_steps }
-        ensures left { result ≡ false → length self.now.steps < self.now.max_steps }
+        ensures all { result ≡ true → self.now.max_steps ≤ length self.now.steps + kept_for self.now.front.out }
+        ensures left { result ≡ false → length self.now.steps + kept_for self.now.front.out < self.now.max_steps }
     {
-        self.trace.len() as u64 == self.trace.max()
+        let kept = if self.front.is_out() { KEPT_BACK } else { 0 };
+        self.trace.max() <= self.trace.len() as u64 + kept
     }
 
     /// Why a step isn't made for which there was no memory: what else refuses it comes first.
     #[cold]
     pub fn refusal(&self, step: &Step) -> StepFault
+        requires { IsPlain step.now }
         ensures { IsFault self.now step.now result }
     {
-        match self.system.refuses(step) {
-            Some(fault) => fault,
+        if self.is_exhausted() {
+            return StepFault::Exhausted;
+        }
+        match own_fault(&self.front, step) {
+            Some(fault) => StepFault::from(fault),
             None => StepFault::Memory,
         }
     }
 
-    /// Makes a step that runs no layer, and puts it behind those of the trace, where room for so many bytes is kept. Answers
-    /// what it came to, and at which place of the trace's bytes it begins.
+    /// Makes a step that hands no layer out and settles none, and puts it behind those of the trace, where room for so many
+    /// bytes is kept. Answers what it came to, and at which place of the trace's bytes it begins.
     // Inlined as far down as the step is looked at, since each caller knows which step it makes.
     #[inline(always)]
     pub fn make(&mut self, step: Step, kept: usize) -> Result<(Effect, usize), StepFault>
-        requires { IsNoRun step }
-        ensures made { IfOk result (λ made. IsMade self.old step made.0 self.new) }
+        requires { IsPlain step }
+        ensures made { IfOk result (λ made. IsMade self.old step (effect_shown made.0) self.new) }
         ensures place { IfOk result (λ made. made.1 ≡ steps_size self.old.steps) }
         ensures room { OnOk result (kept ≤ self.new.room) }
         ensures fault { IfErr result (IsFault self.old step) }
@@ -133,27 +135,27 @@ impl History {
         ensures room_back { OnErr result (self.old.room ≤ self.new.room) }
         ensures wants { step_size step + kept ≤ self.old.room → IfErr result (λ fault. fault ≡ StepFault.Memory → WantsMemory step) }
     {
-        if self.system.has_failed() {
-            return Err(StepFault::Failed);
+        if self.is_exhausted() {
+            return Err(StepFault::Exhausted);
         }
         let place = self.trace.size();
         let Ok(()) = self.trace.push_keeping(&step, kept) else {
             return Err(self.refusal(&step));
         };
-        match self.system.step(step, &InTurn(NonZeroUsize::MIN), &Open) {
+        match make(&mut self.front, step) {
             Ok(effect) => Ok((effect, place)),
             Err(fault) => {
                 self.trace.take_back(place);
-                Err(fault)
+                Err(StepFault::from(fault))
             }
         }
     }
 
-    /// Makes a step that answers nothing: a packet comes, a layer is taken or settled, or a connection is closed.
+    /// Makes a step that answers nothing: a packet comes, or a connection is closed.
     #[inline(always)]
     pub fn make_unanswered(&mut self, step: Step, kept: usize) -> Result<(), StepFault>
         requires { IsUnanswered step }
-        ensures made { OnOk result (IsMade self.old step Effect.Made self.new) }
+        ensures made { OnOk result (IsMade self.old step Made self.new) }
         ensures room { OnOk result (kept ≤ self.new.room) }
         ensures fault { IfErr result (IsFault self.old step) }
         ensures unchanged { OnErr result (IsUnchanged self.old self.new) }
@@ -161,104 +163,91 @@ impl History {
         ensures wants { step_size step + kept ≤ self.old.room → IfErr result (λ fault. fault ≡ StepFault.Memory → WantsMemory step) }
     {
         self.lawful();
-        match self.make(step, kept) {
-            Ok((Effect::Made, _)) => Ok(()),
-            Ok(_) => unreachable!(),
-            Err(fault) => Err(fault),
-        }
-    }
-
-    /// Runs the layer that was taken, by these workers, and puts the Run behind the steps of the trace with the ids
-    /// that starved. Room for so many bytes is kept there.
-    pub fn run<W: Workers>(
-        &mut self,
-        workers: &W,
-        gate: &(dyn Gate + Sync),
-        kept: usize,
-    ) -> Result<(), StepFault>
-        ensures made { OnOk result ((starved : RequestIds) × IsMade self.old (Step.Run starved) (Effect.Ran starved) self.new) }
-        ensures left { IfErr result (λ fault. IsLeft (W.may_refuse workers.now) self.old (Step.Run []) fault self.new) }
-        ensures room { kept ≤ self.old.room → kept ≤ self.new.room }
-    {
-        if self.system.has_failed() {
-            return Err(StepFault::Failed);
-        }
-        let step = Step::Run {
-            starved: RequestIds::from(Vec::new(self.alloc)),
-        };
-        let Ok(()) = self.trace.reserve_run(self.system.to_run(), kept) else {
-            return Err(self.refusal(&step));
-        };
-        let effect = match self.system.step(step, workers, gate) {
-            Ok(effect) => effect,
+        let effect = match self.make(step, kept) {
+            Ok((effect, _)) => effect,
             Err(fault) => return Err(fault),
         };
-        let Effect::Ran(starved) = effect else {
-            unreachable!()
-        };
-        let Ok(()) = self.trace.push_keeping(&Step::Run { starved }, kept) else {
-            unreachable!()
-        };
+        let Effect::Made = effect else { unreachable!() };
         Ok(())
     }
 
-    /// Makes a turn: the first of Settle, Run, Take and Deliver that applies, or none where nothing is under way. Says
-    /// whether one was made. Room for so many bytes is kept in the trace.
-    pub fn turn<P: Pick, W: Workers>(
-        &mut self,
-        pick: &P,
-        workers: &W,
-        gate: &(dyn Gate + Sync),
-        kept: usize,
-    ) -> Result<bool, StepFault>
-        ensures made { IfOk result (λ made. made ≡ true → TurnsOn (P.picks pick.now) self.old self.new) }
-        ensures quiet { IfOk result (λ made. made ≡ false → IsQuiet self.old.system) }
-        ensures unmade { IfOk result (λ made. made ≡ false → IsUnchanged self.old self.new) }
-        ensures refused { IfErr result (λ fault. IsTurnFault (W.may_refuse workers.now) self.old fault self.new) }
+    /// Takes all requests that are ready or lined up as the next layer, and hands them out to be run. Room for so many bytes
+    /// is kept in the trace.
+    pub fn take(&mut self, kept: usize) -> Result<Layer, StepFault>
+        ensures taken { IfOk result (λ layer. HandsOut self.old layer self.new) }
+        ensures fault { IfErr result (IsFault self.old Step.Take) }
+        ensures unchanged { OnErr result (IsUnchanged self.old self.new) }
         ensures room { kept ≤ self.old.room → kept ≤ self.new.room }
     {
-        self.lawful();
-        match self.system.progress() {
-            Progress::HasRun => match self.make_unanswered(Step::Settle, kept) {
-                Ok(()) => Ok(true),
-                Err(fault) => Err(fault),
-            },
-            Progress::Taken => match self.run(workers, gate, kept) {
-                Ok(()) => Ok(true),
-                Err(fault) => Err(fault),
-            },
-            Progress::Free => {
-                // A Take would be refused, which is seen here for less than it takes to try.
-                if self.delivers_next() {
-                    return self.deliver(pick, kept);
-                }
-                let Err(fault) = self.make_unanswered(Step::Take, kept) else {
-                    return Ok(true);
-                };
-                let StepFault::NoLayer = fault else {
-                    return Err(fault);
-                };
-                self.deliver(pick, kept)
+        if self.trace.max() <= self.trace.len() as u64 + KEPT_BACK {
+            return Err(StepFault::Exhausted);
+        }
+        let place = self.trace.size();
+        let Ok(()) = self.trace.push_keeping(&Step::Take, kept) else {
+            return Err(self.take_refusal());
+        };
+        match self.front.take() {
+            Ok(layer) => Ok(layer),
+            Err(fault) => {
+                self.trace.take_back(place);
+                Err(StepFault::from(fault))
             }
         }
     }
 
-    /// Whether a packet is under way and no request is ready. It takes no memory.
-    fn delivers_next(&self) -> bool
-        ensures { OnTrue result ((d : Delivered) → ¬ IsReady (queues_of self.now.system) d) }
+    /// Why no layer is taken for whose step there was no memory, though one more may be made: what else refuses it comes first.
+    #[cold]
+    fn take_refusal(&self) -> StepFault
+        requires { length self.now.steps + 2 < self.now.max_steps }
+        ensures { IsFault self.now Step.Take result }
     {
-        self.system.packets() != 0 && !self.system.has_ready()
+        match self.front.take_fault() {
+            Some(fault) => StepFault::from(fault),
+            None => StepFault::Memory,
+        }
     }
 
-    /// Makes the Deliver of the packet that is picked, if one is under way. Says whether one was.
-    fn deliver<P: Pick>(&mut self, pick: &P, kept: usize) -> Result<bool, StepFault>
-        ensures made { IfOk result (λ made. made ≡ true → Delivers (P.picks pick.now) self.old self.new) }
-        ensures none { IfOk result (λ made. made ≡ false → packets_of self.old.system ≡ []) }
-        ensures unmade { IfOk result (λ made. made ≡ false → self.new ≡ self.old) }
-        ensures refused { IfErr result (λ fault. IsTurnFault false self.old fault self.new) }
+    /// Tells what came of the layer that is out, and puts its Run, with the ids that starved, and its Settle behind the steps
+    /// of the trace. Room for so many bytes is kept there. An error gives back what was told.
+    pub fn settle(&mut self, done: Done, kept: usize) -> Result<(), (Done, StepFault)>
+        ensures settled { OnOk result (IsSettled self.old done self.new) }
+        ensures fault { IfErr result (λ back. (back.0 ≡ done) × IsSettleFault self.old done back.1) }
+        ensures unchanged { OnErr result (IsUnchanged self.old self.new) }
         ensures room { kept ≤ self.old.room → kept ≤ self.new.room }
     {
-        let packets = self.system.packets();
+        if !self.front.is_out() {
+            return Err((done, StepFault::NoLayer));
+        }
+        let place = self.trace.size();
+        let Ok(()) = push_run(self.alloc, &mut self.trace, done.starved(), kept) else {
+            return Err((done, StepFault::Memory));
+        };
+        match self.front.settle(done) {
+            Ok(()) => {
+                self.front.holds();
+                let Ok(()) = self.trace.push_keeping(&Step::Settle, kept) else {
+                    unreachable!()
+                };
+                Ok(())
+            }
+            Err((done, fault)) => {
+                self.trace.take_back(place);
+                Err((done, StepFault::from(fault)))
+            }
+        }
+    }
+
+    /// Makes the Deliver of the packet that is picked, if one is under way. Says whether one was. Room for so many bytes is
+    /// kept in the trace.
+    pub fn turn<P: Pick>(&mut self, pick: &P, kept: usize) -> Result<bool, StepFault>
+        ensures made { IfOk result (λ made. made ≡ true → Delivers (P.picks pick.now) self.old self.new) }
+        ensures none { IfOk result (λ made. made ≡ false → self.old.front.multicast.packets ≡ []) }
+        ensures unmade { IfOk result (λ made. made ≡ false → self.new ≡ self.old) }
+        ensures refused { IfErr result (IsTurnFault self.old) }
+        ensures unchanged { OnErr result (IsUnchanged self.old self.new) }
+        ensures room { kept ≤ self.old.room → kept ≤ self.new.room }
+    {
+        let packets = self.front.packets();
         if packets == 0 {
             return Ok(false);
         }
@@ -268,4 +257,36 @@ impl History {
             Err(fault) => Err(fault),
         }
     }
+}
+
+/// Puts a Run with these ids behind the steps, and keeps room for a Settle and for so many bytes more. The only error is want of
+/// memory, which changes nothing.
+fn push_run(
+    alloc: Global,
+    trace: &mut Trace,
+    starved: &[(RequestId, Stamp)],
+    kept: usize,
+) -> Result<(), AllocError>
+    ensures max { trace.new.max ≡ trace.old.max }
+    ensures steps { OnOk result (trace.new.steps ≡ trace.old.steps ++ Step.Run (map (λ s. s.0) starved.now) ∷ []) }
+    ensures room { OnOk result (step_size Step.Settle + kept ≤ trace.new.room) }
+    ensures room_left { OnOk result (trace.old.room ≤ trace.new.room + step_size (Step.Run (map (λ s. s.0) starved.now))) }
+    ensures unchanged { OnErr result (trace.new ≡ trace.old) }
+{
+    let Some(kept) = kept.checked_add(SETTLE_SIZE) else {
+        return Err(AllocError);
+    };
+    let starved = RequestIds::from(ids_of(alloc, starved)?);
+    trace.push_keeping(&Step::Run { starved }, kept)
+}
+
+/// The ids of these requests, in their order.
+fn ids_of(alloc: Global, starved: &[(RequestId, Stamp)]) -> Result<Vec<RequestId>, AllocError>
+    ensures { IfOk result (λ ids. ids.items ≡ map (λ s. s.0) starved.now) }
+{
+    let mut ids = Vec::with_capacity(alloc, starved.len())?;
+    for (id, _) in starved {
+        ids.push_reserved(*id);
+    }
+    Ok(ids)
 }

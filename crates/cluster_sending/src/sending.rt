@@ -1,19 +1,18 @@
-//! That a system can go to another thread, part by part: the functions do nothing, and their contracts say it.
+//! That a front and a store can go to another thread, part by part: the functions do nothing, and their contracts say it.
 
 ghost use denote.Param.Send.{IsSend, IsSync};
 ghost use Rattle.router.specs.contracts.router.Router as router_type;
 ghost use Rattle.shard_exec.specs.contracts.store.Store as store_type;
 ghost use Rattle.multicast.specs.contracts.multicast.Multicast as multicast_type;
 ghost use Rattle.journal.specs.contracts.rows.Rows as rows_type;
-ghost use Rattle.system.specs.contracts.system.System as system_type;
+ghost use Rattle.front.specs.contracts.front.Front as front_type;
+ghost use Rattle.back.specs.contracts.back.Back as back_type;
 ghost use Rattle.layer_results.specs.contracts.done.Done as done_type;
-ghost use Rattle.layer_planner.specs.contracts.layer.Layer as layer_type;
 ghost use Rattle.router.specs.contracts.outcome.Outcome as outcome_type;
 ghost use Rattle.resp.specs.contracts.request.Request as request_type;
 
 use command_table::Command;
 use journal::Rows;
-use layer_planner::Layer;
 use layer_results::Done;
 use multicast::Multicast;
 use resp::{Reply, Request};
@@ -57,13 +56,6 @@ fn rows_sends()
     sends::<Rows>();
 }
 
-fn layer_sends()
-    ensures { IsSend layer_type.the_row }
-{
-    sends::<Command>();
-    sends::<Layer>();
-}
-
 fn done_sends()
     ensures { IsSend done_type.the_row }
 {
@@ -84,11 +76,11 @@ fn request_sends()
     sends::<Request>();
 }
 
-/// It does nothing: its contract says that a system may go to another thread.
-pub fn system_sends()
-    ensures { IsSend system_type.the_row }
+/// It does nothing: its contract says that a front and a store with its rows, the halves of a cluster, may go to another thread.
+pub fn halves_send()
+    ensures front { IsSend front_type.the_row }
+    ensures back { IsSend back_type.the_row }
 {
-    layer_sends();
     done_sends();
     outcome_sends();
     request_sends();

@@ -1,4 +1,4 @@
--- What the threads of a server capture can go to another thread, where a system can.
+-- What the threads of a server capture can go to another thread, where a front and a store can.
 use denote.RattleType.{RattleType}
 use mathlib.Core.List.{List, [], ◌∷◌}
 use mir.Syntax.{Sym, Ty, Lifetime}
@@ -20,17 +20,18 @@ use Rattle.std.specs.contracts.net.tcp.TcpListener as TcpListener
 use Rattle.std.specs.contracts.net.tcp.TcpStream as TcpStream
 use Rattle.std.specs.contracts.num.NonZeroUsize as NonZeroUsize
 use Rattle.std.specs.declared.sync.ledger.Ledger.{Ghosts}
+use Rattle.back.specs.contracts.back.Back as Back
 use Rattle.cluster_sending.proofs.Crossing.{cluster_send}
+use Rattle.front.specs.contracts.front.Front as Front
 use Rattle.server.specs.contracts.faults.FirstFault as FirstFault
 use Rattle.server.specs.contracts.streams.Streams as Streams
 use Rattle.server_waiting.specs.contracts.endings.Endings as Endings
 use Rattle.shared_cluster.proofs.Crossing.{shared_sync}
 use Rattle.shared_cluster.specs.contracts.desk.Turns as Turns
 use Rattle.shared_cluster.specs.contracts.shared.Shared as Shared
-use Rattle.system.specs.contracts.system.System as System
 
-pub shared_syncs : (L : RattleType) (g : Ghosts L.Denot) → IsSend System.the_row → IsSync (Shared.the_row L g)
-shared_syncs L g s = shared_sync L g (cluster_send L g s)
+pub shared_syncs : (L : RattleType) (g : Ghosts L.Denot) → IsSend Front.the_row → IsSend Back.the_row → IsSync (Shared.the_row L g)
+shared_syncs L g f b = shared_sync L g (cluster_send L g f) b
 
 stream_send : IsSend (Arc.the_row TcpStream.the_row Heap.the_row ghosts)
 stream_send = search (sendable, crosses) depth 40 fits 3000
@@ -66,12 +67,12 @@ module _ (δ : Ty) (ν : Sym) (L R : RattleType) (g : Ghosts L.Denot) where
       ∷ (u64-field).row ∷ ShrRef ℓ₅ κ₅ Endings.the_row ∷ []
 
   pub served_send : (ℓ₁ : Lifetime) (κ₁ : Lft) (ℓ₂ : Lifetime) (κ₂ : Lft) (ℓ₃ : Lifetime) (κ₃ : Lft) (ℓ₄ : Lifetime) (κ₄ : Lft)
-      (ℓ₅ : Lifetime) (κ₅ : Lft) → IsSync R → IsSend System.the_row
+      (ℓ₅ : Lifetime) (κ₅ : Lft) → IsSync R → IsSend Front.the_row → IsSend Back.the_row
       → IsSend (param 1 (arg δ no (TupleAt ν (served ℓ₁ κ₁ ℓ₂ κ₂ ℓ₃ κ₃ ℓ₄ κ₄ ℓ₅ κ₅))))
-  served_send ℓ₁ κ₁ ℓ₂ κ₂ ℓ₃ κ₃ ℓ₄ κ₄ ℓ₅ κ₅ r s =
+  served_send ℓ₁ κ₁ ℓ₂ κ₂ ℓ₃ κ₃ ℓ₄ κ₄ ℓ₅ κ₅ r f b =
       let T = type_at ν (served ℓ₁ κ₁ ℓ₂ κ₂ ℓ₃ κ₃ ℓ₄ κ₄ ℓ₅ κ₅) in
       let sends : AllSend (declared.fields T) = (
-        shr_send ℓ₁ κ₁ (Shared.the_row (param 0 L) g) (shared_syncs (param 0 L) g s),
+        shr_send ℓ₁ κ₁ (Shared.the_row (param 0 L) g) (shared_syncs (param 0 L) g f b),
         (
           turns_send,
           (
@@ -101,12 +102,12 @@ module _ (δ : Ty) (ν : Sym) (L R : RattleType) (g : Ghosts L.Denot) where
       ShrRef ℓ₁ κ₁ (Shared.the_row (param 0 L) g) ∷ Turns.the_row ∷ (u64-field).row ∷ ShrRef ℓ₂ κ₂ FirstFault.the_row
       ∷ ShrRef ℓ₃ κ₃ (param 1 R) ∷ NonZeroUsize.the_row ∷ []
 
-  pub driver_send : (ℓ₁ : Lifetime) (κ₁ : Lft) (ℓ₂ : Lifetime) (κ₂ : Lft) (ℓ₃ : Lifetime) (κ₃ : Lft) → IsSync R → IsSend System.the_row
+  pub driver_send : (ℓ₁ : Lifetime) (κ₁ : Lft) (ℓ₂ : Lifetime) (κ₂ : Lft) (ℓ₃ : Lifetime) (κ₃ : Lft) → IsSync R → IsSend Front.the_row → IsSend Back.the_row
       → IsSend (param 1 (arg δ no (TupleAt ν (driver ℓ₁ κ₁ ℓ₂ κ₂ ℓ₃ κ₃))))
-  driver_send ℓ₁ κ₁ ℓ₂ κ₂ ℓ₃ κ₃ r s =
+  driver_send ℓ₁ κ₁ ℓ₂ κ₂ ℓ₃ κ₃ r f b =
       let T = type_at ν (driver ℓ₁ κ₁ ℓ₂ κ₂ ℓ₃ κ₃) in
       let sends : AllSend (declared.fields T) = (
-        shr_send ℓ₁ κ₁ (Shared.the_row (param 0 L) g) (shared_syncs (param 0 L) g s),
+        shr_send ℓ₁ κ₁ (Shared.the_row (param 0 L) g) (shared_syncs (param 0 L) g f b),
         (
           turns_send,
           (
@@ -126,11 +127,11 @@ module _ (δ : Ty) (ν : Sym) (L R : RattleType) (g : Ghosts L.Denot) where
       ∷ ShrRef ℓ₃ κ₃ (param 1 R) ∷ ShrRef ℓ₄ κ₄ TcpListener.the_row ∷ (u64-field).row ∷ []
 
   pub taking_send : (ℓ₁ : Lifetime) (κ₁ : Lft) (ℓ₂ : Lifetime) (κ₂ : Lft) (ℓ₃ : Lifetime) (κ₃ : Lft) (ℓ₄ : Lifetime) (κ₄ : Lft)
-      → IsSync R → IsSend System.the_row → IsSend (param 1 (arg δ no (TupleAt ν (taking ℓ₁ κ₁ ℓ₂ κ₂ ℓ₃ κ₃ ℓ₄ κ₄))))
-  taking_send ℓ₁ κ₁ ℓ₂ κ₂ ℓ₃ κ₃ ℓ₄ κ₄ r s =
+      → IsSync R → IsSend Front.the_row → IsSend Back.the_row → IsSend (param 1 (arg δ no (TupleAt ν (taking ℓ₁ κ₁ ℓ₂ κ₂ ℓ₃ κ₃ ℓ₄ κ₄))))
+  taking_send ℓ₁ κ₁ ℓ₂ κ₂ ℓ₃ κ₃ ℓ₄ κ₄ r f b =
       let T = type_at ν (taking ℓ₁ κ₁ ℓ₂ κ₂ ℓ₃ κ₃ ℓ₄ κ₄) in
       let sends : AllSend (declared.fields T) = (
-        shr_send ℓ₁ κ₁ (Shared.the_row (param 0 L) g) (shared_syncs (param 0 L) g s),
+        shr_send ℓ₁ κ₁ (Shared.the_row (param 0 L) g) (shared_syncs (param 0 L) g f b),
         (
           turns_send,
           (

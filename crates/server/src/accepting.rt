@@ -3,7 +3,7 @@
 use crate::connection::{Service, WITHOUT_MEMORY, say, serve_connection};
 use crate::faults::{FirstFault, HostFault};
 use crate::streams::Streams;
-use cluster_sending::{syncs, system_sends};
+use cluster_sending::{halves_send, syncs};
 use server_waiting::Endings;
 use std::collections::BTreeMap;
 use std::io::{self, ErrorKind};
@@ -51,7 +51,7 @@ where
     let streams = Streams::new(alloc);
     let streams = &streams;
     thread::scope(thread::scope_env(), rt, |scope| {
-        system_sends();
+        halves_send();
         syncs::<R>();
         let mut threads = BTreeMap::new(alloc);
         let mut refused: u64 = 0;

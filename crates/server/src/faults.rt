@@ -3,8 +3,8 @@
 ghost use Rattle.std.specs.Prelude.{◌≡◌, ◌≤◌};
 ghost use Rattle.server.specs.declared.faults.HostFault.TheVariants as host_fault;
 
-use cluster::CloseFault;
 use journal::SendFault;
+use shared_cluster::CloseFault;
 use std::alloc::AllocError;
 use std::net::{Net, SocketAddr, TcpStream};
 use std::sync::{Condvar, CondvarTimeouts, Mutex, Wait};

@@ -9,7 +9,7 @@ use crate::connection::Service;
 use crate::faults::{FirstFault, HostFault};
 use crate::trace_file::store_trace;
 use cluster::First;
-use cluster_sending::{syncs, system_sends};
+use cluster_sending::{halves_send, syncs};
 use options::server::Options;
 use placement::Table;
 use shard_crew::Crew;
@@ -128,6 +128,13 @@ fn drive_by_crew<L: Ledger, R: Threads + Wait + Eprint + Clock>(
     }
 }
 
+/// Brings packets to their groups, beside the thread that drives the cluster.
+fn carry_packets<L: Ledger, R: Wait + Eprint + Clock>(rt: &R, service: &Service<'_, L>) {
+    if let Err(fault) = service.shared.carry(rt, &First) {
+        service.meet(rt, &fault);
+    }
+}
+
 /// Serves all connections, and makes the turns that are left. Gives how many connections were refused.
 fn serve_and_drive<L: Ledger + Send + Sync, R>(
     rt: &R,
@@ -160,7 +167,8 @@ where
 }
 
 /// Serves all connections, and shuts the cluster. A thread of its own takes the connections, so that this one can wake
-/// it; with several workers a third one drives the cluster. Gives how many connections were refused.
+/// it; with several workers a third one drives the cluster, and a fourth one brings packets to their groups meanwhile. Gives how
+/// many connections were refused.
 fn serve_beside_driver<L: Ledger + Send + Sync, R>(
     rt: &R,
     listener: &TcpListener,
@@ -176,7 +184,7 @@ where
     let max_steps = options.max_steps;
     let connections = options.connections;
     thread::scope(thread::scope_env(), rt, |scope| {
-        system_sends();
+        halves_send();
         syncs::<R>();
         let drives = turns == Turns::Driver;
         let driver = move || {
@@ -188,7 +196,16 @@ where
             };
             drive_by_crew(rt, rt, &service, workers);
         };
-        if drives && scope.spawn(driver).is_err() {
+        let carrier = move || {
+            let service = Service {
+                shared,
+                turns,
+                max_steps,
+                faults,
+            };
+            carry_packets(rt, &service);
+        };
+        if drives && (scope.spawn(driver).is_err() || scope.spawn(carrier).is_err()) {
             faults.meet(rt, HostFault::Thread);
             shared.shut(rt);
             return 0;

@@ -3,7 +3,7 @@
 ghost use denote.Param.Send.{IsSync};
 ghost use Rattle.shared_cluster.specs.contracts.shared.Shared as shared_type;
 
-use cluster_sending::system_sends;
+use cluster_sending::halves_send;
 use std::sync::ledger::Ledger;
 
 /// What a user with threads of its own needs: a `&` to a shared cluster may go to another thread. It does nothing; its
@@ -11,5 +11,5 @@ use std::sync::ledger::Ledger;
 pub fn shared_syncs<L: Ledger>()
     ensures { IsSync (shared_type.the_row L.row L.Ledger) }
 {
-    system_sends();
+    halves_send();
 }

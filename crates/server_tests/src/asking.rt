@@ -1,6 +1,6 @@
 //! Requests of a cluster, its replies, and how it closes.
 
-use cluster::{CloseFault, Closing};
+use cluster::Closing;
 use resp::{Reply, Request, write_reply};
 use std::alloc::{AllocError, Global};
 use std::test::Fail;
@@ -56,13 +56,18 @@ fn same_numbers(closing: &Closing, numbers: Numbers) -> Result<(), Fail> {
 }
 
 /// A cluster is closed, with these numbers.
-pub(crate) fn closes(closed: Result<Closing, CloseFault>, numbers: Numbers) -> Result<(), Fail> {
-    let closing = closed?;
-    same_numbers(&closing, numbers)
+pub(crate) fn closes<F: Drop>(closed: Result<Closing, F>, numbers: Numbers) -> Result<(), Fail> {
+    match closed {
+        Ok(closing) => same_numbers(&closing, numbers),
+        Err(_) => Err("the cluster isn't closed".into()),
+    }
 }
 
 /// A cluster is not closed, for this fault.
-pub(crate) fn stays(closed: Result<Closing, CloseFault>, wanted: CloseFault) -> Result<(), Fail> {
+pub(crate) fn stays<F: PartialEq + Drop>(
+    closed: Result<Closing, F>,
+    wanted: F,
+) -> Result<(), Fail> {
     let stays = matches!(closed, Err(fault) if fault == wanted);
     holds(
         "the cluster isn't closed, for the fault that is wanted",

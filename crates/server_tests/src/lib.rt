@@ -5,7 +5,11 @@
 #[cfg(test)]
 mod asking;
 #[cfg(test)]
+mod beside;
+#[cfg(test)]
 mod clients;
+#[cfg(test)]
+mod closings;
 #[cfg(test)]
 mod counting;
 #[cfg(test)]

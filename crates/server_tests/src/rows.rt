@@ -6,13 +6,13 @@ ghost use Rattle.journal.specs.declared.trace.TheConstants.{GREATEST_STEPS};
 
 use crate::asking::{Numbers, closes, request, same_reply, stays, text};
 use crate::hosting::as_wanted;
-use cluster::{CloseFault, First, Seat};
+use cluster::{First, Seat};
 use placement::Table;
 use resp::{Reply, Request};
 use server::shared_syncs;
 use shard_workers::{InTurn, Open};
 use shards::ShardHasher;
-use shared_cluster::{AskFault, AtRest, FaultKind, Shared};
+use shared_cluster::{AskFault, AtRest, CloseFault, FaultKind, Shared};
 use std::alloc::Global;
 use std::marker::Brand;
 use std::num::NonZeroUsize;
@@ -214,7 +214,7 @@ fn asks_both<L: Ledger + Send + Sync, R: Threads + Wait + Clock + Sync>(
 }
 
 /// It does nothing: its contract says that a `&` to the type may go to another thread.
-fn syncs<T: Sync>()
+pub(crate) fn syncs<T: Sync>()
     ensures { IsSync T.row }
 {}
 

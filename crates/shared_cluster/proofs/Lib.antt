@@ -1,3 +1,4 @@
 pub mod Refusals
 pub mod Collecting
+pub mod Taking
 pub mod Crossing

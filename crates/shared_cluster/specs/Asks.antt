@@ -3,21 +3,19 @@
 use Rattle.std.specs.Prelude.{◌≡◌, ◌≢◌, ℕ, ◌+◌, Bool, true, false, List, [], ◌⊎◌, Option, Some, None}
 use Rattle.cluster.specs.Clusters.{SeatView, last_id, next_id}
 use Rattle.cluster.specs.Clusters as cluster
-use Rattle.cluster.specs.Histories.{HistoryView, has_failed, IsLawful, IsMade, IsFault}
+use Rattle.cluster.specs.Histories.{HistoryView, IsLawful, IsMade, IsFault}
 use Rattle.cluster.specs.Outcomes.{ComesFrom, IsAbove, raised}
 use Rattle.cluster.specs.Submits.{IsSaid}
 use Rattle.cluster.specs.Turns.{IsTurnFault}
-use Rattle.journal.specs.declared.step.Step.TheVariants.{Open, Submit, Collect}
+use Rattle.cluster.specs.declared.fault.StepFault.{StepFault}
+use Rattle.cluster.specs.declared.fault.StepFault.TheVariants as step
+use Rattle.journal.specs.declared.step.Step.TheVariants.{Open, Submit, Take, Collect}
 use Rattle.resp.specs.Content.{Content}
-use Rattle.router.specs.declared.outcome.Outcome as kept
 use Rattle.shared_cluster.specs.declared.fault.AskStep.TheVariants as asked
 use Rattle.shared_cluster.specs.declared.fault.FaultKind.{FaultKind}
 use Rattle.shared_cluster.specs.declared.fault.FaultKind.TheVariants.{Closed, Memory, Exhausted, Failed, NoConn}
 use Rattle.shared_cluster.specs.declared.held.AskFault.{AskFault}
-use Rattle.system.specs.declared.effect.Effect.TheVariants.{Opened, Submitted, Collected}
-use Rattle.system.specs.declared.fault.StepFault.{StepFault}
-use Rattle.system.specs.declared.fault.StepFault.TheVariants as step
-use Rattle.system_view.specs.Connections.{outcome_shown}
+use Rattle.world.specs.Steps.{Opened, Submitted, Collected}
 use Rattle.world.specs.World.{Outcome}
 
 -- ---- a seat
@@ -25,7 +23,7 @@ use Rattle.world.specs.World.{Outcome}
 -- The seat's connection was opened as the step from one history to the other, which is lawful, and the seat has submitted
 -- nothing.
 pub record IsSeated (before : HistoryView) (s : SeatView) (after : HistoryView) : Type 0 where
-  pub opened : IsMade before Open (Opened s.conn) after
+  pub opened : IsMade before Open (Opened s.conn.0) after
   pub lawful : IsLawful after
   pub floor : s.floor ≡ 0
   pub count : s.count ≡ 0
@@ -44,13 +42,11 @@ Submits before s words after = IsMade before (Submit s.conn words) (Submitted (n
 -- history, or the request starved, or it is the reply to words that address no group. Its stamp is above the seat's floor,
 -- and becomes it.
 pub record Answers (before : HistoryView) (old : SeatView) (o : Outcome) (after : HistoryView) (new : SeatView) : Type 0 where
-  pub outcome : kept.Outcome
-  pub shown : o ≡ outcome_shown outcome
-  pub collected : IsMade before (Collect old.conn) (Collected (Some outcome)) after
+  pub collected : IsMade before (Collect old.conn) (Collected (Some o)) after
   pub lawful : IsLawful after
   pub id : o.id ≡ last_id old
   pub said : IsSaid after.steps o.id old.words
-  pub from : ComesFrom after.system old.words o
+  pub from : ComesFrom after.front old.words o
   pub above : IsAbove o.stamp old.floor
   pub seat : new ≡ record old { floor = raised o.stamp old.floor }
 
@@ -77,7 +73,6 @@ IsReplied old reply new = (o : Outcome) × (o.reply ≡ reply) × IsAnswered old
 abbrev pub told : StepFault → FaultKind
 told step.Exhausted = Exhausted
 told step.Memory = Memory
-told step.Failed = Failed
 told step.Busy = NoConn
 told step.NoConn = NoConn
 told step.NoPacket = NoConn
@@ -92,53 +87,64 @@ unless_memory kind = Some kind
 abbrev pub lasting : StepFault → Option FaultKind
 lasting fault = unless_memory (told fault)
 
--- A cluster refuses a step for a fault of the step's own, and it is told so. The cluster is lawful, unless a worker's
--- start was refused.
+-- A cluster, which is lawful, refuses a step for a fault of the step's own, and it is told so.
 pub record Refuses (h : HistoryView) (IsWhy : StepFault → Type 0) (kind : FaultKind) : Type 0 where
-  pub lawful : has_failed h ≡ false → IsLawful h
+  pub lawful : IsLawful h
   pub own : StepFault
   pub is : told own ≡ kind
   pub why : IsWhy own
 
--- what is locked is shut, or its cluster refuses
+-- what is locked is stopped, since a layer was refused for good, or its cluster refuses
+abbrev pub IsStoppedOr : Bool → Type 0 → FaultKind → Type 0
+IsStoppedOr true refuses kind = kind ≡ Failed
+IsStoppedOr false refuses kind = refuses
+
+-- what is locked is shut, or it is stopped, or its cluster refuses
 abbrev pub IsShutOr : Bool → Type 0 → FaultKind → Type 0
 IsShutOr true refuses kind = kind ≡ Closed
 IsShutOr false refuses kind = refuses
 
--- ---- refusals of what is locked: whether it is shut, and its cluster's history
+-- ---- refusals of what is locked: whether it is shut, whether it is stopped, and its cluster's history
 
-abbrev pub RefusesSit : Bool → HistoryView → AskFault → Type 0
-RefusesSit shut h fault = (fault.step ≡ asked.Sit) × IsShutOr shut (Refuses h (IsFault h Open) fault.kind) fault.kind
+abbrev pub RefusesAsk : Bool → Bool → HistoryView → (StepFault → Type 0) → FaultKind → Type 0
+RefusesAsk shut stopped h IsWhy kind = IsShutOr shut (IsStoppedOr stopped (Refuses h IsWhy kind) kind) kind
 
-abbrev pub RefusesSubmit : Bool → HistoryView → SeatView → List (List ℕ) → AskFault → Type 0
-RefusesSubmit shut h s words fault =
-    (fault.step ≡ asked.Submit s.conn s.count) × IsShutOr shut (Refuses h (cluster.IsSubmitFault h s words) fault.kind) fault.kind
+abbrev pub RefusesSit : Bool → Bool → HistoryView → AskFault → Type 0
+RefusesSit shut stopped h fault = (fault.step ≡ asked.Sit) × RefusesAsk shut stopped h (IsFault h Open) fault.kind
+
+abbrev pub RefusesSubmit : Bool → Bool → HistoryView → SeatView → List (List ℕ) → AskFault → Type 0
+RefusesSubmit shut stopped h s words fault =
+    (fault.step ≡ asked.Submit s.conn s.count) × RefusesAsk shut stopped h (cluster.IsSubmitFault h s words) fault.kind
 
 -- want of memory isn't told: it is tried again
-abbrev pub RefusesCollect : HistoryView → SeatView → AskFault → Type 0
-RefusesCollect h s fault =
-    (fault.step ≡ asked.Collect s.conn s.count) × (fault.kind ≢ Memory) × Refuses h (cluster.IsCollectFault h s) fault.kind
+abbrev pub RefusesCollect : Bool → HistoryView → SeatView → AskFault → Type 0
+RefusesCollect stopped h s fault =
+    (fault.step ≡ asked.Collect s.conn s.count) × (fault.kind ≢ Memory)
+    × IsStoppedOr stopped (Refuses h (cluster.IsCollectFault h s) fault.kind) fault.kind
+
+-- why no packet comes to its group, or no layer is taken
+abbrev pub IsOwnTurnFault : HistoryView → StepFault → Type 0
+IsOwnTurnFault h own = IsTurnFault h own ⊎ IsFault h Take own
 
 abbrev pub RefusesTurn : Bool → HistoryView → AskFault → Type 0
-RefusesTurn may_refuse h fault =
-    (fault.step ≡ asked.Turn) × (fault.kind ≢ Memory)
-    × Refuses h (λ own. (new : HistoryView) × IsTurnFault may_refuse h own new) fault.kind
+RefusesTurn stopped h fault =
+    (fault.step ≡ asked.Turn) × (fault.kind ≢ Memory) × IsStoppedOr stopped (Refuses h (IsOwnTurnFault h) fault.kind) fault.kind
 
 -- ---- the same of a shared cluster, which was such a one when it was locked
 
 abbrev pub IsSitFault : AskFault → Type 0
-IsSitFault fault = (shut : Bool) × (h : HistoryView) × RefusesSit shut h fault
+IsSitFault fault = (shut : Bool) × (stopped : Bool) × (h : HistoryView) × RefusesSit shut stopped h fault
 
 abbrev pub IsSubmitFault : SeatView → List (List ℕ) → AskFault → Type 0
-IsSubmitFault s words fault = (shut : Bool) × (h : HistoryView) × RefusesSubmit shut h s words fault
+IsSubmitFault s words fault = (shut : Bool) × (stopped : Bool) × (h : HistoryView) × RefusesSubmit shut stopped h s words fault
 
 -- why no turn is made any more
 abbrev pub IsStopped : AskFault → Type 0
-IsStopped fault = (may_refuse : Bool) × (h : HistoryView) × RefusesTurn may_refuse h fault
+IsStopped fault = (stopped : Bool) × (h : HistoryView) × RefusesTurn stopped h fault
 
 -- why what came of a seat's request isn't given: it isn't collected, or no turn is made any more
 abbrev pub IsCollectFault : SeatView → AskFault → Type 0
-IsCollectFault s fault = ((h : HistoryView) × RefusesCollect h s fault) ⊎ IsStopped fault
+IsCollectFault s fault = ((stopped : Bool) × (h : HistoryView) × RefusesCollect stopped h s fault) ⊎ IsStopped fault
 
 -- Why an ask is refused, and what that leaves of the seat: the request isn't submitted and the seat is as before, or it
 -- was submitted and what came of it isn't given.

@@ -1,50 +1,72 @@
 -- What is told of a shared cluster that is closed, and of its trace.
-use Rattle.std.specs.Prelude.{◌≡◌, ℕ, false, List, ◌++◌, length, Option}
+use Rattle.std.specs.Prelude.{◌≡◌, ℕ, Bool, true, false, List, ◌++◌, length, ◌⊎◌, Option}
 use Rattle.std.specs.Io.KnownBytes.{Appends}
+use Rattle.back.specs.Backs.{BackState}
+use Rattle.back.specs.Backs as backs
+use Rattle.front.specs.Looking.{IsQuiet}
 use Rattle.cluster.specs.Clusters.{ClusterView}
-use Rattle.cluster.specs.Clusters as cluster
-use Rattle.cluster.specs.Histories.{HistoryView, has_failed, IsLawful, HasItsRows}
+use Rattle.cluster.specs.Endings as cluster
+use Rattle.cluster.specs.Histories.{HistoryView, IsLawful}
 use Rattle.cluster.specs.Submits.{submits}
-use Rattle.cluster.specs.declared.cluster.CloseFault.{CloseFault}
 use Rattle.cluster.specs.declared.closing.Closing.{Closing}
+use Rattle.cluster.specs.declared.cluster.CloseFault as front
+use Rattle.cluster.specs.declared.cluster.CloseFault.TheVariants as fault
 use Rattle.journal.specs.TraceText.{trace_text}
-use Rattle.system.specs.Reads.{rows_of, starved_of}
-use Rattle.system.specs.System.{IsQuiet}
+use Rattle.shared_cluster.specs.declared.fault.CloseFault.{CloseFault}
+use Rattle.shared_cluster.specs.declared.fault.CloseFault.TheVariants.{Failed, SeatsOut, NotQuiet, Disagree}
 
 -- This cluster is lawful and quiet, as many seats stood as sat, and what those submitted that stood is all that was
--- submitted. These are the numbers of its requests, of its rows and of those that starved.
-pub record Closes (c : ClusterView) (closing : Closing) : Type 0 where
+-- submitted. Its rows are those of this store, which has not failed and is lawful: each request was told the reply of the
+-- world of the trace, and the replies and what the store holds are those of one thread in stamp order. These are the numbers of
+-- its requests, of its rows and of those that starved.
+pub record Closes (c : ClusterView) (b : BackState) (closing : Closing) : Type 0 where
   pub lawful : IsLawful c.history
-  pub quiet : IsQuiet c.history.system
+  pub quiet : IsQuiet c.history.front
   pub stood : c.stood ≡ c.sat
   pub back : c.back ≡ submits c.history.steps
+  pub lives : b.store.failed ≡ false
+  pub store : backs.IsLawful b.store b.rows
+  pub agree : c.history.front.rows ≡ b.rows
+  pub right : cluster.IsRight c.history b
   pub requests : closing.requests ≡ submits c.history.steps
-  pub executed : closing.executed ≡ length (rows_of c.history.system)
-  pub starved : closing.starved ≡ length (starved_of c.history.system)
+  pub executed : closing.executed ≡ length c.history.front.rows
+  pub starved : closing.starved ≡ length c.history.front.starved
 
--- The text of this history's trace was appended. It is lawful, unless a worker's start was refused; and whether or not,
--- its rows are those of its trace.
+-- why a cluster isn't closed, told of one that no layer stopped
+abbrev pub of_cluster : front.CloseFault → CloseFault
+of_cluster fault.SeatsOut = SeatsOut
+of_cluster fault.NotQuiet = NotQuiet
+of_cluster fault.Disagree = Disagree
+
+-- Why a cluster isn't closed beside this store: the first that applies. A layer was refused for good, or the cluster refuses.
+abbrev pub RefusesClose : Bool → ClusterView → BackState → CloseFault → Type 0
+RefusesClose stopped c back Failed = (stopped ≡ true) ⊎ (back.store.failed ≡ true)
+RefusesClose stopped c back SeatsOut =
+    (stopped ≡ false) × (back.store.failed ≡ false) × cluster.IsCloseFault c back.rows fault.SeatsOut
+RefusesClose stopped c back NotQuiet =
+    (stopped ≡ false) × (back.store.failed ≡ false) × cluster.IsCloseFault c back.rows fault.NotQuiet
+RefusesClose stopped c back Disagree =
+    (stopped ≡ false) × (back.store.failed ≡ false) × cluster.IsCloseFault c back.rows fault.Disagree
+
+-- The text of this history's trace was appended. It is lawful.
 pub record Writes (h : HistoryView) (before after : List ℕ) : Type 0 where
-  pub lawful : has_failed h ≡ false → IsLawful h
-  pub rows : HasItsRows h
+  pub lawful : IsLawful h
   pub text : after ≡ before ++ trace_text h.max_steps h.steps
 
--- The text of this history's trace was written behind what was there. It is lawful, unless a worker's start was refused; and
--- whether or not, its rows are those of its trace.
+-- The text of this history's trace was written behind what was there. It is lawful.
 pub record Sends (h : HistoryView) (before after : Option (List ℕ)) : Type 0 where
-  pub lawful : has_failed h ≡ false → IsLawful h
-  pub rows : HasItsRows h
+  pub lawful : IsLawful h
   pub text : Appends before after (trace_text h.max_steps h.steps)
 
--- ---- the same of a shared cluster, which was such a one when it was locked
+-- ---- the same of a shared cluster, which was such a one when it was locked, as was the store
 
--- a cluster was closed
+-- a cluster was closed beside a store
 abbrev pub IsClosed : Closing → Type 0
-IsClosed closing = (c : ClusterView) × Closes c closing
+IsClosed closing = (c : ClusterView) × (back : BackState) × Closes c back closing
 
 -- a cluster wasn't closed, for this reason
 abbrev pub IsCloseFault : CloseFault → Type 0
-IsCloseFault fault = (c : ClusterView) × cluster.IsCloseFault c fault
+IsCloseFault fault = (stopped : Bool) × (c : ClusterView) × (back : BackState) × RefusesClose stopped c back fault
 
 -- the text of a trace was appended
 abbrev pub IsWritten : List ℕ → List ℕ → Type 0

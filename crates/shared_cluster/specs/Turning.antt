@@ -1,20 +1,53 @@
 -- How the turns of a locked cluster go on.
-use Rattle.std.specs.Prelude.{◌≡◌, ℕ, Bool, true, IsTrue, ◌↔◌}
-use Rattle.cluster.specs.Histories.{HistoryView, MayGoOn, IsUnchanged}
-use Rattle.cluster.specs.Turns.{TurnsOn}
-use Rattle.shared_cluster.specs.declared.held.Turn.{Turn}
-use Rattle.shared_cluster.specs.declared.held.Turn.TheVariants.{Made, Starved, Quiet}
-use Rattle.system.specs.Reads.{progress_of}
-use Rattle.system.specs.System.{IsQuiet}
-use Rattle.system.specs.declared.stage.Progress.TheVariants.{HasRun}
+use Rattle.std.specs.Prelude.{◌≡◌, ◌≢◌, ℕ, Bool, true, [], ◌⊎◌}
+use Rattle.delivery.specs.Queues.{queue_of}
+use Rattle.delivery.specs.Ready.{IsReady}
+use Rattle.front.specs.Looking.{IsQuiet}
+use Rattle.cluster.specs.Histories.{HistoryView, IsUnchanged}
+use Rattle.cluster.specs.Layers.{HandsOut, IsSettleFault}
+use Rattle.cluster.specs.Turns.{Delivers}
+use Rattle.cluster.specs.declared.fault.StepFault.TheVariants as fault
+use Rattle.layer_results.specs.Results.{Results}
+use Rattle.shared_cluster.specs.Asks.{RefusesTurn}
+use Rattle.shared_cluster.specs.declared.held.Next.{Next}
+use Rattle.shared_cluster.specs.declared.held.Next.TheVariants.{Taken, Delivered, Starved, Quiet}
+use Rattle.shared_cluster.specs.declared.held.Unsettled.{Unsettled}
+use Rattle.shared_cluster.specs.declared.held.Unsettled.TheVariants as unsettled
+use Rattle.skeen_core.specs.declared.packet.Delivered as skeen
 
--- A turn was made, and it was a Settle just where a layer had been run. Or none was, and nothing has changed: there was
--- no memory for what is under way, or nothing is.
-abbrev pub GoesOn : (ℕ → ℕ) → HistoryView → HistoryView → Turn → Type 0
-GoesOn pick old new (Made settled) = TurnsOn pick old new × (IsTrue settled ↔ (progress_of old.system ≡ HasRun))
-GoesOn pick old new Starved = MayGoOn old × (¬ IsQuiet old.system) × IsUnchanged old new
-GoesOn pick old new Quiet = IsQuiet old.system × IsUnchanged old new
+-- a request is ready, and no layer is out
+pub record MayTake (h : HistoryView) : Type 0 where
+  pub out : h.front.out ≡ []
+  pub request : skeen.Delivered
+  pub ready : IsReady (queue_of h.front.multicast.queues) request
+
+-- A packet was brought to its group, or there was no memory for that, or none is under way; and then nothing has changed.
+abbrev pub Carries : (ℕ → ℕ) → HistoryView → HistoryView → Next → Type 0
+Carries pick old new (Taken layer) = ⊥
+Carries pick old new Delivered = Delivers pick old new
+Carries pick old new Starved = (old.front.multicast.packets ≢ []) × IsUnchanged old new
+Carries pick old new Quiet = (old.front.multicast.packets ≡ []) × IsUnchanged old new
+
+-- A layer was taken, and these are its requests; or there was no memory for that, and nothing has changed.
+abbrev pub Takes : HistoryView → HistoryView → Next → Type 0
+Takes old new (Taken layer) = HandsOut old layer new
+Takes old new Delivered = ⊥
+Takes old new Starved = IsUnchanged old new
+Takes old new Quiet = ⊥
+
+-- a layer is taken where one may be, else a packet is brought to its group
+abbrev pub GoesOn : (ℕ → ℕ) → HistoryView → HistoryView → Next → Type 0
+GoesOn pick old new (Taken layer) = MayTake old × HandsOut old layer new
+GoesOn pick old new Delivered = (¬ MayTake old) × Delivers pick old new
+GoesOn pick old new Starved = (MayTake old ⊎ (old.front.multicast.packets ≢ [])) × IsUnchanged old new
+GoesOn pick old new Quiet = (¬ MayTake old) × (old.front.multicast.packets ≡ []) × IsUnchanged old new
+
+-- Why what came of a layer isn't settled: there was no memory while a layer is out, and it is given back; or it isn't what came
+-- of the layer that is out.
+abbrev pub RefusesSettle : HistoryView → Results → Unsettled → Type 0
+RefusesSettle h done (unsettled.Starved given) = (given ≡ done) × IsSettleFault h done fault.Memory
+RefusesSettle h done (unsettled.Foreign why) = IsSettleFault h done fault.NoLayer × RefusesTurn true h why
 
 -- it is shut, and nothing is under way
 abbrev pub IsAtRest : Bool → HistoryView → Type 0
-IsAtRest shut h = (shut ≡ true) × IsQuiet h.system
+IsAtRest shut h = (shut ≡ true) × IsQuiet h.front

@@ -6,6 +6,7 @@ ghost use Rattle.shared_cluster.specs.Asks.{submitted, IsReplied, IsAskFault};
 
 use crate::fault::FaultKind;
 use crate::held::AskFault;
+use crate::long_work::combines_sets;
 use crate::shared::Shared;
 use cluster::{SealedReply, Seat};
 use resp::{Reply, Request};
@@ -23,10 +24,6 @@ pub enum Turns {
     /// with workers that may run several at once.
     Driver,
 }
-
-/// How the names begin of the commands that combine whole sets: they do much, and touch several shards, so that several
-/// of them come to be ready at once.
-const COMBINE_SETS: [&[u8]; 3] = [b"sinter", b"sunion", b"sdiff"];
 
 /// A seat at a shared cluster, which asks what its connection requests.
 ///
@@ -73,18 +70,6 @@ impl<'a, L: Ledger, R: Wait + Clock> Desk<'a, L, R> {
     {
         self.seat
     }
-}
-
-/// Whether a command of this name combines whole sets.
-fn combines_sets(name: &[u8]) -> bool {
-    for beginning in COMBINE_SETS {
-        if let Some(head) = name.get(..beginning.len())
-            && head.eq_ignore_ascii_case(beginning)
-        {
-            return true;
-        }
-    }
-    false
 }
 
 impl<'a, L: Ledger, R: Wait + Clock> Door for Desk<'a, L, R> {

@@ -1,10 +1,11 @@
-//! Why a seat isn't served.
+//! Why a seat isn't served, and why a cluster isn't closed.
 
 ghost use Rattle.std.specs.Prelude.{◌≡◌};
 ghost use Rattle.shared_cluster.specs.Asks.{told, lasting};
+ghost use Rattle.shared_cluster.specs.Closings.{of_cluster};
 
+use cluster::{CloseFault as ClusterFault, StepFault};
 use groups::ConnId;
-use system::StepFault;
 use thiserror::Error;
 
 /// Why a request isn't answered, or a seat isn't given. Each kind has its number, from 1.
@@ -22,7 +23,8 @@ pub enum FaultKind {
     #[error("no more steps may be made")]
     Exhausted,
 
-    /// 4: a worker could not be started, now or earlier. The seat's count tells whether the request was submitted.
+    /// 4: a layer was refused for good, since a worker could not be started, now or earlier. The seat's count tells whether the
+    /// request was submitted.
     #[error("a worker could not be started")]
     Failed,
 
@@ -48,6 +50,37 @@ pub enum AskStep {
     Turn,
 }
 
+/// Why a cluster isn't closed. Nothing was changed. Where several apply it is the first.
+#[derive(Clone, Copy, Debug, Drop, PartialEq, Eq, Error)]
+pub enum CloseFault {
+    /// A layer was refused for good: a worker could not be started.
+    #[error("a worker could not be started")]
+    Failed,
+
+    /// Not as many seats stood as sat.
+    #[error("a seat has not stood")]
+    SeatsOut,
+
+    /// A packet is under way, a layer is not settled, or a request is ready.
+    #[error("a request is under way")]
+    NotQuiet,
+
+    /// What was told of the layers is not what the store has kept of them.
+    #[error("the rows that were told are not those of the store")]
+    Disagree,
+}
+
+/// Why a cluster isn't closed, told of one that no layer stopped.
+pub(crate) fn of_cluster(fault: ClusterFault) -> CloseFault
+    ensures { result ≡ of_cluster fault }
+{
+    match fault {
+        ClusterFault::SeatsOut => CloseFault::SeatsOut,
+        ClusterFault::NotQuiet => CloseFault::NotQuiet,
+        ClusterFault::Disagree => CloseFault::Disagree,
+    }
+}
+
 /// What a seat is told where a step isn't made.
 pub(crate) fn told(fault: StepFault) -> FaultKind
     ensures { result ≡ told fault }
@@ -55,7 +88,6 @@ pub(crate) fn told(fault: StepFault) -> FaultKind
     match fault {
         StepFault::Exhausted => FaultKind::Exhausted,
         StepFault::Memory => FaultKind::Memory,
-        StepFault::Failed => FaultKind::Failed,
         StepFault::Busy
         | StepFault::NoConn
         | StepFault::NoPacket

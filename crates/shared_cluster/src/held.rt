@@ -1,27 +1,32 @@
-//! What the lock guards: a cluster, and whether it is shut. No other module makes a fault of an ask.
+//! What the front's lock guards: a cluster, whether it is shut, and whether it is stopped. No other module makes a fault of an
+//! ask.
 
-ghost use Rattle.std.specs.Prelude.{◌≡◌, ◌+◌, ◌⊎◌, true, false, OnErr, OnOk, IfOk, IfErr, IfSome, IfNone, OnSome};
+ghost use Rattle.std.specs.Prelude.{◌≡◌, ◌+◌, ◌⊎◌, true, OnErr, OnOk, IfOk, IfErr, IfSome, IfNone, OnSome, IsTrue, ◌↔◌};
 ghost use Rattle.cluster.specs.Answers.{shown_outcome};
 ghost use Rattle.resp.specs.Content.{content};
 ghost use Rattle.shared_cluster.specs.Asks.{submitted, IsSeated, Submits, Answers, Replies, RefusesSit, RefusesSubmit, RefusesCollect};
 ghost use Rattle.shared_cluster.specs.Asks.{RefusesTurn};
-ghost use Rattle.shared_cluster.specs.Closings.{Closes, Writes, Sends};
-ghost use Rattle.shared_cluster.specs.Turning.{GoesOn, IsAtRest};
-ghost use Rattle.cluster.specs.Clusters.{StaysOpen, IsCloseFault};
+ghost use Rattle.shared_cluster.specs.Closings.{Closes, RefusesClose, Writes, Sends};
+ghost use Rattle.shared_cluster.specs.Turning.{GoesOn, Carries, Takes, MayTake, RefusesSettle, IsAtRest};
+ghost use Rattle.cluster.specs.Clusters.{StaysOpen};
 ghost use Rattle.cluster.specs.Histories.{IsMade};
+ghost use Rattle.cluster.specs.Layers.{IsSettled};
 ghost use Rattle.cluster.specs.Submits.{submits};
 ghost use Rattle.journal.specs.declared.step.Step.{Step};
-ghost use Rattle.system.specs.declared.effect.Effect.{Effect};
+ghost use Rattle.world.specs.Steps.{Made};
 
-use crate::fault::{AskStep, FaultKind, lasting, told};
-use cluster::{Answer, CloseFault, Closing, Cluster, Pick, SealedReply, Seat};
+use crate::fault::{AskStep, CloseFault, FaultKind, lasting, of_cluster, told};
+use crate::hand::Broken;
+use back::Back;
+use cluster::{Answer, Closing, Cluster, Pick, SealedReply, Seat, StepFault};
+use groups::ConnId;
 use journal::{SendFault, send_trace, write_trace};
+use layer_planner::Layer;
+use layer_results::Done;
 use resp::Request;
-use shard_workers::{Gate, Workers};
 use std::alloc::AllocError;
 use std::io::Write;
 use std::sync::ledger::Ledger;
-use system::{Progress, System};
 use thiserror::Error;
 
 /// Why a request isn't answered, or a seat isn't given: the kind of fault, and the step that was not made. It can't be
@@ -52,17 +57,17 @@ impl AskFault {
 /// How much is kept back for turns that find no memory.
 pub(crate) const RESERVE: usize = 256 * 1024;
 
-/// A cluster, and whether it is shut: then no one sits or asks any more.
+/// A cluster, whether it is shut: then no one sits or asks any more; and whether it is stopped, since a layer was refused for
+/// good: then no step is made any more, but for the Closes of connections.
 ///
 /// Beside it memory is kept back. A turn that finds none lets it go, so that what is under way comes to its end; and no
-/// one sits or submits before it is taken again. And it is known what had ended before the last layer was run: what ended
-/// since tells whose outcomes come when that layer is settled.
+/// one sits or submits before it is taken again.
 #[derive(Drop)]
 pub(crate) struct Held<L: Ledger> {
     pub cluster: Cluster<L>,
     pub shut: bool,
+    pub stopped: bool,
     pub reserve: Vec<u8>,
-    pub before_run: Tally,
 }
 
 /// That a cluster was found shut, and nothing under way in it. It can't be made up, since only what the lock guards gives it.
@@ -71,46 +76,46 @@ pub struct AtRest {
     seen: (),
 }
 
-/// How the turns go on.
-#[derive(Clone, Copy, Debug, PartialEq, Eq)]
-pub(crate) enum Turn {
-    /// One was made; `settled` where outcomes went to their connections.
-    Made { settled: bool },
-    /// None was made for want of memory.
+/// What was found to be done by a hand that is free.
+#[derive(Drop)]
+pub(crate) enum Next {
+    /// The next layer was taken.
+    Taken(Layer),
+    /// A packet came to its group.
+    Delivered,
+    /// Nothing was done for want of memory.
     Starved,
-    /// Nothing is under way.
+    /// There is no packet under way, and no layer that could be taken.
     Quiet,
 }
 
-/// How many requests had ended: those with a row, which were executed, and those that starved.
-#[derive(Clone, Copy)]
-pub(crate) struct Tally {
-    pub rows: usize,
-    pub starved: usize,
-}
-
-/// What had ended before the last run: all that has now, where the next turn is one.
-fn tally_before(system: &System, before: Tally) -> Tally {
-    match system.progress() {
-        Progress::Taken => Tally {
-            rows: system.rows().len(),
-            starved: system.starved().len(),
-        },
-        _ => before,
-    }
+/// Why what came of a layer isn't settled.
+#[derive(Drop)]
+pub(crate) enum Unsettled {
+    /// There was no memory for it: it is given back.
+    Starved(Done),
+    /// It isn't what came of the layer that is out. All stops.
+    Foreign(AskFault),
 }
 
 impl<L: Ledger> Held<L> {
     /// Opens a connection, and gives the seat that has it.
     pub fn sit(&mut self) -> Result<Seat<L>, AskFault>
         ensures seat { IfOk result (λ seat. IsSeated self.old.cluster.history seat self.new.cluster.history) }
-        ensures refused { IfErr result (RefusesSit self.old.shut self.old.cluster.history) }
+        ensures refused { IfErr result (RefusesSit self.old.shut self.old.stopped self.old.cluster.history) }
         ensures shut { self.new.shut ≡ self.old.shut }
+        ensures stopped { self.new.stopped ≡ self.old.stopped }
     {
         let step = AskStep::Sit;
         if self.shut {
             return Err(AskFault {
                 kind: FaultKind::Closed,
+                step,
+            });
+        }
+        if self.stopped {
+            return Err(AskFault {
+                kind: FaultKind::Failed,
                 step,
             });
         }
@@ -137,14 +142,21 @@ impl<L: Ledger> Held<L> {
     pub fn submit(&mut self, seat: &mut Seat<L>, words: Request) -> Result<(), AskFault>
         ensures made { OnOk result (Submits self.old.cluster.history seat.old words self.new.cluster.history) }
         ensures submitted { OnOk result (seat.new ≡ submitted seat.old words) }
-        ensures refused { IfErr result (RefusesSubmit self.old.shut self.old.cluster.history seat.old words) }
+        ensures refused { IfErr result (RefusesSubmit self.old.shut self.old.stopped self.old.cluster.history seat.old words) }
         ensures unchanged { OnErr result (seat.new ≡ seat.old) }
         ensures shut { self.new.shut ≡ self.old.shut }
+        ensures stopped { self.new.stopped ≡ self.old.stopped }
     {
         let step = AskStep::Submit(seat.conn(), seat.count());
         if self.shut {
             return Err(AskFault {
                 kind: FaultKind::Closed,
+                step,
+            });
+        }
+        if self.stopped {
+            return Err(AskFault {
+                kind: FaultKind::Failed,
                 step,
             });
         }
@@ -166,7 +178,7 @@ impl<L: Ledger> Held<L> {
 
     /// Takes the memory again that is kept back for turns, where it was let go. Says whether there is none for it.
     fn is_short(&mut self) -> bool
-        ensures { (self.new.cluster ≡ self.old.cluster) × (self.new.shut ≡ self.old.shut) }
+        ensures { (self.new.cluster ≡ self.old.cluster) × (self.new.shut ≡ self.old.shut) × (self.new.stopped ≡ self.old.stopped) }
     {
         self.reserve.capacity() < RESERVE && self.reserve.reserve(RESERVE).is_err()
     }
@@ -178,11 +190,18 @@ impl<L: Ledger> Held<L> {
             Answers self.old.cluster.history seat.old (shown_outcome a) self.new.cluster.history seat.new)) }
         ensures words { IfOk result (λ answer. IfSome answer (λ a. a.words ≡ seat.old.words)) }
         ensures unasked { IfOk result (λ answer. IfNone answer (seat.new ≡ seat.old)) }
-        ensures refused { IfErr result (RefusesCollect self.old.cluster.history seat.old) }
+        ensures refused { IfErr result (RefusesCollect self.old.stopped self.old.cluster.history seat.old) }
         ensures unchanged { OnErr result (seat.new ≡ seat.old) }
         ensures shut { self.new.shut ≡ self.old.shut }
+        ensures stopped { self.new.stopped ≡ self.old.stopped }
     {
         let step = AskStep::Collect(seat.conn(), seat.count());
+        if self.stopped {
+            return Err(AskFault {
+                kind: FaultKind::Failed,
+                step,
+            });
+        }
         self.cluster.lawful();
         match self.cluster.collect(seat) {
             Ok(Some(answer)) => {
@@ -203,11 +222,18 @@ impl<L: Ledger> Held<L> {
         ensures answered { IfOk result (λ reply. IfSome reply (λ r.
             Replies self.old.cluster.history seat.old (content r.reply) self.new.cluster.history seat.new)) }
         ensures unasked { IfOk result (λ reply. IfNone reply (seat.new ≡ seat.old)) }
-        ensures refused { IfErr result (RefusesCollect self.old.cluster.history seat.old) }
+        ensures refused { IfErr result (RefusesCollect self.old.stopped self.old.cluster.history seat.old) }
         ensures unchanged { OnErr result (seat.new ≡ seat.old) }
         ensures shut { self.new.shut ≡ self.old.shut }
+        ensures stopped { self.new.stopped ≡ self.old.stopped }
     {
         let step = AskStep::Collect(seat.conn(), seat.count());
+        if self.stopped {
+            return Err(AskFault {
+                kind: FaultKind::Failed,
+                step,
+            });
+        }
         self.cluster.lawful();
         match self.cluster.collect_reply(seat) {
             Ok(Some(reply)) => {
@@ -222,31 +248,121 @@ impl<L: Ledger> Held<L> {
         }
     }
 
-    /// Makes a turn, if one can be made.
-    pub fn turn<P: Pick, W: Workers>(
-        &mut self,
-        pick: &P,
-        workers: &W,
-        gate: &(dyn Gate + Sync),
-    ) -> Result<Turn, AskFault>
+    /// Takes the next layer, if a request is ready and none is out; else brings a packet to its group, if one is under way.
+    pub fn turn<P: Pick>(&mut self, pick: &P) -> Result<Next, AskFault>
         ensures made { IfOk result (GoesOn (P.picks pick.now) self.old.cluster.history self.new.cluster.history) }
-        ensures refused { IfErr result (RefusesTurn (W.may_refuse workers.now) self.old.cluster.history) }
+        ensures refused { IfErr result (RefusesTurn self.old.stopped self.old.cluster.history) }
         ensures shut { self.new.shut ≡ self.old.shut }
+        ensures stopped { self.new.stopped ≡ self.old.stopped }
+    {
+        if self.may_take() {
+            return self.take();
+        }
+        self.deliver(pick)
+    }
+
+    /// Whether a layer could be taken: a request is ready, and none is out.
+    fn may_take(&self) -> bool
+        ensures { IsTrue result ↔ MayTake self.now.cluster.history }
+    {
+        let front = self.cluster.front();
+        if front.is_out() {
+            return false;
+        }
+        front.has_ready()
+    }
+
+    /// Takes the next layer.
+    fn take(&mut self) -> Result<Next, AskFault>
+        requires { MayTake self.old.cluster.history }
+        ensures made { IfOk result (Takes self.old.cluster.history self.new.cluster.history) }
+        ensures refused { IfErr result (RefusesTurn self.old.stopped self.old.cluster.history) }
+        ensures shut { self.new.shut ≡ self.old.shut }
+        ensures stopped { self.new.stopped ≡ self.old.stopped }
     {
         let step = AskStep::Turn;
-        let settled = self.cluster.system().progress() == Progress::HasRun;
-        self.before_run = tally_before(self.cluster.system(), self.before_run);
+        if self.stopped {
+            return Err(AskFault {
+                kind: FaultKind::Failed,
+                step,
+            });
+        }
         self.cluster.lawful();
-        match self.cluster.turn(pick, workers, gate) {
-            Ok(true) => Ok(Turn::Made { settled }),
-            Ok(false) => Ok(Turn::Quiet),
+        match self.cluster.take() {
+            Ok(layer) => Ok(Next::Taken(layer)),
             Err(fault) => match lasting(fault) {
                 Some(kind) => Err(AskFault { kind, step }),
                 None => {
                     self.let_reserve_go();
-                    Ok(Turn::Starved)
+                    Ok(Next::Starved)
                 }
             },
+        }
+    }
+
+    /// Brings a packet to its group, if one is under way.
+    pub fn deliver<P: Pick>(&mut self, pick: &P) -> Result<Next, AskFault>
+        ensures made { IfOk result (Carries (P.picks pick.now) self.old.cluster.history self.new.cluster.history) }
+        ensures refused { IfErr result (RefusesTurn self.old.stopped self.old.cluster.history) }
+        ensures shut { self.new.shut ≡ self.old.shut }
+        ensures stopped { self.new.stopped ≡ self.old.stopped }
+    {
+        let step = AskStep::Turn;
+        if self.stopped {
+            return Err(AskFault {
+                kind: FaultKind::Failed,
+                step,
+            });
+        }
+        self.cluster.lawful();
+        match self.cluster.turn(pick) {
+            Ok(true) => Ok(Next::Delivered),
+            Ok(false) => Ok(Next::Quiet),
+            Err(fault) => match lasting(fault) {
+                Some(kind) => Err(AskFault { kind, step }),
+                None => {
+                    self.let_reserve_go();
+                    Ok(Next::Starved)
+                }
+            },
+        }
+    }
+
+    /// Tells what came of the layer that is out. What isn't that stops all.
+    pub fn settle(&mut self, done: Done) -> Result<(), Unsettled>
+        ensures settled { OnOk result (IsSettled self.old.cluster.history done self.new.cluster.history) }
+        ensures refused { IfErr result (RefusesSettle self.old.cluster.history done) }
+        ensures shut { self.new.shut ≡ self.old.shut }
+        ensures stopped { OnOk result (self.new.stopped ≡ self.old.stopped) }
+    {
+        self.cluster.lawful();
+        match self.cluster.settle(done) {
+            Ok(()) => Ok(()),
+            Err((done, StepFault::Memory)) => {
+                self.let_reserve_go();
+                Err(Unsettled::Starved(done))
+            }
+            Err(_) => {
+                self.stopped = true;
+                Err(Unsettled::Foreign(AskFault {
+                    kind: FaultKind::Failed,
+                    step: AskStep::Turn,
+                }))
+            }
+        }
+    }
+
+    /// Stops all, since a layer was refused for good, and says how a turn is refused from now on.
+    pub fn stop(&mut self, _why: Broken) -> AskFault
+        ensures refused { RefusesTurn self.new.stopped self.old.cluster.history result }
+        ensures cluster { self.new.cluster ≡ self.old.cluster }
+        ensures shut { self.new.shut ≡ self.old.shut }
+        ensures stopped { self.new.stopped ≡ true }
+    {
+        self.stopped = true;
+        AskFault {
+            kind: FaultKind::Failed,
+            step: AskStep::Turn,
         }
     }
 
@@ -255,15 +371,32 @@ impl<L: Ledger> Held<L> {
         ensures rests { OnSome result (IsAtRest self.now.shut self.now.cluster.history) }
         ensures goes_on { IfNone result (¬ IsAtRest self.now.shut self.now.cluster.history) }
     {
-        if self.shut && self.cluster.system().quiet() {
+        if self.shut && self.cluster.front().quiet() {
             return Some(AtRest { seen: () });
         }
         None
     }
 
+    /// Whether a packet is under way, or no turn is made any more: whoever brings packets has something to do.
+    pub fn has_packets(&self) -> bool {
+        self.stopped || self.cluster.front().packets() != 0
+    }
+
+    /// Whether a packet is under way, a layer could be taken, or no turn is made any more: a hand that is free has something to
+    /// do.
+    pub fn has_work(&self) -> bool {
+        self.has_packets() || self.may_take()
+    }
+
+    /// Whether a connection can do no more than wait until another hand has settled the layer that it has.
+    pub fn waits_for_layer(&self, conn: ConnId) -> bool {
+        let front = self.cluster.front();
+        front.is_out() && !self.has_work() && front.waits(conn).is_none()
+    }
+
     /// Gives back what is kept back for turns.
-    fn let_reserve_go(&mut self)
-        ensures { (self.new.cluster ≡ self.old.cluster) × (self.new.shut ≡ self.old.shut) }
+    pub fn let_reserve_go(&mut self)
+        ensures { (self.new.cluster ≡ self.old.cluster) × (self.new.shut ≡ self.old.shut) × (self.new.stopped ≡ self.old.stopped) }
     {
         self.reserve = Vec::new(*self.reserve.allocator());
     }
@@ -278,6 +411,7 @@ impl<L: Ledger> Held<L> {
     /// Shuts: no one sits or asks any more.
     pub fn shut(&mut self)
         ensures shut { self.new.shut ≡ true }
+        ensures stopped { self.new.stopped ≡ self.old.stopped }
         ensures rest { self.new.cluster ≡ self.old.cluster }
     {
         self.shut = true;
@@ -287,21 +421,28 @@ impl<L: Ledger> Held<L> {
     pub fn stand(&mut self, seat: Seat<L>)
         ensures stood { self.new.cluster.stood ≡ self.old.cluster.stood + 1 }
         ensures back { self.new.cluster.back ≡ self.old.cluster.back + seat.count }
-        ensures closed { IsMade self.old.cluster.history (Step.Close seat.conn) Effect.Made self.new.cluster.history
+        ensures closed { IsMade self.old.cluster.history (Step.Close seat.conn) Made self.new.cluster.history
             ⊎ StaysOpen seat.conn self.old.cluster.history self.new.cluster.history }
         ensures shut { self.new.shut ≡ self.old.shut }
+        ensures stopped { self.new.stopped ≡ self.old.stopped }
     {
         self.cluster.stand(seat);
     }
 
-    /// What is told of the cluster when it is closed.
-    pub fn close(&mut self) -> Result<Closing, CloseFault>
-        ensures closed { IfOk result (Closes self.old.cluster) }
-        ensures refused { IfErr result (IsCloseFault self.old.cluster) }
+    /// What is told of the cluster when it is closed beside this store.
+    pub fn close(&mut self, back: &Back) -> Result<Closing, CloseFault>
+        ensures closed { IfOk result (Closes self.old.cluster back.now) }
+        ensures refused { IfErr result (RefusesClose self.old.stopped self.old.cluster back.now) }
         ensures same { self.new ≡ self.old }
     {
+        if self.stopped || back.has_failed() {
+            return Err(CloseFault::Failed);
+        }
         self.cluster.lawful();
-        self.cluster.closing()
+        match self.cluster.closing(back) {
+            Ok(closing) => Ok(closing),
+            Err(fault) => Err(of_cluster(fault)),
+        }
     }
 
     /// Appends the text of the trace.

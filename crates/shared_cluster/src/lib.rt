@@ -1,14 +1,15 @@
-//! A cluster under one lock, which any number of threads share.
-//!
-//! `Shared` is the cluster with its lock; a `Desk` is what stands behind a connection and asks its requests of it.
+//! A cluster under two locks, which any number of threads share: the front with its seats under the one, the store under the
+//! other, so that requests are submitted, brought on and collected while a layer is run.
 #![tactic(auto)]
 
 mod desk;
 mod fault;
+mod hand;
 mod held;
+mod long_work;
 mod shared;
 
 pub use desk::{Desk, Turns};
-pub use fault::{AskStep, FaultKind};
+pub use fault::{AskStep, CloseFault, FaultKind};
 pub use held::{AskFault, AtRest};
 pub use shared::Shared;

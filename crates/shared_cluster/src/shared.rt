@@ -1,7 +1,25 @@
-//! A cluster under one lock, for any number of threads.
+//! A cluster under two locks, for any number of threads: the front with its seats under the one, the store with its rows under
+//! the other.
 //!
 //! What a call does to the cluster no clause can say, since the cluster is another one each time the lock is taken. A
 //! clause says what was true of the cluster that was found: it was lawful, and what a seat was answered came from it.
+//!
+//! Who sleeps, and who wakes him:
+//!
+//! - A seat whose request another thread brings on sleeps at its place in `done`, and an asking thread that finds nothing to do
+//!   while another hand has the layer at its place in `idle`. Who settles the layer wakes the seats of all whose outcomes come
+//!   with it.
+//! - A request that was ready beside that layer, or stands behind it, has its asking thread asleep in `idle`, or waits for a
+//!   thread that drives. So who settles wakes, where a request is ready, of the seats at the heads of the queues those that
+//!   sleep there, and who drives: one of these requests is ready, and whoever brings it on takes all that are.
+//! - Who drives or carries sleeps at `work` or `packets` where there is nothing to do. Who asks of a driver wakes both; a thread
+//!   that makes its own turns brings its own packets, and wakes no one. Once it is shut, each layer that is settled wakes both,
+//!   since it may be the last.
+//! - Where no turn is made any more, who meets it first wakes all, and each is told so in his turn: then no layer is taken, and
+//!   no one goes to sleep beside one.
+//!
+//! Each looks under the front's lock whether he has something to do before he goes to sleep, and each is woken after the change
+//! under that lock, so no call is missed.
 
 ghost use Rattle.std.specs.Prelude.{◌≡◌, ◌≤◌, ◌<◌, IfOk, IfErr, IfSome, IfNone, OnOk, OnErr};
 ghost use Rattle.cluster.specs.Answers.{shown_outcome};
@@ -10,12 +28,19 @@ ghost use Rattle.shared_cluster.specs.Asks.{submitted, IsNewSeat, IsAnswered, Is
 ghost use Rattle.shared_cluster.specs.Asks.{IsCollectFault, IsAskFault};
 ghost use Rattle.shared_cluster.specs.Asks.{IsStopped};
 ghost use Rattle.shared_cluster.specs.Closings.{IsClosed, IsCloseFault, IsWritten, IsSent, HasSubmitted};
+ghost use Rattle.shared_cluster.specs.declared.hand.Hand.{Hand};
 ghost use Rattle.journal.specs.declared.trace.TheConstants.{GREATEST_STEPS};
 
-use crate::held::{AskFault, AtRest, Held, RESERVE, Tally, Turn};
-use cluster::{Answer, CloseFault, Closing, Cluster, First, Pick, SealedReply, Seat};
-use groups::ConnId;
+use crate::fault::CloseFault;
+use crate::hand::{Hand, Run, run_layer};
+use crate::held::{AskFault, AtRest, Held, Next, RESERVE, Unsettled};
+use crate::long_work::takes_long;
+use back::Back;
+use cluster::{Answer, Closing, Cluster, First, Pick, SealedReply, Seat};
+use groups::{ConnId, GroupId};
 use journal::SendFault;
+use layer_planner::Layer;
+use layer_results::Done;
 use placement::Table;
 use resp::Request;
 use server_waiting::{Pause, Turnstile, Waiting};
@@ -23,25 +48,42 @@ use shard_workers::{Gate, InTurn, Open, Workers};
 use shards::ShardHasher;
 use std::alloc::{AllocError, Global};
 use std::io::Write;
+use std::mem;
 use std::num::NonZeroUsize;
 use std::sync::ledger::{Blank, Ledger};
 use std::sync::{Condvar, Mutex, Wait};
 use std::time::Clock;
-use system::System;
 
-/// A cluster under a lock. Each accepted step is one holding of the lock.
+/// A cluster under two locks. Each accepted step is one holding of the front's, but for a Run, which is one of the store's; and
+/// no one waits for one while he holds the other, but in `close`, which takes the front's first.
 #[derive(Drop)]
 pub struct Shared<L: Ledger> {
-    held: Mutex<Held<L>>,
-    // A request was submitted, or the cluster is shut.
+    front: Mutex<Held<L>>,
+    back: Mutex<Back>,
+    // A request waits for who drives, or the cluster is shut.
     work: Condvar,
+    // A packet may be under way for who carries, or the cluster is shut.
+    packets: Condvar,
     // Outcomes went to seats that wait for them, or no turn is made any more.
     done: Waiting,
+    // The same for seats whose threads make their own turns; or a layer may be taken.
+    idle: Waiting,
     turnstile: Turnstile,
 }
 
+/// How the turns go on.
+#[derive(Clone, Copy, Debug, PartialEq, Eq)]
+enum Turn {
+    /// One was made; `settled` where outcomes went to their connections.
+    Made { settled: bool },
+    /// None was made for want of memory.
+    Starved,
+    /// There is nothing to do for this hand.
+    Quiet,
+}
+
 impl<L: Ledger> Shared<L> {
-    /// A cluster without seats, whose system has made no step and makes `max_steps` at most. Keys lie as the table
+    /// A cluster without seats, which has made no step and makes `max_steps` at most. Keys lie as the table
     /// says, and each shard hashes them by a copy of `hasher`. The only error is want of memory.
     pub fn new(
         alloc: Global,
@@ -56,20 +98,21 @@ impl<L: Ledger> Shared<L> {
         requires some { 1 ≤ max_steps }
         requires few { max_steps ≤ GREATEST_STEPS }
     {
-        let cluster = Cluster::new(alloc, table, max_steps, hasher, blank)?;
+        let back = Back::new(alloc, table, hasher)?;
+        let cluster = Cluster::new(alloc, table, max_steps, blank)?;
         let reserve = Vec::with_capacity(alloc, RESERVE)?;
         Ok(Shared {
-            held: Mutex::new(Held {
+            front: Mutex::new(Held {
                 cluster,
                 shut: false,
+                stopped: false,
                 reserve,
-                before_run: Tally {
-                    rows: 0,
-                    starved: 0,
-                },
             }),
+            back: Mutex::new(back),
             work: Condvar::new(),
+            packets: Condvar::new(),
             done: Waiting::new(),
+            idle: Waiting::new(),
             turnstile: Turnstile::new(),
         })
     }
@@ -79,7 +122,7 @@ impl<L: Ledger> Shared<L> {
         ensures seat { IfOk result IsNewSeat }
         ensures refused { IfErr result IsSitFault }
     {
-        self.held.lock(rt).sit()
+        self.front.lock(rt).sit()
     }
 
     /// What the connections that make their own turns pass one at a time.
@@ -101,7 +144,7 @@ impl<L: Ledger> Shared<L> {
     {
         match self.submit(rt, seat, words) {
             Ok(()) => {
-                self.work.notify_all();
+                self.wake_workers();
                 self.wait(rt, seat)
             }
             Err(fault) => Err(fault),
@@ -143,7 +186,8 @@ impl<L: Ledger> Shared<L> {
 
     /// Makes turns until it is found shut and nothing under way. A turn for which there is no memory is tried again.
     ///
-    /// It ends by `Exhausted` where no more steps may be made, and by `Failed` where a worker could not be started.
+    /// It ends by `Exhausted` where no more steps may be made, and by `Failed` where a layer was refused for good, as where a
+    /// worker could not be started.
     pub fn drive<P: Pick, W: Workers, R: Wait + Clock>(
         &self,
         rt: &R,
@@ -154,12 +198,34 @@ impl<L: Ledger> Shared<L> {
         ensures { IfErr result IsStopped }
     {
         let mut pause = Pause::new();
+        let mut hand = Hand::Free;
         for _ in rt.forever() {
-            match self.drive_once(rt, pick, workers, gate, &mut pause) {
+            match self.drive_once(rt, &mut hand, pick, workers, gate, &mut pause) {
                 Ok(None) => {}
                 Ok(Some(rest)) => return Ok(rest),
                 Err(fault) => {
-                    self.done.wake_all();
+                    self.wake_all();
+                    return Err(fault);
+                }
+            }
+        }
+        unreachable!()
+    }
+
+    /// Brings packets to their groups, beside who brings on layers, until it is found shut and nothing under way. A packet for
+    /// which there is no memory is tried again.
+    ///
+    /// It ends by the same errors as `drive`.
+    pub fn carry<P: Pick, R: Wait + Clock>(&self, rt: &R, pick: &P) -> Result<AtRest, AskFault>
+        ensures { IfErr result IsStopped }
+    {
+        let mut pause = Pause::new();
+        for _ in rt.forever() {
+            match self.carry_once(rt, pick, &mut pause) {
+                Ok(None) => {}
+                Ok(Some(rest)) => return Ok(rest),
+                Err(fault) => {
+                    self.wake_all();
                     return Err(fault);
                 }
             }
@@ -169,13 +235,13 @@ impl<L: Ledger> Shared<L> {
 
     /// Shuts the cluster: no one sits or asks any more.
     pub fn shut<R: Wait>(&self, rt: &R) {
-        self.held.lock(rt).shut();
-        self.work.notify_all();
+        self.front.lock(rt).shut();
+        self.wake_workers();
     }
 
     /// Takes a seat back, and closes its connection. What it has under way still runs, and its outcome is dropped.
     pub fn stand<R: Wait>(&self, rt: &R, seat: Seat<L>) {
-        self.held.lock(rt).stand(seat);
+        self.front.lock(rt).stand(seat);
     }
 
     /// Appends the text of the trace. With `AllocError`, where there is no memory for all of it, `out` is as it was.
@@ -183,7 +249,7 @@ impl<L: Ledger> Shared<L> {
         ensures written { OnOk result (IsWritten out.old.items out.new.items) }
         ensures unchanged { OnErr result (out.new.items ≡ out.old.items) }
     {
-        self.held.lock(rt).write_trace(out)
+        self.front.lock(rt).write_trace(out)
     }
 
     /// Writes the text of the trace, by pieces of some 64 KiB, or of one step where that is longer. It holds the lock
@@ -191,23 +257,25 @@ impl<L: Ledger> Shared<L> {
     pub fn send_trace<R: Wait, W: Write>(&self, rt: &R, writer: &mut W) -> Result<(), SendFault>
         ensures { OnOk result (IsSent (W.contents writer.old) (W.contents writer.new)) }
     {
-        self.held.lock(rt).send_trace(writer)
+        self.front.lock(rt).send_trace(writer)
     }
 
     /// How many requests were submitted so far.
     pub fn requests<R: Wait>(&self, rt: &R) -> u64
         ensures { HasSubmitted result }
     {
-        self.held.lock(rt).requests()
+        self.front.lock(rt).requests()
     }
 
-    /// What is told of the cluster when it is closed: all seats have stood, and nothing is under way. It changes
-    /// nothing.
+    /// What is told of the cluster when it is closed: all seats have stood, nothing is under way, and what was told of the
+    /// layers is what the store has kept. It changes nothing.
     pub fn close<R: Wait>(&self, rt: &R) -> Result<Closing, CloseFault>
         ensures closed { IfOk result IsClosed }
         ensures refused { IfErr result IsCloseFault }
     {
-        self.held.lock(rt).close()
+        let mut held = self.front.lock(rt);
+        let back = self.back.lock(rt);
+        held.close(&back)
     }
 
     /// Submits a request of these words.
@@ -216,7 +284,7 @@ impl<L: Ledger> Shared<L> {
         ensures refused { IfErr result (IsSubmitFault seat.old words) }
         ensures unchanged { OnErr result (seat.new ≡ seat.old) }
     {
-        self.held.lock(rt).submit(seat, words)
+        self.front.lock(rt).submit(seat, words)
     }
 
     /// Waits until what came of the seat's last request is there.
@@ -227,26 +295,26 @@ impl<L: Ledger> Shared<L> {
         ensures unchanged { OnErr result (seat.new ≡ seat.old) }
     {
         let mut pause = Pause::new();
-        let mut held = self.held.lock(rt);
+        let mut held = self.front.lock(rt);
         for _ in rt.forever() {
             match held.collect(seat) {
                 Ok(Some(answer)) => return Ok(answer),
                 Ok(None) => {}
                 Err(fault) => return Err(fault),
             }
-            if held.cluster.system().waits(seat.conn()).is_none() {
+            if held.cluster.front().waits(seat.conn()).is_none() {
                 held = self.done.wait(rt, seat.conn(), held);
                 continue;
             }
             // There was no memory to collect it.
             drop(held);
             pause.sleep(rt);
-            held = self.held.lock(rt);
+            held = self.front.lock(rt);
         }
         unreachable!()
     }
 
-    /// Makes turns until what came of the seat's last request is there.
+    /// Makes turns until what came of the seat's last request is there. It is collected by a hand that is free.
     fn turn_until_replied<R: Wait + Clock>(
         &self,
         rt: &R,
@@ -256,26 +324,32 @@ impl<L: Ledger> Shared<L> {
         ensures refused { IfErr result (IsCollectFault seat.old) }
         ensures unchanged { OnErr result (seat.new ≡ seat.old) }
     {
+        let mut hand = Hand::Free;
         let mut may_wait = true;
         let mut pause = Pause::new();
         for _ in rt.forever() {
-            match self.turn_or_collect(rt, seat, &mut may_wait, &mut pause) {
+            match self.turn_or_collect(rt, seat, &mut hand, &mut may_wait, &mut pause) {
                 Ok(Some(reply)) => return Ok(reply),
                 Ok(None) => {}
-                Err(fault) => return Err(fault),
+                Err(fault) => {
+                    self.wake_all();
+                    return Err(fault);
+                }
             }
         }
         unreachable!()
     }
 
-    /// Collects what came of the seat's last request, or makes a turn where it isn't there: one step, or none.
+    /// Collects what came of the seat's last request, or makes a turn where it isn't there or the hand isn't free: one step, or
+    /// none.
     ///
     /// It is looked for where it may wait: it is there at once, or comes with a Settle. Where another thread made that
-    /// Settle it is found once nothing is under way, or after the next one that is made here.
+    /// Settle it is found once there is nothing to do, or after the next one that is made here.
     fn turn_or_collect<R: Wait + Clock>(
         &self,
         rt: &R,
         seat: &mut Seat<L>,
+        hand: &mut Hand,
         may_wait: &mut bool,
         pause: &mut Pause,
     ) -> Result<Option<SealedReply>, AskFault>
@@ -284,27 +358,51 @@ impl<L: Ledger> Shared<L> {
         ensures refused { IfErr result (IsCollectFault seat.old) }
         ensures unchanged { OnErr result (seat.new ≡ seat.old) }
     {
-        let mut held = self.held.lock(rt);
-        if !*may_wait || held.cluster.system().waits(seat.conn()).is_none() {
-            match held.turn(&First, &InTurn(NonZeroUsize::MIN), &Open) {
-                // Nothing comes any more: it is there, or the seat is told why.
-                Ok(Turn::Quiet) => {}
-                Ok(Turn::Starved) => {
-                    drop(held);
-                    *may_wait = true;
-                    self.let_others_pass(rt, seat.conn(), pause);
-                    return Ok(None);
-                }
-                Ok(turn) => {
-                    self.wake_settled(turn, held.cluster.system(), held.before_run);
-                    *may_wait = turn != Turn::Made { settled: false };
-                    pause.end();
-                    return Ok(None);
-                }
-                Err(fault) => return Err(fault),
+        if *may_wait && hand.is_free() {
+            *may_wait = false;
+            return self.look(rt, seat);
+        }
+        self.pass(rt, seat.conn(), hand);
+        match self.advance(rt, hand, &First, &InTurn(NonZeroUsize::MIN), &Open) {
+            Ok(Turn::Quiet) => {
+                *may_wait = true;
+                self.wait_for_layer(rt, seat.conn());
             }
+            Ok(Turn::Starved) => {
+                *may_wait = true;
+                self.let_others_pass(rt, seat.conn(), pause);
+            }
+            Ok(turn) => {
+                *may_wait = turn != Turn::Made { settled: false };
+                pause.end();
+            }
+            Err(fault) => return Err(fault),
+        }
+        Ok(None)
+    }
+
+    /// Collects what came of the seat's last request, if it is there.
+    fn look<R: Wait>(&self, rt: &R, seat: &mut Seat<L>) -> Result<Option<SealedReply>, AskFault>
+        ensures replied { IfOk result (λ reply. IfSome reply (λ r. IsReplied seat.old (content r.reply) seat.new)) }
+        ensures unasked { IfOk result (λ reply. IfNone reply (seat.new ≡ seat.old)) }
+        ensures refused { IfErr result (IsCollectFault seat.old) }
+        ensures unchanged { OnErr result (seat.new ≡ seat.old) }
+    {
+        let mut held = self.front.lock(rt);
+        if !held.stopped && held.cluster.front().waits(seat.conn()).is_none() {
+            return Ok(None);
         }
         held.collect_reply(seat)
+    }
+
+    /// Passes the turnstile, to take the next layer or bring a packet on; or leaves it before it runs a layer that takes long, so
+    /// that those behind it submit, and the next layer has them all.
+    fn pass<R: Wait>(&self, rt: &R, conn: ConnId, hand: &Hand) {
+        match hand {
+            Hand::Free => self.turnstile.enter(rt, conn),
+            Hand::Taken(layer) if takes_long(layer) => self.turnstile.leave(rt, conn),
+            Hand::Taken(_) | Hand::HasRun(_) => {}
+        }
     }
 
     /// Sleeps where there was no memory for a turn, outside the turnstile, so that others are answered and may give
@@ -315,10 +413,24 @@ impl<L: Ledger> Shared<L> {
         self.turnstile.enter(rt, conn);
     }
 
+    /// Sleeps where there is nothing to do while another hand has the layer, outside the turnstile, so that others submit and
+    /// the next layer has them all. Who settles wakes it.
+    fn wait_for_layer<R: Wait>(&self, rt: &R, conn: ConnId) {
+        self.turnstile.leave(rt, conn);
+        let held = self.front.lock(rt);
+        if held.waits_for_layer(conn) {
+            drop(self.idle.wait(rt, conn, held));
+        } else {
+            drop(held);
+        }
+        self.turnstile.enter(rt, conn);
+    }
+
     /// Makes a turn, or waits for one to be there to be made; or says that it was found at rest.
     fn drive_once<P: Pick, W: Workers, R: Wait + Clock>(
         &self,
         rt: &R,
+        hand: &mut Hand,
         pick: &P,
         workers: &W,
         gate: &(dyn Gate + Sync),
@@ -326,39 +438,195 @@ impl<L: Ledger> Shared<L> {
     ) -> Result<Option<AtRest>, AskFault>
         ensures { IfErr result IsStopped }
     {
-        let mut held = self.held.lock(rt);
-        match held.turn(pick, workers, gate) {
+        match self.advance(rt, hand, pick, workers, gate) {
             Ok(Turn::Starved) => {
-                drop(held);
                 pause.sleep(rt);
                 return Ok(None);
             }
             Ok(Turn::Quiet) => {
+                let held = self.front.lock(rt);
                 if let Some(rest) = held.at_rest() {
                     return Ok(Some(rest));
                 }
-                let _ = self.work.wait(rt, held);
+                if !held.has_work() {
+                    drop(self.work.wait(rt, held));
+                }
             }
-            Ok(turn) => self.wake_settled(turn, held.cluster.system(), held.before_run),
+            Ok(Turn::Made { .. }) => {}
             Err(fault) => return Err(fault),
         }
         pause.end();
         Ok(None)
     }
 
-    /// Wakes the seats that wait for outcomes which this turn brought, of a layer before whose run so many had ended.
-    fn wake_settled(&self, turn: Turn, system: &System, before: Tally) {
-        if turn != (Turn::Made { settled: true }) || self.done.is_empty() {
+    /// Brings a packet to its group, or waits for one to be under way; or says that it was found at rest.
+    fn carry_once<P: Pick, R: Wait + Clock>(
+        &self,
+        rt: &R,
+        pick: &P,
+        pause: &mut Pause,
+    ) -> Result<Option<AtRest>, AskFault>
+        ensures { IfErr result IsStopped }
+    {
+        let mut held = self.front.lock(rt);
+        match held.deliver(pick) {
+            Ok(Next::Starved) => {
+                drop(held);
+                pause.sleep(rt);
+                return Ok(None);
+            }
+            Ok(Next::Quiet) => {
+                if let Some(rest) = held.at_rest() {
+                    return Ok(Some(rest));
+                }
+                drop(self.packets.wait(rt, held));
+            }
+            Ok(_) => {}
+            Err(fault) => return Err(fault),
+        }
+        pause.end();
+        Ok(None)
+    }
+
+    /// Makes the first of these that is there to be made, if one is: what came of the hand's layer is settled, the layer is run,
+    /// the next one is taken, a packet comes to its group. Where it is refused the hand is free.
+    fn advance<P: Pick, W: Workers, R: Wait>(
+        &self,
+        rt: &R,
+        hand: &mut Hand,
+        pick: &P,
+        workers: &W,
+        gate: &(dyn Gate + Sync),
+    ) -> Result<Turn, AskFault>
+        ensures refused { IfErr result IsStopped }
+        ensures free { OnErr result (hand.new ≡ Hand.Free) }
+    {
+        match mem::replace(hand, Hand::Free) {
+            Hand::HasRun(done) => self.settle(rt, hand, done),
+            Hand::Taken(layer) => self.run(rt, hand, layer, workers, gate),
+            Hand::Free => self.begin(rt, hand, pick),
+        }
+    }
+
+    /// Tells what came of the layer, which stays in the hand where there is no memory for it.
+    fn settle<R: Wait>(&self, rt: &R, hand: &mut Hand, done: Done) -> Result<Turn, AskFault>
+        ensures refused { IfErr result IsStopped }
+        ensures free { OnErr result (hand.new ≡ hand.old) }
+    {
+        let mut held = self.front.lock(rt);
+        // They come to the lock once it is let go.
+        self.wake_outcomes(&done);
+        let unsettled = match held.settle(done) {
+            Ok(()) => {
+                self.wake_next(&held);
+                return Ok(Turn::Made { settled: true });
+            }
+            Err(unsettled) => unsettled,
+        };
+        let done = match unsettled {
+            Unsettled::Starved(done) => done,
+            Unsettled::Foreign(fault) => return Err(fault),
+        };
+        *hand = Hand::HasRun(done);
+        Ok(Turn::Starved)
+    }
+
+    /// Runs the layer, under the store's lock alone. It stays in the hand where there is no memory for that.
+    fn run<W: Workers, R: Wait>(
+        &self,
+        rt: &R,
+        hand: &mut Hand,
+        layer: Layer,
+        workers: &W,
+        gate: &(dyn Gate + Sync),
+    ) -> Result<Turn, AskFault>
+        ensures refused { IfErr result IsStopped }
+        ensures free { OnErr result (hand.new ≡ hand.old) }
+    {
+        let mut back = self.back.lock(rt);
+        let run = run_layer(&mut back, layer, workers, gate);
+        drop(back);
+        match run {
+            Run::Handed(done) => {
+                *hand = Hand::HasRun(done);
+                Ok(Turn::Made { settled: false })
+            }
+            Run::Starved(layer) => {
+                *hand = Hand::Taken(layer);
+                self.front.lock(rt).let_reserve_go();
+                Ok(Turn::Starved)
+            }
+            Run::Refused(why) => Err(self.front.lock(rt).stop(why)),
+        }
+    }
+
+    /// Takes the next layer into the hand, which is free; else brings a packet to its group.
+    fn begin<P: Pick, R: Wait>(&self, rt: &R, hand: &mut Hand, pick: &P) -> Result<Turn, AskFault>
+        ensures refused { IfErr result IsStopped }
+        ensures free { OnErr result (hand.new ≡ hand.old) }
+    {
+        match self.front.lock(rt).turn(pick) {
+            Ok(Next::Taken(layer)) => {
+                *hand = Hand::Taken(layer);
+                Ok(Turn::Made { settled: false })
+            }
+            Ok(Next::Delivered) => Ok(Turn::Made { settled: false }),
+            Ok(Next::Starved) => Ok(Turn::Starved),
+            Ok(Next::Quiet) => Ok(Turn::Quiet),
+            Err(fault) => Err(fault),
+        }
+    }
+
+    /// Wakes the seats of all whose outcomes come with this.
+    fn wake_outcomes(&self, done: &Done) {
+        if self.done.is_empty() && self.idle.is_empty() {
             return;
         }
-        let all = system.rows();
-        for place in before.rows..all.len() {
-            if let Some(row) = all.row(place) {
-                self.done.wake(row.id().conn);
+        for row in done.rows() {
+            self.wake_seat(row.id.conn);
+        }
+        for (id, _) in done.starved() {
+            self.wake_seat(id.conn);
+        }
+    }
+
+    /// Wakes the seat of this connection, if it waits.
+    fn wake_seat(&self, conn: ConnId) {
+        self.done.wake(conn);
+        self.idle.wake(conn);
+    }
+
+    /// Wakes, behind a Settle, those who may bring on what is ready now: who drives, and the seats of the requests at the heads
+    /// of the queues, one of which is ready. Where it is shut it may have been the last one.
+    fn wake_next(&self, held: &Held<L>) {
+        let front = held.cluster.front();
+        if held.shut {
+            self.wake_workers();
+        }
+        if !front.has_ready() {
+            return;
+        }
+        self.work.notify_all();
+        if self.idle.is_empty() {
+            return;
+        }
+        for group in 0..front.table().shards() {
+            if let Some(request) = front.delivered(GroupId::new(group), 0) {
+                self.idle.wake(request.id.conn);
             }
         }
-        for id in system.starved().iter().skip(before.starved) {
-            self.done.wake(id.conn);
-        }
+    }
+
+    /// Wakes who drives and who carries.
+    fn wake_workers(&self) {
+        self.work.notify_all();
+        self.packets.notify_all();
+    }
+
+    /// Wakes all, since no turn is made any more.
+    fn wake_all(&self) {
+        self.wake_workers();
+        self.done.wake_all();
+        self.idle.wake_all();
     }
 }

@@ -1,29 +1,24 @@
 use Rattle.std.proofs.Common.{ap, sym, ◌∙◌, subst, inl, inr, option_copied}
 use Rattle.std.proofs.lemmas.Bool.{both_ways}
-use Rattle.cluster.proofs.Fitting.{going}
+use Rattle.front.specs.Fronts.{FrontView}
 use Rattle.cluster.specs.Clusters.{SeatView}
-use Rattle.cluster.specs.Histories.{MayGoOn}
 use Rattle.cluster.specs.Outcomes.{IsAbove}
-use Rattle.system.specs.Reads.{waiting_for}
-use Rattle.system.specs.System.{SystemView}
+use Rattle.router.specs.Router.{waiting}
 use Rattle.cluster.proofs.cluster.awaits.Goals as goal
 
 pub returns-then-not-fits-clause-refused : goal.returns-then-not-fits-clause-refused
 returns-then-not-fits-clause-refused g c =
-    let may = going c.args.history.now _ _ _ c.system.ensures c.has_failed.ensures c.if-has_failed.false
-    c.is_exhausted.ensures.left c.if-is_exhausted.false in
-    (may, inl (c.fits.ensures.foreign c.if-not-fits.true may.lives))
+    (c.is_exhausted.ensures.left c.if-is_exhausted.false, inl (c.fits.ensures.foreign c.if-not-fits.true))
 
 pub returns-then-not-is_above-clause-refused : goal.returns-then-not-is_above-clause-refused
 returns-then-not-is_above-clause-refused g c =
     let in' = c.seat.inside in
     let outcome = c.in-Some.outcome.now in (
-      going c.args.history.now _ _ _ c.system.ensures c.has_failed.ensures c.if-has_failed.false c.is_exhausted.ensures.left
-          c.if-is_exhausted.false,
+      c.is_exhausted.ensures.left c.if-is_exhausted.false,
       inr (record {
         outcome = outcome;
-        waits = ap (λ (s : SeatView). waiting_for c.args.history.now.system s.conn.0) (sym c.seat.view_is)
-            ∙ (ap (λ (s : SystemView). waiting_for s in'.conn.0) (sym c.system-2.ensures)
+        waits = ap (λ (s : SeatView). waiting c.args.history.now.front.router s.conn.0) (sym c.seat.view_is)
+            ∙ (ap (λ (f : FrontView). waiting f.router in'.conn.0) (sym c.front.ensures)
             ∙ (sym c.waits.ensures ∙ ap option_copied c.in-Some.is));
         below = λ above. both_ways _ c.if-not-is_above.true
             (c.is_above.ensures.1 (subst (λ (s : SeatView). IsAbove outcome.stamp s.floor) (sym c.seat.view_is) above));
@@ -35,12 +30,11 @@ returns-clause-some g c = λ so.
     let in' = c.seat.inside in
     let outcome = c.in-Some.outcome.now in
     record {
-      left = going c.args.history.now _ _ _ c.system.ensures c.has_failed.ensures c.if-has_failed.false c.is_exhausted.ensures.left
-          c.if-is_exhausted.false;
+      left = c.is_exhausted.ensures.left c.if-is_exhausted.false;
       fits = c.fits.ensures.fits c.if-not-fits.false;
       outcome = outcome;
-      waits = ap (λ (s : SeatView). waiting_for c.args.history.now.system s.conn.0) (sym c.seat.view_is)
-          ∙ (ap (λ (s : SystemView). waiting_for s in'.conn.0) (sym c.system-2.ensures)
+      waits = ap (λ (s : SeatView). waiting c.args.history.now.front.router s.conn.0) (sym c.seat.view_is)
+          ∙ (ap (λ (f : FrontView). waiting f.router in'.conn.0) (sym c.front.ensures)
           ∙ (sym c.waits.ensures ∙ ap option_copied c.in-Some.is));
       above = subst (λ (s : SeatView). IsAbove outcome.stamp s.floor) c.seat.view_is (c.is_above.ensures.0 c.if-not-is_above.false);
     }

@@ -4,11 +4,11 @@ use Rattle.cluster.specs.Clusters.{SeatView, last_of, Fits, IsForeign}
 use Rattle.cluster.proofs.cluster.fits.Goals as goal
 
 pub returns-in_default-clause-foreign : goal.returns-in_default-clause-foreign
-returns-in_default-clause-foreign g c = λ none lives.
+returns-in_default-clause-foreign g c = λ none.
     let in' = c.seat.inside in
     let s : SeatView = record { conn = in'.conn; floor = in'.floor; count = in'.count; words = in'.words } in
     subst (λ s. IsForeign c.args.history.now s) c.seat.view_is
-    (shut c.args.lasts.now.entries c.requires.seated.0 c.args.history.now s (c.requires.seated.1 lives)
+    (shut c.args.lasts.now.entries c.requires.seated.0 c.args.history.now s c.requires.seated.1
     (sym c.get.ensures.value ∙ ap option_copied c.in_default.is))
 
 pub returns-then-last-eq0-clause-known : goal.returns-then-last-eq0-clause-known
@@ -35,7 +35,7 @@ returns-else-last-eq0-clause-known g c = λ so. (
 )
 
 pub returns-else-last-eq0-clause-foreign : goal.returns-else-last-eq0-clause-foreign
-returns-else-last-eq0-clause-foreign g c = λ differs lives.
+returns-else-last-eq0-clause-foreign g c = λ differs.
     let in' = c.seat.inside in
     let s : SeatView = record { conn = in'.conn; floor = in'.floor; count = in'.count; words = in'.words } in
     subst (λ s. IsForeign c.args.history.now s) c.seat.view_is

@@ -1,10 +1,21 @@
-use Rattle.std.proofs.Common.{ap, sym, ◌∙◌, subst}
+use Rattle.std.proofs.Common.{◌≡◌, ap, sym, ◌∙◌, subst}
+use Rattle.front.specs.Fronts.{FrontView}
+use Rattle.cluster.proofs.Endings.{right}
+use Rattle.cluster.specs.Clusters.{ClusterView}
+use Rattle.cluster.specs.Endings.{IsRight}
 use Rattle.cluster.specs.Histories.{IsLawful}
-use Rattle.system.specs.System.{SystemView}
+use Rattle.placement.specs.Layout.{IsTable}
 use Rattle.cluster.proofs.cluster.Cluster.closing.Goals as goal
 
 pub returns-clause-lawful : goal.returns-clause-lawful
-returns-clause-lawful g c =
-    let lives = ap (λ (s : SystemView). s.parts.back.store.failed) (sym c.system-system.ensures)
-    ∙ (sym c.has_failed.ensures ∙ c.if-has_failed.false) in
-    subst IsLawful (ap (λ v. v.history) c.self.view_is) (c.lawful.ensures.lawful lives)
+returns-clause-lawful g c = subst IsLawful (ap (λ v. v.history) c.self.view_is) c.lawful-2.ensures.lawful
+
+pub returns-clause-right : goal.returns-clause-right
+returns-clause-right g c =
+    let in' = c.self.inside in
+    let agree : in'.history.front.rows ≡ c.args.back.now.rows =
+    ap (λ (f : FrontView). f.rows) (sym c.front-front.ensures) ∙ (sym c.rows.ensures ∙ (c.are_same.ensures.0 c.if-not-are_same.false
+    ∙ c.rows-2.ensures)) in
+    subst (λ (v : ClusterView). IsRight v.history c.args.back.now) c.self.view_is
+    (right in'.history c.args.back.now (subst (λ (f : FrontView). IsTable f.table) c.front-front.ensures c.holds.ensures.is_front.is_table)
+    c.lawful-2.ensures.whole c.lawful-2.ensures.lawful c.lawful.ensures agree)

@@ -1,9 +1,6 @@
-use Rattle.std.proofs.Common.{◌≡◌, false, ap, subst}
-use Rattle.cluster.specs.Histories.{has_failed, IsLawful, HasItsRows}
+use Rattle.std.proofs.Common.{ap, subst}
+use Rattle.cluster.specs.Histories.{IsLawful}
 use Rattle.cluster.proofs.cluster.Cluster.lawful.Goals as goal
 
 pub returns-clause-lawful : goal.returns-clause-lawful
-returns-clause-lawful g c = subst (λ h. has_failed h ≡ false → IsLawful h) (ap (λ v. v.history) c.self.view_is) c.lawful.ensures.lawful
-
-pub returns-clause-rows : goal.returns-clause-rows
-returns-clause-rows g c = subst HasItsRows (ap (λ v. v.history) c.self.view_is) c.lawful.ensures.rows
+returns-clause-lawful g c = subst IsLawful (ap (λ v. v.history) c.self.view_is) c.lawful.ensures.lawful

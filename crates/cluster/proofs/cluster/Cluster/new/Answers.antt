@@ -8,6 +8,6 @@ invariant_of-result g c = (
       c.args.max_steps c.open-book.result.1.amount c.open-book.ensures.parts c.new-2.ensures.empty c.open-book.ensures.total
       c.in_ok-history.ensures.steps c.in_ok-history.ensures.max_steps
       (subst (λ n. c.args.max_steps < n) c.requires.parts c.requires.enough) c.requires.few
-      (c.lawful.ensures.lawful c.in_ok-history.ensures.lives),
+      c.lawful.ensures.lawful,
   record { each = refl; room = omega arith },
 )

@@ -1,4 +1,4 @@
-use Rattle.std.proofs.Common.{◌≡◌, ◌+◌, ◌≤◌, ap, ◌∙◌, arith}
+use Rattle.std.proofs.Common.{◌+◌, ap, ◌∙◌, arith}
 use Rattle.cluster.proofs.Seats.{cluster, cluster_stood, some_kept, room_stood}
 use Rattle.cluster.proofs.cluster.Cluster.stand.Goals as goal
 

@@ -1,23 +1,21 @@
 use Rattle.std.proofs.Common.{◌≡◌, ◌+◌, sym, subst, refl, arith}
 use Rattle.cluster.proofs.Seats.{cluster, cluster_still, cluster_submitted, count_few, requests_few, room_still}
-use Rattle.cluster.proofs.Fitting.{going}
 use Rattle.cluster.proofs.Submitting.{submit_fault}
 use Rattle.cluster.specs.Clusters.{SeatView, ClusterView, IsCluster, IsSubmitFault}
 use Rattle.cluster.specs.Histories.{IsFault}
 use Rattle.cluster.specs.Submits.{submits_by}
 use Rattle.journal.specs.Codes.{steps_size}
 use Rattle.journal.specs.declared.step.Step.TheVariants.{Submit}
-use Rattle.system.specs.declared.effect.Effect.TheVariants.{Submitted}
-use Rattle.system.specs.declared.fault.StepFault.TheVariants.{NoConn}
+use Rattle.cluster.specs.declared.fault.StepFault.TheVariants.{NoConn}
+use Rattle.world.specs.Steps.{Submitted}
 use Rattle.cluster.proofs.cluster.Cluster.submit.Goals as goal
 
 pub returns-then-not-fits-clause-refused : goal.returns-then-not-fits-clause-refused
 returns-then-not-fits-clause-refused g c =
     let in' = c.self.inside in
-    let may = going in'.history _ _ _ c.system.ensures c.has_failed.ensures c.if-has_failed.false c.is_exhausted.ensures.left
-    c.if-is_exhausted.false in
+    let may = c.is_exhausted.ensures.left c.if-is_exhausted.false in
     subst (λ (v : ClusterView). IsSubmitFault v.history c.args.seat.now c.args.words NoConn) c.self.view_is
-    (may, c.fits.ensures.foreign c.if-not-fits.true may.lives)
+    (may, c.fits.ensures.foreign c.if-not-fits.true)
 
 pub make_submit-requires-clause-few : goal.make_submit-requires-clause-few
 make_submit-requires-clause-few g c =

@@ -1,19 +1,17 @@
 use Rattle.std.proofs.Common.{subst}
-use Rattle.cluster.proofs.Fitting.{going}
 use Rattle.cluster.proofs.Submitting.{submit_fault}
 use Rattle.cluster.specs.Clusters.{SeatView, ClusterView, IsSubmitFault}
 use Rattle.cluster.specs.Histories.{IsFault}
 use Rattle.journal.specs.declared.step.Step.TheVariants.{Submit}
-use Rattle.system.specs.declared.fault.StepFault.TheVariants.{NoConn}
+use Rattle.cluster.specs.declared.fault.StepFault.TheVariants.{NoConn}
 use Rattle.cluster.proofs.cluster.Cluster.submit_refusal.Goals as goal
 
 pub returns-then-not-fits : goal.returns-then-not-fits
 returns-then-not-fits g c =
     let in' = c.self.inside in
-    let may = going in'.history _ _ _ c.system.ensures c.has_failed.ensures c.if-has_failed.false c.is_exhausted.ensures.left
-    c.if-is_exhausted.false in
+    let may = c.is_exhausted.ensures.left c.if-is_exhausted.false in
     subst (λ (v : ClusterView). IsSubmitFault v.history c.args.seat.now c.args.words NoConn) c.self.view_is
-    (may, c.fits.ensures.foreign c.if-not-fits.true may.lives)
+    (may, c.fits.ensures.foreign c.if-not-fits.true)
 
 pub returns : goal.returns
 returns g c =

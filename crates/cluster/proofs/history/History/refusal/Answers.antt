@@ -1,20 +1,24 @@
-use Rattle.std.proofs.Common.{subst}
-use Rattle.cluster.proofs.Histories.{history, fault_of, memory_of}
-use Rattle.cluster.specs.Histories.{IsFault}
-use Rattle.system.specs.declared.fault.StepFault.TheVariants.{Memory}
+use Rattle.std.proofs.Common.{◌+◌, ◌<◌, length, sym, subst}
+use Rattle.cluster.proofs.Histories.{history, goes_on, told_as, memory_of}
+use Rattle.cluster.specs.Histories.{HistoryView, kept_for, IsFault}
+use Rattle.cluster.specs.declared.fault.StepFault.TheVariants.{Memory}
 use Rattle.cluster.proofs.history.History.refusal.Goals as goal
 
 pub returns-in-Some : goal.returns-in-Some
 returns-in-Some c =
     let in' = c.self.inside in
-    subst (λ h. IsFault h c.args.step.now c.in-Some.fault) c.self.view_is
-    (fault_of (history in'.system in'.trace.max in'.trace.steps in'.trace.room) c.args.step.now c.in-Some.fault c.self.invariant
+    let h = history in'.front in'.trace.max in'.trace.steps in'.trace.room in
+    let left = subst (λ (h : HistoryView). length h.steps + kept_for h.front.out < h.max_steps) (sym c.self.view_is)
+    (c.is_exhausted.ensures.left c.if-is_exhausted.false) in
+    subst (λ h. IsFault h c.args.step.now c.from.result) c.self.view_is
+    (told_as h c.args.step.now c.in-Some.fault c.from.result c.self.invariant c.from.ensures (goes_on h c.args.step.now c.requires left)
     c.in-Some.ensures.some)
 
 pub returns-in-None : goal.returns-in-None
 returns-in-None c =
     let in' = c.self.inside in
-    let may = c.in-None.ensures.none in
+    let h = history in'.front in'.trace.max in'.trace.steps in'.trace.room in
+    let left = subst (λ (h : HistoryView). length h.steps + kept_for h.front.out < h.max_steps) (sym c.self.view_is)
+    (c.is_exhausted.ensures.left c.if-is_exhausted.false) in
     subst (λ h. IsFault h c.args.step.now Memory) c.self.view_is
-    (memory_of (history in'.system in'.trace.max in'.trace.steps in'.trace.room) c.args.step.now c.self.invariant may.goes_on.lives
-    may.goes_on.left may.not_refused)
+    (memory_of h c.args.step.now c.self.invariant (goes_on h c.args.step.now c.requires left) c.in-None.ensures.none)

@@ -9,4 +9,4 @@ returns-clause-seat g c =
 pub returns-clause-refused : goal.returns-clause-refused
 returns-clause-refused g c =
     let held = c.deref_mut.result.now in
-    found_sit c.sit.result held.shut held.cluster.history c.sit.ensures.refused
+    found_sit c.sit.result held.shut held.stopped held.cluster.history c.sit.ensures.refused

@@ -6,7 +6,8 @@ use Rattle.shared_cluster.proofs.shared.Shared.wait.Goals as goal
 
 pub returns-in-Err-clause-refused : goal.returns-in-Err-clause-refused
 returns-in-Err-clause-refused g c =
-    subst (λ s. IsCollectFault s c.in-Err.fault) c.loop.invariant.2 (inl (c.deref_mut.result.now.cluster.history, c.in-Err.ensures.refused))
+    let held = c.deref_mut.result.now in
+    subst (λ s. IsCollectFault s c.in-Err.fault) c.loop.invariant.2 (inl (held.stopped, held.cluster.history, c.in-Err.ensures.refused))
 
 pub returns-in-Ok-Some-clause-answered : goal.returns-in-Ok-Some-clause-answered
 returns-in-Ok-Some-clause-answered g c =

@@ -1,0 +1,107 @@
+-- What a step answers that was made.
+use Rattle.std.proofs.Common.{◌≡◌, ℕ, suc, List, Option, refl, ap, ◌∙◌}
+use Rattle.front.specs.Fronts.{Told}
+use Rattle.cluster.specs.Histories.{HistoryView, IsIn, IsLawful, retold_effect, IsMade, IsPlain, IsUnanswered}
+use Rattle.cluster.specs.Making.{effect_shown}
+use Rattle.cluster.specs.declared.effect.Effect as ours
+use Rattle.cluster.specs.declared.effect.Effect.TheVariants as effect
+use Rattle.groups.specs.declared.request.ConnId.{ConnId}
+use Rattle.groups.specs.declared.request.RequestId.{RequestId}
+use Rattle.journal.specs.declared.step.Step.{Step}
+use Rattle.journal.specs.declared.step.Step.TheVariants.{Open, Submit, Deliver, Take, Run, Settle, Collect, Close}
+use Rattle.placement.specs.Layout.{Layout}
+use Rattle.router.specs.declared.outcome.Outcome as kept
+use Rattle.world.specs.Steps.{Effect, Opened, Submitted, Collected, Made, Steps, next_id}
+use Rattle.world.specs.World.{World, Outcome}
+
+-- ---- as the world says it
+
+opened_same : (m n : ℕ) → Opened m ≡ Opened n → m ≡ n
+opened_same m n same = let k = same in cc
+
+submitted_same : (i j : RequestId) → Submitted i ≡ Submitted j → i ≡ j
+submitted_same i j same = let k = same in cc
+
+-- an Open answers the number of the next connection
+pub opened_so : (h h' : HistoryView) (n : ℕ) (w : World) (told : Told) → IsIn h w told → IsMade h Open (Opened n) h' →
+    n ≡ suc w.opened
+opened_so h h' n w told shown made =
+    let next = made.from_each w told shown in
+    opened_same n (suc w.opened) (next.tells ∙ ap (retold_effect told) next.makes.answers)
+
+-- a Submit the id of the connection's next request
+pub submitted_so : (h h' : HistoryView) (conn : ConnId) (words : List (List ℕ)) (id : RequestId) (w : World) (told : Told) → IsIn h w told →
+    IsMade h (Submit conn words) (Submitted id) h' → id ≡ next_id w conn.0
+submitted_so h h' conn words id w told shown made =
+    let next = made.from_each w told shown in
+    submitted_same id (next_id w conn.0) (next.tells ∙ ap (retold_effect told) next.makes.answers)
+
+-- ---- by its kind
+
+by_opened : (e : ours.Effect) (n : ℕ) → effect_shown e ≡ Opened n → (conn : ConnId) × (e ≡ effect.Opened conn)
+by_opened (effect.Opened conn) n same = (conn, refl)
+by_opened (effect.Submitted id) n same = absurd (let k = same in cc)
+by_opened (effect.Collected outcome) n same = absurd (let k = same in cc)
+by_opened effect.Made n same = absurd (let k = same in cc)
+
+by_submitted : (e : ours.Effect) (i : RequestId) → effect_shown e ≡ Submitted i → (id : RequestId) × (e ≡ effect.Submitted id)
+by_submitted (effect.Opened conn) i same = absurd (let k = same in cc)
+by_submitted (effect.Submitted id) i same = (id, refl)
+by_submitted (effect.Collected outcome) i same = absurd (let k = same in cc)
+by_submitted effect.Made i same = absurd (let k = same in cc)
+
+pub by_collected : (e : ours.Effect) (o : Option Outcome) → effect_shown e ≡ Collected o →
+    (outcome : Option kept.Outcome) × (e ≡ effect.Collected outcome)
+by_collected (effect.Opened conn) o same = absurd (let k = same in cc)
+by_collected (effect.Submitted id) o same = absurd (let k = same in cc)
+by_collected (effect.Collected outcome) o same = (outcome, refl)
+by_collected effect.Made o same = absurd (let k = same in cc)
+
+pub collected_same : (x y : Option kept.Outcome) → effect.Collected x ≡ effect.Collected y → x ≡ y
+collected_same x y same = let k = same in cc
+
+by_made : (e : ours.Effect) → effect_shown e ≡ Made → e ≡ effect.Made
+by_made (effect.Opened conn) same = absurd (let k = same in cc)
+by_made (effect.Submitted id) same = absurd (let k = same in cc)
+by_made (effect.Collected outcome) same = absurd (let k = same in cc)
+by_made effect.Made same = refl
+
+pub opens : (h h' : HistoryView) (e : ours.Effect) → IsLawful h → IsMade h Open (effect_shown e) h' →
+    (conn : ConnId) × (e ≡ effect.Opened conn)
+opens h h' e lawful made =
+    let next = made.from_each lawful.world lawful.told lawful.shows in
+    by_opened e (suc lawful.world.opened) (next.tells ∙ ap (retold_effect lawful.told) next.makes.answers)
+
+pub submits_some : (h h' : HistoryView) (conn : ConnId) (words : List (List ℕ)) (e : ours.Effect) → IsLawful h →
+    IsMade h (Submit conn words) (effect_shown e) h' → (id : RequestId) × (e ≡ effect.Submitted id)
+submits_some h h' conn words e lawful made =
+    let next = made.from_each lawful.world lawful.told lawful.shows in
+    by_submitted e (next_id lawful.world conn.0) (next.tells ∙ ap (retold_effect lawful.told) next.makes.answers)
+
+nothing : (t : Layout) (w w' : World) (s : Step) (a : Effect) → IsUnanswered s → Steps t w s a w' → a ≡ Made
+nothing t w w' Open a kind step = absurd kind
+nothing t w w' (Submit conn words) a kind step = absurd kind
+nothing t w w' (Deliver place) a kind step = step.answers
+nothing t w w' Take a kind step = absurd kind
+nothing t w w' (Run starved) a kind step = absurd kind
+nothing t w w' Settle a kind step = absurd kind
+nothing t w w' (Collect conn) a kind step = absurd kind
+nothing t w w' (Close conn) a kind step = step.answers
+
+-- a step that answers nothing
+pub answers_nothing : (h h' : HistoryView) (s : Step) (e : ours.Effect) → IsUnanswered s → IsLawful h → IsMade h s (effect_shown e) h' →
+    e ≡ effect.Made
+answers_nothing h h' s e kind lawful made =
+    let next = made.from_each lawful.world lawful.told lawful.shows in
+    by_made e (next.tells ∙ ap (retold_effect lawful.told)
+    (nothing h.front.table lawful.world next.after s next.answer kind next.makes))
+
+pub plain_answer : (s : Step) → IsUnanswered s → IsPlain s
+plain_answer Open kind = absurd kind
+plain_answer (Submit conn words) kind = absurd kind
+plain_answer (Deliver place) kind = tt
+plain_answer Take kind = absurd kind
+plain_answer (Run starved) kind = absurd kind
+plain_answer Settle kind = absurd kind
+plain_answer (Collect conn) kind = absurd kind
+plain_answer (Close conn) kind = tt

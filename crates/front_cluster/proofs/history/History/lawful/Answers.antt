@@ -1,9 +1,0 @@
-use Rattle.std.proofs.Common.{◌≡◌, true, subst}
-use Rattle.front_cluster.specs.Histories.{HistoryView, IsLawful}
-use Rattle.front_cluster.proofs.history.History.lawful.Goals as goal
-
-pub returns-clause-lawful : goal.returns-clause-lawful
-returns-clause-lawful c = subst IsLawful c.self.view_is c.self.invariant.lawful
-
-pub returns-clause-whole : goal.returns-clause-whole
-returns-clause-whole c = subst (λ (h : HistoryView). h.front.whole ≡ true) c.self.view_is c.self.invariant.whole

@@ -1,4 +1,0 @@
-pub mod Refusals
-pub mod Collecting
-pub mod Taking
-pub mod Crossing

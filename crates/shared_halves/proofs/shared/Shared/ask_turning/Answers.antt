@@ -1,8 +1,0 @@
-use Rattle.shared_halves.proofs.Collecting.{waited_fault}
-use Rattle.shared_halves.proofs.shared.Shared.ask_turning.Goals as goal
-
-pub returns-in-Ok-clause-refused : goal.returns-in-Ok-clause-refused
-returns-in-Ok-clause-refused g c =
-    let made = c.turn_until_replied in
-    waited_fault c.args.seat.now c.submit.new.seat c.args.words made.result made.new.seat c.in-Ok.ensures.submitted made.ensures.refused
-    made.ensures.unchanged

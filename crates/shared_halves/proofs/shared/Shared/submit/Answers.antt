@@ -1,7 +1,0 @@
-use Rattle.shared_halves.proofs.Refusals.{found_submit}
-use Rattle.shared_halves.proofs.shared.Shared.submit.Goals as goal
-
-pub returns-clause-refused : goal.returns-clause-refused
-returns-clause-refused g c =
-    let held = c.deref_mut.result.now in
-    found_submit c.submit.result held.shut held.stopped held.cluster.history c.args.seat.now c.args.words c.submit.ensures.refused

@@ -1,4 +1,0 @@
-pub mod Asks
-pub mod Closings
-pub mod Running
-pub mod Turning
