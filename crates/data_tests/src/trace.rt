@@ -124,9 +124,8 @@ fn another_byte_is_bad_in_its_line(rt: HostRuntime) -> Result<(), Fail> {
 type Bad = (&'static str, u64);
 
 #[rattlefmt::skip]
-const OTHERS: [Bad; 19] = [
+const OTHERS: [Bad; 18] = [
     ("", 1),
-    ("shardkv-trace 2\n", 1),
     ("shardkv-trace 1\nmax 0\nend 0\n", 2),
     ("shardkv-trace 1\nmax 4611686018427387905\nend 0\n", 2),
     ("shardkv-trace 1\nmax 07\nend 0\n", 2),
@@ -157,6 +156,27 @@ fn each_is_bad(alloc: Global, texts: &[Bad]) -> Result<(), Fail> {
 #[test]
 fn other_texts_are_bad_at_the_first_other_line(rt: HostRuntime) -> Result<(), Fail> {
     each_is_bad(rt.alloc(), &OTHERS)
+}
+
+/// Versions that aren't known; the last number but one is 1 modulo 2^64.
+const OTHER_VERSIONS: [&str; 7] = ["0", "2", "01", "10", "1 ", "18446744073709551617", ""];
+
+/// A text that spells a trace but for this version is bad at its first line.
+fn other_version_is_bad(alloc: Global, version: &str) -> Result<(), Fail> {
+    let text = format!(in alloc; "shardkv-trace {version}\nmax 7\nopen\nend 1\n")?;
+    bad_at(alloc, text.as_str(), text.as_bytes(), 1)
+}
+
+fn other_versions_are_bad(alloc: Global, versions: &[&str]) -> Result<(), Fail> {
+    for version in versions {
+        other_version_is_bad(alloc, version)?;
+    }
+    Ok(())
+}
+
+#[test]
+fn another_version_is_bad_at_the_first_line(rt: HostRuntime) -> Result<(), Fail> {
+    other_versions_are_bad(rt.alloc(), &OTHER_VERSIONS)
 }
 
 fn get(alloc: Global) -> Result<Request, AllocError> {

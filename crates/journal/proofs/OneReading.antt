@@ -3,10 +3,10 @@ use Rattle.std.proofs.Common.{◌≡◌, ℕ, List, [], ◌∷◌, ◌++◌, len
 use Rattle.std.specs.List.{flat_map, AllByRecursion, AllZip}
 use Rattle.std.proofs.lemmas.List.{append_assoc, append-nil, same_from_push}
 use Rattle.journal.specs.declared.step.Step.{Step}
-use Rattle.journal.specs.TraceText.{max_line, end_line, ended, IsStepLine, AreLines, HasNoLf, Begins, IsBad}
-use Rattle.journal.specs.Laws.{SpellsOne, OneFault, NoFaultOfTrace}
+use Rattle.journal.specs.TraceText.{first_line, max_line, end_line, ended, IsStepLine, AreLines, HasNoLf, Begins, IsBad}
+use Rattle.journal.specs.Laws.{SpellsOne, OneVersion, OneFault, NoFaultOfTrace}
 use Rattle.journal.proofs.TextLaws.{decimal-same}
-use Rattle.journal.proofs.ReadLaws.{line-same, line-none}
+use Rattle.journal.proofs.ReadLaws.{line-same, line-none, version-same}
 
 -- ---- two beginnings of one text
 
@@ -45,14 +45,22 @@ lines-same a b p q e =
 
 -- ---- one trace
 
-same-steps : (body : List (List ℕ)) (ss ts : List Step) → AllZip IsStepLine body ss → AllZip IsStepLine body ts → ss ≡ ts
-same-steps [] [] [] y z = refl
-same-steps [] [] (t ∷ ts) y z = absurd z
-same-steps [] (s ∷ ss) ts y z = absurd y
-same-steps (b ∷ bs) [] ts y z = absurd y
-same-steps (b ∷ bs) (s ∷ ss) [] y z = absurd z
-same-steps (b ∷ bs) (s ∷ ss) (t ∷ ts) y z =
-    let one : Some s ≡ Some t = sym y.0 ∙ z.0 in let rest = same-steps bs ss ts y.1 z.1 in cc
+same-steps : (version : ℕ) (body : List (List ℕ)) (ss ts : List Step) → AllZip (IsStepLine version) body ss
+    → AllZip (IsStepLine version) body ts → ss ≡ ts
+same-steps version [] [] [] y z = refl
+same-steps version [] [] (t ∷ ts) y z = absurd z
+same-steps version [] (s ∷ ss) ts y z = absurd y
+same-steps version (b ∷ bs) [] ts y z = absurd y
+same-steps version (b ∷ bs) (s ∷ ss) [] y z = absurd z
+same-steps version (b ∷ bs) (s ∷ ss) (t ∷ ts) y z =
+    let one : Some s ≡ Some t = sym y.0 ∙ z.0 in let rest = same-steps version bs ss ts y.1 z.1 in cc
+
+pub one-version : OneVersion
+one-version text max max' steps steps' a b =
+    let lines = lines-same a.lines b.lines a.no_lf b.no_lf (sym a.split ∙ b.split) in
+    let whole = sym a.are.whole ∙ lines ∙ b.are.whole in
+    let first : first_line a.version ≡ first_line b.version = cc (whole) in
+    version-same a.version b.version a.are.known b.are.known first
 
 pub spells-one : SpellsOne
 spells-one text max max' steps steps' a b =
@@ -64,8 +72,9 @@ spells-one text max max' steps steps' a b =
     let low = A.greatest in let low' = B.greatest in
     let bodies = (same_from_push A.body B.body (end_line (length steps)) (end_line (length steps')) rest).0 in (
       decimal-same (codes "max ") max max' (omega arith) (omega arith) second,
-      same-steps B.body steps steps'
-          (subst (λ ls. AllZip IsStepLine ls steps) bodies A.each) B.each,
+      same-steps b.version B.body steps steps'
+          (subst (λ v. AllZip (IsStepLine v) B.body steps) (one-version text max max' steps steps' a b)
+          (subst (λ ls. AllZip (IsStepLine a.version) ls steps) bodies A.each)) B.each,
     )
 
 -- ---- one fault
@@ -73,10 +82,11 @@ spells-one text max max' steps steps' a b =
 begins-front : (before : List (List ℕ)) (line : List ℕ) (more : List (List ℕ)) → Begins (before ++ line ∷ more) → Begins
     (before ++ line ∷ [])
 begins-front before line more b = record {
+  version = b.version;
   max = b.max;
   steps = b.steps;
   more = more ++ b.more;
-  are = subst (λ ls. AreLines ls b.max b.steps) (simp append_assoc) b.are;
+  are = subst (λ ls. AreLines ls b.version b.max b.steps) (simp append_assoc) b.are;
 }
 
 all-mid : (xs : List (List ℕ)) (x : List ℕ) (ys : List (List ℕ)) → AllByRecursion HasNoLf (xs ++ x ∷ ys) → HasNoLf x
@@ -104,21 +114,27 @@ one-fault text line line' a b =
           (arith, a.counted, b.counted, same)
     ]
 
-whole-bad : (text : List ℕ) (line max : ℕ) (steps : List Step) (bad : IsBad text line) (lines more : List (List ℕ))
-    → lines ≡ bad.before ++ more → bad.rest ≡ flat_map ended more ++ [] → AllByRecursion HasNoLf lines → AreLines lines max steps → ⊥
-whole-bad text line max steps bad lines [] e f no_lf are = bad.not_whole max steps f
-    (subst (λ ls. AreLines ls max steps) (e ∙ append-nil bad.before) are)
-whole-bad text line max steps bad lines (l ∷ ls) e f no_lf are =
+whole-bad : (text : List ℕ) (line version max : ℕ) (steps : List Step) (bad : IsBad text line) (lines more : List (List ℕ))
+    → lines ≡ bad.before ++ more → bad.rest ≡ flat_map ended more ++ [] → AllByRecursion HasNoLf lines → AreLines lines version max steps → ⊥
+whole-bad text line version max steps bad lines [] e f no_lf are = bad.not_whole version max steps f
+    (subst (λ ls. AreLines ls version max steps) (e ∙ append-nil bad.before) are)
+whole-bad text line version max steps bad lines (l ∷ ls) e f no_lf are =
     next-bad text line bad lines l ls [] e f no_lf
-    (record { max = max; steps = steps; more = []; are = subst (λ c. AreLines c max steps) (sym (append-nil lines)) are })
+    (record {
+      version = version;
+      max = max;
+      steps = steps;
+      more = [];
+      are = subst (λ c. AreLines c version max steps) (sym (append-nil lines)) are;
+    })
 
 pub no-fault-of-trace : NoFaultOfTrace
 no-fault-of-trace text max line steps a bad =
     elim (lines-meet bad.before a.lines bad.rest [] bad.no_lf a.no_lf
     (sym bad.split ∙ a.split ∙ sym (append-nil (flat_map ended a.lines)))) [
-      | inl on ↦ whole-bad text line max steps bad a.lines on.more on.whole on.left a.no_lf a.are
+      | inl on ↦ whole-bad text line a.version max steps bad a.lines on.more on.whole on.left a.no_lf a.are
       | inr on ↦
           let none = no-more on.more bad.rest on.left in
           let same : bad.before ≡ a.lines = on.whole ∙ ap (λ m. a.lines ++ m) none.0 ∙ append-nil a.lines in
-          bad.not_whole max steps none.1 (subst (λ ls. AreLines ls max steps) (sym same) a.are)
+          bad.not_whole a.version max steps none.1 (subst (λ ls. AreLines ls a.version max steps) (sym same) a.are)
     ]

@@ -19,6 +19,7 @@ use Rattle.journal.specs.TraceText.{word_text, id_text, step_name, step_args, jo
 use Rattle.journal.specs.TraceText.{word_in, cut_at, id_of, id_in, all_in, parts_in, named, step_in, IsStepLine, HasNoLf, Spells}
 use Rattle.journal.proofs.TextLaws.{number_in-decimal}
 use Rattle.journal.specs.declared.trace.TheConstants.{GREATEST_STEPS}
+use Rattle.journal.specs.declared.version.TheConstants.{WRITTEN_VERSION}
 
 -- ---- bytes above a space
 
@@ -160,31 +161,31 @@ args-plain Settle fit = tt
 args-plain (Collect conn) fit = (decimal-plain conn.0 fit, tt)
 args-plain (Close conn) fit = (decimal-plain conn.0 fit, tt)
 
-submit-named : (conn : ConnId) (words : List (List ℕ)) → conn.0 < 2 ^ 64 → WordsFit words → named (codes "submit")
+submit-named : (version : ℕ) (conn : ConnId) (words : List (List ℕ)) → conn.0 < 2 ^ 64 → WordsFit words → named version (codes "submit")
     (decimal conn.0 ∷ map word_text words) ≡ Some (Submit conn words)
-submit-named conn [] low fit = let some = fit.some in absurd (omega arith)
-submit-named conn (word ∷ words) low fit =
+submit-named version conn [] low fit = let some = fit.some in absurd (omega arith)
+submit-named version conn (word ∷ words) low fit =
     rw (
       number_in-decimal conn.0 (decimal conn.0) low refl,
       all_in-text WordFits word_in word_text word_in-text
           (word ∷ words) fit.each,
     ) refl
 
-named-step : (step : Step) → StepFits step → named (step_name step) (step_args step) ≡ Some step
-named-step Open fit = refl
-named-step (Submit conn words) fit = submit-named conn words fit.0 fit.1
-named-step (Deliver place) fit = rw (number_in-decimal place (decimal place) fit refl) refl
-named-step Take fit = refl
-named-step (Run starved) fit = rw (all_in-text IdFits id_in id_text id_in-text starved fit.each) refl
-named-step Settle fit = refl
-named-step (Collect conn) fit = rw (number_in-decimal conn.0 (decimal conn.0) fit refl) refl
-named-step (Close conn) fit = rw (number_in-decimal conn.0 (decimal conn.0) fit refl) refl
+named-step : (version : ℕ) (step : Step) → StepFits step → named version (step_name step) (step_args step) ≡ Some step
+named-step version Open fit = refl
+named-step version (Submit conn words) fit = submit-named version conn words fit.0 fit.1
+named-step version (Deliver place) fit = rw (number_in-decimal place (decimal place) fit refl) refl
+named-step version Take fit = refl
+named-step version (Run starved) fit = rw (all_in-text IdFits id_in id_text id_in-text starved fit.each) refl
+named-step version Settle fit = refl
+named-step version (Collect conn) fit = rw (number_in-decimal conn.0 (decimal conn.0) fit refl) refl
+named-step version (Close conn) fit = rw (number_in-decimal conn.0 (decimal conn.0) fit refl) refl
 
-pub step_in-line : (step : Step) → StepFits step → step_in (step_line step) ≡ Some step
+pub step_in-line : (version : ℕ) (step : Step) → StepFits step → step_in version (step_line step) ≡ Some step
 unfolding step_in
-step_in-line step fit =
-    ap (λ (p : List ℕ × List (List ℕ)). named p.0 p.1) (parts_in-joined (step_name step) (step_args step) (names step)
-    (args-plain step fit)) ∙ named-step step fit
+step_in-line version step fit =
+    ap (λ (p : List ℕ × List (List ℕ)). named version p.0 p.1) (parts_in-joined (step_name step) (step_args step) (names step)
+    (args-plain step fit)) ∙ named-step version step fit
 
 -- ---- the lines of a trace
 
@@ -211,9 +212,9 @@ lines-no-lf : (steps : List Step) (last : List ℕ) → AllByRecursion StepFits 
 lines-no-lf [] last fit h = (h, tt)
 lines-no-lf (s ∷ ss) last fit h = (line-no-lf s fit.0, lines-no-lf ss last fit.1 h)
 
-each-line : (steps : List Step) → AllByRecursion StepFits steps → AllZip IsStepLine (map step_line steps) steps
-each-line [] fit = tt
-each-line (s ∷ ss) fit = (step_in-line s fit.0, each-line ss fit.1)
+each-line : (version : ℕ) (steps : List Step) → AllByRecursion StepFits steps → AllZip (IsStepLine version) (map step_line steps) steps
+each-line version [] fit = tt
+each-line version (s ∷ ss) fit = (step_in-line version s fit.0, each-line version ss fit.1)
 
 numbered-no-lf : (name : List ℕ) (n : ℕ) → AllByRecursion (λ b. 31 < b) name → n < 2 ^ 64 → HasNoLf (name ++ decimal n)
 numbered-no-lf name n all h = no-lf (name ++ decimal n) (all_append (λ b. 31 < b) name (decimal n) all
@@ -222,21 +223,19 @@ numbered-no-lf name n all h = no-lf (name ++ decimal n) (all_append (λ b. 31 < 
 pub written-spells : (max : ℕ) (steps : List Step) → 1 ≤ max → max ≤ GREATEST_STEPS → length steps < 2 ^ 64 → AllByRecursion StepFits steps
     → Spells (trace_text max steps) max steps
 written-spells max steps least greatest few fit = record {
-  lines = first_line ∷ max_line max ∷ (map step_line steps ++ end_line (length steps) ∷ []);
+  version = WRITTEN_VERSION;
+  lines = first_line WRITTEN_VERSION ∷ max_line max ∷ (map step_line steps ++ end_line (length steps) ∷ []);
   no_lf = (
-    no-lf first_line (
+    numbered-no-lf (codes "shardkv-trace ") WRITTEN_VERSION (
       lit< tt,
       (
         lit< tt,
         (
           lit< tt,
-          (
-            lit< tt,
-            (lit< tt, (lit< tt, (lit< tt, (lit< tt, (lit< tt, (lit< tt, (lit< tt, (lit< tt, (lit< tt, (lit< tt, (lit< tt, tt))))))))))),
-          ),
+          (lit< tt, (lit< tt, (lit< tt, (lit< tt, (lit< tt, (lit< tt, (lit< tt, (lit< tt, (lit< tt, (lit< tt, (lit< tt, tt))))))))))),
         ),
       ),
-    ),
+    ) (omega arith),
     (
       numbered-no-lf (codes "max ") max (lit< tt, (lit< tt, (lit< tt, (lit< tt, tt)))) (omega arith),
       lines-no-lf steps
@@ -244,5 +243,12 @@ written-spells max steps least greatest few fit = record {
     ),
   );
   split = refl;
-  are = record { least = least; greatest = greatest; body = map step_line steps; each = each-line steps fit; whole = refl };
+  are = record {
+    known = record { first = omega arith; last = omega arith };
+    least = least;
+    greatest = greatest;
+    body = map step_line steps;
+    each = each-line WRITTEN_VERSION steps fit;
+    whole = refl;
+  };
 }

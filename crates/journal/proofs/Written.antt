@@ -8,7 +8,8 @@ use Rattle.groups.specs.declared.request.ConnId.{ConnId}
 use Rattle.groups.specs.declared.request.RequestId.{RequestId}
 use Rattle.journal.specs.declared.step.Step.{Step}
 use Rattle.journal.specs.declared.step.Step.TheVariants.{Submit, Run}
-use Rattle.journal.specs.TraceText.{word_text, id_text, step_line, ended, max_line, end_line, trace_text}
+use Rattle.journal.specs.TraceText.{word_text, id_text, step_line, ended, first_line, max_line, end_line, trace_text}
+use Rattle.journal.specs.declared.version.TheConstants.{WRITTEN_VERSION}
 
 flat_map-map : {A B : Type 0} (f : B → List ℕ) (g : A → B) (xs : List A) → flat_map f (map g xs) ≡ flat_map (λ x. f (g x)) xs
 flat_map-map f g [] = refl
@@ -25,10 +26,15 @@ pub run-written : (starved : List RequestId) → ended (step_line (Run starved))
 run-written starved = ap (λ c. codes "run" ++ c ++ 10 ∷ []) (flat_map-map (λ arg. 32 ∷ arg) id_text starved)
 
 pub trace-written : (max : ℕ) (steps : List Step)
-    → trace_text max steps ≡ codes "shardkv-trace 1\n" ++ (ended (max_line max) ++
+    → trace_text max steps ≡ ended (first_line WRITTEN_VERSION) ++ (ended (max_line max) ++
     (flat_map (λ step. ended (step_line step)) steps ++ ended (end_line (length steps))))
 trace-written max steps =
-    ap (λ c. codes "shardkv-trace 1\n" ++ (ended (max_line max) ++ c))
+    ap (λ c. ended (first_line WRITTEN_VERSION) ++ (ended (max_line max) ++ c))
     (flat_map-append ended (map step_line steps) (end_line (length steps) ∷ [])
     ∙ ap (λ c. c ++ (ended (end_line (length steps)) ++ [])) (flat_map-map ended step_line steps)
     ∙ ap (λ c. flat_map (λ step. ended (step_line step)) steps ++ c) (append-nil (ended (end_line (length steps)))))
+
+-- texts that were put one behind another
+pub in-turn : (before first second third last : List ℕ)
+    → (((before ++ first) ++ second) ++ third) ++ last ≡ before ++ (first ++ (second ++ (third ++ last)))
+in-turn before first second third last = simp append_assoc

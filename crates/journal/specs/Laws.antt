@@ -3,10 +3,15 @@ use Rattle.std.specs.Prelude.{◌≡◌, ℕ, List}
 use Rattle.journal.specs.declared.step.Step.{Step}
 use Rattle.journal.specs.TraceText.{Spells, IsBad}
 
--- a text spells one trace at most
+-- a text spells one trace at most, whatever the version
 abbrev pub SpellsOne : Type 0
 SpellsOne = (text : List ℕ) (max max' : ℕ) (steps steps' : List Step) → Spells text max steps → Spells text max' steps' → (max ≡ max') ×
     (steps ≡ steps')
+
+-- and is of one version at most
+abbrev pub OneVersion : Type 0
+OneVersion = (text : List ℕ) (max max' : ℕ) (steps steps' : List Step) (a : Spells text max steps) (b : Spells text max' steps')
+    → a.version ≡ b.version
 
 -- one line at most is at fault
 abbrev pub OneFault : Type 0

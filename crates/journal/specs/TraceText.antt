@@ -10,6 +10,14 @@ use Rattle.journal.specs.declared.fault.TraceFault.TheVariants.{Bad, Memory}
 use Rattle.journal.specs.declared.step.Step.{Step}
 use Rattle.journal.specs.declared.step.Step.TheVariants.{Open, Submit, Deliver, Take, Run, Settle, Collect, Close}
 use Rattle.journal.specs.declared.trace.TheConstants.{GREATEST_STEPS}
+use Rattle.journal.specs.declared.version.TheConstants.{GREATEST_VERSION, WRITTEN_VERSION}
+
+-- ---- versions
+
+-- the versions that are known
+pub record IsVersion (version : ℕ) : Type 0 where
+  pub first : 1 ≤ version
+  pub last : version ≤ GREATEST_VERSION
 
 -- ---- what is written
 
@@ -49,8 +57,8 @@ joined name args = name ++ flat_map (λ arg. 32 ∷ arg) args
 abbrev pub step_line : Step → List ℕ
 step_line step = joined (step_name step) (step_args step)
 
-abbrev pub first_line : List ℕ
-first_line = codes "shardkv-trace 1"
+abbrev pub first_line : ℕ → List ℕ
+first_line version = codes "shardkv-trace " ++ decimal version
 
 abbrev pub max_line : ℕ → List ℕ
 max_line max = codes "max " ++ decimal max
@@ -63,7 +71,7 @@ abbrev pub ended : List ℕ → List ℕ
 ended line = line ++ 10 ∷ []
 
 abbrev pub trace_text : ℕ → List Step → List ℕ
-trace_text max steps = flat_map ended (first_line ∷ max_line max ∷ (map step_line steps ++ end_line (length steps) ∷ []))
+trace_text max steps = flat_map ended (first_line WRITTEN_VERSION ∷ max_line max ∷ (map step_line steps ++ end_line (length steps) ∷ []))
 
 -- ---- what is read of a line
 
@@ -129,8 +137,9 @@ submit_in (conn ∷ word ∷ words) =
 abbrev pub run_in : List (List ℕ) → Option Step
 run_in args = option_map (λ ids. Run ids) (all_in id_in args)
 
-abbrev pub named : List ℕ → List (List ℕ) → Option Step
-named name args =
+-- the step of this name, in a text of this version
+abbrev pub named : ℕ → List ℕ → List (List ℕ) → Option Step
+named version name args =
     if bytes_eq name (codes "open") then alone Open args
     else if bytes_eq name (codes "submit") then submit_in args
     else if bytes_eq name (codes "deliver") then with_number (λ n. Deliver n) args
@@ -141,39 +150,42 @@ named name args =
     else if bytes_eq name (codes "close") then with_number (λ n. Close (record { 0 = n })) args
     else None
 
--- the step that a line says
-unfoldable pub step_in : List ℕ → Option Step
-step_in line = let parts = parts_in line in named parts.0 parts.1
+-- the step that a line says in a text of this version
+unfoldable pub step_in : ℕ → List ℕ → Option Step
+step_in version line = let parts = parts_in line in named version parts.0 parts.1
 
 -- ---- which texts spell a trace, and which line of another text is the first that no trace has there
 
-abbrev pub IsStepLine : List ℕ → Step → Type 0
-IsStepLine line step = step_in line ≡ Some step
+abbrev pub IsStepLine : ℕ → List ℕ → Step → Type 0
+IsStepLine version line step = step_in version line ≡ Some step
 
--- these are the lines of a trace
-pub record AreLines (lines : List (List ℕ)) (max : ℕ) (steps : List Step) : Type 0 where
+-- these are the lines of a trace, in this version
+pub record AreLines (lines : List (List ℕ)) (version max : ℕ) (steps : List Step) : Type 0 where
+  pub known : IsVersion version
   pub least : 1 ≤ max
   pub greatest : max ≤ GREATEST_STEPS
   pub body : List (List ℕ)
-  pub each : AllZip IsStepLine body steps
-  pub whole : lines ≡ first_line ∷ max_line max ∷ (body ++ end_line (length steps) ∷ [])
+  pub each : AllZip (IsStepLine version) body steps
+  pub whole : lines ≡ first_line version ∷ max_line max ∷ (body ++ end_line (length steps) ∷ [])
 
 abbrev pub HasNoLf : List ℕ → Type 0
 HasNoLf line = AllByRecursion (λ b. b ≢ 10) line
 
--- the text is the lines of this trace, each ended by LF
+-- the text is the lines of this trace in one of the versions, each ended by LF
 pub record Spells (text : List ℕ) (max : ℕ) (steps : List Step) : Type 0 where
+  pub version : ℕ
   pub lines : List (List ℕ)
   pub no_lf : AllByRecursion HasNoLf lines
   pub split : text ≡ flat_map ended lines
-  pub are : AreLines lines max steps
+  pub are : AreLines lines version max steps
 
--- some trace begins with these lines
+-- some trace begins with these lines, in one of the versions
 pub record Begins (lines : List (List ℕ)) : Type 0 where
+  pub version : ℕ
   pub max : ℕ
   pub steps : List Step
   pub more : List (List ℕ)
-  pub are : AreLines (lines ++ more) max steps
+  pub are : AreLines (lines ++ more) version max steps
 
 -- The text begins with so many lines of some trace. A whole line behind them is none that a trace has there, and the
 -- lines alone are no trace where nothing stands behind them. The fault is told of the line behind them, counted from 1.
@@ -185,7 +197,7 @@ pub record IsBad (text : List ℕ) (line : ℕ) : Type 0 where
   pub counted : line ≡ length before + 1
   pub begins : Begins before
   pub next_is_none : (next more : List ℕ) → HasNoLf next → rest ≡ ended next ++ more → Begins (before ++ next ∷ []) → ⊥
-  pub not_whole : (max : ℕ) (steps : List Step) → rest ≡ [] → AreLines before max steps → ⊥
+  pub not_whole : (version max : ℕ) (steps : List Step) → rest ≡ [] → AreLines before version max steps → ⊥
 
 abbrev pub IsFaultOf : List ℕ → TraceFault → Type 0
 IsFaultOf text (Bad line) = IsBad text line

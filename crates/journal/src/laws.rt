@@ -1,7 +1,7 @@
 //! What the trace's text promises beside its calls: it is read in one way, and what was written is read back.
 
 ghost use Rattle.std.specs.Prelude.{◌≡◌, IfOk};
-ghost use Rattle.journal.specs.Laws.{SpellsOne, OneFault, NoFaultOfTrace};
+ghost use Rattle.journal.specs.Laws.{SpellsOne, OneVersion, OneFault, NoFaultOfTrace};
 
 use super::fault::TraceFault;
 use super::reader::read_trace;
@@ -9,9 +9,11 @@ use super::trace::Trace;
 use super::writer::write_trace;
 use std::alloc::{AllocError, Global};
 
-/// Any text spells one trace at most, and is at fault at one line at most; none that spells a trace is at fault.
+/// Any text spells one trace at most, in one version at most, and is at fault at one line at most; none that spells a
+/// trace is at fault.
 pub fn one_reading()
     ensures one_trace { SpellsOne }
+    ensures one_version { OneVersion }
     ensures one_fault { OneFault }
     ensures not_both { NoFaultOfTrace }
 {}

@@ -18,6 +18,7 @@ mod row;
 mod rows;
 mod step;
 mod trace;
+mod version;
 mod writer;
 
 pub use fault::{SendFault, TraceFault};

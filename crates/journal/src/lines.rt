@@ -131,10 +131,10 @@ fn run_in(alloc: Global, args: Args<'_>) -> Result<Option<Step>, AllocError>
     Ok(Some(Step::Run { starved }))
 }
 
-/// The step that a line says; `AllocError` where there is no memory for it.
+/// The step that a line says in a text of this version; `AllocError` where there is no memory for it.
 #[tactic(auto, unfolding(crate::specs::TraceText::step_in))]
-pub fn step_in(alloc: Global, line: &[u8]) -> Result<Option<Step>, AllocError>
-    ensures { IfOk result (λ r. r ≡ step_in line.now) }
+pub fn step_in(alloc: Global, version: u64, line: &[u8]) -> Result<Option<Step>, AllocError>
+    ensures { IfOk result (λ r. r ≡ step_in version line.now) }
 {
     let (name, args) = parts_in(line);
     if name == b"open".as_slice() {

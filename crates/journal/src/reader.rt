@@ -2,13 +2,14 @@
 
 ghost use Rattle.std.specs.Prelude.{◌≡◌, ◌↔◌, ℕ, ◌≤◌, ◌<◌, ◌^◌, [], ◌∷◌, ◌++◌, true, false, IfOk, List, decimal, IsTrue, MatchOption};
 ghost use Rattle.std.specs.Prelude.{MatchResult};
-ghost use Rattle.journal.specs.TraceText.{max_line, end_line, HasNoLf, step_in, Spells, IsFaultOf};
+ghost use Rattle.journal.specs.TraceText.{end_line, HasNoLf, step_in, Spells, IsFaultOf};
 ghost use Rattle.journal.specs.TraceReading.{IsLine, IsRead};
 
 use super::fault::TraceFault;
 use super::lines::step_in;
 use super::parts::{cut_at, number_in};
 use super::trace::{GREATEST_STEPS, Trace};
+use super::version::GREATEST_VERSION;
 use std::alloc::{AllocError, Global};
 
 /// The trace that the text spells. It is `Bad` at the first line that no trace has there: where the end is missing,
@@ -16,36 +17,36 @@ use std::alloc::{AllocError, Global};
 pub fn read_trace(alloc: Global, text: &[u8]) -> Result<Trace, TraceFault>
     ensures { MatchResult result (λ trace. Spells text.now trace.max trace.steps) (λ fault. IsFaultOf text.now fault) }
 {
-    let (max, rest) = read_head(text)?;
-    read_steps(alloc, max, rest)
+    let (version, max, rest) = read_head(text)?;
+    read_steps(alloc, version, max, rest)
 }
 
-/// The greatest number of steps, from the first two lines, and what stands behind them.
-fn read_head(text: &[u8]) -> Result<(u64, &[u8]), TraceFault>
+/// The version and the greatest number of steps, from the first two lines, and what stands behind them.
+fn read_head(text: &[u8]) -> Result<(u64, u64, &[u8]), TraceFault>
     ensures { MatchResult result
-        (λ r. (1 ≤ r.0) × (r.0 ≤ GREATEST_STEPS) × IsRead text.now r.1.now r.0 [])
+        (λ r. (1 ≤ r.1) × (r.1 ≤ GREATEST_STEPS) × IsRead text.now r.2.now r.0 r.1 [])
         (λ fault. IsFaultOf text.now fault) }
 {
     let Some((line, rest)) = next_line(text) else {
         return Err(TraceFault::Bad { line: 1 });
     };
-    if line != b"shardkv-trace 1".as_slice() {
+    let Some(version) = number_up_to(GREATEST_VERSION, line, b"shardkv-trace ") else {
         return Err(TraceFault::Bad { line: 1 });
-    }
+    };
     let Some((line, rest)) = next_line(rest) else {
         return Err(TraceFault::Bad { line: 2 });
     };
-    let Some(max) = max_in(line) else {
+    let Some(max) = number_up_to(GREATEST_STEPS, line, b"max ") else {
         return Err(TraceFault::Bad { line: 2 });
     };
-    Ok((max, rest))
+    Ok((version, max, rest))
 }
 
 /// The trace whose first two lines were read.
-fn read_steps(alloc: Global, max: u64, text: &[u8]) -> Result<Trace, TraceFault>
+fn read_steps(alloc: Global, version: u64, max: u64, text: &[u8]) -> Result<Trace, TraceFault>
     requires least { 1 ≤ max }
     requires greatest { max ≤ GREATEST_STEPS }
-    ensures { (whole : List ℕ) → IsRead whole text.now max []
+    ensures { (whole : List ℕ) → IsRead whole text.now version max []
         → MatchResult result (λ trace. Spells whole trace.max trace.steps) (λ fault. IsFaultOf whole fault) }
 {
     let mut trace = Trace::new(alloc, max);
@@ -61,21 +62,22 @@ fn read_steps(alloc: Global, max: u64, text: &[u8]) -> Result<Trace, TraceFault>
             }
             return Err(TraceFault::Bad { line: count + 4 });
         }
-        if !add_step(alloc, line, &mut trace)? {
+        if !add_step(alloc, version, line, &mut trace)? {
             return Err(TraceFault::Bad { line: count + 3 });
         }
         rest = behind;
     }
 }
 
-/// Adds the step that the line says. Where it says none, the answer is false and nothing changes.
-fn add_step(alloc: Global, line: &[u8], trace: &mut Trace) -> Result<bool, AllocError>
-    ensures { IfOk result (λ added. MatchOption (step_in line.now)
+/// Adds the step that the line says in a text of this version. Where it says none, the answer is false and nothing
+/// changes.
+fn add_step(alloc: Global, version: u64, line: &[u8], trace: &mut Trace) -> Result<bool, AllocError>
+    ensures { IfOk result (λ added. MatchOption (step_in version line.now)
         ((added ≡ false) × (trace.new ≡ trace.old))
         (λ step. (added ≡ true) × (trace.new.max ≡ trace.old.max)
         × (trace.new.steps ≡ trace.old.steps ++ step ∷ []))) }
 {
-    match step_in(alloc, line)? {
+    match step_in(alloc, version, line)? {
         Some(step) => {
             trace.push(&step)?;
             Ok(true)
@@ -95,14 +97,14 @@ fn next_line(text: &[u8]) -> Option<(&[u8], &[u8])>
     }
 }
 
-/// The greatest number of steps that this line gives.
-fn max_in(line: &[u8]) -> Option<u64>
+/// The number from 1 to the greatest one that stands behind this name, if the line is nothing else.
+fn number_up_to(greatest: u64, line: &[u8], name: &[u8]) -> Option<u64>
     ensures { MatchOption result
-        ((max : ℕ) → 1 ≤ max → max ≤ GREATEST_STEPS → line.now ≡ max_line max → ⊥)
-        (λ max. (line.now ≡ max_line max) × (1 ≤ max) × (max ≤ GREATEST_STEPS)) }
+        ((n : ℕ) → 1 ≤ n → n ≤ greatest → line.now ≡ name.now ++ decimal n → ⊥)
+        (λ n. (line.now ≡ name.now ++ decimal n) × (1 ≤ n) × (n ≤ greatest)) }
 {
-    match number_behind(line, b"max ") {
-        Some(max) if 1 <= max && max <= GREATEST_STEPS => Some(max),
+    match number_behind(line, name) {
+        Some(n) if 1 <= n && n <= greatest => Some(n),
         _ => None,
     }
 }

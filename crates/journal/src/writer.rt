@@ -8,6 +8,7 @@ ghost use Rattle.journal.specs.TraceText.{word_text, id_text, step_line, ended, 
 use super::fault::SendFault;
 use super::step::Step;
 use super::trace::{Steps, Trace};
+use super::version::WRITTEN_VERSION;
 use groups::RequestId;
 use itoa::Buffer;
 use resp::Request;
@@ -40,7 +41,7 @@ pub fn send_trace<W: Write>(alloc: Global, trace: &Trace, writer: &mut W) -> Res
     ensures spells { OnOk result (Spells (trace_text trace.now.max trace.now.steps) trace.now.max trace.now.steps) }
 {
     let mut piece = Vec::with_capacity(alloc, PIECE)?;
-    piece.extend_from_slice(b"shardkv-trace 1\n")?;
+    put_numbered(b"shardkv-trace ", WRITTEN_VERSION, &mut piece)?;
     put_numbered(b"max ", trace.max(), &mut piece)?;
     send_steps(alloc, trace.steps(), &mut piece, writer)?;
     put_numbered(b"end ", trace.len() as u64, &mut piece)?;
@@ -95,7 +96,7 @@ fn put_trace(trace: &Trace, out: &mut Vec<u8>) -> Result<(), AllocError>
     ensures err { OnErr result ((more : List ℕ) × (out.new.items ≡ out.old.items ++ more)) }
 {
     let alloc = *out.allocator();
-    out.extend_from_slice(b"shardkv-trace 1\n")?;
+    put_numbered(b"shardkv-trace ", WRITTEN_VERSION, out)?;
     put_numbered(b"max ", trace.max(), out)?;
     put_steps(alloc, trace.steps(), out)?;
     put_numbered(b"end ", trace.len() as u64, out)
