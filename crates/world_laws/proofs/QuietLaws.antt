@@ -21,8 +21,8 @@ use Rattle.groups.specs.declared.request.RequestId.{RequestId}
 use Rattle.groups.specs.declared.stamp.Stamp.{Stamp}
 use Rattle.world.specs.Steps.{OwnFault, Busy, NoConn, NoPacket, InFlight, NoLayer, IsInFlight, NothingToRun, NothingToSettle, Refused}
 use Rattle.world.specs.World.{World, Request, Ended, Layer, NoneTaken, Taken, HasRun}
-use Rattle.world_laws.specs.Good.{Known, GroupGood, bit, starts_of, addresses, log_of, Named, all_delivered, all_taken, WorldGood}
-use Rattle.world_laws.specs.Quiet.{IsQuiet, QuietMeansEnded, QuietIsRefused, IsOut, told_by}
+use Rattle.world_laws.specs.Good.{Known, GroupGood, bit, starts_of, addresses, log_of, IsOut, Named, all_delivered, all_taken, WorldGood}
+use Rattle.world_laws.specs.Quiet.{IsQuiet, QuietMeansEnded, QuietIsRefused, told_by}
 use Rattle.world_laws.proofs.ConditionLaws.{delivered_same}
 use Rattle.world_laws.proofs.Layers.{ascending_cross, ascending_right, known_some}
 use Rattle.world_laws.proofs.Owed.{Owes, owes_world}
@@ -129,7 +129,7 @@ all_out : (t : Layout) (w : World) → WorldGood t w → Owes w → w.packets �
     has q.groups g ≡ true → IsOut (log_of w g) i
 all_out t w good owes none i q g named member =
     let told = all_proposed t w good none i q g named member in
-    elim ((owes.groups g).begun i told.0 told.1) [
+    elim ((good.skeen.groups g).begun i told.0 told.1) [
       | inr out ↦ out
       | inl there ↦ let gs = some_started (get (w.group g).started i) there in absurd (none_started t w good owes none g i gs.0 gs.1)
     ]

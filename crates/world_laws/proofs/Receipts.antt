@@ -142,10 +142,14 @@ start_good asked proposed packets group gone queue to id floor groups front back
             ap (λ b. bit (is_some (cond b (Some new) (proposed i g)))) p in
             omega arith
       ];
-  made = λ i g n e. by_test (same_id i id && g == to) new (proposed i g) n ((q : Request) × (asked i ≡ Some q) × (q.floor < n)) e
+  made = λ i g n e. by_test (same_id i id && g == to) new (proposed i g) n
+      ((q : Request) × (asked i ≡ Some q) × (q.floor < n) × (has q.groups g ≡ true)) e
       (λ p same.
       let at_floor = it.floors in
-      (it.request, ap asked (same_id-true i id (and_parts _ _ p).0) ∙ it.named, omega arith))
+      let at = and_parts _ _ p in
+      let member : has it.request.groups g ≡ true = subst (λ gs. has gs g ≡ true) (sym it.same)
+      (subst (λ h. has groups h ≡ true) (sym (eqb-true g to at.1)) it.member) in
+      (it.request, ap asked (same_id-true i id at.0) ∙ it.named, omega arith, member))
       (λ p old. good.made i g n old);
   groups = groups_at asked proposed proposed' group gone queue to state ds among others good.groups
       (subst (λ s. GroupGood asked proposed' to s ((gone to ++ queue to) ++ ds)) (sym delivering.after)

@@ -74,7 +74,7 @@ skeen_multicast asked proposed packets group log id q good none up = record {
             (cond-false _ (Some q) (asked i) p) in
             omega arith
       ];
-  made = λ i g n e. let m = good.made i g n e in (m.0, asks_more asked id q none i m.0 m.1, m.2);
+  made = λ i g n e. let m = good.made i g n e in (m.0, asks_more asked id q none i m.0 m.1, m.2, m.3);
   groups = λ g. group_grows asked (asks asked id q) proposed proposed g (group g) (log g) (asks_more asked id q none) (λ i h m e. e)
       (λ i n e. e) (good.groups g);
 }

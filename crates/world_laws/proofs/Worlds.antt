@@ -51,6 +51,7 @@ group_opening me = record {
   clock = λ i n e. absurd (None≢Some n e);
   apart = λ i j n e d. absurd (None≢Some n e);
   started = λ i gs e. absurd (None≢Some gs (sym (started-fresh i) ∙ e));
+  begun = λ i n e. absurd (None≢Some n e);
   known = λ d there. absurd there;
   member = λ d there. absurd there;
 }

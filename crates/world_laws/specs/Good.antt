@@ -3,6 +3,7 @@
 use Rattle.std.specs.FinMap.{get, empty}
 use Rattle.std.specs.Option.{is_some}
 use Rattle.std.specs.Prelude.{◌≡◌, ℕ, ◌+◌, ◌<◌, ◌≤◌, Bool, true, false, cond, ◌&&◌, ◌==◌, List, [], ◌∷◌, ◌++◌, ◌⊎◌, Option, Some, None}
+use Rattle.std.specs.Prelude.{IsSome}
 use Rattle.command_bodies.specs.Command.{effect_of}
 use Rattle.groups.specs.GroupSet.{has}
 use Rattle.keyspace.specs.Map.{Map}
@@ -52,6 +53,10 @@ Among f g = (i : RequestId) (h n : ℕ) → f i h ≡ Some n → g i h ≡ Some 
 abbrev pub log_of : World → ℕ → List Delivered
 log_of w g = w.gone g ++ w.queue g
 
+-- one of these has the id
+abbrev pub IsOut : List Delivered → RequestId → Type 0
+IsOut ds i = (d : Delivered) × In d ds × (d.id ≡ i)
+
 pub record GroupGood (asked : Asked) (proposed : Proposals) (me : ℕ) (grp : GroupState)
     (log : List Delivered) : Type 0 where
   -- it is as the rule of one group leaves it, and has delivered in ascending order
@@ -60,6 +65,8 @@ pub record GroupGood (asked : Asked) (proposed : Proposals) (me : ℕ) (grp : Gr
   pub clock : (i : RequestId) (n : ℕ) → proposed i me ≡ Some n → n ≤ grp.clock
   pub apart : (i j : RequestId) (n : ℕ) → proposed i me ≡ Some n → proposed j me ≡ Some n → i ≡ j
   pub started : (i : RequestId) (gs : List ℕ) → get grp.started i ≡ Some gs → Addressed asked i gs
+  -- a request for which the group has proposed is started there, or was delivered
+  pub begun : (i : RequestId) (n : ℕ) → proposed i me ≡ Some n → IsSome (get grp.started i) ⊎ IsOut log i
   pub known : (d : Delivered) → In d log → Known asked proposed d
   pub member : (d : Delivered) → In d log → has d.groups me ≡ true
 
@@ -96,7 +103,9 @@ pub record SkeenGood (asked : Asked) (proposed : Proposals) (packets : List Pack
   -- each addressed group has a Start of the request coming, or has proposed, and not both
   pub counted : (i : RequestId) (g : ℕ) →
       starts_of i g packets + bit (is_some (proposed i g)) ≡ bit (addresses (asked i) g)
-  pub made : (i : RequestId) (g n : ℕ) → proposed i g ≡ Some n → (q : Request) × (asked i ≡ Some q) × (q.floor < n)
+  -- a group proposes for a request that addresses it, above the request's floor
+  pub made : (i : RequestId) (g n : ℕ) → proposed i g ≡ Some n →
+      (q : Request) × (asked i ≡ Some q) × (q.floor < n) × (has q.groups g ≡ true)
   pub groups : (g : ℕ) → GroupGood asked proposed g (group g) (log g)
 
 -- ---- submitted requests
