@@ -6,7 +6,7 @@ use Rattle.groups.specs.GroupSet.{has}
 use Rattle.skeen_core.proofs.Finite.{heard-with_start, heard-with_proposal}
 use Rattle.groups.proofs.Ids.{same_id-true, same_id-refl}
 use Rattle.skeen_core.proofs.Lawful.{still_heard}
-use Rattle.groups.proofs.Lists.{In-left, In-right, In-append}
+use Rattle.groups.proofs.Lists.{In-right}
 use Rattle.skeen_core.specs.Group.{GroupState, heard, next_clock, with_start, with_proposal, lifted, Delivering, has_id, tell}
 use Rattle.groups.specs.Order.{In}
 use Rattle.groups.specs.Request.{same_id}
@@ -19,6 +19,7 @@ use Rattle.world.specs.World.{Request, Proposals}
 use Rattle.world_laws.specs.Good.{Asked, IsOut}
 use Rattle.world_laws.specs.Quiet.{told_by, GroupOwes}
 use Rattle.world_laws.proofs.Groups.{by_test, out_left, out_right, out_named}
+use Rattle.world_laws.proofs.Receipts.{still_sent}
 use Rattle.std.proofs.lemmas.Bool.{cond-true, cond-false}
 use Rattle.groups.proofs.Options.{some_same}
 
@@ -46,14 +47,6 @@ owes_delivers asked proposed packets g mid state log ds owes delivering = subst 
     })
 
 -- ---- packets
-
--- what was sent is still under way, or it is the packet that came
-still_sent : (x p : Packet) (front back sent : List Packet) → In x (front ++ p ∷ back) → (x ≡ p) ⊎ In x ((front ++ back) ++ sent)
-still_sent x p front back sent there = elim (In-append x front (p ∷ back) there) [
-  | inl before ↦ inr (In-left x (front ++ back) sent (In-left x front back before))
-  | inr (inl same) ↦ inl same
-  | inr (inr after) ↦ inr (In-left x (front ++ back) sent (In-right x front back after))
-]
 
 -- each other group of the request is told
 in_tell : (me : ℕ) (id : RequestId) (n : ℕ) (gs : List ℕ) (g : ℕ) → has gs g ≡ true → (g == me) ≡ false → In (told_by g id me n)

@@ -97,10 +97,17 @@ abbrev pub addresses : Option Request → ℕ → Bool
 addresses None g = false
 addresses (Some q) g = has q.groups g
 
+-- the Start of the request that goes to the group
+abbrev pub start_to : ℕ → RequestId → Request → Packet
+start_to g i q = record { to = g; id = i; body = Start q.floor q.groups }
+
 pub record SkeenGood (asked : Asked) (proposed : Proposals) (packets : List Packet) (group : ℕ → GroupState)
     (log : ℕ → List Delivered) : Type 0 where
   pub sent : (p : Packet) → In p packets → PacketGood asked proposed p
-  -- each addressed group has a Start of the request coming, or has proposed, and not both
+  -- each addressed group has a Start of the request coming, or has proposed
+  pub coming : (i : RequestId) (q : Request) (g : ℕ) → asked i ≡ Some q → has q.groups g ≡ true →
+      In (start_to g i q) packets ⊎ IsSome (proposed i g)
+  -- and not both, and it has one such Start at most
   pub counted : (i : RequestId) (g : ℕ) →
       starts_of i g packets + bit (is_some (proposed i g)) ≡ bit (addresses (asked i) g)
   -- a group proposes for a request that addresses it, above the request's floor
@@ -172,6 +179,11 @@ pub record TakenGood (asked : Asked) (proposed : Proposals) (gone : ℕ → List
 abbrev pub Named : List Ended → RequestId → Type 0
 Named es i = (e : Ended) × In e es × (e.id ≡ i)
 
+-- a request before which its connection had asked another is asked once that other has ended
+abbrev pub EarlierEnded : Asked → List Ended → Type 0
+EarlierEnded asked ended = (i j : RequestId) (q r : Request) → i.conn.0 ≡ j.conn.0 → i.seq < j.seq → asked i ≡ Some q →
+    asked j ≡ Some r → Named ended i
+
 -- its connection waits for it, and has submitted no other since; or it was closed
 abbrev pub Pending : (ℕ → Standing) → (ℕ → ℕ) → RequestId → Type 0
 Pending standing seq i = (standing i.conn.0 ≡ Closed) ⊎ ((standing i.conn.0 ≡ Waiting) × (i.seq ≡ seq i.conn.0))
@@ -215,6 +227,7 @@ pub record WorldGood (t : Layout) (w : World) : Type 0 where
   pub requests : AskedGood t w.asked w.proposed w.seq w.last
   pub taken : TakenGood w.asked w.proposed w.gone (all_taken w.ended w.layer)
   pub connections : ConnectionsGood w.opened w.standing w.seq w.last w.asked w.ended w.layer
+  pub earlier : EarlierEnded w.asked w.ended
   pub run : RunGood w.asked w.ended w.contents
 
 -- after n steps no number is above n
