@@ -179,7 +179,7 @@ pub record TakenGood (asked : Asked) (proposed : Proposals) (gone : ℕ → List
 abbrev pub Named : List Ended → RequestId → Type 0
 Named es i = (e : Ended) × In e es × (e.id ≡ i)
 
--- a request before which its connection had asked another is asked once that other has ended
+-- each request has ended that its connection asked before another
 abbrev pub EarlierEnded : Asked → List Ended → Type 0
 EarlierEnded asked ended = (i j : RequestId) (q r : Request) → i.conn.0 ≡ j.conn.0 → i.seq < j.seq → asked i ≡ Some q →
     asked j ≡ Some r → Named ended i
