@@ -1,11 +1,13 @@
--- Each such step uses up what a submitted request allowed: a Start weighs as much as its request has groups, a
--- Proposal 1, and a request that no layer has taken 3.
-use Rattle.std.proofs.Common.{◌≡◌, ◌≢◌, ℕ, suc, ◌+◌, ◌*◌, ◌≤◌, ◌==◌, true, false, cond, List, [], ◌∷◌, ◌++◌, inl, inr, Option, Some, None}
-use Rattle.std.proofs.Common.{Result, Ok, Err, length, map, refl, sym, ap, ◌∙◌, subst, arith, append_assoc, length-append}
-use Rattle.std.proofs.lemmas.Bool.{both_ways, or_cases}
+-- Each such step uses up what a submitted request allowed: 1 for each packet under way, for each group that hasn't
+-- proposed one for each packet that it will send, and 3 for a request that no layer has taken.
+use Rattle.std.proofs.Common.{◌≡◌, ◌≢◌, ℕ, suc, ◌+◌, ◌*◌, ◌≤◌, ◌==◌, ◌&&◌, Bool, true, false, cond, List, [], ◌∷◌, ◌++◌, inl, inr, Option}
+use Rattle.std.proofs.Common.{Some, None, Result, Ok, Err, length, map, refl, sym, ap, ◌∙◌, subst, arith, append_assoc, length-append}
+use Rattle.std.proofs.Common.{eqb-true, eq-eqb}
+use Rattle.std.proofs.lemmas.Bool.{both_ways, or_cases, and_from}
 use Rattle.std.proofs.Math.Nat.{suc-mul}
 use Rattle.std.specs.FinMap.{get}
 use Rattle.std.specs.List.{remove}
+use Rattle.std.specs.Option.{is_some}
 use Rattle.command_table.specs.Reading.{reading}
 use Rattle.command_table.specs.declared.command.Command.{Command}
 use Rattle.command_table.specs.declared.refusal.Refusal.{Refusal}
@@ -14,7 +16,7 @@ use Rattle.journal.specs.declared.step.Step.{Step}
 use Rattle.journal.specs.declared.step.Step.TheVariants.{Open, Submit, Deliver, Take, Run, Settle, Collect, Close}
 use Rattle.placement.specs.Groups.{groups_of}
 use Rattle.placement.specs.Layout.{Layout}
-use Rattle.groups.proofs.Ids.{same_id-true}
+use Rattle.groups.proofs.Ids.{same_id-true, eq-same_id}
 use Rattle.skeen_core.proofs.Lawful.{None≢Some}
 use Rattle.groups.proofs.Lists.{In-left, In-right, In-append}
 use Rattle.skeen_core.specs.Group.{GroupState, next_clock, tell, ReceivesStart, Receives, EachOnce}
@@ -26,78 +28,173 @@ use Rattle.skeen_core.specs.declared.packet.Delivered.{Delivered}
 use Rattle.skeen_core.specs.declared.packet.Packet.{Packet}
 use Rattle.groups.specs.declared.request.RequestId.{RequestId}
 use Rattle.world.specs.Steps.{starts, opening, Effect, next_id, floor_of, multicast, submitted_to, submitted, Comes, Takes, RunsLayer}
-use Rattle.world.specs.Steps.{Settles, Collects, Steps, Makes}
+use Rattle.world.specs.Steps.{Settles, Collects, Steps, Makes, hears, with_own, now_proposed}
 use Rattle.world.specs.World.{World, Request, Standing, Closed, Idle, Waiting, Answered, Layer, NoneTaken, Taken, HasRun, Proposals}
 use Rattle.world_laws.specs.Bound.{turn, turns, allowed_to, allowed_by, allowance, allowances, TurnsAreBounded}
-use Rattle.world_laws.specs.Good.{Asked, BodyGood, all_delivered, all_taken, TakenGood, WorldGood}
+use Rattle.world_laws.specs.Good.{Asked, BodyGood, bit, starts_of, addresses, log_of, SkeenGood, all_delivered, all_taken, TakenGood}
+use Rattle.world_laws.specs.Good.{WorldGood}
 use Rattle.world_laws.proofs.Groups.{by_test}
 use Rattle.world_laws.proofs.Layers.{taken_run, taken_once}
 use Rattle.world_laws.proofs.Lists.{split_at}
-use Rattle.world_laws.proofs.Receipts.{was_under_way}
+use Rattle.world_laws.proofs.Receipts.{was_under_way, not_proposed}
 use Rattle.world_laws.proofs.Worlds.{keeps, good_world, good_opening}
 
--- ---- the weight of packets
+-- ---- what groups will send
 
-abbrev body_weight : Body → ℕ
-body_weight (Start floor groups) = length groups
-body_weight (Proposal from n) = 1
+-- so many packets the group sends when it proposes for the request
+pub record Due : Type 0 where
+  pub id : RequestId
+  pub group : ℕ
+  pub sends : ℕ
 
-abbrev weight : List Packet → ℕ
-weight [] = 0
-weight (p ∷ ps) = body_weight p.body + weight ps
+abbrev pub total : List Due → ℕ
+total [] = 0
+total (d ∷ ds) = d.sends + total ds
 
-weight-append : (xs ys : List Packet) → weight (xs ++ ys) ≡ weight xs + weight ys
-weight-append [] ys = omega arith
-weight-append (x ∷ xs) ys = let rest = weight-append xs ys in omega arith
+total-append : (xs ys : List Due) → total (xs ++ ys) ≡ total xs + total ys
+total-append [] ys = omega arith
+total-append (x ∷ xs) ys = let rest = total-append xs ys in omega arith
 
-weight-without : (front : List Packet) (p : Packet) (back sent : List Packet) →
-    weight ((front ++ back) ++ sent) + body_weight p.body ≡ weight (front ++ p ∷ back) + weight sent
-weight-without front p back sent =
-    omega (arith, weight-append (front ++ back) sent, weight-append front back, weight-append front (p ∷ back))
+total-without : (front : List Due) (d : Due) (back : List Due) → total (front ++ d ∷ back) ≡ total (front ++ back) + d.sends
+total-without front d back = omega (arith, total-append front (d ∷ back), total-append front back)
 
-weight-starts : (id : RequestId) (q : Request) (gs : List ℕ) → weight (starts id q gs) ≡ length gs * length q.groups
-weight-starts id q [] = omega arith
-weight-starts id q (g ∷ gs) = let rest = weight-starts id q gs in
-    let grown : suc (length gs) * length q.groups ≡ length gs * length q.groups + length q.groups = suc-mul (length gs)
-    (length q.groups) in omega arith
+-- one for each of these groups
+abbrev dues_of : RequestId → ℕ → List ℕ → List Due
+dues_of id n [] = []
+dues_of id n (g ∷ gs) = record { id = id; group = g; sends = n } ∷ dues_of id n gs
+
+in_dues : (id : RequestId) (n : ℕ) (gs : List ℕ) (g : ℕ) → has gs g ≡ true → In (record { id = id; group = g; sends = n }) (dues_of id n gs)
+in_dues id n [] g there = absurd (both_ways false refl there)
+in_dues id n (h ∷ hs) g there = elim (or_cases (h == g) (has hs g) there) [
+  | inl here ↦ inl (ap (λ k. record { id = id; group = k; sends = n }) (sym (eqb-true h g here)))
+  | inr later ↦ inr (in_dues id n hs g later)
+]
+
+-- a Start to each group, and what each will send
+starts_and_dues : (id : RequestId) (n : ℕ) (gs : List ℕ) → length gs + total (dues_of id n gs) ≡ length gs * suc n
+starts_and_dues id n [] = omega arith
+starts_and_dues id n (g ∷ gs) =
+    let rest = starts_and_dues id n gs in
+    let grown : suc (length gs) * suc n ≡ length gs * suc n + suc n = suc-mul (length gs) (suc n) in omega arith
+
+length-starts : (id : RequestId) (q : Request) (gs : List ℕ) → length (starts id q gs) ≡ length gs
+length-starts id q [] = refl
+length-starts id q (g ∷ gs) = ap suc (length-starts id q gs)
 
 -- one proposal for each other group at most
-weight-tell : (me : ℕ) (id : RequestId) (n : ℕ) (gs : List ℕ) → weight (tell me id n gs) ≤ length gs
-weight-tell me id n [] = omega arith
-weight-tell me id n (g ∷ gs) =
-    elim (g == me) as (λ b. weight (cond b (tell me id n gs) (record { to = g; id = id; body = Proposal me n } ∷ tell me id n gs)) ≤ length
+length-tell : (me : ℕ) (id : RequestId) (n : ℕ) (gs : List ℕ) → length (tell me id n gs) ≤ length gs
+length-tell me id n [] = omega arith
+length-tell me id n (g ∷ gs) =
+    elim (g == me) as (λ b. length (cond b (tell me id n gs) (record { to = g; id = id; body = Proposal me n } ∷ tell me id n gs)) ≤ length
     (g ∷ gs)) [
-      | true ↦ let rest = weight-tell me id n gs in omega arith
-      | false ↦ let rest = weight-tell me id n gs in omega arith
+      | true ↦ let rest = length-tell me id n gs in omega arith
+      | false ↦ let rest = length-tell me id n gs in omega arith
     ]
 
 -- and none for the group itself
-weight-tell-less : (me : ℕ) (id : RequestId) (n : ℕ) (gs : List ℕ) → has gs me ≡ true → weight (tell me id n gs) + 1 ≤ length gs
-weight-tell-less me id n [] there = absurd (both_ways false refl there)
-weight-tell-less me id n (g ∷ gs) there =
+length-tell-less : (me : ℕ) (id : RequestId) (n : ℕ) (gs : List ℕ) → has gs me ≡ true → length (tell me id n gs) + 1 ≤ length gs
+length-tell-less me id n [] there = absurd (both_ways false refl there)
+length-tell-less me id n (g ∷ gs) there =
     elim (g == me) as (λ b. (g == me) ≡ b →
-    weight (cond b (tell me id n gs) (record { to = g; id = id; body = Proposal me n } ∷ tell me id n gs)) + 1 ≤ length (g ∷ gs)) [
-      | true ↦ λ e. let rest = weight-tell me id n gs in omega arith
+    length (cond b (tell me id n gs) (record { to = g; id = id; body = Proposal me n } ∷ tell me id n gs)) + 1 ≤ length (g ∷ gs)) [
+      | true ↦ λ e. let rest = length-tell me id n gs in omega arith
       | false ↦ λ e. elim (or_cases (g == me) (has gs me) there) [
         | inl here ↦ absurd (both_ways _ e here)
-        | inr later ↦ let rest = weight-tell-less me id n gs later in omega arith
+        | inr later ↦ let rest = length-tell-less me id n gs later in omega arith
       ]
     ] refl
 
-length-some : (gs : List ℕ) (g : ℕ) → has gs g ≡ true → 1 ≤ length gs
-length-some [] g there = absurd (both_ways false refl there)
-length-some (h ∷ hs) g there = omega arith
+split_in : {X : Type 0} (x : X) (ys : List X) → In x ys → (front back : List X) × (ys ≡ front ++ x ∷ back)
+split_in x [] there = absurd there
+split_in x (y ∷ ys) (inl same) = ([], ys, ap (λ z. z ∷ ys) (sym same))
+split_in x (y ∷ ys) (inr there) = let rest = split_in x ys there in (y ∷ rest.0, rest.1, ap (λ l. y ∷ l) rest.2)
 
--- what a group sends weighs less than the packet that came
-sent_weighs_less : (asked : Asked) (proposed : Proposals) (to : ℕ) (grp : GroupState) (id : RequestId) (body : Body) (sent : List Packet)
-    (ds : List Delivered) (state : GroupState) →
-    BodyGood asked proposed to id body → Receives to grp id body sent ds state → weight sent + 1 ≤ body_weight body
-sent_weighs_less asked proposed to grp id (Start floor groups) sent ds state good r = by_started (get grp.started id) r
+-- ---- a packet comes
+
+-- a Proposal for each other group of the request
+pub record IsDue (i : RequestId) (q : Request) (g : ℕ) (d : Due) : Type 0 where
+  pub id : d.id ≡ i
+  pub group : d.group ≡ g
+  pub sends : suc d.sends ≡ length q.groups
+
+-- each addressed group that hasn't proposed for a request has its due
+abbrev pub Covers : Asked → Proposals → List Due → Type 0
+Covers asked proposed dues = (i : RequestId) (q : Request) (g : ℕ) → asked i ≡ Some q → has q.groups g ≡ true → proposed i g ≡ None →
+    (d : Due) × In d dues × IsDue i q g d
+
+-- what is sent was due
+record Pays (asked : Asked) (proposed : Proposals) (dues : List Due) (sent : List Packet) : Type 0 where
+  pub rest : List Due
+  pub covers : Covers asked proposed rest
+  pub paid : length sent + total rest ≤ total dues
+
+pays_nothing : (asked : Asked) (proposed : Proposals) (dues : List Due) (sent : List Packet) → sent ≡ [] → Covers asked proposed dues →
+    Pays asked proposed dues sent
+pays_nothing asked proposed dues sent none covers =
+    record { rest = dues; covers = covers; paid = let zero_ = ap (λ (l : List Packet). length l) none in omega arith }
+
+-- the group proposes, and its due is gone
+pays_proposing : (asked : Asked) (proposed : Proposals) (dues : List Due) (sent : List Packet) (to : ℕ) (id : RequestId) (n : ℕ)
+    (q : Request) → asked id ≡ Some q → has q.groups to ≡ true → proposed id to ≡ None → sent ≡ tell to id n q.groups →
+    Covers asked proposed dues → Pays asked (hears proposed id to n) dues sent
+pays_proposing asked proposed dues sent to id n q named member none told covers = record {
+  rest = parts.0 ++ parts.1;
+  covers = λ i r g named_ member_ none_. by_proposed i r g (same_id i id && g == to) refl named_ member_ none_;
+  paid =
+      let sends = due.2.sends in
+      let whole = ap total parts.2 in
+      let without = total-without parts.0 due.0 parts.1 in
+      let all = ap (λ (l : List Packet). length l) told in
+      let less = length-tell-less to id n q.groups member in
+      omega arith;
+}
   where
-    by_started : (o : Option (List ℕ)) → ReceivesStart o to grp id floor groups sent ds state → weight sent + 1 ≤ length groups
-    by_started (Some gs) r = let none = ap weight r.0 in let some = length-some groups to good.1 in omega arith
-    by_started None r = let told = ap weight r.0 in let less = weight-tell-less to id (next_clock grp floor) groups good.1 in omega arith
-sent_weighs_less asked proposed to grp id (Proposal from n) sent ds state good r = let none = ap weight r.0 in omega arith
+    due : (d : Due) × In d dues × IsDue id q to d
+    due = covers id q to named member none
+
+    parts : (front back : List Due) × (dues ≡ front ++ due.0 ∷ back)
+    parts = split_in due.0 dues due.1
+
+    by_proposed : (i : RequestId) (r : Request) (g : ℕ) (b : Bool) → (same_id i id && g == to) ≡ b → asked i ≡ Some r →
+        has r.groups g ≡ true → cond b (Some n) (proposed i g) ≡ None →
+        (d : Due) × In d (parts.0 ++ parts.1) × IsDue i r g d
+    by_proposed i r g true e named_ member_ none_ = absurd (None≢Some n (sym none_))
+    by_proposed i r g false e named_ member_ none_ =
+        let old = covers i r g named_ member_ none_ in
+        elim (In-append old.0 parts.0 (due.0 ∷ parts.1) (subst (λ l. In old.0 l) parts.2 old.1)) [
+          | inl before ↦ (old.0, In-left old.0 parts.0 parts.1 before, old.2)
+          | inr (inr after) ↦ (old.0, In-right old.0 parts.0 parts.1 after, old.2)
+          | inr (inl same) ↦
+              let at_id : i ≡ id = sym old.2.id ∙ ap (λ (d : Due). d.id) same ∙ due.2.id in
+              let at_to : g ≡ to = sym old.2.group ∙ ap (λ (d : Due). d.group) same ∙ due.2.group in
+              absurd (both_ways _ e (and_from (same_id i id) (g == to) (eq-same_id i id at_id) (eq-eqb g to at_to)))
+        ]
+
+-- a packet that comes pays for itself
+comes_paid : (asked : Asked) (proposed : Proposals) (packets : List Packet) (group : ℕ → GroupState) (log : ℕ → List Delivered)
+    (dues : List Due) (to : ℕ) (id : RequestId) (body : Body) (front back sent : List Packet) (ds : List Delivered) (state : GroupState) →
+    packets ≡ front ++ record { to = to; id = id; body = body } ∷ back → SkeenGood asked proposed packets group log →
+    Receives to (group to) id body sent ds state → Covers asked proposed dues →
+    Pays asked (now_proposed proposed to (group to) id body) dues sent
+comes_paid asked proposed packets group log dues to id (Proposal from n) front back sent ds state whole good r covers =
+    pays_nothing asked proposed dues sent r.0 covers
+comes_paid asked proposed packets group log dues to id (Start floor groups) front back sent ds state whole good r covers =
+    by_started (get (group to).started id) r
+  where
+    body : BodyGood asked proposed to id (Start floor groups)
+    body = good.sent (record { to = to; id = id; body = Start floor groups })
+        (subst (λ l. In (record { to = to; id = id; body = Start floor groups }) l) (sym whole) (was_under_way _ front back))
+
+    none : proposed id to ≡ None
+    none = not_proposed id to front floor groups back (proposed id to) (addresses (asked id) to)
+        (subst (λ l. starts_of id to l + bit (is_some (proposed id to)) ≡ bit (addresses (asked id) to)) whole (good.counted id to))
+
+    by_started : (o : Option (List ℕ)) → ReceivesStart o to (group to) id floor groups sent ds state →
+        Pays asked (with_own o proposed id to (next_clock (group to) floor)) dues sent
+    by_started (Some gs) r = pays_nothing asked proposed dues sent r.0 covers
+    by_started None r = pays_proposing asked proposed dues sent to id (next_clock (group to) floor) body.0.0 body.0.1
+        (subst (λ gs. has gs to ≡ true) (sym body.0.3) body.1) none
+        (r.0 ∙ ap (λ gs. tell to id (next_clock (group to) floor) gs) (sym body.0.3)) covers
 
 -- ---- what is still to be done
 
@@ -106,50 +203,82 @@ layer_weight NoneTaken = 0
 layer_weight (Taken ds) = 2
 layer_weight (HasRun es) = 1
 
+-- the requests that were asked, and what is due for them
+pub record Listed (asked : Asked) (proposed : Proposals) : Type 0 where
+  pub ids : List RequestId
+  pub named : (i : RequestId) (q : Request) → asked i ≡ Some q → In i ids
+  pub dues : List Due
+  pub covers : Covers asked proposed dues
+
 -- m steps were made of the a that were allowed
 pub record Paid (w : World) (m a : ℕ) : Type 0 where
-  pub ids : List RequestId
-  pub asked : (i : RequestId) (q : Request) → w.asked i ≡ Some q → In i ids
-  pub paid : m + weight w.packets + layer_weight w.layer + 3 * length ids ≤ a + 3 * length (all_taken w.ended w.layer)
+  pub list : Listed w.asked w.proposed
+  pub paid : m + length w.packets + total list.dues + layer_weight w.layer + 3 * length list.ids
+      ≤ a + 3 * length (all_taken w.ended w.layer)
 
 paid_deliver : (t : Layout) (old new : World) (k : ℕ) (effect : Effect) (m a : ℕ) → Comes old k effect new → WorldGood t old →
     Paid old m a → Paid new (m + 1) a
 paid_deliver t old new k effect m a step good p =
     let parts = split_at old.packets k step.packet step.there in
-    let body = good.skeen.sent step.packet (subst (λ l. In step.packet l) (sym parts.whole)
-    (was_under_way step.packet parts.front parts.back)) in
-    let less = sent_weighs_less old.asked old.proposed step.packet.to
-    (old.group step.packet.to) step.packet.id step.packet.body step.sent step.delivered step.state body step.receives in
-    let now : weight (remove old.packets k ++ step.sent) ≡ weight ((parts.front ++ parts.back) ++ step.sent) =
-    ap (λ l. weight (l ++ step.sent)) parts.rest in
-    let before = ap weight parts.whole in
-    let without = weight-without parts.front step.packet parts.back step.sent in
+    let pays = comes_paid old.asked old.proposed old.packets old.group (log_of old) p.list.dues step.packet.to step.packet.id
+    step.packet.body parts.front parts.back step.sent step.delivered step.state parts.whole good.skeen step.receives p.list.covers in
+    let now : length (remove old.packets k ++ step.sent) ≡ length ((parts.front ++ parts.back) ++ step.sent) =
+    ap (λ l. length (l ++ step.sent)) parts.rest in
+    let before = ap (λ (l : List Packet). length l) parts.whole in
+    let joined = length-append (parts.front ++ parts.back) step.sent in
+    let without = length-append parts.front parts.back in
+    let with_it = length-append parts.front (step.packet ∷ parts.back) in
+    let less = pays.paid in
     let paid = p.paid in
-    subst (λ w. Paid w (m + 1) a) (sym step.after) (record { ids = p.ids; asked = p.asked; paid = omega arith })
+    subst (λ w. Paid w (m + 1) a) (sym step.after)
+    (record {
+      list = record { ids = p.list.ids; named = p.list.named; dues = pays.rest; covers = pays.covers };
+      paid = omega arith;
+    })
 
-paid_multicast : (w : World) (c : ℕ) (q : Request) (m a : ℕ) → Paid w m a →
+paid_multicast : (w : World) (c : ℕ) (q : Request) (n m a : ℕ) → suc n ≡ length q.groups → Paid w m a →
     Paid (multicast w c q) m (a + (length q.groups * length q.groups + 3))
-paid_multicast w c q m a p = record {
-  ids = next_id w c ∷ p.ids;
-  asked = λ i r e. by_test (same_id i (next_id w c)) q (w.asked i) r (In i (next_id w c ∷ p.ids)) e
-      (λ s new. inl (same_id-true i (next_id w c) s))
-      (λ s old. inr (p.asked i r old));
+paid_multicast w c q n m a others p = record {
+  list = record {
+    ids = next_id w c ∷ p.list.ids;
+    named = λ i r e. by_test (same_id i (next_id w c)) q (w.asked i) r (In i (next_id w c ∷ p.list.ids)) e
+        (λ s new. inl (same_id-true i (next_id w c) s))
+        (λ s old. inr (p.list.named i r old));
+    dues = p.list.dues ++ dues_of (next_id w c) n q.groups;
+    covers = λ i r g e member none. by_test (same_id i (next_id w c)) q (w.asked i) r
+        ((d : Due) × In d (p.list.dues ++ dues_of (next_id w c) n q.groups) × IsDue i r g d) e
+        (λ s new. (
+          record { id = next_id w c; group = g; sends = n },
+          In-right _ p.list.dues (dues_of (next_id w c) n q.groups)
+              (in_dues (next_id w c) n q.groups g (subst (λ (x : Request). has x.groups g ≡ true) (sym new) member)),
+          record {
+            id = sym (same_id-true i (next_id w c) s);
+            group = refl;
+            sends = others ∙ ap (λ (x : Request). length x.groups) new;
+          },
+        ))
+        (λ s old. let before = p.list.covers i r g old member none in (before.0, In-left before.0 p.list.dues _ before.1, before.2));
+  };
   paid =
-      let joined = weight-append w.packets (starts (next_id w c) q q.groups) in
-      let more = weight-starts (next_id w c) q q.groups in
+      let joined = length-append w.packets (starts (next_id w c) q q.groups) in
+      let starts = length-starts (next_id w c) q q.groups in
+      let all = total-append p.list.dues (dues_of (next_id w c) n q.groups) in
+      let more = starts_and_dues (next_id w c) n q.groups in
+      let square : length q.groups * suc n ≡ length q.groups * length q.groups = ap (λ k. length q.groups * k) others in
       let paid = p.paid in omega arith;
 }
 
 paid_submitted_to : (w : World) (c : ℕ) (command : Command) (gs : List ℕ) (m a : ℕ) → Paid w m a →
     Paid (submitted_to w c command gs) m (a + allowed_to gs)
-paid_submitted_to w c command [] m a p = record { ids = p.ids; asked = p.asked; paid = let paid = p.paid in omega arith }
+paid_submitted_to w c command [] m a p =
+    record { list = p.list; paid = let paid = p.paid in omega arith }
 paid_submitted_to w c command (g ∷ gs) m a p =
-    paid_multicast w c (record { floor = floor_of w c; groups = g ∷ gs; command = command }) m a p
+    paid_multicast w c (record { floor = floor_of w c; groups = g ∷ gs; command = command }) (length gs) m a refl p
 
 paid_submitted : (t : Layout) (w : World) (c : ℕ) (r : Result Command Refusal) (m a : ℕ) → Paid w m a →
     Paid (submitted t w c r) m (a + allowed_by t r)
 paid_submitted t w c (Ok command) m a p = paid_submitted_to w c command (groups_of t command) m a p
-paid_submitted t w c (Err refusal) m a p = record { ids = p.ids; asked = p.asked; paid = let paid = p.paid in omega arith }
+paid_submitted t w c (Err refusal) m a p = record { list = p.list; paid = let paid = p.paid in omega arith }
 
 some_taken : (ds : List Delivered) → ds ≢ [] → 1 ≤ length ds
 some_taken [] some = absurd (some refl)
@@ -163,7 +292,7 @@ paid_take old new effect m a step p =
     let paid = p.paid in
     let before = length-append (all_delivered old.ended) [] in
     let now = length-append (all_delivered old.ended) step.layer in
-    subst (λ w. Paid w (m + 1) a) (sym step.after) (record { ids = p.ids; asked = p.asked; paid = omega arith })
+    subst (λ w. Paid w (m + 1) a) (sym step.after) (record { list = p.list; paid = omega arith })
 
 paid_run : (old new : World) (starved : List RequestId) (effect : Effect) (m a : ℕ) → RunsLayer old starved effect new → Paid old m a →
     Paid new (m + 1) a
@@ -173,14 +302,14 @@ paid_run old new starved effect m a step p =
     let same = ap (λ (ds : List Delivered). length ds)
     (taken_run old.asked starved old.contents old.ended step.outcomes step.layer step.in_turn) in
     let paid = p.paid in
-    subst (λ w. Paid w (m + 1) a) (sym step.after) (record { ids = p.ids; asked = p.asked; paid = omega arith })
+    subst (λ w. Paid w (m + 1) a) (sym step.after) (record { list = p.list; paid = omega arith })
 
 paid_settle : (old new : World) (effect : Effect) (m a : ℕ) → Settles old effect new → Paid old m a → Paid new (m + 1) a
 paid_settle old new effect m a step p =
     let one = ap layer_weight step.there in
     let was = ap (λ l. length (all_taken old.ended l)) step.there in
     let paid = p.paid in
-    subst (λ w. Paid w (m + 1) a) (sym step.after) (record { ids = p.ids; asked = p.asked; paid = omega arith })
+    subst (λ w. Paid w (m + 1) a) (sym step.after) (record { list = p.list; paid = omega arith })
 
 paid_collects : (old new : World) (c : ℕ) (s : Standing) (effect : Effect) (m a : ℕ) → Collects s old c effect new → Paid old m a →
     Paid new m a
@@ -188,7 +317,7 @@ paid_collects old new c Closed effect m a step p = absurd step
 paid_collects old new c Idle effect m a step p = subst (λ w. Paid w m a) (sym step.1) p
 paid_collects old new c Waiting effect m a step p = subst (λ w. Paid w m a) (sym step.1) p
 paid_collects old new c (Answered o) effect m a step p = subst (λ w. Paid w m a) (sym step.1)
-    (record { ids = p.ids; asked = p.asked; paid = p.paid })
+    (record { list = p.list; paid = p.paid })
 
 more_by : (w : World) (m n a b : ℕ) → m ≡ n → a ≡ b → Paid w m a → Paid w n b
 more_by w m n a b e d p = subst (λ k. Paid w k b) e (subst (λ k. Paid w m k) d p)
@@ -196,7 +325,7 @@ more_by w m n a b e d p = subst (λ k. Paid w k b) e (subst (λ k. Paid w m k) d
 paid_step : (t : Layout) (old new : World) (step : Step) (effect : Effect) (m a : ℕ) → Steps t old step effect new → WorldGood t old →
     Paid old m a → Paid new (m + turn step) (a + allowance t step)
 paid_step t old new Open effect m a s good p = subst (λ w. Paid w (m + 0) (a + 0)) (sym s.after)
-    (more_by _ m (m + 0) a (a + 0) (omega arith) (omega arith) (record { ids = p.ids; asked = p.asked; paid = p.paid }))
+    (more_by _ m (m + 0) a (a + 0) (omega arith) (omega arith) (record { list = p.list; paid = p.paid }))
 paid_step t old new (Submit conn words) effect m a s good p =
     subst (λ w. Paid w (m + 0) (a + allowed_by t (reading words))) (sym s.after)
     (more_by _ m (m + 0) _ _ (omega arith) refl (paid_submitted t old conn.0 (reading words) m a p))
@@ -210,7 +339,7 @@ paid_step t old new Settle effect m a s good p = more_by new (m + 1) (m + 1) a (
 paid_step t old new (Collect conn) effect m a s good p = more_by new m (m + 0) a (a + 0) (omega arith) (omega arith)
     (paid_collects old new conn.0 (old.standing conn.0) effect m a s p)
 paid_step t old new (Close conn) effect m a s good p = subst (λ w. Paid w (m + 0) (a + 0)) (sym s.after)
-    (more_by _ m (m + 0) a (a + 0) (omega arith) (omega arith) (record { ids = p.ids; asked = p.asked; paid = p.paid }))
+    (more_by _ m (m + 0) a (a + 0) (omega arith) (omega arith) (record { list = p.list; paid = p.paid }))
 
 paid_steps : (t : Layout) (old new : World) (steps : List Step) (effects : List Effect) (m a : ℕ) → Makes t old steps effects new →
     WorldGood t old → Paid old m a → Paid new (m + turns steps) (a + allowances t steps)
@@ -223,11 +352,6 @@ paid_steps t old new (s ∷ ss) (e ∷ es) m a made good p =
     (paid_step t old made.0 s e m a made.1 good p))
 
 -- ---- no more was taken than submitted
-
-split_in : {X : Type 0} (x : X) (ys : List X) → In x ys → (front back : List X) × (ys ≡ front ++ x ∷ back)
-split_in x [] there = absurd there
-split_in x (y ∷ ys) (inl same) = ([], ys, ap (λ z. z ∷ ys) (sym same))
-split_in x (y ∷ ys) (inr there) = let rest = split_in x ys there in (y ∷ rest.0, rest.1, ap (λ l. y ∷ l) rest.2)
 
 -- a list of different ids is no longer than one that has them all
 once_fits : (xs ys : List RequestId) → EachOnce xs → ((i : RequestId) → In i xs → In i ys) → length xs ≤ length ys
@@ -278,7 +402,15 @@ taken_at_most t w ids good asked =
 pub turns_are_bounded : TurnsAreBounded
 turns_are_bounded t steps w leads =
     let p = paid_steps t opening w steps leads.0 0 0 leads.1 (good_opening t)
-    (record { ids = []; asked = λ i q e. absurd (None≢Some q e); paid = omega arith }) in
-    let fits = taken_at_most t w p.ids (good_world t steps w leads) p.asked in
+    (record {
+      list = record {
+        ids = [];
+        named = λ i q e. absurd (None≢Some q e);
+        dues = [];
+        covers = λ i q g e member none. absurd (None≢Some q e);
+      };
+      paid = omega arith;
+    }) in
+    let fits = taken_at_most t w p.list.ids (good_world t steps w leads) p.list.named in
     let paid = p.paid in
     omega arith

@@ -11,7 +11,7 @@ use Rattle.skeen_core.specs.declared.packet.Delivered.{Delivered}
 use Rattle.groups.specs.declared.request.RequestId.{RequestId}
 use Rattle.world.specs.Steps.{at, asks, outcome_of, given, settled}
 use Rattle.world.specs.World.{Request, Outcome, Standing, Closed, Idle, Waiting, Answered, Ended, Layer, NoneTaken, Taken, HasRun}
-use Rattle.world_laws.specs.Good.{Asked, Named, Pending, OutcomeGood, ConnectionsGood}
+use Rattle.world_laws.specs.Good.{Asked, run_in, Named, EarlierEnded, Pending, OutcomeGood, ConnectionsGood}
 use Rattle.world_laws.proofs.Groups.{by_test}
 use Rattle.std.proofs.lemmas.Bool.{cond-true, cond-false}
 use Rattle.world_laws.proofs.Values.{same_request, idle_open, idle_not_waiting, answered_open, answered_not_waiting, idle_not_answered}
@@ -215,6 +215,35 @@ connections_close opened standing seq last asked ended layer c good = record {
 
 pub named_left : (xs ys : List Ended) (i : RequestId) → Named xs i → Named (xs ++ ys) i
 named_left xs ys i n = (n.0, In-left n.0 xs ys n.1, n.2)
+
+-- before a connection asks, all that it asked has ended
+pub earlier_multicast : (opened : ℕ) (standing : ℕ → Standing) (seq : ℕ → ℕ) (last : ℕ → Option RequestId) (asked : Asked)
+    (ended : List Ended) (layer : Layer) (c : ℕ) (q : Request) → standing c ≡ Idle →
+    ((i : RequestId) (q : Request) → asked i ≡ Some q → (0 < i.seq) × (i.seq ≤ seq i.conn.0)) →
+    ConnectionsGood opened standing seq last asked ended layer → EarlierEnded asked ended →
+    EarlierEnded (asks asked (record { conn = record { 0 = c }; seq = suc (seq c) }) q) ended
+earlier_multicast opened standing seq last asked ended layer c q idle fresh good before i j r s conns less e d =
+    by_test (same_id i id) q (asked i) r (Named ended i) e
+    (λ p same.
+    let at_id = same_id-true i id p in
+    let seq_i = ap (λ k. k.seq) at_id in let conn_i = ap (λ k. k.conn.0) at_id in
+    by_test (same_id j id) q (asked j) s (Named ended i) d
+    (λ p' same'. let seq_j = ap (λ k. k.seq) (same_id-true j id p') in absurd (omega arith))
+    (λ p' old'.
+    let low = (fresh j s old').1 in
+    let at_c : seq j.conn.0 ≡ seq c = ap seq (sym conns ∙ conn_i) in
+    absurd (omega arith)))
+    (λ p old. by_test (same_id j id) q (asked j) s (Named ended i) d
+    (λ p' same'.
+    let conn_j = ap (λ k. k.conn.0) (same_id-true j id p') in
+    elim (good.pending i r old) [
+      | inl done ↦ subst (λ es. Named es i) (sym good.split) (named_left good.settled (run_in layer) i done)
+      | inr pend ↦ absurd (not_pending standing seq i Idle (ap standing (conns ∙ conn_j) ∙ idle) idle_open idle_not_waiting pend)
+    ])
+    (λ p' old'. before i j r s conns less old old'))
+  where
+    id : RequestId
+    id = record { conn = record { 0 = c }; seq = suc (seq c) }
 
 outcome_more : (seq : ℕ → ℕ) (xs ys : List Ended) (c : ℕ) (o : Outcome) → OutcomeGood seq xs c o → OutcomeGood seq (xs ++ ys) c o
 outcome_more seq xs ys c o good = record {

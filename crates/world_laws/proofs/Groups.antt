@@ -1,6 +1,6 @@
 -- One group: what is known of it survives what the others do, and each packet that comes to it.
-use Rattle.std.proofs.Common.{◌≡◌, ℕ, ◌≤◌, ◌==◌, ◌&&◌, Bool, true, false, cond, List, ◌++◌, inl, inr, Option}
-use Rattle.std.proofs.Common.{Some, None, refl, sym, ap}
+use Rattle.std.proofs.Common.{◌≡◌, ℕ, ◌≤◌, ◌==◌, ◌&&◌, Bool, true, false, cond, List, ◌++◌, ◌⊎◌, inl, inr, Option}
+use Rattle.std.proofs.Common.{Some, None, IsSome, refl, sym, ap}
 use Rattle.std.proofs.Common.{◌∙◌, subst, arith, eqb-true}
 use Rattle.std.proofs.lemmas.Bool.{cases_Bool, and_parts}
 use Rattle.std.specs.FinMap.{get}
@@ -9,9 +9,11 @@ use Rattle.skeen_core.proofs.Ahead.{Ahead, ahead_start, ahead_proposal, ahead_de
 use Rattle.skeen_core.proofs.Finite.{started-with_start, heard-with_start, heard-with_proposal}
 use Rattle.groups.proofs.Ids.{same_id-true}
 use Rattle.skeen_core.proofs.Lawful.{lift_grows, sound_start, sound_proposal, lawful_without, kept_heard, kept_started}
-use Rattle.groups.proofs.Lists.{In-append}
+use Rattle.skeen_core.proofs.Lawful.{some_is, named, still_started, stays_started}
+use Rattle.groups.proofs.Lists.{In-left, In-right, In-append}
 use Rattle.groups.proofs.Stamps.{final_within}
 use Rattle.skeen_core.specs.Group.{GroupState, heard, next_clock, with_start, with_proposal, final_of, lifted, Ascending, Delivers, without}
+use Rattle.skeen_core.specs.Group.{has_id}
 use Rattle.skeen_core.specs.Lawful.{Sound}
 use Rattle.groups.specs.Order.{In}
 use Rattle.groups.specs.Request.{same_id}
@@ -19,7 +21,7 @@ use Rattle.skeen_core.specs.declared.packet.Delivered.{Delivered}
 use Rattle.groups.specs.declared.request.RequestId.{RequestId}
 use Rattle.world.specs.Steps.{hears}
 use Rattle.world.specs.World.{Request, Proposals}
-use Rattle.world_laws.specs.Good.{Asked, Addressed, Known, Among, GroupGood}
+use Rattle.world_laws.specs.Good.{Asked, Addressed, Known, Among, IsOut, GroupGood}
 use Rattle.std.proofs.lemmas.Bool.{cond-true, cond-false}
 use Rattle.groups.proofs.Options.{some_same}
 
@@ -51,6 +53,7 @@ group_grows asked asked' proposed proposed' me grp log more among mine good = re
   clock = λ i n e. good.clock i n (mine i n e);
   apart = λ i j n e d. good.apart i j n (mine i n e) (mine j n d);
   started = λ i gs e. addressed_more asked asked' i gs more (good.started i gs e);
+  begun = λ i n e. good.begun i n (mine i n e);
   known = λ d there. known_more asked asked' proposed proposed' d more among (good.known d there);
   member = good.member;
 }
@@ -65,6 +68,7 @@ pub record MidGood (asked : Asked) (proposed : Proposals) (me : ℕ) (grp : Grou
   pub clock : (i : RequestId) (n : ℕ) → proposed i me ≡ Some n → n ≤ grp.clock
   pub apart : (i j : RequestId) (n : ℕ) → proposed i me ≡ Some n → proposed j me ≡ Some n → i ≡ j
   pub started : (i : RequestId) (gs : List ℕ) → get grp.started i ≡ Some gs → Addressed asked i gs
+  pub begun : (i : RequestId) (n : ℕ) → proposed i me ≡ Some n → IsSome (get grp.started i) ⊎ IsOut log i
   pub known : (d : Delivered) → In d log → Known asked proposed d
   pub member : (d : Delivered) → In d log → has d.groups me ≡ true
 
@@ -115,6 +119,14 @@ mid_start asked proposed me grp log id floor groups good named member none = rec
       (sym (started-with_start me grp id floor groups i) ∙ e)
       (λ p same. subst (λ hs. Addressed asked i hs) same (subst (λ j. Addressed asked j groups) (sym (same_id-true i id p)) named))
       (λ p old. good.started i gs old);
+  begun = λ i n e. by_test (same_id i id && me == me) new (proposed i me) n
+      (IsSome (get (with_start me grp id floor groups).started i) ⊎ IsOut log i) e
+      (λ p same. inl (some_is _ groups (started-with_start me grp id floor groups i
+      ∙ cond-true (same_id i id) (Some groups) (get grp.started i) (and_parts (same_id i id) (me == me) p).0)))
+      (λ p old. elim (good.begun i n old) [
+        | inl there ↦ inl (stays_started me grp id floor groups i there)
+        | inr out ↦ inr out
+      ]);
   known = λ d there. known_more asked asked proposed (hears proposed id me new) d (λ i q e. e) (among_hears proposed id me new none)
       (good.known d there);
   member = good.member;
@@ -145,6 +157,7 @@ mid_proposal asked proposed me grp log id from n good other told single = record
       omega (arith, lift_grows grp.clock (final_of (with_proposal grp id from n) id (get grp.started id)));
   apart = good.apart;
   started = good.started;
+  begun = good.begun;
   known = good.known;
   member = good.member;
 }
@@ -156,6 +169,15 @@ mid_proposal asked proposed me grp log id from n good other told single = record
     agrees m e = some_same m n (sym (good.heard id from m e) ∙ told)
 
 -- ---- what is delivered
+
+pub out_left : (xs ys : List Delivered) (i : RequestId) → IsOut xs i → IsOut (xs ++ ys) i
+out_left xs ys i o = (o.0, In-left o.0 xs ys o.1, o.2)
+
+pub out_right : (xs ys : List Delivered) (i : RequestId) → IsOut ys i → IsOut (xs ++ ys) i
+out_right xs ys i o = (o.0, In-right o.0 xs ys o.1, o.2)
+
+pub out_named : (ds : List Delivered) (i : RequestId) → has_id ds i ≡ true → IsOut ds i
+out_named ds i e = let n = named ds i e in (n.one, n.there, n.id)
 
 pub delivers_good : (asked : Asked) (proposed : Proposals) (me : ℕ) (grp : GroupState) (log ds : List Delivered) →
     MidGood asked proposed me grp log → Delivers me grp ds →
@@ -170,6 +192,13 @@ delivers_good asked proposed me grp log ds mid delivers = record {
   clock = mid.clock;
   apart = mid.apart;
   started = λ i gs e. mid.started i gs (kept_started grp ds i gs e).1;
+  begun = λ i n e. elim (mid.begun i n e) [
+    | inr out ↦ inr (out_left log ds i out)
+    | inl there ↦ elim (cases_Bool (has_id ds i)) [
+      | inl gone ↦ inr (out_right log ds i (out_named ds i gone))
+      | inr stays ↦ inl (subst (λ o. IsSome o) (sym (still_started grp ds i stays)) there)
+    ]
+  ];
   known = λ d there. elim (In-append d log ds there) [
     | inl before ↦ mid.known d before
     | inr now ↦ let may = delivers.only d now in record {

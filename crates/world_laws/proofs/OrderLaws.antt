@@ -1,8 +1,7 @@
 -- The laws of order, read off what every world is like.
-use Rattle.std.proofs.Common.{◌≡◌, ℕ, ◌+◌, ◌≤◌, ◌==◌, Bool, true, false, List, [], ◌∷◌, ◌++◌, inl, inr, Option, Some, Result, Ok, Err}
+use Rattle.std.proofs.Common.{◌≡◌, ℕ, ◌≤◌, ◌==◌, true, false, List, [], ◌∷◌, ◌++◌, inl, inr, Some, Result, Ok, Err}
 use Rattle.std.proofs.Common.{refl, sym, ap, ◌∙◌, subst, arith, eqb-true, append-nil, append_assoc}
 use Rattle.std.proofs.lemmas.Bool.{cases_Bool}
-use Rattle.std.specs.Option.{is_some}
 use Rattle.command_table.specs.Reading.{reading}
 use Rattle.command_table.specs.declared.command.Command.{Command}
 use Rattle.command_table.specs.declared.refusal.Refusal.{Refusal}
@@ -22,7 +21,7 @@ use Rattle.groups.specs.declared.request.RequestId.{RequestId}
 use Rattle.groups.specs.declared.stamp.Stamp.{Stamp}
 use Rattle.world.specs.Steps.{Effect, submitted_to, submitted, Comes, Collects}
 use Rattle.world.specs.World.{World, Request, Standing, Closed, Idle, Waiting, Answered, Ended, Proposals}
-use Rattle.world_laws.specs.Good.{Rising, Asked, Known, BodyGood, bit, starts_of, addresses, log_of, delivered_of, all_delivered, taken_in}
+use Rattle.world_laws.specs.Good.{Rising, Asked, Known, BodyGood, log_of, delivered_of, all_delivered, taken_in}
 use Rattle.world_laws.specs.Good.{all_taken, Touching, TakenGood, WorldGood}
 use Rattle.world_laws.specs.Order.{HasFinal, GroupsAgree, FinalIsGreatest, FinalIsProposed, FinalStampsDiffer, StampsOfConnectionRise}
 use Rattle.world_laws.specs.Order.{ClockIsAboveProposals, ClockIsAboveDeliveries, ClocksAreBounded, DeliveriesAscend, AskedOfItsGroups}
@@ -74,20 +73,12 @@ final_is_greatest t steps w leads i q s it g member =
     let above = final_above (w.proposed i) q.groups s g it.stamp member in
     (above.clock, above.heard, above.within)
 
-bit_one : (b : Bool) (n : ℕ) → n + 1 ≡ bit b → b ≡ true
-bit_one true n e = refl
-bit_one false n e = absurd (omega arith)
-
-has_of : (asked : Option Request) (q : Request) (g : ℕ) → asked ≡ Some q → addresses asked g ≡ true → has q.groups g ≡ true
-has_of asked q g is there = subst (λ o. addresses o g ≡ true) is there
-
 -- who has proposed is addressed
 pub proposed_addressed : (t : Layout) (w : World) → WorldGood t w → (i : RequestId) (q : Request) (g n : ℕ) → w.asked i ≡ Some q →
     w.proposed i g ≡ Some n → has q.groups g ≡ true
 proposed_addressed t w good i q g n named told =
-    let count = good.skeen.counted i g in
-    let one : bit (is_some (w.proposed i g)) ≡ 1 = ap (λ o. bit (is_some o)) told in
-    has_of (w.asked i) q g named (bit_one (addresses (w.asked i) g) (starts_of i g w.packets) (omega arith))
+    let made = good.skeen.made i g n told in
+    subst (λ (x : Request). has x.groups g ≡ true) (some_same made.0 q (sym made.1 ∙ named)) made.3
 
 pub final_told : (t : Layout) (w : World) → WorldGood t w → (i : RequestId) (q : Request) (s : Stamp) → HasFinal w i q s →
     w.proposed i s.group ≡ Some s.clock

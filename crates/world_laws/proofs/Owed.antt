@@ -26,8 +26,8 @@ use Rattle.groups.specs.declared.request.RequestId.{RequestId}
 use Rattle.world.specs.Steps.{at, starts, opening, Effect, next_id, floor_of, multicast, submitted_to, submitted, hears, with_own}
 use Rattle.world.specs.Steps.{now_proposed, Comes, Takes, RunsLayer, Settles, Collects, Steps, Makes, Leads}
 use Rattle.world.specs.World.{World, Request, Standing, Closed, Idle, Waiting, Answered, Proposals}
-use Rattle.world_laws.specs.Good.{Asked, BodyGood, bit, starts_of, addresses, log_of, SkeenGood, all_delivered, all_taken, WorldGood}
-use Rattle.world_laws.specs.Quiet.{IsOut, told_by, GroupOwes, OwesGood}
+use Rattle.world_laws.specs.Good.{Asked, IsOut, BodyGood, bit, starts_of, addresses, log_of, SkeenGood, all_delivered, all_taken, WorldGood}
+use Rattle.world_laws.specs.Quiet.{told_by, GroupOwes, OwesGood}
 use Rattle.world_laws.proofs.ConditionLaws.{delivered_same}
 use Rattle.world_laws.proofs.Groups.{by_test}
 use Rattle.world_laws.proofs.Layers.{log_taken, taken_run}
@@ -125,7 +125,6 @@ owes_deliver t old new k effect step good owes =
 owes_multicast : (t : Layout) (w : World) (c : ℕ) (q : Request) → WorldGood t w → Owes w → Owes (multicast w c q)
 owes_multicast t w c q good owes = record {
   groups = λ g. record {
-    begun = (owes.groups g).begun;
     told = λ i r h n named_ member e. by_test (same_id i (next_id w c)) q (w.asked i) r ((heard (w.group g) i h ≡ Some n)
         ⊎ (In (told_by g i h n) (w.packets ++ starts (next_id w c) q q.groups) ⊎ IsOut (log_of w g) i)) named_
         (λ p new.
@@ -229,7 +228,7 @@ owes_steps t old new (s ∷ ss) (e ∷ es) made good owes =
 
 owes_opening : Owes opening
 owes_opening = record {
-  groups = λ g. record { begun = λ i n e. absurd (None≢Some n e); told = λ i q h n named_ member e. absurd (None≢Some n e) };
+  groups = λ g. record { told = λ i q h n named_ member e. absurd (None≢Some n e) };
   taken = λ g d there. absurd there;
 }
 

@@ -1,13 +1,12 @@
 -- What is owed is kept by each step.
-use Rattle.std.proofs.Common.{◌≡◌, ℕ, ◌==◌, ◌&&◌, true, false, cond, List, [], ◌∷◌, ◌++◌, ◌⊎◌, inl, inr, Some, None, IsSome, refl, sym, ap}
+use Rattle.std.proofs.Common.{◌≡◌, ℕ, ◌==◌, ◌&&◌, true, false, cond, List, [], ◌∷◌, ◌++◌, ◌⊎◌, inl, inr, Some, None, refl, sym, ap}
 use Rattle.std.proofs.Common.{◌∙◌, subst, eqb-true, eq-eqb}
 use Rattle.std.proofs.lemmas.Bool.{both_ways, cases_Bool, or_cases, and_parts, and_from}
-use Rattle.std.specs.FinMap.{get}
 use Rattle.groups.specs.GroupSet.{has}
-use Rattle.skeen_core.proofs.Finite.{started-with_start, heard-with_start, heard-with_proposal}
+use Rattle.skeen_core.proofs.Finite.{heard-with_start, heard-with_proposal}
 use Rattle.groups.proofs.Ids.{same_id-true, same_id-refl}
-use Rattle.skeen_core.proofs.Lawful.{some_is, named, still_started, still_heard, stays_started}
-use Rattle.groups.proofs.Lists.{In-left, In-right, In-append}
+use Rattle.skeen_core.proofs.Lawful.{still_heard}
+use Rattle.groups.proofs.Lists.{In-right}
 use Rattle.skeen_core.specs.Group.{GroupState, heard, next_clock, with_start, with_proposal, lifted, Delivering, has_id, tell}
 use Rattle.groups.specs.Order.{In}
 use Rattle.groups.specs.Request.{same_id}
@@ -17,29 +16,18 @@ use Rattle.skeen_core.specs.declared.packet.Packet.{Packet}
 use Rattle.groups.specs.declared.request.RequestId.{RequestId}
 use Rattle.world.specs.Steps.{hears}
 use Rattle.world.specs.World.{Request, Proposals}
-use Rattle.world_laws.specs.Good.{Asked}
-use Rattle.world_laws.specs.Quiet.{IsOut, told_by, GroupOwes}
-use Rattle.world_laws.proofs.Groups.{by_test}
+use Rattle.world_laws.specs.Good.{Asked, IsOut}
+use Rattle.world_laws.specs.Quiet.{told_by, GroupOwes}
+use Rattle.world_laws.proofs.Groups.{by_test, out_left, out_right, out_named}
+use Rattle.world_laws.proofs.Receipts.{still_sent}
 use Rattle.std.proofs.lemmas.Bool.{cond-true, cond-false}
 use Rattle.groups.proofs.Options.{some_same}
-
--- ---- delivered ones
-
-out_left : (xs ys : List Delivered) (i : RequestId) → IsOut xs i → IsOut (xs ++ ys) i
-out_left xs ys i o = (o.0, In-left o.0 xs ys o.1, o.2)
-
-out_right : (xs ys : List Delivered) (i : RequestId) → IsOut ys i → IsOut (xs ++ ys) i
-out_right xs ys i o = (o.0, In-right o.0 xs ys o.1, o.2)
-
-out_named : (ds : List Delivered) (i : RequestId) → has_id ds i ≡ true → IsOut ds i
-out_named ds i e = let n = named ds i e in (n.one, n.there, n.id)
 
 -- ---- the group that delivers: what it had of a request it has still, or the request is out
 
 -- the group's own debts, where those of its state before the delivery are these
 pub record MidOwes (asked : Asked) (proposed : Proposals) (packets : List Packet) (g : ℕ) (mid : GroupState)
     (log : List Delivered) : Type 0 where
-  pub begun : (i : RequestId) (n : ℕ) → proposed i g ≡ Some n → IsSome (get mid.started i) ⊎ IsOut log i
   pub told : (i : RequestId) (q : Request) (h n : ℕ) → asked i ≡ Some q → has q.groups g ≡ true → proposed i h ≡ Some n →
       (heard mid i h ≡ Some n) ⊎ (In (told_by g i h n) packets ⊎ IsOut log i)
 
@@ -48,13 +36,6 @@ pub owes_delivers : (asked : Asked) (proposed : Proposals) (packets : List Packe
     GroupOwes asked proposed packets g state (log ++ ds)
 owes_delivers asked proposed packets g mid state log ds owes delivering = subst (λ s. GroupOwes asked proposed packets g s (log ++ ds))
     (sym delivering.after) (record {
-      begun = λ i n e. elim (owes.begun i n e) [
-        | inr out ↦ inr (out_left log ds i out)
-        | inl there ↦ elim (cases_Bool (has_id ds i)) [
-          | inl gone ↦ inr (out_right log ds i (out_named ds i gone))
-          | inr stays ↦ inl (subst (λ o. IsSome o) (sym (still_started mid ds i stays)) there)
-        ]
-      ];
       told = λ i q h n named_ member e. elim (owes.told i q h n named_ member e) [
         | inr (inl sent) ↦ inr (inl sent)
         | inr (inr out) ↦ inr (inr (out_left log ds i out))
@@ -66,14 +47,6 @@ owes_delivers asked proposed packets g mid state log ds owes delivering = subst 
     })
 
 -- ---- packets
-
--- what was sent is still under way, or it is the packet that came
-still_sent : (x p : Packet) (front back sent : List Packet) → In x (front ++ p ∷ back) → (x ≡ p) ⊎ In x ((front ++ back) ++ sent)
-still_sent x p front back sent there = elim (In-append x front (p ∷ back) there) [
-  | inl before ↦ inr (In-left x (front ++ back) sent (In-left x front back before))
-  | inr (inl same) ↦ inl same
-  | inr (inr after) ↦ inr (In-left x (front ++ back) sent (In-right x front back after))
-]
 
 -- each other group of the request is told
 in_tell : (me : ℕ) (id : RequestId) (n : ℕ) (gs : List ℕ) (g : ℕ) → has gs g ≡ true → (g == me) ≡ false → In (told_by g id me n)
@@ -108,10 +81,6 @@ pub start_owes : (asked : Asked) (proposed : Proposals) (packets : List Packet) 
     GroupOwes asked (hears proposed id to (next_clock (group to) floor))
     ((front ++ back) ++ tell to id (next_clock (group to) floor) groups) g (group g) (log g)
 start_owes asked proposed packets group log to id floor groups front back q whole named_ same none heard_in owes g other = record {
-  begun = λ i n e. by_test (same_id i id && g == to) (next_clock (group to) floor) (proposed i g) n (IsSome (get (group g).started i)
-      ⊎ IsOut (log g) i) e
-      (λ p new. absurd (both_ways _ other (and_parts (same_id i id) (g == to) p).1))
-      (λ p old. (owes g).begun i n old);
   told = λ i r h n asked_ member e. by_test (same_id i id && h == to) (next_clock (group to) floor) (proposed i h) n
       ((heard (group g) i h ≡ Some n)
       ⊎ (In (told_by g i h n) ((front ++ back) ++ tell to id (next_clock (group to) floor) groups) ⊎ IsOut (log g) i)) e
@@ -145,14 +114,6 @@ pub start_mid_owes : (asked : Asked) (proposed : Proposals) (packets : List Pack
     MidOwes asked (hears proposed id to (next_clock grp floor))
     ((front ++ back) ++ sent) to (lifted (with_start to grp id floor groups) id) log
 start_mid_owes asked proposed packets grp log to id floor groups front back sent whole none heard_in owes = record {
-  begun = λ i n e. by_test (same_id i id && to == to) (next_clock grp floor)
-      (proposed i to) n (IsSome (get (with_start to grp id floor groups).started i) ⊎ IsOut log i) e
-      (λ p new. inl (some_is _ groups (started-with_start to grp id floor groups i
-      ∙ cond-true (same_id i id) (Some groups) (get grp.started i) (and_parts (same_id i id) (to == to) p).0)))
-      (λ p old. elim (owes.begun i n old) [
-        | inl there ↦ inl (stays_started to grp id floor groups i there)
-        | inr out ↦ inr out
-      ]);
   told = λ i r h n asked_ member e. by_test (same_id i id && h == to) (next_clock grp floor) (proposed i h) n
       ((heard (with_start to grp id floor groups) i h ≡ Some n) ⊎ (In (told_by to i h n) ((front ++ back) ++ sent) ⊎ IsOut log i)) e
       (λ p new. inl (heard-with_start to grp id floor groups i h ∙ cond-true (same_id i id && h == to) (Some (next_clock grp floor))
@@ -177,7 +138,6 @@ pub proposal_owes : (asked : Asked) (proposed : Proposals) (packets : List Packe
     packets ≡ front ++ told_by to id from n ∷ back → (g == to) ≡ false → GroupOwes asked proposed packets g grp log →
     GroupOwes asked proposed ((front ++ back) ++ sent) g grp log
 proposal_owes asked proposed packets grp log to id from n front back sent g whole other owes = record {
-  begun = owes.begun;
   told = λ i r h m asked_ member e. elim (owes.told i r h m asked_ member e) [
     | inl there ↦ inl there
     | inr (inr out) ↦ inr (inr out)
@@ -194,7 +154,6 @@ pub proposal_mid_owes : (asked : Asked) (proposed : Proposals) (packets : List P
     packets ≡ front ++ told_by to id from n ∷ back → proposed id from ≡ Some n → GroupOwes asked proposed packets to grp log →
     MidOwes asked proposed ((front ++ back) ++ sent) to (lifted (with_proposal grp id from n) id) log
 proposal_mid_owes asked proposed packets grp log to id from n front back sent whole told_ owes = record {
-  begun = owes.begun;
   told = λ i r h m asked_ member e. elim (cases_Bool (same_id i id && h == from)) [
     | inl p ↦
         let parts = and_parts (same_id i id) (h == from) p in

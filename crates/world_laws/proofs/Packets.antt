@@ -1,7 +1,7 @@
 -- Packets under way: how many Starts there are, and what is sent.
 use Rattle.std.proofs.Common.{◌≡◌, ℕ, ◌+◌, ◌==◌, ◌&&◌, ◌||◌, true, false, cond, List, [], ◌∷◌, ◌++◌, inl, inr, Some, refl, sym, ap, subst}
 use Rattle.std.proofs.Common.{arith, eqb-true, eq-eqb}
-use Rattle.std.proofs.lemmas.Bool.{both_ways, cases_Bool, and_right, or_parts, or_left, or_right}
+use Rattle.std.proofs.lemmas.Bool.{both_ways, cases_Bool, and_right, or_cases, or_parts, or_left, or_right}
 use Rattle.groups.specs.GroupSet.{has, IsAscending}
 use Rattle.skeen_core.specs.Group.{tell}
 use Rattle.groups.specs.Order.{In}
@@ -12,7 +12,7 @@ use Rattle.skeen_core.specs.declared.packet.Packet.{Packet}
 use Rattle.groups.specs.declared.request.RequestId.{RequestId}
 use Rattle.world.specs.Steps.{starts}
 use Rattle.world.specs.World.{Request, Proposals}
-use Rattle.world_laws.specs.Good.{Asked, Among, BodyGood, PacketGood, bit, starts_it, starts_of}
+use Rattle.world_laws.specs.Good.{Asked, Among, BodyGood, PacketGood, bit, starts_it, starts_of, start_to}
 use Rattle.world_laws.proofs.Groups.{AskedMore}
 
 -- ---- what is good stays good
@@ -97,6 +97,14 @@ starts_of-new i g id q (h ∷ hs) up = elim (cases_Bool (h == g)) [
       let whole : bit (same_id i id && (h == g || has hs g)) ≡ bit (same_id i id && has hs g) =
       ap (λ b. bit (same_id i id && (b || has hs g))) e in
       omega arith
+]
+
+-- each of its groups is sent one
+pub in_starts : (id : RequestId) (q : Request) (gs : List ℕ) (g : ℕ) → has gs g ≡ true → In (start_to g id q) (starts id q gs)
+in_starts id q [] g there = absurd (both_ways false refl there)
+in_starts id q (h ∷ hs) g there = elim (or_cases (h == g) (has hs g) there) [
+  | inl here ↦ inl (ap (λ k. start_to k id q) (sym (eqb-true h g here)))
+  | inr later ↦ inr (in_starts id q hs g later)
 ]
 
 pub starts_good : (asked : Asked) (proposed : Proposals) (id : RequestId) (q : Request) (gs : List ℕ) → asked id ≡ Some q →

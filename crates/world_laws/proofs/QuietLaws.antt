@@ -1,9 +1,8 @@
 -- In a quiet world each request has ended: the one with the least stamp of all that haven't would be ready.
-use Rattle.std.proofs.Common.{◌≡◌, ℕ, zero, suc, ◌<◌, ◌≤◌, ◌==◌, nat_lt, Bool, true, false, List, [], ◌∷◌, ◌⊎◌, inl, inr, Option, Some}
+use Rattle.std.proofs.Common.{◌≡◌, ℕ, zero, suc, ◌<◌, ◌≤◌, ◌==◌, nat_lt, true, false, List, [], ◌∷◌, ◌⊎◌, inl, inr, Option, Some}
 use Rattle.std.proofs.Common.{None, IsSome, length, refl, sym, ap, ◌∙◌, subst, arith, eq-eqb, ltb-true}
 use Rattle.std.proofs.lemmas.Bool.{both_ways, cases_Bool, cases_order, or_left, or_right, and_parts}
 use Rattle.std.specs.FinMap.{get}
-use Rattle.std.specs.Option.{is_some}
 use Rattle.delivery.specs.Ready.{IsReady}
 use Rattle.groups.specs.GroupSet.{has}
 use Rattle.groups.specs.GroupSetLaws.{has-chosen}
@@ -21,8 +20,8 @@ use Rattle.groups.specs.declared.request.RequestId.{RequestId}
 use Rattle.groups.specs.declared.stamp.Stamp.{Stamp}
 use Rattle.world.specs.Steps.{OwnFault, Busy, NoConn, NoPacket, InFlight, NoLayer, IsInFlight, NothingToRun, NothingToSettle, Refused}
 use Rattle.world.specs.World.{World, Request, Ended, Layer, NoneTaken, Taken, HasRun}
-use Rattle.world_laws.specs.Good.{Known, GroupGood, bit, starts_of, addresses, log_of, Named, all_delivered, all_taken, WorldGood}
-use Rattle.world_laws.specs.Quiet.{IsQuiet, QuietMeansEnded, QuietIsRefused, IsOut, told_by}
+use Rattle.world_laws.specs.Good.{Known, GroupGood, start_to, log_of, IsOut, Named, all_delivered, all_taken, WorldGood}
+use Rattle.world_laws.specs.Quiet.{IsQuiet, QuietMeansEnded, QuietIsRefused, told_by}
 use Rattle.world_laws.proofs.ConditionLaws.{delivered_same}
 use Rattle.world_laws.proofs.Layers.{ascending_cross, ascending_right, known_some}
 use Rattle.world_laws.proofs.Owed.{Owes, owes_world}
@@ -76,22 +75,17 @@ final_some f (g ∷ gs) all =
     let rest = final_some f gs (λ h there. all h (or_right (g == h) (has gs h) there)) in
     (_, ap (λ o. later_of g o (final f gs)) first.1 ∙ ap (later_of g (Some first.0)) rest.1)
 
-one_is : (b : Bool) → bit b ≡ 1 → b ≡ true
-one_is true e = refl
-one_is false e = absurd (omega arith)
-
-there_is : (o : Option ℕ) → is_some o ≡ true → (n : ℕ) × (o ≡ Some n)
+there_is : (o : Option ℕ) → IsSome o → (n : ℕ) × (o ≡ Some n)
 there_is None e = absurd (both_ways false refl e)
 there_is (Some n) e = (n, refl)
 
 -- each group of a submitted request has proposed
 all_proposed : (t : Layout) (w : World) → WorldGood t w → w.packets ≡ [] → (i : RequestId) (q : Request) (g : ℕ) → w.asked i ≡ Some q →
     has q.groups g ≡ true → (n : ℕ) × (w.proposed i g ≡ Some n)
-all_proposed t w good none i q g named member =
-    let count = good.skeen.counted i g in
-    let no_start : starts_of i g w.packets ≡ 0 = ap (starts_of i g) none in
-    let one : bit (addresses (w.asked i) g) ≡ 1 = ap (λ o. bit (addresses o g)) named ∙ ap bit member in
-    there_is (w.proposed i g) (one_is (is_some (w.proposed i g)) (omega arith))
+all_proposed t w good none i q g named member = elim (good.skeen.coming i q g named member) [
+  | inl sent ↦ absurd (subst (λ l. In (start_to g i q) l) none sent)
+  | inr told ↦ there_is (w.proposed i g) told
+]
 
 all_settled : (t : Layout) (w : World) → WorldGood t w → Owes w → w.packets ≡ [] → (g : ℕ) (u : RequestId) (hs : List ℕ) →
     get (w.group g).started u ≡ Some hs → (s : Stamp) × (final (heard (w.group g) u) hs ≡ Some s)
@@ -129,7 +123,7 @@ all_out : (t : Layout) (w : World) → WorldGood t w → Owes w → w.packets �
     has q.groups g ≡ true → IsOut (log_of w g) i
 all_out t w good owes none i q g named member =
     let told = all_proposed t w good none i q g named member in
-    elim ((owes.groups g).begun i told.0 told.1) [
+    elim ((good.skeen.groups g).begun i told.0 told.1) [
       | inr out ↦ out
       | inl there ↦ let gs = some_started (get (w.group g).started i) there in absurd (none_started t w good owes none g i gs.0 gs.1)
     ]

@@ -1,5 +1,6 @@
 -- A packet comes to its group: what is known of packets, proposals and groups is kept.
-use Rattle.std.proofs.Common.{◌≡◌, ℕ, ◌+◌, ◌≤◌, ◌<◌, ◌==◌, ◌&&◌, Bool, true, false, cond, List, [], ◌∷◌, ◌++◌, inl, inr, Option, Some, None}
+use Rattle.std.proofs.Common.{◌≡◌, ℕ, ◌+◌, ◌≤◌, ◌<◌, ◌==◌, ◌&&◌, Bool, true, false, cond, List, [], ◌∷◌, ◌++◌, ◌⊎◌, inl, inr, Option, Some}
+use Rattle.std.proofs.Common.{None}
 use Rattle.std.proofs.Common.{IsSome, slice_get, refl, sym, ap, ◌∙◌, subst, arith, eqb-true, eq-eqb, append_assoc, append-nil}
 use Rattle.std.proofs.lemmas.Bool.{both_ways, cases_Bool, and_parts, and_from, and_right}
 use Rattle.std.specs.FinMap.{get}
@@ -7,7 +8,7 @@ use Rattle.std.specs.List.{remove}
 use Rattle.std.specs.Option.{is_some}
 use Rattle.groups.specs.GroupSet.{has}
 use Rattle.groups.proofs.Ids.{same_id-true, same_id-refl}
-use Rattle.skeen_core.proofs.Lawful.{None≢Some}
+use Rattle.skeen_core.proofs.Lawful.{some_is, None≢Some}
 use Rattle.groups.proofs.Lists.{In-left, In-right, In-append}
 use Rattle.skeen_core.specs.Group.{GroupState, heard, next_clock, with_start, with_proposal, lifted, Delivering, tell, ReceivesStart}
 use Rattle.skeen_core.specs.Group.{Receives}
@@ -20,7 +21,7 @@ use Rattle.skeen_core.specs.declared.packet.Packet.{Packet}
 use Rattle.groups.specs.declared.request.RequestId.{RequestId}
 use Rattle.world.specs.Steps.{at, hears, with_own, now_proposed}
 use Rattle.world.specs.World.{Request, Proposals}
-use Rattle.world_laws.specs.Good.{Asked, Among, GroupGood, BodyGood, bit, starts_of, addresses, SkeenGood}
+use Rattle.world_laws.specs.Good.{Asked, Among, GroupGood, BodyGood, bit, starts_of, addresses, start_to, SkeenGood}
 use Rattle.world_laws.proofs.Groups.{group_grows, mid_start, mid_proposal, delivers_good, by_test, among_hears}
 use Rattle.world_laws.proofs.Lists.{split_at}
 use Rattle.world_laws.proofs.Packets.{body_more, starts_of-append, starts_of-without, starts_of-tell, told_good}
@@ -36,6 +37,14 @@ still_under_way x y front back there = elim (In-append x front back there) [
 
 pub was_under_way : {X : Type 0} (x : X) (front back : List X) → In x (front ++ x ∷ back)
 was_under_way x front back = In-right x front (x ∷ back) (inl refl)
+
+-- what was sent is still under way, or it is the packet that came
+pub still_sent : (x p : Packet) (front back sent : List Packet) → In x (front ++ p ∷ back) → (x ≡ p) ⊎ In x ((front ++ back) ++ sent)
+still_sent x p front back sent there = elim (In-append x front (p ∷ back) there) [
+  | inl before ↦ inr (In-left x (front ++ back) sent (In-left x front back before))
+  | inr (inl same) ↦ inl same
+  | inr (inr after) ↦ inr (In-left x (front ++ back) sent (In-right x front back after))
+]
 
 -- ---- the group that gets it, and the others
 
@@ -53,6 +62,14 @@ groups_at asked proposed proposed' group gone queue to state ds among others goo
       | false ↦ λ e. group_grows asked asked proposed proposed' g (group g) (gone g ++ queue g)
           (λ i q d. d) among (λ i n d. others i g n e d) (good g)
     ] refl
+
+-- who has proposed has still proposed
+some_among : (f g : Proposals) (i : RequestId) (h : ℕ) → Among f g → IsSome (f i h) → IsSome (g i h)
+some_among f g i h among there = by_proposed (f i h) refl there
+  where
+    by_proposed : (o : Option ℕ) → f i h ≡ o → IsSome o → IsSome (g i h)
+    by_proposed None e there = absurd (both_ways false refl there)
+    by_proposed (Some n) e there = some_is (g i h) n (among i h n e)
 
 -- no two requests have one clock at one group
 pub all_apart : (asked : Asked) (proposed : Proposals) (packets : List Packet) (group : ℕ → GroupState) (log : ℕ → List Delivered) →
@@ -124,6 +141,16 @@ start_good asked proposed packets group gone queue to id floor groups front back
     | inr now ↦ told_good asked proposed' to id new it.request groups it.named told (λ g e. subst (λ gs. has gs g ≡ true)
         (sym it.same) e) p now
   ];
+  coming = λ i q g named member. elim (good.coming i q g named member) [
+    | inr told_ ↦ inr (some_among proposed proposed' i g among told_)
+    | inl is_sent ↦ elim (still_sent (start_to g i q) (record { to = to; id = id; body = Start floor groups }) front back
+        (tell to id new groups) (subst (λ l. In (start_to g i q) l) whole is_sent)) [
+          | inr still ↦ inl still
+          | inl is ↦ inr (some_is (proposed' i g) new
+              (subst (λ j. proposed' j g ≡ Some new) (sym (ap (λ (p : Packet). p.id) is))
+              (subst (λ h. proposed' id h ≡ Some new) (sym (ap (λ (p : Packet). p.to) is)) told)))
+        ]
+  ];
   counted = λ i g.
       let before = good.counted i g in
       let all = ap (λ l. starts_of i g l) whole in
@@ -142,10 +169,14 @@ start_good asked proposed packets group gone queue to id floor groups front back
             ap (λ b. bit (is_some (cond b (Some new) (proposed i g)))) p in
             omega arith
       ];
-  made = λ i g n e. by_test (same_id i id && g == to) new (proposed i g) n ((q : Request) × (asked i ≡ Some q) × (q.floor < n)) e
+  made = λ i g n e. by_test (same_id i id && g == to) new (proposed i g) n
+      ((q : Request) × (asked i ≡ Some q) × (q.floor < n) × (has q.groups g ≡ true)) e
       (λ p same.
       let at_floor = it.floors in
-      (it.request, ap asked (same_id-true i id (and_parts _ _ p).0) ∙ it.named, omega arith))
+      let at = and_parts _ _ p in
+      let member : has it.request.groups g ≡ true = subst (λ gs. has gs g ≡ true) (sym it.same)
+      (subst (λ h. has groups h ≡ true) (sym (eqb-true g to at.1)) it.member) in
+      (it.request, ap asked (same_id-true i id at.0) ∙ it.named, omega arith, member))
       (λ p old. good.made i g n old);
   groups = groups_at asked proposed proposed' group gone queue to state ds among others good.groups
       (subst (λ s. GroupGood asked proposed' to s ((gone to ++ queue to) ++ ds)) (sym delivering.after)
@@ -173,6 +204,9 @@ start_good asked proposed packets group gone queue to id floor groups front back
 
 -- ---- a Proposal
 
+start_is_no_proposal : (floor : ℕ) (groups : List ℕ) (from n : ℕ) → Start floor groups ≡ Proposal from n → ⊥
+start_is_no_proposal floor groups from n e = cc
+
 proposal_good : (asked : Asked) (proposed : Proposals) (packets : List Packet) (group : ℕ → GroupState) (gone queue : ℕ → List Delivered)
     (to : ℕ) (id : RequestId) (from n : ℕ)
     (front back : List Packet) (ds : List Delivered) (state : GroupState) → packets ≡ front ++ record {
@@ -188,6 +222,14 @@ proposal_good asked proposed packets group gone queue to id from n front back ds
       let before = subst (λ l. In p l) (append-nil (front ++ back)) there in
       good.sent p (subst (λ l. In p l) (sym whole)
       (still_under_way p (record { to = to; id = id; body = Proposal from n }) front back before));
+  coming = λ i q g named member. elim (good.coming i q g named member) [
+    | inr told_ ↦ inr told_
+    | inl is_sent ↦ elim (still_sent (start_to g i q) (record { to = to; id = id; body = Proposal from n }) front back []
+        (subst (λ l. In (start_to g i q) l) whole is_sent)) [
+          | inr still ↦ inl still
+          | inl is ↦ absurd (start_is_no_proposal q.floor q.groups from n (ap (λ (p : Packet). p.body) is))
+        ]
+  ];
   counted = λ i g.
       let before = good.counted i g in
       let all = ap (λ l. starts_of i g l) whole in

@@ -1,14 +1,15 @@
 -- Submitted requests: a new one is submitted, and more is proposed.
-use Rattle.std.proofs.Common.{◌≡◌, ℕ, suc, ◌≤◌, ◌<◌, ◌==◌, ◌&&◌, true, false, List, [], ◌∷◌, ◌++◌, inl, inr, Option, Some, None, refl, sym}
-use Rattle.std.proofs.Common.{ap, ◌∙◌, subst, arith, eqb-true}
+use Rattle.std.proofs.Common.{◌≡◌, ℕ, suc, ◌≤◌, ◌<◌, ◌==◌, ◌&&◌, true, false, List, [], ◌∷◌, ◌++◌, ◌⊎◌, inl, inr, Option, Some, None, refl}
+use Rattle.std.proofs.Common.{IsSome, sym, ap, ◌∙◌, subst, arith, eqb-true}
 use Rattle.std.proofs.lemmas.Bool.{both_ways, cases_Bool, cases_eq, and_parts}
 use Rattle.groups.specs.GroupSet.{has, IsAscending}
 use Rattle.placement.specs.Layout.{Layout}
 use Rattle.groups.proofs.Ids.{same_id-true, same_id-refl}
 use Rattle.skeen_core.proofs.Lawful.{None≢Some}
-use Rattle.groups.proofs.Lists.{In-append}
+use Rattle.groups.proofs.Lists.{In-left, In-right, In-append}
 use Rattle.groups.proofs.Stamps.{final_within, final_proposed}
 use Rattle.skeen_core.specs.Group.{GroupState}
+use Rattle.groups.specs.Order.{In}
 use Rattle.groups.specs.Request.{same_id}
 use Rattle.groups.specs.Stamp.{final}
 use Rattle.skeen_core.specs.declared.packet.Delivered.{Delivered}
@@ -17,9 +18,9 @@ use Rattle.groups.specs.declared.request.RequestId.{RequestId}
 use Rattle.groups.specs.declared.stamp.Stamp.{Stamp}
 use Rattle.world.specs.Steps.{at, asks, starts}
 use Rattle.world.specs.World.{Request, Proposals}
-use Rattle.world_laws.specs.Good.{Asked, Among, bit, addresses, SkeenGood, ShapedFor, Under, AskedGood, TakenGood}
+use Rattle.world_laws.specs.Good.{Asked, Among, bit, addresses, start_to, SkeenGood, ShapedFor, Under, AskedGood, TakenGood}
 use Rattle.world_laws.proofs.Groups.{AskedMore, known_more, group_grows, by_test}
-use Rattle.world_laws.proofs.Packets.{body_more, starts_of-append, starts_of-new, starts_good}
+use Rattle.world_laws.proofs.Packets.{body_more, starts_of-append, starts_of-new, in_starts, starts_good}
 use Rattle.std.proofs.lemmas.Bool.{cond-true, cond-false}
 use Rattle.groups.proofs.Options.{some_same}
 use Rattle.world_laws.proofs.Values.{same_request, at_here}
@@ -57,6 +58,16 @@ skeen_multicast asked proposed packets group log id q good none up = record {
         (good.sent p before)
     | inr now ↦ starts_good (asks asked id q) proposed id q q.groups (asks_new asked id q) (λ g e. e) p now
   ];
+  coming = λ i r g named member. by_test (same_id i id) q (asked i) r
+      (In (start_to g i r) (packets ++ starts id q q.groups) ⊎ IsSome (proposed i g)) named
+      (λ p same. inl (In-right _ packets (starts id q q.groups)
+      (subst (λ j. In (start_to g j r) (starts id q q.groups)) (sym (same_id-true i id p))
+      (subst (λ x. In (start_to g id x) (starts id q q.groups)) same
+      (in_starts id q q.groups g (subst (λ (x : Request). has x.groups g ≡ true) (sym same) member))))))
+      (λ p old. elim (good.coming i r g old member) [
+        | inl there ↦ inl (In-left _ packets (starts id q q.groups) there)
+        | inr told ↦ inr told
+      ]);
   counted = λ i g.
       let before = good.counted i g in
       let joined = starts_of-append i g packets (starts id q q.groups) in
@@ -74,7 +85,7 @@ skeen_multicast asked proposed packets group log id q good none up = record {
             (cond-false _ (Some q) (asked i) p) in
             omega arith
       ];
-  made = λ i g n e. let m = good.made i g n e in (m.0, asks_more asked id q none i m.0 m.1, m.2);
+  made = λ i g n e. let m = good.made i g n e in (m.0, asks_more asked id q none i m.0 m.1, m.2, m.3);
   groups = λ g. group_grows asked (asks asked id q) proposed proposed g (group g) (log g) (asks_more asked id q none) (λ i h m e. e)
       (λ i n e. e) (good.groups g);
 }

@@ -32,7 +32,7 @@ use Rattle.world.specs.World.{World, Request, Standing, Closed, Idle, Waiting, A
 use Rattle.world_laws.specs.Good.{Among, GroupGood, log_of, SkeenGood, ShapedFor, delivered_of, all_delivered, all_taken, TakenGood}
 use Rattle.world_laws.specs.Good.{Pending, ConnectionsGood, WorldGood}
 use Rattle.world_laws.proofs.Connections.{not_pending, connections_open, connections_answered, connections_multicast, connections_collect}
-use Rattle.world_laws.proofs.Connections.{connections_close, connections_run, connections_settle}
+use Rattle.world_laws.proofs.Connections.{connections_close, connections_run, connections_settle, named_left, earlier_multicast}
 use Rattle.world_laws.proofs.Layers.{log_taken, taken_layer, taken_run, run_layer_good, run_more, all_delivered-append, in_delivered}
 use Rattle.world_laws.proofs.Layers.{taken_once}
 use Rattle.world_laws.proofs.Lists.{split_at}
@@ -51,6 +51,7 @@ group_opening me = record {
   clock = λ i n e. absurd (None≢Some n e);
   apart = λ i j n e d. absurd (None≢Some n e);
   started = λ i gs e. absurd (None≢Some gs (sym (started-fresh i) ∙ e));
+  begun = λ i n e. absurd (None≢Some n e);
   known = λ d there. absurd there;
   member = λ d there. absurd there;
 }
@@ -59,6 +60,7 @@ pub good_opening : (t : Layout) → WorldGood t opening
 good_opening t = record {
   skeen = record {
     sent = λ p there. absurd there;
+    coming = λ i q g named member. absurd (None≢Some q named);
     counted = λ i g. refl;
     made = λ i g n e. absurd (None≢Some n e);
     groups = group_opening;
@@ -78,6 +80,7 @@ good_opening t = record {
     pending = λ i q e. absurd (None≢Some q e);
     outcomes = λ c o e. absurd (closed_not_answered o e);
   };
+  earlier = λ i j q r conns less e d. absurd (None≢Some q e);
   run = record { commands = λ e there. absurd there; replies = tt; map = refl };
 }
 
@@ -90,6 +93,7 @@ keeps_open t old new effect step good = subst (λ w. WorldGood t w) (sym step.af
   taken = good.taken;
   connections =
       connections_open old.opened old.standing old.seq old.last old.asked old.ended old.layer good.requests.fresh good.connections;
+  earlier = good.earlier;
   run = good.run;
 })
 
@@ -103,6 +107,7 @@ good_answered t old c reply idle good = record {
   taken = good.taken;
   connections = connections_answered old.opened old.standing old.seq old.last old.asked old.ended old.layer c
       (record { id = next_id old c; reply = reply; stamp = None }) idle refl refl good.connections;
+  earlier = good.earlier;
   run = good.run;
 }
 
@@ -144,6 +149,8 @@ good_multicast t old c q idle floor shaped up good =
           (rested t old c Idle idle idle_open idle_not_waiting good)) shaped;
       taken = taken_more old.asked _ old.proposed old.proposed old.gone (all_taken old.ended old.layer) more (λ i h n e. e) good.taken;
       connections = connections_multicast old.opened old.standing old.seq old.last old.asked old.ended old.layer c q idle good.connections;
+      earlier = earlier_multicast old.opened old.standing old.seq old.last old.asked old.ended old.layer c q idle good.requests.fresh
+          good.connections good.earlier;
       run = run_more old.asked _ old.ended old.contents more good.run;
     }
 
@@ -184,6 +191,7 @@ keeps_deliver t old new k effect step good =
       requests = requests_proposed t old.asked old.proposed _ old.seq old.last among good.requests;
       taken = taken_more old.asked old.asked old.proposed _ old.gone (all_taken old.ended old.layer) (λ i q e. e) among good.taken;
       connections = good.connections;
+      earlier = good.earlier;
       run = good.run;
     })
 
@@ -204,6 +212,7 @@ keeps_take t old new effect step good = subst (λ w. WorldGood t w) (sym step.af
         pending = before.pending;
         outcomes = before.outcomes;
       };
+  earlier = good.earlier;
   run = good.run;
 })
 
@@ -217,6 +226,7 @@ keeps_run t old new starved effect step good = subst (λ w. WorldGood t w) (sym 
       (subst (λ l. TakenGood old.asked old.proposed old.gone (all_taken old.ended l)) step.there good.taken);
   connections = connections_run old.opened old.standing old.seq old.last old.asked old.ended step.outcomes step.layer
       (subst (λ l. ConnectionsGood old.opened old.standing old.seq old.last old.asked old.ended l) step.there good.connections);
+  earlier = λ i j q r conns less e d. named_left old.ended step.outcomes i (good.earlier i j q r conns less e d);
   run = run_layer_good old.asked starved old.contents old.ended step.outcomes step.layer step.in_turn good.run;
 })
 
@@ -247,6 +257,7 @@ keeps_settle t old new effect step good = subst (λ w. WorldGood t w) (sym step.
   connections = connections_settle old.opened old.standing old.seq old.last old.asked old.ended step.outcomes
       (run_is_pending t old step.outcomes step.there good)
       (subst (λ l. ConnectionsGood old.opened old.standing old.seq old.last old.asked old.ended l) step.there good.connections);
+  earlier = good.earlier;
   run = good.run;
 })
 
@@ -262,6 +273,7 @@ keeps_collects t old new c (Answered o) effect is step good = subst (λ w. World
   requests = good.requests;
   taken = good.taken;
   connections = connections_collect old.opened old.standing old.seq old.last old.asked old.ended old.layer c o is good.connections;
+  earlier = good.earlier;
   run = good.run;
 })
 
@@ -275,6 +287,7 @@ keeps_close t old new c effect step good = subst (λ w. WorldGood t w) (sym step
   requests = good.requests;
   taken = good.taken;
   connections = connections_close old.opened old.standing old.seq old.last old.asked old.ended old.layer c good.connections;
+  earlier = good.earlier;
   run = good.run;
 })
 

@@ -3,6 +3,7 @@
 use Rattle.std.specs.FinMap.{get, empty}
 use Rattle.std.specs.Option.{is_some}
 use Rattle.std.specs.Prelude.{◌≡◌, ℕ, ◌+◌, ◌<◌, ◌≤◌, Bool, true, false, cond, ◌&&◌, ◌==◌, List, [], ◌∷◌, ◌++◌, ◌⊎◌, Option, Some, None}
+use Rattle.std.specs.Prelude.{IsSome}
 use Rattle.command_bodies.specs.Command.{effect_of}
 use Rattle.groups.specs.GroupSet.{has}
 use Rattle.keyspace.specs.Map.{Map}
@@ -52,6 +53,10 @@ Among f g = (i : RequestId) (h n : ℕ) → f i h ≡ Some n → g i h ≡ Some 
 abbrev pub log_of : World → ℕ → List Delivered
 log_of w g = w.gone g ++ w.queue g
 
+-- one of these has the id
+abbrev pub IsOut : List Delivered → RequestId → Type 0
+IsOut ds i = (d : Delivered) × In d ds × (d.id ≡ i)
+
 pub record GroupGood (asked : Asked) (proposed : Proposals) (me : ℕ) (grp : GroupState)
     (log : List Delivered) : Type 0 where
   -- it is as the rule of one group leaves it, and has delivered in ascending order
@@ -60,6 +65,8 @@ pub record GroupGood (asked : Asked) (proposed : Proposals) (me : ℕ) (grp : Gr
   pub clock : (i : RequestId) (n : ℕ) → proposed i me ≡ Some n → n ≤ grp.clock
   pub apart : (i j : RequestId) (n : ℕ) → proposed i me ≡ Some n → proposed j me ≡ Some n → i ≡ j
   pub started : (i : RequestId) (gs : List ℕ) → get grp.started i ≡ Some gs → Addressed asked i gs
+  -- a request for which the group has proposed is started there, or was delivered
+  pub begun : (i : RequestId) (n : ℕ) → proposed i me ≡ Some n → IsSome (get grp.started i) ⊎ IsOut log i
   pub known : (d : Delivered) → In d log → Known asked proposed d
   pub member : (d : Delivered) → In d log → has d.groups me ≡ true
 
@@ -90,13 +97,22 @@ abbrev pub addresses : Option Request → ℕ → Bool
 addresses None g = false
 addresses (Some q) g = has q.groups g
 
+-- the Start of the request that goes to the group
+abbrev pub start_to : ℕ → RequestId → Request → Packet
+start_to g i q = record { to = g; id = i; body = Start q.floor q.groups }
+
 pub record SkeenGood (asked : Asked) (proposed : Proposals) (packets : List Packet) (group : ℕ → GroupState)
     (log : ℕ → List Delivered) : Type 0 where
   pub sent : (p : Packet) → In p packets → PacketGood asked proposed p
-  -- each addressed group has a Start of the request coming, or has proposed, and not both
+  -- each addressed group has a Start of the request coming, or has proposed
+  pub coming : (i : RequestId) (q : Request) (g : ℕ) → asked i ≡ Some q → has q.groups g ≡ true →
+      In (start_to g i q) packets ⊎ IsSome (proposed i g)
+  -- and not both, and it has one such Start at most
   pub counted : (i : RequestId) (g : ℕ) →
       starts_of i g packets + bit (is_some (proposed i g)) ≡ bit (addresses (asked i) g)
-  pub made : (i : RequestId) (g n : ℕ) → proposed i g ≡ Some n → (q : Request) × (asked i ≡ Some q) × (q.floor < n)
+  -- a group proposes for a request that addresses it, above the request's floor
+  pub made : (i : RequestId) (g n : ℕ) → proposed i g ≡ Some n →
+      (q : Request) × (asked i ≡ Some q) × (q.floor < n) × (has q.groups g ≡ true)
   pub groups : (g : ℕ) → GroupGood asked proposed g (group g) (log g)
 
 -- ---- submitted requests
@@ -163,6 +179,11 @@ pub record TakenGood (asked : Asked) (proposed : Proposals) (gone : ℕ → List
 abbrev pub Named : List Ended → RequestId → Type 0
 Named es i = (e : Ended) × In e es × (e.id ≡ i)
 
+-- each request has ended that its connection asked before another
+abbrev pub EarlierEnded : Asked → List Ended → Type 0
+EarlierEnded asked ended = (i j : RequestId) (q r : Request) → i.conn.0 ≡ j.conn.0 → i.seq < j.seq → asked i ≡ Some q →
+    asked j ≡ Some r → Named ended i
+
 -- its connection waits for it, and has submitted no other since; or it was closed
 abbrev pub Pending : (ℕ → Standing) → (ℕ → ℕ) → RequestId → Type 0
 Pending standing seq i = (standing i.conn.0 ≡ Closed) ⊎ ((standing i.conn.0 ≡ Waiting) × (i.seq ≡ seq i.conn.0))
@@ -206,6 +227,7 @@ pub record WorldGood (t : Layout) (w : World) : Type 0 where
   pub requests : AskedGood t w.asked w.proposed w.seq w.last
   pub taken : TakenGood w.asked w.proposed w.gone (all_taken w.ended w.layer)
   pub connections : ConnectionsGood w.opened w.standing w.seq w.last w.asked w.ended w.layer
+  pub earlier : EarlierEnded w.asked w.ended
   pub run : RunGood w.asked w.ended w.contents
 
 -- after n steps no number is above n

@@ -1,6 +1,5 @@
 -- Where nothing is under way and nothing can be taken, nothing is left.
-use Rattle.std.specs.FinMap.{get}
-use Rattle.std.specs.Prelude.{◌≡◌, ℕ, true, List, [], ◌⊎◌, ◌↔◌, Some, IsSome}
+use Rattle.std.specs.Prelude.{◌≡◌, ℕ, true, List, [], ◌⊎◌, ◌↔◌, Some}
 use Rattle.delivery.specs.Ready.{IsReady}
 use Rattle.groups.specs.GroupSet.{has}
 use Rattle.journal.specs.declared.step.Step.TheVariants.{Deliver, Take, Run, Settle}
@@ -12,7 +11,7 @@ use Rattle.skeen_core.specs.declared.packet.Packet.{Packet}
 use Rattle.groups.specs.declared.request.RequestId.{RequestId}
 use Rattle.world.specs.Steps.{OwnFault, NoPacket, NoLayer, Refused}
 use Rattle.world.specs.World.{World, Request, NoneTaken, Proposals}
-use Rattle.world_laws.specs.Good.{Asked, Named}
+use Rattle.world_laws.specs.Good.{Asked, IsOut, Named}
 use Rattle.world_laws.specs.Order.{OfEveryWorld}
 
 -- no packet is under way, no layer is there, and no request is ready
@@ -38,17 +37,11 @@ QuietIsRefused = (w : World) → IsQuiet w ↔ TurnsAreRefused w
 
 -- ---- what is still owed
 
--- one of these has the id
-abbrev pub IsOut : List Delivered → RequestId → Type 0
-IsOut ds i = (d : Delivered) × In d ds × (d.id ≡ i)
-
 abbrev pub told_by : ℕ → RequestId → ℕ → ℕ → Packet
 told_by g i h n = record { to = g; id = i; body = Proposal h n }
 
 pub record GroupOwes (asked : Asked) (proposed : Proposals) (packets : List Packet) (g : ℕ) (grp : GroupState)
     (log : List Delivered) : Type 0 where
-  -- a request for which the group has proposed is started there, or was delivered
-  pub begun : (i : RequestId) (n : ℕ) → proposed i g ≡ Some n → IsSome (get grp.started i) ⊎ IsOut log i
   -- a proposal for a request of the group was heard there, is under way to it, or the request was delivered
   pub told : (i : RequestId) (q : Request) (h n : ℕ) → asked i ≡ Some q → has q.groups g ≡ true →
       proposed i h ≡ Some n →
