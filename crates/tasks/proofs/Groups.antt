@@ -1,5 +1,5 @@
 -- Which groups a task addresses: the shards of its keys, or all of them.
-use Rattle.std.proofs.Common.{◌≡◌, ℕ, ◌<◌, ◌||◌, ◌&&◌, nat_lt, List, true, slice_index_or, refl, sym, ap, ◌∙◌, subst, lt-ltb, ltb-true}
+use Rattle.std.proofs.Common.{◌≡◌, ℕ, ◌<◌, ◌||◌, ◌&&◌, nat_lt, List, true, slice_index_or, sym, ap, ◌∙◌, subst, lt-ltb, ltb-true}
 use Rattle.std.proofs.lemmas.Bool.{and_parts}
 use Rattle.std.proofs.lemmas.List.Folds.{Any-from_list_any}
 use Rattle.std.specs.Str.{bytes_eq}

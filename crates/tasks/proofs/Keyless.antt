@@ -1,14 +1,12 @@
 -- A task that looks at no key: it addresses no group, each other one addresses some, and it is answered as on the empty map.
-use Rattle.std.proofs.Common.{◌≡◌, ℕ, ◌<◌, ◌||◌, ◌&&◌, true, false, List, [], ◌∷◌, inl, inr, length, Option, Some, Result, Ok, Err}
+use Rattle.std.proofs.Common.{◌≡◌, ℕ, ◌<◌, ◌||◌, true, false, List, [], ◌∷◌, inl, inr, length, Some, Result, Ok, Err}
 use Rattle.std.proofs.Common.{IfOk, Contains, refl, sym, ap, ◌∙◌, subst, arith, eq-eqb}
 use Rattle.std.proofs.lemmas.Bool.{both_ways, and_parts}
 use Rattle.std.specs.FinMap.{empty}
-use Rattle.command_bodies.specs.LocalCommand.{local_reply}
 use Rattle.command_table.proofs.Keyed.{keyed_if}
 use Rattle.command_table.specs.Command.{is_whole}
 use Rattle.command_table.specs.Keyed.{IsKeyed, NamesKeys}
 use Rattle.command_table.specs.declared.command.Command.TheVariants as command
-use Rattle.command_table.specs.declared.local_commands.LocalCommand.{LocalCommand}
 use Rattle.command_table.specs.declared.local_commands.LocalCommand.TheVariants.{Ping, Echo}
 use Rattle.command_table.specs.declared.refusal.Refusal.{Refusal}
 use Rattle.groups.specs.GroupSet.{has}
