@@ -3,10 +3,7 @@ use Rattle.std.proofs.Common.{◌≡◌, true, false, List, [], ◌∷◌, Optio
 use Rattle.std.specs.List.{AllZip, AllByRecursion}
 use Rattle.back.specs.Rows.{with_row, rows_of}
 use Rattle.command_bodies.proofs.Turns.{pair}
-use Rattle.command_bodies.specs.Command.{effect_of}
-use Rattle.command_bodies.specs.InTurn.{solo_from}
-use Rattle.command_table.specs.Reading.{reading}
-use Rattle.execution_order.specs.Entries.{Entry, Row, commands_of, entries_of, replies_of, Touch, InOrder, IsAddressed, AreAddressed}
+use Rattle.execution_order.specs.Entries.{Entry, Row, tasks_of, entries_of, replies_of, Touch, InOrder, IsAddressed, AreAddressed}
 use Rattle.execution_order.specs.Rows.{IsRow}
 use Rattle.groups.proofs.Stamps.{lt_asym}
 use Rattle.groups.specs.GroupSet.{has}
@@ -16,7 +13,6 @@ use Rattle.journal.specs.Views.{RowView}
 use Rattle.keyspace.specs.Map.{Map}
 use Rattle.layer_planner.specs.Layers.{StandTogether, HaveOwnStamps}
 use Rattle.layer_planner.specs.declared.job.Job.{Job}
-use Rattle.placement.specs.Groups.{groups_of}
 use Rattle.placement.specs.Layout.{Layout}
 use Rattle.resp.specs.Content.{content}
 use Rattle.resp.specs.declared.answered.Answered.{Answered}
@@ -25,9 +21,10 @@ use Rattle.shard_exec.specs.Layers.{AddressTheirGroups, IsOf, outcomes_of_ended}
 use Rattle.shard_exec.specs.declared.done.Ended.{Ended}
 use Rattle.shard_maps.specs.Layer.{AnsweredInTurn}
 use Rattle.shard_workers.specs.Tasks.{outcome}
+use Rattle.tasks.specs.Tasks.{task_reading, task_groups, task_effect, tasks_in_turn}
 
 abbrev pub entry_of : Job → Entry
-entry_of j = record { id = j.id; stamp = j.stamp; groups = j.groups; command = j.asked.command }
+entry_of j = record { id = j.id; stamp = j.stamp; groups = j.groups; task = j.asked.command }
 
 -- a request with its reply; one that starved isn't there
 abbrev pub with_executed : Job → Option Answered → List Row → List Row
@@ -45,7 +42,7 @@ one_kept : (j : Job) (e : Ended) → IsOf j e → (reply : Option Answered) (xs 
     → AllZip IsRow (with_executed j reply xs) (with_row e reply ys)
 one_kept j e of None xs ys z = z
 one_kept j e of (Some answered) xs ys z =
-    (record { id = of.0; stamp = of.1; says = ap reading of.2 ∙ j.asked.says; reply = refl }, z)
+    (record { id = of.0; stamp = of.1; says = ap task_reading of.2 ∙ j.asked.says; reply = refl }, z)
 
 pub rows_kept : (js : List Job) (es : List Ended) → AllZip IsOf js es → AllZip IsRow (executed_in js es) (rows_of es)
 rows_kept [] [] told = tt
@@ -83,7 +80,7 @@ pub are_addressed : (table : Layout) (js : List Job) (es : List Ended) → Addre
 are_addressed table js es addressed stamps x there =
     let it = of_layer js es x there in
     subst (IsAddressed table) (sym it.2) (record {
-      groups = holds_of (λ j. j.groups ≡ groups_of table j.asked.command) js it.0 addressed it.1;
+      groups = holds_of (λ j. j.groups ≡ task_groups table j.asked.command) js it.0 addressed it.1;
       some_group = (it.0.stamp.group, holds_of (λ (j : Job). has j.groups j.stamp.group ≡ true) js it.0 stamps it.1);
     })
 
@@ -111,18 +108,18 @@ are_in_order (j ∷ js) (e ∷ es) together =
 
 first_in_turn : (m new : Map) (j : Job) (js : List Job) (es : List Ended) (rows : List Row)
     → ((n : Map) → AnsweredInTurn n (layers.commands_of js) (outcomes_of_ended es) new
-    → (new, replies_of rows) ≡ solo_from n (commands_of (entries_of rows)))
+    → (new, replies_of rows) ≡ tasks_in_turn n (tasks_of (entries_of rows)))
     → (reply : Option Answered) → AnsweredInTurn m (layers.commands_of (j ∷ js)) (outcome reply ∷ outcomes_of_ended es) new
-    → (new, replies_of (with_executed j reply rows)) ≡ solo_from m (commands_of (entries_of (with_executed j reply rows)))
+    → (new, replies_of (with_executed j reply rows)) ≡ tasks_in_turn m (tasks_of (entries_of (with_executed j reply rows)))
 first_in_turn m new j js es rows rest None answered = rest m answered
 first_in_turn m new j js es rows rest (Some answer) answered =
-    let behind = rest (effect_of j.asked.command m).0 answered.1 in
+    let behind = rest (task_effect j.asked.command m).0 answered.1 in
     pair _ _ _ _ (ap (λ v. v.0) behind)
-    (ap (λ r. r ∷ replies_of rows) answered.0 ∙ ap (λ l. (effect_of j.asked.command m).1 ∷ l) (ap (λ v. v.1) behind))
+    (ap (λ r. r ∷ replies_of rows) answered.0 ∙ ap (λ l. (task_effect j.asked.command m).1 ∷ l) (ap (λ v. v.1) behind))
 
 pub is_in_turn : (m new : Map) (js : List Job) (es : List Ended)
     → AnsweredInTurn m (layers.commands_of js) (outcomes_of_ended es) new
-    → (new, replies_of (executed_in js es)) ≡ solo_from m (commands_of (entries_of (executed_in js es)))
+    → (new, replies_of (executed_in js es)) ≡ tasks_in_turn m (tasks_of (entries_of (executed_in js es)))
 is_in_turn m new [] [] answered = ap (λ n. (n, [])) answered
 is_in_turn m new [] (e ∷ es) answered = absurd answered
 is_in_turn m new (j ∷ js) [] answered = absurd answered

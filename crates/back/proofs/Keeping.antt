@@ -30,8 +30,8 @@ use Rattle.shard_exec.specs.Stores.{empty_store}
 use Rattle.shard_maps.proofs.Empty.{joined-empty}
 use Rattle.shard_exec.specs.declared.done.ExecFault.{ExecFault}
 use Rattle.shard_exec.specs.declared.done.ExecFault.TheVariants.{Stale, Memory, Failed, Foreign}
-use Rattle.shard_maps.proofs.Spans.{groups_of-below}
 use Rattle.shard_maps.specs.Joined.{joined}
+use Rattle.tasks.proofs.Groups.{task_groups-below}
 
 zip_append : {A B : Type 0} (R : A → B → Type 0) (as_ cs : List A) (bs ds : List B) → AllZip R as_ bs → AllZip R cs ds
     → AllZip R (as_ ++ cs) (bs ++ ds)
@@ -141,7 +141,7 @@ module _ (old new : BackState) (skip : List RequestId) (layer : List Job) (is_st
           → g < length old.store.lasts
       inside [] j its there g here = absurd there
       inside (k ∷ js) j its (inl same) g here =
-          subst (λ n. g < n) (sym is_store.stamps) (groups_of-below old.store.table k.asked.command g
+          subst (λ n. g < n) (sym is_store.stamps) (task_groups-below old.store.table k.asked.command g
           (ap (λ gs. has gs g) (sym its.0) ∙ ap (λ (x : Job). has x.groups g) (sym same) ∙ here))
       inside (k ∷ js) j its (inr later) g here = inside js j its.1 later g here
 

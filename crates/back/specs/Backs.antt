@@ -27,7 +27,7 @@ back_of store rows last = record { store = store; rows = rows; last = last }
 abbrev pub new_back : Layout → BackState
 new_back table = back_of (empty_store table) [] no_results
 
--- The rows are kept of executed requests, each of which addresses the groups that the table gives its command, and touching
+-- The rows are kept of executed requests, each of which addresses the groups that the table gives its task, and touching
 -- ones were executed in the order of their stamps. One thread on one map gives each of them the reply of its row, in the
 -- order of execution and in that of their stamps; and it leaves what the shards hold together, unless a worker's start was
 -- refused.

@@ -13,7 +13,7 @@ use Rattle.shard_exec.specs.declared.done.Ended.{Ended}
 use Rattle.shard_exec.specs.declared.done.ExecFault.{ExecFault}
 use Rattle.shard_exec.specs.declared.done.ExecFault.TheVariants.{Stale, Memory, Failed, Foreign}
 
--- The store ran the layer, which is one that may stand, and whose requests address the groups of their commands. Behind the
+-- The store ran the layer, which is one that may stand, and whose requests address the groups of their tasks. Behind the
 -- rows stand those of the requests that were executed, and what came of the layer is what came last.
 pub record HasRun (old : BackState) (skip : List RequestId) (layer : List Job) (new : BackState) : Type 0 where
   pub ended : List Ended

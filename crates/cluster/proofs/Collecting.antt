@@ -3,9 +3,9 @@ use Rattle.std.proofs.Common.{◌≡◌, ℕ, suc, ◌+◌, ◌<◌, true, List,
 use Rattle.std.proofs.Common.{IsSome}
 use Rattle.std.proofs.Common.{refl, sym, ap, ◌∙◌, subst, arith}
 use Rattle.std.specs.List.{AllZip}
-use Rattle.command_table.specs.Reading.{reading}
 use Rattle.execution_order.specs.Entries.{Row}
 use Rattle.front.specs.Fronts.{FrontView, Told, retold, retold_reply, retold_outcome, retold_standing, retold_world}
+use Rattle.tasks.specs.Tasks.{task_reading}
 use Rattle.cluster.proofs.Effects.{by_collected}
 use Rattle.cluster.proofs.Submits.{said_once}
 use Rattle.cluster.proofs.Telling.{all_settled, starved_retold}
@@ -221,7 +221,7 @@ zip_at R (z ∷ xs) (y ∷ ys) x all (inr later) = let rest = zip_at R xs ys x a
 
 abbrev row_of : Ended → Content → Row
 row_of e reply = record {
-  entry = record { id = e.id; stamp = e.stamp; groups = e.groups; command = e.command };
+  entry = record { id = e.id; stamp = e.stamp; groups = e.groups; task = e.task };
   reply = reply;
 }
 
@@ -284,7 +284,7 @@ from_ended h o w told words e whole shown there so =
 -- of words that were answered at once
 at_once : (h : HistoryView) (s : SeatView) (o : Outcome) (w : World) (told : Told) (shown : IsIn h w told) → Fits s h.steps →
     o.id ≡ last_id s → o.stamp ≡ None →
-    WasSubmitted (λ words. reply_at_once h.front.table (reading words) ≡ Some o.reply) o.id h.steps shown.at.leads.0 →
+    WasSubmitted (λ words. reply_at_once h.front.table (task_reading words) ≡ Some o.reply) o.id h.steps shown.at.leads.0 →
     ComesFrom h.front s.words o
 at_once h s o w told shown fits id none was =
     let t = h.front.table in
@@ -295,7 +295,7 @@ at_once h s o w told shown fits id none was =
     record { before = said.before; behind = said.behind; split = said.split; number = omega arith } in
     let mine : IsSaid h.steps o.id s.words = subst (λ i. IsSaid h.steps i s.words) (sym id) (fits.said (omega arith)) in
     let same = said_once h.steps o.id said.words s.words here mine in
-    inr (inr (record { stamp = none; reply = ap (λ ws. reply_at_once t (reading ws)) (sym same) ∙ said.passes }))
+    inr (inr (record { stamp = none; reply = ap (λ ws. reply_at_once t (task_reading ws)) (sym same) ∙ said.passes }))
 
 -- an outcome without a stamp is not told otherwise
 untold : (told : Told) (o : Outcome) → o.stamp ≡ None → retold_outcome told o ≡ o
@@ -347,7 +347,7 @@ some_submitted h h' s o w told shown fits is =
     elim law.1 [
       | inl ended ↦
           let good = good_world t h.steps w shown.at.leads in
-          let asked = good.run.commands ended.0 ended.1 in
+          let asked = good.run.tasks ended.0 ended.1 in
           let fresh = (good.requests.fresh ended.0.id asked.0 asked.1).0 in
           let same = ap (λ (x : Outcome). x.id.seq) ended.2 in
           omega arith

@@ -4,11 +4,10 @@ use Rattle.std.specs.FinMap.{empty}
 use Rattle.std.specs.List.{AllZip}
 use Rattle.back.specs.Backs as kept
 use Rattle.back.specs.Backs.{BackState}
-use Rattle.command_bodies.specs.InTurn.{solo_from}
-use Rattle.command_table.specs.declared.command.Command.{Command}
-use Rattle.execution_order.specs.Entries.{Entry, Row, commands_of, entries_of, replies_of, rows_by_stamp}
+use Rattle.execution_order.specs.Entries.{Entry, Row, tasks_of, entries_of, replies_of, rows_by_stamp}
 use Rattle.execution_order.specs.Rows.{IsRow, IsOneThread}
 use Rattle.front.specs.Fronts.{Told, retold}
+use Rattle.tasks.specs.Tasks.{Task, tasks_in_turn}
 use Rattle.cluster.proofs.Telling.{all_settled}
 use Rattle.cluster.specs.Endings.{IsRight}
 use Rattle.cluster.specs.Histories.{HistoryView, IsLawful}
@@ -24,12 +23,12 @@ use Rattle.world_laws.specs.Headline.{with_row, rows_of}
 
 -- ---- what is kept of the same rows
 
-ok_same : {E : Type 0} (a b : Command) → ◌≡◌ {A = Result Command E} (Ok a) (Ok b) → a ≡ b
+ok_same : {E : Type 0} (a b : Task) → ◌≡◌ {A = Result Task E} (Ok a) (Ok b) → a ≡ b
 ok_same a b same = let k = same in cc
 
--- rows that the same is kept of have the same commands
+-- rows that the same is kept of have the same tasks
 same_commands : (xs ys : List Row) (kept : List RowView) → AllZip IsRow xs kept → AllZip IsRow ys kept →
-    commands_of (entries_of xs) ≡ commands_of (entries_of ys)
+    tasks_of (entries_of xs) ≡ tasks_of (entries_of ys)
 same_commands [] [] kept here there = refl
 same_commands [] (y ∷ ys) [] here there = absurd there
 same_commands [] (y ∷ ys) (k ∷ kept) here there = absurd here
@@ -37,7 +36,7 @@ same_commands (x ∷ xs) [] [] here there = absurd here
 same_commands (x ∷ xs) [] (k ∷ kept) here there = absurd there
 same_commands (x ∷ xs) (y ∷ ys) [] here there = absurd here
 same_commands (x ∷ xs) (y ∷ ys) (k ∷ kept) here there =
-    let one = ok_same x.entry.command y.entry.command (sym here.0.says ∙ there.0.says) in
+    let one = ok_same x.entry.task y.entry.task (sym here.0.says ∙ there.0.says) in
     λ i. one i ∷ same_commands xs ys kept here.1 there.1 i
 
 -- where requests and replies are those of rows that it is kept of, it is kept of these too
@@ -55,7 +54,7 @@ kept_of (x ∷ xs) (y ∷ ys) (z ∷ zs) (k ∷ kept) here there entries replies
       record {
         id = here.0.id ∙ ap (λ (e : Entry). e.id) (sym entry);
         stamp = here.0.stamp ∙ ap (λ (e : Entry). e.stamp) (sym entry);
-        says = here.0.says ∙ ap (λ (e : Entry). Ok e.command) (sym entry);
+        says = here.0.says ∙ ap (λ (e : Entry). Ok e.task) (sym entry);
         reply = there.0.reply ∙ ap text (sym reply);
       },
       kept_of xs ys zs kept here.1 there.1 (tail_same z.entry x.entry (entries_of zs) (entries_of xs) entries)
@@ -76,7 +75,7 @@ entry_same told e None None xs ys same rest = rest
 entry_same told e None (Some b) xs ys same rest = absurd (let k = same in cc)
 entry_same told e (Some a) None xs ys same rest = absurd (let k = same in cc)
 entry_same told e (Some a) (Some b) xs ys same rest =
-    ap (λ l. record { id = e.id; stamp = e.stamp; groups = e.groups; command = e.command } ∷ l) rest
+    ap (λ l. record { id = e.id; stamp = e.stamp; groups = e.groups; task = e.task } ∷ l) rest
 
 -- told truly who starved, the same were executed
 entries_retold : (told : Told) (es : List Ended) → ((e : Ended) → In e es → is_none (told e.id) ≡ is_none e.reply) →
@@ -107,11 +106,11 @@ module _ (h : HistoryView) (back : BackState) (is_table : IsTable h.front.table)
       ap (λ es. entries_of (rows_of es)) (all_settled w.ended shows.settled w.layer shows.split lawful.shows.not_run)
       ∙ sym (entries_retold lawful.told shows.settled shows.truly)
 
-  commands : commands_of (entries_of (rows_of w.ended)) ≡ commands_of (entries_of stored.executed)
-  commands = ap commands_of entries ∙ same_commands told stored.executed h.front.rows told_so stored_so
+  tasks : tasks_of (entries_of (rows_of w.ended)) ≡ tasks_of (entries_of stored.executed)
+  tasks = ap tasks_of entries ∙ same_commands told stored.executed h.front.rows told_so stored_so
 
   both : ◌≡◌ {A = Map × List Content} (w.contents, replies_of (rows_of w.ended)) (stored.left, replies_of stored.executed)
-  both = holds_in_order_of_execution h.front.table h.steps w lawful.shows.at.leads ∙ ap (solo_from empty) commands ∙ sym stored.in_turn
+  both = holds_in_order_of_execution h.front.table h.steps w lawful.shows.at.leads ∙ ap (tasks_in_turn empty) tasks ∙ sym stored.in_turn
 
   pub right : IsRight h back
   right = record {

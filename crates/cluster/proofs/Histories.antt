@@ -1,8 +1,6 @@
 -- A history stays one, whether a step is made or not.
 use Rattle.std.proofs.Common.{◌≡◌, ◌≢◌, ℕ, ◌+◌, ◌<◌, ◌≤◌, List, [], ◌∷◌, ◌++◌, length, None, Result, Ok, Err, refl, sym}
 use Rattle.std.proofs.Common.{ap, ◌∙◌, subst, arith, length-append}
-use Rattle.command_table.specs.Reading.{reading}
-use Rattle.command_table.specs.declared.command.Command.{Command}
 use Rattle.command_table.specs.declared.refusal.Refusal.{Refusal}
 use Rattle.front.proofs.Showing.{NoRun, still_unrun}
 use Rattle.front.specs.Fronts.{FrontView, Told, IsOut, FrontIsAt, HasNotRun}
@@ -12,6 +10,7 @@ use Rattle.front.specs.Refusing as refusing
 use Rattle.front.specs.Refusing.{MayStep}
 use Rattle.front.specs.declared.fault.FrontFault.{FrontFault}
 use Rattle.front.specs.declared.fault.FrontFault.TheVariants as front_fault
+use Rattle.tasks.specs.Tasks.{Task, task_reading, task_groups}
 use Rattle.cluster.specs.Histories.{HistoryView, IsIn, IsLawful, kept_for, IsHistory, kept_back, MayGoOn}
 use Rattle.cluster.specs.Histories.{IsMade, IsUnchanged, IsRefused, HasNoFault, IsFault, IsPlain}
 use Rattle.cluster.specs.Making.{Makes, of_front}
@@ -20,7 +19,6 @@ use Rattle.cluster.specs.declared.fault.StepFault.TheVariants.{Memory}
 use Rattle.journal.specs.declared.step.Step.{Step}
 use Rattle.journal.specs.declared.step.Step.TheVariants.{Open, Submit, Deliver, Take, Run, Settle, Collect, Close}
 use Rattle.journal.specs.declared.trace.TheConstants.{GREATEST_STEPS}
-use Rattle.placement.specs.Groups.{groups_of}
 use Rattle.placement.specs.Layout.{Layout}
 use Rattle.skeen_core.specs.declared.packet.Delivered.{Delivered}
 use Rattle.world.specs.Steps.{OwnFault, opening, Effect, Collects, Steps, submitted, submitted_to}
@@ -105,13 +103,13 @@ made_plain old new step effect plain left makes most steps =
 
 -- ---- what is out stays out
 
-submitted_to_layer : (w : World) (c : ℕ) (command : Command) (gs : List ℕ) → (submitted_to w c command gs).layer ≡ w.layer
-submitted_to_layer w c command [] = refl
-submitted_to_layer w c command (g ∷ gs) = refl
+submitted_to_layer : (w : World) (c : ℕ) (task : Task) (gs : List ℕ) → (submitted_to w c task gs).layer ≡ w.layer
+submitted_to_layer w c task [] = refl
+submitted_to_layer w c task (g ∷ gs) = refl
 
-submitted_layer : (t : Layout) (w : World) (c : ℕ) (r : Result Command Refusal) → (submitted t w c r).layer ≡ w.layer
+submitted_layer : (t : Layout) (w : World) (c : ℕ) (r : Result Task Refusal) → (submitted t w c r).layer ≡ w.layer
 submitted_layer t w c (Err refusal) = refl
-submitted_layer t w c (Ok command) = submitted_to_layer w c command (groups_of t command)
+submitted_layer t w c (Ok task) = submitted_to_layer w c task (task_groups t task)
 
 collects_layer : (w w' : World) (c : ℕ) (standing : Standing) (e : Effect) → Collects standing w c e w' → w'.layer ≡ w.layer
 collects_layer w w' c Closed e step = absurd step
@@ -121,7 +119,7 @@ collects_layer w w' c (Answered o) e step = ap (λ v. v.layer) step.1
 
 layer_stays : (t : Layout) (w w' : World) (s : Step) (e : Effect) → IsPlain s → Steps t w s e w' → w'.layer ≡ w.layer
 layer_stays t w w' Open e plain step = ap (λ v. v.layer) step.after
-layer_stays t w w' (Submit conn words) e plain step = ap (λ v. v.layer) step.after ∙ submitted_layer t w conn.0 (reading words)
+layer_stays t w w' (Submit conn words) e plain step = ap (λ v. v.layer) step.after ∙ submitted_layer t w conn.0 (task_reading words)
 layer_stays t w w' (Deliver k) e plain step = ap (λ v. v.layer) step.after
 layer_stays t w w' Take e plain step = absurd plain
 layer_stays t w w' (Run starved) e plain step = absurd plain

@@ -5,26 +5,24 @@ use Rattle.std.proofs.Common.{sym, ap, ◌∙◌}
 use Rattle.std.proofs.Common.{arith, inl, inr, eqb-true}
 use Rattle.std.proofs.lemmas.Bool.{cond-true, cond-false, cases_Bool}
 use Rattle.cluster.specs.Submits.{submit_by, submits_by}
-use Rattle.command_table.specs.Reading.{reading}
-use Rattle.command_table.specs.declared.command.Command.{Command}
 use Rattle.command_table.specs.declared.refusal.Refusal.{Refusal}
 use Rattle.journal.specs.declared.step.Step.{Step}
 use Rattle.journal.specs.declared.step.Step.TheVariants.{Open, Submit, Deliver, Take, Run, Settle, Collect, Close}
-use Rattle.placement.specs.Groups.{groups_of}
 use Rattle.placement.specs.Layout.{Layout}
+use Rattle.tasks.specs.Tasks.{Task, task_reading, task_groups}
 use Rattle.world.specs.Steps.{at, opening, Effect, Collects, Steps, Makes, Leads, submitted, submitted_to}
 use Rattle.world.specs.World.{World, Standing, Closed, Idle, Waiting, Answered}
 use Rattle.world_laws.proofs.Connections.{settled_closed}
 
 -- ---- how many requests a connection has submitted
 
-submitted_to_seq : (w : World) (c : ℕ) (command : Command) (gs : List ℕ) → (submitted_to w c command gs).seq ≡ at w.seq c (suc (w.seq c))
-submitted_to_seq w c command [] = refl
-submitted_to_seq w c command (g ∷ gs) = refl
+submitted_to_seq : (w : World) (c : ℕ) (task : Task) (gs : List ℕ) → (submitted_to w c task gs).seq ≡ at w.seq c (suc (w.seq c))
+submitted_to_seq w c task [] = refl
+submitted_to_seq w c task (g ∷ gs) = refl
 
-submitted_seq : (t : Layout) (w : World) (c : ℕ) (r : Result Command Refusal) → (submitted t w c r).seq ≡ at w.seq c (suc (w.seq c))
+submitted_seq : (t : Layout) (w : World) (c : ℕ) (r : Result Task Refusal) → (submitted t w c r).seq ≡ at w.seq c (suc (w.seq c))
 submitted_seq t w c (Err refusal) = refl
-submitted_seq t w c (Ok command) = submitted_to_seq w c command (groups_of t command)
+submitted_seq t w c (Ok task) = submitted_to_seq w c task (task_groups t task)
 
 one_more_at : (f : ℕ → ℕ) (c d : ℕ) → at f d (suc (f d)) c ≡ f c + cond (c == d) 1 0
 one_more_at f c d = elim (cases_Bool (c == d)) [
@@ -48,7 +46,7 @@ none_more f g c same = let k = ap (λ (h : ℕ → ℕ). h c) same in omega arit
 pub step_seq : (t : Layout) (w w' : World) (s : Step) (e : Effect) (c : ℕ) → Steps t w s e w' → w'.seq c ≡ w.seq c + submit_by c s
 step_seq t w w' Open e c step = none_more w'.seq w.seq c (ap (λ v. v.seq) step.after)
 step_seq t w w' (Submit conn words) e c step =
-    ap (λ v. v.seq c) step.after ∙ (ap (λ (f : ℕ → ℕ). f c) (submitted_seq t w conn.0 (reading words)) ∙ one_more_at w.seq c conn.0)
+    ap (λ v. v.seq c) step.after ∙ (ap (λ (f : ℕ → ℕ). f c) (submitted_seq t w conn.0 (task_reading words)) ∙ one_more_at w.seq c conn.0)
 step_seq t w w' (Deliver k) e c step = none_more w'.seq w.seq c (ap (λ v. v.seq) step.after)
 step_seq t w w' Take e c step = none_more w'.seq w.seq c (ap (λ v. v.seq) step.after)
 step_seq t w w' (Run starved) e c step = none_more w'.seq w.seq c (ap (λ v. v.seq) step.after)
@@ -81,13 +79,13 @@ IsNoOpen Settle = Unit {0}
 IsNoOpen (Collect conn) = Unit {0}
 IsNoOpen (Close conn) = Unit {0}
 
-submitted_to_opened : (w : World) (c : ℕ) (command : Command) (gs : List ℕ) → (submitted_to w c command gs).opened ≡ w.opened
-submitted_to_opened w c command [] = refl
-submitted_to_opened w c command (g ∷ gs) = refl
+submitted_to_opened : (w : World) (c : ℕ) (task : Task) (gs : List ℕ) → (submitted_to w c task gs).opened ≡ w.opened
+submitted_to_opened w c task [] = refl
+submitted_to_opened w c task (g ∷ gs) = refl
 
-submitted_opened : (t : Layout) (w : World) (c : ℕ) (r : Result Command Refusal) → (submitted t w c r).opened ≡ w.opened
+submitted_opened : (t : Layout) (w : World) (c : ℕ) (r : Result Task Refusal) → (submitted t w c r).opened ≡ w.opened
 submitted_opened t w c (Err refusal) = refl
-submitted_opened t w c (Ok command) = submitted_to_opened w c command (groups_of t command)
+submitted_opened t w c (Ok task) = submitted_to_opened w c task (task_groups t task)
 
 collects_opened : (w w' : World) (c : ℕ) (standing : Standing) (e : Effect) → Collects standing w c e w' → w'.opened ≡ w.opened
 collects_opened w w' c Closed e step = absurd step
@@ -97,7 +95,7 @@ collects_opened w w' c (Answered o) e step = ap (λ v. v.opened) step.1
 
 pub opened_stays : (t : Layout) (w w' : World) (s : Step) (e : Effect) → IsNoOpen s → Steps t w s e w' → w'.opened ≡ w.opened
 opened_stays t w w' Open e plain step = absurd plain
-opened_stays t w w' (Submit conn words) e plain step = ap (λ v. v.opened) step.after ∙ submitted_opened t w conn.0 (reading words)
+opened_stays t w w' (Submit conn words) e plain step = ap (λ v. v.opened) step.after ∙ submitted_opened t w conn.0 (task_reading words)
 opened_stays t w w' (Deliver k) e plain step = ap (λ v. v.opened) step.after
 opened_stays t w w' Take e plain step = ap (λ v. v.opened) step.after
 opened_stays t w w' (Run starved) e plain step = ap (λ v. v.opened) step.after
@@ -115,15 +113,15 @@ apart f c d s shut is differ = elim (cases_Bool (c == d)) [
 at_apart : (f : ℕ → Standing) (c d : ℕ) (s : Standing) → (c == d) ≡ false → f c ≡ Closed → at f d s c ≡ Closed
 at_apart f c d s else' shut = cond-false (c == d) s (f c) else' ∙ shut
 
-submitted_to_closed : (w : World) (c d : ℕ) (command : Command) (gs : List ℕ) → (c == d) ≡ false → w.standing c ≡ Closed →
-    (submitted_to w d command gs).standing c ≡ Closed
-submitted_to_closed w c d command [] else' shut = at_apart w.standing c d _ else' shut
-submitted_to_closed w c d command (g ∷ gs) else' shut = at_apart w.standing c d Waiting else' shut
+submitted_to_closed : (w : World) (c d : ℕ) (task : Task) (gs : List ℕ) → (c == d) ≡ false → w.standing c ≡ Closed →
+    (submitted_to w d task gs).standing c ≡ Closed
+submitted_to_closed w c d task [] else' shut = at_apart w.standing c d _ else' shut
+submitted_to_closed w c d task (g ∷ gs) else' shut = at_apart w.standing c d Waiting else' shut
 
-submitted_closed : (t : Layout) (w : World) (c d : ℕ) (r : Result Command Refusal) → (c == d) ≡ false → w.standing c ≡ Closed →
+submitted_closed : (t : Layout) (w : World) (c d : ℕ) (r : Result Task Refusal) → (c == d) ≡ false → w.standing c ≡ Closed →
     (submitted t w d r).standing c ≡ Closed
 submitted_closed t w c d (Err refusal) else' shut = at_apart w.standing c d _ else' shut
-submitted_closed t w c d (Ok command) else' shut = submitted_to_closed w c d command (groups_of t command) else' shut
+submitted_closed t w c d (Ok task) else' shut = submitted_to_closed w c d task (task_groups t task) else' shut
 
 collects_closed : (w w' : World) (c d : ℕ) (s : Standing) (e : Effect) → w.standing d ≡ s → Collects s w d e w' → w.standing c ≡ Closed →
     w'.standing c ≡ Closed
@@ -146,7 +144,7 @@ pub closed_stays : (t : Layout) (w w' : World) (s : Step) (e : Effect) (c : ℕ)
 closed_stays t w w' Open e c plain step shut = absurd plain
 closed_stays t w w' (Submit conn words) e c plain step shut =
     ap (λ v. v.standing c) step.after
-    ∙ submitted_closed t w c conn.0 (reading words) (apart w.standing c conn.0 Idle shut step.idle (λ k. let e = k in cc)) shut
+    ∙ submitted_closed t w c conn.0 (task_reading words) (apart w.standing c conn.0 Idle shut step.idle (λ k. let e = k in cc)) shut
 closed_stays t w w' (Deliver k) e c plain step shut = ap (λ v. v.standing c) step.after ∙ shut
 closed_stays t w w' Take e c plain step shut = ap (λ v. v.standing c) step.after ∙ shut
 closed_stays t w w' (Run starved) e c plain step shut = ap (λ v. v.standing c) step.after ∙ shut

@@ -1,6 +1,5 @@
 -- Where what a connection collects comes from.
 use Rattle.std.specs.Prelude.{◌≡◌, ℕ, ◌<◌, List, ◌⊎◌, Option, Some, None, IsSome}
-use Rattle.command_table.specs.Reading.{reading}
 use Rattle.front.specs.Fronts.{FrontView}
 use Rattle.journal.specs.Views.{RowView}
 use Rattle.placement.specs.Layout.{Layout}
@@ -9,6 +8,7 @@ use Rattle.resp.specs.Text.{text}
 use Rattle.groups.specs.Order.{In}
 use Rattle.groups.specs.declared.request.RequestId.{RequestId}
 use Rattle.groups.specs.declared.stamp.Stamp.{Stamp}
+use Rattle.tasks.specs.Tasks.{task_reading}
 use Rattle.world.specs.World.{Outcome}
 use Rattle.world_laws.specs.Collecting.{reply_at_once}
 
@@ -26,10 +26,10 @@ pub record HasStarved (starved : List RequestId) (o : Outcome) : Type 0 where
   pub stamp : IsSome o.stamp
   pub reply : o.reply ≡ out_of_memory
 
--- its words are refused, or say a command that addresses no group, and this is their reply
+-- its words are refused, or say a task that addresses no group, and this is their reply
 pub record IsAtOnce (t : Layout) (words : List (List ℕ)) (o : Outcome) : Type 0 where
   pub stamp : o.stamp ≡ None
-  pub reply : reply_at_once t (reading words) ≡ Some o.reply
+  pub reply : reply_at_once t (task_reading words) ≡ Some o.reply
 
 abbrev pub ComesFrom : FrontView → List (List ℕ) → Outcome → Type 0
 ComesFrom f words o = IsOfRow f.rows o ⊎ (HasStarved f.starved o ⊎ IsAtOnce f.table words o)

@@ -1,31 +1,29 @@
 -- Requests that were executed: in the order of execution, and in the order of their stamps.
 use Rattle.std.specs.Prelude.{◌≡◌, ℕ, Bool, true, false, cond, List, [], ◌∷◌, map}
-use Rattle.command_bodies.specs.Command.{effect_of}
-use Rattle.command_table.specs.declared.command.Command.{Command}
 use Rattle.groups.specs.GroupSet.{has}
 use Rattle.keyspace.specs.Map.{Map}
-use Rattle.placement.specs.Groups.{groups_of}
 use Rattle.placement.specs.Layout.{Layout}
 use Rattle.resp.specs.Content.{Content}
 use Rattle.groups.specs.Order.{In}
 use Rattle.groups.specs.Stamp.{stamp_lt}
 use Rattle.groups.specs.declared.request.RequestId.{RequestId}
 use Rattle.groups.specs.declared.stamp.Stamp.{Stamp}
+use Rattle.tasks.specs.Tasks.{Task, task_groups, task_effect}
 
 -- a request that was executed
 pub record Entry : Type 0 where
   pub id : RequestId
   pub stamp : Stamp
   pub groups : List ℕ
-  pub command : Command
+  pub task : Task
 
 -- and the reply that it got
 pub record Row : Type 0 where
   pub entry : Entry
   pub reply : Content
 
-abbrev pub commands_of : List Entry → List Command
-commands_of entries = map (λ e. e.command) entries
+abbrev pub tasks_of : List Entry → List Task
+tasks_of entries = map (λ e. e.task) entries
 
 abbrev pub entries_of : List Row → List Entry
 entries_of rows = map (λ r. r.entry) rows
@@ -36,7 +34,7 @@ replies_of rows = map (λ r. r.reply) rows
 -- each request with its reply, where they are executed one after another on one map
 abbrev pub rows_from : Map → List Entry → List Row
 rows_from m [] = []
-rows_from m (e ∷ es) = record { entry = e; reply = (effect_of e.command m).1 } ∷ rows_from (effect_of e.command m).0 es
+rows_from m (e ∷ es) = record { entry = e; reply = (task_effect e.task m).1 } ∷ rows_from (task_effect e.task m).0 es
 
 -- ---- the order of stamps
 
@@ -72,9 +70,9 @@ abbrev pub InOrder : List Entry → Type 0
 InOrder [] = Unit {0}
 InOrder (e ∷ es) = ((f : Entry) → In f es → Touch e f → stamp_lt f.stamp e.stamp ≡ false) × InOrder es
 
--- the request's groups are those of its command, and there is one
+-- the request's groups are those of its task, and there is one
 pub record IsAddressed (table : Layout) (e : Entry) : Type 0 where
-  pub groups : e.groups ≡ groups_of table e.command
+  pub groups : e.groups ≡ task_groups table e.task
   pub some_group : (g : ℕ) × (has e.groups g ≡ true)
 
 abbrev pub AreAddressed : Layout → List Entry → Type 0

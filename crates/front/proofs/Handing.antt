@@ -68,7 +68,7 @@ module _ (t : Layout) (w : World) (done : List Ended) (e : Ended) (back : List E
   -- the router keeps the connection for it
   kept_for : IsKeptFor r e.id
   kept_for =
-      let asked = good.run.commands e has_ended in
+      let asked = good.run.tasks e has_ended in
       elim (is.shows.under_way e.id asked.0 asked.1) [
         | inl settled ↦
             let front = append_cancel_right done settled.0 (e ∷ back) settled.1 in

@@ -1,10 +1,10 @@
 -- Submit and Deliver of a front are steps of the world.
 use Rattle.std.proofs.Common.{◌≡◌, ℕ, zero, suc, Bool, ◌≤◌, true, false, cond, List, [], ◌∷◌, ◌++◌, length, None, ◌⊎◌}
 use Rattle.std.proofs.Common.{Result, Ok, Err, refl, sym, ap, ◌∙◌, subst, arith, append-nil}
-use Rattle.command_table.specs.Reading.{reading}
-use Rattle.command_table.specs.declared.command.Command.{Command}
 use Rattle.command_table.specs.declared.refusal.Refusal.{Refusal}
 use Rattle.delivery.specs.Queues.{queue_of}
+use Rattle.tasks.proofs.Keyless.{addresses}
+use Rattle.tasks.specs.Tasks.{Task, task_reading, task_groups}
 use Rattle.front.proofs.Retelling.{was_idle, at_retold, same_standings, alike_retold}
 use Rattle.front.proofs.Showing.{stepped, is_stepped, by_messages, is_after}
 use Rattle.front.specs.Fronts.{FrontView, Told, retold_world, FrontShows, roomless}
@@ -15,7 +15,6 @@ use Rattle.groups.specs.declared.request.RequestId.{RequestId}
 use Rattle.journal.specs.declared.step.Step.{Step}
 use Rattle.journal.specs.declared.step.Step.TheVariants.{Submit, Deliver}
 use Rattle.multicast.specs.Multicast.{MulticastView, IsSame, Begins, Delivers, group_of, starts_to}
-use Rattle.placement.specs.Groups.{groups_of}
 use Rattle.placement.specs.Layout.{Layout, IsTable}
 use Rattle.resp.specs.Content.{Content}
 use Rattle.router.specs.Router.{RouterView, connection}
@@ -23,7 +22,6 @@ use Rattle.router.specs.Submitting.{Submits, groups_by}
 use Rattle.router.specs.declared.submission.Submission.{Submission}
 use Rattle.skeen_core.specs.declared.packet.Body.TheVariants.{Start}
 use Rattle.skeen_core.specs.declared.packet.Packet.{Packet}
-use Rattle.system_view.proofs.Addresses.{addresses}
 use Rattle.system_view.proofs.Connections.{Alike, connection_alike}
 use Rattle.system_view.proofs.Delivering.{shows_deliver}
 use Rattle.system_view.proofs.Submits.{shows_submitted}
@@ -49,8 +47,8 @@ length-chosen test a (suc m) =
     ]
 
 -- words address no more groups than there are
-pub groups_few : (t : Layout) (result : Result Command Refusal) → length (groups_by t result) ≤ t.shards
-groups_few t (Ok command) = length-chosen _ 0 t.shards
+pub groups_few : (t : Layout) (result : Result Task Refusal) → length (groups_by t result) ≤ t.shards
+groups_few t (Ok task) = length-chosen _ 0 t.shards
 groups_few t (Err refusal) = omega arith
 
 -- room is no part of what is shown
@@ -108,22 +106,22 @@ module _ (told : Told) (old : FrontView) (r : RouterView) (m : MulticastView) (w
       (at_retold told w.standing c (Answered (record { id = next_id w c; reply = reply; stamp = None }))) connections)
       (shows_none old.table old.multicast m w c shows.multicast sent reply begins groups)
 
-  by_groups : (command : Command) (gs : List ℕ) → sent.groups ≡ gs →
-      ShowsConnections r (submitted_to (retold_world told w) c command gs) →
-      FrontShows told (stepped old r m) (submitted_to w c command gs)
-  by_groups command [] groups connections = shows_reply _ groups connections
-  by_groups command (g ∷ gs) groups connections =
-      let q : Request = record { floor = floor_of w c; groups = g ∷ gs; command = command } in
+  by_groups : (task : Task) (gs : List ℕ) → sent.groups ≡ gs →
+      ShowsConnections r (submitted_to (retold_world told w) c task gs) →
+      FrontShows told (stepped old r m) (submitted_to w c task gs)
+  by_groups task [] groups connections = shows_reply _ groups connections
+  by_groups task (g ∷ gs) groups connections =
+      let q : Request = record { floor = floor_of w c; groups = g ∷ gs; task = task } in
       by_messages told old r m w (multicast w c q) refl refl shows
       (same_standings r (retold_world told (multicast w c q)) (multicast (retold_world told w) c q).standing
       (retold_world told (multicast w c q)).standing (at_retold told w.standing c Waiting) connections)
       (shows_starts old.table old.multicast m w c shows.multicast sent q begins id floor groups)
 
-  by_words : (read : Result Command Refusal) → sent.groups ≡ groups_by old.table read →
+  by_words : (read : Result Task Refusal) → sent.groups ≡ groups_by old.table read →
       ShowsConnections r (submitted old.table (retold_world told w) c read) →
       FrontShows told (stepped old r m) (submitted old.table w c read)
   by_words (Err refusal) groups connections = shows_reply _ groups connections
-  by_words (Ok command) groups connections = by_groups command (groups_of old.table command) groups connections
+  by_words (Ok task) groups connections = by_groups task (task_groups old.table task) groups connections
 
 pub submit_makes : (old : FrontView) (r : RouterView) (m : MulticastView) (conn : ConnId) (words : List (List ℕ)) (sent : Submission) →
     IsTable old.table → Submits old.table conn.0 words old.router sent r →
@@ -135,7 +133,7 @@ submit_makes old r m conn words sent table submits begins = record {
       let good = good_world old.table h w at'.leads in
       let as_world = shows_submitted old.table (retold_world told w) conn.0 good.requests words old.router r sent
       (addresses old.table table words) submits at'.shows.connections in
-      let after = submitted old.table w conn.0 (reading words) in
+      let after = submitted old.table w conn.0 (task_reading words) in
       let made : Steps old.table w (Submit conn words) (Submitted sent.id) after = record {
         idle = was_idle told (w.standing conn.0) as_world.0;
         answers = ap Submitted as_world.1;
@@ -144,7 +142,7 @@ submit_makes old r m conn words sent table submits begins = record {
         after,
         made,
         is_after told old (stepped old r m) h w after (Submit conn words) (Submitted sent.id) refl at' made
-            (by_words told old r m w conn.0 sent at'.shows begins as_world.1 as_world.2 (reading words) submits.groups as_world.3),
+            (by_words told old r m w conn.0 sent at'.shows begins as_world.1 as_world.2 (task_reading words) submits.groups as_world.3),
       );
 }
 

@@ -2,7 +2,6 @@
 use Rattle.std.proofs.Common.{◌≡◌, ◌≢◌, true, false, cond, ◌||◌, List, [], ◌∷◌, ◌++◌, inl, inr, map, Some}
 use Rattle.std.proofs.Common.{None, refl, sym}
 use Rattle.std.proofs.Common.{ap, ◌∙◌, subst, append-nil}
-use Rattle.command_bodies.specs.Command.{effect_of}
 use Rattle.front.proofs.Showing.{is_after}
 use Rattle.std.proofs.Math.Seq.{append_snoc}
 use Rattle.front.specs.Fronts.{FrontView, Told, retold_world, IsOut, FrontShows}
@@ -21,6 +20,7 @@ use Rattle.placement.specs.Layout.{Layout}
 use Rattle.skeen_core.specs.Group.{EachOnce}
 use Rattle.skeen_core.specs.declared.packet.Delivered.{Delivered}
 use Rattle.system_view.proofs.Running.{connections_run}
+use Rattle.tasks.specs.Tasks.{task_effect}
 use Rattle.world.specs.Steps.{Effect, names, map_after, ended_as, RunInTurn, if_starved, starved_among, RunsLayer}
 use Rattle.world.specs.World.{World, Request, Ended, Layer, Taken, HasRun}
 use Rattle.world_laws.proofs.Layers.{run_of_layer, taken_once}
@@ -74,8 +74,8 @@ pub runs_so : (asked : Asked) (starved : List RequestId) (m : Map) (ds : List De
 runs_so asked starved m [] are = ([], refl)
 runs_so asked starved m (d ∷ ds) are =
     let q = are d (inl refl) in
-    let e = ended_as starved m d q.0.command in
-    let rest = runs_so asked starved (map_after e.reply e.command m) ds (λ other there. are other (inr there)) in
+    let e = ended_as starved m d q.0.task in
+    let rest = runs_so asked starved (map_after e.reply e.task m) ds (λ other there. are other (inr there)) in
     (e ∷ rest.0, ((q.0, q.1, refl), rest.1))
 
 -- ---- who starves
@@ -130,19 +130,19 @@ module _ (asked : Asked) (all : List RequestId) where
       let passes : names all d.id ≡ false =
       tells d (inl refl) ∙ named_in (stamped_ids starved) d.id (λ there. once.0 (starved_out ds rs starved rest d.id there)) in
       let replied = ap (λ (x : Ended). x.reply) ran.0.2
-      ∙ ap (λ b. cond b None (Some (effect_of ran.0.0.command m).1)) passes in
+      ∙ ap (λ b. cond b None (Some (task_effect ran.0.0.task m).1)) passes in
       ap (λ o. if_starved o e.id (starved_among es)) replied
-      ∙ starve_so (map_after e.reply e.command m) ds es rs starved rest once.1 (λ other there. tells other (inr there)) ran.1
+      ∙ starve_so (map_after e.reply e.task m) ds es rs starved rest once.1 (λ other there. tells other (inr there)) ran.1
   starve_so m (d ∷ ds) (e ∷ es) rows starved (inr (ss, next, rest)) once tells ran =
       let named : names all d.id ≡ true =
       tells d (inl refl) ∙ ap (λ l. names (stamped_ids l) d.id) next.split
       ∙ ap (λ i. same_id i d.id || names (stamped_ids ss) d.id) next.id
       ∙ ap (λ b. b || names (stamped_ids ss) d.id) (same_id-refl d.id) in
       let starves = ap (λ (x : Ended). x.reply) ran.0.2
-      ∙ ap (λ b. cond b None (Some (effect_of ran.0.0.command m).1)) named in
+      ∙ ap (λ b. cond b None (Some (task_effect ran.0.0.task m).1)) named in
       ap (λ o. if_starved o e.id (starved_among es)) starves
       ∙ ap (λ i. i ∷ starved_among es) (ap (λ (x : Ended). x.id) ran.0.2 ∙ sym next.id)
-      ∙ ap (λ l. next.name.0 ∷ l) (starve_so (map_after e.reply e.command m) ds es rows ss rest once.1 tells-rest ran.1)
+      ∙ ap (λ l. next.name.0 ∷ l) (starve_so (map_after e.reply e.task m) ds es rows ss rest once.1 tells-rest ran.1)
       ∙ sym (ap stamped_ids next.split)
     where
       tells-rest : (other : Delivered) → In other ds → names all other.id ≡ names (stamped_ids ss) other.id

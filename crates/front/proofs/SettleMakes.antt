@@ -5,8 +5,8 @@ use Rattle.std.proofs.Common.{refl, sym, ap, ◌∙◌, subst, append-nil, appen
 use Rattle.std.proofs.lemmas.Bool.{both_ways}
 use Rattle.std.proofs.lemmas.List.{map-append}
 use Rattle.std.specs.List.{AllZip}
-use Rattle.command_table.specs.Reading.{reading}
 use Rattle.execution_order.specs.Rows.{IsRow}
+use Rattle.tasks.specs.Tasks.{task_reading}
 use Rattle.front.proofs.Once.{of_id, once_right}
 use Rattle.front.proofs.Parts.{zip_in, zip_append, executed, starving, in_parts, in_the_parts, in_either}
 use Rattle.front.proofs.Parts.{executed_in, IsRowOf, IsNameOf, parts_of}
@@ -162,9 +162,9 @@ module _ (old : FrontView) (done : Results) (of : CameOf old.out done) where
     connections = same_standings old.router (retold_world now w) (retold_world before w).standing (retold_world now w).standing
         (stands_same old.table w (good_world old.table h w at'.leads) es has_run before now others) at'.shows.connections
 
-    -- the words of a row say its command
+    -- the words of a row say its task
     says : HaveTheirWords old.router done → (e : Ended) (row : DoneRow) → In e es → In row done.rows → row.id ≡ e.id →
-        reading row.words ≡ Ok e.command
+        task_reading row.words ≡ Ok e.task
     says have e row here there id =
         let kept = kept_for old.table h w es at'.shows.settled now at'.leads has_run split old.router connections e here in
         let same : connection old.router row.id.conn.0 ≡ Some kept.v =
@@ -173,11 +173,11 @@ module _ (old : FrontView) (done : Results) (of : CameOf old.out done) where
         let shown = kept_words kept.v (kept.v.seq == row.id.seq) (retold_world now w) e.id.conn.0 row.words words
         (kept_at old.router (retold_world now w) e.id.conn.0 kept.v kept.kept connections) in
         let this : id_of e.id.conn.0 kept.v.seq ≡ e.id = same_request (id_of e.id.conn.0 kept.v.seq) e.id refl kept.seq in
-        let asked = (good_world old.table h w at'.leads).run.commands e
+        let asked = (good_world old.table h w at'.leads).run.tasks e
         (in_ended old.table h w es at'.shows.settled now at'.leads has_run split e here) in
         let one : shown.0 ≡ asked.0 =
         some_same shown.0 asked.0 (sym shown.1 ∙ ap w.asked this ∙ asked.1) in
-        shown.2 ∙ ap (λ (q : Request). Ok q.command) one ∙ ap Ok (sym asked.2)
+        shown.2 ∙ ap (λ (q : Request). Ok q.task) one ∙ ap Ok (sym asked.2)
 
     parts : AllZip IsRowOf (executed es) done.rows × AllZip IsNameOf (starving es) done.starved
     parts = parts_of es done.rows done.starved merge once_out starve

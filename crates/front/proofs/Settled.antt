@@ -94,7 +94,7 @@ module _ (t : Layout) (h : List Step) (w : World) (es before : List Ended) (now 
 
     pub kept_for : (e : Ended) → In e es → IsKeptFor r e.id
     kept_for e there =
-        let asked = good.run.commands e (in_ended e there) in
+        let asked = good.run.tasks e (in_ended e there) in
         elim (shows.under_way e.id asked.0 asked.1) [
           | inl done ↦ absurd (ends_apart before es e once_ended (settled_so e.id done) there)
           | inr kept ↦ kept

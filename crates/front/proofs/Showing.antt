@@ -7,16 +7,14 @@ use Rattle.front.specs.Making.{IsStep, Makes, Collects}
 use Rattle.journal.specs.declared.step.Step.{Step}
 use Rattle.journal.specs.declared.step.Step.TheVariants.{Open, Submit, Deliver, Take, Run, Settle, Collect, Close}
 use Rattle.groups.specs.declared.request.ConnId.{ConnId}
-use Rattle.command_table.specs.Reading.{reading}
-use Rattle.command_table.specs.declared.command.Command.{Command}
 use Rattle.command_table.specs.declared.refusal.Refusal.{Refusal}
 use Rattle.multicast.specs.Multicast.{MulticastView, IsSame}
-use Rattle.placement.specs.Groups.{groups_of}
 use Rattle.placement.specs.Layout.{Layout, IsTable}
 use Rattle.router.specs.Router.{RouterView}
 use Rattle.std.proofs.Common.{Result, Ok, Err, Option}
 use Rattle.system_view.specs.Connections.{ShowsConnections}
 use Rattle.system_view.specs.Multicast.{ShowsMulticast}
+use Rattle.tasks.specs.Tasks.{Task, task_reading, task_groups}
 use Rattle.world.specs.Steps.{opening, Effect, Steps, Leads, submitted, submitted_to}
 use Rattle.world.specs.Steps as world
 use Rattle.world.specs.World.{World, Standing, Closed, Idle, Waiting, Answered, Layer}
@@ -83,12 +81,12 @@ NoRun step = Unit {0}
 unrun : (w w' after : World) → w' ≡ after → HasNotRun after.layer → HasNotRun w'.layer
 unrun w w' after is not_run = subst (λ (v : World). HasNotRun v.layer) (sym is) not_run
 
-submit_unrun : (t : Layout) (w : World) (c : ℕ) (read : Result Command Refusal) → HasNotRun w.layer →
+submit_unrun : (t : Layout) (w : World) (c : ℕ) (read : Result Task Refusal) → HasNotRun w.layer →
     HasNotRun (submitted t w c read).layer
 submit_unrun t w c (Err refusal) not_run = not_run
-submit_unrun t w c (Ok command) not_run = by_groups (groups_of t command)
+submit_unrun t w c (Ok task) not_run = by_groups (task_groups t task)
   where
-    by_groups : (gs : List ℕ) → HasNotRun (submitted_to w c command gs).layer
+    by_groups : (gs : List ℕ) → HasNotRun (submitted_to w c task gs).layer
     by_groups [] = not_run
     by_groups (g ∷ gs) = not_run
 
@@ -104,7 +102,7 @@ pub still_unrun : (t : Layout) (w w' : World) (step : Step) (effect : Effect) �
     HasNotRun w.layer → HasNotRun w'.layer
 still_unrun t w w' Open effect plain made not_run = unrun w w' _ made.after not_run
 still_unrun t w w' (Submit conn words) effect plain made not_run =
-    unrun w w' _ made.after (submit_unrun t w conn.0 (reading words) not_run)
+    unrun w w' _ made.after (submit_unrun t w conn.0 (task_reading words) not_run)
 still_unrun t w w' (Deliver k) effect plain made not_run = unrun w w' _ made.after not_run
 still_unrun t w w' Take effect plain made not_run = unrun w w' _ made.after tt
 still_unrun t w w' (Run starved) effect plain made not_run = absurd plain

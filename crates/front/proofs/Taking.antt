@@ -67,7 +67,7 @@ takes_layer w ds none layer some = record {
 abbrev IsPending : Standing → World → RequestId → Type 0
 IsPending s w i = (p : Pending) × (s ≡ router.Waiting p) × Waits w i p.asked
 
--- the words of one that waits say the command with which it was submitted
+-- the words of one that waits say the task with which it was submitted
 pub its_words : (w : World) (i : RequestId) (asked : Worded) → Waits w i asked → AreItsWords w i asked.words
 its_words w i asked waits = (waits.0, waits.1, asked.says ∙ ap Ok (sym waits.2))
 
@@ -168,7 +168,7 @@ module _ (t : Layout) (w : World) (standing : ℕ → Stand) (front : List Deliv
         | inr out ↦ absurd (not_in_front out)
       ]
 
-  -- so the router has its command with its words
+  -- so the router has its task with its words
   pub take_pending : (p : Pending) × (pending_at (connection r d.id.conn.0) d.id.seq ≡ Some p) × Waits w d.id p.asked
   take_pending = (
     is_pending.0,

@@ -3,8 +3,8 @@ use Rattle.std.proofs.Common.{◌≡◌, ℕ, true, List, [], ◌∷◌, ◌++�
 use Rattle.std.proofs.Common.{is_none, Ok, refl, sym}
 use Rattle.std.proofs.Common.{ap, ◌∙◌, subst}
 use Rattle.std.specs.List.{AllZip}
-use Rattle.command_table.specs.Reading.{reading}
 use Rattle.execution_order.specs.Rows.{IsRow}
+use Rattle.tasks.specs.Tasks.{task_reading}
 use Rattle.front.proofs.Parts.{executed, if_executed, IsRowOf}
 use Rattle.front.specs.Fronts.{Told, retold, retold_reply, retold_outcome, retold_standing}
 use Rattle.front.specs.Settling.{row_of}
@@ -80,11 +80,11 @@ rows_same before now [] same = refl
 rows_same before now (e ∷ es) same = λ k.
     record e { reply = same e (inl refl) k } ∷ rows_same before now es (λ x there. same x (inr there)) k
 
--- what is told of a request that was executed: its reply; and its words say its command
+-- what is told of a request that was executed: its reply; and its words say its task
 pub record IsToldRow (now : Told) (e : Ended) (r : DoneRow) : Type 0 where
   pub of : IsRowOf e r
   pub reply : now e.id ≡ Some (content r.reply)
-  pub says : reading r.words ≡ Ok e.command
+  pub says : task_reading r.words ≡ Ok e.task
 
 -- the rows of a layer's executed requests are those that are kept
 pub rows_told : (now : Told) (es : List Ended) (rows : List DoneRow) →

@@ -11,6 +11,7 @@ use Rattle.journal.specs.declared.step.Step.{Step}
 use Rattle.journal.specs.declared.step.Step.TheVariants as step
 use Rattle.keyspace.specs.Map.{Map}
 use Rattle.layer_planner.specs.declared.job.Job.{Job}
+use Rattle.tasks.specs.Tasks.{task_reading}
 use Rattle.picture.proofs.Lasts.{jobs-more, jobs-run}
 use Rattle.picture.proofs.Runs.{told_more, made_more, last_more, submitted_layer, collected_layer}
 use Rattle.picture.specs.Arrivals.{Receipt, delivered_by, delivered_from, delivery_in, delivery_of, receipt_in, received_by, received_from}
@@ -26,7 +27,6 @@ use Rattle.picture.specs.declared.recorder.Before.TheVariants as before
 use Rattle.picture.specs.declared.recorder.Recorder.{Recorder}
 use Rattle.picture_shapes.specs.declared.facts.PacketFacts.{PacketFacts}
 use Rattle.placement.specs.Layout.{Layout}
-use Rattle.command_table.specs.Reading.{reading}
 use Rattle.router.specs.Connection.{outcome_in}
 use Rattle.router.specs.Router.{outcome_at}
 use Rattle.router.specs.declared.connection.Connection.{Connection}
@@ -100,7 +100,7 @@ ids-run : (asked : Asked) (starved : List RequestId) (m : Map) (ds : List Delive
 ids-run asked starved m [] es run = sym (ap (map (λ (e : Ended). e.id)) run)
 ids-run asked starved m (d ∷ ds) [] run = absurd run
 ids-run asked starved m (d ∷ ds) (e ∷ es) run =
-    let rest = ids-run asked starved (map_after e.reply e.command m) ds es run.1 in λ i. (sym run.0.2 i).id ∷ rest i
+    let rest = ids-run asked starved (map_after e.reply e.task m) ds es run.1 in λ i. (sym run.0.2 i).id ∷ rest i
 
 -- ---- a step
 
@@ -262,7 +262,7 @@ module _ (t : Layout) (w w' : World) (n : ℕ) (before' after : SystemView) (sho
       Notes n b e after old new → Tells n w s w' old new
   tells step.Open e b landed is was lands put = plain (other b e was put) (ap (λ v. v.layer) is.after) step.Open refl refl refl refl
   tells (step.Submit conn words) e b landed is was lands put =
-      plain (other b e was put) (ap (λ v. v.layer) is.after ∙ submitted_layer t w conn.0 (reading words)) (step.Submit conn words) refl refl
+      plain (other b e was put) (ap (λ v. v.layer) is.after ∙ submitted_layer t w conn.0 (task_reading words)) (step.Submit conn words) refl refl
       refl refl
   tells (step.Deliver k) e b landed is was lands put =
       comes landed is.packet e k (lands ∙ slice_get-map flight_of w.packets k ∙ ap (option_map flight_of) is.there) is.there

@@ -5,14 +5,13 @@ use Rattle.std.proofs.lemmas.List.{append_assoc}
 use Rattle.std.specs.Cmp.Lexicographic.{bytes_decides}
 use Rattle.std.specs.FinMap.{empty}
 use Rattle.std.specs.List.{AllZip, flat_map}
-use Rattle.command_bodies.specs.Command.{effect_of}
-use Rattle.command_bodies.specs.InTurn.{solo_from}
 use Rattle.dumps.specs.Dump.{dump_text}
-use Rattle.execution_order.specs.Entries.{Row, commands_of, entries_of, replies_of, rows_by_stamp}
+use Rattle.execution_order.specs.Entries.{Row, tasks_of, entries_of, replies_of, rows_by_stamp}
 use Rattle.journal.specs.Views.{RowView}
 use Rattle.keyspace.specs.Map.{Map}
 use Rattle.resp.specs.Text.{text}
 use Rattle.system_view.specs.Layers.{IsRow, AreRows}
+use Rattle.tasks.specs.Tasks.{task_effect, tasks_in_turn}
 use Rattle.world_laws.specs.Headline.{IsOneThread, rows_of}
 use Rattle.replay.proofs.Places.{zip_at, zip_beside}
 use Rattle.replay.specs.Order.{Key, ArePlaced}
@@ -34,8 +33,8 @@ Whole E keys out all m last same agree =
 
 -- what is done with one row
 abbrev pub RowDone : RowView → List ℕ → List ℕ → Map → Map → Bool → Type 0
-RowDone row out out' m m' as_it_was = (e : Row) → IsRow e row → (out' ≡ out ++ row_line e) × (m' ≡ (effect_of e.entry.command m).0)
-    × (as_it_was ≡ bytes_eq (text (effect_of e.entry.command m).1) (text e.reply))
+RowDone row out out' m m' as_it_was = (e : Row) → IsRow e row → (out' ≡ out ++ row_line e) × (m' ≡ (task_effect e.entry.task m).0)
+    × (as_it_was ≡ bytes_eq (text (task_effect e.entry.task m).1) (text e.reply))
 
 same_one : (e f : Row) → Some e ≡ Some f → e ≡ f
 same_one e f is = cc
@@ -59,7 +58,7 @@ next_row E R key keys row out out' all m m' last same as_it_was same' agree are 
       ap (λ n. left_by n rs) is.1 ∙ maps,
       ap (λ b. b && replies_agree m' rs) both ∙ and_assoc same as_it_was (replies_agree m' rs)
           ∙ ap (λ b. same && (b && replies_agree m' rs)) is.2
-          ∙ ap (λ n. same && (bytes_eq (text (effect_of r.entry.command m).1) (text r.reply) && replies_agree n rs)) is.1 ∙ sames,
+          ∙ ap (λ n. same && (bytes_eq (text (task_effect r.entry.task m).1) (text r.reply) && replies_agree n rs)) is.1 ∙ sames,
     )
 
 -- the row at a key is there
@@ -74,14 +73,14 @@ row_there E R key keys out all m last same agree are (r ∷ rs, placed, texts, m
 same_texts : (a b : List ℕ) → a ≡ b → bytes_eq a b ≡ true
 same_texts a b e = (bytes_decides a b).1 e
 
-all_agree : (m : Map) (rows : List Row) → replies_of rows ≡ (solo_from m (commands_of (entries_of rows))).1 → replies_agree m rows ≡ true
+all_agree : (m : Map) (rows : List Row) → replies_of rows ≡ (tasks_in_turn m (tasks_of (entries_of rows))).1 → replies_agree m rows ≡ true
 all_agree m [] is = refl
 all_agree m (r ∷ rs) is =
-    let first : r.reply ≡ (effect_of r.entry.command m).1 = cc in
-    let rest : replies_of rs ≡ (solo_from (effect_of r.entry.command m).0 (commands_of (entries_of rs))).1 = cc in
-    ap (λ b. b && replies_agree (effect_of r.entry.command m).0 rs)
-    (same_texts (text (effect_of r.entry.command m).1) (text r.reply) (ap text (sym first)))
-    ∙ all_agree (effect_of r.entry.command m).0 rs rest
+    let first : r.reply ≡ (task_effect r.entry.task m).1 = cc in
+    let rest : replies_of rs ≡ (tasks_in_turn (task_effect r.entry.task m).0 (tasks_of (entries_of rs))).1 = cc in
+    ap (λ b. b && replies_agree (task_effect r.entry.task m).0 rs)
+    (same_texts (text (task_effect r.entry.task m).1) (text r.reply) (ap text (sym first)))
+    ∙ all_agree (task_effect r.entry.task m).0 rs rest
 
 -- rows and contents that are one thread's agree with it
 pub one_thread_agrees : (contents : Map) (rows : List Row) → IsOneThread contents rows → agrees rows (dump_text contents) ≡ true

@@ -4,11 +4,11 @@ use Rattle.std.proofs.Common.{length, take, drop, zero, ◌<◌, inl, inr, Optio
 use Rattle.std.proofs.Common.{refl, sym, ap, ◌∙◌, subst, arith, length-append}
 use Rattle.std.proofs.lemmas.Bool.{and_parts, or_cases}
 use Rattle.std.specs.List.{AllByRecursion, list_all, list_any}
-use Rattle.command_bodies.specs.Command.{effect_of}
 use Rattle.journal.specs.declared.step.Step.{Step}
 use Rattle.journal.specs.declared.step.Step.TheVariants as step
 use Rattle.keyspace.specs.Map.{Map}
 use Rattle.placement.specs.Layout.{Layout}
+use Rattle.tasks.specs.Tasks.{task_effect}
 use Rattle.replay.proofs.Places.{split_at, take_next}
 use Rattle.replay.specs.Replay.{IsRefusal, IsRefusedAt, StandsAt, IsFaultOf, IsRefusalOf, named_in, starved_in}
 use Rattle.replay.specs.declared.fault.ReplayFault.{ReplayFault}
@@ -63,11 +63,11 @@ run_alike asked starved skip m (d ∷ ds) (e ∷ es) alike run = (
       id = d.id;
       stamp = d.stamp;
       groups = d.groups;
-      command = run.0.0.command;
-      reply = cond b None (Some (effect_of run.0.0.command m).1);
+      task = run.0.0.task;
+      reply = cond b None (Some (task_effect run.0.0.task m).1);
     }) (alike d (inl refl)),
   ),
-  run_alike asked starved skip (map_after e.reply e.command m) ds es (λ f there. alike f (inr there)) run.1,
+  run_alike asked starved skip (map_after e.reply e.task m) ds es (λ f there. alike f (inr there)) run.1,
 )
 
 -- those that starved are all named

@@ -2,18 +2,15 @@
 use Rattle.std.specs.Prelude.{ℕ, Bool, true, false, ◌&&◌, List, [], ◌∷◌, ◌++◌, codes, decimal, bytes_eq}
 use Rattle.std.specs.FinMap.{empty}
 use Rattle.std.specs.List.{flat_map}
-use Rattle.command_bodies.specs.Command.{effect_of}
-use Rattle.command_bodies.specs.InTurn.{solo_from}
-use Rattle.command_table.specs.Command.{name_of}
-use Rattle.command_table.specs.declared.command.Command.{Command}
 use Rattle.dumps.specs.Dump.{dump_text}
-use Rattle.execution_order.specs.Entries.{Row, commands_of, entries_of, rows_by_stamp}
+use Rattle.execution_order.specs.Entries.{Row, tasks_of, entries_of, rows_by_stamp}
 use Rattle.hex.specs.Hex.{encode_lower}
 use Rattle.journal.specs.TraceText.{id_text}
 use Rattle.keyspace.specs.Map.{Map}
 use Rattle.resp.specs.Text.{text}
 use Rattle.groups.specs.declared.request.RequestId.{RequestId}
 use Rattle.groups.specs.declared.stamp.Stamp.{Stamp}
+use Rattle.tasks.specs.Tasks.{Task, task_name, task_effect, tasks_in_turn}
 use Rattle.world.specs.Steps.{starved_among}
 use Rattle.world.specs.World.{World}
 use Rattle.world_laws.specs.Headline.{rows_of}
@@ -22,14 +19,14 @@ abbrev pub stamp_text : Stamp → List ℕ
 stamp_text s = decimal s.clock ++ codes "." ++ decimal s.group
 
 -- `row CLOCK.GROUP CONN.SEQ NAME REPLY`, and LF
-abbrev pub line_of : Stamp → RequestId → Command → List ℕ → List ℕ
-line_of stamp id command reply =
-    codes "row " ++ stamp_text stamp ++ codes " " ++ id_text id ++ codes " " ++ name_of command ++ codes " " ++ encode_lower reply
+abbrev pub line_of : Stamp → RequestId → Task → List ℕ → List ℕ
+line_of stamp id task reply =
+    codes "row " ++ stamp_text stamp ++ codes " " ++ id_text id ++ codes " " ++ task_name task ++ codes " " ++ encode_lower reply
     ++ codes "\n"
 
 -- the line of an executed request
 abbrev pub row_line : Row → List ℕ
-row_line r = line_of r.entry.stamp r.entry.id r.entry.command (text r.reply)
+row_line r = line_of r.entry.stamp r.entry.id r.entry.task (text r.reply)
 
 -- `starved CONN.SEQ`, and LF
 abbrev pub starved_line : RequestId → List ℕ
@@ -41,11 +38,11 @@ starved_line id = codes "starved " ++ id_text id ++ codes "\n"
 abbrev pub replies_agree : Map → List Row → Bool
 replies_agree m [] = true
 replies_agree m (r ∷ rs) =
-    bytes_eq (text (effect_of r.entry.command m).1) (text r.reply) && replies_agree (effect_of r.entry.command m).0 rs
+    bytes_eq (text (task_effect r.entry.task m).1) (text r.reply) && replies_agree (task_effect r.entry.task m).0 rs
 
 -- the map that it leaves
 abbrev pub left_by : Map → List Row → Map
-left_by m rows = (solo_from m (commands_of (entries_of rows))).0
+left_by m rows = (tasks_in_turn m (tasks_of (entries_of rows))).0
 
 -- from no keys on it gives each its reply, and leaves the map of this dump
 abbrev pub agrees : List Row → List ℕ → Bool

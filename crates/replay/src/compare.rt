@@ -2,10 +2,10 @@
 
 ghost use Rattle.std.specs.Prelude.{◌≡◌, ◌++◌, IfOk, List, bytes_eq};
 ghost use Rattle.std.specs.List.{AllZip, flat_map};
-ghost use Rattle.command_bodies.specs.Command.{effect_of};
 ghost use Rattle.execution_order.specs.Entries.{Row as Executed, rows_by_stamp};
 ghost use Rattle.resp.specs.Text.{text};
 ghost use Rattle.system_view.specs.Layers.{IsRow};
+ghost use Rattle.tasks.specs.Tasks.{task_effect};
 ghost use Rattle.replay.specs.Report.{row_line, replies_agree, left_by};
 
 use crate::lines::put_row_line;
@@ -53,8 +53,8 @@ fn put_row<S: BuildHasher>(
 ) -> Result<bool, AllocError>
     ensures { IfOk result (λ same. (executed : Executed) → IsRow executed row.now →
         (out.new.items ≡ out.old.items ++ row_line executed)
-        × (solo.new ≡ (effect_of executed.entry.command solo.old).0)
-        × (same ≡ bytes_eq (text (effect_of executed.entry.command solo.old).1) (text executed.reply))) }
+        × (solo.new ≡ (task_effect executed.entry.task solo.old).0)
+        × (same ≡ bytes_eq (text (task_effect executed.entry.task solo.old).1) (text executed.reply))) }
 {
     let Ok(command) = read(row.request(alloc)?) else {
         return Ok(false);

@@ -9,9 +9,9 @@ ghost use Rattle.router.specs.declared.connection.Standing.TheVariants.{Answered
 ghost use Rattle.router.specs.Submitting.{Submits, IsRefused, IsIdle, IsIdleAt, StandsBy, groups_by};
 ghost use Rattle.router.specs.declared.submission.SubmitFault.{SubmitFault};
 ghost use Rattle.router.specs.declared.connection.Connection.{Connection};
-ghost use Rattle.command_table.specs.Reading.{reading};
 ghost use Rattle.command_table.specs.declared.command.Command.TheVariants.{Local};
 ghost use Rattle.command_table.specs.declared.local_commands.LocalCommand.{LocalCommand};
+ghost use Rattle.tasks.specs.Tasks.{task_reading};
 
 use super::connection::{Connection, Pending, Standing};
 use super::outcome::Outcome;
@@ -329,8 +329,8 @@ fn standing_of(
     id: RequestId,
     words: Request,
 ) -> Result<(Standing, Groups), SubmitFault>
-    ensures standing { IfOk result (λ r. StandsBy id words (reading words) r.0) }
-    ensures groups { IfOk result (λ r. r.1 ≡ groups_by table.now (reading words)) }
+    ensures standing { IfOk result (λ r. StandsBy id words (task_reading words) r.0) }
+    ensures groups { IfOk result (λ r. r.1 ≡ groups_by table.now (task_reading words)) }
     ensures fault { IfErr result (λ e. e ≡ SubmitFault.Memory) }
 {
     match Worded::read(alloc, words) {

@@ -17,7 +17,7 @@ use Rattle.layer_planner.specs.Units.{groups_each, AreUnitsOf}
 use Rattle.layer_planner.specs.declared.job.Job.{Job}
 use Rattle.placement.specs.Layout.{Layout, IsTable}
 use Rattle.resp.specs.Content.{Content}
-use Rattle.shard_maps.proofs.Spans.{numbers-span_at, groups_of-below}
+use Rattle.shard_maps.proofs.Spans.{numbers-span_at}
 use Rattle.shard_maps.specs.Joined.{joined, HasOwnKeys, Span, numbers, span_at, union, SpanHasOwnKeys}
 use Rattle.shard_maps.specs.Layer as layers
 use Rattle.shard_maps.specs.Laws.{TakenOutAsTheyWere, PartsAreInTurn}
@@ -31,6 +31,7 @@ use Rattle.shard_workers.specs.declared.task.Task.{Task}
 use Rattle.shard_workers.specs.declared.task.TaskRan.{TaskRan}
 use Rattle.shard_workers.specs.declared.work.Work.{Work}
 use Rattle.shard_workers.specs.declared.work.Ran.{Ran}
+use Rattle.tasks.proofs.Groups.{task_groups-below}
 use Rattle.shard_exec.specs.Dealing.{flat, left_at, placed, all_works, all_rans, tasks_of, spans_of, AreInside}
 use Rattle.shard_exec.specs.DealtRooms.{IsForGroups, MadeWorks, FitsPart, HaveRoomFor, all_rooms, IsInRow}
 use Rattle.shard_exec.specs.Layers.{commands_of, AddressTheirGroups, HaveGiven, TookTasks}
@@ -218,7 +219,7 @@ unit_inside table layer units a of (p ∷ u) i g there = at_place (some_job laye
     some_job (j ∷ js) (suc k) h = some_job js k (omega (arith, h))
 
     at_place : (j : Job) × (slice_get layer p ≡ Some j) → g < table.shards
-    at_place j = groups_of-below table j.0.asked.command g
+    at_place j = task_groups-below table j.0.asked.command g
         (ap (λ gs. has gs g) (sym (address_at table layer a p j.0 j.1)) ∙ ap (λ gs. has gs g) (sym (get_set layer p j.0 j.1)) ∙ there)
 
 pub rooms_inside : (table : Layout) (layer : List Job) (units : List (List ℕ)) (n : ℕ) → n ≡ table.shards → AddressTheirGroups table layer

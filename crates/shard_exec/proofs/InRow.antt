@@ -11,10 +11,9 @@ use Rattle.groups.specs.declared.request.RequestId.{RequestId}
 use Rattle.keyspace.specs.Map.{Map}
 use Rattle.layer_planner.specs.Units.{groups_at, IsUnit, AreUnitsOf}
 use Rattle.layer_planner.specs.declared.job.Job.{Job}
-use Rattle.placement.specs.Groups.{groups_of}
 use Rattle.placement.specs.Layout.{Layout, IsTable}
 use Rattle.shard_maps.proofs.Rows.{at-put_span, at-emptied, length-emptied, picked-put_span, taken_out-picked}
-use Rattle.shard_maps.proofs.Spans.{numbers-span_at, IsAscending-groups_of, groups_of-below}
+use Rattle.shard_maps.proofs.Spans.{numbers-span_at}
 use Rattle.shard_maps.specs.Joined.{map_of_shard, HasOwnKeys, Span, numbers, span_at, SpanHasOwnKeys}
 use Rattle.shard_maps.specs.Laws.{WorksAreInTurn}
 use Rattle.shard_maps.specs.Rows.{taken_out, emptied, put_span}
@@ -22,16 +21,18 @@ use Rattle.shard_workers.proofs.Turns.{one_over}
 use Rattle.shard_workers.specs.Tasks.{HasRunOn, IsReadyFor, HasRunOver}
 use Rattle.shard_workers.specs.declared.task.Task.{Task}
 use Rattle.shard_workers.specs.declared.task.TaskRan.{TaskRan}
+use Rattle.tasks.specs.Tasks.{task_groups}
+use Rattle.tasks.proofs.Groups.{IsAscending-task_groups, task_groups-below}
 use Rattle.shard_exec.specs.Layers.{is_named, IsDone, ended_of}
 use Rattle.shard_exec.specs.RowRuns.{HasRunInRow}
 use Rattle.shard_exec.proofs.RowLaws.{own_span, row_given}
 
 module _ (table : Layout) (maps : List Map) (t : Task) (is_table : IsTable table) (long : length maps ≡ table.shards)
-    (own : HasOwnKeys table maps) (groups : t.job.groups ≡ groups_of table t.job.asked.command) where
+    (own : HasOwnKeys table maps) (groups : t.job.groups ≡ task_groups table t.job.asked.command) where
   -- its shards are in the row
   pub groups_inside : (g : ℕ) → has t.job.groups g ≡ true → g < length maps
   groups_inside g there =
-      subst (λ n. g < n) (sym long) (groups_of-below table t.job.asked.command g (ap (λ gs. has gs g) (sym groups) ∙ there))
+      subst (λ n. g < n) (sym long) (task_groups-below table t.job.asked.command g (ap (λ gs. has gs g) (sym groups) ∙ there))
 
   pub group_inside : (g : ℕ) → t.job.groups ≡ g ∷ [] → g < length maps
   group_inside g lone = groups_inside g (ap (λ gs. has gs g) lone ∙ or_left _ _ (eq-eqb g g refl))
@@ -57,7 +58,7 @@ module _ (table : Layout) (maps : List Map) (t : Task) (is_table : IsTable table
   }
 
   up : IsAscending t.job.groups
-  up = subst IsAscending (sym groups) (IsAscending-groups_of table t.job.asked.command)
+  up = subst IsAscending (sym groups) (IsAscending-task_groups table t.job.asked.command)
 
   -- over its shards moved out
   pub moved_ready : (span : Span) → span ≡ taken_out empty maps t.job.groups → IsReadyFor table t span
@@ -128,7 +129,7 @@ lone_unit gs = record { each = each; once = once }
         ap (λ x. 0 + cond x 1 0) a ∙ ap (λ x. cond x 1 0) (sym b))
 
 pub alone_done : WorksAreInTurn → (table : Layout) (maps new : List Map) (skip : List RequestId) (t : Task) (r : TaskRan) → IsTable table
-    → HasOwnKeys table maps → t.job.groups ≡ groups_of table t.job.asked.command → t.place ≡ 0 → t.skipped ≡ is_named skip t.job.id
+    → HasOwnKeys table maps → t.job.groups ≡ task_groups table t.job.asked.command → t.place ≡ 0 → t.skipped ≡ is_named skip t.job.id
     → HasRunInRow table t maps r new → IsDone table maps skip (t.job ∷ []) (ended_of r ∷ []) new
 alone_done law table maps new skip t r is_table own groups place skipped run =
     (row_given table maps skip (t.job ∷ []) is_table own (groups, tt) law ((0 ∷ []) ∷ []) (Some t.job ∷ []) (None ∷ []) (Some r ∷ []) new

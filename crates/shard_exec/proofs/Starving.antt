@@ -4,9 +4,6 @@ use Rattle.std.proofs.Common.{◌≡◌, ℕ, zero, suc, ◌+◌, ◌<◌, ◌||
 use Rattle.std.proofs.Common.{slice_get, slice_index_or, inl, inr, arith, refl, sym, ap, ◌∙◌, subst, eq-eqb, ne_eqb}
 use Rattle.std.proofs.lemmas.Bool.{cases_eq, cases_Bool, both_ways, or_left, or_right}
 use Rattle.std.specs.FinMap.{get}
-use Rattle.command_bodies.specs.Answer.{AnswerTakesMemory}
-use Rattle.command_bodies.specs.Command.{effect_of}
-use Rattle.command_table.specs.declared.command.Command.{Command}
 use Rattle.groups.specs.GroupSet.{has, IsAscending}
 use Rattle.groups.specs.Order.{In}
 use Rattle.groups.specs.declared.request.RequestId.{RequestId}
@@ -14,15 +11,17 @@ use Rattle.keyspace.proofs.Gets.{same, get-retain_keys}
 use Rattle.keyspace.specs.Map.{Map}
 use Rattle.layer_planner.specs.Units.{groups_at, IsUnit}
 use Rattle.layer_planner.specs.declared.job.Job.{Job}
-use Rattle.placement.specs.Groups.{groups_of}
 use Rattle.placement.specs.Layout.{Layout, IsTable, shard_of}
 use Rattle.resp.specs.Content.{Content}
-use Rattle.shard_maps.proofs.Spans.{get-union-joined, same_there, same_elsewhere}
+use Rattle.shard_maps.proofs.Spans.{get-union-joined}
 use Rattle.shard_maps.specs.Joined.{joined, HasOwnKeys, union, span_at, Span}
 use Rattle.shard_workers.specs.Runs.{HaveRunOver}
 use Rattle.shard_workers.specs.Tasks.{outcome, MapRan, HasRunOn}
 use Rattle.shard_workers.specs.declared.task.Task.{Task}
 use Rattle.shard_workers.specs.declared.task.TaskRan.{TaskRan}
+use Rattle.tasks.specs.Tasks.{task_groups, task_effect, task_takes_memory}
+use Rattle.tasks.specs.Tasks as executed
+use Rattle.tasks.proofs.Within.{same_elsewhere, same_there}
 use Rattle.shard_exec.specs.Layers.{AddressTheirGroups, is_named, on_groups, left_by, MayStarveInTurn, ended_of}
 use Rattle.shard_exec.specs.declared.done.Ended.{Ended}
 use Rattle.values.specs.declared.Value.{Value}
@@ -43,44 +42,44 @@ cond_twice : (b : Bool) (o : Option Value) → cond b o None ≡ cond b (cond b 
 cond_twice true o = refl
 cond_twice false o = refl
 
-module _ (table : Layout) (c : Command) (m : Map) (is_table : IsTable table) where
+module _ (table : Layout) (c : executed.Task) (m : Map) (is_table : IsTable table) where
   abbrev own_part : Map
-  own_part = on_groups table (groups_of table c) m
+  own_part = on_groups table (task_groups table c) m
 
-  is_part : (q : List ℕ) → get own_part q ≡ cond (has (groups_of table c) (shard_of table q)) (get m q) None
-  is_part q = get-on_groups table (groups_of table c) m q
+  is_part : (q : List ℕ) → get own_part q ≡ cond (has (task_groups table c) (shard_of table q)) (get m q) None
+  is_part q = get-on_groups table (task_groups table c) m q
 
-  of_itself : (q : List ℕ) → get own_part q ≡ cond (has (groups_of table c) (shard_of table q)) (get own_part q) None
-  of_itself q = is_part q ∙ cond_twice (has (groups_of table c) (shard_of table q)) (get m q)
-      ∙ ap (λ o. cond (has (groups_of table c) (shard_of table q)) o None) (sym (is_part q))
+  of_itself : (q : List ℕ) → get own_part q ≡ cond (has (task_groups table c) (shard_of table q)) (get own_part q) None
+  of_itself q = is_part q ∙ cond_twice (has (task_groups table c) (shard_of table q)) (get m q)
+      ∙ ap (λ o. cond (has (task_groups table c) (shard_of table q)) o None) (sym (is_part q))
 
   -- a command leaves on its own shards what it leaves of what they have
-  pub left-own : (o : Option Content) → on_groups table (groups_of table c) (left_by c m o) ≡ left_by c own_part o
+  pub left-own : (o : Option Content) → on_groups table (task_groups table c) (left_by c m o) ≡ left_by c own_part o
   left-own None = refl
-  left-own (Some reply) = same _ _ (λ q. get-on_groups table (groups_of table c) (effect_of c m).0 q ∙ at_key q)
+  left-own (Some reply) = same _ _ (λ q. get-on_groups table (task_groups table c) (task_effect c m).0 q ∙ at_key q)
     where
-      at_key : (q : List ℕ) → cond (has (groups_of table c) (shard_of table q)) (get (effect_of c m).0 q) None
-          ≡ get (effect_of c own_part).0 q
-      at_key q = elim (has (groups_of table c) (shard_of table q)) as (λ b. has (groups_of table c) (shard_of table q) ≡ b
-          → cond b (get (effect_of c m).0 q) None ≡ get (effect_of c own_part).0 q) [
+      at_key : (q : List ℕ) → cond (has (task_groups table c) (shard_of table q)) (get (task_effect c m).0 q) None
+          ≡ get (task_effect c own_part).0 q
+      at_key q = elim (has (task_groups table c) (shard_of table q)) as (λ b. has (task_groups table c) (shard_of table q) ≡ b
+          → cond b (get (task_effect c m).0 q) None ≡ get (task_effect c own_part).0 q) [
             | true ↦ λ there. sym (same_there table c m own_part is_table is_part q there)
             | false ↦ λ away. sym (same_elsewhere table c own_part own_part is_table of_itself q away
                 ∙ is_part q ∙ ap (λ b. cond b (get m q) None) away)
           ] refl
 
   -- and nothing else on shards of groups that it doesn't address
-  pub left-other : (gs : List ℕ) → ((g : ℕ) → has gs g ≡ true → has (groups_of table c) g ≡ true → ⊥) → (o : Option Content)
+  pub left-other : (gs : List ℕ) → ((g : ℕ) → has gs g ≡ true → has (task_groups table c) g ≡ true → ⊥) → (o : Option Content)
       → on_groups table gs (left_by c m o) ≡ on_groups table gs m
   left-other gs apart None = refl
   left-other gs apart (Some reply) = same _ _ (λ q.
-      get-on_groups table gs (effect_of c m).0 q ∙ at_key q ∙ sym (get-on_groups table gs m q))
+      get-on_groups table gs (task_effect c m).0 q ∙ at_key q ∙ sym (get-on_groups table gs m q))
     where
-      at_key : (q : List ℕ) → cond (has gs (shard_of table q)) (get (effect_of c m).0 q) None
+      at_key : (q : List ℕ) → cond (has gs (shard_of table q)) (get (task_effect c m).0 q) None
           ≡ cond (has gs (shard_of table q)) (get m q) None
       at_key q = elim (has gs (shard_of table q)) as (λ b. has gs (shard_of table q) ≡ b
-          → cond b (get (effect_of c m).0 q) None ≡ cond b (get m q) None) [
+          → cond b (get (task_effect c m).0 q) None ≡ cond b (get m q) None) [
             | true ↦ λ there. same_elsewhere table c m own_part is_table is_part q
-                (elim (cases_Bool (has (groups_of table c) (shard_of table q))) [
+                (elim (cases_Bool (has (task_groups table c) (shard_of table q))) [
                   | inl here ↦ absurd (apart (shard_of table q) there here)
                   | inr away ↦ away
                 ])
@@ -92,7 +91,7 @@ module _ (table : Layout) (c : Command) (m : Map) (is_table : IsTable table) whe
 -- the request starves only where it may, on this map
 pub record StarvesOn (skip : List RequestId) (j : Job) (e : Ended) (u : Map) : Type 0 where
   pub skipped : is_named skip j.id ≡ true → outcome e.reply ≡ None
-  pub starved : is_named skip j.id ≡ false → outcome e.reply ≡ None → AnswerTakesMemory j.asked.command u
+  pub starved : is_named skip j.id ≡ false → outcome e.reply ≡ None → task_takes_memory j.asked.command u
 
 abbrev next_map : Bool → Job → Ended → Map → Map
 next_map b j e u = cond b (left_by j.asked.command u (outcome e.reply)) u
@@ -155,7 +154,7 @@ starve_turns table skip sets units t each all n (j ∷ js) (e ∷ es) m at long 
         → on_groups table (unit_groups sets unit) (left_by j.asked.command m (outcome e.reply))
         ≡ next_map b j e (on_groups table (unit_groups sets unit) m)) [
           | true ↦ λ there.
-              let is : groups_of table j.asked.command ≡ unit_groups sets unit =
+              let is : task_groups table j.asked.command ≡ unit_groups sets unit =
               sym (at_n.0 ∙ address.0) ∙ has_unit_groups sets unit (each unit i) n there in
               subst (λ gs. on_groups table gs (left_by j.asked.command m (outcome e.reply))
               ≡ left_by j.asked.command (on_groups table gs m) (outcome e.reply)) is
@@ -163,7 +162,7 @@ starve_turns table skip sets units t each all n (j ∷ js) (e ∷ es) m at long 
           | false ↦ λ away. left-other table j.asked.command m t (unit_groups sets unit) (apart away) (outcome e.reply)
         ] refl
       where
-        apart : has unit n ≡ false → (g : ℕ) → has (unit_groups sets unit) g ≡ true → has (groups_of table j.asked.command) g ≡ true → ⊥
+        apart : has unit n ≡ false → (g : ℕ) → has (unit_groups sets unit) g ≡ true → has (task_groups table j.asked.command) g ≡ true → ⊥
         apart away g there its = first unit (each unit i) away there
           where
             first : (unit : List ℕ) → IsUnit sets unit → has unit n ≡ false → has (unit_groups sets unit) g ≡ true → ⊥
@@ -288,7 +287,7 @@ starve_along skip unit n (j ∷ js) (e ∷ es) is ts rs u same_has up above item
         ∙ ap (left_by j.asked.command u) (sym reply) in (
           λ _. record {
             skipped = λ is_skipped. reply ∙ run.1.skipped (named ∙ is_skipped);
-            starved = λ passed none. subst (λ (x : Job). AnswerTakesMemory x.asked.command u) (sym job)
+            starved = λ passed none. subst (λ (x : Job). task_takes_memory x.asked.command u) (sym job)
                 (run.1.starved (named ∙ passed) (sym reply ∙ none));
           },
           subst (λ b. StarveAlong skip unit (suc n) js es (next_map b j e u)) (sym there)

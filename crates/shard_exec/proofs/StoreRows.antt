@@ -9,8 +9,8 @@ use Rattle.groups.specs.GroupSet.{has}
 use Rattle.keyspace.specs.Map.{Map}
 use Rattle.layer_planner.specs.declared.job.Job.{Job}
 use Rattle.placement.specs.Layout.{Layout}
+use Rattle.tasks.proofs.Groups.{task_groups-below}
 use Rattle.shard_exec.specs.Layers.{AddressTheirGroups, IsInside}
-use Rattle.shard_maps.proofs.Spans.{groups_of-below}
 use Rattle.shard_maps.specs.Joined.{map_of_shard, HasKeysOf, HasOwnKeys}
 use Rattle.shard_maps.specs.Rows.{emptied, emptied_each}
 use Rattle.values.specs.declared.Value.{Value}
@@ -19,7 +19,7 @@ pub all_inside : (table : Layout) (n : ℕ) (jobs : List Job) → n ≡ table.sh
     → AllByRecursion (IsInside n) jobs
 all_inside table n [] e a = tt
 all_inside table n (j ∷ js) e a = (
-  (λ g there. subst (λ m. g < m) (sym e) (groups_of-below table j.asked.command g (ap (λ gs. has gs g) (sym a.0) ∙ there))),
+  (λ g there. subst (λ m. g < m) (sym e) (task_groups-below table j.asked.command g (ap (λ gs. has gs g) (sym a.0) ∙ there))),
   all_inside table n js e a.1,
 )
 

@@ -8,7 +8,6 @@ use Rattle.std.proofs.lemmas.Option.{slice_get_within}
 use Rattle.std.proofs.Math.ListN.{replicate}
 use Rattle.std.specs.List.{AllZip, AllByRecursion, concat}
 use Rattle.std.specs.Option.{IsSome}
-use Rattle.command_table.specs.declared.command.Command.{Command}
 use Rattle.groups.specs.GroupSet.{has}
 use Rattle.groups.specs.Order.{In}
 use Rattle.groups.specs.declared.request.RequestId.{RequestId}
@@ -16,16 +15,17 @@ use Rattle.groups.specs.declared.stamp.Stamp.{Stamp}
 use Rattle.keyspace.specs.Map.{Map}
 use Rattle.layer_planner.specs.Units.{groups_each, groups_at, IsUnit, AreUnitsOf}
 use Rattle.layer_planner.specs.declared.job.Job.{Job}
-use Rattle.placement.specs.Groups.{groups_of}
 use Rattle.placement.specs.Layout.{Layout, IsTable}
 use Rattle.resp.specs.Content.{Content}
-use Rattle.shard_maps.proofs.Spans.{groups_of-below}
 use Rattle.shard_maps.specs.Joined.{joined, HasOwnKeys, Span, numbers, span_at, union, SpanHasOwnKeys}
 use Rattle.shard_maps.specs.Layer as layers
 use Rattle.shard_workers.specs.Runs.{HaveRunOver}
 use Rattle.shard_workers.specs.Tasks.{outcome, IsReadyFor}
 use Rattle.shard_workers.specs.declared.task.Task.{Task}
 use Rattle.shard_workers.specs.declared.task.TaskRan.{TaskRan}
+use Rattle.tasks.specs.Tasks.{task_groups}
+use Rattle.tasks.specs.Tasks as executed
+use Rattle.tasks.proofs.Groups.{task_groups-below}
 use Rattle.shard_exec.specs.Dealing.{filled, flat, placed, AreInside}
 use Rattle.shard_exec.specs.Layers.{commands_of, AddressTheirGroups, is_named, outcomes_of_ended, IsOf, MayStarveInTurn, ended_of}
 use Rattle.shard_exec.specs.Layers.{HasItsGroups, HaveGiven, on_groups}
@@ -401,7 +401,7 @@ groups_in_row table n [] (r ∷ rs) long a z = absurd z
 groups_in_row table n (j ∷ js) [] long a z = tt
 groups_in_row table n (j ∷ js) (r ∷ rs) long a z = (
   (λ g there. subst (λ m. g < m) (sym long)
-      (groups_of-below table j.asked.command g (ap (λ gs. has gs g) (sym (z.0.0 ∙ a.0)) ∙ there))),
+      (task_groups-below table j.asked.command g (ap (λ gs. has gs g) (sym (z.0.0 ∙ a.0)) ∙ there))),
   groups_in_row table n js rs long a.1 z.1,
 )
 
@@ -409,19 +409,19 @@ groups_in_row table n (j ∷ js) (r ∷ rs) long a z = (
 
 abbrev pub works_of : List (List ℕ) → List (List ℕ) → List (List Task) → List layers.Work
 works_of sets (u ∷ us) (ts ∷ tss) =
-    record { places = u; commands = map (λ t. t.job.asked.command) ts; groups = unit_groups sets u } ∷ works_of sets us tss
+    record { places = u; tasks = map (λ t. t.job.asked.command) ts; groups = unit_groups sets u } ∷ works_of sets us tss
 works_of sets _ _ = []
 
 groups_are : (table : Layout) (jobs : List Job) → AddressTheirGroups table jobs
-    → groups_each jobs ≡ map (groups_of table) (commands_of jobs)
+    → groups_each jobs ≡ map (task_groups table) (commands_of jobs)
 groups_are table [] a = refl
 groups_are table (j ∷ js) a =
-    ap (λ (g : List ℕ). g ∷ groups_each js) a.0 ∙ ap (λ (l : List (List ℕ)). groups_of table j.asked.command ∷ l) (groups_are table js a.1)
+    ap (λ (g : List ℕ). g ∷ groups_each js) a.0 ∙ ap (λ (l : List (List ℕ)). task_groups table j.asked.command ∷ l) (groups_are table js a.1)
 
 pub address_at : (table : Layout) (jobs : List Job) → AddressTheirGroups table jobs → (i : ℕ) (j : Job) → slice_get jobs i ≡ Some j
-    → j.groups ≡ groups_of table j.asked.command
+    → j.groups ≡ task_groups table j.asked.command
 address_at table [] a i j e = absurd (let k = e in cc)
-address_at table (x ∷ jobs) a zero j e = subst (λ (v : Job). v.groups ≡ groups_of table v.asked.command) (same_some x j e) a.0
+address_at table (x ∷ jobs) a zero j e = subst (λ (v : Job). v.groups ≡ task_groups table v.asked.command) (same_some x j e) a.0
 address_at table (x ∷ jobs) a (suc i) j e = address_at table jobs a.1 i j e
 
 -- each request of a unit has its groups
@@ -439,7 +439,7 @@ unit_tasks skip layer unit is (i ∷ js) (t ∷ ts) sub z = (
 
 tasks_address : (table : Layout) (skip : List RequestId) (layer : List Job) → AddressTheirGroups table layer
     → (is : List ℕ) (ts : List Task)
-    → AllZip (IsTaskOf skip layer) is ts → AllByRecursion (λ t. t.job.groups ≡ groups_of table t.job.asked.command) ts
+    → AllZip (IsTaskOf skip layer) is ts → AllByRecursion (λ t. t.job.groups ≡ task_groups table t.job.asked.command) ts
 tasks_address table skip layer a [] [] z = tt
 tasks_address table skip layer a [] (t ∷ ts) z = absurd z
 tasks_address table skip layer a (i ∷ is) [] z = absurd z
@@ -454,7 +454,7 @@ are_ready table skip layer t a unit ts span is z ns own =
     each ts (unit_tasks skip layer unit is unit ts (λ i h. h) z) (tasks_address table skip layer a unit ts z)
   where
     each : (us : List Task) → AllByRecursion (λ u. u.job.groups ≡ unit_groups (groups_each layer) unit) us
-        → AllByRecursion (λ u. u.job.groups ≡ groups_of table u.job.asked.command) us → AllByRecursion (λ u. IsReadyFor table u span) us
+        → AllByRecursion (λ u. u.job.groups ≡ task_groups table u.job.asked.command) us → AllByRecursion (λ u. IsReadyFor table u span) us
     each [] g b = tt
     each (u ∷ us) g b = (record { is_table = t; groups = b.0; numbers = ns ∙ sym g.0; own = own }, each us g.1 b.1)
 
@@ -483,27 +483,27 @@ are_works table skip layer units tss a of z = record {
         (λ i t of. get_map (λ (j : Job). j.asked.command) layer i t.job of.at) is ts z
 
     stand : (us : List (List ℕ)) (xss : List (List Task)) → AllZip (AllZip (IsTaskOf skip layer)) us xss → (w : layers.Work)
-        → In w (works_of (groups_each layer) us xss) → layers.StandAt (commands_of layer) w.places w.commands
+        → In w (works_of (groups_each layer) us xss) → layers.StandAt (commands_of layer) w.places w.tasks
     stand [] xss z w there = absurd there
     stand (u ∷ us) [] z w there = absurd there
-    stand (u ∷ us) (xs ∷ xss) z w (inl e) = subst (λ v. layers.StandAt (commands_of layer) v.places v.commands) (sym e)
+    stand (u ∷ us) (xs ∷ xss) z w (inl e) = subst (λ v. layers.StandAt (commands_of layer) v.places v.tasks) (sym e)
         (stand_at (commands_of layer) (λ t. t.job.asked.command) u xs (commands u xs z.0))
     stand (u ∷ us) (xs ∷ xss) z w (inr later) = stand us xss z.1 w later
 
     groups : (us : List (List ℕ)) (xss : List (List Task)) → ((u : List ℕ) → In u us → In u units)
-        → AllZip (AllZip (IsTaskOf skip layer)) us xss → (w : layers.Work) (c : Command)
-        → In w (works_of (groups_each layer) us xss) → In c w.commands → groups_of table c ≡ w.groups
+        → AllZip (AllZip (IsTaskOf skip layer)) us xss → (w : layers.Work) (c : executed.Task)
+        → In w (works_of (groups_each layer) us xss) → In c w.tasks → task_groups table c ≡ w.groups
     groups [] xss sub z w c there in_it = absurd there
     groups (u ∷ us) [] sub z w c there in_it = absurd there
-    groups (u ∷ us) (xs ∷ xss) sub z w c (inl e) in_it = subst (λ v. groups_of table c ≡ v.groups) (sym e)
+    groups (u ∷ us) (xs ∷ xss) sub z w c (inl e) in_it = subst (λ v. task_groups table c ≡ v.groups) (sym e)
         (one xs (unit_tasks skip layer u (of.each u (sub u (inl refl))) u xs (λ i h. h) z.0) (tasks_address table skip layer a u xs z.0)
-        (subst (λ v. In c v.commands) e in_it))
+        (subst (λ v. In c v.tasks) e in_it))
       where
         one : (ts : List Task) → AllByRecursion (λ t. t.job.groups ≡ unit_groups (groups_each layer) u) ts
-            → AllByRecursion (λ t. t.job.groups ≡ groups_of table t.job.asked.command) ts → In c (map (λ t. t.job.asked.command) ts)
-            → groups_of table c ≡ unit_groups (groups_each layer) u
+            → AllByRecursion (λ t. t.job.groups ≡ task_groups table t.job.asked.command) ts → In c (map (λ t. t.job.asked.command) ts)
+            → task_groups table c ≡ unit_groups (groups_each layer) u
         one [] g b there = absurd there
-        one (t ∷ ts) g b (inl e) = ap (groups_of table) e ∙ sym b.0 ∙ g.0
+        one (t ∷ ts) g b (inl e) = ap (task_groups table) e ∙ sym b.0 ∙ g.0
         one (t ∷ ts) g b (inr later) = one ts g.1 b.1 later
     groups (u ∷ us) (xs ∷ xss) sub z w c (inr later) in_it = groups us xss (λ x i. sub x (inr i)) z.1 w c later in_it
 

@@ -2,17 +2,15 @@
 use Rattle.std.specs.Prelude.{◌≡◌, ℕ, ◌<◌, Bool, true, false, List, [], ◌∷◌, length, map, Option, Some, None, IsSome, slice_get, slice_set}
 use Rattle.std.specs.FinMap.{retain_keys}
 use Rattle.std.specs.List.{AllZip, AllByRecursion, list_any}
-use Rattle.command_bodies.specs.Answer.{AnswerTakesMemory}
-use Rattle.command_bodies.specs.Command.{effect_of}
-use Rattle.command_table.specs.declared.command.Command.{Command}
 use Rattle.groups.specs.GroupSet.{has}
 use Rattle.groups.specs.Request.{same_id}
 use Rattle.groups.specs.declared.request.RequestId.{RequestId}
 use Rattle.keyspace.specs.Map.{Map}
 use Rattle.layer_planner.specs.declared.job.Job.{Job}
-use Rattle.placement.specs.Groups.{groups_of}
 use Rattle.placement.specs.Layout.{Layout, shard_of}
 use Rattle.resp.specs.Content.{Content}
+use Rattle.tasks.specs.Tasks.{task_groups, task_effect, task_takes_memory}
+use Rattle.tasks.specs.Tasks as executed
 use Rattle.shard_exec.specs.Dealing.{filled}
 use Rattle.shard_exec.specs.declared.done.Ended.{Ended}
 use Rattle.shard_maps.specs.Joined.{joined, HasOwnKeys}
@@ -21,12 +19,12 @@ use Rattle.shard_workers.specs.Tasks.{outcome}
 use Rattle.shard_workers.specs.declared.task.Task.{Task}
 use Rattle.shard_workers.specs.declared.task.TaskRan.{TaskRan}
 
-abbrev pub commands_of : List Job → List Command
+abbrev pub commands_of : List Job → List executed.Task
 commands_of jobs = map (λ j. j.asked.command) jobs
 
 -- each request addresses the groups that the table gives its command
 abbrev pub AddressTheirGroups : Layout → List Job → Type 0
-AddressTheirGroups table jobs = AllByRecursion (λ j. j.groups ≡ groups_of table j.asked.command) jobs
+AddressTheirGroups table jobs = AllByRecursion (λ j. j.groups ≡ task_groups table j.asked.command) jobs
 
 -- the request is one of those that are to be skipped
 abbrev pub is_named : List RequestId → RequestId → Bool
@@ -45,12 +43,12 @@ on_groups table groups m = retain_keys m (λ key. has groups (shard_of table key
 pub record MayStarve (table : Layout) (met : Map) (skip : List RequestId) (j : Job) (e : Ended) : Type 0 where
   pub skipped : is_named skip j.id ≡ true → outcome e.reply ≡ None
   pub starved : is_named skip j.id ≡ false → outcome e.reply ≡ None
-      → AnswerTakesMemory j.asked.command (on_groups table j.groups met)
+      → task_takes_memory j.asked.command (on_groups table j.groups met)
 
 -- what a command leaves of the map that it meets, by what it answers: where it starves, the map as it is
-abbrev pub left_by : Command → Map → Option Content → Map
+abbrev pub left_by : executed.Task → Map → Option Content → Map
 left_by command met None = met
-left_by command met (Some reply) = (effect_of command met).0
+left_by command met (Some reply) = (task_effect command met).0
 
 -- So of each request of a layer: it meets the map that those before it left. What this has on its shards is what they had
 -- before the layer, as the earlier requests of its unit left it, since no other one addresses them.

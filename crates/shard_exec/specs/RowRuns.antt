@@ -6,8 +6,8 @@ use Rattle.groups.specs.GroupSet.{has}
 use Rattle.groups.specs.declared.request.RequestId.{RequestId}
 use Rattle.keyspace.specs.Map.{Map}
 use Rattle.layer_planner.specs.declared.job.Job.{Job}
-use Rattle.placement.specs.Groups.{groups_of}
 use Rattle.placement.specs.Layout.{Layout}
+use Rattle.tasks.specs.Tasks.{task_groups}
 use Rattle.shard_exec.specs.Layers.{IsTaskAt}
 use Rattle.shard_exec.specs.Rooms.{FitsAlone}
 use Rattle.shard_maps.specs.Joined.{map_of_shard, span_at}
@@ -22,7 +22,7 @@ pub record HasRunInRow (table : Layout) (t : Task) (old : List Map) (r : TaskRan
 
 -- the requests in the slots address the groups that the table gives their commands
 abbrev pub AddressAt : Layout → List (Option Job) → Type 0
-AddressAt table slots = (place : ℕ) (j : Job) → slice_get slots place ≡ Some (Some j) → j.groups ≡ groups_of table j.asked.command
+AddressAt table slots = (place : ℕ) (j : Job) → slice_get slots place ≡ Some (Some j) → j.groups ≡ task_groups table j.asked.command
 
 -- there is room for the requests at these places
 abbrev pub FitAt : List (Option Job) → List ℕ → List (Vec (ℕ × Map)) → Type 0

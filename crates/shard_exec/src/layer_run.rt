@@ -3,9 +3,9 @@
 ghost use Rattle.std.proofs.Math.ListN.{replicate};
 ghost use Rattle.std.specs.Prelude.{◌≡◌, [], ◌∷◌, length, true, None, IfOk, IsSome, OnErr};
 ghost use Rattle.std.specs.List.{AllByRecursion};
-ghost use Rattle.placement.specs.Groups.{groups_of};
 ghost use Rattle.placement.specs.Layout.{IsTable};
 ghost use Rattle.shard_maps.specs.Joined.{HasOwnKeys};
+ghost use Rattle.tasks.specs.Tasks.{task_groups};
 ghost use Rattle.shard_exec.specs.Dealing.{filled};
 ghost use Rattle.shard_exec.specs.Layers.{AddressTheirGroups, HaveGiven, IsDone};
 ghost use Rattle.shard_exec.specs.Rooms.{FitsAlone, FitsRuns, FitsLayer, AreFew, HasRoomForWorkers};
@@ -141,7 +141,7 @@ pub fn run_alone(
     requires shards { length row.old.items ≡ table.now.shards }
     requires lasts { length lasts.old.items ≡ table.now.shards }
     requires own { HasOwnKeys table.now row.old.items }
-    requires groups { job.groups ≡ groups_of table.now job.asked.command }
+    requires groups { job.groups ≡ task_groups table.now job.asked.command }
     requires room { FitsAlone job span }
     ensures done { IsDone table.now row.old.items skip.now (job ∷ []) (result ∷ []) row.new.items }
     ensures lasts { lasts.new.items ≡ raised lasts.old.items (job ∷ []) }

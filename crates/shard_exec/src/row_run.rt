@@ -2,9 +2,9 @@
 
 ghost use Rattle.std.specs.Prelude.{◌≡◌, ◌<◌, length, slice_set};
 ghost use Rattle.std.specs.List.{AllByRecursion};
-ghost use Rattle.placement.specs.Groups.{groups_of};
 ghost use Rattle.placement.specs.Layout.{IsTable};
 ghost use Rattle.shard_maps.specs.Joined.{map_of_shard, HasOwnKeys};
+ghost use Rattle.tasks.specs.Tasks.{task_groups};
 ghost use Rattle.shard_exec.specs.Dealing.{CanTake};
 ghost use Rattle.shard_exec.specs.Rooms.{FitsAlone};
 ghost use Rattle.shard_exec.specs.RowRuns.{AddressAt, FitAt, HasRunInRow, HaveRunAt};
@@ -71,7 +71,7 @@ pub fn run_in_row(
     requires is_table { IsTable table.now }
     requires shards { length row.old.items ≡ table.now.shards }
     requires own { HasOwnKeys table.now row.old.items }
-    requires groups { task.job.groups ≡ groups_of table.now task.job.asked.command }
+    requires groups { task.job.groups ≡ task_groups table.now task.job.asked.command }
     requires room { FitsAlone task.job span }
     ensures ran { HasRunInRow table.now task row.old.items result row.new.items }
     ensures shards { length row.new.items ≡ length row.old.items }

@@ -5,7 +5,7 @@ ghost use Rattle.std.specs.Bool.{OnTrue, OnFalse};
 ghost use Rattle.std.specs.FinMap.{empty};
 ghost use Rattle.std.specs.List.{AllByRecursion};
 ghost use Rattle.dumps.specs.Dump.{dump_text};
-ghost use Rattle.placement.specs.Groups.{groups_of};
+ghost use Rattle.tasks.specs.Tasks.{task_groups};
 ghost use Rattle.shard_exec.specs.declared.done.ExecFault.{ExecFault};
 ghost use Rattle.shard_maps.specs.Joined.{joined};
 ghost use Rattle.shard_exec.specs.Layers.{AddressTheirGroups, IsInside};
@@ -269,8 +269,8 @@ fn address_their_groups(table: &Table, jobs: &[Job]) -> bool
 
 /// Whether the request addresses the groups that the table gives its command.
 fn addresses_its_groups(table: &Table, job: &Job) -> bool
-    ensures its { OnTrue result (job.now.groups ≡ groups_of table.now job.now.asked.command) }
-    ensures others { OnFalse result (job.now.groups ≡ groups_of table.now job.now.asked.command → ⊥) }
+    ensures its { OnTrue result (job.now.groups ≡ task_groups table.now job.now.asked.command) }
+    ensures others { OnFalse result (job.now.groups ≡ task_groups table.now job.now.asked.command → ⊥) }
 {
     job.groups == table.groups(job.asked.command())
 }

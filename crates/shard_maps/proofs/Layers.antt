@@ -1,27 +1,25 @@
--- A layer's commands, run in units, each unit over its own shards, are run one after another on the joined map.
+-- A layer's tasks, run in units, each unit over its own shards, are run one after another on the joined map.
 use Rattle.std.proofs.Common.{◌≡◌, ℕ, zero, suc, ◌==◌, nat_eq, List, [], ◌∷◌, true, false, cond, Option, Some, None, inl, inr, refl}
 use Rattle.std.proofs.Common.{sym, ap, ◌∙◌, subst, arith, eq-eqb}
 use Rattle.std.proofs.lemmas.Bool.{cases_Bool, both_ways, or_parts, and_from}
 use Rattle.std.specs.Cmp.Lexicographic.{pointwise, same_text}
 use Rattle.std.specs.FinMap.{get, empty}
 use Rattle.command_bodies.proofs.Turns.{pair}
-use Rattle.command_bodies.specs.Command.{effect_of}
-use Rattle.command_bodies.specs.InTurn.{solo_from}
-use Rattle.command_table.specs.declared.command.Command.{Command}
 use Rattle.groups.specs.GroupSet.{has, IsAscending}
 use Rattle.groups.specs.Order.{In}
 use Rattle.keyspace.proofs.Gets.{same}
 use Rattle.keyspace.specs.Map.{Map}
-use Rattle.placement.specs.Groups.{groups_of}
 use Rattle.placement.specs.Layout.{Layout, IsTable, shard_of}
 use Rattle.resp.specs.Content.{Content}
+use Rattle.tasks.specs.Tasks.{Task, task_groups, task_effect, tasks_in_turn}
+use Rattle.tasks.proofs.Groups.{IsAscending-task_groups}
 use Rattle.shard_maps.proofs.Joins.{get-joined}
 use Rattle.shard_maps.proofs.Rows.{picked-alike}
-use Rattle.shard_maps.proofs.Spans.{numbers-span_at, numbers-SpanRan, IsAscending-groups_of}
+use Rattle.shard_maps.proofs.Spans.{numbers-span_at, numbers-SpanRan}
 use Rattle.shard_maps.proofs.Steps.{at_member, span_is_joined}
 use Rattle.shard_maps.proofs.Unions.{not_again}
 use Rattle.shard_maps.specs.Joined.{joined, map_of_shard, HasKeysOf, HasOwnKeys, Span, numbers, span_at, SpanRan}
-use Rattle.shard_maps.specs.Layer.{MeetAlike, UnitRan, commands_with, outcomes_with, LayerRan, AnsweredInTurn, executed_of, replies_of}
+use Rattle.shard_maps.specs.Layer.{MeetAlike, UnitRan, tasks_with, outcomes_with, LayerRan, AnsweredInTurn, executed_of, replies_of}
 
 -- ---- a row with a span put in its places, however long the row is
 
@@ -78,19 +76,19 @@ joined-alike table ms ns own own' alike =
     same (joined ns) (joined ms)
     (λ q. get-joined table ns q own' ∙ ap (λ m. get m q) (alike (shard_of table q)) ∙ sym (get-joined table ms q own))
 
--- ---- the commands of a unit
+-- ---- the tasks of a unit
 
 pub groups_same : (gs : List ℕ) → pointwise nat_eq gs gs ≡ true
 groups_same [] = refl
 groups_same (g ∷ gs) = and_from (g == g) (pointwise nat_eq gs gs) (eq-eqb g g refl) (groups_same gs)
 
--- a command that addresses a shard where no other one does is alone in its unit
-none_with : (table : Layout) (gs : List ℕ) (g : ℕ) (cs : List Command) → has gs g ≡ true
-    → ((d : Command) → In d cs → has (groups_of table d) g ≡ false) → commands_with table gs cs ≡ []
+-- a task that addresses a shard where no other one does is alone in its unit
+none_with : (table : Layout) (gs : List ℕ) (g : ℕ) (cs : List Task) → has gs g ≡ true
+    → ((d : Task) → In d cs → has (task_groups table d) g ≡ false) → tasks_with table gs cs ≡ []
 none_with table gs g [] here away = refl
-none_with table gs g (d ∷ ds) here away = elim (cases_Bool (pointwise nat_eq (groups_of table d) gs)) [
-  | inl e ↦ absurd (both_ways _ (away d (inl refl)) (subst (λ l. has l g ≡ true) (sym (same_text (groups_of table d) gs (sym e))) here))
-  | inr e ↦ ap (λ b. cond b (d ∷ commands_with table gs ds) (commands_with table gs ds)) e
+none_with table gs g (d ∷ ds) here away = elim (cases_Bool (pointwise nat_eq (task_groups table d) gs)) [
+  | inl e ↦ absurd (both_ways _ (away d (inl refl)) (subst (λ l. has l g ≡ true) (sym (same_text (task_groups table d) gs (sym e))) here))
+  | inr e ↦ ap (λ b. cond b (d ∷ tasks_with table gs ds) (tasks_with table gs ds)) e
       ∙ none_with table gs g ds here (λ c i. away c (inr i))
 ]
 
@@ -98,17 +96,17 @@ none_ran : (table : Layout) (before after : Span) (os : List (Option Content)) �
 none_ran table before after [] ran = ran
 none_ran table before after (o ∷ os) ran = absurd ran
 
--- ---- one command after another
+-- ---- one task after another
 
-module _ (table : Layout) (old new : List Map) (c : Command) (cs : List Command) (o : Option Content) (os : List (Option Content))
+module _ (table : Layout) (old new : List Map) (c : Task) (cs : List Task) (o : Option Content) (os : List (Option Content))
     (alike : MeetAlike table (c ∷ cs)) (ran : LayerRan table old (c ∷ cs) (o ∷ os) new) where
   abbrev gs : List ℕ
-  gs = groups_of table c
+  gs = task_groups table c
 
   -- of those that address just these groups it is the first
   first : (s : Span) × SpanRan table c (span_at old gs) o s
-      × UnitRan table (commands_with table gs cs) s (outcomes_with table gs cs os) (span_at new gs)
-  first = subst (λ b. UnitRan table (cond b (c ∷ commands_with table gs cs) (commands_with table gs cs)) (span_at old gs)
+      × UnitRan table (tasks_with table gs cs) s (outcomes_with table gs cs os) (span_at new gs)
+  first = subst (λ b. UnitRan table (cond b (c ∷ tasks_with table gs cs) (tasks_with table gs cs)) (span_at old gs)
       (cond b (o ∷ outcomes_with table gs cs os) (outcomes_with table gs cs os)) (span_at new gs)) (groups_same gs) (ran.each c (inl refl))
 
   its_numbers : numbers first.0 ≡ gs
@@ -121,7 +119,7 @@ module _ (table : Layout) (old new : List Map) (c : Command) (cs : List Command)
   mid_span : span_at mid gs ≡ first.0
   unfolding mid
   mid_span = ap (span_at (with_span old first.0)) (sym its_numbers)
-      ∙ span_at-with old first.0 (subst IsAscending (sym its_numbers) (IsAscending-groups_of table c))
+      ∙ span_at-with old first.0 (subst IsAscending (sym its_numbers) (IsAscending-task_groups table c))
 
   mid_away : (g : ℕ) → has gs g ≡ false → map_of_shard mid g ≡ map_of_shard old g
   unfolding mid
@@ -130,31 +128,31 @@ module _ (table : Layout) (old new : List Map) (c : Command) (cs : List Command)
   mid_ran : SpanRan table c (span_at old gs) o (span_at mid gs)
   mid_ran = subst (SpanRan table c (span_at old gs) o) (sym mid_span) first.1
 
-  behind : UnitRan table (commands_with table gs cs) (span_at mid gs) (outcomes_with table gs cs os) (span_at new gs)
-  behind = subst (λ s. UnitRan table (commands_with table gs cs) s (outcomes_with table gs cs os) (span_at new gs)) (sym mid_span) first.2
+  behind : UnitRan table (tasks_with table gs cs) (span_at mid gs) (outcomes_with table gs cs os) (span_at new gs)
+  behind = subst (λ s. UnitRan table (tasks_with table gs cs) s (outcomes_with table gs cs os) (span_at new gs)) (sym mid_span) first.2
 
-  each : (d : Command) → In d cs → UnitRan table (commands_with table (groups_of table d) cs) (span_at mid (groups_of table d))
-      (outcomes_with table (groups_of table d) cs os) (span_at new (groups_of table d))
-  each d i = elim (cases_Bool (pointwise nat_eq gs (groups_of table d))) [
-    | inl e ↦ subst (λ hs. UnitRan table (commands_with table hs cs) (span_at mid hs) (outcomes_with table hs cs os) (span_at new hs))
-        (same_text gs (groups_of table d) (sym e)) behind
+  each : (d : Task) → In d cs → UnitRan table (tasks_with table (task_groups table d) cs) (span_at mid (task_groups table d))
+      (outcomes_with table (task_groups table d) cs os) (span_at new (task_groups table d))
+  each d i = elim (cases_Bool (pointwise nat_eq gs (task_groups table d))) [
+    | inl e ↦ subst (λ hs. UnitRan table (tasks_with table hs cs) (span_at mid hs) (outcomes_with table hs cs os) (span_at new hs))
+        (same_text gs (task_groups table d) (sym e)) behind
     | inr e ↦
-        subst (λ s. UnitRan table (commands_with table (groups_of table d) cs) s (outcomes_with table (groups_of table d) cs os)
-        (span_at new (groups_of table d)))
-        (picked-alike empty old mid (groups_of table d) (λ g there. sym (mid_away g
+        subst (λ s. UnitRan table (tasks_with table (task_groups table d) cs) s (outcomes_with table (task_groups table d) cs os)
+        (span_at new (task_groups table d)))
+        (picked-alike empty old mid (task_groups table d) (λ g there. sym (mid_away g
         (elim (cases_Bool (has gs g)) as (λ _. has gs g ≡ false) [
           | inl here ↦ absurd (both_ways _ e (subst (λ l. pointwise nat_eq gs l ≡ true) (alike c d g (inl refl) (inr i) here there)
               (groups_same gs)))
           | inr none ↦ none
         ]))))
         (subst (λ b. UnitRan table
-        (cond b (c ∷ commands_with table (groups_of table d) cs) (commands_with table (groups_of table d) cs))
-        (span_at old (groups_of table d))
-        (cond b (o ∷ outcomes_with table (groups_of table d) cs os) (outcomes_with table (groups_of table d) cs os))
-        (span_at new (groups_of table d))) e (ran.each d (inr i)))
+        (cond b (c ∷ tasks_with table (task_groups table d) cs) (tasks_with table (task_groups table d) cs))
+        (span_at old (task_groups table d))
+        (cond b (o ∷ outcomes_with table (task_groups table d) cs os) (outcomes_with table (task_groups table d) cs os))
+        (span_at new (task_groups table d))) e (ran.each d (inr i)))
   ]
 
-  others : (shard : ℕ) → ((d : Command) → In d cs → has (groups_of table d) shard ≡ false) → map_of_shard new shard ≡ map_of_shard mid shard
+  others : (shard : ℕ) → ((d : Task) → In d cs → has (task_groups table d) shard ≡ false) → map_of_shard new shard ≡ map_of_shard mid shard
   others shard away = elim (cases_Bool (has gs shard)) [
     | inl here ↦
         at_member (map_of_shard new) (map_of_shard mid) gs shard
@@ -163,7 +161,7 @@ module _ (table : Layout) (old new : List Map) (c : Command) (cs : List Command)
         (none_with table gs shard cs here away) behind))
         here
     | inr none ↦ ran.others shard (λ d. elim [
-      | inl e ↦ subst (λ (x : Command). has (groups_of table x) shard ≡ false) (sym e) none
+      | inl e ↦ subst (λ (x : Task). has (task_groups table x) shard ≡ false) (sym e) none
       | inr i ↦ away d i
     ]) ∙ sym (mid_away shard none)
   ]
@@ -174,7 +172,7 @@ module _ (table : Layout) (old new : List Map) (c : Command) (cs : List Command)
   rest_alike : MeetAlike table cs
   rest_alike d e g i j = alike d e g (inr i) (inr j)
 
-pub layer_in_turn : (table : Layout) (old new : List Map) (layer : List Command) (outcomes : List (Option Content)) → IsTable table
+pub layer_in_turn : (table : Layout) (old new : List Map) (layer : List Task) (outcomes : List (Option Content)) → IsTable table
     → HasOwnKeys table old
     → MeetAlike table layer → LayerRan table old layer outcomes new
     → AnsweredInTurn (joined old) layer outcomes (joined new) × HasOwnKeys table new
@@ -193,8 +191,8 @@ layer_in_turn table old new (c ∷ cs) (None ∷ os) is_table own meet ran =
     between = mid table old new c cs None os meet ran
 
     alike : (g : ℕ) → map_of_shard between g ≡ map_of_shard old g
-    alike g = elim (cases_Bool (has (groups_of table c) g)) [
-      | inl there ↦ at_member (map_of_shard between) (map_of_shard old) (groups_of table c) g
+    alike g = elim (cases_Bool (has (task_groups table c) g)) [
+      | inl there ↦ at_member (map_of_shard between) (map_of_shard old) (task_groups table c) g
           (mid_ran table old new c cs None os meet ran) there
       | inr away ↦ mid_away table old new c cs None os meet ran g away
     ]
@@ -209,14 +207,14 @@ layer_in_turn table old new (c ∷ cs) (Some reply ∷ os) is_table own meet ran
     ((ap (λ r. r.1) step.0, subst (λ m. AnsweredInTurn m cs os (joined new)) (ap (λ r. r.0) step.0) rest.0), rest.1)
 
 -- those that starved leave no trace
-pub starved_leave_no_trace : (old new : Map) (commands : List Command) (outcomes : List (Option Content))
-    → AnsweredInTurn old commands outcomes new
-    → (new, replies_of outcomes) ≡ solo_from old (executed_of commands outcomes)
+pub starved_leave_no_trace : (old new : Map) (tasks : List Task) (outcomes : List (Option Content))
+    → AnsweredInTurn old tasks outcomes new
+    → (new, replies_of outcomes) ≡ tasks_in_turn old (executed_of tasks outcomes)
 starved_leave_no_trace old new [] [] h = ap (λ m. (m, [])) h
 starved_leave_no_trace old new [] (o ∷ os) h = absurd h
 starved_leave_no_trace old new (c ∷ cs) [] h = absurd h
 starved_leave_no_trace old new (c ∷ cs) (None ∷ os) h = starved_leave_no_trace old new cs os h
 starved_leave_no_trace old new (c ∷ cs) (Some reply ∷ os) h =
-    let rest = starved_leave_no_trace (effect_of c old).0 new cs os h.1 in
+    let rest = starved_leave_no_trace (task_effect c old).0 new cs os h.1 in
     pair _ _ _ _ (ap (λ r. r.0) rest)
-    (ap (λ r. r ∷ replies_of os) h.0 ∙ ap (λ l. (effect_of c old).1 ∷ l) (ap (λ r. r.1) rest))
+    (ap (λ r. r ∷ replies_of os) h.0 ∙ ap (λ l. (task_effect c old).1 ∷ l) (ap (λ r. r.1) rest))

@@ -4,16 +4,17 @@ use Rattle.std.proofs.Common.{◌≡◌, ℕ, ◌<◌, List, [], ◌∷◌, map,
 use Rattle.std.proofs.lemmas.Bool.{cases_Bool, both_ways}
 use Rattle.std.specs.FinMap.{empty}
 use Rattle.std.specs.List.{AllZip, AllByRecursion}
-use Rattle.command_table.specs.declared.command.Command.{Command}
 use Rattle.groups.specs.GroupSet.{has, IsAscending}
 use Rattle.groups.specs.Order.{In}
 use Rattle.keyspace.specs.Map.{Map}
 use Rattle.placement.specs.Layout.{Layout, IsTable}
 use Rattle.resp.specs.Content.{Content}
+use Rattle.tasks.specs.Tasks.{Task}
+use Rattle.tasks.proofs.Groups.{task_groups-below}
 use Rattle.shard_maps.proofs.Layers.{layer_in_turn}
 use Rattle.shard_maps.proofs.Rows.{length-put_span, at-put_spans, picked-alike, picked-put_span, at-emptied, taken_out-picked}
 use Rattle.shard_maps.proofs.Rows.{at-emptied_each, length-emptied_each}
-use Rattle.shard_maps.proofs.Spans.{numbers-span_at, numbers-SpanRan, groups_of-below}
+use Rattle.shard_maps.proofs.Spans.{numbers-span_at, numbers-SpanRan}
 use Rattle.shard_maps.proofs.Works.{SomeUnits, all_units, one_of, works_apart, ascending, PairsApart, RanBetween, layer_ran, meet_alike}
 use Rattle.shard_maps.specs.Joined.{joined, map_of_shard, HasOwnKeys, Span, numbers, span_at}
 use Rattle.shard_maps.specs.Layer.{UnitRan, LayerRan, Work, Ran, AreWorksOf, IsRunOf, left_of, with_rans, RanInPlace, WorksRan}
@@ -22,7 +23,7 @@ use Rattle.shard_maps.specs.Laws.{TakenOutAsTheyWere, PartsAreInTurn, WorksAreIn
 use Rattle.shard_maps.specs.Rows.{put_span, put_spans, emptied, taken_out_each}
 
 -- a unit leaves the same shards
-pub numbers-UnitRan : (table : Layout) (cs : List Command) (before : Span) (os : List (Option Content)) (after : Span)
+pub numbers-UnitRan : (table : Layout) (cs : List Task) (before : Span) (os : List (Option Content)) (after : Span)
     → UnitRan table cs before os after → numbers after ≡ numbers before
 numbers-UnitRan table [] before [] after ran = ap numbers ran
 numbers-UnitRan table [] before (o ∷ os) after ran = absurd ran
@@ -54,7 +55,7 @@ over_groups table old outcomes [] [] ran = tt
 over_groups table old outcomes [] (r ∷ rs) ran = absurd ran
 over_groups table old outcomes (w ∷ ws) [] ran = absurd ran
 over_groups table old outcomes (w ∷ ws) (r ∷ rs) ran = (
-  (numbers-UnitRan table w.commands (span_at old w.groups) r.outcomes r.span ran.0.ran ∙ numbers-span_at old w.groups, ran.0),
+  (numbers-UnitRan table w.tasks (span_at old w.groups) r.outcomes r.span ran.0.ran ∙ numbers-span_at old w.groups, ran.0),
   over_groups table old outcomes ws rs ran.1,
 )
 
@@ -81,7 +82,7 @@ module _ (table : Layout) (old : List Map) (outcomes : List (Option Content)) wh
   each_put left (v ∷ ws) (r ∷ rs) shards apart ran w (inl e) =
       subst (RanBetween table outcomes old (put_spans (put_span left r.span) (spans_of rs))) (sym e) (record {
         answered = r.outcomes;
-        ran = subst (UnitRan table v.commands (span_at old v.groups) r.outcomes) (sym stands) ran.0.1.ran;
+        ran = subst (UnitRan table v.tasks (span_at old v.groups) r.outcomes) (sym stands) ran.0.1.ran;
         stand = ran.0.1.stand;
       })
     where
@@ -142,8 +143,8 @@ pub record AllRan (table : Layout) (outcomes : List (Option Content)) (old new :
   pub each : (w : Work) → In w works → RanBetween table outcomes old new w
   pub others : (shard : ℕ) → ((w : Work) → In w works → has w.groups shard ≡ false) → map_of_shard new shard ≡ map_of_shard old shard
 
--- the layer has run, and so its commands in turn
-ran_in_turn : (table : Layout) (old new : List Map) (layer : List Command) (works : List Work) (outcomes : List (Option Content))
+-- the layer has run, and so its tasks in turn
+ran_in_turn : (table : Layout) (old new : List Map) (layer : List Task) (works : List Work) (outcomes : List (Option Content))
     → IsTable table → HasOwnKeys table old → AreWorksOf table layer works → length outcomes ≡ length layer
     → AllRan table outcomes old new works
     → LayerRan table old layer outcomes new × AnsweredInTurn (joined old) layer outcomes (joined new) × HasOwnKeys table new
@@ -174,7 +175,7 @@ parts_in_turn table old layer works rans outcomes is_table own long are as_many 
     shards w i = record {
       up = ascending table layer works some w i;
       inside = λ g there. let r = one_of table layer works some w i in
-          subst (λ n. g < n) (sym (length-left_of old works ∙ long)) (groups_of-below table r.command g
+          subst (λ n. g < n) (sym (length-left_of old works ∙ long)) (task_groups-below table r.task g
           (ap (λ l. has l g) r.groups ∙ there));
     }
 
@@ -187,12 +188,12 @@ one_more table outcomes old mid new w ws apart ran rest = record {
   each = λ v. elim [
     | inl e ↦ subst (RanBetween table outcomes old new) (sym e) (record {
       answered = ran.answered;
-      ran = subst (UnitRan table w.commands (span_at old w.groups) ran.answered) its_shards ran.ran;
+      ran = subst (UnitRan table w.tasks (span_at old w.groups) ran.answered) its_shards ran.ran;
       stand = ran.stand;
     })
     | inr i ↦ let r = rest.each v i in record {
       answered = r.answered;
-      ran = subst (λ s. UnitRan table v.commands s r.answered (span_at new v.groups)) (other_shards v i) r.ran;
+      ran = subst (λ s. UnitRan table v.tasks s r.answered (span_at new v.groups)) (other_shards v i) r.ran;
       stand = r.stand;
     }
   ];

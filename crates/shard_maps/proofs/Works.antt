@@ -7,7 +7,6 @@ use Rattle.std.proofs.lemmas.Bool.{cases_Bool, both_ways, and_parts, and_from, o
 use Rattle.std.proofs.lemmas.List.{length-map}
 use Rattle.std.specs.Cmp.Lexicographic.{pointwise, same_text}
 use Rattle.std.specs.List.{concat}
-use Rattle.command_table.specs.declared.command.Command.{Command}
 use Rattle.groups.specs.GroupSet.{has, IsAscending, chosen}
 use Rattle.groups.specs.GroupSetLaws.{has-chosen, IsAscending-chosen, same_sets}
 use Rattle.groups.specs.Order.{In}
@@ -16,13 +15,14 @@ use Rattle.layer_planner.proofs.PartLaws.{times, times-append}
 use Rattle.layer_planner.proofs.PartUnits.{one_more}
 use Rattle.layer_planner.proofs.UnitLaws.{in_map}
 use Rattle.layer_planner.specs.Units.{groups_at, IsUnit}
-use Rattle.placement.specs.Groups.{groups_of}
 use Rattle.placement.specs.Layout.{Layout}
 use Rattle.resp.specs.Content.{Content}
+use Rattle.tasks.specs.Tasks.{Task, task_groups}
+use Rattle.tasks.proofs.Groups.{IsAscending-task_groups}
 use Rattle.shard_maps.proofs.Layers.{groups_same}
-use Rattle.shard_maps.proofs.Spans.{numbers-SpanRan, IsAscending-groups_of}
+use Rattle.shard_maps.proofs.Spans.{numbers-SpanRan}
 use Rattle.shard_maps.specs.Joined.{map_of_shard, Span, numbers, span_at, SpanRan}
-use Rattle.shard_maps.specs.Layer.{MeetAlike, UnitRan, commands_with, outcomes_with, LayerRan, Work, StandAt, AreWorksOf}
+use Rattle.shard_maps.specs.Layer.{MeetAlike, UnitRan, tasks_with, outcomes_with, LayerRan, Work, StandAt, AreWorksOf}
 
 -- ---- places of a list
 
@@ -57,10 +57,10 @@ got [] i h = absurd (omega (arith, h))
 got (x ∷ xs) zero h = record { thing = x; is = refl }
 got (x ∷ xs) (suc i) h = let r = got xs i (omega (arith, h)) in record { thing = r.thing; is = r.is }
 
-groups_there : (table : Layout) (layer : List Command) (c : Command) (i : ℕ) → slice_get layer i ≡ Some c
-    → groups_at (map (groups_of table) layer) i ≡ groups_of table c
+groups_there : (table : Layout) (layer : List Task) (c : Task) (i : ℕ) → slice_get layer i ≡ Some c
+    → groups_at (map (task_groups table) layer) i ≡ task_groups table c
 groups_there table [] c i e = absurd (cc)
-groups_there table (d ∷ ds) c zero e = ap (groups_of table) (some_same d c e)
+groups_there table (d ∷ ds) c zero e = ap (task_groups table) (some_same d c e)
 groups_there table (d ∷ ds) c (suc i) e = groups_there table ds c i e
 
 -- what stands at a place of a unit is one of its things
@@ -155,15 +155,15 @@ In-map f (y ∷ xs) x (inr i) = inr (In-map f xs x i)
 abbrev places_each : List Work → List (List ℕ)
 places_each works = map (λ w. w.places) works
 
-module _ (table : Layout) (layer : List Command) where
+module _ (table : Layout) (layer : List Task) where
   abbrev sets : List (List ℕ)
-  sets = map (groups_of table) layer
+  sets = map (task_groups table) layer
 
   -- units of the layer, of which no place stands in two
   pub record SomeUnits (works : List Work) : Type 0 where
     pub each : (w : Work) → In w works → IsUnit sets w.places
-    pub stand : (w : Work) → In w works → StandAt layer w.places w.commands
-    pub groups : (w : Work) (c : Command) → In w works → In c w.commands → groups_of table c ≡ w.groups
+    pub stand : (w : Work) → In w works → StandAt layer w.places w.tasks
+    pub groups : (w : Work) (c : Task) → In w works → In c w.tasks → task_groups table c ≡ w.groups
     pub once : (i : ℕ) → times i (concat (places_each works)) ≤ 1
 
   pub all_units : (works : List Work) → AreWorksOf table layer works → SomeUnits works
@@ -186,13 +186,13 @@ module _ (table : Layout) (layer : List Command) where
     once = λ i. let both = times-append i w.places (concat (places_each ws)) in let all = some.once i in omega (arith, both, all);
   }
 
-  -- a command of a unit, and where it stands
+  -- a task of a unit, and where it stands
   pub record OneOf (w : Work) : Type 0 where
     pub place : ℕ
-    pub command : Command
+    pub task : Task
     pub there : has w.places place ≡ true
-    pub is : slice_get layer place ≡ Some command
-    pub groups : groups_of table command ≡ w.groups
+    pub is : slice_get layer place ≡ Some task
+    pub groups : task_groups table task ≡ w.groups
 
   first_place : (places : List ℕ) → 0 < length places → (i : ℕ) × (has places i ≡ true)
   first_place [] h = absurd (omega (arith, h))
@@ -200,13 +200,13 @@ module _ (table : Layout) (layer : List Command) where
 
   one_at : (works : List Work) → SomeUnits works → (w : Work) → In w works → (i : ℕ) → has w.places i ≡ true → OneOf w
   one_at works some w m i there =
-      let r = stand_got layer w.places w.commands i (some.stand w m) there in
+      let r = stand_got layer w.places w.tasks i (some.stand w m) there in
       record {
         place = i;
-        command = r.thing;
+        task = r.thing;
         there = there;
         is = r.is;
-        groups = some.groups w r.thing m (stand_in layer w.places w.commands i r.thing (some.stand w m) there r.is);
+        groups = some.groups w r.thing m (stand_in layer w.places w.tasks i r.thing (some.stand w m) there r.is);
       }
 
   pub one_of : (works : List Work) → SomeUnits works → (w : Work) → In w works → OneOf w
@@ -215,7 +215,7 @@ module _ (table : Layout) (layer : List Command) where
   its_groups : (works : List Work) (some : SomeUnits works) (w : Work) (m : In w works) (i : ℕ) → has w.places i ≡ true
       → groups_at sets i ≡ w.groups
   unfolding one_at
-  its_groups works some w m i there = let r = one_at works some w m i there in groups_there table layer r.command i r.is ∙ r.groups
+  its_groups works some w m i there = let r = one_at works some w m i there in groups_there table layer r.task i r.is ∙ r.groups
 
   pub works_apart : (works : List Work) → SomeUnits works → PairsApart (λ w. w.groups) works
   works_apart [] some = tt
@@ -238,9 +238,9 @@ module _ (table : Layout) (layer : List Command) where
   )
 
   pub ascending : (works : List Work) → SomeUnits works → (w : Work) → In w works → IsAscending w.groups
-  ascending works some w m = let r = one_of works some w m in subst IsAscending r.groups (IsAscending-groups_of table r.command)
+  ascending works some w m = let r = one_of works some w m in subst IsAscending r.groups (IsAscending-task_groups table r.task)
 
--- ---- what each unit did is what the layer's commands with the same groups did
+-- ---- what each unit did is what the layer's tasks with the same groups did
 
 map_some : {X : Type 0} (xs ys : List X) → map (λ x. Some x) xs ≡ map Some ys → xs ≡ ys
 map_some [] [] e = refl
@@ -256,12 +256,12 @@ same_tests false false f g = refl
 
 module _ (table : Layout) (gs : List ℕ) where
   -- the places from a on of those with just these groups
-  abbrev has_just : Command → Bool
-  has_just c = pointwise nat_eq (groups_of table c) gs
+  abbrev has_just : Task → Bool
+  has_just c = pointwise nat_eq (task_groups table c) gs
 
-  commands_at : (f : ℕ → Option Command) (test : ℕ → Bool) (a : ℕ) (cs : List Command)
-      → ((j : ℕ) → f (a + j) ≡ slice_get cs j) → ((j : ℕ) (c : Command) → slice_get cs j ≡ Some c → test (a + j) ≡ has_just c)
-      → map f (chosen test a (length cs)) ≡ map (λ c. Some c) (commands_with table gs cs)
+  commands_at : (f : ℕ → Option Task) (test : ℕ → Bool) (a : ℕ) (cs : List Task)
+      → ((j : ℕ) → f (a + j) ≡ slice_get cs j) → ((j : ℕ) (c : Task) → slice_get cs j ≡ Some c → test (a + j) ≡ has_just c)
+      → map f (chosen test a (length cs)) ≡ map (λ c. Some c) (tasks_with table gs cs)
   unfolding chosen
   commands_at f test a [] at tests = refl
   commands_at f test a (c ∷ cs) at tests =
@@ -271,14 +271,14 @@ module _ (table : Layout) (gs : List ℕ) where
       let first : f a ≡ Some c = ap f (sym z) ∙ at 0 in
       ap (λ b. map f (cond b (a ∷ chosen test (suc a) (length cs)) (chosen test (suc a) (length cs)))) (ap test (sym z) ∙ tests 0 c refl)
       ∙ elim (has_just c) as (λ b. map f (cond b (a ∷ chosen test (suc a) (length cs)) (chosen test (suc a) (length cs)))
-      ≡ map (λ c. Some c) (cond b (c ∷ commands_with table gs cs) (commands_with table gs cs))) [
+      ≡ map (λ c. Some c) (cond b (c ∷ tasks_with table gs cs) (tasks_with table gs cs))) [
         | true ↦ ap (λ o. o ∷ map f (chosen test (suc a) (length cs))) first ∙ ap (λ l. Some c ∷ l) rest
         | false ↦ rest
       ]
 
-  outcomes_at : (f : ℕ → Option (Option Content)) (test : ℕ → Bool) (a : ℕ) (cs : List Command) (os : List (Option Content))
+  outcomes_at : (f : ℕ → Option (Option Content)) (test : ℕ → Bool) (a : ℕ) (cs : List Task) (os : List (Option Content))
       → length os ≡ length cs
-      → ((j : ℕ) → f (a + j) ≡ slice_get os j) → ((j : ℕ) (c : Command) → slice_get cs j ≡ Some c → test (a + j) ≡ has_just c)
+      → ((j : ℕ) → f (a + j) ≡ slice_get os j) → ((j : ℕ) (c : Task) → slice_get cs j ≡ Some c → test (a + j) ≡ has_just c)
       → map f (chosen test a (length cs)) ≡ map (λ o. Some o) (outcomes_with table gs cs os)
   unfolding chosen
   outcomes_at f test a [] [] long at tests = refl
@@ -302,8 +302,8 @@ numbers_none : (span : Span) → numbers span ≡ [] → span ≡ []
 numbers_none [] e = refl
 numbers_none (s ∷ ss) e = absurd (cc)
 
-none_of : (table : Layout) (layer : List Command) (outcomes : List (Option Content)) (places : List ℕ) (cs : List Command)
-    (os : List (Option Content)) (after : Span) (k : ℕ) (c : Command) (o : Option Content) → StandAt layer places cs
+none_of : (table : Layout) (layer : List Task) (outcomes : List (Option Content)) (places : List ℕ) (cs : List Task)
+    (os : List (Option Content)) (after : Span) (k : ℕ) (c : Task) (o : Option Content) → StandAt layer places cs
     → StandAt outcomes places os
     → UnitRan table cs [] os after → has places k ≡ true → slice_get layer k ≡ Some c → slice_get outcomes k ≡ Some o
     → SpanRan table c [] o []
@@ -323,29 +323,29 @@ none_of table layer outcomes (p ∷ ps) (d ∷ ds) (q ∷ qs) after k c o s t ra
           (tails (slice_get outcomes p) (Some q) _ _ t) (subst (λ m. UnitRan table ds m qs after) still ran.2) later is_c is_o
     ]
 
-none_ran : (table : Layout) (cs : List Command) (os : List (Option Content)) → length os ≡ length cs
-    → ((k : ℕ) (c : Command) (o : Option Content) → slice_get cs k ≡ Some c → slice_get os k ≡ Some o → groups_of table c ≡ []
+none_ran : (table : Layout) (cs : List Task) (os : List (Option Content)) → length os ≡ length cs
+    → ((k : ℕ) (c : Task) (o : Option Content) → slice_get cs k ≡ Some c → slice_get os k ≡ Some o → task_groups table c ≡ []
     → SpanRan table c [] o [])
-    → UnitRan table (commands_with table [] cs) [] (outcomes_with table [] cs os) []
+    → UnitRan table (tasks_with table [] cs) [] (outcomes_with table [] cs os) []
 none_ran table [] [] long each = refl
 none_ran table [] (o ∷ os) long each = absurd (omega (arith, long))
 none_ran table (c ∷ cs) [] long each = absurd (omega (arith, long))
 none_ran table (c ∷ cs) (o ∷ os) long each =
     let rest = none_ran table cs os (omega (arith, long)) (λ k. each (suc k)) in
-    elim (pointwise nat_eq (groups_of table c) []) as (λ b. pointwise nat_eq (groups_of table c) [] ≡ b
-    → UnitRan table (cond b (c ∷ commands_with table [] cs) (commands_with table [] cs)) []
+    elim (pointwise nat_eq (task_groups table c) []) as (λ b. pointwise nat_eq (task_groups table c) [] ≡ b
+    → UnitRan table (cond b (c ∷ tasks_with table [] cs) (tasks_with table [] cs)) []
     (cond b (o ∷ outcomes_with table [] cs os) (outcomes_with table [] cs os)) []) [
-      | true ↦ λ e. ([], each 0 c o refl refl (same_text (groups_of table c) [] (sym e)), rest)
+      | true ↦ λ e. ([], each 0 c o refl refl (same_text (task_groups table c) [] (sym e)), rest)
       | false ↦ λ e. rest
     ] refl
 
 -- between these rows the unit was run
 pub record RanBetween (table : Layout) (outcomes : List (Option Content)) (old new : List Map) (w : Work) : Type 0 where
   pub answered : List (Option Content)
-  pub ran : UnitRan table w.commands (span_at old w.groups) answered (span_at new w.groups)
+  pub ran : UnitRan table w.tasks (span_at old w.groups) answered (span_at new w.groups)
   pub stand : StandAt outcomes w.places answered
 
-module _ (table : Layout) (layer : List Command) (outcomes : List (Option Content)) (old new : List Map) (works : List Work)
+module _ (table : Layout) (layer : List Task) (outcomes : List (Option Content)) (old new : List Map) (works : List Work)
     (are : AreWorksOf table layer works) (long : length outcomes ≡ length layer)
     (ran : (w : Work) → In w works → RanBetween table outcomes old new w)
     (others : (shard : ℕ) → ((w : Work) → In w works → has w.groups shard ≡ false) → map_of_shard new shard ≡ map_of_shard old shard) where
@@ -360,40 +360,40 @@ module _ (table : Layout) (layer : List Command) (outcomes : List (Option Conten
 
   unit_of : (k : ℕ) → k < length layer → UnitOf k
   unit_of k low =
-      let count = length-map layer (groups_of table) in
+      let count = length-map layer (task_groups table) in
       let sum : times k (concat (places_each works)) ≡ 1 = are.units.once k
-      ∙ ap (λ b. cond {A = ℕ} b 1 0) (lt-ltb k (length (map (groups_of table) layer)) (omega (arith, count, low))) in
+      ∙ ap (λ b. cond {A = ℕ} b 1 0) (lt-ltb k (length (map (task_groups table) layer)) (omega (arith, count, low))) in
       let h = holds (places_each works) k (omega (arith, sum)) in
       let r = in_map (λ w. w.places) works h.unit h.stands in
       record { work = r.0; stands = r.1; there = subst (λ u. has u k ≡ true) r.2 h.there }
 
-  of_unit : (k : ℕ) (c : Command) → slice_get layer k ≡ Some c → UnitOf k
+  of_unit : (k : ℕ) (c : Task) → slice_get layer k ≡ Some c → UnitOf k
   of_unit k c is = unit_of k (within layer c k is)
 
-  groups_are : (k : ℕ) (c : Command) → slice_get layer k ≡ Some c → (u : UnitOf k) → u.work.groups ≡ groups_of table c
+  groups_are : (k : ℕ) (c : Task) → slice_get layer k ≡ Some c → (u : UnitOf k) → u.work.groups ≡ task_groups table c
   groups_are k c is u = sym (its_groups table layer works some u.work u.stands k u.there) ∙ groups_there table layer c k is
 
   -- where a group is addressed, its unit is all those with the same groups
-  module _ (k : ℕ) (c : Command) (is : slice_get layer k ≡ Some c) (g : ℕ) (there : has (groups_of table c) g ≡ true) where
+  module _ (k : ℕ) (c : Task) (is : slice_get layer k ≡ Some c) (g : ℕ) (there : has (task_groups table c) g ≡ true) where
     gs : List ℕ
-    gs = groups_of table c
+    gs = task_groups table c
 
     u : UnitOf k
     u = of_unit k c is
 
     test : ℕ → Bool
-    test j = pointwise nat_eq (groups_at (map (groups_of table) layer) j) gs
+    test j = pointwise nat_eq (groups_at (map (task_groups table) layer) j) gs
 
     has_place : (j : ℕ) → has u.work.places j ≡ (nat_lt j (length layer) && test j)
     unfolding test gs
     has_place j = same_tests (has u.work.places j) (nat_lt j (length layer) && test j)
         (λ h. let r = one_at table layer works some u.work u.stands j h in
         and_from (nat_lt j (length layer)) (test j)
-        (lt-ltb j (length layer) (let s = stand_got layer u.work.places u.work.commands j (some.stand u.work u.stands) h in
+        (lt-ltb j (length layer) (let s = stand_got layer u.work.places u.work.tasks j (some.stand u.work u.stands) h in
         within layer s.thing j s.is))
         (subst (λ l. pointwise nat_eq l gs ≡ true)
         (sym (its_groups table layer works some u.work u.stands j h ∙ groups_are k c is u)) (groups_same gs)))
-        (λ h. let same = same_text (groups_at (map (groups_of table) layer) j) gs
+        (λ h. let same = same_text (groups_at (map (task_groups table) layer) j) gs
         (sym (and_parts (nat_lt j (length layer)) (test j) h).1) in
         (some.each u.work u.stands).whole k j g u.there
         (ap (λ l. has l g) (groups_there table layer c k is) ∙ there)
@@ -403,13 +403,13 @@ module _ (table : Layout) (layer : List Command) (outcomes : List (Option Conten
     places_are = same_sets u.work.places (chosen test 0 (length layer)) (some.each u.work u.stands).ascending
         (IsAscending-chosen test 0 (length layer)) (λ j. has_place j ∙ sym (has-chosen test (length layer) j))
 
-    tests : (j : ℕ) (d : Command) → slice_get layer j ≡ Some d → test (0 + j) ≡ pointwise nat_eq (groups_of table d) gs
+    tests : (j : ℕ) (d : Task) → slice_get layer j ≡ Some d → test (0 + j) ≡ pointwise nat_eq (task_groups table d) gs
     unfolding test gs
     tests j d e = let z : 0 + j ≡ j = omega arith in
         ap test z ∙ ap (λ l. pointwise nat_eq l gs) (groups_there table layer d j e)
 
-    commands_are : u.work.commands ≡ commands_with table gs layer
-    commands_are = sym (map_some (commands_with table gs layer) u.work.commands
+    commands_are : u.work.tasks ≡ tasks_with table gs layer
+    commands_are = sym (map_some (tasks_with table gs layer) u.work.tasks
         (sym (commands_at table gs (slice_get layer) test 0 layer (λ j. let z : 0 + j ≡ j = omega arith in ap (slice_get layer) z) tests)
         ∙ ap (map (slice_get layer)) (sym places_are) ∙ some.stand u.work u.stands))
 
@@ -419,20 +419,20 @@ module _ (table : Layout) (layer : List Command) (outcomes : List (Option Conten
         (λ j. let z : 0 + j ≡ j = omega arith in ap (slice_get outcomes) z) tests)
         ∙ ap (map (slice_get outcomes)) (sym places_are) ∙ (ran u.work u.stands).stand))
 
-    its_ran : UnitRan table (commands_with table gs layer) (span_at old gs) (outcomes_with table gs layer outcomes) (span_at new gs)
+    its_ran : UnitRan table (tasks_with table gs layer) (span_at old gs) (outcomes_with table gs layer outcomes) (span_at new gs)
     unfolding gs
-    its_ran = subst (λ os. UnitRan table (commands_with table gs layer) (span_at old gs) os (span_at new gs)) outcomes_are
+    its_ran = subst (λ os. UnitRan table (tasks_with table gs layer) (span_at old gs) os (span_at new gs)) outcomes_are
         (subst (λ cs. UnitRan table cs (span_at old gs) (ran u.work u.stands).answered (span_at new gs)) commands_are
-        (subst (λ hs. UnitRan table u.work.commands (span_at old hs) (ran u.work u.stands).answered (span_at new hs)) (groups_are k c is u)
+        (subst (λ hs. UnitRan table u.work.tasks (span_at old hs) (ran u.work u.stands).answered (span_at new hs)) (groups_are k c is u)
         (ran u.work u.stands).ran))
 
-  each_none : UnitRan table (commands_with table [] layer) [] (outcomes_with table [] layer outcomes) []
+  each_none : UnitRan table (tasks_with table [] layer) [] (outcomes_with table [] layer outcomes) []
   each_none = none_ran table layer outcomes long (λ k c o is_c is_o none.
       let u = of_unit k c is_c in
       let r = ran u.work u.stands in
-      none_of table layer outcomes u.work.places u.work.commands r.answered (span_at new u.work.groups) k c o
+      none_of table layer outcomes u.work.places u.work.tasks r.answered (span_at new u.work.groups) k c o
       (some.stand u.work u.stands) r.stand
-      (subst (λ hs. UnitRan table u.work.commands (span_at old hs) r.answered (span_at new u.work.groups))
+      (subst (λ hs. UnitRan table u.work.tasks (span_at old hs) r.answered (span_at new u.work.groups))
       (groups_are k c is_c u ∙ none) r.ran)
       u.there is_c is_o)
 
@@ -440,16 +440,16 @@ module _ (table : Layout) (layer : List Command) (outcomes : List (Option Conten
   unfolding gs
   layer_ran = record {
     as_many = long;
-    each = λ c i. by_groups (groups_of table c) c i refl;
+    each = λ c i. by_groups (task_groups table c) c i refl;
     others = λ shard away. others shard (λ w m.
         let r = one_of table layer works some w m in
-        ap (λ l. has l shard) (sym r.groups) ∙ away r.command (in_at layer r.command r.place r.is));
+        ap (λ l. has l shard) (sym r.groups) ∙ away r.task (in_at layer r.task r.place r.is));
   }
     where
-      by_groups : (hs : List ℕ) (c : Command) → In c layer → groups_of table c ≡ hs
-          → UnitRan table (commands_with table (groups_of table c) layer) (span_at old (groups_of table c))
-          (outcomes_with table (groups_of table c) layer outcomes) (span_at new (groups_of table c))
-      by_groups [] c i e = subst (λ hs. UnitRan table (commands_with table hs layer) (span_at old hs)
+      by_groups : (hs : List ℕ) (c : Task) → In c layer → task_groups table c ≡ hs
+          → UnitRan table (tasks_with table (task_groups table c) layer) (span_at old (task_groups table c))
+          (outcomes_with table (task_groups table c) layer outcomes) (span_at new (task_groups table c))
+      by_groups [] c i e = subst (λ hs. UnitRan table (tasks_with table hs layer) (span_at old hs)
           (outcomes_with table hs layer outcomes) (span_at new hs)) (sym e) each_none
       by_groups (h ∷ hs) c i e =
           let p = at c layer i in

@@ -1,12 +1,11 @@
--- The maps of the shards as one map, and a command that is run over some of the shards.
+-- The maps of the shards as one map, and a task that is run over some of the shards.
 use Rattle.std.specs.Prelude.{◌≡◌, ℕ, ◌==◌, List, [], ◌∷◌, map, slice_index_or, Option, Some, None, IsSome}
 use Rattle.std.specs.FinMap.{get, empty, entries, retain_keys}
 use Rattle.std.specs.List.{AllByRecursion}
-use Rattle.command_bodies.specs.Command.{effect_of}
-use Rattle.command_table.specs.declared.command.Command.{Command}
 use Rattle.keyspace.specs.Map.{Map, with_entries}
 use Rattle.placement.specs.Layout.{Layout, shard_of}
 use Rattle.resp.specs.Content.{Content}
+use Rattle.tasks.specs.Tasks.{Task, task_effect}
 
 -- the union of maps: at each key what the first of them that has the key has there
 abbrev pub joined : List Map → Map
@@ -53,12 +52,12 @@ part_of table m shard = retain_keys m (λ key. shard_of table key == shard)
 abbrev pub divided : Layout → List ℕ → Map → Span
 divided table groups m = map (λ g. (g, part_of table m g)) groups
 
--- a command over the shards of a span: its effect on their union, which is then divided among them
-abbrev pub span_effect : Layout → Command → Span → Span × Content
-span_effect table command span =
-    (divided table (numbers span) (effect_of command (union span)).0, (effect_of command (union span)).1)
+-- a task over the shards of a span: its effect on their union, which is then divided among them
+abbrev pub span_effect : Layout → Task → Span → Span × Content
+span_effect table task span =
+    (divided table (numbers span) (task_effect task (union span)).0, (task_effect task (union span)).1)
 
--- what a command left of a span, and what it answered; where it starved there is no reply, and the span is as it was
-abbrev pub SpanRan : Layout → Command → Span → Option Content → Span → Type 0
-SpanRan table command before None after = after ≡ before
-SpanRan table command before (Some reply) after = (after, reply) ≡ span_effect table command before
+-- what a task left of a span, and what it answered; where it starved there is no reply, and the span is as it was
+abbrev pub SpanRan : Layout → Task → Span → Option Content → Span → Type 0
+SpanRan table task before None after = after ≡ before
+SpanRan table task before (Some reply) after = (after, reply) ≡ span_effect table task before

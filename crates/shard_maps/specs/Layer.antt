@@ -1,60 +1,58 @@
--- A layer: commands that are run in units, each unit over the shards of its groups, in any order and by anyone.
+-- A layer: tasks that are run in units, each unit over the shards of its groups, in any order and by anyone.
 use Rattle.std.specs.Prelude.{◌≡◌, ℕ, nat_eq, true, false, cond, List, [], ◌∷◌, length, map, slice_get, Option, Some, None}
 use Rattle.std.specs.Cmp.Lexicographic.{pointwise}
 use Rattle.std.specs.FinMap.{empty}
-use Rattle.command_bodies.specs.Command.{effect_of}
-use Rattle.command_table.specs.declared.command.Command.{Command}
 use Rattle.groups.specs.GroupSet.{has}
 use Rattle.groups.specs.Order.{In}
 use Rattle.keyspace.specs.Map.{Map}
 use Rattle.layer_planner.specs.Units.{AreUnitsOf}
-use Rattle.placement.specs.Groups.{groups_of}
 use Rattle.placement.specs.Layout.{Layout}
 use Rattle.resp.specs.Content.{Content}
+use Rattle.tasks.specs.Tasks.{Task, task_groups, task_effect}
 use Rattle.shard_maps.specs.Joined.{map_of_shard, Span, span_at, SpanRan}
 use Rattle.shard_maps.specs.Rows.{put_spans, emptied_each}
 
--- where two of the commands share a group, they address the same groups
-abbrev pub MeetAlike : Layout → List Command → Type 0
+-- where two of the tasks share a group, they address the same groups
+abbrev pub MeetAlike : Layout → List Task → Type 0
 MeetAlike table layer =
-    (c d : Command) (g : ℕ) → In c layer → In d layer
-    → has (groups_of table c) g ≡ true → has (groups_of table d) g ≡ true → groups_of table c ≡ groups_of table d
+    (c d : Task) (g : ℕ) → In c layer → In d layer
+    → has (task_groups table c) g ≡ true → has (task_groups table d) g ≡ true → task_groups table c ≡ task_groups table d
 
--- commands were run one after another over the same shards, or starved: what each answered, and what was left in the end
-abbrev pub UnitRan : Layout → List Command → Span → List (Option Content) → Span → Type 0
+-- tasks were run one after another over the same shards, or starved: what each answered, and what was left in the end
+abbrev pub UnitRan : Layout → List Task → Span → List (Option Content) → Span → Type 0
 UnitRan table [] before [] after = after ≡ before
 UnitRan table [] before (o ∷ os) after = ⊥
 UnitRan table (c ∷ cs) before [] after = ⊥
 UnitRan table (c ∷ cs) before (o ∷ os) after = (mid : Span) × SpanRan table c before o mid × UnitRan table cs mid os after
 
--- of a layer, the commands that address just these groups, and what they answered
-abbrev pub commands_with : Layout → List ℕ → List Command → List Command
-commands_with table groups [] = []
-commands_with table groups (c ∷ cs) =
-    cond (pointwise nat_eq (groups_of table c) groups) (c ∷ commands_with table groups cs) (commands_with table groups cs)
+-- of a layer, the tasks that address just these groups, and what they answered
+abbrev pub tasks_with : Layout → List ℕ → List Task → List Task
+tasks_with table groups [] = []
+tasks_with table groups (c ∷ cs) =
+    cond (pointwise nat_eq (task_groups table c) groups) (c ∷ tasks_with table groups cs) (tasks_with table groups cs)
 
-abbrev pub outcomes_with : Layout → List ℕ → List Command → List (Option Content) → List (Option Content)
+abbrev pub outcomes_with : Layout → List ℕ → List Task → List (Option Content) → List (Option Content)
 outcomes_with table groups (c ∷ cs) (o ∷ os) =
-    cond (pointwise nat_eq (groups_of table c) groups) (o ∷ outcomes_with table groups cs os) (outcomes_with table groups cs os)
+    cond (pointwise nat_eq (task_groups table c) groups) (o ∷ outcomes_with table groups cs os) (outcomes_with table groups cs os)
 outcomes_with table groups _ _ = []
 
--- The shards before and after a layer: over the shards of each command's groups those that address just these were run, one
--- after another, or starved; a shard that no command addresses is as it was. Nothing is said of the order of the units.
-pub record LayerRan (table : Layout) (old : List Map) (layer : List Command) (outcomes : List (Option Content))
+-- The shards before and after a layer: over the shards of each task's groups those that address just these were run, one
+-- after another, or starved; a shard that no task addresses is as it was. Nothing is said of the order of the units.
+pub record LayerRan (table : Layout) (old : List Map) (layer : List Task) (outcomes : List (Option Content))
     (new : List Map) : Type 0 where
   pub as_many : length outcomes ≡ length layer
-  pub each : (c : Command) → In c layer
-      → UnitRan table (commands_with table (groups_of table c) layer) (span_at old (groups_of table c))
-      (outcomes_with table (groups_of table c) layer outcomes) (span_at new (groups_of table c))
-  pub others : (shard : ℕ) → ((c : Command) → In c layer → has (groups_of table c) shard ≡ false)
+  pub each : (c : Task) → In c layer
+      → UnitRan table (tasks_with table (task_groups table c) layer) (span_at old (task_groups table c))
+      (outcomes_with table (task_groups table c) layer outcomes) (span_at new (task_groups table c))
+  pub others : (shard : ℕ) → ((c : Task) → In c layer → has (task_groups table c) shard ≡ false)
       → map_of_shard new shard ≡ map_of_shard old shard
 
 -- ---- a layer run unit by unit
 
--- a unit of a layer: its places, its commands, and the groups that each of them addresses
+-- a unit of a layer: its places, its tasks, and the groups that each of them addresses
 pub record Work : Type 0 where
   pub places : List ℕ
-  pub commands : List Command
+  pub tasks : List Task
   pub groups : List ℕ
 
 -- these stand at these places of a list
@@ -62,19 +60,19 @@ abbrev pub StandAt : {X : Type 0} → List X → List ℕ → List X → Type 0
 StandAt xs places ys = map (slice_get xs) places ≡ map Some ys
 
 -- they are the units of the layer, in any order
-pub record AreWorksOf (table : Layout) (layer : List Command) (works : List Work) : Type 0 where
-  pub units : AreUnitsOf (map (groups_of table) layer) (map (λ w. w.places) works)
-  pub stand : (w : Work) → In w works → StandAt layer w.places w.commands
-  pub groups : (w : Work) (c : Command) → In w works → In c w.commands → groups_of table c ≡ w.groups
+pub record AreWorksOf (table : Layout) (layer : List Task) (works : List Work) : Type 0 where
+  pub units : AreUnitsOf (map (task_groups table) layer) (map (λ w. w.places) works)
+  pub stand : (w : Work) → In w works → StandAt layer w.places w.tasks
+  pub groups : (w : Work) (c : Task) → In w works → In c w.tasks → task_groups table c ≡ w.groups
 
--- what became of a unit: what its commands answered, and its shards
+-- what became of a unit: what its tasks answered, and its shards
 pub record Ran : Type 0 where
   pub outcomes : List (Option Content)
   pub span : Span
 
 -- the unit was run over its shards, which it got as they were, and its outcomes stand in its places of the layer's
 pub record IsRunOf (table : Layout) (old : List Map) (outcomes : List (Option Content)) (w : Work) (r : Ran) : Type 0 where
-  pub ran : UnitRan table w.commands (span_at old w.groups) r.outcomes r.span
+  pub ran : UnitRan table w.tasks (span_at old w.groups) r.outcomes r.span
   pub stand : StandAt outcomes w.places r.outcomes
 
 -- what is left of the shards when those of each unit were taken out, empty ones in their places
@@ -89,7 +87,7 @@ with_rans maps rans = put_spans maps (map (λ r. r.span) rans)
 pub record RanInPlace (table : Layout) (outcomes : List (Option Content)) (old : List Map) (w : Work) (new : List Map)
     : Type 0 where
   pub answered : List (Option Content)
-  pub ran : UnitRan table w.commands (span_at old w.groups) answered (span_at new w.groups)
+  pub ran : UnitRan table w.tasks (span_at old w.groups) answered (span_at new w.groups)
   pub stand : StandAt outcomes w.places answered
   pub others : (shard : ℕ) → has w.groups shard ≡ false → map_of_shard new shard ≡ map_of_shard old shard
 
@@ -101,18 +99,18 @@ WorksRan table outcomes old (w ∷ ws) new =
 
 -- ---- one map
 
--- commands on one map, one after another, each on the map that those before it left. One that starved has no reply, and
+-- tasks on one map, one after another, each on the map that those before it left. One that starved has no reply, and
 -- leaves the map as it met it
-abbrev pub AnsweredInTurn : Map → List Command → List (Option Content) → Map → Type 0
+abbrev pub AnsweredInTurn : Map → List Task → List (Option Content) → Map → Type 0
 AnsweredInTurn old [] [] new = new ≡ old
 AnsweredInTurn old [] (o ∷ os) new = ⊥
 AnsweredInTurn old (c ∷ cs) [] new = ⊥
 AnsweredInTurn old (c ∷ cs) (None ∷ os) new = AnsweredInTurn old cs os new
 AnsweredInTurn old (c ∷ cs) (Some reply ∷ os) new =
-    (reply ≡ (effect_of c old).1) × AnsweredInTurn (effect_of c old).0 cs os new
+    (reply ≡ (task_effect c old).1) × AnsweredInTurn (task_effect c old).0 cs os new
 
--- the commands that were run, and their replies
-abbrev pub executed_of : List Command → List (Option Content) → List Command
+-- the tasks that were run, and their replies
+abbrev pub executed_of : List Task → List (Option Content) → List Task
 executed_of [] os = []
 executed_of (c ∷ cs) [] = []
 executed_of (c ∷ cs) (None ∷ os) = executed_of cs os

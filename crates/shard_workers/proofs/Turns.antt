@@ -9,30 +9,29 @@ use Rattle.std.specs.Ordering.{nat_cmp}
 use Rattle.std.specs.List.{AllByRecursion}
 use Rattle.std.specs.Result.{OnErr, result_ok}
 use Rattle.command_bodies.specs.Answer.{reply_of}
-use Rattle.command_bodies.specs.Command.{effect_of}
 use Rattle.command_cases.specs.Case.{Does}
-use Rattle.command_table.specs.declared.command.Command.{Command}
 use Rattle.groups.specs.GroupSet.{has, IsAscending}
 use Rattle.keyspace.proofs.Gets.{same}
 use Rattle.keyspace.specs.Map.{Map}
-use Rattle.placement.specs.Groups.{groups_of}
 use Rattle.placement.specs.Layout.{Layout, IsTable, shard_of}
 use Rattle.resp.specs.Content.{Content}
 use Rattle.resp.specs.declared.answered.Answered.{Answered}
 use Rattle.shard_maps.proofs.Joins.{get-joined-cons, none_elsewhere, or_none}
-use Rattle.shard_maps.proofs.Spans.{IsAscending-groups_of}
 use Rattle.shard_maps.proofs.Runs.{SpanRan-answered, SpanRan-starved}
-use Rattle.shard_maps.proofs.Spans.{same_elsewhere}
 use Rattle.shard_maps.specs.Joined.{HasKeysOf, Span, joined, numbers, union, SpanHasOwnKeys, SpanRan}
 use Rattle.shard_maps.specs.Layer.{UnitRan}
+use Rattle.tasks.specs.Tasks.{task_groups, task_effect}
+use Rattle.tasks.specs.Tasks as executed
+use Rattle.tasks.proofs.Within.{same_elsewhere}
+use Rattle.tasks.proofs.Groups.{IsAscending-task_groups}
 use Rattle.shard_workers.specs.Runs.{HaveRunOver}
 use Rattle.shard_workers.specs.Tasks.{outcome, MapRan, HasRunOn, first_map, IsReadyFor, HasRunOver}
 use Rattle.shard_workers.specs.declared.task.Task.{Task}
 use Rattle.shard_workers.specs.declared.task.TaskRan.{TaskRan}
 
 -- what a body did is told by its reply
-pub map_ran : {E : Type 0} (command : Command) (before after : Map) (r : Result Answered E)
-    → Does (effect_of command) before after (reply_of r) → MapRan command before (outcome (result_ok r)) after
+pub map_ran : {E : Type 0} (command : executed.Task) (before after : Map) (r : Result Answered E)
+    → Does (task_effect command) before after (reply_of r) → MapRan command before (outcome (result_ok r)) after
 map_ran command before after (Ok answered) did = did
 map_ran command before after (Err fault) did = did
 
@@ -41,7 +40,7 @@ starves (Ok x) h e = absurd (let f = e in cc)
 starves (Err x) h e = h
 
 -- a command that was run on the union of a span's maps was run over the span
-pub span_ran : (table : Layout) (command : Command) (before after : Span) → IsAscending (numbers before) → numbers after ≡ numbers before
+pub span_ran : (table : Layout) (command : executed.Task) (before after : Span) → IsAscending (numbers before) → numbers after ≡ numbers before
     → SpanHasOwnKeys table before → SpanHasOwnKeys table after → (outcome : Option Content)
     → MapRan command (union before) outcome (union after) → SpanRan table command before outcome after
 span_ran table command before after up kept own own' None ran = SpanRan-starved table command before after up kept own' own ran
@@ -54,20 +53,20 @@ pub joined-one : (m : Map) → joined (m ∷ []) ≡ m
 joined-one m = same (joined (m ∷ [])) m (λ q.
     get-joined-cons m [] q ∙ ap (option_or (get m q)) (get-empty (slice_cmp nat_cmp) q) ∙ or_none (get m q))
 
-module _ (table : Layout) (command : Command) (g : ℕ) (before : Map) (is_table : IsTable table) (lone : groups_of table command ≡ g ∷ [])
+module _ (table : Layout) (command : executed.Task) (g : ℕ) (before : Map) (is_table : IsTable table) (lone : task_groups table command ≡ g ∷ [])
     (own : HasKeysOf table g before) where
-  there : (q : List ℕ) → shard_of table q ≡ g → has (groups_of table command) (shard_of table q) ≡ true
+  there : (q : List ℕ) → shard_of table q ≡ g → has (task_groups table command) (shard_of table q) ≡ true
   there q e = ap (λ gs. has gs (shard_of table q)) lone ∙ or_left _ _ (eq-eqb g (shard_of table q) (sym e))
 
-  here : (q : List ℕ) → has (groups_of table command) (shard_of table q) ≡ true → shard_of table q ≡ g
+  here : (q : List ℕ) → has (task_groups table command) (shard_of table q) ≡ true → shard_of table q ≡ g
   here q is = elim (or_cases (g == shard_of table q) false (sym (ap (λ gs. has gs (shard_of table q)) lone) ∙ is)) [
     | inl e ↦ sym (eqb-true g (shard_of table q) e)
     | inr e ↦ absurd (cc)
   ]
 
-  within : (q : List ℕ) → get before q ≡ cond (has (groups_of table command) (shard_of table q)) (get before q) None
-  within q = elim (has (groups_of table command) (shard_of table q))
-      as (λ b. has (groups_of table command) (shard_of table q) ≡ b → get before q ≡ cond b (get before q) None) [
+  within : (q : List ℕ) → get before q ≡ cond (has (task_groups table command) (shard_of table q)) (get before q) None
+  within q = elim (has (task_groups table command) (shard_of table q))
+      as (λ b. has (task_groups table command) (shard_of table q) ≡ b → get before q ≡ cond b (get before q) None) [
         | true ↦ λ _. refl
         | false ↦ λ away. none_elsewhere table g before q own (λ e. both_ways _ away (there q e))
       ] refl
@@ -75,8 +74,8 @@ module _ (table : Layout) (command : Command) (g : ℕ) (before : Map) (is_table
   -- a command of one group leaves only keys of that group on its shard
   pub own_after : (outcome : Option Content) (after : Map) → MapRan command before outcome after → HasKeysOf table g after
   own_after None after ran = subst (HasKeysOf table g) (sym ran) own
-  own_after (Some reply) after ran = λ q some. elim (has (groups_of table command) (shard_of table q))
-      as (λ b. has (groups_of table command) (shard_of table q) ≡ b → shard_of table q ≡ g) [
+  own_after (Some reply) after ran = λ q some. elim (has (task_groups table command) (shard_of table q))
+      as (λ b. has (task_groups table command) (shard_of table q) ≡ b → shard_of table q ≡ g) [
         | true ↦ λ is. here q is
         | false ↦ λ away. own q (subst IsSome (ap (λ r. get r.0 q) ran
             ∙ same_elsewhere table command before before is_table within q away) some)
@@ -90,7 +89,7 @@ one_over table t r (b ∷ c ∷ more) after ready one kept run = absurd (omega (
 one_over table t r (b ∷ []) [] ready one kept run = absurd (let e = kept in cc)
 one_over table t r (b ∷ []) (a ∷ c ∷ more) ready one kept run = absurd (let e : numbers (a ∷ c ∷ more) ≡ b.0 ∷ [] = kept in cc)
 one_over table t r (b ∷ []) (a ∷ []) ready one kept run =
-    let lone : groups_of table t.job.asked.command ≡ b.0 ∷ [] = sym ready.groups ∙ sym ready.numbers in
+    let lone : task_groups table t.job.asked.command ≡ b.0 ∷ [] = sym ready.groups ∙ sym ready.numbers in
     let same_number : a.0 ≡ b.0 = (let e : a.0 ∷ [] ≡ b.0 ∷ [] = kept in cc) in
     record {
       numbers = kept;
@@ -110,7 +109,7 @@ pub over_ran : (table : Layout) (t : Task) (r : TaskRan) (before after : Span) �
     → HasRunOver table t before r after → SpanRan table t.job.asked.command before (outcome r.reply) after
 over_ran table t r before after ready run =
     span_ran table t.job.asked.command before after
-    (subst IsAscending (sym (ready.numbers ∙ ready.groups)) (IsAscending-groups_of table t.job.asked.command))
+    (subst IsAscending (sym (ready.numbers ∙ ready.groups)) (IsAscending-task_groups table t.job.asked.command))
     run.numbers ready.own run.own (outcome r.reply) run.on.ran
 
 -- the next one has the shards that it left

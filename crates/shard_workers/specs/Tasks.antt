@@ -1,15 +1,13 @@
 -- A request that is run on a map, or over the shards of its groups, and what comes of it.
 use Rattle.std.specs.Prelude.{◌≡◌, true, false, [], ◌∷◌, Option, Some, None, option_map}
 use Rattle.std.specs.FinMap.{empty}
-use Rattle.command_bodies.specs.Answer.{AnswerTakesMemory}
-use Rattle.command_bodies.specs.Command.{effect_of}
-use Rattle.command_table.specs.declared.command.Command.{Command}
 use Rattle.keyspace.specs.Map.{Map}
-use Rattle.placement.specs.Groups.{groups_of}
 use Rattle.placement.specs.Layout.{Layout, IsTable}
 use Rattle.resp.specs.Content.{Content, content}
 use Rattle.resp.specs.declared.answered.Answered.{Answered}
 use Rattle.shard_maps.specs.Joined.{Span, numbers, union, SpanHasOwnKeys}
+use Rattle.tasks.specs.Tasks.{task_groups, task_effect, task_takes_memory}
+use Rattle.tasks.specs.Tasks as executed
 use Rattle.shard_workers.specs.declared.task.Task.{Task}
 use Rattle.shard_workers.specs.declared.task.TaskRan.{TaskRan}
 
@@ -18,9 +16,9 @@ abbrev pub outcome : Option Answered → Option Content
 outcome answered = option_map (λ a. content a.reply) answered
 
 -- what a command left of a map, and what it answered; where it starved there is no reply, and the map is as it was
-abbrev pub MapRan : Command → Map → Option Content → Map → Type 0
+abbrev pub MapRan : executed.Task → Map → Option Content → Map → Type 0
 MapRan command before None after = after ≡ before
-MapRan command before (Some reply) after = (after, reply) ≡ effect_of command before
+MapRan command before (Some reply) after = (after, reply) ≡ task_effect command before
 
 -- The request was run on a map, or it starved and the map is as it was. One that is to be skipped starves; another one
 -- only where its command, on what the map has, takes memory or answers text.
@@ -32,7 +30,7 @@ pub record HasRunOn (t : Task) (before : Map) (r : TaskRan) (after : Map) : Type
   pub words : r.words ≡ t.job.asked.words
   pub ran : MapRan t.job.asked.command before (outcome r.reply) after
   pub skipped : t.skipped ≡ true → outcome r.reply ≡ None
-  pub starved : t.skipped ≡ false → outcome r.reply ≡ None → AnswerTakesMemory t.job.asked.command before
+  pub starved : t.skipped ≡ false → outcome r.reply ≡ None → task_takes_memory t.job.asked.command before
 
 -- the map of the one shard that is there
 abbrev pub first_map : Span → Map
@@ -42,7 +40,7 @@ first_map (s ∷ ss) = s.1
 -- these are the shards of the groups that the request addresses, each with only keys that the table places there
 pub record IsReadyFor (table : Layout) (t : Task) (span : Span) : Type 0 where
   pub is_table : IsTable table
-  pub groups : t.job.groups ≡ groups_of table t.job.asked.command
+  pub groups : t.job.groups ≡ task_groups table t.job.asked.command
   pub numbers : numbers span ≡ t.job.groups
   pub own : SpanHasOwnKeys table span
 

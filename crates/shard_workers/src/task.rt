@@ -1,8 +1,8 @@
 //! One request, over whatever keyspace has the keys of its command.
 
 ghost use Rattle.std.specs.Prelude.{◌≡◌, All, IsTrue, length};
-ghost use Rattle.command_table.specs.Command.{keys_of};
 ghost use Rattle.shard_maps.specs.Joined.{numbers, union};
+ghost use Rattle.tasks.specs.Tasks.{task_keys};
 ghost use Rattle.shard_workers.specs.Tasks.{HasRunOn, IsReadyFor, HasRunOver, first_map};
 ghost use Rattle.shards.specs.Spans.{IsSpan, lies_on};
 
@@ -54,7 +54,7 @@ impl Task {
         keyspace: &mut K,
         gate: &(dyn Gate + Sync),
     ) -> TaskRan
-        requires { All (λ key. IsTrue (K.covered keyspace.old key)) (keys_of self.job.asked.command) }
+        requires { All (λ key. IsTrue (K.covered keyspace.old key)) (task_keys self.job.asked.command) }
         ensures ran { HasRunOn self (K.contents keyspace.old) result (K.contents keyspace.new) }
         ensures covers { K.covered keyspace.new ≡ K.covered keyspace.old }
     {
@@ -139,7 +139,7 @@ fn run_on_all<F: SpanFrame>(
 ) -> (TaskRan, Vec<(GroupId, Shard)>)
     requires table { table ≡ F.layout }
     requires shards { IsSpan F.layout F.groups shards.items }
-    requires keys { All (λ key. IsTrue (lies_on F.layout F.groups key)) (keys_of task.job.asked.command) }
+    requires keys { All (λ key. IsTrue (lies_on F.layout F.groups key)) (task_keys task.job.asked.command) }
     ensures shards { IsSpan F.layout F.groups result.1.items }
     ensures ran { HasRunOn task (union shards.items) result.0 (union result.1.items) }
 {

@@ -49,7 +49,7 @@ Told rows starved i = ((x : Row) × In x rows × (x.entry.id ≡ i)) ⊎ In i st
 
 abbrev row_of : Ended → Content → Row
 row_of e reply = record {
-  entry = record { id = e.id; stamp = e.stamp; groups = e.groups; command = e.command };
+  entry = record { id = e.id; stamp = e.stamp; groups = e.groups; task = e.task };
   reply = reply;
 }
 

@@ -1,18 +1,16 @@
 -- What is the same in the worlds before and after a step of the front, and what the parts show of it.
 use Rattle.std.proofs.Common.{◌≡◌, ℕ, true, List, [], ◌∷◌, Some, refl, sym, ◌∙◌, subst, Result, Ok, Err}
-use Rattle.command_table.specs.Reading.{reading}
-use Rattle.command_table.specs.declared.command.Command.{Command}
 use Rattle.command_table.specs.declared.refusal.Refusal.{Refusal}
 use Rattle.groups.specs.GroupSet.{has}
 use Rattle.journal.specs.declared.step.Step.{Step}
 use Rattle.journal.specs.declared.step.Step.TheVariants.{Open, Submit, Deliver, Take, Run, Settle, Collect, Close}
 use Rattle.layer_planner.specs.declared.job.Job.{Job}
-use Rattle.placement.specs.Groups.{groups_of}
 use Rattle.placement.specs.Layout.{Layout}
 use Rattle.shard_exec.specs.StoreStates.{StoreState}
 use Rattle.groups.specs.Order.{In}
 use Rattle.skeen_core.specs.declared.packet.Delivered.{Delivered}
 use Rattle.groups.specs.declared.request.RequestId.{RequestId}
+use Rattle.tasks.specs.Tasks.{Task, task_reading, task_groups}
 use Rattle.system.specs.Parts.{ShowsStage}
 use Rattle.system.specs.declared.stage.Stage.{Stage}
 use Rattle.system.specs.declared.stage.Stage.TheVariants as stage
@@ -34,11 +32,11 @@ pub record IsRest (w w' : World) : Type 0 where
 rest_of : (w w' after : World) → w' ≡ after → IsRest w after → IsRest w w'
 rest_of w w' after is rest = subst (λ v. IsRest w v) (sym is) rest
 
-submit_rest : (t : Layout) (w : World) (c : ℕ) (read : Result Command Refusal) → IsRest w (submitted t w c read)
+submit_rest : (t : Layout) (w : World) (c : ℕ) (read : Result Task Refusal) → IsRest w (submitted t w c read)
 submit_rest t w c (Err refusal) = record { layer = refl; ended = refl; contents = refl }
-submit_rest t w c (Ok command) = by_groups (groups_of t command)
+submit_rest t w c (Ok task) = by_groups (task_groups t task)
   where
-    by_groups : (gs : List ℕ) → IsRest w (submitted_to w c command gs)
+    by_groups : (gs : List ℕ) → IsRest w (submitted_to w c task gs)
     by_groups [] = record { layer = refl; ended = refl; contents = refl }
     by_groups (g ∷ gs) = record { layer = refl; ended = refl; contents = refl }
 
@@ -61,7 +59,7 @@ LeavesLayer (Close conn) = Unit {0}
 pub is_rest : (t : Layout) (w w' : World) (step : Step) (effect : Effect) → LeavesLayer step → Steps t w step effect w' → IsRest w w'
 is_rest t w w' Open effect leaves made = rest_of w w' _ made.after (record { layer = refl; ended = refl; contents = refl })
 is_rest t w w' (Submit conn words) effect leaves made =
-    rest_of w w' (submitted t w conn.0 (reading words)) made.after (submit_rest t w conn.0 (reading words))
+    rest_of w w' (submitted t w conn.0 (task_reading words)) made.after (submit_rest t w conn.0 (task_reading words))
 is_rest t w w' (Deliver place) effect leaves made = rest_of w w' _ made.after (record { layer = refl; ended = refl; contents = refl })
 is_rest t w w' Take effect leaves made = absurd leaves
 is_rest t w w' (Run starved) effect leaves made = absurd leaves

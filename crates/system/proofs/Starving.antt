@@ -3,16 +3,12 @@
 use Rattle.std.proofs.Common.{◌≡◌, true, false, ◌||◌, inl, inr, List, [], ◌∷◌, Option, Some, None, refl, sym, ap, ◌∙◌, subst}
 use Rattle.std.specs.List.{AllZip}
 use Rattle.std.proofs.lemmas.Bool.{or_right}
-use Rattle.command_bodies.specs.Answer.{AnswerTakesMemory}
-use Rattle.command_table.specs.Reading.{reading}
-use Rattle.command_table.specs.declared.command.Command.{Command}
 use Rattle.groups.proofs.Ids.{same_id-refl, same_id-sym}
 use Rattle.groups.specs.Order.{In}
 use Rattle.groups.specs.Request.{same_id}
 use Rattle.groups.specs.declared.request.RequestId.{RequestId}
 use Rattle.keyspace.specs.Map.{Map}
 use Rattle.layer_planner.specs.declared.job.Job.{Job}
-use Rattle.placement.specs.Groups.{groups_of}
 use Rattle.placement.specs.Layout.{Layout}
 use Rattle.resp.specs.Content.{Content}
 use Rattle.resp.specs.declared.answered.Answered.{Answered}
@@ -21,6 +17,7 @@ use Rattle.shard_exec.specs.StoreStates.{StoreState}
 use Rattle.shard_exec.specs.declared.done.Ended as run
 use Rattle.shard_workers.specs.Runs.{outcome}
 use Rattle.skeen_core.specs.declared.packet.Delivered.{Delivered}
+use Rattle.tasks.specs.Tasks.{Task, task_reading, task_groups, task_takes_memory}
 use Rattle.system.specs.Parts.{WantInTurn, StarvesRightly}
 use Rattle.system.specs.declared.parts.Parts.{Parts}
 use Rattle.system_view.proofs.Running.{ShowsRun}
@@ -63,24 +60,24 @@ named_starve table m skip asked (e ∷ ds) (j ∷ js) (r ∷ rs) are told starve
 
 -- ---- the others
 
-left_same : (command : Command) (m : Map) (reply : Option Content) → left_by command m reply ≡ map_after reply command m
-left_same command m None = refl
-left_same command m (Some reply) = refl
+left_same : (task : Task) (m : Map) (reply : Option Content) → left_by task m reply ≡ map_after reply task m
+left_same task m None = refl
+left_same task m (Some reply) = refl
 
--- the words of a request say its command, before and after
-same_command : (j : Job) (e : Ended) (r : run.Ended) → IsOf j r → IsEnded e r → j.asked.command ≡ e.command
+-- the words of a request say its task, before and after
+same_command : (j : Job) (e : Ended) (r : run.Ended) → IsOf j r → IsEnded e r → j.asked.command ≡ e.task
 same_command j e r of ended =
-    let both = sym j.asked.says ∙ ap reading (sym of.2) ∙ ended.says in cc
+    let both = sym j.asked.says ∙ ap task_reading (sym of.2) ∙ ended.says in cc
 
 wants : (table : Layout) (m : Map) (skip : List RequestId) (j : Job) (e : Ended) (r : run.Ended) →
-    j.groups ≡ groups_of table j.asked.command → IsOf j r → IsEnded e r →
-    (is_named skip j.id ≡ false → outcome r.reply ≡ None → AnswerTakesMemory j.asked.command (on_groups table j.groups m)) →
-    e.reply ≡ None → names skip e.id ≡ false → AnswerTakesMemory e.command (on_groups table (groups_of table e.command) m)
+    j.groups ≡ task_groups table j.asked.command → IsOf j r → IsEnded e r →
+    (is_named skip j.id ≡ false → outcome r.reply ≡ None → task_takes_memory j.asked.command (on_groups table j.groups m)) →
+    e.reply ≡ None → names skip e.id ≡ false → task_takes_memory e.task (on_groups table (task_groups table e.task) m)
 wants table m skip j e r address of ended starve none passed =
     let job : j.id ≡ e.id = sym of.0 ∙ ended.id in
     let named : is_named skip j.id ≡ false = ap (is_named skip) job ∙ sym (names-is_named skip e.id) ∙ passed in
-    subst (λ c. AnswerTakesMemory c (on_groups table (groups_of table c) m)) (same_command j e r of ended)
-    (subst (λ gs. AnswerTakesMemory j.asked.command (on_groups table gs m)) address (starve named (ended.reply ∙ none)))
+    subst (λ c. task_takes_memory c (on_groups table (task_groups table c) m)) (same_command j e r of ended)
+    (subst (λ gs. task_takes_memory j.asked.command (on_groups table gs m)) address (starve named (ended.reply ∙ none)))
 
 want_in_turn : (table : Layout) (m : Map) (skip : List RequestId) (js : List Job) (rs : List run.Ended) (es : List Ended) →
     AddressTheirGroups table js → AllZip IsOf js rs → AreEnded es rs → MayStarveInTurn table m skip js rs →
@@ -90,11 +87,11 @@ want_in_turn table m skip js [] (e ∷ es) address told ended starve = absurd en
 want_in_turn table m skip [] (r ∷ rs) (e ∷ es) address told ended starve = absurd told
 want_in_turn table m skip (j ∷ js) (r ∷ rs) (e ∷ es) address told ended starve = (
   wants table m skip j e r address.0 told.0 ended.0 starve.0.starved,
-  want_in_turn table (map_after e.reply e.command m) skip js rs es address.1 told.1 ended.1
+  want_in_turn table (map_after e.reply e.task m) skip js rs es address.1 told.1 ended.1
       (subst (λ l. MayStarveInTurn table l skip js rs) left starve.1),
 )
   where
-    left : left_by j.asked.command m (outcome r.reply) ≡ map_after e.reply e.command m
+    left : left_by j.asked.command m (outcome r.reply) ≡ map_after e.reply e.task m
     left = left_same j.asked.command m (outcome r.reply) ∙ ap (λ o. map_after o j.asked.command m) ended.0.reply
         ∙ ap (λ c. map_after e.reply c m) (same_command j e r told.0 ended.0)
 

@@ -1,16 +1,14 @@
 -- What a history submitted to groups the world was asked.
 use Rattle.std.proofs.Common.{◌≡◌, ◌≢◌, ℕ, List, [], ◌∷◌, inl, inr, Some, refl, sym, ◌∙◌, subst}
 use Rattle.std.proofs.lemmas.Bool.{cond-true}
-use Rattle.command_table.specs.Reading.{reading}
-use Rattle.command_table.specs.declared.command.Command.{Command}
 use Rattle.journal.specs.declared.step.Step.{Step}
 use Rattle.journal.specs.declared.step.Step.TheVariants.{Open, Submit, Deliver, Take, Run, Settle, Collect, Close}
-use Rattle.placement.specs.Groups.{groups_of}
 use Rattle.placement.specs.Layout.{Layout}
 use Rattle.groups.proofs.Ids.{same_id-refl}
 use Rattle.groups.specs.Request.{same_id}
 use Rattle.groups.specs.declared.request.ConnId.{ConnId}
 use Rattle.groups.specs.declared.request.RequestId.{RequestId}
+use Rattle.tasks.specs.Tasks.{Task, task_reading, task_groups}
 use Rattle.system.specs.Endings.{AsksGroups}
 use Rattle.world.specs.Steps.{Effect, Steps, Makes, next_id, floor_of, submitted, submitted_to}
 use Rattle.world.specs.Steps as world
@@ -32,10 +30,10 @@ asked_still t old new (s ∷ ss) (e ∷ es) i made good asked =
     asked_still t made.0 new ss es i made.2 (keeps t old made.0 s e made.1 good)
     (asked.0, (knows_more t old made.0 s e made.1 good).0 i asked.0 asked.1)
 
-asked_to : (old : World) (c : ℕ) (command : Command) (gs : List ℕ) → gs ≢ [] → IsAsked (submitted_to old c command gs) (next_id old c)
-asked_to old c command [] some = absurd (some refl)
-asked_to old c command (g ∷ gs) some =
-    let q : Request = record { floor = floor_of old c; groups = g ∷ gs; command = command } in
+asked_to : (old : World) (c : ℕ) (task : Task) (gs : List ℕ) → gs ≢ [] → IsAsked (submitted_to old c task gs) (next_id old c)
+asked_to old c task [] some = absurd (some refl)
+asked_to old c task (g ∷ gs) some =
+    let q : Request = record { floor = floor_of old c; groups = g ∷ gs; task = task } in
     (q, cond-true (same_id (next_id old c) (next_id old c)) (Some q) (old.asked (next_id old c)) (same_id-refl (next_id old c)))
 
 asked_submit : (t : Layout) (old new : World) (i : RequestId) (conn : ConnId) (words : List (List ℕ)) (e : Effect) →
@@ -44,9 +42,9 @@ asked_submit t old new i conn words (world.Opened c) step now = absurd now
 asked_submit t old new i conn words (world.Submitted j) step now =
     let same : next_id old conn.0 ≡ i = sym (same_submitted j (next_id old conn.0) step.answers) ∙ now.1 in
     subst (λ w. IsAsked w i) (sym step.after)
-    (subst (λ k. IsAsked (submitted t old conn.0 (reading words)) k) same
+    (subst (λ k. IsAsked (submitted t old conn.0 (task_reading words)) k) same
     (subst (λ r. IsAsked (submitted t old conn.0 r) (next_id old conn.0)) (sym now.2.1)
-    (asked_to old conn.0 now.2.0 (groups_of t now.2.0) now.2.2)))
+    (asked_to old conn.0 now.2.0 (task_groups t now.2.0) now.2.2)))
   where
     same_submitted : (j k : RequestId) → world.Submitted j ≡ world.Submitted k → j ≡ k
     same_submitted j k same = let e = same in cc

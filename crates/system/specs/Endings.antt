@@ -1,14 +1,12 @@
 -- That nothing is left behind, that something can be done until then, and that there is an end to it.
 use Rattle.std.specs.Prelude.{◌≡◌, ◌≢◌, ℕ, ◌≤◌, Bool, List, [], ◌⊎◌, None, Ok}
-use Rattle.command_table.specs.Reading.{reading}
-use Rattle.command_table.specs.declared.command.Command.{Command}
 use Rattle.journal.specs.Views.{RowView}
 use Rattle.journal.specs.declared.step.Step.{Step}
 use Rattle.journal.specs.declared.step.Step.TheVariants.{Deliver, Take, Run, Settle}
-use Rattle.placement.specs.Groups.{groups_of}
 use Rattle.placement.specs.Layout.{Layout}
 use Rattle.groups.specs.Order.{In}
 use Rattle.groups.specs.declared.request.RequestId.{RequestId}
+use Rattle.tasks.specs.Tasks.{Task, task_reading, task_groups}
 use Rattle.system.specs.Faults.{own_fault}
 use Rattle.system.specs.Parts.{IsAt}
 use Rattle.system.specs.Reads.{table_of, rows_of, starved_of}
@@ -32,9 +30,9 @@ IsExecuted s i = (row : RowView) × In row (rows_of s) × (row.id ≡ i)
 abbrev pub HasStarved : SystemView → RequestId → Type 0
 HasStarved s i = In i (starved_of s)
 
--- the words are a command that addresses groups
+-- the words are a task that addresses groups
 abbrev pub AsksGroups : Layout → List (List ℕ) → Type 0
-AsksGroups t words = (command : Command) × (reading words ≡ Ok command) × (groups_of t command ≢ [])
+AsksGroups t words = (task : Task) × (task_reading words ≡ Ok task) × (task_groups t task ≢ [])
 
 -- whatever history led here, each request that it submitted to groups has ended: it was executed, or it starved
 abbrev pub EachHasEnded : SystemView → Type 0

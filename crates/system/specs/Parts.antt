@@ -1,7 +1,5 @@
 -- What the two halves of the system show, together, of a world.
 use Rattle.std.specs.Prelude.{◌≡◌, ℕ, suc, ◌+◌, true, false, List, [], ◌∷◌, ◌++◌, length, None, option_map}
-use Rattle.command_bodies.specs.Answer.{AnswerTakesMemory}
-use Rattle.command_table.specs.declared.command.Command.{Command}
 use Rattle.front.specs.Fronts.{FrontShows}
 use Rattle.journal.specs.Views.{RowView}
 use Rattle.journal.specs.declared.step.Step.{Step}
@@ -10,10 +8,10 @@ use Rattle.layer_planner.specs.declared.job.Job.{Job}
 use Rattle.groups.specs.Order.{In}
 use Rattle.groups.specs.declared.request.RequestId.{RequestId}
 use Rattle.keyspace.specs.Map.{Map}
-use Rattle.placement.specs.Groups.{groups_of}
 use Rattle.placement.specs.Layout.{Layout}
 use Rattle.shard_exec.specs.Layers.{on_groups}
 use Rattle.skeen_core.specs.declared.packet.Delivered.{Delivered}
+use Rattle.tasks.specs.Tasks.{Task, task_groups, task_takes_memory}
 use Rattle.system.specs.Outcomes.{IsWhatCameOf, replies_in}
 use Rattle.system.specs.declared.effect.Effect.{Effect}
 use Rattle.system.specs.declared.effect.Effect.TheVariants.{Opened, Submitted, Ran, Collected, Made}
@@ -91,17 +89,17 @@ abbrev pub stored : Step → Effect → Step
 stored (Run skip) (Ran starved) = Run starved
 stored step effect = step
 
--- there may be no memory to answer the command on what the shards of its groups have of this map
-abbrev pub MayWant : Layout → Map → Command → Type 0
-MayWant table m command = AnswerTakesMemory command (on_groups table (groups_of table command) m)
+-- there may be no memory to answer the task on what the shards of its groups have of this map
+abbrev pub MayWant : Layout → Map → Task → Type 0
+MayWant table m task = task_takes_memory task (on_groups table (task_groups table task) m)
 
 -- Requests of a layer as they ended, the first on this map and each other one on the map that those before it left: one that
 -- starved was named, or there may have been no memory to answer it there.
 abbrev pub WantInTurn : Layout → List RequestId → Map → List Ended → Type 0
 WantInTurn table skip m [] = Unit {0}
 WantInTurn table skip m (e ∷ es) =
-    (e.reply ≡ None → names skip e.id ≡ false → MayWant table m e.command)
-    × WantInTurn table skip (map_after e.reply e.command m) es
+    (e.reply ≡ None → names skip e.id ≡ false → MayWant table m e.task)
+    × WantInTurn table skip (map_after e.reply e.task m) es
 
 -- of the layer each request starves that a Run names, and another one only where there may be no memory to answer it on
 -- what it met

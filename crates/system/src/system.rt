@@ -9,7 +9,7 @@ ghost use Rattle.system.specs.Reads.{waiting_for};
 ghost use Rattle.system.specs.Reads.{clock_of, layer_of};
 ghost use Rattle.std.specs.Prelude.{slice_get};
 ghost use Rattle.system.specs.Laws.{ShowsSome, OfItsWorlds, OthersKeepStill, CollectedOnce, CollectsItsOwn};
-ghost use Rattle.world_laws.specs.Order.{FinalsAgree, FinalsDiffer, ConnectionsRise, GroupsAreOfCommands, PacketsAreAddressed};
+ghost use Rattle.world_laws.specs.Order.{FinalsAgree, FinalsDiffer, ConnectionsRise, GroupsAreOfTasks, PacketsAreAddressed};
 ghost use Rattle.world_laws.specs.Order.{LogsAreAddressed, ReadyInWords, LinedUpInWords, EndedOnce, EndedAsSubmitted, TouchingInStampOrder};
 ghost use Rattle.shard_maps.specs.Joined.{HasOwnKeys};
 ghost use Rattle.system.specs.Runs.{Runs};
@@ -314,7 +314,7 @@ impl System {
         ensures touching { OfItsWorlds TouchingInStampOrder self.now }
         ensures ended_once { OfItsWorlds EndedOnce self.now }
         ensures ended_as_submitted { OfItsWorlds EndedAsSubmitted self.now }
-        ensures groups { OfItsWorlds GroupsAreOfCommands self.now }
+        ensures groups { OfItsWorlds GroupsAreOfTasks self.now }
         ensures packets { OfItsWorlds PacketsAreAddressed self.now }
         ensures delivered { OfItsWorlds LogsAreAddressed self.now }
         ensures ready { OfItsWorlds ReadyInWords self.now }

@@ -4,20 +4,19 @@ use Rattle.std.proofs.Common.{length, remove, slice_get, Some, refl, sym, ap, �
 use Rattle.std.proofs.Common.{append-nil, append_assoc}
 use Rattle.std.proofs.Math.Seq.{append_snoc}
 use Rattle.std.proofs.lemmas.Bool.{and_parts}
-use Rattle.command_table.specs.declared.command.Command.{Command}
 use Rattle.delivery.specs.Queues.{queue_of, MayAppend}
 use Rattle.delivery.specs.Ready.{QueueOf}
 use Rattle.groups.specs.GroupSet.{has}
 use Rattle.groups.specs.GroupSetLaws.{has-chosen}
 use Rattle.journal.specs.declared.step.Step.{Step}
 use Rattle.multicast.specs.Multicast.{MulticastView, group_of, MayAppendAll, MayBeDelivered, Delivers}
-use Rattle.placement.specs.Groups.{groups_of}
 use Rattle.placement.specs.Layout.{Layout}
 use Rattle.groups.proofs.Options.{some_same}
 use Rattle.skeen_core.specs.Group.{GroupState, MayCome, Receives}
 use Rattle.groups.specs.Order.{In}
 use Rattle.skeen_core.specs.declared.packet.Delivered.{Delivered}
 use Rattle.skeen_core.specs.declared.packet.Packet.{Packet}
+use Rattle.tasks.specs.Tasks.{Task, task_groups}
 use Rattle.system_view.specs.Multicast.{ShowsMulticast}
 use Rattle.world.specs.Steps.{at, opening, Made, Comes, received, Leads}
 use Rattle.world.specs.World.{World, Request}
@@ -32,9 +31,9 @@ stands [] k x e = absurd (let n = e in cc)
 stands (y ∷ ys) zero x e = inl (sym (some_same y x e))
 stands (y ∷ ys) (suc k) x e = inr (stands ys k x e)
 
--- a group of a command is one of the table's
-pub group_below : (t : Layout) (command : Command) (g : ℕ) → has (groups_of t command) g ≡ true → g < t.shards
-group_below t command g there = ltb-true g t.shards (and_parts _ _ (sym (has-chosen _ t.shards g) ∙ there)).0
+-- a group of a task is one of the table's
+pub group_below : (t : Layout) (task : Task) (g : ℕ) → has (task_groups t task) g ≡ true → g < t.shards
+group_below t task g there = ltb-true g t.shards (and_parts _ _ (sym (has-chosen _ t.shards g) ∙ there)).0
 
 -- ---- what is delivered may be appended
 
@@ -143,4 +142,4 @@ module _ (t : Layout) (v : MulticastView) (w : World) (steps : List Step) (leads
       below : (q : Request) → w.asked p.id ≡ Some q → has q.groups p.to ≡ true → p.to < t.shards
       below q asked member =
           let shaped = (good_world t steps w leads).requests.shaped p.id q asked in
-          group_below t q.command p.to (subst (λ gs. has gs p.to ≡ true) (sym shaped.groups) member)
+          group_below t q.task p.to (subst (λ gs. has gs p.to ≡ true) (sym shaped.groups) member)

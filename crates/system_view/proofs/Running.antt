@@ -4,14 +4,10 @@ use Rattle.std.proofs.Math.Seq.{append_snoc}
 use Rattle.std.specs.List.{AllZip}
 use Rattle.std.specs.Prelude.{◌≡◌, ℕ, Bool, true, false, cond, ◌||◌, List, [], ◌∷◌, ◌++◌, map}
 use Rattle.std.specs.Prelude.{Option, Some, None, is_none}
-use Rattle.command_bodies.specs.Command.{effect_of}
-use Rattle.command_table.specs.Reading.{reading}
-use Rattle.command_table.specs.declared.command.Command.{Command}
 use Rattle.groups.specs.GroupSet.{has}
 use Rattle.keyspace.specs.Map.{Map}
 use Rattle.journal.specs.declared.step.Step.{Step}
 use Rattle.layer_planner.specs.declared.job.Job.{Job}
-use Rattle.placement.specs.Groups.{groups_of}
 use Rattle.placement.specs.Layout.{Layout}
 use Rattle.resp.specs.Content.{Content}
 use Rattle.resp.specs.declared.answered.Answered.{Answered}
@@ -37,6 +33,7 @@ use Rattle.groups.specs.Stamp.{stamp_lt}
 use Rattle.skeen_core.specs.declared.packet.Delivered.{Delivered}
 use Rattle.groups.specs.declared.request.RequestId.{RequestId}
 use Rattle.groups.specs.declared.stamp.Stamp.{Stamp}
+use Rattle.tasks.specs.Tasks.{Task, task_reading, task_groups, task_effect}
 use Rattle.system_view.proofs.Jobs.{all_jobs}
 use Rattle.system_view.specs.Connections.{InLayer, id_of, ShowsOpen, ShowsClosed, ShowsConnection}
 use Rattle.system_view.specs.Connections.{IsSettled, ShowsConnections}
@@ -60,13 +57,13 @@ above_of (Some before) stamp above = above before refl
 module _ (t : Layout) (s : StoreState) (w : World) (ds : List Delivered) (good : WorldGood t w)
     (is_taken : w.layer ≡ Taken ds) (shows : ShowsStore t s w) where
   job_addresses : (d : Delivered) (j : Job) → In d ds → IsJob w.asked d j →
-      j.groups ≡ groups_of s.table j.asked.command
+      j.groups ≡ task_groups s.table j.asked.command
   job_addresses d j there is =
       let submitted = layer_is_submitted t w good ds is_taken d there in
       let same : submitted.0 ≡ is.asked_so.0 =
       some_same submitted.0 is.asked_so.0 (sym submitted.1.submitted ∙ is.asked_so.1) in
-      is.groups ∙ submitted.2 ∙ ap (λ (q : Request). groups_of t q.command) same ∙ ap (groups_of t) is.asked_so.2
-      ∙ ap (λ (l : Layout). groups_of l j.asked.command) (sym shows.table)
+      is.groups ∙ submitted.2 ∙ ap (λ (q : Request). task_groups t q.task) same ∙ ap (task_groups t) is.asked_so.2
+      ∙ ap (λ (l : Layout). task_groups l j.asked.command) (sym shows.table)
 
   job_is_fresh : (d : Delivered) (j : Job) → In d ds → IsJob w.asked d j → IsFresh s.lasts j
   job_is_fresh d j there is g member = above_of (last_of s.lasts g) j.stamp (λ before e.
@@ -81,7 +78,7 @@ pub may_be_run : (t : Layout) (s : StoreState) (w : World) (steps : List Step) (
     AddressTheirGroups s.table js × AreFresh s.lasts js
 may_be_run t s w steps ds js leads is_taken are shows =
     let good = good_world t steps w leads in (
-      all_jobs (λ j. j.groups ≡ groups_of s.table j.asked.command) w.asked ds js are
+      all_jobs (λ j. j.groups ≡ task_groups s.table j.asked.command) w.asked ds js are
           (job_addresses t s w ds good is_taken shows),
       all_jobs (IsFresh s.lasts) w.asked ds js are (job_is_fresh t s w ds good is_taken shows),
     )
@@ -89,7 +86,7 @@ may_be_run t s w steps ds js leads is_taken are shows =
 -- ---- the requests that ended
 
 abbrev ended_by : Job → run.Ended → Ended
-ended_by j r = record { id = j.id; stamp = j.stamp; groups = j.groups; command = j.asked.command; reply = outcome r.reply }
+ended_by j r = record { id = j.id; stamp = j.stamp; groups = j.groups; task = j.asked.command; reply = outcome r.reply }
 
 -- how the requests of a layer ended, as the world tells of them
 abbrev pub ended_in : List Job → List run.Ended → List Ended
@@ -102,7 +99,7 @@ are_ended [] [] told = tt
 are_ended [] (r ∷ rs) told = absurd told
 are_ended (j ∷ js) [] told = absurd told
 are_ended (j ∷ js) (r ∷ rs) told = (
-  record { id = told.0.0; stamp = told.0.1; reply = refl; says = ap reading told.0.2 ∙ j.asked.says },
+  record { id = told.0.0; stamp = told.0.1; reply = refl; says = ap task_reading told.0.2 ∙ j.asked.says },
   are_ended js rs told.1,
 )
 
@@ -203,10 +200,10 @@ ids_same asked (d ∷ ds) (j ∷ js) (r ∷ rs) are told =
 
 -- ---- one after another
 
--- the first of the commands starved, or was answered on the map; the others go on from what it left
-answered_first : (o : Option Content) (m new : Map) (c : Command) (cs : List Command) (os : List (Option Content)) →
+-- the first of the tasks starved, or was answered on the map; the others go on from what it left
+answered_first : (o : Option Content) (m new : Map) (c : Task) (cs : List Task) (os : List (Option Content)) →
     AnsweredInTurn m (c ∷ cs) (o ∷ os) new →
-    (o ≡ cond (is_none o) None (Some (effect_of c m).1)) × AnsweredInTurn (map_after o c m) cs os new
+    (o ≡ cond (is_none o) None (Some (task_effect c m).1)) × AnsweredInTurn (map_after o c m) cs os new
 answered_first None m new c cs os answered = (refl, answered)
 answered_first (Some reply) m new c cs os answered = (ap Some answered.0, answered.1)
 
@@ -221,23 +218,23 @@ contents_after m new (j ∷ js) (r ∷ rs) answered = contents_after (map_after 
 -- a request ends as the world says
 ends_as : (asked : Asked) (starved : List RequestId) (m : Map) (d : Delivered) (j : Job)
     (r : run.Ended) → (is : IsJob asked d j) → IsOf j r → names starved r.id ≡ is_none (outcome r.reply) →
-    outcome r.reply ≡ cond (is_none (outcome r.reply)) None (Some (effect_of j.asked.command m).1) →
-    ended_by j r ≡ ended_as starved m d is.asked_so.0.command
+    outcome r.reply ≡ cond (is_none (outcome r.reply)) None (Some (task_effect j.asked.command m).1) →
+    ended_by j r ≡ ended_as starved m d is.asked_so.0.task
 ends_as asked starved m d j r is of tells answer = λ i. record {
   id = is.id i;
   stamp = is.stamp i;
   groups = is.groups i;
-  command = command i;
+  task = task i;
   reply = reply i;
 }
   where
-    command : j.asked.command ≡ is.asked_so.0.command
-    command = sym is.asked_so.2
+    task : j.asked.command ≡ is.asked_so.0.task
+    task = sym is.asked_so.2
 
-    reply : outcome r.reply ≡ cond (names starved d.id) None (Some (effect_of is.asked_so.0.command m).1)
+    reply : outcome r.reply ≡ cond (names starved d.id) None (Some (task_effect is.asked_so.0.task m).1)
     reply =
-        answer ∙ ap (λ b. cond b None (Some (effect_of j.asked.command m).1)) (sym tells ∙ ap (names starved) (of.0 ∙ is.id))
-        ∙ ap (λ c. cond (names starved d.id) None (Some (effect_of c m).1)) command
+        answer ∙ ap (λ b. cond b None (Some (task_effect j.asked.command m).1)) (sym tells ∙ ap (names starved) (of.0 ∙ is.id))
+        ∙ ap (λ c. cond (names starved d.id) None (Some (task_effect c m).1)) task
 
 run_in_turn : (asked : Asked) (starved : List RequestId) (m new : Map) (ds : List Delivered) (js : List Job)
     (rs : List run.Ended) → AreJobs asked ds js → AllZip IsOf js rs →

@@ -1,24 +1,15 @@
 -- A submit of the router is a step of the world.
 use Rattle.std.proofs.Common.{◌≡◌, ℕ, suc, ◌==◌, true, false, cond, List, ◌∷◌, inl, inr, Option, Some, None, Result, Ok}
-use Rattle.std.proofs.Common.{Err, refl, sym, ap, ◌∙◌, subst, eq-eqb}
+use Rattle.std.proofs.Common.{Err, IfOk, refl, sym, ap, ◌∙◌, subst, eq-eqb}
 use Rattle.std.proofs.lemmas.Bool.{both_ways, cases_Bool}
 use Rattle.std.specs.FinMap.{empty}
-use Rattle.command_bodies.specs.Command.{effect_of}
-use Rattle.command_bodies.specs.LocalCommand.{local_reply}
-use Rattle.command_table.specs.Reading.{reading}
 use Rattle.command_table.specs.Refusal.{refusal_text}
-use Rattle.command_table.specs.declared.command.Command.{Command}
-use Rattle.command_table.specs.declared.command.Command.TheVariants as command
-use Rattle.command_table.specs.declared.command.Command.TheVariants.{Key, Str, Local}
-use Rattle.command_table.specs.declared.local_commands.LocalCommand.{LocalCommand}
-use Rattle.command_table.specs.declared.local_commands.LocalCommand.TheVariants.{Ping, Echo}
 use Rattle.command_table.specs.declared.refusal.Refusal.{Refusal}
-use Rattle.placement.specs.Groups.{groups_of}
 use Rattle.placement.specs.Layout.{Layout}
 use Rattle.resp.specs.Content.{Content, ErrorLine}
 use Rattle.router.specs.Connection.{Answer, is_under_way}
 use Rattle.router.specs.Router.{RouterView, connection, Changes}
-use Rattle.router.specs.Submitting.{StandsBy, Submits, next_id}
+use Rattle.router.specs.Submitting.{StandsAs, StandsBy, Submits, next_id}
 use Rattle.router.specs.declared.connection.Connection.{Connection}
 use Rattle.router.specs.declared.connection.Pending.{Pending}
 use Rattle.router.specs.declared.connection.Standing.{Standing}
@@ -28,8 +19,10 @@ use Rattle.router.specs.declared.submission.Submission.{Submission}
 use Rattle.groups.proofs.Ids.{same_id-true, eq-same_id}
 use Rattle.groups.specs.Request.{same_id}
 use Rattle.groups.specs.declared.request.RequestId.{RequestId}
+use Rattle.tasks.proofs.Keyless.{keyless_effect}
+use Rattle.tasks.specs.Tasks.{Task, task_reading, task_groups, task_effect, keyless_reply, AddressesBy, Addresses}
 use Rattle.system_view.proofs.Connections.{Alike, each_of, kept_here, kept_open}
-use Rattle.system_view.specs.Connections.{Addresses, outcome_shown, id_of, ShowsOpen, ShowsConnection, ShowsConnections}
+use Rattle.system_view.specs.Connections.{outcome_shown, id_of, ShowsOpen, ShowsConnection, ShowsConnections}
 use Rattle.world.specs.Steps.{next_id as world_id, asks, final_clock, final_clock_of, floor_of, answered, multicast}
 use Rattle.world.specs.Steps.{submitted, submitted_to}
 use Rattle.world.specs.World.{World, Request, Outcome, Idle, Waiting, Answered}
@@ -119,9 +112,9 @@ module _ (t : Layout) (w : World) (c : ℕ) (r : Request) (good : AskedGood t w.
 
   shows_multicast : (old new : RouterView) (was now : Connection) (p : Pending) → ShowsConnections old w →
       Submitter old new w c was now →
-      now.standing ≡ router.Waiting p → r.command ≡ p.asked.command →
+      now.standing ≡ router.Waiting p → r.task ≡ p.asked.command →
       ShowsConnections new (multicast w c r)
-  shows_multicast old new was now p shows s is command = record {
+  shows_multicast old new was now p shows s is task = record {
     opened = s.changes.opened ∙ shows.opened;
     each = each_of old new w (multicast w c r) c (Some now) s.changes.at alike_multicast shows.each (
       s.seq ∙ sym (cond-true (c == c) (suc (w.seq c)) (w.seq c) (eq-eqb c c refl)),
@@ -133,7 +126,7 @@ module _ (t : Layout) (w : World) (c : ℕ) (r : Request) (good : AskedGood t w.
             r,
             ap (λ b. cond b (Some r) (w.asked (id_of c now.seq)))
                 (eq-same_id (id_of c now.seq) (id_of c (suc (w.seq c))) (ap (id_of c) s.seq)),
-            command,
+            task,
           ),
         ),
       ),
@@ -158,26 +151,22 @@ module _ (t : Layout) (w : World) (c : ℕ) (r : Request) (good : AskedGood t w.
 
 -- ---- what the words say
 
-local_effect : (l : LocalCommand) → (effect_of (Local l) empty).1 ≡ local_reply l
-local_effect (Ping word) = refl
-local_effect (Echo word) = refl
-
 module _ (t : Layout) (w : World) (c : ℕ) (good : AskedGood t w.asked w.proposed w.seq w.last) (words : List (List ℕ)) where
-  -- a command that addresses groups waits, and the world has sent it to them
-  waits_as : (old new : RouterView) (was now : Connection) (command : Command) (p : Pending) →
-      (g : ℕ) (gs : List ℕ) → groups_of t command ≡ g ∷ gs →
+  -- a task that addresses groups waits, and the world has sent it to them
+  waits_as : (old new : RouterView) (was now : Connection) (task : Task) (p : Pending) →
+      (g : ℕ) (gs : List ℕ) → task_groups t task ≡ g ∷ gs →
       ShowsConnections old w → Submitter old new w c was now → now.standing ≡ router.Waiting p →
-      (p.asked.words ≡ words) × (p.asked.command ≡ command) →
-      ShowsConnections new (submitted_to w c command (groups_of t command))
-  waits_as old new was now command p g gs groups shows s is same =
-      subst (λ all. ShowsConnections new (submitted_to w c command all)) (sym groups)
+      (p.asked.words ≡ words) × (p.asked.command ≡ task) →
+      ShowsConnections new (submitted_to w c task (task_groups t task))
+  waits_as old new was now task p g gs groups shows s is same =
+      subst (λ all. ShowsConnections new (submitted_to w c task all)) (sym groups)
       (shows_multicast t w c
-      (record { floor = floor_of w c; groups = g ∷ gs; command = command }) good old new was now p shows s is
+      (record { floor = floor_of w c; groups = g ∷ gs; task = task }) good old new was now p shows s is
       (sym same.1))
 
   -- the words are read; the router has done as they say, and so has the world
-  by_reading : (old new : RouterView) (was now : Connection) (result : Result Command Refusal) →
-      Addresses t result → ShowsConnections old w → Submitter old new w c was now →
+  by_reading : (old new : RouterView) (was now : Connection) (result : Result Task Refusal) →
+      IfOk result (Addresses t) → ShowsConnections old w → Submitter old new w c was now →
       StandsBy (id_of c (suc (w.seq c))) words result now.standing → ShowsConnections new (submitted t w c result)
   by_reading old new was now (Err refusal) addresses shows s stands = by_standing now.standing refl stands
     where
@@ -187,71 +176,28 @@ module _ (t : Layout) (w : World) (c : ℕ) (good : AskedGood t w.asked w.propos
       by_standing (router.Waiting p) e says = absurd says
       by_standing (router.Taken w) e says = absurd says
       by_standing (router.Answered o) e says = shows_answered old new w c was now o _ shows s e (ap to_outcome says)
-  by_reading old new was now (Ok (Local l)) addresses shows s stands =
-      subst (λ gs. ShowsConnections new (submitted_to w c (Local l) gs)) (sym addresses)
-      (by_standing now.standing refl stands)
+  by_reading old new was now (Ok task) addresses shows s stands = by_standing now.standing refl (keyless_reply task) refl addresses stands
     where
-      by_standing : (x : Standing) → now.standing ≡ x → StandsBy (id_of c (suc (w.seq c))) words (Ok (Local l)) x →
-          ShowsConnections new (answered w c (effect_of (Local l) empty).1)
-      by_standing router.Idle e says = absurd says
-      by_standing (router.Waiting p) e says = absurd says
-      by_standing (router.Taken w) e says = absurd says
-      by_standing (router.Answered o) e says =
-          subst (λ reply. ShowsConnections new (answered w c reply)) (sym (local_effect l))
-          (shows_answered old new w c was now o (local_reply l) shows s e (ap to_outcome says))
-  by_reading old new was now (Ok (Key k)) addresses shows s stands = by_standing now.standing refl stands
-    where
-      by_standing : (x : Standing) → now.standing ≡ x → StandsBy (id_of c (suc (w.seq c))) words (Ok (Key k)) x →
-          ShowsConnections new (submitted_to w c (Key k) (groups_of t (Key k)))
-      by_standing router.Idle e says = absurd says
-      by_standing (router.Waiting p) e says =
-          waits_as old new was now (Key k) p addresses.0 addresses.1 addresses.2 shows s e says
-      by_standing (router.Taken w) e says = absurd says
-      by_standing (router.Answered o) e says = absurd says
-  by_reading old new was now (Ok (Str k)) addresses shows s stands = by_standing now.standing refl stands
-    where
-      by_standing : (x : Standing) → now.standing ≡ x → StandsBy (id_of c (suc (w.seq c))) words (Ok (Str k)) x →
-          ShowsConnections new (submitted_to w c (Str k) (groups_of t (Str k)))
-      by_standing router.Idle e says = absurd says
-      by_standing (router.Waiting p) e says =
-          waits_as old new was now (Str k) p addresses.0 addresses.1 addresses.2 shows s e says
-      by_standing (router.Taken w) e says = absurd says
-      by_standing (router.Answered o) e says = absurd says
-  by_reading old new was now (Ok (command.List k)) addresses shows s stands = by_standing now.standing refl stands
-    where
-      by_standing : (x : Standing) → now.standing ≡ x →
-          StandsBy (id_of c (suc (w.seq c))) words (Ok (command.List k)) x →
-          ShowsConnections new (submitted_to w c (command.List k) (groups_of t (command.List k)))
-      by_standing router.Idle e says = absurd says
-      by_standing (router.Waiting p) e says =
-          waits_as old new was now (command.List k) p addresses.0 addresses.1 addresses.2 shows s e says
-      by_standing (router.Taken w) e says = absurd says
-      by_standing (router.Answered o) e says = absurd says
-  by_reading old new was now (Ok (command.Hash k)) addresses shows s stands = by_standing now.standing refl stands
-    where
-      by_standing : (x : Standing) → now.standing ≡ x →
-          StandsBy (id_of c (suc (w.seq c))) words (Ok (command.Hash k)) x →
-          ShowsConnections new (submitted_to w c (command.Hash k) (groups_of t (command.Hash k)))
-      by_standing router.Idle e says = absurd says
-      by_standing (router.Waiting p) e says =
-          waits_as old new was now (command.Hash k) p addresses.0 addresses.1 addresses.2 shows s e says
-      by_standing (router.Taken w) e says = absurd says
-      by_standing (router.Answered o) e says = absurd says
-  by_reading old new was now (Ok (command.Set k)) addresses shows s stands = by_standing now.standing refl stands
-    where
-      by_standing : (x : Standing) → now.standing ≡ x →
-          StandsBy (id_of c (suc (w.seq c))) words (Ok (command.Set k)) x →
-          ShowsConnections new (submitted_to w c (command.Set k) (groups_of t (command.Set k)))
-      by_standing router.Idle e says = absurd says
-      by_standing (router.Waiting p) e says =
-          waits_as old new was now (command.Set k) p addresses.0 addresses.1 addresses.2 shows s e says
-      by_standing (router.Taken w) e says = absurd says
-      by_standing (router.Answered o) e says = absurd says
+      by_standing : (x : Standing) → now.standing ≡ x → (reply : Option Content) → keyless_reply task ≡ reply →
+          AddressesBy reply (task_groups t task) → StandsAs (id_of c (suc (w.seq c))) words task reply x →
+          ShowsConnections new (submitted_to w c task (task_groups t task))
+      by_standing (router.Answered o) e (Some reply) keyless none says =
+          subst (λ gs. ShowsConnections new (submitted_to w c task gs)) (sym none)
+          (shows_answered old new w c was now o (task_effect task empty).1 shows s e
+          (ap to_outcome says ∙ ap (λ r. to_outcome (record { id = id_of c (suc (w.seq c)); reply = r; stamp = None }))
+          (sym (keyless_effect task reply keyless))))
+      by_standing (router.Waiting p) e None keyless some says = waits_as old new was now task p some.0 some.1 some.2 shows s e says
+      by_standing router.Idle e (Some reply) keyless addressed says = absurd says
+      by_standing router.Idle e None keyless addressed says = absurd says
+      by_standing (router.Waiting p) e (Some reply) keyless addressed says = absurd says
+      by_standing (router.Taken w) e (Some reply) keyless addressed says = absurd says
+      by_standing (router.Taken w) e None keyless addressed says = absurd says
+      by_standing (router.Answered o) e None keyless addressed says = absurd says
 
-  pub shows_submitted : (old new : RouterView) (sent : Submission) → Addresses t (reading words) →
+  pub shows_submitted : (old new : RouterView) (sent : Submission) → IfOk (task_reading words) (Addresses t) →
       Submits t c words old sent new → ShowsConnections old w →
       (w.standing c ≡ Idle) × (sent.id ≡ world_id w c) × (sent.floor ≡ floor_of w c) × ShowsConnections new
-      (submitted t w c (reading words))
+      (submitted t w c (task_reading words))
   shows_submitted old new sent addresses submits shows =
       let was = submits.was in
       let here = kept_open was w c submits.live (subst (λ x. ShowsConnection x w c) submits.kept (shows.each c)) in
@@ -261,7 +207,7 @@ module _ (t : Layout) (w : World) (c : ℕ) (good : AskedGood t w.asked w.propos
         idle.0,
         submits.id ∙ id,
         submits.floor ∙ idle.1,
-        by_reading old new was submits.now (reading words) addresses shows
+        by_reading old new was submits.now (task_reading words) addresses shows
             (record {
               kept = submits.kept;
               idle = submits.idle;
@@ -271,5 +217,5 @@ module _ (t : Layout) (w : World) (c : ℕ) (good : AskedGood t w.asked w.propos
               floor = submits.same_floor ∙ idle.1;
               changes = submits.changes;
             })
-            (subst (λ i. StandsBy i words (reading words) submits.now.standing) id submits.standing),
+            (subst (λ i. StandsBy i words (task_reading words) submits.now.standing) id submits.standing),
       )

@@ -1,10 +1,6 @@
 -- What the router shows of a world.
 use Rattle.std.specs.Prelude.{◌≡◌, ℕ, true, false, List, [], ◌∷◌, ◌++◌, ◌⊎◌, Option, Some, None, Result, Ok, Err}
-use Rattle.command_table.specs.Reading.{reading}
-use Rattle.command_table.specs.declared.command.Command.{Command}
-use Rattle.command_table.specs.declared.command.Command.TheVariants.{Local}
 use Rattle.command_table.specs.declared.refusal.Refusal.{Refusal}
-use Rattle.placement.specs.Groups.{groups_of}
 use Rattle.placement.specs.Layout.{Layout}
 use Rattle.resp.specs.Content.{content}
 use Rattle.router.specs.Connection.{is_under_way}
@@ -14,6 +10,7 @@ use Rattle.router.specs.declared.connection.Standing.{Standing}
 use Rattle.router.specs.declared.connection.Standing.TheVariants as router
 use Rattle.router.specs.declared.outcome.Outcome as kept
 use Rattle.groups.specs.declared.request.RequestId.{RequestId}
+use Rattle.tasks.specs.Tasks.{Task, task_reading, task_groups}
 use Rattle.world.specs.Steps.{floor_of}
 use Rattle.world.specs.World.{World, Request, Outcome, Closed, Idle, Waiting, Answered, Ended, Layer, NoneTaken, Taken}
 use Rattle.world.specs.World.{HasRun}
@@ -25,13 +22,13 @@ use Rattle.skeen_core.specs.Group.{has_id}
 abbrev pub outcome_shown : kept.Outcome → Outcome
 outcome_shown o = record { id = o.id; reply = content o.reply; stamp = o.stamp }
 
--- what a request asks that waits to be taken: it was submitted with that command
+-- what a request asks that waits to be taken: it was submitted with that task
 abbrev pub Waits : World → RequestId → Worded → Type 0
-Waits w id asked = (q : Request) × (w.asked id ≡ Some q) × (q.command ≡ asked.command)
+Waits w id asked = (q : Request) × (w.asked id ≡ Some q) × (q.task ≡ asked.command)
 
--- these words say the command with which the request was submitted
+-- these words say the task with which the request was submitted
 abbrev pub AreItsWords : World → RequestId → List (List ℕ) → Type 0
-AreItsWords w id words = (q : Request) × (w.asked id ≡ Some q) × (reading words ≡ Ok q.command)
+AreItsWords w id words = (q : Request) × (w.asked id ≡ Some q) × (task_reading words ≡ Ok q.task)
 
 -- the request is in the layer, run or not
 abbrev pub InLayer : Layer → RequestId → Type 0
@@ -83,9 +80,3 @@ pub record ShowsConnections (r : RouterView) (w : World) : Type 0 where
   pub opened : r.opened ≡ w.opened
   pub each : (c : ℕ) → ShowsConnection (connection r c) w c
   pub under_way : (id : RequestId) (q : Request) → w.asked id ≡ Some q → IsSettled w id ⊎ IsKeptFor r id
-
--- a command that looks at no key addresses no group, and each other one addresses some
-abbrev pub Addresses : Layout → Result Command Refusal → Type 0
-Addresses t (Err refusal) = Unit {0}
-Addresses t (Ok (Local local)) = groups_of t (Local local) ≡ []
-Addresses t (Ok command) = (g : ℕ) × (gs : List ℕ) × (groups_of t command ≡ g ∷ gs)

@@ -1,7 +1,6 @@
 -- What the layer, the store, the rows and the starved ids of the system show of a world.
 use Rattle.std.specs.List.{AllZip}
 use Rattle.std.specs.Prelude.{◌≡◌, ℕ, true, false, List, [], ◌∷◌, Option, Some, None, Ok}
-use Rattle.command_table.specs.Reading.{reading}
 pub use Rattle.execution_order.specs.Rows.{IsRow}
 use Rattle.groups.specs.GroupSet.{has}
 use Rattle.journal.specs.Views.{RowView}
@@ -17,30 +16,31 @@ use Rattle.groups.specs.Order.{In}
 use Rattle.skeen_core.specs.declared.packet.Delivered.{Delivered}
 use Rattle.groups.specs.declared.request.RequestId.{RequestId}
 use Rattle.groups.specs.declared.stamp.Stamp.{Stamp}
+use Rattle.tasks.specs.Tasks.{task_reading}
 use Rattle.world.specs.World.{World, Request, Ended}
 use Rattle.world_laws.specs.Good.{Asked}
 use Rattle.world_laws.specs.Headline.{rows_of}
 
 -- ---- a layer that was taken
 
--- a delivered request, ready to be run: the command is the one that was submitted
+-- a delivered request, ready to be run: the task is the one that was submitted
 pub record IsJob (asked : Asked) (d : Delivered) (j : Job) : Type 0 where
   pub id : j.id ≡ d.id
   pub stamp : j.stamp ≡ d.stamp
   pub groups : j.groups ≡ d.groups
-  pub asked_so : (q : Request) × (asked d.id ≡ Some q) × (q.command ≡ j.asked.command)
+  pub asked_so : (q : Request) × (asked d.id ≡ Some q) × (q.task ≡ j.asked.command)
 
 abbrev pub AreJobs : Asked → List Delivered → List Job → Type 0
 AreJobs asked ds js = AllZip (IsJob asked) ds js
 
 -- ---- a layer that was run
 
--- a request of it, as the store tells of it: its words say the command that was run
+-- a request of it, as the store tells of it: its words say the task that was run
 pub record IsEnded (e : Ended) (r : run.Ended) : Type 0 where
   pub id : r.id ≡ e.id
   pub stamp : r.stamp ≡ e.stamp
   pub reply : outcome r.reply ≡ e.reply
-  pub says : reading r.words ≡ Ok e.command
+  pub says : task_reading r.words ≡ Ok e.task
 
 abbrev pub AreEnded : List Ended → List run.Ended → Type 0
 AreEnded es rs = AllZip IsEnded es rs

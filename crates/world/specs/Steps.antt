@@ -2,16 +2,12 @@
 use Rattle.std.specs.FinMap.{get, empty}
 use Rattle.std.specs.Prelude.{◌≡◌, ◌≢◌, ℕ, suc, ◌≤◌, Bool, false, cond, ◌||◌, ◌&&◌, ◌==◌, List, [], ◌∷◌, ◌++◌, length, remove, slice_get}
 use Rattle.std.specs.Prelude.{Option, Some, None, Result, Ok, Err}
-use Rattle.command_bodies.specs.Command.{effect_of}
-use Rattle.command_table.specs.Reading.{reading}
 use Rattle.command_table.specs.Refusal.{refusal_text}
-use Rattle.command_table.specs.declared.command.Command.{Command}
 use Rattle.command_table.specs.declared.refusal.Refusal.{Refusal}
 use Rattle.delivery.specs.Ready.{IsReady, IsLayer, taken_from, left_in}
 use Rattle.journal.specs.declared.step.Step.{Step}
 use Rattle.journal.specs.declared.step.Step.TheVariants.{Open, Submit, Deliver, Take, Run, Settle, Collect, Close}
 use Rattle.keyspace.specs.Map.{Map}
-use Rattle.placement.specs.Groups.{groups_of}
 use Rattle.placement.specs.Layout.{Layout}
 use Rattle.resp.specs.Content.{Content, ErrorLine, out_of_memory}
 use Rattle.skeen_core.specs.Group.{GroupState, fresh, next_clock, Receives}
@@ -23,6 +19,7 @@ use Rattle.skeen_core.specs.declared.packet.Delivered.{Delivered}
 use Rattle.skeen_core.specs.declared.packet.Packet.{Packet}
 use Rattle.groups.specs.declared.request.RequestId.{RequestId}
 use Rattle.groups.specs.declared.stamp.Stamp.{Stamp}
+use Rattle.tasks.specs.Tasks.{Task, task_reading, task_groups, task_effect}
 use Rattle.world.specs.World.{World, Request, Outcome, Standing, Closed, Idle, Waiting, Answered, Ended, Layer, NoneTaken, Taken, HasRun}
 use Rattle.world.specs.World.{Proposals}
 
@@ -110,21 +107,21 @@ answered w c reply = record w {
   seq = at w.seq c (suc (w.seq c));
 }
 
--- a command that addresses no group looks at no key: it is answered as on the empty map
-abbrev pub submitted_to : World → ℕ → Command → List ℕ → World
-submitted_to w c command [] = answered w c (effect_of command empty).1
-submitted_to w c command (g ∷ gs) = multicast w c (record { floor = floor_of w c; groups = g ∷ gs; command = command })
+-- a task that addresses no group looks at no key: it is answered as on the empty map
+abbrev pub submitted_to : World → ℕ → Task → List ℕ → World
+submitted_to w c task [] = answered w c (task_effect task empty).1
+submitted_to w c task (g ∷ gs) = multicast w c (record { floor = floor_of w c; groups = g ∷ gs; task = task })
 
--- the words are refused, or read as a command
-abbrev pub submitted : Layout → World → ℕ → Result Command Refusal → World
+-- the words are refused, or read as a task
+abbrev pub submitted : Layout → World → ℕ → Result Task Refusal → World
 submitted t w c (Err refusal) = answered w c (ErrorLine (refusal_text refusal))
-submitted t w c (Ok command) = submitted_to w c command (groups_of t command)
+submitted t w c (Ok task) = submitted_to w c task (task_groups t task)
 
 pub record Submits (t : Layout) (old : World) (c : ℕ) (words : List (List ℕ)) (effect : Effect)
     (new : World) : Type 0 where
   pub idle : old.standing c ≡ Idle
   pub answers : effect ≡ Submitted (next_id old c)
-  pub after : new ≡ submitted t old c (reading words)
+  pub after : new ≡ submitted t old c (task_reading words)
 
 -- ---- Deliver: a packet comes to its group
 
@@ -185,23 +182,23 @@ abbrev pub names : List RequestId → RequestId → Bool
 names [] id = false
 names (i ∷ is) id = same_id i id || names is id
 
--- what the command does to the map, unless it starved
-abbrev pub map_after : Option Content → Command → Map → Map
-map_after None command m = m
-map_after (Some reply) command m = (effect_of command m).0
+-- what the task does to the map, unless it starved
+abbrev pub map_after : Option Content → Task → Map → Map
+map_after None task m = m
+map_after (Some reply) task m = (task_effect task m).0
 
 abbrev pub after_all : Map → List Ended → Map
 after_all m [] = m
-after_all m (e ∷ es) = after_all (map_after e.reply e.command m) es
+after_all m (e ∷ es) = after_all (map_after e.reply e.task m) es
 
 -- how a request of the layer ends on this map
-abbrev pub ended_as : List RequestId → Map → Delivered → Command → Ended
-ended_as starved m d command = record {
+abbrev pub ended_as : List RequestId → Map → Delivered → Task → Ended
+ended_as starved m d task = record {
   id = d.id;
   stamp = d.stamp;
   groups = d.groups;
-  command = command;
-  reply = cond (names starved d.id) None (Some (effect_of command m).1);
+  task = task;
+  reply = cond (names starved d.id) None (Some (task_effect task m).1);
 }
 
 -- the layer's requests, one after another on the map: each ends so
@@ -209,8 +206,8 @@ abbrev pub RunInTurn : (RequestId → Option Request) → List RequestId → Map
 RunInTurn asked starved m [] es = es ≡ []
 RunInTurn asked starved m (d ∷ ds) [] = ⊥
 RunInTurn asked starved m (d ∷ ds) (e ∷ es) =
-    ((r : Request) × (asked d.id ≡ Some r) × (e ≡ ended_as starved m d r.command))
-    × RunInTurn asked starved (map_after e.reply e.command m) ds es
+    ((r : Request) × (asked d.id ≡ Some r) × (e ≡ ended_as starved m d r.task))
+    × RunInTurn asked starved (map_after e.reply e.task m) ds es
 
 abbrev pub if_starved : Option Content → RequestId → List RequestId → List RequestId
 if_starved None id ids = id ∷ ids

@@ -1,7 +1,6 @@
 -- What a history of steps gives: connections, packets under way, groups, queues, a layer, and one map. It knows no
 -- worker, no part of a layer, and no shard's own map.
 use Rattle.std.specs.Prelude.{ℕ, List, Option}
-use Rattle.command_table.specs.declared.command.Command.{Command}
 use Rattle.keyspace.specs.Map.{Map}
 use Rattle.resp.specs.Content.{Content}
 use Rattle.skeen_core.specs.Group.{GroupState}
@@ -9,12 +8,13 @@ use Rattle.skeen_core.specs.declared.packet.Delivered.{Delivered}
 use Rattle.skeen_core.specs.declared.packet.Packet.{Packet}
 use Rattle.groups.specs.declared.request.RequestId.{RequestId}
 use Rattle.groups.specs.declared.stamp.Stamp.{Stamp}
+use Rattle.tasks.specs.Tasks.{Task}
 
 -- a request that addresses groups: each proposal for it stands above the floor
 pub record Request : Type 0 where
   pub floor : ℕ
   pub groups : List ℕ
-  pub command : Command
+  pub task : Task
 
 -- what a connection collects: the reply to a request, and the request's final stamp where it addressed groups
 pub record Outcome : Type 0 where
@@ -34,7 +34,7 @@ pub record Ended : Type 0 where
   pub id : RequestId
   pub stamp : Stamp
   pub groups : List ℕ
-  pub command : Command
+  pub task : Task
   pub reply : Option Content
 
 -- the layer: none is there; taken and not yet run; run and not yet settled

@@ -8,13 +8,10 @@ use Rattle.std.proofs.Math.Nat.{suc-mul}
 use Rattle.std.specs.FinMap.{get}
 use Rattle.std.specs.List.{remove}
 use Rattle.std.specs.Option.{is_some}
-use Rattle.command_table.specs.Reading.{reading}
-use Rattle.command_table.specs.declared.command.Command.{Command}
 use Rattle.command_table.specs.declared.refusal.Refusal.{Refusal}
 use Rattle.groups.specs.GroupSet.{has}
 use Rattle.journal.specs.declared.step.Step.{Step}
 use Rattle.journal.specs.declared.step.Step.TheVariants.{Open, Submit, Deliver, Take, Run, Settle, Collect, Close}
-use Rattle.placement.specs.Groups.{groups_of}
 use Rattle.placement.specs.Layout.{Layout}
 use Rattle.groups.proofs.Ids.{same_id-true, eq-same_id}
 use Rattle.skeen_core.proofs.Lawful.{None≢Some}
@@ -27,6 +24,7 @@ use Rattle.skeen_core.specs.declared.packet.Body.TheVariants.{Start, Proposal}
 use Rattle.skeen_core.specs.declared.packet.Delivered.{Delivered}
 use Rattle.skeen_core.specs.declared.packet.Packet.{Packet}
 use Rattle.groups.specs.declared.request.RequestId.{RequestId}
+use Rattle.tasks.specs.Tasks.{Task, task_reading, task_groups}
 use Rattle.world.specs.Steps.{starts, opening, Effect, next_id, floor_of, multicast, submitted_to, submitted, Comes, Takes, RunsLayer}
 use Rattle.world.specs.Steps.{Settles, Collects, Steps, Makes, hears, with_own, now_proposed}
 use Rattle.world.specs.World.{World, Request, Standing, Closed, Idle, Waiting, Answered, Layer, NoneTaken, Taken, HasRun, Proposals}
@@ -268,16 +266,16 @@ paid_multicast w c q n m a others p = record {
       let paid = p.paid in omega arith;
 }
 
-paid_submitted_to : (w : World) (c : ℕ) (command : Command) (gs : List ℕ) (m a : ℕ) → Paid w m a →
-    Paid (submitted_to w c command gs) m (a + allowed_to gs)
-paid_submitted_to w c command [] m a p =
+paid_submitted_to : (w : World) (c : ℕ) (task : Task) (gs : List ℕ) (m a : ℕ) → Paid w m a →
+    Paid (submitted_to w c task gs) m (a + allowed_to gs)
+paid_submitted_to w c task [] m a p =
     record { list = p.list; paid = let paid = p.paid in omega arith }
-paid_submitted_to w c command (g ∷ gs) m a p =
-    paid_multicast w c (record { floor = floor_of w c; groups = g ∷ gs; command = command }) (length gs) m a refl p
+paid_submitted_to w c task (g ∷ gs) m a p =
+    paid_multicast w c (record { floor = floor_of w c; groups = g ∷ gs; task = task }) (length gs) m a refl p
 
-paid_submitted : (t : Layout) (w : World) (c : ℕ) (r : Result Command Refusal) (m a : ℕ) → Paid w m a →
+paid_submitted : (t : Layout) (w : World) (c : ℕ) (r : Result Task Refusal) (m a : ℕ) → Paid w m a →
     Paid (submitted t w c r) m (a + allowed_by t r)
-paid_submitted t w c (Ok command) m a p = paid_submitted_to w c command (groups_of t command) m a p
+paid_submitted t w c (Ok task) m a p = paid_submitted_to w c task (task_groups t task) m a p
 paid_submitted t w c (Err refusal) m a p = record { list = p.list; paid = let paid = p.paid in omega arith }
 
 some_taken : (ds : List Delivered) → ds ≢ [] → 1 ≤ length ds
@@ -327,8 +325,8 @@ paid_step : (t : Layout) (old new : World) (step : Step) (effect : Effect) (m a 
 paid_step t old new Open effect m a s good p = subst (λ w. Paid w (m + 0) (a + 0)) (sym s.after)
     (more_by _ m (m + 0) a (a + 0) (omega arith) (omega arith) (record { list = p.list; paid = p.paid }))
 paid_step t old new (Submit conn words) effect m a s good p =
-    subst (λ w. Paid w (m + 0) (a + allowed_by t (reading words))) (sym s.after)
-    (more_by _ m (m + 0) _ _ (omega arith) refl (paid_submitted t old conn.0 (reading words) m a p))
+    subst (λ w. Paid w (m + 0) (a + allowed_by t (task_reading words))) (sym s.after)
+    (more_by _ m (m + 0) _ _ (omega arith) refl (paid_submitted t old conn.0 (task_reading words) m a p))
 paid_step t old new (Deliver k) effect m a s good p = more_by new (m + 1) (m + 1) a (a + 0) refl (omega arith)
     (paid_deliver t old new k effect m a s good p)
 paid_step t old new Take effect m a s good p = more_by new (m + 1) (m + 1) a (a + 0) refl (omega arith) (paid_take old new effect m a s p)

@@ -5,13 +5,10 @@ use Rattle.std.proofs.Common.{None, Result, Ok, Err, refl, sym, ap, subst, arith
 use Rattle.std.proofs.lemmas.Bool.{cases_Bool}
 use Rattle.std.specs.FinMap.{get}
 use Rattle.std.specs.Option.{is_some}
-use Rattle.command_table.specs.Reading.{reading}
-use Rattle.command_table.specs.declared.command.Command.{Command}
 use Rattle.command_table.specs.declared.refusal.Refusal.{Refusal}
 use Rattle.groups.specs.GroupSet.{has}
 use Rattle.journal.specs.declared.step.Step.{Step}
 use Rattle.journal.specs.declared.step.Step.TheVariants.{Open, Submit, Deliver, Take, Run, Settle, Collect, Close}
-use Rattle.placement.specs.Groups.{groups_of}
 use Rattle.placement.specs.Layout.{Layout}
 use Rattle.resp.specs.Content.{Content}
 use Rattle.skeen_core.proofs.Lawful.{None≢Some}
@@ -26,6 +23,7 @@ use Rattle.skeen_core.specs.declared.packet.Delivered.{Delivered}
 use Rattle.skeen_core.specs.declared.packet.Packet.{Packet}
 use Rattle.groups.specs.declared.request.RequestId.{RequestId}
 use Rattle.groups.specs.declared.stamp.Stamp.{Stamp}
+use Rattle.tasks.specs.Tasks.{Task, task_reading, task_groups}
 use Rattle.world.specs.Steps.{at, opening, Effect, next_id, clock_of, final_clock, final_clock_of, floor_of, multicast, answered}
 use Rattle.world.specs.Steps.{submitted_to, submitted, hears, Comes, Collects, Steps, Makes, Leads}
 use Rattle.world.specs.World.{World, Request, Standing, Closed, Idle, Waiting, Answered, Proposals}
@@ -163,15 +161,15 @@ multicast_grown old c n q low b = record {
   requests = λ d. counts_one old.seq c d n (b.requests c) (b.requests d);
 }
 
-submitted_to_grown : (t : Layout) (old : World) (c n : ℕ) (command : Command) (gs : List ℕ) → WorldGood t old → Bounded old n →
-    Bounded (submitted_to old c command gs) (suc n)
-submitted_to_grown t old c n command [] good b = answered_grown old c _ n b
-submitted_to_grown t old c n command (g ∷ gs) good b =
-    multicast_grown old c n (record { floor = floor_of old c; groups = g ∷ gs; command = command }) (floor_at_most t old n c good b) b
+submitted_to_grown : (t : Layout) (old : World) (c n : ℕ) (task : Task) (gs : List ℕ) → WorldGood t old → Bounded old n →
+    Bounded (submitted_to old c task gs) (suc n)
+submitted_to_grown t old c n task [] good b = answered_grown old c _ n b
+submitted_to_grown t old c n task (g ∷ gs) good b =
+    multicast_grown old c n (record { floor = floor_of old c; groups = g ∷ gs; task = task }) (floor_at_most t old n c good b) b
 
-submitted_grown : (t : Layout) (old : World) (c n : ℕ) (r : Result Command Refusal) → WorldGood t old → Bounded old n →
+submitted_grown : (t : Layout) (old : World) (c n : ℕ) (r : Result Task Refusal) → WorldGood t old → Bounded old n →
     Bounded (submitted t old c r) (suc n)
-submitted_grown t old c n (Ok command) good b = submitted_to_grown t old c n command (groups_of t command) good b
+submitted_grown t old c n (Ok task) good b = submitted_to_grown t old c n task (task_groups t task) good b
 submitted_grown t old c n (Err refusal) good b = answered_grown old c _ n b
 
 deliver_grown : (t : Layout) (old new : World) (k : ℕ) (effect : Effect) (n : ℕ) → Comes old k effect new → WorldGood t old →
@@ -213,7 +211,7 @@ bounded_step t old new Open effect n s good b =
       requests = more.requests;
     })
 bounded_step t old new (Submit conn words) effect n s good b = subst (λ w. Bounded w (suc n)) (sym s.after)
-    (submitted_grown t old conn.0 n (reading words) good b)
+    (submitted_grown t old conn.0 n (task_reading words) good b)
 bounded_step t old new (Deliver k) effect n s good b = deliver_grown t old new k effect n s good b
 bounded_step t old new Take effect n s good b =
     let more = same_grown old n b in

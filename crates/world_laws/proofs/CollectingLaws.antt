@@ -2,25 +2,22 @@
 use Rattle.std.proofs.Common.{◌≡◌, ℕ, suc, ◌<◌, ◌==◌, true, false, cond, List, [], ◌∷◌, ◌⊎◌, inl, inr, Some, None, Result, Ok, Err, refl}
 use Rattle.std.proofs.Common.{sym, ap, ◌∙◌, subst, arith, eqb-true, eq-eqb}
 use Rattle.std.proofs.lemmas.Bool.{cases_Bool}
-use Rattle.command_table.specs.Reading.{reading}
 use Rattle.command_table.specs.Refusal.{refusal_text}
-use Rattle.command_table.specs.declared.command.Command.{Command}
 use Rattle.command_table.specs.declared.refusal.Refusal.{Refusal}
 use Rattle.journal.specs.declared.step.Step.{Step}
 use Rattle.journal.specs.declared.step.Step.TheVariants.{Open, Submit, Deliver, Take, Run, Settle, Collect, Close}
-use Rattle.placement.specs.Groups.{groups_of}
 use Rattle.placement.specs.Layout.{Layout}
 use Rattle.resp.specs.Content.{ErrorLine}
 use Rattle.skeen_core.specs.Group.{EachOnce}
 use Rattle.groups.specs.Order.{In}
 use Rattle.groups.specs.declared.request.RequestId.{RequestId}
+use Rattle.tasks.specs.Tasks.{Task, task_reading, task_groups}
 use Rattle.world.specs.Steps.{at, opening, Effect, Opened, Submitted, Ran, Collected, Made, answered, submitted_to, submitted, settled}
 use Rattle.world.specs.Steps.{Collects, Steps, Makes}
 use Rattle.world.specs.World.{World, Outcome, Standing, Closed, Idle, Waiting, Answered, Ended}
 use Rattle.world_laws.specs.Collecting.{with_collected, collected_in, CollectedOnce}
 use Rattle.world_laws.specs.Good.{Pending, WorldGood}
 use Rattle.world_laws.proofs.Connections.{not_pending, settled_closed, settled_result}
-use Rattle.world_laws.proofs.Groups.{}
 use Rattle.world_laws.proofs.Worlds.{keeps, run_is_pending, good_opening}
 use Rattle.std.proofs.lemmas.Bool.{cond-true, cond-false}
 use Rattle.world_laws.proofs.Values.{idle_open, idle_not_waiting, idle_not_answered, closed_not_answered, same_collected}
@@ -54,15 +51,15 @@ spent_submit old new i c s seqs standings spent = elim (cases_Bool (i.conn.0 == 
       spent_standing old new i now (λ r. subst (λ x. Resting x) (sym same) r) spent
 ]
 
-spent_submitted_to : (old : World) (i : RequestId) (c : ℕ) (command : Command) (gs : List ℕ) → Spent old i →
-    Spent (submitted_to old c command gs) i
-spent_submitted_to old i c command [] spent = spent_submit old (submitted_to old c command []) i c _ (λ d. refl) (λ d. refl) spent
-spent_submitted_to old i c command (g ∷ gs) spent = spent_submit old (submitted_to old c command (g ∷ gs)) i c Waiting (λ d. refl)
+spent_submitted_to : (old : World) (i : RequestId) (c : ℕ) (task : Task) (gs : List ℕ) → Spent old i →
+    Spent (submitted_to old c task gs) i
+spent_submitted_to old i c task [] spent = spent_submit old (submitted_to old c task []) i c _ (λ d. refl) (λ d. refl) spent
+spent_submitted_to old i c task (g ∷ gs) spent = spent_submit old (submitted_to old c task (g ∷ gs)) i c Waiting (λ d. refl)
     (λ d. refl) spent
 
-spent_submitted : (t : Layout) (old : World) (i : RequestId) (c : ℕ) (r : Result Command Refusal) → Spent old i →
+spent_submitted : (t : Layout) (old : World) (i : RequestId) (c : ℕ) (r : Result Task Refusal) → Spent old i →
     Spent (submitted t old c r) i
-spent_submitted t old i c (Ok command) spent = spent_submitted_to old i c command (groups_of t command) spent
+spent_submitted t old i c (Ok task) spent = spent_submitted_to old i c task (task_groups t task) spent
 spent_submitted t old i c (Err refusal) spent = spent_submit old (answered old c (ErrorLine (refusal_text refusal))) i c _ (λ d. refl)
     (λ d. refl) spent
 
@@ -93,7 +90,7 @@ spent_step t old new Open effect i s good spent = subst (λ w. Spent w i) (sym s
     (spent_standing old (record old { opened = suc old.opened; standing = at old.standing (suc old.opened) Idle }) i refl
     (rests_at old.standing (suc old.opened) i.conn.0 Idle (inl refl)) spent)
 spent_step t old new (Submit conn words) effect i s good spent = subst (λ w. Spent w i) (sym s.after)
-    (spent_submitted t old i conn.0 (reading words) spent)
+    (spent_submitted t old i conn.0 (task_reading words) spent)
 spent_step t old new (Deliver k) effect i s good spent = subst (λ w. Spent w i) (sym s.after) spent
 spent_step t old new Take effect i s good spent = subst (λ w. Spent w i) (sym s.after) spent
 spent_step t old new (Run starved) effect i s good spent = subst (λ w. Spent w i) (sym s.after) spent

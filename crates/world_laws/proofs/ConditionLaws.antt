@@ -4,7 +4,6 @@ use Rattle.std.proofs.Common.{eqb-true, eq-eqb, append_assoc}
 use Rattle.std.proofs.lemmas.Bool.{cases_Bool}
 use Rattle.delivery.specs.Queues.{is_above_last, MayAppend, IsSound}
 use Rattle.groups.specs.GroupSet.{has}
-use Rattle.placement.specs.Groups.{groups_of}
 use Rattle.placement.specs.Layout.{Layout}
 use Rattle.groups.proofs.Lists.{In-left, In-right}
 use Rattle.skeen_core.specs.Group.{Ascending, BodyMayCome, MayCome}
@@ -16,6 +15,7 @@ use Rattle.skeen_core.specs.declared.packet.Delivered.{Delivered}
 use Rattle.skeen_core.specs.declared.packet.Packet.{Packet}
 use Rattle.groups.specs.declared.request.RequestId.{RequestId}
 use Rattle.groups.specs.declared.stamp.Stamp.{Stamp}
+use Rattle.tasks.specs.Tasks.{task_groups}
 use Rattle.world.specs.Steps.{at, Effect, Comes}
 use Rattle.world.specs.World.{World, Request, Ended, Taken}
 use Rattle.world_laws.specs.Good.{BodyGood, log_of, delivered_of, all_delivered, all_taken, Touching, TakenGood, WorldGood, Bounded}
@@ -23,7 +23,6 @@ use Rattle.world_laws.specs.Order.{HasFinal}
 use Rattle.world_laws.specs.Conditions.{PacketsMayCome, QueuesAreSound, DeliveriesMayAppend, LayersAreSubmitted, LayersAreAbove}
 use Rattle.world_laws.specs.Conditions.{SettledIsWaitedFor, NumbersAreBounded}
 use Rattle.world_laws.proofs.Bounds.{bounded_world}
-use Rattle.world_laws.proofs.Groups.{}
 use Rattle.world_laws.proofs.Layers.{in_delivered, known_same, ascending_cross, ascending_right}
 use Rattle.world_laws.proofs.Lists.{rising_cross}
 use Rattle.world_laws.proofs.OrderLaws.{known_final, differ_good}
@@ -157,7 +156,7 @@ deliveries_may_append t steps old new k effect leads comes front d back split =
 -- ---- the shards
 
 pub layer_is_submitted : (t : Layout) (w : World) → WorldGood t w → (layer : List Delivered) → w.layer ≡ Taken layer → (d : Delivered) →
-    In d layer → (q : Request) × HasFinal w d.id q d.stamp × (d.groups ≡ groups_of t q.command)
+    In d layer → (q : Request) × HasFinal w d.id q d.stamp × (d.groups ≡ task_groups t q.task)
 layer_is_submitted t w good layer is d there =
     let taken = subst (λ l. TakenGood w.asked w.proposed w.gone (all_taken w.ended l)) is good.taken in
     let known = taken.known d (In-right d (all_delivered w.ended) layer there) in (

@@ -56,9 +56,9 @@ run_same asked starved m (d ∷ ds) [] es' a b = absurd a
 run_same asked starved m (d ∷ ds) (e ∷ es) [] a b = absurd b
 run_same asked starved m (d ∷ ds) (e ∷ es) (e' ∷ es') a b =
     let requests : a.0.0 ≡ b.0.0 = some_same a.0.0 b.0.0 (sym a.0.1 ∙ b.0.1) in
-    let heads : e ≡ e' = a.0.2 ∙ ap (λ (q : Request). ended_as starved m d q.command) requests ∙ sym b.0.2 in
-    let rest = run_same asked starved (map_after e.reply e.command m) ds es es' a.1
-    (subst (λ (x : Ended). RunInTurn asked starved (map_after x.reply x.command m) ds es') (sym heads) b.1) in
+    let heads : e ≡ e' = a.0.2 ∙ ap (λ (q : Request). ended_as starved m d q.task) requests ∙ sym b.0.2 in
+    let rest = run_same asked starved (map_after e.reply e.task m) ds es es' a.1
+    (subst (λ (x : Ended). RunInTurn asked starved (map_after x.reply x.task m) ds es') (sym heads) b.1) in
     ap (λ x. x ∷ es) heads ∙ ap (λ l. e' ∷ l) rest
 
 runs_same : (old new new' : World) (starved : List RequestId) (effect effect' : Effect) → RunsLayer old starved effect new →

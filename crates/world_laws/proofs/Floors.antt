@@ -1,11 +1,8 @@
 -- The floors that connections have between their requests.
 use Rattle.std.proofs.Common.{◌≡◌, ℕ, List, [], ◌∷◌, ◌⊎◌, inl, inr, Option, Some, None, Result, Ok, Err, refl, sym, ap, ◌∙◌, subst, arith}
-use Rattle.command_table.specs.Reading.{reading}
-use Rattle.command_table.specs.declared.command.Command.{Command}
 use Rattle.command_table.specs.declared.refusal.Refusal.{Refusal}
 use Rattle.journal.specs.declared.step.Step.{Step}
 use Rattle.journal.specs.declared.step.Step.TheVariants.{Open, Submit, Deliver, Take, Run, Settle, Collect, Close}
-use Rattle.placement.specs.Groups.{groups_of}
 use Rattle.placement.specs.Layout.{Layout}
 use Rattle.groups.proofs.Lists.{In-right}
 use Rattle.groups.proofs.Stamps.{final_within}
@@ -13,6 +10,7 @@ use Rattle.groups.specs.Order.{In}
 use Rattle.groups.specs.Stamp.{final}
 use Rattle.groups.specs.declared.request.RequestId.{RequestId}
 use Rattle.groups.specs.declared.stamp.Stamp.{Stamp}
+use Rattle.tasks.specs.Tasks.{Task, task_reading, task_groups}
 use Rattle.world.specs.Steps.{Effect, next_id, clock_of, final_clock, final_clock_of, floor_of, submitted_to, submitted, Collects, Steps}
 use Rattle.world.specs.World.{World, Request, Standing, Closed, Idle, Waiting, Answered, Ended, HasRun}
 use Rattle.world_laws.specs.Conditions.{SettledIsLast, FloorsAreFinal, IsFree, FloorsStay}
@@ -44,7 +42,7 @@ run_is_last t w es is good e there = elim (run_is_pending t w es is good e there
   | inr waiting ↦
       let connections = subst (λ l. ConnectionsGood w.opened w.standing w.seq w.last w.asked w.ended l) is good.connections in
       let at_end : In e w.ended = subst (λ l. In e l) (sym connections.split) (In-right e connections.settled es there) in
-      let named = good.run.commands e at_end in
+      let named = good.run.tasks e at_end in
       let latest = good.requests.latest e.id named.0 named.1 in
       let of_last = good.requests.lasts e.id.conn.0 latest.0 latest.1 in
       let fresh = good.requests.fresh latest.0 of_last.1.0 of_last.1.1 in
@@ -60,23 +58,23 @@ settled_is_last t steps w leads outcomes is e there = run_is_last t w outcomes i
 -- ---- a step changes no floor of a connection that is free
 
 -- what is asked and proposed stays
-asked_submitted_to : (t : Layout) (old : World) (c : ℕ) (command : Command) (gs : List ℕ) → WorldGood t old →
-    AskedMore old.asked (submitted_to old c command gs).asked
-asked_submitted_to t old c command [] good = λ i q e. e
-asked_submitted_to t old c command (g ∷ gs) good =
+asked_submitted_to : (t : Layout) (old : World) (c : ℕ) (task : Task) (gs : List ℕ) → WorldGood t old →
+    AskedMore old.asked (submitted_to old c task gs).asked
+asked_submitted_to t old c task [] good = λ i q e. e
+asked_submitted_to t old c task (g ∷ gs) good =
     asks_more old.asked (next_id old c) _ (next_is_new t old.asked old.proposed old.seq old.last c good.requests)
 
-asked_submitted : (t : Layout) (old : World) (c : ℕ) (r : Result Command Refusal) → WorldGood t old →
+asked_submitted : (t : Layout) (old : World) (c : ℕ) (r : Result Task Refusal) → WorldGood t old →
     AskedMore old.asked (submitted t old c r).asked
-asked_submitted t old c (Ok command) good = asked_submitted_to t old c command (groups_of t command) good
+asked_submitted t old c (Ok task) good = asked_submitted_to t old c task (task_groups t task) good
 asked_submitted t old c (Err refusal) good = λ i q e. e
 
-proposed_submitted_to : (old : World) (c : ℕ) (command : Command) (gs : List ℕ) → (submitted_to old c command gs).proposed ≡ old.proposed
-proposed_submitted_to old c command [] = refl
-proposed_submitted_to old c command (g ∷ gs) = refl
+proposed_submitted_to : (old : World) (c : ℕ) (task : Task) (gs : List ℕ) → (submitted_to old c task gs).proposed ≡ old.proposed
+proposed_submitted_to old c task [] = refl
+proposed_submitted_to old c task (g ∷ gs) = refl
 
-proposed_submitted : (t : Layout) (old : World) (c : ℕ) (r : Result Command Refusal) → (submitted t old c r).proposed ≡ old.proposed
-proposed_submitted t old c (Ok command) = proposed_submitted_to old c command (groups_of t command)
+proposed_submitted : (t : Layout) (old : World) (c : ℕ) (r : Result Task Refusal) → (submitted t old c r).proposed ≡ old.proposed
+proposed_submitted t old c (Ok task) = proposed_submitted_to old c task (task_groups t task)
 proposed_submitted t old c (Err refusal) = refl
 
 abbrev pub KnowsMore : World → World → Type 0
@@ -101,9 +99,9 @@ pub knows_more : (t : Layout) (old new : World) (step : Step) (effect : Effect) 
     KnowsMore old new
 knows_more t old new Open effect s good = knows_same old new (ap (λ (w : World). w.asked) s.after) (ap (λ (w : World). w.proposed) s.after)
 knows_more t old new (Submit conn words) effect s good = subst (λ w. KnowsMore old w) (sym s.after) (
-  asked_submitted t old conn.0 (reading words) good,
+  asked_submitted t old conn.0 (task_reading words) good,
   λ i g n e. ap (λ (f : RequestId → ℕ → Option ℕ). f i g)
-      (proposed_submitted t old conn.0 (reading words)) ∙ e,
+      (proposed_submitted t old conn.0 (task_reading words)) ∙ e,
 )
 knows_more t old new (Deliver k) effect s good = subst (λ w. KnowsMore old w) (sym s.after)
     (λ i q e. e, among_received t old k s.packet s.sent s.delivered s.state s.there good)

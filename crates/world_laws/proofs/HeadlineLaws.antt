@@ -1,19 +1,17 @@
 -- The order of execution is carried to the order of stamps.
 use Rattle.std.proofs.Common.{◌≡◌, true, List, [], ◌∷◌, inl, inr, Option, Some, None, refl, sym, ap, ◌∙◌, subst}
 use Rattle.std.specs.FinMap.{empty}
-use Rattle.command_bodies.specs.Command.{effect_of}
-use Rattle.command_bodies.specs.InTurn.{solo_from}
 use Rattle.execution_order.proofs.Sorted.{replies_in_stamp_order}
-use Rattle.execution_order.specs.Entries.{Entry, commands_of, entries_of, replies_of, InOrder, IsAddressed, AreAddressed}
+use Rattle.execution_order.specs.Entries.{Entry, tasks_of, entries_of, replies_of, InOrder, IsAddressed, AreAddressed}
 use Rattle.groups.specs.GroupSet.{has}
 use Rattle.keyspace.specs.Map.{Map}
-use Rattle.placement.specs.Groups.{groups_of}
 use Rattle.placement.specs.Layout.{Layout}
 use Rattle.resp.specs.Content.{Content}
 use Rattle.skeen_core.proofs.Lawful.{None≢Some}
 use Rattle.groups.proofs.Stamps.{lt_asym}
 use Rattle.groups.specs.Order.{In}
 use Rattle.groups.specs.Stamp.{stamp_lt}
+use Rattle.tasks.specs.Tasks.{task_groups, task_effect, tasks_in_turn}
 use Rattle.world.specs.Steps.{map_after, after_all}
 use Rattle.world.specs.World.{World, Ended}
 use Rattle.world_laws.specs.Good.{Rising, RepliesOn, RepliesInTurn, WorldGood}
@@ -25,33 +23,33 @@ use Rattle.groups.proofs.Options.{some_same}
 
 -- ---- in the order of execution
 
--- what the rows' commands do from a map
+-- what the rows' tasks do from a map
 abbrev OneThreadFrom : Map → List Ended → Type 0
-OneThreadFrom m es = (after_all m es, replies_of (rows_of es)) ≡ solo_from m (commands_of (entries_of (rows_of es)))
+OneThreadFrom m es = (after_all m es, replies_of (rows_of es)) ≡ tasks_in_turn m (tasks_of (entries_of (rows_of es)))
 
 one_thread_from : (m : Map) (es : List Ended) → RepliesInTurn m es → OneThreadFrom m es
 one_thread_from m [] replies = refl
-one_thread_from m (e ∷ es) replies = by_reply e.reply refl replies.0 (one_thread_from (map_after e.reply e.command m) es replies.1)
+one_thread_from m (e ∷ es) replies = by_reply e.reply refl replies.0 (one_thread_from (map_after e.reply e.task m) es replies.1)
   where
-    by_reply : (r : Option Content) → e.reply ≡ r → RepliesOn m e → OneThreadFrom (map_after e.reply e.command m) es →
-        (after_all (map_after e.reply e.command m) es, replies_of (with_row e e.reply (rows_of es))) ≡ solo_from m
-        (commands_of (entries_of (with_row e e.reply (rows_of es))))
-    by_reply None is answers rest = subst (λ r. OneThreadFrom (map_after r e.command m) es →
-        (after_all (map_after r e.command m) es, replies_of (with_row e r (rows_of es))) ≡ solo_from m
-        (commands_of (entries_of (with_row e r (rows_of es))))) (sym is) (λ rest. rest) rest
-    by_reply (Some reply) is answers rest = subst (λ r. OneThreadFrom (map_after r e.command m) es →
-        (after_all (map_after r e.command m) es, replies_of (with_row e r (rows_of es))) ≡ solo_from m
-        (commands_of (entries_of (with_row e r (rows_of es))))) (sym is)
+    by_reply : (r : Option Content) → e.reply ≡ r → RepliesOn m e → OneThreadFrom (map_after e.reply e.task m) es →
+        (after_all (map_after e.reply e.task m) es, replies_of (with_row e e.reply (rows_of es))) ≡ tasks_in_turn m
+        (tasks_of (entries_of (with_row e e.reply (rows_of es))))
+    by_reply None is answers rest = subst (λ r. OneThreadFrom (map_after r e.task m) es →
+        (after_all (map_after r e.task m) es, replies_of (with_row e r (rows_of es))) ≡ tasks_in_turn m
+        (tasks_of (entries_of (with_row e r (rows_of es))))) (sym is) (λ rest. rest) rest
+    by_reply (Some reply) is answers rest = subst (λ r. OneThreadFrom (map_after r e.task m) es →
+        (after_all (map_after r e.task m) es, replies_of (with_row e r (rows_of es))) ≡ tasks_in_turn m
+        (tasks_of (entries_of (with_row e r (rows_of es))))) (sym is)
         (λ rest. ap (λ v. (v.0, reply ∷ v.1)) rest
         ∙ ap (λ c. (
-          (solo_from (effect_of e.command m).0 (commands_of (entries_of (rows_of es)))).0,
-          c ∷ (solo_from (effect_of e.command m).0 (commands_of (entries_of (rows_of es)))).1,
+          (tasks_in_turn (task_effect e.task m).0 (tasks_of (entries_of (rows_of es)))).0,
+          c ∷ (tasks_in_turn (task_effect e.task m).0 (tasks_of (entries_of (rows_of es)))).1,
         )) same) rest
       where
-        same : reply ≡ (effect_of e.command m).1
+        same : reply ≡ (task_effect e.task m).1
         same = elim answers [
           | inl starved ↦ absurd (None≢Some reply (sym starved ∙ is))
-          | inr answer ↦ some_same reply (effect_of e.command m).1 (sym is ∙ answer)
+          | inr answer ↦ some_same reply (task_effect e.task m).1 (sym is ∙ answer)
         ]
 
 pub good_is_one_thread : (t : Layout) (w : World) → WorldGood t w → IsOneThread w.contents (rows_of w.ended)
@@ -63,7 +61,7 @@ holds_in_order_of_execution t steps w leads = good_is_one_thread t w (good_world
 -- ---- the rows' requests
 
 abbrev entry_of : Ended → Entry
-entry_of e = record { id = e.id; stamp = e.stamp; groups = e.groups; command = e.command }
+entry_of e = record { id = e.id; stamp = e.stamp; groups = e.groups; task = e.task }
 
 -- each row's request is one that ended
 in_rows : (es : List Ended) (x : Entry) → In x (entries_of (rows_of es)) → (e : Ended) × In e es × (x ≡ entry_of e)
@@ -98,7 +96,7 @@ rows_addressed t w good x there =
     let it = ended_as_submitted t w good e.0 e.1 in
     let shaped = good.requests.shaped e.0.id it.0 it.1.submitted in
     subst (λ y. IsAddressed t y) (sym e.2) (record {
-      groups = it.3 ∙ sym shaped.groups ∙ sym (ap (groups_of t) it.2);
+      groups = it.3 ∙ sym shaped.groups ∙ sym (ap (task_groups t) it.2);
       some_group = (shaped.some.0, subst (λ gs. has gs shaped.some.0 ≡ true) (sym it.3) shaped.some.1);
     })
 

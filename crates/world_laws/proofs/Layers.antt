@@ -3,7 +3,6 @@ use Rattle.std.proofs.Common.{◌≡◌, ℕ, Bool, true, false, cond, List, [],
 use Rattle.std.proofs.Common.{subst, append-nil, append_assoc}
 use Rattle.std.proofs.lemmas.Bool.{both_ways}
 use Rattle.std.specs.FinMap.{empty}
-use Rattle.command_bodies.specs.Command.{effect_of}
 use Rattle.delivery.proofs.Layers.{StandsAt, layer_stands, taken_somewhere}
 use Rattle.delivery.specs.Ready.{IsLayer, taken_from, left_in}
 use Rattle.groups.specs.GroupSet.{has}
@@ -18,6 +17,7 @@ use Rattle.groups.specs.Stamp.{stamp_lt, final}
 use Rattle.skeen_core.specs.declared.packet.Delivered.{Delivered}
 use Rattle.skeen_core.specs.declared.packet.Packet.{Packet}
 use Rattle.groups.specs.declared.request.RequestId.{RequestId}
+use Rattle.tasks.specs.Tasks.{task_effect}
 use Rattle.world.specs.Steps.{names, map_after, after_all, RunInTurn}
 use Rattle.world.specs.World.{Request, Ended, NoneTaken, Taken, HasRun, Proposals}
 use Rattle.world_laws.specs.Good.{Rising, Asked, Known, SkeenGood, AskedGood, delivered_of, all_delivered, all_taken, Touching, TakenGood}
@@ -120,7 +120,7 @@ run_of_layer asked starved m [] es run = ap all_delivered run
 run_of_layer asked starved m (d ∷ ds) [] run = absurd run
 run_of_layer asked starved m (d ∷ ds) (e ∷ es) run =
     ap (λ x. delivered_of x ∷ all_delivered es) run.0.2
-    ∙ ap (λ l. d ∷ l) (run_of_layer asked starved (map_after e.reply e.command m) ds es run.1)
+    ∙ ap (λ l. d ∷ l) (run_of_layer asked starved (map_after e.reply e.task m) ds es run.1)
 
 pub taken_run : (asked : Asked) (starved : List RequestId) (m : Map) (ended es : List Ended) (ds : List Delivered) →
     RunInTurn asked starved m ds es →
@@ -134,47 +134,47 @@ in_delivered [] e there = absurd there
 in_delivered (x ∷ es) e (inl same) = inl (ap delivered_of same)
 in_delivered (x ∷ es) e (inr there) = inr (in_delivered es e there)
 
--- each has the command that was submitted
+-- each has the task that was submitted
 run_commands : (asked : Asked) (starved : List RequestId) (m : Map) (ds : List Delivered) (es : List Ended) →
     RunInTurn asked starved m ds es →
-    (e : Ended) → In e es → (q : Request) × (asked e.id ≡ Some q) × (e.command ≡ q.command)
+    (e : Ended) → In e es → (q : Request) × (asked e.id ≡ Some q) × (e.task ≡ q.task)
 run_commands asked starved m [] es run e there = absurd (subst (λ l. In e l) run there)
 run_commands asked starved m (d ∷ ds) [] run e there = absurd run
 run_commands asked starved m (d ∷ ds) (x ∷ es) run e (inl same) =
     let it = same ∙ run.0.2 in
-    (run.0.0, ap (λ y. asked y.id) it ∙ run.0.1, ap (λ y. y.command) it)
+    (run.0.0, ap (λ y. asked y.id) it ∙ run.0.1, ap (λ y. y.task) it)
 run_commands asked starved m (d ∷ ds) (x ∷ es) run e (inr there) =
-    run_commands asked starved (map_after x.reply x.command m) ds es run.1 e there
+    run_commands asked starved (map_after x.reply x.task m) ds es run.1 e there
 
--- each starves, or is answered as its command answers there
+-- each starves, or is answered as its task answers there
 run_replies : (asked : Asked) (starved : List RequestId) (m : Map) (ds : List Delivered) (es : List Ended) →
     RunInTurn asked starved m ds es → RepliesInTurn m es
 run_replies asked starved m [] es run = subst (λ l. RepliesInTurn m l) (sym run) tt
 run_replies asked starved m (d ∷ ds) [] run = absurd run
 run_replies asked starved m (d ∷ ds) (e ∷ es) run = (
   subst (λ x. RepliesOn m x) (sym run.0.2) (one (names starved d.id)),
-  run_replies asked starved (map_after e.reply e.command m) ds es run.1,
+  run_replies asked starved (map_after e.reply e.task m) ds es run.1,
 )
   where
-    one : (b : Bool) → (cond b None (Some (effect_of run.0.0.command m).1) ≡ None)
-        ⊎ (cond b None (Some (effect_of run.0.0.command m).1) ≡ Some (effect_of run.0.0.command m).1)
+    one : (b : Bool) → (cond b None (Some (task_effect run.0.0.task m).1) ≡ None)
+        ⊎ (cond b None (Some (task_effect run.0.0.task m).1) ≡ Some (task_effect run.0.0.task m).1)
     one true = inl refl
     one false = inr refl
 
 pub after_all-append : (m : Map) (xs ys : List Ended) → after_all m (xs ++ ys) ≡ after_all (after_all m xs) ys
 after_all-append m [] ys = refl
-after_all-append m (x ∷ xs) ys = after_all-append (map_after x.reply x.command m) xs ys
+after_all-append m (x ∷ xs) ys = after_all-append (map_after x.reply x.task m) xs ys
 
 pub replies-append : (m : Map) (xs ys : List Ended) → RepliesInTurn m xs → RepliesInTurn (after_all m xs) ys → RepliesInTurn m (xs ++ ys)
 replies-append m [] ys a b = b
-replies-append m (x ∷ xs) ys a b = (a.0, replies-append (map_after x.reply x.command m) xs ys a.1 b)
+replies-append m (x ∷ xs) ys a b = (a.0, replies-append (map_after x.reply x.task m) xs ys a.1 b)
 
 pub run_layer_good : (asked : Asked) (starved : List RequestId) (contents : Map) (ended es : List Ended) (ds : List Delivered) →
     RunInTurn asked starved contents ds es → RunGood asked ended contents →
     RunGood asked (ended ++ es) (after_all contents es)
 run_layer_good asked starved contents ended es ds run good = record {
-  commands = λ e there. elim (In-append e ended es there) [
-    | inl before ↦ good.commands e before
+  tasks = λ e there. elim (In-append e ended es there) [
+    | inl before ↦ good.tasks e before
     | inr now ↦ run_commands asked starved contents ds es run e now
   ];
   replies = replies-append empty ended es good.replies
@@ -185,7 +185,7 @@ run_layer_good asked starved contents ended es ds run good = record {
 pub run_more : (asked asked' : Asked) (ended : List Ended) (contents : Map) → AskedMore asked asked' → RunGood asked ended contents →
     RunGood asked' ended contents
 run_more asked asked' ended contents more good = record {
-  commands = λ e there. let c = good.commands e there in (c.0, more e.id c.0 c.1, c.2);
+  tasks = λ e there. let c = good.tasks e there in (c.0, more e.id c.0 c.1, c.2);
   replies = good.replies;
   map = good.map;
 }

@@ -2,12 +2,9 @@
 use Rattle.std.proofs.Common.{◌≡◌, ℕ, ◌≤◌, ◌==◌, true, false, List, [], ◌∷◌, ◌++◌, inl, inr, Some, Result, Ok, Err}
 use Rattle.std.proofs.Common.{refl, sym, ap, ◌∙◌, subst, arith, eqb-true, append-nil, append_assoc}
 use Rattle.std.proofs.lemmas.Bool.{cases_Bool}
-use Rattle.command_table.specs.Reading.{reading}
-use Rattle.command_table.specs.declared.command.Command.{Command}
 use Rattle.command_table.specs.declared.refusal.Refusal.{Refusal}
 use Rattle.groups.specs.GroupSet.{has}
 use Rattle.journal.specs.declared.step.Step.TheVariants.{Open, Submit, Deliver, Take, Run, Settle, Collect, Close}
-use Rattle.placement.specs.Groups.{groups_of}
 use Rattle.placement.specs.Layout.{Layout}
 use Rattle.groups.proofs.Lists.{In-left, In-right}
 use Rattle.groups.proofs.Stamps.{final_above, final_within, lt_from_clocks}
@@ -19,6 +16,7 @@ use Rattle.skeen_core.specs.declared.packet.Body.TheVariants.{Start, Proposal}
 use Rattle.skeen_core.specs.declared.packet.Delivered.{Delivered}
 use Rattle.groups.specs.declared.request.RequestId.{RequestId}
 use Rattle.groups.specs.declared.stamp.Stamp.{Stamp}
+use Rattle.tasks.specs.Tasks.{Task, task_reading, task_groups}
 use Rattle.world.specs.Steps.{Effect, submitted_to, submitted, Comes, Collects}
 use Rattle.world.specs.World.{World, Request, Standing, Closed, Idle, Waiting, Answered, Ended, Proposals}
 use Rattle.world_laws.specs.Good.{Rising, Asked, Known, BodyGood, log_of, delivered_of, all_delivered, taken_in}
@@ -28,7 +26,6 @@ use Rattle.world_laws.specs.Order.{ClockIsAboveProposals, ClockIsAboveDeliveries
 use Rattle.world_laws.specs.Order.{PacketsGoToAddressed, DeliveriesAreAddressed, Brings, OthersKeepStill, ids_of, EndsOnce, EndsAsSubmitted}
 use Rattle.world_laws.specs.Order.{TouchingByStamp, TouchingEndInStampOrder, EndedIsKept}
 use Rattle.world_laws.proofs.Bounds.{bounded_world}
-use Rattle.world_laws.proofs.Groups.{}
 use Rattle.world_laws.proofs.Layers.{log_taken, all_delivered-append, in_delivered, taken_once}
 use Rattle.world_laws.proofs.Lists.{rising_left}
 use Rattle.world_laws.proofs.Requests.{final_is_proposed, proposed_above_floor}
@@ -145,12 +142,12 @@ deliveries_are_addressed t steps w leads g d there = ((good_world t steps w lead
 abbrev Still : World → World → ℕ → Type 0
 Still old new g = (new.group g ≡ old.group g) × (log_of new g ≡ log_of old g)
 
-submit_still : (t : Layout) (old : World) (c : ℕ) (command : Command) (gs : List ℕ) (g : ℕ) → Still old (submitted_to old c command gs) g
-submit_still t old c command [] g = (refl, refl)
-submit_still t old c command (h ∷ hs) g = (refl, refl)
+submit_still : (t : Layout) (old : World) (c : ℕ) (task : Task) (gs : List ℕ) (g : ℕ) → Still old (submitted_to old c task gs) g
+submit_still t old c task [] g = (refl, refl)
+submit_still t old c task (h ∷ hs) g = (refl, refl)
 
-submitted_still : (t : Layout) (old : World) (c : ℕ) (r : Result Command Refusal) (g : ℕ) → Still old (submitted t old c r) g
-submitted_still t old c (Ok command) g = submit_still t old c command (groups_of t command) g
+submitted_still : (t : Layout) (old : World) (c : ℕ) (r : Result Task Refusal) (g : ℕ) → Still old (submitted t old c r) g
+submitted_still t old c (Ok task) g = submit_still t old c task (task_groups t task) g
 submitted_still t old c (Err refusal) g = (refl, refl)
 
 deliver_still : (old new : World) (k : ℕ) (effect : Effect) (g : ℕ) → Comes old k effect new → ¬ Brings old (Deliver k) g → Still old new g
@@ -175,7 +172,7 @@ collect_still old new c (Answered o) effect g step = subst (λ w. Still old w g)
 pub others_keep_still : OthersKeepStill
 others_keep_still t old new Open effect s g none = subst (λ w. Still old w g) (sym s.after) (refl, refl)
 others_keep_still t old new (Submit conn words) effect s g none = subst (λ w. Still old w g) (sym s.after)
-    (submitted_still t old conn.0 (reading words) g)
+    (submitted_still t old conn.0 (task_reading words) g)
 others_keep_still t old new (Deliver k) effect s g none = deliver_still old new k effect g s none
 others_keep_still t old new Take effect s g none = subst (λ w. Still old w g) (sym s.after)
     (refl, sym (ap (λ (f : ℕ → List Delivered). f g) (log_taken old.gone old.queue s.layer)))
@@ -225,14 +222,14 @@ ends_once t steps w leads = once_from w.ended (λ e f before after split there s
     good = good_world t steps w leads
 
 pub ended_as_submitted : (t : Layout) (w : World) → WorldGood t w → (e : Ended) → In e w.ended → (q : Request) × HasFinal w e.id q e.stamp
-    × (e.command ≡ q.command) × (e.groups ≡ q.groups)
+    × (e.task ≡ q.task) × (e.groups ≡ q.groups)
 ended_as_submitted t w good e there =
     let known = ended_known t w good e there in
-    let command = good.run.commands e there in
-    let same : command.0 ≡ known.named.0 = some_same command.0 known.named.0 (sym command.1 ∙ known.named.1) in (
+    let task = good.run.tasks e there in
+    let same : task.0 ≡ known.named.0 = some_same task.0 known.named.0 (sym task.1 ∙ known.named.1) in (
       known.named.0,
       record { submitted = known.named.1; stamp = ap (λ gs. final (w.proposed e.id) gs) known.named.2 ∙ known.stamp },
-      command.2 ∙ ap (λ (q : Request). q.command) same,
+      task.2 ∙ ap (λ (q : Request). q.task) same,
       sym known.named.2,
     )
 
@@ -257,12 +254,12 @@ Kept old new = (more : List Ended) × (new.ended ≡ old.ended ++ more)
 none_more : (old new : World) → new.ended ≡ old.ended → Kept old new
 none_more old new same = ([], same ∙ sym (append-nil old.ended))
 
-submitted_to_kept : (old : World) (c : ℕ) (command : Command) (gs : List ℕ) → (submitted_to old c command gs).ended ≡ old.ended
-submitted_to_kept old c command [] = refl
-submitted_to_kept old c command (g ∷ gs) = refl
+submitted_to_kept : (old : World) (c : ℕ) (task : Task) (gs : List ℕ) → (submitted_to old c task gs).ended ≡ old.ended
+submitted_to_kept old c task [] = refl
+submitted_to_kept old c task (g ∷ gs) = refl
 
-submitted_kept : (t : Layout) (old : World) (c : ℕ) (r : Result Command Refusal) → (submitted t old c r).ended ≡ old.ended
-submitted_kept t old c (Ok command) = submitted_to_kept old c command (groups_of t command)
+submitted_kept : (t : Layout) (old : World) (c : ℕ) (r : Result Task Refusal) → (submitted t old c r).ended ≡ old.ended
+submitted_kept t old c (Ok task) = submitted_to_kept old c task (task_groups t task)
 submitted_kept t old c (Err refusal) = refl
 
 collect_kept : (old new : World) (c : ℕ) (s : Standing) (effect : Effect) → Collects s old c effect new → Kept old new
@@ -274,7 +271,7 @@ collect_kept old new c (Answered o) effect step = none_more old new (ap (λ (w :
 pub ended_is_kept : EndedIsKept
 ended_is_kept t old new Open effect s = none_more old new (ap (λ (w : World). w.ended) s.after)
 ended_is_kept t old new (Submit conn words) effect s = none_more old new (ap (λ (w : World). w.ended) s.after
-    ∙ submitted_kept t old conn.0 (reading words))
+    ∙ submitted_kept t old conn.0 (task_reading words))
 ended_is_kept t old new (Deliver k) effect s = none_more old new (ap (λ (w : World). w.ended) s.after)
 ended_is_kept t old new Take effect s = none_more old new (ap (λ (w : World). w.ended) s.after)
 ended_is_kept t old new (Run starved) effect s = (s.outcomes, ap (λ (w : World). w.ended) s.after)

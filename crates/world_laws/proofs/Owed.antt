@@ -3,14 +3,11 @@ use Rattle.std.proofs.Common.{◌≡◌, ℕ, ◌+◌, ◌==◌, true, false, co
 use Rattle.std.proofs.Common.{refl, sym, ap, ◌∙◌, subst, eqb-true, append_assoc}
 use Rattle.std.specs.FinMap.{get}
 use Rattle.std.specs.Option.{is_some}
-use Rattle.command_table.specs.Reading.{reading}
-use Rattle.command_table.specs.declared.command.Command.{Command}
 use Rattle.command_table.specs.declared.refusal.Refusal.{Refusal}
 use Rattle.delivery.proofs.Layers.{taken_somewhere}
 use Rattle.delivery.specs.Ready.{taken_from}
 use Rattle.journal.specs.declared.step.Step.{Step}
 use Rattle.journal.specs.declared.step.Step.TheVariants.{Open, Submit, Deliver, Take, Run, Settle, Collect, Close}
-use Rattle.placement.specs.Groups.{groups_of}
 use Rattle.placement.specs.Layout.{Layout}
 use Rattle.skeen_core.proofs.Lawful.{None≢Some, named}
 use Rattle.groups.proofs.Ids.{same_id-true}
@@ -23,6 +20,7 @@ use Rattle.skeen_core.specs.declared.packet.Body.TheVariants.{Start, Proposal}
 use Rattle.skeen_core.specs.declared.packet.Delivered.{Delivered}
 use Rattle.skeen_core.specs.declared.packet.Packet.{Packet}
 use Rattle.groups.specs.declared.request.RequestId.{RequestId}
+use Rattle.tasks.specs.Tasks.{Task, task_reading, task_groups}
 use Rattle.world.specs.Steps.{at, starts, opening, Effect, next_id, floor_of, multicast, submitted_to, submitted, hears, with_own}
 use Rattle.world.specs.Steps.{now_proposed, Comes, Takes, RunsLayer, Settles, Collects, Steps, Makes, Leads}
 use Rattle.world.specs.World.{World, Request, Standing, Closed, Idle, Waiting, Answered, Proposals}
@@ -140,14 +138,14 @@ owes_multicast t w c q good owes = record {
   taken = owes.taken;
 }
 
-owes_submitted_to : (t : Layout) (w : World) (c : ℕ) (command : Command) (gs : List ℕ) → WorldGood t w → Owes w →
-    Owes (submitted_to w c command gs)
-owes_submitted_to t w c command [] good owes = owes
-owes_submitted_to t w c command (g ∷ gs) good owes =
-    owes_multicast t w c (record { floor = floor_of w c; groups = g ∷ gs; command = command }) good owes
+owes_submitted_to : (t : Layout) (w : World) (c : ℕ) (task : Task) (gs : List ℕ) → WorldGood t w → Owes w →
+    Owes (submitted_to w c task gs)
+owes_submitted_to t w c task [] good owes = owes
+owes_submitted_to t w c task (g ∷ gs) good owes =
+    owes_multicast t w c (record { floor = floor_of w c; groups = g ∷ gs; task = task }) good owes
 
-owes_submitted : (t : Layout) (w : World) (c : ℕ) (r : Result Command Refusal) → WorldGood t w → Owes w → Owes (submitted t w c r)
-owes_submitted t w c (Ok command) good owes = owes_submitted_to t w c command (groups_of t command) good owes
+owes_submitted : (t : Layout) (w : World) (c : ℕ) (r : Result Task Refusal) → WorldGood t w → Owes w → Owes (submitted t w c r)
+owes_submitted t w c (Ok task) good owes = owes_submitted_to t w c task (task_groups t task) good owes
 owes_submitted t w c (Err refusal) good owes = owes
 
 -- ---- Take, Run, Settle
@@ -211,7 +209,7 @@ pub owes_step : (t : Layout) (old new : World) (step : Step) (effect : Effect) �
     Owes new
 owes_step t old new Open effect s good owes = subst (λ w. Owes w) (sym s.after) owes
 owes_step t old new (Submit conn words) effect s good owes = subst (λ w. Owes w) (sym s.after)
-    (owes_submitted t old conn.0 (reading words) good owes)
+    (owes_submitted t old conn.0 (task_reading words) good owes)
 owes_step t old new (Deliver k) effect s good owes = owes_deliver t old new k effect s good owes
 owes_step t old new Take effect s good owes = owes_take t old new effect s good owes
 owes_step t old new (Run starved) effect s good owes = owes_run old new starved effect s owes

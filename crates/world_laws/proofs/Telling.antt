@@ -4,14 +4,10 @@ use Rattle.std.proofs.Common.{Option, Some, None, Result, Ok, Err, refl, sym, ap
 use Rattle.std.proofs.Common.{subst}
 use Rattle.std.proofs.lemmas.Bool.{cases_Bool}
 use Rattle.std.specs.FinMap.{empty}
-use Rattle.command_bodies.specs.Command.{effect_of}
-use Rattle.command_table.specs.Reading.{reading}
 use Rattle.command_table.specs.Refusal.{refusal_text}
-use Rattle.command_table.specs.declared.command.Command.{Command}
 use Rattle.command_table.specs.declared.refusal.Refusal.{Refusal}
 use Rattle.journal.specs.declared.step.Step.{Step}
 use Rattle.journal.specs.declared.step.Step.TheVariants.{Open, Submit, Deliver, Take, Run, Settle, Collect, Close}
-use Rattle.placement.specs.Groups.{groups_of}
 use Rattle.placement.specs.Layout.{Layout}
 use Rattle.resp.specs.Content.{Content, ErrorLine}
 use Rattle.groups.proofs.Ids.{same_id-true}
@@ -19,6 +15,7 @@ use Rattle.skeen_core.proofs.Lawful.{None≢Some}
 use Rattle.groups.specs.Request.{same_id}
 use Rattle.groups.specs.declared.request.ConnId.{ConnId}
 use Rattle.groups.specs.declared.request.RequestId.{RequestId}
+use Rattle.tasks.specs.Tasks.{Task, task_reading, task_groups, task_effect}
 use Rattle.world.specs.Steps.{at, opening, Effect, Submitted, Collected, next_id, floor_of, multicast, answered, submitted_to, submitted}
 use Rattle.world.specs.Steps.{outcome_of, Collects, Steps, Makes}
 use Rattle.world.specs.World.{World, Request, Outcome, Standing, Closed, Idle, Waiting, Answered, Ended}
@@ -30,18 +27,18 @@ use Rattle.std.proofs.lemmas.Bool.{cond-true, cond-false}
 use Rattle.world_laws.proofs.Values.{idle_not_answered, waiting_not_answered, closed_not_answered, same_outcome, same_collected}
 
 -- what is asked has property H, and what is answered at once has property K
-record Said (w : World) (H : RequestId → Command → Type 0) (K : RequestId → Content → Type 0) : Type 0 where
-  pub asked : (i : RequestId) (q : Request) → w.asked i ≡ Some q → H i q.command
+record Said (w : World) (H : RequestId → Task → Type 0) (K : RequestId → Content → Type 0) : Type 0 where
+  pub asked : (i : RequestId) (q : Request) → w.asked i ≡ Some q → H i q.task
   pub answers : (c : ℕ) (o : Outcome) → w.standing c ≡ Answered o → o.stamp ≡ None → K o.id o.reply
 
-abbrev Reads : Command → List (List ℕ) → Type 0
-Reads command words = reading words ≡ Ok command
+abbrev Reads : Task → List (List ℕ) → Type 0
+Reads task words = task_reading words ≡ Ok task
 
 abbrev RepliesAtOnce : Layout → Content → List (List ℕ) → Type 0
-RepliesAtOnce t reply words = reply_at_once t (reading words) ≡ Some reply
+RepliesAtOnce t reply words = reply_at_once t (task_reading words) ≡ Some reply
 
 -- the same world but for its standings
-said_same : (old new : World) (H : RequestId → Command → Type 0) (K : RequestId → Content → Type 0) → new.asked ≡ old.asked →
+said_same : (old new : World) (H : RequestId → Task → Type 0) (K : RequestId → Content → Type 0) → new.asked ≡ old.asked →
     ((c : ℕ) (o : Outcome) → new.standing c ≡ Answered o → o.stamp ≡ None → (d : ℕ) × (old.standing d ≡ Answered o)) → Said old H K →
     Said new H K
 said_same old new H K same from said = record {
@@ -49,10 +46,10 @@ said_same old new H K same from said = record {
   answers = λ c o is none. let before = from c o is none in said.answers before.0 o before.1 none;
 }
 
-said_more : (w : World) (H H' : RequestId → Command → Type 0) (K K' : RequestId → Content → Type 0) →
-    ((i : RequestId) (c : Command) → H i c → H' i c) → ((i : RequestId) (r : Content) → K i r → K' i r) → Said w H K → Said w H' K'
+said_more : (w : World) (H H' : RequestId → Task → Type 0) (K K' : RequestId → Content → Type 0) →
+    ((i : RequestId) (c : Task) → H i c → H' i c) → ((i : RequestId) (r : Content) → K i r → K' i r) → Said w H K → Said w H' K'
 said_more w H H' K K' h k said = record {
-  asked = λ i q e. h i q.command (said.asked i q e);
+  asked = λ i q e. h i q.task (said.asked i q e);
   answers = λ c o is none. k o.id o.reply (said.answers c o is none);
 }
 
@@ -66,7 +63,7 @@ kept_answer standing c s none d o is = elim (cases_Bool (d == c)) [
 
 -- ---- Submit
 
-said_answered : (old : World) (H : RequestId → Command → Type 0) (K : RequestId → Content → Type 0) (c : ℕ) (reply : Content) →
+said_answered : (old : World) (H : RequestId → Task → Type 0) (K : RequestId → Content → Type 0) (c : ℕ) (reply : Content) →
     K (next_id old c) reply → Said old H K → Said (answered old c reply) H K
 said_answered old H K c reply k said = record {
   asked = said.asked;
@@ -80,47 +77,47 @@ said_answered old H K c reply k said = record {
   ];
 }
 
-said_multicast : (old : World) (H : RequestId → Command → Type 0) (K : RequestId → Content → Type 0) (c : ℕ) (q : Request) →
-    H (next_id old c) q.command → Said old H K → Said (multicast old c q) H K
+said_multicast : (old : World) (H : RequestId → Task → Type 0) (K : RequestId → Content → Type 0) (c : ℕ) (q : Request) →
+    H (next_id old c) q.task → Said old H K → Said (multicast old c q) H K
 said_multicast old H K c q h said = record {
-  asked = λ i r e. by_test (same_id i (next_id old c)) q (old.asked i) r (H i r.command) e
-      (λ s new. subst (λ (x : Request). H i x.command) new (subst (λ j. H j q.command) (sym (same_id-true i (next_id old c) s)) h))
+  asked = λ i r e. by_test (same_id i (next_id old c)) q (old.asked i) r (H i r.task) e
+      (λ s new. subst (λ (x : Request). H i x.task) new (subst (λ j. H j q.task) (sym (same_id-true i (next_id old c) s)) h))
       (λ s before. said.asked i r before);
   answers = λ d o is none. let before = kept_answer old.standing c Waiting waiting_not_answered d o is in
       said.answers before.0 o before.1 none;
 }
 
-said_submitted_to : (t : Layout) (old : World) (H : RequestId → Command → Type 0) (K : RequestId → Content → Type 0) (c : ℕ)
-    (command : Command) (gs : List ℕ) → H (next_id old c) command →
-    ((r : Content) → reply_at_none command gs ≡ Some r → K (next_id old c) r) → Said old H K → Said (submitted_to old c command gs) H K
-said_submitted_to t old H K c command [] h k said =
-    said_answered old H K c (effect_of command empty).1 (k (effect_of command empty).1 refl) said
-said_submitted_to t old H K c command (g ∷ gs) h k said =
-    said_multicast old H K c (record { floor = floor_of old c; groups = g ∷ gs; command = command }) h said
+said_submitted_to : (t : Layout) (old : World) (H : RequestId → Task → Type 0) (K : RequestId → Content → Type 0) (c : ℕ)
+    (task : Task) (gs : List ℕ) → H (next_id old c) task →
+    ((r : Content) → reply_at_none task gs ≡ Some r → K (next_id old c) r) → Said old H K → Said (submitted_to old c task gs) H K
+said_submitted_to t old H K c task [] h k said =
+    said_answered old H K c (task_effect task empty).1 (k (task_effect task empty).1 refl) said
+said_submitted_to t old H K c task (g ∷ gs) h k said =
+    said_multicast old H K c (record { floor = floor_of old c; groups = g ∷ gs; task = task }) h said
 
-said_submitted : (t : Layout) (old : World) (H : RequestId → Command → Type 0) (K : RequestId → Content → Type 0) (c : ℕ)
-    (r : Result Command Refusal) → ((command : Command) → r ≡ Ok command → H (next_id old c) command) →
+said_submitted : (t : Layout) (old : World) (H : RequestId → Task → Type 0) (K : RequestId → Content → Type 0) (c : ℕ)
+    (r : Result Task Refusal) → ((task : Task) → r ≡ Ok task → H (next_id old c) task) →
     ((reply : Content) → reply_at_once t r ≡ Some reply → K (next_id old c) reply) → Said old H K → Said (submitted t old c r) H K
-said_submitted t old H K c (Ok command) h k said = said_submitted_to t old H K c command (groups_of t command) (h command refl) k said
+said_submitted t old H K c (Ok task) h k said = said_submitted_to t old H K c task (task_groups t task) (h task refl) k said
 said_submitted t old H K c (Err refusal) h k said = said_answered old H K c (ErrorLine (refusal_text refusal))
     (k (ErrorLine (refusal_text refusal)) refl) said
 
 -- ---- all steps
 
-abbrev More : (RequestId → Command → Type 0) → Step → Effect → RequestId → Command → Type 0
-More H s e i command = H i command ⊎ Submits (Reads command) i s e
+abbrev More : (RequestId → Task → Type 0) → Step → Effect → RequestId → Task → Type 0
+More H s e i task = H i task ⊎ Submits (Reads task) i s e
 
 abbrev MoreReplies : Layout → (RequestId → Content → Type 0) → Step → Effect → RequestId → Content → Type 0
 MoreReplies t K s e i reply = K i reply ⊎ Submits (RepliesAtOnce t reply) i s e
 
-said_now : (t : Layout) (old new : World) (H : RequestId → Command → Type 0) (K : RequestId → Content → Type 0) (s : Step) (e : Effect) →
+said_now : (t : Layout) (old new : World) (H : RequestId → Task → Type 0) (K : RequestId → Content → Type 0) (s : Step) (e : Effect) →
     new.asked ≡ old.asked →
     ((c : ℕ) (o : Outcome) → new.standing c ≡ Answered o → o.stamp ≡ None → (d : ℕ) × (old.standing d ≡ Answered o)) → Said old H K →
     Said new (More H s e) (MoreReplies t K s e)
 said_now t old new H K s e same from said = said_more new H (More H s e) K (MoreReplies t K s e) (λ i c h. inl h) (λ i r k. inl k)
     (said_same old new H K same from said)
 
-said_collects : (t : Layout) (old new : World) (H : RequestId → Command → Type 0) (K : RequestId → Content → Type 0) (conn : ConnId)
+said_collects : (t : Layout) (old new : World) (H : RequestId → Task → Type 0) (K : RequestId → Content → Type 0) (conn : ConnId)
     (s : Standing) (e : Effect) → Collects s old conn.0 e new → Said old H K →
     Said new (More H (Collect conn) e) (MoreReplies t K (Collect conn) e)
 said_collects t old new H K conn Closed e step said = absurd step
@@ -134,7 +131,7 @@ said_collects t old new H K conn (Answered p) e step said = said_now t old new H
 some_not_none : (e : Ended) (o : Outcome) → Answered (outcome_of e) ≡ Answered o → o.stamp ≡ None → ⊥
 some_not_none e o is none = None≢Some e.stamp (sym none ∙ ap (λ (p : Outcome). p.stamp) (sym (same_outcome (outcome_of e) o is)))
 
-said_step : (t : Layout) (old new : World) (H : RequestId → Command → Type 0) (K : RequestId → Content → Type 0) (s : Step) (e : Effect) →
+said_step : (t : Layout) (old new : World) (H : RequestId → Task → Type 0) (K : RequestId → Content → Type 0) (s : Step) (e : Effect) →
     Steps t old s e new → Said old H K → Said new (More H s e) (MoreReplies t K s e)
 said_step t old new H K Open e step said = said_now t old new H K Open e (ap (λ (w : World). w.asked) step.after)
     (λ c o is none. kept_answer old.standing (suc old.opened) Idle idle_not_answered c o (sym (ap (λ (w : World). w.standing c) step.after)
@@ -144,8 +141,8 @@ said_step t old new H K (Submit conn words) e step said =
     (subst (λ w. Said w (More H (Submit conn words) (Submitted (next_id old conn.0)))
     (MoreReplies t K (Submit conn words) (Submitted (next_id old conn.0)))) (sym step.after)
     (said_submitted t old (More H (Submit conn words) (Submitted (next_id old conn.0)))
-    (MoreReplies t K (Submit conn words) (Submitted (next_id old conn.0))) conn.0 (reading words)
-    (λ command is. inr (refl, refl, is)) (λ reply is. inr (refl, refl, is))
+    (MoreReplies t K (Submit conn words) (Submitted (next_id old conn.0))) conn.0 (task_reading words)
+    (λ task is. inr (refl, refl, is)) (λ reply is. inr (refl, refl, is))
     (said_more old H _ K _ (λ i c h. inl h) (λ i r k. inl k) said)))
 said_step t old new H K (Deliver k) e step said = said_now t old new H K (Deliver k) e (ap (λ (w : World). w.asked) step.after)
     (λ c o is none. (c, sym (ap (λ (w : World). w.standing c) step.after) ∙ is)) said
@@ -165,8 +162,8 @@ said_step t old new H K (Close conn) e step said = said_now t old new H K (Close
 
 -- ---- histories
 
-abbrev WasAsked : (RequestId → Command → Type 0) → List Step → List Effect → RequestId → Command → Type 0
-WasAsked H ss es i command = H i command ⊎ WasSubmitted (Reads command) i ss es
+abbrev WasAsked : (RequestId → Task → Type 0) → List Step → List Effect → RequestId → Task → Type 0
+WasAsked H ss es i task = H i task ⊎ WasSubmitted (Reads task) i ss es
 
 abbrev WasReplied : Layout → (RequestId → Content → Type 0) → List Step → List Effect → RequestId → Content → Type 0
 WasReplied t K ss es i reply = K i reply ⊎ WasSubmitted (RepliesAtOnce t reply) i ss es
@@ -176,7 +173,7 @@ regroup (inl (inl a)) = inl a
 regroup (inl (inr b)) = inr (inl b)
 regroup (inr c) = inr (inr c)
 
-said_steps : (t : Layout) (old new : World) (H : RequestId → Command → Type 0) (K : RequestId → Content → Type 0) (ss : List Step)
+said_steps : (t : Layout) (old new : World) (H : RequestId → Task → Type 0) (K : RequestId → Content → Type 0) (ss : List Step)
     (es : List Effect) → Makes t old ss es new → Said old H K → Said new (WasAsked H ss es) (WasReplied t K ss es)
 said_steps t old new H K [] es made said = subst (λ w. Said w (WasAsked H [] es) (WasReplied t K [] es)) (sym made.1)
     (said_more old H _ K _ (λ i c h. inl h) (λ i r k. inl k) said)

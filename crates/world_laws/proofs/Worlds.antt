@@ -3,15 +3,11 @@ use Rattle.std.proofs.Common.{◌≡◌, ℕ, List, [], ◌∷◌, ◌++◌, inl
 use Rattle.std.proofs.Common.{subst, append-nil, eq-eqb}
 use Rattle.std.proofs.lemmas.Bool.{or_left}
 use Rattle.std.specs.FinMap.{empty}
-use Rattle.command_bodies.specs.Command.{effect_of}
-use Rattle.command_table.specs.Reading.{reading}
-use Rattle.command_table.specs.declared.command.Command.{Command}
 use Rattle.command_table.specs.declared.refusal.Refusal.{Refusal}
 use Rattle.groups.specs.GroupSet.{has, IsAscending}
 use Rattle.groups.specs.GroupSetLaws.{IsAscending-chosen}
 use Rattle.journal.specs.declared.step.Step.{Step}
 use Rattle.journal.specs.declared.step.Step.TheVariants.{Open, Submit, Deliver, Take, Run, Settle, Collect, Close}
-use Rattle.placement.specs.Groups.{groups_of}
 use Rattle.placement.specs.Layout.{Layout}
 use Rattle.resp.specs.Content.{Content}
 use Rattle.skeen_core.proofs.Ahead.{going_fresh}
@@ -25,6 +21,7 @@ use Rattle.skeen_core.specs.declared.packet.Delivered.{Delivered}
 use Rattle.skeen_core.specs.declared.packet.Packet.{Packet}
 use Rattle.groups.specs.declared.request.RequestId.{RequestId}
 use Rattle.groups.specs.declared.stamp.Stamp.{Stamp}
+use Rattle.tasks.specs.Tasks.{Task, task_reading, task_groups, task_effect}
 use Rattle.world.specs.Steps.{opening, Effect, Opens, next_id, clock_of, final_clock, final_clock_of, floor_of, multicast, answered}
 use Rattle.world.specs.Steps.{submitted_to, submitted, Submits, received, Comes, Takes, RunsLayer, Settles, Collects, Closes, Steps, Makes}
 use Rattle.world.specs.Steps.{Leads}
@@ -81,7 +78,7 @@ good_opening t = record {
     outcomes = λ c o e. absurd (closed_not_answered o e);
   };
   earlier = λ i j q r conns less e d. absurd (None≢Some q e);
-  run = record { commands = λ e there. absurd there; replies = tt; map = refl };
+  run = record { tasks = λ e there. absurd there; replies = tt; map = refl };
 }
 
 -- ---- Open
@@ -154,23 +151,23 @@ good_multicast t old c q idle floor shaped up good =
       run = run_more old.asked _ old.ended old.contents more good.run;
     }
 
-good_submitted_to : (t : Layout) (old : World) (c : ℕ) (command : Command) (gs : List ℕ) → groups_of t command ≡ gs →
-    old.standing c ≡ Idle → WorldGood t old → WorldGood t (submitted_to old c command gs)
-good_submitted_to t old c command [] is idle good = good_answered t old c (effect_of command empty).1 idle good
-good_submitted_to t old c command (g ∷ gs) is idle good =
-    good_multicast t old c (record { floor = floor_of old c; groups = g ∷ gs; command = command }) idle refl
+good_submitted_to : (t : Layout) (old : World) (c : ℕ) (task : Task) (gs : List ℕ) → task_groups t task ≡ gs →
+    old.standing c ≡ Idle → WorldGood t old → WorldGood t (submitted_to old c task gs)
+good_submitted_to t old c task [] is idle good = good_answered t old c (task_effect task empty).1 idle good
+good_submitted_to t old c task (g ∷ gs) is idle good =
+    good_multicast t old c (record { floor = floor_of old c; groups = g ∷ gs; task = task }) idle refl
     (record { groups = is; some = (g, or_left (g == g) (has gs g) (eq-eqb g g refl)) })
     (subst (λ l. IsAscending l) is (IsAscending-chosen _ 0 t.shards)) good
 
-good_submitted : (t : Layout) (old : World) (c : ℕ) (r : Result Command Refusal) → old.standing c ≡ Idle → WorldGood t old →
+good_submitted : (t : Layout) (old : World) (c : ℕ) (r : Result Task Refusal) → old.standing c ≡ Idle → WorldGood t old →
     WorldGood t (submitted t old c r)
-good_submitted t old c (Ok command) idle good = good_submitted_to t old c command (groups_of t command) refl idle good
+good_submitted t old c (Ok task) idle good = good_submitted_to t old c task (task_groups t task) refl idle good
 good_submitted t old c (Err refusal) idle good = good_answered t old c _ idle good
 
 pub keeps_submit : (t : Layout) (old new : World) (c : ℕ) (words : List (List ℕ)) (effect : Effect) → Submits t old c words effect new →
     WorldGood t old → WorldGood t new
 keeps_submit t old new c words effect step good = subst (λ w. WorldGood t w) (sym step.after)
-    (good_submitted t old c (reading words) step.idle good)
+    (good_submitted t old c (task_reading words) step.idle good)
 
 -- ---- Deliver
 
@@ -236,7 +233,7 @@ pub run_is_pending : (t : Layout) (w : World) (es : List Ended) → w.layer ≡ 
 run_is_pending t w es is good e there =
     let connections = subst (λ l. ConnectionsGood w.opened w.standing w.seq w.last w.asked w.ended l) is good.connections in
     let at_end : In e w.ended = subst (λ l. In e l) (sym connections.split) (In-right e connections.settled es there) in
-    let named = good.run.commands e at_end in
+    let named = good.run.tasks e at_end in
     elim (connections.pending e.id named.0 named.1) [
       | inr pending ↦ pending
       | inl done ↦

@@ -1,12 +1,10 @@
 -- How many steps there can be that bring packets, take layers, run and settle them.
 use Rattle.std.specs.Prelude.{ℕ, ◌+◌, ◌*◌, ◌≤◌, List, [], ◌∷◌, length, Result, Ok, Err}
-use Rattle.command_table.specs.Reading.{reading}
-use Rattle.command_table.specs.declared.command.Command.{Command}
 use Rattle.command_table.specs.declared.refusal.Refusal.{Refusal}
 use Rattle.journal.specs.declared.step.Step.{Step}
 use Rattle.journal.specs.declared.step.Step.TheVariants.{Open, Submit, Deliver, Take, Run, Settle, Collect, Close}
-use Rattle.placement.specs.Groups.{groups_of}
 use Rattle.placement.specs.Layout.{Layout}
+use Rattle.tasks.specs.Tasks.{Task, task_reading, task_groups}
 use Rattle.world.specs.Steps.{opening, Leads}
 use Rattle.world.specs.World.{World}
 
@@ -31,12 +29,12 @@ abbrev pub allowed_to : List ℕ → ℕ
 allowed_to [] = 0
 allowed_to (g ∷ gs) = length (g ∷ gs) * length (g ∷ gs) + 3
 
-abbrev pub allowed_by : Layout → Result Command Refusal → ℕ
-allowed_by t (Ok command) = allowed_to (groups_of t command)
+abbrev pub allowed_by : Layout → Result Task Refusal → ℕ
+allowed_by t (Ok task) = allowed_to (task_groups t task)
 allowed_by t (Err refusal) = 0
 
 abbrev pub allowance : Layout → Step → ℕ
-allowance t (Submit conn words) = allowed_by t (reading words)
+allowance t (Submit conn words) = allowed_by t (task_reading words)
 allowance t step = 0
 
 -- what all submitted requests allow

@@ -1,20 +1,17 @@
 -- What connections are told: of what they submitted, and what they collect.
 use Rattle.std.specs.FinMap.{empty}
 use Rattle.std.specs.Prelude.{◌≡◌, ℕ, List, [], ◌∷◌, ◌⊎◌, Option, Some, None, Result, Ok, Err}
-use Rattle.command_bodies.specs.Command.{effect_of}
-use Rattle.command_table.specs.Reading.{reading}
 use Rattle.command_table.specs.Refusal.{refusal_text}
-use Rattle.command_table.specs.declared.command.Command.{Command}
 use Rattle.command_table.specs.declared.refusal.Refusal.{Refusal}
 use Rattle.journal.specs.declared.step.Step.{Step}
 use Rattle.journal.specs.declared.step.Step.TheVariants.{Submit, Collect}
-use Rattle.placement.specs.Groups.{groups_of}
 use Rattle.placement.specs.Layout.{Layout}
 use Rattle.resp.specs.Content.{Content, ErrorLine}
 use Rattle.skeen_core.specs.Group.{EachOnce}
 use Rattle.groups.specs.Order.{In}
 use Rattle.groups.specs.declared.request.ConnId.{ConnId}
 use Rattle.groups.specs.declared.request.RequestId.{RequestId}
+use Rattle.tasks.specs.Tasks.{Task, task_reading, task_groups, task_effect}
 use Rattle.world.specs.Steps.{opening, Effect, Submitted, Collected, outcome_of, Steps, Makes}
 use Rattle.world.specs.World.{World, Request, Outcome, Ended}
 
@@ -31,21 +28,21 @@ WasSubmitted test i [] effects = ⊥
 WasSubmitted test i (s ∷ ss) [] = ⊥
 WasSubmitted test i (s ∷ ss) (e ∷ es) = Submits test i s e ⊎ WasSubmitted test i ss es
 
--- the reply to words that are asked of no group: their error, or what a command says that looks at no key
-abbrev pub reply_at_none : Command → List ℕ → Option Content
-reply_at_none command [] = Some (effect_of command empty).1
-reply_at_none command (g ∷ gs) = None
+-- the reply to words that are asked of no group: their error, or what a task says that looks at no key
+abbrev pub reply_at_none : Task → List ℕ → Option Content
+reply_at_none task [] = Some (task_effect task empty).1
+reply_at_none task (g ∷ gs) = None
 
-abbrev pub reply_at_once : Layout → Result Command Refusal → Option Content
+abbrev pub reply_at_once : Layout → Result Task Refusal → Option Content
 reply_at_once t (Err refusal) = Some (ErrorLine (refusal_text refusal))
-reply_at_once t (Ok command) = reply_at_none command (groups_of t command)
+reply_at_once t (Ok task) = reply_at_none task (task_groups t task)
 
--- what is asked of groups is the command that a connection's words say
+-- what is asked of groups is the task that a connection's words say
 abbrev pub AskedAsSubmitted : Type 0
 AskedAsSubmitted = (t : Layout) (steps : List Step) (effects : List Effect) (w : World) →
     Makes t opening steps effects w →
     (i : RequestId) (q : Request) → w.asked i ≡ Some q →
-    WasSubmitted (λ words. reading words ≡ Ok q.command) i steps effects
+    WasSubmitted (λ words. task_reading words ≡ Ok q.task) i steps effects
 
 -- ---- what is collected
 
@@ -55,7 +52,7 @@ abbrev pub IsItsOwn : Layout → List Step → List Effect → World → ConnId 
 IsItsOwn t steps effects w conn o =
     (o.id ≡ record { conn = conn; seq = w.seq conn.0 })
     × (((e : Ended) × In e w.ended × (o ≡ outcome_of e))
-    ⊎ ((o.stamp ≡ None) × WasSubmitted (λ words. reply_at_once t (reading words) ≡ Some o.reply) o.id steps effects))
+    ⊎ ((o.stamp ≡ None) × WasSubmitted (λ words. reply_at_once t (task_reading words) ≡ Some o.reply) o.id steps effects))
 
 -- that is what a connection collects
 abbrev pub CollectsItsOwn : Type 0

@@ -4,13 +4,13 @@ use Rattle.std.specs.Prelude.{◌≡◌, ℕ, ◌≤◌, true, List, ◌∷◌, 
 use Rattle.delivery.specs.Queues.{MayAppend, IsSound}
 use Rattle.groups.specs.GroupSet.{has}
 use Rattle.journal.specs.declared.step.Step.{Step}
-use Rattle.placement.specs.Groups.{groups_of}
 use Rattle.placement.specs.Layout.{Layout}
 use Rattle.skeen_core.specs.Group.{MayCome}
 use Rattle.groups.specs.Order.{In}
 use Rattle.groups.specs.Stamp.{stamp_lt}
 use Rattle.skeen_core.specs.declared.packet.Delivered.{Delivered}
 use Rattle.skeen_core.specs.declared.packet.Packet.{Packet}
+use Rattle.tasks.specs.Tasks.{task_groups}
 use Rattle.world.specs.Steps.{at, opening, Effect, floor_of, Comes, Steps, Leads}
 use Rattle.world.specs.World.{World, Request, Standing, Closed, Idle, Waiting, Answered, Ended, Taken, HasRun}
 use Rattle.world_laws.specs.Good.{Pending, Bounded}
@@ -40,11 +40,11 @@ DeliveriesMayAppend = (t : Layout) (steps : List Step) (old new : World) (k : �
 
 -- ---- the shards
 
--- a layer's requests were submitted, to the groups of their commands, and stand at their final stamps
+-- a layer's requests were submitted, to the groups of their tasks, and stand at their final stamps
 abbrev pub LayersAreSubmitted : Type 0
 LayersAreSubmitted = OfEveryWorld (λ t w. (layer : List Delivered) → w.layer ≡ Taken layer → (d : Delivered) →
     In d layer →
-    (q : Request) × HasFinal w d.id q d.stamp × (d.groups ≡ groups_of t q.command))
+    (q : Request) × HasFinal w d.id q d.stamp × (d.groups ≡ task_groups t q.task))
 
 -- and their stamps are above those of all that has ended at one of their groups
 abbrev pub LayersAreAbove : Type 0

@@ -4,10 +4,8 @@ use Rattle.std.specs.FinMap.{get, empty}
 use Rattle.std.specs.Option.{is_some}
 use Rattle.std.specs.Prelude.{◌≡◌, ℕ, ◌+◌, ◌<◌, ◌≤◌, Bool, true, false, cond, ◌&&◌, ◌==◌, List, [], ◌∷◌, ◌++◌, ◌⊎◌, Option, Some, None}
 use Rattle.std.specs.Prelude.{IsSome}
-use Rattle.command_bodies.specs.Command.{effect_of}
 use Rattle.groups.specs.GroupSet.{has}
 use Rattle.keyspace.specs.Map.{Map}
-use Rattle.placement.specs.Groups.{groups_of}
 use Rattle.placement.specs.Layout.{Layout}
 use Rattle.skeen_core.proofs.Ahead.{Going}
 use Rattle.skeen_core.specs.Group.{GroupState, heard}
@@ -20,6 +18,7 @@ use Rattle.skeen_core.specs.declared.packet.Delivered.{Delivered}
 use Rattle.skeen_core.specs.declared.packet.Packet.{Packet}
 use Rattle.groups.specs.declared.request.RequestId.{RequestId}
 use Rattle.groups.specs.declared.stamp.Stamp.{Stamp}
+use Rattle.tasks.specs.Tasks.{task_groups, task_effect}
 use Rattle.world.specs.Steps.{map_after, after_all, outcome_of}
 use Rattle.world.specs.World.{World, Request, Outcome, Standing, Closed, Waiting, Answered, Ended, Layer, NoneTaken, Taken, HasRun}
 use Rattle.world.specs.World.{Proposals}
@@ -117,9 +116,9 @@ pub record SkeenGood (asked : Asked) (proposed : Proposals) (packets : List Pack
 
 -- ---- submitted requests
 
--- the request addresses the groups of its command, and some group
+-- the request addresses the groups of its task, and some group
 pub record ShapedFor (t : Layout) (q : Request) : Type 0 where
-  pub groups : groups_of t q.command ≡ q.groups
+  pub groups : task_groups t q.task ≡ q.groups
   pub some : (g : ℕ) × (has q.groups g ≡ true)
 
 -- the request's final stamp is known, and its clock is at most n
@@ -206,17 +205,17 @@ pub record ConnectionsGood (opened : ℕ) (standing : ℕ → Standing) (seq : �
 
 -- ---- what was run
 
--- it starved, or its reply is what its command answers on this map
+-- it starved, or its reply is what its task answers on this map
 abbrev pub RepliesOn : Map → Ended → Type 0
-RepliesOn m e = (e.reply ≡ None) ⊎ (e.reply ≡ Some (effect_of e.command m).1)
+RepliesOn m e = (e.reply ≡ None) ⊎ (e.reply ≡ Some (task_effect e.task m).1)
 
--- the replies are those of the commands run one after another from this map
+-- the replies are those of the tasks run one after another from this map
 abbrev pub RepliesInTurn : Map → List Ended → Type 0
 RepliesInTurn m [] = Unit {0}
-RepliesInTurn m (e ∷ es) = RepliesOn m e × RepliesInTurn (map_after e.reply e.command m) es
+RepliesInTurn m (e ∷ es) = RepliesOn m e × RepliesInTurn (map_after e.reply e.task m) es
 
 pub record RunGood (asked : Asked) (ended : List Ended) (contents : Map) : Type 0 where
-  pub commands : (e : Ended) → In e ended → (q : Request) × (asked e.id ≡ Some q) × (e.command ≡ q.command)
+  pub tasks : (e : Ended) → In e ended → (q : Request) × (asked e.id ≡ Some q) × (e.task ≡ q.task)
   pub replies : RepliesInTurn empty ended
   pub map : contents ≡ after_all empty ended
 

@@ -14,7 +14,7 @@ abbrev pub with_row : Ended → Option Content → List Row → List Row
 with_row e None rows = rows
 with_row e (Some reply) rows =
     record {
-      entry = record { id = e.id; stamp = e.stamp; groups = e.groups; command = e.command };
+      entry = record { id = e.id; stamp = e.stamp; groups = e.groups; task = e.task };
       reply = reply;
     } ∷ rows
 

@@ -5,7 +5,6 @@ use Rattle.delivery.specs.Ready.{IsReady, IsLinedUp}
 use Rattle.groups.specs.GroupSet.{has}
 use Rattle.journal.specs.declared.step.Step.{Step}
 use Rattle.journal.specs.declared.step.Step.TheVariants.{Deliver}
-use Rattle.placement.specs.Groups.{groups_of}
 use Rattle.placement.specs.Layout.{Layout}
 use Rattle.skeen_core.specs.Group.{heard, Ascending, EachOnce}
 use Rattle.groups.specs.Order.{In}
@@ -14,6 +13,7 @@ use Rattle.skeen_core.specs.declared.packet.Delivered.{Delivered}
 use Rattle.skeen_core.specs.declared.packet.Packet.{Packet}
 use Rattle.groups.specs.declared.request.RequestId.{RequestId}
 use Rattle.groups.specs.declared.stamp.Stamp.{Stamp}
+use Rattle.tasks.specs.Tasks.{task_groups}
 use Rattle.world.specs.Steps.{opening, Effect, Steps, Leads}
 use Rattle.world.specs.World.{World, Request, Ended}
 use Rattle.world_laws.specs.Good.{Rising, log_of}
@@ -101,12 +101,12 @@ DeliveriesAscend = OfEveryWorld (λ t w. (g : ℕ) → Ascending (log_of w g))
 
 -- ---- only the groups of a request do something for it
 
--- a request's groups are those of its command
-abbrev pub GroupsAreOfCommands : Layout → World → Type 0
-GroupsAreOfCommands t w = (i : RequestId) (q : Request) → w.asked i ≡ Some q → q.groups ≡ groups_of t q.command
+-- a request's groups are those of its task
+abbrev pub GroupsAreOfTasks : Layout → World → Type 0
+GroupsAreOfTasks t w = (i : RequestId) (q : Request) → w.asked i ≡ Some q → q.groups ≡ task_groups t q.task
 
 abbrev pub AskedOfItsGroups : Type 0
-AskedOfItsGroups = OfEveryWorld GroupsAreOfCommands
+AskedOfItsGroups = OfEveryWorld GroupsAreOfTasks
 
 -- a packet goes to a group of its request
 abbrev pub PacketsAreAddressed : Layout → World → Type 0
@@ -192,7 +192,7 @@ EndsOnce = OfEveryWorld EndedOnce
 -- what ends was submitted so, and ends with its final stamp
 abbrev pub EndedAsSubmitted : Layout → World → Type 0
 EndedAsSubmitted t w = (e : Ended) → In e w.ended →
-    (q : Request) × HasFinal w e.id q e.stamp × (e.command ≡ q.command) × (e.groups ≡ q.groups)
+    (q : Request) × HasFinal w e.id q e.stamp × (e.task ≡ q.task) × (e.groups ≡ q.groups)
 
 abbrev pub EndsAsSubmitted : Type 0
 EndsAsSubmitted = OfEveryWorld EndedAsSubmitted

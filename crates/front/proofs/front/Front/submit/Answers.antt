@@ -1,5 +1,4 @@
 use Rattle.std.proofs.Common.{length, sym, ap, subst, arith}
-use Rattle.command_table.specs.Reading.{reading}
 use Rattle.front.proofs.Messages.{begins_roomless, groups_few, submit_makes}
 use Rattle.front.proofs.Refusals.{few_asked, submit_refused}
 use Rattle.front.proofs.Showing.{stepped, once_made}
@@ -8,6 +7,7 @@ use Rattle.front.specs.Fronts.{roomless}
 use Rattle.front.specs.Making.{Makes}
 use Rattle.front.specs.Refusing.{IsFault, MayStep}
 use Rattle.journal.specs.declared.step.Step.TheVariants.{Submit}
+use Rattle.tasks.specs.Tasks.{task_reading}
 use Rattle.world.specs.Steps.{Submitted}
 use Rattle.front.proofs.front.Front.submit.Goals as goal
 
@@ -28,7 +28,7 @@ submit-requires c = few_asked (seen c.self.inside) c.self.invariant (subst MaySt
 
 pub start-requires : goal.start-requires
 start-requires c =
-    let few = groups_few c.self.inside.table (reading c.args.words) in
+    let few = groups_few c.self.inside.table (task_reading c.args.words) in
     let groups = ap length c.in-Ok-submit.ensures.submitted.groups in
     let room = c.in-Ok.ensures.room in
     let from = c.from-groups.ensures in

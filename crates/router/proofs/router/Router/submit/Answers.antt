@@ -1,7 +1,7 @@
 use Rattle.std.proofs.Common.{◌≡◌, ◌+◌, suc, arith, subst, refl}
-use Rattle.command_table.specs.Reading.{reading}
 use Rattle.router.specs.Submitting.{StandsBy, next_id}
 use Rattle.groups.specs.declared.request.RequestId.{RequestId}
+use Rattle.tasks.specs.Tasks.{task_reading}
 use Rattle.router.proofs.router.Router.submit.Goals as goal
 
 pub returns-clause-submitted : goal.returns-clause-submitted
@@ -22,7 +22,7 @@ returns-clause-submitted c =
       still = refl;
       seq = next;
       same_floor = known.floor;
-      standing = subst (λ i. StandsBy i c.args.words (reading c.args.words) c.in_ok-standing.standing) id
+      standing = subst (λ i. StandsBy i c.args.words (task_reading c.args.words) c.in_ok-standing.standing) id
           c.in_ok-standing.ensures.standing;
       id = id;
       floor = known.floor;

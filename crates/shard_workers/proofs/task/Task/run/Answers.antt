@@ -1,6 +1,6 @@
 use Rattle.std.proofs.Common.{refl, sym, ap, ◌∙◌, subst}
 use Rattle.std.proofs.lemmas.Bool.{both_ways}
-use Rattle.command_bodies.specs.Answer.{AnswerTakesMemory}
+use Rattle.tasks.specs.Tasks.{task_takes_memory}
 use Rattle.shard_workers.proofs.Turns.{map_ran, starves}
 use Rattle.shard_workers.specs.Tasks.{outcome, MapRan}
 use Rattle.shard_workers.proofs.task.Task.run.Goals as goal
@@ -20,6 +20,6 @@ returns-clause-ran g c =
           (subst (λ o. MapRan run before o after) is
           (map_ran run before after c.answer-outcome.result c.answer-outcome.ensures.done));
       skipped = λ e. absurd (both_ways _ c.if-skipped.false e);
-      starved = λ _ none. subst (λ x. AnswerTakesMemory x before) asked
+      starved = λ _ none. subst (λ x. task_takes_memory x before) asked
           (starves c.answer-outcome.result c.answer-outcome.ensures.starves (is ∙ none));
     }

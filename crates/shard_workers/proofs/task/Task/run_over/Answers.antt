@@ -1,9 +1,9 @@
 use Rattle.std.proofs.Common.{rules, ◌≡◌, ℕ, zero, suc, ◌<◌, List, [], ◌∷◌, length, get_or, arith, refl, sym, ap, ◌∙◌, subst}
-use Rattle.command_table.specs.Command.{keys_of}
 use Rattle.groups.specs.GroupSet.{IsAscending, has}
 use Rattle.placement.proofs.Addressed.{has-groups_of-key}
 use Rattle.placement.specs.Layout.{shard_of}
-use Rattle.shard_maps.proofs.Spans.{IsAscending-groups_of}
+use Rattle.tasks.specs.Tasks.{task_keys}
+use Rattle.tasks.proofs.Groups.{IsAscending-task_groups}
 use Rattle.shard_workers.proofs.Turns.{one_over}
 use Rattle.shard_workers.proofs.task.Task.run_over.Goals as goal
 
@@ -16,16 +16,16 @@ pub run_on_all-requires-clause-shards : goal.run_on_all-requires-clause-shards
 run_on_all-requires-clause-shards g c = record {
   numbers = refl;
   ascending = subst IsAscending (sym (c.requires.numbers ∙ c.requires.groups))
-      (IsAscending-groups_of c.args.table.now c.args.self.job.asked.command);
+      (IsAscending-task_groups c.args.table.now c.args.self.job.asked.command);
   own = c.requires.own;
 }
 
 pub run_on_all-requires-clause-keys : goal.run_on_all-requires-clause-keys
 run_on_all-requires-clause-keys g c k d below =
     let command = c.args.self.job.asked.command in
-    let key = get_or (keys_of command) k d in
+    let key = get_or (task_keys command) k d in
     ap (λ gs. has gs (shard_of c.args.table.now key)) (c.requires.numbers ∙ c.requires.groups)
-    ∙ has-groups_of-key c.args.table.now command key c.requires.is_table (k, below, any_default (keys_of command) k _ d below)
+    ∙ has-groups_of-key c.args.table.now command key c.requires.is_table (k, below, any_default (task_keys command) k _ d below)
 
 pub returns : goal.returns
 returns g c = record {

@@ -6,7 +6,7 @@ use Rattle.system.specs.Reads.{table_of, maps_of}
 use Rattle.system.specs.System.{SystemView}
 use Rattle.system.specs.declared.system.System.TheInside.{Inside}
 use Rattle.world.specs.World.{World}
-use Rattle.world_laws.specs.Order.{OfEveryWorld, FinalsAgree, FinalsDiffer, ConnectionsRise, GroupsAreOfCommands}
+use Rattle.world_laws.specs.Order.{OfEveryWorld, FinalsAgree, FinalsDiffer, ConnectionsRise, GroupsAreOfTasks}
 use Rattle.world_laws.specs.Order.{PacketsAreAddressed, LogsAreAddressed, ReadyInWords, LinedUpInWords, EndedOnce, EndedAsSubmitted}
 use Rattle.world_laws.specs.Order.{TouchingInStampOrder}
 use Rattle.system.proofs.system.System.order.Goals as goal
@@ -31,7 +31,7 @@ returns c =
       touching = subst (OfItsWorlds TouchingInStampOrder) c.self.view_is (of_its TouchingInStampOrder s law.touching_end_in_stamp_order);
       ended_once = subst (OfItsWorlds EndedOnce) c.self.view_is (of_its EndedOnce s law.ends_once);
       ended_as_submitted = subst (OfItsWorlds EndedAsSubmitted) c.self.view_is (of_its EndedAsSubmitted s law.ends_as_submitted);
-      groups = subst (OfItsWorlds GroupsAreOfCommands) c.self.view_is (of_its GroupsAreOfCommands s law.asked_of_its_groups);
+      groups = subst (OfItsWorlds GroupsAreOfTasks) c.self.view_is (of_its GroupsAreOfTasks s law.asked_of_its_groups);
       packets = subst (OfItsWorlds PacketsAreAddressed) c.self.view_is (of_its PacketsAreAddressed s law.packets_go_to_addressed);
       delivered = subst (OfItsWorlds LogsAreAddressed) c.self.view_is (of_its LogsAreAddressed s law.deliveries_are_addressed);
       ready = subst (OfItsWorlds ReadyInWords) c.self.view_is (of_its ReadyInWords s law.ready_is_first);

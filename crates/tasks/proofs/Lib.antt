@@ -1,0 +1,4 @@
+pub mod Groups
+pub mod Within
+pub mod Apart
+pub mod Keyless
