@@ -8,7 +8,7 @@ rightly or by the error line that there is no memory, or no thread for a connect
 rightly, and the server's processor is idle.
 
 Then, with memory enough, a string of 64 MB is set and removed: of what the server took for it only the words stay that the
-trace and the row of its request have. With `long-string` this is all that is done, in a second or two.
+trace and the two rows of its request have. With `long-string` this is all that is done, in a second or two.
 
 The last line is `N passed, M failed`, and the status is 1 where one failed.
 """
@@ -193,7 +193,7 @@ def gives_back(program, table):
             client.ask(b"DEL", b"large")
         after, most = resident(server.process.pid)
         print(f"  {before / MIB:.0f} MiB before, {most / MIB:.0f} at most, {after / MIB:.0f} after")
-        return ["memory stays"] if after > before + size * 5 // 2 or after > most - size else []
+        return ["memory stays"] if after > before + size * 7 // 2 or after > most - size else []
 
 
 def short_of_memory(program, table):

@@ -119,6 +119,27 @@ module _ (δ : Ty) (ν : Sym) (L R : RattleType) (g : Ghosts L.Denot) where
       param_send 1 (arg δ no (declared.row T)) (arg_send δ no (declared.row T)
       (recorded_send (Struct (declared.shape T)) T.D T.to T.to_one (struct_send (declared.shape T) sends)))
 
+  -- what the thread that carries captures
+  abbrev pub carrier : (ℓ₁ : Lifetime) (κ₁ : Lft) (ℓ₂ : Lifetime) (κ₂ : Lft) (ℓ₃ : Lifetime) (κ₃ : Lft) → List RattleType
+  carrier ℓ₁ κ₁ ℓ₂ κ₂ ℓ₃ κ₃ =
+      ShrRef ℓ₁ κ₁ (Shared.the_row (param 0 L) g) ∷ Turns.the_row ∷ (u64-field).row ∷ ShrRef ℓ₂ κ₂ FirstFault.the_row
+      ∷ ShrRef ℓ₃ κ₃ (param 1 R) ∷ []
+
+  pub carrier_send : (ℓ₁ : Lifetime) (κ₁ : Lft) (ℓ₂ : Lifetime) (κ₂ : Lft) (ℓ₃ : Lifetime) (κ₃ : Lft) → IsSync R
+      → IsSend Front.the_row → IsSend Back.the_row
+      → IsSend (param 1 (arg δ no (TupleAt ν (carrier ℓ₁ κ₁ ℓ₂ κ₂ ℓ₃ κ₃))))
+  carrier_send ℓ₁ κ₁ ℓ₂ κ₂ ℓ₃ κ₃ r f b =
+      let T = type_at ν (carrier ℓ₁ κ₁ ℓ₂ κ₂ ℓ₃ κ₃) in
+      let sends : AllSend (declared.fields T) = (
+        shr_send ℓ₁ κ₁ (Shared.the_row (param 0 L) g) (shared_syncs (param 0 L) g f b),
+        (
+          turns_send,
+          (u64_send, (shr_send ℓ₂ κ₂ FirstFault.the_row faults_sync, (shr_send ℓ₃ κ₃ (param 1 R) (param_sync 1 R r), tt))),
+        ),
+      ) in
+      param_send 1 (arg δ no (declared.row T)) (arg_send δ no (declared.row T)
+      (recorded_send (Struct (declared.shape T)) T.D T.to T.to_one (struct_send (declared.shape T) sends)))
+
   -- what the thread that takes connections captures
   abbrev pub taking : (ℓ₁ : Lifetime) (κ₁ : Lft) (ℓ₂ : Lifetime) (κ₂ : Lft) (ℓ₃ : Lifetime) (κ₃ : Lft) (ℓ₄ : Lifetime) (κ₄ : Lft)
       → List RattleType
