@@ -102,7 +102,8 @@ module _ (δ : Ty) (ν : Sym) (L R : RattleType) (g : Ghosts L.Denot) where
       ShrRef ℓ₁ κ₁ (Shared.the_row (param 0 L) g) ∷ Turns.the_row ∷ (u64-field).row ∷ ShrRef ℓ₂ κ₂ FirstFault.the_row
       ∷ ShrRef ℓ₃ κ₃ (param 1 R) ∷ NonZeroUsize.the_row ∷ []
 
-  pub driver_send : (ℓ₁ : Lifetime) (κ₁ : Lft) (ℓ₂ : Lifetime) (κ₂ : Lft) (ℓ₃ : Lifetime) (κ₃ : Lft) → IsSync R → IsSend Front.the_row → IsSend Back.the_row
+  pub driver_send : (ℓ₁ : Lifetime) (κ₁ : Lft) (ℓ₂ : Lifetime) (κ₂ : Lft) (ℓ₃ : Lifetime) (κ₃ : Lft) → IsSync R
+      → IsSend Front.the_row → IsSend Back.the_row
       → IsSend (param 1 (arg δ no (TupleAt ν (driver ℓ₁ κ₁ ℓ₂ κ₂ ℓ₃ κ₃))))
   driver_send ℓ₁ κ₁ ℓ₂ κ₂ ℓ₃ κ₃ r f b =
       let T = type_at ν (driver ℓ₁ κ₁ ℓ₂ κ₂ ℓ₃ κ₃) in
