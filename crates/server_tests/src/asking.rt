@@ -64,15 +64,14 @@ pub(crate) fn closes<F: Drop>(closed: Result<Closing, F>, numbers: Numbers) -> R
 }
 
 /// A cluster is not closed, for this fault.
-pub(crate) fn stays<F: PartialEq + Drop>(
+pub(crate) fn stays<F: Copy + PartialEq + Drop>(
     closed: Result<Closing, F>,
     wanted: F,
 ) -> Result<(), Fail> {
-    let stays = matches!(closed, Err(fault) if fault == wanted);
-    holds(
-        "the cluster isn't closed, for the fault that is wanted",
-        stays,
-    )
+    match closed {
+        Ok(_closing) => Err("the cluster is closed".into()),
+        Err(fault) => holds("the fault that is wanted", fault == wanted),
+    }
 }
 
 /// Lets a value go. What that takes for each of its kinds is seen here alone.

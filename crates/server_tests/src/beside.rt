@@ -23,25 +23,27 @@ use test_support::holds;
 /// For how many turns of one millisecond who waits here does so at most.
 const TURNS: u32 = 10_000;
 
+/// How often the gate looks at most, some ten seconds long.
+const LOOKS: u32 = 20_000_000;
+
 /// Holds the first request until it is let go. It takes no lock.
 #[derive(Drop)]
-struct Held<'r, R> {
-    clock: &'r R,
+struct Held {
     entered: AtomicBool,
     is_let_go: AtomicBool,
     missed: AtomicBool,
 }
 
-impl<'r, R: Clock> Gate for Held<'r, R> {
+impl Gate for Held {
     fn enter(&self, _id: RequestId) {
         if self.entered.swap(true, Ordering::SeqCst) {
             return;
         }
-        for _ in 0..TURNS {
+        for _ in 0..LOOKS {
             if self.is_let_go.load(Ordering::SeqCst) {
                 return;
             }
-            thread::sleep(self.clock, Duration::from_millis(1));
+            thread::yield_now();
         }
         self.missed.store(true, Ordering::SeqCst);
     }
@@ -49,11 +51,10 @@ impl<'r, R: Clock> Gate for Held<'r, R> {
     fn leave(&self, _id: RequestId) {}
 }
 
-impl<'r, R: Clock> Held<'r, R> {
+impl Held {
     /// Nothing was held yet.
-    fn new(clock: &'r R) -> Self {
+    fn new() -> Self {
         Held {
-            clock,
             entered: AtomicBool::new(false),
             is_let_go: AtomicBool::new(false),
             missed: AtomicBool::new(false),
@@ -61,45 +62,49 @@ impl<'r, R: Clock> Held<'r, R> {
     }
 
     /// Waits until a request is held.
-    fn wait(&self) {
+    fn wait<R: Clock>(&self, rt: &R) {
         for _ in 0..TURNS {
             if self.entered.load(Ordering::SeqCst) {
                 return;
             }
-            thread::sleep(self.clock, Duration::from_millis(1));
+            thread::sleep(rt, Duration::from_millis(1));
         }
     }
 }
 
-/// What the trace is to show while the layer is held.
-type Shows = fn(&str) -> bool;
-
-/// A second request was submitted behind the Take of the first.
-fn shows_a_submit(trace: &str) -> bool {
-    is_behind_take(trace, "\nsubmit 2 ")
+/// What the trace is to show behind the Take of the layer that is held.
+#[derive(Clone, Copy)]
+enum Awaited {
+    /// That a second request was submitted.
+    Submit,
+    /// That a packet came to its group.
+    Packet,
 }
 
-/// A packet came to its group behind the Take of the first.
-fn shows_a_packet(trace: &str) -> bool {
-    is_behind_take(trace, "\ndeliver ")
-}
-
-/// Whether this stands behind the first Take.
-fn is_behind_take(trace: &str, wanted: &str) -> bool {
-    match trace.split_once("\ntake") {
-        Some((_, behind)) => behind.contains(wanted),
-        None => false,
+/// Whether the trace shows it.
+fn shows(trace: &str, awaited: Awaited) -> bool {
+    let Some((_, behind)) = trace.split_once("\ntake") else {
+        return false;
+    };
+    match awaited {
+        Awaited::Submit => behind.contains("\nsubmit 2 "),
+        Awaited::Packet => behind.contains("\ndeliver "),
     }
 }
 
 /// Whether the trace shows it by now.
-fn is_shown<L: Ledger, R: Wait>(rt: &R, alloc: Global, shared: &Shared<L>, shows: Shows) -> bool {
+fn is_shown<L: Ledger, R: Wait>(
+    rt: &R,
+    alloc: Global,
+    shared: &Shared<L>,
+    awaited: Awaited,
+) -> bool {
     let mut trace = Vec::new(alloc);
     if shared.write_trace(rt, &mut trace).is_err() {
         return false;
     }
     match String::from_utf8(trace) {
-        Ok(trace) => shows(trace.as_str()),
+        Ok(trace) => shows(trace.as_str(), awaited),
         Err(_) => false,
     }
 }
@@ -109,12 +114,12 @@ fn let_go<L: Ledger, R: Wait + Clock>(
     rt: &R,
     alloc: Global,
     shared: &Shared<L>,
-    gate: &Held<'_, R>,
-    shows: Shows,
+    gate: &Held,
+    awaited: Awaited,
 ) {
-    gate.wait();
+    gate.wait(rt);
     for _ in 0..TURNS {
-        if is_shown(rt, alloc, shared, shows) {
+        if is_shown(rt, alloc, shared, awaited) {
             gate.is_let_go.store(true, Ordering::SeqCst);
             return;
         }
@@ -141,35 +146,47 @@ fn ask_behind<L: Ledger, R: Wait + Clock>(
     rt: &R,
     alloc: Global,
     shared: &Shared<L>,
-    gate: &Held<'_, R>,
+    gate: &Held,
     words: &str,
 ) -> bool {
-    gate.wait();
+    gate.wait(rt);
     ask(rt, alloc, shared, words)
 }
 
-/// One asks, and another while the first's layer is held; it is let go once the trace shows what is wanted. Then the cluster
-/// is shut. Says whether both were answered.
+/// One asks once a layer is held, which is let go once the trace shows what is wanted. Says whether it was answered.
+fn ask_and_let_go<L: Ledger + Send + Sync, R: Threads + Wait + Clock + Sync>(
+    rt: &R,
+    alloc: Global,
+    shared: &Shared<L>,
+    gate: &Held,
+    awaited: Awaited,
+) -> bool {
+    shared_syncs::<L>();
+    syncs::<R>();
+    syncs::<Held>();
+    let (is_answered, ()) = join(
+        rt,
+        move || ask_behind(rt, alloc, shared, gate, "SET c 1"),
+        move || let_go(rt, alloc, shared, gate, awaited),
+    );
+    is_answered
+}
+
+/// One asks, and another while the first's layer is held; then the cluster is shut. Says whether both were answered.
 fn ask_and_shut<L: Ledger + Send + Sync, R: Threads + Wait + Clock + Sync>(
     rt: &R,
     alloc: Global,
     shared: &Shared<L>,
-    gate: &Held<'_, R>,
-    shows: Shows,
+    gate: &Held,
+    awaited: Awaited,
 ) -> bool {
     shared_syncs::<L>();
     syncs::<R>();
-    syncs::<Held<'_, R>>();
-    let (first, (second, _)) = join(
+    syncs::<Held>();
+    let (first, second) = join(
         rt,
         move || ask(rt, alloc, shared, "SET a 1"),
-        move || {
-            join(
-                rt,
-                move || ask_behind(rt, alloc, shared, gate, "SET c 1"),
-                move || let_go(rt, alloc, shared, gate, shows),
-            )
-        },
+        move || ask_and_let_go(rt, alloc, shared, gate, awaited),
     );
     shared.shut(rt);
     first && second
@@ -189,15 +206,15 @@ fn ask_beside_carrier<L: Ledger + Send + Sync, R: Threads + Wait + Clock + Sync>
     rt: &R,
     alloc: Global,
     shared: &Shared<L>,
-    gate: &Held<'_, R>,
+    gate: &Held,
 ) -> bool {
     shared_syncs::<L>();
     syncs::<R>();
-    syncs::<Held<'_, R>>();
+    syncs::<Held>();
     let (carried, are_answered) = join(
         rt,
         move || shared.carry(rt, &First),
-        move || ask_and_shut(rt, alloc, shared, gate, shows_a_packet),
+        move || ask_and_shut(rt, alloc, shared, gate, Awaited::Packet),
     );
     carried.is_ok() && are_answered
 }
@@ -208,12 +225,12 @@ fn ask_beside<L: Ledger + Send + Sync, R: Threads + Wait + Clock + Sync>(
     rt: &R,
     alloc: Global,
     shared: &Shared<L>,
-    gate: &Held<'_, R>,
+    gate: &Held,
     carries: bool,
 ) -> Result<(), Fail> {
     shared_syncs::<L>();
     syncs::<R>();
-    syncs::<Held<'_, R>>();
+    syncs::<Held>();
     let (driven, are_answered) = join(
         rt,
         move || drive(rt, shared, gate),
@@ -221,7 +238,7 @@ fn ask_beside<L: Ledger + Send + Sync, R: Threads + Wait + Clock + Sync>(
             if carries {
                 ask_beside_carrier(rt, alloc, shared, gate)
             } else {
-                ask_and_shut(rt, alloc, shared, gate, shows_a_submit)
+                ask_and_shut(rt, alloc, shared, gate, Awaited::Submit)
             }
         },
     );
@@ -239,7 +256,7 @@ fn holds_one<L: Ledger + Send + Sync, R: Threads + Wait + Clock + Sync>(
     requires { (blank.name ≡ L.name) × (blank.parts ≡ L.parts) × (1000 < blank.parts) }
 {
     let shared: Shared<L> = shared(alloc, MOST, blank)?;
-    let gate = Held::new(rt);
+    let gate = Held::new();
     ask_beside(rt, alloc, &shared, &gate, carries)?;
     holds("the layer was held", gate.entered.load(Ordering::SeqCst))?;
     holds("it was let go", !gate.missed.load(Ordering::SeqCst))?;
