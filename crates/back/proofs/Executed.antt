@@ -20,7 +20,7 @@ use Rattle.shard_exec.specs.Layers as layers
 use Rattle.shard_exec.specs.Layers.{AddressTheirGroups, IsOf, outcomes_of_ended}
 use Rattle.shard_exec.specs.declared.done.Ended.{Ended}
 use Rattle.shard_maps.specs.Layer.{AnsweredInTurn}
-use Rattle.shard_workers.specs.Tasks.{outcome}
+use Rattle.shard_workers.specs.PlacedJobs.{outcome}
 use Rattle.tasks.specs.Tasks.{task_reading, task_groups, task_effect, tasks_in_turn}
 
 abbrev pub entry_of : Job → Entry

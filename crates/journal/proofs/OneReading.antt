@@ -115,7 +115,8 @@ one-fault text line line' a b =
     ]
 
 whole-bad : (text : List ℕ) (line version max : ℕ) (steps : List Step) (bad : IsBad text line) (lines more : List (List ℕ))
-    → lines ≡ bad.before ++ more → bad.rest ≡ flat_map ended more ++ [] → AllByRecursion HasNoLf lines → AreLines lines version max steps → ⊥
+    → lines ≡ bad.before ++ more → bad.rest ≡ flat_map ended more ++ [] → AllByRecursion HasNoLf lines
+    → AreLines lines version max steps → ⊥
 whole-bad text line version max steps bad lines [] e f no_lf are = bad.not_whole version max steps f
     (subst (λ ls. AreLines ls version max steps) (e ∙ append-nil bad.before) are)
 whole-bad text line version max steps bad lines (l ∷ ls) e f no_lf are =

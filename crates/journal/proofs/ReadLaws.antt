@@ -7,8 +7,8 @@ use Rattle.std.proofs.lemmas.List.Concat.{flat_map-append}
 use Rattle.std.proofs.lemmas.Bool.{cases_Bool, eqb-true, eqb-false}
 use Rattle.packing.specs.CodeLaws.{all_more}
 use Rattle.journal.specs.declared.step.Step.{Step}
-use Rattle.journal.specs.TraceText.{cut_at, step_in, IsVersion, first_line, max_line, end_line, ended, IsStepLine, AreLines, HasNoLf, Spells}
-use Rattle.journal.specs.TraceText.{Begins, IsBad}
+use Rattle.journal.specs.TraceText.{cut_at, step_in, IsVersion, first_line, max_line, end_line, ended, IsStepLine, AreLines, HasNoLf}
+use Rattle.journal.specs.TraceText.{Spells, Begins, IsBad}
 use Rattle.journal.specs.TraceReading.{IsRead, IsLine}
 use Rattle.journal.proofs.TextLaws.{decimal-same}
 use Rattle.journal.specs.declared.trace.TheConstants.{GREATEST_STEPS}
@@ -76,7 +76,8 @@ zip-length version [] (s ∷ ss) z = absurd z
 zip-length version (b ∷ bs) [] z = absurd z
 zip-length version (b ∷ bs) (s ∷ ss) z = ap suc (zip-length version bs ss z.1)
 
-zip-push : (version : ℕ) (body : List (List ℕ)) (steps : List Step) (line : List ℕ) (step : Step) → AllZip (IsStepLine version) body steps → IsStepLine version line step
+zip-push : (version : ℕ) (body : List (List ℕ)) (steps : List Step) (line : List ℕ) (step : Step)
+    → AllZip (IsStepLine version) body steps → IsStepLine version line step
     → AllZip (IsStepLine version) (body ++ line ∷ []) (steps ++ step ∷ [])
 zip-push version [] [] line step z is = (is, tt)
 zip-push version [] (s ∷ ss) line step z is = absurd z
@@ -94,8 +95,10 @@ no-end-in-body version [] [] [] n z e = cc
 no-end-in-body version (x ∷ xs) [] [] n z e = cc
 no-end-in-body version front [] (s ∷ ss) n z e = absurd z
 no-end-in-body version front (b ∷ bs) [] n z e = absurd z
-no-end-in-body version [] (b ∷ bs) (s ∷ ss) n z e = let same : b ≡ end_line n = cc in end-no-step version n s (subst (λ l. IsStepLine version l s) same z.0)
-no-end-in-body version (x ∷ xs) (b ∷ bs) (s ∷ ss) n z e = let tail : bs ≡ xs ++ end_line n ∷ [] = cc in no-end-in-body version xs bs ss n z.1 tail
+no-end-in-body version [] (b ∷ bs) (s ∷ ss) n z e =
+    let same : b ≡ end_line n = cc in end-no-step version n s (subst (λ l. IsStepLine version l s) same z.0)
+no-end-in-body version (x ∷ xs) (b ∷ bs) (s ∷ ss) n z e =
+    let tail : bs ≡ xs ++ end_line n ∷ [] = cc in no-end-in-body version xs bs ss n z.1 tail
 
 -- ---- what is read so far, and the fault of what is left
 
@@ -117,7 +120,8 @@ begun version max body steps known least greatest z = record {
 not-whole : (version max : ℕ) (body : List (List ℕ)) (steps : List Step) (w m : ℕ) (ss : List Step) → AllZip (IsStepLine version) body steps
     → AreLines (first_line version ∷ max_line max ∷ body) w m ss → ⊥
 not-whole version max body steps w m ss z are =
-    let tail : body ≡ are.body ++ end_line (length ss) ∷ [] = cc (are.whole) in no-end-in-body version are.body body steps (length ss) z tail
+    let tail : body ≡ are.body ++ end_line (length ss) ∷ [] = cc (are.whole) in
+    no-end-in-body version are.body body steps (length ss) z tail
 
 -- the next line of a trace that begins with these steps is a step or its end
 next-line : (version max : ℕ) (body : List (List ℕ)) (steps : List Step) (line : List ℕ) → IsVersion version
@@ -160,7 +164,8 @@ read-open text rest version max steps r none = record {
   not_whole = λ w m ss e are. not-whole version max r.body steps w m ss r.each are;
 }
 
-pub read-bad : (text rest line behind : List ℕ) (version max : ℕ) (steps : List Step) → IsRead text rest version max steps → IsLine rest line behind
+pub read-bad : (text rest line behind : List ℕ) (version max : ℕ) (steps : List Step) → IsRead text rest version max steps
+    → IsLine rest line behind
     → ((s : Step) → IsStepLine version line s → ⊥) → (line ≡ end_line (length steps) → ⊥) → IsBad text (length steps + 3)
 read-bad text rest line behind version max steps r is none other = record {
   before = first_line version ∷ max_line max ∷ r.body;
@@ -171,7 +176,8 @@ read-bad text rest line behind version max steps r is none other = record {
   begins = begun version max r.body steps r.known r.least r.greatest r.each;
   next_is_none = λ next more p e b.
       let same = (line-same line next behind more is.no_lf p (sym is.split ∙ e)).0 in
-      next-line version max r.body steps line r.known r.each none other (subst (λ l. Begins (first_line version ∷ max_line max ∷ (r.body ++ l ∷ []))) (sym same) b);
+      next-line version max r.body steps line r.known r.each none other
+      (subst (λ l. Begins (first_line version ∷ max_line max ∷ (r.body ++ l ∷ []))) (sym same) b);
   not_whole = λ w m ss e are. not-whole version max r.body steps w m ss r.each are;
 }
 

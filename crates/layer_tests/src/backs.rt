@@ -12,7 +12,7 @@ use layer_results::{Done, DoneRow};
 use placement::Table;
 use resp::write_reply;
 use shard_exec::ExecFault;
-use shard_workers::{Open, Workers};
+use shard_workers::{OpenGate, Workers};
 use shards::ShardHasher;
 use std::alloc::{AllocError, Global};
 use std::test::Fail;
@@ -88,7 +88,7 @@ fn bring<W: Workers>(
     wanted: Became,
 ) -> Result<(), Fail> {
     let layer = layer_of(alloc, table, brought.0, brought.1)?;
-    let outcome = back.run(layer, starved, workers, &Open);
+    let outcome = back.run(layer, starved, workers, &OpenGate);
     let got = became(&outcome);
     discard(outcome);
     same_became(got, wanted)

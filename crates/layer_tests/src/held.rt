@@ -7,7 +7,7 @@ use layer_planner::Layer;
 use placement::Table;
 use shard_crew::Crew;
 use shard_exec::Store;
-use shard_workers::{Gate, InTurn, Open, Part, Ran, Refused, Room, Workers};
+use shard_workers::{Gate, InTurn, Load, OpenGate, Ran, Refused, Room, Workers};
 use std::alloc::{AllocError, Global};
 use std::num::NonZeroUsize;
 use std::process::Abort;
@@ -110,17 +110,17 @@ impl Workers for Unwilling {
         NonZeroUsize::MIN.saturating_add(1)
     }
 
-    fn reserve(&self, alloc: Global, parts: usize) -> Result<Room, AllocError> {
-        InTurn(NonZeroUsize::MIN).reserve(alloc, parts)
+    fn reserve(&self, alloc: Global, loads: usize) -> Result<Room, AllocError> {
+        InTurn(NonZeroUsize::MIN).reserve(alloc, loads)
     }
 
-    fn run_parts(
+    fn run_loads(
         &self,
         _alloc: Global,
         _table: &Table,
         _gate: &(dyn Gate + Sync),
         _room: Room,
-        _parts: Vec<Part>,
+        _loads: Vec<Load>,
     ) -> Result<Vec<Vec<Ran>>, Refused> {
         Err(Refused)
     }
@@ -135,7 +135,7 @@ fn fails<W: Workers>(
     workers: &W,
 ) -> Result<(), Fail> {
     let requests = two_requests(alloc, table)?;
-    ask_all(rt, alloc, store, requests, workers, &Open, "failed")
+    ask_all(rt, alloc, store, requests, workers, &OpenGate, "failed")
 }
 
 /// A start is refused, and then no layer is run.

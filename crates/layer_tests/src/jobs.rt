@@ -6,7 +6,7 @@ use layer_planner::{Job, Layer};
 use placement::{GroupId, Table};
 use resp::{Answered, Request, write_reply};
 use shard_exec::{Ended, ExecFault, Store};
-use shard_workers::{Gate, InTurn, Open, Workers};
+use shard_workers::{Gate, InTurn, OpenGate, Workers};
 use std::alloc::{AllocError, Global};
 use std::num::NonZeroUsize;
 use std::process::Abort;
@@ -230,7 +230,7 @@ pub(crate) fn ask(
     words: &str,
 ) -> Result<String, Trouble> {
     let asked = layer_of(alloc, table, clock, &[words])?;
-    answers(rt, alloc, store, asked, &ONE, &Open)
+    answers(rt, alloc, store, asked, &ONE, &OpenGate)
 }
 
 /// A layer of one request: its clock, its words, and what becomes of it.

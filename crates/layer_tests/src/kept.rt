@@ -3,7 +3,7 @@
 use crate::jobs::{ONE, discard, layer_of, run_or_not, two_shards};
 use placement::Table;
 use shard_exec::{Ended, ExecFault, Store};
-use shard_workers::Open;
+use shard_workers::OpenGate;
 use std::alloc::Global;
 use std::process::Abort;
 use std::test::Fail;
@@ -46,7 +46,7 @@ fn keep_row(
 ) -> Result<(), Fail> {
     let (clock, words, size) = *row;
     let asked = layer_of(alloc, table, clock, &[words])?;
-    let outcome = run_or_not(rt, alloc, store, asked, &[], &ONE, &Open);
+    let outcome = run_or_not(rt, alloc, store, asked, &[], &ONE, &OpenGate);
     let kept = keeps(words, &outcome, size);
     discard(outcome);
     kept

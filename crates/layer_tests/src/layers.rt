@@ -5,7 +5,7 @@ use groups::{ConnId, RequestId};
 use layer_planner::Job;
 use placement::Table;
 use shard_exec::Store;
-use shard_workers::Open;
+use shard_workers::OpenGate;
 use std::alloc::Global;
 use std::process::Abort;
 use std::test::Fail;
@@ -29,7 +29,7 @@ fn stale_comes_back(rt: HostRuntime) -> Result<(), Fail> {
 /// Runs `SET a 1` and `SET c 2` as one layer, at the clock 1.
 fn set_both(rt: &impl Abort, alloc: Global, store: &mut Store, table: &Table) -> Result<(), Fail> {
     let both = layer_of(alloc, table, 1, &["SET a 1", "SET c 2"])?;
-    ask_all(rt, alloc, store, both, &ONE, &Open, "+OK\r\n +OK\r\n ")
+    ask_all(rt, alloc, store, both, &ONE, &OpenGate, "+OK\r\n +OK\r\n ")
 }
 
 /// Each has two groups.
@@ -48,7 +48,7 @@ fn skip_both(rt: &impl Abort, alloc: Global, store: &mut Store, table: &Table) -
         conn: ConnId(1),
         seq: 1,
     };
-    let answered = answers_but(rt, alloc, store, both, &[id], &ONE, &Open)?;
+    let answered = answers_but(rt, alloc, store, both, &[id], &ONE, &OpenGate)?;
     same_text("DEL a c", answered.as_str(), "starved ")
 }
 
@@ -93,5 +93,5 @@ fn an_empty_layer_needs_nothing(rt: HostRuntime) -> Result<(), Fail> {
     let table = two_shards(rt.alloc())?;
     let mut store = Store::new(rt.alloc(), table)?;
     let empty = layer_of(rt.alloc(), &table, 1, &[])?;
-    ask_all(&rt, rt.alloc(), &mut store, empty, &ONE, &Open, "")
+    ask_all(&rt, rt.alloc(), &mut store, empty, &ONE, &OpenGate, "")
 }

@@ -6,7 +6,7 @@ use layer_planner::{Job, Layer};
 use placement::Table;
 use shard_crew::Crew;
 use shard_exec::Store;
-use shard_workers::{InTurn, Open, Workers};
+use shard_workers::{InTurn, OpenGate, Workers};
 use std::alloc::{AllocError, Global};
 use std::process::Abort;
 use std::sync::Wait;
@@ -90,7 +90,7 @@ fn push_layer<W: Workers>(
     workers: &W,
     all: &mut String,
 ) -> Result<(), Trouble> {
-    let answered = answers(rt, alloc, store, requests, workers, &Open)?;
+    let answered = answers(rt, alloc, store, requests, workers, &OpenGate)?;
     Ok(all.push_str(answered.as_str())?)
 }
 

@@ -9,7 +9,7 @@ use layer_planner::Layer;
 use placement::Table;
 use shard_crew::Crew;
 use shard_exec::{Ended, ExecFault, Store};
-use shard_workers::{InTurn, Open, Workers};
+use shard_workers::{InTurn, OpenGate, Workers};
 use std::alloc::{AllocError, Global};
 use std::process::Abort;
 use std::test::Fail;
@@ -66,7 +66,7 @@ fn is_answered(outcome: &Result<Vec<Ended>, ExecFault>) -> bool {
 /// Puts what is there before. A request of this test's own that starves ends the attempt.
 fn fill(rt: &impl Abort, alloc: Global, store: &mut Store, table: &Table) -> Result<(), Trouble> {
     let requests = layer_of(alloc, table, 1, &SET_BEFORE)?;
-    let outcome = run_or_not(rt, alloc, store, requests, &[], &ONE, &Open);
+    let outcome = run_or_not(rt, alloc, store, requests, &[], &ONE, &OpenGate);
     let answered = is_answered(&outcome);
     discard(outcome);
     if !answered {
@@ -172,7 +172,7 @@ fn run_again<W: Workers>(
     back: Layer,
     workers: &W,
 ) -> Result<(), Trouble> {
-    match run_or_not(rt, alloc, store, back, &[], workers, &Open) {
+    match run_or_not(rt, alloc, store, back, &[], workers, &OpenGate) {
         Ok(done) => ran_whole(rt, alloc, store, done.as_slice()),
         Err(_) => panic!(rt; "not run again"),
     }
@@ -193,7 +193,7 @@ fn attempt_in<W: Workers>(
     requests: Layer,
     workers: &W,
 ) -> Result<(), Trouble> {
-    match run_or_not(rt, alloc, store, requests, &[], workers, &Open) {
+    match run_or_not(rt, alloc, store, requests, &[], workers, &OpenGate) {
         Ok(done) => assert_ran(rt, alloc, store, done.as_slice()),
         Err(ExecFault::Memory(layer)) => attempt_again(rt, alloc, store, layer, workers),
         Err(ExecFault::Stale(_)) => panic!(rt; "stale"),

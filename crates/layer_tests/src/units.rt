@@ -7,7 +7,7 @@ use layer_planner::{Job, Layer};
 use placement::Table;
 use shard_crew::Crew;
 use shard_exec::Store;
-use shard_workers::{Gate, InTurn, Open, Workers};
+use shard_workers::{Gate, InTurn, OpenGate, Workers};
 use std::alloc::{AllocError, Global};
 use std::process::Abort;
 use std::sync::Wait;
@@ -57,7 +57,7 @@ fn count_in<W: Workers>(
     wanted: &str,
 ) -> Result<(), Fail> {
     let requests = counting(alloc, table)?;
-    ask_all(rt, alloc, store, requests, workers, &Open, wanted)?;
+    ask_all(rt, alloc, store, requests, workers, &OpenGate, wanted)?;
     ask_rows(rt, alloc, store, table, &LAST)
 }
 

@@ -34,8 +34,8 @@ use Rattle.router.specs.declared.connection.Standing.{Standing}
 use Rattle.router.specs.declared.connection.Standing.TheVariants as router
 use Rattle.skeen_core.specs.declared.packet.Delivered.{Delivered}
 use Rattle.skeen_core.specs.declared.packet.Packet.{Packet}
-use Rattle.system.specs.Parts.{Shows, ShowsStage, effect_shown}
-use Rattle.system.specs.Parts as parts
+use Rattle.system.specs.Halves.{Shows, ShowsStage, effect_shown}
+use Rattle.system.specs.Halves as halves
 use Rattle.system.specs.Reads.{clock_of, connection_of, layer_of, packets_of, queues_of, waiting_for}
 use Rattle.system.specs.System.{SystemView}
 use Rattle.system.specs.declared.effect.Effect.{Effect}
@@ -86,7 +86,7 @@ jobs_told asked (d ∷ ds) (j ∷ js) are =
 same_taken : (xs ys : List Delivered) → Taken xs ≡ Taken ys → xs ≡ ys
 same_taken xs ys is = cc
 
-stage_jobs : (st : Stage) (w : World) (ds : List Delivered) → ShowsStage st w → w.layer ≡ Taken ds → AreJobs w.asked ds (parts.layer_of st)
+stage_jobs : (st : Stage) (w : World) (ds : List Delivered) → ShowsStage st w → w.layer ≡ Taken ds → AreJobs w.asked ds (halves.layer_of st)
 stage_jobs stage.Free w ds is taken = let apart : NoneTaken ≡ Taken ds = sym is ∙ taken in cc
 stage_jobs (stage.Taken jobs) w ds is taken = subst (λ l. AreJobs w.asked l jobs) (same_taken is.0 ds (sym is.1 ∙ taken)) is.2
 stage_jobs (stage.HasRun outcomes) w ds is taken = let apart : HasRun is.0 ≡ Taken ds = sym is.1 ∙ taken in cc
@@ -112,7 +112,7 @@ pub record Tells (n : ℕ) (w : World) (s : Step) (w' : World) (old new : Record
   pub replies : map reply_in new.layers.replies.items ≡ map reply_in old.layers.replies.items ++ replied_by n w s w'
   pub last : IsLast w'.layer (map layer_in new.layers.layers.items)
 
-module _ (t : Layout) (w w' : World) (n : ℕ) (before' after : SystemView) (shows : Shows before'.parts w) (shown : Shows after.parts w')
+module _ (t : Layout) (w w' : World) (n : ℕ) (before' after : SystemView) (shows : Shows before'.halves w) (shown : Shows after.halves w')
     (old new : Recorder) (last : IsLast w.layer (map layer_in old.layers.layers.items)) where
   no_receipts : new.arrivals ≡ old.arrivals → map receipt_in new.arrivals.receipts.items ≡ map receipt_in old.arrivals.receipts.items ++ []
   no_receipts same = ap (λ a. map receipt_in a.receipts.items) same ∙ sym (append-nil (map receipt_in old.arrivals.receipts.items))
@@ -184,7 +184,7 @@ module _ (t : Layout) (w w' : World) (n : ℕ) (before' after : SystemView) (sho
   takes : (ds : List Delivered) (e : Effect) → w'.layer ≡ Taken ds → Notes n before.Take e after old new → Tells n w step.Take w' old new
   takes ds e taken put =
       let ls = map layer_in old.layers.layers.items in
-      let jobs = jobs_told w'.asked ds (layer_of after) (stage_jobs after.parts.stage w' ds shown.stage taken) in
+      let jobs = jobs_told w'.asked ds (layer_of after) (stage_jobs after.halves.stage w' ds shown.stage taken) in
       let layers : map layer_in new.layers.layers.items ≡ ls ++ taken_at n (map job_of ds) ∷ [] =
       put.1.layers ∙ ap (λ js. ls ++ taken_at n js ∷ []) jobs in
       record {
@@ -262,8 +262,8 @@ module _ (t : Layout) (w w' : World) (n : ℕ) (before' after : SystemView) (sho
       Notes n b e after old new → Tells n w s w' old new
   tells step.Open e b landed is was lands put = plain (other b e was put) (ap (λ v. v.layer) is.after) step.Open refl refl refl refl
   tells (step.Submit conn words) e b landed is was lands put =
-      plain (other b e was put) (ap (λ v. v.layer) is.after ∙ submitted_layer t w conn.0 (task_reading words)) (step.Submit conn words) refl refl
-      refl refl
+      plain (other b e was put) (ap (λ v. v.layer) is.after ∙ submitted_layer t w conn.0 (task_reading words))
+      (step.Submit conn words) refl refl refl refl
   tells (step.Deliver k) e b landed is was lands put =
       comes landed is.packet e k (lands ∙ slice_get-map flight_of w.packets k ∙ ap (option_map flight_of) is.there) is.there
       (ap (λ v. v.layer) is.after) (subst (λ x. Notes n x e after old new) was put)

@@ -26,7 +26,7 @@ use Rattle.placement.specs.Layout.{Layout}
 use Rattle.replay.specs.Replay.{StandsAt}
 use Rattle.skeen_core.specs.declared.packet.Packet.{Packet}
 use Rattle.front.proofs.Histories.{leads_more}
-use Rattle.system.specs.Parts.{Shows, effect_shown}
+use Rattle.system.specs.Halves.{Shows, effect_shown}
 use Rattle.system.specs.Reads.{packets_of, table_of}
 use Rattle.system.specs.System.{SystemView, IsNew, IsStep}
 use Rattle.system.specs.declared.effect.Effect.{Effect}
@@ -55,7 +55,7 @@ ran_next t most made old new s e f g r q b landed n is named at flies known land
     let w = last_of opening ran.run in
     let next = is.makes.from_each made w ran.shows in
     let w' = next.0 in
-    let itself = made_itself old.parts (table_of old) w w' s e (is.makes.starves made w ran.shows) named next.1 in
+    let itself = made_itself old.halves (table_of old) w w' s e (is.makes.starves made w ran.shows) named next.1 in
     let step : Steps t w s (effect_shown e) w' = subst (λ l. Steps l w s (effect_shown e) w') ran.table itself in
     let last = last_more opening ran.run (record { step = s; after = w' }) in
     let before : packets_of old ≡ w.packets = ran.shows.shows.multicast.packets in
@@ -85,7 +85,7 @@ ran_next t most made old new s e f g r q b landed n is named at flies known land
             (sym is.makes.table)
             (subst (Leads (table_of old) opening (made ++ s ∷ [])) (sym last)
             (leads_more (table_of old) opening w w' made s (effect_shown e) ran.shows.leads itself));
-        shows = subst (λ v. Shows new.parts v) (sym last) next.2.shows;
+        shows = subst (λ v. Shows new.halves v) (sym last) next.2.shows;
       };
       table = is.makes.table ∙ ran.table;
       lives = is.lives;

@@ -11,7 +11,7 @@ use Rattle.picture.specs.declared.flights.Flights.{Flights}
 use Rattle.picture.specs.declared.recorder.Recorder.{Recorder}
 use Rattle.placement.specs.Layout.{Layout}
 use Rattle.skeen_core.specs.declared.packet.Delivered.{Delivered}
-use Rattle.system.specs.Parts.{IsAt}
+use Rattle.system.specs.Halves.{IsAt}
 use Rattle.system.specs.Reads.{failed, table_of}
 use Rattle.system.specs.System.{SystemView}
 use Rattle.world.specs.Steps.{opening}
@@ -37,7 +37,7 @@ pub record Ran (t : Layout) (most : ℕ) (made : List Step) (s : SystemView) (f 
   pub run : List Moment
   pub steps : steps_of run ≡ made
   pub walks : Walks t opening run
-  pub shows : IsAt s.parts made (last_of opening run)
+  pub shows : IsAt s.halves made (last_of opening run)
   pub table : table_of s ≡ t
   pub lives : failed s ≡ false
   pub count : s.steps ≡ length made

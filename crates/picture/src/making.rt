@@ -16,7 +16,7 @@ use picture_shapes::{RunFacts, StepWord};
 use placement::Table;
 use progress::Progress;
 use replay::{ReplayFault, are_named, named_in};
-use shard_workers::{InTurn, Open};
+use shard_workers::{InTurn, OpenGate};
 use std::alloc::{AllocError, Global};
 use std::num::NonZeroUsize;
 use system::{StepFault, System};
@@ -123,7 +123,7 @@ fn make(
     let Some(one) = NonZeroUsize::new(1) else {
         unreachable!()
     };
-    let effect = match system.step(step, &InTurn(one), &Open) {
+    let effect = match system.step(step, &InTurn(one), &OpenGate) {
         Ok(effect) => effect,
         Err(StepFault::Memory) => return Err(ReplayFault::Memory),
         Err(fault) => {

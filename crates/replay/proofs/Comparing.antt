@@ -19,7 +19,7 @@ use Rattle.replay.specs.Report.{row_line, replies_agree, left_by, agrees, starve
 use Rattle.journal.specs.declared.step.Step.{Step}
 use Rattle.placement.specs.Layout.{IsTable}
 use Rattle.system.proofs.Lasting.{obeys}
-use Rattle.system.specs.Parts.{IsAt}
+use Rattle.system.specs.Halves.{IsAt}
 use Rattle.system.specs.Reads as system
 use Rattle.system.specs.System.{SystemView}
 use Rattle.world.specs.Steps.{starved_among}
@@ -97,7 +97,7 @@ pub reports : (s : SystemView) (R : List RowView) (starved dump out : List ℕ) 
     R ≡ system.rows_of s → starved ≡ flat_map starved_line (system.starved_of s) → dump ≡ dump_text (system.contents_of s) →
     ((E : List Row) → AllZip IsRow E R → (out ≡ flat_map row_line (rows_by_stamp E) ++ starved ++ dump ++ last_line agree)
     × (agree ≡ agrees (rows_by_stamp E) dump)) →
-    (h : List Step) (w : World) → IsAt s.parts h w → (out ≡ report_text w) × (agree ≡ true)
+    (h : List Step) (w : World) → IsAt s.halves h w → (out ≡ report_text w) × (agree ≡ true)
 reports s R starved dump out agree is_table rows_are starved_is dump_is told h w at' =
     let lines = flat_map row_line (executed_in w) in
     let is = told (rows_of w.ended) (subst (λ r. AreRows w.ended r) (sym rows_are) at'.shows.rows) in

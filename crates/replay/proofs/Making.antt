@@ -20,14 +20,14 @@ use Rattle.groups.specs.Request.{same_id}
 use Rattle.skeen_core.specs.declared.packet.Delivered.{Delivered}
 use Rattle.groups.specs.declared.request.RequestId.{RequestId}
 use Rattle.front.proofs.Histories.{leads_more}
-use Rattle.system.specs.Parts.{Starves, effect_shown, stored}
+use Rattle.system.specs.Halves.{Starves, effect_shown, stored}
 use Rattle.system.specs.Reads.{table_of, failed}
 use Rattle.system.specs.System.{SystemView, IsStep, IsRefused}
 use Rattle.system.specs.declared.effect.Effect.{Effect}
 use Rattle.system.specs.declared.effect.Effect.TheVariants as effect
 use Rattle.system.specs.declared.fault.StepFault.{StepFault}
 use Rattle.system.specs.declared.fault.StepFault.TheVariants.{Busy, NoConn, NoPacket, InFlight, NoLayer, Exhausted, Memory, Failed}
-use Rattle.system.specs.declared.parts.Parts.{Parts}
+use Rattle.system.specs.declared.halves.Halves.{Halves}
 use Rattle.world.specs.Steps.{opening, names, map_after, RunInTurn, Steps, Leads}
 use Rattle.world.specs.World.{World, Ended}
 use Rattle.world_laws.specs.Good.{Asked}
@@ -116,7 +116,7 @@ named_all s (effect.Collected outcome) ids is are = named_other s (effect.Collec
 named_all s effect.Made ids is are = named_other s effect.Made (λ starved e. cc)
 
 -- so the step itself is the world's, and not only the one that is stored
-pub made_itself : (p : Parts) (t : Layout) (w w' : World) (s : Step) (e : Effect) → Starves p s e w → AreNamed s e →
+pub made_itself : (p : Halves) (t : Layout) (w w' : World) (s : Step) (e : Effect) → Starves p s e w → AreNamed s e →
     Steps t w (stored s e) (effect_shown e) w' → Steps t w s (effect_shown e) w'
 made_itself p t w w' step.Open e starve named made = made
 made_itself p t w w' (step.Submit conn words) e starve named made = made
@@ -146,7 +146,7 @@ pub stands_next : (t : Layout) (most : ℕ) (before : List Step) (old new : Syst
 stands_next t most before old new s e is named stands =
     let next = is.makes.from_each before stands.world stands.shows in
     let starves = is.makes.starves before stands.world stands.shows in
-    let itself = made_itself old.parts (table_of old) stands.world next.0 s e starves named next.1 in
+    let itself = made_itself old.halves (table_of old) stands.world next.0 s e starves named next.1 in
     let count = stands.count in
     let counted = is.counted in
     let more = length-append before (s ∷ []) in

@@ -8,7 +8,7 @@ use Rattle.replay.specs.Report.{report_text}
 use Rattle.replay.specs.declared.report.Report.{Report}
 use Rattle.replay.specs.declared.fault.ReplayFault.{ReplayFault}
 use Rattle.replay.specs.declared.fault.ReplayFault.TheVariants as replay
-use Rattle.system.specs.Parts.{IsAt}
+use Rattle.system.specs.Halves.{IsAt}
 use Rattle.system.specs.Reads.{table_of, failed}
 use Rattle.system.specs.Refusing.{IsRun}
 use Rattle.system.specs.System.{SystemView, IsRefused}
@@ -81,7 +81,7 @@ IsRefusalOf may_refuse old step index new replay.Memory = Unit {0}
 -- so many steps were made, and lead to a world that the system shows
 pub record StandsAt (t : Layout) (most : ℕ) (made : List Step) (s : SystemView) : Type 0 where
   pub world : World
-  pub shows : IsAt s.parts made world
+  pub shows : IsAt s.halves made world
   pub table : table_of s ≡ t
   pub lives : failed s ≡ false
   pub count : s.steps ≡ length made

@@ -4,7 +4,7 @@ ghost use Rattle.std.specs.Prelude.{◌≡◌, ◌++◌, true, IfOk, List};
 ghost use Rattle.std.specs.List.{AllZip, flat_map};
 ghost use Rattle.execution_order.specs.Entries.{Row as Executed, rows_by_stamp};
 ghost use Rattle.journal.specs.declared.step.Step.{Step};
-ghost use Rattle.system.specs.Parts.{IsAt};
+ghost use Rattle.system.specs.Halves.{IsAt};
 ghost use Rattle.system_view.specs.Layers.{IsRow};
 ghost use Rattle.world.specs.World.{World};
 ghost use Rattle.replay.specs.Report.{row_line, agrees, last_line, report_text};
@@ -30,7 +30,7 @@ pub struct Report {
 
 /// The report of a system. The only error is want of memory.
 pub(super) fn report_of(alloc: Global, system: System) -> Result<Report, AllocError>
-    ensures { IfOk result (λ report. (h : List Step) (w : World) → IsAt system.parts h w →
+    ensures { IfOk result (λ report. (h : List Step) (w : World) → IsAt system.halves h w →
         (report.text.items ≡ report_text w) × (report.agree ≡ true)) }
 {
     let mut starved = Vec::new(alloc);

@@ -12,7 +12,7 @@ use crate::report::{Report, report_of};
 use journal::{Step, Steps, Trace};
 use placement::Table;
 use progress::{Progress, Unwatched};
-use shard_workers::{Open, Workers};
+use shard_workers::{OpenGate, Workers};
 use std::alloc::Global;
 use system::{StepFault, System};
 
@@ -87,7 +87,7 @@ fn make<W: Workers>(
     ensures fault { IfErr result (IsRefusalOf (W.may_refuse workers.now) system.old step index system.new) }
 {
     let named = named_in(alloc, &step)?;
-    match system.step(step, workers, &Open) {
+    match system.step(step, workers, &OpenGate) {
         Ok(effect) => {
             if are_named(&effect, named.as_slice()) {
                 Ok(())

@@ -11,7 +11,7 @@ use placement::{Table, TableFault};
 use replay::{ShowFault, told};
 use resp::Request;
 use shard_crew::Crew;
-use shard_workers::{InTurn, Open, Workers};
+use shard_workers::{InTurn, OpenGate, Workers};
 use solo::Solo;
 use std::alloc::{AllocError, Global};
 use std::hash::{BuildHasherDefault, FoldHasher};
@@ -92,7 +92,7 @@ fn table(rt: &impl Abort, alloc: Global) -> Result<Table, AllocError> {
 
 /// Makes a step; no memory is the only fault.
 fn make(rt: &impl Abort, system: &mut System, step: Step) -> Result<(), AllocError> {
-    match system.step(step, &ONE, &Open) {
+    match system.step(step, &ONE, &OpenGate) {
         Ok(_) => Ok(()),
         Err(StepFault::Memory) => Err(AllocError),
         Err(fault) => panic!(rt; "{fault}"),

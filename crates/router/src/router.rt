@@ -9,9 +9,7 @@ ghost use Rattle.router.specs.declared.connection.Standing.TheVariants.{Answered
 ghost use Rattle.router.specs.Submitting.{Submits, IsRefused, IsIdle, IsIdleAt, StandsBy, groups_by};
 ghost use Rattle.router.specs.declared.submission.SubmitFault.{SubmitFault};
 ghost use Rattle.router.specs.declared.connection.Connection.{Connection};
-ghost use Rattle.command_table.specs.declared.command.Command.TheVariants.{Local};
-ghost use Rattle.command_table.specs.declared.local_commands.LocalCommand.{LocalCommand};
-ghost use Rattle.tasks.specs.Tasks.{task_reading};
+ghost use Rattle.tasks.specs.Tasks.{task_reading, keyless_reply};
 
 use super::connection::{Connection, Pending, Standing};
 use super::outcome::Outcome;
@@ -362,7 +360,7 @@ fn standing_with(id: RequestId, asked: Worded) -> Result<Standing, SubmitFault>
 
 /// How a connection stands that asks a command which looks at no key.
 fn standing_at_once(id: RequestId, asked: Worded) -> Standing
-    requires { (l : LocalCommand) × (asked.command ≡ Local l) }
+    requires { IsSome (keyless_reply asked.command) }
     ensures { StandsBy id asked.words (Ok asked.command) result }
 {
     let (_, command) = asked.into_parts();

@@ -13,7 +13,7 @@ use cluster_sending::{halves_send, syncs};
 use options::server::Options;
 use placement::Table;
 use shard_crew::Crew;
-use shard_workers::{InTurn, Open};
+use shard_workers::{InTurn, OpenGate};
 use shards::ShardHasher;
 use shared_cluster::{Shared, Turns};
 use std::hash::RandomState;
@@ -123,7 +123,7 @@ fn drive_by_crew<L: Ledger, R: Threads + Wait + Eprint + Clock>(
     workers: NonZeroUsize,
 ) {
     let crew = Crew::new(starter, workers);
-    if let Err(fault) = service.shared.drive(rt, &First, &crew, &Open) {
+    if let Err(fault) = service.shared.drive(rt, &First, &crew, &OpenGate) {
         service.meet(rt, &fault);
     }
 }
@@ -154,7 +154,7 @@ where
     };
     let max_steps = options.max_steps;
     let refused = serve_beside_driver(rt, listener, shared, options, turns, faults);
-    if let Err(fault) = shared.drive(rt, &First, &InTurn(NonZeroUsize::MIN), &Open) {
+    if let Err(fault) = shared.drive(rt, &First, &InTurn(NonZeroUsize::MIN), &OpenGate) {
         let service = Service {
             shared,
             turns,

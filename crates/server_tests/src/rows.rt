@@ -10,7 +10,7 @@ use cluster::{First, Seat};
 use placement::Table;
 use resp::{Reply, Request};
 use server::shared_syncs;
-use shard_workers::{InTurn, Open};
+use shard_workers::{InTurn, OpenGate};
 use shards::ShardHasher;
 use shared_cluster::{AskFault, AtRest, CloseFault, FaultKind, Shared};
 use std::alloc::Global;
@@ -153,7 +153,7 @@ fn ask_and_shut<L: Ledger + Send + Sync, R: Threads + Wait + Clock + Sync>(
 
 /// Drives the cluster with one worker.
 fn driven<L: Ledger, R: Wait + Clock>(rt: &R, shared: &Shared<L>) -> Result<AtRest, AskFault> {
-    shared.drive(rt, &First, &InTurn(NonZeroUsize::MIN), &Open)
+    shared.drive(rt, &First, &InTurn(NonZeroUsize::MIN), &OpenGate)
 }
 
 /// What came of two threads that asked their rows, beside how the thread that drove ended.

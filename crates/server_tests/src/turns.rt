@@ -10,7 +10,7 @@ use layer_planner::Layer;
 use layer_results::Done;
 use placement::Table;
 use resp::Reply;
-use shard_workers::{InTurn, Open};
+use shard_workers::{InTurn, OpenGate};
 use shards::ShardHasher;
 use std::alloc::Global;
 use std::marker::Brand;
@@ -24,7 +24,7 @@ const MOST: u64 = 1000;
 
 /// Runs a layer with one worker, and hands over what came of it.
 pub(crate) fn run(back: &mut Back, layer: Layer) -> Result<Done, Fail> {
-    let ran = back.run(layer, &[], &InTurn(NonZeroUsize::MIN), &Open);
+    let ran = back.run(layer, &[], &InTurn(NonZeroUsize::MIN), &OpenGate);
     holds("the layer is run", ran.is_ok())?;
     Ok(back.hand_over())
 }

@@ -1,4 +1,4 @@
--- What the thread of a part captures can go to another thread, where a part can.
+-- What the thread of a load captures can go to another thread, where a load can.
 use denote.RattleType.{RattleType}
 use mathlib.Core.List.{List, [], ◌∷◌}
 use mir.Syntax.{Sym, Ty, Lifetime, Dict, Slots}
@@ -16,7 +16,7 @@ use denote.Struct.Tuple.{TupleAt, type_at}
 use Rattle.std.proofs.Crossing.{crosses}
 use Rattle.std.specs.contracts.alloc.Global as Heap
 use Rattle.placement.specs.contracts.table.Table as Placement
-use Rattle.shard_workers.specs.contracts.part.Part as Part
+use Rattle.shard_workers.specs.contracts.load.Load as Load
 
 heap_send : IsSend Heap.the_row
 heap_send = search (sendable, crosses) depth 40 fits 3000
@@ -25,11 +25,11 @@ table_sync : IsSync Placement.the_row
 table_sync = search (sendable, crosses) depth 40 fits 3000
 
 module _ {G : Type 0 → Type 1} (δ : Ty) (ν ν₂ : Sym) (slots : Dict → Slots) (gates : Table G Dict) where
-  -- what the thread of a part captures: the part, the heap, the table and the gate
+  -- what the thread of a load captures: the load, the heap, the table and the gate
   abbrev pub captured : (ℓ₁ : Lifetime) (κ₁ : Lft) (ℓ₂ : Lifetime) (κ₂ : Lft) → List RattleType
-  captured ℓ₁ κ₁ ℓ₂ κ₂ = Part.the_row ∷ Heap.the_row ∷ ShrRef ℓ₁ κ₁ Placement.the_row ∷ ShrAny ν₂ (obj_ref ℓ₂) slots gates ℓ₂ κ₂ ∷ []
+  captured ℓ₁ κ₁ ℓ₂ κ₂ = Load.the_row ∷ Heap.the_row ∷ ShrRef ℓ₁ κ₁ Placement.the_row ∷ ShrAny ν₂ (obj_ref ℓ₂) slots gates ℓ₂ κ₂ ∷ []
 
-  pub captured_send : (ℓ₁ : Lifetime) (κ₁ : Lft) (ℓ₂ : Lifetime) (κ₂ : Lft) → Syncs gates → IsSend Part.the_row
+  pub captured_send : (ℓ₁ : Lifetime) (κ₁ : Lft) (ℓ₂ : Lifetime) (κ₂ : Lft) → Syncs gates → IsSend Load.the_row
       → IsSend (param 2 (arg δ no (TupleAt ν (captured ℓ₁ κ₁ ℓ₂ κ₂))))
   captured_send ℓ₁ κ₁ ℓ₂ κ₂ syncs s =
       let T = type_at ν (captured ℓ₁ κ₁ ℓ₂ κ₂) in

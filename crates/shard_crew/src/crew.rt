@@ -3,14 +3,14 @@
 ghost use Rattle.std.specs.Prelude.{◌≡◌, [], IfOk, IfSome, OnErr, length, ◌≤◌, ◌<◌, vec_capacity};
 ghost use Rattle.std.specs.List.{AllZip, AllByRecursion};
 ghost use Rattle.shard_crew.specs.Rooms.{HasRoom};
-ghost use Rattle.shard_workers.specs.Parts.{IsReadyPart, HasRunPart};
-ghost use Rattle.shard_workers.specs.contracts.part.Part as part_type;
+ghost use Rattle.shard_workers.specs.Loads.{IsReadyLoad, HasRunLoad};
+ghost use Rattle.shard_workers.specs.contracts.load.Load as load_type;
 ghost use denote.Param.Send.{IsSend};
 
 use layer_planner::Job;
 use placement::Table;
 use shard_workers::{
-    Child, Gate, Part, Ran, Refused, Room, RunOfPart, Task, TaskRan, Work, Workers, run_in_turn,
+    Child, Gate, JobRan, Load, PlacedJob, Ran, Refused, Room, RunOfLoad, Work, Workers, run_in_turn,
 };
 use std::alloc::{AllocError, Global};
 use std::num::NonZeroUsize;
@@ -18,7 +18,7 @@ use std::snapshot::Snapshot;
 use std::sync::Wait;
 use std::thread::{self, Scope, Threads};
 
-/// So many workers, each on a thread of its own. The last part is run on the caller's thread, so one part starts no
+/// So many workers, each on a thread of its own. The last load is run on the caller's thread, so one load starts no
 /// thread.
 #[derive(Drop)]
 pub struct Crew<'r, R> {
@@ -51,56 +51,56 @@ impl<'r, R: Threads + Wait> Workers for Crew<'r, R> {
         self.number
     }
 
-    fn reserve(&self, alloc: Global, parts: usize) -> Result<Room, AllocError> {
-        let results = Vec::with_capacity(alloc, parts)?;
-        let children = Vec::with_capacity(alloc, parts)?;
+    fn reserve(&self, alloc: Global, loads: usize) -> Result<Room, AllocError> {
+        let results = Vec::with_capacity(alloc, loads)?;
+        let children = Vec::with_capacity(alloc, loads)?;
         Ok(Room { results, children })
     }
 
-    fn run_parts(
+    fn run_loads(
         &self,
         alloc: Global,
         table: &Table,
         gate: &(dyn Gate + Sync),
         room: Room,
-        parts: Vec<Part>,
+        loads: Vec<Load>,
     ) -> Result<Vec<Vec<Ran>>, Refused> {
-        run_in_threads(self.rt, alloc, table, gate, room, parts)
+        run_in_threads(self.rt, alloc, table, gate, room, loads)
     }
 }
 
-/// Runs the parts, each on a thread of its own but the last; a single part starts none. With `Refused` a thread could not
-/// be started: the shards of all parts are lost, and those threads that were started have ended.
+/// Runs the loads, each on a thread of its own but the last; a single load starts none. With `Refused` a thread could not
+/// be started: the shards of all loads are lost, and those threads that were started have ended.
 fn run_in_threads<R: Threads + Wait>(
     rt: &R,
     alloc: Global,
     table: &Table,
     gate: &(dyn Gate + Sync),
     room: Room,
-    parts: Vec<Part>,
+    loads: Vec<Load>,
 ) -> Result<Vec<Vec<Ran>>, Refused>
-    requires room { HasRoom room (length parts.items) }
-    requires ready { AllByRecursion (IsReadyPart table.now) parts.items }
-    ensures each { IfOk result (λ r. AllZip (HasRunPart table.now) parts.items r.items) }
-    ensures refused { OnErr result (1 < length parts.items) }
+    requires room { HasRoom room (length loads.items) }
+    requires ready { AllByRecursion (IsReadyLoad table.now) loads.items }
+    ensures each { IfOk result (λ r. AllZip (HasRunLoad table.now) loads.items r.items) }
+    ensures refused { OnErr result (1 < length loads.items) }
 {
     let Room { results, children } = room;
-    if parts.len() <= 1 {
-        return Ok(run_in_turn(alloc, table, gate, results, parts));
+    if loads.len() <= 1 {
+        return Ok(run_in_turn(alloc, table, gate, results, loads));
     }
     thread::scope(
         thread::scope_env(),
         rt,
         |scope| -> Result<Vec<Vec<Ran>>, Refused>
-            requires { (length parts.items ≤ vec_capacity results) × (length parts.items ≤ vec_capacity children)
-                × (results.items ≡ []) × (children.items ≡ []) × AllByRecursion (IsReadyPart table.now) parts.items }
-            ensures { IfOk result (λ r. AllZip (HasRunPart table.entry.now) parts.items r.items) }
-        { run_apart(rt, scope, alloc, table, gate, parts, children, results) },
+            requires { (length loads.items ≤ vec_capacity results) × (length loads.items ≤ vec_capacity children)
+                × (results.items ≡ []) × (children.items ≡ []) × AllByRecursion (IsReadyLoad table.now) loads.items }
+            ensures { IfOk result (λ r. AllZip (HasRunLoad table.entry.now) loads.items r.items) }
+        { run_apart(rt, scope, alloc, table, gate, loads, children, results) },
     )
 }
 
-/// Starts a thread for each part but the last, runs that one meanwhile, and gives what all gave, in the order of the
-/// parts. With `Refused` the last part was not run; threads that were started go on to the end of the scope, and what
+/// Starts a thread for each load but the last, runs that one meanwhile, and gives what all gave, in the order of the
+/// loads. With `Refused` the last load was not run; threads that were started go on to the end of the scope, and what
 /// they give is lost.
 fn run_apart<'s, E, R: Threads>(
     rt: &R,
@@ -108,18 +108,18 @@ fn run_apart<'s, E, R: Threads>(
     alloc: Global,
     table: &'s Table,
     gate: &'s (dyn Gate + Sync),
-    parts: Vec<Part>,
+    loads: Vec<Load>,
     children: Vec<Child>,
     results: Vec<Vec<Ran>>,
 ) -> Result<Vec<Vec<Ran>>, Refused>
-    requires handles { length parts.items ≤ vec_capacity children }
-    requires room { length parts.items ≤ vec_capacity results }
+    requires handles { length loads.items ≤ vec_capacity children }
+    requires room { length loads.items ≤ vec_capacity results }
     requires none { children.items ≡ [] }
     requires empty { results.items ≡ [] }
-    requires ready { AllByRecursion (IsReadyPart table.now) parts.items }
-    ensures { IfOk result (λ r. AllZip (HasRunPart table.now) parts.items r.items) }
+    requires ready { AllByRecursion (IsReadyLoad table.now) loads.items }
+    ensures { IfOk result (λ r. AllZip (HasRunLoad table.now) loads.items r.items) }
 {
-    let mut others = parts;
+    let mut others = loads;
     let Some(last) = others.pop() else {
         return Ok(results);
     };
@@ -134,24 +134,24 @@ fn run_apart<'s, E, R: Threads>(
     Ok(all)
 }
 
-/// Starts a thread for each part, and gives their handles in the order of the parts. None where one could not be started:
-/// the parts behind it are not run, and the handles of those before it are dropped.
+/// Starts a thread for each load, and gives their handles in the order of the loads. None where one could not be started:
+/// the loads behind it are not run, and the handles of those before it are dropped.
 fn start_all<'s, E>(
     scope: &Scope<'s, E>,
     alloc: Global,
     table: &'s Table,
     gate: &'s (dyn Gate + Sync),
-    parts: Vec<Part>,
+    loads: Vec<Load>,
     children: Vec<Child>,
 ) -> Option<Vec<Child>>
-    requires room { length parts.items ≤ vec_capacity children }
+    requires room { length loads.items ≤ vec_capacity children }
     requires empty { children.items ≡ [] }
-    requires ready { AllByRecursion (IsReadyPart table.now) parts.items }
-    ensures { IfSome result (λ hs. AllZip (λ p h. (h.promise.part.value ≡ p) × (h.promise.table.value ≡ table.now)) parts.items hs.items) }
+    requires ready { AllByRecursion (IsReadyLoad table.now) loads.items }
+    ensures { IfSome result (λ hs. AllZip (λ p h. (h.promise.load.value ≡ p) × (h.promise.table.value ≡ table.now)) loads.items hs.items) }
 {
     let mut children = children;
-    for part in parts {
-        let child = start(scope, alloc, table, gate, part)?;
+    for load in loads {
+        let child = start(scope, alloc, table, gate, load)?;
         let Ok(()) = children.push(child) else {
             unreachable!()
         };
@@ -163,7 +163,7 @@ fn start_all<'s, E>(
 fn join_all<R: Threads>(rt: &R, children: Vec<Child>, results: Vec<Vec<Ran>>) -> Vec<Vec<Ran>>
     requires room { length children.items ≤ vec_capacity results }
     requires empty { results.items ≡ [] }
-    ensures each { AllZip (λ h r. HasRunPart h.promise.table.value h.promise.part.value r) children.items result.items }
+    ensures each { AllZip (λ h r. HasRunLoad h.promise.table.value h.promise.load.value r) children.items result.items }
     ensures room { vec_capacity results ≤ vec_capacity result }
 {
     let mut results = results;
@@ -180,40 +180,40 @@ fn sends<T: Send>()
     ensures { IsSend T.row }
 {}
 
-/// It does nothing: its contract says that a part may go to another thread.
-fn part_sends()
-    ensures { IsSend part_type.the_row }
+/// It does nothing: its contract says that a load may go to another thread.
+fn load_sends()
+    ensures { IsSend load_type.the_row }
 {
     sends::<Job>();
-    sends::<Task>();
-    sends::<TaskRan>();
+    sends::<PlacedJob>();
+    sends::<JobRan>();
     sends::<Work>();
-    sends::<Part>();
+    sends::<Load>();
 }
 
-/// Starts a thread that runs the part, and gives its handle. None where it could not be started: the part is lost with
+/// Starts a thread that runs the load, and gives its handle. None where it could not be started: the load is lost with
 /// its shards.
 fn start<'s, E>(
     scope: &Scope<'s, E>,
     alloc: Global,
     table: &'s Table,
     gate: &'s (dyn Gate + Sync),
-    part: Part,
+    load: Load,
 ) -> Option<Child>
-    requires { IsReadyPart table.now part }
-    ensures { IfSome result (λ h. (h.promise.part.value ≡ part) × (h.promise.table.value ≡ table.now)) }
+    requires { IsReadyLoad table.now load }
+    ensures { IfSome result (λ h. (h.promise.load.value ≡ load) × (h.promise.table.value ≡ table.now)) }
 {
-    let promise = RunOfPart {
+    let promise = RunOfLoad {
         table: Snapshot::of(table),
-        part: Snapshot::of(&part),
+        load: Snapshot::of(&load),
     };
-    part_sends();
+    load_sends();
     match scope.spawn_with(
         promise,
         move || -> Vec<Ran>
-            requires { IsReadyPart table.now part }
-            ensures { HasRunPart table.entry.now part result }
-        { part.run(alloc, table, gate) },
+            requires { IsReadyLoad table.now load }
+            ensures { HasRunLoad table.entry.now load result }
+        { load.run(alloc, table, gate) },
     ) {
         Ok(child) => Some(child),
         Err(_) => None,

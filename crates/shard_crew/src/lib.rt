@@ -1,6 +1,6 @@
 //! Workers that are threads of their own.
 //!
-//! A `Crew` runs the parts of a layer on as many threads, the last part on the caller's. No other crate starts threads
+//! A `Crew` runs the loads of a layer on as many threads, the last load on the caller's. No other crate starts threads
 //! for a layer.
 #![tactic(auto)]
 

@@ -23,44 +23,44 @@ use Rattle.shard_maps.specs.Layer as layers
 use Rattle.shard_maps.specs.Laws.{TakenOutAsTheyWere, PartsAreInTurn}
 use Rattle.shard_maps.specs.Rows.{taken_out, emptied, taken_out_each, emptied_each, put_span, put_spans}
 use Rattle.shard_workers.proofs.Turns.{unit_ran}
-use Rattle.shard_workers.specs.Parts.{IsReadyPart, HasRunPart}
+use Rattle.shard_workers.specs.Loads.{IsReadyLoad, HasRunLoad}
 use Rattle.shard_workers.specs.Runs.{IsReady, HasRun, HaveRunOver}
-use Rattle.shard_workers.specs.Tasks.{outcome}
-use Rattle.shard_workers.specs.declared.part.Part.{Part}
-use Rattle.shard_workers.specs.declared.task.Task.{Task}
-use Rattle.shard_workers.specs.declared.task.TaskRan.{TaskRan}
+use Rattle.shard_workers.specs.PlacedJobs.{outcome}
+use Rattle.shard_workers.specs.declared.load.Load.{Load}
+use Rattle.shard_workers.specs.declared.placed_job.PlacedJob.{PlacedJob}
+use Rattle.shard_workers.specs.declared.placed_job.JobRan.{JobRan}
 use Rattle.shard_workers.specs.declared.work.Work.{Work}
 use Rattle.shard_workers.specs.declared.work.Ran.{Ran}
 use Rattle.tasks.proofs.Groups.{task_groups-below}
-use Rattle.shard_exec.specs.Dealing.{flat, left_at, placed, all_works, all_rans, tasks_of, spans_of, AreInside}
-use Rattle.shard_exec.specs.DealtRooms.{IsForGroups, MadeWorks, FitsPart, HaveRoomFor, all_rooms, IsInRow}
-use Rattle.shard_exec.specs.Layers.{commands_of, AddressTheirGroups, HaveGiven, TookTasks}
-use Rattle.shard_exec.specs.declared.dealt_room.PartRoom.{PartRoom}
+use Rattle.shard_exec.specs.Dealing.{flat, left_at, placed, all_works, all_rans, jobs_of, spans_of, AreInside}
+use Rattle.shard_exec.specs.DealtRooms.{IsForGroups, MadeWorks, FitsLoad, HaveRoomFor, all_rooms, IsInRow}
+use Rattle.shard_exec.specs.Layers.{commands_of, AddressTheirGroups, HaveGiven, TookJobs}
+use Rattle.shard_exec.specs.declared.dealt_room.LoadRoom.{LoadRoom}
 use Rattle.shard_exec.specs.declared.dealt_room.UnitRoom.{UnitRoom}
 use Rattle.shard_exec.proofs.Slots.{still, left_still, left_at-append, within}
 use Rattle.shard_exec.proofs.RowLaws.{own_span}
 use Rattle.shard_exec.proofs.Starving.{HaveRunOn, run_on, unit_groups}
-use Rattle.shard_exec.proofs.UnitLaws.{IsTaskOf, Tells, UnitsRunOn, works_of, are_works, are_ready, tells_all, zip_map, zip_both, outcomes}
+use Rattle.shard_exec.proofs.UnitLaws.{IsJobOf, Tells, UnitsRunOn, works_of, are_works, are_ready, tells_all, zip_map, zip_both, outcomes}
 use Rattle.shard_exec.proofs.UnitLaws.{outcomes_many, outcomes_stand, units_there, given, places_inside, address_at, get_set}
 
-abbrev pub tasks_each : List Work → List (List Task)
-tasks_each ws = map (λ w. w.tasks.items) ws
+abbrev pub jobs_each : List Work → List (List PlacedJob)
+jobs_each ws = map (λ w. w.jobs.items) ws
 
-abbrev pub rans_each : List Ran → List (List TaskRan)
-rans_each rs = map (λ r. r.tasks.items) rs
+abbrev pub rans_each : List Ran → List (List JobRan)
+rans_each rs = map (λ r. r.jobs.items) rs
 
 -- ---- what was made
 
-pub took_length : (skip : List RequestId) (slots : List (Option Job)) (is : List ℕ) (ts : List Task) → TookTasks skip slots is ts
+pub took_length : (skip : List RequestId) (slots : List (Option Job)) (is : List ℕ) (ts : List PlacedJob) → TookJobs skip slots is ts
     → length ts ≡ length is
 took_length skip slots [] [] took = refl
 took_length skip slots [] (t ∷ ts) took = absurd took
 took_length skip slots (i ∷ is) [] took = absurd took
 took_length skip slots (i ∷ is) (t ∷ ts) took = ap suc (took_length skip (slice_set slots i None) is ts took.1)
 
-took_of : (skip : List RequestId) (layer : List Job) (slots : List (Option Job)) (is : List ℕ) (ts : List Task)
-    → ((i : ℕ) (j : Job) → slice_get slots i ≡ Some (Some j) → slice_get layer i ≡ Some j) → TookTasks skip slots is ts
-    → AllZip (IsTaskOf skip layer) is ts
+took_of : (skip : List RequestId) (layer : List Job) (slots : List (Option Job)) (is : List ℕ) (ts : List PlacedJob)
+    → ((i : ℕ) (j : Job) → slice_get slots i ≡ Some (Some j) → slice_get layer i ≡ Some j) → TookJobs skip slots is ts
+    → AllZip (IsJobOf skip layer) is ts
 took_of skip layer slots [] [] sub took = tt
 took_of skip layer slots [] (t ∷ ts) sub took = absurd took
 took_of skip layer slots (i ∷ is) [] sub took = absurd took
@@ -69,18 +69,18 @@ took_of skip layer slots (i ∷ is) (t ∷ ts) sub took = (
   took_of skip layer (slice_set slots i None) is ts (λ k j e. sub k j (still slots i k j e)) took.1,
 )
 
-pub made_tasks : (skip : List RequestId) (layer : List Job) (slots : List (Option Job)) (row : List Map) (us : List (List ℕ))
+pub made_jobs : (skip : List RequestId) (layer : List Job) (slots : List (Option Job)) (row : List Map) (us : List (List ℕ))
     (ms : List UnitRoom) (ws : List Work) (left : List Map)
     → ((i : ℕ) (j : Job) → slice_get slots i ≡ Some (Some j) → slice_get layer i ≡ Some j) → MadeWorks skip slots row us ms ws left
-    → AllZip (AllZip (IsTaskOf skip layer)) us (tasks_each ws)
-made_tasks skip layer slots row [] [] [] left sub made = tt
-made_tasks skip layer slots row [] [] (w ∷ ws) left sub made = absurd made
-made_tasks skip layer slots row [] (m ∷ ms) ws left sub made = absurd made
-made_tasks skip layer slots row (u ∷ us) [] ws left sub made = absurd made
-made_tasks skip layer slots row (u ∷ us) (m ∷ ms) [] left sub made = absurd made
-made_tasks skip layer slots row (u ∷ us) (m ∷ ms) (w ∷ ws) left sub made = (
-  took_of skip layer slots u w.tasks.items sub made.0,
-  made_tasks skip layer (left_at slots u) (emptied empty row m.groups) us ms ws left (λ i j e. sub i j (left_still slots u i j e)) made.2,
+    → AllZip (AllZip (IsJobOf skip layer)) us (jobs_each ws)
+made_jobs skip layer slots row [] [] [] left sub made = tt
+made_jobs skip layer slots row [] [] (w ∷ ws) left sub made = absurd made
+made_jobs skip layer slots row [] (m ∷ ms) ws left sub made = absurd made
+made_jobs skip layer slots row (u ∷ us) [] ws left sub made = absurd made
+made_jobs skip layer slots row (u ∷ us) (m ∷ ms) [] left sub made = absurd made
+made_jobs skip layer slots row (u ∷ us) (m ∷ ms) (w ∷ ws) left sub made = (
+  took_of skip layer slots u w.jobs.items sub made.0,
+  made_jobs skip layer (left_at slots u) (emptied empty row m.groups) us ms ws left (λ i j e. sub i j (left_still slots u i j e)) made.2,
 )
 
 abbrev room_groups : List UnitRoom → List (List ℕ)
@@ -126,7 +126,7 @@ made_both skip slots row mid left (u ∷ us) us' (m ∷ ms) ms' (w ∷ ws) ws' m
       (subst (λ s. MadeWorks skip s mid us' ms' ws' left) (left_at-append slots u (concat us)) more),
 )
 
-pub works_snoc : (ps : List Part) (p : Part) (ws : List Work) → all_works (ps ++ p ∷ []) ++ ws ≡ all_works ps ++ (p.works.items ++ ws)
+pub works_snoc : (ps : List Load) (p : Load) (ws : List Work) → all_works (ps ++ p ∷ []) ++ ws ≡ all_works ps ++ (p.works.items ++ ws)
 works_snoc [] p ws = ap (λ l. l ++ ws) (append-nil p.works.items)
 works_snoc (q ∷ ps) p ws =
     append_assoc q.works.items (all_works (ps ++ p ∷ [])) ws ∙ ap (λ l. q.works.items ++ l) (works_snoc ps p ws)
@@ -134,7 +134,7 @@ works_snoc (q ∷ ps) p ws =
 
 -- ---- the rooms are for the groups of the units
 
-groups_of_rooms : (sets : List (List ℕ)) (us : List (List ℕ)) (ms : List UnitRoom) (tss : List (List Task))
+groups_of_rooms : (sets : List (List ℕ)) (us : List (List ℕ)) (ms : List UnitRoom) (tss : List (List PlacedJob))
     → AllZip (IsForGroups sets) us ms
     → length tss ≡ length us
     → ◌≡◌ {A = List (List ℕ)} (room_groups ms) (map (λ (w : layers.Work). w.groups) (works_of sets us tss))
@@ -153,7 +153,7 @@ zip_lengths R [] (y ∷ ys) z = absurd z
 zip_lengths R (x ∷ xs) [] z = absurd z
 zip_lengths R (x ∷ xs) (y ∷ ys) z = ap suc (zip_lengths R xs ys z.1)
 
-pub rooms_in : (sets : List (List ℕ)) (plan : List (List (List ℕ))) (rooms : List PartRoom) → AllZip (FitsPart sets) plan rooms
+pub rooms_in : (sets : List (List ℕ)) (plan : List (List (List ℕ))) (rooms : List LoadRoom) → AllZip (FitsLoad sets) plan rooms
     → AllZip (IsForGroups sets) (units_in plan) (all_rooms rooms)
 rooms_in sets [] [] z = tt
 rooms_in sets [] (r ∷ rooms) z = absurd z
@@ -161,32 +161,32 @@ rooms_in sets (p ∷ plan) [] z = absurd z
 rooms_in sets (p ∷ plan) (r ∷ rooms) z =
     zip_both (IsForGroups sets) p (units_in plan) r.units.items (all_rooms rooms) z.0.groups (rooms_in sets plan rooms z.1)
 
-pub have_rooms : (sets : List (List ℕ)) (plan : List (List (List ℕ))) (rooms : List PartRoom) → AllZip (FitsPart sets) plan rooms
+pub have_rooms : (sets : List (List ℕ)) (plan : List (List (List ℕ))) (rooms : List LoadRoom) → AllZip (FitsLoad sets) plan rooms
     → AllZip HaveRoomFor plan rooms
-have_rooms sets plan rooms z = zip_map (FitsPart sets) HaveRoomFor (λ p r f. f.room) plan rooms z
+have_rooms sets plan rooms z = zip_map (FitsLoad sets) HaveRoomFor (λ p r f. f.room) plan rooms z
 
--- ---- all parts
+-- ---- all loads
 
-pub zip_parts : (table : Layout) (ps : List Part) (rs : List (Vec Ran)) → AllZip (HasRunPart table) ps rs
+pub zip_loads : (table : Layout) (ps : List Load) (rs : List (Vec Ran)) → AllZip (HasRunLoad table) ps rs
     → AllZip (HasRun table) (all_works ps) (all_rans rs)
-zip_parts table [] [] z = tt
-zip_parts table [] (r ∷ rs) z = absurd z
-zip_parts table (p ∷ ps) [] z = absurd z
-zip_parts table (p ∷ ps) (r ∷ rs) z =
-    zip_both (HasRun table) p.works.items (all_works ps) r.items (all_rans rs) z.0 (zip_parts table ps rs z.1)
+zip_loads table [] [] z = tt
+zip_loads table [] (r ∷ rs) z = absurd z
+zip_loads table (p ∷ ps) [] z = absurd z
+zip_loads table (p ∷ ps) (r ∷ rs) z =
+    zip_both (HasRun table) p.works.items (all_works ps) r.items (all_rans rs) z.0 (zip_loads table ps rs z.1)
 
 pub all_first : {A : Type 0} (P : A → Type 0) (xs ys : List A) → AllByRecursion P (xs ++ ys) → AllByRecursion P xs × AllByRecursion P ys
 all_first P [] ys h = (tt, h)
 all_first P (x ∷ xs) ys h = let rest = all_first P xs ys h.1 in ((h.0, rest.0), rest.1)
 
-pub ready_parts : (table : Layout) (ps : List Part) → AllByRecursion (IsReady table) (all_works ps) → AllByRecursion (IsReadyPart table) ps
-ready_parts table [] r = tt
-ready_parts table (p ∷ ps) r =
-    let both = all_first (IsReady table) p.works.items (all_works ps) r in (both.0, ready_parts table ps both.1)
+pub ready_loads : (table : Layout) (ps : List Load) → AllByRecursion (IsReady table) (all_works ps) → AllByRecursion (IsReadyLoad table) ps
+ready_loads table [] r = tt
+ready_loads table (p ∷ ps) r =
+    let both = all_first (IsReady table) p.works.items (all_works ps) r in (both.0, ready_loads table ps both.1)
 
-flat_tasks : (rs : List Ran) → ◌≡◌ {A = List TaskRan} (flat (rans_each rs)) (tasks_of rs)
-flat_tasks [] = refl
-flat_tasks (r ∷ rs) = ap (λ (l : List TaskRan). r.tasks.items ++ l) (flat_tasks rs)
+flat_jobs : (rs : List Ran) → ◌≡◌ {A = List JobRan} (flat (rans_each rs)) (jobs_of rs)
+flat_jobs [] = refl
+flat_jobs (r ∷ rs) = ap (λ (l : List JobRan). r.jobs.items ++ l) (flat_jobs rs)
 
 -- ---- inside the row
 
@@ -234,7 +234,7 @@ rooms_inside table layer units n long a of (u ∷ us) (m ∷ ms) sub z = (
   rooms_inside table layer units n long a of us ms (λ v i. sub v (inr i)) z.1,
 )
 
-over_numbers : (table : Layout) (ts : List Task) (rs : List TaskRan) (before after : Span) → HaveRunOver table ts before rs after
+over_numbers : (table : Layout) (ts : List PlacedJob) (rs : List JobRan) (before after : Span) → HaveRunOver table ts before rs after
     → numbers after ≡ numbers before
 over_numbers table [] [] before after run = ap numbers run
 over_numbers table [] (r ∷ rs) before after run = absurd run
@@ -247,10 +247,10 @@ below_all n (s ∷ ss) h = (h s.0 (or_left _ _ (eq-eqb s.0 s.0 refl)), below_all
 
 -- ---- put back one after another
 
-pub tasks_of-append : (xs ys : List Ran) → tasks_of (xs ++ ys) ≡ tasks_of xs ++ tasks_of ys
-tasks_of-append [] ys = refl
-tasks_of-append (x ∷ xs) ys = ap (λ l. x.tasks.items ++ l) (tasks_of-append xs ys)
-    ∙ sym (append_assoc x.tasks.items (tasks_of xs) (tasks_of ys))
+pub jobs_of-append : (xs ys : List Ran) → jobs_of (xs ++ ys) ≡ jobs_of xs ++ jobs_of ys
+jobs_of-append [] ys = refl
+jobs_of-append (x ∷ xs) ys = ap (λ l. x.jobs.items ++ l) (jobs_of-append xs ys)
+    ∙ sym (append_assoc x.jobs.items (jobs_of xs) (jobs_of ys))
 
 pub spans_of-append : (xs ys : List Ran) → ◌≡◌ {A = List Span} (spans_of (xs ++ ys)) (spans_of xs ++ spans_of ys)
 spans_of-append [] ys = refl
@@ -271,27 +271,27 @@ module _ (table : Layout) (maps : List Map) (skip : List RequestId) (layer : Lis
   abbrev sets : List (List ℕ)
   sets = groups_each layer
 
-  tasks : AllZip (AllZip (IsTaskOf skip layer)) units (tasks_each works)
-  tasks = made_tasks skip layer slots maps units rooms works left sub made
+  jobs : AllZip (AllZip (IsJobOf skip layer)) units (jobs_each works)
+  jobs = made_jobs skip layer slots maps units rooms works left sub made
 
   abbrev law_works : List layers.Work
-  law_works = works_of sets units (tasks_each works)
+  law_works = works_of sets units (jobs_each works)
 
   groups_same : ◌≡◌ {A = List (List ℕ)} (room_groups rooms) (map (λ (w : layers.Work). w.groups) law_works)
-  groups_same = groups_of_rooms sets units rooms (tasks_each works) for_groups
-      (zip_lengths (AllZip (IsTaskOf skip layer)) units (tasks_each works) tasks)
+  groups_same = groups_of_rooms sets units rooms (jobs_each works) for_groups
+      (zip_lengths (AllZip (IsJobOf skip layer)) units (jobs_each works) jobs)
 
   pub left_is : left ≡ layers.left_of maps law_works
   left_is = made_left skip slots maps units rooms works left made ∙ ap (emptied_each empty maps) groups_same
 
   spans_are : ◌≡◌ {A = List Span} (map (λ w. w.shards.items) works) (map (λ (w : layers.Work). span_at maps w.groups) law_works)
   spans_are = made_spans skip slots maps units rooms works left made ∙ ap (taken_out_each empty maps) groups_same
-      ∙ taken_law table maps (commands_of layer) law_works (are_works table skip layer units (tasks_each works) address of tasks)
+      ∙ taken_law table maps (commands_of layer) law_works (are_works table skip layer units (jobs_each works) address of jobs)
 
   -- each unit has its shards as they were
-  has_span : (us : List (List ℕ)) (ws : List Work) → AllZip (AllZip (IsTaskOf skip layer)) us (tasks_each ws)
+  has_span : (us : List (List ℕ)) (ws : List Work) → AllZip (AllZip (IsJobOf skip layer)) us (jobs_each ws)
       → ◌≡◌ {A = List Span} (map (λ w. w.shards.items) ws)
-      (map (λ (w : layers.Work). span_at maps w.groups) (works_of sets us (tasks_each ws)))
+      (map (λ (w : layers.Work). span_at maps w.groups) (works_of sets us (jobs_each ws)))
       → AllZip (λ u w. w.shards.items ≡ span_at maps (unit_groups sets u)) us ws
   has_span [] [] z e = tt
   has_span [] (w ∷ ws) z e = absurd z
@@ -302,60 +302,60 @@ module _ (table : Layout) (maps : List Map) (skip : List RequestId) (layer : Lis
   )
 
   with_spans : AllZip (λ u w. w.shards.items ≡ span_at maps (unit_groups sets u)) units works
-  with_spans = has_span units works tasks spans_are
+  with_spans = has_span units works jobs spans_are
 
   ready_each : (us : List (List ℕ)) (ws : List Work) → ((u : List ℕ) → In u us → In u units)
-      → AllZip (AllZip (IsTaskOf skip layer)) us (tasks_each ws) → AllZip (λ u w. w.shards.items ≡ span_at maps (unit_groups sets u)) us ws
+      → AllZip (AllZip (IsJobOf skip layer)) us (jobs_each ws) → AllZip (λ u w. w.shards.items ≡ span_at maps (unit_groups sets u)) us ws
       → AllByRecursion (IsReady table) ws
   ready_each [] [] inside z e = tt
   ready_each [] (w ∷ ws) inside z e = absurd z
   ready_each (u ∷ us) [] inside z e = tt
   ready_each (u ∷ us) (w ∷ ws) inside z e = (
-    are_ready table skip layer is_table address u w.tasks.items w.shards.items (of.each u (inside u (inl refl))) z.0
+    are_ready table skip layer is_table address u w.jobs.items w.shards.items (of.each u (inside u (inl refl))) z.0
         (ap numbers e.0 ∙ numbers-span_at maps (unit_groups sets u))
         (subst (SpanHasOwnKeys table) (sym e.0) (own_span table maps (unit_groups sets u) own)),
     ready_each us ws (λ v i. inside v (inr i)) z.1 e.1,
   )
 
   pub all_ready : AllByRecursion (IsReady table) works
-  all_ready = ready_each units works (λ u i. i) tasks with_spans
+  all_ready = ready_each units works (λ u i. i) jobs with_spans
 
   module _ (rans : List Ran) (ran : AllZip (HasRun table) works rans) where
-    tells_each : (ws : List Work) (rs : List Ran) → AllZip (HasRun table) ws rs → AllZip (AllZip Tells) (tasks_each ws) (rans_each rs)
+    tells_each : (ws : List Work) (rs : List Ran) → AllZip (HasRun table) ws rs → AllZip (AllZip Tells) (jobs_each ws) (rans_each rs)
     tells_each [] [] z = tt
     tells_each [] (r ∷ rs) z = absurd z
     tells_each (w ∷ ws) [] z = absurd z
     tells_each (w ∷ ws) (r ∷ rs) z =
-        (tells_all table w.tasks.items r.tasks.items w.shards.items r.shards.items z.0, tells_each ws rs z.1)
+        (tells_all table w.jobs.items r.jobs.items w.shards.items r.shards.items z.0, tells_each ws rs z.1)
 
-    tells : AllZip (AllZip Tells) (tasks_each works) (rans_each rans)
+    tells : AllZip (AllZip Tells) (jobs_each works) (rans_each rans)
     tells = tells_each works rans ran
 
     runs_each : (us : List (List ℕ)) (ws : List Work) (rs : List Ran)
         → AllZip (λ u w. w.shards.items ≡ span_at maps (unit_groups sets u)) us ws → AllZip (HasRun table) ws rs
-        → UnitsRunOn sets maps us (tasks_each ws) (rans_each rs)
+        → UnitsRunOn sets maps us (jobs_each ws) (rans_each rs)
     runs_each [] [] rs e z = tt
     runs_each [] (w ∷ ws) rs e z = absurd e
     runs_each (u ∷ us) [] rs e z = absurd e
     runs_each (u ∷ us) (w ∷ ws) [] e z = absurd z
     runs_each (u ∷ us) (w ∷ ws) (r ∷ rs) e z = (
-      subst (λ s. HaveRunOn w.tasks.items (union s) r.tasks.items) e.0
-          (run_on table w.tasks.items r.tasks.items w.shards.items r.shards.items z.0),
+      subst (λ s. HaveRunOn w.jobs.items (union s) r.jobs.items) e.0
+          (run_on table w.jobs.items r.jobs.items w.shards.items r.shards.items z.0),
       runs_each us ws rs e.1 z.1,
     )
 
     abbrev law_rans : List Ran → List layers.Ran
-    law_rans rs = map (λ r. record { outcomes = map (λ t. outcome t.reply) r.tasks.items; span = r.shards.items }) rs
+    law_rans rs = map (λ r. record { outcomes = map (λ t. outcome t.reply) r.jobs.items; span = r.shards.items }) rs
 
     spans_same : (rs : List Ran) → ◌≡◌ {A = List Span} (map (λ (r : layers.Ran). r.span) (law_rans rs)) (spans_of rs)
     spans_same [] = refl
     spans_same (r ∷ rs) = ap (λ (l : List Span). r.shards.items ∷ l) (spans_same rs)
 
     runs_of : (outs : List (Option Content)) (us : List (List ℕ)) (ws : List Work) (rs : List Ran) → ((u : List ℕ) → In u us → In u units)
-        → AllZip (AllZip (IsTaskOf skip layer)) us (tasks_each ws)
+        → AllZip (AllZip (IsJobOf skip layer)) us (jobs_each ws)
         → AllZip (λ u w. w.shards.items ≡ span_at maps (unit_groups sets u)) us ws → AllZip (HasRun table) ws rs
         → AllZip (λ u r. layers.StandAt outs u (map (λ t. outcome t.reply) r)) us (rans_each rs)
-        → AllZip (layers.IsRunOf table maps outs) (works_of sets us (tasks_each ws)) (law_rans rs)
+        → AllZip (layers.IsRunOf table maps outs) (works_of sets us (jobs_each ws)) (law_rans rs)
     runs_of outs [] [] [] inside z e run stand = tt
     runs_of outs [] [] (r ∷ rs) inside z e run stand = absurd run
     runs_of outs [] (w ∷ ws) rs inside z e run stand = absurd z
@@ -363,10 +363,10 @@ module _ (table : Layout) (maps : List Map) (skip : List RequestId) (layer : Lis
     runs_of outs (u ∷ us) (w ∷ ws) [] inside z e run stand = absurd run
     runs_of outs (u ∷ us) (w ∷ ws) (r ∷ rs) inside z e run stand = (
       record {
-        ran = subst (λ s. layers.UnitRan table (map (λ t. t.job.asked.command) w.tasks.items) s
-            (map (λ t. outcome t.reply) r.tasks.items) r.shards.items)
-            e.0 (unit_ran table w.tasks.items r.tasks.items w.shards.items r.shards.items
-            (are_ready table skip layer is_table address u w.tasks.items w.shards.items (of.each u (inside u (inl refl))) z.0
+        ran = subst (λ s. layers.UnitRan table (map (λ t. t.job.asked.command) w.jobs.items) s
+            (map (λ t. outcome t.reply) r.jobs.items) r.shards.items)
+            e.0 (unit_ran table w.jobs.items r.jobs.items w.shards.items r.shards.items
+            (are_ready table skip layer is_table address u w.jobs.items w.shards.items (of.each u (inside u (inl refl))) z.0
             (ap numbers e.0 ∙ numbers-span_at maps (unit_groups sets u))
             (subst (SpanHasOwnKeys table) (sym e.0) (own_span table maps (unit_groups sets u) own))) run.0);
         stand = stand.0;
@@ -384,7 +384,7 @@ module _ (table : Layout) (maps : List Map) (skip : List RequestId) (layer : Lis
       below_all n r.shards.items (λ g there. subst (λ k. g < k) (sym long)
           (unit_inside table layer units address of u (inside u (inl refl)) g
           (ap (λ gs. has gs g) (sym (numbers-span_at maps (unit_groups sets u)) ∙ ap numbers (sym e.0)
-          ∙ sym (over_numbers table w.tasks.items r.tasks.items w.shards.items r.shards.items run.0)) ∙ there))),
+          ∙ sym (over_numbers table w.jobs.items r.jobs.items w.shards.items r.shards.items run.0)) ∙ there))),
       spans_each n long us ws rs (λ v i. inside v (inr i)) e.1 run.1,
     )
 
@@ -392,29 +392,29 @@ module _ (table : Layout) (maps : List Map) (skip : List RequestId) (layer : Lis
     pub spans_inside : (n : ℕ) → n ≡ table.shards → AllByRecursion (AllByRecursion (λ s. s.0 < n)) (spans_of rans)
     spans_inside n long = spans_each n long units works rans (λ u i. i) with_spans ran
 
-    pub tasks_inside : (n : ℕ) → n ≡ length layer → AreInside n (tasks_of rans)
-    tasks_inside n long = subst (AreInside n) (flat_tasks rans)
-        (places_inside skip layer units (tasks_each works) (rans_each rans) of tasks tells n long)
+    pub jobs_inside : (n : ℕ) → n ≡ length layer → AreInside n (jobs_of rans)
+    jobs_inside n long = subst (AreInside n) (flat_jobs rans)
+        (places_inside skip layer units (jobs_each works) (rans_each rans) of jobs tells n long)
 
     -- the layer is done once the shards are back and the outcomes in their places
-    pub dealt_given : PartsAreInTurn → length maps ≡ table.shards → (rans0 gave : List (Option TaskRan)) (new : List Map)
-        → rans0 ≡ replicate (length layer) None → gave ≡ placed rans0 (tasks_of rans) → new ≡ put_spans left (spans_of rans)
+    pub dealt_given : PartsAreInTurn → length maps ≡ table.shards → (rans0 gave : List (Option JobRan)) (new : List Map)
+        → rans0 ≡ replicate (length layer) None → gave ≡ placed rans0 (jobs_of rans) → new ≡ put_spans left (spans_of rans)
         → HaveGiven table maps skip layer gave new
     dealt_given law long rans0 gave new none put back =
         let is : gave ≡ placed (replicate (length layer) None) (flat (rans_each rans)) =
-        put ∙ ap (λ s. placed s (tasks_of rans)) none ∙ ap (placed (replicate (length layer) None)) (sym (flat_tasks rans)) in
-        let there = units_there skip layer units (tasks_each works) (rans_each rans) of tasks tells gave is in
-        let outs = outcomes skip layer units (tasks_each works) (rans_each rans) of tasks tells gave is in
+        put ∙ ap (λ s. placed s (jobs_of rans)) none ∙ ap (placed (replicate (length layer) None)) (sym (flat_jobs rans)) in
+        let there = units_there skip layer units (jobs_each works) (rans_each rans) of jobs tells gave is in
+        let outs = outcomes skip layer units (jobs_each works) (rans_each rans) of jobs tells gave is in
         let stand : AllZip (λ u rs. layers.StandAt outs u (map (λ t. outcome t.reply) rs)) units (rans_each rans) =
         zip_map (AllZip (λ i r. slice_get gave i ≡ Some (Some r))) (λ u rs. layers.StandAt outs u (map (λ t. outcome t.reply) rs))
-        (outcomes_stand skip layer units (tasks_each works) (rans_each rans) of tasks tells gave is) units (rans_each rans) there in
+        (outcomes_stand skip layer units (jobs_each works) (rans_each rans) of jobs tells gave is) units (rans_each rans) there in
         let row : layers.with_rans (layers.left_of maps law_works) (law_rans rans) ≡ new =
         ap (put_spans (layers.left_of maps law_works)) (spans_same rans) ∙ ap (λ r. put_spans r (spans_of rans)) (sym left_is) ∙ sym back in
         let turn = law table maps (commands_of layer) law_works (law_rans rans) outs is_table own long
-        (are_works table skip layer units (tasks_each works) address of tasks)
-        (outcomes_many skip layer units (tasks_each works) (rans_each rans) of tasks tells gave is)
-        (runs_of outs units works rans (λ u i. i) tasks with_spans ran stand) in
-        given skip layer units (tasks_each works) (rans_each rans) of tasks tells gave is table maps is_table own address
+        (are_works table skip layer units (jobs_each works) address of jobs)
+        (outcomes_many skip layer units (jobs_each works) (rans_each rans) of jobs tells gave is)
+        (runs_of outs units works rans (λ u i. i) jobs with_spans ran stand) in
+        given skip layer units (jobs_each works) (rans_each rans) of jobs tells gave is table maps is_table own address
         (runs_each units works rans with_spans ran) new
         (subst (layers.LayerRan table maps (commands_of layer) outs) row turn.0)
         (subst (λ n. layers.AnsweredInTurn (joined maps) (commands_of layer) outs (joined n)) row turn.1)

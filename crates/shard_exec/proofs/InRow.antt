@@ -18,16 +18,16 @@ use Rattle.shard_maps.specs.Joined.{map_of_shard, HasOwnKeys, Span, numbers, spa
 use Rattle.shard_maps.specs.Laws.{WorksAreInTurn}
 use Rattle.shard_maps.specs.Rows.{taken_out, emptied, put_span}
 use Rattle.shard_workers.proofs.Turns.{one_over}
-use Rattle.shard_workers.specs.Tasks.{HasRunOn, IsReadyFor, HasRunOver}
-use Rattle.shard_workers.specs.declared.task.Task.{Task}
-use Rattle.shard_workers.specs.declared.task.TaskRan.{TaskRan}
+use Rattle.shard_workers.specs.PlacedJobs.{HasRunOn, IsReadyFor, HasRunOver}
+use Rattle.shard_workers.specs.declared.placed_job.PlacedJob.{PlacedJob}
+use Rattle.shard_workers.specs.declared.placed_job.JobRan.{JobRan}
 use Rattle.tasks.specs.Tasks.{task_groups}
 use Rattle.tasks.proofs.Groups.{IsAscending-task_groups, task_groups-below}
 use Rattle.shard_exec.specs.Layers.{is_named, IsDone, ended_of}
 use Rattle.shard_exec.specs.RowRuns.{HasRunInRow}
 use Rattle.shard_exec.proofs.RowLaws.{own_span, row_given}
 
-module _ (table : Layout) (maps : List Map) (t : Task) (is_table : IsTable table) (long : length maps ≡ table.shards)
+module _ (table : Layout) (maps : List Map) (t : PlacedJob) (is_table : IsTable table) (long : length maps ≡ table.shards)
     (own : HasOwnKeys table maps) (groups : t.job.groups ≡ task_groups table t.job.asked.command) where
   -- its shards are in the row
   pub groups_inside : (g : ℕ) → has t.job.groups g ≡ true → g < length maps
@@ -46,7 +46,7 @@ module _ (table : Layout) (maps : List Map) (t : Task) (is_table : IsTable table
   }
 
   -- over the shard of its one group
-  pub in_place : (r : TaskRan) (g : ℕ) (new : List Map) → t.job.groups ≡ g ∷ []
+  pub in_place : (r : JobRan) (g : ℕ) (new : List Map) → t.job.groups ≡ g ∷ []
       → HasRunOn t (map_of_shard maps g) r (map_of_shard new g) → new ≡ slice_set maps g (map_of_shard new g)
       → HasRunInRow table t maps r new
   in_place r g new lone run put = record {
@@ -78,7 +78,7 @@ module _ (table : Layout) (maps : List Map) (t : Task) (is_table : IsTable table
       below [] h = tt
       below (s ∷ ss) h = (h s.0 (or_left _ _ (eq-eqb s.0 s.0 refl)), below ss (λ g there. h g (or_right _ _ there)))
 
-  pub moved : (r : TaskRan) (before after : Span) (left new : List Map) → before ≡ taken_out empty maps t.job.groups
+  pub moved : (r : JobRan) (before after : Span) (left new : List Map) → before ≡ taken_out empty maps t.job.groups
       → left ≡ emptied empty maps t.job.groups → HasRunOver table t before r after → new ≡ put_span left after
       → HasRunInRow table t maps r new
   moved r before after left new is emptied_is run put = record {
@@ -128,8 +128,8 @@ lone_unit gs = record { each = each; once = once }
     once (suc i) = (let a = ne_eqb 0 (suc i) (λ e. absurd (let f = e in cc)) in let b = le-ltb (suc i) 1 (omega arith) in
         ap (λ x. 0 + cond x 1 0) a ∙ ap (λ x. cond x 1 0) (sym b))
 
-pub alone_done : WorksAreInTurn → (table : Layout) (maps new : List Map) (skip : List RequestId) (t : Task) (r : TaskRan) → IsTable table
-    → HasOwnKeys table maps → t.job.groups ≡ task_groups table t.job.asked.command → t.place ≡ 0 → t.skipped ≡ is_named skip t.job.id
+pub alone_done : WorksAreInTurn → (table : Layout) (maps new : List Map) (skip : List RequestId) (t : PlacedJob) (r : JobRan)
+    → IsTable table → HasOwnKeys table maps → t.job.groups ≡ task_groups table t.job.asked.command → t.place ≡ 0 → t.skipped ≡ is_named skip t.job.id
     → HasRunInRow table t maps r new → IsDone table maps skip (t.job ∷ []) (ended_of r ∷ []) new
 alone_done law table maps new skip t r is_table own groups place skipped run =
     (row_given table maps skip (t.job ∷ []) is_table own (groups, tt) law ((0 ∷ []) ∷ []) (Some t.job ∷ []) (None ∷ []) (Some r ∷ []) new

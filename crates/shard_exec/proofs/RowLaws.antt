@@ -20,15 +20,15 @@ use Rattle.shard_maps.specs.Layer as layers
 use Rattle.shard_maps.specs.Laws.{WorksAreInTurn}
 use Rattle.shard_workers.proofs.Turns.{unit_ran}
 use Rattle.shard_workers.specs.Runs.{HaveRunOver}
-use Rattle.shard_workers.specs.Tasks.{outcome, HasRunOver}
-use Rattle.shard_workers.specs.declared.task.Task.{Task}
-use Rattle.shard_workers.specs.declared.task.TaskRan.{TaskRan}
+use Rattle.shard_workers.specs.PlacedJobs.{outcome, HasRunOver}
+use Rattle.shard_workers.specs.declared.placed_job.PlacedJob.{PlacedJob}
+use Rattle.shard_workers.specs.declared.placed_job.JobRan.{JobRan}
 use Rattle.shard_exec.specs.Dealing.{flat, left_at, placed}
 use Rattle.shard_exec.specs.Layers.{commands_of, AddressTheirGroups, HaveGiven}
 use Rattle.shard_exec.specs.RowRuns.{HaveRunAt}
 use Rattle.shard_exec.proofs.Slots.{still, left_still, placed-append, AtMostOnce, once_in, once_later}
 use Rattle.shard_exec.proofs.Starving.{HaveRunOn, run_on, unit_groups, has_unit_groups}
-use Rattle.shard_exec.proofs.UnitLaws.{IsTaskOf, Tells, UnitsRunOn, works_of, are_works, are_ready, tells_all, units_apart}
+use Rattle.shard_exec.proofs.UnitLaws.{IsJobOf, Tells, UnitsRunOn, works_of, are_works, are_ready, tells_all, units_apart}
 use Rattle.shard_exec.proofs.UnitLaws.{outcomes, outcomes_many, outcomes_stand, units_there, given, get_set, zip_map}
 
 -- ---- only their own keys
@@ -52,7 +52,7 @@ own_row table old new gs own span others g = elim (cases_Bool (has gs g)) [
   | inr away ↦ subst (HasKeysOf table g) (sym (others g away)) (own g)
 ]
 
-own_over : (table : Layout) (ts : List Task) (rs : List TaskRan) (before after : Span) → SpanHasOwnKeys table before
+own_over : (table : Layout) (ts : List PlacedJob) (rs : List JobRan) (before after : Span) → SpanHasOwnKeys table before
     → HaveRunOver table ts before rs after → SpanHasOwnKeys table after
 own_over table [] [] before after own run = subst (SpanHasOwnKeys table) (sym run) own
 own_over table [] (r ∷ rs) before after own run = absurd run
@@ -62,11 +62,12 @@ own_over table (t ∷ ts) (r ∷ rs) before after own run = own_over table ts rs
 -- ---- a unit in the row
 
 -- the requests of a unit were run over the shards of these groups, and the others are as they were
-pub record UnitInRow (table : Layout) (old : List Map) (gs : List ℕ) (ts : List Task) (rs : List TaskRan) (new : List Map) : Type 0 where
+pub record UnitInRow (table : Layout) (old : List Map) (gs : List ℕ) (ts : List PlacedJob) (rs : List JobRan) (new : List Map)
+    : Type 0 where
   pub over : HaveRunOver table ts (span_at old gs) rs (span_at new gs)
   pub others : (shard : ℕ) → has gs shard ≡ false → map_of_shard new shard ≡ map_of_shard old shard
 
-abbrev pub UnitsInRow : Layout → List (List ℕ) → List Map → List (List ℕ) → List (List Task) → List (List TaskRan) → List Map → Type 0
+abbrev pub UnitsInRow : Layout → List (List ℕ) → List Map → List (List ℕ) → List (List PlacedJob) → List (List JobRan) → List Map → Type 0
 UnitsInRow table sets row [] [] [] left = left ≡ row
 UnitsInRow table sets row (u ∷ us) (ts ∷ tss) (rs ∷ rss) left =
     (mid : List Map) × UnitInRow table row (unit_groups sets u) ts rs mid × UnitsInRow table sets mid us tss rss left
@@ -74,16 +75,16 @@ UnitsInRow table sets row _ _ _ left = ⊥
 
 -- what was run at the places of a unit, and at the others behind it
 pub record UnitApart (table : Layout) (skip : List RequestId) (layer : List Job) (slots : List (Option Job)) (row : List Map) (gs : List ℕ)
-    (u others : List ℕ) (rans given : List (Option TaskRan)) (left : List Map) : Type 0 where
-  pub ts : List Task
-  pub rs : List TaskRan
+    (u others : List ℕ) (rans given : List (Option JobRan)) (left : List Map) : Type 0 where
+  pub ts : List PlacedJob
+  pub rs : List JobRan
   pub mid : List Map
-  pub tasks : AllZip (IsTaskOf skip layer) u ts
+  pub jobs : AllZip (IsJobOf skip layer) u ts
   pub run : UnitInRow table row gs ts rs mid
   pub rest : HaveRunAt table skip (left_at slots u) mid others (placed rans rs) given left
 
 module _ (table : Layout) (skip : List RequestId) (layer : List Job) where
-  split_unit : (slots : List (Option Job)) (row : List Map) (gs u rest : List ℕ) (rans given : List (Option TaskRan)) (left : List Map)
+  split_unit : (slots : List (Option Job)) (row : List Map) (gs u rest : List ℕ) (rans given : List (Option JobRan)) (left : List Map)
       → ((i : ℕ) (j : Job) → slice_get slots i ≡ Some (Some j) → slice_get layer i ≡ Some j)
       → ((i : ℕ) (j : Job) → has u i ≡ true → slice_get layer i ≡ Some j → j.groups ≡ gs)
       → HaveRunAt table skip slots row (u ++ rest) rans given left → UnitApart table skip layer slots row gs u rest rans given left
@@ -91,7 +92,7 @@ module _ (table : Layout) (skip : List RequestId) (layer : List Job) where
     ts = [];
     rs = [];
     mid = row;
-    tasks = tt;
+    jobs = tt;
     run = record { over = refl; others = λ g away. refl };
     rest = run;
   }
@@ -107,7 +108,7 @@ module _ (table : Layout) (skip : List RequestId) (layer : List Job) where
         ts = t ∷ more.ts;
         rs = r ∷ more.rs;
         mid = more.mid;
-        tasks = (record { at = at; place = run.3.place; skipped = run.3.skipped }, more.tasks);
+        jobs = (record { at = at; place = run.3.place; skipped = run.3.skipped }, more.jobs);
         run = record {
           over = (span_at mid gs, over, more.run.over);
           others = λ g away. more.run.others g away ∙ run.4.others g (ap (λ x. has x g) groups ∙ away);
@@ -121,10 +122,10 @@ module _ (table : Layout) (skip : List RequestId) (layer : List Job) where
 
 -- all units
 pub record AllApart (table : Layout) (skip : List RequestId) (layer : List Job) (row : List Map) (us : List (List ℕ))
-    (rans given : List (Option TaskRan)) (left : List Map) : Type 0 where
-  pub tss : List (List Task)
-  pub rss : List (List TaskRan)
-  pub tasks : AllZip (AllZip (IsTaskOf skip layer)) us tss
+    (rans given : List (Option JobRan)) (left : List Map) : Type 0 where
+  pub tss : List (List PlacedJob)
+  pub rss : List (List JobRan)
+  pub jobs : AllZip (AllZip (IsJobOf skip layer)) us tss
   pub run : UnitsInRow table (groups_each layer) row us tss rss left
   pub put : given ≡ placed rans (flat rss)
 
@@ -135,13 +136,13 @@ unit_has layer u is i j there at = sym (get_set layer i j at) ∙ has_unit_group
 
 pub all_apart : (table : Layout) (skip : List RequestId) (layer : List Job) (us : List (List ℕ)) (slots : List (Option Job))
     (row : List Map)
-    (rans given : List (Option TaskRan)) (left : List Map) → ((u : List ℕ) → In u us → IsUnit (groups_each layer) u)
+    (rans given : List (Option JobRan)) (left : List Map) → ((u : List ℕ) → In u us → IsUnit (groups_each layer) u)
     → ((i : ℕ) (j : Job) → slice_get slots i ≡ Some (Some j) → slice_get layer i ≡ Some j)
     → HaveRunAt table skip slots row (concat us) rans given left → AllApart table skip layer row us rans given left
 all_apart table skip layer [] slots row rans given left each sub run = record {
   tss = [];
   rss = [];
-  tasks = tt;
+  jobs = tt;
   run = run.1;
   put = run.0;
 }
@@ -153,7 +154,7 @@ all_apart table skip layer (u ∷ us) slots row rans given left each sub run =
     record {
       tss = first.ts ∷ more.tss;
       rss = first.rs ∷ more.rss;
-      tasks = (first.tasks, more.tasks);
+      jobs = (first.jobs, more.jobs);
       run = (first.mid, first.run, more.run);
       put = more.put ∙ sym (placed-append rans first.rs (flat more.rss));
     }
@@ -161,8 +162,8 @@ all_apart table skip layer (u ∷ us) slots row rans given left each sub run =
 -- ---- from what the shards had before the layer
 
 -- the units run on what their shards had, since those before them leave these alone
-pub runs_on : (table : Layout) (sets : List (List ℕ)) (maps row : List Map) (us : List (List ℕ)) (tss : List (List Task))
-    (rss : List (List TaskRan)) (left : List Map) → ((u : List ℕ) → In u us → IsUnit sets u) → AtMostOnce (concat us)
+pub runs_on : (table : Layout) (sets : List (List ℕ)) (maps row : List Map) (us : List (List ℕ)) (tss : List (List PlacedJob))
+    (rss : List (List JobRan)) (left : List Map) → ((u : List ℕ) → In u us → IsUnit sets u) → AtMostOnce (concat us)
     → ((u : List ℕ) → In u us → (g : ℕ) → has (unit_groups sets u) g ≡ true → map_of_shard row g ≡ map_of_shard maps g)
     → UnitsInRow table sets row us tss rss left → UnitsRunOn sets maps us tss rss
 runs_on table sets maps row [] [] [] left each once alike run = tt
@@ -192,20 +193,20 @@ runs_on table sets maps row (u ∷ us) (ts ∷ tss) (rs ∷ rss) left each once 
 module _ (table : Layout) (maps : List Map) (skip : List RequestId) (layer : List Job) (is_table : IsTable table)
     (own : HasOwnKeys table maps)
     (address : AddressTheirGroups table layer) where
-  works_ran : (outs : List (Option Content)) (row : List Map) (us : List (List ℕ)) (tss : List (List Task)) (rss : List (List TaskRan))
+  works_ran : (outs : List (Option Content)) (row : List Map) (us : List (List ℕ)) (tss : List (List PlacedJob)) (rss : List (List JobRan))
       (left : List Map) → HasOwnKeys table row → ((u : List ℕ) → In u us → IsUnit (groups_each layer) u)
-      → AllZip (AllZip (IsTaskOf skip layer)) us tss
+      → AllZip (AllZip (IsJobOf skip layer)) us tss
       → AllZip (λ u rs. layers.StandAt outs u (map (λ r. outcome r.reply) rs)) us rss
       → UnitsInRow table (groups_each layer) row us tss rss left
       → layers.WorksRan table outs row (works_of (groups_each layer) us tss) left
-  works_ran outs row [] [] [] left own_now each tasks stand run = run
-  works_ran outs row [] [] (rs ∷ rss) left own_now each tasks stand run = absurd run
-  works_ran outs row [] (ts ∷ tss) rss left own_now each tasks stand run = absurd tasks
-  works_ran outs row (u ∷ us) [] rss left own_now each tasks stand run = absurd tasks
-  works_ran outs row (u ∷ us) (ts ∷ tss) [] left own_now each tasks stand run = absurd run
-  works_ran outs row (u ∷ us) (ts ∷ tss) (rs ∷ rss) left own_now each tasks stand run =
+  works_ran outs row [] [] [] left own_now each jobs stand run = run
+  works_ran outs row [] [] (rs ∷ rss) left own_now each jobs stand run = absurd run
+  works_ran outs row [] (ts ∷ tss) rss left own_now each jobs stand run = absurd jobs
+  works_ran outs row (u ∷ us) [] rss left own_now each jobs stand run = absurd jobs
+  works_ran outs row (u ∷ us) (ts ∷ tss) [] left own_now each jobs stand run = absurd run
+  works_ran outs row (u ∷ us) (ts ∷ tss) (rs ∷ rss) left own_now each jobs stand run =
       let gs = unit_groups (groups_each layer) u in
-      let ready = are_ready table skip layer is_table address u ts (span_at row gs) (each u (inl refl)) tasks.0 (numbers-span_at row gs)
+      let ready = are_ready table skip layer is_table address u ts (span_at row gs) (each u (inl refl)) jobs.0 (numbers-span_at row gs)
       (own_span table row gs own_now) in (
         run.0,
         record {
@@ -217,10 +218,10 @@ module _ (table : Layout) (maps : List Map) (skip : List RequestId) (layer : Lis
         works_ran outs run.0 us tss rss left
             (own_row table row run.0 gs own_now (own_over table ts rs (span_at row gs) (span_at run.0 gs) (own_span table row gs own_now)
             run.1.over) run.1.others)
-            (λ v i. each v (inr i)) tasks.1 stand.1 run.2,
+            (λ v i. each v (inr i)) jobs.1 stand.1 run.2,
       )
 
-  tells_units : (row : List Map) (us : List (List ℕ)) (tss : List (List Task)) (rss : List (List TaskRan)) (left : List Map)
+  tells_units : (row : List Map) (us : List (List ℕ)) (tss : List (List PlacedJob)) (rss : List (List JobRan)) (left : List Map)
       → UnitsInRow table (groups_each layer) row us tss rss left → AllZip (AllZip Tells) tss rss
   tells_units row [] [] [] left run = tt
   tells_units row [] [] (rs ∷ rss) left run = absurd run
@@ -233,7 +234,7 @@ module _ (table : Layout) (maps : List Map) (skip : List RequestId) (layer : Lis
   )
 
   -- the requests of a layer were run at the places of its units, in the row
-  pub row_given : WorksAreInTurn → (units : List (List ℕ)) (slots : List (Option Job)) (rans gave : List (Option TaskRan)) (new : List Map)
+  pub row_given : WorksAreInTurn → (units : List (List ℕ)) (slots : List (Option Job)) (rans gave : List (Option JobRan)) (new : List Map)
       → AreUnitsOf (groups_each layer) units
       → ((i : ℕ) (j : Job) → slice_get slots i ≡ Some (Some j) → slice_get layer i ≡ Some j)
       → rans ≡ replicate (length layer) None → HaveRunAt table skip slots maps (concat units) rans gave new
@@ -242,16 +243,16 @@ module _ (table : Layout) (maps : List Map) (skip : List RequestId) (layer : Lis
       let apart = all_apart table skip layer units slots maps rans gave new of.each sub run in
       let tells = tells_units maps units apart.tss apart.rss new apart.run in
       let put = apart.put ∙ ap (λ s. placed s (flat apart.rss)) none in
-      let there = units_there skip layer units apart.tss apart.rss of apart.tasks tells gave put in
-      let outs = outcomes skip layer units apart.tss apart.rss of apart.tasks tells gave put in
+      let there = units_there skip layer units apart.tss apart.rss of apart.jobs tells gave put in
+      let outs = outcomes skip layer units apart.tss apart.rss of apart.jobs tells gave put in
       let stand : AllZip (λ u rs. layers.StandAt outs u (map (λ r. outcome r.reply) rs)) units apart.rss =
       zip_map (AllZip (λ i r. slice_get gave i ≡ Some (Some r))) (λ u rs. layers.StandAt outs u (map (λ r. outcome r.reply) rs))
-      (outcomes_stand skip layer units apart.tss apart.rss of apart.tasks tells gave put) units apart.rss there in
-      let ran = works_ran outs maps units apart.tss apart.rss new own of.each apart.tasks stand apart.run in
+      (outcomes_stand skip layer units apart.tss apart.rss of apart.jobs tells gave put) units apart.rss there in
+      let ran = works_ran outs maps units apart.tss apart.rss new own of.each apart.jobs stand apart.run in
       let turn = law table maps new (commands_of layer) (works_of (groups_each layer) units apart.tss) outs is_table own
-      (are_works table skip layer units apart.tss address of apart.tasks)
-      (outcomes_many skip layer units apart.tss apart.rss of apart.tasks tells gave put) ran in
-      given skip layer units apart.tss apart.rss of apart.tasks tells gave put table maps is_table own address
+      (are_works table skip layer units apart.tss address of apart.jobs)
+      (outcomes_many skip layer units apart.tss apart.rss of apart.jobs tells gave put) ran in
+      given skip layer units apart.tss apart.rss of apart.jobs tells gave put table maps is_table own address
       (runs_on table (groups_each layer) maps maps units apart.tss apart.rss new of.each
       (once_in (length (groups_each layer)) units of.once)
       (λ u i g there. refl) apart.run)

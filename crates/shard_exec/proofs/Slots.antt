@@ -9,7 +9,7 @@ use Rattle.std.specs.Option.{IsSome}
 use Rattle.std.specs.List.{AllZip, AllByRecursion, concat, count_by}
 use Rattle.groups.specs.Order.{In}
 use Rattle.layer_planner.specs.Units.{EachPlaceOnce}
-use Rattle.shard_workers.specs.declared.task.TaskRan.{TaskRan}
+use Rattle.shard_workers.specs.declared.placed_job.JobRan.{JobRan}
 use Rattle.shard_exec.specs.Dealing.{CanTake, left_at, filled, placed}
 
 pub same_some : {A : Type 0} (a b : A) → Some a ≡ Some b → a ≡ b
@@ -172,16 +172,16 @@ module _ {X : Type 0} where
 
 -- ---- put in their places
 
-pub length-placed : (slots : List (Option TaskRan)) (rs : List TaskRan) → length (placed slots rs) ≡ length slots
+pub length-placed : (slots : List (Option JobRan)) (rs : List JobRan) → length (placed slots rs) ≡ length slots
 length-placed slots [] = refl
 length-placed slots (r ∷ rs) = length-placed (slice_set slots r.place (Some r)) rs ∙ length-set slots r.place (Some r)
 
-pub placed-append : (slots : List (Option TaskRan)) (xs ys : List TaskRan) → placed slots (xs ++ ys) ≡ placed (placed slots xs) ys
+pub placed-append : (slots : List (Option JobRan)) (xs ys : List JobRan) → placed slots (xs ++ ys) ≡ placed (placed slots xs) ys
 placed-append slots [] ys = refl
 placed-append slots (x ∷ xs) ys = placed-append (slice_set slots x.place (Some x)) xs ys
 
 -- what is put in places that are named only once is there in the end
-placed_past : (slots : List (Option TaskRan)) (is : List ℕ) (rs : List TaskRan) → AllZip (λ i r. r.place ≡ i) is rs
+placed_past : (slots : List (Option JobRan)) (is : List ℕ) (rs : List JobRan) → AllZip (λ i r. r.place ≡ i) is rs
     → (i : ℕ) → (In i is → ⊥) → slice_get (placed slots rs) i ≡ slice_get slots i
 placed_past slots [] [] z i out = refl
 placed_past slots [] (r ∷ rs) z i out = absurd z
@@ -190,7 +190,7 @@ placed_past slots (j ∷ is) (r ∷ rs) z i out =
     placed_past (slice_set slots r.place (Some r)) is rs z.1 i (λ there. out (inr there))
     ∙ get-set_other slots r.place i (Some r) (λ e. out (inl (sym e ∙ z.0)))
 
-pub placed_there : (slots : List (Option TaskRan)) (is : List ℕ) (rs : List TaskRan) → AllZip (λ i r. r.place ≡ i) is rs → AtMostOnce is
+pub placed_there : (slots : List (Option JobRan)) (is : List ℕ) (rs : List JobRan) → AllZip (λ i r. r.place ≡ i) is rs → AtMostOnce is
     → ((i : ℕ) → In i is → i < length slots) → AllZip (λ i r. slice_get (placed slots rs) i ≡ Some (Some r)) is rs
 placed_there slots [] [] z once inside = tt
 placed_there slots [] (r ∷ rs) z once inside = absurd z

@@ -16,11 +16,10 @@ use Rattle.resp.specs.Content.{Content}
 use Rattle.shard_maps.proofs.Spans.{get-union-joined}
 use Rattle.shard_maps.specs.Joined.{joined, HasOwnKeys, union, span_at, Span}
 use Rattle.shard_workers.specs.Runs.{HaveRunOver}
-use Rattle.shard_workers.specs.Tasks.{outcome, MapRan, HasRunOn}
-use Rattle.shard_workers.specs.declared.task.Task.{Task}
-use Rattle.shard_workers.specs.declared.task.TaskRan.{TaskRan}
-use Rattle.tasks.specs.Tasks.{task_groups, task_effect, task_takes_memory}
-use Rattle.tasks.specs.Tasks as executed
+use Rattle.shard_workers.specs.PlacedJobs.{outcome, MapRan, HasRunOn}
+use Rattle.shard_workers.specs.declared.placed_job.PlacedJob.{PlacedJob}
+use Rattle.shard_workers.specs.declared.placed_job.JobRan.{JobRan}
+use Rattle.tasks.specs.Tasks.{Task, task_groups, task_effect, task_takes_memory}
 use Rattle.tasks.proofs.Within.{same_elsewhere, same_there}
 use Rattle.shard_exec.specs.Layers.{AddressTheirGroups, is_named, on_groups, left_by, MayStarveInTurn, ended_of}
 use Rattle.shard_exec.specs.declared.done.Ended.{Ended}
@@ -42,7 +41,7 @@ cond_twice : (b : Bool) (o : Option Value) → cond b o None ≡ cond b (cond b 
 cond_twice true o = refl
 cond_twice false o = refl
 
-module _ (table : Layout) (c : executed.Task) (m : Map) (is_table : IsTable table) where
+module _ (table : Layout) (c : Task) (m : Map) (is_table : IsTable table) where
   abbrev own_part : Map
   own_part = on_groups table (task_groups table c) m
 
@@ -185,27 +184,27 @@ at_later n y xs i x (zero, is, e) above = absurd (omega (arith, is, above))
 at_later n y xs i x (suc k, is, e) above = (k, omega (arith, is), e)
 
 -- at these places stand these requests, and what is told of them
-abbrev pub Items : List RequestId → ℕ → List Job → List Ended → List ℕ → List Task → List TaskRan → Type 0
+abbrev pub Items : List RequestId → ℕ → List Job → List Ended → List ℕ → List PlacedJob → List JobRan → Type 0
 Items skip n js es [] [] [] = Unit {0}
 Items skip n js es (i ∷ is) (t ∷ ts) (r ∷ rs) =
     (StandsAt n js i t.job × StandsAt n es i (ended_of r) × (t.skipped ≡ is_named skip t.job.id)) × Items skip n js es is ts rs
 Items skip n js es _ _ _ = ⊥
 
 -- each was run on the map that those before it left
-abbrev pub HaveRunOn : List Task → Map → List TaskRan → Type 0
+abbrev pub HaveRunOn : List PlacedJob → Map → List JobRan → Type 0
 HaveRunOn [] u [] = Unit {0}
 HaveRunOn (t ∷ ts) u (r ∷ rs) = (mid : Map) × HasRunOn t u r mid × HaveRunOn ts mid rs
 HaveRunOn _ u _ = ⊥
 
-pub run_on : (table : Layout) (ts : List Task) (rs : List TaskRan) (before after : Span) → HaveRunOver table ts before rs after
+pub run_on : (table : Layout) (ts : List PlacedJob) (rs : List JobRan) (before after : Span) → HaveRunOver table ts before rs after
     → HaveRunOn ts (union before) rs
 run_on table [] [] before after run = tt
 run_on table [] (r ∷ rs) before after run = absurd run
 run_on table (t ∷ ts) [] before after run = absurd run
 run_on table (t ∷ ts) (r ∷ rs) before after run = (union run.0, run.1.on, run_on table ts rs run.0 after run.2)
 
-items_later : (skip : List RequestId) (n : ℕ) (j : Job) (js : List Job) (e : Ended) (es : List Ended) (is : List ℕ) (ts : List Task)
-    (rs : List TaskRan) → ((i : ℕ) → has is i ≡ true → n < i) → Items skip n (j ∷ js) (e ∷ es) is ts rs → Items skip (suc n) js es is ts rs
+items_later : (skip : List RequestId) (n : ℕ) (j : Job) (js : List Job) (e : Ended) (es : List Ended) (is : List ℕ) (ts : List PlacedJob)
+    (rs : List JobRan) → ((i : ℕ) → has is i ≡ true → n < i) → Items skip n (j ∷ js) (e ∷ es) is ts rs → Items skip (suc n) js es is ts rs
 items_later skip n j js e es [] [] [] above z = tt
 items_later skip n j js e es [] [] (r ∷ rs) above z = absurd z
 items_later skip n j js e es [] (t ∷ ts) rs above z = absurd z
@@ -218,7 +217,7 @@ items_later skip n j js e es (i ∷ is) (t ∷ ts) (r ∷ rs) above z =
     )
 
 -- what a request left
-left_is : (t : Task) (u : Map) (r : TaskRan) (mid : Map) → HasRunOn t u r mid → mid ≡ left_by t.job.asked.command u (outcome r.reply)
+left_is : (t : PlacedJob) (u : Map) (r : JobRan) (mid : Map) → HasRunOn t u r mid → mid ≡ left_by t.job.asked.command u (outcome r.reply)
 left_is t u r mid run = by_outcome (outcome r.reply) run.ran
   where
     by_outcome : (o : Option Content) → MapRan t.job.asked.command u o mid → mid ≡ left_by t.job.asked.command u o
@@ -227,12 +226,12 @@ left_is t u r mid run = by_outcome (outcome r.reply) run.ran
 
 -- the same from the next place on, for whatever is left of the unit
 abbrev Again : List RequestId → List ℕ → ℕ → List Job → List Ended → Type 0
-Again skip unit n js es = (is : List ℕ) (ts : List Task) (rs : List TaskRan) (v : Map)
+Again skip unit n js es = (is : List ℕ) (ts : List PlacedJob) (rs : List JobRan) (v : Map)
     → ((k : ℕ) → has unit (suc n + k) ≡ has is (suc n + k)) → IsAscending is → ((i : ℕ) → has is i ≡ true → suc n < suc i)
     → Items skip (suc n) js es is ts rs → HaveRunOn ts v rs → StarveAlong skip unit (suc n) js es v
 
-pub starve_along : (skip : List RequestId) (unit : List ℕ) (n : ℕ) (js : List Job) (es : List Ended) (is : List ℕ) (ts : List Task)
-    (rs : List TaskRan) (u : Map)
+pub starve_along : (skip : List RequestId) (unit : List ℕ) (n : ℕ) (js : List Job) (es : List Ended) (is : List ℕ) (ts : List PlacedJob)
+    (rs : List JobRan) (u : Map)
     → ((k : ℕ) → has unit (n + k) ≡ has is (n + k)) → IsAscending is → ((i : ℕ) → has is i ≡ true → n < suc i)
     → Items skip n js es is ts rs → HaveRunOn ts u rs → StarveAlong skip unit n js es u
 starve_along skip unit n [] es is ts rs u same_has up above items run = tt
@@ -245,7 +244,7 @@ starve_along skip unit n (j ∷ js) (e ∷ es) is ts rs u same_has up above item
     here is same_has = (let z : n + 0 ≡ n = omega arith in subst (λ x. has unit x ≡ has is x) z (same_has 0))
 
     -- where the unit's next place isn't this one
-    skips : Again skip unit n js es → (is : List ℕ) (ts : List Task) (rs : List TaskRan)
+    skips : Again skip unit n js es → (is : List ℕ) (ts : List PlacedJob) (rs : List JobRan)
         → ((k : ℕ) → has unit (n + k) ≡ has is (n + k)) → IsAscending is
         → ((i : ℕ) → has is i ≡ true → n < i) → Items skip n (j ∷ js) (e ∷ es) is ts rs → HaveRunOn ts u rs
         → StarveAlong skip unit n (j ∷ js) (e ∷ es) u
@@ -272,7 +271,7 @@ starve_along skip unit n (j ∷ js) (e ∷ es) is ts rs u same_has up above item
         strict : (a b : ℕ) → a < suc b → (a ≡ b → ⊥) → a < b
         strict a b low ne = omega (arith, low, ne)
 
-    takes : Again skip unit n js es → (i : ℕ) (is : List ℕ) (t : Task) (ts : List Task) (r : TaskRan) (rs : List TaskRan)
+    takes : Again skip unit n js es → (i : ℕ) (is : List ℕ) (t : PlacedJob) (ts : List PlacedJob) (r : JobRan) (rs : List JobRan)
         → ((k : ℕ) → has unit (n + k) ≡ has (i ∷ is) (n + k)) → IsAscending (i ∷ is)
         → Items skip n (j ∷ js) (e ∷ es) (i ∷ is) (t ∷ ts) (r ∷ rs) → HaveRunOn (t ∷ ts) u (r ∷ rs) → i ≡ n
         → StarveAlong skip unit n (j ∷ js) (e ∷ es) u
@@ -302,7 +301,7 @@ starve_along skip unit n (j ∷ js) (e ∷ es) is ts rs u same_has up above item
             let ne : i ≡ suc n + k → ⊥ = λ x. absurd (omega (arith, at, x)) in
             subst (λ x. has unit x ≡ has (i ∷ is) x) z (same_has (suc k)) ∙ ap (λ b. b || has is (suc n + k)) (ne_eqb i (suc n + k) ne)
 
-    by_first : Again skip unit n js es → (is : List ℕ) (ts : List Task) (rs : List TaskRan)
+    by_first : Again skip unit n js es → (is : List ℕ) (ts : List PlacedJob) (rs : List JobRan)
         → ((k : ℕ) → has unit (n + k) ≡ has is (n + k)) → IsAscending is
         → ((i : ℕ) → has is i ≡ true → n < suc i) → Items skip n (j ∷ js) (e ∷ es) is ts rs → HaveRunOn ts u rs
         → StarveAlong skip unit n (j ∷ js) (e ∷ es) u

@@ -20,11 +20,10 @@ use Rattle.resp.specs.Content.{Content}
 use Rattle.shard_maps.specs.Joined.{joined, HasOwnKeys, Span, numbers, span_at, union, SpanHasOwnKeys}
 use Rattle.shard_maps.specs.Layer as layers
 use Rattle.shard_workers.specs.Runs.{HaveRunOver}
-use Rattle.shard_workers.specs.Tasks.{outcome, IsReadyFor}
-use Rattle.shard_workers.specs.declared.task.Task.{Task}
-use Rattle.shard_workers.specs.declared.task.TaskRan.{TaskRan}
-use Rattle.tasks.specs.Tasks.{task_groups}
-use Rattle.tasks.specs.Tasks as executed
+use Rattle.shard_workers.specs.PlacedJobs.{outcome, IsReadyFor}
+use Rattle.shard_workers.specs.declared.placed_job.PlacedJob.{PlacedJob}
+use Rattle.shard_workers.specs.declared.placed_job.JobRan.{JobRan}
+use Rattle.tasks.specs.Tasks.{Task, task_groups}
 use Rattle.tasks.proofs.Groups.{task_groups-below}
 use Rattle.shard_exec.specs.Dealing.{filled, flat, placed, AreInside}
 use Rattle.shard_exec.specs.Layers.{commands_of, AddressTheirGroups, is_named, outcomes_of_ended, IsOf, MayStarveInTurn, ended_of}
@@ -99,20 +98,20 @@ zip_units R (u ∷ us) (ys ∷ yss) z = zip_both R u (concat us) ys (flat yss) z
 -- ---- the requests of a layer by their places
 
 -- this is the request at the place of the layer
-pub record IsTaskOf (skip : List RequestId) (layer : List Job) (i : ℕ) (t : Task) : Type 0 where
+pub record IsJobOf (skip : List RequestId) (layer : List Job) (i : ℕ) (t : PlacedJob) : Type 0 where
   pub at : slice_get layer i ≡ Some t.job
   pub place : t.place ≡ i
   pub skipped : t.skipped ≡ is_named skip t.job.id
 
 -- this is what became of it
-pub record Tells (t : Task) (r : TaskRan) : Type 0 where
+pub record Tells (t : PlacedJob) (r : JobRan) : Type 0 where
   pub place : r.place ≡ t.place
   pub id : r.id ≡ t.job.id
   pub stamp : r.stamp ≡ t.job.stamp
   pub groups : r.groups ≡ t.job.groups
   pub words : r.words ≡ t.job.asked.words
 
-pub record TellsOf (layer : List Job) (i : ℕ) (r : TaskRan) : Type 0 where
+pub record TellsOf (layer : List Job) (i : ℕ) (r : JobRan) : Type 0 where
   pub job : Job
   pub at : slice_get layer i ≡ Some job
   pub place : r.place ≡ i
@@ -121,8 +120,8 @@ pub record TellsOf (layer : List Job) (i : ℕ) (r : TaskRan) : Type 0 where
   pub groups : r.groups ≡ job.groups
   pub words : r.words ≡ job.asked.words
 
-tells_of : (skip : List RequestId) (layer : List Job) (is : List ℕ) (ts : List Task) (rs : List TaskRan)
-    → AllZip (IsTaskOf skip layer) is ts
+tells_of : (skip : List RequestId) (layer : List Job) (is : List ℕ) (ts : List PlacedJob) (rs : List JobRan)
+    → AllZip (IsJobOf skip layer) is ts
     → AllZip Tells ts rs → AllZip (TellsOf layer) is rs
 tells_of skip layer [] [] [] z w = tt
 tells_of skip layer [] [] (r ∷ rs) z w = absurd w
@@ -142,7 +141,7 @@ tells_of skip layer (i ∷ is) (t ∷ ts) (r ∷ rs) z w = (
   tells_of skip layer is ts rs z.1 w.1,
 )
 
-pub tells_all : (table : Layout) (ts : List Task) (rs : List TaskRan) (before after : Span) → HaveRunOver table ts before rs after
+pub tells_all : (table : Layout) (ts : List PlacedJob) (rs : List JobRan) (before after : Span) → HaveRunOver table ts before rs after
     → AllZip Tells ts rs
 tells_all table [] [] before after run = tt
 tells_all table [] (r ∷ rs) before after run = absurd run
@@ -185,21 +184,21 @@ stand_at xs f (i ∷ is) (y ∷ ys) z =
     ap (λ o. o ∷ map (slice_get xs) is) z.0 ∙ ap (λ l. Some (f y) ∷ l) (stand_at xs f is ys z.1)
 
 -- each unit was run from what its shards had
-abbrev pub UnitsRunOn : List (List ℕ) → List Map → List (List ℕ) → List (List Task) → List (List TaskRan) → Type 0
+abbrev pub UnitsRunOn : List (List ℕ) → List Map → List (List ℕ) → List (List PlacedJob) → List (List JobRan) → Type 0
 UnitsRunOn sets maps (u ∷ us) (ts ∷ tss) (rs ∷ rss) =
     HaveRunOn ts (union (span_at maps (unit_groups sets u))) rs × UnitsRunOn sets maps us tss rss
 UnitsRunOn sets maps _ _ _ = Unit {0}
 
 -- what became of the requests names places of the layer
-pub places_inside : (skip : List RequestId) (layer : List Job) (units : List (List ℕ)) (tss : List (List Task)) (rss : List (List TaskRan))
-    → AreUnitsOf (groups_each layer) units → AllZip (AllZip (IsTaskOf skip layer)) units tss → AllZip (AllZip Tells) tss rss
-    → (n : ℕ) → n ≡ length layer → AreInside n (flat rss)
-places_inside skip layer units tss rss of tasks tells n long =
+pub places_inside : (skip : List RequestId) (layer : List Job) (units : List (List ℕ)) (tss : List (List PlacedJob))
+    (rss : List (List JobRan)) → AreUnitsOf (groups_each layer) units → AllZip (AllZip (IsJobOf skip layer)) units tss
+    → AllZip (AllZip Tells) tss rss → (n : ℕ) → n ≡ length layer → AreInside n (flat rss)
+places_inside skip layer units tss rss of jobs tells n long =
     each (concat units) (flat rss) (tells_of skip layer (concat units) (flat tss) (flat rss)
-    (zip_units (IsTaskOf skip layer) units tss tasks)
+    (zip_units (IsJobOf skip layer) units tss jobs)
     (zip_flat Tells tss rss tells))
   where
-    each : (is : List ℕ) (rs : List TaskRan) → AllZip (TellsOf layer) is rs → AreInside n rs
+    each : (is : List ℕ) (rs : List JobRan) → AllZip (TellsOf layer) is rs → AreInside n rs
     each [] [] z = tt
     each [] (r ∷ rs) z = absurd z
     each (i ∷ is) [] z = tt
@@ -208,9 +207,9 @@ places_inside skip layer units tss rss of tasks tells n long =
       each is rs z.1,
     )
 
-module _ (skip : List RequestId) (layer : List Job) (units : List (List ℕ)) (tss : List (List Task)) (rss : List (List TaskRan))
-    (of : AreUnitsOf (groups_each layer) units) (tasks : AllZip (AllZip (IsTaskOf skip layer)) units tss)
-    (tells : AllZip (AllZip Tells) tss rss) (slots : List (Option TaskRan))
+module _ (skip : List RequestId) (layer : List Job) (units : List (List ℕ)) (tss : List (List PlacedJob)) (rss : List (List JobRan))
+    (of : AreUnitsOf (groups_each layer) units) (jobs : AllZip (AllZip (IsJobOf skip layer)) units tss)
+    (tells : AllZip (AllZip Tells) tss rss) (slots : List (Option JobRan))
     (is : slots ≡ placed (replicate (length layer) None) (flat rss)) where
   sets_length : length (groups_each layer) ≡ length layer
   sets_length = map_length layer
@@ -220,7 +219,7 @@ module _ (skip : List RequestId) (layer : List Job) (units : List (List ℕ)) (t
       map_length (j ∷ js) = ap suc (map_length js)
 
   by_place : AllZip (TellsOf layer) (concat units) (flat rss)
-  by_place = tells_of skip layer (concat units) (flat tss) (flat rss) (zip_units (IsTaskOf skip layer) units tss tasks)
+  by_place = tells_of skip layer (concat units) (flat tss) (flat rss) (zip_units (IsJobOf skip layer) units tss jobs)
       (zip_flat Tells tss rss tells)
 
   pub below : (i : ℕ) → In i (concat units) → i < length layer
@@ -234,10 +233,10 @@ module _ (skip : List RequestId) (layer : List Job) (units : List (List ℕ)) (t
       (λ i there. subst (λ n. i < n) (sym (length-replicate (length layer) None)) (below i there)))
 
   pub as_many : length slots ≡ length layer
-  as_many = ap (λ (l : List (Option TaskRan)). length l) is ∙ length-placed (replicate (length layer) None) (flat rss)
+  as_many = ap (λ (l : List (Option JobRan)). length l) is ∙ length-placed (replicate (length layer) None) (flat rss)
       ∙ length-replicate (length layer) None
 
-  each_there : (i : ℕ) → i < length layer → (r : TaskRan) × TellsOf layer i r × (slice_get slots i ≡ Some (Some r))
+  each_there : (i : ℕ) → i < length layer → (r : JobRan) × TellsOf layer i r × (slice_get slots i ≡ Some (Some r))
   each_there i below_it =
       let found = zip_in (λ k r. TellsOf layer k r × (slice_get slots k ≡ Some (Some r))) (concat units) (flat rss)
       (zip_two (TellsOf layer) (λ k r. slice_get slots k ≡ Some (Some r)) (concat units) (flat rss) by_place in_slots) i
@@ -248,8 +247,8 @@ module _ (skip : List RequestId) (layer : List Job) (units : List (List ℕ)) (t
   full = full_from slots (λ i b. let e = each_there i (subst (λ n. i < n) as_many b) in (e.0, e.2))
 
   -- what holds of each request and what became of it
-  of_each : (R : Job → TaskRan → Type 0)
-      → ((j : Job) (r : TaskRan) → r.id ≡ j.id → r.stamp ≡ j.stamp → r.groups ≡ j.groups → r.words ≡ j.asked.words → R j r)
+  of_each : (R : Job → JobRan → Type 0)
+      → ((j : Job) (r : JobRan) → r.id ≡ j.id → r.stamp ≡ j.stamp → r.groups ≡ j.groups → r.words ≡ j.asked.words → R j r)
       → AllZip R layer (filled slots)
   of_each R holds = from_places R layer (filled slots) (length-filled slots full ∙ as_many) (λ i j r at there.
       let e = each_there i (slice_get_within layer i j at) in
@@ -266,14 +265,14 @@ module _ (skip : List RequestId) (layer : List Job) (units : List (List ℕ)) (t
   pub told : AllZip IsOf layer done
   told = through layer (filled slots) (of_each (λ j r. IsOf j (ended_of r)) (λ j r id stamp groups words. (id, stamp, words)))
     where
-      through : (js : List Job) (rs : List TaskRan) → AllZip (λ j r. IsOf j (ended_of r)) js rs → AllZip IsOf js (map ended_of rs)
+      through : (js : List Job) (rs : List JobRan) → AllZip (λ j r. IsOf j (ended_of r)) js rs → AllZip IsOf js (map ended_of rs)
       through [] [] z = tt
       through [] (r ∷ rs) z = absurd z
       through (j ∷ js) [] z = absurd z
       through (j ∷ js) (r ∷ rs) z = (z.0, through js rs z.1)
 
   -- unit by unit
-  at_units : (us : List (List ℕ)) (yss : List (List TaskRan)) → AllZip (AllZip (TellsOf layer)) us yss
+  at_units : (us : List (List ℕ)) (yss : List (List JobRan)) → AllZip (AllZip (TellsOf layer)) us yss
       → AllZip (λ i r. slice_get slots i ≡ Some (Some r)) (concat us) (flat yss)
       → AllZip (AllZip (λ i r. slice_get slots i ≡ Some (Some r))) us yss
   at_units [] [] z w = tt
@@ -281,7 +280,7 @@ module _ (skip : List RequestId) (layer : List Job) (units : List (List ℕ)) (t
   at_units (u ∷ us) [] z w = absurd z
   at_units (u ∷ us) (ys ∷ yss) z w = (let both = split u ys z.0 w in (both.0, at_units us yss z.1 both.1))
     where
-      split : (u : List ℕ) (ys : List TaskRan) → AllZip (TellsOf layer) u ys
+      split : (u : List ℕ) (ys : List JobRan) → AllZip (TellsOf layer) u ys
           → AllZip (λ i r. slice_get slots i ≡ Some (Some r)) (u ++ concat us) (ys ++ flat yss)
           → AllZip (λ i r. slice_get slots i ≡ Some (Some r)) u ys
           × AllZip (λ i r. slice_get slots i ≡ Some (Some r)) (concat us) (flat yss)
@@ -290,7 +289,7 @@ module _ (skip : List RequestId) (layer : List Job) (units : List (List ℕ)) (t
       split (i ∷ u) [] z w = absurd z
       split (i ∷ u) (y ∷ ys) z w = (let rest = split u ys z.1 w.1 in ((w.0, rest.0), rest.1))
 
-  tells_units : (us : List (List ℕ)) (xss : List (List Task)) (yss : List (List TaskRan)) → AllZip (AllZip (IsTaskOf skip layer)) us xss
+  tells_units : (us : List (List ℕ)) (xss : List (List PlacedJob)) (yss : List (List JobRan)) → AllZip (AllZip (IsJobOf skip layer)) us xss
       → AllZip (AllZip Tells) xss yss → AllZip (AllZip (TellsOf layer)) us yss
   tells_units [] [] [] z w = tt
   tells_units [] [] (ys ∷ yss) z w = absurd w
@@ -300,7 +299,7 @@ module _ (skip : List RequestId) (layer : List Job) (units : List (List ℕ)) (t
   tells_units (u ∷ us) (xs ∷ xss) (ys ∷ yss) z w = (tells_of skip layer u xs ys z.0 w.0, tells_units us xss yss z.1 w.1)
 
   pub units_there : AllZip (AllZip (λ i r. slice_get slots i ≡ Some (Some r))) units rss
-  units_there = at_units units rss (tells_units units tss rss tasks tells) in_slots
+  units_there = at_units units rss (tells_units units tss rss jobs tells) in_slots
 
   abbrev pub outcomes : List (Option Content)
   outcomes = outcomes_of_ended done
@@ -309,12 +308,12 @@ module _ (skip : List RequestId) (layer : List Job) (units : List (List ℕ)) (t
   outcomes_many = length-map done (λ (d : Ended). outcome d.reply) ∙ length-map (filled slots) ended_of ∙ length-filled slots full ∙ as_many
       ∙ sym (length-map layer (λ (j : Job). j.asked.command))
 
-  outcome_at : (i : ℕ) (r : TaskRan) → slice_get slots i ≡ Some (Some r) → slice_get outcomes i ≡ Some (outcome r.reply)
+  outcome_at : (i : ℕ) (r : JobRan) → slice_get slots i ≡ Some (Some r) → slice_get outcomes i ≡ Some (outcome r.reply)
   outcome_at i r e = get_map (λ (d : Ended). outcome d.reply) done i (ended_of r)
       (get_map ended_of (filled slots) i r (at_filled slots full i r e))
 
   -- the outcomes of a unit stand in its places
-  pub outcomes_stand : (u : List ℕ) (rs : List TaskRan) → AllZip (λ i r. slice_get slots i ≡ Some (Some r)) u rs
+  pub outcomes_stand : (u : List ℕ) (rs : List JobRan) → AllZip (λ i r. slice_get slots i ≡ Some (Some r)) u rs
       → layers.StandAt outcomes u (map (λ r. outcome r.reply) rs)
   outcomes_stand u rs z = stand_at outcomes (λ r. outcome r.reply) u rs
       (zip_map (λ i r. slice_get slots i ≡ Some (Some r)) (λ i r. slice_get outcomes i ≡ Some (outcome r.reply)) outcome_at u rs z)
@@ -327,7 +326,7 @@ module _ (skip : List RequestId) (layer : List Job) (units : List (List ℕ)) (t
     abbrev met_by : List ℕ → Map
     met_by u = on_groups table (unit_groups (groups_each layer) u) (joined maps)
 
-    items : (is : List ℕ) (ts : List Task) (rs : List TaskRan) → AllZip (IsTaskOf skip layer) is ts
+    items : (is : List ℕ) (ts : List PlacedJob) (rs : List JobRan) → AllZip (IsJobOf skip layer) is ts
         → AllZip (λ i r. slice_get slots i ≡ Some (Some r)) is rs → Items skip 0 layer done is ts rs
     items [] [] [] z w = tt
     items [] [] (r ∷ rs) z w = absurd w
@@ -339,8 +338,8 @@ module _ (skip : List RequestId) (layer : List Job) (units : List (List ℕ)) (t
       items is ts rs z.1 w.1,
     )
 
-    along : (us : List (List ℕ)) (xss : List (List Task)) (yss : List (List TaskRan)) → ((u : List ℕ) → In u us → In u units)
-        → AllZip (AllZip (IsTaskOf skip layer)) us xss → AllZip (AllZip (λ i r. slice_get slots i ≡ Some (Some r))) us yss
+    along : (us : List (List ℕ)) (xss : List (List PlacedJob)) (yss : List (List JobRan)) → ((u : List ℕ) → In u us → In u units)
+        → AllZip (AllZip (IsJobOf skip layer)) us xss → AllZip (AllZip (λ i r. slice_get slots i ≡ Some (Some r))) us yss
         → UnitsRunOn (groups_each layer) maps us xss yss → (u : List ℕ) → In u us → StarveAlong skip u 0 layer done (met_by u)
     along [] xss yss sub z w run u there = absurd there
     along (v ∷ us) [] yss sub z w run u there = absurd z
@@ -359,9 +358,9 @@ module _ (skip : List RequestId) (layer : List Job) (units : List (List ℕ)) (t
           ap (groups_at (groups_each layer)) z ∙ get_set layer k j e,
           subst (λ n. n < length (groups_each layer)) (sym z) (subst (λ n. k < n) (sym sets_length) (slice_get_within layer k j e)),
         )))
-        (long (filled slots) ∙ length-filled slots full ∙ as_many) address (along units tss rss (λ u i. i) tasks units_there runs)
+        (long (filled slots) ∙ length-filled slots full ∙ as_many) address (along units tss rss (λ u i. i) jobs units_there runs)
       where
-        long : (rs : List TaskRan) → length (map ended_of rs) ≡ length rs
+        long : (rs : List JobRan) → length (map ended_of rs) ≡ length rs
         long [] = refl
         long (r ∷ rs) = ap suc (long rs)
 
@@ -385,7 +384,7 @@ module _ (skip : List RequestId) (layer : List Job) (units : List (List ℕ)) (t
 -- ---- the last stamps
 
 -- they are those of the requests
-pub raised_same : (jobs : List Job) (rs : List TaskRan) (lasts : List (Option Stamp)) → AllZip HasItsGroups jobs rs
+pub raised_same : (jobs : List Job) (rs : List JobRan) (lasts : List (Option Stamp)) → AllZip HasItsGroups jobs rs
     → raised_by lasts rs ≡ raised lasts jobs
 raised_same [] [] lasts z = refl
 raised_same [] (r ∷ rs) lasts z = absurd z
@@ -394,7 +393,7 @@ raised_same (j ∷ js) (r ∷ rs) lasts z =
     raised_same js rs (raise lasts r.groups r.stamp) z.1
     ∙ ap (λ gs. raised (raise lasts gs r.stamp) js) z.0.0 ∙ ap (λ s. raised (raise lasts j.groups s) js) z.0.1
 
-pub groups_in_row : (table : Layout) (n : ℕ) (jobs : List Job) (rs : List TaskRan) → n ≡ table.shards → AddressTheirGroups table jobs
+pub groups_in_row : (table : Layout) (n : ℕ) (jobs : List Job) (rs : List JobRan) → n ≡ table.shards → AddressTheirGroups table jobs
     → AllZip HasItsGroups jobs rs → AreInRow n rs
 groups_in_row table n [] [] long a z = tt
 groups_in_row table n [] (r ∷ rs) long a z = absurd z
@@ -407,7 +406,7 @@ groups_in_row table n (j ∷ js) (r ∷ rs) long a z = (
 
 -- ---- the units as the laws of layers have them
 
-abbrev pub works_of : List (List ℕ) → List (List ℕ) → List (List Task) → List layers.Work
+abbrev pub works_of : List (List ℕ) → List (List ℕ) → List (List PlacedJob) → List layers.Work
 works_of sets (u ∷ us) (ts ∷ tss) =
     record { places = u; tasks = map (λ t. t.job.asked.command) ts; groups = unit_groups sets u } ∷ works_of sets us tss
 works_of sets _ _ = []
@@ -416,7 +415,8 @@ groups_are : (table : Layout) (jobs : List Job) → AddressTheirGroups table job
     → groups_each jobs ≡ map (task_groups table) (commands_of jobs)
 groups_are table [] a = refl
 groups_are table (j ∷ js) a =
-    ap (λ (g : List ℕ). g ∷ groups_each js) a.0 ∙ ap (λ (l : List (List ℕ)). task_groups table j.asked.command ∷ l) (groups_are table js a.1)
+    ap (λ (g : List ℕ). g ∷ groups_each js) a.0
+    ∙ ap (λ (l : List (List ℕ)). task_groups table j.asked.command ∷ l) (groups_are table js a.1)
 
 pub address_at : (table : Layout) (jobs : List Job) → AddressTheirGroups table jobs → (i : ℕ) (j : Job) → slice_get jobs i ≡ Some j
     → j.groups ≡ task_groups table j.asked.command
@@ -425,42 +425,42 @@ address_at table (x ∷ jobs) a zero j e = subst (λ (v : Job). v.groups ≡ tas
 address_at table (x ∷ jobs) a (suc i) j e = address_at table jobs a.1 i j e
 
 -- each request of a unit has its groups
-pub unit_tasks : (skip : List RequestId) (layer : List Job) (unit : List ℕ) → IsUnit (groups_each layer) unit
-    → (is : List ℕ) (ts : List Task)
-    → ((i : ℕ) → has is i ≡ true → has unit i ≡ true) → AllZip (IsTaskOf skip layer) is ts
+pub unit_jobs : (skip : List RequestId) (layer : List Job) (unit : List ℕ) → IsUnit (groups_each layer) unit
+    → (is : List ℕ) (ts : List PlacedJob)
+    → ((i : ℕ) → has is i ≡ true → has unit i ≡ true) → AllZip (IsJobOf skip layer) is ts
     → AllByRecursion (λ t. t.job.groups ≡ unit_groups (groups_each layer) unit) ts
-unit_tasks skip layer unit is [] [] sub z = tt
-unit_tasks skip layer unit is [] (t ∷ ts) sub z = absurd z
-unit_tasks skip layer unit is (i ∷ js) [] sub z = absurd z
-unit_tasks skip layer unit is (i ∷ js) (t ∷ ts) sub z = (
+unit_jobs skip layer unit is [] [] sub z = tt
+unit_jobs skip layer unit is [] (t ∷ ts) sub z = absurd z
+unit_jobs skip layer unit is (i ∷ js) [] sub z = absurd z
+unit_jobs skip layer unit is (i ∷ js) (t ∷ ts) sub z = (
   sym (get_set layer i t.job z.0.at) ∙ has_unit_groups (groups_each layer) unit is i (sub i (or_left _ _ (eq-eqb i i refl))),
-  unit_tasks skip layer unit is js ts (λ k there. sub k (or_right _ _ there)) z.1,
+  unit_jobs skip layer unit is js ts (λ k there. sub k (or_right _ _ there)) z.1,
 )
 
-tasks_address : (table : Layout) (skip : List RequestId) (layer : List Job) → AddressTheirGroups table layer
-    → (is : List ℕ) (ts : List Task)
-    → AllZip (IsTaskOf skip layer) is ts → AllByRecursion (λ t. t.job.groups ≡ task_groups table t.job.asked.command) ts
-tasks_address table skip layer a [] [] z = tt
-tasks_address table skip layer a [] (t ∷ ts) z = absurd z
-tasks_address table skip layer a (i ∷ is) [] z = absurd z
-tasks_address table skip layer a (i ∷ is) (t ∷ ts) z =
-    (address_at table layer a i t.job z.0.at, tasks_address table skip layer a is ts z.1)
+jobs_address : (table : Layout) (skip : List RequestId) (layer : List Job) → AddressTheirGroups table layer
+    → (is : List ℕ) (ts : List PlacedJob)
+    → AllZip (IsJobOf skip layer) is ts → AllByRecursion (λ t. t.job.groups ≡ task_groups table t.job.asked.command) ts
+jobs_address table skip layer a [] [] z = tt
+jobs_address table skip layer a [] (t ∷ ts) z = absurd z
+jobs_address table skip layer a (i ∷ is) [] z = absurd z
+jobs_address table skip layer a (i ∷ is) (t ∷ ts) z =
+    (address_at table layer a i t.job z.0.at, jobs_address table skip layer a is ts z.1)
 
 pub are_ready : (table : Layout) (skip : List RequestId) (layer : List Job) → IsTable table → AddressTheirGroups table layer
     → (unit : List ℕ)
-    (ts : List Task) (span : Span) → IsUnit (groups_each layer) unit → AllZip (IsTaskOf skip layer) unit ts
+    (ts : List PlacedJob) (span : Span) → IsUnit (groups_each layer) unit → AllZip (IsJobOf skip layer) unit ts
     → numbers span ≡ unit_groups (groups_each layer) unit → SpanHasOwnKeys table span → AllByRecursion (λ t. IsReadyFor table t span) ts
 are_ready table skip layer t a unit ts span is z ns own =
-    each ts (unit_tasks skip layer unit is unit ts (λ i h. h) z) (tasks_address table skip layer a unit ts z)
+    each ts (unit_jobs skip layer unit is unit ts (λ i h. h) z) (jobs_address table skip layer a unit ts z)
   where
-    each : (us : List Task) → AllByRecursion (λ u. u.job.groups ≡ unit_groups (groups_each layer) unit) us
+    each : (us : List PlacedJob) → AllByRecursion (λ u. u.job.groups ≡ unit_groups (groups_each layer) unit) us
         → AllByRecursion (λ u. u.job.groups ≡ task_groups table u.job.asked.command) us → AllByRecursion (λ u. IsReadyFor table u span) us
     each [] g b = tt
     each (u ∷ us) g b = (record { is_table = t; groups = b.0; numbers = ns ∙ sym g.0; own = own }, each us g.1 b.1)
 
 -- they are the units of the layer's commands
-pub are_works : (table : Layout) (skip : List RequestId) (layer : List Job) (units : List (List ℕ)) (tss : List (List Task))
-    → AddressTheirGroups table layer → AreUnitsOf (groups_each layer) units → AllZip (AllZip (IsTaskOf skip layer)) units tss
+pub are_works : (table : Layout) (skip : List RequestId) (layer : List Job) (units : List (List ℕ)) (tss : List (List PlacedJob))
+    → AddressTheirGroups table layer → AreUnitsOf (groups_each layer) units → AllZip (AllZip (IsJobOf skip layer)) units tss
     → layers.AreWorksOf table (commands_of layer) (works_of (groups_each layer) units tss)
 are_works table skip layer units tss a of z = record {
   units = subst (λ sets. AreUnitsOf sets (map (λ (w : layers.Work). w.places) (works_of (groups_each layer) units tss)))
@@ -470,19 +470,19 @@ are_works table skip layer units tss a of z = record {
   groups = groups units tss (λ u i. i) z;
 }
   where
-    places : (us : List (List ℕ)) (xss : List (List Task)) → AllZip (AllZip (IsTaskOf skip layer)) us xss
+    places : (us : List (List ℕ)) (xss : List (List PlacedJob)) → AllZip (AllZip (IsJobOf skip layer)) us xss
         → ◌≡◌ {A = List (List ℕ)} (map (λ (w : layers.Work). w.places) (works_of (groups_each layer) us xss)) us
     places [] [] z = refl
     places [] (xs ∷ xss) z = absurd z
     places (u ∷ us) [] z = absurd z
     places (u ∷ us) (xs ∷ xss) z = ap (λ (l : List (List ℕ)). u ∷ l) (places us xss z.1)
 
-    commands : (is : List ℕ) (ts : List Task) → AllZip (IsTaskOf skip layer) is ts
+    commands : (is : List ℕ) (ts : List PlacedJob) → AllZip (IsJobOf skip layer) is ts
         → AllZip (λ i t. slice_get (commands_of layer) i ≡ Some t.job.asked.command) is ts
-    commands is ts z = zip_map (IsTaskOf skip layer) (λ i t. slice_get (commands_of layer) i ≡ Some t.job.asked.command)
+    commands is ts z = zip_map (IsJobOf skip layer) (λ i t. slice_get (commands_of layer) i ≡ Some t.job.asked.command)
         (λ i t of. get_map (λ (j : Job). j.asked.command) layer i t.job of.at) is ts z
 
-    stand : (us : List (List ℕ)) (xss : List (List Task)) → AllZip (AllZip (IsTaskOf skip layer)) us xss → (w : layers.Work)
+    stand : (us : List (List ℕ)) (xss : List (List PlacedJob)) → AllZip (AllZip (IsJobOf skip layer)) us xss → (w : layers.Work)
         → In w (works_of (groups_each layer) us xss) → layers.StandAt (commands_of layer) w.places w.tasks
     stand [] xss z w there = absurd there
     stand (u ∷ us) [] z w there = absurd there
@@ -490,16 +490,16 @@ are_works table skip layer units tss a of z = record {
         (stand_at (commands_of layer) (λ t. t.job.asked.command) u xs (commands u xs z.0))
     stand (u ∷ us) (xs ∷ xss) z w (inr later) = stand us xss z.1 w later
 
-    groups : (us : List (List ℕ)) (xss : List (List Task)) → ((u : List ℕ) → In u us → In u units)
-        → AllZip (AllZip (IsTaskOf skip layer)) us xss → (w : layers.Work) (c : executed.Task)
+    groups : (us : List (List ℕ)) (xss : List (List PlacedJob)) → ((u : List ℕ) → In u us → In u units)
+        → AllZip (AllZip (IsJobOf skip layer)) us xss → (w : layers.Work) (c : Task)
         → In w (works_of (groups_each layer) us xss) → In c w.tasks → task_groups table c ≡ w.groups
     groups [] xss sub z w c there in_it = absurd there
     groups (u ∷ us) [] sub z w c there in_it = absurd there
     groups (u ∷ us) (xs ∷ xss) sub z w c (inl e) in_it = subst (λ v. task_groups table c ≡ v.groups) (sym e)
-        (one xs (unit_tasks skip layer u (of.each u (sub u (inl refl))) u xs (λ i h. h) z.0) (tasks_address table skip layer a u xs z.0)
+        (one xs (unit_jobs skip layer u (of.each u (sub u (inl refl))) u xs (λ i h. h) z.0) (jobs_address table skip layer a u xs z.0)
         (subst (λ v. In c v.tasks) e in_it))
       where
-        one : (ts : List Task) → AllByRecursion (λ t. t.job.groups ≡ unit_groups (groups_each layer) u) ts
+        one : (ts : List PlacedJob) → AllByRecursion (λ t. t.job.groups ≡ unit_groups (groups_each layer) u) ts
             → AllByRecursion (λ t. t.job.groups ≡ task_groups table t.job.asked.command) ts → In c (map (λ t. t.job.asked.command) ts)
             → task_groups table c ≡ unit_groups (groups_each layer) u
         one [] g b there = absurd there

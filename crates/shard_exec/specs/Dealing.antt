@@ -3,8 +3,8 @@ use Rattle.std.specs.Prelude.{◌≡◌, ℕ, ◌<◌, List, [], ◌∷◌, ◌+
 use Rattle.std.specs.Global.{Vec}
 use Rattle.std.specs.List.{AllByRecursion}
 use Rattle.shard_maps.specs.Joined.{Span}
-use Rattle.shard_workers.specs.declared.part.Part.{Part}
-use Rattle.shard_workers.specs.declared.task.TaskRan.{TaskRan}
+use Rattle.shard_workers.specs.declared.load.Load.{Load}
+use Rattle.shard_workers.specs.declared.placed_job.JobRan.{JobRan}
 use Rattle.shard_workers.specs.declared.work.Work.{Work}
 use Rattle.shard_workers.specs.declared.work.Ran.{Ran}
 
@@ -30,36 +30,36 @@ flat [] = []
 flat (xs ∷ xss) = xs ++ flat xss
 
 -- results in the places that they name
-abbrev pub placed : List (Option TaskRan) → List TaskRan → List (Option TaskRan)
+abbrev pub placed : List (Option JobRan) → List JobRan → List (Option JobRan)
 placed slots [] = slots
 placed slots (r ∷ rs) = placed (slice_set slots r.place (Some r)) rs
 
 -- each result names one of so many places
-abbrev pub AreInside : ℕ → List TaskRan → Type 0
+abbrev pub AreInside : ℕ → List JobRan → Type 0
 AreInside count rs = AllByRecursion (λ r. r.place < count) rs
 
--- ---- units and parts
+-- ---- units and loads
 
--- the units of all parts, one part after another
-abbrev pub all_works : List Part → List Work
+-- the units of all loads, one load after another
+abbrev pub all_works : List Load → List Work
 all_works [] = []
 all_works (p ∷ ps) = p.works.items ++ all_works ps
 
 -- what became of the requests of these units, and of their shards
-abbrev pub tasks_of : List Ran → List TaskRan
-tasks_of [] = []
-tasks_of (r ∷ rs) = r.tasks.items ++ tasks_of rs
+abbrev pub jobs_of : List Ran → List JobRan
+jobs_of [] = []
+jobs_of (r ∷ rs) = r.jobs.items ++ jobs_of rs
 
 abbrev pub spans_of : List Ran → List Span
 spans_of rs = map (λ r. r.shards.items) rs
 
--- what all parts gave
+-- what all loads gave
 abbrev pub all_rans : List (Vec Ran) → List Ran
 all_rans [] = []
 all_rans (r ∷ rs) = r.items ++ all_rans rs
 
-abbrev pub all_tasks : List (Vec Ran) → List TaskRan
-all_tasks rs = tasks_of (all_rans rs)
+abbrev pub all_jobs : List (Vec Ran) → List JobRan
+all_jobs rs = jobs_of (all_rans rs)
 
 abbrev pub all_spans : List (Vec Ran) → List Span
 all_spans rs = spans_of (all_rans rs)

@@ -9,17 +9,16 @@ use Rattle.keyspace.specs.Map.{Map}
 use Rattle.layer_planner.specs.declared.job.Job.{Job}
 use Rattle.placement.specs.Layout.{Layout, shard_of}
 use Rattle.resp.specs.Content.{Content}
-use Rattle.tasks.specs.Tasks.{task_groups, task_effect, task_takes_memory}
-use Rattle.tasks.specs.Tasks as executed
+use Rattle.tasks.specs.Tasks.{Task, task_groups, task_effect, task_takes_memory}
 use Rattle.shard_exec.specs.Dealing.{filled}
 use Rattle.shard_exec.specs.declared.done.Ended.{Ended}
 use Rattle.shard_maps.specs.Joined.{joined, HasOwnKeys}
 use Rattle.shard_maps.specs.Layer.{LayerRan, AnsweredInTurn}
-use Rattle.shard_workers.specs.Tasks.{outcome}
-use Rattle.shard_workers.specs.declared.task.Task.{Task}
-use Rattle.shard_workers.specs.declared.task.TaskRan.{TaskRan}
+use Rattle.shard_workers.specs.PlacedJobs.{outcome}
+use Rattle.shard_workers.specs.declared.placed_job.PlacedJob.{PlacedJob}
+use Rattle.shard_workers.specs.declared.placed_job.JobRan.{JobRan}
 
-abbrev pub commands_of : List Job → List executed.Task
+abbrev pub commands_of : List Job → List Task
 commands_of jobs = map (λ j. j.asked.command) jobs
 
 -- each request addresses the groups that the table gives its command
@@ -46,7 +45,7 @@ pub record MayStarve (table : Layout) (met : Map) (skip : List RequestId) (j : J
       → task_takes_memory j.asked.command (on_groups table j.groups met)
 
 -- what a command leaves of the map that it meets, by what it answers: where it starves, the map as it is
-abbrev pub left_by : executed.Task → Map → Option Content → Map
+abbrev pub left_by : Task → Map → Option Content → Map
 left_by command met None = met
 left_by command met (Some reply) = (task_effect command met).0
 
@@ -81,27 +80,27 @@ abbrev pub IsInside : ℕ → Job → Type 0
 IsInside shards j = (g : ℕ) → has j.groups g ≡ true → g < shards
 
 -- this is the request in a slot, with its place, and whether it is to be skipped
-pub record IsTaskAt (skip : List RequestId) (slots : List (Option Job)) (at : ℕ) (t : Task) : Type 0 where
+pub record IsJobAt (skip : List RequestId) (slots : List (Option Job)) (at : ℕ) (t : PlacedJob) : Type 0 where
   pub there : slice_get slots at ≡ Some (Some t.job)
   pub place : t.place ≡ at
   pub skipped : t.skipped ≡ is_named skip t.job.id
 
 -- these were taken from these places, one after another
-abbrev pub TookTasks : List RequestId → List (Option Job) → List ℕ → List Task → Type 0
-TookTasks skip slots [] [] = Unit {0}
-TookTasks skip slots [] (t ∷ ts) = ⊥
-TookTasks skip slots (i ∷ is) [] = ⊥
-TookTasks skip slots (i ∷ is) (t ∷ ts) = IsTaskAt skip slots i t × TookTasks skip (slice_set slots i None) is ts
+abbrev pub TookJobs : List RequestId → List (Option Job) → List ℕ → List PlacedJob → Type 0
+TookJobs skip slots [] [] = Unit {0}
+TookJobs skip slots [] (t ∷ ts) = ⊥
+TookJobs skip slots (i ∷ is) [] = ⊥
+TookJobs skip slots (i ∷ is) (t ∷ ts) = IsJobAt skip slots i t × TookJobs skip (slice_set slots i None) is ts
 
-abbrev pub ended_of : TaskRan → Ended
+abbrev pub ended_of : JobRan → Ended
 ended_of r = record { id = r.id; stamp = r.stamp; words = r.words; reply = r.reply }
 
 -- it has the request's groups and stamp
-abbrev pub HasItsGroups : Job → TaskRan → Type 0
+abbrev pub HasItsGroups : Job → JobRan → Type 0
 HasItsGroups j r = (r.groups ≡ j.groups) × (r.stamp ≡ j.stamp)
 
 -- in each place stands what became of its request, and so the layer is done
-pub record HaveGiven (table : Layout) (old : List Map) (skip : List RequestId) (layer : List Job) (slots : List (Option TaskRan))
+pub record HaveGiven (table : Layout) (old : List Map) (skip : List RequestId) (layer : List Job) (slots : List (Option JobRan))
     (new : List Map) : Type 0 where
   pub full : AllByRecursion IsSome slots
   pub as_many : length slots ≡ length layer

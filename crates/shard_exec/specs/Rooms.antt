@@ -26,7 +26,7 @@ abbrev pub FitsRuns : List Job → RunRoom → Type 0
 FitsRuns jobs (InRow part spans) = AreUnitsOf (groups_each jobs) part × AllZip (FitsAt jobs) (concat part) spans.items
 FitsRuns jobs (Dealt plan dealt) = AreUnitsOf (groups_each jobs) (units_in plan.items) × FitsDealt (groups_each jobs) plan.items dealt
 
--- there are no more parts than workers
+-- there are no more loads than workers
 abbrev pub AreFew : ℕ → RunRoom → Type 0
 AreFew workers (InRow part spans) = Unit {0}
 AreFew workers (Dealt plan dealt) = length plan.items ≤ workers

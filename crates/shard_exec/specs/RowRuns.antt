@@ -8,15 +8,15 @@ use Rattle.keyspace.specs.Map.{Map}
 use Rattle.layer_planner.specs.declared.job.Job.{Job}
 use Rattle.placement.specs.Layout.{Layout}
 use Rattle.tasks.specs.Tasks.{task_groups}
-use Rattle.shard_exec.specs.Layers.{IsTaskAt}
+use Rattle.shard_exec.specs.Layers.{IsJobAt}
 use Rattle.shard_exec.specs.Rooms.{FitsAlone}
 use Rattle.shard_maps.specs.Joined.{map_of_shard, span_at}
-use Rattle.shard_workers.specs.Tasks.{HasRunOver}
-use Rattle.shard_workers.specs.declared.task.Task.{Task}
-use Rattle.shard_workers.specs.declared.task.TaskRan.{TaskRan}
+use Rattle.shard_workers.specs.PlacedJobs.{HasRunOver}
+use Rattle.shard_workers.specs.declared.placed_job.PlacedJob.{PlacedJob}
+use Rattle.shard_workers.specs.declared.placed_job.JobRan.{JobRan}
 
 -- the request was run over the shards of its groups, and the others are as they were
-pub record HasRunInRow (table : Layout) (t : Task) (old : List Map) (r : TaskRan) (new : List Map) : Type 0 where
+pub record HasRunInRow (table : Layout) (t : PlacedJob) (old : List Map) (r : JobRan) (new : List Map) : Type 0 where
   pub over : HasRunOver table t (span_at old t.job.groups) r (span_at new t.job.groups)
   pub others : (shard : ℕ) → has t.job.groups shard ≡ false → map_of_shard new shard ≡ map_of_shard old shard
 
@@ -30,9 +30,9 @@ FitAt slots places spans = AllZip (λ place span. (j : Job) → slice_get slots 
 
 -- the requests at these places were run one after another, each in the row that those before it left, and what became of
 -- each was put in its place
-abbrev pub HaveRunAt : Layout → List RequestId → List (Option Job) → List Map → List ℕ → List (Option TaskRan)
-    → List (Option TaskRan) → List Map → Type 0
+abbrev pub HaveRunAt : Layout → List RequestId → List (Option Job) → List Map → List ℕ → List (Option JobRan)
+    → List (Option JobRan) → List Map → Type 0
 HaveRunAt table skip slots row [] rans given left = (given ≡ rans) × (left ≡ row)
 HaveRunAt table skip slots row (i ∷ is) rans given left =
-    (t : Task) × (r : TaskRan) × (mid : List Map) × IsTaskAt skip slots i t × HasRunInRow table t row r mid
+    (t : PlacedJob) × (r : JobRan) × (mid : List Map) × IsJobAt skip slots i t × HasRunInRow table t row r mid
     × HaveRunAt table skip (slice_set slots i None) mid is (slice_set rans i (Some r)) given left

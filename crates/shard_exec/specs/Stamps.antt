@@ -5,7 +5,7 @@ use Rattle.groups.specs.GroupSet.{has}
 use Rattle.layer_planner.specs.declared.job.Job.{Job}
 use Rattle.groups.specs.Stamp.{stamp_lt}
 use Rattle.groups.specs.declared.stamp.Stamp.{Stamp}
-use Rattle.shard_workers.specs.declared.task.TaskRan.{TaskRan}
+use Rattle.shard_workers.specs.declared.placed_job.JobRan.{JobRan}
 
 -- the last stamp of a shard; none before the first
 abbrev pub last_of : List (Option Stamp) → ℕ → Option Stamp
@@ -36,10 +36,10 @@ raised lasts [] = lasts
 raised lasts (j ∷ js) = raised (raise lasts j.groups j.stamp) js
 
 -- the same, by what became of each
-abbrev pub raised_by : List (Option Stamp) → List TaskRan → List (Option Stamp)
+abbrev pub raised_by : List (Option Stamp) → List JobRan → List (Option Stamp)
 raised_by lasts [] = lasts
 raised_by lasts (r ∷ rs) = raised_by (raise lasts r.groups r.stamp) rs
 
 -- the groups of each are shards of a row of so many
-abbrev pub AreInRow : ℕ → List TaskRan → Type 0
+abbrev pub AreInRow : ℕ → List JobRan → Type 0
 AreInRow shards rs = AllByRecursion (λ r. (g : ℕ) → has r.groups g ≡ true → g < shards) rs

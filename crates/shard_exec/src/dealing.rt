@@ -1,4 +1,4 @@
-//! The units of a layer, taken out with their shards and dealt to parts by a plan.
+//! The units of a layer, taken out with their shards: the loads of the workers, by a plan.
 
 ghost use Rattle.std.specs.Prelude.{◌≡◌, ℕ, ◌<◌, ◌≤◌, [], length, map, true, vec_capacity};
 ghost use Rattle.std.specs.FinMap.{empty};
@@ -7,62 +7,62 @@ ghost use Rattle.groups.specs.GroupSet.{has};
 ghost use Rattle.layer_planner.specs.Parts.{units_in};
 ghost use Rattle.shard_exec.specs.Dealing.{CanTake, left_at, all_works};
 ghost use Rattle.shard_exec.specs.DealtRooms.{HasRoomFor, HaveRoomFor, IsInRow, MadeWorks, all_rooms};
-ghost use Rattle.shard_exec.specs.Layers.{TookTasks};
+ghost use Rattle.shard_exec.specs.Layers.{TookJobs};
 ghost use Rattle.shard_maps.specs.Rows.{taken_out, emptied};
 
-use crate::dealt_room::{PartRoom, UnitRoom};
+use crate::dealt_room::{LoadRoom, UnitRoom};
 use crate::moves::take_shards;
-use crate::taking::take_tasks;
+use crate::taking::take_jobs;
 use groups::RequestId;
-use layer_planner::Job;
-use shard_workers::{Part, Work};
+use layer_planner::{Job, Part};
+use shard_workers::{Load, Work};
 use shards::{Shard, ShardHasher};
 use std::alloc::Global;
 
-/// Takes the units of each part, with their shards, out of the slots and out of the row. It takes no memory.
-pub fn take_parts(
+/// Takes the units of each part, with their shards, out of the slots and out of the row: the loads. It takes no memory.
+pub fn take_loads(
     alloc: Global,
     hasher: ShardHasher,
     row: &mut Vec<Shard>,
     slots: Vec<Option<Job>>,
-    plan: &[layer_planner::Part],
+    plan: &[Part],
     skip: &[RequestId],
-    rooms: Vec<PartRoom>,
-    parts: Vec<Part>,
-) -> Vec<Part>
+    rooms: Vec<LoadRoom>,
+    loads: Vec<Load>,
+) -> Vec<Load>
     requires there { CanTake slots.items (concat (units_in plan.now)) }
     requires rooms { AllZip HaveRoomFor plan.now rooms.items }
     requires inside { AllByRecursion (IsInRow (length row.old.items)) (all_rooms rooms.items) }
-    requires none { parts.items ≡ [] }
-    requires room { length plan.now ≤ vec_capacity parts }
+    requires none { loads.items ≡ [] }
+    requires room { length plan.now ≤ vec_capacity loads }
     ensures made { MadeWorks skip.now slots.items row.old.items (units_in plan.now) (all_rooms rooms.items)
         (all_works result.items) row.new.items }
-    ensures parts { length result.items ≡ length plan.now }
+    ensures loads { length result.items ≡ length plan.now }
 {
     let mut slots = slots;
-    let mut parts = parts;
+    let mut loads = loads;
     let mut rooms = rooms.into_iter();
     for part in plan {
         let Some(room) = rooms.next() else {
             unreachable!()
         };
-        let Ok(()) = parts.push(take_part(alloc, hasher, row, &mut slots, part, skip, room)) else {
+        let Ok(()) = loads.push(take_load(alloc, hasher, row, &mut slots, part, skip, room)) else {
             unreachable!()
         };
     }
-    parts
+    loads
 }
 
-/// Takes the units of a part, with their shards.
-fn take_part(
+/// Takes the units of a part, with their shards: a load.
+fn take_load(
     alloc: Global,
     hasher: ShardHasher,
     row: &mut Vec<Shard>,
     slots: &mut Vec<Option<Job>>,
-    part: &layer_planner::Part,
+    part: &Part,
     skip: &[RequestId],
-    room: PartRoom,
-) -> Part
+    room: LoadRoom,
+) -> Load
     requires there { CanTake slots.old.items (concat part.now) }
     requires room { HaveRoomFor part.now room }
     requires inside { AllByRecursion (IsInRow (length row.old.items)) room.units.items }
@@ -71,9 +71,9 @@ fn take_part(
     ensures left { slots.new.items ≡ left_at slots.old.items (concat part.now) }
     ensures len { length row.new.items ≡ length row.old.items }
 {
-    let PartRoom { units, works, rans } = room;
+    let LoadRoom { units, works, rans } = room;
     let works = take_units(alloc, hasher, row, slots, part, skip, units, works);
-    Part::new(works, rans)
+    Load::new(works, rans)
 }
 
 /// Takes the units of a part, with their shards, into `works`, which has the room.
@@ -82,7 +82,7 @@ fn take_units(
     hasher: ShardHasher,
     row: &mut Vec<Shard>,
     slots: &mut Vec<Option<Job>>,
-    part: &layer_planner::Part,
+    part: &Part,
     skip: &[RequestId],
     rooms: Vec<UnitRoom>,
     works: Vec<Work>,
@@ -124,18 +124,18 @@ fn take_unit(
     requires there { CanTake slots.old.items places.now }
     requires room { HasRoomFor places.now room }
     requires inside { IsInRow (length row.old.items) room }
-    ensures took { TookTasks skip.now slots.old.items places.now result.tasks.items }
+    ensures took { TookJobs skip.now slots.old.items places.now result.jobs.items }
     ensures left { slots.new.items ≡ left_at slots.old.items places.now }
     ensures shards { result.shards.items ≡ taken_out empty row.old.items room.groups }
     ensures row { row.new.items ≡ emptied empty row.old.items room.groups }
 {
     let UnitRoom {
         groups,
-        tasks,
+        jobs,
         rans,
         span,
     } = room;
-    let tasks = take_tasks(slots, places, skip, tasks);
+    let jobs = take_jobs(slots, places, skip, jobs);
     let shards = take_shards(alloc, hasher, row, groups, span);
-    Work::new(tasks, rans, shards)
+    Work::new(jobs, rans, shards)
 }

@@ -3,11 +3,11 @@
 ghost use Rattle.std.specs.Prelude.{◌≡◌, ◌≤◌, [], length, IfOk, vec_capacity};
 ghost use Rattle.std.specs.List.{AllZip, AllByRecursion};
 ghost use Rattle.layer_planner.specs.Units.{groups_each};
-ghost use Rattle.shard_exec.specs.DealtRooms.{AreInLayer, HasRoomFor, IsForGroups, FitsPart, FitsDealt};
+ghost use Rattle.shard_exec.specs.DealtRooms.{AreInLayer, HasRoomFor, IsForGroups, FitsLoad, FitsDealt};
 
 use groups::{GroupId, Groups};
-use layer_planner::Job;
-use shard_workers::{Part, Ran, Room, Task, TaskRan, Work, Workers};
+use layer_planner::{Job, Part};
+use shard_workers::{JobRan, Load, PlacedJob, Ran, Room, Work, Workers};
 use shards::Shard;
 use std::alloc::{AllocError, Global};
 
@@ -15,24 +15,24 @@ use std::alloc::{AllocError, Global};
 #[derive(Drop)]
 pub struct UnitRoom {
     pub groups: Groups,
-    pub tasks: Vec<Task>,
-    pub rans: Vec<TaskRan>,
+    pub jobs: Vec<PlacedJob>,
+    pub rans: Vec<JobRan>,
     pub span: Vec<(GroupId, Shard)>,
 }
 
-/// Room for the units of one part, and for what they give.
+/// Room for the units of one load, and for what they give.
 #[derive(Drop)]
-pub struct PartRoom {
+pub struct LoadRoom {
     pub units: Vec<UnitRoom>,
     pub works: Vec<Work>,
     pub rans: Vec<Ran>,
 }
 
-/// Room for the parts of a layer, and what the workers need.
+/// Room for the loads of a layer, and what the workers need.
 #[derive(Drop)]
 pub struct DealtRoom {
-    pub rooms: Vec<PartRoom>,
-    pub parts: Vec<Part>,
+    pub rooms: Vec<LoadRoom>,
+    pub loads: Vec<Load>,
     pub room: Room,
 }
 
@@ -41,57 +41,45 @@ impl DealtRoom {
     pub fn reserve<W: Workers>(
         alloc: Global,
         jobs: &[Job],
-        plan: &[layer_planner::Part],
+        plan: &[Part],
         workers: &W,
     ) -> Result<Self, AllocError>
         requires { AllByRecursion (AllByRecursion (AreInLayer (length jobs.now))) plan.now }
         ensures fits { IfOk result (FitsDealt (groups_each jobs.now) plan.now) }
         ensures room { IfOk result (λ d. W.has_room d.room (length plan.now)) }
     {
-        let rooms = reserve_parts(alloc, jobs, plan)?;
-        let parts = Vec::with_capacity(alloc, plan.len())?;
+        let rooms = reserve_loads(alloc, jobs, plan)?;
+        let loads = Vec::with_capacity(alloc, plan.len())?;
         let room = workers.reserve(alloc, plan.len())?;
-        Ok(DealtRoom { rooms, parts, room })
+        Ok(DealtRoom { rooms, loads, room })
     }
 }
 
-/// Room for each part of the plan.
-fn reserve_parts(
-    alloc: Global,
-    jobs: &[Job],
-    plan: &[layer_planner::Part],
-) -> Result<Vec<PartRoom>, AllocError>
+/// Room for the load of each part of the plan.
+fn reserve_loads(alloc: Global, jobs: &[Job], plan: &[Part]) -> Result<Vec<LoadRoom>, AllocError>
     requires { AllByRecursion (AllByRecursion (AreInLayer (length jobs.now))) plan.now }
-    ensures { IfOk result (λ rooms. AllZip (FitsPart (groups_each jobs.now)) plan.now rooms.items) }
+    ensures { IfOk result (λ rooms. AllZip (FitsLoad (groups_each jobs.now)) plan.now rooms.items) }
 {
     let mut rooms = Vec::with_capacity(alloc, plan.len())?;
     for part in plan {
-        rooms.push(reserve_part(alloc, jobs, part)?)?;
+        rooms.push(reserve_load(alloc, jobs, part)?)?;
     }
     Ok(rooms)
 }
 
-/// Room for one part.
-fn reserve_part(
-    alloc: Global,
-    jobs: &[Job],
-    part: &layer_planner::Part,
-) -> Result<PartRoom, AllocError>
+/// Room for the load of one part.
+fn reserve_load(alloc: Global, jobs: &[Job], part: &Part) -> Result<LoadRoom, AllocError>
     requires { AllByRecursion (AreInLayer (length jobs.now)) part.now }
-    ensures { IfOk result (FitsPart (groups_each jobs.now) part.now) }
+    ensures { IfOk result (FitsLoad (groups_each jobs.now) part.now) }
 {
     let units = reserve_units(alloc, jobs, part)?;
     let works = Vec::with_capacity(alloc, part.len())?;
     let rans = Vec::with_capacity(alloc, part.len())?;
-    Ok(PartRoom { units, works, rans })
+    Ok(LoadRoom { units, works, rans })
 }
 
 /// Room for each unit of a part.
-fn reserve_units(
-    alloc: Global,
-    jobs: &[Job],
-    part: &layer_planner::Part,
-) -> Result<Vec<UnitRoom>, AllocError>
+fn reserve_units(alloc: Global, jobs: &[Job], part: &Part) -> Result<Vec<UnitRoom>, AllocError>
     requires { AllByRecursion (AreInLayer (length jobs.now)) part.now }
     ensures room { IfOk result (λ rooms. AllZip HasRoomFor part.now rooms.items) }
     ensures groups { IfOk result (λ rooms. AllZip (IsForGroups (groups_each jobs.now)) part.now rooms.items) }
@@ -107,19 +95,19 @@ fn reserve_units(
 /// Room for so many requests of these groups.
 fn reserve_unit(alloc: Global, groups: Groups, count: usize) -> Result<UnitRoom, AllocError>
     ensures groups { IfOk result (λ room. room.groups ≡ groups) }
-    ensures no_tasks { IfOk result (λ room. room.tasks.items ≡ []) }
-    ensures tasks { IfOk result (λ room. count ≤ vec_capacity room.tasks) }
+    ensures no_jobs { IfOk result (λ room. room.jobs.items ≡ []) }
+    ensures jobs { IfOk result (λ room. count ≤ vec_capacity room.jobs) }
     ensures none_run { IfOk result (λ room. room.rans.items ≡ []) }
     ensures rans { IfOk result (λ room. count ≤ vec_capacity room.rans) }
     ensures no_shards { IfOk result (λ room. room.span.items ≡ []) }
     ensures span { IfOk result (λ room. length groups ≤ vec_capacity room.span) }
 {
-    let tasks = Vec::with_capacity(alloc, count)?;
+    let jobs = Vec::with_capacity(alloc, count)?;
     let rans = Vec::with_capacity(alloc, count)?;
     let span = Vec::with_capacity(alloc, groups.len())?;
     Ok(UnitRoom {
         groups,
-        tasks,
+        jobs,
         rans,
         span,
     })

@@ -9,17 +9,17 @@ ghost use Rattle.placement.specs.Layout.{IsTable};
 ghost use Rattle.shard_exec.specs.DealtRooms.{FitsDealt};
 ghost use Rattle.shard_exec.specs.Layers.{AddressTheirGroups, HaveGiven};
 ghost use Rattle.shard_maps.specs.Joined.{HasOwnKeys};
-ghost use Rattle.shard_exec.specs.Dealing.{filled, placed, tasks_of, spans_of, all_tasks, all_spans, AreInside};
+ghost use Rattle.shard_exec.specs.Dealing.{filled, placed, jobs_of, spans_of, all_jobs, all_spans, AreInside};
 ghost use Rattle.shard_maps.specs.Rows.{put_spans};
 
-use crate::dealing::take_parts;
+use crate::dealing::take_loads;
 use crate::dealt_room::DealtRoom;
 use crate::moves::put_back;
 use crate::taking::place_rans;
 use groups::RequestId;
-use layer_planner::Job;
+use layer_planner::{Job, Part};
 use placement::Table;
-use shard_workers::{Gate, Ran, Refused, TaskRan, Workers};
+use shard_workers::{Gate, JobRan, Ran, Refused, Workers};
 use shards::{Shard, ShardHasher};
 use std::alloc::Global;
 
@@ -32,13 +32,13 @@ pub fn run_dealt<W: Workers>(
     hasher: ShardHasher,
     row: &mut Vec<Shard>,
     slots: Vec<Option<Job>>,
-    plan: &[layer_planner::Part],
+    plan: &[Part],
     skip: &[RequestId],
     workers: &W,
     gate: &(dyn Gate + Sync),
     dealt: DealtRoom,
-    rans: Vec<Option<TaskRan>>,
-) -> Result<Vec<Option<TaskRan>>, Refused>
+    rans: Vec<Option<JobRan>>,
+) -> Result<Vec<Option<JobRan>>, Refused>
     requires is_table { IsTable table.now }
     requires shards { length row.old.items ≡ table.now.shards }
     requires own { HasOwnKeys table.now row.old.items }
@@ -54,9 +54,9 @@ pub fn run_dealt<W: Workers>(
     ensures shards { length row.new.items ≡ length row.old.items }
     ensures own { HasOwnKeys table.now row.new.items }
 {
-    let DealtRoom { rooms, parts, room } = dealt;
-    let parts = take_parts(alloc, hasher, row, slots, plan, skip, rooms, parts);
-    let results = match workers.run_parts(alloc, table, gate, room, parts) {
+    let DealtRoom { rooms, loads, room } = dealt;
+    let loads = take_loads(alloc, hasher, row, slots, plan, skip, rooms, loads);
+    let results = match workers.run_loads(alloc, table, gate, room, loads) {
         Ok(results) => results,
         Err(refused) => return Err(refused),
     };
@@ -66,34 +66,34 @@ pub fn run_dealt<W: Workers>(
 /// Puts the shards of each unit back, and what became of its requests in their places.
 fn put_all(
     row: &mut Vec<Shard>,
-    slots: Vec<Option<TaskRan>>,
+    slots: Vec<Option<JobRan>>,
     results: Vec<Vec<Ran>>,
-) -> Vec<Option<TaskRan>>
+) -> Vec<Option<JobRan>>
     requires shards { AllByRecursion (AllByRecursion (λ s. s.0 < length row.old.items)) (all_spans results.items) }
-    requires places { AreInside (length slots.items) (all_tasks results.items) }
+    requires places { AreInside (length slots.items) (all_jobs results.items) }
     ensures row { row.new.items ≡ put_spans row.old.items (all_spans results.items) }
-    ensures placed { result.items ≡ placed slots.items (all_tasks results.items) }
+    ensures placed { result.items ≡ placed slots.items (all_jobs results.items) }
     ensures len { length row.new.items ≡ length row.old.items }
 {
     let mut slots = slots;
     for rans in results {
-        put_part(row, &mut slots, rans);
+        put_load(row, &mut slots, rans);
     }
     slots
 }
 
-/// The same for the units of one part.
-fn put_part(row: &mut Vec<Shard>, slots: &mut Vec<Option<TaskRan>>, rans: Vec<Ran>)
+/// The same for the units of one load.
+fn put_load(row: &mut Vec<Shard>, slots: &mut Vec<Option<JobRan>>, rans: Vec<Ran>)
     requires shards { AllByRecursion (AllByRecursion (λ s. s.0 < length row.old.items)) (spans_of rans.items) }
-    requires places { AreInside (length slots.old.items) (tasks_of rans.items) }
+    requires places { AreInside (length slots.old.items) (jobs_of rans.items) }
     ensures row { row.new.items ≡ put_spans row.old.items (spans_of rans.items) }
-    ensures placed { slots.new.items ≡ placed slots.old.items (tasks_of rans.items) }
+    ensures placed { slots.new.items ≡ placed slots.old.items (jobs_of rans.items) }
     ensures len { length row.new.items ≡ length row.old.items }
     ensures len_slots { length slots.new.items ≡ length slots.old.items }
 {
     for ran in rans {
-        let Ran { tasks, shards } = ran;
+        let Ran { jobs, shards } = ran;
         put_back(row, shards);
-        place_rans(slots, tasks);
+        place_rans(slots, jobs);
     }
 }

@@ -9,7 +9,7 @@ use crate::Ended;
 use crate::dealt_room::DealtRoom;
 use groups::GroupId;
 use layer_planner::{Job, Layer, Part, plan};
-use shard_workers::{TaskRan, Workers};
+use shard_workers::{JobRan, Workers};
 use shards::Shard;
 use std::alloc::{AllocError, Global};
 
@@ -18,7 +18,7 @@ use std::alloc::{AllocError, Global};
 #[derive(Drop)]
 pub struct LayerRoom {
     pub slots: Vec<Option<Job>>,
-    pub rans: Vec<Option<TaskRan>>,
+    pub rans: Vec<Option<JobRan>>,
     pub done: Vec<Ended>,
     pub runs: RunRoom,
 }
@@ -107,7 +107,7 @@ pub fn reserve_alone(alloc: Global, job: &Job) -> Result<Vec<(GroupId, Shard)>, 
 }
 
 /// So many places with nothing in them.
-fn nothing_run(alloc: Global, count: usize) -> Result<Vec<Option<TaskRan>>, AllocError>
+fn nothing_run(alloc: Global, count: usize) -> Result<Vec<Option<JobRan>>, AllocError>
     ensures { IfOk result (λ rans. rans.items ≡ replicate count None) }
 {
     let mut rans = Vec::with_capacity(alloc, count)?;

@@ -19,7 +19,7 @@ use crate::taking::{in_slots, is_named, tell, tell_all};
 use groups::{GroupId, RequestId, Stamp};
 use layer_planner::Job;
 use placement::Table;
-use shard_workers::{Gate, Refused, Task, TaskRan, Workers};
+use shard_workers::{Gate, JobRan, PlacedJob, Refused, Workers};
 use shards::{Shard, ShardHasher};
 use std::alloc::Global;
 
@@ -79,8 +79,8 @@ fn run_units<W: Workers>(
     workers: &W,
     gate: &(dyn Gate + Sync),
     runs: RunRoom,
-    rans: Vec<Option<TaskRan>>,
-) -> Result<Vec<Option<TaskRan>>, Refused>
+    rans: Vec<Option<JobRan>>,
+) -> Result<Vec<Option<JobRan>>, Refused>
     requires is_table { IsTable table.now }
     requires shards { length row.old.items ≡ table.now.shards }
     requires own { HasOwnKeys table.now row.old.items }
@@ -150,11 +150,11 @@ pub fn run_alone(
     ensures own { HasOwnKeys table.now row.new.items }
 {
     let skipped = is_named(skip, &job.id);
-    let task = Task {
+    let placed = PlacedJob {
         place: 0,
         job,
         skipped,
     };
-    let ran = run_in_row(alloc, table, hasher, row, task, span, gate);
+    let ran = run_in_row(alloc, table, hasher, row, placed, span, gate);
     tell(lasts, ran)
 }

@@ -8,14 +8,14 @@ ghost use Rattle.tasks.specs.Tasks.{task_groups};
 ghost use Rattle.shard_exec.specs.Dealing.{CanTake};
 ghost use Rattle.shard_exec.specs.Rooms.{FitsAlone};
 ghost use Rattle.shard_exec.specs.RowRuns.{AddressAt, FitAt, HasRunInRow, HaveRunAt};
-ghost use Rattle.shard_workers.specs.Tasks.{HasRunOn};
+ghost use Rattle.shard_workers.specs.PlacedJobs.{HasRunOn};
 
 use crate::moves::{put_back, take_shards};
-use crate::taking::take_task;
+use crate::taking::take_job;
 use groups::{GroupId, RequestId};
 use layer_planner::Job;
 use placement::Table;
-use shard_workers::{Gate, Task, TaskRan};
+use shard_workers::{Gate, JobRan, PlacedJob};
 use shards::{Shard, ShardHasher};
 use std::alloc::Global;
 
@@ -32,8 +32,8 @@ pub fn run_places(
     spans: Vec<Vec<(GroupId, Shard)>>,
     skip: &[RequestId],
     gate: &(dyn Gate + Sync),
-    rans: Vec<Option<TaskRan>>,
-) -> Vec<Option<TaskRan>>
+    rans: Vec<Option<JobRan>>,
+) -> Vec<Option<JobRan>>
     requires is_table { IsTable table.now }
     requires shards { length row.old.items ≡ table.now.shards }
     requires own { HasOwnKeys table.now row.old.items }
@@ -51,8 +51,8 @@ pub fn run_places(
         let Some(span) = spans.next() else {
             unreachable!()
         };
-        let task = take_task(&mut slots, *place, skip);
-        rans[*place] = Some(run_in_row(alloc, table, hasher, row, task, span, gate));
+        let placed = take_job(&mut slots, *place, skip);
+        rans[*place] = Some(run_in_row(alloc, table, hasher, row, placed, span, gate));
     }
     rans
 }
@@ -64,24 +64,24 @@ pub fn run_in_row(
     table: &Table,
     hasher: ShardHasher,
     row: &mut Vec<Shard>,
-    task: Task,
+    placed: PlacedJob,
     span: Vec<(GroupId, Shard)>,
     gate: &(dyn Gate + Sync),
-) -> TaskRan
+) -> JobRan
     requires is_table { IsTable table.now }
     requires shards { length row.old.items ≡ table.now.shards }
     requires own { HasOwnKeys table.now row.old.items }
-    requires groups { task.job.groups ≡ task_groups table.now task.job.asked.command }
-    requires room { FitsAlone task.job span }
-    ensures ran { HasRunInRow table.now task row.old.items result row.new.items }
+    requires groups { placed.job.groups ≡ task_groups table.now placed.job.asked.command }
+    requires room { FitsAlone placed.job span }
+    ensures ran { HasRunInRow table.now placed row.old.items result row.new.items }
     ensures shards { length row.new.items ≡ length row.old.items }
 {
-    let groups = task.groups();
+    let groups = placed.groups();
     if let Some(group) = groups.alone() {
-        return run_in_place(alloc, row, group, task, gate);
+        return run_in_place(alloc, row, group, placed, gate);
     }
     let shards = take_shards(alloc, hasher, row, groups, span);
-    let (ran, shards) = task.run_over(alloc, table, shards, gate);
+    let (ran, shards) = placed.run_over(alloc, table, shards, gate);
     put_back(row, shards);
     ran
 }
@@ -91,13 +91,13 @@ fn run_in_place(
     alloc: Global,
     row: &mut Vec<Shard>,
     group: GroupId,
-    task: Task,
+    placed: PlacedJob,
     gate: &(dyn Gate + Sync),
-) -> TaskRan
+) -> JobRan
     requires { group < length row.old.items }
-    ensures ran { HasRunOn task (map_of_shard row.old.items group) result (map_of_shard row.new.items group) }
+    ensures ran { HasRunOn placed (map_of_shard row.old.items group) result (map_of_shard row.new.items group) }
     ensures row { row.new.items ≡ slice_set row.old.items group (map_of_shard row.new.items group) }
 {
     let shard = &mut row[usize::from(group.number())];
-    task.run(alloc, shard, gate)
+    placed.run(alloc, shard, gate)
 }

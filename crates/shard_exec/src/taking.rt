@@ -5,14 +5,14 @@ ghost use Rattle.std.specs.List.{AllByRecursion};
 ghost use Rattle.groups.specs.GroupSet.{has};
 ghost use Rattle.layer_planner.specs.declared.job.Job.{Job};
 ghost use Rattle.shard_exec.specs.Dealing.{CanTake, left_at, filled, placed, AreInside};
-ghost use Rattle.shard_exec.specs.Layers.{is_named, IsTaskAt, TookTasks, ended_of};
+ghost use Rattle.shard_exec.specs.Layers.{is_named, IsJobAt, TookJobs, ended_of};
 ghost use Rattle.shard_exec.specs.Stamps.{AreInRow, raise, raised_by};
 
 use crate::Ended;
 use crate::moves::raise;
 use groups::{RequestId, Stamp};
 use layer_planner::Job;
-use shard_workers::{Task, TaskRan};
+use shard_workers::{JobRan, PlacedJob};
 
 /// The requests, each in a slot from which it can be taken.
 pub fn in_slots(jobs: Vec<Job>, slots: Vec<Option<Job>>) -> Vec<Option<Job>>
@@ -29,39 +29,39 @@ pub fn in_slots(jobs: Vec<Job>, slots: Vec<Option<Job>>) -> Vec<Option<Job>>
     slots
 }
 
-/// Takes the requests at these places, in this order, into `tasks`, which has the room.
-pub fn take_tasks(
+/// Takes the requests at these places, in this order, into `jobs`, which has the room.
+pub fn take_jobs(
     slots: &mut Vec<Option<Job>>,
     places: &[usize],
     skip: &[RequestId],
-    tasks: Vec<Task>,
-) -> Vec<Task>
+    jobs: Vec<PlacedJob>,
+) -> Vec<PlacedJob>
     requires there { CanTake slots.old.items places.now }
-    requires none { tasks.items ≡ [] }
-    requires room { length places.now ≤ vec_capacity tasks }
-    ensures took { TookTasks skip.now slots.old.items places.now result.items }
+    requires none { jobs.items ≡ [] }
+    requires room { length places.now ≤ vec_capacity jobs }
+    ensures took { TookJobs skip.now slots.old.items places.now result.items }
     ensures left { slots.new.items ≡ left_at slots.old.items places.now }
 {
-    let mut tasks = tasks;
+    let mut jobs = jobs;
     for place in places {
-        let Ok(()) = tasks.push(take_task(slots, *place, skip)) else {
+        let Ok(()) = jobs.push(take_job(slots, *place, skip)) else {
             unreachable!()
         };
     }
-    tasks
+    jobs
 }
 
 /// Takes the request at a place.
-pub fn take_task(slots: &mut Vec<Option<Job>>, place: usize, skip: &[RequestId]) -> Task
+pub fn take_job(slots: &mut Vec<Option<Job>>, place: usize, skip: &[RequestId]) -> PlacedJob
     requires { (job : Job) × (slice_get slots.old.items place ≡ Some (Some job)) }
-    ensures taken { IsTaskAt skip.now slots.old.items place result }
+    ensures taken { IsJobAt skip.now slots.old.items place result }
     ensures left { slots.new.items ≡ slice_set slots.old.items place None }
 {
     let Some(job) = slots[place].take() else {
         unreachable!()
     };
     let skipped = is_named(skip, &job.id);
-    Task {
+    PlacedJob {
         place,
         job,
         skipped,
@@ -76,7 +76,7 @@ pub fn is_named(skip: &[RequestId], id: &RequestId) -> bool
 }
 
 /// Puts what became of requests in their places.
-pub fn place_rans(slots: &mut Vec<Option<TaskRan>>, rans: Vec<TaskRan>)
+pub fn place_rans(slots: &mut Vec<Option<JobRan>>, rans: Vec<JobRan>)
     requires { AreInside (length slots.old.items) rans.items }
     ensures placed { slots.new.items ≡ placed slots.old.items rans.items }
     ensures len { length slots.new.items ≡ length slots.old.items }
@@ -90,7 +90,7 @@ pub fn place_rans(slots: &mut Vec<Option<TaskRan>>, rans: Vec<TaskRan>)
 /// Tells what became of each request, in the order of the layer, and makes its stamp the last one of its shards.
 pub fn tell_all(
     lasts: &mut Vec<Option<Stamp>>,
-    slots: Vec<Option<TaskRan>>,
+    slots: Vec<Option<JobRan>>,
     done: Vec<Ended>,
 ) -> Vec<Ended>
     requires full { AllByRecursion IsSome slots.items }
@@ -112,13 +112,13 @@ pub fn tell_all(
 }
 
 /// Tells what became of a request, and makes its stamp the last one of its shards.
-pub fn tell(lasts: &mut Vec<Option<Stamp>>, ran: TaskRan) -> Ended
+pub fn tell(lasts: &mut Vec<Option<Stamp>>, ran: JobRan) -> Ended
     requires { (g : ℕ) → has ran.groups g ≡ true → g < length lasts.old.items }
     ensures ended { result ≡ ended_of ran }
     ensures lasts { lasts.new.items ≡ raise lasts.old.items ran.groups ran.stamp }
     ensures len { length lasts.new.items ≡ length lasts.old.items }
 {
-    let TaskRan {
+    let JobRan {
         place: _,
         id,
         stamp,

@@ -8,7 +8,6 @@ use Rattle.std.specs.Option.{IsSome, option_or}
 use Rattle.std.specs.Ordering.{nat_cmp}
 use Rattle.std.specs.List.{AllByRecursion}
 use Rattle.std.specs.Result.{OnErr, result_ok}
-use Rattle.command_bodies.specs.Answer.{reply_of}
 use Rattle.command_cases.specs.Case.{Does}
 use Rattle.groups.specs.GroupSet.{has, IsAscending}
 use Rattle.keyspace.proofs.Gets.{same}
@@ -20,18 +19,17 @@ use Rattle.shard_maps.proofs.Joins.{get-joined-cons, none_elsewhere, or_none}
 use Rattle.shard_maps.proofs.Runs.{SpanRan-answered, SpanRan-starved}
 use Rattle.shard_maps.specs.Joined.{HasKeysOf, Span, joined, numbers, union, SpanHasOwnKeys, SpanRan}
 use Rattle.shard_maps.specs.Layer.{UnitRan}
-use Rattle.tasks.specs.Tasks.{task_groups, task_effect}
-use Rattle.tasks.specs.Tasks as executed
+use Rattle.tasks.specs.Tasks.{Task, task_groups, task_effect, task_reply}
 use Rattle.tasks.proofs.Within.{same_elsewhere}
 use Rattle.tasks.proofs.Groups.{IsAscending-task_groups}
 use Rattle.shard_workers.specs.Runs.{HaveRunOver}
-use Rattle.shard_workers.specs.Tasks.{outcome, MapRan, HasRunOn, first_map, IsReadyFor, HasRunOver}
-use Rattle.shard_workers.specs.declared.task.Task.{Task}
-use Rattle.shard_workers.specs.declared.task.TaskRan.{TaskRan}
+use Rattle.shard_workers.specs.PlacedJobs.{outcome, MapRan, HasRunOn, first_map, IsReadyFor, HasRunOver}
+use Rattle.shard_workers.specs.declared.placed_job.PlacedJob.{PlacedJob}
+use Rattle.shard_workers.specs.declared.placed_job.JobRan.{JobRan}
 
 -- what a body did is told by its reply
-pub map_ran : {E : Type 0} (command : executed.Task) (before after : Map) (r : Result Answered E)
-    → Does (task_effect command) before after (reply_of r) → MapRan command before (outcome (result_ok r)) after
+pub map_ran : {E : Type 0} (command : Task) (before after : Map) (r : Result Answered E)
+    → Does (task_effect command) before after (task_reply r) → MapRan command before (outcome (result_ok r)) after
 map_ran command before after (Ok answered) did = did
 map_ran command before after (Err fault) did = did
 
@@ -40,7 +38,7 @@ starves (Ok x) h e = absurd (let f = e in cc)
 starves (Err x) h e = h
 
 -- a command that was run on the union of a span's maps was run over the span
-pub span_ran : (table : Layout) (command : executed.Task) (before after : Span) → IsAscending (numbers before) → numbers after ≡ numbers before
+pub span_ran : (table : Layout) (command : Task) (before after : Span) → IsAscending (numbers before) → numbers after ≡ numbers before
     → SpanHasOwnKeys table before → SpanHasOwnKeys table after → (outcome : Option Content)
     → MapRan command (union before) outcome (union after) → SpanRan table command before outcome after
 span_ran table command before after up kept own own' None ran = SpanRan-starved table command before after up kept own' own ran
@@ -53,7 +51,7 @@ pub joined-one : (m : Map) → joined (m ∷ []) ≡ m
 joined-one m = same (joined (m ∷ [])) m (λ q.
     get-joined-cons m [] q ∙ ap (option_or (get m q)) (get-empty (slice_cmp nat_cmp) q) ∙ or_none (get m q))
 
-module _ (table : Layout) (command : executed.Task) (g : ℕ) (before : Map) (is_table : IsTable table) (lone : task_groups table command ≡ g ∷ [])
+module _ (table : Layout) (command : Task) (g : ℕ) (before : Map) (is_table : IsTable table) (lone : task_groups table command ≡ g ∷ [])
     (own : HasKeysOf table g before) where
   there : (q : List ℕ) → shard_of table q ≡ g → has (task_groups table command) (shard_of table q) ≡ true
   there q e = ap (λ gs. has gs (shard_of table q)) lone ∙ or_left _ _ (eq-eqb g (shard_of table q) (sym e))
@@ -82,7 +80,7 @@ module _ (table : Layout) (command : executed.Task) (g : ℕ) (before : Map) (is
       ] refl
 
 -- a request that was run on the map of its one shard was run over that
-pub one_over : (table : Layout) (t : Task) (r : TaskRan) (before after : Span) → IsReadyFor table t before → length before ≡ 1
+pub one_over : (table : Layout) (t : PlacedJob) (r : JobRan) (before after : Span) → IsReadyFor table t before → length before ≡ 1
     → numbers after ≡ numbers before → HasRunOn t (first_map before) r (first_map after) → HasRunOver table t before r after
 one_over table t r [] after ready one kept run = absurd (omega (arith, one))
 one_over table t r (b ∷ c ∷ more) after ready one kept run = absurd (omega (arith, one))
@@ -105,7 +103,7 @@ one_over table t r (b ∷ []) (a ∷ []) ready one kept run =
 -- ---- a unit
 
 -- a request that was run over shards has run its command over them
-pub over_ran : (table : Layout) (t : Task) (r : TaskRan) (before after : Span) → IsReadyFor table t before
+pub over_ran : (table : Layout) (t : PlacedJob) (r : JobRan) (before after : Span) → IsReadyFor table t before
     → HasRunOver table t before r after → SpanRan table t.job.asked.command before (outcome r.reply) after
 over_ran table t r before after ready run =
     span_ran table t.job.asked.command before after
@@ -113,8 +111,8 @@ over_ran table t r before after ready run =
     run.numbers ready.own run.own (outcome r.reply) run.on.ran
 
 -- the next one has the shards that it left
-pub ready_still : (table : Layout) (t : Task) (r : TaskRan) (before after : Span) (ts : List Task) → HasRunOver table t before r after
-    → AllByRecursion (λ u. IsReadyFor table u before) ts → AllByRecursion (λ u. IsReadyFor table u after) ts
+pub ready_still : (table : Layout) (t : PlacedJob) (r : JobRan) (before after : Span) (ts : List PlacedJob)
+    → HasRunOver table t before r after → AllByRecursion (λ u. IsReadyFor table u before) ts → AllByRecursion (λ u. IsReadyFor table u after) ts
 ready_still table t r before after [] run ready = tt
 ready_still table t r before after (u ∷ us) run ready = (
   record {
@@ -126,7 +124,7 @@ ready_still table t r before after (u ∷ us) run ready = (
   ready_still table t r before after us run ready.1,
 )
 
-pub unit_ran : (table : Layout) (ts : List Task) (rs : List TaskRan) (before after : Span)
+pub unit_ran : (table : Layout) (ts : List PlacedJob) (rs : List JobRan) (before after : Span)
     → AllByRecursion (λ t. IsReadyFor table t before) ts
     → HaveRunOver table ts before rs after
     → UnitRan table (map (λ t. t.job.asked.command) ts) before (map (λ r. outcome r.reply) rs) after

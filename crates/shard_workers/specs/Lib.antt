@@ -1,3 +1,3 @@
-pub mod Tasks
+pub mod PlacedJobs
 pub mod Runs
-pub mod Parts
+pub mod Loads

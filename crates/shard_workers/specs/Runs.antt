@@ -3,19 +3,19 @@ use Rattle.std.specs.Prelude.{◌≡◌, List, [], ◌∷◌}
 use Rattle.std.specs.List.{AllByRecursion}
 use Rattle.placement.specs.Layout.{Layout}
 use Rattle.shard_maps.specs.Joined.{Span}
-pub use Rattle.shard_workers.specs.Tasks.{outcome}
-use Rattle.shard_workers.specs.Tasks.{IsReadyFor, HasRunOver}
-use Rattle.shard_workers.specs.declared.task.Task.{Task}
-use Rattle.shard_workers.specs.declared.task.TaskRan.{TaskRan}
+pub use Rattle.shard_workers.specs.PlacedJobs.{outcome}
+use Rattle.shard_workers.specs.PlacedJobs.{IsReadyFor, HasRunOver}
+use Rattle.shard_workers.specs.declared.placed_job.PlacedJob.{PlacedJob}
+use Rattle.shard_workers.specs.declared.placed_job.JobRan.{JobRan}
 use Rattle.shard_workers.specs.declared.work.Work.{Work}
 use Rattle.shard_workers.specs.declared.work.Ran.{Ran}
 
 -- each request of the unit has its shards
 abbrev pub IsReady : Layout → Work → Type 0
-IsReady table w = AllByRecursion (λ t. IsReadyFor table t w.shards.items) w.tasks.items
+IsReady table w = AllByRecursion (λ t. IsReadyFor table t w.shards.items) w.jobs.items
 
 -- each was run over what those before it left of the shards
-abbrev pub HaveRunOver : Layout → List Task → Span → List TaskRan → Span → Type 0
+abbrev pub HaveRunOver : Layout → List PlacedJob → Span → List JobRan → Span → Type 0
 HaveRunOver table [] before [] after = after ≡ before
 HaveRunOver table [] before (r ∷ rs) after = ⊥
 HaveRunOver table (t ∷ ts) before [] after = ⊥
@@ -23,4 +23,4 @@ HaveRunOver table (t ∷ ts) before (r ∷ rs) after = (mid : Span) × HasRunOve
 
 -- the unit was run, and this is what came of it
 abbrev pub HasRun : Layout → Work → Ran → Type 0
-HasRun table w r = HaveRunOver table w.tasks.items w.shards.items r.tasks.items r.shards.items
+HasRun table w r = HaveRunOver table w.jobs.items w.shards.items r.jobs.items r.shards.items

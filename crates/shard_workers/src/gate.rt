@@ -15,9 +15,9 @@ pub trait Gate {
 
 /// Does nothing.
 #[derive(Clone, Copy)]
-pub struct Open;
+pub struct OpenGate;
 
-impl Gate for Open {
+impl Gate for OpenGate {
     fn enter(&self, _id: RequestId) {}
 
     fn leave(&self, _id: RequestId) {}

@@ -2,7 +2,7 @@
 
 ghost use Rattle.std.specs.Prelude.{◌≡◌, ◌≤◌, [], length, vec_capacity};
 
-use crate::{Gate, Task, TaskRan};
+use crate::{Gate, JobRan, PlacedJob};
 use groups::GroupId;
 use placement::Table;
 use shards::Shard;
@@ -12,17 +12,17 @@ use std::alloc::Global;
 /// their groups.
 #[derive(Drop)]
 pub struct Work {
-    tasks: Vec<Task>,
-    rans: Vec<TaskRan>,
+    jobs: Vec<PlacedJob>,
+    rans: Vec<JobRan>,
     shards: Vec<(GroupId, Shard)>,
     ghost empty: { rans.items ≡ [] },
-    ghost room: { length tasks.items ≤ vec_capacity rans },
+    ghost room: { length jobs.items ≤ vec_capacity rans },
 }
 
 /// What became of the requests of a unit, in their order, and of its shards.
 #[derive(Drop)]
 pub struct Ran {
-    pub tasks: Vec<TaskRan>,
+    pub jobs: Vec<JobRan>,
     pub shards: Vec<(GroupId, Shard)>,
 }
 
@@ -30,17 +30,13 @@ impl Work {
     ghost use Rattle.shard_workers.specs.Runs.{IsReady, HasRun};
 
     /// The unit of these requests, with the room for what they give, and their shards.
-    pub fn new(tasks: Vec<Task>, rans: Vec<TaskRan>, shards: Vec<(GroupId, Shard)>) -> Self
+    pub fn new(jobs: Vec<PlacedJob>, rans: Vec<JobRan>, shards: Vec<(GroupId, Shard)>) -> Self
         requires none { rans.items ≡ [] }
-        requires room { length tasks.items ≤ vec_capacity rans }
-        ensures tasks { result.tasks ≡ tasks }
+        requires room { length jobs.items ≤ vec_capacity rans }
+        ensures jobs { result.jobs ≡ jobs }
         ensures shards { result.shards ≡ shards }
     {
-        Work {
-            tasks,
-            rans,
-            shards,
-        }
+        Work { jobs, rans, shards }
     }
 
     /// Runs the requests one after another over the shards, but for those that are to be skipped. The gate is told only of
@@ -50,20 +46,17 @@ impl Work {
         ensures { HasRun table.now self result }
     {
         let Work {
-            tasks,
+            jobs,
             mut rans,
             mut shards,
         } = self;
-        for task in tasks {
-            let (ran, left) = task.run_over(alloc, table, shards, gate);
+        for placed in jobs {
+            let (ran, left) = placed.run_over(alloc, table, shards, gate);
             shards = left;
             let Ok(()) = rans.push(ran) else {
                 unreachable!()
             };
         }
-        Ran {
-            tasks: rans,
-            shards,
-        }
+        Ran { jobs: rans, shards }
     }
 }

@@ -44,7 +44,7 @@ use layer_results::Done;
 use placement::Table;
 use resp::Request;
 use server_waiting::{Pause, Turnstile, Waiting};
-use shard_workers::{Gate, InTurn, Open, Workers};
+use shard_workers::{Gate, InTurn, OpenGate, Workers};
 use shards::ShardHasher;
 use std::alloc::{AllocError, Global};
 use std::io::Write;
@@ -363,7 +363,7 @@ impl<L: Ledger> Shared<L> {
             return self.look(rt, seat);
         }
         self.pass(rt, seat.conn(), hand);
-        match self.advance(rt, hand, &First, &InTurn(NonZeroUsize::MIN), &Open) {
+        match self.advance(rt, hand, &First, &InTurn(NonZeroUsize::MIN), &OpenGate) {
             Ok(Turn::Quiet) => {
                 *may_wait = true;
                 self.wait_for_layer(rt, seat.conn());

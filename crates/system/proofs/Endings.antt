@@ -21,13 +21,13 @@ use Rattle.system.proofs.Submitted.{was_asked}
 use Rattle.system.specs.Endings.{IsExecuted, HasStarved, EachHasEnded, MayBeMade, SomeMayBeMade, TurnsAreFew}
 use Rattle.system.specs.Faults.{own_fault}
 use Rattle.system.specs.Outcomes.{replies_in}
-use Rattle.system.specs.Parts.{IsAt, ShowsStage, progress_of}
+use Rattle.system.specs.Halves.{IsAt, ShowsStage, progress_of}
 use Rattle.system.specs.Reads.{table_of}
 use Rattle.system.specs.Refusing.{Refuses, RefusesNot}
 use Rattle.system.specs.System.{SystemView, IsSystem, IsRefused, IsQuiet}
 use Rattle.system.specs.declared.fault.StepFault.{StepFault}
 use Rattle.system.specs.declared.fault.StepFault.TheVariants.{Busy, NoConn, NoPacket, InFlight, NoLayer, Exhausted, Memory, Failed}
-use Rattle.system.specs.declared.parts.Parts.{Parts}
+use Rattle.system.specs.declared.halves.Halves.{Halves}
 use Rattle.system.specs.declared.stage.Stage.{Stage}
 use Rattle.system.specs.declared.stage.Stage.TheVariants as stage
 use Rattle.system_view.specs.Layers.{IsRow}
@@ -80,9 +80,9 @@ kept (y ∷ xs) [] x all there = absurd all
 kept (y ∷ xs) (row ∷ rows) x all (inl here) = (row, inl refl, subst (λ z. IsRow z row) (sym here) all.0)
 kept (y ∷ xs) (row ∷ rows) x all (inr later) = let rest = kept xs rows x all.1 later in (rest.0, inr rest.1, rest.2)
 
-quiet_there : (s : SystemView) → IsQuiet s → (h : List Step) (w : World) → IsAt s.parts h w → quiet.IsQuiet w
+quiet_there : (s : SystemView) → IsQuiet s → (h : List Step) (w : World) → IsAt s.halves h w → quiet.IsQuiet w
 quiet_there s is h w at' =
-    let queues : queue_of s.parts.front.multicast.queues ≡ w.queue = λ k g. at'.shows.multicast.queues g k in
+    let queues : queue_of s.halves.front.multicast.queues ≡ w.queue = λ k g. at'.shows.multicast.queues g k in
     record {
       packets = sym at'.shows.multicast.packets ∙ is.packets;
       layer = subst (λ x. ShowsStage x w) is.layer at'.shows.stage;
@@ -103,7 +103,7 @@ each_has_ended s is h w at' effects made i submitted = (ended, shown)
     shown : IsExecuted s i ⊎ HasStarved s i
     shown = elim (told w.ended ended.0 ended.1) [
       | inl executed ↦
-          let row = kept (rows_of w.ended) s.parts.back.rows executed.0 at'.shows.rows executed.1 in
+          let row = kept (rows_of w.ended) s.halves.back.rows executed.0 at'.shows.rows executed.1 in
           inl (row.0, row.1, row.2.id ∙ (executed.2 ∙ ended.2))
       | inr starved ↦
           inr (subst (λ ids. In i ids) (sym at'.shows.starved) (subst (λ j. In j (starved_among w.ended)) ended.2 starved))
@@ -112,12 +112,12 @@ each_has_ended s is h w at' effects made i submitted = (ended, shown)
 -- ---- what can be done
 
 -- the world to which the system's history led does not refuse what no world does
-not_there : (s : SystemView) (step : Step) → IsSystem s → RefusesNot s.parts step → (fault : OwnFault) →
-    s.parts.back.store.failed ≡ false → Refuses s.parts step fault → ⊥
+not_there : (s : SystemView) (step : Step) → IsSystem s → RefusesNot s.halves step → (fault : OwnFault) →
+    s.halves.back.store.failed ≡ false → Refuses s.halves step fault → ⊥
 not_there s step is none fault lived why =
     let shown = is.shows lived in none shown.0 shown.1 shown.2.at fault (why shown.0 shown.1 shown.2.at)
 
-no_own_fault : (s : SystemView) (step : Step) → IsSystem s → RefusesNot s.parts step → (may_refuse : Bool) (fault : StepFault)
+no_own_fault : (s : SystemView) (step : Step) → IsSystem s → RefusesNot s.halves step → (may_refuse : Bool) (fault : StepFault)
     (new : SystemView) → IsRefused may_refuse s step fault new → own_fault fault ≡ None
 no_own_fault s step is none may Busy new refused = absurd (not_there s step is none world.Busy refused.lived refused.why)
 no_own_fault s step is none may NoConn new refused = absurd (not_there s step is none world.NoConn refused.lived refused.why)
@@ -128,7 +128,7 @@ no_own_fault s step is none may Exhausted new refused = refl
 no_own_fault s step is none may Memory new refused = refl
 no_own_fault s step is none may Failed new refused = refl
 
-may_be_made : (s : SystemView) (step : Step) → IsSystem s → RefusesNot s.parts step → MayBeMade s step
+may_be_made : (s : SystemView) (step : Step) → IsSystem s → RefusesNot s.halves step → MayBeMade s step
 may_be_made s step is none = record { not_refused = none; no_own_fault = no_own_fault s step is none }
 
 -- a packet that is there can be brought
@@ -149,30 +149,30 @@ settle_not w es ran world.InFlight refused = refused
 settle_not w es ran world.NoLayer refused = subst NothingToSettle ran refused
 
 -- where no layer is there and one could be taken a Take has no fault of its own
-take_not : (p : Parts) → p.stage ≡ stage.Free → (((d : Delivered) → ¬ IsReady (queue_of p.front.multicast.queues) d) → ⊥) →
+take_not : (p : Halves) → p.stage ≡ stage.Free → (((d : Delivered) → ¬ IsReady (queue_of p.front.multicast.queues) d) → ⊥) →
     RefusesNot p steps.Take
 take_not p is_free some = λ h w at' fault refused.
     let free : w.layer ≡ NoneTaken = subst (λ s. ShowsStage s w) is_free at'.shows.stage in
     let none = subst (λ (l : Layer). IsOut l p.front.out) free at'.shows.front.out in
     take_memory p.front none some h w (replies_in w.ended) (front_at p h w at') fault refused
 
-by_packets : (s : SystemView) (packets : List Packet) → IsSystem s → ¬ IsQuiet s → s.parts.stage ≡ stage.Free →
-    s.parts.front.multicast.packets ≡ packets → MayBeMade s steps.Take ⊎ MayBeMade s (steps.Deliver 0)
+by_packets : (s : SystemView) (packets : List Packet) → IsSystem s → ¬ IsQuiet s → s.halves.stage ≡ stage.Free →
+    s.halves.front.multicast.packets ≡ packets → MayBeMade s steps.Take ⊎ MayBeMade s (steps.Deliver 0)
 by_packets s [] is busy free none =
-    inl (may_be_made s steps.Take is (take_not s.parts free (λ idle. busy (record { packets = none; layer = free; none_ready = idle }))))
+    inl (may_be_made s steps.Take is (take_not s.halves free (λ idle. busy (record { packets = none; layer = free; none_ready = idle }))))
 by_packets s (packet ∷ rest) is busy free some =
     inr (may_be_made s (steps.Deliver 0) is (λ h w at'. deliver_not w packet rest (sym at'.shows.multicast.packets ∙ some)))
 
-by_stage : (s : SystemView) (now : Stage) → IsSystem s → ¬ IsQuiet s → s.parts.stage ≡ now → SomeMayBeMade (progress_of now) s
-by_stage s stage.Free is busy same = by_packets s s.parts.front.multicast.packets is busy same refl
+by_stage : (s : SystemView) (now : Stage) → IsSystem s → ¬ IsQuiet s → s.halves.stage ≡ now → SomeMayBeMade (progress_of now) s
+by_stage s stage.Free is busy same = by_packets s s.halves.front.multicast.packets is busy same refl
 by_stage s (stage.Taken taken) is busy same = λ starved.
-    may_be_made s (steps.Run starved) is (run_admitted s.parts taken same starved)
+    may_be_made s (steps.Run starved) is (run_admitted s.halves taken same starved)
 by_stage s (stage.HasRun ran) is busy same =
     may_be_made s steps.Settle is (λ h w at'.
     let there = subst (λ x. ShowsStage x w) same at'.shows.stage in settle_not w there.0 there.1)
 
-pub some_may_be_made : (s : SystemView) → IsSystem s → ¬ IsQuiet s → SomeMayBeMade (progress_of s.parts.stage) s
-some_may_be_made s is busy = by_stage s s.parts.stage is busy refl
+pub some_may_be_made : (s : SystemView) → IsSystem s → ¬ IsQuiet s → SomeMayBeMade (progress_of s.halves.stage) s
+some_may_be_made s is busy = by_stage s s.halves.stage is busy refl
 
 -- ---- how many steps there can be
 

@@ -21,13 +21,13 @@ use Rattle.system.proofs.Replies.{untold, same_collected}
 use Rattle.system.proofs.Rest.{LeavesLayer, is_rest, keeps_asked, stage_same, store_same}
 use Rattle.system.specs.Faults.{of_front}
 use Rattle.system.specs.Outcomes.{replies_in}
-use Rattle.system.specs.Parts.{IsAt, ShowsStage, Starves, Makes, Keeps, stored, effect_shown, ran_in}
+use Rattle.system.specs.Halves.{IsAt, ShowsStage, Starves, Makes, Keeps, stored, effect_shown, ran_in}
 use Rattle.system.specs.Refusing.{Lives, RefusesNot, WantsMemory, IsFault}
 use Rattle.system.specs.declared.effect.Effect.{Effect}
 use Rattle.system.specs.declared.effect.Effect.TheVariants.{Collected, Made}
 use Rattle.system.specs.declared.fault.StepFault.{StepFault}
 use Rattle.system.specs.declared.fault.StepFault.TheVariants.{Failed}
-use Rattle.system.specs.declared.parts.Parts.{Parts}
+use Rattle.system.specs.declared.halves.Halves.{Halves}
 use Rattle.system.specs.declared.stage.Stage.{Stage}
 use Rattle.system.specs.declared.stage.Stage.TheVariants as stage
 use Rattle.system_view.specs.Connections.{outcome_shown}
@@ -39,15 +39,15 @@ use Rattle.world_laws.proofs.Worlds.{good_world}
 
 -- ---- where the front is
 
--- in a world that the parts show the front is, told of its replies
-pub front_at : (p : Parts) (h : List Step) (w : World) → IsAt p h w → FrontIsAt p.front h w (replies_in w.ended)
+-- in a world that the halves show the front is, told of its replies
+pub front_at : (p : Halves) (h : List Step) (w : World) → IsAt p h w → FrontIsAt p.front h w (replies_in w.ended)
 front_at p h w at' = record {
   leads = subst (λ t. Leads t opening h w) (sym at'.shows.table) at'.leads;
   shows = at'.shows.front;
 }
 
--- the parts show a world where the front is, told so, and the others show it
-pub is_at : (p : Parts) (h : List Step) (w : World) → p.front.table ≡ p.back.store.table → FrontIsAt p.front h w (replies_in w.ended) →
+-- the halves show a world where the front is, told so, and the others show it
+pub is_at : (p : Halves) (h : List Step) (w : World) → p.front.table ≡ p.back.store.table → FrontIsAt p.front h w (replies_in w.ended) →
     ShowsStore p.back.store.table p.back.store w → ShowsStage p.stage w → AreRows w.ended p.back.rows →
     p.starved.items ≡ starved_among w.ended → IsAt p h w
 is_at p h w table front store stage rows starved = record {
@@ -65,10 +65,10 @@ is_at p h w table front store stage rows starved = record {
 }
 
 -- no number of the front has grown too large
-pub may_step : (p : Parts) → Lives p → MayStep p.front
+pub may_step : (p : Halves) → Lives p → MayStep p.front
 may_step p lives = let few = lives.few in let counted = lives.counted in omega arith
 
-pub may_settle : (p : Parts) → Lives p → (done : Results) → p.stage ≡ stage.HasRun done → MaySettle p.front
+pub may_settle : (p : Halves) → Lives p → (done : Results) → p.stage ≡ stage.HasRun done → MaySettle p.front
 may_settle p lives done has_run =
     let few = lives.few in
     let counted = lives.counted in
@@ -82,15 +82,15 @@ no_more rows = ([], sym (append-nil rows))
 -- ---- a step that leaves the layer alone
 
 -- the front makes the step where it is, told so
-abbrev pub FrontSteps : Parts → FrontView → Step → world.Effect → Type 0
+abbrev pub FrontSteps : Halves → FrontView → Step → world.Effect → Type 0
 FrontSteps old f step effect = (h : List Step) (w : World) → IsAt old h w →
     (w' : World) × Steps old.front.table w step effect w' × FrontIsAt f (h ++ step ∷ []) w' (replies_in w.ended)
 
-module _ (old : Parts) (f : FrontView) (step : Step) (leaves : LeavesLayer step) (counts : making.IsStep old.front f) where
-  abbrev fronted : Parts
+module _ (old : Halves) (f : FrontView) (step : Step) (leaves : LeavesLayer step) (counts : making.IsStep old.front f) where
+  abbrev fronted : Halves
   fronted = record old { front = f }
 
-  -- so do the parts
+  -- so do the halves
   steps_so : (effect : world.Effect) → FrontSteps old f step effect → (h : List Step) (w : World) → IsAt old h w →
       (w' : World) × Steps old.back.store.table w step effect w' × IsAt fronted (h ++ step ∷ []) w'
   steps_so effect makes h w at' =
@@ -121,12 +121,12 @@ module _ (old : Parts) (f : FrontView) (step : Step) (leaves : LeavesLayer step)
   }
 
 -- where the front makes it, however it is told
-pub front_makes : (old : Parts) (f : FrontView) (step : Step) (effect : world.Effect) → making.Makes old.front step effect f →
+pub front_makes : (old : Halves) (f : FrontView) (step : Step) (effect : world.Effect) → making.Makes old.front step effect f →
     FrontSteps old f step effect
 front_makes old f step effect makes h w at' = makes.from_each h w (replies_in w.ended) (front_at old h w at')
 
 -- what is collected is the outcome there
-pub front_collects : (old : Parts) (f : FrontView) (conn : ConnId) (given : Option kept.Outcome) → making.Collects old.front conn given f →
+pub front_collects : (old : Halves) (f : FrontView) (conn : ConnId) (given : Option kept.Outcome) → making.Collects old.front conn given f →
     FrontSteps old f (Collect conn) (world.Collected (option_map outcome_shown given))
 front_collects old f conn given collects h w at' =
     let is = front_at old h w at' in
@@ -145,7 +145,7 @@ free_there stage.Free w none shows = refl
 free_there (stage.Taken jobs) w none shows = absurd (let k = sym none ∙ shows.1 in cc)
 free_there (stage.HasRun done) w none shows = absurd (let k = sym none ∙ shows.1 in cc)
 
-pub take_makes : (old : Parts) → Lives old → (jobs : List Job) (f : FrontView) → Takes old.front jobs f →
+pub take_makes : (old : Halves) → Lives old → (jobs : List Job) (f : FrontView) → Takes old.front jobs f →
     Makes old Take Made (record old { front = f; stage = stage.Taken jobs })
 take_makes old lives jobs f takes = record {
   table = refl;
@@ -172,7 +172,7 @@ take_makes old lives jobs f takes = record {
 -- ---- refusals
 
 -- what the call of a step answers, the step answers
-pub told_fault : (old new : Parts) (step called : Step) (r : Result Effect StepFault) → step ≡ called → IfErr r (IsFault old called) →
+pub told_fault : (old new : Halves) (step called : Step) (r : Result Effect StepFault) → step ≡ called → IfErr r (IsFault old called) →
     OnErr r (Keeps old new) → IfErr r (λ fault. fault ≢ Failed → IsFault old step fault × Keeps old new)
 told_fault old new step called (Ok effect) same fault keeps = tt
 told_fault old new step called (Err e) same fault keeps = λ other. (subst (λ s. IsFault old s e) (sym same) fault, keeps)
@@ -185,16 +185,16 @@ pub none_of : {A : Type 0} {P Q : Type 0} (o : Option A) → (P → Q) → IfNon
 none_of None implies none = implies none
 none_of (Some a) implies none = tt
 
--- the parts are as they were where the front is
-pub front_kept : (old : Parts) (f : FrontView) → f ≡ old.front → Keeps old (record old { front = f })
+-- the halves are as they were where the front is
+pub front_kept : (old : Halves) (f : FrontView) → f ≡ old.front → Keeps old (record old { front = f })
 front_kept old f same = record { front = same; back = refl; stage = refl; starved = refl }
 
 -- what the front has no fault of
-pub admitted : (p : Parts) (step : Step) → refusing.RefusesNot p.front step → RefusesNot p step
+pub admitted : (p : Halves) (step : Step) → refusing.RefusesNot p.front step → RefusesNot p step
 admitted p step none h w at' = none h w (replies_in w.ended) (front_at p h w at')
 
--- why the front refuses a step is why the parts do
-pub refused : (p : Parts) (step : Step) (f : FrontFault) → (refusing.WantsMemory step → WantsMemory step) →
+-- why the front refuses a step is why the halves do
+pub refused : (p : Halves) (step : Step) (f : FrontFault) → (refusing.WantsMemory step → WantsMemory step) →
     refusing.IsFault p.front step f → IsFault p step (of_front f)
 refused p step front_fault.Busy wants why = λ h w at'. why h w (replies_in w.ended) (front_at p h w at')
 refused p step front_fault.NoConn wants why = λ h w at'. why h w (replies_in w.ended) (front_at p h w at')
@@ -204,7 +204,7 @@ refused p step front_fault.NoLayer wants why = λ h w at'. why h w (replies_in w
 refused p step front_fault.Memory wants why = (wants why.0, admitted p step why.1)
 
 -- the fault that is answered for it
-pub refused_as : (p : Parts) (step : Step) (f : FrontFault) (told : StepFault) → told ≡ of_front f →
+pub refused_as : (p : Halves) (step : Step) (f : FrontFault) (told : StepFault) → told ≡ of_front f →
     (refusing.WantsMemory step → WantsMemory step) → refusing.IsFault p.front step f → IsFault p step told
 refused_as p step f told same wants why = subst (IsFault p step) (sym same) (refused p step f wants why)
 

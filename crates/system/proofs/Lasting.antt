@@ -8,13 +8,13 @@ use Rattle.front.specs.Fronts.{FrontView, FrontShows}
 use Rattle.journal.specs.declared.step.Step.{Step}
 use Rattle.placement.specs.Layout.{IsTable}
 use Rattle.system.specs.Outcomes.{replies_in}
-use Rattle.system.specs.Parts.{IsAt, ShowsStage, Makes, Keeps, stored, ran_in, count_of}
+use Rattle.system.specs.Halves.{IsAt, ShowsStage, Makes, Keeps, stored, ran_in, count_of}
 use Rattle.system.specs.Refusing.{Lives, IsFault, MayFail, HasFailed}
 use Rattle.system.specs.System.{SystemView, ShowsHistory, IsSystem, IsStep, MayGoOn, Refuses, IsRefused, ObeysOneThread}
 use Rattle.system.specs.declared.effect.Effect.{Effect}
 use Rattle.system.specs.declared.fault.StepFault.{StepFault}
 use Rattle.system.specs.declared.fault.StepFault.TheVariants.{Busy, NoConn, NoPacket, InFlight, NoLayer, Exhausted, Memory, Failed}
-use Rattle.system.specs.declared.parts.Parts.{Parts}
+use Rattle.system.specs.declared.halves.Halves.{Halves}
 use Rattle.system.specs.declared.stage.Stage.{Stage}
 use Rattle.system_view.specs.Connections.{ShowsConnections}
 use Rattle.system_view.specs.Layers.{AreRows, ShowsStore}
@@ -27,14 +27,14 @@ use Rattle.world_laws.specs.Headline.{IsOneThread, rows_of}
 -- ---- the headline
 
 -- whatever history led here, replies and contents are those of one thread
-pub obeys : (s : SystemView) → IsTable s.parts.back.store.table → ObeysOneThread s
+pub obeys : (s : SystemView) → IsTable s.halves.back.store.table → ObeysOneThread s
 obeys s is_table = λ h w at'. subst (λ m. IsOneThread m (rows_by_stamp (rows_of w.ended))) (sym at'.shows.store.contents)
-    (headline_holds s.parts.back.store.table h w is_table at'.leads)
+    (headline_holds s.halves.back.store.table h w is_table at'.leads)
 
 -- ---- a step that was made
 
 -- a system that lives and may make a step has come by few steps
-pub lives : (s : SystemView) → IsSystem s → s.parts.back.store.failed ≡ false → s.steps < s.max_steps → Lives s.parts
+pub lives : (s : SystemView) → IsSystem s → s.halves.back.store.failed ≡ false → s.steps < s.max_steps → Lives s.halves
 lives s is alive left =
     let shown = is.shows alive in
     let count = shown.2.count in
@@ -70,11 +70,11 @@ goes_on old new step effect is made =
       counted = λ alive. made.makes.counted ∙ ap suc (is.counted made.lived) ∙ sym made.counted;
     }
 
--- the parts made the step: so did the system
-pub made_so : (old : SystemView) (step : Step) (effect : Effect) (parts : Parts) → IsSystem old → old.parts.back.store.failed ≡ false →
-    old.steps < old.max_steps → Makes old.parts step effect parts →
-    IsStep old step effect (record { max_steps = old.max_steps; steps = old.steps + 1; parts = parts })
-made_so old step effect parts is alive left makes = record {
+-- the halves made the step: so did the system
+pub made_so : (old : SystemView) (step : Step) (effect : Effect) (halves : Halves) → IsSystem old → old.halves.back.store.failed ≡ false →
+    old.steps < old.max_steps → Makes old.halves step effect halves →
+    IsStep old step effect (record { max_steps = old.max_steps; steps = old.steps + 1; halves = halves })
+made_so old step effect halves is alive left makes = record {
   lived = alive;
   lives = let shown = is.shows alive in (makes.from_each shown.0 shown.1 shown.2.at).2.shows.store.lives;
   left = left;
@@ -85,8 +85,8 @@ made_so old step effect parts is alive left makes = record {
 
 -- ---- a step that was not
 
--- parts that are as they were but for room show what they showed
-pub still_at : (old new : Parts) → Keeps old new → (h : List Step) (w : World) → IsAt old h w → IsAt new h w
+-- halves that are as they were but for room show what they showed
+pub still_at : (old new : Halves) → Keeps old new → (h : List Step) (w : World) → IsAt old h w → IsAt new h w
 still_at old new keeps h w at' = record {
   leads = subst (λ (b : BackState). Leads b.store.table opening h w) (sym keeps.back) at'.leads;
   shows = record {
@@ -102,19 +102,19 @@ still_at old new keeps h w at' = record {
 }
 
 -- what they show is the same
-pub same_store : {old new : Parts} → Keeps old new → new.back.store ≡ old.back.store
+pub same_store : {old new : Halves} → Keeps old new → new.back.store ≡ old.back.store
 same_store keeps = ap (λ (b : BackState). b.store) keeps.back
 
-pub same_rows : {old new : Parts} → Keeps old new → new.back.rows ≡ old.back.rows
+pub same_rows : {old new : Halves} → Keeps old new → new.back.rows ≡ old.back.rows
 same_rows keeps = ap (λ (b : BackState). b.rows) keeps.back
 
-pub same_packets : {old new : Parts} → Keeps old new → new.front.multicast.packets ≡ old.front.multicast.packets
+pub same_packets : {old new : Halves} → Keeps old new → new.front.multicast.packets ≡ old.front.multicast.packets
 same_packets keeps = ap (λ (f : FrontView). f.multicast.packets) keeps.front
 
-pub same_queues : {old new : Parts} → Keeps old new → new.front.multicast.queues ≡ old.front.multicast.queues
+pub same_queues : {old new : Halves} → Keeps old new → new.front.multicast.queues ≡ old.front.multicast.queues
 same_queues keeps = ap (λ (f : FrontView). f.multicast.queues) keeps.front
 
-pub same_twice : {old mid new : Parts} → Keeps old mid → Keeps mid new → Keeps old new
+pub same_twice : {old mid new : Halves} → Keeps old mid → Keeps mid new → Keeps old new
 same_twice one two = record {
   front = two.front ∙ one.front;
   back = two.back ∙ one.back;
@@ -123,42 +123,42 @@ same_twice one two = record {
 }
 
 -- what a refusal leaves: all as before but for room, or a system that has failed
-abbrev pub Leaves : Parts → Parts → Type 0
+abbrev pub Leaves : Halves → Halves → Type 0
 Leaves old new = Keeps old new ⊎ HasFailed old new
 
-pub table_left : (old new : Parts) → Leaves old new → new.back.store.table ≡ old.back.store.table
+pub table_left : (old new : Halves) → Leaves old new → new.back.store.table ≡ old.back.store.table
 table_left old new (inl keeps) = ap (λ s. s.table) (same_store keeps)
 table_left old new (inr failed) = failed.table
 
-still_shows : (old new : SystemView) → IsSystem old → new.steps ≡ old.steps → Leaves old.parts new.parts →
-    new.parts.back.store.failed ≡ false → (h : List Step) × (w : World) × ShowsHistory new h w
+still_shows : (old new : SystemView) → IsSystem old → new.steps ≡ old.steps → Leaves old.halves new.halves →
+    new.halves.back.store.failed ≡ false → (h : List Step) × (w : World) × ShowsHistory new h w
 still_shows old new is same (inl keeps) alive =
     let shown = is.shows (ap (λ s. s.failed) (sym (same_store keeps)) ∙ alive) in (
       shown.0,
       shown.1,
       record {
-        at = still_at old.parts new.parts keeps shown.0 shown.1 shown.2.at;
+        at = still_at old.halves new.halves keeps shown.0 shown.1 shown.2.at;
         count = shown.2.count ∙ sym same;
       },
     )
 still_shows old new is same (inr failed) alive = absurd (both_ways _ alive failed.failed)
 
 -- and have counted as many steps
-still_counts : (old new : SystemView) → IsSystem old → new.steps ≡ old.steps → Leaves old.parts new.parts →
-    new.parts.back.store.failed ≡ false → count_of new.parts ≡ new.steps
+still_counts : (old new : SystemView) → IsSystem old → new.steps ≡ old.steps → Leaves old.halves new.halves →
+    new.halves.back.store.failed ≡ false → count_of new.halves ≡ new.steps
 still_counts old new is same (inl keeps) alive =
-    ap (λ (f : FrontView). f.steps + f.layers + ran_in new.parts.stage) keeps.front
-    ∙ ap (λ (s : Stage). old.parts.front.steps + old.parts.front.layers + ran_in s) keeps.stage
+    ap (λ (f : FrontView). f.steps + f.layers + ran_in new.halves.stage) keeps.front
+    ∙ ap (λ (s : Stage). old.halves.front.steps + old.halves.front.layers + ran_in s) keeps.stage
     ∙ is.counted (ap (λ s. s.failed) (sym (same_store keeps)) ∙ alive) ∙ sym same
 still_counts old new is same (inr failed) alive = absurd (both_ways _ alive failed.failed)
 
 pub stays : (old new : SystemView) → IsSystem old → new.steps ≡ old.steps → new.max_steps ≡ old.max_steps →
-    Leaves old.parts new.parts → IsSystem new
+    Leaves old.halves new.halves → IsSystem new
 stays old new is steps most leaves =
     let within = is.within in
     let few = is.few in
     record {
-      is_table = subst IsTable (sym (table_left old.parts new.parts leaves)) is.is_table;
+      is_table = subst IsTable (sym (table_left old.halves new.halves leaves)) is.is_table;
       within = omega arith;
       few = omega arith;
       shows = still_shows old new is steps leaves;
@@ -175,29 +175,29 @@ failed_or_not Exhausted = inr (λ e. let k = e in cc)
 failed_or_not Memory = inr (λ e. let k = e in cc)
 failed_or_not Failed = inl refl
 
-leaves_by : (fault : StepFault) (old new : Parts) → (fault ≢ Failed → Keeps old new) → (fault ≡ Failed → HasFailed old new) →
+leaves_by : (fault : StepFault) (old new : Halves) → (fault ≢ Failed → Keeps old new) → (fault ≡ Failed → HasFailed old new) →
     ((fault ≡ Failed) ⊎ (fault ≢ Failed)) → Leaves old new
 leaves_by fault old new keeps fails (inl failed) = inr (fails failed)
 leaves_by fault old new keeps fails (inr other) = inl (keeps other)
 
--- what the parts leave by a fault
-pub leaves : (fault : StepFault) (old new : Parts) → (fault ≢ Failed → Keeps old new) → (fault ≡ Failed → HasFailed old new) →
+-- what the halves leave by a fault
+pub leaves : (fault : StepFault) (old new : Halves) → (fault ≢ Failed → Keeps old new) → (fault ≡ Failed → HasFailed old new) →
     Leaves old new
 leaves fault old new keeps fails = leaves_by fault old new keeps fails (failed_or_not fault)
 
 -- ---- why it was not
 
-refused_by : (old new : SystemView) (step : Step) (fault : StepFault) → old.parts.back.store.failed ≡ false →
+refused_by : (old new : SystemView) (step : Step) (fault : StepFault) → old.halves.back.store.failed ≡ false →
     old.steps < old.max_steps → new.steps ≡ old.steps → new.max_steps ≡ old.max_steps →
-    IsFault old.parts step fault × Keeps old.parts new.parts → Refuses old step fault new
+    IsFault old.halves step fault × Keeps old.halves new.halves → Refuses old step fault new
 refused_by old new step fault alive left steps most told =
-    record { lived = alive; left = left; why = told.0; kept = record { max_steps = most; steps = steps; parts = told.1 } }
+    record { lived = alive; left = left; why = told.0; kept = record { max_steps = most; steps = steps; halves = told.1 } }
 
--- what the parts answer, the system answers
-pub refused_so : (may_refuse : Bool) (old new : SystemView) (step : Step) (fault : StepFault) → old.parts.back.store.failed ≡ false →
+-- what the halves answer, the system answers
+pub refused_so : (may_refuse : Bool) (old new : SystemView) (step : Step) (fault : StepFault) → old.halves.back.store.failed ≡ false →
     old.steps < old.max_steps → new.steps ≡ old.steps → new.max_steps ≡ old.max_steps →
-    (fault ≢ Failed → IsFault old.parts step fault × Keeps old.parts new.parts) →
-    (fault ≡ Failed → MayFail may_refuse old.parts step × HasFailed old.parts new.parts) → IsRefused may_refuse old step fault new
+    (fault ≢ Failed → IsFault old.halves step fault × Keeps old.halves new.halves) →
+    (fault ≡ Failed → MayFail may_refuse old.halves step × HasFailed old.halves new.halves) → IsRefused may_refuse old step fault new
 refused_so may old new step Busy alive left steps most keeps fails =
     refused_by old new step Busy alive left steps most (keeps (λ e. let k = e in cc))
 refused_so may old new step NoConn alive left steps most keeps fails =
@@ -216,12 +216,12 @@ refused_so may old new step Failed alive left steps most keeps fails =
 
 -- ---- a step that is looked at
 
-pub same_parts : (p : Parts) → Keeps p p
-same_parts p = record { front = refl; back = refl; stage = refl; starved = refl }
+pub same_halves : (p : Halves) → Keeps p p
+same_halves p = record { front = refl; back = refl; stage = refl; starved = refl }
 
 -- a fault of a step's own refuses it, with nothing changed
-pub refused_still : (s : SystemView) (step : Step) (fault : StepFault) → MayGoOn s → IsFault s.parts step fault →
+pub refused_still : (s : SystemView) (step : Step) (fault : StepFault) → MayGoOn s → IsFault s.halves step fault →
     IsRefused false s step fault s
 refused_still s step fault may why =
-    refused_so false s s step fault may.lives may.left refl refl (λ other. (why, same_parts s.parts))
-    (λ failed. absurd (subst (IsFault s.parts step) failed why))
+    refused_so false s s step fault may.lives may.left refl refl (λ other. (why, same_halves s.halves))
+    (λ failed. absurd (subst (IsFault s.halves step) failed why))

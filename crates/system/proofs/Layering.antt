@@ -1,4 +1,4 @@
--- Run and Settle of the parts are steps of the world.
+-- Run and Settle of the halves are steps of the world.
 use Rattle.std.proofs.Common.{◌≡◌, ◌≢◌, suc, ◌+◌, ◌≤◌, Bool, length, List, [], ◌∷◌, ◌++◌, inl, inr, map, Option, Some, None}
 use Rattle.std.proofs.Common.{refl, sym, ap, ◌∙◌, subst, arith}
 use Rattle.std.proofs.lemmas.Bool.{both_ways}
@@ -37,10 +37,10 @@ use Rattle.system.proofs.Replies.{reply_told, told_now}
 use Rattle.system.proofs.Rest.{store_same}
 use Rattle.system.proofs.Starving.{starves_rightly}
 use Rattle.system.specs.Outcomes.{replies_in}
-use Rattle.system.specs.Parts.{IsAt, Makes, ShowsStage, StarvesRightly, ran_in}
+use Rattle.system.specs.Halves.{IsAt, Makes, ShowsStage, StarvesRightly, ran_in}
 use Rattle.system.specs.Refusing.{Lives, RefusesNot, MayFail, HasFailed}
 use Rattle.system.specs.declared.effect.Effect.TheVariants.{Made, Ran}
-use Rattle.system.specs.declared.parts.Parts.{Parts}
+use Rattle.system.specs.declared.halves.Halves.{Halves}
 use Rattle.system.specs.declared.stage.Stage.{Stage}
 use Rattle.system.specs.declared.stage.Stage.TheVariants as stage
 use Rattle.system_view.proofs.Running.{ran_world, may_be_run, shows_run}
@@ -183,12 +183,12 @@ few_names old mid skip taken done ran handed =
 
 -- ---- Run
 
-module _ (old : Parts) (mid : BackState) (taken : List Job) (done : Results) (starved : Vec RequestId) (skip ids : List RequestId)
+module _ (old : Halves) (mid : BackState) (taken : List Job) (done : Results) (starved : Vec RequestId) (skip ids : List RequestId)
     (sees : SeesNoRun old.front) (may : MayBeRetold old.front) (is_taken : old.stage ≡ stage.Taken taken)
     (ran : HasRun old.back skip taken mid) (handed : done ≡ mid.last) (ids_are : ids ≡ map (λ s. s.0) done.starved)
     (adds : starved.items ≡ old.starved.items ++ map (λ s. s.0) done.starved) where
-  abbrev pub ran_parts : Parts
-  ran_parts = record old {
+  abbrev pub ran_halves : Halves
+  ran_halves = record old {
     back = record mid { last = no_results };
     stage = stage.HasRun done;
     starved = starved;
@@ -201,7 +201,7 @@ module _ (old : Parts) (mid : BackState) (taken : List Job) (done : Results) (st
   names = ap ids_starved came ∙ names_of ran.ended
 
   by_stage : (h : List Step) (w : World) → IsAt old h w → ShowsStage (stage.Taken taken) w →
-      (w' : World) × RunsLayer w ids (world.Ran ids) w' × IsAt ran_parts (h ++ step.Run ids ∷ []) w'
+      (w' : World) × RunsLayer w ids (world.Ran ids) w' × IsAt ran_halves (h ++ step.Run ids ∷ []) w'
   by_stage h w at' shows =
       let run = shows_run old.back.store.table w h shows.0 taken old.front.router old.back.store mid.store skip
       ran.ended at'.leads shows.1 shows.2 at'.shows.store at'.shows.connections ran.store in
@@ -210,7 +210,7 @@ module _ (old : Parts) (mid : BackState) (taken : List Job) (done : Results) (st
       subst (λ is. RunsLayer w is (world.Ran is) after) (sym (ids_are ∙ names)) run.runs in (
         after,
         steps,
-        is_at ran_parts (h ++ step.Run ids ∷ []) after (at'.shows.table ∙ sym ran.store.table)
+        is_at ran_halves (h ++ step.Run ids ∷ []) after (at'.shows.table ∙ sym ran.store.table)
             (told_now old.front (h ++ step.Run ids ∷ []) w after run.es may refl refl
             (sees h w (replies_in w.ended) (front_at old h w at') ids (world.Ran ids) after steps))
             (subst (λ t. ShowsStore t mid.store after) (sym ran.store.table) run.store)
@@ -226,7 +226,7 @@ module _ (old : Parts) (mid : BackState) (taken : List Job) (done : Results) (st
           subst (λ l. AllZip IsRow l (old.back.rows ++ back.rows_of ran.ended)) (sym (rows_of-append w.ended es))
           (zip_append IsRow (rows_of w.ended) old.back.rows (rows_of es) (back.rows_of ran.ended) rows (rows_kept es ran.ended are))
 
-  pub run_makes : Makes old (step.Run skip) (Ran ids) ran_parts
+  pub run_makes : Makes old (step.Run skip) (Ran ids) ran_halves
   run_makes = record {
     table = ran.store.table;
     counted = let none : ran_in old.stage ≡ 0 = ap ran_in is_taken in omega arith;
@@ -242,7 +242,7 @@ module _ (old : Parts) (mid : BackState) (taken : List Job) (done : Results) (st
   }
 
 -- what running asks of the layer holds of it
-pub run_may : (p : Parts) → Lives p → (taken : List Job) → p.stage ≡ stage.Taken taken →
+pub run_may : (p : Halves) → Lives p → (taken : List Job) → p.stage ≡ stage.Taken taken →
     AddressTheirGroups p.back.store.table taken × AreFresh p.back.store.lasts taken
 run_may p lives taken is_taken =
     let shows = subst (λ s. ShowsStage s lives.world) is_taken lives.at.shows.stage in
@@ -250,7 +250,7 @@ run_may p lives taken is_taken =
     lives.at.shows.store
 
 -- so a Run has no fault of its own
-pub run_admitted : (p : Parts) (taken : List Job) → p.stage ≡ stage.Taken taken → (skip : List RequestId) → RefusesNot p (step.Run skip)
+pub run_admitted : (p : Halves) (taken : List Job) → p.stage ≡ stage.Taken taken → (skip : List RequestId) → RefusesNot p (step.Run skip)
 run_admitted p taken is_taken skip = λ h w at'. by_fault w (subst (λ s. ShowsStage s w) is_taken at'.shows.stage)
   where
     by_fault : (w : World) → ShowsStage (stage.Taken taken) w → (fault : OwnFault) → ¬ Refused w (step.Run skip) fault
@@ -261,8 +261,8 @@ run_admitted p taken is_taken skip = λ h w at'. by_fault w (subst (λ s. ShowsS
     by_fault w shows world.NoLayer refused = subst NothingToRun shows.1 refused
 
 -- and where a worker's start is refused the rows stay
-pub failed_so : (may_refuse : Bool) (p : Parts) → Lives p → (taken : List Job) → p.stage ≡ stage.Taken taken → (skip : List RequestId)
-    (new : Parts) → IsRefused may_refuse p.back taken Failed new.back → MayFail may_refuse p (step.Run skip) × HasFailed p new
+pub failed_so : (may_refuse : Bool) (p : Halves) → Lives p → (taken : List Job) → p.stage ≡ stage.Taken taken → (skip : List RequestId)
+    (new : Halves) → IsRefused may_refuse p.back taken Failed new.back → MayFail may_refuse p (step.Run skip) × HasFailed p new
 failed_so may_refuse p lives taken is_taken skip new (inl before) = absurd (both_ways _ lives.at.shows.store.lives before.0)
 failed_so may_refuse p lives taken is_taken skip new (inr now) = (
   record { refusable = now.may; runs = tt; not_refused = run_admitted p taken is_taken skip },
@@ -280,10 +280,10 @@ same_taken s a b is_a is_b = ap (λ x. taken_or x a) (sym is_b ∙ is_a)
 
 -- ---- Settle
 
-module _ (old : Parts) (f : FrontView) (done : Results) (has_run : old.stage ≡ stage.HasRun done)
+module _ (old : Halves) (f : FrontView) (done : Results) (has_run : old.stage ≡ stage.HasRun done)
     (hands : HandsOn old.front done f) where
-  abbrev pub settled_parts : Parts
-  settled_parts = record old { front = f; stage = stage.Free }
+  abbrev pub settled_halves : Halves
+  settled_halves = record old { front = f; stage = stage.Free }
 
   module _ (h : List Step) (w : World) (at' : IsAt old h w) (es : List Ended) (ran : w.layer ≡ layer.HasRun es)
       (rs : List run.Ended) (are : AreEnded es rs) (came : done ≡ results_of rs) where
@@ -308,7 +308,7 @@ module _ (old : Parts) (f : FrontView) (done : Results) (has_run : old.stage ≡
       others = λ i. inl refl;
     }
 
-    settles_there : (w' : World) × Settles w world.Made w' × IsAt settled_parts (h ++ step.Settle ∷ []) w'
+    settles_there : (w' : World) × Settles w world.Made w' × IsAt settled_halves (h ++ step.Settle ∷ []) w'
     settles_there =
         let starve = starved_same es rs are ∙ sym (ap ids_starved came ∙ names_of rs) in
         let next = hands.from_run h w (replies_in w.ended) (replies_in w.ended) (front_at old h w at') told es ran starve in
@@ -317,7 +317,7 @@ module _ (old : Parts) (f : FrontView) (done : Results) (has_run : old.stage ≡
         let ended = ap (λ (v : World). v.ended) made.after in (
           w',
           made,
-          is_at settled_parts (h ++ step.Settle ∷ []) w' (hands.table ∙ at'.shows.table)
+          is_at settled_halves (h ++ step.Settle ∷ []) w' (hands.table ∙ at'.shows.table)
               (subst (λ l. FrontIsAt f (h ++ step.Settle ∷ []) w' (replies_in l)) (sym ended) next.2)
               (store_same old.back.store.table old.back.store w w' ended (ap (λ (v : World). v.contents) made.after) at'.shows.store)
               (ap (λ (v : World). v.layer) made.after)
@@ -325,7 +325,7 @@ module _ (old : Parts) (f : FrontView) (done : Results) (has_run : old.stage ≡
               (at'.shows.starved ∙ ap starved_among (sym ended)),
         )
 
-  pub settle_makes : Makes old step.Settle Made settled_parts
+  pub settle_makes : Makes old step.Settle Made settled_halves
   settle_makes = record {
     table = refl;
     counted =
@@ -341,7 +341,7 @@ module _ (old : Parts) (f : FrontView) (done : Results) (has_run : old.stage ≡
   }
 
 -- what came of the layer that was run is of the requests that are out
-pub settle_may : (p : Parts) → Lives p → (done : Results) → p.stage ≡ stage.HasRun done → CameOf p.front.out done
+pub settle_may : (p : Halves) → Lives p → (done : Results) → p.stage ≡ stage.HasRun done → CameOf p.front.out done
 settle_may p lives done has_run =
     let shows = subst (λ s. ShowsStage s lives.world) has_run lives.at.shows.stage in
     let out = subst (λ (l : Layer). IsOut l p.front.out) shows.1 lives.at.shows.front.out in

@@ -8,8 +8,8 @@ use Rattle.shard_exec.specs.Stamps.{last_of}
 use Rattle.shard_maps.proofs.Empty.{joined-empty}
 use Rattle.system.proofs.Fronting.{is_at}
 use Rattle.system.specs.Outcomes.{replies_in}
-use Rattle.system.specs.Parts.{IsAt, ShowsStage}
-use Rattle.system.specs.declared.parts.Parts.{Parts}
+use Rattle.system.specs.Halves.{IsAt, ShowsStage}
+use Rattle.system.specs.declared.halves.Halves.{Halves}
 use Rattle.system.specs.declared.stage.Stage.TheVariants.{Free}
 use Rattle.system_view.specs.Layers.{AreRows, ShowsStore}
 use Rattle.world.specs.Steps.{opening}
@@ -20,13 +20,13 @@ none_last (suc n) zero = refl
 none_last (suc n) (suc shard) = none_last n shard
 
 -- both halves are new
-pub record IsOpening (t : Layout) (p : Parts) : Type 0 where
+pub record IsOpening (t : Layout) (p : Halves) : Type 0 where
   pub front : front.IsNew t p.front
   pub back : p.back ≡ new_back t
   pub stage : p.stage ≡ Free
   pub starved : p.starved.items ≡ []
 
-pub opening_shown : (t : Layout) (p : Parts) → IsOpening t p → IsAt p [] opening
+pub opening_shown : (t : Layout) (p : Halves) → IsOpening t p → IsAt p [] opening
 opening_shown t p is =
     is_at p [] opening (is.front.table ∙ sym (ap (λ (b : BackState). b.store.table) is.back)) (is.front.at (replies_in []))
     (subst (λ (b : BackState). ShowsStore b.store.table b.store opening) (sym is.back) (record {

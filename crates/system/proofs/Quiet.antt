@@ -13,8 +13,8 @@ no_packets [] none = refl
 no_packets (p ∷ ps) none = absurd (omega arith)
 
 -- with no packet and no layer it is quiet just where no request is ready
-pub quiet_by : (ready : Bool) (s : SystemView) → s.parts.front.multicast.packets ≡ [] → s.parts.stage ≡ Free →
-    (IsTrue ready ↔ ((d : Delivered) × IsReady (queue_of s.parts.front.multicast.queues) d)) → IsTrue (not ready) ↔ IsQuiet s
+pub quiet_by : (ready : Bool) (s : SystemView) → s.halves.front.multicast.packets ≡ [] → s.halves.stage ≡ Free →
+    (IsTrue ready ↔ ((d : Delivered) × IsReady (queue_of s.halves.front.multicast.queues) d)) → IsTrue (not ready) ↔ IsQuiet s
 quiet_by true s packets free told = (
   λ no. absurd (both_ways _ refl no),
   λ quiet. let some = told.0 refl in absurd (quiet.none_ready some.0 some.1),

@@ -1,4 +1,4 @@
--- What is the same in the worlds before and after a step of the front, and what the parts show of it.
+-- What is the same in the worlds before and after a step of the front, and what the halves show of it.
 use Rattle.std.proofs.Common.{◌≡◌, ℕ, true, List, [], ◌∷◌, Some, refl, sym, ◌∙◌, subst, Result, Ok, Err}
 use Rattle.command_table.specs.declared.refusal.Refusal.{Refusal}
 use Rattle.groups.specs.GroupSet.{has}
@@ -11,7 +11,7 @@ use Rattle.groups.specs.Order.{In}
 use Rattle.skeen_core.specs.declared.packet.Delivered.{Delivered}
 use Rattle.groups.specs.declared.request.RequestId.{RequestId}
 use Rattle.tasks.specs.Tasks.{Task, task_reading, task_groups}
-use Rattle.system.specs.Parts.{ShowsStage}
+use Rattle.system.specs.Halves.{ShowsStage}
 use Rattle.system.specs.declared.stage.Stage.{Stage}
 use Rattle.system.specs.declared.stage.Stage.TheVariants as stage
 use Rattle.system_view.specs.Layers.{AreJobs, ShowsStore}
@@ -67,7 +67,7 @@ is_rest t w w' Settle effect leaves made = absurd leaves
 is_rest t w w' (Collect conn) effect leaves made = collect_rest (w.standing conn.0) w w' conn.0 effect made
 is_rest t w w' (Close conn) effect leaves made = rest_of w w' _ made.after (record { layer = refl; ended = refl; contents = refl })
 
--- ---- what the parts show
+-- ---- what the halves show
 
 -- the requests of the first world are asked in the second
 abbrev pub KeepsAsked : Asked → Asked → Type 0

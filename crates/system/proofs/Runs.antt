@@ -1,7 +1,7 @@
 -- A list of steps, made one after another.
 use Rattle.std.proofs.Common.{◌≡◌, ◌≢◌, Bool, List, [], ◌∷◌, ◌++◌, map, Some, None, refl, sym, ◌∙◌, subst, append-nil, append_assoc}
 use Rattle.journal.specs.declared.step.Step.{Step}
-use Rattle.system.specs.Parts.{IsAt, effect_shown, stored}
+use Rattle.system.specs.Halves.{IsAt, effect_shown, stored}
 use Rattle.system.specs.Runs.{AreMade, AreRun, all_stored, LeadsTo}
 use Rattle.system.specs.System.{SystemView, IsStep, IsRefused, ObeysOneThread}
 use Rattle.system.specs.declared.effect.Effect.{Effect}
@@ -20,14 +20,14 @@ made_more old mid new (s ∷ ss) (e ∷ es) step effect made next obeys =
     (made.0, made.1, made.2, made_more made.0 mid new ss es step effect made.3 next obeys)
 
 same_table : (old new : SystemView) (step : Step) (effect : Effect) → IsStep old step effect new →
-    new.parts.back.store.table ≡ old.parts.back.store.table
+    new.halves.back.store.table ≡ old.halves.back.store.table
 same_table old new step effect made = made.makes.table
 
 -- steps that were made lead, in whatever world the system showed, to the world that it shows then
 pub leads_by : (old new : SystemView) (steps : List Step) (effects : List Effect) → AreMade old steps effects new →
     LeadsTo old steps effects new
 leads_by old new [] [] made h w at' =
-    (w, (refl, refl), subst (λ s. IsAt s.parts (h ++ []) w) (sym made.1) (subst (λ l. IsAt old.parts l w) (sym (append-nil h)) at'))
+    (w, (refl, refl), subst (λ s. IsAt s.halves (h ++ []) w) (sym made.1) (subst (λ l. IsAt old.halves l w) (sym (append-nil h)) at'))
 leads_by old new [] (e ∷ es) made h w at' = absurd (let k = made.0 in cc)
 leads_by old new (s ∷ ss) [] made h w at' = absurd made
 leads_by old new (s ∷ ss) (e ∷ es) made h w at' =
@@ -41,7 +41,7 @@ leads_by old new (s ∷ ss) (e ∷ es) made h w at' =
         subst (λ t. Makes t step.0 (all_stored ss es) (map effect_shown es) rest.0)
             (same_table old mid s e made.1) rest.1,
       ),
-      subst (λ l. IsAt new.parts l rest.0) (append_assoc h (stored s e ∷ []) (all_stored ss es)) rest.2,
+      subst (λ l. IsAt new.halves l rest.0) (append_assoc h (stored s e ∷ []) (all_stored ss es)) rest.2,
     )
 
 -- ---- along the list

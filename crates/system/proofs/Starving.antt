@@ -18,8 +18,8 @@ use Rattle.shard_exec.specs.declared.done.Ended as run
 use Rattle.shard_workers.specs.Runs.{outcome}
 use Rattle.skeen_core.specs.declared.packet.Delivered.{Delivered}
 use Rattle.tasks.specs.Tasks.{Task, task_reading, task_groups, task_takes_memory}
-use Rattle.system.specs.Parts.{WantInTurn, StarvesRightly}
-use Rattle.system.specs.declared.parts.Parts.{Parts}
+use Rattle.system.specs.Halves.{WantInTurn, StarvesRightly}
+use Rattle.system.specs.declared.halves.Halves.{Halves}
 use Rattle.system_view.proofs.Running.{ShowsRun}
 use Rattle.system_view.specs.Layers.{AreJobs, IsEnded, AreEnded, if_none, starved_of}
 use Rattle.world.specs.Steps.{names, map_after}
@@ -97,7 +97,7 @@ want_in_turn table m skip (j ∷ js) (r ∷ rs) (e ∷ es) address told ended st
 
 -- ---- both
 
-pub starves_rightly : (p : Parts) (w : World) (skip : List RequestId) (ds : List Delivered) (js : List Job)
+pub starves_rightly : (p : Halves) (w : World) (skip : List RequestId) (ds : List Delivered) (js : List Job)
     (rs : List run.Ended) (new : StoreState) → ShowsRun p.back.store.table w p.front.router rs new →
     w.layer ≡ Taken ds → AreJobs w.asked ds js → AddressTheirGroups p.back.store.table js → AllZip IsOf js rs →
     MayStarveInTurn p.back.store.table w.contents skip js rs → StarvesRightly p skip (starved_of rs) w

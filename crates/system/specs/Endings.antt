@@ -8,7 +8,7 @@ use Rattle.groups.specs.Order.{In}
 use Rattle.groups.specs.declared.request.RequestId.{RequestId}
 use Rattle.tasks.specs.Tasks.{Task, task_reading, task_groups}
 use Rattle.system.specs.Faults.{own_fault}
-use Rattle.system.specs.Parts.{IsAt}
+use Rattle.system.specs.Halves.{IsAt}
 use Rattle.system.specs.Reads.{table_of, rows_of, starved_of}
 use Rattle.system.specs.Refusing.{RefusesNot}
 use Rattle.system.specs.System.{SystemView, IsRefused}
@@ -36,7 +36,7 @@ AsksGroups t words = (task : Task) × (task_reading words ≡ Ok task) × (task_
 
 -- whatever history led here, each request that it submitted to groups has ended: it was executed, or it starved
 abbrev pub EachHasEnded : SystemView → Type 0
-EachHasEnded s = (h : List Step) (w : World) → IsAt s.parts h w → (effects : List Effect) → Makes (table_of s) opening h effects w →
+EachHasEnded s = (h : List Step) (w : World) → IsAt s.halves h w → (effects : List Effect) → Makes (table_of s) opening h effects w →
     (i : RequestId) → WasSubmitted (AsksGroups (table_of s)) i h effects → Named w.ended i × (IsExecuted s i ⊎ HasStarved s i)
 
 -- ---- what can be done
@@ -44,7 +44,7 @@ EachHasEnded s = (h : List Step) (w : World) → IsAt s.parts h w → (effects :
 -- No world that the system shows refuses the step; so whatever `step` refuses it for is no fault of the step's own: it
 -- is Exhausted, Memory or Failed.
 pub record MayBeMade (s : SystemView) (step : Step) : Type 0 where
-  pub not_refused : RefusesNot s.parts step
+  pub not_refused : RefusesNot s.halves step
   pub no_own_fault : (may_refuse : Bool) (fault : StepFault) (new : SystemView) → IsRefused may_refuse s step fault new →
       own_fault fault ≡ None
 
@@ -59,4 +59,4 @@ SomeMayBeMade HasRun s = MayBeMade s Settle
 -- whatever history led here, it has no more steps that bring packets, take layers, run or settle them than its
 -- submitted requests allow: k * k + 3 for each request of k groups
 abbrev pub TurnsAreFew : SystemView → Type 0
-TurnsAreFew s = (h : List Step) (w : World) → IsAt s.parts h w → turns h ≤ allowances (table_of s) h
+TurnsAreFew s = (h : List Step) (w : World) → IsAt s.halves h w → turns h ≤ allowances (table_of s) h

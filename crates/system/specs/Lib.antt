@@ -1,5 +1,5 @@
 pub mod Faults
-pub mod Parts
+pub mod Halves
 pub mod Refusing
 pub mod System
 pub mod Reads

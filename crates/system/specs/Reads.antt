@@ -1,4 +1,4 @@
--- What is read of a system, wherever it lies in its parts.
+-- What is read of a system, wherever it lies in its halves.
 use Rattle.std.specs.Prelude.{ℕ, Bool, List, Option}
 use Rattle.delivery.specs.Queues.{queue_of}
 use Rattle.delivery.specs.Ready.{QueueOf}
@@ -13,21 +13,21 @@ use Rattle.router.specs.declared.connection.Connection.{Connection}
 use Rattle.router.specs.declared.outcome.Outcome.{Outcome}
 use Rattle.shard_maps.specs.Joined.{joined}
 use Rattle.skeen_core.specs.declared.packet.Packet.{Packet}
-use Rattle.system.specs.Parts as parts
+use Rattle.system.specs.Halves as halves
 use Rattle.system.specs.System.{SystemView}
 use Rattle.system.specs.declared.stage.Progress.{Progress}
 
 -- where keys lie
 abbrev pub table_of : SystemView → Layout
-table_of s = s.parts.back.store.table
+table_of s = s.halves.back.store.table
 
 -- whether a worker's start was refused
 abbrev pub failed : SystemView → Bool
-failed s = s.parts.back.store.failed
+failed s = s.halves.back.store.failed
 
 -- the map of each shard
 abbrev pub maps_of : SystemView → List Map
-maps_of s = s.parts.back.store.maps
+maps_of s = s.halves.back.store.maps
 
 -- what the shards hold together
 abbrev pub contents_of : SystemView → Map
@@ -35,40 +35,36 @@ contents_of s = joined (maps_of s)
 
 -- what was executed, in the order of execution
 abbrev pub rows_of : SystemView → List RowView
-rows_of s = s.parts.back.rows
+rows_of s = s.halves.back.rows
 
 -- what starved, in the order of turns
 abbrev pub starved_of : SystemView → List RequestId
-starved_of s = s.parts.starved.items
+starved_of s = s.halves.starved.items
 
 -- the packets under way, oldest first
 abbrev pub packets_of : SystemView → List Packet
-packets_of s = s.parts.front.multicast.packets
+packets_of s = s.halves.front.multicast.packets
 
 -- what a group has delivered and no layer has taken
 abbrev pub queues_of : SystemView → QueueOf
-queues_of s = queue_of s.parts.front.multicast.queues
+queues_of s = queue_of s.halves.front.multicast.queues
 
 -- how far the layer is that is under way
 abbrev pub progress_of : SystemView → Progress
-progress_of s = parts.progress_of s.parts.stage
-
--- how many requests are to be run
-abbrev pub to_run : SystemView → ℕ
-to_run s = parts.to_run s.parts.stage
+progress_of s = halves.progress_of s.halves.stage
 
 -- the connection of a number, if it is kept
 abbrev pub connection_of : SystemView → ℕ → Option Connection
-connection_of s = router.connection s.parts.front.router
+connection_of s = router.connection s.halves.front.router
 
 -- the outcome that waits for a connection
 abbrev pub waiting_for : SystemView → ℕ → Option Outcome
-waiting_for s = router.waiting s.parts.front.router
+waiting_for s = router.waiting s.halves.front.router
 
 -- the clock of a group
 abbrev pub clock_of : SystemView → ℕ → ℕ
-clock_of s g = (group_of s.parts.front.multicast.groups g).clock
+clock_of s g = (group_of s.halves.front.multicast.groups g).clock
 
 -- the requests that are to be run
 abbrev pub layer_of : SystemView → List Job
-layer_of s = parts.layer_of s.parts.stage
+layer_of s = halves.layer_of s.halves.stage

@@ -1,7 +1,7 @@
 -- A list of steps, made one after another.
 use Rattle.std.specs.Prelude.{◌≡◌, ◌≢◌, ◌<◌, Bool, false, List, [], ◌∷◌, ◌++◌, map, ◌⊎◌, Option, Some, None}
 use Rattle.journal.specs.declared.step.Step.{Step}
-use Rattle.system.specs.Parts.{IsAt, effect_shown, stored}
+use Rattle.system.specs.Halves.{IsAt, effect_shown, stored}
 use Rattle.system.specs.System.{SystemView, IsStep, IsRefused, ObeysOneThread}
 use Rattle.system.specs.declared.effect.Effect.{Effect}
 use Rattle.system.specs.declared.fault.StepFault.{StepFault}
@@ -26,9 +26,9 @@ all_stored (step ∷ steps) (effect ∷ effects) = stored step effect ∷ all_st
 -- whatever world the system showed, these steps are made there one after another with these effects, and then the
 -- system shows the world of that history and these steps
 abbrev pub LeadsTo : SystemView → List Step → List Effect → SystemView → Type 0
-LeadsTo old steps effects new = (h : List Step) (w : World) → IsAt old.parts h w →
-    (w' : World) × Makes old.parts.back.store.table w (all_stored steps effects) (map effect_shown effects) w'
-    × IsAt new.parts (h ++ all_stored steps effects) w'
+LeadsTo old steps effects new = (h : List Step) (w : World) → IsAt old.halves h w →
+    (w' : World) × Makes old.halves.back.store.table w (all_stored steps effects) (map effect_shown effects) w'
+    × IsAt new.halves (h ++ all_stored steps effects) w'
 
 -- behind the steps that were made either none is left, or one that was refused, and why
 abbrev pub Ends : Bool → SystemView → List Step → Option StepFault → SystemView → Type 0
@@ -51,7 +51,7 @@ pub record AreRun (may_refuse : Bool) (old : SystemView) (steps : List Step) (ef
 pub record HasNoRoom (old : SystemView) (steps : List Step) (effects : List Effect) (fault : Option StepFault) (new : SystemView) :
     Type 0 where
   pub some : steps ≢ []
-  pub lives : old.parts.back.store.failed ≡ false
+  pub lives : old.halves.back.store.failed ≡ false
   pub left : old.steps < old.max_steps
   pub none_made : effects ≡ []
   pub is_memory : fault ≡ Some Memory

@@ -8,9 +8,9 @@
 
 mod effect;
 mod fault;
+mod halves;
 mod outcomes;
 mod own_fault;
-mod parts;
 mod stage;
 mod system;
 

@@ -6,12 +6,12 @@ ghost use Rattle.journal.specs.declared.step.Step.{Step};
 ghost use Rattle.system.specs.Refusing.{IsFault, RefusesNot};
 
 use super::fault::StepFault;
-use super::parts::Parts;
+use super::halves::Halves;
 use super::stage::Stage;
 use groups::ConnId;
 use journal::Step;
 
-impl Parts {
+impl Halves {
     /// The fault that the step has of its own, if it has one.
     pub fn own_fault(&self, step: &Step) -> Option<StepFault>
         ensures some { IfSome result (IsFault self.now step.now) }

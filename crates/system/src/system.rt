@@ -4,7 +4,7 @@ ghost use Rattle.std.specs.Prelude.{Bool, false, ◌≡◌, ◌<◌, ◌≤◌, 
 ghost use Rattle.std.specs.Prelude.{◌↔◌, option_copied};
 ghost use Rattle.system.specs.System.{IsNew, IsStep, MayGoOn, IsAdmitted, IsRefused, IsQuiet, ObeysOneThread};
 ghost use Rattle.system.specs.Reads.{table_of, failed, maps_of, contents_of, rows_of, starved_of, packets_of, queues_of};
-ghost use Rattle.system.specs.Reads.{progress_of, to_run};
+ghost use Rattle.system.specs.Reads.{progress_of};
 ghost use Rattle.system.specs.Reads.{waiting_for};
 ghost use Rattle.system.specs.Reads.{clock_of, layer_of};
 ghost use Rattle.std.specs.Prelude.{slice_get};
@@ -22,7 +22,7 @@ ghost use Rattle.journal.specs.declared.trace.TheConstants.{GREATEST_STEPS};
 
 use super::effect::Effect;
 use super::fault::StepFault;
-use super::parts::Parts;
+use super::halves::Halves;
 use super::stage::{Progress, Stage};
 use back::Back;
 use front::Front;
@@ -39,7 +39,7 @@ use std::marker::Model;
 use world_laws::{collecting_of_outcomes, order_of_requests};
 
 /// A store on several shards as one machine. Contracts see how many steps were made, how many may be, and what the
-/// parts show.
+/// halves show.
 ///
 /// For some history of as many steps, which its effects give, it shows the world of that history; but not once a
 /// worker's start was refused.
@@ -48,7 +48,7 @@ pub struct System {
     alloc: Global,
     max_steps: u64,
     steps: u64,
-    parts: Parts,
+    halves: Halves,
 }
 
 impl Model for System {
@@ -62,9 +62,9 @@ impl Model for System {
 
     ghost coded = { Prim.hlevel (codes, reply.the_row.coded, group_code, state_code) };
 
-    ghost view = { λ s. record { max_steps = s.max_steps; steps = s.steps; parts = s.parts } };
+    ghost view = { λ s. record { max_steps = s.max_steps; steps = s.steps; halves = s.halves } };
 
-    ghost invariant = { λ s. IsSystem (record { max_steps = s.max_steps; steps = s.steps; parts = s.parts }) };
+    ghost invariant = { λ s. IsSystem (record { max_steps = s.max_steps; steps = s.steps; halves = s.halves }) };
 }
 
 impl System {
@@ -93,7 +93,7 @@ impl System {
         let front = Front::new(alloc, table)?;
         let back = Back::new(alloc, table, hasher)?;
         front.holds();
-        let parts = Parts {
+        let halves = Halves {
             front,
             back,
             stage: Stage::Free,
@@ -103,7 +103,7 @@ impl System {
             alloc,
             max_steps,
             steps: 0,
-            parts,
+            halves,
         })
     }
 
@@ -127,7 +127,7 @@ impl System {
         if let Some(fault) = self.stopped() {
             return Err(fault);
         }
-        match self.parts.make(self.alloc, step, workers, gate) {
+        match self.halves.make(self.alloc, step, workers, gate) {
             Ok(effect) => {
                 self.steps += 1;
                 Ok(effect)
@@ -172,7 +172,7 @@ impl System {
         ensures some { IfSome result (λ fault. (may_refuse : Bool) (step : Step) → IsRefused may_refuse self.now step fault self.now) }
         ensures none { IfNone result (MayGoOn self.now) }
     {
-        if self.parts.back.has_failed() {
+        if self.halves.back.has_failed() {
             return Some(StepFault::Failed);
         }
         if self.steps == self.max_steps {
@@ -189,7 +189,7 @@ impl System {
     {
         match self.stopped() {
             Some(fault) => Some(fault),
-            None => self.parts.own_fault(step),
+            None => self.halves.own_fault(step),
         }
     }
 
@@ -204,28 +204,17 @@ impl System {
     pub fn has_failed(&self) -> bool
         ensures { result ≡ failed self.now }
     {
-        self.parts.back.has_failed()
+        self.halves.back.has_failed()
     }
 
     /// How far the layer is that is under way: which of Take, Run and Settle may come next.
     pub fn progress(&self) -> Progress
         ensures { result ≡ progress_of self.now }
     {
-        match &self.parts.stage {
+        match &self.halves.stage {
             Stage::Free => Progress::Free,
             Stage::Taken(_) => Progress::Taken,
             Stage::HasRun(_) => Progress::HasRun,
-        }
-    }
-
-    /// How many requests the layer has that was taken and is to be run; 0 where none is. No more can starve in the next
-    /// run.
-    pub fn to_run(&self) -> usize
-        ensures { result ≡ to_run self.now }
-    {
-        match &self.parts.stage {
-            Stage::Taken(layer) => layer.len(),
-            _ => 0,
         }
     }
 
@@ -233,21 +222,21 @@ impl System {
     pub fn packets(&self) -> usize
         ensures { result ≡ length (packets_of self.now) }
     {
-        self.parts.front.packets()
+        self.halves.front.packets()
     }
 
     /// The rows of what was executed, in the order of execution.
     pub fn rows(&self) -> &Rows
         ensures { result.now.rows ≡ rows_of self.now }
     {
-        self.parts.back.rows()
+        self.halves.back.rows()
     }
 
     /// The ids of the requests that starved, in the order in which their turns came.
     pub fn starved(&self) -> &[RequestId]
         ensures { result.now ≡ starved_of self.now }
     {
-        self.parts.starved.as_slice()
+        self.halves.starved.as_slice()
     }
 
     /// Appends the dump of the map that the shards hold together: a line for each key, ascending by bytes.
@@ -257,7 +246,7 @@ impl System {
         ensures ok { OnOk result (out.new.items ≡ out.old.items ++ dump_text (contents_of self.now)) }
         ensures err { OnErr result (out.new.items ≡ out.old.items) }
     {
-        self.parts.back.dump(out)
+        self.halves.back.dump(out)
     }
 
     /// Whether some request is ready: it stands at the head of the queue of each of its groups, and a Take would take it.
@@ -265,20 +254,20 @@ impl System {
     pub fn has_ready(&self) -> bool
         ensures { IsTrue result ↔ ((d : Delivered) × IsReady (queues_of self.now) d) }
     {
-        self.parts.front.has_ready()
+        self.halves.front.has_ready()
     }
 
     /// Whether nothing is under way: no packet, no layer, and no request that is ready. It takes no memory.
     pub fn quiet(&self) -> bool
         ensures { IsTrue result ↔ IsQuiet self.now }
     {
-        let Stage::Free = &self.parts.stage else {
+        let Stage::Free = &self.halves.stage else {
             return false;
         };
-        if self.parts.front.packets() != 0 {
+        if self.halves.front.packets() != 0 {
             return false;
         }
-        !self.parts.front.has_ready()
+        !self.halves.front.has_ready()
     }
 
     /// It does nothing: its contract says that what is under way can be brought to an end.
@@ -292,7 +281,7 @@ impl System {
         ensures goes_on { ¬ IsQuiet self.now → SomeMayBeMade (progress_of self.now) self.now }
         ensures bounded { TurnsAreFew self.now }
     {
-        let _ = &self.parts;
+        let _ = &self.halves;
     }
 
     /// It does nothing: its contract says what holds of each history that may have led here, and of the world that it
@@ -325,28 +314,28 @@ impl System {
     {
         order_of_requests();
         collecting_of_outcomes();
-        let _ = self.parts.back.table();
+        let _ = self.halves.back.table();
     }
 
     /// The outcome that waits for a connection, left in place. It takes no memory.
     pub fn waits(&self, conn: ConnId) -> Option<&Outcome>
         ensures { option_copied result ≡ waiting_for self.now conn.0 }
     {
-        self.parts.front.waits(conn)
+        self.halves.front.waits(conn)
     }
 
     /// The packet at this place of those under way, counted from 0 in order of sending.
     pub fn packet(&self, place: usize) -> Option<&Packet>
         ensures { option_copied result ≡ slice_get (packets_of self.now) place }
     {
-        self.parts.front.packet(place)
+        self.halves.front.packet(place)
     }
 
     /// The clock of a group. A group that isn't there has the clock of a new one.
     pub fn clock(&self, group: GroupId) -> u64
         ensures { result ≡ clock_of self.now group }
     {
-        self.parts.front.clock(group)
+        self.halves.front.clock(group)
     }
 
     /// The request at this place of those that the group has delivered and no layer has taken, counted from 0 from the
@@ -354,21 +343,21 @@ impl System {
     pub fn delivered(&self, group: GroupId, place: usize) -> Option<&Delivered>
         ensures { option_copied result ≡ slice_get (queues_of self.now group) place }
     {
-        self.parts.front.delivered(group, place)
+        self.halves.front.delivered(group, place)
     }
 
     /// How many requests the group has delivered that no layer has taken.
     pub fn queued(&self, group: GroupId) -> usize
         ensures { result ≡ length (queues_of self.now group) }
     {
-        self.parts.front.queued(group)
+        self.halves.front.queued(group)
     }
 
     /// The requests of the layer that was taken and is to be run, in their order; none where none is.
     pub fn layer(&self) -> &[Job]
         ensures { result.now ≡ layer_of self.now }
     {
-        match &self.parts.stage {
+        match &self.halves.stage {
             Stage::Taken(layer) => layer.jobs(),
             _ => &[],
         }

@@ -8,7 +8,7 @@ use crate::wording::{
 };
 use groups::ConnId;
 use journal::Step;
-use shard_workers::{Open, Workers};
+use shard_workers::{OpenGate, Workers};
 use std::alloc::Global;
 use std::process::Abort;
 use system::{Effect, StepFault, System};
@@ -136,7 +136,7 @@ fn push_made<W: Workers>(
     workers: &W,
 ) -> Result<bool, Trouble> {
     let steps = steps_of(alloc, list)?;
-    let (effects, fault) = system.run(steps, workers, &Open);
+    let (effects, fault) = system.run(steps, workers, &OpenGate);
     let pushed = push_effects_and_fault(alloc, text, effects.as_slice(), fault);
     let some_made = !effects.is_empty() || matches!(fault, Some(StepFault::Failed));
     discard(effects);
@@ -284,7 +284,7 @@ pub(crate) fn make<W: Workers>(
     workers: &W,
 ) -> Result<String, Trouble> {
     let step = step_of(alloc, words)?;
-    let effect = system.step(step, workers, &Open)?;
+    let effect = system.step(step, workers, &OpenGate)?;
     let mut text = String::new(alloc);
     let pushed = push_effect(alloc, &mut text, &effect);
     discard(effect);
@@ -298,7 +298,7 @@ pub(crate) fn deliver_all<W: Workers>(system: &mut System, workers: &W) -> Resul
         if system.packets() == 0 {
             return Ok(count);
         }
-        discard(system.step(Step::Deliver { place: 0 }, workers, &Open)?);
+        discard(system.step(Step::Deliver { place: 0 }, workers, &OpenGate)?);
     }
     Err("packets are left".into())
 }

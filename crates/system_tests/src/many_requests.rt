@@ -11,7 +11,7 @@ use journal::{Row, Rows};
 use resp::{Reply, write_reply};
 use router::Outcome;
 use shard_crew::Crew;
-use shard_workers::{InTurn, Open, Workers};
+use shard_workers::{InTurn, OpenGate, Workers};
 use solo::Solo;
 use std::alloc::Global;
 use std::hash::{BuildHasherDefault, FoldHasher};
@@ -126,7 +126,7 @@ fn make_or_not<W: Workers>(
     workers: &W,
 ) -> Result<(), Trouble> {
     let step = step_of(alloc, words)?;
-    match system.step(step, workers, &Open) {
+    match system.step(step, workers, &OpenGate) {
         Ok(effect) => {
             let looked = look_at_effect(rt, alloc, system.rows(), &effect);
             discard(effect);

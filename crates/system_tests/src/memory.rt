@@ -9,7 +9,7 @@ use crate::tables::system_of;
 use crate::trouble::Trouble;
 use crate::wording::{push_effect, push_fault, push_ids};
 use shard_crew::Crew;
-use shard_workers::{InTurn, Open, Workers};
+use shard_workers::{InTurn, OpenGate, Workers};
 use std::alloc::Global;
 use std::num::NonZeroUsize;
 use std::process::Abort;
@@ -217,14 +217,14 @@ fn made_at_last<W: Workers>(
 ) -> Result<Result<Effect, StepFault>, Trouble> {
     let before = state(alloc, system)?;
     let step = step_of(alloc, said)?;
-    match system.step(step, workers, &Open) {
+    match system.step(step, workers, &OpenGate) {
         Err(StepFault::Memory) => {}
         made => return Ok(made),
     }
     assert_holds(rt, said, !is_own_fault(wanted));
     assert_unchanged(rt, alloc, system, said, before.as_str())?;
     let step = step_of(alloc, said)?;
-    Ok(system.step(step, workers, &Open))
+    Ok(system.step(step, workers, &OpenGate))
 }
 
 /// Whether this is the name of a fault that comes before want of memory.
@@ -291,7 +291,7 @@ fn stays_failed<W: Workers>(
     workers: &W,
 ) -> Result<(), Trouble> {
     let step = step_of(alloc, "take")?;
-    let made = system.step(step, workers, &Open);
+    let made = system.step(step, workers, &OpenGate);
     let failed = matches!(&made, Err(StepFault::Failed));
     assert_holds(rt, "failed for good", failed);
     discard(made);

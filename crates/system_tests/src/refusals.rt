@@ -4,7 +4,7 @@ use crate::answers::{Row, follow, follow_rows};
 use crate::tables::system_of;
 use crate::trouble::Trouble;
 use placement::Table;
-use shard_workers::{Gate, InTurn, Part, Ran, Refused, Room, Workers};
+use shard_workers::{Gate, InTurn, Load, Ran, Refused, Room, Workers};
 use std::alloc::{AllocError, Global};
 use std::num::NonZeroUsize;
 use std::process::Abort;
@@ -194,17 +194,17 @@ impl Workers for Unwilling {
         NonZeroUsize::MIN.saturating_add(1)
     }
 
-    fn reserve(&self, alloc: Global, parts: usize) -> Result<Room, AllocError> {
-        InTurn(NonZeroUsize::MIN).reserve(alloc, parts)
+    fn reserve(&self, alloc: Global, loads: usize) -> Result<Room, AllocError> {
+        InTurn(NonZeroUsize::MIN).reserve(alloc, loads)
     }
 
-    fn run_parts(
+    fn run_loads(
         &self,
         _alloc: Global,
         _table: &Table,
         _gate: &(dyn Gate + Sync),
         _room: Room,
-        _parts: Vec<Part>,
+        _loads: Vec<Load>,
     ) -> Result<Vec<Vec<Ran>>, Refused> {
         Err(Refused)
     }

@@ -1,5 +1,6 @@
 -- Which groups a task addresses: the shards of its keys, or all of them.
-use Rattle.std.proofs.Common.{◌≡◌, ℕ, ◌<◌, ◌||◌, ◌&&◌, nat_lt, List, true, slice_index_or, sym, ap, ◌∙◌, subst, lt-ltb, ltb-true}
+use Rattle.std.proofs.Common.{◌≡◌, ℕ, ◌<◌, ◌||◌, ◌&&◌, nat_lt, List, true, slice_index_or, Contains, sym, ap, ◌∙◌, subst, lt-ltb}
+use Rattle.std.proofs.Common.{ltb-true}
 use Rattle.std.proofs.lemmas.Bool.{and_parts}
 use Rattle.std.proofs.lemmas.List.Folds.{Any-from_list_any}
 use Rattle.std.specs.Str.{bytes_eq}
@@ -18,12 +19,17 @@ pub has-task_groups : (table : Layout) (task : Task) (g : ℕ)
 has-task_groups table task g = has-chosen (λ s. is_whole task || has_key_on table s (task_keys task)) table.shards g
 
 -- each key of a task lies on one of its groups
+pub has-task_groups-key : (table : Layout) (task : Task) (q : List ℕ) → IsTable table → Contains (task_keys task) q
+    → has (task_groups table task) (shard_of table q) ≡ true
+has-task_groups-key table task q = has-groups_of-key table task q
+
+-- so does one that is found among them
 pub has-task_groups-among : (table : Layout) (task : Task) (q : List ℕ) → IsTable table → among (task_keys task) q ≡ true
     → has (task_groups table task) (shard_of table q) ≡ true
 has-task_groups-among table task q is_table h =
     let found = Any-from_list_any (bytes_eq q) (task_keys task) h in
     let is : q ≡ found.1 = same_bytes q found.1 found.4 in
-    has-groups_of-key table task q is_table
+    has-task_groups-key table task q is_table
     (found.0, found.2, subst (λ k. slice_index_or (task_keys task) found.0 k ≡ k) (sym is) found.3)
 
 -- and every key lies on a group of one that is for all keys

@@ -10,11 +10,10 @@ use Rattle.command_table.specs.declared.command.Command.TheVariants as command
 use Rattle.command_table.specs.declared.local_commands.LocalCommand.TheVariants.{Ping, Echo}
 use Rattle.command_table.specs.declared.refusal.Refusal.{Refusal}
 use Rattle.groups.specs.GroupSet.{has}
-use Rattle.placement.proofs.Addressed.{has-groups_of-key}
 use Rattle.placement.specs.Groups.{has_key_on}
 use Rattle.placement.specs.Layout.{Layout, IsTable, shard_of}
 use Rattle.resp.specs.Content.{Content}
-use Rattle.tasks.proofs.Groups.{has-task_groups}
+use Rattle.tasks.proofs.Groups.{has-task_groups, has-task_groups-key}
 use Rattle.tasks.specs.Tasks.{Task, task_reading, task_keys, task_groups, task_effect, keyless_reply, Addresses}
 
 -- a set with a member is not empty
@@ -35,7 +34,7 @@ module _ (t : Layout) (table : IsTable t) where
       by_keys [] e some = absurd (let k = ap length e in omega arith)
       by_keys (key ∷ keys) e some =
           has_some (task_groups t task) (shard_of t key)
-          (has-groups_of-key t task key table (subst (λ ks. Contains ks key) (sym e) (0, omega arith, refl)))
+          (has-task_groups-key t task key table (subst (λ ks. Contains ks key) (sym e) (0, omega arith, refl)))
 
   no_groups : (task : Task) → task_keys task ≡ [] → is_whole task ≡ false → task_groups t task ≡ []
   no_groups task none local = by_groups (task_groups t task) refl

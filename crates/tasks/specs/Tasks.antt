@@ -1,6 +1,6 @@
 -- What a request executes, as one, and what those above say of it.
 use Rattle.std.specs.Prelude.{◌≡◌, ℕ, List, [], ◌∷◌, Option, Some, None, Result}
-use Rattle.command_bodies.specs.Answer.{AnswerTakesMemory}
+use Rattle.command_bodies.specs.Answer.{AnswerTakesMemory, reply_of}
 use Rattle.command_bodies.specs.Command.{effect_of}
 use Rattle.command_bodies.specs.InTurn.{in_turn}
 use Rattle.command_bodies.specs.LocalCommand.{local_reply}
@@ -14,6 +14,8 @@ use Rattle.keyspace.specs.Map.{Map}
 use Rattle.placement.specs.Groups.{groups_of}
 use Rattle.placement.specs.Layout.{Layout}
 use Rattle.resp.specs.Content.{Content}
+use Rattle.resp.specs.declared.answered.Answered.{Answered}
+use Rattle.resp.specs.declared.reply.Reply.{Reply}
 
 -- a task is one command
 abbrev pub Task : Type 0
@@ -38,6 +40,10 @@ task_groups = groups_of
 -- what it does to the map of all keys, and what it answers
 abbrev pub task_effect : Task → Case
 task_effect = effect_of
+
+-- what a run of it answers, if it answers
+abbrev pub task_reply : {E : Type 0} → Result Answered E → Result Reply E
+task_reply run = reply_of run
 
 -- where there may be no memory to run it on a map, or to answer it
 abbrev pub task_takes_memory : Task → Map → Type 0

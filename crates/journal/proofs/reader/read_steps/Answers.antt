@@ -7,7 +7,8 @@ use Rattle.journal.proofs.ReadLaws.{read-open, read-bad, read-behind, read-done,
 use Rattle.journal.proofs.reader.read_steps.Goals as goal
 
 pub returns-in_default : goal.returns-in_default
-returns-in_default c = λ whole r. rw c.len-count.ensures.number (read-open whole _ _ _ _ (c.loop-line.invariant whole r) c.in_default.ensures)
+returns-in_default c = λ whole r.
+    rw c.len-count.ensures.number (read-open whole _ _ _ _ (c.loop-line.invariant whole r) c.in_default.ensures)
 
 pub returns-then-is_empty : goal.returns-then-is_empty
 returns-then-is_empty c = λ whole r.
@@ -39,6 +40,7 @@ returns-then-not-branch c = λ whole r.
 pub loop-line-preserved : goal.loop-line-preserved
 loop-line-preserved c = λ whole r.
     let line = c.in-Some.line.now in let steps = c.loop-line.trace.steps in
-    let added = some-added _ (step_in c.args.version line) c.in_ok-add_step.field-0 _ _ _ _ c.in_ok-add_step.ensures c.if-not-branch.false in
+    let added = some-added _ (step_in c.args.version line) c.in_ok-add_step.field-0 _ _ _ _ c.in_ok-add_step.ensures
+    c.if-not-branch.false in
     rw (added.2, added.3) (read-more whole c.loop-line.rest.now line _ _ _ steps added.0
     (c.loop-line.invariant whole r) c.in-Some.ensures added.1)

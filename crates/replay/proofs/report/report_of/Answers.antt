@@ -5,7 +5,7 @@ use Rattle.journal.specs.declared.step.Step.{Step}
 use Rattle.replay.proofs.Comparing.{if_ok, reports}
 use Rattle.replay.specs.Report.{starved_line, report_text}
 use Rattle.replay.specs.declared.report.Report.{Report}
-use Rattle.system.specs.Parts.{IsAt}
+use Rattle.system.specs.Halves.{IsAt}
 use Rattle.system.specs.Reads.{table_of, starved_of, contents_of}
 use Rattle.system.specs.System.{SystemView}
 use Rattle.world.specs.World.{World}
@@ -24,7 +24,7 @@ returns c =
     ∙ ap (λ l. l ++ dump_text (contents_of s)) c.new-dump.ensures.items in
     let is_table : IsTable (table_of s) =
     subst (λ (v : SystemView). IsTable (table_of v)) c.system.view_is c.system.invariant.is_table in
-    if_ok c.compared.result _ (λ (report : Report). (h : List Step) (w : World) → IsAt s.parts h w →
+    if_ok c.compared.result _ (λ (report : Report). (h : List Step) (w : World) → IsAt s.halves h w →
     (report.text.items ≡ report_text w) × (report.agree ≡ true))
     (λ report told. reports s c.rows.result.now.rows c.as_slice.result.now c.as_slice-2.result.now report.text.items report.agree
     is_table c.rows.ensures starved dump told) c.compared.ensures

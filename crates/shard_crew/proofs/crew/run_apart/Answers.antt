@@ -1,6 +1,6 @@
 use Rattle.std.proofs.Common.{rules, ◌≡◌, ◌++◌, ◌∷◌, [], length, subst, sym}
 use Rattle.std.specs.List.{AllZip}
-use Rattle.shard_workers.specs.Parts.{HasRunPart}
+use Rattle.shard_workers.specs.Loads.{HasRunLoad}
 use Rattle.shard_workers.proofs.Zips.{zip_push, zip_length, zip_then}
 use Rattle.shard_crew.proofs.crew.run_apart.Goals as goal
 
@@ -17,11 +17,11 @@ unreachable-requires g c =
 
 pub returns : goal.returns
 returns g c =
-    let each : AllZip (HasRunPart c.args.table.now) c.pop.new.self.items c.join_all-all.result.items =
-    zip_then _ _ (HasRunPart c.args.table.now)
-    (λ p h r of ran. subst (λ t. HasRunPart t p r) of.1 (subst (λ q. HasRunPart h.promise.table.value q r) of.0 ran))
+    let each : AllZip (HasRunLoad c.args.table.now) c.pop.new.self.items c.join_all-all.result.items =
+    zip_then _ _ (HasRunLoad c.args.table.now)
+    (λ p h r of ran. subst (λ t. HasRunLoad t p r) of.1 (subst (λ q. HasRunLoad h.promise.table.value q r) of.0 ran))
     _ _ _ c.in-Some-start_all.ensures c.join_all-all.ensures.each in
-    let all = zip_push (HasRunPart c.args.table.now) _ _ c.in-Some.last c.run-mine.result each c.run-mine.ensures in
-    let whole : c.args.parts.items ≡ c.pop.new.self.items ++ c.in-Some.last ∷ [] = search rules in
-    subst (λ l. AllZip (HasRunPart c.args.table.now) l c.push.new.self.items) (sym whole)
-    (subst (AllZip (HasRunPart c.args.table.now) _) (sym c.in-Ok.ensures.items) all)
+    let all = zip_push (HasRunLoad c.args.table.now) _ _ c.in-Some.last c.run-mine.result each c.run-mine.ensures in
+    let whole : c.args.loads.items ≡ c.pop.new.self.items ++ c.in-Some.last ∷ [] = search rules in
+    subst (λ l. AllZip (HasRunLoad c.args.table.now) l c.push.new.self.items) (sym whole)
+    (subst (AllZip (HasRunLoad c.args.table.now) _) (sym c.in-Ok.ensures.items) all)

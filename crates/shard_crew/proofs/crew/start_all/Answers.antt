@@ -5,4 +5,4 @@ use Rattle.shard_workers.proofs.Zips.{none_left}
 use Rattle.shard_crew.proofs.crew.start_all.Goals as goal
 
 pub returns : goal.returns
-returns g c = subst (AllZip _ c.args.parts.items) (append-nil _) (c.loop-part.invariant.0 [] (none_left _ _ (search rules)))
+returns g c = subst (AllZip _ c.args.loads.items) (append-nil _) (c.loop-load.invariant.0 [] (none_left _ _ (search rules)))

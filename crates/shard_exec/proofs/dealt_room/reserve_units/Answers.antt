@@ -20,8 +20,8 @@ loop-number-preserved c =
     subst (AreInLayer (length jobs)) (sym c.unit-unit.ensures) (by_at (AreInLayer (length jobs)) part n [] c.requires inside) in
     let below : get_or u 0 0 < length jobs = by_at (λ i. i < length jobs) u 0 0 places.1 places.0 in
     let fits : HasRoomFor u room = record {
-      no_tasks = made.no_tasks;
-      tasks = made.tasks;
+      no_jobs = made.no_jobs;
+      jobs = made.jobs;
       none_run = made.none_run;
       rans = made.rans;
       no_shards = made.no_shards;

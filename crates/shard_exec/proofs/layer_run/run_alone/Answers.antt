@@ -3,7 +3,7 @@ use Rattle.shard_maps.proofs.PutBack.{works_in_turn}
 use Rattle.shard_exec.specs.Layers.{IsDone}
 use Rattle.shard_exec.specs.declared.done.Ended.{Ended}
 use Rattle.groups.specs.GroupSet.{has}
-use Rattle.shard_workers.specs.declared.task.Task.{Task}
+use Rattle.shard_workers.specs.declared.placed_job.PlacedJob.{PlacedJob}
 use Rattle.shard_exec.proofs.InRow.{alone_done, groups_inside}
 use Rattle.shard_exec.proofs.layer_run.run_alone.Goals as goal
 
@@ -17,7 +17,7 @@ returns-clause-done g c =
 
 pub tell-requires : goal.tell-requires
 tell-requires g c n there =
-    let t : Task = record { place = 0; job = c.args.job; skipped = c.is_named-skipped.result } in
+    let t : PlacedJob = record { place = 0; job = c.args.job; skipped = c.is_named-skipped.result } in
     subst (λ k. n < k) (c.requires.shards ∙ sym c.requires.lasts)
     (groups_inside c.args.table.now c.args.row.now.items t c.requires.is_table c.requires.shards c.requires.own c.requires.groups n
     (ap (λ gs. has gs n) (sym c.run_in_row-ran.ensures.ran.over.on.groups) ∙ there))

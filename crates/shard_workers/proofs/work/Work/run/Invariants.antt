@@ -1,14 +1,14 @@
 use Rattle.std.proofs.Common.{◌+◌, ◌≤◌, length, ◌++◌, vec_capacity}
 use Rattle.std.specs.List.{AllByRecursion}
 use Rattle.shard_workers.specs.Runs.{HaveRunOver}
-use Rattle.shard_workers.specs.Tasks.{IsReadyFor}
+use Rattle.shard_workers.specs.PlacedJobs.{IsReadyFor}
 use Rattle.shard_workers.proofs.work.Work.run.Given as goal
 
 -- what the rest gives, behind what was given so far, is what all requests give
-abbrev pub invariant-loop-task : goal.invariant-loop-task
-invariant-loop-task g l = record {
-  so_far : (rs : _) (after : _) → HaveRunOver l.table l.task-iterator.rest.items l.shards.items rs after
-      → HaveRunOver l.table l.fn.self.tasks.items l.fn.self.shards.items (l.rans.items ++ rs) after;
-  room : length l.rans.items + length l.task-iterator.rest.items ≤ vec_capacity l.rans;
-  ready : AllByRecursion (λ t. IsReadyFor l.table t l.shards.items) l.task-iterator.rest.items;
+abbrev pub invariant-loop-placed : goal.invariant-loop-placed
+invariant-loop-placed g l = record {
+  so_far : (rs : _) (after : _) → HaveRunOver l.table l.placed-iterator.rest.items l.shards.items rs after
+      → HaveRunOver l.table l.fn.self.jobs.items l.fn.self.shards.items (l.rans.items ++ rs) after;
+  room : length l.rans.items + length l.placed-iterator.rest.items ≤ vec_capacity l.rans;
+  ready : AllByRecursion (λ t. IsReadyFor l.table t l.shards.items) l.placed-iterator.rest.items;
 }

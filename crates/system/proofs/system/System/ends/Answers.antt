@@ -7,7 +7,7 @@ use Rattle.system.specs.declared.system.System.TheInside.{Inside}
 use Rattle.system.proofs.system.System.ends.Goals as goal
 
 abbrev was : Inside → SystemView
-was inside = record { max_steps = inside.max_steps; steps = inside.steps; parts = inside.parts }
+was inside = record { max_steps = inside.max_steps; steps = inside.steps; halves = inside.halves }
 
 pub returns : goal.returns
 returns c = record {

@@ -12,7 +12,7 @@ use Rattle.world_laws.specs.Order.{TouchingInStampOrder}
 use Rattle.system.proofs.system.System.order.Goals as goal
 
 abbrev was : Inside → SystemView
-was inside = record { max_steps = inside.max_steps; steps = inside.steps; parts = inside.parts }
+was inside = record { max_steps = inside.max_steps; steps = inside.steps; halves = inside.halves }
 
 -- what holds of every world holds of those that a system shows
 of_its : (P : Layout → World → Type 0) (s : SystemView) → OfEveryWorld P → OfItsWorlds P s

@@ -7,7 +7,7 @@ use Rattle.system.specs.declared.system.System.TheInside.{Inside}
 use Rattle.system.proofs.system.System.run.Goals as goal
 
 abbrev was : Inside → SystemView
-was inside = record { max_steps = inside.max_steps; steps = inside.steps; parts = inside.parts }
+was inside = record { max_steps = inside.max_steps; steps = inside.steps; halves = inside.halves }
 
 none_left : (steps : List Step) → length steps ≡ 0 → steps ≡ []
 none_left [] none = refl

@@ -2,16 +2,16 @@ use Rattle.std.proofs.Common.{◌+◌, refl, sym, subst}
 use Rattle.placement.specs.Layout.{IsTable}
 use Rattle.system.proofs.Lasting.{obeys, lives, made_so, goes_on, Leaves, leaves, table_left, stays, refused_so}
 use Rattle.system.specs.System.{SystemView, IsStep, MayGoOn, IsRefused, ObeysOneThread}
-use Rattle.system.specs.declared.parts.Parts.{Parts}
+use Rattle.system.specs.declared.halves.Halves.{Halves}
 use Rattle.system.specs.declared.system.System.TheInside.{Inside}
 use Rattle.system.proofs.system.System.step.Goals as goal
 
--- what the system was, and what it is where these are its parts
+-- what the system was, and what it is where these are its halves
 abbrev was : Inside → SystemView
-was inside = record { max_steps = inside.max_steps; steps = inside.steps; parts = inside.parts }
+was inside = record { max_steps = inside.max_steps; steps = inside.steps; halves = inside.halves }
 
-abbrev with_parts : Inside → Parts → SystemView
-with_parts inside parts = record { max_steps = inside.max_steps; steps = inside.steps; parts = parts }
+abbrev with_halves : Inside → Halves → SystemView
+with_halves inside halves = record { max_steps = inside.max_steps; steps = inside.steps; halves = halves }
 
 pub returns-in-Some-clause-refused : goal.returns-in-Some-clause-refused
 returns-in-Some-clause-refused g c = c.in-Some.ensures.some (g.W.Workers.may_refuse c.args.workers.now) c.args.step
@@ -35,37 +35,37 @@ invariant_of-self g c =
 pub invariant_of-self-in-Err : goal.invariant_of-self-in-Err
 invariant_of-self-in-Err g c =
     let told = c.in-Err.ensures in
-    stays (was c.self.inside) (with_parts c.self.inside c.make.new.self) c.self.invariant refl refl
-    (leaves c.in-Err.fault c.self.inside.parts c.make.new.self (λ other. (told.fault other).1) (λ failed. (told.failed failed).1))
+    stays (was c.self.inside) (with_halves c.self.inside c.make.new.self) c.self.invariant refl refl
+    (leaves c.in-Err.fault c.self.inside.halves c.make.new.self (λ other. (told.fault other).1) (λ failed. (told.failed failed).1))
 
 pub returns-in-Ok-clause-made : goal.returns-in-Ok-clause-made
 returns-in-Ok-clause-made g c =
     let old = was c.self.inside in
     let may = subst MayGoOn (sym c.self.view_is) c.in_default.ensures.none in
     subst (λ s. IsStep s c.args.step c.in-Ok.effect
-    (record { max_steps = c.self.inside.max_steps; steps = c.self.inside.steps + 1; parts = c.make.new.self }))
+    (record { max_steps = c.self.inside.max_steps; steps = c.self.inside.steps + 1; halves = c.make.new.self }))
     c.self.view_is
     (made_so old c.args.step c.in-Ok.effect c.make.new.self c.self.invariant may.lives may.left
     c.in-Ok.ensures.made)
 
 pub returns-in-Ok-clause-one_thread : goal.returns-in-Ok-clause-one_thread
 returns-in-Ok-clause-one_thread g c =
-    obeys (with_parts c.self.inside c.make.new.self) (subst IsTable (sym c.in-Ok.ensures.made.table) c.self.invariant.is_table)
+    obeys (with_halves c.self.inside c.make.new.self) (subst IsTable (sym c.in-Ok.ensures.made.table) c.self.invariant.is_table)
 
 pub returns-in-Err-clause-refused : goal.returns-in-Err-clause-refused
 returns-in-Err-clause-refused g c =
     let told = c.in-Err.ensures in
     let may = subst MayGoOn (sym c.self.view_is) c.in_default.ensures.none in
     subst (λ s. IsRefused (g.W.Workers.may_refuse c.args.workers.now) s c.args.step c.in-Err.fault
-    (with_parts c.self.inside c.make.new.self)) c.self.view_is
+    (with_halves c.self.inside c.make.new.self)) c.self.view_is
     (refused_so (g.W.Workers.may_refuse c.args.workers.now) (was c.self.inside)
-    (with_parts c.self.inside c.make.new.self) c.args.step c.in-Err.fault
+    (with_halves c.self.inside c.make.new.self) c.args.step c.in-Err.fault
     may.lives may.left refl refl told.fault told.failed)
 
 pub returns-in-Err-clause-one_thread : goal.returns-in-Err-clause-one_thread
 returns-in-Err-clause-one_thread g c =
     let told = c.in-Err.ensures in
-    let left : Leaves c.self.inside.parts c.make.new.self =
-    leaves c.in-Err.fault c.self.inside.parts c.make.new.self (λ other. (told.fault other).1) (λ failed. (told.failed failed).1) in
-    obeys (with_parts c.self.inside c.make.new.self)
-    (subst IsTable (sym (table_left c.self.inside.parts c.make.new.self left)) c.self.invariant.is_table)
+    let left : Leaves c.self.inside.halves c.make.new.self =
+    leaves c.in-Err.fault c.self.inside.halves c.make.new.self (λ other. (told.fault other).1) (λ failed. (told.failed failed).1) in
+    obeys (with_halves c.self.inside c.make.new.self)
+    (subst IsTable (sym (table_left c.self.inside.halves c.make.new.self left)) c.self.invariant.is_table)

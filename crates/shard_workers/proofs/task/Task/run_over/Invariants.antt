@@ -1,6 +1,0 @@
-use Rattle.shard_maps.specs.Joined.{numbers}
-use Rattle.shard_workers.proofs.task.Task.run_over.Given as goal
-
--- the shards that the request has, placed by its table
-abbrev pub ghosts-run_on_all : goal.ghosts-run_on_all
-ghosts-run_on_all g a = record { layout = a.table; groups = numbers a.shards.items }

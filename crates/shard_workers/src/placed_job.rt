@@ -1,0 +1,149 @@
+//! One request, over whatever keyspace has the keys of its command.
+
+ghost use Rattle.std.specs.Prelude.{◌≡◌, All, IsTrue, length};
+ghost use Rattle.shard_maps.specs.Joined.{numbers, union};
+ghost use Rattle.tasks.specs.Tasks.{task_keys};
+ghost use Rattle.shard_workers.specs.PlacedJobs.{HasRunOn, IsReadyFor, HasRunOver, first_map};
+ghost use Rattle.shards.specs.Spans.{IsSpan, lies_on};
+
+use crate::Gate;
+use command_bodies::answer;
+use groups::{GroupId, Groups, RequestId, Stamp};
+use keyspace::Keyspace;
+use layer_planner::Job;
+use packing::PackedRequest;
+use placement::Table;
+use resp::Answered;
+use shards::{Shard, Span, SpanFrame};
+use std::alloc::Global;
+use std::marker::Brand;
+
+/// A request that is to be run, or skipped, with its place in the layer.
+#[derive(Drop)]
+pub struct PlacedJob {
+    pub place: usize,
+    pub job: Job,
+    pub skipped: bool,
+}
+
+/// A request that was run, skipped or starved, with its place in the layer and its words. There is a reply where it was run,
+/// with its text where that is long.
+#[derive(Drop)]
+pub struct JobRan {
+    pub place: usize,
+    pub id: RequestId,
+    pub stamp: Stamp,
+    pub groups: Groups,
+    pub words: PackedRequest,
+    pub reply: Option<Answered>,
+}
+
+impl PlacedJob {
+    /// The groups that the request addresses.
+    pub fn groups(&self) -> Groups
+        ensures { result ≡ self.now.job.groups }
+    {
+        self.job.groups
+    }
+
+    /// Runs the request over a keyspace that covers its command's keys, unless it is to be skipped. The command is used up,
+    /// and the words are kept. The gate is told only of what is run.
+    pub fn run<K: Keyspace>(
+        self,
+        alloc: Global,
+        keyspace: &mut K,
+        gate: &(dyn Gate + Sync),
+    ) -> JobRan
+        requires { All (λ key. IsTrue (K.covered keyspace.old key)) (task_keys self.job.asked.command) }
+        ensures ran { HasRunOn self (K.contents keyspace.old) result (K.contents keyspace.new) }
+        ensures covers { K.covered keyspace.new ≡ K.covered keyspace.old }
+    {
+        let PlacedJob {
+            place,
+            job,
+            skipped,
+        } = self;
+        let Job {
+            id,
+            stamp,
+            groups,
+            asked,
+        } = job;
+        let (words, command) = asked.into_parts();
+        if skipped {
+            return JobRan {
+                place,
+                id,
+                stamp,
+                groups,
+                words,
+                reply: None,
+            };
+        }
+        gate.enter(id);
+        let outcome = answer(alloc, keyspace, command);
+        gate.leave(id);
+        JobRan {
+            place,
+            id,
+            stamp,
+            groups,
+            words,
+            reply: outcome.ok(),
+        }
+    }
+
+    /// Runs the request over the shards of its groups, and gives them back: over the shard itself where it is one, else
+    /// over all as one keyspace.
+    pub fn run_over(
+        self,
+        alloc: Global,
+        table: &Table,
+        shards: Vec<(GroupId, Shard)>,
+        gate: &(dyn Gate + Sync),
+    ) -> (JobRan, Vec<(GroupId, Shard)>)
+        requires { IsReadyFor table.now self shards.items }
+        ensures { HasRunOver table.now self shards.items result.0 result.1.items }
+    {
+        if shards.len() == 1 {
+            return run_on_one(alloc, shards, self, gate);
+        }
+        run_on_all::<Brand>(alloc, *table, shards, self, gate)
+    }
+}
+
+/// Runs a request over the one shard that is there.
+fn run_on_one(
+    alloc: Global,
+    shards: Vec<(GroupId, Shard)>,
+    placed: PlacedJob,
+    gate: &(dyn Gate + Sync),
+) -> (JobRan, Vec<(GroupId, Shard)>)
+    requires { length shards.items ≡ 1 }
+    ensures number { numbers result.1.items ≡ numbers shards.items }
+    ensures ran { HasRunOn placed (first_map shards.items) result.0 (first_map result.1.items) }
+{
+    let mut shards = shards;
+    let shard = &mut shards[0].1;
+    let ran = placed.run(alloc, shard, gate);
+    (ran, shards)
+}
+
+/// Runs a request over these shards as one keyspace.
+fn run_on_all<F: SpanFrame>(
+    alloc: Global,
+    table: Table,
+    shards: Vec<(GroupId, Shard)>,
+    placed: PlacedJob,
+    gate: &(dyn Gate + Sync),
+) -> (JobRan, Vec<(GroupId, Shard)>)
+    requires table { table ≡ F.layout }
+    requires shards { IsSpan F.layout F.groups shards.items }
+    requires keys { All (λ key. IsTrue (lies_on F.layout F.groups key)) (task_keys placed.job.asked.command) }
+    ensures shards { IsSpan F.layout F.groups result.1.items }
+    ensures ran { HasRunOn placed (union shards.items) result.0 (union result.1.items) }
+{
+    let mut span: Span<F> = Span::new(table, shards);
+    let ran = placed.run(alloc, &mut span, gate);
+    (ran, span.into_shards())
+}

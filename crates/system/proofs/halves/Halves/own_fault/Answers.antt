@@ -1,0 +1,75 @@
+use Rattle.std.proofs.Common.{sym, subst}
+use Rattle.std.specs.Prelude.{IfSome, IfNone}
+use Rattle.system.proofs.Fronting.{some_of, none_of}
+use Rattle.system.specs.Refusing.{IsFault, RefusesNot}
+use Rattle.system.proofs.halves.Halves.own_fault.Goals as goal
+
+pub returns-in-Submit-clause-some : goal.returns-in-Submit-clause-some
+returns-in-Submit-clause-some c =
+    subst (λ s. IfSome c.submit_fault.result (IsFault c.args.self.now s)) (sym c.in-Submit.is)
+    (some_of _ _ c.submit_fault.result (λ fault why. why c.in-Submit.words) c.submit_fault.ensures.some)
+
+pub returns-in-Submit-clause-none : goal.returns-in-Submit-clause-none
+returns-in-Submit-clause-none c =
+    subst (λ s. IfNone c.submit_fault.result (RefusesNot c.args.self.now s)) (sym c.in-Submit.is)
+    (none_of c.submit_fault.result (λ none. none c.in-Submit.words) c.submit_fault.ensures.none)
+
+pub returns-in-Deliver-clause-some : goal.returns-in-Deliver-clause-some
+returns-in-Deliver-clause-some c =
+    subst (λ s. IfSome c.deliver_fault.result (IsFault c.args.self.now s)) (sym c.in-Deliver.is)
+    c.deliver_fault.ensures.some
+
+pub returns-in-Deliver-clause-none : goal.returns-in-Deliver-clause-none
+returns-in-Deliver-clause-none c =
+    subst (λ s. IfNone c.deliver_fault.result (RefusesNot c.args.self.now s)) (sym c.in-Deliver.is)
+    c.deliver_fault.ensures.none
+
+pub returns-in-Take-clause-some : goal.returns-in-Take-clause-some
+returns-in-Take-clause-some c =
+    subst (λ s. IfSome c.take_fault.result (IsFault c.args.self.now s)) (sym c.in-Take.is)
+    c.take_fault.ensures.some
+
+pub returns-in-Take-clause-none : goal.returns-in-Take-clause-none
+returns-in-Take-clause-none c =
+    subst (λ s. IfNone c.take_fault.result (RefusesNot c.args.self.now s)) (sym c.in-Take.is)
+    c.take_fault.ensures.none
+
+pub returns-in-Run-clause-some : goal.returns-in-Run-clause-some
+returns-in-Run-clause-some c =
+    subst (λ s. IfSome c.run_fault.result (IsFault c.args.self.now s)) (sym c.in-Run.is)
+    (some_of _ _ c.run_fault.result (λ fault why. why c.in-Run.starved) c.run_fault.ensures.some)
+
+pub returns-in-Run-clause-none : goal.returns-in-Run-clause-none
+returns-in-Run-clause-none c =
+    subst (λ s. IfNone c.run_fault.result (RefusesNot c.args.self.now s)) (sym c.in-Run.is)
+    (none_of c.run_fault.result (λ none. none c.in-Run.starved) c.run_fault.ensures.none)
+
+pub returns-in-Settle-clause-some : goal.returns-in-Settle-clause-some
+returns-in-Settle-clause-some c =
+    subst (λ s. IfSome c.settle_fault.result (IsFault c.args.self.now s)) (sym c.in-Settle.is)
+    c.settle_fault.ensures.some
+
+pub returns-in-Settle-clause-none : goal.returns-in-Settle-clause-none
+returns-in-Settle-clause-none c =
+    subst (λ s. IfNone c.settle_fault.result (RefusesNot c.args.self.now s)) (sym c.in-Settle.is)
+    c.settle_fault.ensures.none
+
+pub returns-in-Collect-clause-some : goal.returns-in-Collect-clause-some
+returns-in-Collect-clause-some c =
+    subst (λ s. IfSome c.collect_fault.result (IsFault c.args.self.now s)) (sym c.in-Collect.is)
+    (some_of _ _ c.collect_fault.result (λ fault why. why.0) c.collect_fault.ensures.some)
+
+pub returns-in-Collect-clause-none : goal.returns-in-Collect-clause-none
+returns-in-Collect-clause-none c =
+    subst (λ s. IfNone c.collect_fault.result (RefusesNot c.args.self.now s)) (sym c.in-Collect.is)
+    (none_of c.collect_fault.result (λ none. none.0) c.collect_fault.ensures.none)
+
+pub returns-in-Close-clause-some : goal.returns-in-Close-clause-some
+returns-in-Close-clause-some c =
+    subst (λ s. IfSome c.collect_fault-in-Close.result (IsFault c.args.self.now s)) (sym c.in-Close.is)
+    (some_of _ _ c.collect_fault-in-Close.result (λ fault why. why.1) c.collect_fault-in-Close.ensures.some)
+
+pub returns-in-Close-clause-none : goal.returns-in-Close-clause-none
+returns-in-Close-clause-none c =
+    subst (λ s. IfNone c.collect_fault-in-Close.result (RefusesNot c.args.self.now s)) (sym c.in-Close.is)
+    (none_of c.collect_fault-in-Close.result (λ none. none.1) c.collect_fault-in-Close.ensures.none)
