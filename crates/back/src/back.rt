@@ -109,6 +109,14 @@ impl Back {
         mem::replace(&mut self.last, Done::none(self.alloc))
     }
 
+    /// Takes the room for so many more rows, so that the layers of so many requests find theirs. The only error is want of
+    /// memory.
+    pub fn reserve(&mut self, rows: usize) -> Result<(), AllocError>
+        ensures { self.new ≡ self.old }
+    {
+        self.rows.reserve(rows)
+    }
+
     /// The rows of what was executed, in the order of execution.
     pub fn rows(&self) -> &Rows
         ensures { result.now.rows ≡ self.now.rows }

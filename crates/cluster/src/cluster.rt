@@ -48,6 +48,10 @@ use thiserror::Error;
 /// How many bytes a Close takes in the trace at most.
 const GREATEST_CLOSE: usize = 10;
 
+/// For how many bytes there is room in the trace beyond those that are there when a request is let in, so that the steps by
+/// which the requests under way come to their end find theirs without memory, as long as they are no more than that.
+const BYTES_AHEAD: usize = 64 * 1024;
+
 /// What is known of a connection's requests: how many it has submitted, and where in the trace's bytes the last Submit
 /// begins.
 #[derive(Clone, Copy, Debug)]
@@ -356,7 +360,7 @@ impl<L: Ledger> Cluster<L> {
             seat.conn,
             seat.count,
             words,
-            self.kept,
+            self.kept.saturating_add(BYTES_AHEAD),
         ) {
             Ok(id) => id,
             Err(fault) => return Err(fault),

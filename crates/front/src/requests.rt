@@ -14,8 +14,13 @@ use groups::{ConnId, RequestId};
 use resp::Request;
 use router::{Router, SubmitFault};
 
+/// For how many rows there is room beyond those that are there when a request is let in, so that the requests that are under
+/// way find theirs without memory, as long as they are no more than that.
+const ROWS_AHEAD: usize = 64;
+
 impl Front {
-    /// A connection submits a request of these words, and has its id; a Start goes to each of the request's groups.
+    /// A connection submits a request of these words, and has its id; a Start goes to each of the request's groups. A request is
+    /// let in only where there is room for more rows than its own.
     ///
     /// Errors, with nothing changed: `NoConn`, the connection isn't open; `Busy`, it hasn't collected the outcome of its last
     /// request; `Memory`.
@@ -26,9 +31,9 @@ impl Front {
         ensures unchanged { OnErr result (self.new ≡ self.old) }
     {
         let groups = usize::from(self.table.shards());
-        let Ok(()) = self.multicast.reserve(groups) else {
+        if self.multicast.reserve(groups).is_err() || self.rows.reserve(ROWS_AHEAD).is_err() {
             return Err(FrontFault::from(unsent(&self.router, conn)));
-        };
+        }
         let sent = match self.router.submit(&self.table, conn, words) {
             Ok(sent) => sent,
             Err(refused) => return Err(FrontFault::from(refused)),

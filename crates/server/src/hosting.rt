@@ -25,8 +25,12 @@ use std::random::RandomSource;
 use std::rt::Files;
 use std::sync::Wait;
 use std::sync::ledger::{Blank, Ledger};
-use std::thread::{self, Threads};
+use std::thread::{self, Builder, Threads};
 use std::time::Clock;
+
+/// How large the stack is of the thread that brings packets: it calls nothing that goes deep, and under a limit of address
+/// space a stack of the usual 8 MiB would take the place of a connection.
+const CARRIER_STACK: usize = 256 * 1024;
 
 /// Serves as many connections as the options say, and gives the program's status.
 ///
@@ -205,10 +209,15 @@ where
             };
             carry_packets(rt, &service);
         };
-        if drives && (scope.spawn(driver).is_err() || scope.spawn(carrier).is_err()) {
+        if drives && scope.spawn(driver).is_err() {
             faults.meet(rt, HostFault::Thread);
             shared.shut(rt);
             return 0;
+        }
+        if drives {
+            // Where it can't be started, those who make turns bring the packets.
+            let builder = Builder::new().stack_size(CARRIER_STACK);
+            let _ = builder.spawn_scoped(scope, carrier);
         }
         let taking = scope.spawn(move || {
             let service = Service {

@@ -33,7 +33,7 @@ ghost use Rattle.journal.specs.declared.trace.TheConstants.{GREATEST_STEPS};
 
 use crate::fault::CloseFault;
 use crate::hand::{Hand, Run, run_layer};
-use crate::held::{AskFault, AtRest, Held, Next, RESERVE, Unsettled};
+use crate::held::{AskFault, AtRest, Held, Next, RESERVE, ROWS_AHEAD, Unsettled};
 use crate::long_work::takes_long;
 use back::Back;
 use cluster::{Answer, Closing, Cluster, First, Pick, SealedReply, Seat};
@@ -516,22 +516,26 @@ impl<L: Ledger> Shared<L> {
         let mut held = self.front.lock(rt);
         // They come to the lock once it is let go.
         self.wake_outcomes(&done);
-        let unsettled = match held.settle(done) {
+        let settled = match held.settle(done) {
+            // What was kept back is there now.
+            Err(Unsettled::Starved(done)) => held.settle(done),
+            settled => settled,
+        };
+        match settled {
             Ok(()) => {
                 self.wake_next(&held);
-                return Ok(Turn::Made { settled: true });
+                Ok(Turn::Made { settled: true })
             }
-            Err(unsettled) => unsettled,
-        };
-        let done = match unsettled {
-            Unsettled::Starved(done) => done,
-            Unsettled::Foreign(fault) => return Err(fault),
-        };
-        *hand = Hand::HasRun(done);
-        Ok(Turn::Starved)
+            Err(Unsettled::Starved(done)) => {
+                *hand = Hand::HasRun(done);
+                Ok(Turn::Starved)
+            }
+            Err(Unsettled::Foreign(fault)) => Err(fault),
+        }
     }
 
-    /// Runs the layer, under the store's lock alone. It stays in the hand where there is no memory for that.
+    /// Runs the layer, under the store's lock alone. Where there is no memory for that it is tried once more, with what is kept
+    /// back; and where there is none then, the layer stays in the hand.
     fn run<W: Workers, R: Wait>(
         &self,
         rt: &R,
@@ -543,9 +547,10 @@ impl<L: Ledger> Shared<L> {
         ensures refused { IfErr result IsStopped }
         ensures free { OnErr result (hand.new ≡ hand.old) }
     {
-        let mut back = self.back.lock(rt);
-        let run = run_layer(&mut back, layer, workers, gate);
-        drop(back);
+        let run = match self.run_in_store(rt, layer, workers, gate) {
+            Run::Starved(layer) => self.run_in_store(rt, layer, workers, gate),
+            run => run,
+        };
         match run {
             Run::Handed(done) => {
                 *hand = Hand::HasRun(done);
@@ -553,19 +558,43 @@ impl<L: Ledger> Shared<L> {
             }
             Run::Starved(layer) => {
                 *hand = Hand::Taken(layer);
-                self.front.lock(rt).let_reserve_go();
                 Ok(Turn::Starved)
             }
             Run::Refused(why) => Err(self.front.lock(rt).stop(why)),
         }
     }
 
-    /// Takes the next layer into the hand, which is free; else brings a packet to its group.
+    /// Runs the layer, under the store's lock alone, and takes the room for the rows of those behind it. Where there is no memory
+    /// for the one or the other, what is kept back is let go, so that no one submits before there is some again.
+    fn run_in_store<W: Workers, R: Wait>(
+        &self,
+        rt: &R,
+        layer: Layer,
+        workers: &W,
+        gate: &(dyn Gate + Sync),
+    ) -> Run {
+        let mut back = self.back.lock(rt);
+        let run = run_layer(&mut back, layer, workers, gate);
+        let has_room = back.reserve(ROWS_AHEAD).is_ok();
+        drop(back);
+        if !has_room || matches!(run, Run::Starved(_)) {
+            self.front.lock(rt).let_reserve_go();
+        }
+        run
+    }
+
+    /// Takes the next layer into the hand, which is free; else brings a packet to its group. Where there is no memory for that it is
+    /// tried once more, with what is kept back.
     fn begin<P: Pick, R: Wait>(&self, rt: &R, hand: &mut Hand, pick: &P) -> Result<Turn, AskFault>
         ensures refused { IfErr result IsStopped }
         ensures free { OnErr result (hand.new ≡ hand.old) }
     {
-        match self.front.lock(rt).turn(pick) {
+        let mut held = self.front.lock(rt);
+        let next = match held.turn(pick) {
+            Ok(Next::Starved) => held.turn(pick),
+            next => next,
+        };
+        match next {
             Ok(Next::Taken(layer)) => {
                 *hand = Hand::Taken(layer);
                 Ok(Turn::Made { settled: false })
