@@ -143,7 +143,7 @@ impl<L: Ledger> Shared<L> {
         ensures refused { IfErr result (λ fault. IsAskFault seat.old words fault seat.new) }
     {
         match self.submit(rt, seat, words) {
-            Ok(()) => {
+            Ok(_) => {
                 self.wake_workers();
                 self.wait(rt, seat)
             }
@@ -163,7 +163,7 @@ impl<L: Ledger> Shared<L> {
         ensures refused { IfErr result (λ fault. IsAskFault seat.old words fault seat.new) }
     {
         match self.submit(rt, seat, words) {
-            Ok(()) => self.turn_until_replied(rt, seat),
+            Ok(may_wait) => self.turn_until_replied(rt, seat, may_wait),
             Err(fault) => Err(fault),
         }
     }
@@ -278,13 +278,22 @@ impl<L: Ledger> Shared<L> {
         held.close(&back)
     }
 
-    /// Submits a request of these words.
-    fn submit<R: Wait>(&self, rt: &R, seat: &mut Seat<L>, words: Request) -> Result<(), AskFault>
+    /// Submits a request of these words. Says whether what came of it waits at once, as that of a refused one does.
+    fn submit<R: Wait>(
+        &self,
+        rt: &R,
+        seat: &mut Seat<L>,
+        words: Request,
+    ) -> Result<bool, AskFault>
         ensures submitted { OnOk result (seat.new ≡ submitted seat.old words) }
         ensures refused { IfErr result (IsSubmitFault seat.old words) }
         ensures unchanged { OnErr result (seat.new ≡ seat.old) }
     {
-        self.front.lock(rt).submit(seat, words)
+        let mut held = self.front.lock(rt);
+        match held.submit(seat, words) {
+            Ok(()) => Ok(held.cluster.front().waits(seat.conn()).is_some()),
+            Err(fault) => Err(fault),
+        }
     }
 
     /// Waits until what came of the seat's last request is there.
@@ -314,18 +323,20 @@ impl<L: Ledger> Shared<L> {
         unreachable!()
     }
 
-    /// Makes turns until what came of the seat's last request is there. It is collected by a hand that is free.
+    /// Makes turns until what came of the seat's last request is there. It is collected by a hand that is free, and looked for at
+    /// once where it may wait.
     fn turn_until_replied<R: Wait + Clock>(
         &self,
         rt: &R,
         seat: &mut Seat<L>,
+        may_wait: bool,
     ) -> Result<SealedReply, AskFault>
         ensures replied { IfOk result (λ r. IsReplied seat.old (content r.reply) seat.new) }
         ensures refused { IfErr result (IsCollectFault seat.old) }
         ensures unchanged { OnErr result (seat.new ≡ seat.old) }
     {
         let mut hand = Hand::Free;
-        let mut may_wait = true;
+        let mut may_wait = may_wait;
         let mut pause = Pause::new();
         for _ in rt.forever() {
             match self.turn_or_collect(rt, seat, &mut hand, &mut may_wait, &mut pause) {
