@@ -279,12 +279,7 @@ impl<L: Ledger> Shared<L> {
     }
 
     /// Submits a request of these words. Says whether what came of it waits at once, as that of a refused one does.
-    fn submit<R: Wait>(
-        &self,
-        rt: &R,
-        seat: &mut Seat<L>,
-        words: Request,
-    ) -> Result<bool, AskFault>
+    fn submit<R: Wait>(&self, rt: &R, seat: &mut Seat<L>, words: Request) -> Result<bool, AskFault>
         ensures submitted { OnOk result (seat.new ≡ submitted seat.old words) }
         ensures refused { IfErr result (IsSubmitFault seat.old words) }
         ensures unchanged { OnErr result (seat.new ≡ seat.old) }
