@@ -157,12 +157,23 @@ def served(program, table, limit, workers, load):
         return faults
 
 
+def let_in(port):
+    """A client that the server lets in: those before it have left, and their threads end within a second."""
+    for _ in range(20):
+        client = Client(port, timeout=10.0)
+        if answered(lambda: client.ask(b"ECHO", b"in")) == b"in":
+            return client
+        client.close()
+        time.sleep(0.1)
+    raise Ended
+
+
 def afterwards(server, port):
     """The server goes on, and does nothing where it isn't asked."""
     if server.poll() is not None:
         return [f"ended by {server.returncode}"]
     try:
-        client = Client(port, timeout=10.0)
+        client = let_in(port)
         right = sum(client.ask(b"ECHO", b"%d" % i) == b"%d" % i for i in range(50))
         right += sum(client.ask(b"EXISTS", b"nothing") == b":0" for _ in range(50))
         client.close()

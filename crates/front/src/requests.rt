@@ -16,7 +16,7 @@ use router::{Router, SubmitFault};
 
 /// For how many rows there is room beyond those that are there when a request is let in, so that the requests that are under
 /// way find theirs without memory, as long as they are no more than that.
-const ROWS_AHEAD: usize = 64;
+const ROWS_AHEAD: usize = 256;
 
 impl Front {
     /// A connection submits a request of these words, and has its id; a Start goes to each of the request's groups. A request is

@@ -58,18 +58,19 @@ impl AskFault {
 pub(crate) const RESERVE: usize = 256 * 1024;
 
 /// For how many rows the store has room beyond those that are there, so that the layers of the requests under way find theirs.
-pub(crate) const ROWS_AHEAD: usize = 64;
+pub(crate) const ROWS_AHEAD: usize = 256;
 
 /// A cluster, whether it is shut: then no one sits or asks any more; and whether it is stopped, since a layer was refused for
 /// good: then no step is made any more, but for the Closes of connections.
 ///
 /// Beside it memory is kept back. A turn that finds none lets it go, so that what is under way comes to its end; and no
-/// one sits or submits before it is taken again.
+/// one sits or submits before it is taken again, nor while the store has no room for rows ahead.
 #[derive(Drop)]
 pub(crate) struct Held<L: Ledger> {
     pub cluster: Cluster<L>,
     pub shut: bool,
     pub stopped: bool,
+    pub store_is_short: bool,
     pub reserve: Vec<u8>,
 }
 
@@ -179,11 +180,13 @@ impl<L: Ledger> Held<L> {
         }
     }
 
-    /// Takes the memory again that is kept back for turns, where it was let go. Says whether there is none for it.
+    /// Takes the memory again that is kept back for turns, where it was let go. Says whether there is none for it, or the store has
+    /// no room ahead.
     fn is_short(&mut self) -> bool
         ensures { (self.new.cluster ≡ self.old.cluster) × (self.new.shut ≡ self.old.shut) × (self.new.stopped ≡ self.old.stopped) }
     {
-        self.reserve.capacity() < RESERVE && self.reserve.reserve(RESERVE).is_err()
+        self.store_is_short
+            || (self.reserve.capacity() < RESERVE && self.reserve.reserve(RESERVE).is_err())
     }
 
     /// What came of the seat's last request, with its words, if it is there. A want of memory is no refusal: it is not

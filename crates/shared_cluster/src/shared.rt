@@ -31,7 +31,7 @@ ghost use Rattle.shared_cluster.specs.Closings.{IsClosed, IsCloseFault, IsWritte
 ghost use Rattle.shared_cluster.specs.declared.hand.Hand.{Hand};
 ghost use Rattle.journal.specs.declared.trace.TheConstants.{GREATEST_STEPS};
 
-use crate::fault::CloseFault;
+use crate::fault::{CloseFault, FaultKind};
 use crate::hand::{Hand, Run, run_layer};
 use crate::held::{AskFault, AtRest, Held, Next, RESERVE, ROWS_AHEAD, Unsettled};
 use crate::long_work::takes_long;
@@ -106,6 +106,7 @@ impl<L: Ledger> Shared<L> {
                 cluster,
                 shut: false,
                 stopped: false,
+                store_is_short: false,
                 reserve,
             }),
             back: Mutex::new(back),
@@ -122,7 +123,11 @@ impl<L: Ledger> Shared<L> {
         ensures seat { IfOk result IsNewSeat }
         ensures refused { IfErr result IsSitFault }
     {
-        self.front.lock(rt).sit()
+        let seat = self.front.lock(rt).sit();
+        if let Err(fault) = &seat {
+            self.look_for_room(rt, fault.kind());
+        }
+        seat
     }
 
     /// What the connections that make their own turns pass one at a time.
@@ -287,7 +292,18 @@ impl<L: Ledger> Shared<L> {
         let mut held = self.front.lock(rt);
         match held.submit(seat, words) {
             Ok(()) => Ok(held.cluster.front().waits(seat.conn()).is_some()),
-            Err(fault) => Err(fault),
+            Err(fault) => {
+                drop(held);
+                self.look_for_room(rt, fault.kind());
+                Err(fault)
+            }
+        }
+    }
+
+    /// Where someone was refused for want of memory: has the store look for room ahead, so that the next one isn't if there is some.
+    fn look_for_room<R: Wait>(&self, rt: &R, refused: FaultKind) {
+        if refused == FaultKind::Memory && self.back.lock(rt).reserve(ROWS_AHEAD).is_ok() {
+            self.front.lock(rt).store_is_short = false;
         }
     }
 
@@ -571,7 +587,7 @@ impl<L: Ledger> Shared<L> {
     }
 
     /// Runs the layer, under the store's lock alone, and takes the room for the rows of those behind it. Where there is no memory
-    /// for the one or the other, what is kept back is let go, so that no one submits before there is some again.
+    /// for the one, what is kept back is let go; and where there is none for the other, no one submits before there is some.
     fn run_in_store<W: Workers, R: Wait>(
         &self,
         rt: &R,
@@ -583,7 +599,10 @@ impl<L: Ledger> Shared<L> {
         let run = run_layer(&mut back, layer, workers, gate);
         let has_room = back.reserve(ROWS_AHEAD).is_ok();
         drop(back);
-        if !has_room || matches!(run, Run::Starved(_)) {
+        if !has_room {
+            self.front.lock(rt).store_is_short = true;
+        }
+        if let Run::Starved(_) = &run {
             self.front.lock(rt).let_reserve_go();
         }
         run
