@@ -1,5 +1,5 @@
 -- The groups by their numbers.
-use Rattle.std.proofs.Common.{◌≡◌, ℕ, zero, suc, ◌<◌, ◌≤◌, ◌==◌, Bool, true, false, cond, List, ◌++◌}
+use Rattle.std.proofs.Common.{◌≡◌, ℕ, zero, suc, ◌<◌, ◌≤◌, ◌==◌, Bool, true, false, cond, List}
 use Rattle.std.proofs.Common.{[], ◌∷◌, length, slice_get, slice_set}
 use Rattle.std.proofs.Common.{slice_index_or, Option, Some, None, inl, inr, refl, sym, ap, ◌∙◌, arith, eq-eqb, eqb-true, ne_eqb}
 use Rattle.std.proofs.lemmas.Bool.{cases_lt, cases_Bool, both_ways}
@@ -23,22 +23,6 @@ pub beyond : {X : Type 0} (xs : List X) (g : ℕ) (d : X) → length xs ≤ g �
 beyond [] g d h = refl
 beyond (y ∷ ys) zero d h = absurd (omega arith)
 beyond (y ∷ ys) (suc g) d h = beyond ys g d (omega arith)
-
--- one more, which is what its place says
-pub each_and_next : {X : Type 0} (f : ℕ → X) (xs : List X) (x : X) → x ≡ f (length xs)
-    → ((g : ℕ) → g < length xs → slice_get xs g ≡ Some (f g))
-    → (g : ℕ) → g < length (xs ++ x ∷ []) → slice_get (xs ++ x ∷ []) g ≡ Some (f g)
-each_and_next f [] x e each zero low = ap Some e
-each_and_next f [] x e each (suc g) low = absurd (omega arith)
-each_and_next f (y ∷ ys) x e each zero low = each zero (omega arith)
-each_and_next f (y ∷ ys) x e each (suc g) low =
-    each_and_next (λ n. f (suc n)) ys x e (λ h less. each (suc h) (omega arith)) g (omega arith)
-
-pub is_new : (v : GroupView) (n : ℕ) → v.me ≡ n → v.state ≡ fresh → v.looks ≡ 0 → v ≡ new_group n
-is_new v n me state looks =
-    ap (λ m. record { me = m; state = v.state; looks = v.looks }) me
-    ∙ ap (λ s. record { me = n; state = s; looks = v.looks }) state
-    ∙ ap (λ l. record { me = n; state = fresh; looks = l }) looks
 
 -- groups that are all new
 pub all_fresh : (gs : List GroupView) → ((g : ℕ) → g < length gs → slice_get gs g ≡ Some (new_group g)) → (g : ℕ)

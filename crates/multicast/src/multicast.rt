@@ -1,6 +1,6 @@
 //! The groups, their packets and their queues, as one.
 
-ghost use Rattle.std.specs.Prelude.{◌≡◌, ℕ, ◌+◌, ◌<◌, ◌≤◌, ◌++◌, [], length, slice_get, true, option_copied, Some, IfOk, IfErr, OnOk};
+ghost use Rattle.std.specs.Prelude.{◌≡◌, ℕ, ◌+◌, ◌<◌, ◌≤◌, ◌++◌, [], ◌∷◌, length, slice_get, true, option_copied, Some, IfOk, IfErr, OnOk};
 ghost use Rattle.std.specs.Prelude.{OnErr, IsOk, IsTrue, ◌↔◌};
 ghost use Rattle.std.specs.FinMap.{len};
 ghost use Rattle.delivery.specs.Queues.{queue_of, room_of, IsSound};
@@ -212,9 +212,17 @@ fn new_groups(alloc: Global, count: u8) -> Result<Vec<Group>, AllocError>
 {
     let mut groups = Vec::with_capacity(alloc, usize::from(count))?;
     for number in 0..count {
-        groups.push(Group::new(alloc, GroupId::new(number)))?;
+        push_new(&mut groups, alloc, GroupId::new(number))?;
     }
     Ok(groups)
+}
+
+/// Puts the new group of this number behind the others.
+fn push_new(groups: &mut Vec<Group>, alloc: Global, id: GroupId) -> Result<(), AllocError>
+    ensures { OnOk result (groups.new.items ≡ groups.old.items ++ new_group id ∷ []) }
+{
+    groups.push(Group::new(alloc, id))?;
+    Ok(())
 }
 
 /// Takes the room for what the packet's group may send and deliver when it comes; whether there was memory for it.
