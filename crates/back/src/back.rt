@@ -21,6 +21,9 @@ use std::alloc::{AllocError, Global};
 use std::marker::Model;
 use std::mem;
 
+/// For how many rows there is room at least beyond those that are there, once it was taken.
+const ROWS_AHEAD: usize = 256;
+
 /// A store of shards with the rows of all that was executed there. Contracts see the store, the rows, and what came of the
 /// last layer that was run, as long as it isn't handed over.
 ///
@@ -31,6 +34,8 @@ pub struct Back {
     alloc: Global,
     store: Store,
     rows: Rows,
+    // At how many rows room has to be taken again.
+    full_at: usize,
     last: Done,
 }
 
@@ -60,6 +65,7 @@ impl Back {
             alloc,
             store,
             rows: Rows::new(alloc),
+            full_at: 0,
             last: Done::none(alloc),
         })
     }
@@ -109,12 +115,17 @@ impl Back {
         mem::replace(&mut self.last, Done::none(self.alloc))
     }
 
-    /// Takes the room for so many more rows, so that the layers of so many requests find theirs. The only error is want of
-    /// memory.
-    pub fn reserve(&mut self, rows: usize) -> Result<(), AllocError>
+    /// Takes the room for rows ahead, where half of what was taken last is used: then the layers of 256 requests find theirs. The
+    /// only error is want of memory.
+    pub fn take_room_ahead(&mut self) -> Result<(), AllocError>
         ensures { self.new ≡ self.old }
     {
-        self.rows.reserve(rows)
+        if self.rows.len() < self.full_at {
+            return Ok(());
+        }
+        self.rows.reserve(2 * ROWS_AHEAD)?;
+        self.full_at = self.rows.len().saturating_add(ROWS_AHEAD);
+        Ok(())
     }
 
     /// The rows of what was executed, in the order of execution.

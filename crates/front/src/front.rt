@@ -26,6 +26,8 @@ pub struct Front {
     pub(super) multicast: Multicast,
     pub(super) out: Vec<Delivered>,
     pub(super) rows: Rows,
+    // At how many rows room has to be taken again before a request is let in.
+    pub(super) full_at: usize,
     pub(super) starved: Vec<RequestId>,
     pub(super) whole: bool,
     pub(super) steps: u64,
@@ -80,6 +82,7 @@ impl Front {
             multicast,
             out: Vec::new(alloc),
             rows: Rows::new(alloc),
+            full_at: 0,
             starved: Vec::new(alloc),
             whole: true,
             steps: 0,

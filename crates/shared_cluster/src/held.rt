@@ -57,9 +57,6 @@ impl AskFault {
 /// How much is kept back for turns that find no memory.
 pub(crate) const RESERVE: usize = 256 * 1024;
 
-/// For how many rows the store has room beyond those that are there, so that the layers of the requests under way find theirs.
-pub(crate) const ROWS_AHEAD: usize = 256;
-
 /// A cluster, whether it is shut: then no one sits or asks any more; and whether it is stopped, since a layer was refused for
 /// good: then no step is made any more, but for the Closes of connections.
 ///

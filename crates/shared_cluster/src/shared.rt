@@ -33,7 +33,7 @@ ghost use Rattle.journal.specs.declared.trace.TheConstants.{GREATEST_STEPS};
 
 use crate::fault::{CloseFault, FaultKind};
 use crate::hand::{Hand, Run, run_layer};
-use crate::held::{AskFault, AtRest, Held, Next, RESERVE, ROWS_AHEAD, Unsettled};
+use crate::held::{AskFault, AtRest, Held, Next, RESERVE, Unsettled};
 use crate::long_work::takes_long;
 use back::Back;
 use cluster::{Answer, Closing, Cluster, First, Pick, SealedReply, Seat};
@@ -302,7 +302,7 @@ impl<L: Ledger> Shared<L> {
 
     /// Where someone was refused for want of memory: has the store look for room ahead, so that the next one isn't if there is some.
     fn look_for_room<R: Wait>(&self, rt: &R, refused: FaultKind) {
-        if refused == FaultKind::Memory && self.back.lock(rt).reserve(ROWS_AHEAD).is_ok() {
+        if refused == FaultKind::Memory && self.back.lock(rt).take_room_ahead().is_ok() {
             self.front.lock(rt).store_is_short = false;
         }
     }
@@ -597,7 +597,7 @@ impl<L: Ledger> Shared<L> {
     ) -> Run {
         let mut back = self.back.lock(rt);
         let run = run_layer(&mut back, layer, workers, gate);
-        let has_room = back.reserve(ROWS_AHEAD).is_ok();
+        let has_room = back.take_room_ahead().is_ok();
         drop(back);
         if !has_room {
             self.front.lock(rt).store_is_short = true;
