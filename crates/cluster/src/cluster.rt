@@ -327,6 +327,13 @@ impl<L: Ledger> Cluster<L> {
         self.history.refusal(&Step::Submit { conn, words })
     }
 
+    /// Takes the room for rows ahead, so that the requests that are under way find theirs. The only error is want of memory.
+    pub fn take_room_ahead(&mut self) -> Result<(), AllocError>
+        ensures { self.new ≡ self.old }
+    {
+        self.history.take_room_ahead()
+    }
+
     /// Submits a request of these words, and gives its id. The seat counts it and keeps a copy of the words.
     ///
     /// The errors change nothing but room. They are the first that applies of `Exhausted`, `NoConn` where the

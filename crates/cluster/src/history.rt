@@ -81,6 +81,13 @@ impl History {
         &self.front
     }
 
+    /// Takes the room for rows ahead in the front. The only error is want of memory.
+    pub fn take_room_ahead(&mut self) -> Result<(), AllocError>
+        ensures { self.new ≡ self.old }
+    {
+        self.front.take_room_ahead()
+    }
+
     /// The trace.
     pub fn trace(&self) -> &Trace
         ensures max_steps { result.now.max ≡ self.now.max_steps }

@@ -12,6 +12,9 @@ use skeen_core::Delivered;
 use std::alloc::{AllocError, Global};
 use std::marker::Model;
 
+/// For how many rows there is room at least beyond those that are there, once it was taken ahead.
+const ROWS_AHEAD: usize = 256;
+
 /// Connections, groups with their packets and queues, the layer that is out, and what was settled.
 ///
 /// Contracts see its parts, how many of its calls made a step, and how many layers were settled. For some history of these
@@ -88,5 +91,18 @@ impl Front {
             steps: 0,
             layers: 0,
         })
+    }
+
+    /// Takes the room for rows ahead, where half of what was taken last is used: then the requests that are under way find
+    /// theirs without memory, as long as they are no more than 256. The only error is want of memory.
+    pub fn take_room_ahead(&mut self) -> Result<(), AllocError>
+        ensures { self.new ≡ self.old }
+    {
+        if self.rows.len() < self.full_at {
+            return Ok(());
+        }
+        self.rows.reserve(2 * ROWS_AHEAD)?;
+        self.full_at = self.rows.len().saturating_add(ROWS_AHEAD);
+        Ok(())
     }
 }

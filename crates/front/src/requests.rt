@@ -13,15 +13,9 @@ use super::front::Front;
 use groups::{ConnId, RequestId};
 use resp::Request;
 use router::{Router, SubmitFault};
-use std::alloc::AllocError;
-
-/// For how many rows there is room at least beyond those that are there when a request is let in, so that the requests that are
-/// under way find theirs without memory, as long as they are no more than that.
-const ROWS_AHEAD: usize = 256;
 
 impl Front {
-    /// A connection submits a request of these words, and has its id; a Start goes to each of the request's groups. A request is
-    /// let in only where there is room for more rows than its own.
+    /// A connection submits a request of these words, and has its id; a Start goes to each of the request's groups.
     ///
     /// Errors, with nothing changed: `NoConn`, the connection isn't open; `Busy`, it hasn't collected the outcome of its last
     /// request; `Memory`.
@@ -32,9 +26,9 @@ impl Front {
         ensures unchanged { OnErr result (self.new ≡ self.old) }
     {
         let groups = usize::from(self.table.shards());
-        if self.multicast.reserve(groups).is_err() || self.take_room_ahead().is_err() {
+        let Ok(()) = self.multicast.reserve(groups) else {
             return Err(FrontFault::from(unsent(&self.router, conn)));
-        }
+        };
         let sent = match self.router.submit(&self.table, conn, words) {
             Ok(sent) => sent,
             Err(refused) => return Err(FrontFault::from(refused)),
@@ -55,18 +49,6 @@ impl Front {
     {
         self.multicast.deliver(place as usize)?;
         self.steps += 1;
-        Ok(())
-    }
-
-    /// Takes the room for rows ahead, where half of what was taken last is used. The only error is want of memory.
-    fn take_room_ahead(&mut self) -> Result<(), AllocError>
-        ensures { self.new ≡ self.old }
-    {
-        if self.rows.len() < self.full_at {
-            return Ok(());
-        }
-        self.rows.reserve(2 * ROWS_AHEAD)?;
-        self.full_at = self.rows.len().saturating_add(ROWS_AHEAD);
         Ok(())
     }
 }

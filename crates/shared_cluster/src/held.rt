@@ -177,13 +177,14 @@ impl<L: Ledger> Held<L> {
         }
     }
 
-    /// Takes the memory again that is kept back for turns, where it was let go. Says whether there is none for it, or the store has
-    /// no room ahead.
+    /// Takes the memory again that is kept back for turns, where it was let go, and room ahead. Says whether there is none for the
+    /// one or the other, or the store has no room ahead.
     fn is_short(&mut self) -> bool
         ensures { (self.new.cluster ≡ self.old.cluster) × (self.new.shut ≡ self.old.shut) × (self.new.stopped ≡ self.old.stopped) }
     {
         self.store_is_short
             || (self.reserve.capacity() < RESERVE && self.reserve.reserve(RESERVE).is_err())
+            || self.cluster.take_room_ahead().is_err()
     }
 
     /// What came of the seat's last request, with its words, if it is there. A want of memory is no refusal: it is not
