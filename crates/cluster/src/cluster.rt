@@ -367,7 +367,7 @@ impl<L: Ledger> Cluster<L> {
             seat.conn,
             seat.count,
             words,
-            self.kept.saturating_add(BYTES_AHEAD),
+            self.kept,
         ) {
             Ok(id) => id,
             Err(fault) => return Err(fault),
@@ -603,7 +603,8 @@ fn fits<L: Ledger>(history: &History, lasts: &BTreeMap<u64, Last>, seat: &Seat<L
             .has_words(last.place, seat.conn, &seat.words)
 }
 
-/// Makes the Submit of the connection's next request, and notes where it lies in the trace. An error changes nothing.
+/// Makes the Submit of the connection's next request, and notes where it lies in the trace. Behind it the trace keeps room for so
+/// many bytes, and for those of the steps that bring it on. An error changes nothing.
 fn make_submit(
     history: &mut History,
     lasts: &mut BTreeMap<u64, Last>,
@@ -624,6 +625,7 @@ fn make_submit(
     ensures room { kept ≤ history.old.room → kept ≤ history.new.room }
 {
     history.lawful();
+    let kept = kept.saturating_add(BYTES_AHEAD);
     let (effect, place) = match history.make(Step::Submit { conn, words }, kept) {
         Ok((effect, place)) => (effect, place),
         Err(fault) => return Err(fault),
