@@ -1,3 +1,4 @@
+pub mod Blocks
 pub mod Connecting
 pub mod Half
 pub mod Handing

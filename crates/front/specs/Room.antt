@@ -1,6 +1,6 @@
--- Room for the text of a reply.
+-- Room for the texts of replies.
 use Rattle.std.specs.Global.{Vec}
-use Rattle.std.specs.Prelude.{◌≡◌, ℕ, ◌<◌, ◌≤◌, [], length}
+use Rattle.std.specs.Prelude.{◌≡◌, ℕ, ◌<◌, ◌≤◌, List, [], ◌∷◌, length}
 use Rattle.std.specs.Vec.{vec_capacity}
 use Rattle.layer_results.specs.declared.done.DoneRow.{DoneRow}
 use Rattle.resp.specs.Text.{reply_text}
@@ -10,3 +10,13 @@ use Rattle.resp.specs.declared.answered.TheConstants.{LONG}
 pub record Holds (row : DoneRow) (block : Vec ℕ) : Type 0 where
   pub empty : block.items ≡ []
   pub room : LONG < length (reply_text row.reply) → length (reply_text row.reply) ≤ vec_capacity block
+
+-- the text of the reply is so short that it needs no block
+abbrev pub IsShort : DoneRow → Type 0
+IsShort row = length (reply_text row.reply) ≤ LONG
+
+-- each row has such a block; but those behind the last block need none
+abbrev pub HaveBlocks : List DoneRow → List (Vec ℕ) → Type 0
+HaveBlocks [] blocks = Unit {0}
+HaveBlocks (row ∷ rows) [] = IsShort row × HaveBlocks rows []
+HaveBlocks (row ∷ rows) (block ∷ blocks) = Holds row block × HaveBlocks rows blocks

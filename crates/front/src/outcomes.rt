@@ -1,9 +1,8 @@
 //! The outcomes of a layer that is settled, and its rows.
 
 ghost use Rattle.std.specs.Prelude.{◌≡◌, ◌≤◌, ◌+◌, ◌++◌, map, length, vec_capacity};
-ghost use Rattle.std.specs.List.{AllZip};
 ghost use Rattle.front.specs.Outcomes.{IsToldBy, IsNamedBy, MaySettle, AreSettled};
-ghost use Rattle.front.specs.Room.{Holds};
+ghost use Rattle.front.specs.Room.{HaveBlocks};
 ghost use Rattle.front.specs.Settling.{row_of};
 
 use groups::{RequestId, Stamp};
@@ -11,9 +10,12 @@ use journal::Rows;
 use layer_results::DoneRow;
 use resp::{Answered, Reply};
 use router::{Outcome, Router};
+use std::alloc::Global;
 
-/// Each executed request gets its row, for which there is room, and its connection its outcome.
+/// Each executed request gets its row, for which there is room, and its connection its outcome. A row behind the last block needs
+/// none.
 pub(super) fn settle_rows(
+    alloc: Global,
     router: &mut Router,
     kept: &mut Rows,
     rows: Vec<DoneRow>,
@@ -21,15 +23,13 @@ pub(super) fn settle_rows(
 )
     requires settling { MaySettle IsToldBy rows.items router.old }
     requires room { length rows.items ≤ kept.old.room }
-    requires blocks { AllZip Holds rows.items blocks.items }
+    requires blocks { HaveBlocks rows.items blocks.items }
     ensures rows { kept.new.rows ≡ kept.old.rows ++ map row_of rows.items }
     ensures settled { AreSettled IsToldBy rows.items router.old router.new }
 {
     let mut each = blocks.into_iter();
     for row in rows {
-        let Some(block) = each.next() else {
-            unreachable!();
-        };
+        let block = each.next().unwrap_or(Vec::new(alloc));
         let DoneRow {
             id,
             stamp,

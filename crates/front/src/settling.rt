@@ -1,8 +1,9 @@
 //! What came of the layer that is out is told, and its outcomes go to their connections.
 
 ghost use Rattle.std.specs.Prelude.{◌≡◌, ◌+◌, ◌++◌, ◌≤◌, length, IfErr, OnOk, OnErr, IfOk, vec_capacity};
-ghost use Rattle.std.specs.List.{AllZip};
-ghost use Rattle.front.specs.Room.{Holds};
+ghost use Rattle.std.specs.Bool.{OnTrue};
+ghost use Rattle.std.specs.List.{AllByRecursion};
+ghost use Rattle.front.specs.Room.{HaveBlocks, IsShort};
 ghost use Rattle.front.specs.Settling.{CameOf, Settles, HandsOn, IsSettleFault, MaySettle};
 
 use super::fault::FrontFault;
@@ -12,7 +13,7 @@ use super::results::{came_of, is_of_layer};
 use groups::RequestId;
 use journal::Rows;
 use layer_results::{Done, DoneRow};
-use resp::{text_block, text_size};
+use resp::{LONG, text_block, text_size};
 use std::alloc::{AllocError, Global};
 
 impl Front {
@@ -35,7 +36,7 @@ impl Front {
             return Err((done, FrontFault::Memory));
         };
         let (rows, starved) = done.into_parts();
-        settle_rows(&mut self.router, &mut self.rows, rows, blocks);
+        settle_rows(self.alloc, &mut self.router, &mut self.rows, rows, blocks);
         keep_names(&mut self.starved, starved.as_slice());
         hand_starved(&mut self.router, starved.as_slice());
         self.out.clear();
@@ -81,17 +82,20 @@ fn room_for(
     ensures starved { starved.new.items ≡ starved.old.items }
     ensures room_of_rows { OnOk result (length done.now.rows ≤ rows.new.room) }
     ensures room_of_starved { OnOk result (length starved.new.items + length done.now.starved ≤ vec_capacity starved.new) }
-    ensures blocks { IfOk result (λ blocks. AllZip Holds done.now.rows blocks.items) }
+    ensures blocks { IfOk result (λ blocks. HaveBlocks done.now.rows blocks.items) }
 {
     rows.reserve(done.rows().len())?;
     starved.reserve(done.starved().len())?;
     blocks_for(alloc, done.rows())
 }
 
-/// For each row a block for its reply's text.
+/// For each row a block for its reply's text; none at all where all are short.
 fn blocks_for(alloc: Global, rows: &[DoneRow]) -> Result<Vec<Vec<u8>>, AllocError>
-    ensures { IfOk result (λ blocks. AllZip Holds rows.now blocks.items) }
+    ensures { IfOk result (λ blocks. HaveBlocks rows.now blocks.items) }
 {
+    if are_short(rows) {
+        return Ok(Vec::new(alloc));
+    }
     let mut blocks = Vec::with_capacity(alloc, rows.len())?;
     for row in rows {
         let Some(size) = text_size(&row.reply) else {
@@ -100,4 +104,26 @@ fn blocks_for(alloc: Global, rows: &[DoneRow]) -> Result<Vec<Vec<u8>>, AllocErro
         blocks.push(text_block(alloc, size)?)?;
     }
     Ok(blocks)
+}
+
+/// Whether the texts of all replies are so short that they need no block.
+fn are_short(rows: &[DoneRow]) -> bool
+    ensures { OnTrue result (AllByRecursion IsShort rows.now) }
+{
+    for row in rows {
+        if !is_short(row) {
+            return false;
+        }
+    }
+    true
+}
+
+/// Whether the text of the row's reply is so short that it needs no block.
+fn is_short(row: &DoneRow) -> bool
+    ensures { OnTrue result (IsShort row.now) }
+{
+    match text_size(&row.reply) {
+        Some(size) => size <= LONG,
+        None => false,
+    }
 }

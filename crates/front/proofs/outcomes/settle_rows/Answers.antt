@@ -3,7 +3,7 @@ use Rattle.std.proofs.Math.Seq.{append_snoc}
 use Rattle.std.specs.List.{AllZip}
 use Rattle.front.proofs.Half.{next_outcome, next_may, next_did, half_starts, half_ends, told_shown}
 use Rattle.front.specs.Outcomes.{IsToldBy}
-use Rattle.front.specs.Room.{Holds}
+use Rattle.front.specs.Room.{HaveBlocks}
 use Rattle.front.specs.Settling.{row_of}
 use Rattle.journal.specs.Views.{row_view}
 use Rattle.resp.specs.Content.{content}
@@ -25,8 +25,8 @@ loop-row-init c =
           (subst (λ l. AllZip (IsToldBy now) es l) (sym all) told) settling;
       rows = ap (λ l. c.args.kept.now.rows ++ map row_of l) all;
       room = let long = ap length all in let room = c.requires.room in omega arith;
-      texts = subst (λ l. AllZip Holds l c.into_iter-each.result.rest.items) (sym all)
-          (subst (λ l. AllZip Holds c.args.rows.items l) (sym c.into_iter-each.ensures.rest) c.requires.blocks);
+      texts = subst (λ l. HaveBlocks l c.into_iter-each.result.rest.items) (sym all)
+          (subst (λ l. HaveBlocks c.args.rows.items l) (sym c.into_iter-each.ensures.rest) c.requires.blocks);
     }
 
 pub settle-requires : goal.settle-requires
@@ -49,8 +49,6 @@ loop-row-preserved c =
     let inv = c.loop-row.invariant in
     let steps = c.in-Some.ensures.steps.0 in
     let k : kept.Outcome = record { id = x.id; reply = c.push-reply.result; stamp = Some x.stamp } in
-    let block = subst (λ l. AllZip Holds (x ∷ ys) l) c.in-Some-next.ensures.items
-    (subst (λ l. AllZip Holds l c.loop-row.each.rest.items) steps inv.texts) in
     record {
       half = λ t w now done es back standing told settling.
           let half = inv.half t w now done es back standing told settling in
@@ -64,7 +62,7 @@ loop-row-preserved c =
           ∙ append_snoc c.loop-row.kept.rows (row_of x) (map row_of ys)
           ∙ ap (λ l. c.loop-row.kept.rows ++ map row_of l) (sym steps) ∙ inv.rows;
       room = let long = ap length steps in let room = inv.room in let push = c.push-reply.ensures.room in omega arith;
-      texts = block.1;
+      texts = search rules;
     }
 
 pub returns-clause-settled : goal.returns-clause-settled

@@ -3,7 +3,7 @@ use Rattle.std.specs.List.{AllZip}
 use Rattle.front.proofs.Half.{HalfSettled}
 use Rattle.front.specs.Fronts.{Told}
 use Rattle.front.specs.Outcomes.{IsToldBy, IsSettling}
-use Rattle.front.specs.Room.{Holds}
+use Rattle.front.specs.Room.{HaveBlocks}
 use Rattle.front.specs.Settling.{row_of}
 use Rattle.placement.specs.Layout.{Layout}
 use Rattle.world.specs.World.{World, Standing, Ended}
@@ -17,5 +17,5 @@ invariant-loop-row l = record {
       HalfSettled IsToldBy t w now done es back standing l.row-iterator.rest.items l.router;
   rows : l.kept.rows ++ map row_of l.row-iterator.rest.items ≡ l.fn.kept.rows ++ map row_of l.fn.rows.items;
   room : length l.row-iterator.rest.items ≤ l.kept.room;
-  texts : AllZip Holds l.row-iterator.rest.items l.each.rest.items;
+  texts : HaveBlocks l.row-iterator.rest.items l.each.rest.items;
 }
