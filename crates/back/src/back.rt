@@ -8,6 +8,7 @@ ghost use Rattle.layer_results.specs.Results.{AreCopies, no_results};
 ghost use Rattle.shard_exec.specs.StoreStates.{IsStore};
 ghost use Rattle.shard_maps.specs.Joined.{joined};
 
+use crate::room::ResultsRoom;
 use crate::running::run_over;
 use groups::RequestId;
 use journal::Rows;
@@ -37,6 +38,7 @@ pub struct Back {
     // At how many rows room has to be taken again.
     full_at: usize,
     last: Done,
+    room: ResultsRoom,
 }
 
 impl Model for Back {
@@ -67,6 +69,7 @@ impl Back {
             rows: Rows::new(alloc),
             full_at: 0,
             last: Done::none(alloc),
+            room: ResultsRoom::new(alloc),
         })
     }
 
@@ -92,6 +95,7 @@ impl Back {
             &mut self.store,
             &mut self.rows,
             &mut self.last,
+            &mut self.room,
             layer,
             skip,
             workers,

@@ -1,6 +1,6 @@
 //! The memory that the rows of a layer need, taken before the layer is run.
 
-ghost use Rattle.std.specs.Prelude.{◌≡◌, ◌≤◌, [], length, map, IfOk, IsOk, OnOk, vec_capacity};
+ghost use Rattle.std.specs.Prelude.{◌≡◌, ◌≤◌, [], length, IsOk, OnOk};
 ghost use Rattle.back.specs.Rooms.{words_of, HasRoomFor};
 
 use groups::{RequestId, Stamp};
@@ -9,55 +9,58 @@ use layer_planner::Job;
 use layer_results::DoneRow;
 use packing::PackedRequest;
 use std::alloc::{AllocError, Global};
+use std::collections::VecDeque;
 
 /// A second copy of the words of each request of a layer, since both its row and what is handed over have them; and room for
 /// what is handed over.
+///
+/// It is used again for the next layer, but for what is handed over. So in most layers only the list of the rows takes memory.
 #[derive(Drop)]
 pub struct ResultsRoom {
-    pub words: Vec<PackedRequest>,
+    pub words: VecDeque<PackedRequest>,
     pub rows: Vec<DoneRow>,
     pub starved: Vec<(RequestId, Stamp)>,
 }
 
 impl ResultsRoom {
-    /// Room for what comes of these requests, and for their rows among the others. A layer without requests takes no
-    /// memory. The only error is want of memory, which leaves the rows as they were.
-    pub fn reserve(alloc: Global, jobs: &[Job], rows: &mut Rows) -> Result<Self, AllocError>
-        ensures fits { IfOk result (HasRoomFor jobs.now) }
-        ensures room { OnOk result (length jobs.now ≤ rows.new.room) }
-        ensures rows { rows.new.rows ≡ rows.old.rows }
-        ensures none { jobs.now ≡ [] → IsOk result }
-    {
-        if jobs.is_empty() {
-            return Ok(ResultsRoom::none(alloc));
-        }
-        rows.reserve(jobs.len())?;
-        Ok(ResultsRoom {
-            words: words_of(alloc, jobs)?,
-            rows: Vec::with_capacity(alloc, jobs.len())?,
-            starved: Vec::with_capacity(alloc, jobs.len())?,
-        })
-    }
-
     /// Room for nothing. It takes no memory.
-    fn none(alloc: Global) -> Self
-        ensures { HasRoomFor [] result }
-    {
+    pub fn new(alloc: Global) -> Self {
         ResultsRoom {
-            words: Vec::new(alloc),
+            words: VecDeque::new(alloc),
             rows: Vec::new(alloc),
             starved: Vec::new(alloc),
         }
     }
+
+    /// Makes it the room for what comes of these requests, and takes room for their rows among the others. A layer without requests
+    /// takes no memory. The only error is want of memory, which leaves the rows as they were.
+    pub fn reserve(&mut self, jobs: &[Job], rows: &mut Rows) -> Result<(), AllocError>
+        ensures fits { OnOk result (HasRoomFor jobs.now self.new) }
+        ensures room { OnOk result (length jobs.now ≤ rows.new.room) }
+        ensures rows { rows.new.rows ≡ rows.old.rows }
+        ensures none { jobs.now ≡ [] → IsOk result }
+    {
+        self.words.clear();
+        self.rows.clear();
+        self.starved.clear();
+        if jobs.is_empty() {
+            return Ok(());
+        }
+        rows.reserve(jobs.len())?;
+        self.rows.reserve(jobs.len())?;
+        self.starved.reserve(jobs.len())?;
+        copy_words(&mut self.words, jobs)
+    }
 }
 
-/// Copies of the words of these requests, in their order.
-fn words_of(alloc: Global, jobs: &[Job]) -> Result<Vec<PackedRequest>, AllocError>
-    ensures { IfOk result (λ words. words.items ≡ words_of jobs.now) }
+/// Puts copies of the words of these requests, in their order, behind the others.
+fn copy_words(words: &mut VecDeque<PackedRequest>, jobs: &[Job]) -> Result<(), AllocError>
+    requires { words.old.items ≡ [] }
+    ensures { OnOk result (words.new.items ≡ words_of jobs.now) }
 {
-    let mut words = Vec::with_capacity(alloc, jobs.len())?;
+    words.reserve(jobs.len())?;
     for job in jobs {
-        words.push(job.asked.words().try_clone()?)?;
+        words.push_back(job.asked.words().try_clone()?)?;
     }
-    Ok(words)
+    Ok(())
 }

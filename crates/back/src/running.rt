@@ -16,6 +16,7 @@ use packing::PackedRequest;
 use shard_exec::{Ended, ExecFault, Store};
 use shard_workers::{Gate, Workers};
 use std::alloc::Global;
+use std::mem;
 
 /// Runs a layer over the store, adds the rows of what was executed, and puts what came of the layer in the place of what
 /// came of the last one. All memory for that is taken before the first request is run.
@@ -24,6 +25,7 @@ pub fn run_over<W: Workers>(
     store: &mut Store,
     rows: &mut Rows,
     last: &mut Done,
+    room: &mut ResultsRoom,
     layer: Layer,
     skip: &[RequestId],
     workers: &W,
@@ -38,12 +40,12 @@ pub fn run_over<W: Workers>(
         Ok(layer) => layer,
         Err(fault) => return Err(fault),
     };
-    let Ok(room) = ResultsRoom::reserve(alloc, layer.jobs(), rows) else {
+    let Ok(()) = room.reserve(layer.jobs(), rows) else {
         return Err(unrun(store, layer));
     };
     match store.run_layer(alloc, layer, skip, workers, gate) {
         Ok(ended) => {
-            *last = tell_all(rows, ended, room);
+            *last = tell_all(alloc, rows, ended, room);
             Ok(())
         }
         Err(fault) => Err(fault),
@@ -79,25 +81,33 @@ fn unrun(store: &Store, layer: Layer) -> ExecFault
 }
 
 /// Adds the row of each request that was executed, and gives what came of the layer. There is room for all of it.
-fn tell_all(rows: &mut Rows, ended: Vec<Ended>, room: ResultsRoom) -> Done
-    requires room { FitsEnded ended.items room }
+fn tell_all(alloc: Global, rows: &mut Rows, ended: Vec<Ended>, room: &mut ResultsRoom) -> Done
+    requires room { FitsEnded ended.items room.old }
     requires rows { length ended.items ≤ rows.old.room }
     ensures rows { rows.new.rows ≡ rows.old.rows ++ rows_of ended.items }
     ensures done { result ≡ results_of ended.items }
 {
-    let ResultsRoom {
-        words,
-        rows: mut done,
-        mut starved,
-    } = room;
-    let mut copies = words.into_iter();
     for request in ended {
-        let Some(copy) = copies.next() else {
+        let Some(copy) = room.words.pop_front() else {
             unreachable!()
         };
-        tell(rows, request, copy, &mut done, &mut starved);
+        tell(rows, request, copy, &mut room.rows, &mut room.starved);
     }
-    Done::new(done, starved)
+    Done::new(
+        taken(alloc, &mut room.rows),
+        taken(alloc, &mut room.starved),
+    )
+}
+
+/// Takes a list out, if there is something in it; one in which nothing is stays, with its memory.
+fn taken<T>(alloc: Global, list: &mut Vec<T>) -> Vec<T>
+    ensures { result.items ≡ list.old.items }
+{
+    if list.is_empty() {
+        Vec::new(alloc)
+    } else {
+        mem::replace(list, Vec::new(alloc))
+    }
 }
 
 /// Adds the row of a request, if it was executed, and notes what came of it, with this copy of its words. There is room.

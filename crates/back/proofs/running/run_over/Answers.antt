@@ -3,7 +3,7 @@ use Rattle.back.proofs.running.run_over.Goals as goal
 
 pub tell_all-requires-clause-room : goal.tell_all-requires-clause-room
 tell_all-requires-clause-room g c =
-    fits_ended c.jobs.result.now c.in-Ok.layer c.in-Ok-run_layer.ended.items c.in-Ok-reserve.room c.jobs.ensures.jobs
+    fits_ended c.jobs.result.now c.in-Ok.layer c.in-Ok-run_layer.ended.items c.reserve.new.self c.jobs.ensures.jobs
     c.in-Ok-run_layer.ensures.done.done.told c.in-Ok-reserve.ensures.fits
 
 pub tell_all-requires-clause-rows : goal.tell_all-requires-clause-rows

@@ -6,10 +6,10 @@ use Rattle.back.proofs.running.tell_all.Given as goal
 abbrev pub invariant-loop-request : goal.invariant-loop-request
 invariant-loop-request l = record {
   rows : l.rows.rows ++ rows_of l.request-iterator.rest.items ≡ l.fn.rows.rows ++ rows_of l.fn.ended.items;
-  done : l.done.items ++ done_of l.request-iterator.rest.items ≡ done_of l.fn.ended.items;
-  starved : l.starved.items ++ starved_of l.request-iterator.rest.items ≡ starved_of l.fn.ended.items;
-  words : l.copies.rest.items ≡ map (λ e. e.words) l.request-iterator.rest.items;
+  done : l.room.rows.items ++ done_of l.request-iterator.rest.items ≡ done_of l.fn.ended.items;
+  starved : l.room.starved.items ++ starved_of l.request-iterator.rest.items ≡ starved_of l.fn.ended.items;
+  words : l.room.words.items ≡ map (λ e. e.words) l.request-iterator.rest.items;
   row_room : length l.request-iterator.rest.items ≤ l.rows.room;
-  done_room : length l.done.items + length l.request-iterator.rest.items ≤ vec_capacity l.done;
-  starved_room : length l.starved.items + length l.request-iterator.rest.items ≤ vec_capacity l.starved;
+  done_room : length l.room.rows.items + length l.request-iterator.rest.items ≤ vec_capacity l.room.rows;
+  starved_room : length l.room.starved.items + length l.request-iterator.rest.items ≤ vec_capacity l.room.starved;
 }

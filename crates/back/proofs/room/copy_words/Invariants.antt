@@ -1,6 +1,6 @@
 use Rattle.std.proofs.Common.{◌≡◌, take}
 use Rattle.back.specs.Rooms.{words_of}
-use Rattle.back.proofs.room.words_of.Given as goal
+use Rattle.back.proofs.room.copy_words.Given as goal
 
 -- the requests looked at so far have their copies
 abbrev pub invariant-loop-job : goal.invariant-loop-job
