@@ -126,6 +126,8 @@ fn run_units<W: Workers>(
 
 /// Runs a request that is alone in its layer over the shards of its groups, which `span` has room for, and tells what
 /// became of it. It takes no memory but the command's own.
+// Inlined up to the layer of one request, which then moves its request and what came of it fewer times.
+#[inline(always)]
 pub fn run_alone(
     alloc: Global,
     table: &Table,

@@ -59,6 +59,8 @@ pub fn run_places(
 
 /// Runs a request over the shards of its groups: one of one group over the shard where it stands, any other over its shards
 /// moved out, which `span` has room for, and back. It takes no memory but the command's own.
+// Inlined up to the layer of one request, which then moves its request and what came of it fewer times.
+#[inline(always)]
 pub fn run_in_row(
     alloc: Global,
     table: &Table,
@@ -87,6 +89,8 @@ pub fn run_in_row(
 }
 
 /// Runs a request over the shard of this group, where it stands.
+// Inlined as its caller is.
+#[inline(always)]
 fn run_in_place(
     alloc: Global,
     row: &mut Vec<Shard>,

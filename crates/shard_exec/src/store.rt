@@ -177,6 +177,8 @@ impl Store {
 
     /// Runs a layer of one request, which was admitted, on the caller's thread. It is handed back, with nothing changed,
     /// where there is no memory.
+    // Inlined, since most layers are of one request.
+    #[inline(always)]
     fn run_lone(
         &mut self,
         alloc: Global,

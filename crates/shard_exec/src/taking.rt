@@ -112,6 +112,8 @@ pub fn tell_all(
 }
 
 /// Tells what became of a request, and makes its stamp the last one of its shards.
+// Inlined, so that what came of a request is not moved once more.
+#[inline(always)]
 pub fn tell(lasts: &mut Vec<Option<Stamp>>, ran: JobRan) -> Ended
     requires { (g : ℕ) → has ran.groups g ≡ true → g < length lasts.old.items }
     ensures ended { result ≡ ended_of ran }
