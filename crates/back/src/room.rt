@@ -34,6 +34,8 @@ impl ResultsRoom {
 
     /// Makes it the room for what comes of these requests, and takes room for their rows among the others. A layer without requests
     /// takes no memory. The only error is want of memory, which leaves the rows as they were.
+    // Inlined, since each layer calls it once.
+    #[inline(always)]
     pub fn reserve(&mut self, jobs: &[Job], rows: &mut Rows) -> Result<(), AllocError>
         ensures fits { OnOk result (HasRoomFor jobs.now self.new) }
         ensures room { OnOk result (length jobs.now ≤ rows.new.room) }

@@ -81,6 +81,8 @@ fn unrun(store: &Store, layer: Layer) -> ExecFault
 }
 
 /// Adds the row of each request that was executed, and gives what came of the layer. There is room for all of it.
+// Inlined, so that the list is not moved once more.
+#[inline(always)]
 fn tell_all(alloc: Global, rows: &mut Rows, ended: Vec<Ended>, room: &mut ResultsRoom) -> Done
     requires room { FitsEnded ended.items room.old }
     requires rows { length ended.items ≤ rows.old.room }
