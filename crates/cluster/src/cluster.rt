@@ -584,6 +584,8 @@ impl<L: Ledger> Cluster<L> {
 
 /// Whether the seat is as the trace has it: what is known of its connection is its count, and where the last of its
 /// Submits lies the trace has the seat's words.
+// Inlined, since each request is looked up twice by it.
+#[inline(always)]
 fn fits<L: Ledger>(history: &History, lasts: &BTreeMap<u64, Last>, seat: &Seat<L>) -> bool
     requires lasts { AreLasts lasts.now.entries history.now.steps }
     requires seated { (sat : ℕ) × IsSeated lasts.now.entries sat history.now }
@@ -671,6 +673,8 @@ fn awaits<L: Ledger>(
 }
 
 /// Collects the outcome that waits for the seat, and raises the seat's floor.
+// Inlined, since both who call it do nothing else with what it gives but take it apart.
+#[inline(always)]
 fn take_outcome<L: Ledger>(
     history: &mut History,
     seat: &mut Seat<L>,

@@ -19,6 +19,8 @@ impl Front {
     ///
     /// Errors, with nothing changed: `NoConn`, the connection isn't open; `Busy`, it hasn't collected the outcome of its last
     /// request; `Memory`.
+    // Inlined where its step is made, which is one place in a program.
+    #[inline(always)]
     pub fn submit(&mut self, conn: ConnId, words: Request) -> Result<RequestId, FrontFault>
         requires { MayStep self.old }
         ensures made { IfOk result (λ id. Makes self.old (Step.Submit conn words) (Submitted id) self.new) }
@@ -41,6 +43,8 @@ impl Front {
     /// The packet at this place of those under way, counted from 0 in order of sending, comes to its group.
     ///
     /// Errors, with nothing changed: `NoPacket`, no packet is at this place; `Memory`.
+    // Inlined where its step is made, which is one place in a program.
+    #[inline(always)]
     pub fn deliver(&mut self, place: u64) -> Result<(), FrontFault>
         requires { MayStep self.old }
         ensures made { OnOk result (Makes self.old (Step.Deliver place) Made self.new) }
