@@ -24,7 +24,9 @@ pub struct ResultsRoom {
 
 impl ResultsRoom {
     /// Room for nothing. It takes no memory.
-    pub fn new(alloc: Global) -> Self {
+    pub fn new(alloc: Global) -> Self
+        ensures { HasRoomFor [] result }
+    {
         ResultsRoom {
             words: VecDeque::new(alloc),
             rows: Vec::new(alloc),
