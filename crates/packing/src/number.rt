@@ -26,6 +26,8 @@ pub fn number_size(number: u64) -> usize
 
 /// Appends the number, for which there is room.
 #[tactic(auto, using(crate::specs::CodeLaws::number_codes))]
+// Inlined, since most numbers are of one byte.
+#[inline(always)]
 pub fn put_number(number: u64, out: &mut Vec<u8>)
     requires { vec_len out.old + length (number_code number) ≤ vec_capacity out.old }
     ensures items { out.new.items ≡ out.old.items ++ number_code number }
