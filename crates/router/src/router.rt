@@ -183,6 +183,8 @@ impl Router {
     /// A request that was taken has its outcome. It goes to its connection, whose floor is now the clock of the
     /// request's stamp. Where the connection was closed, the outcome is dropped, and the router forgets the connection.
     /// It takes no memory.
+    // Inlined, so that an outcome is moved once.
+    #[inline(always)]
     pub fn settle(&mut self, stamp: Stamp, outcome: Outcome)
         requires { (v : Connection) × (connection self.old outcome.id.conn.0 ≡ Some v) }
         ensures { (v : Connection) × (connection self.old outcome.id.conn.0 ≡ Some v)
@@ -212,6 +214,8 @@ impl Router {
     }
 
     /// A connection collects the outcome of its request, if it is there, and may then submit again. It takes no memory.
+    // Inlined, so that an outcome is moved once.
+    #[inline(always)]
     pub fn collect(&mut self, conn: ConnId) -> Result<Option<Outcome>, NoConn>
         ensures collected { IfOk result (λ given. Collects self.old conn.0 given self.new) }
         ensures refused { OnErr result (is_open (connection self.old conn.0) ≡ false) }
