@@ -100,6 +100,8 @@ pub fn size_of_run(starved: usize) -> Option<usize>
 }
 
 /// How many bytes a step takes; `None` where that is 2^64 or more.
+// Inlined, since whoever makes a step knows which.
+#[inline(always)]
 #[tactic(auto, unfolding(crate::specs::Codes::step_code))]
 fn size_of_step(step: &Step) -> Option<usize>
     ensures { MatchOption result (2 ^ 64 ≤ length (step_code step.now))
