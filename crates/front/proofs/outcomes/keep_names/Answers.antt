@@ -1,4 +1,4 @@
-use Rattle.std.proofs.Common.{rules, ◌+◌, ◌++◌, ◌∷◌, [], map, length, take, sym, ap, ◌∙◌, append_assoc}
+use Rattle.std.proofs.Common.{rules, ◌++◌, ◌∷◌, [], map, length, take, sym, ap, ◌∙◌, append_assoc}
 use Rattle.std.proofs.lemmas.List.{map-append}
 use Rattle.front.proofs.Turns.{turn_at, passed_at}
 use Rattle.groups.specs.declared.request.RequestId.{RequestId}

@@ -11,9 +11,7 @@ use Rattle.front.specs.Refusing.{Refuses, IsFault}
 use Rattle.front.specs.Taking.{IsTaking, Takes}
 use Rattle.front.specs.declared.fault.FrontFault.TheVariants.{Memory}
 use Rattle.journal.specs.declared.step.Step.TheVariants.{Take}
-use Rattle.multicast.specs.Multicast.{LosesLayer}
 use Rattle.placement.specs.Layout.{Layout}
-use Rattle.system_view.specs.Layers.{AreJobs}
 use Rattle.world.specs.Steps.{NoLayer}
 use Rattle.world.specs.World.{World, Standing}
 use Rattle.front.proofs.front.Front.take.Goals as goal
