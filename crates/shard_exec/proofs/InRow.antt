@@ -129,8 +129,8 @@ lone_unit gs = record { each = each; once = once }
         ap (λ x. 0 + cond x 1 0) a ∙ ap (λ x. cond x 1 0) (sym b))
 
 pub alone_done : WorksAreInTurn → (table : Layout) (maps new : List Map) (skip : List RequestId) (t : PlacedJob) (r : JobRan)
-    → IsTable table → HasOwnKeys table maps → t.job.groups ≡ task_groups table t.job.asked.command → t.place ≡ 0 → t.skipped ≡ is_named skip t.job.id
-    → HasRunInRow table t maps r new → IsDone table maps skip (t.job ∷ []) (ended_of r ∷ []) new
+    → IsTable table → HasOwnKeys table maps → t.job.groups ≡ task_groups table t.job.asked.command → t.place ≡ 0
+    → t.skipped ≡ is_named skip t.job.id → HasRunInRow table t maps r new → IsDone table maps skip (t.job ∷ []) (ended_of r ∷ []) new
 alone_done law table maps new skip t r is_table own groups place skipped run =
     (row_given table maps skip (t.job ∷ []) is_table own (groups, tt) law ((0 ∷ []) ∷ []) (Some t.job ∷ []) (None ∷ []) (Some r ∷ []) new
     (lone_unit t.job.groups) at_zero refl

@@ -112,7 +112,8 @@ over_ran table t r before after ready run =
 
 -- the next one has the shards that it left
 pub ready_still : (table : Layout) (t : PlacedJob) (r : JobRan) (before after : Span) (ts : List PlacedJob)
-    → HasRunOver table t before r after → AllByRecursion (λ u. IsReadyFor table u before) ts → AllByRecursion (λ u. IsReadyFor table u after) ts
+    → HasRunOver table t before r after → AllByRecursion (λ u. IsReadyFor table u before) ts
+    → AllByRecursion (λ u. IsReadyFor table u after) ts
 ready_still table t r before after [] run ready = tt
 ready_still table t r before after (u ∷ us) run ready = (
   record {
