@@ -1,5 +1,5 @@
 -- What was collected is what came of the seat's last request; what a closed cluster tells, and its trace.
-use Rattle.std.proofs.Common.{◌≡◌, ◌∙◌, ap, sym, subst, refl, ℕ, Bool, List, ◌++◌, Option, Some, Result, Ok, Err, OnOk, OnErr, IfOk}
+use Rattle.std.proofs.Common.{◌≡◌, ◌∙◌, ap, sym, subst, ℕ, Bool, List, ◌++◌, Option, Some, Result, Ok, Err, OnOk, OnErr, IfOk}
 use Rattle.std.proofs.Common.{IfErr, IfSome, None, inr}
 use Rattle.std.specs.Io.KnownBytes.{Appends}
 use Rattle.back.specs.Backs.{BackState}
@@ -17,7 +17,7 @@ use Rattle.journal.specs.TraceText.{trace_text}
 use Rattle.journal.specs.declared.step.Step.TheVariants.{Collect}
 use Rattle.resp.specs.Content.{content}
 use Rattle.resp.specs.declared.reply.Reply.{Reply}
-use Rattle.shared_cluster.specs.Asks.{submitted, IsSeated, Answers, Replies, IsNewSeat, IsAnswered, IsReplied, IsCollectFault, IsAskFault}
+use Rattle.shared_cluster.specs.Asks.{submitted, Answers, Replies, IsReplied, IsCollectFault, IsAskFault}
 use Rattle.shared_cluster.specs.Closings.{Closes, RefusesClose, Writes, Sends, IsClosed, IsCloseFault, IsWritten, IsSent}
 use Rattle.shared_cluster.specs.declared.fault.CloseFault.{CloseFault}
 use Rattle.shared_cluster.specs.declared.held.AskFault.{AskFault}
@@ -67,11 +67,6 @@ sent_of h (Ok done) before after lawful text = record { lawful = lawful; text = 
 sent_of h (Err fault) before after lawful text = tt
 
 -- ---- the same of a shared cluster
-
-pub found_seat : {E : Type 0} {X : Type 0} (view : X → SeatView) (before after : HistoryView) (r : Result X E)
-    → IfOk r (λ x. IsSeated before (view x) after) → IfOk r (λ x. IsNewSeat (view x))
-found_seat view before after (Ok x) seated = (before, after, seated)
-found_seat view before after (Err fault) seated = tt
 
 pub found_replied : {E : Type 0} (before after : HistoryView) (old new : SeatView) (r : Result (Option SealedReply) E)
     → IfOk r (λ reply. IfSome reply (λ x. Replies before old (content x.reply) after new))

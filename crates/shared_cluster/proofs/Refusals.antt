@@ -1,11 +1,11 @@
 -- What is told of a step that is refused.
-use Rattle.std.proofs.Common.{◌≡◌, ◌≢◌, ℕ, List, Bool, true, false, inl, Some, Result, Ok, Err, IfErr, subst}
+use Rattle.std.proofs.Common.{◌≡◌, ◌≢◌, Bool, true, false, inl, Some, Result, Ok, Err, IfErr, subst}
 use Rattle.cluster.specs.Clusters.{SeatView}
 use Rattle.cluster.specs.Histories.{HistoryView, IsLawful}
 use Rattle.cluster.specs.declared.fault.StepFault.{StepFault}
 use Rattle.shared_cluster.specs.Asks.{told, unless_memory, lasting, Refuses, IsStoppedOr, RefusesAsk}
-use Rattle.shared_cluster.specs.Asks.{RefusesSit, RefusesSubmit, RefusesCollect, RefusesTurn}
-use Rattle.shared_cluster.specs.Asks.{IsSitFault, IsSubmitFault, IsCollectFault, IsStopped}
+use Rattle.shared_cluster.specs.Asks.{RefusesCollect, RefusesTurn}
+use Rattle.shared_cluster.specs.Asks.{IsCollectFault, IsStopped}
 use Rattle.shared_cluster.specs.declared.fault.FaultKind.{FaultKind}
 use Rattle.shared_cluster.specs.declared.fault.FaultKind.TheVariants.{Closed, Memory, Exhausted, Failed, NoConn}
 use Rattle.layer_results.specs.Results.{Results}
@@ -38,16 +38,6 @@ refuses_lasting false h IsWhy own kind goes lawful refused is =
     (kept.1, record { lawful = lawful; own = own; is = kept.0; why = refused })
 
 -- ---- of a shared cluster
-
-pub found_sit : {X : Type 0} (r : Result X AskFault) (shut stopped : Bool) (h : HistoryView) → IfErr r (RefusesSit shut stopped h)
-    → IfErr r IsSitFault
-found_sit (Ok seat) shut stopped h refused = tt
-found_sit (Err fault) shut stopped h refused = (shut, stopped, h, refused)
-
-pub found_submit : {X : Type 0} (r : Result X AskFault) (shut stopped : Bool) (h : HistoryView) (s : SeatView) (words : List (List ℕ))
-    → IfErr r (RefusesSubmit shut stopped h s words) → IfErr r (IsSubmitFault s words)
-found_submit (Ok done) shut stopped h s words refused = tt
-found_submit (Err fault) shut stopped h s words refused = (shut, stopped, h, refused)
 
 pub found_collect : {X : Type 0} (r : Result X AskFault) (stopped : Bool) (h : HistoryView) (s : SeatView)
     → IfErr r (RefusesCollect stopped h s) → IfErr r (IsCollectFault s)

@@ -123,11 +123,15 @@ impl<L: Ledger> Shared<L> {
         ensures seat { IfOk result IsNewSeat }
         ensures refused { IfErr result IsSitFault }
     {
-        let seat = self.front.lock(rt).sit();
-        if let Err(fault) = &seat {
-            self.look_for_room(rt, fault.kind());
+        let mut held = self.front.lock(rt);
+        match held.sit() {
+            Ok(seat) => Ok(seat),
+            Err(fault) => {
+                drop(held);
+                self.look_for_room(rt, fault.kind());
+                Err(fault)
+            }
         }
-        seat
     }
 
     /// What the connections that make their own turns pass one at a time.
@@ -538,22 +542,38 @@ impl<L: Ledger> Shared<L> {
         let mut held = self.front.lock(rt);
         // They come to the lock once it is let go.
         self.wake_outcomes(&done);
-        let settled = match held.settle(done) {
-            // What was kept back is there now.
-            Err(Unsettled::Starved(done)) => held.settle(done),
-            settled => settled,
+        let done = match self.settle_once(&mut held, done) {
+            Ok(Some(done)) => done,
+            Ok(None) => return Ok(Turn::Made { settled: true }),
+            Err(fault) => return Err(fault),
         };
-        match settled {
-            Ok(()) => {
-                self.wake_next(&held);
-                Ok(Turn::Made { settled: true })
-            }
-            Err(Unsettled::Starved(done)) => {
+        // What was kept back is there now.
+        match self.settle_once(&mut held, done) {
+            Ok(Some(done)) => {
                 *hand = Hand::HasRun(done);
                 Ok(Turn::Starved)
             }
-            Err(Unsettled::Foreign(fault)) => Err(fault),
+            Ok(None) => Ok(Turn::Made { settled: true }),
+            Err(fault) => Err(fault),
         }
+    }
+
+    /// Tells what came of the layer, and wakes who may bring on what is ready then; or gives it back where there is no memory.
+    fn settle_once(&self, held: &mut Held<L>, done: Done) -> Result<Option<Done>, AskFault>
+        ensures { IfErr result IsStopped }
+    {
+        let unsettled = match held.settle(done) {
+            Ok(()) => {
+                self.wake_next(held);
+                return Ok(None);
+            }
+            Err(unsettled) => unsettled,
+        };
+        let done = match unsettled {
+            Unsettled::Starved(done) => done,
+            Unsettled::Foreign(fault) => return Err(fault),
+        };
+        Ok(Some(done))
     }
 
     /// Runs the layer, under the store's lock alone. Where there is no memory for that it is tried once more, with what is kept

@@ -1,4 +1,4 @@
-use Rattle.std.proofs.Common.{rules, refl}
+use Rattle.std.proofs.Common.{rules}
 use Rattle.cluster.specs.Clusters.{IsSubmitFault}
 use Rattle.shared_cluster.proofs.Refusals.{open_refuses}
 use Rattle.shared_cluster.proofs.held.Held.submit.Goals as goal

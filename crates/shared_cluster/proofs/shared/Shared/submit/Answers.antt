@@ -1,7 +1,6 @@
-use Rattle.shared_cluster.proofs.Refusals.{found_submit}
 use Rattle.shared_cluster.proofs.shared.Shared.submit.Goals as goal
 
-pub returns-clause-refused : goal.returns-clause-refused
-returns-clause-refused g c =
+pub returns-in-Err-clause-refused : goal.returns-in-Err-clause-refused
+returns-in-Err-clause-refused g c =
     let held = c.deref_mut.result.now in
-    found_submit c.submit.result held.shut held.stopped held.cluster.history c.args.seat.now c.args.words c.submit.ensures.refused
+    (held.shut, held.stopped, held.cluster.history, c.in-Err.ensures.refused)
