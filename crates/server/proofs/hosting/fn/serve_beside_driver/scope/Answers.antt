@@ -6,8 +6,8 @@ spawn-requires-send-F g c = λ κs outlives.
     driver_send _ _ g.row.L g.row.R g.L.Ledger _ _ _ _ _ _ record { shared = c.syncs.ensures.shared } c.halves_send.ensures.front
     c.halves_send.ensures.back
 
-pub spawn-requires-else-is_err-send-F : goal.spawn-requires-else-is_err-send-F
-spawn-requires-else-is_err-send-F g c = λ κs outlives.
+pub spawn_scoped-requires-send-F : goal.spawn_scoped-requires-send-F
+spawn_scoped-requires-send-F g c = λ κs outlives.
     carrier_send _ _ g.row.L g.row.R g.L.Ledger _ _ _ _ _ _ record { shared = c.syncs.ensures.shared } c.halves_send.ensures.front
     c.halves_send.ensures.back
 
