@@ -8,12 +8,13 @@ ghost use Rattle.journal.specs.contracts.rows.Rows as rows_type;
 ghost use Rattle.front.specs.contracts.front.Front as front_type;
 ghost use Rattle.back.specs.contracts.back.Back as back_type;
 ghost use Rattle.layer_results.specs.contracts.done.Done as done_type;
+ghost use Rattle.layer_results.specs.contracts.done.DoneRow as done_row_type;
 ghost use Rattle.router.specs.contracts.outcome.Outcome as outcome_type;
 ghost use Rattle.resp.specs.contracts.request.Request as request_type;
 
 use command_table::Command;
 use journal::Rows;
-use layer_results::Done;
+use layer_results::{Done, DoneRow};
 use multicast::Multicast;
 use resp::{Reply, Request};
 use router::{Outcome, Router};
@@ -63,6 +64,13 @@ fn done_sends()
     sends::<Done>();
 }
 
+fn done_row_sends()
+    ensures { IsSend done_row_type.the_row }
+{
+    sends::<Reply>();
+    sends::<DoneRow>();
+}
+
 fn outcome_sends()
     ensures { IsSend outcome_type.the_row }
 {
@@ -82,6 +90,7 @@ pub fn halves_send()
     ensures back { IsSend back_type.the_row }
 {
     done_sends();
+    done_row_sends();
     outcome_sends();
     request_sends();
     router_sends();

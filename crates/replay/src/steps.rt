@@ -45,7 +45,9 @@ pub(super) fn replay_watched<W: Workers, P: Progress>(
     ensures fault { IfErr result (IsFaultOf (W.may_refuse workers.now) table trace.max trace.steps) }
 {
     let mut system = System::new(alloc, table, trace.max())?;
-    make_all(alloc, trace.steps(), &mut system, workers, progress)?;
+    if let Err(fault) = make_all(alloc, trace.steps(), &mut system, workers, progress) {
+        return Err(fault);
+    }
     Ok(report_of(alloc, system)?)
 }
 

@@ -6,4 +6,4 @@ returns-clause-front c =
     front_send c.router_sends.ensures c.multicast_sends.ensures c.rows_sends.ensures c.outcome_sends.ensures c.request_sends.ensures
 
 pub returns-clause-back : goal.returns-clause-back
-returns-clause-back c = back_send c.store_sends.ensures c.rows_sends.ensures c.done_sends.ensures
+returns-clause-back c = back_send c.store_sends.ensures c.rows_sends.ensures c.done_sends.ensures c.done_row_sends.ensures
