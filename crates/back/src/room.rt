@@ -34,6 +34,15 @@ impl ResultsRoom {
         }
     }
 
+    /// Lets the copies of words go that weren't used, as of a layer that isn't run.
+    pub fn clear(&mut self)
+        ensures { HasRoomFor [] self.new }
+    {
+        self.words.clear();
+        self.rows.clear();
+        self.starved.clear();
+    }
+
     /// Makes it the room for what comes of these requests, and takes room for their rows among the others. A layer without requests
     /// takes no memory. The only error is want of memory, which leaves the rows as they were.
     // Inlined, since each layer calls it once.
@@ -44,9 +53,7 @@ impl ResultsRoom {
         ensures rows { rows.new.rows ≡ rows.old.rows }
         ensures none { jobs.now ≡ [] → IsOk result }
     {
-        self.words.clear();
-        self.rows.clear();
-        self.starved.clear();
+        self.clear();
         if jobs.is_empty() {
             return Ok(());
         }

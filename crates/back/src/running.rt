@@ -41,6 +41,7 @@ pub fn run_over<W: Workers>(
         Err(fault) => return Err(fault),
     };
     let Ok(()) = room.reserve(layer.jobs(), rows) else {
+        room.clear();
         return Err(unrun(store, layer));
     };
     match store.run_layer(alloc, layer, skip, workers, gate) {
@@ -48,7 +49,10 @@ pub fn run_over<W: Workers>(
             *last = tell_all(alloc, rows, ended, room);
             Ok(())
         }
-        Err(fault) => Err(fault),
+        Err(fault) => {
+            room.clear();
+            Err(fault)
+        }
     }
 }
 
