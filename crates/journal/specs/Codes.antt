@@ -6,7 +6,7 @@ use Rattle.groups.specs.declared.request.RequestId.{RequestId}
 use Rattle.groups.specs.declared.stamp.Stamp.{Stamp}
 use Rattle.packing.specs.Codes.{number_code, number_at, words_code, words_at, many, WordsFit}
 use Rattle.journal.specs.declared.step.Step.{Step}
-use Rattle.journal.specs.declared.step.Step.TheVariants.{Open, Submit, Deliver, Take, Run, Settle, Collect, Close}
+use Rattle.journal.specs.declared.step.Step.TheVariants.{Open, Submit, Deliver, Take, Run, Settle, Collect, Close, Repeat}
 use Rattle.journal.specs.Views.{RowView}
 use Rattle.journal.specs.declared.trace.TheConstants.{GREATEST_STEPS}
 
@@ -44,6 +44,7 @@ step_code (Run starved) = 4 ∷ ids_code starved
 step_code Settle = 5 ∷ []
 step_code (Collect conn) = 6 ∷ number_code conn.0
 step_code (Close conn) = 7 ∷ number_code conn.0
+step_code (Repeat place) = 8 ∷ number_code place
 
 -- a request has a word
 abbrev pub submit_of : ℕ → List (List ℕ) → Step
@@ -65,6 +66,9 @@ collect_at bytes = let conn = number_at bytes in (Collect (record { 0 = conn.0 }
 unfoldable pub close_at : List ℕ → Step × List ℕ
 close_at bytes = let conn = number_at bytes in (Close (record { 0 = conn.0 }), conn.1)
 
+unfoldable pub repeat_at : List ℕ → Step × List ℕ
+repeat_at bytes = let place = number_at bytes in (Repeat place.0, place.1)
+
 -- the step of this kind at the front of the bytes behind it
 unfoldable pub step_of : ℕ → List ℕ → Step × List ℕ
 step_of kind bytes =
@@ -75,6 +79,7 @@ step_of kind bytes =
     else if kind == 5 then (Settle, bytes)
     else if kind == 6 then collect_at bytes
     else if kind == 7 then close_at bytes
+    else if kind == 8 then repeat_at bytes
     else (Open, bytes)
 
 unfoldable pub step_at : List ℕ → Step × List ℕ
@@ -87,6 +92,7 @@ StepFits (Deliver place) = place < 2 ^ 64
 StepFits (Run starved) = IdsFit starved
 StepFits (Collect conn) = conn.0 < 2 ^ 64
 StepFits (Close conn) = conn.0 < 2 ^ 64
+StepFits (Repeat place) = place < 2 ^ 64
 StepFits Open = Unit {0}
 StepFits Take = Unit {0}
 StepFits Settle = Unit {0}

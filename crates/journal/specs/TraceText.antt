@@ -1,5 +1,5 @@
 -- The text of a trace, line by line, and which texts spell which trace.
-use Rattle.std.specs.Prelude.{◌≡◌, ◌≢◌, ℕ, ◌+◌, ◌-◌, ◌*◌, ◌^◌, ◌≤◌, ◌&&◌, nat_lt, ◌==◌, if◌then◌else◌, List, [], ◌∷◌, ◌++◌, length, map}
+use Rattle.std.specs.Prelude.{◌≡◌, ◌≢◌, ℕ, ◌+◌, ◌-◌, ◌*◌, ◌^◌, ◌≤◌, ◌&&◌, nat_lt, nat_le, ◌==◌, if◌then◌else◌, List, [], ◌∷◌, ◌++◌, length, map}
 use Rattle.std.specs.Prelude.{Option, Some, None, option_map, option_and_then, codes, decimal, bytes_eq}
 use Rattle.std.specs.List.{flat_map, fold, AllZip, AllByRecursion}
 use Rattle.std.specs.Result.{result_ok}
@@ -8,7 +8,7 @@ use Rattle.groups.specs.declared.request.RequestId.{RequestId}
 use Rattle.journal.specs.declared.fault.TraceFault.{TraceFault}
 use Rattle.journal.specs.declared.fault.TraceFault.TheVariants.{Bad, Memory}
 use Rattle.journal.specs.declared.step.Step.{Step}
-use Rattle.journal.specs.declared.step.Step.TheVariants.{Open, Submit, Deliver, Take, Run, Settle, Collect, Close}
+use Rattle.journal.specs.declared.step.Step.TheVariants.{Open, Submit, Deliver, Take, Run, Settle, Collect, Close, Repeat}
 use Rattle.journal.specs.declared.trace.TheConstants.{GREATEST_STEPS}
 use Rattle.journal.specs.declared.version.TheConstants.{GREATEST_VERSION, WRITTEN_VERSION}
 
@@ -39,6 +39,7 @@ step_name (Run starved) = codes "run"
 step_name Settle = codes "settle"
 step_name (Collect conn) = codes "collect"
 step_name (Close conn) = codes "close"
+step_name (Repeat place) = codes "repeat"
 
 abbrev pub step_args : Step → List (List ℕ)
 step_args Open = []
@@ -49,6 +50,7 @@ step_args (Run starved) = map id_text starved
 step_args Settle = []
 step_args (Collect conn) = decimal conn.0 ∷ []
 step_args (Close conn) = decimal conn.0 ∷ []
+step_args (Repeat place) = decimal place ∷ []
 
 -- the parts of a line, with a space between them
 abbrev pub joined : List ℕ → List (List ℕ) → List ℕ
@@ -137,7 +139,7 @@ submit_in (conn ∷ word ∷ words) =
 abbrev pub run_in : List (List ℕ) → Option Step
 run_in args = option_map (λ ids. Run ids) (all_in id_in args)
 
--- the step of this name, in a text of this version
+-- the step of this name, in a text of this version: the first one knows no repeated packets
 abbrev pub named : ℕ → List ℕ → List (List ℕ) → Option Step
 named version name args =
     if bytes_eq name (codes "open") then alone Open args
@@ -148,6 +150,7 @@ named version name args =
     else if bytes_eq name (codes "settle") then alone Settle args
     else if bytes_eq name (codes "collect") then with_number (λ n. Collect (record { 0 = n })) args
     else if bytes_eq name (codes "close") then with_number (λ n. Close (record { 0 = n })) args
+    else if bytes_eq name (codes "repeat") && nat_le 2 version then with_number (λ n. Repeat n) args
     else None
 
 -- the step that a line says in a text of this version

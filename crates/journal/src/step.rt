@@ -31,4 +31,7 @@ pub enum Step {
 
     /// A connection is closed.
     Close { conn: ConnId },
+
+    /// A link repeats the packet at this place of those under way: the copy goes behind all of them.
+    Repeat { place: u64 },
 }

@@ -2,9 +2,12 @@
 -- Guerraoui and Schiper 2001: a process that gets a message adds one to its clock and proposes that timestamp to the
 -- other addressees; when it has all proposals it takes the greatest, and delivers messages in timestamp order once no
 -- message that it still waits for could come before. The floor is this project's own addition; at 0 it changes nothing.
+-- So is what a group does with packets that repeat: it keeps, for each connection, the greatest number of a request that
+-- it has delivered, and a packet of a request that isn't above it changes nothing.
 use Rattle.std.specs.FinMap.{FinMap, get, insert, retain_keys, empty, len}
+use Rattle.std.specs.Ordering.{nat_cmp}
 use Rattle.std.specs.Prelude.{◌≡◌, ◌≢◌, ℕ, suc, ◌+◌, ◌≤◌, Bool, true, false, cond, not, List, [], ◌∷◌, ◌||◌, ◌==◌, max, length, ◌⊎◌, Option}
-use Rattle.std.specs.Prelude.{Some, None, IsSome}
+use Rattle.std.specs.Prelude.{Some, None, IsSome, nat_le}
 use Rattle.groups.specs.GroupSet.{has}
 use Rattle.groups.specs.Order.{In}
 use Rattle.groups.specs.Request.{same_id, id_cmp, source_cmp}
@@ -21,6 +24,7 @@ pub record GroupState : Type 0 where
   pub clock : ℕ
   pub started : FinMap id_cmp (List ℕ)  -- the started requests, with the groups that each addresses
   pub proposals : FinMap source_cmp ℕ  -- the clocks of the proposals, the group's own among them
+  pub reached : FinMap nat_cmp ℕ  -- by connection, the greatest number of a request that was delivered
 
 -- a group by its number, its state, and how many started requests its last receipt looked at
 pub record GroupView : Type 0 where
@@ -29,7 +33,7 @@ pub record GroupView : Type 0 where
   pub looks : ℕ
 
 abbrev pub fresh : GroupState
-fresh = record { clock = 0; started = empty; proposals = empty }
+fresh = record { clock = 0; started = empty; proposals = empty; reached = empty }
 
 -- a group that nothing has come to
 abbrev pub new_group : ℕ → GroupView
@@ -46,6 +50,25 @@ or_zero (Some n) = n
 -- the group's own proposal
 abbrev pub own_at : ℕ → GroupState → RequestId → Stamp
 own_at me grp i = record { clock = or_zero (heard grp i me); group = me }
+
+-- ---- what is past
+
+abbrev pub is_up_to : Option ℕ → ℕ → Bool
+is_up_to None n = false
+is_up_to (Some m) n = nat_le n m
+
+-- this request of its connection, or a later one, was delivered here
+abbrev pub is_past : GroupState → RequestId → Bool
+is_past grp i = is_up_to (get grp.reached i.conn.0) i.seq
+
+-- the numbers once these are delivered
+abbrev pub reached_by : FinMap nat_cmp ℕ → List Delivered → FinMap nat_cmp ℕ
+reached_by reached [] = reached
+reached_by reached (d ∷ ds) =
+    reached_by (insert reached d.id.conn.0 (max (or_zero (get reached d.id.conn.0)) d.id.seq)) ds
+
+abbrev pub reaching : GroupState → List Delivered → GroupState
+reaching grp ds = record grp { reached = reached_by grp.reached ds }
 
 -- ---- the state once the packet is added
 
@@ -125,21 +148,31 @@ ReceivesStart (Some _) me grp id floor groups sent ds new = (sent ≡ []) × (ds
 ReceivesStart None me grp id floor groups sent ds new =
     (sent ≡ tell me id (next_clock grp floor) groups) × Delivering me (lifted (with_start me grp id floor groups) id) ds new
 
--- the group's rule: on this packet about the request it sends and delivers this, and then has that state
-abbrev pub Receives : ℕ → GroupState → RequestId → Body → List Packet → List Delivered → GroupState → Type 0
-Receives me grp id (Start floor groups) sent ds new =
+-- how the groups of a request agree on its stamp: on this packet about it the group sends and delivers this, and then has
+-- that state, but for what it has reached
+abbrev pub Agrees : ℕ → GroupState → RequestId → Body → List Packet → List Delivered → GroupState → Type 0
+Agrees me grp id (Start floor groups) sent ds new =
     ReceivesStart (get grp.started id) me grp id floor groups sent ds new
-Receives me grp id (Proposal from n) sent ds new =
+Agrees me grp id (Proposal from n) sent ds new =
     (sent ≡ []) × Delivering me (lifted (with_proposal grp id from n) id) ds new
 
 -- the receipt of that packet, as a group sees it
 pub record IsReceipt (old : GroupView) (id : RequestId) (body : Body) (sent : List Packet) (ds : List Delivered) (new : GroupView)
     : Type 0 where
   pub me : new.me ≡ old.me
-  pub rule : Receives old.me old.state id body sent ds new.state
+  pub rule : Agrees old.me old.state id body sent ds new.state
   pub few : length ds ≤ len old.state.started + 1
   pub least : length ds ≤ new.looks
   pub most : new.looks ≤ length ds + 2
+
+-- a packet of a request that is past changes nothing
+abbrev pub ReceivesUnless : Bool → ℕ → GroupState → RequestId → Body → List Packet → List Delivered → GroupState → Type 0
+ReceivesUnless true me grp id body sent ds new = (sent ≡ []) × (ds ≡ []) × (new ≡ grp)
+ReceivesUnless false me grp id body sent ds new = (mid : GroupState) × Agrees me grp id body sent ds mid × (new ≡ reaching mid ds)
+
+-- the group's rule: on this packet about the request it sends and delivers this, and then has that state
+abbrev pub Receives : ℕ → GroupState → RequestId → Body → List Packet → List Delivered → GroupState → Type 0
+Receives me grp id body sent ds new = ReceivesUnless (is_past grp id) me grp id body sent ds new
 
 -- ---- what may come
 

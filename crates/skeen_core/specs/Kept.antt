@@ -1,9 +1,10 @@
 -- How a group keeps its state: the started requests by their places, and the proposals.
 use Rattle.std.specs.Prelude.{◌≡◌, ℕ, List, [], ◌∷◌, refl, Option, Some, None, cond}
 use Rattle.std.specs.Coded.{Coded, code_by, coded×, coded_ℕ, coded_list}
-use Rattle.std.specs.FinMap.{FinMap, from_entries, code}
+use Rattle.std.specs.FinMap.{FinMap, empty, from_entries, code}
 use Rattle.std.specs.List.Sorted.{IsStrictlySortedBy}
 use Rattle.std.specs.Map.{keys_of}
+use Rattle.std.specs.Ordering.{nat_cmp}
 use Rattle.groups.specs.GroupSet.{IsAscending}
 use Rattle.groups.specs.Order.{In}
 use Rattle.groups.specs.Request.{same_id, id_cmp, source_cmp}
@@ -19,23 +20,24 @@ use Rattle.skeen_core.specs.Proposals.{id_code, source_code}
 
 abbrev pub state_code : Coded GroupState
 state_code =
-    code_by (ℕ × (FinMap id_cmp (List ℕ) × FinMap source_cmp ℕ))
-    (coded× coded_ℕ (coded× (code id_code (coded_list coded_ℕ)) (code source_code coded_ℕ)))
-    (λ s. (s.clock, (s.started, s.proposals))) (λ p. record { clock = p.0; started = p.1.0; proposals = p.1.1 }) (λ _. refl)
+    code_by (ℕ × (FinMap id_cmp (List ℕ) × (FinMap source_cmp ℕ × FinMap nat_cmp ℕ)))
+    (coded× coded_ℕ (coded× (code id_code (coded_list coded_ℕ)) (coded× (code source_code coded_ℕ) (code coded_ℕ coded_ℕ))))
+    (λ s. (s.clock, (s.started, (s.proposals, s.reached))))
+    (λ p. record { clock = p.0; started = p.1.0; proposals = p.1.1.0; reached = p.1.1.1 }) (λ _. refl)
 
 abbrev pub group_code : Coded GroupView
 group_code =
     code_by (ℕ × (GroupState × ℕ)) (coded× coded_ℕ (coded× state_code coded_ℕ)) (λ g. (g.me, (g.state, g.looks)))
     (λ p. record { me = p.0; state = p.1.0; looks = p.1.1 }) (λ _. refl)
 
--- ---- the state that is shown
+-- ---- the state that is shown, but for what was reached
 
 abbrev pub starts_of : List Entry → List (RequestId × List ℕ)
 starts_of [] = []
 starts_of (e ∷ es) = (e.1.id, e.1.groups) ∷ starts_of es
 
 abbrev pub state_of : ℕ → List Entry → FinMap source_cmp ℕ → GroupState
-state_of clock es ps = record { clock = clock; started = from_entries (starts_of es); proposals = ps }
+state_of clock es ps = record { clock = clock; started = from_entries (starts_of es); proposals = ps; reached = empty }
 
 -- the groups of a started request, if it is one
 abbrev pub groups_in : List Entry → RequestId → Option (List ℕ)

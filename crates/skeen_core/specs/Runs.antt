@@ -1,9 +1,9 @@
 -- What one group does with a list of packets, and what holds of every such run.
-use Rattle.std.specs.Prelude.{◌≡◌, ℕ, ◌≤◌, List, [], ◌∷◌, ◌++◌, Some, None, IsSome}
+use Rattle.std.specs.Prelude.{◌≡◌, ℕ, ◌≤◌, ◌↔◌, ◌⊎◌, true, List, [], ◌∷◌, ◌++◌, Some, None, IsSome}
 use Rattle.std.specs.FinMap.{get}
 use Rattle.groups.specs.Order.{In}
 use Rattle.groups.specs.Stamp.{final}
-use Rattle.skeen_core.specs.Group.{GroupState, fresh, heard, Ascending, Receives, MayCome}
+use Rattle.skeen_core.specs.Group.{GroupState, fresh, heard, is_past, Ascending, Receives, MayCome}
 use Rattle.groups.specs.declared.stamp.Stamp.{Stamp}
 use Rattle.groups.specs.declared.request.RequestId.{RequestId}
 use Rattle.skeen_core.specs.declared.packet.Packet.{Packet}
@@ -60,10 +60,23 @@ DeliveredIsForgotten =
     → Receives me old id body sent ds new →
     (d : Delivered) → In d ds → (get new.started d.id ≡ None) × ((g : ℕ) → heard new d.id g ≡ None)
 
+-- this request of its connection, or a later one, is among these
+abbrev pub HasReached : List Delivered → RequestId → Type 0
+HasReached ds i = (d : Delivered) × In d ds × (d.id.conn.0 ≡ i.conn.0) × (i.seq ≤ d.id.seq)
+
+-- a request is past just where it, or a later one of its connection, was delivered
+abbrev pub PastIsReached : Type 0
+PastIsReached = (me : ℕ) (rs : List Receipt) (new : GroupState) → ReceivesInTurn me fresh rs new → (i : RequestId) →
+    (is_past new i ≡ true) ↔ HasReached (log rs) i
+
 -- the group has that Start or that Proposal already
+abbrev pub HasHeard : GroupState → RequestId → Body → Type 0
+HasHeard grp id (Start floor groups) = IsSome (get grp.started id)
+HasHeard grp id (Proposal from n) = heard grp id from ≡ Some n
+
+-- so it has, or the request is past
 abbrev pub IsRepeat : GroupState → RequestId → Body → Type 0
-IsRepeat grp id (Start floor groups) = IsSome (get grp.started id)
-IsRepeat grp id (Proposal from n) = heard grp id from ≡ Some n
+IsRepeat grp id body = (is_past grp id ≡ true) ⊎ HasHeard grp id body
 
 abbrev pub RepeatsChangeNothing : Type 0
 RepeatsChangeNothing =

@@ -1,4 +1,4 @@
--- The eight kinds of step: when each is accepted, what it answers, and the world after it.
+-- The nine kinds of step: when each is accepted, what it answers, and the world after it.
 use Rattle.std.specs.FinMap.{get, empty}
 use Rattle.std.specs.Prelude.{◌≡◌, ◌≢◌, ℕ, suc, ◌≤◌, Bool, false, cond, ◌||◌, ◌&&◌, ◌==◌, List, [], ◌∷◌, ◌++◌, length, remove, slice_get}
 use Rattle.std.specs.Prelude.{Option, Some, None, Result, Ok, Err}
@@ -6,11 +6,11 @@ use Rattle.command_table.specs.Refusal.{refusal_text}
 use Rattle.command_table.specs.declared.refusal.Refusal.{Refusal}
 use Rattle.delivery.specs.Ready.{IsReady, IsLayer, taken_from, left_in}
 use Rattle.journal.specs.declared.step.Step.{Step}
-use Rattle.journal.specs.declared.step.Step.TheVariants.{Open, Submit, Deliver, Take, Run, Settle, Collect, Close}
+use Rattle.journal.specs.declared.step.Step.TheVariants.{Open, Submit, Deliver, Take, Run, Settle, Collect, Close, Repeat}
 use Rattle.keyspace.specs.Map.{Map}
 use Rattle.placement.specs.Layout.{Layout}
 use Rattle.resp.specs.Content.{Content, ErrorLine, out_of_memory}
-use Rattle.skeen_core.specs.Group.{GroupState, fresh, next_clock, Receives}
+use Rattle.skeen_core.specs.Group.{GroupState, fresh, is_past, next_clock, Receives}
 use Rattle.groups.specs.Request.{same_id}
 use Rattle.groups.specs.Stamp.{final}
 use Rattle.skeen_core.specs.declared.packet.Body.{Body}
@@ -128,7 +128,7 @@ pub record Submits (t : Layout) (old : World) (c : ℕ) (words : List (List ℕ)
 abbrev pub hears : Proposals → RequestId → ℕ → ℕ → Proposals
 hears proposed id from n = λ i g. cond (same_id i id && g == from) (Some n) (proposed i g)
 
--- a group proposes once for a request
+-- a group proposes once for a request, and never again once that is past
 abbrev pub with_own : Option (List ℕ) → Proposals → RequestId → ℕ → ℕ → Proposals
 with_own (Some groups) proposed id me n = proposed
 with_own None proposed id me n = hears proposed id me n
@@ -136,7 +136,7 @@ with_own None proposed id me n = hears proposed id me n
 -- the proposals, with the one that the group makes when it gets this
 abbrev pub now_proposed : Proposals → ℕ → GroupState → RequestId → Body → Proposals
 now_proposed proposed me grp id (Start floor groups) =
-    with_own (get grp.started id) proposed id me (next_clock grp floor)
+    cond (is_past grp id) proposed (with_own (get grp.started id) proposed id me (next_clock grp floor))
 now_proposed proposed me grp id (Proposal from n) = proposed
 
 -- The packet at a place has come to its group, which does with it what the group's rule says. What it sends goes
@@ -158,6 +158,14 @@ pub record Comes (old : World) (k : ℕ) (effect : Effect) (new : World) : Type 
   pub receives : Receives packet.to (old.group packet.to) packet.id packet.body sent delivered state
   pub answers : effect ≡ Made
   pub after : new ≡ received old k packet sent delivered state
+
+-- ---- Repeat: a link repeats a packet, and the copy goes behind all that is under way
+
+pub record Repeats (old : World) (k : ℕ) (effect : Effect) (new : World) : Type 0 where
+  pub packet : Packet
+  pub there : slice_get old.packets k ≡ Some packet
+  pub answers : effect ≡ Made
+  pub after : new ≡ record old { packets = old.packets ++ packet ∷ [] }
 
 -- ---- Take: all requests that are ready or lined up are taken as a layer
 
@@ -284,6 +292,7 @@ Steps t old (Run starved) effect new = RunsLayer old starved effect new
 Steps t old Settle effect new = Settles old effect new
 Steps t old (Collect conn) effect new = Collects (old.standing conn.0) old conn.0 effect new
 Steps t old (Close conn) effect new = Closes old conn.0 effect new
+Steps t old (Repeat k) effect new = Repeats old k effect new
 
 -- the steps are made one after another, with these answers
 abbrev pub Makes : Layout → World → List Step → List Effect → World → Type 0
@@ -341,4 +350,5 @@ Refused w (Run starved) NoLayer = NothingToRun w.layer
 Refused w Settle NoLayer = NothingToSettle w.layer
 Refused w (Collect conn) NoConn = w.standing conn.0 ≡ Closed
 Refused w (Close conn) NoConn = w.standing conn.0 ≡ Closed
+Refused w (Repeat k) NoPacket = length w.packets ≤ k
 Refused w step fault = ⊥

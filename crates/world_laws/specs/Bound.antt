@@ -1,8 +1,9 @@
--- How many steps there can be that bring packets, take layers, run and settle them.
+-- How many steps there can be that bring packets, take layers, run and settle them: a packet that is repeated is brought
+-- once more.
 use Rattle.std.specs.Prelude.{ℕ, ◌+◌, ◌*◌, ◌≤◌, List, [], ◌∷◌, length, Result, Ok, Err}
 use Rattle.command_table.specs.declared.refusal.Refusal.{Refusal}
 use Rattle.journal.specs.declared.step.Step.{Step}
-use Rattle.journal.specs.declared.step.Step.TheVariants.{Open, Submit, Deliver, Take, Run, Settle, Collect, Close}
+use Rattle.journal.specs.declared.step.Step.TheVariants.{Open, Submit, Deliver, Take, Run, Settle, Collect, Close, Repeat}
 use Rattle.placement.specs.Layout.{Layout}
 use Rattle.tasks.specs.Tasks.{Task, task_reading, task_groups}
 use Rattle.world.specs.Steps.{opening, Leads}
@@ -18,6 +19,7 @@ turn (Run starved) = 1
 turn Settle = 1
 turn (Collect conn) = 0
 turn (Close conn) = 0
+turn (Repeat place) = 0
 
 -- how many of these there are
 abbrev pub turns : List Step → ℕ
@@ -35,14 +37,15 @@ allowed_by t (Err refusal) = 0
 
 abbrev pub allowance : Layout → Step → ℕ
 allowance t (Submit conn words) = allowed_by t (task_reading words)
+allowance t (Repeat place) = 1
 allowance t step = 0
 
--- what all submitted requests allow
+-- what all submitted requests and all repeated packets allow
 abbrev pub allowances : Layout → List Step → ℕ
 allowances t [] = 0
 allowances t (s ∷ ss) = allowance t s + allowances t ss
 
--- there are never more such steps than the submitted requests allow
+-- there are never more such steps than these allow
 abbrev pub TurnsAreBounded : Type 0
 TurnsAreBounded = (t : Layout) (steps : List Step) (w : World) → Leads t opening steps w →
     turns steps ≤ allowances t steps

@@ -1,11 +1,11 @@
 -- What the calls of a group, of its queue, of the shards and of the router ask of whoever calls them in these steps,
 -- as far as the world says it.
-use Rattle.std.specs.Prelude.{◌≡◌, ℕ, ◌≤◌, true, List, ◌∷◌, ◌++◌, ◌⊎◌, length, Some}
+use Rattle.std.specs.Prelude.{◌≡◌, ℕ, ◌≤◌, true, false, List, ◌∷◌, ◌++◌, ◌⊎◌, length, Some}
 use Rattle.delivery.specs.Queues.{MayAppend, IsSound}
 use Rattle.groups.specs.GroupSet.{has}
 use Rattle.journal.specs.declared.step.Step.{Step}
 use Rattle.placement.specs.Layout.{Layout}
-use Rattle.skeen_core.specs.Group.{MayCome}
+use Rattle.skeen_core.specs.Group.{is_past, MayCome}
 use Rattle.groups.specs.Order.{In}
 use Rattle.groups.specs.Stamp.{stamp_lt}
 use Rattle.skeen_core.specs.declared.packet.Delivered.{Delivered}
@@ -13,7 +13,7 @@ use Rattle.skeen_core.specs.declared.packet.Packet.{Packet}
 use Rattle.tasks.specs.Tasks.{task_groups}
 use Rattle.world.specs.Steps.{at, opening, Effect, floor_of, Comes, Steps, Leads}
 use Rattle.world.specs.World.{World, Request, Standing, Closed, Idle, Waiting, Answered, Ended, Taken, HasRun}
-use Rattle.world_laws.specs.Good.{Pending, Bounded}
+use Rattle.world_laws.specs.Good.{Pending, Bounded, IsOut, log_of}
 use Rattle.world_laws.specs.Order.{OfEveryWorld, HasFinal}
 use Rattle.journal.specs.declared.trace.TheConstants.{GREATEST_STEPS}
 
@@ -24,6 +24,11 @@ abbrev pub PacketsMayCome : Type 0
 PacketsMayCome = (t : Layout) (steps : List Step) (w : World) → Leads t opening steps w → length steps ≤ GREATEST_STEPS →
     (p : Packet) → In p w.packets →
     MayCome p.to (w.group p.to) p
+
+-- a packet of a request that its group hasn't delivered is heard: what a group leaves out are repeats
+abbrev pub FreshIsHeard : Type 0
+FreshIsHeard = OfEveryWorld (λ t w. (p : Packet) → In p w.packets → ¬ IsOut (log_of w p.to) p.id →
+    is_past (w.group p.to) p.id ≡ false)
 
 -- ---- a queue
 

@@ -1,16 +1,14 @@
 -- What every world is like that a history of steps gives. Each record speaks of the parts of a world that it needs,
 -- so that a step which leaves these parts as they are keeps it.
 use Rattle.std.specs.FinMap.{get, empty}
-use Rattle.std.specs.Option.{is_some}
-use Rattle.std.specs.Prelude.{◌≡◌, ℕ, ◌+◌, ◌<◌, ◌≤◌, Bool, true, false, cond, ◌&&◌, ◌==◌, List, [], ◌∷◌, ◌++◌, ◌⊎◌, Option, Some, None}
-use Rattle.std.specs.Prelude.{IsSome}
+use Rattle.std.specs.Prelude.{◌≡◌, ℕ, ◌<◌, ◌≤◌, ◌↔◌, true, List, [], ◌∷◌, ◌++◌, ◌⊎◌, Option, Some, None, IsSome}
 use Rattle.groups.specs.GroupSet.{has}
 use Rattle.keyspace.specs.Map.{Map}
 use Rattle.placement.specs.Layout.{Layout}
 use Rattle.skeen_core.proofs.Ahead.{Going}
-use Rattle.skeen_core.specs.Group.{GroupState, heard}
+use Rattle.skeen_core.specs.Group.{GroupState, heard, is_past}
+use Rattle.skeen_core.specs.Runs.{HasReached}
 use Rattle.groups.specs.Order.{In}
-use Rattle.groups.specs.Request.{same_id}
 use Rattle.groups.specs.Stamp.{stamp_lt, final}
 use Rattle.skeen_core.specs.declared.packet.Body.{Body}
 use Rattle.skeen_core.specs.declared.packet.Body.TheVariants.{Start, Proposal}
@@ -64,6 +62,8 @@ pub record GroupGood (asked : Asked) (proposed : Proposals) (me : ℕ) (grp : Gr
   pub clock : (i : RequestId) (n : ℕ) → proposed i me ≡ Some n → n ≤ grp.clock
   pub apart : (i j : RequestId) (n : ℕ) → proposed i me ≡ Some n → proposed j me ≡ Some n → i ≡ j
   pub started : (i : RequestId) (gs : List ℕ) → get grp.started i ≡ Some gs → Addressed asked i gs
+  -- it has reached what it has delivered
+  pub past : (i : RequestId) → (is_past grp i ≡ true) ↔ HasReached log i
   -- a request for which the group has proposed is started there, or was delivered
   pub begun : (i : RequestId) (n : ℕ) → proposed i me ≡ Some n → IsSome (get grp.started i) ⊎ IsOut log i
   pub known : (d : Delivered) → In d log → Known asked proposed d
@@ -80,22 +80,6 @@ BodyGood asked proposed to id (Proposal from n) =
 abbrev pub PacketGood : Asked → Proposals → Packet → Type 0
 PacketGood asked proposed p = BodyGood asked proposed p.to p.id p.body
 
-abbrev pub bit : Bool → ℕ
-bit b = cond b 1 0
-
-abbrev pub starts_it : RequestId → ℕ → RequestId → ℕ → Body → Bool
-starts_it i g id to (Start floor groups) = same_id i id && g == to
-starts_it i g id to (Proposal from n) = false
-
--- how many Starts of the request are under way to the group
-abbrev pub starts_of : RequestId → ℕ → List Packet → ℕ
-starts_of i g [] = 0
-starts_of i g (p ∷ ps) = bit (starts_it i g p.id p.to p.body) + starts_of i g ps
-
-abbrev pub addresses : Option Request → ℕ → Bool
-addresses None g = false
-addresses (Some q) g = has q.groups g
-
 -- the Start of the request that goes to the group
 abbrev pub start_to : ℕ → RequestId → Request → Packet
 start_to g i q = record { to = g; id = i; body = Start q.floor q.groups }
@@ -106,9 +90,6 @@ pub record SkeenGood (asked : Asked) (proposed : Proposals) (packets : List Pack
   -- each addressed group has a Start of the request coming, or has proposed
   pub coming : (i : RequestId) (q : Request) (g : ℕ) → asked i ≡ Some q → has q.groups g ≡ true →
       In (start_to g i q) packets ⊎ IsSome (proposed i g)
-  -- and not both, and it has one such Start at most
-  pub counted : (i : RequestId) (g : ℕ) →
-      starts_of i g packets + bit (is_some (proposed i g)) ≡ bit (addresses (asked i) g)
   -- a group proposes for a request that addresses it, above the request's floor
   pub made : (i : RequestId) (g n : ℕ) → proposed i g ≡ Some n →
       (q : Request) × (asked i ≡ Some q) × (q.floor < n) × (has q.groups g ≡ true)
@@ -183,6 +164,11 @@ abbrev pub EarlierEnded : Asked → List Ended → Type 0
 EarlierEnded asked ended = (i j : RequestId) (q r : Request) → i.conn.0 ≡ j.conn.0 → i.seq < j.seq → asked i ≡ Some q →
     asked j ≡ Some r → Named ended i
 
+-- a request that is past at one of its groups was delivered there
+abbrev pub PastIsOut : Asked → (ℕ → GroupState) → (ℕ → List Delivered) → Type 0
+PastIsOut asked group log = (i : RequestId) (q : Request) (g : ℕ) → asked i ≡ Some q → has q.groups g ≡ true →
+    is_past (group g) i ≡ true → IsOut (log g) i
+
 -- its connection waits for it, and has submitted no other since; or it was closed
 abbrev pub Pending : (ℕ → Standing) → (ℕ → ℕ) → RequestId → Type 0
 Pending standing seq i = (standing i.conn.0 ≡ Closed) ⊎ ((standing i.conn.0 ≡ Waiting) × (i.seq ≡ seq i.conn.0))
@@ -227,6 +213,7 @@ pub record WorldGood (t : Layout) (w : World) : Type 0 where
   pub taken : TakenGood w.asked w.proposed w.gone (all_taken w.ended w.layer)
   pub connections : ConnectionsGood w.opened w.standing w.seq w.last w.asked w.ended w.layer
   pub earlier : EarlierEnded w.asked w.ended
+  pub past : PastIsOut w.asked w.group (log_of w)
   pub run : RunGood w.asked w.ended w.contents
 
 -- after n steps no number is above n
