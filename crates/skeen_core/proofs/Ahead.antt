@@ -1,4 +1,4 @@
--- The laws of one group over all lists of packets.
+-- What one packet does to a group that hears it: the clock, what is ahead, and that the rule leaves no choice.
 use Rattle.std.proofs.Common.{◌≡◌, ◌≢◌, ℕ, ◌≤◌, ◌==◌, ◌&&◌, true, false, cond, List, [], ◌∷◌, ◌++◌, inl, inr, Option, Some, None, IsSome}
 use Rattle.std.proofs.Common.{refl, sym, ap, ◌∙◌, subst, arith, eqb-true, eq-eqb, append-nil, append_assoc}
 use Rattle.std.proofs.lemmas.Bool.{both_ways, cases_Bool, and_parts}
@@ -14,11 +14,10 @@ use Rattle.groups.specs.Order.{In}
 use Rattle.groups.specs.Stamp.{stamp_lt, final, place_by}
 use Rattle.groups.specs.Request.{same_id}
 use Rattle.skeen_core.specs.Group.{GroupState, fresh, heard, or_zero, own_at, next_clock, with_start, with_proposal, final_of, lifted}
-use Rattle.skeen_core.specs.Group.{MayGo, Ascending, Delivers, Delivering, has_id, without, tell, ReceivesStart, Receives, BodyMayCome}
+use Rattle.skeen_core.specs.Group.{MayGo, Ascending, Delivers, Delivering, has_id, without, tell, ReceivesStart, Agrees, BodyMayCome}
 use Rattle.skeen_core.specs.Group.{MayCome}
 use Rattle.skeen_core.specs.Lawful.{Sound, Lawful}
-use Rattle.skeen_core.specs.Runs.{Receipt, ReceivesInTurn, log, ClockNeverFalls, TellsAtMost, ClockIsAboveStamps, DeliveriesAscend}
-use Rattle.skeen_core.specs.Runs.{DeliveredIsForgotten, RepeatsChangeNothing, RuleDetermines}
+use Rattle.skeen_core.specs.Runs.{TellsAtMost, HasHeard}
 use Rattle.groups.proofs.Ids.{same_id-true, same_id-refl}
 use Rattle.groups.proofs.Lists.{In-append}
 use Rattle.groups.proofs.Stamps.{lt_irrefl, lt_asym, lt_le, le_lt, lt_from_clocks, final_above, final_within}
@@ -44,7 +43,7 @@ step_start me old id floor groups sent ds new (Some gs) e r = Again r.0 r.1 r.2
 step_start me old id floor groups sent ds new None e r = Begins floor groups e r.1 refl r.0
 
 step : (me : ℕ) (old : GroupState) (id : RequestId) (body : Body) (sent : List Packet) (ds : List Delivered) (new : GroupState)
-    → Receives me old id body sent ds new → Step me old id body sent ds new
+    → Agrees me old id body sent ds new → Step me old id body sent ds new
 step me old id (Start floor groups) sent ds new r = step_start me old id floor groups sent ds new (get old.started id) refl r
 step me old id (Proposal from n) sent ds new r = Hears from n r.1 refl r.0
 
@@ -52,11 +51,21 @@ start_of : (me : ℕ) (old : GroupState) (id : RequestId) (body : Body) (floor :
     → BodyMayCome me old id body → BodyMayCome me old id (Start floor groups)
 start_of me old id body floor groups e m = subst (λ b. BodyMayCome me old id b) e m
 
+-- what the group has reached stays
+pub reached_step : (me : ℕ) (old : GroupState) (id : RequestId) (body : Body) (sent : List Packet) (ds : List Delivered) (new : GroupState)
+    → Agrees me old id body sent ds new → new.reached ≡ old.reached
+reached_step me old id body sent ds new r = by_step (step me old id body sent ds new r)
+  where
+    by_step : Step me old id body sent ds new → new.reached ≡ old.reached
+    by_step (Again s d same) = ap (λ (g : GroupState). g.reached) same
+    by_step (Begins floor groups absent delivering is told) = ap (λ (g : GroupState). g.reached) delivering.after
+    by_step (Hears from n delivering is told) = ap (λ (g : GroupState). g.reached) delivering.after
+
 -- ---- lawful after each packet
 
 pub lawful_step : (me : ℕ) (old : GroupState) (p : Packet) (sent : List Packet) (ds : List Delivered) (new : GroupState) → Lawful me old
     → MayCome me old p →
-    Receives me old p.id p.body sent ds new → Lawful me new
+    Agrees me old p.id p.body sent ds new → Lawful me new
 lawful_step me old p sent ds new lawful may r = by_step (step me old p.id p.body sent ds new r)
   where
     by_step : Step me old p.id p.body sent ds new → Lawful me new
@@ -70,15 +79,10 @@ lawful_step me old p sent ds new lawful may r = by_step (step me old p.id p.body
         subst (λ g. Lawful me g) (sym delivering.after)
         (lawful_without me _ ds (sound_proposal me old p.id from n lawful.sound body.0 body.2) delivering.delivers)
 
-pub lawful_in_turn : (me : ℕ) (old new : GroupState) (rs : List Receipt) → Lawful me old → ReceivesInTurn me old rs new → Lawful me new
-lawful_in_turn me old new [] lawful receives = subst (λ g. Lawful me g) (sym receives) lawful
-lawful_in_turn me old new (r ∷ rs) lawful receives =
-    lawful_in_turn me receives.0 new rs (lawful_step me old r.packet r.sent r.delivered receives.0 lawful receives.1 receives.2) receives.3
-
 -- ---- the clock
 
-clock_step : (me : ℕ) (old : GroupState) (id : RequestId) (body : Body) (sent : List Packet) (ds : List Delivered) (new : GroupState)
-    → Receives me old id body sent ds new → old.clock ≤ new.clock
+pub clock_step : (me : ℕ) (old : GroupState) (id : RequestId) (body : Body) (sent : List Packet) (ds : List Delivered) (new : GroupState)
+    → Agrees me old id body sent ds new → old.clock ≤ new.clock
 clock_step me old id body sent ds new r = by_step (step me old id body sent ds new r)
   where
     by_step : Step me old id body sent ds new → old.clock ≤ new.clock
@@ -93,14 +97,7 @@ clock_step me old id body sent ds new r = by_step (step me old id body sent ds n
         let lifts = lift_grows old.clock (final_of (with_proposal old id from n) id (get old.started id)) in
         omega arith
 
-pub clock_never_falls : ClockNeverFalls
-clock_never_falls me old new [] receives = let clocks = ap (λ (g : GroupState). g.clock) receives in omega arith
-clock_never_falls me old new (r ∷ rs) receives =
-    let first = clock_step me old r.packet.id r.packet.body r.sent r.delivered receives.0 receives.2 in
-    let rest = clock_never_falls me receives.0 new rs receives.3 in
-    omega arith
-
-tells_more : (c d : ℕ) (b : Body) → TellsAtMost c b → c ≤ d → TellsAtMost d b
+pub tells_more : (c d : ℕ) (b : Body) → TellsAtMost c b → c ≤ d → TellsAtMost d b
 tells_more c d (Start floor groups) t more = tt
 tells_more c d (Proposal from n) t more = omega arith
 
@@ -116,8 +113,8 @@ tell_at me id n (g ∷ gs) p there =
       ]
     ] there
 
-told_step : (me : ℕ) (old : GroupState) (id : RequestId) (body : Body) (sent : List Packet) (ds : List Delivered) (new : GroupState)
-    → Receives me old id body sent ds new → (p : Packet) → In p sent → TellsAtMost new.clock p.body
+pub told_step : (me : ℕ) (old : GroupState) (id : RequestId) (body : Body) (sent : List Packet) (ds : List Delivered) (new : GroupState)
+    → Agrees me old id body sent ds new → (p : Packet) → In p sent → TellsAtMost new.clock p.body
 told_step me old id body sent ds new r p there = by_step (step me old id body sent ds new r)
   where
     by_step : Step me old id body sent ds new → TellsAtMost new.clock p.body
@@ -129,14 +126,6 @@ told_step me old id body sent ds new r p there = by_step (step me old id body se
         tells_more (next_clock old floor) new.clock p.body (tell_at me id (next_clock old floor) groups p (subst (λ l. In p l) told there))
         (omega arith)
     by_step (Hears from n delivering is none) = absurd (subst (λ l. In p l) none there)
-
-told_in_turn : (me : ℕ) (old new : GroupState) (rs : List Receipt) → ReceivesInTurn me old rs new → (r : Receipt) (p : Packet) → In r rs
-    → In p r.sent → TellsAtMost new.clock p.body
-told_in_turn me old new [] receives r p there here = absurd there
-told_in_turn me old new (x ∷ xs) receives r p (inl same) here =
-    tells_more _ new.clock p.body (told_step me old x.packet.id x.packet.body x.sent x.delivered receives.0 receives.2 p
-    (subst (λ (y : Receipt). In p y.sent) same here)) (clock_never_falls me receives.0 new xs receives.3)
-told_in_turn me old new (x ∷ xs) receives r p (inr there) here = told_in_turn me receives.0 new xs receives.3 r p there here
 
 -- ---- what is delivered is ahead of what is kept
 
@@ -293,16 +282,16 @@ below_now me grp old ds ahead delivers x y there here =
     let may = delivers.only y here in
     ap (λ o. stamp_lt x.stamp (place_by o (own_at me grp y.id))) (sym may.stamp) ∙ ahead.below x y.id y.groups there may.started
 
--- ---- over a run
+-- ---- all that a group has delivered
 
 pub record Going (me : ℕ) (grp : GroupState) (ds : List Delivered) : Type 0 where
   pub lawful : Lawful me grp
   pub ahead : Ahead me grp ds
   pub ascending : Ascending ds
 
-going_step : (me : ℕ) (old : GroupState) (p : Packet) (sent : List Packet) (before ds : List Delivered) (new : GroupState)
+pub going_step : (me : ℕ) (old : GroupState) (p : Packet) (sent : List Packet) (before ds : List Delivered) (new : GroupState)
     → Going me old before → MayCome me old p →
-    Receives me old p.id p.body sent ds new → Going me new (before ++ ds)
+    Agrees me old p.id p.body sent ds new → Going me new (before ++ ds)
 going_step me old p sent before ds new going may r = record {
   lawful = lawful_step me old p sent ds new going.lawful may r;
   ahead = (by_step (step me old p.id p.body sent ds new r)).0;
@@ -331,15 +320,6 @@ going_step me old p sent before ds new going may r = record {
         from_mid _ (sound_proposal me old p.id from n going.lawful.sound body.0 body.2)
         (ahead_proposal me old p.id from n before going.lawful.sound body.0 body.2 body.3 going.ahead) delivering
 
-going : (me : ℕ) (old new : GroupState) (before : List Delivered) (rs : List Receipt) → Going me old before → ReceivesInTurn me old rs new
-    → Going me new (before ++ log rs)
-going me old new before [] go receives =
-    subst (λ l. Going me new l) (sym (append-nil before)) (subst (λ g. Going me g before) (sym receives) go)
-going me old new before (r ∷ rs) go receives =
-    subst (λ l. Going me new l) (append_assoc before r.delivered (log rs))
-    (going me receives.0 new (before ++ r.delivered) rs
-    (going_step me old r.packet r.sent before r.delivered receives.0 go receives.1 receives.2) receives.3)
-
 pub going_fresh : (me : ℕ) → Going me fresh []
 going_fresh me = record {
   lawful = lawful_fresh me;
@@ -347,23 +327,12 @@ going_fresh me = record {
   ascending = tt;
 }
 
-pub deliveries_ascend : DeliveriesAscend
-deliveries_ascend me rs new receives = (going me fresh new [] rs (going_fresh me) receives).ascending
-
-pub clock_is_above_stamps : ClockIsAboveStamps
-clock_is_above_stamps me rs new receives =
-    let go = going me fresh new [] rs (going_fresh me) receives in
-    record {
-      told = told_in_turn me fresh new rs receives;
-      proposed = λ i n e. (go.lawful.sound.own i n e).0;
-      settled = go.lawful.sound.tops;
-      delivered = go.ahead.clock;
-    }
-
 -- ---- one packet
 
-pub delivered_is_forgotten : DeliveredIsForgotten
-delivered_is_forgotten me old new id body sent ds r d there = by_step (step me old id body sent ds new r)
+pub forgotten_step : (me : ℕ) (old new : GroupState) (id : RequestId) (body : Body) (sent : List Packet) (ds : List Delivered)
+    → Agrees me old id body sent ds new →
+    (d : Delivered) → In d ds → (get new.started d.id ≡ None) × ((g : ℕ) → heard new d.id g ≡ None)
+forgotten_step me old new id body sent ds r d there = by_step (step me old id body sent ds new r)
   where
     gone : (mid : GroupState) → Delivering me mid ds new → (get new.started d.id ≡ None) × ((g : ℕ) → heard new d.id g ≡ None)
     gone mid delivering =
@@ -383,15 +352,16 @@ empty_of : (ds : List Delivered) → ((d : Delivered) → In d ds → ⊥) → d
 empty_of [] none = refl
 empty_of (d ∷ ds) none = absurd (none d (inl refl))
 
-pub repeats_change_nothing : RepeatsChangeNothing
-repeats_change_nothing me rs old new id (Start floor groups) sent ds receives again r = by_start (get old.started id) refl again r
+-- what the group has already changes nothing
+pub again_step : (me : ℕ) (old new : GroupState) (id : RequestId) (body : Body) (sent : List Packet) (ds : List Delivered) →
+    Lawful me old → HasHeard old id body → Agrees me old id body sent ds new → (sent ≡ []) × (ds ≡ []) × (new ≡ old)
+again_step me old new id (Start floor groups) sent ds lawful again r = by_start (get old.started id) refl again r
   where
     by_start : (o : Option (List ℕ)) → get old.started id ≡ o → IsSome o → ReceivesStart o me old id floor groups sent ds new
         → (sent ≡ []) × (ds ≡ []) × (new ≡ old)
     by_start (Some gs) e s r = r
     by_start None e s r = absurd (both_ways _ refl s)
-repeats_change_nothing me rs old new id (Proposal from n) sent ds receives again r =
-    let lawful = lawful_in_turn me fresh old rs (lawful_fresh me) receives in
+again_step me old new id (Proposal from n) sent ds lawful again r =
     let same : lifted (with_proposal old id from n) id ≡ old = ap (λ g. lifted g id) (same_proposal old id from n again)
     ∙ same_lifted me old id lawful.sound in
     let there : Delivering me old ds new = subst (λ g. Delivering me g ds new) same r.1 in
@@ -429,12 +399,14 @@ delivering_same me grp ds ds' new new' a b =
     (λ d there. a.delivers.all d (b.delivers.only d there)) in
     (same, a.after ∙ ap (without grp) same ∙ sym b.after)
 
-pub rule_determines : RuleDetermines
-rule_determines me old new new' id (Start floor groups) sent sent' ds ds' r r' = by_start (get old.started id) r r'
+pub determines_step : (me : ℕ) (old new new' : GroupState) (id : RequestId) (body : Body) (sent sent' : List Packet)
+    (ds ds' : List Delivered) → Agrees me old id body sent ds new → Agrees me old id body sent' ds' new' →
+    (sent ≡ sent') × (ds ≡ ds') × (new ≡ new')
+determines_step me old new new' id (Start floor groups) sent sent' ds ds' r r' = by_start (get old.started id) r r'
   where
     by_start : (o : Option (List ℕ)) → ReceivesStart o me old id floor groups sent ds new
         → ReceivesStart o me old id floor groups sent' ds' new' → (sent ≡ sent') × (ds ≡ ds') × (new ≡ new')
     by_start (Some gs) a b = (a.0 ∙ sym b.0, a.1 ∙ sym b.1, a.2 ∙ sym b.2)
     by_start None a b = let both = delivering_same me _ ds ds' new new' a.1 b.1 in (a.0 ∙ sym b.0, both.0, both.1)
-rule_determines me old new new' id (Proposal from n) sent sent' ds ds' r r' =
+determines_step me old new new' id (Proposal from n) sent sent' ds ds' r r' =
     let both = delivering_same me _ ds ds' new new' r.1 r'.1 in (r.0 ∙ sym r'.0, both.0, both.1)

@@ -50,10 +50,10 @@ heard-without grp ds i g =
     (λ s e. ap (λ (t : Source). not (has_id ds t.id)) (sym (source_antisym (record { id = i; from = g }) s e)))
     ∙ turned (has_id ds i) (heard grp i g)
 
--- two states that answer alike are the same
-pub same_state : (a b : GroupState) → a.clock ≡ b.clock → ((i : RequestId) → get a.started i ≡ get b.started i) →
+-- two states that answer alike, and have reached the same, are the same
+pub same_state : (a b : GroupState) → a.clock ≡ b.clock → a.reached ≡ b.reached → ((i : RequestId) → get a.started i ≡ get b.started i) →
     ((i : RequestId) (g : ℕ) → heard a i g ≡ heard b i g) → a ≡ b
-same_state a b clocks starts hears =
+same_state a b clocks reached starts hears =
     let started = same_map id_total id_antisym a.started b.started starts in
     let proposals = same_map source_total source_antisym a.proposals b.proposals (λ s. hears s.id s.from) in
-    λ k. record { clock = clocks k; started = started k; proposals = proposals k }
+    λ k. record { clock = clocks k; started = started k; proposals = proposals k; reached = reached k }

@@ -6,7 +6,7 @@ use Rattle.std.proofs.Common.{IsSome, is_some, length, refl, sym, ap, ◌∙◌,
 use Rattle.std.proofs.lemmas.Bool.{both_ways, cases_Bool, cases_lt, and_parts}
 use mir.Val.{bool_byte}
 use Rattle.std.specs.BTreeMap.{insert_entry}
-use Rattle.std.specs.FinMap.{FinMap, get, insert}
+use Rattle.std.specs.FinMap.{FinMap, empty, get, insert}
 use Rattle.std.specs.List.Sorted.{IsStrictlySortedBy}
 use Rattle.std.specs.Map.{keys_of, remove_entry}
 use Rattle.std.specs.Ordering.{match_ordering, is_eq}
@@ -111,7 +111,7 @@ module _ {me c : ℕ} {es : List Entry} {ps : FinMap source_cmp ℕ} {id : Reque
       → (state_of c' es' (with_told ps id p)).started ≡ (state_of c es ps).started
       → lift c (final_of (with_proposal (state_of c es ps) id p.from p.clock) id (get (state_of c es ps).started id)) ≡ c'
       → lifted (with_proposal (state_of c es ps) id p.from p.clock) id ≡ state_of c' es' (with_told ps id p)
-  told_shows t es' c' starts clock = λ k. record { clock = clock k; started = sym starts k; proposals = with_told ps id p }
+  told_shows t es' c' starts clock = λ k. record { clock = clock k; started = sym starts k; proposals = with_told ps id p; reached = empty }
 
   -- what the final stamp of a started request is now
   now_final : Told me c es ps id p → (gs : List ℕ) → groups_in es id ≡ Some gs

@@ -246,12 +246,12 @@ pub delivers_none : (me : ℕ) (grp : GroupState) → ((d : Delivered) → MayGo
 delivers_none me grp none = record { ascending = tt; only = λ d there. absurd there; all = λ d may. absurd (none d may) }
 
 pub without_none : (grp : GroupState) → without grp [] ≡ grp
-without_none grp = same_state (without grp []) grp refl (λ i. started-without grp [] i) (λ i g. heard-without grp [] i g)
+without_none grp = same_state (without grp []) grp refl refl (λ i. started-without grp [] i) (λ i g. heard-without grp [] i g)
 
 -- ---- a Proposal that the group has already
 
 pub same_proposal : (grp : GroupState) (id : RequestId) (from n : ℕ) → heard grp id from ≡ Some n → with_proposal grp id from n ≡ grp
-same_proposal grp id from n e = same_state (with_proposal grp id from n) grp refl (λ i. refl)
+same_proposal grp id from n e = same_state (with_proposal grp id from n) grp refl refl (λ i. refl)
     (λ i g. heard-with_proposal grp id from n i g ∙ elim (cases_Bool (same_id i id && g == from)) [
       | inl p ↦ ap (λ b. cond b (Some n) (heard grp i g)) p ∙ sym e
           ∙ ap (λ j. heard grp j from) (sym (same_id-true i id (and_parts _ _ p).0))

@@ -11,3 +11,5 @@ pub mod Changes
 pub mod Starts
 pub mod Hearings
 pub mod Ahead
+pub mod Reaching
+pub mod RunLaws

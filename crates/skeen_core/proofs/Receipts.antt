@@ -3,7 +3,7 @@ use Rattle.std.proofs.Common.{◌≡◌, ℕ, ◌==◌, ◌||◌, Bool, true, fa
 use Rattle.std.proofs.Common.{subst, inl, inr}
 use Rattle.std.proofs.lemmas.Bool.{cases_Bool}
 use Rattle.std.proofs.lemmas.Map.Keys.{sorted_tail}
-use Rattle.std.specs.FinMap.{FinMap, get, from_entries, retain_keys, get-retain_keys, same_map}
+use Rattle.std.specs.FinMap.{FinMap, empty, get, from_entries, retain_keys, get-retain_keys, same_map}
 use Rattle.std.specs.List.Sorted.{IsStrictlySortedBy}
 use Rattle.std.specs.Map.{keys_of}
 use Rattle.groups.specs.declared.request.RequestId.{RequestId}
@@ -88,7 +88,7 @@ without-state_of me c es ps placed =
     ∙ sym (get-retain_keys (state_of c es ps).started (λ j. not (has_id (front es) j)) i
     (λ j e. ap (λ k. not (has_id (front es) k)) (sym (id_antisym i j e)))
     ∙ turned (has_id (front es) i) (get (state_of c es ps).started i))) in
-    λ k. record { clock = c; started = started k; proposals = forgotten (front es) ps }
+    λ k. record { clock = c; started = started k; proposals = forgotten (front es) ps; reached = empty }
 
 -- ---- from a sound state that the entries show
 

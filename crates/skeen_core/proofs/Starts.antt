@@ -3,7 +3,7 @@ use Rattle.std.proofs.Common.{◌≡◌, ℕ, suc, ◌<◌, ◌≤◌, ◌==◌,
 use Rattle.std.proofs.Common.{IsSome, is_some, ◌+◌, length, refl, sym, ap, ◌∙◌, subst, arith, inl, inr, ◌⊎◌, eq-eqb, eqb-true}
 use Rattle.std.proofs.lemmas.Bool.{both_ways, cases_Bool}
 use Rattle.std.specs.BTreeMap.{insert_entry}
-use Rattle.std.specs.FinMap.{FinMap, get, insert, retain_keys, get-retain_keys, same_map}
+use Rattle.std.specs.FinMap.{FinMap, empty, get, insert, retain_keys, get-retain_keys, same_map}
 use Rattle.std.specs.List.Sorted.{IsStrictlySortedBy}
 use Rattle.std.specs.Map.{keys_of}
 use Rattle.std.specs.Ordering.{match_ordering}
@@ -153,7 +153,7 @@ module _ {me c : ℕ} {es : List Entry} {ps : FinMap source_cmp ℕ} {id : Reque
       ∙ ap (lift n) stamp in
       let started = sym (starts_more me c (place_by o (own me n), begun id groups m) es es' ps
       (with_own ps id me n) b.kept.placed.once placed.once replaced) in
-      λ k. record { clock = clock k; started = started k; proposals = proposals k }
+      λ k. record { clock = clock k; started = started k; proposals = proposals k; reached = empty }
 
   -- ---- it waits, or another one is before it
 

@@ -7,7 +7,7 @@
 #![tactic(auto)]
 
 mod coming;
-mod group;
+mod agreement;
 mod heard;
 mod laws;
 mod links;
@@ -17,7 +17,7 @@ mod proposals;
 mod tell;
 
 pub use coming::GREATEST_CLOCK;
-pub use group::Group;
+pub use agreement::Agreement as Group;
 pub use laws::laws_of_one_group;
 pub use links::Links;
 pub use packet::{Body, Delivered, Packet};

@@ -6,7 +6,7 @@ use Rattle.skeen_core.specs.Group.{GroupState, GroupView, heard, CountsKept}
 use Rattle.skeen_core.specs.Kept.{state_of}
 use Rattle.skeen_core.specs.Lawful.{Sound}
 use Rattle.skeen_core.specs.Proposals.{CountsNamed}
-use Rattle.skeen_core.proofs.group.Group.kept.Goals as goal
+use Rattle.skeen_core.proofs.agreement.Agreement.kept.Goals as goal
 
 -- the group has proposed for each request that has started
 own_there : (me : ℕ) (grp : GroupState) (i : RequestId) → Sound me grp → IsSome (get grp.started i) → IsSome (heard grp i me)

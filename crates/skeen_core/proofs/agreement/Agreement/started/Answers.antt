@@ -2,7 +2,7 @@ use Rattle.std.proofs.Common.{◌≡◌, ◌∙◌, sym, subst}
 use Rattle.std.specs.FinMap.{len}
 use Rattle.skeen_core.specs.Group.{GroupView}
 use Rattle.skeen_core.proofs.Fronts.{len-started}
-use Rattle.skeen_core.proofs.group.Group.started.Goals as goal
+use Rattle.skeen_core.proofs.agreement.Agreement.started.Goals as goal
 
 pub returns-clause-count : goal.returns-clause-count
 returns-clause-count c =

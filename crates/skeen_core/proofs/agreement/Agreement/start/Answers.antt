@@ -14,8 +14,8 @@ use Rattle.skeen_core.proofs.Receipts.{Comes, comes_as}
 use Rattle.skeen_core.proofs.Starts.{Begun, begins_free, begins_waits, begins_at_once, begins_receipt, again_receipt, view, none_of}
 use Rattle.skeen_core.proofs.Starts.{some_of}
 use Rattle.skeen_core.proofs.Starts.{begun, with_own}
-use Rattle.skeen_core.proofs.group.Group.start.Goals as goal
-use Rattle.skeen_core.proofs.group.Group.start.Goals.{In_ok-sent, In_ok-enter, After-lifted-self-inside-2}
+use Rattle.skeen_core.proofs.agreement.Agreement.start.Goals as goal
+use Rattle.skeen_core.proofs.agreement.Agreement.start.Goals.{In_ok-sent, In_ok-enter, After-lifted-self-inside-2}
 
 pub returns-then-is_some-clause-done : goal.returns-then-is_some-clause-done
 returns-then-is_some-clause-done c =

@@ -4,13 +4,13 @@ ghost use Rattle.std.specs.FinMap.{len};
 ghost use Rattle.skeen_core.specs.Group.{MayCome, BodyMayCome, CountsKept};
 ghost use Rattle.skeen_core.specs.Proposals.{agrees};
 
-use super::Group;
+use super::Agreement;
 use crate::coming::GREATEST_CLOCK;
 use crate::heard::clock_of;
 use crate::packet::{Body, Packet};
 use groups::RequestId;
 
-impl Group {
+impl Agreement {
     /// The group's clock: at least that of every stamp that it proposed or settled.
     pub fn clock(&self) -> u64
         ensures { result ≡ self.now.state.clock }

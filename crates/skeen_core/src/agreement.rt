@@ -3,7 +3,7 @@
 ghost use Rattle.std.specs.Prelude.{◌≡◌, ◌+◌, ◌≤◌, ◌<◌, ◌⊎◌, [], length, Some, None, IfOk, OnErr, MatchOption};
 ghost use Rattle.std.specs.FinMap.{len};
 ghost use Rattle.groups.specs.Stamp.{final, place_by};
-ghost use Rattle.skeen_core.specs.Group.{fresh, lift, MayCome, BodyMayCome, Receives, IsReceipt};
+ghost use Rattle.skeen_core.specs.Group.{fresh, lift, MayCome, BodyMayCome, Agrees, IsReceipt};
 ghost use Rattle.skeen_core.specs.Heard.{clock_of, with_heard};
 ghost use Rattle.skeen_core.specs.declared.coming.TheConstants.{GREATEST_CLOCK};
 
@@ -22,7 +22,7 @@ mod reads;
 /// One group of the multicast. A contract sees its number, its clock, the started requests with their groups, the
 /// proposals that it has, and how many of its started requests the last receipt looked at.
 #[derive(Drop)]
-pub struct Group {
+pub struct Agreement {
     id: GroupId,
     clock: u64,
     pending: BTreeMap<Stamp, Pending>,
@@ -30,7 +30,7 @@ pub struct Group {
     looks: u64,
 }
 
-impl Model for Group {
+impl Model for Agreement {
     ghost use Rattle.skeen_core.specs.Group.{GroupView};
     ghost use Rattle.skeen_core.specs.Kept.{group_code, state_of, IsKept};
 
@@ -47,14 +47,14 @@ impl Model for Group {
     ghost invariant = { λ g. IsKept g.id g.clock g.pending.entries g.proposals };
 }
 
-impl Group {
+impl Agreement {
     /// The group of this number: its clock is 0, and it keeps no request.
     pub fn new(alloc: Global, id: GroupId) -> Self
         ensures me { result.me ≡ id }
         ensures fresh { result.state ≡ fresh }
         ensures looks { result.looks ≡ 0 }
     {
-        Group {
+        Agreement {
             id,
             clock: 0,
             pending: BTreeMap::new(alloc),
@@ -79,7 +79,7 @@ impl Group {
     ) -> Result<(Vec<Packet>, Vec<Delivered>), AllocError>
         requires { MayCome self.old.me self.old.state packet }
         ensures me { self.new.me ≡ self.old.me }
-        ensures rule { IfOk result (λ out. Receives self.old.me self.old.state packet.id packet.body
+        ensures rule { IfOk result (λ out. Agrees self.old.me self.old.state packet.id packet.body
             out.0.items out.1.items self.new.state) }
         ensures few { IfOk result (λ out. length out.1.items ≤ len self.old.state.started + 1) }
         ensures looks { IfOk result (λ out. (length out.1.items ≤ self.new.looks)

@@ -5,7 +5,7 @@ use Rattle.skeen_core.specs.Kept.{IsKept}
 use Rattle.skeen_core.specs.Pending.{stamp_cmp}
 use Rattle.skeen_core.proofs.Lawful.{lawful_fresh}
 use Rattle.skeen_core.proofs.Receipts.{kept_new}
-use Rattle.skeen_core.proofs.group.Group.new.Goals as goal
+use Rattle.skeen_core.proofs.agreement.Agreement.new.Goals as goal
 
 pub invariant_of-result : goal.invariant_of-result
 invariant_of-result c = subst (λ ps. IsKept c.args.id 0 c.new.result.entries ps) (sym c.new-2.ensures)

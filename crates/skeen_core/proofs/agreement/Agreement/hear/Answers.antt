@@ -2,9 +2,9 @@
 use Rattle.std.proofs.Common.{◌+◌, is_some, sym, ap, ◌∙◌, arith}
 use Rattle.skeen_core.proofs.Hearings.{Hearing, Told, Settles, Done, new, waits, less, settles, no_lower, settles_free, go_few, flag_few}
 use Rattle.skeen_core.proofs.Hearings.{known_done, noted_done, lowered_done, settled_done}
-use Rattle.skeen_core.proofs.group.Group.hear.Goals as goal
-use Rattle.skeen_core.proofs.group.Group.hear.Goals.{After-of-list, Else-is_some, After-new-in_default, In-Some-final_once}
-use Rattle.skeen_core.proofs.group.Group.hear.Goals.{After-new-in_default-final_once, After-stayed}
+use Rattle.skeen_core.proofs.agreement.Agreement.hear.Goals as goal
+use Rattle.skeen_core.proofs.agreement.Agreement.hear.Goals.{After-of-list, Else-is_some, After-new-in_default, In-Some-final_once}
+use Rattle.skeen_core.proofs.agreement.Agreement.hear.Goals.{After-new-in_default-final_once, After-stayed}
 
 hears : (c : After-of-list) → Hearing c.args.self.now c.self.inside.id c.self.inside.clock c.self.inside.pending.entries
     c.self.inside.proposals c.self.inside.looks c.args.id c.args.last c.of-list.result.now
