@@ -11,5 +11,6 @@ pub mod Changes
 pub mod Starts
 pub mod Hearings
 pub mod Ahead
+pub mod Numbers
 pub mod Reaching
 pub mod RunLaws

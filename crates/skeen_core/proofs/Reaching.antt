@@ -5,14 +5,13 @@ use Rattle.std.proofs.lemmas.Bool.{both_ways, cases_Bool, leb-true, leb-false, l
 use Rattle.std.specs.Cmp.{nat_cmp_total, unsigned_tied}
 use Rattle.std.specs.FinMap.{FinMap, get, insert, get-insert, get-empty}
 use Rattle.std.specs.Ordering.{nat_cmp}
-use Rattle.groups.specs.Order.{In}
 use Rattle.groups.specs.declared.request.RequestId.{RequestId}
 use Rattle.groups.proofs.Lists.{In-left, In-right, In-append}
 use Rattle.skeen_core.specs.declared.packet.Delivered.{Delivered}
-use Rattle.skeen_core.specs.Group.{GroupState, fresh, or_zero, is_up_to, is_past, reached_by, reaching, MayGo}
+use Rattle.skeen_core.specs.Group.{GroupState, fresh, or_zero, is_up_to, is_past, reached_by, reaching}
 use Rattle.skeen_core.specs.Lawful.{Sound, Lawful}
 use Rattle.skeen_core.specs.Runs.{HasReached}
-use Rattle.skeen_core.proofs.Ahead.{Ahead, Going}
+use Rattle.skeen_core.proofs.Ahead.{Going}
 
 -- ---- which requests are past
 

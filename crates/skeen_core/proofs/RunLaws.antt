@@ -1,17 +1,19 @@
 -- The laws of one group over all lists of packets.
-use Rattle.std.proofs.Common.{◌≡◌, ℕ, ◌≤◌, ◌↔◌, ◌⊎◌, Bool, true, false, List, [], ◌∷◌, ◌++◌, inl, inr, Option, Some, None, refl, sym, ap, ◌∙◌}
+use Rattle.std.proofs.Common.{◌≡◌, ℕ, ◌≤◌, ◌↔◌, Bool, true, false, List, [], ◌∷◌, ◌++◌, inl, inr, Option, Some, None, refl, sym, ap, ◌∙◌}
 use Rattle.std.proofs.Common.{subst, arith, append-nil, append_assoc}
 use Rattle.std.proofs.lemmas.Bool.{both_ways}
-use Rattle.std.specs.FinMap.{get}
+use Rattle.std.specs.FinMap.{FinMap, get}
+use Rattle.std.specs.Ordering.{nat_cmp}
 use Rattle.groups.specs.Order.{In}
 use Rattle.groups.specs.declared.request.RequestId.{RequestId}
 use Rattle.skeen_core.specs.declared.packet.Packet.{Packet}
 use Rattle.skeen_core.specs.declared.packet.Body.{Body}
+use Rattle.skeen_core.specs.declared.packet.Body.TheVariants.{Start, Proposal}
 use Rattle.skeen_core.specs.declared.packet.Delivered.{Delivered}
-use Rattle.skeen_core.specs.Group.{GroupState, fresh, heard, is_up_to, is_past, reaching, Agrees, ReceivesUnless, Receives, MayCome}
+use Rattle.skeen_core.specs.Group.{GroupState, fresh, heard, is_up_to, is_past, reaching, Delivering, ReceivesStart, Agrees, ReceivesUnless, Receives, MayCome}
 use Rattle.skeen_core.specs.Lawful.{Lawful}
 use Rattle.skeen_core.specs.Runs.{Receipt, ReceivesInTurn, log, ClockNeverFalls, TellsAtMost, ClockIsAboveStamps, DeliveriesAscend}
-use Rattle.skeen_core.specs.Runs.{DeliveredIsForgotten, HasReached, PastIsReached, HasHeard, IsRepeat, RepeatsChangeNothing, RuleDetermines}
+use Rattle.skeen_core.specs.Runs.{DeliveredIsForgotten, HasReached, PastIsReached, RepeatsChangeNothing, RuleDetermines}
 use Rattle.skeen_core.proofs.Lawful.{lawful_fresh}
 use Rattle.skeen_core.proofs.Ahead.{Going, going_fresh, lawful_step, clock_step, tells_more, told_step, going_step, reached_step, forgotten_step}
 use Rattle.skeen_core.proofs.Ahead.{again_step, determines_step}
@@ -41,6 +43,30 @@ heard_receives me old id body sent ds mid e r =
 
 pub past_receives : (me : ℕ) (old : GroupState) (id : RequestId) (body : Body) → is_past old id ≡ true → Receives me old id body [] [] old
 past_receives me old id body e = subst (λ b. ReceivesUnless b me old id body [] [] old) (sym e) (refl, refl, refl)
+
+-- ---- how groups agree doesn't go by what they have reached
+
+delivering_whatever : (me : ℕ) (mid : GroupState) (ds : List Delivered) (new : GroupState) (r : FinMap nat_cmp ℕ) → Delivering me mid ds new →
+    Delivering me (record mid { reached = r }) ds (record new { reached = r })
+delivering_whatever me mid ds new r it = record {
+  delivers = record {
+    ascending = it.delivers.ascending;
+    only = λ d there. let may = it.delivers.only d there in record { started = may.started; stamp = may.stamp; below = may.below };
+    all = λ d may. it.delivers.all d (record { started = may.started; stamp = may.stamp; below = may.below });
+  };
+  after = ap (λ (g : GroupState). record g { reached = r }) it.after;
+}
+
+pub agrees_whatever : (me : ℕ) (old : GroupState) (id : RequestId) (body : Body) (sent : List Packet) (ds : List Delivered)
+    (new : GroupState) (r : FinMap nat_cmp ℕ) → Agrees me old id body sent ds new →
+    Agrees me (record old { reached = r }) id body sent ds (record new { reached = r })
+agrees_whatever me old id (Proposal from n) sent ds new r a = (a.0, delivering_whatever me _ ds new r a.1)
+agrees_whatever me old id (Start floor groups) sent ds new r a = by_started (get old.started id) a
+  where
+    by_started : (o : Option (List ℕ)) → ReceivesStart o me old id floor groups sent ds new →
+        ReceivesStart o me (record old { reached = r }) id floor groups sent ds (record new { reached = r })
+    by_started (Some gs) a = (a.0, a.1, ap (λ (g : GroupState). record g { reached = r }) a.2)
+    by_started None a = (a.0, delivering_whatever me _ ds new r a.1)
 
 -- ---- over a run
 

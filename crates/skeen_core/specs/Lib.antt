@@ -4,5 +4,6 @@ pub mod Heard
 pub mod Proposals
 pub mod Pending
 pub mod Kept
+pub mod Reached
 pub mod Links
 pub mod Runs

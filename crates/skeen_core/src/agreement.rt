@@ -1,5 +1,5 @@
-//! One group: what it does with the packets that come to it. The system hands it each packet that is for it, sends what
-//! it sends, and puts what it delivers in its queue.
+//! How a group agrees with others on the stamps of requests, and what it may deliver then: all of a group but how far it has
+//! got with each connection.
 ghost use Rattle.std.specs.Prelude.{◌≡◌, ◌+◌, ◌≤◌, ◌<◌, ◌⊎◌, [], length, Some, None, IfOk, OnErr, MatchOption};
 ghost use Rattle.std.specs.FinMap.{len};
 ghost use Rattle.groups.specs.Stamp.{final, place_by};
@@ -19,7 +19,7 @@ use std::marker::Model;
 
 mod reads;
 
-/// One group of the multicast. A contract sees its number, its clock, the started requests with their groups, the
+/// A group that hears all packets. A contract sees its number, its clock, the started requests with their groups, the
 /// proposals that it has, and how many of its started requests the last receipt looked at.
 #[derive(Drop)]
 pub struct Agreement {
@@ -63,15 +63,7 @@ impl Agreement {
         }
     }
 
-    /// Receives a packet: gives the packets that the group sends, in order, and the requests that it delivers,
-    /// ascending by their final stamps. The only error is want of memory, and it changes nothing.
-    ///
-    /// The packet is for this group. A Start names this group. A Proposal comes from another group, and its stamp is
-    /// that of no other request's proposal that the group has, and the same as that of the one it has from there for
-    /// this request, if it has one. No clock, here or in the packet, is above 2^62.
-    ///
-    /// It sends fewer packets than the request of a Start has groups, and delivers at most one request more than
-    /// `started` says. Of the started requests it looks at those that it delivers, and at two more at most.
+    /// Receives a packet, as `Group::receive` does where the request isn't past.
     pub fn receive(
         &mut self,
         alloc: Global,
@@ -94,6 +86,15 @@ impl Agreement {
                 Ok((Vec::new(alloc), delivered))
             }
         }
+    }
+
+    /// The last receipt looked at no request.
+    pub fn rest(&mut self)
+        ensures me { self.new.me ≡ self.old.me }
+        ensures state { self.new.state ≡ self.old.state }
+        ensures looks { self.new.looks ≡ 0 }
+    {
+        self.looks = 0;
     }
 
     /// A request begins. If it is new, the group proposes a stamp for it and tells the other groups. Where the other

@@ -6,18 +6,20 @@
 //! outside. The system hands each packet to its group, and the queues take what a group delivers.
 #![tactic(auto)]
 
-mod coming;
 mod agreement;
+mod coming;
+mod group;
 mod heard;
 mod laws;
 mod links;
 mod packet;
 mod pending;
 mod proposals;
+mod reached;
 mod tell;
 
 pub use coming::GREATEST_CLOCK;
-pub use agreement::Agreement as Group;
+pub use group::Group;
 pub use laws::laws_of_one_group;
 pub use links::Links;
 pub use packet::{Body, Delivered, Packet};
