@@ -6,7 +6,8 @@ use Rattle.std.proofs.lemmas.Bool.{cases_lt, cases_Bool, both_ways}
 use Rattle.groups.proofs.Options.{some_same}
 use Rattle.std.specs.FinMap.{get}
 use Rattle.multicast.specs.Multicast.{at, group_of, starts_to, sends_at_most}
-use Rattle.skeen_core.specs.Group.{GroupState, GroupView, fresh, new_group, next_clock, tell, ReceivesStart, Receives}
+use Rattle.skeen_core.specs.Group.{GroupState, GroupView, fresh, new_group, next_clock, tell, ReceivesStart, Agrees, Receives}
+use Rattle.skeen_core.proofs.RunLaws.{Received, Past, Heard, received}
 use Rattle.skeen_core.specs.declared.packet.Body.{Body}
 use Rattle.skeen_core.specs.declared.packet.Body.TheVariants.{Start, Proposal}
 use Rattle.skeen_core.specs.declared.packet.Delivered.{Delivered}
@@ -101,16 +102,24 @@ any_default (y ∷ ys) (suc g) d d' low = any_default ys g d d' (omega arith)
 pub state_at : (gs : List GroupView) (g : ℕ) (v : GroupView) → g < length gs → v ≡ slice_index_or gs g v → group_of gs g ≡ v.state
 state_at gs g v low is = ap (λ (x : GroupView). x.state) (any_default gs g (new_group g) v low ∙ sym is)
 
--- a group sends no more than its packet's groups
-pub sent_few : (me : ℕ) (grp : GroupState) (id : RequestId) (body : Body) (sent : List Packet) (ds : List Delivered) (new : GroupState)
-    → Receives me grp id body sent ds new → length sent ≤ sends_at_most body
-sent_few me grp id (Proposal from n) sent ds new r = let e = ap (λ (ps : List Packet). length ps) r.0 in omega arith
-sent_few me grp id (Start floor groups) sent ds new r = by_started (get grp.started id) r
+agreed_few : (me : ℕ) (grp : GroupState) (id : RequestId) (body : Body) (sent : List Packet) (ds : List Delivered) (new : GroupState)
+    → Agrees me grp id body sent ds new → length sent ≤ sends_at_most body
+agreed_few me grp id (Proposal from n) sent ds new r = let e = ap (λ (ps : List Packet). length ps) r.0 in omega arith
+agreed_few me grp id (Start floor groups) sent ds new r = by_started (get grp.started id) r
   where
     by_started : (o : Option (List ℕ)) → ReceivesStart o me grp id floor groups sent ds new → length sent ≤ length groups
     by_started (Some gs) r = let e = ap (λ (ps : List Packet). length ps) r.0 in omega arith
     by_started None r = let e = ap (λ (ps : List Packet). length ps) r.0 in let few = told_few me id (next_clock grp floor) groups in
         omega arith
+
+-- a group sends no more than its packet's groups
+pub sent_few : (me : ℕ) (grp : GroupState) (id : RequestId) (body : Body) (sent : List Packet) (ds : List Delivered) (new : GroupState)
+    → Receives me grp id body sent ds new → length sent ≤ sends_at_most body
+sent_few me grp id body sent ds new r = by_received (received me grp id body sent ds new r)
+  where
+    by_received : Received me grp id body sent ds new → length sent ≤ sends_at_most body
+    by_received (Past e none d same) = let e = ap (λ (ps : List Packet). length ps) none in omega arith
+    by_received (Heard e mid a same) = agreed_few me grp id body sent ds mid a
 
 -- as many Starts as groups
 pub starts_many : (id : RequestId) (floor : ℕ) (all gs : List ℕ) → length (starts_to id floor all gs) ≡ length gs

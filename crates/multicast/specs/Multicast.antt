@@ -77,6 +77,16 @@ pub record Delivers (old : MulticastView) (place : ℕ) (new : MulticastView) : 
   pub queue : (g : ℕ) → queue_of new.queues g ≡ at (queue_of old.queues) packet.to (queue_of old.queues packet.to ++ delivered) g
   pub count : length new.groups ≡ length old.groups
 
+-- ---- a packet is repeated
+
+-- a copy of the packet at a place goes behind all that is under way
+pub record Repeats (old : MulticastView) (place : ℕ) (new : MulticastView) : Type 0 where
+  pub packet : Packet
+  pub there : slice_get old.packets place ≡ Some packet
+  pub groups : new.groups ≡ old.groups
+  pub packets : new.packets ≡ old.packets ++ packet ∷ []
+  pub queues : new.queues ≡ old.queues
+
 -- ---- a layer is taken
 
 pub record LosesLayer (old : MulticastView) (layer : List Delivered) (new : MulticastView) : Type 0 where

@@ -9,7 +9,7 @@ ghost use Rattle.skeen_core.specs.Group.{fresh, new_group};
 ghost use Rattle.skeen_core.specs.declared.packet.Packet.{Packet};
 ghost use Rattle.skeen_core.specs.declared.packet.Delivered.{Delivered};
 ghost use Rattle.multicast.specs.Multicast.{at, group_of, sends_at_most, IsSame, IsWhole, Begins, MayAppendAll, MayBeDelivered, Delivers};
-ghost use Rattle.multicast.specs.Multicast.{LosesLayer};
+ghost use Rattle.multicast.specs.Multicast.{Repeats, LosesLayer};
 
 use delivery::Queues;
 use groups::{GroupId, Groups, RequestId};
@@ -18,7 +18,7 @@ use std::alloc::{AllocError, Global};
 use std::marker::Model;
 use thiserror::Error;
 
-/// Why no packet came. Nothing was changed. Each reason has its number, from 1.
+/// Why no packet came, or none was repeated. Nothing was changed. Each reason has its number, from 1.
 #[derive(Clone, Copy, Debug, Drop, Error)]
 pub enum DeliverFault {
     /// 1: no packet is at this place.
@@ -148,6 +148,24 @@ impl Multicast {
         let _ = self.links.take(place);
         send_all(&mut self.links, sent);
         append_all(&mut self.queues, to, delivered);
+        Ok(())
+    }
+
+    /// A link repeats the packet at this place: a copy of it goes behind all packets. A refusal changes nothing but the
+    /// room.
+    pub fn repeat(&mut self, place: usize) -> Result<(), DeliverFault>
+        ensures repeats { OnOk result (Repeats self.old place self.new) }
+        ensures no_packet { IfErr result (λ e. e ≡ DeliverFault.NoPacket → length self.old.packets ≤ place) }
+        ensures there { IfErr result (λ e. e ≡ DeliverFault.Memory → place < length self.old.packets) }
+        ensures unchanged { OnErr result (IsSame self.old self.new) }
+    {
+        let Some(packet) = self.links.packet(place) else {
+            return Err(DeliverFault::NoPacket);
+        };
+        let copy = Packet { ..*packet };
+        let Ok(()) = self.links.send(copy) else {
+            return Err(DeliverFault::Memory);
+        };
         Ok(())
     }
 
