@@ -24,7 +24,7 @@ use Rattle.groups.specs.Order.{In}
 use Rattle.groups.specs.declared.request.ConnId.{ConnId}
 use Rattle.groups.specs.declared.request.RequestId.{RequestId}
 use Rattle.journal.specs.declared.step.Step.{Step}
-use Rattle.journal.specs.declared.step.Step.TheVariants.{Open, Submit, Deliver, Take, Run, Settle, Collect, Close}
+use Rattle.journal.specs.declared.step.Step.TheVariants.{Open, Submit, Deliver, Take, Run, Settle, Collect, Close, Repeat}
 use Rattle.placement.specs.Layout.{Layout}
 use Rattle.resp.specs.Content.{Content}
 use Rattle.resp.specs.Text.{text}
@@ -176,6 +176,7 @@ said_now t test i (Run starved) h e old mid step now = absurd now
 said_now t test i Settle h e old mid step now = absurd now
 said_now t test i (Collect conn) h e old mid step now = absurd now
 said_now t test i (Close conn) h e old mid step now = absurd now
+said_now t test i (Repeat k) h e old mid step now = absurd now
 
 -- the words of a request that was submitted
 said_of : (t : Layout) (test : List (List ℕ) → Type 0) (i : RequestId) (h : List Step) (es : List world.Effect) (old new : World) →

@@ -8,7 +8,7 @@ use Rattle.cluster.specs.declared.effect.Effect.TheVariants as effect
 use Rattle.groups.specs.declared.request.ConnId.{ConnId}
 use Rattle.groups.specs.declared.request.RequestId.{RequestId}
 use Rattle.journal.specs.declared.step.Step.{Step}
-use Rattle.journal.specs.declared.step.Step.TheVariants.{Open, Submit, Deliver, Take, Run, Settle, Collect, Close}
+use Rattle.journal.specs.declared.step.Step.TheVariants.{Open, Submit, Deliver, Take, Run, Settle, Collect, Close, Repeat}
 use Rattle.placement.specs.Layout.{Layout}
 use Rattle.router.specs.declared.outcome.Outcome as kept
 use Rattle.world.specs.Steps.{Effect, Opened, Submitted, Collected, Made, Steps, next_id}
@@ -87,6 +87,7 @@ nothing t w w' (Run starved) a kind step = absurd kind
 nothing t w w' Settle a kind step = absurd kind
 nothing t w w' (Collect conn) a kind step = absurd kind
 nothing t w w' (Close conn) a kind step = step.answers
+nothing t w w' (Repeat place) a kind step = absurd kind
 
 -- a step that answers nothing
 pub answers_nothing : (h h' : HistoryView) (s : Step) (e : ours.Effect) → IsUnanswered s → IsLawful h → IsMade h s (effect_shown e) h' →
@@ -105,3 +106,4 @@ plain_answer (Run starved) kind = absurd kind
 plain_answer Settle kind = absurd kind
 plain_answer (Collect conn) kind = absurd kind
 plain_answer (Close conn) kind = tt
+plain_answer (Repeat place) kind = absurd kind

@@ -17,7 +17,7 @@ use Rattle.cluster.specs.Making.{Makes, of_front}
 use Rattle.cluster.specs.declared.fault.StepFault.{StepFault}
 use Rattle.cluster.specs.declared.fault.StepFault.TheVariants.{Memory}
 use Rattle.journal.specs.declared.step.Step.{Step}
-use Rattle.journal.specs.declared.step.Step.TheVariants.{Open, Submit, Deliver, Take, Run, Settle, Collect, Close}
+use Rattle.journal.specs.declared.step.Step.TheVariants.{Open, Submit, Deliver, Take, Run, Settle, Collect, Close, Repeat}
 use Rattle.journal.specs.declared.trace.TheConstants.{GREATEST_STEPS}
 use Rattle.placement.specs.Layout.{Layout}
 use Rattle.skeen_core.specs.declared.packet.Delivered.{Delivered}
@@ -39,6 +39,7 @@ plain_kept (Run starved) out plain = absurd plain
 plain_kept Settle out plain = absurd plain
 plain_kept (Collect conn) out plain = refl
 plain_kept (Close conn) out plain = refl
+plain_kept (Repeat place) out plain = absurd plain
 
 pub kept_few : (out : List Delivered) → kept_for out ≤ 2
 kept_few [] = omega arith
@@ -70,6 +71,7 @@ no_run (Run starved) plain = absurd plain
 no_run Settle plain = absurd plain
 no_run (Collect conn) plain = tt
 no_run (Close conn) plain = tt
+no_run (Repeat place) plain = absurd plain
 
 pub made : (old new : HistoryView) (step : Step) (effect : Effect) → NoRun step → MayGoOn old step →
     Makes old.front step effect new.front → new.max_steps ≡ old.max_steps → new.steps ≡ old.steps ++ step ∷ [] →
@@ -126,6 +128,7 @@ layer_stays t w w' (Run starved) e plain step = absurd plain
 layer_stays t w w' Settle e plain step = absurd plain
 layer_stays t w w' (Collect conn) e plain step = collects_layer w w' conn.0 (w.standing conn.0) e step
 layer_stays t w w' (Close conn) e plain step = ap (λ v. v.layer) step.after
+layer_stays t w w' (Repeat k) e plain step = absurd plain
 
 same_out : (l : Layer) (a b : List Delivered) → IsOut l a → IsOut l b → a ≡ b
 same_out NoneTaken a b here there = here ∙ sym there

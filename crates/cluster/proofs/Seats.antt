@@ -23,7 +23,7 @@ use Rattle.groups.specs.declared.request.ConnId.{ConnId}
 use Rattle.groups.specs.declared.request.RequestId.{RequestId}
 use Rattle.journal.specs.Codes.{steps_size}
 use Rattle.journal.specs.declared.step.Step.{Step}
-use Rattle.journal.specs.declared.step.Step.TheVariants.{Open, Submit, Deliver, Take, Run, Settle, Collect, Close}
+use Rattle.journal.specs.declared.step.Step.TheVariants.{Open, Submit, Deliver, Take, Run, Settle, Collect, Close, Repeat}
 use Rattle.journal.specs.declared.trace.TheConstants.{GREATEST_STEPS}
 use Rattle.layer_planner.specs.declared.job.Job.{Job}
 use Rattle.layer_results.specs.Results.{Results}
@@ -297,6 +297,7 @@ submits_few (s ∷ steps) = omega (arith, submits_few steps, one_at_most s)
     one_at_most Settle = omega arith
     one_at_most (Collect conn) = omega arith
     one_at_most (Close conn) = omega arith
+    one_at_most (Repeat place) = omega arith
 
 submits_by_few : (c : ℕ) (steps : List Step) → submits_by c steps ≤ submits steps
 submits_by_few c [] = omega arith
@@ -314,6 +315,7 @@ submits_by_few c (s ∷ steps) = omega (arith, submits_by_few c steps, no_more s
     no_more Settle = omega arith
     no_more (Collect conn) = omega arith
     no_more (Close conn) = omega arith
+    no_more (Repeat place) = omega arith
 
 -- there are fewer requests than any number that is counted in
 pub requests_few : (all parts requests : ℕ) (lasts : List (ℕ × Last)) (c : ClusterView) → IsCluster all parts requests lasts c →

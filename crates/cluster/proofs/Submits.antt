@@ -6,7 +6,7 @@ use Rattle.std.proofs.lemmas.List.{append_assoc}
 use Rattle.cluster.specs.Submits.{submit_in, submits, submit_by, submits_by, IsSaid, conn_of, LiesAt, IsLast}
 use Rattle.journal.specs.Codes.{steps_size}
 use Rattle.journal.specs.declared.step.Step.{Step}
-use Rattle.journal.specs.declared.step.Step.TheVariants.{Open, Submit, Deliver, Take, Run, Settle, Collect, Close}
+use Rattle.journal.specs.declared.step.Step.TheVariants.{Open, Submit, Deliver, Take, Run, Settle, Collect, Close, Repeat}
 use Rattle.groups.specs.declared.request.ConnId.{ConnId}
 use Rattle.groups.specs.declared.request.RequestId.{RequestId}
 
@@ -44,6 +44,7 @@ no_submit c (Run starved) none = refl
 no_submit c Settle none = refl
 no_submit c (Collect conn) none = refl
 no_submit c (Close conn) none = refl
+no_submit c (Repeat place) none = refl
 
 -- ---- where the last one lies
 

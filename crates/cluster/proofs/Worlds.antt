@@ -7,7 +7,7 @@ use Rattle.std.proofs.lemmas.Bool.{cond-true, cond-false, cases_Bool}
 use Rattle.cluster.specs.Submits.{submit_by, submits_by}
 use Rattle.command_table.specs.declared.refusal.Refusal.{Refusal}
 use Rattle.journal.specs.declared.step.Step.{Step}
-use Rattle.journal.specs.declared.step.Step.TheVariants.{Open, Submit, Deliver, Take, Run, Settle, Collect, Close}
+use Rattle.journal.specs.declared.step.Step.TheVariants.{Open, Submit, Deliver, Take, Run, Settle, Collect, Close, Repeat}
 use Rattle.placement.specs.Layout.{Layout}
 use Rattle.tasks.specs.Tasks.{Task, task_reading, task_groups}
 use Rattle.world.specs.Steps.{at, opening, Effect, Collects, Steps, Makes, Leads, submitted, submitted_to}
@@ -53,6 +53,7 @@ step_seq t w w' (Run starved) e c step = none_more w'.seq w.seq c (ap (λ v. v.s
 step_seq t w w' Settle e c step = none_more w'.seq w.seq c (ap (λ v. v.seq) step.after)
 step_seq t w w' (Collect conn) e c step = none_more w'.seq w.seq c (collects_seq w w' conn.0 (w.standing conn.0) e step)
 step_seq t w w' (Close conn) e c step = none_more w'.seq w.seq c (ap (λ v. v.seq) step.after)
+step_seq t w w' (Repeat k) e c step = none_more w'.seq w.seq c (ap (λ v. v.seq) step.after)
 
 pub makes_seq : (t : Layout) (c : ℕ) (h : List Step) (es : List Effect) (w w' : World) → Makes t w h es w' →
     w'.seq c ≡ w.seq c + submits_by c h
@@ -78,6 +79,7 @@ IsNoOpen (Run starved) = Unit {0}
 IsNoOpen Settle = Unit {0}
 IsNoOpen (Collect conn) = Unit {0}
 IsNoOpen (Close conn) = Unit {0}
+IsNoOpen (Repeat k) = Unit {0}
 
 submitted_to_opened : (w : World) (c : ℕ) (task : Task) (gs : List ℕ) → (submitted_to w c task gs).opened ≡ w.opened
 submitted_to_opened w c task [] = refl
@@ -102,6 +104,7 @@ opened_stays t w w' (Run starved) e plain step = ap (λ v. v.opened) step.after
 opened_stays t w w' Settle e plain step = ap (λ v. v.opened) step.after
 opened_stays t w w' (Collect conn) e plain step = collects_opened w w' conn.0 (w.standing conn.0) e step
 opened_stays t w w' (Close conn) e plain step = ap (λ v. v.opened) step.after
+opened_stays t w w' (Repeat k) e plain step = ap (λ v. v.opened) step.after
 
 -- a connection that is closed isn't one that is not
 apart : (f : ℕ → Standing) (c d : ℕ) (s : Standing) → f c ≡ Closed → f d ≡ s → (Closed ≡ s → ⊥) → (c == d) ≡ false
@@ -152,3 +155,4 @@ closed_stays t w w' Settle e c plain step shut =
     ap (λ v. v.standing c) step.after ∙ settled_closed step.outcomes w.standing c shut
 closed_stays t w w' (Collect conn) e c plain step shut = collects_closed w w' c conn.0 (w.standing conn.0) e refl step shut
 closed_stays t w w' (Close conn) e c plain step shut = ap (λ v. v.standing c) step.after ∙ closes_closed w.standing c conn.0 shut
+closed_stays t w w' (Repeat k) e c plain step shut = ap (λ v. v.standing c) step.after ∙ shut

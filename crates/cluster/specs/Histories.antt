@@ -4,7 +4,7 @@ use Rattle.front.specs.Fronts.{FrontView, Told, retold_outcome, FrontIsAt, HasNo
 use Rattle.cluster.specs.declared.fault.StepFault.{StepFault}
 use Rattle.cluster.specs.declared.fault.StepFault.TheVariants.{Busy, NoConn, NoPacket, InFlight, NoLayer, Exhausted, Memory}
 use Rattle.journal.specs.declared.step.Step.{Step}
-use Rattle.journal.specs.declared.step.Step.TheVariants.{Open, Submit, Deliver, Take, Run, Settle, Collect, Close}
+use Rattle.journal.specs.declared.step.Step.TheVariants.{Open, Submit, Deliver, Take, Run, Settle, Collect, Close, Repeat}
 use Rattle.journal.specs.declared.trace.TheConstants.{GREATEST_STEPS}
 use Rattle.skeen_core.specs.declared.packet.Delivered.{Delivered}
 use Rattle.world.specs.Steps.{OwnFault, Effect, Opened, Submitted, Ran, Collected, Made, Steps, Refused}
@@ -57,6 +57,7 @@ kept_back (Run starved) out = kept_for out
 kept_back Settle out = kept_for out
 kept_back (Collect conn) out = kept_for out
 kept_back (Close conn) out = kept_for out
+kept_back (Repeat place) out = kept_for out
 
 -- the step may be made: fewer were made than may be, apart from those that are kept back
 abbrev pub MayGoOn : HistoryView → Step → Type 0
@@ -124,7 +125,7 @@ IsFault h step Memory = MayGoOn h step × HasNoFault h step
 
 -- ---- kinds of step
 
--- the step hands no layer out and tells nothing of one
+-- the step hands no layer out and tells nothing of one; and it is no link's, which repeats packets of itself
 abbrev pub IsPlain : Step → Type 0
 IsPlain Open = Unit {0}
 IsPlain (Submit conn words) = Unit {0}
@@ -134,6 +135,7 @@ IsPlain (Run starved) = ⊥
 IsPlain Settle = ⊥
 IsPlain (Collect conn) = Unit {0}
 IsPlain (Close conn) = Unit {0}
+IsPlain (Repeat place) = ⊥
 
 -- and it answers nothing
 abbrev pub IsUnanswered : Step → Type 0
@@ -145,3 +147,4 @@ IsUnanswered (Run starved) = ⊥
 IsUnanswered Settle = ⊥
 IsUnanswered (Collect conn) = ⊥
 IsUnanswered (Close conn) = Unit {0}
+IsUnanswered (Repeat place) = ⊥

@@ -2,7 +2,7 @@
 use Rattle.std.specs.Prelude.{◌≡◌, ℕ, suc, ◌+◌, ◌<◌, ◌==◌, cond, List, [], ◌∷◌, ◌++◌}
 use Rattle.journal.specs.Codes.{steps_size}
 use Rattle.journal.specs.declared.step.Step.{Step}
-use Rattle.journal.specs.declared.step.Step.TheVariants.{Open, Submit, Deliver, Take, Run, Settle, Collect, Close}
+use Rattle.journal.specs.declared.step.Step.TheVariants.{Open, Submit, Deliver, Take, Run, Settle, Collect, Close, Repeat}
 use Rattle.groups.specs.declared.request.ConnId.{ConnId}
 use Rattle.groups.specs.declared.request.RequestId.{RequestId}
 
@@ -18,6 +18,7 @@ submit_in (Run starved) = 0
 submit_in Settle = 0
 submit_in (Collect conn) = 0
 submit_in (Close conn) = 0
+submit_in (Repeat place) = 0
 
 abbrev pub submits : List Step → ℕ
 submits [] = 0
@@ -33,6 +34,7 @@ submit_by c (Run starved) = 0
 submit_by c Settle = 0
 submit_by c (Collect conn) = 0
 submit_by c (Close conn) = 0
+submit_by c (Repeat place) = 0
 
 abbrev pub submits_by : ℕ → List Step → ℕ
 submits_by c [] = 0

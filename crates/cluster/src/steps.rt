@@ -1,4 +1,4 @@
-//! The steps of the front that hand no layer out and tell nothing of one, made by what they say.
+//! The steps of the front that hand no layer out and tell nothing of one, made by what they say. A cluster repeats no packet.
 
 ghost use Rattle.std.specs.Prelude.{◌≡◌, IfOk, IfErr, OnErr, IfSome, IfNone};
 ghost use Rattle.front.specs.Refusing.{IsFault, RefusesNot, MayStep};
@@ -43,6 +43,7 @@ pub(super) fn make(front: &mut Front, step: Step) -> Result<Effect, FrontFault>
         Step::Take => unreachable!(),
         Step::Run { starved: _ } => unreachable!(),
         Step::Settle => unreachable!(),
+        Step::Repeat { place: _ } => unreachable!(),
     }
 }
 
@@ -61,5 +62,6 @@ pub(super) fn own_fault(front: &Front, step: &Step) -> Option<FrontFault>
         Step::Take => unreachable!(),
         Step::Run { starved: _ } => unreachable!(),
         Step::Settle => unreachable!(),
+        Step::Repeat { place: _ } => unreachable!(),
     }
 }

@@ -1,4 +1,4 @@
--- Submit and Deliver of a front are steps of the world.
+-- Submit, Deliver and Repeat of a front are steps of the world.
 use Rattle.std.proofs.Common.{◌≡◌, ℕ, zero, suc, Bool, ◌≤◌, true, false, cond, List, [], ◌∷◌, ◌++◌, length, None, ◌⊎◌}
 use Rattle.std.proofs.Common.{Result, Ok, Err, refl, sym, ap, ◌∙◌, subst, arith, append-nil}
 use Rattle.command_table.specs.declared.refusal.Refusal.{Refusal}
@@ -13,8 +13,8 @@ use Rattle.groups.specs.GroupSet.{chosen}
 use Rattle.groups.specs.declared.request.ConnId.{ConnId}
 use Rattle.groups.specs.declared.request.RequestId.{RequestId}
 use Rattle.journal.specs.declared.step.Step.{Step}
-use Rattle.journal.specs.declared.step.Step.TheVariants.{Submit, Deliver}
-use Rattle.multicast.specs.Multicast.{MulticastView, IsSame, Begins, Delivers, group_of, starts_to}
+use Rattle.journal.specs.declared.step.Step.TheVariants.{Submit, Deliver, Repeat}
+use Rattle.multicast.specs.Multicast.{MulticastView, IsSame, Begins, Delivers, Repeats, group_of, starts_to}
 use Rattle.placement.specs.Layout.{Layout, IsTable}
 use Rattle.resp.specs.Content.{Content}
 use Rattle.router.specs.Router.{RouterView, connection}
@@ -23,12 +23,13 @@ use Rattle.router.specs.declared.submission.Submission.{Submission}
 use Rattle.skeen_core.specs.declared.packet.Body.TheVariants.{Start}
 use Rattle.skeen_core.specs.declared.packet.Packet.{Packet}
 use Rattle.system_view.proofs.Connections.{Alike, connection_alike}
-use Rattle.system_view.proofs.Delivering.{shows_deliver}
+use Rattle.system_view.proofs.Delivering.{shows_deliver, shows_repeat}
 use Rattle.system_view.proofs.Submits.{shows_submitted}
 use Rattle.system_view.specs.Connections.{InLayer, IsSettled, IsKeptFor, ShowsConnections}
 use Rattle.system_view.specs.Multicast.{ShowsMulticast}
 use Rattle.world.specs.Steps.{Made, Submitted, opening, next_id, starts, multicast, answered, submitted}
 use Rattle.world.specs.Steps.{submitted_to, floor_of, Comes, Leads, Steps}
+use Rattle.world.specs.Steps as world
 use Rattle.world.specs.World.{World, Request, Waiting, Answered}
 use Rattle.world_laws.proofs.Floors.{floors_stay}
 use Rattle.world_laws.proofs.Worlds.{good_world}
@@ -196,5 +197,42 @@ deliver_makes old m place delivers = record {
             (by_messages told old old.router m w as_world.0 (ap (λ (v : World). v.layer) comes.after)
             (ap (λ (v : World). v.ended) comes.after) at'.shows
             (shows_received old.table h w as_world.0 place told at'.leads comes old.router at'.shows.connections) as_world.2),
+      );
+}
+
+-- ---- Repeat
+
+pub repeats_roomless : (old new : MulticastView) (place : ℕ) → Repeats old place new → Repeats (roomless old) place (roomless new)
+repeats_roomless old new place d =
+    record { packet = d.packet; there = d.there; groups = d.groups; packets = d.packets; queues = d.queues }
+
+-- nor does one that is repeated
+module _ (w w' : World) (k : ℕ) (told : Told) (repeats : world.Repeats w k Made w') where
+  alike_repeated : (c : ℕ) → Alike w w' c
+  alike_repeated c = subst (λ (v : World). Alike w v c) (sym repeats.after)
+      (record { standing = refl; seq = refl; floor = λ free. refl; asked = λ seq. refl; layer = λ seq there. there })
+
+  shows_repeated : (r : RouterView) → ShowsConnections r (retold_world told w) → ShowsConnections r (retold_world told w')
+  shows_repeated r shows = record {
+    opened = shows.opened ∙ sym (ap (λ (v : World). v.opened) repeats.after);
+    each = λ c. connection_alike (connection r c) (retold_world told w) (retold_world told w') c
+        (alike_retold told w w' c (alike_repeated c)) (shows.each c);
+    under_way = λ id q asked. subst (λ (v : World). IsSettled v id ⊎ IsKeptFor r id) (sym repeats.after)
+        (shows.under_way id q (sym (ap (λ (v : World). v.asked id) repeats.after) ∙ asked));
+  }
+
+pub repeat_makes : (old : FrontView) (m : MulticastView) (place : ℕ) → Repeats old.multicast place m →
+    Makes old (Repeat place) Made (stepped old old.router m)
+repeat_makes old m place repeats = record {
+  is_step = is_stepped old old.router m;
+  from_each = λ h w told at'.
+      let as_world = shows_repeat old.table old.multicast w at'.shows.multicast m place repeats in
+      let made : world.Repeats w place Made as_world.0 = as_world.1 in (
+        as_world.0,
+        made,
+        is_after told old (stepped old old.router m) h w as_world.0 (Repeat place) Made refl at' made
+            (by_messages told old old.router m w as_world.0 (ap (λ (v : World). v.layer) made.after)
+            (ap (λ (v : World). v.ended) made.after) at'.shows
+            (shows_repeated w as_world.0 place told made old.router at'.shows.connections) as_world.2),
       );
 }

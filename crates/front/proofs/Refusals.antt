@@ -117,7 +117,7 @@ open_not w NoLayer refused = refused
 pub open_admits : (f : FrontView) → RefusesNot f step.Open
 open_admits f = λ h w told at' fault refused. open_not w fault refused
 
--- ---- Deliver
+-- ---- Deliver and Repeat
 
 deliver_not : (w : World) (place : ℕ) → place < length w.packets → (fault : OwnFault) → ¬ Refused w (step.Deliver place) fault
 deliver_not w place there Busy refused = refused
@@ -125,6 +125,13 @@ deliver_not w place there NoConn refused = refused
 deliver_not w place there NoPacket refused = omega arith
 deliver_not w place there InFlight refused = refused
 deliver_not w place there NoLayer refused = refused
+
+repeat_not : (w : World) (place : ℕ) → place < length w.packets → (fault : OwnFault) → ¬ Refused w (step.Repeat place) fault
+repeat_not w place there Busy refused = refused
+repeat_not w place there NoConn refused = refused
+repeat_not w place there NoPacket refused = omega arith
+repeat_not w place there InFlight refused = refused
+repeat_not w place there NoLayer refused = refused
 
 -- why the multicast brings no packet is why the world doesn't
 pub deliver_refused : (f : FrontView) (place : ℕ) (fault : DeliverFault) →
@@ -135,4 +142,15 @@ deliver_refused f place deliver.NoPacket none there = λ h w told at'.
 deliver_refused f place deliver.Memory none there = (
   tt,
   λ h w told at'. deliver_not w place (subst (λ ps. place < length ps) at'.shows.multicast.packets (there refl)),
+)
+
+-- and why it repeats none
+pub repeat_refused : (f : FrontView) (place : ℕ) (fault : DeliverFault) →
+    (fault ≡ deliver.NoPacket → length f.multicast.packets ≤ place) →
+    (fault ≡ deliver.Memory → place < length f.multicast.packets) → IsFault f (step.Repeat place) (of_deliver fault)
+repeat_refused f place deliver.NoPacket none there = λ h w told at'.
+    subst (λ ps. length ps ≤ place) at'.shows.multicast.packets (none refl)
+repeat_refused f place deliver.Memory none there = (
+  tt,
+  λ h w told at'. repeat_not w place (subst (λ ps. place < length ps) at'.shows.multicast.packets (there refl)),
 )

@@ -5,7 +5,7 @@ use Rattle.front.specs.Fronts.{FrontView, Told, retold_world, IsOut, FrontShows,
 use Rattle.front.specs.Fronts.{IsFront, roomless}
 use Rattle.front.specs.Making.{IsStep, Makes, Collects}
 use Rattle.journal.specs.declared.step.Step.{Step}
-use Rattle.journal.specs.declared.step.Step.TheVariants.{Open, Submit, Deliver, Take, Run, Settle, Collect, Close}
+use Rattle.journal.specs.declared.step.Step.TheVariants.{Open, Submit, Deliver, Take, Run, Settle, Collect, Close, Repeat}
 use Rattle.groups.specs.declared.request.ConnId.{ConnId}
 use Rattle.command_table.specs.declared.refusal.Refusal.{Refusal}
 use Rattle.multicast.specs.Multicast.{MulticastView, IsSame}
@@ -109,6 +109,7 @@ still_unrun t w w' (Run starved) effect plain made not_run = absurd plain
 still_unrun t w w' Settle effect plain made not_run = unrun w w' _ made.after tt
 still_unrun t w w' (Collect conn) effect plain made not_run = collect_unrun (w.standing conn.0) w w' conn.0 effect made not_run
 still_unrun t w w' (Close conn) effect plain made not_run = unrun w w' _ made.after not_run
+still_unrun t w w' (Repeat k) effect plain made not_run = unrun w w' _ made.after not_run
 
 -- the front after a step is as each front is
 module _ (old new : FrontView) (is : IsFront old) (step : Step) (plain : NoRun step) (counts : IsStep old new) where

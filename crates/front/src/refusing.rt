@@ -21,10 +21,10 @@ impl Front {
         }
     }
 
-    /// Why no packet comes of this place, if none does.
+    /// Why the packet at this place neither comes nor is repeated, if it does not.
     pub fn deliver_fault(&self, place: u64) -> Option<FrontFault>
-        ensures some { IfSome result (IsFault self.now (Step.Deliver place)) }
-        ensures none { IfNone result (RefusesNot self.now (Step.Deliver place)) }
+        ensures some { IfSome result (λ fault. IsFault self.now (Step.Deliver place) fault × IsFault self.now (Step.Repeat place) fault) }
+        ensures none { IfNone result (RefusesNot self.now (Step.Deliver place) × RefusesNot self.now (Step.Repeat place)) }
     {
         if place < self.multicast.packets() as u64 {
             None

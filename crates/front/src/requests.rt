@@ -1,4 +1,4 @@
-//! Requests that are submitted, and packets that come to their groups.
+//! Requests that are submitted, and packets that come to their groups or are repeated.
 
 ghost use Rattle.std.specs.Prelude.{◌≡◌, IfOk, IfErr, OnOk, OnErr};
 ghost use Rattle.front.specs.Making.{Makes};
@@ -52,6 +52,20 @@ impl Front {
         ensures unchanged { OnErr result (self.new ≡ self.old) }
     {
         self.multicast.deliver(place as usize)?;
+        self.steps += 1;
+        Ok(())
+    }
+
+    /// A link repeats the packet at this place of those under way: a copy of it goes behind all of them.
+    ///
+    /// Errors, with nothing changed: `NoPacket`, no packet is at this place; `Memory`.
+    pub fn repeat(&mut self, place: u64) -> Result<(), FrontFault>
+        requires { MayStep self.old }
+        ensures made { OnOk result (Makes self.old (Step.Repeat place) Made self.new) }
+        ensures refused { IfErr result (IsFault self.old (Step.Repeat place)) }
+        ensures unchanged { OnErr result (self.new ≡ self.old) }
+    {
+        self.multicast.repeat(place as usize)?;
         self.steps += 1;
         Ok(())
     }

@@ -85,6 +85,7 @@ named_run (step.Run skip) ids starved is are = subst (λ l. AllByRecursion (λ i
 named_run step.Settle ids starved is are = tt
 named_run (step.Collect conn) ids starved is are = tt
 named_run (step.Close conn) ids starved is are = tt
+named_run (step.Repeat place) ids starved is are = tt
 
 named_else : (skip : List RequestId) (e : Effect) → ((starved : List RequestId) → e ≡ effect.Ran starved → ⊥) → AreNamed (step.Run skip) e
 named_else skip (effect.Ran starved) apart = absurd (apart starved refl)
@@ -102,6 +103,7 @@ named_other (step.Run skip) e apart = named_else skip e apart
 named_other step.Settle e apart = tt
 named_other (step.Collect conn) e apart = tt
 named_other (step.Close conn) e apart = tt
+named_other (step.Repeat place) e apart = tt
 
 all_pass : {A : Type 0} (p : A → Bool) (xs : List A) → list_all p xs ≡ true → AllByRecursion (λ x. p x ≡ true) xs
 all_pass p [] pass = tt
@@ -125,6 +127,7 @@ made_itself p t w w' step.Take e starve named made = made
 made_itself p t w w' step.Settle e starve named made = made
 made_itself p t w w' (step.Collect conn) e starve named made = made
 made_itself p t w w' (step.Close conn) e starve named made = made
+made_itself p t w w' (step.Repeat place) e starve named made = made
 made_itself p t w w' (step.Run skip) (effect.Opened conn) starve named made = made
 made_itself p t w w' (step.Run skip) (effect.Submitted id) starve named made = made
 made_itself p t w w' (step.Run skip) (effect.Collected outcome) starve named made = made

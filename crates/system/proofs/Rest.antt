@@ -3,7 +3,7 @@ use Rattle.std.proofs.Common.{◌≡◌, ℕ, true, List, [], ◌∷◌, Some, r
 use Rattle.command_table.specs.declared.refusal.Refusal.{Refusal}
 use Rattle.groups.specs.GroupSet.{has}
 use Rattle.journal.specs.declared.step.Step.{Step}
-use Rattle.journal.specs.declared.step.Step.TheVariants.{Open, Submit, Deliver, Take, Run, Settle, Collect, Close}
+use Rattle.journal.specs.declared.step.Step.TheVariants.{Open, Submit, Deliver, Take, Run, Settle, Collect, Close, Repeat}
 use Rattle.layer_planner.specs.declared.job.Job.{Job}
 use Rattle.placement.specs.Layout.{Layout}
 use Rattle.shard_exec.specs.StoreStates.{StoreState}
@@ -55,6 +55,7 @@ LeavesLayer (Submit conn words) = Unit {0}
 LeavesLayer (Deliver place) = Unit {0}
 LeavesLayer (Collect conn) = Unit {0}
 LeavesLayer (Close conn) = Unit {0}
+LeavesLayer (Repeat place) = Unit {0}
 
 pub is_rest : (t : Layout) (w w' : World) (step : Step) (effect : Effect) → LeavesLayer step → Steps t w step effect w' → IsRest w w'
 is_rest t w w' Open effect leaves made = rest_of w w' _ made.after (record { layer = refl; ended = refl; contents = refl })
@@ -66,6 +67,7 @@ is_rest t w w' (Run starved) effect leaves made = absurd leaves
 is_rest t w w' Settle effect leaves made = absurd leaves
 is_rest t w w' (Collect conn) effect leaves made = collect_rest (w.standing conn.0) w w' conn.0 effect made
 is_rest t w w' (Close conn) effect leaves made = rest_of w w' _ made.after (record { layer = refl; ended = refl; contents = refl })
+is_rest t w w' (Repeat place) effect leaves made = rest_of w w' _ made.after (record { layer = refl; ended = refl; contents = refl })
 
 -- ---- what the halves show
 

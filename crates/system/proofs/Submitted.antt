@@ -2,7 +2,7 @@
 use Rattle.std.proofs.Common.{◌≡◌, ◌≢◌, ℕ, List, [], ◌∷◌, inl, inr, Some, refl, sym, ◌∙◌, subst}
 use Rattle.std.proofs.lemmas.Bool.{cond-true}
 use Rattle.journal.specs.declared.step.Step.{Step}
-use Rattle.journal.specs.declared.step.Step.TheVariants.{Open, Submit, Deliver, Take, Run, Settle, Collect, Close}
+use Rattle.journal.specs.declared.step.Step.TheVariants.{Open, Submit, Deliver, Take, Run, Settle, Collect, Close, Repeat}
 use Rattle.placement.specs.Layout.{Layout}
 use Rattle.groups.proofs.Ids.{same_id-refl}
 use Rattle.groups.specs.Request.{same_id}
@@ -62,6 +62,7 @@ asked_now t old new i (Run starved) e step now = absurd now
 asked_now t old new i Settle e step now = absurd now
 asked_now t old new i (Collect conn) e step now = absurd now
 asked_now t old new i (Close conn) e step now = absurd now
+asked_now t old new i (Repeat k) e step now = absurd now
 
 -- what was submitted to groups is asked
 pub was_asked : (t : Layout) (old new : World) (ss : List Step) (es : List Effect) (i : RequestId) → Makes t old ss es new →

@@ -56,6 +56,7 @@ impl Halves {
             Step::Settle => self.settle(),
             Step::Collect { conn } => self.collect(conn),
             Step::Close { conn } => self.close(conn),
+            Step::Repeat { place } => self.repeat(place),
         }
     }
 
@@ -98,6 +99,21 @@ impl Halves {
         ensures keeps { OnErr result (Keeps self.old self.new) }
     {
         match self.front.deliver(place) {
+            Ok(()) => Ok(Effect::Made),
+            Err(fault) => Err(StepFault::from(fault)),
+        }
+    }
+
+    /// A link repeats the packet at this place.
+    #[inline(never)]
+    fn repeat(&mut self, place: u64) -> Result<Effect, StepFault>
+        requires { Lives self.old }
+        ensures made { IfOk result (λ effect. Makes self.old (Step.Repeat place) effect self.new) }
+        ensures fault { IfErr result (IsFault self.old (Step.Repeat place)) }
+        ensures no_failure { IfErr result (λ fault. fault ≢ StepFault.Failed) }
+        ensures keeps { OnErr result (Keeps self.old self.new) }
+    {
+        match self.front.repeat(place) {
             Ok(()) => Ok(Effect::Made),
             Err(fault) => Err(StepFault::from(fault)),
         }

@@ -26,6 +26,7 @@ impl Halves {
             Step::Settle => self.settle_fault(),
             Step::Collect { conn } => self.collect_fault(*conn),
             Step::Close { conn } => self.collect_fault(*conn),
+            Step::Repeat { place } => self.deliver_fault(*place),
         }
     }
 
@@ -39,9 +40,10 @@ impl Halves {
         }
     }
 
+    /// The fault of a Deliver and of a Repeat.
     fn deliver_fault(&self, place: u64) -> Option<StepFault>
-        ensures some { IfSome result (IsFault self.now (Step.Deliver place)) }
-        ensures none { IfNone result (RefusesNot self.now (Step.Deliver place)) }
+        ensures some { IfSome result (λ fault. IsFault self.now (Step.Deliver place) fault × IsFault self.now (Step.Repeat place) fault) }
+        ensures none { IfNone result (RefusesNot self.now (Step.Deliver place) × RefusesNot self.now (Step.Repeat place)) }
     {
         match self.front.deliver_fault(place) {
             None => None,

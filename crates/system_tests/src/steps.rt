@@ -21,7 +21,7 @@ pub(crate) fn steps_of(alloc: Global, list: &str) -> Result<Vec<Step>, Trouble> 
 }
 
 /// The step that these words say: `open`, `submit CONN WORD ..`, `deliver PLACE`, `take`, `run`, `run CONN.SEQ ..`
-/// where these requests are to starve, `settle`, `collect CONN` or `close CONN`.
+/// where these requests are to starve, `settle`, `collect CONN`, `close CONN` or `repeat PLACE`.
 pub(crate) fn step_of(alloc: Global, words: &str) -> Result<Step, Trouble> {
     let (name, rest) = first_word(words);
     match name {
@@ -38,6 +38,9 @@ pub(crate) fn step_of(alloc: Global, words: &str) -> Result<Step, Trouble> {
         }),
         "close" => Ok(Step::Close {
             conn: conn_of(rest)?,
+        }),
+        "repeat" => Ok(Step::Repeat {
+            place: number_of(rest)?,
         }),
         _ => Err("no step has this name".into()),
     }

@@ -1,4 +1,4 @@
--- A packet that comes in the system comes in the world, and may come.
+-- A packet that comes in the system comes in the world, and may come; one that is repeated is repeated there.
 use Rattle.std.proofs.Common.{◌≡◌, ℕ, zero, suc, ◌<◌, ◌≤◌, ◌==◌, true, false, cond, List, [], ◌∷◌, ◌++◌, inl, inr}
 use Rattle.std.proofs.Common.{length, remove, slice_get, Some, refl, sym, ap, ◌∙◌, subst, eqb-true, eq-eqb, ltb-true}
 use Rattle.std.proofs.Common.{append-nil, append_assoc}
@@ -10,15 +10,16 @@ use Rattle.groups.specs.GroupSet.{has}
 use Rattle.groups.specs.GroupSetLaws.{has-chosen}
 use Rattle.journal.specs.declared.step.Step.{Step}
 use Rattle.multicast.specs.Multicast.{MulticastView, group_of, MayAppendAll, MayBeDelivered, Delivers}
+use Rattle.multicast.specs.Multicast as multicast
 use Rattle.placement.specs.Layout.{Layout}
 use Rattle.groups.proofs.Options.{some_same}
-use Rattle.skeen_core.specs.Group.{GroupState, MayCome, Receives}
+use Rattle.skeen_core.specs.Group.{GroupState, GroupView, MayCome, Receives}
 use Rattle.groups.specs.Order.{In}
 use Rattle.skeen_core.specs.declared.packet.Delivered.{Delivered}
 use Rattle.skeen_core.specs.declared.packet.Packet.{Packet}
 use Rattle.tasks.specs.Tasks.{Task, task_groups}
 use Rattle.system_view.specs.Multicast.{ShowsMulticast}
-use Rattle.world.specs.Steps.{at, opening, Made, Comes, received, Leads}
+use Rattle.world.specs.Steps.{at, opening, Made, Comes, received, Repeats, Leads}
 use Rattle.world.specs.World.{World, Request}
 use Rattle.world_laws.proofs.ConditionLaws.{packets_may_come, deliveries_may_append}
 use Rattle.world_laws.proofs.Worlds.{good_world}
@@ -106,6 +107,24 @@ module _ (t : Layout) (v : MulticastView) (w : World) (shows : ShowsMulticast t 
       groups = λ g. d.group g ∙ ap (λ (f : ℕ → GroupState). at f d.packet.to d.state g) (λ i h. group_is h i);
       packets = d.packets ∙ ap (λ ps. remove ps k ++ d.sent) shows.packets;
       queues = λ g. d.queue g ∙ ap (λ (f : QueueOf). at f d.packet.to (f d.packet.to ++ d.delivered) g) queues_are;
+    },
+  )
+
+  -- where a packet is repeated in the system it is in the world
+  pub shows_repeat : (new : MulticastView) (k : ℕ) → multicast.Repeats v k new → (w' : World) × Repeats w k Made w' × ShowsMulticast t new w'
+  shows_repeat new k d = (
+    record w { packets = w.packets ++ d.packet ∷ [] },
+    record {
+      packet = d.packet;
+      there = subst (λ ps. slice_get ps k ≡ Some d.packet) shows.packets d.there;
+      answers = refl;
+      after = refl;
+    },
+    record {
+      count = ap (λ (gs : List GroupView). length gs) d.groups ∙ shows.count;
+      groups = λ g. ap (λ gs. group_of gs g) d.groups ∙ group_is g;
+      packets = d.packets ∙ ap (λ ps. ps ++ d.packet ∷ []) shows.packets;
+      queues = λ g. ap (λ qs. queue_of qs g) d.queues ∙ ap (λ (f : QueueOf). f g) queues_are;
     },
   )
 

@@ -16,11 +16,13 @@ returns-in-Submit-clause-none c =
 
 pub returns-in-Deliver-clause-some : goal.returns-in-Deliver-clause-some
 returns-in-Deliver-clause-some c =
-    subst (λ s. IfSome c.deliver_fault.result (IsFault c.args.front.now s)) (sym c.in-Deliver.is) c.deliver_fault.ensures.some
+    subst (λ s. IfSome c.deliver_fault.result (IsFault c.args.front.now s)) (sym c.in-Deliver.is)
+    (some_of _ _ c.deliver_fault.result (λ fault why. why.0) c.deliver_fault.ensures.some)
 
 pub returns-in-Deliver-clause-none : goal.returns-in-Deliver-clause-none
 returns-in-Deliver-clause-none c =
-    subst (λ s. IfNone c.deliver_fault.result (RefusesNot c.args.front.now s)) (sym c.in-Deliver.is) c.deliver_fault.ensures.none
+    subst (λ s. IfNone c.deliver_fault.result (RefusesNot c.args.front.now s)) (sym c.in-Deliver.is)
+    (none_of c.deliver_fault.result (λ none. none.0) c.deliver_fault.ensures.none)
 
 pub returns-in-Collect-clause-some : goal.returns-in-Collect-clause-some
 returns-in-Collect-clause-some c =

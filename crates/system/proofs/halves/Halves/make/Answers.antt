@@ -36,6 +36,10 @@ pub returns-in-Close-clause-fault : goal.returns-in-Close-clause-fault
 returns-in-Close-clause-fault g c =
     told_fault c.args.self.now c.close.new.self c.args.step _ c.close.result c.in-Close.is c.close.ensures.fault c.close.ensures.keeps
 
+pub returns-in-Repeat-clause-fault : goal.returns-in-Repeat-clause-fault
+returns-in-Repeat-clause-fault g c =
+    told_fault c.args.self.now c.repeat.new.self c.args.step _ c.repeat.result c.in-Repeat.is c.repeat.ensures.fault c.repeat.ensures.keeps
+
 pub returns-in-Run-clause-fault : goal.returns-in-Run-clause-fault
 returns-in-Run-clause-fault g c =
     subst (λ s. IfErr c.run.result (λ fault. fault ≢ Failed → IsFault c.args.self.now s fault × Keeps c.args.self.now c.run.new.self))

@@ -17,12 +17,12 @@ returns-in-Submit-clause-none c =
 pub returns-in-Deliver-clause-some : goal.returns-in-Deliver-clause-some
 returns-in-Deliver-clause-some c =
     subst (λ s. IfSome c.deliver_fault.result (IsFault c.args.self.now s)) (sym c.in-Deliver.is)
-    c.deliver_fault.ensures.some
+    (some_of _ _ c.deliver_fault.result (λ fault why. why.0) c.deliver_fault.ensures.some)
 
 pub returns-in-Deliver-clause-none : goal.returns-in-Deliver-clause-none
 returns-in-Deliver-clause-none c =
     subst (λ s. IfNone c.deliver_fault.result (RefusesNot c.args.self.now s)) (sym c.in-Deliver.is)
-    c.deliver_fault.ensures.none
+    (none_of c.deliver_fault.result (λ none. none.0) c.deliver_fault.ensures.none)
 
 pub returns-in-Take-clause-some : goal.returns-in-Take-clause-some
 returns-in-Take-clause-some c =
@@ -73,3 +73,13 @@ pub returns-in-Close-clause-none : goal.returns-in-Close-clause-none
 returns-in-Close-clause-none c =
     subst (λ s. IfNone c.collect_fault-in-Close.result (RefusesNot c.args.self.now s)) (sym c.in-Close.is)
     (none_of c.collect_fault-in-Close.result (λ none. none.1) c.collect_fault-in-Close.ensures.none)
+
+pub returns-in-Repeat-clause-some : goal.returns-in-Repeat-clause-some
+returns-in-Repeat-clause-some c =
+    subst (λ s. IfSome c.deliver_fault-in-Repeat.result (IsFault c.args.self.now s)) (sym c.in-Repeat.is)
+    (some_of _ _ c.deliver_fault-in-Repeat.result (λ fault why. why.1) c.deliver_fault-in-Repeat.ensures.some)
+
+pub returns-in-Repeat-clause-none : goal.returns-in-Repeat-clause-none
+returns-in-Repeat-clause-none c =
+    subst (λ s. IfNone c.deliver_fault-in-Repeat.result (RefusesNot c.args.self.now s)) (sym c.in-Repeat.is)
+    (none_of c.deliver_fault-in-Repeat.result (λ none. none.1) c.deliver_fault-in-Repeat.ensures.none)
