@@ -140,6 +140,7 @@ module _ (t : Layout) (w w' : World) (n : ℕ) (before' after : SystemView) (sho
   other before.Settle e is put = absurd is
   other (before.Collect conn) e is put = put
   other (before.Close conn) e is put = put
+  other before.Repeat e is put = put
 
   -- a packet comes
   clocks : (g : ℕ) → clock_of before' g ≡ (w.group g).clock
@@ -277,6 +278,8 @@ module _ (t : Layout) (w w' : World) (n : ℕ) (before' after : SystemView) (sho
       refl
   tells (step.Close conn) e b landed is was lands put =
       plain (other b e was put) (ap (λ v. v.layer) is.after) (step.Close conn) refl refl refl refl
+  tells (step.Repeat k) e b landed is was lands put =
+      plain (other b e was put) (ap (λ v. v.layer) is.after) (step.Repeat k) refl refl refl refl
 
 -- ---- a run
 

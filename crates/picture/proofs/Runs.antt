@@ -104,6 +104,7 @@ packets_after t old new step.Settle e is = ([], ap (λ w. w.packets) is.after �
 packets_after t old new (step.Collect conn) e is =
     ([], collected (old.standing conn.0) old new conn.0 e is ∙ sym (append-nil old.packets))
 packets_after t old new (step.Close conn) e is = ([], ap (λ w. w.packets) is.after ∙ sym (append-nil old.packets))
+packets_after t old new (step.Repeat k) e is = (is.packet ∷ [], ap (λ w. w.packets) is.after)
 
 -- ---- the layer
 

@@ -84,6 +84,7 @@ IsOther before.Open = Unit {0}
 IsOther (before.Submit words title) = Unit {0}
 IsOther (before.Collect conn) = Unit {0}
 IsOther (before.Close conn) = Unit {0}
+IsOther before.Repeat = Unit {0}
 IsOther b = ⊥
 
 -- what is to be known of the step, which brings this packet to its group, if one, in this system
@@ -96,6 +97,7 @@ IsBefore step.Open landed s b = IsOther b
 IsBefore (step.Submit conn words) landed s b = IsOther b
 IsBefore (step.Collect conn) landed s b = IsOther b
 IsBefore (step.Close conn) landed s b = IsOther b
+IsBefore (step.Repeat place) landed s b = IsOther b
 
 -- the step behind so many, of which this was known, was answered so and led to this system
 abbrev pub Notes : ℕ → Before → Effect → SystemView → Recorder → Recorder → Type 0

@@ -1,6 +1,6 @@
 -- The words of steps.
 use Rattle.journal.specs.declared.step.Step.{Step}
-use Rattle.journal.specs.declared.step.Step.TheVariants.{Open, Submit, Deliver, Take, Run, Settle, Collect, Close}
+use Rattle.journal.specs.declared.step.Step.TheVariants.{Open, Submit, Deliver, Take, Run, Settle, Collect, Close, Repeat}
 use Rattle.picture_shapes.specs.declared.facts.StepWord.{StepWord}
 use Rattle.picture_shapes.specs.declared.facts.StepWord.TheVariants as word
 
@@ -13,3 +13,4 @@ word_of (Run starved) = word.Run
 word_of Settle = word.Settle
 word_of (Collect conn) = word.Collect
 word_of (Close conn) = word.Close
+word_of (Repeat place) = word.Repeat place

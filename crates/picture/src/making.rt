@@ -98,6 +98,7 @@ fn word_of(step: &Step) -> StepWord
         Step::Settle => StepWord::Settle,
         Step::Collect { .. } => StepWord::Collect,
         Step::Close { .. } => StepWord::Close,
+        Step::Repeat { place } => StepWord::Repeat(*place),
     }
 }
 

@@ -32,6 +32,7 @@ pub(super) enum Before {
     Settle,
     Collect { conn: ConnId },
     Close { conn: ConnId },
+    Repeat,
 }
 
 impl Before {
@@ -57,6 +58,7 @@ impl Before {
             Step::Settle => Ok(Before::Settle),
             Step::Collect { conn } => Ok(Before::Collect { conn: *conn }),
             Step::Close { conn } => Ok(Before::Close { conn: *conn }),
+            Step::Repeat { place: _ } => Ok(Before::Repeat),
         }
     }
 }
@@ -174,6 +176,7 @@ impl Recorder {
                 self.requests.close(step, conn);
                 Ok(())
             }
+            Before::Repeat => Ok(()),
         }
     }
 

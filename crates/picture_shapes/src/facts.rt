@@ -24,6 +24,8 @@ pub enum StepWord {
     Settle,
     Collect,
     Close,
+    /// A copy of the packet at this place was sent behind all others.
+    Repeat(u64),
 }
 
 /// A connection: the steps at which it was opened and closed.

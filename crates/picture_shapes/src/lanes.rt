@@ -41,10 +41,11 @@ fn write_word(word: Option<&StepWord>, x: u64, canvas: &mut Canvas) {
         Some(StepWord::Settle) => b"settle",
         Some(StepWord::Collect) => b"collect",
         Some(StepWord::Close) => b"close",
+        Some(StepWord::Repeat(_)) => b"+#",
     };
     let (look, name) = (Look::plain("mute mid"), Piece::Text(name));
     match word {
-        Some(StepWord::Deliver(place)) => {
+        Some(StepWord::Deliver(place)) | Some(StepWord::Repeat(place)) => {
             canvas.write(look, x, 86, &[name, Piece::Number(*place)]);
         }
         _ => canvas.write(look, x, 86, &[name]),
