@@ -22,9 +22,6 @@ use std::alloc::{AllocError, Global};
 use std::marker::Model;
 use std::mem;
 
-/// For how many rows there is room at least beyond those that are there, once it was taken.
-const ROWS_AHEAD: usize = 256;
-
 /// A store of shards with the rows of all that was executed there. Contracts see the store, the rows, and what came of the
 /// last layer that was run, as long as it isn't handed over.
 ///
@@ -35,8 +32,6 @@ pub struct Back {
     alloc: Global,
     store: Store,
     rows: Rows,
-    // At how many rows room has to be taken again.
-    full_at: usize,
     last: Done,
     room: ResultsRoom,
 }
@@ -67,7 +62,6 @@ impl Back {
             alloc,
             store,
             rows: Rows::new(alloc),
-            full_at: 0,
             last: Done::none(alloc),
             room: ResultsRoom::new(alloc),
         })
@@ -124,12 +118,7 @@ impl Back {
     pub fn take_room_ahead(&mut self) -> Result<(), AllocError>
         ensures { self.new ≡ self.old }
     {
-        if self.rows.len() < self.full_at {
-            return Ok(());
-        }
-        self.rows.reserve(2 * ROWS_AHEAD)?;
-        self.full_at = self.rows.len().saturating_add(ROWS_AHEAD);
-        Ok(())
+        self.rows.reserve_ahead()
     }
 
     /// The rows of what was executed, in the order of execution.

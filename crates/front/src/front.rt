@@ -12,9 +12,6 @@ use skeen_core::Delivered;
 use std::alloc::{AllocError, Global};
 use std::marker::Model;
 
-/// For how many rows there is room at least beyond those that are there, once it was taken ahead.
-const ROWS_AHEAD: usize = 256;
-
 /// Connections, groups with their packets and queues, the layer that is out, and what was settled.
 ///
 /// Contracts see its parts, how many of its calls made a step, and how many layers were settled. For some history of these
@@ -29,8 +26,6 @@ pub struct Front {
     pub(super) multicast: Multicast,
     pub(super) out: Vec<Delivered>,
     pub(super) rows: Rows,
-    // At how many rows room has to be taken again before a request is let in.
-    pub(super) full_at: usize,
     pub(super) starved: Vec<RequestId>,
     pub(super) whole: bool,
     pub(super) steps: u64,
@@ -85,7 +80,6 @@ impl Front {
             multicast,
             out: Vec::new(alloc),
             rows: Rows::new(alloc),
-            full_at: 0,
             starved: Vec::new(alloc),
             whole: true,
             steps: 0,
@@ -98,11 +92,6 @@ impl Front {
     pub fn take_room_ahead(&mut self) -> Result<(), AllocError>
         ensures { self.new ≡ self.old }
     {
-        if self.rows.len() < self.full_at {
-            return Ok(());
-        }
-        self.rows.reserve(2 * ROWS_AHEAD)?;
-        self.full_at = self.rows.len().saturating_add(ROWS_AHEAD);
-        Ok(())
+        self.rows.reserve_ahead()
     }
 }
