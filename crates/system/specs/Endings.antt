@@ -57,6 +57,6 @@ SomeMayBeMade HasRun s = MayBeMade s Settle
 -- ---- how many steps there can be
 
 -- whatever history led here, it has no more steps that bring packets, take layers, run or settle them than its
--- submitted requests allow: k * k + 3 for each request of k groups
+-- submitted requests and repeated packets allow: k * k + 3 for each request of k groups, and 1 for each packet
 abbrev pub TurnsAreFew : SystemView → Type 0
 TurnsAreFew s = (h : List Step) (w : World) → IsAt s.halves h w → turns h ≤ allowances (table_of s) h
