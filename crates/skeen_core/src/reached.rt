@@ -70,8 +70,11 @@ impl Reached {
             ≡ insert self.old.numbers id.conn.0 (max (or_zero (get self.old.numbers id.conn.0)) id.seq) }
         ensures room { self.old.room ≤ self.new.room + 1 }
     {
-        let number = greater(self.number(id.conn), id.seq);
-        let Ok(_) = self.numbers.insert(id.conn.0, number) else {
+        if let Some(number) = self.numbers.get_mut(&id.conn.0) {
+            *number = (*number).max(id.seq);
+            return;
+        }
+        let Ok(_) = self.numbers.insert(id.conn.0, id.seq) else {
             unreachable!()
         };
     }
@@ -84,15 +87,5 @@ impl Reached {
         for request in delivered {
             self.deliver(request.id);
         }
-    }
-}
-
-/// The greater one of the number that was reached, if there is one, and this one.
-fn greater(reached: Option<u64>, number: u64) -> u64
-    ensures { result ≡ max (or_zero reached) number }
-{
-    match reached {
-        Some(reached) => reached.max(number),
-        None => number,
     }
 }
