@@ -1,40 +1,36 @@
--- Each such step uses up what a submitted request allowed: 1 for each packet under way, for each group that hasn't
--- proposed one for each packet that it will send, and 3 for a request that no layer has taken.
-use Rattle.std.proofs.Common.{◌≡◌, ◌≢◌, ℕ, suc, ◌+◌, ◌*◌, ◌≤◌, ◌==◌, ◌&&◌, Bool, true, false, cond, List, [], ◌∷◌, ◌++◌, inl, inr, Option}
+-- Each such step uses up what was allowed: 1 for each packet under way, for each group that hasn't proposed one for each
+-- packet that it will send, and 3 for a request that no layer has taken.
+use Rattle.std.proofs.Common.{◌≡◌, ◌≢◌, ℕ, suc, ◌+◌, ◌*◌, ◌≤◌, ◌==◌, ◌&&◌, Bool, true, false, cond, List, [], ◌∷◌, ◌++◌, inl, inr}
 use Rattle.std.proofs.Common.{Some, None, Result, Ok, Err, length, map, refl, sym, ap, ◌∙◌, subst, arith, append_assoc, length-append}
 use Rattle.std.proofs.Common.{eqb-true, eq-eqb}
 use Rattle.std.proofs.lemmas.Bool.{both_ways, or_cases, and_from}
 use Rattle.std.proofs.Math.Nat.{suc-mul}
-use Rattle.std.specs.FinMap.{get}
 use Rattle.std.specs.List.{remove}
-use Rattle.std.specs.Option.{is_some}
 use Rattle.command_table.specs.declared.refusal.Refusal.{Refusal}
 use Rattle.groups.specs.GroupSet.{has}
 use Rattle.journal.specs.declared.step.Step.{Step}
-use Rattle.journal.specs.declared.step.Step.TheVariants.{Open, Submit, Deliver, Take, Run, Settle, Collect, Close}
+use Rattle.journal.specs.declared.step.Step.TheVariants.{Open, Submit, Deliver, Take, Run, Settle, Collect, Close, Repeat}
 use Rattle.placement.specs.Layout.{Layout}
 use Rattle.groups.proofs.Ids.{same_id-true, eq-same_id}
 use Rattle.skeen_core.proofs.Lawful.{None≢Some}
 use Rattle.groups.proofs.Lists.{In-left, In-right, In-append}
-use Rattle.skeen_core.specs.Group.{GroupState, next_clock, tell, ReceivesStart, Receives, EachOnce}
+use Rattle.skeen_core.specs.Group.{next_clock, tell, EachOnce}
 use Rattle.groups.specs.Order.{In}
 use Rattle.groups.specs.Request.{same_id}
-use Rattle.skeen_core.specs.declared.packet.Body.{Body}
 use Rattle.skeen_core.specs.declared.packet.Body.TheVariants.{Start, Proposal}
 use Rattle.skeen_core.specs.declared.packet.Delivered.{Delivered}
 use Rattle.skeen_core.specs.declared.packet.Packet.{Packet}
 use Rattle.groups.specs.declared.request.RequestId.{RequestId}
 use Rattle.tasks.specs.Tasks.{Task, task_reading, task_groups}
-use Rattle.world.specs.Steps.{starts, opening, Effect, next_id, floor_of, multicast, submitted_to, submitted, Comes, Takes, RunsLayer}
-use Rattle.world.specs.Steps.{Settles, Collects, Steps, Makes, hears, with_own, now_proposed}
+use Rattle.world.specs.Steps.{starts, opening, Effect, next_id, floor_of, multicast, submitted_to, submitted, Comes, Repeats, Takes}
+use Rattle.world.specs.Steps.{RunsLayer, Settles, Collects, Steps, Makes, hears}
 use Rattle.world.specs.World.{World, Request, Standing, Closed, Idle, Waiting, Answered, Layer, NoneTaken, Taken, HasRun, Proposals}
 use Rattle.world_laws.specs.Bound.{turn, turns, allowed_to, allowed_by, allowance, allowances, TurnsAreBounded}
-use Rattle.world_laws.specs.Good.{Asked, BodyGood, bit, starts_of, addresses, log_of, SkeenGood, all_delivered, all_taken, TakenGood}
-use Rattle.world_laws.specs.Good.{WorldGood}
+use Rattle.world_laws.specs.Good.{Asked, BodyGood, all_delivered, all_taken, TakenGood, WorldGood}
+use Rattle.world_laws.proofs.Arrivals.{Arrival, LeftOut, Begins, Hears, arrival}
 use Rattle.world_laws.proofs.Groups.{by_test}
 use Rattle.world_laws.proofs.Layers.{taken_run, taken_once}
-use Rattle.world_laws.proofs.Lists.{split_at}
-use Rattle.world_laws.proofs.Receipts.{was_under_way, not_proposed}
+use Rattle.world_laws.proofs.Lists.{in_place, length_without}
 use Rattle.world_laws.proofs.Worlds.{keeps, good_world, good_opening}
 
 -- ---- what groups will send
@@ -126,23 +122,17 @@ record Pays (asked : Asked) (proposed : Proposals) (dues : List Due) (sent : Lis
   pub covers : Covers asked proposed rest
   pub paid : length sent + total rest ≤ total dues
 
-pays_nothing : (asked : Asked) (proposed : Proposals) (dues : List Due) (sent : List Packet) → sent ≡ [] → Covers asked proposed dues →
-    Pays asked proposed dues sent
-pays_nothing asked proposed dues sent none covers =
-    record { rest = dues; covers = covers; paid = let zero_ = ap (λ (l : List Packet). length l) none in omega arith }
-
 -- the group proposes, and its due is gone
-pays_proposing : (asked : Asked) (proposed : Proposals) (dues : List Due) (sent : List Packet) (to : ℕ) (id : RequestId) (n : ℕ)
-    (q : Request) → asked id ≡ Some q → has q.groups to ≡ true → proposed id to ≡ None → sent ≡ tell to id n q.groups →
-    Covers asked proposed dues → Pays asked (hears proposed id to n) dues sent
-pays_proposing asked proposed dues sent to id n q named member none told covers = record {
+pays_proposing : (asked : Asked) (proposed : Proposals) (dues : List Due) (to : ℕ) (id : RequestId) (n : ℕ) (q : Request) →
+    asked id ≡ Some q → has q.groups to ≡ true → proposed id to ≡ None → Covers asked proposed dues →
+    Pays asked (hears proposed id to n) dues (tell to id n q.groups)
+pays_proposing asked proposed dues to id n q named member none covers = record {
   rest = parts.0 ++ parts.1;
   covers = λ i r g named_ member_ none_. by_proposed i r g (same_id i id && g == to) refl named_ member_ none_;
   paid =
       let sends = due.2.sends in
       let whole = ap total parts.2 in
       let without = total-without parts.0 due.0 parts.1 in
-      let all = ap (λ (l : List Packet). length l) told in
       let less = length-tell-less to id n q.groups member in
       omega arith;
 }
@@ -168,32 +158,6 @@ pays_proposing asked proposed dues sent to id n q named member none told covers 
               absurd (both_ways _ e (and_from (same_id i id) (g == to) (eq-same_id i id at_id) (eq-eqb g to at_to)))
         ]
 
--- a packet that comes pays for itself
-comes_paid : (asked : Asked) (proposed : Proposals) (packets : List Packet) (group : ℕ → GroupState) (log : ℕ → List Delivered)
-    (dues : List Due) (to : ℕ) (id : RequestId) (body : Body) (front back sent : List Packet) (ds : List Delivered) (state : GroupState) →
-    packets ≡ front ++ record { to = to; id = id; body = body } ∷ back → SkeenGood asked proposed packets group log →
-    Receives to (group to) id body sent ds state → Covers asked proposed dues →
-    Pays asked (now_proposed proposed to (group to) id body) dues sent
-comes_paid asked proposed packets group log dues to id (Proposal from n) front back sent ds state whole good r covers =
-    pays_nothing asked proposed dues sent r.0 covers
-comes_paid asked proposed packets group log dues to id (Start floor groups) front back sent ds state whole good r covers =
-    by_started (get (group to).started id) r
-  where
-    body : BodyGood asked proposed to id (Start floor groups)
-    body = good.sent (record { to = to; id = id; body = Start floor groups })
-        (subst (λ l. In (record { to = to; id = id; body = Start floor groups }) l) (sym whole) (was_under_way _ front back))
-
-    none : proposed id to ≡ None
-    none = not_proposed id to front floor groups back (proposed id to) (addresses (asked id) to)
-        (subst (λ l. starts_of id to l + bit (is_some (proposed id to)) ≡ bit (addresses (asked id) to)) whole (good.counted id to))
-
-    by_started : (o : Option (List ℕ)) → ReceivesStart o to (group to) id floor groups sent ds state →
-        Pays asked (with_own o proposed id to (next_clock (group to) floor)) dues sent
-    by_started (Some gs) r = pays_nothing asked proposed dues sent r.0 covers
-    by_started None r = pays_proposing asked proposed dues sent to id (next_clock (group to) floor) body.0.0 body.0.1
-        (subst (λ gs. has gs to ≡ true) (sym body.0.3) body.1) none
-        (r.0 ∙ ap (λ gs. tell to id (next_clock (group to) floor) gs) (sym body.0.3)) covers
-
 -- ---- what is still to be done
 
 abbrev layer_weight : Layer → ℕ
@@ -214,25 +178,47 @@ pub record Paid (w : World) (m a : ℕ) : Type 0 where
   pub paid : m + length w.packets + total list.dues + layer_weight w.layer + 3 * length list.ids
       ≤ a + 3 * length (all_taken w.ended w.layer)
 
+-- a packet that comes pays for itself
 paid_deliver : (t : Layout) (old new : World) (k : ℕ) (effect : Effect) (m a : ℕ) → Comes old k effect new → WorldGood t old →
     Paid old m a → Paid new (m + 1) a
-paid_deliver t old new k effect m a step good p =
-    let parts = split_at old.packets k step.packet step.there in
-    let pays = comes_paid old.asked old.proposed old.packets old.group (log_of old) p.list.dues step.packet.to step.packet.id
-    step.packet.body parts.front parts.back step.sent step.delivered step.state parts.whole good.skeen step.receives p.list.covers in
-    let now : length (remove old.packets k ++ step.sent) ≡ length ((parts.front ++ parts.back) ++ step.sent) =
-    ap (λ l. length (l ++ step.sent)) parts.rest in
-    let before = ap (λ (l : List Packet). length l) parts.whole in
-    let joined = length-append (parts.front ++ parts.back) step.sent in
-    let without = length-append parts.front parts.back in
-    let with_it = length-append parts.front (step.packet ∷ parts.back) in
-    let less = pays.paid in
+paid_deliver t old new k effect m a step good p = by_arrival (arrival t old new k effect step good)
+  where
+    packet : Packet
+    packet = step.packet
+
+    one : length (remove old.packets k) + 1 ≡ length old.packets
+    one = length_without old.packets k step.packet step.there
+
+    by_arrival : Arrival old k step.packet new → Paid new (m + 1) a
+    by_arrival (LeftOut told out same) = subst (λ w. Paid w (m + 1) a) (sym same)
+        (record { list = p.list; paid = let less = one in let paid = p.paid in omega arith })
+    by_arrival (Hears from n ds is delivers reached same) = subst (λ w. Paid w (m + 1) a) (sym same)
+        (record { list = p.list; paid = let less = one in let paid = p.paid in omega arith })
+    by_arrival (Begins floor groups ds is none delivers reached same) =
+        let body : BodyGood old.asked old.proposed packet.to packet.id (Start floor groups) =
+        subst (λ b. BodyGood old.asked old.proposed packet.to packet.id b) is
+        (good.skeen.sent packet (in_place old.packets k packet step.there)) in
+        let pays : Pays old.asked (hears old.proposed packet.id packet.to (next_clock (old.group packet.to) floor)) p.list.dues
+        (tell packet.to packet.id (next_clock (old.group packet.to) floor) groups) =
+        subst (λ gs. Pays old.asked (hears old.proposed packet.id packet.to (next_clock (old.group packet.to) floor)) p.list.dues
+        (tell packet.to packet.id (next_clock (old.group packet.to) floor) gs)) body.0.3
+        (pays_proposing old.asked old.proposed p.list.dues packet.to packet.id (next_clock (old.group packet.to) floor) body.0.0 body.0.1
+        (subst (λ gs. has gs packet.to ≡ true) (sym body.0.3) body.1) none p.list.covers) in
+        let joined = length-append (remove old.packets k) (tell packet.to packet.id (next_clock (old.group packet.to) floor) groups) in
+        let less = one in
+        let sends = pays.paid in
+        let paid = p.paid in
+        subst (λ w. Paid w (m + 1) a) (sym same) (record {
+          list = record { ids = p.list.ids; named = p.list.named; dues = pays.rest; covers = pays.covers };
+          paid = omega arith;
+        })
+
+-- a packet that is repeated is one more
+paid_repeat : (old new : World) (k : ℕ) (effect : Effect) (m a : ℕ) → Repeats old k effect new → Paid old m a → Paid new m (a + 1)
+paid_repeat old new k effect m a step p =
+    let one_more = length-append old.packets (step.packet ∷ []) in
     let paid = p.paid in
-    subst (λ w. Paid w (m + 1) a) (sym step.after)
-    (record {
-      list = record { ids = p.list.ids; named = p.list.named; dues = pays.rest; covers = pays.covers };
-      paid = omega arith;
-    })
+    subst (λ w. Paid w m (a + 1)) (sym step.after) (record { list = p.list; paid = omega arith })
 
 paid_multicast : (w : World) (c : ℕ) (q : Request) (n m a : ℕ) → suc n ≡ length q.groups → Paid w m a →
     Paid (multicast w c q) m (a + (length q.groups * length q.groups + 3))
@@ -338,6 +324,8 @@ paid_step t old new (Collect conn) effect m a s good p = more_by new m (m + 0) a
     (paid_collects old new conn.0 (old.standing conn.0) effect m a s p)
 paid_step t old new (Close conn) effect m a s good p = subst (λ w. Paid w (m + 0) (a + 0)) (sym s.after)
     (more_by _ m (m + 0) a (a + 0) (omega arith) (omega arith) (record { list = p.list; paid = p.paid }))
+paid_step t old new (Repeat k) effect m a s good p = more_by new m (m + 0) (a + 1) (a + 1) (omega arith) refl
+    (paid_repeat old new k effect m a s p)
 
 paid_steps : (t : Layout) (old new : World) (steps : List Step) (effects : List Effect) (m a : ℕ) → Makes t old steps effects new →
     WorldGood t old → Paid old m a → Paid new (m + turns steps) (a + allowances t steps)

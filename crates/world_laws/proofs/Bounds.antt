@@ -1,25 +1,21 @@
 -- No number of a world is above the number of steps that led to it.
 use Rattle.std.proofs.Common.{◌≡◌, ℕ, suc, ◌+◌, ◌≤◌, ◌==◌, ◌&&◌, true, false, cond, inl, inr}
-use Rattle.std.proofs.Common.{List, [], ◌∷◌, ◌++◌, length, Option, Some}
+use Rattle.std.proofs.Common.{List, [], ◌∷◌, length, Option, Some}
 use Rattle.std.proofs.Common.{None, Result, Ok, Err, refl, sym, ap, subst, arith}
 use Rattle.std.proofs.lemmas.Bool.{cases_Bool}
 use Rattle.std.specs.FinMap.{get}
-use Rattle.std.specs.Option.{is_some}
 use Rattle.command_table.specs.declared.refusal.Refusal.{Refusal}
 use Rattle.groups.specs.GroupSet.{has}
 use Rattle.journal.specs.declared.step.Step.{Step}
-use Rattle.journal.specs.declared.step.Step.TheVariants.{Open, Submit, Deliver, Take, Run, Settle, Collect, Close}
+use Rattle.journal.specs.declared.step.Step.TheVariants.{Open, Submit, Deliver, Take, Run, Settle, Collect, Close, Repeat}
 use Rattle.placement.specs.Layout.{Layout}
 use Rattle.resp.specs.Content.{Content}
 use Rattle.skeen_core.proofs.Lawful.{None≢Some}
-use Rattle.skeen_core.specs.Group.{GroupState, heard, next_clock, with_start, with_proposal, final_of, lift, lifted, ReceivesStart}
-use Rattle.skeen_core.specs.Group.{Receives}
+use Rattle.skeen_core.specs.Group.{GroupState, heard, next_clock, with_start, with_proposal, final_of, lift, lifted}
 use Rattle.groups.specs.Order.{In}
 use Rattle.groups.specs.Request.{same_id}
 use Rattle.groups.specs.Stamp.{final}
-use Rattle.skeen_core.specs.declared.packet.Body.{Body}
 use Rattle.skeen_core.specs.declared.packet.Body.TheVariants.{Start, Proposal}
-use Rattle.skeen_core.specs.declared.packet.Delivered.{Delivered}
 use Rattle.skeen_core.specs.declared.packet.Packet.{Packet}
 use Rattle.groups.specs.declared.request.RequestId.{RequestId}
 use Rattle.groups.specs.declared.stamp.Stamp.{Stamp}
@@ -27,10 +23,10 @@ use Rattle.tasks.specs.Tasks.{Task, task_reading, task_groups}
 use Rattle.world.specs.Steps.{at, opening, Effect, next_id, clock_of, final_clock, final_clock_of, floor_of, multicast, answered}
 use Rattle.world.specs.Steps.{submitted_to, submitted, hears, Comes, Collects, Steps, Makes, Leads}
 use Rattle.world.specs.World.{World, Request, Standing, Closed, Idle, Waiting, Answered, Proposals}
-use Rattle.world_laws.specs.Good.{Asked, Addressed, Among, bit, starts_of, addresses, log_of, WorldGood, Bounded}
+use Rattle.world_laws.specs.Good.{Asked, Addressed, Among, BodyGood, log_of, WorldGood, Bounded}
+use Rattle.world_laws.proofs.Arrivals.{hearing, beginning, Arrival, LeftOut, Begins, Hears, arrival}
 use Rattle.world_laws.proofs.Groups.{mid_start, mid_proposal, by_test}
-use Rattle.world_laws.proofs.Lists.{split_at}
-use Rattle.world_laws.proofs.Receipts.{was_under_way, not_proposed}
+use Rattle.world_laws.proofs.Lists.{in_place}
 use Rattle.world_laws.proofs.Requests.{final_is_proposed}
 use Rattle.world_laws.proofs.Worlds.{keeps, good_opening}
 use Rattle.std.proofs.lemmas.Bool.{cond-true, cond-false}
@@ -63,48 +59,33 @@ proposed_at_most : (t : Layout) (w : World) (n : ℕ) → WorldGood t w → Boun
     m ≤ n
 proposed_at_most t w n good bounded i g m e = let low = (good.skeen.groups g).clock i m e in let high = bounded.clocks g in omega arith
 
-start_clock : (t : Layout) (w : World) (n to : ℕ) (id : RequestId) (floor : ℕ) (groups : List ℕ) (front back sent : List Packet)
-    (ds : List Delivered) (state : GroupState) →
-    w.packets ≡ front ++ record { to = to; id = id; body = Start floor groups } ∷ back → WorldGood t w → Bounded w n →
-    (o : Option (List ℕ)) → get (w.group to).started id ≡ o →
-    ReceivesStart o to (w.group to) id floor groups sent ds state → state.clock ≤ suc n
-start_clock t w n to id floor groups front back sent ds state whole good bounded (Some gs) is r =
-    let same = ap (λ (s : GroupState). s.clock) r.2 in let low = bounded.clocks to in omega arith
-start_clock t w n to id floor groups front back sent ds state whole good bounded None is r =
-    let body = good.skeen.sent (record { to = to; id = id; body = Start floor groups })
-    (subst (λ l. In (record { to = to; id = id; body = Start floor groups }) l) (sym whole) (was_under_way _ front back)) in
-    let none : w.proposed id to ≡ None = not_proposed id to front floor groups back (w.proposed id to) (addresses (w.asked id) to)
-    (subst (λ l. starts_of id to l + bit (is_some (w.proposed id to)) ≡ bit (addresses (w.asked id) to)) whole
-    (good.skeen.counted id to)) in
-    let mid = mid_start w.asked w.proposed to (w.group to) (log_of w to) id floor groups (good.skeen.groups to)
+-- the clock of a group that begins a request, before it delivers
+beginning_clock : (t : Layout) (w : World) (n : ℕ) (p : Packet) (floor : ℕ) (groups : List ℕ) → In p w.packets → WorldGood t w → Bounded w n →
+    p.body ≡ Start floor groups → w.proposed p.id p.to ≡ None → (beginning w p floor groups).clock ≤ suc n
+beginning_clock t w n p floor groups there good bounded is none =
+    let body : BodyGood w.asked w.proposed p.to p.id (Start floor groups) =
+    subst (λ b. BodyGood w.asked w.proposed p.to p.id b) is (good.skeen.sent p there) in
+    let mid = mid_start w.asked w.proposed p.to (w.group p.to) (log_of w p.to) p.id floor groups (good.skeen.groups p.to)
     (body.0.0, body.0.1, body.0.3) body.1 none in
-    let low = bounded.clocks to in let floors = bounded.floors id body.0.0 body.0.1 in let at_floor = body.0.2 in
-    let new : next_clock (w.group to) floor ≤ suc n = omega arith in
-    let same = ap (λ (s : GroupState). s.clock) r.1.after in
-    let bound = lifted_at_most w.asked (hears w.proposed id to (next_clock (w.group to) floor))
-    (with_start to (w.group to) id floor groups) id (suc n) new mid.heard
-    (λ i g m e. by_test (same_id i id && g == to) (next_clock (w.group to) floor)
-    (w.proposed i g) m (m ≤ suc n) e (λ p at_new. omega arith) (λ p old. let before = proposed_at_most t w n good bounded i g m old in
-    omega arith))
-    (λ gs e. some_group t w id gs good (mid.started id gs e)) in
-    omega arith
+    let low = bounded.clocks p.to in let floors = bounded.floors p.id body.0.0 body.0.1 in let at_floor = body.0.2 in
+    let new : next_clock (w.group p.to) floor ≤ suc n = omega arith in
+    lifted_at_most w.asked (hears w.proposed p.id p.to (next_clock (w.group p.to) floor))
+    (with_start p.to (w.group p.to) p.id floor groups) p.id (suc n) new mid.heard
+    (λ i g m e. by_test (same_id i p.id && g == p.to) (next_clock (w.group p.to) floor)
+    (w.proposed i g) m (m ≤ suc n) e (λ test at_new. omega arith)
+    (λ test old. let before = proposed_at_most t w n good bounded i g m old in omega arith))
+    (λ gs e. some_group t w p.id gs good (mid.started p.id gs e))
 
-body_clock : (t : Layout) (w : World) (n to : ℕ) (id : RequestId) (body : Body) (front back sent : List Packet) (ds : List Delivered)
-    (state : GroupState) →
-    w.packets ≡ front ++ record { to = to; id = id; body = body } ∷ back → WorldGood t w → Bounded w n →
-    Receives to (w.group to) id body sent ds state → state.clock ≤ suc n
-body_clock t w n to id (Start floor groups) front back sent ds state whole good bounded r =
-    start_clock t w n to id floor groups front back sent ds state whole good bounded (get (w.group to).started id) refl r
-body_clock t w n to id (Proposal from m) front back sent ds state whole good bounded r =
-    let body = good.skeen.sent (record { to = to; id = id; body = Proposal from m })
-    (subst (λ l. In (record { to = to; id = id; body = Proposal from m }) l) (sym whole) (was_under_way _ front back)) in
-    let mid = mid_proposal w.asked w.proposed to (w.group to)
-    (log_of w to) id from m (good.skeen.groups to) body.1 body.0 (λ i e. (good.skeen.groups from).apart i id m e body.0) in
-    let low = bounded.clocks to in
-    let same = ap (λ (s : GroupState). s.clock) r.1.after in
-    let bound = lifted_at_most w.asked w.proposed (with_proposal (w.group to) id from m) id n low mid.heard
-    (proposed_at_most t w n good bounded) (λ gs e. some_group t w id gs good (mid.started id gs e)) in
-    omega arith
+-- and of one that hears a proposal
+hearing_clock : (t : Layout) (w : World) (n : ℕ) (p : Packet) (from m : ℕ) → In p w.packets → WorldGood t w → Bounded w n →
+    p.body ≡ Proposal from m → (hearing w p from m).clock ≤ n
+hearing_clock t w n p from m there good bounded is =
+    let body : BodyGood w.asked w.proposed p.to p.id (Proposal from m) =
+    subst (λ b. BodyGood w.asked w.proposed p.to p.id b) is (good.skeen.sent p there) in
+    let mid = mid_proposal w.asked w.proposed p.to (w.group p.to) (log_of w p.to) p.id from m (good.skeen.groups p.to) body.1 body.0
+    (λ i e. (good.skeen.groups from).apart i p.id m e body.0) in
+    lifted_at_most w.asked w.proposed (with_proposal (w.group p.to) p.id from m) p.id n (bounded.clocks p.to) mid.heard
+    (proposed_at_most t w n good bounded) (λ gs e. some_group t w p.id gs good (mid.started p.id gs e))
 
 -- ---- each step
 
@@ -172,22 +153,43 @@ submitted_grown : (t : Layout) (old : World) (c n : ℕ) (r : Result Task Refusa
 submitted_grown t old c n (Ok task) good b = submitted_to_grown t old c n task (task_groups t task) good b
 submitted_grown t old c n (Err refusal) good b = answered_grown old c _ n b
 
+-- one group has another state
+clocks_at : (old : World) (to n : ℕ) (state : GroupState) → state.clock ≤ suc n → Bounded old n →
+    (g : ℕ) → (at old.group to state g).clock ≤ suc n
+clocks_at old to n state now b g = elim (g == to) as (λ x. (cond x state (old.group g)).clock ≤ suc n) [
+  | true ↦ now
+  | false ↦ let low = b.clocks g in omega arith
+]
+
 deliver_grown : (t : Layout) (old new : World) (k : ℕ) (effect : Effect) (n : ℕ) → Comes old k effect new → WorldGood t old →
     Bounded old n → Bounded new (suc n)
-deliver_grown t old new k effect n step good b =
-    let parts = split_at old.packets k step.packet step.there in
-    let now =
-    body_clock t old n step.packet.to step.packet.id step.packet.body parts.front parts.back step.sent step.delivered step.state parts.whole
-    good b step.receives in
-    subst (λ w. Bounded w (suc n)) (sym step.after) (record {
-      clocks = λ g. elim (g == step.packet.to) as (λ x. (cond x step.state (old.group g)).clock ≤ suc n) [
-        | true ↦ now
-        | false ↦ let low = b.clocks g in omega arith
-      ];
-      floors = λ i q e. let low = b.floors i q e in omega arith;
-      connections = let low = b.connections in omega arith;
-      requests = λ c. let low = b.requests c in omega arith;
-    })
+deliver_grown t old new k effect n step good b = by_arrival (arrival t old new k effect step good)
+  where
+    there : In step.packet old.packets
+    there = in_place old.packets k step.packet step.there
+
+    by_arrival : Arrival old k step.packet new → Bounded new (suc n)
+    by_arrival (LeftOut told out same) =
+        let more = same_grown old n b in
+        subst (λ w. Bounded w (suc n)) (sym same)
+        (record { clocks = more.clocks; floors = more.floors; connections = more.connections; requests = more.requests })
+    by_arrival (Begins floor groups ds is none delivers reached same) =
+        let more = same_grown old n b in
+        subst (λ w. Bounded w (suc n)) (sym same) (record {
+          clocks = clocks_at old step.packet.to n _ (beginning_clock t old n step.packet floor groups there good b is none) b;
+          floors = more.floors;
+          connections = more.connections;
+          requests = more.requests;
+        })
+    by_arrival (Hears from m ds is delivers reached same) =
+        let more = same_grown old n b in
+        let low = hearing_clock t old n step.packet from m there good b is in
+        subst (λ w. Bounded w (suc n)) (sym same) (record {
+          clocks = clocks_at old step.packet.to n _ (omega arith) b;
+          floors = more.floors;
+          connections = more.connections;
+          requests = more.requests;
+        })
 
 collect_grown : (old new : World) (c : ℕ) (s : Standing) (effect : Effect) (n : ℕ) → Collects s old c effect new → Bounded old n →
     Bounded new (suc n)
@@ -227,6 +229,10 @@ bounded_step t old new Settle effect n s good b =
     (record { clocks = more.clocks; floors = more.floors; connections = more.connections; requests = more.requests })
 bounded_step t old new (Collect conn) effect n s good b = collect_grown old new conn.0 (old.standing conn.0) effect n s b
 bounded_step t old new (Close conn) effect n s good b =
+    let more = same_grown old n b in
+    subst (λ w. Bounded w (suc n)) (sym s.after)
+    (record { clocks = more.clocks; floors = more.floors; connections = more.connections; requests = more.requests })
+bounded_step t old new (Repeat k) effect n s good b =
     let more = same_grown old n b in
     subst (λ w. Bounded w (suc n)) (sym s.after)
     (record { clocks = more.clocks; floors = more.floors; connections = more.connections; requests = more.requests })

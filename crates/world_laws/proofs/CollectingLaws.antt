@@ -5,7 +5,7 @@ use Rattle.std.proofs.lemmas.Bool.{cases_Bool}
 use Rattle.command_table.specs.Refusal.{refusal_text}
 use Rattle.command_table.specs.declared.refusal.Refusal.{Refusal}
 use Rattle.journal.specs.declared.step.Step.{Step}
-use Rattle.journal.specs.declared.step.Step.TheVariants.{Open, Submit, Deliver, Take, Run, Settle, Collect, Close}
+use Rattle.journal.specs.declared.step.Step.TheVariants.{Open, Submit, Deliver, Take, Run, Settle, Collect, Close, Repeat}
 use Rattle.placement.specs.Layout.{Layout}
 use Rattle.resp.specs.Content.{ErrorLine}
 use Rattle.skeen_core.specs.Group.{EachOnce}
@@ -104,6 +104,7 @@ spent_step t old new (Collect conn) effect i s good spent = spent_collects old n
 spent_step t old new (Close conn) effect i s good spent = subst (λ w. Spent w i) (sym s.after)
     (spent_standing old (record old { standing = at old.standing conn.0 Closed }) i refl
     (rests_at old.standing conn.0 i.conn.0 Closed (inr refl)) spent)
+spent_step t old new (Repeat k) effect i s good spent = subst (λ w. Spent w i) (sym s.after) spent
 
 -- ---- who collects
 
@@ -136,6 +137,7 @@ takes_outcome t old new (Run starved) o s = absurd (cc s.answers)
 takes_outcome t old new Settle o s = absurd (cc s.answers)
 takes_outcome t old new (Collect conn) o s = outcome_collects old new conn.0 (old.standing conn.0) o refl s
 takes_outcome t old new (Close conn) o s = absurd (cc s.answers)
+takes_outcome t old new (Repeat k) o s = absurd (cc s.answers)
 
 -- what was collected is spent, and what is spent isn't collected
 spent_now : (t : Layout) (old new : World) (o : Outcome) → WorldGood t old → TakesOutcome old new o → Spent new o.id

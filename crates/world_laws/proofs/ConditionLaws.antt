@@ -1,12 +1,12 @@
 -- What callees ask follows from what every world is like.
-use Rattle.std.proofs.Common.{◌≡◌, ℕ, ◌≤◌, ◌==◌, true, List, [], ◌∷◌, ◌++◌, inl, inr, length, refl, sym, ap, ◌∙◌, subst, arith}
+use Rattle.std.proofs.Common.{◌≡◌, ℕ, ◌≤◌, ◌==◌, true, false, List, [], ◌∷◌, ◌++◌, inl, inr, length, refl, sym, ap, ◌∙◌, subst, arith}
 use Rattle.std.proofs.Common.{eqb-true, eq-eqb, append_assoc}
 use Rattle.std.proofs.lemmas.Bool.{cases_Bool}
 use Rattle.delivery.specs.Queues.{is_above_last, MayAppend, IsSound}
 use Rattle.groups.specs.GroupSet.{has}
 use Rattle.placement.specs.Layout.{Layout}
 use Rattle.groups.proofs.Lists.{In-left, In-right}
-use Rattle.skeen_core.specs.Group.{Ascending, BodyMayCome, MayCome}
+use Rattle.skeen_core.specs.Group.{Ascending, is_past, BodyMayCome, MayCome}
 use Rattle.groups.specs.Order.{In}
 use Rattle.groups.specs.Stamp.{stamp_lt, final}
 use Rattle.skeen_core.specs.declared.packet.Body.{Body}
@@ -18,14 +18,15 @@ use Rattle.groups.specs.declared.stamp.Stamp.{Stamp}
 use Rattle.tasks.specs.Tasks.{task_groups}
 use Rattle.world.specs.Steps.{at, Effect, Comes}
 use Rattle.world.specs.World.{World, Request, Ended, Taken}
-use Rattle.world_laws.specs.Good.{BodyGood, log_of, delivered_of, all_delivered, all_taken, Touching, TakenGood, WorldGood, Bounded}
+use Rattle.world_laws.specs.Good.{BodyGood, IsOut, log_of, delivered_of, all_delivered, all_taken, Touching, TakenGood, WorldGood, Bounded}
 use Rattle.world_laws.specs.Order.{HasFinal}
-use Rattle.world_laws.specs.Conditions.{PacketsMayCome, QueuesAreSound, DeliveriesMayAppend, LayersAreSubmitted, LayersAreAbove}
-use Rattle.world_laws.specs.Conditions.{SettledIsWaitedFor, NumbersAreBounded}
+use Rattle.world_laws.specs.Conditions.{PacketsMayCome, FreshIsHeard, QueuesAreSound, DeliveriesMayAppend, LayersAreSubmitted}
+use Rattle.world_laws.specs.Conditions.{LayersAreAbove, SettledIsWaitedFor, NumbersAreBounded}
 use Rattle.world_laws.proofs.Bounds.{bounded_world}
 use Rattle.world_laws.proofs.Layers.{in_delivered, known_same, ascending_cross, ascending_right}
 use Rattle.world_laws.proofs.Lists.{rising_cross}
 use Rattle.world_laws.proofs.OrderLaws.{known_final, differ_good}
+use Rattle.world_laws.proofs.Packets.{body_addressed}
 use Rattle.world_laws.proofs.Worlds.{keeps_deliver, run_is_pending, good_world}
 use Rattle.std.proofs.lemmas.Bool.{cond-true, cond-false}
 use Rattle.groups.proofs.Options.{some_same}
@@ -57,6 +58,19 @@ packet_may_come t w n p good bounded few there = record {
 pub packets_may_come : PacketsMayCome
 packets_may_come t steps w leads few p there = packet_may_come t w (length steps) p (good_world t steps w leads)
     (bounded_world t steps w leads) few there
+
+-- what its group hasn't delivered isn't past there
+pub packet_is_fresh : (t : Layout) (w : World) (p : Packet) → WorldGood t w → In p w.packets → ¬ IsOut (log_of w p.to) p.id →
+    is_past (w.group p.to) p.id ≡ false
+packet_is_fresh t w p good there not_out =
+    let named = body_addressed w.asked w.proposed p.to p.id p.body (good.skeen.sent p there) in
+    elim (cases_Bool (is_past (w.group p.to) p.id)) [
+      | inl past ↦ absurd (not_out (good.past p.id named.0 p.to named.1 named.2 past))
+      | inr fresh ↦ fresh
+    ]
+
+pub fresh_is_heard : FreshIsHeard
+fresh_is_heard t steps w leads p there not_out = packet_is_fresh t w p (good_world t steps w leads) there not_out
 
 -- ---- a queue
 

@@ -1,17 +1,18 @@
 -- A step leaves no choice.
 use Rattle.std.proofs.Common.{◌≡◌, ◌≢◌, ℕ, List, [], ◌∷◌, ◌++◌, inl, refl, sym, ap, ◌∙◌, subst, arith}
 use Rattle.std.proofs.lemmas.Option.{slice_get_within}
-use Rattle.journal.specs.declared.step.Step.TheVariants.{Open, Submit, Deliver, Take, Run, Settle, Collect, Close}
+use Rattle.journal.specs.declared.step.Step.TheVariants.{Open, Submit, Deliver, Take, Run, Settle, Collect, Close, Repeat}
 use Rattle.keyspace.specs.Map.{Map}
-use Rattle.skeen_core.proofs.Ahead.{rule_determines, same_ascending}
+use Rattle.skeen_core.proofs.Ahead.{same_ascending}
+use Rattle.skeen_core.proofs.RunLaws.{rule_determines}
 use Rattle.skeen_core.specs.Group.{Receives}
 use Rattle.delivery.proofs.Layers.{one_is_ready}
 use Rattle.groups.specs.Order.{In}
 use Rattle.skeen_core.specs.declared.packet.Delivered.{Delivered}
 use Rattle.skeen_core.specs.declared.packet.Packet.{Packet}
 use Rattle.groups.specs.declared.request.RequestId.{RequestId}
-use Rattle.world.specs.Steps.{Effect, Ran, starved_among, after_all, map_after, ended_as, RunInTurn, received, taken, settled, Comes, Takes}
-use Rattle.world.specs.Steps.{RunsLayer, Settles, Collects, Makes, Busy, NoConn, NoPacket, InFlight, NoLayer, IsBusy, IsInFlight}
+use Rattle.world.specs.Steps.{Effect, Ran, starved_among, after_all, map_after, ended_as, RunInTurn, received, taken, settled, Comes, Repeats}
+use Rattle.world.specs.Steps.{Takes, RunsLayer, Settles, Collects, Makes, Busy, NoConn, NoPacket, InFlight, NoLayer, IsBusy, IsInFlight}
 use Rattle.world.specs.Steps.{NothingToRun, NothingToSettle}
 use Rattle.world.specs.World.{World, Request, Standing, Closed, Idle, Waiting, Answered, Ended, Layer, NoneTaken, Taken, HasRun}
 use Rattle.world_laws.specs.Determined.{StepsDetermine, HistoriesDetermine, RefusedIsNotAccepted}
@@ -35,6 +36,14 @@ comes_same old new new' k effect effect' a b =
           ∙ ap (λ l. received old k b.packet l a.delivered a.state) same.0
           ∙ ap (λ l. received old k b.packet b.sent l a.state) same.1 ∙ ap (λ s. received old k b.packet b.sent b.delivered s) same.2
           ∙ sym b.after,
+    )
+
+repeats_same : (old new new' : World) (k : ℕ) (effect effect' : Effect) → Repeats old k effect new → Repeats old k effect' new' →
+    Same effect effect' new new'
+repeats_same old new new' k effect effect' a b =
+    let packets : a.packet ≡ b.packet = some_same a.packet b.packet (sym a.there ∙ b.there) in (
+      a.answers ∙ sym b.answers,
+      a.after ∙ ap (λ p. record old { packets = old.packets ++ p ∷ [] }) packets ∙ sym b.after,
     )
 
 takes_same : (old new new' : World) (effect effect' : Effect) → Takes old effect new → Takes old effect' new' → Same effect effect' new new'
@@ -98,6 +107,7 @@ steps_determine t old new new' Settle effect effect' a b = settles_same old new 
 steps_determine t old new new' (Collect conn) effect effect' a b =
     collects_same old new new' conn.0 (old.standing conn.0) effect effect' a b
 steps_determine t old new new' (Close conn) effect effect' a b = (a.answers ∙ sym b.answers, a.after ∙ sym b.after)
+steps_determine t old new new' (Repeat k) effect effect' a b = repeats_same old new new' k effect effect' a b
 
 pub histories_determine : HistoriesDetermine
 histories_determine t old new new' [] effects effects' a b = (a.0 ∙ sym b.0, a.1 ∙ sym b.1)
@@ -165,4 +175,6 @@ refused_is_not_accepted t old new Settle effect NoLayer refused step = not_to_se
 refused_is_not_accepted t old new (Collect conn) effect NoConn refused step =
     closed_collects old new conn.0 (old.standing conn.0) effect refused step
 refused_is_not_accepted t old new (Close conn) effect NoConn refused step = step.is_open refused
+refused_is_not_accepted t old new (Repeat k) effect NoPacket refused step = let within =
+    slice_get_within old.packets k step.packet step.there in absurd (omega arith)
 refused_is_not_accepted t old new step effect fault refused s = absurd refused

@@ -2,7 +2,7 @@
 use Rattle.std.proofs.Common.{◌≡◌, ℕ, List, [], ◌∷◌, ◌⊎◌, inl, inr, Option, Some, None, Result, Ok, Err, refl, sym, ap, ◌∙◌, subst, arith}
 use Rattle.command_table.specs.declared.refusal.Refusal.{Refusal}
 use Rattle.journal.specs.declared.step.Step.{Step}
-use Rattle.journal.specs.declared.step.Step.TheVariants.{Open, Submit, Deliver, Take, Run, Settle, Collect, Close}
+use Rattle.journal.specs.declared.step.Step.TheVariants.{Open, Submit, Deliver, Take, Run, Settle, Collect, Close, Repeat}
 use Rattle.placement.specs.Layout.{Layout}
 use Rattle.groups.proofs.Lists.{In-right}
 use Rattle.groups.proofs.Stamps.{final_within}
@@ -15,10 +15,12 @@ use Rattle.world.specs.Steps.{Effect, next_id, clock_of, final_clock, final_cloc
 use Rattle.world.specs.World.{World, Request, Standing, Closed, Idle, Waiting, Answered, Ended, HasRun}
 use Rattle.world_laws.specs.Conditions.{SettledIsLast, FloorsAreFinal, IsFree, FloorsStay}
 use Rattle.world_laws.specs.Good.{Among, ConnectionsGood, WorldGood}
+use Rattle.world_laws.proofs.Arrivals.{arrival}
 use Rattle.world_laws.proofs.Groups.{AskedMore}
 use Rattle.world_laws.proofs.OrderLaws.{ended_as_submitted}
+use Rattle.world_laws.proofs.Receipts.{among_arrives}
 use Rattle.world_laws.proofs.Requests.{asks_more, next_is_new, Rested}
-use Rattle.world_laws.proofs.Worlds.{rested, among_received, run_is_pending, good_world}
+use Rattle.world_laws.proofs.Worlds.{rested, run_is_pending, good_world}
 use Rattle.world_laws.proofs.Values.{same_request, idle_open, idle_not_waiting, answered_open, answered_not_waiting}
 
 -- the floor, where the last request and its final stamp are known
@@ -103,8 +105,10 @@ knows_more t old new (Submit conn words) effect s good = subst (λ w. KnowsMore 
   λ i g n e. ap (λ (f : RequestId → ℕ → Option ℕ). f i g)
       (proposed_submitted t old conn.0 (task_reading words)) ∙ e,
 )
-knows_more t old new (Deliver k) effect s good = subst (λ w. KnowsMore old w) (sym s.after)
-    (λ i q e. e, among_received t old k s.packet s.sent s.delivered s.state s.there good)
+knows_more t old new (Deliver k) effect s good = (
+  λ i q e. ap (λ (w : World). w.asked i) s.after ∙ e,
+  among_arrives old new k s.packet (arrival t old new k effect s good),
+)
 knows_more t old new Take effect s good = knows_same old new (ap (λ (w : World). w.asked) s.after) (ap (λ (w : World). w.proposed) s.after)
 knows_more t old new (Run starved) effect s good = knows_same old new (ap (λ (w : World). w.asked) s.after)
     (ap (λ (w : World). w.proposed) s.after)
@@ -112,6 +116,8 @@ knows_more t old new Settle effect s good = knows_same old new (ap (λ (w : Worl
     (ap (λ (w : World). w.proposed) s.after)
 knows_more t old new (Collect conn) effect s good = knows_collects old new conn.0 (old.standing conn.0) effect s
 knows_more t old new (Close conn) effect s good = knows_same old new (ap (λ (w : World). w.asked) s.after)
+    (ap (λ (w : World). w.proposed) s.after)
+knows_more t old new (Repeat k) effect s good = knows_same old new (ap (λ (w : World). w.asked) s.after)
     (ap (λ (w : World). w.proposed) s.after)
 
 free_rested : (t : Layout) (w : World) (c : ℕ) (s : Standing) → w.standing c ≡ s → IsFree s → WorldGood t w →

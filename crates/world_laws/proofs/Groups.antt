@@ -1,7 +1,6 @@
 -- One group: what is known of it survives what the others do, and each packet that comes to it.
-use Rattle.std.proofs.Common.{◌≡◌, ℕ, ◌≤◌, ◌==◌, ◌&&◌, Bool, true, false, cond, List, ◌++◌, ◌⊎◌, inl, inr, Option}
-use Rattle.std.proofs.Common.{Some, None, IsSome, refl, sym, ap}
-use Rattle.std.proofs.Common.{◌∙◌, subst, arith, eqb-true}
+use Rattle.std.proofs.Common.{◌≡◌, ℕ, ◌≤◌, ◌==◌, ◌&&◌, Bool, true, false, cond, List, ◌++◌, ◌⊎◌, ◌↔◌, inl, inr, Option}
+use Rattle.std.proofs.Common.{Some, None, IsSome, refl, sym, ap, ◌∙◌, subst, arith, eqb-true}
 use Rattle.std.proofs.lemmas.Bool.{cases_Bool, and_parts}
 use Rattle.std.specs.FinMap.{get}
 use Rattle.groups.specs.GroupSet.{has}
@@ -10,11 +9,13 @@ use Rattle.skeen_core.proofs.Finite.{started-with_start, heard-with_start, heard
 use Rattle.groups.proofs.Ids.{same_id-true}
 use Rattle.skeen_core.proofs.Lawful.{lift_grows, sound_start, sound_proposal, lawful_without, kept_heard, kept_started}
 use Rattle.skeen_core.proofs.Lawful.{some_is, named, still_started, stays_started}
+use Rattle.skeen_core.proofs.Reaching.{going_reaching}
 use Rattle.groups.proofs.Lists.{In-left, In-right, In-append}
 use Rattle.groups.proofs.Stamps.{final_within}
-use Rattle.skeen_core.specs.Group.{GroupState, heard, next_clock, with_start, with_proposal, final_of, lifted, Ascending, Delivers, without}
-use Rattle.skeen_core.specs.Group.{has_id}
+use Rattle.skeen_core.specs.Group.{GroupState, heard, is_past, reaching, next_clock, with_start, with_proposal, final_of, lifted, Ascending}
+use Rattle.skeen_core.specs.Group.{Delivers, without, has_id}
 use Rattle.skeen_core.specs.Lawful.{Sound}
+use Rattle.skeen_core.specs.Runs.{HasReached}
 use Rattle.groups.specs.Order.{In}
 use Rattle.groups.specs.Request.{same_id}
 use Rattle.skeen_core.specs.declared.packet.Delivered.{Delivered}
@@ -53,6 +54,7 @@ group_grows asked asked' proposed proposed' me grp log more among mine good = re
   clock = λ i n e. good.clock i n (mine i n e);
   apart = λ i j n e d. good.apart i j n (mine i n e) (mine j n d);
   started = λ i gs e. addressed_more asked asked' i gs more (good.started i gs e);
+  past = good.past;
   begun = λ i n e. good.begun i n (mine i n e);
   known = λ d there. known_more asked asked' proposed proposed' d more among (good.known d there);
   member = good.member;
@@ -179,19 +181,28 @@ out_right xs ys i o = (o.0, In-right o.0 xs ys o.1, o.2)
 pub out_named : (ds : List Delivered) (i : RequestId) → has_id ds i ≡ true → IsOut ds i
 out_named ds i e = let n = named ds i e in (n.one, n.there, n.id)
 
+-- the group once it has delivered these
+abbrev pub having_delivered : GroupState → List Delivered → GroupState
+having_delivered grp ds = reaching (without grp ds) ds
+
+-- it has reached what it has delivered
+abbrev pub Reached : GroupState → List Delivered → Type 0
+Reached grp log = (i : RequestId) → (is_past grp i ≡ true) ↔ HasReached log i
+
 pub delivers_good : (asked : Asked) (proposed : Proposals) (me : ℕ) (grp : GroupState) (log ds : List Delivered) →
-    MidGood asked proposed me grp log → Delivers me grp ds →
-    GroupGood asked proposed me (without grp ds) (log ++ ds)
-delivers_good asked proposed me grp log ds mid delivers = record {
-  going = record {
+    MidGood asked proposed me grp log → Delivers me grp ds → Reached (having_delivered grp ds) (log ++ ds) →
+    GroupGood asked proposed me (having_delivered grp ds) (log ++ ds)
+delivers_good asked proposed me grp log ds mid delivers reached = record {
+  going = going_reaching me (without grp ds) (log ++ ds) ds (record {
     lawful = lawful_without me grp ds mid.sound delivers;
     ahead = ahead_delivers me grp log ds mid.sound mid.ahead delivers;
     ascending = ascending_append log ds mid.ascending delivers.ascending (below_now me grp log ds mid.ahead delivers);
-  };
+  });
   heard = λ i h n e. mid.heard i h n (kept_heard grp ds i h n e).1;
   clock = mid.clock;
   apart = mid.apart;
   started = λ i gs e. mid.started i gs (kept_started grp ds i gs e).1;
+  past = reached;
   begun = λ i n e. elim (mid.begun i n e) [
     | inr out ↦ inr (out_left log ds i out)
     | inl there ↦ elim (cases_Bool (has_id ds i)) [

@@ -2,6 +2,7 @@ pub mod Values
 pub mod Lists
 pub mod Groups
 pub mod Packets
+pub mod Arrivals
 pub mod Receipts
 pub mod Requests
 pub mod Connections

@@ -1,5 +1,7 @@
 -- Lists: rising ones, and one without one of its elements.
-use Rattle.std.proofs.Common.{◌≡◌, ℕ, zero, suc, List, [], ◌∷◌, ◌++◌, inl, inr, Some, slice_get, refl, sym, ap, subst}
+use Rattle.std.proofs.Common.{◌≡◌, ℕ, zero, suc, ◌+◌, List, [], ◌∷◌, ◌++◌, ◌⊎◌, inl, inr, Some, slice_get, length, refl, sym, ◌∙◌, subst}
+use Rattle.std.proofs.lemmas.List.Edits.{length-remove}
+use Rattle.std.proofs.lemmas.Option.{slice_get_within}
 use Rattle.std.specs.List.{remove}
 use Rattle.groups.specs.Order.{In}
 use Rattle.groups.proofs.Lists.{In-left, In-right, In-append}
@@ -28,18 +30,28 @@ rising_cross R [] ys up x y there here = absurd there
 rising_cross R (z ∷ xs) ys up x y (inl same) here = subst (λ u. R u y) (sym same) (up.0 y (In-right y xs ys here))
 rising_cross R (z ∷ xs) ys up x y (inr there) here = rising_cross R xs ys up.1 x y there here
 
--- ---- a list without the element at a place
+-- ---- the element at a place, and the list without it
 
-pub record SplitAt (X : Type 0) (xs : List X) (k : ℕ) (x : X) : Type 0 where
-  pub front : List X
-  pub back : List X
-  pub whole : xs ≡ front ++ x ∷ back
-  pub rest : remove xs k ≡ front ++ back
+pub in_place : {X : Type 0} (xs : List X) (k : ℕ) (x : X) → slice_get xs k ≡ Some x → In x xs
+in_place [] zero x e = absurd (cc)
+in_place [] (suc k) x e = absurd (cc)
+in_place (y ∷ ys) zero x e = let same : y ≡ x = cc in inl (sym same)
+in_place (y ∷ ys) (suc k) x e = inr (in_place ys k x e)
 
-pub split_at : {X : Type 0} (xs : List X) (k : ℕ) (x : X) → slice_get xs k ≡ Some x → SplitAt X xs k x
-split_at [] zero x e = absurd (cc)
-split_at [] (suc k) x e = absurd (cc)
-split_at (y ∷ ys) zero x e = let same : y ≡ x = cc in record { front = []; back = ys; whole = ap (λ z. z ∷ ys) same; rest = refl }
-split_at (y ∷ ys) (suc k) x e =
-    let parts = split_at ys k x e in
-    record { front = y ∷ parts.front; back = parts.back; whole = ap (λ zs. y ∷ zs) parts.whole; rest = ap (λ zs. y ∷ zs) parts.rest }
+pub was_in : {X : Type 0} (xs : List X) (k : ℕ) (y : X) → In y (remove xs k) → In y xs
+was_in [] zero y there = absurd there
+was_in [] (suc k) y there = absurd there
+was_in (x ∷ xs) zero y there = inr there
+was_in (x ∷ xs) (suc k) y (inl same) = inl same
+was_in (x ∷ xs) (suc k) y (inr there) = inr (was_in xs k y there)
+
+-- what stood in the list stands there still, but for that element
+pub still_in : {X : Type 0} (xs : List X) (k : ℕ) (x : X) → slice_get xs k ≡ Some x → (y : X) → In y xs → (y ≡ x) ⊎ In y (remove xs k)
+still_in [] k x e y there = absurd there
+still_in (z ∷ zs) zero x e y (inl same) = let is : z ≡ x = cc in inl (same ∙ is)
+still_in (z ∷ zs) zero x e y (inr there) = inr there
+still_in (z ∷ zs) (suc k) x e y (inl same) = inr (inl same)
+still_in (z ∷ zs) (suc k) x e y (inr there) = elim (still_in zs k x e y there) [ inl is ↦ inl is | inr still ↦ inr (inr still) ]
+
+pub length_without : {X : Type 0} (xs : List X) (k : ℕ) (x : X) → slice_get xs k ≡ Some x → length (remove xs k) + 1 ≡ length xs
+length_without xs k x e = length-remove xs k (slice_get_within xs k x e)

@@ -4,23 +4,20 @@ use Rattle.std.proofs.Common.{refl, sym, ap, ◌∙◌, subst, arith, eqb-true, 
 use Rattle.std.proofs.lemmas.Bool.{cases_Bool}
 use Rattle.command_table.specs.declared.refusal.Refusal.{Refusal}
 use Rattle.groups.specs.GroupSet.{has}
-use Rattle.journal.specs.declared.step.Step.TheVariants.{Open, Submit, Deliver, Take, Run, Settle, Collect, Close}
+use Rattle.journal.specs.declared.step.Step.TheVariants.{Open, Submit, Deliver, Take, Run, Settle, Collect, Close, Repeat}
 use Rattle.placement.specs.Layout.{Layout}
 use Rattle.groups.proofs.Lists.{In-left, In-right}
 use Rattle.groups.proofs.Stamps.{final_above, final_within, lt_from_clocks}
 use Rattle.skeen_core.specs.Group.{heard, EachOnce}
 use Rattle.groups.specs.Order.{In}
 use Rattle.groups.specs.Stamp.{final}
-use Rattle.skeen_core.specs.declared.packet.Body.{Body}
-use Rattle.skeen_core.specs.declared.packet.Body.TheVariants.{Start, Proposal}
 use Rattle.skeen_core.specs.declared.packet.Delivered.{Delivered}
 use Rattle.groups.specs.declared.request.RequestId.{RequestId}
 use Rattle.groups.specs.declared.stamp.Stamp.{Stamp}
 use Rattle.tasks.specs.Tasks.{Task, task_reading, task_groups}
 use Rattle.world.specs.Steps.{Effect, submitted_to, submitted, Comes, Collects}
-use Rattle.world.specs.World.{World, Request, Standing, Closed, Idle, Waiting, Answered, Ended, Proposals}
-use Rattle.world_laws.specs.Good.{Rising, Asked, Known, BodyGood, log_of, delivered_of, all_delivered, taken_in}
-use Rattle.world_laws.specs.Good.{all_taken, Touching, TakenGood, WorldGood}
+use Rattle.world.specs.World.{World, Request, Standing, Closed, Idle, Waiting, Answered, Ended}
+use Rattle.world_laws.specs.Good.{Rising, Known, log_of, delivered_of, all_delivered, taken_in, all_taken, Touching, TakenGood, WorldGood}
 use Rattle.world_laws.specs.Order.{HasFinal, GroupsAgree, FinalIsGreatest, FinalIsProposed, FinalStampsDiffer, StampsOfConnectionRise}
 use Rattle.world_laws.specs.Order.{ClockIsAboveProposals, ClockIsAboveDeliveries, ClocksAreBounded, DeliveriesAscend, AskedOfItsGroups}
 use Rattle.world_laws.specs.Order.{PacketsGoToAddressed, DeliveriesAreAddressed, Brings, OthersKeepStill, ids_of, EndsOnce, EndsAsSubmitted}
@@ -28,6 +25,7 @@ use Rattle.world_laws.specs.Order.{TouchingByStamp, TouchingEndInStampOrder, End
 use Rattle.world_laws.proofs.Bounds.{bounded_world}
 use Rattle.world_laws.proofs.Layers.{log_taken, all_delivered-append, in_delivered, taken_once}
 use Rattle.world_laws.proofs.Lists.{rising_left}
+use Rattle.world_laws.proofs.Packets.{body_addressed}
 use Rattle.world_laws.proofs.Requests.{final_is_proposed, proposed_above_floor}
 use Rattle.world_laws.proofs.Worlds.{good_world}
 use Rattle.std.proofs.lemmas.Bool.{cond-false}
@@ -126,11 +124,6 @@ deliveries_ascend t steps w leads g = ((good_world t steps w leads).skeen.groups
 pub asked_of_its_groups : AskedOfItsGroups
 asked_of_its_groups t steps w leads i q named = sym ((good_world t steps w leads).requests.shaped i q named).groups
 
-body_addressed : (asked : Asked) (proposed : Proposals) (to : ℕ) (id : RequestId) (body : Body) → BodyGood asked proposed to id body →
-    (q : Request) × (asked id ≡ Some q) × (has q.groups to ≡ true)
-body_addressed asked proposed to id (Start floor groups) good = (good.0.0, good.0.1, subst (λ gs. has gs to ≡ true) (sym good.0.3) good.1)
-body_addressed asked proposed to id (Proposal from n) good = good.2
-
 pub packets_go_to_addressed : PacketsGoToAddressed
 packets_go_to_addressed t steps w leads p there =
     body_addressed w.asked w.proposed p.to p.id p.body ((good_world t steps w leads).skeen.sent p there)
@@ -180,6 +173,7 @@ others_keep_still t old new (Run starved) effect s g none = subst (λ w. Still o
 others_keep_still t old new Settle effect s g none = subst (λ w. Still old w g) (sym s.after) (refl, refl)
 others_keep_still t old new (Collect conn) effect s g none = collect_still old new conn.0 (old.standing conn.0) effect g s
 others_keep_still t old new (Close conn) effect s g none = subst (λ w. Still old w g) (sym s.after) (refl, refl)
+others_keep_still t old new (Repeat k) effect s g none = subst (λ w. Still old w g) (sym s.after) (refl, refl)
 
 -- ---- what was run
 
@@ -278,3 +272,4 @@ ended_is_kept t old new (Run starved) effect s = (s.outcomes, ap (λ (w : World)
 ended_is_kept t old new Settle effect s = none_more old new (ap (λ (w : World). w.ended) s.after)
 ended_is_kept t old new (Collect conn) effect s = collect_kept old new conn.0 (old.standing conn.0) effect s
 ended_is_kept t old new (Close conn) effect s = none_more old new (ap (λ (w : World). w.ended) s.after)
+ended_is_kept t old new (Repeat k) effect s = none_more old new (ap (λ (w : World). w.ended) s.after)

@@ -1,37 +1,35 @@
 -- Every world owes what a good one may owe.
-use Rattle.std.proofs.Common.{◌≡◌, ℕ, ◌+◌, ◌==◌, true, false, cond, List, [], ◌∷◌, ◌++◌, ◌⊎◌, inl, inr, Option, Some, None, Result, Ok, Err}
-use Rattle.std.proofs.Common.{refl, sym, ap, ◌∙◌, subst, eqb-true, append_assoc}
-use Rattle.std.specs.FinMap.{get}
-use Rattle.std.specs.Option.{is_some}
+use Rattle.std.proofs.Common.{◌≡◌, ℕ, ◌==◌, true, false, cond, List, [], ◌∷◌, ◌++◌, ◌⊎◌, inl, inr, Some, Result, Ok, Err, slice_get, refl, sym}
+use Rattle.std.proofs.Common.{ap, ◌∙◌, subst, eqb-true, eq-eqb, append_assoc}
+use Rattle.std.proofs.lemmas.Bool.{both_ways}
 use Rattle.command_table.specs.declared.refusal.Refusal.{Refusal}
 use Rattle.delivery.proofs.Layers.{taken_somewhere}
 use Rattle.delivery.specs.Ready.{taken_from}
 use Rattle.journal.specs.declared.step.Step.{Step}
-use Rattle.journal.specs.declared.step.Step.TheVariants.{Open, Submit, Deliver, Take, Run, Settle, Collect, Close}
+use Rattle.journal.specs.declared.step.Step.TheVariants.{Open, Submit, Deliver, Take, Run, Settle, Collect, Close, Repeat}
 use Rattle.placement.specs.Layout.{Layout}
 use Rattle.skeen_core.proofs.Lawful.{None≢Some, named}
 use Rattle.groups.proofs.Ids.{same_id-true}
 use Rattle.groups.proofs.Lists.{In-left, In-right, In-append}
-use Rattle.skeen_core.specs.Group.{GroupState, heard, next_clock, with_start, with_proposal, lifted, has_id, ReceivesStart, Receives}
+use Rattle.skeen_core.specs.Group.{GroupState, heard, has_id}
 use Rattle.groups.specs.Order.{In}
 use Rattle.groups.specs.Request.{same_id}
-use Rattle.skeen_core.specs.declared.packet.Body.{Body}
 use Rattle.skeen_core.specs.declared.packet.Body.TheVariants.{Start, Proposal}
 use Rattle.skeen_core.specs.declared.packet.Delivered.{Delivered}
 use Rattle.skeen_core.specs.declared.packet.Packet.{Packet}
 use Rattle.groups.specs.declared.request.RequestId.{RequestId}
 use Rattle.tasks.specs.Tasks.{Task, task_reading, task_groups}
-use Rattle.world.specs.Steps.{at, starts, opening, Effect, next_id, floor_of, multicast, submitted_to, submitted, hears, with_own}
-use Rattle.world.specs.Steps.{now_proposed, Comes, Takes, RunsLayer, Settles, Collects, Steps, Makes, Leads}
+use Rattle.world.specs.Steps.{at, starts, opening, Effect, next_id, floor_of, multicast, submitted_to, submitted, Comes}
+use Rattle.world.specs.Steps.{Repeats, Takes, RunsLayer, Settles, Collects, Steps, Makes, Leads}
 use Rattle.world.specs.World.{World, Request, Standing, Closed, Idle, Waiting, Answered, Proposals}
-use Rattle.world_laws.specs.Good.{Asked, IsOut, BodyGood, bit, starts_of, addresses, log_of, SkeenGood, all_delivered, all_taken, WorldGood}
+use Rattle.world_laws.specs.Good.{IsOut, BodyGood, log_of, all_delivered, all_taken, WorldGood}
 use Rattle.world_laws.specs.Quiet.{told_by, GroupOwes, OwesGood}
+use Rattle.world_laws.proofs.Arrivals.{hearing, beginning, Arrival, LeftOut, Begins, Hears, arrival}
 use Rattle.world_laws.proofs.ConditionLaws.{delivered_same}
 use Rattle.world_laws.proofs.Groups.{by_test}
 use Rattle.world_laws.proofs.Layers.{log_taken, taken_run}
-use Rattle.world_laws.proofs.Lists.{split_at}
-use Rattle.world_laws.proofs.Owing.{owes_delivers, start_owes, start_mid_owes, proposal_owes, proposal_mid_owes}
-use Rattle.world_laws.proofs.Receipts.{was_under_way, not_proposed, not_started}
+use Rattle.world_laws.proofs.Lists.{in_place}
+use Rattle.world_laws.proofs.Owing.{owes_delivers, without_owes, begins_owes, begins_mid_owes, hears_mid_owes}
 use Rattle.world_laws.proofs.Requests.{next_is_new}
 use Rattle.world_laws.proofs.Worlds.{keeps, good_opening}
 
@@ -40,83 +38,62 @@ Owes w = OwesGood w.asked w.proposed w.packets w.group (log_of w) w.gone (all_ta
 
 -- ---- Deliver
 
-owes_at : (asked : Asked) (proposed : Proposals) (packets : List Packet) (group : ℕ → GroupState) (gone queue : ℕ → List Delivered)
-    (to : ℕ) (state : GroupState) (ds : List Delivered) →
-    ((g : ℕ) → (g == to) ≡ false → GroupOwes asked proposed packets g (group g) (gone g ++ queue g)) →
-    GroupOwes asked proposed packets to state ((gone to ++ queue to) ++ ds) →
-    (g : ℕ) → GroupOwes asked proposed packets g (at group to state g) (gone g ++ at queue to (queue to ++ ds) g)
-owes_at asked proposed packets group gone queue to state ds others mine g =
-    elim (g == to) as (λ b. (g == to) ≡ b → GroupOwes asked proposed packets g (cond b state (group g))
-    (gone g ++ cond b (queue to ++ ds) (queue g))) [
-      | true ↦ λ e. subst (λ h. GroupOwes asked proposed packets h state (gone h ++ (queue to ++ ds))) (sym (eqb-true g to e))
-          (subst (λ l. GroupOwes asked proposed packets to state l) (append_assoc (gone to) (queue to) ds) mine)
+owes_at : (w : World) (proposed : Proposals) (packets : List Packet) (to : ℕ) (state : GroupState) (ds : List Delivered) →
+    ((g : ℕ) → (g == to) ≡ false → GroupOwes w.asked proposed packets g (w.group g) (log_of w g)) →
+    GroupOwes w.asked proposed packets to state (log_of w to ++ ds) →
+    (g : ℕ) → GroupOwes w.asked proposed packets g (at w.group to state g) (w.gone g ++ at w.queue to (w.queue to ++ ds) g)
+owes_at w proposed packets to state ds others mine g =
+    elim (g == to) as (λ b. (g == to) ≡ b → GroupOwes w.asked proposed packets g (cond b state (w.group g))
+    (w.gone g ++ cond b (w.queue to ++ ds) (w.queue g))) [
+      | true ↦ λ e. subst (λ h. GroupOwes w.asked proposed packets h state (w.gone h ++ (w.queue to ++ ds))) (sym (eqb-true g to e))
+          (subst (λ l. GroupOwes w.asked proposed packets to state l) (append_assoc (w.gone to) (w.queue to) ds) mine)
       | false ↦ λ e. others g e
     ] refl
 
-start_comes_owing : (w : World) (to : ℕ) (id : RequestId) (floor : ℕ) (groups : List ℕ) (front back sent : List Packet)
-    (ds : List Delivered) (state : GroupState) →
-    w.packets ≡ front ++ record { to = to; id = id; body = Start floor groups } ∷ back →
-    SkeenGood w.asked w.proposed w.packets w.group (log_of w) →
-    (o : Option (List ℕ)) → get (w.group to).started id ≡ o → ReceivesStart o to (w.group to) id floor groups sent ds state → Owes w →
-    (g : ℕ) → GroupOwes w.asked (with_own o w.proposed id to (next_clock (w.group to) floor))
-    ((front ++ back) ++ sent) g (at w.group to state g) (w.gone g ++ at w.queue to (w.queue to ++ ds) g)
-start_comes_owing w to id floor groups front back sent ds state whole skeen o is r owes = by_started o is r
-  where
-    body : BodyGood w.asked w.proposed to id (Start floor groups)
-    body = skeen.sent (record { to = to; id = id; body = Start floor groups })
-        (subst (λ l. In (record { to = to; id = id; body = Start floor groups }) l) (sym whole) (was_under_way _ front back))
-
-    none : w.proposed id to ≡ None
-    none = not_proposed id to front floor groups back (w.proposed id to) (addresses (w.asked id) to)
-        (subst (λ l. starts_of id to l + bit (is_some (w.proposed id to)) ≡ bit (addresses (w.asked id) to)) whole (skeen.counted id to))
-
-    absent : get (w.group to).started id ≡ None
-    absent = not_started w.asked w.proposed to (w.group to) (log_of w to) id (skeen.groups to) none
-
-    by_started : (o : Option (List ℕ)) → get (w.group to).started id ≡ o → ReceivesStart o to (w.group to) id floor groups sent ds state →
-        (g : ℕ) → GroupOwes w.asked (with_own o w.proposed id to (next_clock (w.group to) floor))
-        ((front ++ back) ++ sent) g (at w.group to state g) (w.gone g ++ at w.queue to (w.queue to ++ ds) g)
-    by_started (Some gs) e r = absurd (None≢Some gs (sym absent ∙ e))
-    by_started None e r = owes_at w.asked (hears w.proposed id to (next_clock (w.group to) floor))
-        ((front ++ back) ++ sent) w.group w.gone w.queue to state ds
-        (λ g other. subst (λ l. GroupOwes w.asked (hears w.proposed id to (next_clock (w.group to) floor))
-        ((front ++ back) ++ l) g (w.group g) (log_of w g)) (sym r.0)
-        (start_owes w.asked w.proposed w.packets w.group (log_of w) to id floor groups front back body.0.0 whole body.0.1 body.0.3 none
-        (skeen.groups to).heard owes.groups g other))
-        (owes_delivers w.asked (hears w.proposed id to (next_clock (w.group to) floor))
-        ((front ++ back) ++ sent) to (lifted (with_start to (w.group to) id floor groups) id) state (log_of w to) ds
-        (start_mid_owes w.asked w.proposed w.packets (w.group to)
-        (log_of w to) to id floor groups front back sent whole none (skeen.groups to).heard (owes.groups to)) r.1)
-
-comes_owing : (w : World) (to : ℕ) (id : RequestId) (body : Body) (front back sent : List Packet) (ds : List Delivered)
-    (state : GroupState) →
-    w.packets ≡ front ++ record { to = to; id = id; body = body } ∷ back → SkeenGood w.asked w.proposed w.packets w.group (log_of w) →
-    Receives to (w.group to) id body sent ds state → Owes w →
-    (g : ℕ) → GroupOwes w.asked (now_proposed w.proposed to (w.group to) id body) ((front ++ back) ++ sent) g (at w.group to state g)
-    (w.gone g ++ at w.queue to (w.queue to ++ ds) g)
-comes_owing w to id (Start floor groups) front back sent ds state whole skeen r owes =
-    start_comes_owing w to id floor groups front back sent ds state whole skeen (get (w.group to).started id) refl r owes
-comes_owing w to id (Proposal from n) front back sent ds state whole skeen r owes =
-    let body = skeen.sent (told_by to id from n) (subst (λ l. In (told_by to id from n) l) (sym whole) (was_under_way _ front back)) in
-    owes_at w.asked w.proposed ((front ++ back) ++ sent) w.group w.gone w.queue to state ds
-    (λ g other. proposal_owes w.asked w.proposed w.packets (w.group g)
-    (log_of w g) to id from n front back sent g whole other (owes.groups g))
-    (owes_delivers w.asked w.proposed ((front ++ back) ++ sent) to (lifted (with_proposal (w.group to) id from n) id) state (log_of w to) ds
-    (proposal_mid_owes w.asked w.proposed w.packets (w.group to)
-    (log_of w to) to id from n front back sent whole body.0 (owes.groups to)) r.1)
+owes_arrives : (t : Layout) (w new : World) (k : ℕ) (p : Packet) → slice_get w.packets k ≡ Some p → Arrival w k p new → WorldGood t w →
+    Owes w → Owes new
+owes_arrives t w new k p there (LeftOut told out same) good owes = subst (λ v. Owes v) (sym same) (record {
+  groups = λ g. without_owes w k p there g (λ i h n is. subst (λ (x : Packet). IsOut (log_of w x.to) x.id) (sym is)
+      (out h n (ap (λ (x : Packet). x.body) (sym is)))) (owes.groups g);
+  taken = owes.taken;
+})
+owes_arrives t w new k p there (Begins floor groups ds is none delivers reached same) good owes =
+    let body : BodyGood w.asked w.proposed p.to p.id (Start floor groups) =
+    subst (λ b. BodyGood w.asked w.proposed p.to p.id b) is (good.skeen.sent p (in_place w.packets k p there)) in
+    subst (λ v. Owes v) (sym same) (record {
+      groups = owes_at w _ _ p.to _ ds (λ g other. begins_owes w k p floor groups there is body g other (owes.groups g))
+          (owes_delivers w.asked _ _ p.to (beginning w p floor groups) (log_of w p.to) ds
+          (begins_mid_owes w k p floor groups there is (owes.groups p.to)));
+      taken = owes.taken;
+    })
+owes_arrives t w new k p there (Hears from n ds is delivers reached same) good owes =
+    let body : BodyGood w.asked w.proposed p.to p.id (Proposal from n) =
+    subst (λ b. BodyGood w.asked w.proposed p.to p.id b) is (good.skeen.sent p (in_place w.packets k p there)) in
+    subst (λ v. Owes v) (sym same) (record {
+      groups = owes_at w _ _ p.to _ ds (λ g other. without_owes w k p there g
+          (λ i h m is'. absurd (both_ways _ other (eq-eqb g p.to (ap (λ (x : Packet). x.to) is')))) (owes.groups g))
+          (owes_delivers w.asked _ _ p.to (hearing w p from n) (log_of w p.to) ds
+          (hears_mid_owes w k p from n there is body.0 (owes.groups p.to)));
+      taken = owes.taken;
+    })
 
 owes_deliver : (t : Layout) (old new : World) (k : ℕ) (effect : Effect) → Comes old k effect new → WorldGood t old → Owes old → Owes new
 owes_deliver t old new k effect step good owes =
-    let parts = split_at old.packets k step.packet step.there in
-    subst (λ w. Owes w) (sym step.after) (record {
-      groups = λ g. subst (λ l. GroupOwes old.asked
-          (now_proposed old.proposed step.packet.to (old.group step.packet.to) step.packet.id step.packet.body) (l ++ step.sent) g
-          (at old.group step.packet.to step.state g)
-          (old.gone g ++ at old.queue step.packet.to (old.queue step.packet.to ++ step.delivered) g)) (sym parts.rest)
-          (comes_owing old step.packet.to step.packet.id step.packet.body parts.front parts.back step.sent step.delivered step.state
-          parts.whole good.skeen step.receives owes g);
-      taken = owes.taken;
-    })
+    owes_arrives t old new k step.packet step.there (arrival t old new k effect step good) good owes
+
+-- ---- Repeat
+
+owes_repeat : (old new : World) (k : ℕ) (effect : Effect) → Repeats old k effect new → Owes old → Owes new
+owes_repeat old new k effect step owes = subst (λ w. Owes w) (sym step.after) (record {
+  groups = λ g. record {
+    told = λ i r h n named_ member e. elim ((owes.groups g).told i r h n named_ member e) [
+      | inl there ↦ inl there
+      | inr (inr out) ↦ inr (inr out)
+      | inr (inl is_sent) ↦ inr (inl (In-left _ old.packets (step.packet ∷ []) is_sent))
+    ];
+  };
+  taken = owes.taken;
+})
 
 -- ---- Submit
 
@@ -216,6 +193,7 @@ owes_step t old new (Run starved) effect s good owes = owes_run old new starved 
 owes_step t old new Settle effect s good owes = owes_settle old new effect s owes
 owes_step t old new (Collect conn) effect s good owes = owes_collects old new conn.0 (old.standing conn.0) effect s owes
 owes_step t old new (Close conn) effect s good owes = subst (λ w. Owes w) (sym s.after) owes
+owes_step t old new (Repeat k) effect s good owes = owes_repeat old new k effect s owes
 
 owes_steps : (t : Layout) (old new : World) (steps : List Step) (effects : List Effect) → Makes t old steps effects new → WorldGood t old →
     Owes old → Owes new

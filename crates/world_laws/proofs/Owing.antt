@@ -1,13 +1,14 @@
 -- What is owed is kept by each step.
-use Rattle.std.proofs.Common.{◌≡◌, ℕ, ◌==◌, ◌&&◌, true, false, cond, List, [], ◌∷◌, ◌++◌, ◌⊎◌, inl, inr, Some, None, refl, sym, ap}
+use Rattle.std.proofs.Common.{◌≡◌, ℕ, ◌==◌, ◌&&◌, true, false, cond, List, [], ◌∷◌, ◌++◌, ◌⊎◌, inl, inr, Some, slice_get, refl, sym, ap}
 use Rattle.std.proofs.Common.{◌∙◌, subst, eqb-true, eq-eqb}
-use Rattle.std.proofs.lemmas.Bool.{both_ways, cases_Bool, or_cases, and_parts, and_from}
+use Rattle.std.proofs.lemmas.Bool.{both_ways, cases_Bool, or_cases, and_parts, and_from, cond-true, cond-false}
+use Rattle.std.specs.List.{remove}
 use Rattle.groups.specs.GroupSet.{has}
 use Rattle.skeen_core.proofs.Finite.{heard-with_start, heard-with_proposal}
 use Rattle.groups.proofs.Ids.{same_id-true, same_id-refl}
 use Rattle.skeen_core.proofs.Lawful.{still_heard}
-use Rattle.groups.proofs.Lists.{In-right}
-use Rattle.skeen_core.specs.Group.{GroupState, heard, next_clock, with_start, with_proposal, lifted, Delivering, has_id, tell}
+use Rattle.groups.proofs.Lists.{In-left, In-right}
+use Rattle.skeen_core.specs.Group.{GroupState, heard, next_clock, with_start, has_id, tell}
 use Rattle.groups.specs.Order.{In}
 use Rattle.groups.specs.Request.{same_id}
 use Rattle.skeen_core.specs.declared.packet.Body.TheVariants.{Start, Proposal}
@@ -15,12 +16,12 @@ use Rattle.skeen_core.specs.declared.packet.Delivered.{Delivered}
 use Rattle.skeen_core.specs.declared.packet.Packet.{Packet}
 use Rattle.groups.specs.declared.request.RequestId.{RequestId}
 use Rattle.world.specs.Steps.{hears}
-use Rattle.world.specs.World.{Request, Proposals}
-use Rattle.world_laws.specs.Good.{Asked, IsOut}
+use Rattle.world.specs.World.{World, Request, Proposals}
+use Rattle.world_laws.specs.Good.{Asked, IsOut, BodyGood, log_of}
 use Rattle.world_laws.specs.Quiet.{told_by, GroupOwes}
-use Rattle.world_laws.proofs.Groups.{by_test, out_left, out_right, out_named}
-use Rattle.world_laws.proofs.Receipts.{still_sent}
-use Rattle.std.proofs.lemmas.Bool.{cond-true, cond-false}
+use Rattle.world_laws.proofs.Arrivals.{hearing, beginning, start_is_no_proposal}
+use Rattle.world_laws.proofs.Groups.{having_delivered, by_test, out_left, out_right, out_named}
+use Rattle.world_laws.proofs.Lists.{still_in}
 use Rattle.groups.proofs.Options.{some_same}
 
 -- ---- the group that delivers: what it had of a request it has still, or the request is out
@@ -31,20 +32,19 @@ pub record MidOwes (asked : Asked) (proposed : Proposals) (packets : List Packet
   pub told : (i : RequestId) (q : Request) (h n : ℕ) → asked i ≡ Some q → has q.groups g ≡ true → proposed i h ≡ Some n →
       (heard mid i h ≡ Some n) ⊎ (In (told_by g i h n) packets ⊎ IsOut log i)
 
-pub owes_delivers : (asked : Asked) (proposed : Proposals) (packets : List Packet) (g : ℕ) (mid state : GroupState)
-    (log ds : List Delivered) → MidOwes asked proposed packets g mid log → Delivering g mid ds state →
-    GroupOwes asked proposed packets g state (log ++ ds)
-owes_delivers asked proposed packets g mid state log ds owes delivering = subst (λ s. GroupOwes asked proposed packets g s (log ++ ds))
-    (sym delivering.after) (record {
-      told = λ i q h n named_ member e. elim (owes.told i q h n named_ member e) [
-        | inr (inl sent) ↦ inr (inl sent)
-        | inr (inr out) ↦ inr (inr (out_left log ds i out))
-        | inl there ↦ elim (cases_Bool (has_id ds i)) [
-          | inl gone ↦ inr (inr (out_right log ds i (out_named ds i gone)))
-          | inr stays ↦ inl (still_heard mid ds i stays h ∙ there)
-        ]
-      ];
-    })
+pub owes_delivers : (asked : Asked) (proposed : Proposals) (packets : List Packet) (g : ℕ) (mid : GroupState)
+    (log ds : List Delivered) → MidOwes asked proposed packets g mid log →
+    GroupOwes asked proposed packets g (having_delivered mid ds) (log ++ ds)
+owes_delivers asked proposed packets g mid log ds owes = record {
+  told = λ i q h n named_ member e. elim (owes.told i q h n named_ member e) [
+    | inr (inl sent) ↦ inr (inl sent)
+    | inr (inr out) ↦ inr (inr (out_left log ds i out))
+    | inl there ↦ elim (cases_Bool (has_id ds i)) [
+      | inl gone ↦ inr (inr (out_right log ds i (out_named ds i gone)))
+      | inr stays ↦ inl (still_heard mid ds i stays h ∙ there)
+    ]
+  ];
+}
 
 -- ---- packets
 
@@ -64,112 +64,110 @@ in_tell me id n (h ∷ hs) g there other =
       ]
     ] refl
 
-start_not_proposal : (to g : ℕ) (id i : RequestId) (floor h n : ℕ) (groups : List ℕ) → told_by g i h n ≡ record {
-  to = to;
-  id = id;
-  body = Start floor groups;
-} → ⊥
-start_not_proposal to g id i floor h n groups e = let bodies = ap (λ (p : Packet). p.body) e in absurd (cc)
+-- ---- the packet is gone
 
--- ---- a Start
-
-pub start_owes : (asked : Asked) (proposed : Proposals) (packets : List Packet) (group : ℕ → GroupState) (log : ℕ → List Delivered)
-    (to : ℕ) (id : RequestId) (floor : ℕ) (groups : List ℕ) (front back : List Packet) (q : Request) →
-    packets ≡ front ++ record { to = to; id = id; body = Start floor groups } ∷ back → asked id ≡ Some q → q.groups ≡ groups →
-    proposed id to ≡ None → ((i : RequestId) (h n : ℕ) → heard (group to) i h ≡ Some n → proposed i h ≡ Some n) →
-    ((g : ℕ) → GroupOwes asked proposed packets g (group g) (log g)) → (g : ℕ) → (g == to) ≡ false →
-    GroupOwes asked (hears proposed id to (next_clock (group to) floor))
-    ((front ++ back) ++ tell to id (next_clock (group to) floor) groups) g (group g) (log g)
-start_owes asked proposed packets group log to id floor groups front back q whole named_ same none heard_in owes g other = record {
-  told = λ i r h n asked_ member e. by_test (same_id i id && h == to) (next_clock (group to) floor) (proposed i h) n
-      ((heard (group g) i h ≡ Some n)
-      ⊎ (In (told_by g i h n) ((front ++ back) ++ tell to id (next_clock (group to) floor) groups) ⊎ IsOut (log g) i)) e
-      (λ p new.
-      let parts = and_parts (same_id i id) (h == to) p in
-      let at_id = same_id-true i id parts.0 in
-      let again : r ≡ q = some_same r q (sym asked_ ∙ ap asked at_id ∙ named_) in
-      let addressed : has groups g ≡ true = subst (λ gs. has gs g ≡ true) (ap (λ (x : Request). x.groups) again ∙ same) member in
-      inr (inl (subst (λ j. In (told_by g j h n) ((front ++ back) ++ tell to id (next_clock (group to) floor) groups)) (sym at_id)
-      (subst (λ k. In (told_by g id k n) ((front ++ back) ++ tell to id (next_clock (group to) floor) groups)) (sym (eqb-true h to parts.1))
-      (subst (λ m. In (told_by g id to m) ((front ++ back) ++ tell to id (next_clock (group to) floor) groups)) new
-      (In-right _ (front ++ back) (tell to id (next_clock (group to) floor) groups)
-      (in_tell to id (next_clock (group to) floor) groups g addressed other)))))))
-      (λ p old. elim ((owes g).told i r h n asked_ member old) [
-        | inl there ↦ inl there
-        | inr (inr out) ↦ inr (inr out)
-        | inr (inl sent) ↦ elim (still_sent (told_by g i h n)
-            (record { to = to; id = id; body = Start floor groups }) front back (tell to id (next_clock (group to) floor) groups)
-            (subst (λ l. In (told_by g i h n) l) whole sent)) [
-              | inl is ↦ absurd (start_not_proposal to g id i floor h n groups is)
-              | inr still ↦ inr (inl still)
-            ]
-      ]);
-}
-
-pub start_mid_owes : (asked : Asked) (proposed : Proposals) (packets : List Packet) (grp : GroupState) (log : List Delivered) (to : ℕ)
-    (id : RequestId) (floor : ℕ) (groups : List ℕ) (front back sent : List Packet) →
-    packets ≡ front ++ record { to = to; id = id; body = Start floor groups } ∷ back → proposed id to ≡ None →
-    ((i : RequestId) (h n : ℕ) → heard grp i h ≡ Some n → proposed i h ≡ Some n) →
-    GroupOwes asked proposed packets to grp log →
-    MidOwes asked (hears proposed id to (next_clock grp floor))
-    ((front ++ back) ++ sent) to (lifted (with_start to grp id floor groups) id) log
-start_mid_owes asked proposed packets grp log to id floor groups front back sent whole none heard_in owes = record {
-  told = λ i r h n asked_ member e. by_test (same_id i id && h == to) (next_clock grp floor) (proposed i h) n
-      ((heard (with_start to grp id floor groups) i h ≡ Some n) ⊎ (In (told_by to i h n) ((front ++ back) ++ sent) ⊎ IsOut log i)) e
-      (λ p new. inl (heard-with_start to grp id floor groups i h ∙ cond-true (same_id i id && h == to) (Some (next_clock grp floor))
-      (heard grp i h) p ∙ ap Some new))
-      (λ p old. elim (owes.told i r h n asked_ member old) [
-        | inl there ↦ inl (heard-with_start to grp id floor groups i h ∙ cond-false (same_id i id && h == to) (Some (next_clock grp floor))
-            (heard grp i h) p ∙ there)
-        | inr (inr out) ↦ inr (inr out)
-        | inr (inl is_sent) ↦ elim (still_sent (told_by to i h n)
-            (record { to = to; id = id; body = Start floor groups }) front back sent (subst (λ l. In (told_by to i h n) l) whole is_sent)) [
-              | inl is ↦ absurd (start_not_proposal to to id i floor h n groups is)
-              | inr still ↦ inr (inl still)
-            ]
-      ]);
-}
-
--- ---- a Proposal
-
--- another group than the one that it came to
-pub proposal_owes : (asked : Asked) (proposed : Proposals) (packets : List Packet) (grp : GroupState) (log : List Delivered) (to : ℕ)
-    (id : RequestId) (from n : ℕ) (front back sent : List Packet) (g : ℕ) →
-    packets ≡ front ++ told_by to id from n ∷ back → (g == to) ≡ false → GroupOwes asked proposed packets g grp log →
-    GroupOwes asked proposed ((front ++ back) ++ sent) g grp log
-proposal_owes asked proposed packets grp log to id from n front back sent g whole other owes = record {
-  told = λ i r h m asked_ member e. elim (owes.told i r h m asked_ member e) [
-    | inl there ↦ inl there
-    | inr (inr out) ↦ inr (inr out)
-    | inr (inl is_sent) ↦ elim (still_sent (told_by g i h m)
-        (told_by to id from n) front back sent (subst (λ l. In (told_by g i h m) l) whole is_sent)) [
-          | inl is ↦ absurd (both_ways _ other (eq-eqb g to (ap (λ (p : Packet). p.to) is)))
-          | inr still ↦ inr (inl still)
-        ]
+-- it had nothing to tell the group, or the request is out there
+pub without_owes : (w : World) (k : ℕ) (p : Packet) → slice_get w.packets k ≡ Some p → (g : ℕ) →
+    ((i : RequestId) (h n : ℕ) → told_by g i h n ≡ p → IsOut (log_of w g) i) →
+    GroupOwes w.asked w.proposed w.packets g (w.group g) (log_of w g) →
+    GroupOwes w.asked w.proposed (remove w.packets k) g (w.group g) (log_of w g)
+without_owes w k p there g out owes = record {
+  told = λ i r h n asked_ member e. elim (owes.told i r h n asked_ member e) [
+    | inl heard_ ↦ inl heard_
+    | inr (inr out_) ↦ inr (inr out_)
+    | inr (inl is_sent) ↦ elim (still_in w.packets k p there (told_by g i h n) is_sent) [
+      | inr still ↦ inr (inl still)
+      | inl same ↦ inr (inr (out i h n same))
+    ]
   ];
 }
 
-pub proposal_mid_owes : (asked : Asked) (proposed : Proposals) (packets : List Packet) (grp : GroupState) (log : List Delivered) (to : ℕ)
-    (id : RequestId) (from n : ℕ) (front back sent : List Packet) →
-    packets ≡ front ++ told_by to id from n ∷ back → proposed id from ≡ Some n → GroupOwes asked proposed packets to grp log →
-    MidOwes asked proposed ((front ++ back) ++ sent) to (lifted (with_proposal grp id from n) id) log
-proposal_mid_owes asked proposed packets grp log to id from n front back sent whole told_ owes = record {
-  told = λ i r h m asked_ member e. elim (cases_Bool (same_id i id && h == from)) [
-    | inl p ↦
-        let parts = and_parts (same_id i id) (h == from) p in
-        let it : proposed id from ≡ Some m = subst (λ j. proposed j from ≡ Some m) (same_id-true i id parts.0)
-        (subst (λ g. proposed i g ≡ Some m) (eqb-true h from parts.1) e) in
-        inl (heard-with_proposal grp id from n i h ∙ cond-true (same_id i id && h == from) (Some n) (heard grp i h) p ∙ sym told_ ∙ it)
-    | inr p ↦ elim (owes.told i r h m asked_ member e) [
-      | inl there ↦ inl (heard-with_proposal grp id from n i h ∙ cond-false (same_id i id && h == from) (Some n) (heard grp i h) p ∙ there)
+-- ---- it begins its request
+
+-- a proposal that was under way is still
+still_told : (w : World) (k : ℕ) (p : Packet) (floor : ℕ) (groups : List ℕ) (sent : List Packet) → slice_get w.packets k ≡ Some p →
+    p.body ≡ Start floor groups → (g : ℕ) (i : RequestId) (h n : ℕ) → In (told_by g i h n) w.packets →
+    In (told_by g i h n) (remove w.packets k ++ sent)
+still_told w k p floor groups sent there is g i h n is_sent = elim (still_in w.packets k p there (told_by g i h n) is_sent) [
+  | inr still ↦ In-left (told_by g i h n) (remove w.packets k) sent still
+  | inl same ↦ absurd (start_is_no_proposal floor groups h n (sym is ∙ ap (λ (x : Packet). x.body) (sym same)))
+]
+
+-- another group than the one that it came to
+pub begins_owes : (w : World) (k : ℕ) (p : Packet) (floor : ℕ) (groups : List ℕ) → slice_get w.packets k ≡ Some p →
+    p.body ≡ Start floor groups → BodyGood w.asked w.proposed p.to p.id (Start floor groups) → (g : ℕ) → (g == p.to) ≡ false →
+    GroupOwes w.asked w.proposed w.packets g (w.group g) (log_of w g) →
+    GroupOwes w.asked (hears w.proposed p.id p.to (next_clock (w.group p.to) floor))
+    (remove w.packets k ++ tell p.to p.id (next_clock (w.group p.to) floor) groups) g (w.group g) (log_of w g)
+begins_owes w k p floor groups there is body g other owes = record {
+  told = λ i r h n asked_ member e. by_test (same_id i p.id && h == p.to) new (w.proposed i h) n
+      ((heard (w.group g) i h ≡ Some n) ⊎ (In (told_by g i h n) sent ⊎ IsOut (log_of w g) i)) e
+      (λ test now.
+      let parts = and_parts (same_id i p.id) (h == p.to) test in
+      let at_id = same_id-true i p.id parts.0 in
+      let again : r ≡ body.0.0 = some_same r body.0.0 (sym asked_ ∙ ap w.asked at_id ∙ body.0.1) in
+      let addressed : has groups g ≡ true = subst (λ gs. has gs g ≡ true) (ap (λ (x : Request). x.groups) again ∙ body.0.3) member in
+      inr (inl (subst (λ j. In (told_by g j h n) sent) (sym at_id) (subst (λ f. In (told_by g p.id f n) sent) (sym (eqb-true h p.to parts.1))
+      (subst (λ m. In (told_by g p.id p.to m) sent) now
+      (In-right _ (remove w.packets k) (tell p.to p.id new groups) (in_tell p.to p.id new groups g addressed other)))))))
+      (λ test old. elim (owes.told i r h n asked_ member old) [
+        | inl heard_ ↦ inl heard_
+        | inr (inr out) ↦ inr (inr out)
+        | inr (inl is_sent) ↦ inr (inl (still_told w k p floor groups (tell p.to p.id new groups) there is g i h n is_sent))
+      ]);
+}
+  where
+    new : ℕ
+    new = next_clock (w.group p.to) floor
+
+    sent : List Packet
+    sent = remove w.packets k ++ tell p.to p.id (next_clock (w.group p.to) floor) groups
+
+-- and that group itself
+pub begins_mid_owes : (w : World) (k : ℕ) (p : Packet) (floor : ℕ) (groups : List ℕ) → slice_get w.packets k ≡ Some p →
+    p.body ≡ Start floor groups → GroupOwes w.asked w.proposed w.packets p.to (w.group p.to) (log_of w p.to) →
+    MidOwes w.asked (hears w.proposed p.id p.to (next_clock (w.group p.to) floor))
+    (remove w.packets k ++ tell p.to p.id (next_clock (w.group p.to) floor) groups) p.to (beginning w p floor groups) (log_of w p.to)
+begins_mid_owes w k p floor groups there is owes = record {
+  told = λ i r h n asked_ member e. by_test (same_id i p.id && h == p.to) new (w.proposed i h) n
+      ((heard (with_start p.to (w.group p.to) p.id floor groups) i h ≡ Some n)
+      ⊎ (In (told_by p.to i h n) (remove w.packets k ++ tell p.to p.id new groups) ⊎ IsOut (log_of w p.to) i)) e
+      (λ test now. inl (heard-with_start p.to (w.group p.to) p.id floor groups i h
+      ∙ cond-true (same_id i p.id && h == p.to) (Some new) (heard (w.group p.to) i h) test ∙ ap Some now))
+      (λ test old. elim (owes.told i r h n asked_ member old) [
+        | inl heard_ ↦ inl (heard-with_start p.to (w.group p.to) p.id floor groups i h
+            ∙ cond-false (same_id i p.id && h == p.to) (Some new) (heard (w.group p.to) i h) test ∙ heard_)
+        | inr (inr out) ↦ inr (inr out)
+        | inr (inl is_sent) ↦ inr (inl (still_told w k p floor groups (tell p.to p.id new groups) there is p.to i h n is_sent))
+      ]);
+}
+  where
+    new : ℕ
+    new = next_clock (w.group p.to) floor
+
+-- ---- it is a proposal that is heard
+
+pub hears_mid_owes : (w : World) (k : ℕ) (p : Packet) (from n : ℕ) → slice_get w.packets k ≡ Some p → p.body ≡ Proposal from n →
+    w.proposed p.id from ≡ Some n → GroupOwes w.asked w.proposed w.packets p.to (w.group p.to) (log_of w p.to) →
+    MidOwes w.asked w.proposed (remove w.packets k) p.to (hearing w p from n) (log_of w p.to)
+hears_mid_owes w k p from n there is told_ owes = record {
+  told = λ i r h m asked_ member e. elim (cases_Bool (same_id i p.id && h == from)) [
+    | inl test ↦
+        let parts = and_parts (same_id i p.id) (h == from) test in
+        let it : w.proposed p.id from ≡ Some m = subst (λ j. w.proposed j from ≡ Some m) (same_id-true i p.id parts.0)
+        (subst (λ g. w.proposed i g ≡ Some m) (eqb-true h from parts.1) e) in
+        inl (heard-with_proposal (w.group p.to) p.id from n i h
+        ∙ cond-true (same_id i p.id && h == from) (Some n) (heard (w.group p.to) i h) test ∙ sym told_ ∙ it)
+    | inr test ↦ elim (owes.told i r h m asked_ member e) [
+      | inl heard_ ↦ inl (heard-with_proposal (w.group p.to) p.id from n i h
+          ∙ cond-false (same_id i p.id && h == from) (Some n) (heard (w.group p.to) i h) test ∙ heard_)
       | inr (inr out) ↦ inr (inr out)
-      | inr (inl is_sent) ↦ elim (still_sent (told_by to i h m)
-          (told_by to id from n) front back sent (subst (λ l. In (told_by to i h m) l) whole is_sent)) [
-            | inl is ↦ absurd (both_ways _ p (and_from (same_id i id) (h == from)
-                (subst (λ (x : Packet). same_id x.id id ≡ true) (sym is) (same_id-refl id))
-                (eq-eqb h from (from_of _ _ _ _ (ap (λ (x : Packet). x.body) is)))))
-            | inr still ↦ inr (inl still)
-          ]
+      | inr (inl is_sent) ↦ elim (still_in w.packets k p there (told_by p.to i h m) is_sent) [
+        | inl same ↦ absurd (both_ways _ test (and_from (same_id i p.id) (h == from)
+            (subst (λ (x : Packet). same_id x.id p.id ≡ true) (sym same) (same_id-refl p.id))
+            (eq-eqb h from (from_of _ _ _ _ (ap (λ (x : Packet). x.body) same ∙ is)))))
+        | inr still ↦ inr (inl still)
+      ]
     ]
   ];
 }

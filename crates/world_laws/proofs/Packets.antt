@@ -1,18 +1,16 @@
--- Packets under way: how many Starts there are, and what is sent.
-use Rattle.std.proofs.Common.{◌≡◌, ℕ, ◌+◌, ◌==◌, ◌&&◌, ◌||◌, true, false, cond, List, [], ◌∷◌, ◌++◌, inl, inr, Some, refl, sym, ap, subst}
-use Rattle.std.proofs.Common.{arith, eqb-true, eq-eqb}
-use Rattle.std.proofs.lemmas.Bool.{both_ways, cases_Bool, and_right, or_cases, or_parts, or_left, or_right}
-use Rattle.groups.specs.GroupSet.{has, IsAscending}
+-- Packets under way: whom they go to, and what is sent.
+use Rattle.std.proofs.Common.{◌≡◌, ℕ, ◌==◌, true, false, cond, List, [], ◌∷◌, inl, inr, Some, refl, sym, ap, subst, eqb-true, eq-eqb}
+use Rattle.std.proofs.lemmas.Bool.{both_ways, cases_Bool, or_cases, or_left, or_right}
+use Rattle.groups.specs.GroupSet.{has}
 use Rattle.skeen_core.specs.Group.{tell}
 use Rattle.groups.specs.Order.{In}
-use Rattle.groups.specs.Request.{same_id}
 use Rattle.skeen_core.specs.declared.packet.Body.{Body}
 use Rattle.skeen_core.specs.declared.packet.Body.TheVariants.{Start, Proposal}
 use Rattle.skeen_core.specs.declared.packet.Packet.{Packet}
 use Rattle.groups.specs.declared.request.RequestId.{RequestId}
 use Rattle.world.specs.Steps.{starts}
 use Rattle.world.specs.World.{Request, Proposals}
-use Rattle.world_laws.specs.Good.{Asked, Among, BodyGood, PacketGood, bit, starts_it, starts_of, start_to}
+use Rattle.world_laws.specs.Good.{Asked, Among, BodyGood, PacketGood, start_to}
 use Rattle.world_laws.proofs.Groups.{AskedMore}
 
 -- ---- what is good stays good
@@ -25,25 +23,14 @@ body_more asked asked' proposed proposed' to id (Start floor groups) more among 
 body_more asked asked' proposed proposed' to id (Proposal from n) more among good =
     (among id from n good.0, good.1, (good.2.0, more id good.2.0 good.2.1, good.2.2))
 
--- ---- counting Starts
+-- ---- whom it goes to
 
-pub starts_of-append : (i : RequestId) (g : ℕ) (xs ys : List Packet) → starts_of i g (xs ++ ys) ≡ starts_of i g xs + starts_of i g ys
-starts_of-append i g [] ys = omega arith
-starts_of-append i g (x ∷ xs) ys = let rest = starts_of-append i g xs ys in omega arith
+pub body_addressed : (asked : Asked) (proposed : Proposals) (to : ℕ) (id : RequestId) (body : Body) → BodyGood asked proposed to id body →
+    (q : Request) × (asked id ≡ Some q) × (has q.groups to ≡ true)
+body_addressed asked proposed to id (Start floor groups) good = (good.0.0, good.0.1, subst (λ gs. has gs to ≡ true) (sym good.0.3) good.1)
+body_addressed asked proposed to id (Proposal from n) good = good.2
 
--- without one packet
-pub starts_of-without : (i : RequestId) (g : ℕ) (front : List Packet) (p : Packet) (back : List Packet) →
-    starts_of i g (front ++ p ∷ back) ≡ starts_of i g (front ++ back) + bit (starts_it i g p.id p.to p.body)
-starts_of-without i g front p back = omega (arith, starts_of-append i g front (p ∷ back), starts_of-append i g front back)
-
-pub starts_of-tell : (i : RequestId) (g me : ℕ) (id : RequestId) (n : ℕ) (gs : List ℕ) → starts_of i g (tell me id n gs) ≡ 0
-starts_of-tell i g me id n [] = refl
-starts_of-tell i g me id n (h ∷ hs) =
-    elim (h == me) as (λ b. starts_of i g (cond b (tell me id n hs)
-    (record { to = h; id = id; body = Proposal me n } ∷ tell me id n hs)) ≡ 0) [
-      | true ↦ starts_of-tell i g me id n hs
-      | false ↦ let rest = starts_of-tell i g me id n hs in omega arith
-    ]
+-- ---- what is sent
 
 -- the proposals told go to the other groups of the request
 pub told_good : (asked : Asked) (proposed : Proposals) (me : ℕ) (id : RequestId) (n : ℕ) (q : Request) (gs : List ℕ) → asked id ≡ Some q →
@@ -65,39 +52,6 @@ told_good asked proposed me id n q (h ∷ hs) named told within p there =
     ]
 
 -- ---- the Starts of a new request
-
--- no group stands twice in an ascending list one group isn't the other, whichever is named first
-other : (a b : ℕ) → (b == a) ≡ false → (a == b) ≡ false
-other a b e = elim (cases_Bool (a == b)) [ inl d ↦ absurd (both_ways _ e (eq-eqb b a (sym (eqb-true a b d)))) | inr d ↦ d ]
-
-starts_of-above : (i : RequestId) (g : ℕ) (id : RequestId) (q : Request) (gs : List ℕ) → has gs g ≡ false →
-    starts_of i g (starts id q gs) ≡ 0
-starts_of-above i g id q [] none = refl
-starts_of-above i g id q (h ∷ hs) none =
-    let parts = or_parts (h == g) (has hs g) none in
-    let rest = starts_of-above i g id q hs parts.1 in
-    let first : bit (same_id i id && g == h) ≡ 0 = ap bit (and_right (same_id i id) (g == h) (other g h parts.0)) in
-    omega arith
-
-pub starts_of-new : (i : RequestId) (g : ℕ) (id : RequestId) (q : Request) (gs : List ℕ) → IsAscending gs →
-    starts_of i g (starts id q gs) ≡ bit (same_id i id && has gs g)
-starts_of-new i g id q [] up = sym (ap bit (and_right (same_id i id) false refl))
-starts_of-new i g id q (h ∷ hs) up = elim (cases_Bool (h == g)) [
-  | inl e ↦
-      let at : h ≡ g = eqb-true h g e in
-      let alone : has hs g ≡ false = elim (cases_Bool (has hs g)) [ inl d ↦ let more = up.0 g d in absurd (omega arith) | inr d ↦ d ] in
-      let rest = starts_of-above i g id q hs alone in
-      let first : bit (same_id i id && g == h) ≡ bit (same_id i id && true) = ap (λ b. bit (same_id i id && b)) (eq-eqb g h (sym at)) in
-      let whole : bit (same_id i id && (h == g || has hs g)) ≡ bit (same_id i id && true) =
-      ap (λ b. bit (same_id i id && (b || has hs g))) e in
-      omega arith
-  | inr e ↦
-      let rest = starts_of-new i g id q hs up.1 in
-      let first : bit (same_id i id && g == h) ≡ 0 = ap bit (and_right (same_id i id) (g == h) (other g h e)) in
-      let whole : bit (same_id i id && (h == g || has hs g)) ≡ bit (same_id i id && has hs g) =
-      ap (λ b. bit (same_id i id && (b || has hs g))) e in
-      omega arith
-]
 
 -- each of its groups is sent one
 pub in_starts : (id : RequestId) (q : Request) (gs : List ℕ) (g : ℕ) → has gs g ≡ true → In (start_to g id q) (starts id q gs)

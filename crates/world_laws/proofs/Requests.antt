@@ -1,8 +1,8 @@
 -- Submitted requests: a new one is submitted, and more is proposed.
-use Rattle.std.proofs.Common.{◌≡◌, ℕ, suc, ◌≤◌, ◌<◌, ◌==◌, ◌&&◌, true, false, List, [], ◌∷◌, ◌++◌, ◌⊎◌, inl, inr, Option, Some, None, refl}
+use Rattle.std.proofs.Common.{◌≡◌, ℕ, suc, ◌≤◌, ◌<◌, ◌==◌, true, false, List, [], ◌∷◌, ◌++◌, ◌⊎◌, inl, inr, Option, Some, None, refl}
 use Rattle.std.proofs.Common.{IsSome, sym, ap, ◌∙◌, subst, arith, eqb-true}
 use Rattle.std.proofs.lemmas.Bool.{both_ways, cases_Bool, cases_eq, and_parts}
-use Rattle.groups.specs.GroupSet.{has, IsAscending}
+use Rattle.groups.specs.GroupSet.{has}
 use Rattle.placement.specs.Layout.{Layout}
 use Rattle.groups.proofs.Ids.{same_id-true, same_id-refl}
 use Rattle.skeen_core.proofs.Lawful.{None≢Some}
@@ -18,9 +18,9 @@ use Rattle.groups.specs.declared.request.RequestId.{RequestId}
 use Rattle.groups.specs.declared.stamp.Stamp.{Stamp}
 use Rattle.world.specs.Steps.{at, asks, starts}
 use Rattle.world.specs.World.{Request, Proposals}
-use Rattle.world_laws.specs.Good.{Asked, Among, bit, addresses, start_to, SkeenGood, ShapedFor, Under, AskedGood, TakenGood}
+use Rattle.world_laws.specs.Good.{Asked, Among, start_to, SkeenGood, ShapedFor, Under, AskedGood, TakenGood}
 use Rattle.world_laws.proofs.Groups.{AskedMore, known_more, group_grows, by_test}
-use Rattle.world_laws.proofs.Packets.{body_more, starts_of-append, starts_of-new, in_starts, starts_good}
+use Rattle.world_laws.proofs.Packets.{body_more, in_starts, starts_good}
 use Rattle.std.proofs.lemmas.Bool.{cond-true, cond-false}
 use Rattle.groups.proofs.Options.{some_same}
 use Rattle.world_laws.proofs.Values.{same_request, at_here}
@@ -50,9 +50,9 @@ under_more proposed proposed' i gs n among u = (u.0, final_within (proposed i) (
 
 pub skeen_multicast : (asked : Asked) (proposed : Proposals) (packets : List Packet) (group : ℕ → GroupState) (log : ℕ → List Delivered)
     (id : RequestId) (q : Request) →
-    SkeenGood asked proposed packets group log → asked id ≡ None → IsAscending q.groups →
+    SkeenGood asked proposed packets group log → asked id ≡ None →
     SkeenGood (asks asked id q) proposed (packets ++ starts id q q.groups) group log
-skeen_multicast asked proposed packets group log id q good none up = record {
+skeen_multicast asked proposed packets group log id q good none = record {
   sent = λ p there. elim (In-append p packets (starts id q q.groups) there) [
     | inl before ↦ body_more asked (asks asked id q) proposed proposed p.to p.id p.body (asks_more asked id q none) (λ i h m e. e)
         (good.sent p before)
@@ -68,23 +68,6 @@ skeen_multicast asked proposed packets group log id q good none up = record {
         | inl there ↦ inl (In-left _ packets (starts id q q.groups) there)
         | inr told ↦ inr told
       ]);
-  counted = λ i g.
-      let before = good.counted i g in
-      let joined = starts_of-append i g packets (starts id q q.groups) in
-      let new = starts_of-new i g id q q.groups up in
-      elim (cases_Bool (same_id i id)) [
-        | inl p ↦
-            let one : bit (same_id i id && has q.groups g) ≡ bit (has q.groups g) = ap (λ b. bit (b && has q.groups g)) p in
-            let was : bit (addresses (asked i) g) ≡ 0 = ap (λ o. bit (addresses o g)) (ap asked (same_id-true i id p) ∙ none) in
-            let is : bit (addresses (asks asked id q i) g) ≡ bit (has q.groups g) = ap (λ o. bit (addresses o g))
-            (cond-true _ (Some q) (asked i) p) in
-            omega arith
-        | inr p ↦
-            let one : bit (same_id i id && has q.groups g) ≡ 0 = ap (λ b. bit (b && has q.groups g)) p in
-            let is : bit (addresses (asks asked id q i) g) ≡ bit (addresses (asked i) g) = ap (λ o. bit (addresses o g))
-            (cond-false _ (Some q) (asked i) p) in
-            omega arith
-      ];
   made = λ i g n e. let m = good.made i g n e in (m.0, asks_more asked id q none i m.0 m.1, m.2, m.3);
   groups = λ g. group_grows asked (asks asked id q) proposed proposed g (group g) (log g) (asks_more asked id q none) (λ i h m e. e)
       (λ i n e. e) (good.groups g);

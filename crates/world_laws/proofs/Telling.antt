@@ -7,7 +7,7 @@ use Rattle.std.specs.FinMap.{empty}
 use Rattle.command_table.specs.Refusal.{refusal_text}
 use Rattle.command_table.specs.declared.refusal.Refusal.{Refusal}
 use Rattle.journal.specs.declared.step.Step.{Step}
-use Rattle.journal.specs.declared.step.Step.TheVariants.{Open, Submit, Deliver, Take, Run, Settle, Collect, Close}
+use Rattle.journal.specs.declared.step.Step.TheVariants.{Open, Submit, Deliver, Take, Run, Settle, Collect, Close, Repeat}
 use Rattle.placement.specs.Layout.{Layout}
 use Rattle.resp.specs.Content.{Content, ErrorLine}
 use Rattle.groups.proofs.Ids.{same_id-true}
@@ -159,6 +159,8 @@ said_step t old new H K (Collect conn) e step said = said_collects t old new H K
 said_step t old new H K (Close conn) e step said = said_now t old new H K (Close conn) e (ap (λ (w : World). w.asked) step.after)
     (λ c o is none. kept_answer old.standing conn.0 Closed closed_not_answered c o (sym (ap (λ (w : World). w.standing c) step.after)
     ∙ is)) said
+said_step t old new H K (Repeat k) e step said = said_now t old new H K (Repeat k) e (ap (λ (w : World). w.asked) step.after)
+    (λ c o is none. (c, sym (ap (λ (w : World). w.standing c) step.after) ∙ is)) said
 
 -- ---- histories
 

@@ -1,6 +1,6 @@
 -- Values by their parts: what two constructors or two records have in common.
-use Rattle.std.proofs.Common.{◌≡◌, ℕ, ◌==◌, refl, eq-eqb, Some}
-use Rattle.std.proofs.lemmas.Bool.{cond-true}
+use Rattle.std.proofs.Common.{◌≡◌, ℕ, ◌==◌, inl, inr, refl, sym, ap, ◌∙◌, eqb-true, eq-eqb, Some}
+use Rattle.std.proofs.lemmas.Bool.{cases_Bool, cond-true, cond-false}
 use Rattle.groups.specs.declared.request.RequestId.{RequestId}
 use Rattle.world.specs.Steps.{at, Collected}
 use Rattle.world.specs.World.{Outcome, Standing, Closed, Idle, Waiting, Answered}
@@ -11,6 +11,16 @@ same_request i j conns seqs = λ k. record { conn = record { 0 = conns k }; seq 
 
 pub at_here : {X : Type 0} (f : ℕ → X) (c : ℕ) (x : X) → at f c x c ≡ x
 at_here f c x = cond-true (c == c) x (f c) (eq-eqb c c refl)
+
+-- the function with a value that it has there is the function
+pub at_same : {X : Type 0} (f : ℕ → X) (c : ℕ) (x : X) → x ≡ f c → at f c x ≡ f
+at_same f c x same = λ i d. everywhere d i
+  where
+    everywhere : (d : ℕ) → at f c x d ≡ f d
+    everywhere d = elim (cases_Bool (d == c)) [
+      | inl here ↦ cond-true (d == c) x (f d) here ∙ same ∙ ap f (sym (eqb-true d c here))
+      | inr other ↦ cond-false (d == c) x (f d) other
+    ]
 
 -- ---- standings
 

@@ -1,43 +1,42 @@
 -- Each kind of step leads from a good world to a good one.
-use Rattle.std.proofs.Common.{◌≡◌, ℕ, List, [], ◌∷◌, ◌++◌, inl, inr, Some, None, Result, Ok, Err, slice_get, ◌==◌, refl, sym, ap, ◌∙◌}
-use Rattle.std.proofs.Common.{subst, append-nil, eq-eqb}
-use Rattle.std.proofs.lemmas.Bool.{or_left}
+use Rattle.std.proofs.Common.{◌≡◌, ℕ, ◌<◌, true, List, [], ◌∷◌, ◌++◌, inl, inr, Some, None, Result, Ok, Err, ◌==◌, refl, sym, ap, ◌∙◌, subst}
+use Rattle.std.proofs.Common.{arith, append-nil, eq-eqb}
+use Rattle.std.proofs.lemmas.Bool.{cases_eq, or_left}
 use Rattle.std.specs.FinMap.{empty}
 use Rattle.command_table.specs.declared.refusal.Refusal.{Refusal}
-use Rattle.groups.specs.GroupSet.{has, IsAscending}
-use Rattle.groups.specs.GroupSetLaws.{IsAscending-chosen}
+use Rattle.groups.specs.GroupSet.{has}
 use Rattle.journal.specs.declared.step.Step.{Step}
-use Rattle.journal.specs.declared.step.Step.TheVariants.{Open, Submit, Deliver, Take, Run, Settle, Collect, Close}
+use Rattle.journal.specs.declared.step.Step.TheVariants.{Open, Submit, Deliver, Take, Run, Settle, Collect, Close, Repeat}
 use Rattle.placement.specs.Layout.{Layout}
 use Rattle.resp.specs.Content.{Content}
 use Rattle.skeen_core.proofs.Ahead.{going_fresh}
 use Rattle.skeen_core.proofs.Finite.{started-fresh, heard-fresh}
 use Rattle.skeen_core.proofs.Lawful.{None≢Some}
+use Rattle.skeen_core.proofs.RunLaws.{reached_fresh}
 use Rattle.groups.proofs.Lists.{In-left, In-right}
-use Rattle.skeen_core.specs.Group.{GroupState, fresh}
+use Rattle.skeen_core.specs.Group.{fresh}
 use Rattle.groups.specs.Order.{In}
 use Rattle.groups.specs.Stamp.{final}
-use Rattle.skeen_core.specs.declared.packet.Delivered.{Delivered}
-use Rattle.skeen_core.specs.declared.packet.Packet.{Packet}
 use Rattle.groups.specs.declared.request.RequestId.{RequestId}
 use Rattle.groups.specs.declared.stamp.Stamp.{Stamp}
 use Rattle.tasks.specs.Tasks.{Task, task_reading, task_groups, task_effect}
 use Rattle.world.specs.Steps.{opening, Effect, Opens, next_id, clock_of, final_clock, final_clock_of, floor_of, multicast, answered}
-use Rattle.world.specs.Steps.{submitted_to, submitted, Submits, received, Comes, Takes, RunsLayer, Settles, Collects, Closes, Steps, Makes}
-use Rattle.world.specs.Steps.{Leads}
+use Rattle.world.specs.Steps.{submitted_to, submitted, Submits, received, Comes, Repeats, Takes, RunsLayer, Settles, Collects, Closes}
+use Rattle.world.specs.Steps.{Steps, Makes, Leads}
 use Rattle.world.specs.World.{World, Request, Standing, Closed, Idle, Waiting, Answered, Ended, HasRun}
 use Rattle.world_laws.specs.Good.{Among, GroupGood, log_of, SkeenGood, ShapedFor, delivered_of, all_delivered, all_taken, TakenGood}
-use Rattle.world_laws.specs.Good.{Pending, ConnectionsGood, WorldGood}
+use Rattle.world_laws.specs.Good.{EarlierEnded, PastIsOut, Pending, ConnectionsGood, WorldGood}
+use Rattle.world_laws.proofs.Arrivals.{arrival}
 use Rattle.world_laws.proofs.Connections.{not_pending, connections_open, connections_answered, connections_multicast, connections_collect}
 use Rattle.world_laws.proofs.Connections.{connections_close, connections_run, connections_settle, named_left, earlier_multicast}
 use Rattle.world_laws.proofs.Layers.{log_taken, taken_layer, taken_run, run_layer_good, run_more, all_delivered-append, in_delivered}
 use Rattle.world_laws.proofs.Layers.{taken_once}
-use Rattle.world_laws.proofs.Lists.{split_at}
-use Rattle.world_laws.proofs.Receipts.{packet_comes, among_comes}
+use Rattle.world_laws.proofs.Lists.{in_place}
+use Rattle.world_laws.proofs.Receipts.{SkeenOf, skeen_arrives, among_arrives, skeen_repeated}
 use Rattle.world_laws.proofs.Requests.{asks_more, skeen_multicast, next_is_new, Rested, requests_multicast, requests_counted}
 use Rattle.world_laws.proofs.Requests.{requests_proposed, taken_more}
 use Rattle.groups.proofs.Options.{some_same}
-use Rattle.world_laws.proofs.Values.{idle_open, idle_not_waiting, closed_not_answered}
+use Rattle.world_laws.proofs.Values.{same_request, idle_open, idle_not_waiting, closed_not_answered}
 
 -- ---- the opening
 
@@ -48,6 +47,7 @@ group_opening me = record {
   clock = λ i n e. absurd (None≢Some n e);
   apart = λ i j n e d. absurd (None≢Some n e);
   started = λ i gs e. absurd (None≢Some gs (sym (started-fresh i) ∙ e));
+  past = reached_fresh;
   begun = λ i n e. absurd (None≢Some n e);
   known = λ d there. absurd there;
   member = λ d there. absurd there;
@@ -58,7 +58,6 @@ good_opening t = record {
   skeen = record {
     sent = λ p there. absurd there;
     coming = λ i q g named member. absurd (None≢Some q named);
-    counted = λ i g. refl;
     made = λ i g n e. absurd (None≢Some n e);
     groups = group_opening;
   };
@@ -78,8 +77,31 @@ good_opening t = record {
     outcomes = λ c o e. absurd (closed_not_answered o e);
   };
   earlier = λ i j q r conns less e d. absurd (None≢Some q e);
+  past = λ i q g named member past. absurd (None≢Some q named);
   run = record { tasks = λ e there. absurd there; replies = tt; map = refl };
 }
+
+-- ---- what is past
+
+-- of a connection's requests each has ended before the next one is asked, so what is past was delivered itself
+pub past_is_out : (w : World) → SkeenOf w → TakenGood w.asked w.proposed w.gone (all_taken w.ended w.layer) →
+    EarlierEnded w.asked w.ended → PastIsOut w.asked w.group (log_of w)
+past_is_out w skeen taken earlier i q g named member past =
+    let it = ((skeen.groups g).past i).0 past in
+    let asked = ((skeen.groups g).known it.0 it.1).named in
+    elim (cases_eq i.seq it.0.id.seq) [
+      | inl same ↦ (it.0, it.1, same_request it.0.id i it.2 (sym same))
+      | inr other ↦
+          let less : i.seq < it.0.id.seq = (let low = it.3 in omega arith) in
+          let done = earlier i it.0.id q asked.0 (sym it.2) less named asked.1 in
+          let there : In (delivered_of done.0) (all_taken w.ended w.layer) = In-left _ (all_delivered w.ended) _
+          (in_delivered w.ended done.0 done.1) in
+          let known = (taken.known (delivered_of done.0) there).named in
+          let same : known.0 ≡ q = some_same known.0 q (sym known.1 ∙ ap w.asked done.2 ∙ named) in
+          let addressed : has done.0.groups g ≡ true = subst (λ gs. has gs g ≡ true)
+          (sym (ap (λ (x : Request). x.groups) same) ∙ known.2) member in
+          (delivered_of done.0, In-left _ (w.gone g) (w.queue g) (taken.passed (delivered_of done.0) there g addressed), done.2)
+    ]
 
 -- ---- Open
 
@@ -91,6 +113,7 @@ keeps_open t old new effect step good = subst (λ w. WorldGood t w) (sym step.af
   connections =
       connections_open old.opened old.standing old.seq old.last old.asked old.ended old.layer good.requests.fresh good.connections;
   earlier = good.earlier;
+  past = good.past;
   run = good.run;
 })
 
@@ -105,6 +128,7 @@ good_answered t old c reply idle good = record {
   connections = connections_answered old.opened old.standing old.seq old.last old.asked old.ended old.layer c
       (record { id = next_id old c; reply = reply; stamp = None }) idle refl refl good.connections;
   earlier = good.earlier;
+  past = good.past;
   run = good.run;
 }
 
@@ -134,20 +158,24 @@ rested t w c s is_at lively not_waiting good = record {
     floor_is l q s is named stamp = ap (final_clock_of w) is ∙ ap (final_clock w.proposed l) named ∙ ap clock_of stamp
 
 pub good_multicast : (t : Layout) (old : World) (c : ℕ) (q : Request) → old.standing c ≡ Idle → q.floor ≡ floor_of old c → ShapedFor t q →
-    IsAscending q.groups → WorldGood t old → WorldGood t (multicast old c q)
-good_multicast t old c q idle floor shaped up good =
+    WorldGood t old → WorldGood t (multicast old c q)
+good_multicast t old c q idle floor shaped good =
     let none = next_is_new t old.asked old.proposed old.seq old.last c good.requests in
     let more = asks_more old.asked (next_id old c) q none in
+    let skeen = skeen_multicast old.asked old.proposed old.packets old.group (log_of old) (next_id old c) q good.skeen none in
+    let taken = taken_more old.asked _ old.proposed old.proposed old.gone (all_taken old.ended old.layer) more (λ i h n e. e) good.taken in
+    let earlier = earlier_multicast old.opened old.standing old.seq old.last old.asked old.ended old.layer c q idle good.requests.fresh
+    good.connections good.earlier in
     record {
-      skeen = skeen_multicast old.asked old.proposed old.packets old.group (log_of old) (next_id old c) q good.skeen none up;
+      skeen = skeen;
       requests = requests_multicast t old.asked old.proposed old.packets old.group
           (log_of old) old.seq old.last c q good.skeen good.requests
           (subst (λ n. Rested old.asked old.proposed old.last c n) (sym floor)
           (rested t old c Idle idle idle_open idle_not_waiting good)) shaped;
-      taken = taken_more old.asked _ old.proposed old.proposed old.gone (all_taken old.ended old.layer) more (λ i h n e. e) good.taken;
+      taken = taken;
       connections = connections_multicast old.opened old.standing old.seq old.last old.asked old.ended old.layer c q idle good.connections;
-      earlier = earlier_multicast old.opened old.standing old.seq old.last old.asked old.ended old.layer c q idle good.requests.fresh
-          good.connections good.earlier;
+      earlier = earlier;
+      past = past_is_out (multicast old c q) skeen taken earlier;
       run = run_more old.asked _ old.ended old.contents more good.run;
     }
 
@@ -156,8 +184,7 @@ good_submitted_to : (t : Layout) (old : World) (c : ℕ) (task : Task) (gs : Lis
 good_submitted_to t old c task [] is idle good = good_answered t old c (task_effect task empty).1 idle good
 good_submitted_to t old c task (g ∷ gs) is idle good =
     good_multicast t old c (record { floor = floor_of old c; groups = g ∷ gs; task = task }) idle refl
-    (record { groups = is; some = (g, or_left (g == g) (has gs g) (eq-eqb g g refl)) })
-    (subst (λ l. IsAscending l) is (IsAscending-chosen _ 0 t.shards)) good
+    (record { groups = is; some = (g, or_left (g == g) (has gs g) (eq-eqb g g refl)) }) good
 
 good_submitted : (t : Layout) (old : World) (c : ℕ) (r : Result Task Refusal) → old.standing c ≡ Idle → WorldGood t old →
     WorldGood t (submitted t old c r)
@@ -171,26 +198,39 @@ keeps_submit t old new c words effect step good = subst (λ w. WorldGood t w) (s
 
 -- ---- Deliver
 
-pub among_received : (t : Layout) (old : World) (k : ℕ) (p : Packet) (sent : List Packet) (ds : List Delivered) (state : GroupState) →
-    slice_get old.packets k ≡ Some p → WorldGood t old →
-    Among old.proposed (received old k p sent ds state).proposed
-among_received t old k p sent ds state there good =
-    let parts = split_at old.packets k p there in
-    among_comes old.asked old.proposed old.packets old.group (log_of old) p.to p.id p.body parts.front parts.back parts.whole good.skeen
-
 pub keeps_deliver : (t : Layout) (old new : World) (k : ℕ) (effect : Effect) → Comes old k effect new → WorldGood t old → WorldGood t new
 keeps_deliver t old new k effect step good =
-    let among = among_received t old k step.packet step.sent step.delivered step.state step.there good in
-    subst (λ w. WorldGood t w) (sym step.after) (record {
-      skeen =
-          packet_comes old.asked old.proposed old.packets old.group old.gone old.queue k step.packet step.sent step.delivered step.state
-          step.there good.skeen step.receives;
-      requests = requests_proposed t old.asked old.proposed _ old.seq old.last among good.requests;
-      taken = taken_more old.asked old.asked old.proposed _ old.gone (all_taken old.ended old.layer) (λ i q e. e) among good.taken;
-      connections = good.connections;
-      earlier = good.earlier;
-      run = good.run;
-    })
+    let arrives = arrival t old new k effect step good in
+    subst (λ w. SkeenOf w → Among old.proposed w.proposed → WorldGood t w) (sym step.after) after
+    (skeen_arrives old new k step.packet step.there arrives good.skeen) (among_arrives old new k step.packet arrives)
+  where
+    after : SkeenOf (received old k step.packet step.sent step.delivered step.state) →
+        Among old.proposed (received old k step.packet step.sent step.delivered step.state).proposed →
+        WorldGood t (received old k step.packet step.sent step.delivered step.state)
+    after skeen among =
+        let taken = taken_more old.asked old.asked old.proposed _ old.gone (all_taken old.ended old.layer) (λ i q e. e) among good.taken in
+        record {
+          skeen = skeen;
+          requests = requests_proposed t old.asked old.proposed _ old.seq old.last among good.requests;
+          taken = taken;
+          connections = good.connections;
+          earlier = good.earlier;
+          past = past_is_out (received old k step.packet step.sent step.delivered step.state) skeen taken good.earlier;
+          run = good.run;
+        }
+
+-- ---- Repeat
+
+pub keeps_repeat : (t : Layout) (old new : World) (k : ℕ) (effect : Effect) → Repeats old k effect new → WorldGood t old → WorldGood t new
+keeps_repeat t old new k effect step good = subst (λ w. WorldGood t w) (sym step.after) (record {
+  skeen = skeen_repeated old step.packet (in_place old.packets k step.packet step.there) good.skeen;
+  requests = good.requests;
+  taken = good.taken;
+  connections = good.connections;
+  earlier = good.earlier;
+  past = good.past;
+  run = good.run;
+})
 
 -- ---- Take, Run, Settle
 
@@ -210,6 +250,7 @@ keeps_take t old new effect step good = subst (λ w. WorldGood t w) (sym step.af
         outcomes = before.outcomes;
       };
   earlier = good.earlier;
+  past = subst (λ log. PastIsOut old.asked old.group log) (log_taken old.gone old.queue step.layer) good.past;
   run = good.run;
 })
 
@@ -224,6 +265,7 @@ keeps_run t old new starved effect step good = subst (λ w. WorldGood t w) (sym 
   connections = connections_run old.opened old.standing old.seq old.last old.asked old.ended step.outcomes step.layer
       (subst (λ l. ConnectionsGood old.opened old.standing old.seq old.last old.asked old.ended l) step.there good.connections);
   earlier = λ i j q r conns less e d. named_left old.ended step.outcomes i (good.earlier i j q r conns less e d);
+  past = good.past;
   run = run_layer_good old.asked starved old.contents old.ended step.outcomes step.layer step.in_turn good.run;
 })
 
@@ -255,6 +297,7 @@ keeps_settle t old new effect step good = subst (λ w. WorldGood t w) (sym step.
       (run_is_pending t old step.outcomes step.there good)
       (subst (λ l. ConnectionsGood old.opened old.standing old.seq old.last old.asked old.ended l) step.there good.connections);
   earlier = good.earlier;
+  past = good.past;
   run = good.run;
 })
 
@@ -271,6 +314,7 @@ keeps_collects t old new c (Answered o) effect is step good = subst (λ w. World
   taken = good.taken;
   connections = connections_collect old.opened old.standing old.seq old.last old.asked old.ended old.layer c o is good.connections;
   earlier = good.earlier;
+  past = good.past;
   run = good.run;
 })
 
@@ -285,6 +329,7 @@ keeps_close t old new c effect step good = subst (λ w. WorldGood t w) (sym step
   taken = good.taken;
   connections = connections_close old.opened old.standing old.seq old.last old.asked old.ended old.layer c good.connections;
   earlier = good.earlier;
+  past = good.past;
   run = good.run;
 })
 
@@ -299,6 +344,7 @@ keeps t old new (Run starved) effect s good = keeps_run t old new starved effect
 keeps t old new Settle effect s good = keeps_settle t old new effect s good
 keeps t old new (Collect conn) effect s good = keeps_collect t old new conn.0 effect s good
 keeps t old new (Close conn) effect s good = keeps_close t old new conn.0 effect s good
+keeps t old new (Repeat k) effect s good = keeps_repeat t old new k effect s good
 
 pub keeps_all : (t : Layout) (old new : World) (steps : List Step) (effects : List Effect) → Makes t old steps effects new →
     WorldGood t old → WorldGood t new
