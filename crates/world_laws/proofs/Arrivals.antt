@@ -9,8 +9,8 @@ use Rattle.groups.specs.declared.request.RequestId.{RequestId}
 use Rattle.placement.specs.Layout.{Layout}
 use Rattle.skeen_core.proofs.Lawful.{some_is}
 use Rattle.skeen_core.proofs.RunLaws.{Received, Past, Heard, received as as_received, reached_receives}
-use Rattle.skeen_core.specs.Group.{GroupState, heard, is_past, next_clock, with_start, with_proposal, lifted, Delivers, Delivering, reaching}
-use Rattle.skeen_core.specs.Group.{tell, ReceivesStart, Agrees, Receives}
+use Rattle.skeen_core.specs.Group.{GroupState, heard, is_past, next_clock, with_start, with_proposal, lifted, Delivers, Delivering}
+use Rattle.skeen_core.specs.Group.{reaching, tell, ReceivesStart, Agrees, Receives}
 use Rattle.skeen_core.specs.declared.packet.Body.{Body}
 use Rattle.skeen_core.specs.declared.packet.Body.TheVariants.{Start, Proposal}
 use Rattle.skeen_core.specs.declared.packet.Delivered.{Delivered}

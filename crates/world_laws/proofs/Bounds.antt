@@ -60,8 +60,8 @@ proposed_at_most : (t : Layout) (w : World) (n : ℕ) → WorldGood t w → Boun
 proposed_at_most t w n good bounded i g m e = let low = (good.skeen.groups g).clock i m e in let high = bounded.clocks g in omega arith
 
 -- the clock of a group that begins a request, before it delivers
-beginning_clock : (t : Layout) (w : World) (n : ℕ) (p : Packet) (floor : ℕ) (groups : List ℕ) → In p w.packets → WorldGood t w → Bounded w n →
-    p.body ≡ Start floor groups → w.proposed p.id p.to ≡ None → (beginning w p floor groups).clock ≤ suc n
+beginning_clock : (t : Layout) (w : World) (n : ℕ) (p : Packet) (floor : ℕ) (groups : List ℕ) → In p w.packets → WorldGood t w →
+    Bounded w n → p.body ≡ Start floor groups → w.proposed p.id p.to ≡ None → (beginning w p floor groups).clock ≤ suc n
 beginning_clock t w n p floor groups there good bounded is none =
     let body : BodyGood w.asked w.proposed p.to p.id (Start floor groups) =
     subst (λ b. BodyGood w.asked w.proposed p.to p.id b) is (good.skeen.sent p there) in

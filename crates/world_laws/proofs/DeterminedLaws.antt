@@ -11,9 +11,9 @@ use Rattle.groups.specs.Order.{In}
 use Rattle.skeen_core.specs.declared.packet.Delivered.{Delivered}
 use Rattle.skeen_core.specs.declared.packet.Packet.{Packet}
 use Rattle.groups.specs.declared.request.RequestId.{RequestId}
-use Rattle.world.specs.Steps.{Effect, Ran, starved_among, after_all, map_after, ended_as, RunInTurn, received, taken, settled, Comes, Repeats}
-use Rattle.world.specs.Steps.{Takes, RunsLayer, Settles, Collects, Makes, Busy, NoConn, NoPacket, InFlight, NoLayer, IsBusy, IsInFlight}
-use Rattle.world.specs.Steps.{NothingToRun, NothingToSettle}
+use Rattle.world.specs.Steps.{Effect, Ran, starved_among, after_all, map_after, ended_as, RunInTurn, received, taken, settled, Comes}
+use Rattle.world.specs.Steps.{Repeats, Takes, RunsLayer, Settles, Collects, Makes, Busy, NoConn, NoPacket, InFlight, NoLayer, IsBusy}
+use Rattle.world.specs.Steps.{IsInFlight, NothingToRun, NothingToSettle}
 use Rattle.world.specs.World.{World, Request, Standing, Closed, Idle, Waiting, Answered, Ended, Layer, NoneTaken, Taken, HasRun}
 use Rattle.world_laws.specs.Determined.{StepsDetermine, HistoriesDetermine, RefusedIsNotAccepted}
 use Rattle.world_laws.specs.Good.{Asked}

@@ -107,7 +107,8 @@ begins_owes w k p floor groups there is body g other owes = record {
       let at_id = same_id-true i p.id parts.0 in
       let again : r ≡ body.0.0 = some_same r body.0.0 (sym asked_ ∙ ap w.asked at_id ∙ body.0.1) in
       let addressed : has groups g ≡ true = subst (λ gs. has gs g ≡ true) (ap (λ (x : Request). x.groups) again ∙ body.0.3) member in
-      inr (inl (subst (λ j. In (told_by g j h n) sent) (sym at_id) (subst (λ f. In (told_by g p.id f n) sent) (sym (eqb-true h p.to parts.1))
+      inr (inl (subst (λ j. In (told_by g j h n) sent) (sym at_id)
+      (subst (λ f. In (told_by g p.id f n) sent) (sym (eqb-true h p.to parts.1))
       (subst (λ m. In (told_by g p.id p.to m) sent) now
       (In-right _ (remove w.packets k) (tell p.to p.id new groups) (in_tell p.to p.id new groups g addressed other)))))))
       (λ test old. elim (owes.told i r h n asked_ member old) [

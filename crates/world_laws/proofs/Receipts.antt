@@ -1,6 +1,6 @@
 -- A packet comes to its group: what is known of packets, proposals and groups is kept.
-use Rattle.std.proofs.Common.{◌≡◌, ℕ, ◌<◌, ◌==◌, ◌&&◌, true, false, cond, List, [], ◌∷◌, ◌++◌, inl, inr, Some, None, IsSome, slice_get, refl}
-use Rattle.std.proofs.Common.{sym, ap, ◌∙◌, subst, arith, eqb-true, eq-eqb, append_assoc}
+use Rattle.std.proofs.Common.{◌≡◌, ℕ, ◌<◌, ◌==◌, ◌&&◌, true, false, cond, List, [], ◌∷◌, ◌++◌, inl, inr, Some, None, IsSome, slice_get}
+use Rattle.std.proofs.Common.{refl, sym, ap, ◌∙◌, subst, arith, eqb-true, eq-eqb, append_assoc}
 use Rattle.std.proofs.lemmas.Bool.{and_parts, and_from, and_right, cond-true, cond-false}
 use Rattle.std.specs.List.{remove}
 use Rattle.groups.specs.GroupSet.{has}
@@ -149,7 +149,8 @@ skeen_arrives w new k p there (Hears from n ds is delivers reached same) good = 
 -- what was proposed before stays proposed
 pub among_arrives : (w new : World) (k : ℕ) (p : Packet) → Arrival w k p new → Among w.proposed new.proposed
 among_arrives w new k p (LeftOut told out same) = subst (λ (v : World). Among w.proposed v.proposed) (sym same) (λ i h m e. e)
-among_arrives w new k p (Begins floor groups ds is none delivers reached same) = subst (λ (v : World). Among w.proposed v.proposed) (sym same)
+among_arrives w new k p (Begins floor groups ds is none delivers reached same) =
+    subst (λ (v : World). Among w.proposed v.proposed) (sym same)
     (among_hears w.proposed p.id p.to (next_clock (w.group p.to) floor) none)
 among_arrives w new k p (Hears from n ds is delivers reached same) = subst (λ (v : World). Among w.proposed v.proposed) (sym same)
     (λ i h m e. e)
