@@ -47,7 +47,7 @@ def stream(dice):
 
 
 def trace(dice):
-    """A trace as a server writes it, of some connections, with some steps that may be refused."""
+    """A trace of version 1, of some connections, with some steps that may be refused."""
     lines, connections = ["open"] * 3, 3
     for _ in range(dice.randrange(60)):
         conn = dice.randrange(1, connections + 1)

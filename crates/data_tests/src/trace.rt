@@ -11,16 +11,25 @@ use std::alloc::{AllocError, Global};
 use std::test::Fail;
 use test_support::{NEVER, Sink, holds, same, same_bytes, same_count, same_number};
 
-/// Two requests that cross, each of both groups.
-const CROSSING: &str = "shardkv-trace 1\nmax 1000\nopen\nopen\nsubmit 1 4d534554 61 31 63 32\n\
+/// Two requests that cross, each of both groups: the lines behind the first.
+const CROSSING: &str = "max 1000\nopen\nopen\nsubmit 1 4d534554 61 31 63 32\n\
     submit 2 4d534554 61 33 63 34\ndeliver 0\ndeliver 2\ndeliver 1\ndeliver 0\ndeliver 0\ndeliver 0\ndeliver 0\n\
     deliver 0\ntake\nrun\nsettle\ntake\nrun\nsettle\ncollect 1\ncollect 2\nend 20\n";
 
 /// The first request starves.
-const STARVED: &str =
-    "shardkv-trace 1\nmax 50\nopen\nsubmit 1 4d534554 61 31 63 32\ndeliver 0\ndeliver 0\n\
+const STARVED: &str = "max 50\nopen\nsubmit 1 4d534554 61 31 63 32\ndeliver 0\ndeliver 0\n\
     deliver 0\ndeliver 0\ntake\nrun 1.1\nsettle\ncollect 1\nsubmit 1 474554 61\ndeliver 0\ntake\nrun\nsettle\n\
     collect 1\nend 16\n";
+
+/// Packets are repeated, the copy of one too.
+const REPEATED: &str =
+    "max 50\nopen\nsubmit 1 474554 61\nrepeat 0\nrepeat 1\ndeliver 0\ndeliver 0\ntake\nrun\n\
+    settle\nrepeat 18446744073709551615\ncollect 1\nend 11\n";
+
+/// A text of this version, with these lines behind the first.
+fn text_of(alloc: Global, version: &str, lines: &str) -> Result<String, AllocError> {
+    format!(in alloc; "shardkv-trace {version}\n{lines}")
+}
 
 /// The line in which the byte behind these stands, counted from 1.
 fn line_behind(text: &[u8]) -> u64 {
@@ -46,24 +55,30 @@ fn written_again(alloc: Global, text: &str) -> Result<Vec<u8>, TraceFault> {
     written(alloc, &trace)
 }
 
-/// A name, a text, and how it is written.
-type Known = (&'static str, &'static str, &'static str);
+/// A name, a version, the lines behind the first, and how they are written.
+type Known = (&'static str, &'static str, &'static str, &'static str);
 
 #[rattlefmt::skip]
-const KNOWN: [Known; 3] = [
-    ("two that cross", CROSSING, CROSSING),
-    ("one that starves", STARVED, STARVED),
+const KNOWN: [Known; 6] = [
+    ("two that cross", "1", CROSSING, CROSSING),
+    ("two that cross", "2", CROSSING, CROSSING),
+    ("one that starves", "1", STARVED, STARVED),
+    ("one that starves", "2", STARVED, STARVED),
+    ("packets that are repeated", "2", REPEATED, REPEATED),
     (
         "either case",
-        "shardkv-trace 1\nmax 4611686018427387904\nsubmit 18446744073709551615 4D5e -\nend 1\n",
-        "shardkv-trace 1\nmax 4611686018427387904\nsubmit 18446744073709551615 4d5e -\nend 1\n",
+        "1",
+        "max 4611686018427387904\nsubmit 18446744073709551615 4D5e -\nend 1\n",
+        "max 4611686018427387904\nsubmit 18446744073709551615 4d5e -\nend 1\n",
     ),
 ];
 
+/// A text of either version is written in the second one.
 fn is_written(alloc: Global, known: &Known) -> Result<(), Fail> {
-    let (name, text, written) = *known;
-    let again = written_again(alloc, text)?;
-    let want = format!(in alloc; "before {written}")?;
+    let (name, version, lines, written) = *known;
+    let text = text_of(alloc, version, lines)?;
+    let again = written_again(alloc, text.as_str())?;
+    let want = format!(in alloc; "before shardkv-trace 2\n{written}")?;
     same_bytes(name, &again, want.as_bytes())
 }
 
@@ -100,7 +115,8 @@ fn beginnings_are_bad(alloc: Global, text: &[u8]) -> Result<(), Fail> {
 
 #[test]
 fn a_beginning_is_bad_where_it_ends(rt: HostRuntime) -> Result<(), Fail> {
-    beginnings_are_bad(rt.alloc(), CROSSING.as_bytes())
+    let text = text_of(rt.alloc(), "2", REPEATED)?;
+    beginnings_are_bad(rt.alloc(), text.as_bytes())
 }
 
 /// The text with any one byte in place of its own is bad in that byte's line.
@@ -117,14 +133,15 @@ fn other_bytes_are_bad(alloc: Global, text: &[u8]) -> Result<(), Fail> {
 
 #[test]
 fn another_byte_is_bad_in_its_line(rt: HostRuntime) -> Result<(), Fail> {
-    other_bytes_are_bad(rt.alloc(), CROSSING.as_bytes())
+    let text = text_of(rt.alloc(), "1", CROSSING)?;
+    other_bytes_are_bad(rt.alloc(), text.as_bytes())
 }
 
 /// A text, and the line at which it is bad.
 type Bad = (&'static str, u64);
 
 #[rattlefmt::skip]
-const OTHERS: [Bad; 18] = [
+const OTHERS: [Bad; 22] = [
     ("", 1),
     ("shardkv-trace 1\nmax 0\nend 0\n", 2),
     ("shardkv-trace 1\nmax 4611686018427387905\nend 0\n", 2),
@@ -142,6 +159,10 @@ const OTHERS: [Bad; 18] = [
     ("shardkv-trace 1\nmax 7\nsubmit 1 616\nend 1\n", 3),
     ("shardkv-trace 1\nmax 7\nrun 1\nend 1\n", 3),
     ("shardkv-trace 1\nmax 7\nrun 1.1.1\nend 1\n", 3),
+    ("shardkv-trace 1\nmax 7\nopen\nrepeat 0\nend 2\n", 4),
+    ("shardkv-trace 2\nmax 7\nrepeat\nend 1\n", 3),
+    ("shardkv-trace 2\nmax 7\nrepeat 0 0\nend 1\n", 3),
+    ("shardkv-trace 2\nmax 7\nrepeat 00\nend 1\n", 3),
     ("shardkv-trace 1\r\nmax 7\r\nend 0\r\n", 1),
 ];
 
@@ -159,11 +180,11 @@ fn other_texts_are_bad_at_the_first_other_line(rt: HostRuntime) -> Result<(), Fa
 }
 
 /// Versions that aren't known; the last number but one is 1 modulo 2^64.
-const OTHER_VERSIONS: [&str; 7] = ["0", "2", "01", "10", "1 ", "18446744073709551617", ""];
+const OTHER_VERSIONS: [&str; 7] = ["0", "3", "02", "10", "1 ", "18446744073709551617", ""];
 
 /// A text that spells a trace but for this version is bad at its first line.
 fn other_version_is_bad(alloc: Global, version: &str) -> Result<(), Fail> {
-    let text = format!(in alloc; "shardkv-trace {version}\nmax 7\nopen\nend 1\n")?;
+    let text = text_of(alloc, version, "max 7\nopen\nend 1\n")?;
     bad_at(alloc, text.as_str(), text.as_bytes(), 1)
 }
 

@@ -8,11 +8,11 @@ use Rattle.groups.specs.declared.stamp.Stamp.{Stamp}
 use Rattle.packing.specs.Codes.{number_code, number_at, word_code, words_code, words_at, WordFits, WordsFit}
 use Rattle.packing.specs.CodeLaws.{number_at-code, number_code-few, many-codes, words_at-code}
 use Rattle.journal.specs.declared.step.Step.{Step}
-use Rattle.journal.specs.declared.step.Step.TheVariants.{Open, Submit, Deliver, Take, Run, Settle, Collect, Close}
+use Rattle.journal.specs.declared.step.Step.TheVariants.{Open, Submit, Deliver, Take, Run, Settle, Collect, Close, Repeat}
 use Rattle.journal.specs.Views.{RowView}
 use Rattle.journal.specs.Codes.{id_code, id_at, ids_code, ids_at, IdFits, IdsFit, step_code, step_at, step_of, submit_of, submit_at}
-use Rattle.journal.specs.Codes.{deliver_at, run_at, collect_at, close_at, StepFits, steps_in, head_code, row_code, row_of, RowFits}
-use Rattle.journal.specs.Codes.{RowWords, RowIsIn}
+use Rattle.journal.specs.Codes.{deliver_at, run_at, collect_at, close_at, repeat_at, StepFits, steps_in, head_code, row_code, row_of}
+use Rattle.journal.specs.Codes.{RowFits, RowWords, RowIsIn}
 
 -- ---- ids
 
@@ -66,6 +66,7 @@ step_at-code (Run starved) rest fit = unfold run_at in rw (ids_at-code starved r
 step_at-code Settle rest fit = refl
 step_at-code (Collect conn) rest fit = unfold collect_at in rw (number_at-code conn.0 rest fit) refl
 step_at-code (Close conn) rest fit = unfold close_at in rw (number_at-code conn.0 rest fit) refl
+step_at-code (Repeat place) rest fit = unfold repeat_at in rw (number_at-code place rest fit) refl
 
 pub steps_in-codes : (steps : List Step) → AllByRecursion StepFits steps → steps_in (length steps) (flat_map step_code steps) ≡ steps
 steps_in-codes steps fit =
@@ -83,6 +84,7 @@ step_code-some (Run starved) = omega arith
 step_code-some Settle = omega arith
 step_code-some (Collect conn) = omega arith
 step_code-some (Close conn) = omega arith
+step_code-some (Repeat place) = omega arith
 
 -- so there are no more steps than bytes
 pub steps-few : (steps : List Step) → length steps ≤ length (flat_map step_code steps)

@@ -13,7 +13,7 @@ use Rattle.groups.specs.declared.request.ConnId.{ConnId}
 use Rattle.groups.specs.declared.request.RequestId.{RequestId}
 use Rattle.packing.specs.Codes.{WordFits, WordsFit}
 use Rattle.journal.specs.declared.step.Step.{Step}
-use Rattle.journal.specs.declared.step.Step.TheVariants.{Open, Submit, Deliver, Take, Run, Settle, Collect, Close}
+use Rattle.journal.specs.declared.step.Step.TheVariants.{Open, Submit, Deliver, Take, Run, Settle, Collect, Close, Repeat}
 use Rattle.journal.specs.Codes.{IdFits, StepFits}
 use Rattle.journal.specs.TraceText.{word_text, id_text, step_name, step_args, joined, step_line, first_line, max_line, end_line, trace_text}
 use Rattle.journal.specs.TraceText.{word_in, cut_at, id_of, id_in, all_in, parts_in, named, step_in, IsStepLine, HasNoLf, Spells}
@@ -150,6 +150,7 @@ names (Run starved) = (lit< tt, (lit< tt, (lit< tt, tt)))
 names Settle = (lit< tt, (lit< tt, (lit< tt, (lit< tt, (lit< tt, (lit< tt, tt))))))
 names (Collect conn) = (lit< tt, (lit< tt, (lit< tt, (lit< tt, (lit< tt, (lit< tt, (lit< tt, tt)))))))
 names (Close conn) = (lit< tt, (lit< tt, (lit< tt, (lit< tt, (lit< tt, tt)))))
+names (Repeat place) = (lit< tt, (lit< tt, (lit< tt, (lit< tt, (lit< tt, (lit< tt, tt))))))
 
 args-plain : (step : Step) → StepFits step → AllByRecursion Plain (step_args step)
 args-plain Open fit = tt
@@ -160,6 +161,7 @@ args-plain (Run starved) fit = all_in-plain IdFits id_text id-plain starved fit.
 args-plain Settle fit = tt
 args-plain (Collect conn) fit = (decimal-plain conn.0 fit, tt)
 args-plain (Close conn) fit = (decimal-plain conn.0 fit, tt)
+args-plain (Repeat place) fit = (decimal-plain place fit, tt)
 
 submit-named : (version : ℕ) (conn : ConnId) (words : List (List ℕ)) → conn.0 < 2 ^ 64 → WordsFit words → named version (codes "submit")
     (decimal conn.0 ∷ map word_text words) ≡ Some (Submit conn words)
@@ -171,21 +173,23 @@ submit-named version conn (word ∷ words) low fit =
           (word ∷ words) fit.each,
     ) refl
 
-named-step : (version : ℕ) (step : Step) → StepFits step → named version (step_name step) (step_args step) ≡ Some step
-named-step version Open fit = refl
-named-step version (Submit conn words) fit = submit-named version conn words fit.0 fit.1
-named-step version (Deliver place) fit = rw (number_in-decimal place (decimal place) fit refl) refl
-named-step version Take fit = refl
-named-step version (Run starved) fit = rw (all_in-text IdFits id_in id_text id_in-text starved fit.each) refl
-named-step version Settle fit = refl
-named-step version (Collect conn) fit = rw (number_in-decimal conn.0 (decimal conn.0) fit refl) refl
-named-step version (Close conn) fit = rw (number_in-decimal conn.0 (decimal conn.0) fit refl) refl
+-- each kind has a line in the version that is written
+named-step : (step : Step) → StepFits step → named WRITTEN_VERSION (step_name step) (step_args step) ≡ Some step
+named-step Open fit = refl
+named-step (Submit conn words) fit = submit-named WRITTEN_VERSION conn words fit.0 fit.1
+named-step (Deliver place) fit = rw (number_in-decimal place (decimal place) fit refl) refl
+named-step Take fit = refl
+named-step (Run starved) fit = rw (all_in-text IdFits id_in id_text id_in-text starved fit.each) refl
+named-step Settle fit = refl
+named-step (Collect conn) fit = rw (number_in-decimal conn.0 (decimal conn.0) fit refl) refl
+named-step (Close conn) fit = rw (number_in-decimal conn.0 (decimal conn.0) fit refl) refl
+named-step (Repeat place) fit = rw (number_in-decimal place (decimal place) fit refl) refl
 
-pub step_in-line : (version : ℕ) (step : Step) → StepFits step → step_in version (step_line step) ≡ Some step
+pub step_in-line : (step : Step) → StepFits step → step_in WRITTEN_VERSION (step_line step) ≡ Some step
 unfolding step_in
-step_in-line version step fit =
-    ap (λ (p : List ℕ × List (List ℕ)). named version p.0 p.1) (parts_in-joined (step_name step) (step_args step) (names step)
-    (args-plain step fit)) ∙ named-step version step fit
+step_in-line step fit =
+    ap (λ (p : List ℕ × List (List ℕ)). named WRITTEN_VERSION p.0 p.1) (parts_in-joined (step_name step) (step_args step) (names step)
+    (args-plain step fit)) ∙ named-step step fit
 
 -- ---- the lines of a trace
 
@@ -212,9 +216,9 @@ lines-no-lf : (steps : List Step) (last : List ℕ) → AllByRecursion StepFits 
 lines-no-lf [] last fit h = (h, tt)
 lines-no-lf (s ∷ ss) last fit h = (line-no-lf s fit.0, lines-no-lf ss last fit.1 h)
 
-each-line : (version : ℕ) (steps : List Step) → AllByRecursion StepFits steps → AllZip (IsStepLine version) (map step_line steps) steps
-each-line version [] fit = tt
-each-line version (s ∷ ss) fit = (step_in-line version s fit.0, each-line version ss fit.1)
+each-line : (steps : List Step) → AllByRecursion StepFits steps → AllZip (IsStepLine WRITTEN_VERSION) (map step_line steps) steps
+each-line [] fit = tt
+each-line (s ∷ ss) fit = (step_in-line s fit.0, each-line ss fit.1)
 
 numbered-no-lf : (name : List ℕ) (n : ℕ) → AllByRecursion (λ b. 31 < b) name → n < 2 ^ 64 → HasNoLf (name ++ decimal n)
 numbered-no-lf name n all h = no-lf (name ++ decimal n) (all_append (λ b. 31 < b) name (decimal n) all
@@ -248,7 +252,7 @@ written-spells max steps least greatest few fit = record {
     least = least;
     greatest = greatest;
     body = map step_line steps;
-    each = each-line WRITTEN_VERSION steps fit;
+    each = each-line steps fit;
     whole = refl;
   };
 }

@@ -31,6 +31,8 @@ const COLLECT: u8 = 6;
 
 const CLOSE: u8 = 7;
 
+const REPEAT: u8 = 8;
+
 /// The greatest number of bytes of a row's numbers.
 pub const GREATEST_HEAD: usize = 45;
 
@@ -110,7 +112,7 @@ fn size_of_step(step: &Step) -> Option<usize>
     match step {
         Step::Open | Step::Take | Step::Settle => Some(1),
         Step::Submit { conn, words } => words_size(words)?.checked_add(1 + number_size(conn.0)),
-        Step::Deliver { place } => Some(1 + number_size(*place)),
+        Step::Deliver { place } | Step::Repeat { place } => Some(1 + number_size(*place)),
         Step::Run { starved } => size_of_ids(starved.as_slice())?.checked_add(1),
         Step::Collect { conn } | Step::Close { conn } => Some(1 + number_size(conn.0)),
     }
@@ -171,11 +173,15 @@ pub fn put_step(step: &Step, out: &mut Vec<u8>)
             out.push_reserved(CLOSE);
             put_number(conn.0, out);
         }
+        Step::Repeat { place } => {
+            out.push_reserved(REPEAT);
+            put_number(*place, out);
+        }
     }
 }
 
 /// The step at the front of the bytes, and the bytes behind it; `AllocError` where there is no memory for it.
-#[tactic(auto, unfolding(crate::specs::Codes::step_at, crate::specs::Codes::step_of, crate::specs::Codes::deliver_at, crate::specs::Codes::run_at, crate::specs::Codes::collect_at, crate::specs::Codes::close_at))]
+#[tactic(auto, unfolding(crate::specs::Codes::step_at, crate::specs::Codes::step_of, crate::specs::Codes::deliver_at, crate::specs::Codes::run_at, crate::specs::Codes::collect_at, crate::specs::Codes::close_at, crate::specs::Codes::repeat_at))]
 pub fn take_step(alloc: Global, bytes: &[u8]) -> Result<(Step, &[u8]), AllocError>
     ensures step { IfOk result (λ r. r.0 ≡ (step_at bytes.now).0) }
     ensures rest { IfOk result (λ r. r.1.now ≡ (step_at bytes.now).1) }
@@ -200,6 +206,10 @@ pub fn take_step(alloc: Global, bytes: &[u8]) -> Result<(Step, &[u8]), AllocErro
         [CLOSE, rest @ ..] => {
             let (conn, rest) = take_number(rest);
             Ok((Step::Close { conn: ConnId(conn) }, rest))
+        }
+        [REPEAT, rest @ ..] => {
+            let (place, rest) = take_number(rest);
+            Ok((Step::Repeat { place }, rest))
         }
         [_, rest @ ..] => Ok((Step::Open, rest)),
         [] => Ok((Step::Open, bytes)),

@@ -155,17 +155,14 @@ pub fn step_in(alloc: Global, version: u64, line: &[u8]) -> Result<Option<Step>,
     if name == b"settle".as_slice() {
         return Ok(alone(Step::Settle, args));
     }
-    let collect = name == b"collect".as_slice();
-    if !collect && name != b"close".as_slice() {
-        return Ok(None);
+    if name == b"collect".as_slice() {
+        return Ok(only_number(args).map(|conn| Step::Collect { conn: ConnId(conn) }));
     }
-    let Some(conn) = only_number(args) else {
-        return Ok(None);
-    };
-    let conn = ConnId(conn);
-    Ok(Some(if collect {
-        Step::Collect { conn }
-    } else {
-        Step::Close { conn }
-    }))
+    if name == b"close".as_slice() {
+        return Ok(only_number(args).map(|conn| Step::Close { conn: ConnId(conn) }));
+    }
+    if name == b"repeat".as_slice() && version >= 2 {
+        return Ok(only_number(args).map(|place| Step::Repeat { place }));
+    }
+    Ok(None)
 }

@@ -1,4 +1,5 @@
-//! The versions of a trace's text. The first line says which one it is of, and so what its other lines may be.
+//! The versions of a trace's text. The first line says which one it is of, and so what its other lines may be:
+//! one of version 1 has no `repeat`.
 
 /// All versions from 1 to this one are read.
 pub const GREATEST_VERSION: u64 = 2;

@@ -136,6 +136,7 @@ fn put_step(alloc: Global, step: &Step, out: &mut Vec<u8>) -> Result<(), AllocEr
         Step::Settle => out.extend_from_slice(b"settle\n")?,
         Step::Collect { conn } => put_numbered(b"collect ", conn.0, out)?,
         Step::Close { conn } => put_numbered(b"close ", conn.0, out)?,
+        Step::Repeat { place } => put_numbered(b"repeat ", *place, out)?,
     }
     Ok(())
 }

@@ -66,9 +66,18 @@ fn writes(rt: &impl Abort, alloc: Global, trace: &Trace, text: &str) -> Result<(
     assert_behind(rt, alloc, out.as_slice(), text)
 }
 
+/// A trace's text of version 1 as it is written, which is in version 2.
+fn as_written(rt: &impl Abort, alloc: Global, text: &str) -> Result<String, AllocError> {
+    match text.strip_prefix("shardkv-trace 1\n") {
+        Some(lines) => format!(in alloc; "shardkv-trace 2\n{lines}"),
+        None => panic!(rt; "no text of version 1"),
+    }
+}
+
 fn read_and_written(rt: &impl Abort, alloc: Global, row: Row) -> Result<(), AllocError> {
     let trace = trace_of(rt, alloc, row.trace)?;
-    writes(rt, alloc, &trace, row.trace)
+    let text = as_written(rt, alloc, row.trace)?;
+    writes(rt, alloc, &trace, text.as_str())
 }
 
 #[test]

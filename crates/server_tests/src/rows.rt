@@ -458,7 +458,7 @@ fn drives_no_more<L: Ledger, R: Wait + Clock>(rt: &R, shared: &Shared<L>) -> Res
 }
 
 /// The trace of three steps.
-const THREE: &[u8] = b"shardkv-trace 1\nmax 3\nopen\nsubmit 1 534554 61 31\ndeliver 0\nend 3\n";
+const THREE: &[u8] = b"shardkv-trace 2\nmax 3\nopen\nsubmit 1 534554 61 31\ndeliver 0\nend 3\n";
 
 /// The trace of a cluster is that of three steps.
 fn has_three<L: Ledger, R: Wait>(rt: &R, alloc: Global, shared: &Shared<L>) -> Result<(), Fail> {
