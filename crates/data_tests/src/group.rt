@@ -1,6 +1,6 @@
 //! What happens packet by packet, with the clocks worked out by hand from the rule.
 
-use crate::watched::{Watched, request};
+use crate::watched::{Name, Watched, request};
 use groups::{GroupId, Groups, Stamp};
 use skeen_core::{Body, Delivered, Links, Packet};
 use std::alloc::{AllocError, Global};
@@ -8,33 +8,33 @@ use std::test::Fail;
 use test_support::{holds, same, same_count, same_number};
 
 /// Groups: the first of them, and the end.
-type Set = (u8, u8);
+pub(crate) type Set = (u8, u8);
 
-/// A packet to the group of the first number, about the request of a connection.
+/// A packet to the group of the first number, about the request of this name.
 #[derive(Clone, Copy)]
-enum Told {
+pub(crate) enum Told {
     /// The request begins, with this floor and these groups.
-    Start(u8, u64, u64, Set),
+    Start(u8, Name, u64, Set),
 
     /// A group proposes a stamp with this clock.
-    Proposal(u8, u64, u8, u64),
+    Proposal(u8, Name, u8, u64),
 }
 
-/// A request that is delivered: its connection, the clock and the group of its final stamp, and its groups.
-type Goes = (u64, u64, u8, Set);
+/// A request that is delivered: its name, the clock and the group of its final stamp, and its groups.
+type Goes = (Name, u64, u8, Set);
 
 /// What a packet must lead to: what the group sends and delivers, its clock, and how many requests it keeps.
 type Wanted<'a> = (&'a [Told], &'a [Goes], u64, usize);
 
 /// A packet in words, the packet, and what it must lead to.
-type Step<'a> = (&'a str, Told, Wanted<'a>);
+pub(crate) type Step<'a> = (&'a str, Told, Wanted<'a>);
 
 /// A packet in words, the place from which it is taken, and what it must lead to.
 type Row<'a> = (&'a str, usize, Wanted<'a>);
 
-const BOTH: Set = (0, 2);
+pub(crate) const BOTH: Set = (0, 2);
 
-const ALONE: Set = (0, 1);
+pub(crate) const ALONE: Set = (0, 1);
 
 const ALL: Set = (0, 64);
 
@@ -65,22 +65,22 @@ fn body_of(told: Told) -> Body {
     }
 }
 
-fn packet_of(told: Told) -> Packet {
-    let (to, conn) = match told {
-        Told::Start(to, conn, _, _) => (to, conn),
-        Told::Proposal(to, conn, _, _) => (to, conn),
+pub(crate) fn packet_of(told: Told) -> Packet {
+    let (to, name) = match told {
+        Told::Start(to, name, _, _) => (to, name),
+        Told::Proposal(to, name, _, _) => (to, name),
     };
     Packet {
         to: group_of(to),
-        id: request(conn),
+        id: request(name),
         body: body_of(told),
     }
 }
 
 fn delivered_of(goes: Goes) -> Delivered {
-    let (conn, clock, group, set) = goes;
+    let (name, clock, group, set) = goes;
     Delivered {
-        id: request(conn),
+        id: request(name),
         stamp: Stamp {
             clock,
             group: group_of(group),
@@ -141,7 +141,7 @@ fn step(
 }
 
 /// Hands the packets of these rows to the group in turn.
-fn step_each(alloc: Global, group: &mut Watched, rows: &[Step]) -> Result<(), Fail> {
+pub(crate) fn step_each(alloc: Global, group: &mut Watched, rows: &[Step]) -> Result<(), Fail> {
     for row in rows {
         let (name, told, wanted) = *row;
         step(name, alloc, group, packet_of(told), wanted)?;
@@ -232,15 +232,15 @@ fn begin(links: &mut Links, first: &[Told]) -> Result<(), Fail> {
     Ok(())
 }
 
-/// Connections of one request each.
-const A: u64 = 1;
+/// The only requests of their connections.
+pub(crate) const A: Name = (1, 1);
 
-const B: u64 = 2;
+pub(crate) const B: Name = (2, 1);
 
-const C: u64 = 3;
+pub(crate) const C: Name = (3, 1);
 
 #[rattlefmt::skip]
-const ONE_GROUP: [Step; 5] = [
+pub(crate) const ONE_GROUP: [Step; 5] = [
     ("Start a", Told::Start(0, A, 0, BOTH), (&[Told::Proposal(1, A, 0, 1)], &[], 1, 1)),
     ("Start a again", Told::Start(0, A, 0, BOTH), (&[], &[], 1, 1)),
     ("Start b", Told::Start(0, B, 0, ALONE), (&[], &[], 2, 2)),
@@ -331,10 +331,10 @@ fn a_start_for_64_groups_is_told_to_63(rt: HostRuntime) -> Result<(), Fail> {
 
 /// The Start of a connection's request comes to an idle group, which delivers it.
 fn goes_at_once(alloc: Global, group: &mut Watched, conn: u64) -> Result<(), Fail> {
-    let start = packet_of(Told::Start(0, conn, 0, ALONE));
+    let start = packet_of(Told::Start(0, (conn, 1), 0, ALONE));
     group.receive("a Start", alloc, start)?;
     same_count("packets", group.sent.len(), 0)?;
-    is_delivered(&group.delivered, (conn, conn, 0, ALONE))?;
+    is_delivered(&group.delivered, ((conn, 1), conn, 0, ALONE))?;
     group.shows("a Start", conn, 0)?;
     same_count("started requests", group.group.started(), 0)?;
     same_number("looks", group.group.looks(), 1)
@@ -356,9 +356,9 @@ fn a_start_at_an_idle_group_is_delivered_at_once(rt: HostRuntime) -> Result<(), 
 
 /// The Start of a connection's request comes, which then waits, as all before it.
 fn is_open(alloc: Global, group: &mut Watched, conn: u64) -> Result<(), Fail> {
-    let start = packet_of(Told::Start(0, conn, 0, BOTH));
+    let start = packet_of(Told::Start(0, (conn, 1), 0, BOTH));
     group.receive("a Start", alloc, start)?;
-    is_sent(&group.sent, Told::Proposal(1, conn, 0, conn))?;
+    is_sent(&group.sent, Told::Proposal(1, (conn, 1), 0, conn))?;
     same_count("deliveries", group.delivered.len(), 0)?;
     group.shows("a Start", conn, conn as usize)
 }
@@ -373,7 +373,7 @@ fn open_100(alloc: Global, group: &mut Watched) -> Result<(), Fail> {
 
 /// The other group's proposal for a request comes, whose clock is the request's own.
 fn is_answered(alloc: Global, group: &mut Watched, conn: u64) -> Result<(), Fail> {
-    let answer = packet_of(Told::Proposal(0, conn, 1, conn));
+    let answer = packet_of(Told::Proposal(0, (conn, 1), 1, conn));
     group.receive("a proposal", alloc, answer)
 }
 
@@ -391,7 +391,11 @@ fn newer_wait(alloc: Global, group: &mut Watched) -> Result<(), Fail> {
 fn all_go(delivered: &[Delivered]) -> Result<(), Fail> {
     same_count("deliveries", delivered.len(), 100)?;
     for (request, conn) in delivered.iter().zip(1..101) {
-        same("a delivery", request, &delivered_of((conn, conn, 1, BOTH)))?;
+        same(
+            "a delivery",
+            request,
+            &delivered_of(((conn, 1), conn, 1, BOTH)),
+        )?;
     }
     Ok(())
 }
@@ -420,7 +424,7 @@ fn the_oldest_of_100_lets_all_go(rt: HostRuntime) -> Result<(), Fail> {
 fn each_goes(alloc: Global, group: &mut Watched) -> Result<(), Fail> {
     for conn in 1..101 {
         is_answered(alloc, group, conn)?;
-        is_delivered(&group.delivered, (conn, conn, 1, BOTH))?;
+        is_delivered(&group.delivered, ((conn, 1), conn, 1, BOTH))?;
         holds("no more than three are looked at", group.group.looks() <= 3)?;
     }
     Ok(())
@@ -440,17 +444,17 @@ fn each_of_100_goes_where_the_oldest_is_first(rt: HostRuntime) -> Result<(), Fai
 
 /// The packet at this place is the Start of this connection's request; it is taken, and so many are left.
 fn takes(links: &mut Links, place: usize, conn: u64, left: usize) -> Result<(), Fail> {
-    let start = packet_of(Told::Start(0, conn, 0, BOTH));
+    let start = packet_of(Told::Start(0, (conn, 1), 0, BOTH));
     same("the packet at a place", &links.packet(place), &Some(&start))?;
     same("the packet taken out", &links.take(place), &Some(start))?;
     same_count("packets left", links.len(), left)
 }
 
 const STARTS: [Told; 4] = [
-    Told::Start(0, 1, 0, BOTH),
-    Told::Start(0, 2, 0, BOTH),
-    Told::Start(0, 3, 0, BOTH),
-    Told::Start(0, 4, 0, BOTH),
+    Told::Start(0, (1, 1), 0, BOTH),
+    Told::Start(0, (2, 1), 0, BOTH),
+    Told::Start(0, (3, 1), 0, BOTH),
+    Told::Start(0, (4, 1), 0, BOTH),
 ];
 
 /// Places from which packets are taken, the connections of those, and how many are left.

@@ -19,6 +19,8 @@ mod places;
 #[cfg(test)]
 mod plain_group;
 #[cfg(test)]
+mod repeats;
+#[cfg(test)]
 mod rows;
 #[cfg(test)]
 mod trace;

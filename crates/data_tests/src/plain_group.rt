@@ -1,5 +1,5 @@
 //! The rule of one group of three as a plain program, which looks through all that it keeps for the request at the least
-//! place: what a `Group` is compared with.
+//! place, and through all that it delivered for what is past: what a `Group` is compared with.
 
 use groups::{GroupId, Groups, RequestId, Stamp};
 use skeen_core::{Body, Delivered, Packet};
@@ -65,6 +65,9 @@ pub(crate) struct PlainGroup {
     clock: u64,
     heard: Vec<Heard>,
 
+    /// All that it has delivered.
+    past: Vec<RequestId>,
+
     /// What it sent for the last packet.
     pub(crate) sent: Vec<Packet>,
 
@@ -78,6 +81,7 @@ impl PlainGroup {
             me,
             clock: 0,
             heard: Vec::new(alloc),
+            past: Vec::new(alloc),
             sent: Vec::new(alloc),
             delivered: Vec::new(alloc),
         }
@@ -92,10 +96,23 @@ impl PlainGroup {
         self.heard.len()
     }
 
-    /// A packet comes.
+    /// Whether it has delivered this request of its connection, or a later one.
+    pub(crate) fn is_past(&self, id: RequestId) -> bool {
+        for past in &self.past {
+            if past.conn == id.conn && past.seq >= id.seq {
+                return true;
+            }
+        }
+        false
+    }
+
+    /// A packet comes. One of a request that is past does nothing.
     pub(crate) fn receive(&mut self, packet: &Packet) -> Result<(), AllocError> {
         self.sent.clear();
         self.delivered.clear();
+        if self.is_past(packet.id) {
+            return Ok(());
+        }
         let place = self.place_of(packet.id)?;
         match packet.body {
             Body::Start { floor, groups } => self.start(place, floor, groups)?,
@@ -204,6 +221,7 @@ impl PlainGroup {
             return Ok(false);
         };
         self.delivered.push(Delivered { id, stamp, groups })?;
+        self.past.push(id)?;
         self.heard.remove(place);
         Ok(true)
     }

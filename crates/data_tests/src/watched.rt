@@ -6,11 +6,15 @@ use std::alloc::Global;
 use std::test::Fail;
 use test_support::{holds, same_count, same_number};
 
-/// The only request of a connection.
-pub(crate) fn request(conn: u64) -> RequestId {
+/// A connection, and the number of a request of it.
+pub(crate) type Name = (u64, u64);
+
+/// The request of this name.
+pub(crate) fn request(name: Name) -> RequestId {
+    let (conn, seq) = name;
     RequestId {
         conn: ConnId(conn),
-        seq: 1,
+        seq,
     }
 }
 
