@@ -1,4 +1,5 @@
-//! Many requests of several connections, whose packets come in any order, against one store on one map.
+//! Many requests of several connections, whose packets come in any order, and some more than once, against one store on one
+//! map.
 
 use crate::answers::{ask, assert_holds, deliver_all, discard, follow, make, run_layers};
 use crate::steps::step_of;
@@ -101,15 +102,24 @@ fn some_submit(alloc: Global, conn: u64, dice: &mut Dice) -> Result<String, Trou
     Ok(text)
 }
 
+/// The step of this name with one of the packets.
+fn at_some_packet(
+    alloc: Global,
+    name: &str,
+    packets: usize,
+    dice: &mut Dice,
+) -> Result<String, Trouble> {
+    let place = dice.below(packets as u64);
+    Ok(format!(in alloc; "{name} {place}")?)
+}
+
 /// A step of one of the eight connections, or of none, which perhaps can't be made now.
 fn some_step(alloc: Global, packets: usize, dice: &mut Dice) -> Result<String, Trouble> {
     let conn = dice.below(CONNECTIONS).wrapping_add(1);
-    match dice.below(16) {
+    match dice.below(17) {
         0..=2 => some_submit(alloc, conn, dice),
-        3..=10 => {
-            let place = dice.below(packets as u64);
-            Ok(format!(in alloc; "deliver {place}")?)
-        }
+        3..=10 => at_some_packet(alloc, "deliver", packets, dice),
+        16 => at_some_packet(alloc, "repeat", packets, dice),
         11 => Ok(String::from_str(alloc, "take")?),
         12 => Ok(String::from_str(alloc, "run")?),
         13 => Ok(String::from_str(alloc, "settle")?),

@@ -78,6 +78,46 @@ row 0 => 1.1 at 1.1 MSET a 1 c 2 a 3 +OK|
 row 1 => 1.2 at 2.1 MGET a c *2|$1|3|$1|2|
 starved => 0:";
 
+/// Packets are repeated, copies among them, and come while the request is open and once it is delivered; then both keys
+/// are looked at.
+const REPEATED: &str = "open => opened 1
+submit 1 MSET a 1 c 2 => submitted 1.1
+repeat 0 => made
+repeat 1 => made
+repeat 2 => made
+repeat 3 => made
+deliver 0 => made
+deliver 1 => made
+repeat 4 => made
+deliver 0 => made
+deliver 3 => made
+deliver 4 => made
+take => made
+run => ran
+settle => made
+deliver 0 => made
+deliver 0 => made
+deliver 0 => made
+deliver 0 => made
+deliver 0 => NoPacket
+take => NoLayer
+collect 1 => 1.1 at 1.1 +OK|
+submit 1 MGET a c => submitted 1.2
+deliver 0 => made
+repeat 0 => made
+deliver 0 => made
+deliver 0 => made
+deliver 0 => made
+deliver 0 => made
+take => made
+run => ran
+settle => made
+collect 1 => 1.2 at 2.1 *2|$1|1|$1|2|
+rows => 2
+row 0 => 1.1 at 1.1 MSET a 1 c 2 +OK|
+row 1 => 1.2 at 2.1 MGET a c *2|$1|1|$1|2|
+starved => 0:";
+
 /// Steps with a fault of their own, which is told also where there is no memory.
 const OWN_FAULTS: &str = "submit 1 SET a 1 => NoConn
 open => opened 1
@@ -85,11 +125,13 @@ submit 1 SET a 1 => submitted 1.1
 submit 1 SET a 2 => Busy
 submit 9 SET a 1 => NoConn
 deliver 1 => NoPacket
+repeat 1 => NoPacket
 take => NoLayer
 run => NoLayer
 settle => NoLayer
 deliver 0 => made
 deliver 0 => NoPacket
+repeat 0 => NoPacket
 take => made
 take => InFlight
 settle => NoLayer
@@ -103,7 +145,8 @@ open => opened 2
 open => Exhausted
 submit 1 SET a 2 => Exhausted
 submit 2 SET a 2 => Exhausted
-take => Exhausted";
+take => Exhausted
+repeat 0 => Exhausted";
 
 /// Requests of one group are taken together with the ready one that they stand behind.
 const RUNS: &str = "open => opened 1
@@ -358,6 +401,12 @@ fn same_key_twice_where_memory_fails(rt: HostRuntime) -> Result<(), Fail> {
         SAME_KEY_TWICE,
         &InTurn(NonZeroUsize::MIN),
     )?;
+    Ok(())
+}
+
+#[test]
+fn repeated_where_memory_fails(rt: HostRuntime) -> Result<(), Fail> {
+    attempts(&rt, rt.alloc(), 1000, REPEATED, &InTurn(NonZeroUsize::MIN))?;
     Ok(())
 }
 

@@ -59,14 +59,37 @@ const NO_PACKET: Row = Row {
     shards: 2,
     max_steps: 1000,
     script: "deliver 0 => NoPacket
+repeat 0 => NoPacket
 open; submit 1 MSET a 1 c 2 => opened 1; submitted 1.1
 deliver 2 => NoPacket
+repeat 2 => NoPacket
 deliver 18446744073709551615 => NoPacket
+repeat 18446744073709551615 => NoPacket
 deliver 1; deliver 1 => made; made
 deliver 2 => NoPacket
+repeat 1 => NoPacket
 deliver 0; deliver 0 => made; made
 deliver 0 => NoPacket
+repeat 0 => NoPacket
 steps => 6",
+};
+
+/// Repeats are steps, and there is a place more behind each.
+const REPEATS: Row = Row {
+    shards: 2,
+    max_steps: 4,
+    script: "open; submit 1 SET a 1 => opened 1; submitted 1.1
+repeat 1 => NoPacket
+repeat 0 => made
+repeat 2 => NoPacket
+repeat 1 => made
+steps => 4
+packets => 3
+repeat 2 => Exhausted
+repeat 3 => Exhausted
+deliver 0 => Exhausted
+steps => 4
+packets => 3",
 };
 
 /// One layer at a time is under way, from its take to its settle. That one is comes before that none is ready.
@@ -116,6 +139,7 @@ run => Exhausted
 settle => Exhausted
 collect 1 => Exhausted
 close 1 => Exhausted
+repeat 0 => Exhausted
 steps => 1",
 };
 
@@ -126,6 +150,7 @@ const TWO_STEPS: Row = Row {
     script: "open => opened 1
 submit 9 SET a 1 => NoConn
 deliver 0 => NoPacket
+repeat 0 => NoPacket
 take => NoLayer
 steps => 1
 submit 1 SET a 1 => submitted 1.1
@@ -142,6 +167,8 @@ collect 1 => Exhausted
 collect 9 => Exhausted
 close 1 => Exhausted
 close 9 => Exhausted
+repeat 0 => Exhausted
+repeat 9 => Exhausted
 steps => 2
 packets => 1",
 };
@@ -161,10 +188,11 @@ collect 1; collect 2; close 1 => 1.1 at 1.0 +OK|; NoConn
 close 1 => made",
 };
 
-const REFUSALS: [Row; 7] = [
+const REFUSALS: [Row; 8] = [
     BUSY,
     NO_CONN,
     NO_PACKET,
+    REPEATS,
     LAYERS,
     ONE_STEP,
     TWO_STEPS,
@@ -228,6 +256,7 @@ settle => Failed
 collect 1 => Failed
 collect 9 => Failed
 close 1 => Failed
+repeat 0 => Failed
 rows => 1
 row 0 => 1.1 at 1.0 SET b 0 +OK|
 starved => 0:

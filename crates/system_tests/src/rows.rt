@@ -386,7 +386,178 @@ ask 1 SET a 1 => 1.3 at 1.0 +OK|
 rows => 1",
 };
 
-const ROWS: [Row; 17] = [
+/// A packet is repeated, and its copy comes once the request is delivered, behind the connection's next one: it is left
+/// out, and the group's clock stays at 2.
+const REPEATED: Row = Row {
+    shards: 2,
+    max_steps: 1000,
+    script: "open => opened 1
+submit 1 SET a 1 => submitted 1.1
+repeat 0 => made
+packets => 2
+deliver 0 => made
+packets => 1
+take; run; settle => made; ran; made
+collect 1 => 1.1 at 1.0 +OK|
+submit 1 SET a 2 => submitted 1.2
+packets => 2
+deliver 1 => made
+packets => 1
+deliver 0 => made
+packets => 0
+take; run; settle => made; ran; made
+collect 1 => 1.2 at 2.0 +OK|
+steps => 15
+rows => 2
+row 0 => 1.1 at 1.0 SET a 1 +OK|
+row 1 => 1.2 at 2.0 SET a 2 +OK|
+take => NoLayer
+quiet => true
+ask 1 GET a => 1.3 at 3.0 $1|2|",
+};
+
+/// The crossing requests; each packet is repeated before it comes. The copies come at the end, and are left out.
+const CROSSING_BEFORE_COPIES: Row = Row {
+    shards: 2,
+    max_steps: 1000,
+    script: "open; open => opened 1; opened 2
+submit 1 MSET a 1 c 2; submit 2 MSET a 3 c 4 => submitted 1.1; submitted 2.1
+packets => 4
+repeat 0; deliver 0 => made; made
+repeat 2; deliver 2 => made; made
+repeat 1; deliver 1 => made; made
+repeat 0; deliver 0 => made; made
+packets => 8
+repeat 1; deliver 1 => made; made
+repeat 2; deliver 2 => made; made
+repeat 3; deliver 3 => made; made
+take => NoLayer
+repeat 4; deliver 4 => made; made
+packets => 8
+take; run; settle => made; ran; made
+rows => 1
+row 0 => 2.1 at 2.0 MSET a 3 c 4 +OK|
+waits 2 => 2.1 at 2.0 +OK|
+waits 1 => nothing
+take; run; settle => made; ran; made
+rows => 2
+row 1 => 1.1 at 2.1 MSET a 1 c 2 +OK|
+take => NoLayer
+quiet => false
+drain => 8
+packets => 0
+take => NoLayer
+quiet => true
+rows => 2
+collect 1 => 1.1 at 2.1 +OK|
+collect 2 => 2.1 at 2.0 +OK|
+starved => 0:
+ask 1 GET a => 1.2 at 3.0 $1|1|
+ask 1 GET c => 1.3 at 4.1 $1|2|",
+};
+
+/// The same, but each copy comes at once behind its packet, most of them while the requests are open.
+const CROSSING_AMONG_COPIES: Row = Row {
+    shards: 2,
+    max_steps: 1000,
+    script: "open; open => opened 1; opened 2
+submit 1 MSET a 1 c 2; submit 2 MSET a 3 c 4 => submitted 1.1; submitted 2.1
+repeat 0; deliver 0; deliver 3 => made; made; made
+repeat 2; deliver 2; deliver 3 => made; made; made
+repeat 1; deliver 1; deliver 3 => made; made; made
+repeat 0; deliver 0; deliver 3 => made; made; made
+packets => 4
+repeat 0; deliver 0; deliver 3 => made; made; made
+repeat 0; deliver 0; deliver 2 => made; made; made
+repeat 0; deliver 0; deliver 1 => made; made; made
+packets => 1
+take => NoLayer
+repeat 0; deliver 0; deliver 0 => made; made; made
+packets => 0
+take; run; settle => made; ran; made
+rows => 1
+row 0 => 2.1 at 2.0 MSET a 3 c 4 +OK|
+take; run; settle => made; ran; made
+rows => 2
+row 1 => 1.1 at 2.1 MSET a 1 c 2 +OK|
+take => NoLayer
+quiet => true
+collect 1 => 1.1 at 2.1 +OK|
+collect 2 => 2.1 at 2.0 +OK|
+ask 1 GET a => 1.2 at 3.0 $1|1|
+ask 1 GET c => 1.3 at 4.1 $1|2|",
+};
+
+/// A proposal comes before its Start; each packet is repeated before it comes, and the copies come at the end.
+const PROPOSAL_FIRST_BEFORE_COPIES: Row = Row {
+    shards: 2,
+    max_steps: 1000,
+    script: "open => opened 1
+submit 1 MSET a 1 c 2 => submitted 1.1
+repeat 0; deliver 0 => made; made
+packets => 3
+repeat 2; deliver 2 => made; made
+packets => 3
+take => NoLayer
+repeat 0; deliver 0 => made; made
+packets => 4
+take => NoLayer
+repeat 3; deliver 3 => made; made
+packets => 4
+take; run; settle => made; ran; made
+row 0 => 1.1 at 1.1 MSET a 1 c 2 +OK|
+collect 1 => 1.1 at 1.1 +OK|
+quiet => false
+drain => 4
+packets => 0
+take => NoLayer
+quiet => true
+rows => 1
+ask 1 MGET a c => 1.2 at 2.1 *2|$1|1|$1|2|",
+};
+
+/// A copy is repeated too, and the last copy comes first: the request is executed once.
+const COPY_OF_A_COPY: Row = Row {
+    shards: 2,
+    max_steps: 1000,
+    script: "open => opened 1
+submit 1 INCR a => submitted 1.1
+repeat 0; repeat 1; repeat 2 => made; made; made
+packets => 4
+steps => 5
+deliver 3 => made
+packets => 3
+take; run; settle => made; ran; made
+collect 1 => 1.1 at 1.0 :1|
+drain => 3
+take => NoLayer
+quiet => true
+ask 1 INCR a => 1.2 at 2.0 :2|
+rows => 2",
+};
+
+/// A copy comes once its connection is closed, beside another one's request.
+const COPY_OF_A_CLOSED_CONNECTION: Row = Row {
+    shards: 2,
+    max_steps: 1000,
+    script: "open => opened 1
+submit 1 INCR a => submitted 1.1
+repeat 0; close 1 => made; made
+deliver 0; take; run; settle => made; made; ran; made
+rows => 1
+open => opened 2
+submit 2 INCR a => submitted 2.1
+packets => 2
+deliver 0 => made
+packets => 1
+take => NoLayer
+deliver 0; take; run; settle => made; made; ran; made
+collect 2 => 2.1 at 2.0 :2|
+quiet => true
+rows => 2",
+};
+
+const ROWS: [Row; 23] = [
     CROSSING,
     LAYER_BY_LAYER,
     PROPOSAL_FIRST,
@@ -404,6 +575,12 @@ const ROWS: [Row; 17] = [
     ONE_OF_TWO_STARVES,
     CLOSED_UNDER_WAY,
     NO_GROUP,
+    REPEATED,
+    CROSSING_BEFORE_COPIES,
+    CROSSING_AMONG_COPIES,
+    PROPOSAL_FIRST_BEFORE_COPIES,
+    COPY_OF_A_COPY,
+    COPY_OF_A_CLOSED_CONNECTION,
 ];
 
 #[test]
