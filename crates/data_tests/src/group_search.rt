@@ -168,7 +168,7 @@ impl Beside {
             .links
             .take(place as usize)
             .ok_or("no packet at that place")?;
-        self.came.push(packet)?;
+        self.came.push(Packet { ..packet })?;
         self.hand(alloc, packet)
     }
 
