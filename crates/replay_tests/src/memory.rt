@@ -4,7 +4,7 @@
 //! turn: what that call was asked for isn't begun, and the next one does all of it. Where the allocation is the test's
 //! own, the test begins anew.
 
-use crate::traces::{CROSSING, LAYER_OF_TWO, Row, STARVED};
+use crate::traces::{CROSSING, LAYER_OF_TWO, REPEATED, Row, STARVED};
 use command_table::{Command, read};
 use journal::{Step, Trace, TraceFault, read_trace, write_trace};
 use placement::{Table, TableFault};
@@ -66,23 +66,23 @@ fn writes(rt: &impl Abort, alloc: Global, trace: &Trace, text: &str) -> Result<(
     assert_behind(rt, alloc, out.as_slice(), text)
 }
 
-/// A trace's text of version 1 as it is written, which is in version 2.
-fn as_written(rt: &impl Abort, alloc: Global, text: &str) -> Result<String, AllocError> {
+/// A trace's text as it is written, which is in version 2.
+fn as_written(alloc: Global, text: &str) -> Result<String, AllocError> {
     match text.strip_prefix("shardkv-trace 1\n") {
         Some(lines) => format!(in alloc; "shardkv-trace 2\n{lines}"),
-        None => panic!(rt; "no text of version 1"),
+        None => String::from_str(alloc, text),
     }
 }
 
 fn read_and_written(rt: &impl Abort, alloc: Global, row: Row) -> Result<(), AllocError> {
     let trace = trace_of(rt, alloc, row.trace)?;
-    let text = as_written(rt, alloc, row.trace)?;
+    let text = as_written(alloc, row.trace)?;
     writes(rt, alloc, &trace, text.as_str())
 }
 
 #[test]
 fn traces_are_read_and_written_where_memory_fails(rt: HostRuntime) -> Result<(), Fail> {
-    for row in [CROSSING, STARVED] {
+    for row in [CROSSING, STARVED, REPEATED] {
         if read_and_written(&rt, rt.alloc(), row).is_err() {
             read_and_written(&rt, rt.alloc(), row)?;
         }
@@ -274,7 +274,7 @@ fn is_no_memory(fault: &ShowFault) -> bool {
 
 #[test]
 fn reports_come_whole_where_memory_fails(rt: HostRuntime) -> Result<(), Fail> {
-    for row in [CROSSING, STARVED, LAYER_OF_TWO] {
+    for row in [CROSSING, STARVED, LAYER_OF_TWO, REPEATED] {
         if shown(&rt, rt.alloc(), row, &ONE).is_err() {
             shown(&rt, rt.alloc(), row, &ONE)?;
         }

@@ -1,7 +1,7 @@
 //! Texts that are no table or no trace, and traces of which a step is refused.
 
 use crate::showing::is_shown;
-use crate::traces::{CROSSING, Row, STARVED};
+use crate::traces::{CROSSING, REPEATED, Row, STARVED};
 use journal::read_trace;
 use placement::{Table, TableFault};
 use replay::{ReplayFault, ShowFault, replay, show, told};
@@ -35,7 +35,7 @@ fn refused_step(alloc: Global, trace: &str) -> Result<String, Fail> {
 /// A trace, a part of it and what stands in its place, and the place and the fault of the step that is refused then.
 type Refusal = (Row, &'static str, &'static str, &'static str);
 
-const REFUSALS: [Refusal; 7] = [
+const REFUSALS: [Refusal; 10] = [
     (STARVED, "32\ndeliver 0\n", "32\ndeliver 3\n", "2: NoPacket"),
     (
         CROSSING,
@@ -53,6 +53,14 @@ const REFUSALS: [Refusal; 7] = [
         "take\nsettle\n",
         "7: InFlight",
     ),
+    (REPEATED, "repeat 0\n", "repeat 9\n", "2: NoPacket"),
+    (
+        REPEATED,
+        "repeat 0\ndeliver 0\n",
+        "deliver 0\nrepeat 0\n",
+        "3: NoPacket",
+    ),
+    (REPEATED, "max 50\n", "max 2\n", "2: Exhausted"),
 ];
 
 #[test]
@@ -77,11 +85,17 @@ fn is_refused(alloc: Global, trace: &str, wanted: &str) -> Result<(), Fail> {
     same_text(trace, refused.as_str(), wanted)
 }
 
-/// A part of the crossing requests' trace, what stands in its place, and the number of the first bad line then.
-const BAD_LINES: [(&str, &str, u64); 3] = [
-    ("end 20\n", "", 23),
-    ("end 20\n", "end 19\n", 23),
-    ("34\ndeliver 0\n", "34\ndeliver 00\n", 7),
+/// A trace, a part of it and what stands in its place, and the number of the first bad line then.
+type BadLine = (Row, &'static str, &'static str, u64);
+
+/// A text of version 1 knows no `repeat`.
+const BAD_LINES: [BadLine; 6] = [
+    (CROSSING, "end 20\n", "", 23),
+    (CROSSING, "end 20\n", "end 19\n", 23),
+    (CROSSING, "34\ndeliver 0\n", "34\ndeliver 00\n", 7),
+    (CROSSING, "34\ndeliver 0\n", "34\nrepeat 0\n", 7),
+    (REPEATED, "shardkv-trace 2\n", "shardkv-trace 1\n", 5),
+    (REPEATED, "repeat 0\n", "repeat\n", 5),
 ];
 
 /// The number of the first line that is bad. It is 0 where none is told.
@@ -101,22 +115,17 @@ fn bad_line(alloc: Global, trace: &str) -> u64 {
 
 #[test]
 fn the_first_bad_line_is_told(rt: HostRuntime) -> Result<(), Fail> {
-    for (part, other, wanted) in &BAD_LINES {
-        is_bad(&rt, rt.alloc(), part, other, *wanted)?;
+    for bad in &BAD_LINES {
+        is_bad(&rt, rt.alloc(), bad)?;
     }
     Ok(())
 }
 
 /// The trace with that part in another form is bad at this line, and ends by 4.
-fn is_bad<R: Threads + Wait>(
-    rt: &R,
-    alloc: Global,
-    part: &str,
-    other: &str,
-    wanted: u64,
-) -> Result<(), Fail> {
-    let trace = with(alloc, CROSSING.trace, part, other)?;
-    same_number(other, bad_line(alloc, trace.as_str()), wanted)?;
+fn is_bad<R: Threads + Wait>(rt: &R, alloc: Global, bad: &BadLine) -> Result<(), Fail> {
+    let (row, part, other, wanted) = bad;
+    let trace = with(alloc, row.trace, part, other)?;
+    same_number(other, bad_line(alloc, trace.as_str()), *wanted)?;
     is_shown(rt, alloc, other, trace.as_str(), 4, "")
 }
 

@@ -8,16 +8,19 @@ pub(crate) struct Row {
     pub(crate) report: &'static str,
 }
 
-/// MSET a 1 c 2 and MSET a 3 c 4 cross: each comes to another group first.
-pub(crate) const CROSSING: Row = Row {
-    name: "crossing",
-    trace: test_support::CROSSING,
-    report: "row 2.0 2.1 mset 2b4f4b0d0a
+/// The report of the crossing requests.
+const CROSSED: &str = "row 2.0 2.1 mset 2b4f4b0d0a
 row 2.1 1.1 mset 2b4f4b0d0a
 key 61 string 31
 key 63 string 32
 agree
-",
+";
+
+/// MSET a 1 c 2 and MSET a 3 c 4 cross: each comes to another group first.
+pub(crate) const CROSSING: Row = Row {
+    name: "crossing",
+    trace: test_support::CROSSING,
+    report: CROSSED,
 };
 
 /// MSET a 1 c 2 starves, and GET a finds nothing.
@@ -232,4 +235,71 @@ end 0
 ",
     report: "agree
 ",
+};
+
+/// SET a 1 is repeated under way, and its copy comes behind SET a 2 of the same connection: it is left out.
+pub(crate) const REPEATED: Row = Row {
+    name: "repeated",
+    trace: "shardkv-trace 2
+max 50
+open
+submit 1 534554 61 31
+repeat 0
+deliver 0
+take
+run
+settle
+collect 1
+submit 1 534554 61 32
+deliver 1
+deliver 0
+take
+run
+settle
+collect 1
+end 15
+",
+    report: "row 1.0 1.1 set 2b4f4b0d0a
+row 2.0 1.2 set 2b4f4b0d0a
+key 61 string 32
+agree
+",
+};
+
+/// The crossing requests, each of whose packets is repeated before it comes. The copies are under way at the end.
+pub(crate) const CROSSING_BEFORE_COPIES: Row = Row {
+    name: "crossing before copies",
+    trace: "shardkv-trace 2
+max 1000
+open
+open
+submit 1 4d534554 61 31 63 32
+submit 2 4d534554 61 33 63 34
+repeat 0
+deliver 0
+repeat 2
+deliver 2
+repeat 1
+deliver 1
+repeat 0
+deliver 0
+repeat 1
+deliver 1
+repeat 2
+deliver 2
+repeat 3
+deliver 3
+repeat 4
+deliver 4
+take
+run
+settle
+take
+run
+settle
+collect 1
+collect 2
+end 28
+",
+    report: CROSSED,
 };
