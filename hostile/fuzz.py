@@ -3,8 +3,9 @@
 
 For some seconds (20 unless told), from a seed that is printed: random bytes, and valid streams of requests with some bytes changed, go
 to `solo`, whole and in pieces cut anywhere, which has to answer both alike; random tables and traces, and valid ones with some bytes
-changed, go to `replay` with one worker and with two. Each program ends by a status that it has for such an input, says on standard
-error why where it refuses, and writes nothing then but what came before; a trace that can be replayed agrees.
+changed, go to `replay` with one worker and with two. Traces of version 2 have packets that are repeated. Each program ends by a status
+that it has for such an input, says on standard error why where it refuses, and writes nothing then but what came before; a trace that
+can be replayed agrees.
 """
 import contextlib
 import os
@@ -23,6 +24,9 @@ NAMES = """PING ECHO GET SET SETNX GETSET GETDEL MGET STRLEN GETRANGE INCR DECR 
 EXISTS TYPE RENAMENX DBSIZE FLUSHALL HSET HMSET HSETNX HINCRBY HGET HMGET HDEL HEXISTS HLEN HKEYS HVALS HGETALL HSTRLEN LPUSH
 RPUSH LPUSHX RPUSHX LPOP RPOP LLEN LINDEX LSET LRANGE LTRIM LREM LINSERT LMOVE RPOPLPUSH SADD SREM SISMEMBER SMISMEMBER SCARD
 SMEMBERS SMOVE SINTER SUNION SDIFF SINTERSTORE SUNIONSTORE SDIFFSTORE""".split()
+
+# Requests of both groups of two.
+BOTH = [line.split() for line in b"MSET a 1 c 2;MSET d x b y;MGET a b c d;RENAME b d;SUNIONSTORE c a b;DEL a c;DBSIZE;FLUSHALL".split(b";")]
 
 
 def words_of(dice):
@@ -46,26 +50,52 @@ def stream(dice):
     return changed(dice, b"".join(request(*words_of(dice)) for _ in range(dice.randrange(20))))
 
 
+def text_of(version, most, lines):
+    """The text of a trace of this version."""
+    return ("shardkv-trace %d\nmax %d\n" % (version, most) + "".join(line + "\n" for line in lines) + "end %d\n" % len(lines)).encode()
+
+
+def submit(conn, words):
+    return "submit %d %s" % (conn, " ".join(word.hex() or "-" for word in words))
+
+
 def trace(dice):
-    """A trace of version 1, of some connections, with some steps that may be refused."""
-    lines, connections = ["open"] * 3, 3
+    """A trace of either version, of some connections, with some steps that may be refused. In version 1 a `repeat` is rare, and bad."""
+    lines, connections, version = ["open"] * 3, 3, dice.choice([1, 2])
+    repeats = ["repeat 0", "repeat 1"] if version == 2 or dice.randrange(10) == 0 else []
     for _ in range(dice.randrange(60)):
         conn = dice.randrange(1, connections + 1)
         lines.append(dice.choice([
-            "submit %d %s" % (conn, " ".join(word.hex() or "-" for word in words_of(dice))),
-            "deliver 0", "deliver 0", "deliver 0", "deliver 1", "take", "run", "settle", "collect %d" % conn]))
-    text = "shardkv-trace 1\nmax %d\n" % dice.choice([1000, 1 << 62, 40]) + "".join(line + "\n" for line in lines)
-    return changed(dice, (text + "end %d\n" % len(lines)).encode(), 1)
+            submit(conn, words_of(dice)),
+            "deliver 0", "deliver 0", "deliver 0", "deliver 1", *repeats, "take", "run", "settle", "collect %d" % conn]))
+    return changed(dice, text_of(version, dice.choice([1000, 1 << 62, 40]), lines), 1)
+
+
+def brought(dice, left, may_repeat):
+    """The lines that bring the four packets of a request of two groups, behind `left` copies of earlier ones, and how many copies they
+    leave. Some packets are repeated, of which most copies come too."""
+    lines = ["deliver 0"] * (4 + left)
+    if not may_repeat:
+        return lines, 0
+    for _ in range(dice.randrange(3)):
+        lines.insert(dice.randrange(4), "repeat 0")
+        lines.append("deliver 0")
+    leaves = dice.randrange(2)
+    return lines[:-1] + ["repeat 0"] * leaves + lines[-1:], leaves
 
 
 def driven(dice):
-    """A trace in which each request is brought to its end."""
-    lines = ["open"] * 3
+    """A trace in which requests of two groups are brought to their ends, and the statuses that it may end by. In version 1 a `repeat` is
+    rare, and bad."""
+    lines, left, version = ["open"] * 3, 0, dice.choice([1, 2])
+    may_repeat = version == 2 or dice.randrange(10) == 0
     for _ in range(dice.randrange(1, 8)):
         conn = dice.randrange(1, 4)
-        lines.append("submit %d %s" % (conn, " ".join(word.hex() or "-" for word in words_of(dice))))
-        lines += ["deliver 0"] * 4 + ["take", "run", "settle", "collect %d" % conn]
-    return lines
+        packets, left = brought(dice, left, may_repeat)
+        words = dice.choice(BOTH) if dice.randrange(8) else words_of(dice)
+        lines += [submit(conn, words), *packets, "take", "run", "settle", "collect %d" % conn]
+    is_bad = version == 1 and "repeat 0" in lines
+    return text_of(version, 1000, lines), (3, 4) if is_bad else (0, 3, 5)
 
 
 def table(dice):
@@ -111,16 +141,14 @@ class Fuzz:
 
     def replay(self):
         table_text = table(self.dice) if self.dice.randrange(3) == 0 else open(os.path.join(TOP, "examples/two-shards.toml"), "rb").read()
-        lines = driven(self.dice)
-        trace_text = trace(self.dice) if self.dice.randrange(2) else (
-            "shardkv-trace 1\nmax 1000\n" + "".join(line + "\n" for line in lines) + "end %d\n" % len(lines)).encode()
+        trace_text, wanted = (trace(self.dice), (0, 3, 4, 5)) if self.dice.randrange(2) else driven(self.dice)
         files = ["--table", self.file("table", table_text), "--trace", self.file("trace", trace_text)]
         said = []
         faults = []
         for workers in ("1", "2"):
             ran = subprocess.run([self.program("replay"), *files, "--workers", workers], capture_output=True, timeout=60)
             said.append((ran.returncode, ran.stdout, ran.stderr))
-            if ran.returncode not in (0, 3, 4, 5):
+            if ran.returncode not in wanted:
                 faults.append(f"status {ran.returncode}: {ran.stderr}")
             if (ran.returncode == 0) != ran.stdout.endswith(b"agree\n") or (ran.returncode != 0 and (ran.stdout or not ran.stderr)):
                 faults.append(f"status {ran.returncode} with {ran.stdout[-100:]!r}, {ran.stderr!r}")

@@ -45,12 +45,15 @@ SERVER = [
 # has a crew: the C library takes a block for a thread, too, and it doesn't look for a thread that is refused, as those of `system_tests` do.)
 TESTS = [
     ("data_tests", "decoder::goes_on_where_memory_was_refused"),
+    ("data_tests", "repeats::packets_of_an_open_request_count_once"),
+    ("data_tests", "repeats::earlier_requests_of_a_connection_are_past"),
     ("solo_tests", "connections::replies_are_whole_where_memory_fails"),
     ("layer_tests", "memory::one_in_turn_where_memory_fails"),
     ("layer_tests", "memory::two_in_turn_where_memory_fails"),
     ("system_tests", "memory::crossing_where_memory_fails"),
     ("system_tests", "memory::crossing_by_two_where_memory_fails"),
     ("system_tests", "memory::same_key_twice_where_memory_fails"),
+    ("system_tests", "memory::repeated_where_memory_fails"),
     ("system_tests", "memory::own_faults_come_before_memory"),
     ("system_tests", "memory::runs_where_memory_fails"),
     ("system_tests", "memory::runs_by_a_crew_of_one_where_memory_fails"),
@@ -244,14 +247,17 @@ def server(programs, plain, workers):
 
 def cases(programs):
     plain = Plain(programs)
-    crossing = ["--table", TABLE, "--trace", os.path.join(TOP, "examples/crossing.trace")]
+    traces = {name: ["--table", TABLE, "--trace", os.path.join(TOP, f"examples/{name}.trace")] for name in ("crossing", "repeated")}
     for number, text in enumerate(SOLO, 1):
         yield f"solo {number}", lambda text=text: solo(programs, plain, text)
     for workers in (1, 2):
-        yield f"replay {workers}", lambda workers=workers: whole_or_refused(programs, "replay", [*crossing, "--workers", str(workers)])
+        for name, trace in traces.items():
+            words = [*trace, "--workers", str(workers)]
+            yield f"replay {workers} {name}", lambda words=words: whole_or_refused(programs, "replay", words)
     for crate, name in TESTS:
         yield f"{crate} {name}", lambda crate=crate, name=name: unit_test(programs, crate, name)
-    yield "picture", lambda: whole_or_refused(programs, "picture", crossing)
+    for name, trace in traces.items():
+        yield f"picture {name}", lambda trace=trace: whole_or_refused(programs, "picture", trace)
     for workers in (1, 2):
         yield f"server {workers}", lambda workers=workers: server(programs, plain, workers)
 
