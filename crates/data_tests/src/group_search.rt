@@ -267,6 +267,12 @@ impl Beside {
         self.comes(alloc, dice)?;
         self.comes_again(alloc)
     }
+
+    /// A history in which a connection's requests go one by one. Nothing is kept at its end.
+    fn one_by_one(&mut self, alloc: Global, dice: &mut Dice) -> Result<(), Fail> {
+        self.history(alloc, dice, Order::OneByOne)?;
+        self.is_empty()
+    }
 }
 
 /// A packet comes to both, and what is sent is under way.
@@ -300,11 +306,9 @@ fn send_starts(
     Ok(())
 }
 
-/// A history in which a connection's requests go one by one. Nothing is kept at its end.
 fn one_by_one(alloc: Global, dice: &mut Dice) -> Result<(), Fail> {
     let mut beside = Beside::new(alloc);
-    beside.history(alloc, dice, Order::OneByOne)?;
-    beside.is_empty()
+    beside.one_by_one(alloc, dice)
 }
 
 /// A history in which a connection's requests begin at any time.
