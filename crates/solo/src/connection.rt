@@ -1,42 +1,21 @@
 //! The store behind a connection: each request is read as a command and run.
 
-ghost use Rattle.solo.specs.Connection.{ServesInTurn};
+ghost use Rattle.std.specs.Prelude.{◌≡◌};
+ghost use Rattle.serving.specs.Serves.{Serves};
+ghost use Rattle.solo.specs.Connection.{Asks, limits, ServesInTurn};
 
+use crate::client::Client;
 use crate::store::Solo;
-use command_table::read;
-use resp::{Reply, Request};
-use resp_decoder::{Ahead, Limits};
-use serving::{Door, DoorFault, ServeFault, Served, serve};
+use resp_decoder::Limits;
+use serving::{ServeFault, Served, serve};
+use sessions::Session;
 use std::convert::Infallible;
 use std::hash::BuildHasher;
 use std::io::{Read, Write};
 
-impl<S: BuildHasher> Door for Solo<S> {
-    ghost use Rattle.solo.specs.Connection.{Asks};
-
-    type Reason = Infallible;
-
-    ghost asks = { Asks };
-
-    fn ask(&mut self, request: Request) -> Result<Reply, DoorFault<Infallible>> {
-        let command = match read(request) {
-            Ok(command) => command,
-            Err(refusal) => return Ok(Reply::Error(refusal.text())),
-        };
-        match self.try_run(command) {
-            Ok(reply) => Ok(reply),
-            Err(_) => Err(DoorFault::Memory),
-        }
-    }
-
-    fn expect(&self, ahead: Ahead<'_>) {
-        self.read_ahead(ahead);
-    }
-}
-
 impl<S: BuildHasher> Solo<S> {
     /// Serves one connection on this store: reads requests, runs them one after another and writes their replies in
-    /// that order.
+    /// that order. No list of MULTI is open at first, and one that is open at the end is dropped.
     ///
     /// How it ends and what is then read and written is as `serving::serve` says; it never answers `ServeFault::Door`.
     pub fn serve<R: Read, W: Write>(
@@ -47,6 +26,25 @@ impl<S: BuildHasher> Solo<S> {
         ensures { ServesInTurn (R.remaining reader.old) (R.remaining reader.new)
             (W.contents writer.old) (W.contents writer.new) self.old self.new result }
     {
-        serve(self.alloc(), Limits::DEFAULT, reader, writer, self)
+        let mut session = Session::new();
+        let mut client = Client {
+            solo: self,
+            session: &mut session,
+        };
+        serve_client(&mut client, reader, writer)
     }
+}
+
+/// Serves a client's connection.
+fn serve_client<S: BuildHasher, R: Read, W: Write>(
+    client: &mut Client<'_, S>,
+    reader: &mut R,
+    writer: &mut W,
+) -> Result<Served, ServeFault<Infallible>>
+    ensures same_reference { client.new.solo.ghost_name ≡ client.old.solo.ghost_name }
+    ensures serves { Serves Asks limits (R.remaining reader.old) (R.remaining reader.new)
+        (W.contents writer.old) (W.contents writer.new) (client.old.session.now, client.old.solo.now)
+        (client.new.session.now, client.new.solo.now) result }
+{
+    serve(client.solo.alloc(), Limits::DEFAULT, reader, writer, client)
 }

@@ -4,6 +4,7 @@
 //! same replies. The program `shardkv_solo` serves standard input by it, and a replay runs what a system has run.
 #![tactic(auto)]
 
+mod client;
 mod connection;
 mod reading_ahead;
 mod store;

@@ -6,17 +6,23 @@ ghost use Rattle.resp.specs.Content.{content};
 ghost use Rattle.command_bodies.specs.Command.{effect_of, TakesMemory};
 ghost use Rattle.command_cases.specs.Case.{Does};
 ghost use Rattle.dumps.specs.Dump.{dump_text};
-ghost use Rattle.solo.specs.Solo.{solo_from, IsStepOrStarves, RunsBeginning};
+ghost use Rattle.serving.specs.Answers.{answer_of};
+ghost use Rattle.solo.specs.Connection.{AsksPlain, AsksCommand};
+ghost use Rattle.solo.specs.Solo.{solo_from, IsRunOrStarves, IsStepOrStarves, RunsBeginning};
 
 use crate::reading_ahead::Sight;
+use batches::execute_batch;
 use command_bodies::execute;
 use command_cases::Starved;
-use command_table::Command;
+use command_table::{Command, read};
 use dumps::Dump;
 use keyspace::Plain;
-use resp::Reply;
+use resp::{Reply, Request};
 use resp_decoder::Ahead;
+use serving::DoorFault;
+use sessions::Batch;
 use std::alloc::{AllocError, Global};
+use std::convert::Infallible;
 use std::hash::BuildHasher;
 use std::marker::Model;
 
@@ -90,6 +96,41 @@ impl<S: BuildHasher> Solo<S> {
         ensures starves { OnErr result (TakesMemory command self.old) }
     {
         execute(self.alloc, &mut self.keys, command)
+    }
+
+    /// Runs the batch and gives its reply: that of a command outside a list, or an array of the replies of an EXEC's members.
+    ///
+    /// Of an EXEC the members of these numbers, which count from 1, are skipped. Each of them changes nothing and is
+    /// answered `ERR out of memory`, and so is a member that takes memory where there is none; the others are run. The reply
+    /// is `ERR out of memory`, and every key is as it was, where there is no memory for a command outside a list, which takes
+    /// some, or for the array.
+    pub fn run_batch(&mut self, batch: Batch, skip: &[usize]) -> Reply
+        ensures { IsRunOrStarves skip.now batch self.old (content result) self.new }
+    {
+        match execute_batch(self.alloc, &mut self.keys, batch, skip) {
+            Ok(reply) => reply,
+            Err(_) => Reply::out_of_memory(),
+        }
+    }
+
+    /// Answers a request outside a list: it is read as a command and run, or its words are refused.
+    pub(crate) fn ask_plain(&mut self, request: Request) -> Result<Reply, DoorFault<Infallible>>
+        ensures { AsksPlain self.old request (answer_of result) self.new }
+    {
+        match read(request) {
+            Ok(command) => self.ask_command(command),
+            Err(refusal) => Ok(Reply::Error(refusal.text())),
+        }
+    }
+
+    /// Answers a command outside a list.
+    pub(crate) fn ask_command(&mut self, command: Command) -> Result<Reply, DoorFault<Infallible>>
+        ensures { AsksCommand self.old command (answer_of result) self.new }
+    {
+        match self.try_run(command) {
+            Ok(reply) => Ok(reply),
+            Err(_) => Err(DoorFault::Memory),
+        }
     }
 
     /// Appends the dump of the map: a line for each key, ascending by bytes.

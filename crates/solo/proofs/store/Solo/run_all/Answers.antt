@@ -5,7 +5,8 @@ use Rattle.std.proofs.lemmas.Result.{err_from_is_err_and}
 use Rattle.resp.specs.Content.{content}
 use Rattle.command_bodies.specs.Command.{effect_of}
 use Rattle.command_bodies.proofs.Turns.{in_turn-push}
-use Rattle.solo.proofs.Turns.{taken-push, next_within, none_ran, some_ran}
+use Rattle.batches.proofs.Runs.{taken-push, next_within}
+use Rattle.solo.proofs.Turns.{none_ran, some_ran}
 use Rattle.solo.proofs.store.Solo.run_all.Goals as goal
 
 pub push_reserved-requires : goal.push_reserved-requires

@@ -1,0 +1,9 @@
+pub mod NoWant
+pub mod NoWantOfCommands
+pub mod NoWantOfHashes
+pub mod NoWantOfKeys
+pub mod NoWantOfLists
+pub mod NoWantOfSets
+pub mod NoWantOfStrings
+pub mod Runs
+pub mod Told

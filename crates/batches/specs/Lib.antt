@@ -1,0 +1,4 @@
+pub mod Batch
+pub mod Keys
+pub mod Member
+pub mod Starved

@@ -1,0 +1,4 @@
+pub mod Control
+pub mod Member
+pub mod Replies
+pub mod Session
