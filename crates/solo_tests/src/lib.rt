@@ -23,3 +23,5 @@ mod rows;
 mod store;
 #[cfg(test)]
 mod table;
+#[cfg(test)]
+mod transactions;
