@@ -23,14 +23,17 @@ WORDS = KEYS + [b"0", b"1", b"-1", b"9223372036854775807", b"-922337203685477580
 NAMES = """PING ECHO GET SET SETNX GETSET GETDEL MGET STRLEN GETRANGE INCR DECR INCRBY DECRBY APPEND SETRANGE MSET MSETNX RENAME DEL UNLINK
 EXISTS TYPE RENAMENX DBSIZE FLUSHALL HSET HMSET HSETNX HINCRBY HGET HMGET HDEL HEXISTS HLEN HKEYS HVALS HGETALL HSTRLEN LPUSH
 RPUSH LPUSHX RPUSHX LPOP RPOP LLEN LINDEX LSET LRANGE LTRIM LREM LINSERT LMOVE RPOPLPUSH SADD SREM SISMEMBER SMISMEMBER SCARD
-SMEMBERS SMOVE SINTER SUNION SDIFF SINTERSTORE SUNIONSTORE SDIFFSTORE""".split()
+SMEMBERS SMOVE SINTER SUNION SDIFF SINTERSTORE SUNIONSTORE SDIFFSTORE MULTI EXEC DISCARD""".split()
 
 # Requests of both groups of two.
 BOTH = [line.split() for line in b"MSET a 1 c 2;MSET d x b y;MGET a b c d;RENAME b d;SUNIONSTORE c a b;DEL a c;DBSIZE;FLUSHALL".split(b";")]
 
 
 def words_of(dice):
-    return [dice.choice(NAMES).encode()] + [dice.choice(WORDS) for _ in range(dice.randrange(6))]
+    name = dice.choice(NAMES)
+    # What opens, runs and drops a list takes no word; with one it spoils the list.
+    most = 1 if name in ("MULTI", "EXEC", "DISCARD") and dice.randrange(8) else 6
+    return [name.encode()] + [dice.choice(WORDS) for _ in range(dice.randrange(most))]
 
 
 def changed(dice, text, most=3):
