@@ -6,7 +6,8 @@ NAME/out/NAME, and the programs of unit tests, NAME/out/NAME_tests, as the gate 
 becomes. Each program is run with the Nth block of memory that it asks for refused, N from 1 until a run meets no refusal; then with
 that block and all behind it, or, of a server, those of a streak.
 
-- `solo`: each reply is the error line for want of memory, or what a store answers that is asked the other requests alone.
+- `solo`: each reply is the error line for want of memory, or what a store answers that is asked the other requests alone; so too each
+  place of EXEC's array.
   Where the store ends for want of memory, its replies are the beginning of such a list.
 - `server`, with one worker and with two: so too, over two connections, one of which may be refused or ended; and where a
   trace was written, a replay of it agrees, and has a row for each request that was answered by its shards.
@@ -24,7 +25,7 @@ from clients import NO_MEMORY, NO_THREAD, OUT_OF_MEMORY, Client, Ended, Server, 
 TOP = os.path.join(os.path.dirname(os.path.abspath(__file__)), "..")
 TABLE = os.path.join(TOP, "examples/two-shards.toml")
 
-# Strings and whole numbers, ranges, lists beside wrong types, hashes, sets.
+# Strings and whole numbers, ranges, lists beside wrong types, hashes, sets, lists of MULTI.
 SOLO = [
     "SET '' ''; GET ''; GET a; SET b long-long-long-long-long; GETSET b short; DEL '' b; GET b",
     "SET a 9223372036854775807; INCR a; GET a; DECRBY a -9223372036854775808; INCR b; INCRBY b +1; GET b",
@@ -32,6 +33,7 @@ SOLO = [
     "HSET a f 1 g 2 f 3; HGETALL a; HSET a f; FOO; SET b 1 NX XX; SET b 1 EX 10; HINCRBY a f 4; HDEL a g; HGETALL a; TYPE b",
     "SADD a m; SMOVE a a m; SMOVE y a m; SETRANGE b 3 x; GET b; SETRANGE b -1 x; SADD c m n o; SINTERSTORE d a c; SMEMBERS d; DBSIZE",
     "MSET a 1 c 2 a 3; MGET a c; RENAME a d; APPEND d 45; MSETNX d 1 e 2; KEYS; FLUSHALL; DBSIZE; MGET a c d e",
+    "MULTI; SET a 1; INCR a; RPUSH b 1 2; LRANGE b 0 -1; GET b; EXEC; GET a; MULTI; SET a 7; DISCARD; MULTI; EXEC; MULTI; GET; EXEC; GET a",
 ]
 
 # Over two shards by two connections: what lies on one, on the other and on both.
@@ -48,6 +50,7 @@ TESTS = [
     ("data_tests", "repeats::packets_of_an_open_request_count_once"),
     ("data_tests", "repeats::earlier_requests_of_a_connection_are_past"),
     ("solo_tests", "connections::replies_are_whole_where_memory_fails"),
+    ("solo_tests", "transactions::transactions_where_memory_fails"),
     ("layer_tests", "memory::one_in_turn_where_memory_fails"),
     ("layer_tests", "memory::two_in_turn_where_memory_fails"),
     ("system_tests", "memory::crossing_where_memory_fails"),
@@ -153,6 +156,28 @@ def each_refusal(programs, run, *ways):
     return far, refusals, faults
 
 
+def without_starved_members(asked, said):
+    """These requests and replies without the members of an EXEC for which there was no memory. An EXEC for which there was none drops its
+    list, as DISCARD does."""
+    left, members = [], []
+    for words, reply in zip(asked, said):
+        if reply == b"+QUEUED":
+            members.append(len(left))
+        elif words == [b"EXEC"]:
+            if reply == OUT_OF_MEMORY:
+                words, reply = [b"DISCARD"], b"+OK"
+            elif members and reply.startswith(b"*"):
+                each = replies(reply.partition(b"\r\n")[2] + b"\r\n")[0]
+                starved = {place for place, one in zip(members, each) if one == OUT_OF_MEMORY}
+                left = [pair for place, pair in enumerate(left) if place not in starved]
+                each = [one for one in each if one != OUT_OF_MEMORY]
+                reply = b"\r\n".join([b"*%d" % len(each), *each])
+        if words in ([b"EXEC"], [b"DISCARD"]):
+            members = []
+        left.append((words, reply))
+    return [words for words, _ in left], [reply for _, reply in left]
+
+
 def solo(programs, plain, text):
     asked = requests(text)
     given = b"".join(request(*words) for words in asked)
@@ -160,7 +185,7 @@ def solo(programs, plain, text):
     def run(which):
         ran = programs.run("solo", [], which, given)
         said, rest = replies(ran.stdout)
-        wrong = plain.faults(asked[:len(said)], said) + [f"a beginning of a reply: {rest}" for _ in range(bool(rest))]
+        wrong = plain.faults(*without_starved_members(asked, said)) + [f"a beginning of a reply: {rest}" for _ in range(bool(rest))]
         if ran.returncode not in (0, *STATUSES["solo"]) or (ran.returncode == 0 and len(said) != len(asked)):
             wrong.append(f"status {ran.returncode} behind {len(said)} replies")
         return wrong
