@@ -2,13 +2,13 @@
 use Rattle.std.proofs.Common.{◌≡◌, ◌∙◌, ℕ, zero, suc, ◌+◌, ◌<◌, ◌≤◌, not, ◌&&◌, nat_lt}
 use Rattle.std.proofs.Common.{Bool, true, false, cond, List, [], ◌∷◌}
 use Rattle.std.proofs.Common.{◌++◌, Option, Some, None}
-use Rattle.std.proofs.Common.{length, map, take, drop, slice_get, refl, sym, ap, subst, arith, append_assoc}
+use Rattle.std.proofs.Common.{length, map, drop, slice_get, refl, sym, ap, subst, arith, append_assoc}
 use Rattle.std.proofs.Common.{lt-ltb, le-ltb}
 use Rattle.std.proofs.lemmas.List.{append-nil, drop_all, length-map, map-append}
 use Rattle.std.proofs.lemmas.Option.{slice_get-map}
 use Rattle.std.specs.Prelude.{is_none, option_map}
 use Rattle.std.specs.List.{AllByRecursion, filter, remove, slice_set}
-use Rattle.picture.specs.Flights.{IsFlying, Continues, Sends, Lands, Flies, is_up, places_from, coming_in, kept_at}
+use Rattle.picture.specs.Flights.{IsFlying, Sends, Lands, Flies, is_up, places_from, coming_in, kept_at}
 use Rattle.picture.specs.Flights.{landed_at}
 use Rattle.picture.specs.Run.{Flight, AreFlying, IsPast, ReceivedBetween, flies_at, flies_still, flight_in, flight_of}
 use Rattle.picture.specs.declared.flights.Flights.{Flights}

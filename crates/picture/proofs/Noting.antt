@@ -1,11 +1,10 @@
 -- What is put down of a step is what the worlds before and behind it tell.
-use Rattle.std.proofs.Common.{◌≡◌, ◌∙◌, ℕ, zero, suc, ◌+◌, nat_lt, false, List, [], ◌∷◌, ◌++◌, Option, Some, None, length, map, drop}
+use Rattle.std.proofs.Common.{◌≡◌, ◌∙◌, ℕ, ◌+◌, nat_lt, false, List, [], ◌∷◌, ◌++◌, Option, Some, None, length, map, drop}
 use Rattle.std.proofs.Common.{refl, sym, ap, subst, arith, slice_get, inl, inr}
 use Rattle.std.proofs.lemmas.List.{append-nil}
 use Rattle.std.proofs.lemmas.List.Elements.{filter_agree}
 use Rattle.std.proofs.lemmas.Option.{same_Some, slice_get-map}
 use Rattle.std.specs.Prelude.{is_some, option_map}
-use Rattle.std.specs.List.{filter}
 use Rattle.groups.specs.declared.request.RequestId.{RequestId}
 use Rattle.journal.specs.declared.step.Step.{Step}
 use Rattle.journal.specs.declared.step.Step.TheVariants as step
@@ -14,13 +13,13 @@ use Rattle.layer_planner.specs.declared.job.Job.{Job}
 use Rattle.tasks.specs.Tasks.{task_reading}
 use Rattle.picture.proofs.Lasts.{jobs-more, jobs-run}
 use Rattle.picture.proofs.Runs.{told_more, made_more, last_more, submitted_layer, collected_layer}
-use Rattle.picture.specs.Arrivals.{Receipt, delivered_by, delivered_from, delivery_in, delivery_of, receipt_in, received_by, received_from}
+use Rattle.picture.specs.Arrivals.{delivered_by, delivered_from, delivery_in, delivery_of, receipt_in, received_by, received_from}
 use Rattle.picture.specs.Flights.{arrival_in, coming_in}
-use Rattle.picture.specs.Layers.{JobTold, LayerTold, is_answered, job_of, last_jobs, layer_in, layers_by, replied_by, replied_to, reply_at}
-use Rattle.picture.specs.Layers.{reply_in, run_at, settled_at, taken_at, with_last, with_run, with_taken}
+use Rattle.picture.specs.Layers.{is_answered, job_of, last_jobs, layer_in, layers_by, replied_by, replied_to, reply_at}
+use Rattle.picture.specs.Layers.{reply_in, run_at, taken_at, with_last, with_run, with_taken}
 use Rattle.picture.specs.Notes.{IsBefore, IsOther, Notes, arriving_in, ids_of, job_noted, receipt_noted, replies_noted}
 use Rattle.picture.specs.Ran.{HasTold, IsLast}
-use Rattle.picture.specs.Run.{Flight, Moment, flight_in, flight_of, last_of, made_by, told_by}
+use Rattle.picture.specs.Run.{Moment, flight_in, flight_of, last_of, made_by, told_by}
 use Rattle.picture.specs.declared.layers.Layers.{Layers}
 use Rattle.picture.specs.declared.recorder.Before.{Before}
 use Rattle.picture.specs.declared.recorder.Before.TheVariants as before
@@ -36,7 +35,7 @@ use Rattle.skeen_core.specs.declared.packet.Delivered.{Delivered}
 use Rattle.skeen_core.specs.declared.packet.Packet.{Packet}
 use Rattle.system.specs.Halves.{Shows, ShowsStage, effect_shown}
 use Rattle.system.specs.Halves as halves
-use Rattle.system.specs.Reads.{clock_of, connection_of, layer_of, packets_of, queues_of, waiting_for}
+use Rattle.system.specs.Reads.{clock_of, connection_of, layer_of, queues_of, waiting_for}
 use Rattle.system.specs.System.{SystemView}
 use Rattle.system.specs.declared.effect.Effect.{Effect}
 use Rattle.system.specs.declared.effect.Effect.TheVariants as effect

@@ -1,6 +1,6 @@
 -- Facts that are put down one after another.
 use Rattle.std.proofs.Common.{◌≡◌, ◌∙◌, ℕ, suc, ◌+◌, ◌<◌, ◌≤◌, Bool, List, [], ◌∷◌, ◌++◌, Some, append_assoc}
-use Rattle.std.proofs.Common.{length, map, take, drop, get_or, slice_get, sym, ap, subst, arith, refl}
+use Rattle.std.proofs.Common.{length, map, take, drop, get_or, slice_get, sym, ap, arith, refl}
 use Rattle.std.proofs.lemmas.List.{append-nil, drop_all, map-append, map_push, take_more}
 use Rattle.std.proofs.lemmas.List.Elements.{filter-append}
 use Rattle.std.specs.List.{filter}

@@ -1,5 +1,5 @@
 -- A run and what is put down of it, one step after another.
-use Rattle.std.proofs.Common.{◌≡◌, ◌∙◌, ℕ, suc, ◌+◌, ◌≤◌, List, [], ◌∷◌, ◌++◌, length, map, drop, refl, sym, ap, subst, arith}
+use Rattle.std.proofs.Common.{◌≡◌, ◌∙◌, ℕ, suc, ◌+◌, List, [], ◌∷◌, ◌++◌, length, map, drop, refl, sym, ap, subst, arith}
 use Rattle.std.proofs.Common.{Option, length-append}
 use Rattle.std.specs.Prelude.{option_map}
 use Rattle.std.proofs.lemmas.List.{map-append}
@@ -10,7 +10,7 @@ use Rattle.picture.specs.Flights.{IsFlying, Flies, arrival_in, coming_in, kept_a
 use Rattle.picture.specs.Layers.{layer_in, reply_in}
 use Rattle.picture.specs.Notes.{HasNone, IsBefore, Notes}
 use Rattle.picture.specs.Ran.{Ran}
-use Rattle.picture.specs.Run.{AreFlying, Flight, InEach, IsPast, Moment, Walks, flies_at, flight_in, flight_of, last_of}
+use Rattle.picture.specs.Run.{AreFlying, Flight, InEach, IsPast, Walks, flies_at, flight_in, flight_of, last_of}
 use Rattle.picture.specs.Told.{IsFactsOf}
 use Rattle.picture.specs.Words.{word_of}
 use Rattle.picture_shapes.specs.declared.facts.RunFacts.{RunFacts}
@@ -24,14 +24,12 @@ use Rattle.picture.proofs.Runs.{walks_more, last_more, steps_more, length_steps,
 use Rattle.replay.proofs.Making.{AreNamed, made_itself}
 use Rattle.placement.specs.Layout.{Layout}
 use Rattle.replay.specs.Replay.{StandsAt}
-use Rattle.skeen_core.specs.declared.packet.Packet.{Packet}
 use Rattle.front.proofs.Histories.{leads_more}
 use Rattle.system.specs.Halves.{Shows, effect_shown}
 use Rattle.system.specs.Reads.{packets_of, table_of}
 use Rattle.system.specs.System.{SystemView, IsNew, IsStep}
 use Rattle.system.specs.declared.effect.Effect.{Effect}
 use Rattle.world.specs.Steps.{opening, Leads, Steps}
-use Rattle.world.specs.World.{World}
 
 -- it stands where the refusals are told
 pub stands : {t : Layout} {most : ℕ} {made : List Step} {s : SystemView} {f : Flights} {r : Recorder} → Ran t most made s f r →

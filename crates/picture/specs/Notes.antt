@@ -1,12 +1,12 @@
 -- What is put down of a step, by what the system shows before and behind it.
-use Rattle.std.specs.Prelude.{◌≡◌, ℕ, nat_lt, Bool, false, List, [], ◌∷◌, ◌++◌, length, map, drop, Option, Some, None}
+use Rattle.std.specs.Prelude.{◌≡◌, ℕ, nat_lt, false, List, [], ◌∷◌, ◌++◌, length, map, drop, Option, Some}
 use Rattle.std.specs.Prelude.{is_some, option_map}
 use Rattle.std.specs.List.{filter}
 use Rattle.groups.specs.declared.request.RequestId.{RequestId}
 use Rattle.journal.specs.declared.step.Step.{Step}
 use Rattle.journal.specs.declared.step.Step.TheVariants as step
 use Rattle.layer_planner.specs.declared.job.Job.{Job}
-use Rattle.picture.specs.Arrivals.{Receipt, Delivery, receipt_in, delivery_in, delivery_of}
+use Rattle.picture.specs.Arrivals.{Receipt, receipt_in, delivery_in, delivery_of}
 use Rattle.picture.specs.Layers.{JobTold, ReplyTold, layer_in, taken_at, run_at, settled_at, with_last, last_jobs, reply_in, reply_at}
 use Rattle.picture.specs.Run.{flight_in}
 use Rattle.picture.specs.declared.arrivals.Arrivals.{Arrivals}

@@ -1,6 +1,6 @@
 -- The facts of a run, and the worlds that its steps lead through.
 use Rattle.std.specs.Prelude.{◌≡◌, ℕ, suc, ◌<◌, nat_lt, not, ◌&&◌, Bool, true, List, [], ◌∷◌, ◌++◌, map, Option, Some, None}
-use Rattle.std.specs.List.{AllByRecursion, filter}
+use Rattle.std.specs.List.{filter}
 use Rattle.groups.specs.declared.request.RequestId.{RequestId}
 use Rattle.journal.specs.declared.step.Step.{Step}
 use Rattle.picture_shapes.specs.declared.facts.PacketFacts.{PacketFacts}

@@ -1,5 +1,5 @@
 -- The layers of a picture: of each that is there within the window a strip, and a band in each lane that it touches.
-use Rattle.std.specs.Prelude.{ℕ, ◌+◌, ◌||◌, nat_le, cond, List, [], ◌∷◌, codes, decimal, length, map}
+use Rattle.std.specs.Prelude.{ℕ, ◌||◌, nat_le, cond, List, [], ◌∷◌, codes, decimal, length, map}
 use Rattle.std.specs.List.{concat, flat_map}
 use Rattle.picture_shapes.specs.Frames.{is_past, strip_of, top_of, x_of, x_or_end}
 use Rattle.picture_shapes.specs.Shapes.{ShapeView, bar_form, plain}

@@ -1,6 +1,6 @@
 -- Where things stand in a picture: a window of steps from left to right, connections on top, and groups below.
 use Rattle.std.specs.Prelude.{◌≡◌, ℕ, ◌^◌, min, ◌+◌, ◌-◌, ◌*◌, ◌/◌, ◌==◌, ◌&&◌}
-use Rattle.std.specs.Prelude.{nat_le, nat_lt, cond, Bool, true, false, Option, Some, None, slice_get}
+use Rattle.std.specs.Prelude.{nat_le, nat_lt, cond, Bool, false, Option, Some, None, slice_get}
 use Rattle.picture_shapes.specs.declared.frame.Frame.{Frame}
 
 -- ---- which steps

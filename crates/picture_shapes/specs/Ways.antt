@@ -1,8 +1,7 @@
 -- The way of a packet: from where it is sent to its group, or to the right edge.
-use Rattle.std.specs.Prelude.{ℕ, ◌+◌, ◌-◌, ◌&&◌, ◌||◌, not, nat_lt, cond, Bool, true}
-use Rattle.std.specs.Prelude.{false, List, [], ◌∷◌, codes, decimal, Option, Some, None, is_none}
+use Rattle.std.specs.Prelude.{ℕ, ◌+◌, ◌-◌, ◌||◌, nat_lt, cond, Bool, true}
+use Rattle.std.specs.Prelude.{List, [], ◌∷◌, codes, decimal, Option, Some, None, is_none}
 use Rattle.std.specs.List.{concat}
-use Rattle.groups.specs.declared.stamp.Stamp.{Stamp}
 use Rattle.picture_shapes.specs.Frames.{line_of, shows_some, x_of, x_or_end}
 use Rattle.picture_shapes.specs.Labels.{id_label, stamp_label}
 use Rattle.picture_shapes.specs.declared.facts.PacketFacts.{PacketFacts}

@@ -1,5 +1,5 @@
 -- The text of a picture: SVG, a line a shape.
-use Rattle.std.specs.Prelude.{ℕ, List, [], ◌∷◌, ◌++◌, ◌==◌, ◌&&◌, nat_le, cond, Bool, codes, decimal, Option, Some, None}
+use Rattle.std.specs.Prelude.{ℕ, List, [], ◌∷◌, ◌++◌, ◌==◌, ◌&&◌, nat_le, cond, codes, decimal, Option, Some, None}
 use Rattle.std.specs.List.{concat, flat_map}
 use Rattle.picture_shapes.specs.Shapes.{ShapeView}
 use Rattle.picture_shapes.specs.declared.drawn.Picture.{Picture}

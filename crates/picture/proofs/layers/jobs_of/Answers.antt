@@ -1,4 +1,4 @@
-use Rattle.std.proofs.Common.{◌≡◌, ◌∙◌, ap, map, false}
+use Rattle.std.proofs.Common.{◌∙◌, ap, map, false}
 use Rattle.picture.proofs.Putting.{map_more}
 use Rattle.picture.specs.Layers.{job_in}
 use Rattle.picture.specs.Notes.{job_noted}

@@ -1,4 +1,4 @@
-use Rattle.std.proofs.Common.{◌≡◌, ◌∙◌, ap, map}
+use Rattle.std.proofs.Common.{◌∙◌, ap, map}
 use Rattle.picture.proofs.Putting.{map-map, map_more}
 use Rattle.picture.specs.Layers.{job_in, marked}
 use Rattle.picture_shapes.specs.declared.facts.JobFacts.{JobFacts}

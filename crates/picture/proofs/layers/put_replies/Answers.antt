@@ -1,4 +1,4 @@
-use Rattle.std.proofs.Common.{◌≡◌, ◌∙◌, ◌++◌, ◌+◌, ◌∷◌, [], ap, sym, map, take, append_assoc}
+use Rattle.std.proofs.Common.{◌∙◌, ◌++◌, ◌∷◌, [], ap, sym, map, take, append_assoc}
 use Rattle.std.specs.Prelude.{is_some}
 use Rattle.groups.specs.declared.request.RequestId.{RequestId}
 use Rattle.picture.proofs.Putting.{filter_more}

@@ -1,4 +1,4 @@
-use Rattle.std.proofs.Common.{◌≡◌, ◌∙◌, ap, sym, refl, None, Some}
+use Rattle.std.proofs.Common.{◌∙◌, ap, sym, refl}
 use Rattle.picture.proofs.Lasts.{put_none, put_one}
 use Rattle.std.specs.Prelude.{option_copied}
 use Rattle.picture.proofs.layers.put_reply.Goals as goal

@@ -1,4 +1,4 @@
-use Rattle.std.proofs.Common.{◌≡◌, ◌∙◌, ◌++◌, None, ap, refl, subst, length, [], ◌∷◌}
+use Rattle.std.proofs.Common.{◌≡◌, ◌∙◌, ◌++◌, None, ap, refl, subst, [], ◌∷◌}
 use Rattle.picture.specs.Flights.{Sends}
 use Rattle.picture.specs.Run.{Flight, flight_in, flight_of}
 use Rattle.picture.specs.declared.flights.Flights.{Flights}

@@ -1,4 +1,4 @@
-use Rattle.std.proofs.Common.{◌≤◌, length, sym, subst}
+use Rattle.std.proofs.Common.{◌≤◌, sym, subst}
 use Rattle.system.specs.Reads.{packets_of}
 use Rattle.picture.proofs.Landing.{sends_more, sends_end}
 use Rattle.picture.proofs.flights.Flights.send.Goals as goal
