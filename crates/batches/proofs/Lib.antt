@@ -1,3 +1,5 @@
+pub mod AtOnce
+pub mod Named
 pub mod NoWant
 pub mod NoWantOfCommands
 pub mod NoWantOfHashes
@@ -6,4 +8,5 @@ pub mod NoWantOfLists
 pub mod NoWantOfSets
 pub mod NoWantOfStrings
 pub mod Runs
+pub mod Texts
 pub mod Told

@@ -8,19 +8,19 @@ use Rattle.batches.specs.Batch.{RunsFrom}
 use Rattle.batches.specs.Member.{Fares}
 use Rattle.batches.specs.Starved.{has}
 
-pub runs-push : (skip : List ℕ) (n k : ℕ) (old mid new : Map) (done : List Member) (replies : List Content) (member : Member)
-    (reply : Content) → k ≡ n + length replies → RunsFrom skip n old done replies mid → Fares (has skip k) member mid new reply
-    → RunsFrom skip n old (done ++ member ∷ []) (replies ++ reply ∷ []) new
-runs-push skip n k old mid new [] [] member reply at run fares = (
+pub runs-push : (takes : Member → Map → Type 0) (skip : List ℕ) (n k : ℕ) (old mid new : Map) (done : List Member) (replies : List Content) (member : Member)
+    (reply : Content) → k ≡ n + length replies → RunsFrom takes skip n old done replies mid → Fares takes (has skip k) member mid new reply
+    → RunsFrom takes skip n old (done ++ member ∷ []) (replies ++ reply ∷ []) new
+runs-push takes skip n k old mid new [] [] member reply at run fares = (
   new,
-  subst (λ m. Fares (has skip n) member m new reply) run
-      (subst (λ i. Fares (has skip i) member mid new reply) (let here : k ≡ n = omega (arith, at) in here) fares),
+  subst (λ m. Fares takes (has skip n) member m new reply) run
+      (subst (λ i. Fares takes (has skip i) member mid new reply) (let here : k ≡ n = omega (arith, at) in here) fares),
   refl,
 )
-runs-push skip n k old mid new [] (r ∷ replies) member reply at run fares = absurd run
-runs-push skip n k old mid new (d ∷ done) [] member reply at run fares = absurd run
-runs-push skip n k old mid new (d ∷ done) (r ∷ replies) member reply at run fares =
-    (run.0, run.1, runs-push skip (suc n) k run.0 mid new done replies member reply (omega (arith, at)) run.2 fares)
+runs-push takes skip n k old mid new [] (r ∷ replies) member reply at run fares = absurd run
+runs-push takes skip n k old mid new (d ∷ done) [] member reply at run fares = absurd run
+runs-push takes skip n k old mid new (d ∷ done) (r ∷ replies) member reply at run fares =
+    (run.0, run.1, runs-push takes skip (suc n) k run.0 mid new done replies member reply (omega (arith, at)) run.2 fares)
 
 -- what holds of all elements of two lists holds of those of each
 pub all-left : {A : Type 0} (P : A → Type 0) (xs ys : List A) → All P (xs ++ ys) → All P xs

@@ -34,16 +34,20 @@ DoesBatch batch old new result = MatchResult result
 
 -- each of these members that is to be skipped starved, and each one that starved is to be skipped or takes memory on the
 -- map that it met
-abbrev pub StarvesFrom : (skip starved : List ℕ) → ℕ → List Member → Map → Type 0
-StarvesFrom skip starved n [] m = ⊤
-StarvesFrom skip starved n (member ∷ members) m =
+abbrev pub StarvesFrom : (takes : Member → Map → Type 0) → (skip starved : List ℕ) → ℕ → List Member → Map → Type 0
+StarvesFrom takes skip starved n [] m = ⊤
+StarvesFrom takes skip starved n (member ∷ members) m =
     (IsTrue (has skip n) → IsTrue (has starved n))
-    × (IsTrue (has starved n) → IsTrue (has skip n) ⊎ MemberTakesMemory member m)
-    × StarvesFrom skip starved (suc n) members (member_effect (has starved n) member m).0
+    × (IsTrue (has starved n) → IsTrue (has skip n) ⊎ takes member m)
+    × StarvesFrom takes skip starved (suc n) members (member_effect (has starved n) member m).0
+
+-- so of the members of a batch; `takes` says where a member takes memory
+abbrev pub StarvesRightlyBy : (takes : Member → Map → Type 0) → (skip : List ℕ) → Batch → Map → Content → Type 0
+StarvesRightlyBy takes skip (Plain command) m reply = ⊤
+StarvesRightlyBy takes skip (Exec members) m reply = StarvesFrom takes skip (starved_in (Exec members) reply) 1 members m
 
 abbrev pub StarvesRightly : (skip : List ℕ) → Batch → Map → Content → Type 0
-StarvesRightly skip (Plain command) m reply = ⊤
-StarvesRightly skip (Exec members) m reply = StarvesFrom skip (starved_in (Exec members) reply) 1 members m
+StarvesRightly = StarvesRightlyBy MemberTakesMemory
 
 -- where there may be no memory for a batch as a whole: a command outside a list takes memory, and an EXEC room for the
 -- array of its replies
@@ -52,9 +56,9 @@ BatchTakesMemory (Plain command) m = TakesMemory command m
 BatchTakesMemory (Exec members) m = ⊤
 
 -- the members were run one after another, and fared so; the first one has the number n
-abbrev pub RunsFrom : (skip : List ℕ) → ℕ → Map → List Member → List Content → Map → Type 0
-RunsFrom skip n old [] [] new = new ≡ old
-RunsFrom skip n old (member ∷ members) (reply ∷ replies) new =
-    (mid : Map) × Fares (has skip n) member old mid reply × RunsFrom skip (suc n) mid members replies new
-RunsFrom skip n old [] (reply ∷ replies) new = ⊥
-RunsFrom skip n old (member ∷ members) [] new = ⊥
+abbrev pub RunsFrom : (takes : Member → Map → Type 0) → (skip : List ℕ) → ℕ → Map → List Member → List Content → Map → Type 0
+RunsFrom takes skip n old [] [] new = new ≡ old
+RunsFrom takes skip n old (member ∷ members) (reply ∷ replies) new =
+    (mid : Map) × Fares takes (has skip n) member old mid reply × RunsFrom takes skip (suc n) mid members replies new
+RunsFrom takes skip n old [] (reply ∷ replies) new = ⊥
+RunsFrom takes skip n old (member ∷ members) [] new = ⊥

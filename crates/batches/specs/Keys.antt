@@ -1,5 +1,5 @@
 -- The keys of a batch.
-use Rattle.std.specs.Prelude.{Bool, false, List, []}
+use Rattle.std.specs.Prelude.{Bool, true, false, ◌||◌, List, [], ◌∷◌}
 use Rattle.std.specs.List.{flat_map, list_any}
 use Rattle.command_table.specs.Command.{keys_of, is_whole}
 use Rattle.command_table.specs.Words.{Word}
@@ -25,3 +25,11 @@ batch_keys (Exec members) = flat_map member_keys members
 abbrev pub batch_whole : Batch → Bool
 batch_whole (Plain command) = is_whole command
 batch_whole (Exec members) = list_any member_whole members
+
+-- one of its members looks at a key
+abbrev pub names_some : List Word → Bool
+names_some [] = false
+names_some (key ∷ keys) = true
+
+abbrev pub looks_at_keys : Batch → Bool
+looks_at_keys batch = batch_whole batch || names_some (batch_keys batch)

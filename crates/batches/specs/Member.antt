@@ -24,8 +24,8 @@ abbrev pub MemberTakesMemory : Member → Map → Type 0
 MemberTakesMemory (Runs command) = TakesMemory command
 MemberTakesMemory (Refused misread) = λ m. ⊥
 
--- what comes of a member: it was run; or it was to be skipped, or found no memory, and starved
-abbrev pub Fares : (skipped : Bool) → Member → Map → Map → Content → Type 0
-Fares skipped member old new reply =
+-- what comes of a member: it was run; or it was to be skipped, or found no memory where it `takes` some, and starved
+abbrev pub Fares : (takes : Member → Map → Type 0) → (skipped : Bool) → Member → Map → Map → Content → Type 0
+Fares takes skipped member old new reply =
     ((skipped ≡ false) × ((new, reply) ≡ member_effect false member old))
-    ⊎ (((new, reply) ≡ member_effect true member old) × (IsTrue skipped ⊎ MemberTakesMemory member old))
+    ⊎ (((new, reply) ≡ member_effect true member old) × (IsTrue skipped ⊎ takes member old))

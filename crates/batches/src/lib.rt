@@ -5,8 +5,12 @@
 //! none of the others from being run, and one for which there is no memory changes nothing and says so.
 #![tactic(auto)]
 
+mod answered_members;
+mod answering;
+mod at_once;
 mod keys;
 mod members;
+mod wants;
 
 ghost use Rattle.std.specs.Prelude.{◌≡◌, All, IsTrue, IfOk, OnErr};
 ghost use Rattle.resp.specs.Content.{content};
@@ -14,6 +18,8 @@ ghost use Rattle.batches.specs.Batch.{BatchTakesMemory, DoesBatch, StarvesRightl
 ghost use Rattle.batches.specs.Keys.{batch_keys};
 
 use crate::members::run_members;
+pub use answering::answer_batch;
+pub use at_once::answer_at_once;
 use command_bodies::execute;
 use command_cases::Starved;
 pub use keys::is_whole_batch;
@@ -21,6 +27,7 @@ use keyspace::Keyspace;
 use resp::Reply;
 use sessions::Batch;
 use std::alloc::Global;
+pub use wants::is_want_reply;
 
 /// Runs a batch: a command outside a list, or the members of an EXEC in turn. The keyspace has to cover each of its keys.
 ///

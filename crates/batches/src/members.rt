@@ -5,7 +5,7 @@ ghost use Rattle.std.specs.List.{flat_map};
 ghost use Rattle.resp.specs.Content.{content};
 ghost use Rattle.batches.specs.Batch.{RunsFrom};
 ghost use Rattle.batches.specs.Keys.{member_keys};
-ghost use Rattle.batches.specs.Member.{Fares};
+ghost use Rattle.batches.specs.Member.{Fares, MemberTakesMemory};
 
 use command_bodies::execute;
 use keyspace::Keyspace;
@@ -24,7 +24,8 @@ pub(crate) fn run_members<K: Keyspace>(
     requires covered { All (λ key. IsTrue (K.covered keyspace.old key)) (flat_map member_keys members) }
     requires empty { room.items ≡ [] }
     requires room { length members ≤ vec_capacity room }
-    ensures run { RunsFrom skip.now 1 (K.contents keyspace.old) members (map content result.items) (K.contents keyspace.new) }
+    ensures run { RunsFrom MemberTakesMemory skip.now 1 (K.contents keyspace.old) members (map content result.items)
+        (K.contents keyspace.new) }
     ensures covers { K.covered keyspace.new ≡ K.covered keyspace.old }
 {
     let mut replies = room;
@@ -39,7 +40,7 @@ pub(crate) fn run_members<K: Keyspace>(
 /// Runs a member unless it is to be skipped, and gives its reply, which says where there was no memory for it.
 fn run_member<K: Keyspace>(alloc: Global, keyspace: &mut K, member: Member, skipped: bool) -> Reply
     requires covered { All (λ key. IsTrue (K.covered keyspace.old key)) (member_keys member) }
-    ensures fares { Fares skipped member (K.contents keyspace.old) (K.contents keyspace.new) (content result) }
+    ensures fares { Fares MemberTakesMemory skipped member (K.contents keyspace.old) (K.contents keyspace.new) (content result) }
     ensures covers { K.covered keyspace.new ≡ K.covered keyspace.old }
 {
     if skipped {

@@ -29,6 +29,11 @@ pub starved-does : {E : Type 0} (case : Case) (old new : Map) (result : Result A
 starved-does case old new (Ok answered) none same = absurd (let f = none in cc)
 starved-does case old new (Err fault) none same = same
 
+pub unanswered-does : {E : Type 0} (case : Case) (old new : Map) (result : Result Reply E) → IsErr result → new ≡ old
+    → Does case old new result
+unanswered-does case old new (Ok reply) none same = absurd (let f = none in cc)
+unanswered-does case old new (Err fault) none same = same
+
 -- what is answered by a plan for no text is short
 pub answer-short : (case : Case) (old new : Map) (reply : Reply) → IsShort (case old).1 → (new, content reply) ≡ case old
     → IsShort (content reply)
@@ -37,6 +42,11 @@ answer-short case old new reply short done = subst IsShort (sym (ap (λ r. r.1) 
 -- a text of the planned size is long where that size is
 pub planned-long : (case : Case) (m : Map) (size : ℕ) → length (text (case m).1) ≡ size → LONG < size → IsLong (case m).1
 planned-long case m size has long = omega (arith, has, long)
+
+-- what is answered by a plan for a text of this size has it
+pub planned-size : (case : Case) (old new : Map) (size : ℕ) (reply : Reply) → length (text (case old).1) ≡ size
+    → (new, content reply) ≡ case old → length (reply_text reply) ≡ size
+planned-size case old new size reply has done = ap (λ r. length (text r.1)) done ∙ has
 
 -- a block of the planned size has room for the text
 pub text-fits : (case : Case) (old new : Map) (size room : ℕ) (reply : Reply) → length (text (case old).1) ≡ size

@@ -54,12 +54,12 @@ pub fn answer<K: Keyspace>(
 }
 
 /// Lets a command go that can't be run for want of memory.
-fn let_go(_command: Command) -> Starved {
+pub(crate) fn let_go(_command: Command) -> Starved {
     Starved
 }
 
 /// When the memory for the text of this command's reply is taken.
-fn text_plan<K: Keyspace>(keyspace: &K, command: &Command) -> TextPlan
+pub(crate) fn text_plan<K: Keyspace>(keyspace: &K, command: &Command) -> TextPlan
     requires { All (λ key. IsTrue (K.covered keyspace.now key)) (keys_of command.now) }
     ensures { IsPlanFor (case_of command.now) (K.contents keyspace.now) result }
 {

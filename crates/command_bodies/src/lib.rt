@@ -6,6 +6,7 @@
 #![tactic(auto)]
 
 mod answering;
+mod appending;
 mod local_commands;
 
 ghost use Rattle.std.specs.Prelude.{◌≡◌, All, IsTrue, OnErr};
@@ -14,6 +15,7 @@ ghost use Rattle.command_cases.specs.Case.{Does};
 ghost use Rattle.command_table.specs.Command.{keys_of};
 
 pub use answering::answer;
+pub use appending::{answer_into, append_short};
 use command_cases::Starved;
 use command_table::Command;
 use hash_commands::run_hash_command;

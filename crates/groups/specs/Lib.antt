@@ -5,4 +5,5 @@ pub mod BitLaws
 pub mod Order
 pub mod Stamp
 pub mod Request
+pub mod Skips
 pub mod Units

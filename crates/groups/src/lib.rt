@@ -9,10 +9,12 @@ mod group_id;
 mod group_set;
 mod iter;
 mod request;
+mod skip_id;
 mod stamp;
 
 pub use group_id::GroupId;
 pub use group_set::Groups;
 pub use iter::Iter;
 pub use request::{ConnId, RequestId};
+pub use skip_id::SkipId;
 pub use stamp::Stamp;

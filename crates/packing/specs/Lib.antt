@@ -1,3 +1,4 @@
 pub mod Codes
 pub mod CodeLaws
 pub mod Packed
+pub mod Lists

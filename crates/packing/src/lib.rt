@@ -7,11 +7,13 @@
 mod growth;
 mod number;
 mod packed;
+mod packed_list;
 mod packed_request;
 mod words;
 
 pub use growth::grow;
 pub use number::{number_size, put_bytes, put_number, take_number};
 pub use packed::PackedWords;
+pub use packed_list::PackedList;
 pub use packed_request::PackedRequest;
 pub use words::{put_words, take_word, take_words, words_size};

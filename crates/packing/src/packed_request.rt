@@ -1,8 +1,11 @@
 //! A copy of a request in one buffer.
 
-ghost use Rattle.std.specs.Prelude.{◌≡◌, IfOk};
+ghost use Rattle.std.specs.Prelude.{◌≡◌, ◌∷◌, IfOk, OnOk, map};
 ghost use Rattle.packing.specs.Codes.{words_code, WordsFit};
+ghost use Rattle.std.specs.List.{AllByRecursion};
 
+use crate::number::{number_size, put_bytes, put_number};
+use crate::packed_list::PackedList;
 use crate::words::{put_words, words_size};
 use resp::Request;
 use std::alloc::{AllocError, Global};
@@ -36,6 +39,29 @@ impl PackedRequest {
         };
         let mut bytes = Vec::with_capacity(alloc, size)?;
         put_words(words, &mut bytes);
+        Ok(PackedRequest { bytes })
+    }
+
+    /// A word of this name, and behind it for each request of the list one word, in which its words lie: their code. The only
+    /// error is want of memory. A caller learns that the words of each request can lie in memory.
+    pub fn of_list(alloc: Global, name: &[u8], list: &PackedList) -> Result<Self, AllocError>
+        ensures made { IfOk result (λ made. made ≡ name.now ∷ map words_code list.now) }
+        ensures fit { OnOk result (AllByRecursion WordsFit list.now) }
+    {
+        let count = list.len() as u64 + 1;
+        let behind = list.as_bytes();
+        let head = number_size(count) + number_size(name.len() as u64);
+        let Some(size) = name.len().checked_add(head) else {
+            return Err(AllocError);
+        };
+        let Some(size) = size.checked_add(behind.len()) else {
+            return Err(AllocError);
+        };
+        let mut bytes = Vec::with_capacity(alloc, size)?;
+        put_number(count, &mut bytes);
+        put_number(name.len() as u64, &mut bytes);
+        put_bytes(name, &mut bytes);
+        put_bytes(behind, &mut bytes);
         Ok(PackedRequest { bytes })
     }
 

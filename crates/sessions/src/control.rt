@@ -2,7 +2,7 @@
 
 ghost use Rattle.std.specs.Prelude.{◌≡◌, Some, None, if◌then◌else◌};
 ghost use Rattle.command_table.specs.Words.{is_word};
-ghost use Rattle.sessions.specs.Control.{control_name, control_of};
+ghost use Rattle.sessions.specs.Control.{control_name, control_of, is_control};
 
 /// What a client says of its list.
 #[derive(Clone, Copy)]
@@ -48,6 +48,13 @@ pub(crate) fn control_of(name: &[u8]) -> Option<Control>
         7 => if_named(name, Control::Discard),
         _ => None,
     }
+}
+
+/// Whether the word is the name of one of the three, in any case.
+pub fn is_control(name: &[u8]) -> bool
+    ensures { result ≡ is_control name.now }
+{
+    control_of(name).is_some()
 }
 
 /// This one, where the word is its name.

@@ -13,5 +13,6 @@ mod replies;
 mod session;
 
 pub use batch::{Ask, Batch};
-pub use member::{Member, Members, Misread};
+pub use control::is_control;
+pub use member::{Member, Members, Misread, member_of};
 pub use session::Session;

@@ -41,7 +41,7 @@ pub enum Member {
 }
 
 /// What is read of a request as a member, or why it can't be one.
-pub(crate) fn member_of(read: Result<Command, Refusal>) -> Result<Member, Refusal>
+pub fn member_of(read: Result<Command, Refusal>) -> Result<Member, Refusal>
     requires keyed { IfOk read IsKeyed }
     ensures member { result ≡ member_of read }
     ensures keyed { IfOk result IsKeyedMember }
@@ -97,12 +97,7 @@ impl Queue {
     pub(crate) fn into_members(self) -> Option<Members>
         ensures { MatchOption result (self ≡ []) (λ members. members ≡ self) }
     {
-        let members = self.members;
-        if members.is_empty() {
-            None
-        } else {
-            Some(Members { members })
-        }
+        Members::new(self.members)
     }
 
     /// The queue that these members were.
@@ -134,6 +129,18 @@ impl Model for Members {
 }
 
 impl Members {
+    /// These members, one at least; `None` where there is none. It takes no memory.
+    pub fn new(members: Vec<Member>) -> Option<Self>
+        requires { AreKeyed members.items }
+        ensures { MatchOption result (members.items ≡ []) (λ made. made ≡ members.items) }
+    {
+        if members.is_empty() {
+            None
+        } else {
+            Some(Members { members })
+        }
+    }
+
     /// How many there are, one at least.
     #[allow(clippy::len_without_is_empty)]
     pub fn len(&self) -> usize

@@ -2,16 +2,15 @@
 //!
 //! Requests are read from standard input and their replies written to standard output, in RESP2. Words on the command
 //! line are ignored. The statuses: 0 at the end of the input; 1 after the error line of a fault in it, or where it ends
-//! inside a request; 2 where a read or a write failed; 3 where memory was wanting. What cannot be told by an error line
-//! is told on standard error.
+//! inside a request; 2 where a read or a write failed; 3 where memory was wanting, for a request to be read or queued or for a
+//! reply. What cannot be told by an error line is told on standard error.
 #![tactic(auto)]
 
 ghost use Rattle.std.specs.Prelude.{◌≡◌};
 ghost use Rattle.shardkv_solo.specs.Status as spec;
 
 use serving::{ServeFault, Served};
-use solo::Solo;
-use std::convert::Infallible;
+use solo::{ConnectionFault, Solo};
 use std::hash::{BuildHasherDefault, FoldHasher};
 use std::mem;
 use std::process::ExitCode;
@@ -30,7 +29,7 @@ fn main(rt: HostRuntime) -> ExitCode {
 }
 
 /// The status for how serving ended.
-fn status_of(served: Result<Served, ServeFault<Infallible>>) -> u8
+fn status_of(served: Result<Served, ServeFault<ConnectionFault>>) -> u8
     ensures { result ≡ spec.status_of served }
 {
     match served {
@@ -40,5 +39,6 @@ fn status_of(served: Result<Served, ServeFault<Infallible>>) -> u8
         Err(ServeFault::Read) => 2,
         Err(ServeFault::Write) => 2,
         Err(ServeFault::Memory) => 3,
+        Err(ServeFault::Door(ConnectionFault::NoMemory)) => 3,
     }
 }

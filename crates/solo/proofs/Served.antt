@@ -1,7 +1,6 @@
 -- A connection that was served: all that was answered is one fold.
 use Rattle.std.proofs.Common.{◌≡◌, ℕ, ◌<◌, ◌^◌, lit<, cond, Option, Result, List, [], ◌∷◌, Ok, Err, ap, sym, ◌∙◌, subst, refl, inl, inr}
 use Rattle.std.specs.Coded.{le_prop}
-use Rattle.std.specs.declared.convert.Infallible.{Infallible}
 use Rattle.batches.specs.Batch.{batch_effect}
 use Rattle.batches.specs.Starved.{is_want, starved_in}
 use Rattle.command_bodies.proofs.Turns.{pair}
@@ -22,6 +21,7 @@ use Rattle.sessions.specs.declared.session.Session.TheVariants.{Free}
 use Rattle.solo.specs.Connection.{Asks, ClientState, Comes, answer_told, batch_told, told_in_turn, told_of, replies_of, limits}
 use Rattle.solo.specs.Connection.{ServesInTurn}
 use Rattle.solo.specs.Solo.{IsRunOrStarves}
+use Rattle.solo.specs.declared.fault.ConnectionFault.{ConnectionFault}
 
 -- ---- what is seen of a door
 
@@ -86,7 +86,7 @@ comes_told (session.Go (Plain command)) old new reply run = run
 comes_told (session.Go (Exec members)) old new reply run = exec_told members old new reply run
 
 -- what a connection asked and was answered is a run in turn of what was answered
-runs_in_turn : (s t : ClientState) (requests : List (List (List ℕ))) (answers : List (Answer Infallible)) → Runs Asks s requests answers t
+runs_in_turn : (s t : ClientState) (requests : List (List (List ℕ))) (answers : List (Answer ConnectionFault)) → Runs Asks s requests answers t
     → (t, replies_of answers) ≡ told_in_turn s (told_of requests answers)
 runs_in_turn s t [] [] run = pair _ _ _ _ run refl
 runs_in_turn s t [] (a ∷ answers) run = absurd run
@@ -105,7 +105,9 @@ runs_in_turn s t (r ∷ requests) (Ok reply ∷ answers) run =
 runs_in_turn s t (r ∷ requests) (Err Memory ∷ answers) run =
     subst (λ h. (t, replies_of answers) ≡ told_in_turn h (told_of requests answers)) run.1.1
     (runs_in_turn run.0 t requests answers run.2)
-runs_in_turn s t (r ∷ requests) (Err (Ended reason) ∷ answers) run = absurd run.1
+runs_in_turn s t (r ∷ requests) (Err (Ended reason) ∷ answers) run =
+    subst (λ h. (t, replies_of answers) ≡ told_in_turn h (told_of requests answers)) run.1.1
+    (runs_in_turn run.0 t requests answers run.2)
 
 -- limits are told by their numbers
 make : (words bulk : ℕ) → words < 2 ^ 32 → bulk < 2 ^ 32 → Limits
@@ -127,14 +129,14 @@ limits_are l words bulk =
 
 -- a connection that was served under limits of these numbers
 pub served_within : (l : Limits) (before after old new : Option (List ℕ)) (s t : ClientState)
-    (result : Result Served (ServeFault Infallible)) → l.words ≡ DEFAULT_WORDS → l.bulk ≡ DEFAULT_BULK
+    (result : Result Served (ServeFault ConnectionFault)) → l.words ≡ DEFAULT_WORDS → l.bulk ≡ DEFAULT_BULK
     → Serves Asks l before after old new s t result
     → Serves Asks limits before after old new s t result
 served_within l before after old new s t result words bulk served =
     subst (λ v. Serves Asks v before after old new s t result) (limits_are l words bulk) served
 
 pub served_in_turn : (before after old new : Option (List ℕ)) (s t last : Map) (held left : Session)
-    (result : Result Served (ServeFault Infallible)) → held ≡ Free → last ≡ t
+    (result : Result Served (ServeFault ConnectionFault)) → held ≡ Free → last ≡ t
     → Serves Asks limits before after old new (held, s) (left, t) result → ServesInTurn before after old new s last result
 served_in_turn before after old new s t last held left result fresh same served =
     let connection = subst (λ h. Serves Asks limits before after old new (h, s) (left, last) result) fresh

@@ -6,7 +6,9 @@
 
 mod client;
 mod connection;
+mod fault;
 mod reading_ahead;
 mod store;
 
+pub use fault::ConnectionFault;
 pub use store::Solo;

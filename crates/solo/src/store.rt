@@ -10,6 +10,7 @@ ghost use Rattle.serving.specs.Answers.{answer_of};
 ghost use Rattle.solo.specs.Connection.{AsksPlain, AsksCommand};
 ghost use Rattle.solo.specs.Solo.{solo_from, IsRunOrStarves, IsStepOrStarves, RunsBeginning};
 
+use crate::fault::ConnectionFault;
 use crate::reading_ahead::Sight;
 use batches::execute_batch;
 use command_bodies::execute;
@@ -22,7 +23,6 @@ use resp_decoder::Ahead;
 use serving::DoorFault;
 use sessions::Batch;
 use std::alloc::{AllocError, Global};
-use std::convert::Infallible;
 use std::hash::BuildHasher;
 use std::marker::Model;
 
@@ -114,7 +114,10 @@ impl<S: BuildHasher> Solo<S> {
     }
 
     /// Answers a request outside a list: it is read as a command and run, or its words are refused.
-    pub(crate) fn ask_plain(&mut self, request: Request) -> Result<Reply, DoorFault<Infallible>>
+    pub(crate) fn ask_plain(
+        &mut self,
+        request: Request,
+    ) -> Result<Reply, DoorFault<ConnectionFault>>
         ensures { AsksPlain self.old request (answer_of result) self.new }
     {
         match read(request) {
@@ -124,7 +127,10 @@ impl<S: BuildHasher> Solo<S> {
     }
 
     /// Answers a command outside a list.
-    pub(crate) fn ask_command(&mut self, command: Command) -> Result<Reply, DoorFault<Infallible>>
+    pub(crate) fn ask_command(
+        &mut self,
+        command: Command,
+    ) -> Result<Reply, DoorFault<ConnectionFault>>
         ensures { AsksCommand self.old command (answer_of result) self.new }
     {
         match self.try_run(command) {

@@ -2,16 +2,15 @@
 
 use resp_decoder::Fault;
 use serving::{ServeFault, Served};
-use solo::Solo;
+use solo::{ConnectionFault, Solo};
 use std::alloc::Global;
-use std::convert::Infallible;
 use std::hash::{BuildHasherDefault, FoldHasher};
 use std::test::Fail;
 use test_support::{bytes_of, requests_of, same, same_bytes};
 
 pub(crate) type Store = Solo<BuildHasherDefault<FoldHasher>>;
 
-pub(crate) type Ending = Result<Served, ServeFault<Infallible>>;
+pub(crate) type Ending = Result<Served, ServeFault<ConnectionFault>>;
 
 pub(crate) const END: Ending = Ok(Served::End);
 

@@ -2,12 +2,14 @@
 //!
 //! The expected replies are Redis's, but for a member that finds no memory, which Redis doesn't know.
 
-use crate::store::{Row, Store, answers_row, each_answers, empty_store};
+use crate::store::{END, Ending, Row, Store, answers_row, each_answers, empty_store};
 use resp::{Reply, Request, write_reply};
+use serving::ServeFault;
 use sessions::{Ask, Batch, Session};
+use solo::ConnectionFault;
 use std::alloc::{AllocError, Global};
 use std::test::Fail;
-use test_support::{bytes_of, same_bytes, same_count};
+use test_support::{bytes_of, holds, requests_of, same, same_bytes, same_count, same_text};
 
 #[rattlefmt::skip]
 const LISTS: [Row; 7] = [
@@ -240,4 +242,55 @@ fn transactions_where_memory_fails(rt: HostRuntime) -> Result<(), Fail> {
     let other = client.queue(alloc, second)?;
     let run = client.exec(alloc, exec, one.saturating_add(other))?;
     client.has(alloc, look, run)
+}
+
+/// What is written before the first member of a list, and before the second.
+const NO_MEMBER: &[u8] = b"+OK\r\n";
+
+const ONE_MEMBER: &[u8] = b"+OK\r\n+QUEUED\r\n";
+
+/// A connection that ended so wrote these replies. With ample memory its list of two members was run; where there was no memory
+/// for one of them nothing was, and the replies to those before it stand.
+fn stands(alloc: Global, store: &mut Store, ended: &Ending, replies: &[u8]) -> Result<(), Fail> {
+    match ended {
+        Err(ServeFault::Door(ConnectionFault::NoMemory)) => {
+            let before = replies == NO_MEMBER || replies == ONE_MEMBER;
+            holds("the replies before the member", before)?;
+            answers_row(store, alloc, "EXISTS a b", ":0|")
+        }
+        Err(fault) => same("no memory", fault, &ServeFault::Memory),
+        Ok(_) => {
+            same("the end", ended, &END)?;
+            let listed = replies.starts_with(b"+OK\r\n+QUEUED\r\n+QUEUED\r\n");
+            holds("two members", listed)
+        }
+    }
+}
+
+/// With ample memory a list is run that a connection sends. Run with the Nth allocation failing, for each N, it says what is
+/// left to promise: where a member isn't queued the connection ends, and the list isn't run.
+#[test]
+fn a_connection_ends_where_memory_fails(rt: HostRuntime) -> Result<(), Fail> {
+    let alloc = rt.alloc();
+    let Ok(input) = requests_of(alloc, "MULTI; SET a 1; SET b 2; EXEC") else {
+        return Ok(());
+    };
+    let Ok(mut output) = Vec::with_capacity(alloc, 100) else {
+        return Ok(());
+    };
+    let mut store = empty_store(alloc);
+    let mut rest = input.as_slice();
+    let ended = store.serve(&mut rest, &mut output);
+    stands(alloc, &mut store, &ended, &output)
+}
+
+#[test]
+fn the_end_of_a_connection_says_why(rt: HostRuntime) -> Result<(), Fail> {
+    let fault = ServeFault::Door(ConnectionFault::NoMemory);
+    let text = format!(in rt.alloc(); "{fault}")?;
+    same_text(
+        "ConnectionFault",
+        text.as_str(),
+        "no memory for this connection",
+    )
 }

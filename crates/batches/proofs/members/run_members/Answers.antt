@@ -6,7 +6,7 @@ use Rattle.std.specs.Vec.Iter.{into_iter_items}
 use Rattle.resp.specs.Content.{content}
 use Rattle.batches.proofs.Runs.{all-left, all-right, runs-push, taken-push, next_within}
 use Rattle.batches.specs.Keys.{member_keys}
-use Rattle.batches.specs.Member.{Fares}
+use Rattle.batches.specs.Member.{Fares, MemberTakesMemory}
 use Rattle.batches.specs.Starved.{has}
 use Rattle.batches.proofs.members.run_members.Goals as goal
 
@@ -29,10 +29,10 @@ loop-member-preserved g c =
     let before = g.K.Keyspace.contents c.loop-member.keyspace in
     let after = g.K.Keyspace.contents c.run_member-reply.new.keyspace in
     let reply = content c.run_member-reply.result in
-    let said : Fares (has c.args.skip.now (c.len.result + 1)) c.in-Some.member before after reply
-    = subst (λ b. Fares b c.in-Some.member before after reply) c.contains.ensures.value c.run_member-reply.ensures.fares in record {
+    let said : Fares MemberTakesMemory (has c.args.skip.now (c.len.result + 1)) c.in-Some.member before after reply
+    = subst (λ b. Fares MemberTakesMemory b c.in-Some.member before after reply) c.contains.ensures.value c.run_member-reply.ensures.fares in record {
       run = rw (c.push_reserved.ensures.items, map-append content)
-          (runs-push c.args.skip.now 1 (c.len.result + 1) _ before after c.loop-member.yielded (map content c.loop-member.replies.items)
+          (runs-push MemberTakesMemory c.args.skip.now 1 (c.len.result + 1) _ before after c.loop-member.yielded (map content c.loop-member.replies.items)
           c.in-Some.member reply
           (omega (arith, c.len.ensures, length-map c.loop-member.replies.items content, c.loop-member.replies.ok))
           c.loop-member.invariant.run said);

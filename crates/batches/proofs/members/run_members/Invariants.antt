@@ -4,13 +4,14 @@ use Rattle.std.specs.Vec.Iter.{into_iter_items}
 use Rattle.resp.specs.Content.{content}
 use Rattle.batches.specs.Batch.{RunsFrom}
 use Rattle.batches.specs.Keys.{member_keys}
+use Rattle.batches.specs.Member.{MemberTakesMemory}
 use Rattle.batches.proofs.members.run_members.Given as goal
 
 -- the members taken so far have been run, the others are those that are left, whose keys are covered, and there is room for
 -- all replies
 abbrev pub invariant-loop-member : goal.invariant-loop-member
 invariant-loop-member g l = record {
-  run : RunsFrom l.fn.skip 1 (g.K.Keyspace.contents l.fn.keyspace) l.yielded (map content l.replies.items)
+  run : RunsFrom MemberTakesMemory l.fn.skip 1 (g.K.Keyspace.contents l.fn.keyspace) l.yielded (map content l.replies.items)
       (g.K.Keyspace.contents l.keyspace);
   split : l.fn.members ≡ l.yielded ++ into_iter_items l.member-iterator;
   count : length l.replies.items ≡ length l.yielded;
