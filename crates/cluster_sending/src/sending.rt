@@ -18,6 +18,7 @@ use layer_results::{Done, DoneRow};
 use multicast::Multicast;
 use resp::{Reply, Request};
 use router::{Outcome, Router};
+use sessions::{Batch, Member, Members, Session};
 use shard_exec::Store;
 
 fn sends<T: Send>()
@@ -33,6 +34,10 @@ fn router_sends()
     ensures { IsSend router_type.the_row }
 {
     sends::<Command>();
+    sends::<Member>();
+    sends::<Members>();
+    sends::<Batch>();
+    sends::<Session>();
     sends::<Request>();
     sends::<Reply>();
     sends::<Outcome>();

@@ -83,7 +83,9 @@ impl<L: Ledger> Service<'_, L> {
                 steps: self.max_steps,
             },
             FaultKind::Failed => HostFault::Worker,
-            FaultKind::Closed | FaultKind::Memory | FaultKind::NoConn => return,
+            FaultKind::Closed | FaultKind::Memory | FaultKind::NoConn | FaultKind::Unlisted => {
+                return;
+            }
         };
         self.faults.meet(rt, fault);
     }

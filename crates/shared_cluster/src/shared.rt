@@ -659,9 +659,6 @@ impl<L: Ledger> Shared<L> {
         for row in done.rows() {
             self.wake_seat(row.id.conn);
         }
-        for (id, _) in done.starved() {
-            self.wake_seat(id.conn);
-        }
     }
 
     /// Wakes the seat of this connection, if it waits.
