@@ -2,8 +2,13 @@
 
 ghost use Rattle.std.specs.Prelude.{◌<◌};
 
+<<<<<<< ours
 use picture_shapes::{ELLIPSIS, Piece, cut, put_pieces};
 use resp::{Reply, Request, write_reply};
+=======
+use picture_shapes::{ELLIPSIS, cut};
+use resp::{BulkTexts, Reply, Request, write_reply};
+>>>>>>> theirs
 use std::alloc::{AllocError, Global};
 
 /// How many words of a request, and items of an array, a label has.
@@ -133,7 +138,54 @@ fn put_reply(alloc: Global, reply: &Reply, out: &mut Vec<u8>) -> Result<(), Allo
             }
             out.extend_from_slice(b"]")
         }
+        Reply::Bulks(texts) => put_bulks(alloc, texts, out),
     }
+}
+
+/// Appends the label of an array of bulk strings and nulls.
+fn put_bulks(alloc: Global, texts: &BulkTexts, out: &mut Vec<u8>) -> Result<(), AllocError> {
+    out.extend_from_slice(b"[")?;
+    let mut rest = texts.as_bytes();
+    for place in 0..texts.len().min(MOST) {
+        if place > 0 {
+            out.push(b' ')?;
+        }
+        let (bulk, behind) = first_bulk(rest);
+        match bulk {
+            Some(bytes) => put_quoted(shown(alloc, bytes, BULK)?.as_slice(), out)?,
+            None => out.extend_from_slice(b"nil")?,
+        }
+        rest = behind;
+    }
+    if texts.len() > MOST {
+        out.extend_from_slice(&[b' ', ELLIPSIS])?;
+    }
+    out.extend_from_slice(b"]")
+}
+
+/// The bytes of the first of these texts, or none for a null, and the texts behind it.
+fn first_bulk(texts: &[u8]) -> (Option<&[u8]>, &[u8]) {
+    let mut length: usize = 0;
+    let mut digits: usize = 0;
+    for byte in from(texts, 1) {
+        match *byte {
+            b'-' => return (None, from(texts, 5)),
+            b'\r' => break,
+            digit => {
+                let more = usize::from(digit.wrapping_sub(b'0'));
+                length = length.wrapping_mul(10).wrapping_add(more);
+            }
+        }
+        digits = digits.saturating_add(1);
+    }
+    let rest = from(texts, digits.saturating_add(3));
+    let (bytes, behind) = rest.split_at(length.min(rest.len()));
+    (Some(bytes), from(behind, 2))
+}
+
+/// The bytes from this place on.
+fn from(bytes: &[u8], place: usize) -> &[u8] {
+    &bytes[place.min(bytes.len())..]
 }
 
 /// Appends the line of a reply of one line, but for so many bytes of its beginning, and its end.

@@ -1,3 +1,4 @@
+pub mod Bulks
 pub mod Contents
 pub mod Sizes
 pub mod Texts
