@@ -1,0 +1,5 @@
+//! A history of numbers, of which every list is legal, written from two threads.
+#![tactic(auto)]
+
+#[cfg(test)]
+mod threads;
