@@ -3,9 +3,9 @@
 
 For some seconds (20 unless told), from a seed that is printed: random bytes, and valid streams of requests with some bytes changed, go
 to `solo`, whole and in pieces cut anywhere, which has to answer both alike; random tables and traces, and valid ones with some bytes
-changed, go to `replay` with one worker and with two. Traces of version 2 have packets that are repeated. Each program ends by a status
-that it has for such an input, says on standard error why where it refuses, and writes nothing then but what came before; a trace that
-can be replayed agrees.
+changed, go to `replay` with one worker and with two. Traces of versions 2 and 3 have packets that are repeated, those of version 3
+transactions of which members starve. Each program ends by a status that it has for such an input, says on standard error why where it
+refuses, and writes nothing then but what came before; a trace that can be replayed agrees.
 """
 import contextlib
 import os
@@ -63,14 +63,16 @@ def submit(conn, words):
 
 
 def trace(dice):
-    """A trace of either version, of some connections, with some steps that may be refused. In version 1 a `repeat` is rare, and bad."""
-    lines, connections, version = ["open"] * 3, 3, dice.choice([1, 2])
-    repeats = ["repeat 0", "repeat 1"] if version == 2 or dice.randrange(10) == 0 else []
+    """A trace of any version, of some connections, with some steps that may be refused. In version 1 a `repeat` is rare, and bad; in
+    versions 1 and 2 so is a `run` that names a member."""
+    lines, connections, version = ["open"] * 3, 3, dice.choice([1, 2, 3])
+    repeats = ["repeat 0", "repeat 1"] if version >= 2 or dice.randrange(10) == 0 else []
+    members = ["run 1.2.1", "run 2.1 1.4.2"] if version >= 3 or dice.randrange(10) == 0 else []
     for _ in range(dice.randrange(60)):
         conn = dice.randrange(1, connections + 1)
         lines.append(dice.choice([
             submit(conn, words_of(dice)),
-            "deliver 0", "deliver 0", "deliver 0", "deliver 1", *repeats, "take", "run", "settle", "collect %d" % conn]))
+            "deliver 0", "deliver 0", "deliver 0", "deliver 1", *repeats, *members, "take", "run", "settle", "collect %d" % conn]))
     return changed(dice, text_of(version, dice.choice([1000, 1 << 62, 40]), lines), 1)
 
 
@@ -87,16 +89,32 @@ def brought(dice, left, may_repeat):
     return lines[:-1] + ["repeat 0"] * leaves + lines[-1:], leaves
 
 
+def asked(dice, conn, numbers):
+    """The lines by which a connection asks for a transaction, and which of its members starve, by the EXEC's own number. All members
+    address both groups."""
+    members = [dice.choice(BOTH) for _ in range(dice.randrange(1, 4))]
+    lines = []
+    for words in [[b"MULTI"], *members]:
+        lines += [submit(conn, words), "collect %d" % conn]
+    numbers[conn] += len(members) + 2
+    starved = ["%d.%d.%d" % (conn, numbers[conn], member) for member in range(1, len(members) + 1) if dice.randrange(4) == 0]
+    return [*lines, submit(conn, [b"EXEC"])], "run %s" % " ".join(starved) if starved else "run"
+
+
 def driven(dice):
     """A trace in which requests of two groups are brought to their ends, and the statuses that it may end by. In version 1 a `repeat` is
     rare, and bad."""
-    lines, left, version = ["open"] * 3, 0, dice.choice([1, 2])
-    may_repeat = version == 2 or dice.randrange(10) == 0
+    lines, left, version, numbers = ["open"] * 3, 0, dice.choice([1, 2, 3]), [0] * 4
+    may_repeat = version >= 2 or dice.randrange(10) == 0
     for _ in range(dice.randrange(1, 8)):
-        conn = dice.randrange(1, 4)
+        conn, run = dice.randrange(1, 4), "run"
         packets, left = brought(dice, left, may_repeat)
-        words = dice.choice(BOTH) if dice.randrange(8) else words_of(dice)
-        lines += [submit(conn, words), *packets, "take", "run", "settle", "collect %d" % conn]
+        if version == 3 and dice.randrange(3) == 0:
+            asking, run = asked(dice, conn, numbers)
+        else:
+            asking = [submit(conn, dice.choice(BOTH) if dice.randrange(8) else words_of(dice))]
+            numbers[conn] += 1
+        lines += [*asking, *packets, "take", run, "settle", "collect %d" % conn]
     is_bad = version == 1 and "repeat 0" in lines
     return text_of(version, 1000, lines), (3, 4) if is_bad else (0, 3, 5)
 

@@ -9,7 +9,7 @@ that block and all behind it, or, of a server, those of a streak.
 - `solo`: each reply is the error line for want of memory, or what a store answers that is asked the other requests alone; so too each
   place of EXEC's array.
   Where the store ends for want of memory, its replies are the beginning of such a list.
-- `server`, with one worker and with two: so too, over two connections, one of which may be refused or ended; and where a
+- `server`, with one worker and with two: so too, over two connections, one of which may be refused or ended, with its list; and where a
   trace was written, a replay of it agrees, and has a row for each request that was answered by its shards.
 - `replay` and `picture`: the whole output and its status, or the status for want of memory (or for a thread).
 
@@ -36,11 +36,12 @@ SOLO = [
     "MULTI; SET a 1; INCR a; RPUSH b 1 2; LRANGE b 0 -1; GET b; EXEC; GET a; MULTI; SET a 7; DISCARD; MULTI; EXEC; MULTI; GET; EXEC; GET a",
 ]
 
-# Over two shards by two connections: what lies on one, on the other and on both.
+# Over two shards by two connections: what lies on one, on the other and on both, and a transaction over both.
 SERVER = [
     (0, "MSET a 1 c 2"), (1, "MSET a 3 c 4"), (0, "GET a"), (1, "GET c"),
     (0, "INCR a"), (0, "RPUSH y 1 2 3"), (1, "LMOVE y x LEFT RIGHT"), (0, "SADD z m n"), (1, "SINTERSTORE b z z"),
     (0, "RENAME a d"), (1, "HSET h f 1"), (0, "MGET a c d"), (1, "SMEMBERS b"), (1, "LRANGE y 0 -1"), (0, "DBSIZE"),
+    (1, "MULTI"), (1, "INCR a"), (1, "RPUSH l x"), (1, "MSET e 1 f 2"), (1, "MGET a d e"), (1, "EXEC"), (0, "MGET a c e"), (0, "LLEN l"),
 ]
 
 # Unit tests that are written for a block that is refused: they try again where it was one of their own. (Not the one of `layer_tests` that
@@ -166,7 +167,7 @@ def without_starved_members(asked, said):
         elif words == [b"EXEC"]:
             if reply == OUT_OF_MEMORY:
                 words, reply = [b"DISCARD"], b"+OK"
-            elif members and reply.startswith(b"*"):
+            elif members and reply is not None and reply.startswith(b"*"):
                 each = replies(reply.partition(b"\r\n")[2] + b"\r\n")[0]
                 starved = {place for place, one in zip(members, each) if one == OUT_OF_MEMORY}
                 left = [pair for place, pair in enumerate(left) if place not in starved]
@@ -176,6 +177,28 @@ def without_starved_members(asked, said):
             members = []
         left.append((words, reply))
     return [words for words, _ in left], [reply for _, reply in left]
+
+
+def of_one_store(asked, said):
+    """What a store may have been asked of one connection's requests, of which one that wasn't answered (None) ended it: an open list went
+    with it. Of an EXEC that wasn't answered it isn't known whether it was run, nor which of its members starved."""
+    left, members = [], None
+    for place, (words, reply) in enumerate(zip(asked, said)):
+        if reply is None and members is not None:
+            rest = [(words, reply) for words, reply in zip(asked[place + 1:], said[place + 1:])]
+            yield [*left, ([b"DISCARD"], b"+OK"), *rest]
+            for starved in range(1 << len(members) if words == [b"EXEC"] else 0):
+                gone = {each for number, each in enumerate(members) if starved >> number & 1}
+                yield [pair for each, pair in enumerate(left) if each not in gone] + [(words, None), *rest]
+            return
+        if words == [b"MULTI"] and reply == b"+OK":
+            members = []
+        elif words in ([b"EXEC"], [b"DISCARD"]):
+            members = None
+        elif reply == b"+QUEUED":
+            members.append(len(left))
+        left.append((words, reply))
+    yield left
 
 
 def solo(programs, plain, text):
@@ -261,7 +284,8 @@ def server(programs, plain, workers):
                     asking.ask(who, words)
                 asking.close()
             status, said, told = begun.ended_soon()
-        wrong = plain.faults([words for _, words in asked[:len(asking.said)]], asking.said)
+        may_be = of_one_store([words for _, words in asked[:len(asking.said)]], asking.said)
+        wrong = min((plain.faults(*without_starved_members(*zip(*pairs))) for pairs in may_be if pairs), key=len, default=[])
         if status not in (0, *STATUSES["server"]):
             wrong.append(f"status {status}: {said}{told}")
         if status == 0 or os.path.exists(trace):

@@ -1,9 +1,10 @@
 -- The requests of a layer that were executed.
 use Rattle.std.proofs.Common.{◌≡◌, true, false, List, [], ◌∷◌, Option, Some, None, inl, inr, refl, ap, ◌∙◌, sym, subst}
 use Rattle.std.specs.List.{AllZip, AllByRecursion}
+use Rattle.batches.specs.Starved.{starved_in}
 use Rattle.back.specs.Rows.{with_row, rows_of}
 use Rattle.command_bodies.proofs.Turns.{pair}
-use Rattle.execution_order.specs.Entries.{Entry, Row, tasks_of, entries_of, replies_of, Touch, InOrder, IsAddressed, AreAddressed}
+use Rattle.execution_order.specs.Entries.{Entry, Row, deeds_of, entries_of, replies_of, Touch, InOrder, IsAddressed, AreAddressed}
 use Rattle.execution_order.specs.Rows.{IsRow}
 use Rattle.groups.proofs.Stamps.{lt_asym}
 use Rattle.groups.specs.GroupSet.{has}
@@ -14,22 +15,29 @@ use Rattle.keyspace.specs.Map.{Map}
 use Rattle.layer_planner.specs.Layers.{StandTogether, HaveOwnStamps}
 use Rattle.layer_planner.specs.declared.job.Job.{Job}
 use Rattle.placement.specs.Layout.{Layout}
-use Rattle.resp.specs.Content.{content}
+use Rattle.resp.specs.Content.{Content, content}
 use Rattle.resp.specs.declared.answered.Answered.{Answered}
 use Rattle.shard_exec.specs.Layers as layers
 use Rattle.shard_exec.specs.Layers.{AddressTheirGroups, IsOf, outcomes_of_ended}
 use Rattle.shard_exec.specs.declared.done.Ended.{Ended}
 use Rattle.shard_maps.specs.Layer.{AnsweredInTurn}
 use Rattle.shard_workers.specs.PlacedJobs.{outcome}
-use Rattle.tasks.specs.Tasks.{task_reading, task_groups, task_effect, tasks_in_turn}
+use Rattle.tasks.specs.Tasks.{task_reading, task_groups, deed_effect, deed_of, deeds_in_turn}
 
-abbrev pub entry_of : Job → Entry
-entry_of j = record { id = j.id; stamp = j.stamp; groups = j.groups; task = j.asked.command }
+-- the request as it was executed, by its reply
+abbrev pub entry_of : Job → Content → Entry
+entry_of j reply = record {
+  id = j.id;
+  stamp = j.stamp;
+  groups = j.groups;
+  task = j.asked.batch;
+  starved = starved_in j.asked.batch reply;
+}
 
 -- a request with its reply; one that starved isn't there
 abbrev pub with_executed : Job → Option Answered → List Row → List Row
 with_executed j None rows = rows
-with_executed j (Some answered) rows = record { entry = entry_of j; reply = content answered.reply } ∷ rows
+with_executed j (Some answered) rows = record { entry = entry_of j (content answered.reply); reply = content answered.reply } ∷ rows
 
 abbrev pub executed_in : List Job → List Ended → List Row
 executed_in [] es = []
@@ -42,7 +50,7 @@ one_kept : (j : Job) (e : Ended) → IsOf j e → (reply : Option Answered) (xs 
     → AllZip IsRow (with_executed j reply xs) (with_row e reply ys)
 one_kept j e of None xs ys z = z
 one_kept j e of (Some answered) xs ys z =
-    (record { id = of.0; stamp = of.1; says = ap task_reading of.2 ∙ j.asked.says; reply = refl }, z)
+    (record { id = of.0; stamp = of.1; says = ap task_reading of.2 ∙ j.asked.says; starved = refl; reply = refl }, z)
 
 pub rows_kept : (js : List Job) (es : List Ended) → AllZip IsOf js es → AllZip IsRow (executed_in js es) (rows_of es)
 rows_kept [] [] told = tt
@@ -53,7 +61,7 @@ rows_kept (j ∷ js) (e ∷ es) told = one_kept j e told.0 e.reply (executed_in 
 -- ---- each is of the layer
 
 abbrev pub IsOfLayer : List Job → Entry → Type 0
-IsOfLayer js x = (j : Job) × In j js × (x ≡ entry_of j)
+IsOfLayer js x = (j : Job) × In j js × ((reply : Content) × (x ≡ entry_of j reply))
 
 of_later : (j : Job) (js : List Job) (x : Entry) → IsOfLayer js x → IsOfLayer (j ∷ js) x
 of_later j js x it = (it.0, inr it.1, it.2)
@@ -61,7 +69,7 @@ of_later j js x it = (it.0, inr it.1, it.2)
 of_first : (j : Job) (js : List Job) (x : Entry) (rows : List Row) → (In x (entries_of rows) → IsOfLayer js x)
     → (reply : Option Answered) → In x (entries_of (with_executed j reply rows)) → IsOfLayer (j ∷ js) x
 of_first j js x rows rest None there = of_later j js x (rest there)
-of_first j js x rows rest (Some answered) (inl same) = (j, inl refl, same)
+of_first j js x rows rest (Some answered) (inl same) = (j, inl refl, (content answered.reply, same))
 of_first j js x rows rest (Some answered) (inr there) = of_later j js x (rest there)
 
 pub of_layer : (js : List Job) (es : List Ended) (x : Entry) → In x (entries_of (executed_in js es)) → IsOfLayer js x
@@ -79,18 +87,18 @@ pub are_addressed : (table : Layout) (js : List Job) (es : List Ended) → Addre
     → AreAddressed table (entries_of (executed_in js es))
 are_addressed table js es addressed stamps x there =
     let it = of_layer js es x there in
-    subst (IsAddressed table) (sym it.2) (record {
-      groups = holds_of (λ j. j.groups ≡ task_groups table j.asked.command) js it.0 addressed it.1;
+    subst (IsAddressed table) (sym it.2.1) (record {
+      groups = holds_of (λ j. j.groups ≡ task_groups table j.asked.batch) js it.0 addressed it.1;
       some_group = (it.0.stamp.group, holds_of (λ (j : Job). has j.groups j.stamp.group ≡ true) js it.0 stamps it.1);
     })
 
 -- ---- those that touch ascend
 
 first_in_order : (j : Job) (rows : List Row)
-    → ((f : Entry) → In f (entries_of rows) → Touch (entry_of j) f → stamp_lt f.stamp j.stamp ≡ false) → InOrder (entries_of rows)
-    → (reply : Option Answered) → InOrder (entries_of (with_executed j reply rows))
+    → ((reply : Content) (f : Entry) → In f (entries_of rows) → Touch (entry_of j reply) f → stamp_lt f.stamp j.stamp ≡ false)
+    → InOrder (entries_of rows) → (reply : Option Answered) → InOrder (entries_of (with_executed j reply rows))
 first_in_order j rows ascends rest None = rest
-first_in_order j rows ascends rest (Some answered) = (ascends, rest)
+first_in_order j rows ascends rest (Some answered) = (ascends (content answered.reply), rest)
 
 pub are_in_order : (js : List Job) (es : List Ended) → StandTogether js → InOrder (entries_of (executed_in js es))
 are_in_order [] es together = tt
@@ -98,28 +106,29 @@ are_in_order (j ∷ js) [] together = tt
 are_in_order (j ∷ js) (e ∷ es) together =
     first_in_order j (executed_in js es) ascends (are_in_order js es together.1) e.reply
   where
-    ascends : (f : Entry) → In f (entries_of (executed_in js es)) → Touch (entry_of j) f → stamp_lt f.stamp j.stamp ≡ false
-    ascends f there touch =
+    ascends : (reply : Content) (f : Entry) → In f (entries_of (executed_in js es)) → Touch (entry_of j reply) f
+        → stamp_lt f.stamp j.stamp ≡ false
+    ascends reply f there touch =
         let it = of_layer js es f there in
-        subst (λ (x : Entry). Touch (entry_of j) x → stamp_lt x.stamp j.stamp ≡ false) (sym it.2)
+        subst (λ (x : Entry). Touch (entry_of j reply) x → stamp_lt x.stamp j.stamp ≡ false) (sym it.2.1)
         (λ t. lt_asym j.stamp it.0.stamp (together.0 it.0 it.1 t.0 t.1 t.2).2) touch
 
 -- ---- one thread does the same
 
 first_in_turn : (m new : Map) (j : Job) (js : List Job) (es : List Ended) (rows : List Row)
-    → ((n : Map) → AnsweredInTurn n (layers.commands_of js) (outcomes_of_ended es) new
-    → (new, replies_of rows) ≡ tasks_in_turn n (tasks_of (entries_of rows)))
-    → (reply : Option Answered) → AnsweredInTurn m (layers.commands_of (j ∷ js)) (outcome reply ∷ outcomes_of_ended es) new
-    → (new, replies_of (with_executed j reply rows)) ≡ tasks_in_turn m (tasks_of (entries_of (with_executed j reply rows)))
+    → ((n : Map) → AnsweredInTurn n (layers.tasks_of js) (outcomes_of_ended es) new
+    → (new, replies_of rows) ≡ deeds_in_turn n (deeds_of (entries_of rows)))
+    → (reply : Option Answered) → AnsweredInTurn m (layers.tasks_of (j ∷ js)) (outcome reply ∷ outcomes_of_ended es) new
+    → (new, replies_of (with_executed j reply rows)) ≡ deeds_in_turn m (deeds_of (entries_of (with_executed j reply rows)))
 first_in_turn m new j js es rows rest None answered = rest m answered
 first_in_turn m new j js es rows rest (Some answer) answered =
-    let behind = rest (task_effect j.asked.command m).0 answered.1 in
+    let behind = rest (deed_effect (deed_of j.asked.batch (content answer.reply)) m).0 answered.1 in
     pair _ _ _ _ (ap (λ v. v.0) behind)
-    (ap (λ r. r ∷ replies_of rows) answered.0 ∙ ap (λ l. (task_effect j.asked.command m).1 ∷ l) (ap (λ v. v.1) behind))
+    (ap (λ r. r ∷ replies_of rows) answered.0 ∙ ap (λ l. (deed_effect (deed_of j.asked.batch (content answer.reply)) m).1 ∷ l) (ap (λ v. v.1) behind))
 
 pub is_in_turn : (m new : Map) (js : List Job) (es : List Ended)
-    → AnsweredInTurn m (layers.commands_of js) (outcomes_of_ended es) new
-    → (new, replies_of (executed_in js es)) ≡ tasks_in_turn m (tasks_of (entries_of (executed_in js es)))
+    → AnsweredInTurn m (layers.tasks_of js) (outcomes_of_ended es) new
+    → (new, replies_of (executed_in js es)) ≡ deeds_in_turn m (deeds_of (entries_of (executed_in js es)))
 is_in_turn m new [] [] answered = ap (λ n. (n, [])) answered
 is_in_turn m new [] (e ∷ es) answered = absurd answered
 is_in_turn m new (j ∷ js) [] answered = absurd answered

@@ -23,8 +23,6 @@ fits_ended js layer es room same told fits =
       words = fits.words ∙ ap words_of same ∙ sym (same_words layer es told);
       no_rows = fits.no_rows;
       rows = subst (λ n. n ≤ vec_capacity room.rows) count fits.rows;
-      none_starved = fits.none_starved;
-      starved = subst (λ n. n ≤ vec_capacity room.starved) count fits.starved;
     }
 
 pub count_ended : (js layer : List Job) (es : List Ended) (n : ℕ) → js ≡ layer → AllZip IsOf layer es → length js ≤ n → length es ≤ n

@@ -17,7 +17,7 @@ use Rattle.groups.proofs.Stamps.{lt_asym, le_lt}
 use Rattle.groups.specs.GroupSet.{has}
 use Rattle.groups.specs.Order.{In}
 use Rattle.groups.specs.Stamp.{stamp_lt}
-use Rattle.groups.specs.declared.request.RequestId.{RequestId}
+use Rattle.groups.specs.declared.skip_id.SkipId.{SkipId}
 use Rattle.journal.specs.Views.{RowView}
 use Rattle.layer_planner.specs.declared.job.Job.{Job}
 use Rattle.placement.specs.Layout.{Layout, IsTable}
@@ -63,7 +63,7 @@ new_kept table store rows is none =
 
 -- ---- a layer was run
 
-module _ (old new : BackState) (skip : List RequestId) (layer : List Job) (is_store : IsStore old.store)
+module _ (old new : BackState) (skip : List SkipId) (layer : List Job) (is_store : IsStore old.store)
     (ran : HasRun old skip layer new) (was : IsBack old.store old.rows) where
   abbrev before : List Row
   before = was.lawful.executed
@@ -85,7 +85,7 @@ module _ (old new : BackState) (skip : List RequestId) (layer : List Job) (is_st
   across e f i there touch =
       let it = of_layer layer ran.ended f there in
       let last = reached_before e touch.0 i touch.1 in
-      subst (λ (x : Entry). has x.groups touch.0 ≡ true → stamp_lt x.stamp e.stamp ≡ false) (sym it.2)
+      subst (λ (x : Entry). has x.groups touch.0 ≡ true → stamp_lt x.stamp e.stamp ≡ false) (sym it.2.1)
       (λ member. lt_asym e.stamp it.0.stamp (le_lt e.stamp last.0 it.0.stamp last.2
       (ap (λ l. is_above l it.0.stamp) (sym last.1) ∙ fresh_of layer it.0 ran.store.fresh it.1 touch.0 member)))
       touch.2
@@ -132,7 +132,7 @@ module _ (old new : BackState) (skip : List RequestId) (layer : List Job) (is_st
     | inl i ↦ raised_rises old.store.lasts layer g e.stamp ran.store.fresh (reached_before e g i member)
     | inr i ↦
         let it = of_layer layer ran.ended e i in
-        subst (λ (x : Entry). has x.groups g ≡ true → HasReached (last_of (raised old.store.lasts layer) g) x.stamp) (sym it.2)
+        subst (λ (x : Entry). has x.groups g ≡ true → HasReached (last_of (raised old.store.lasts layer) g) x.stamp) (sym it.2.1)
         (λ here. raised_reaches old.store.lasts layer g (inside layer it.0 ran.addressed it.1 g here) ran.may_stand.together it.0 it.1 here)
         member
   ]
@@ -141,7 +141,7 @@ module _ (old new : BackState) (skip : List RequestId) (layer : List Job) (is_st
           → g < length old.store.lasts
       inside [] j its there g here = absurd there
       inside (k ∷ js) j its (inl same) g here =
-          subst (λ n. g < n) (sym is_store.stamps) (task_groups-below old.store.table k.asked.command g
+          subst (λ n. g < n) (sym is_store.stamps) (task_groups-below old.store.table k.asked.batch g
           (ap (λ gs. has gs g) (sym its.0) ∙ ap (λ (x : Job). has x.groups g) (sym same) ∙ here))
       inside (k ∷ js) j its (inr later) g here = inside js j its.1 later g here
 
@@ -183,7 +183,7 @@ refused_kept may_refuse old new layer (Stale back) why was = same_kept old new w
 refused_kept may_refuse old new layer (Memory back) why was = same_kept old new why.5 was
 
 -- whatever came of it
-pub kept : (may_refuse : _) (old new : BackState) (skip : List RequestId) (layer : List Job) (result : Result (Unit {0}) ExecFault)
+pub kept : (may_refuse : _) (old new : BackState) (skip : List SkipId) (layer : List Job) (result : Result (Unit {0}) ExecFault)
     → IsStore old.store → OnOk result (HasRun old skip layer new) → IfErr result (λ fault. IsRefused may_refuse old layer fault new)
     → IsBack old.store old.rows → IsBack new.store new.rows
 kept may_refuse old new skip layer (Ok u) is_store ran why was = run_kept old new skip layer is_store ran was

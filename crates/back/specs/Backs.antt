@@ -7,7 +7,7 @@ use Rattle.groups.specs.GroupSet.{has}
 use Rattle.groups.specs.Order.{In}
 use Rattle.journal.specs.Views.{RowView}
 use Rattle.keyspace.specs.Map.{Map}
-use Rattle.layer_results.specs.Results.{Results, no_results}
+use Rattle.layer_results.specs.declared.done.DoneRow.{DoneRow}
 use Rattle.placement.specs.Layout.{Layout}
 use Rattle.shard_exec.specs.Reached.{HasReached}
 use Rattle.shard_exec.specs.Stamps.{last_of}
@@ -19,16 +19,17 @@ use Rattle.shard_maps.specs.Joined.{joined}
 pub record BackState : Type 0 where
   pub store : StoreState
   pub rows : List RowView
-  pub last : Results
+  pub last : List DoneRow
 
-abbrev pub back_of : StoreState → List RowView → Results → BackState
+abbrev pub back_of : StoreState → List RowView → List DoneRow → BackState
 back_of store rows last = record { store = store; rows = rows; last = last }
 
 abbrev pub new_back : Layout → BackState
-new_back table = back_of (empty_store table) [] no_results
+new_back table = back_of (empty_store table) [] []
 
 -- The rows are kept of executed requests, each of which addresses the groups that the table gives its task, and touching
--- ones were executed in the order of their stamps. One thread on one map gives each of them the reply of its row, in the
+-- ones were executed in the order of their stamps. One thread on one map gives each of them the reply of its row, which tells which of
+-- its members starved, in the
 -- order of execution and in that of their stamps; and it leaves what the shards hold together, unless a worker's start was
 -- refused.
 pub record IsLawful (store : StoreState) (rows : List RowView) : Type 0 where

@@ -13,8 +13,6 @@ pub record HasRoom (count : ℕ) (asked : List (List (List ℕ))) (room : Result
   pub words : room.words.items ≡ asked
   pub no_rows : room.rows.items ≡ []
   pub rows : count ≤ vec_capacity room.rows
-  pub none_starved : room.starved.items ≡ []
-  pub starved : count ≤ vec_capacity room.starved
 
 abbrev pub HasRoomFor : List Job → ResultsRoom → Type 0
 HasRoomFor jobs room = HasRoom (length jobs) (words_of jobs) room

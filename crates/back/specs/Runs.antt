@@ -2,7 +2,7 @@
 use Rattle.std.specs.Prelude.{◌≡◌, Bool, true, false, List, [], ◌++◌, ◌⊎◌}
 use Rattle.back.specs.Backs.{BackState}
 use Rattle.back.specs.Rows.{rows_of, results_of}
-use Rattle.groups.specs.declared.request.RequestId.{RequestId}
+use Rattle.groups.specs.declared.skip_id.SkipId.{SkipId}
 use Rattle.layer_planner.specs.Layers.{MayStand}
 use Rattle.layer_planner.specs.declared.job.Job.{Job}
 use Rattle.shard_exec.specs.Layers.{AddressTheirGroups}
@@ -15,7 +15,7 @@ use Rattle.shard_exec.specs.declared.done.ExecFault.TheVariants.{Stale, Memory, 
 
 -- The store ran the layer, which is one that may stand, and whose requests address the groups of their tasks. Behind the
 -- rows stand those of the requests that were executed, and what came of the layer is what came last.
-pub record HasRun (old : BackState) (skip : List RequestId) (layer : List Job) (new : BackState) : Type 0 where
+pub record HasRun (old : BackState) (skip : List SkipId) (layer : List Job) (new : BackState) : Type 0 where
   pub ended : List Ended
   pub may_stand : MayStand layer
   pub addressed : AddressTheirGroups old.store.table layer

@@ -1,16 +1,16 @@
 //! The store and its rows.
 
-ghost use Rattle.std.specs.Prelude.{◌≡◌, ◌++◌, IfOk, IfErr, OnOk, OnErr};
+ghost use Rattle.std.specs.Prelude.{◌≡◌, ◌++◌, [], IfOk, IfErr, OnOk, OnErr};
 ghost use Rattle.back.specs.Backs.{new_back, IsLawful};
 ghost use Rattle.back.specs.Runs.{HasRun, IsRefused};
 ghost use Rattle.dumps.specs.Dump.{dump_text};
-ghost use Rattle.layer_results.specs.Results.{AreCopies, no_results};
+ghost use Rattle.layer_results.specs.Results.{AreCopies};
 ghost use Rattle.shard_exec.specs.StoreStates.{IsStore};
 ghost use Rattle.shard_maps.specs.Joined.{joined};
 
 use crate::room::ResultsRoom;
 use crate::running::run_over;
-use groups::RequestId;
+use groups::SkipId;
 use journal::Rows;
 use layer_planner::Layer;
 use layer_results::Done;
@@ -67,8 +67,8 @@ impl Back {
         })
     }
 
-    /// Runs a layer by these workers, but for the requests of `skip`, which count as starved. The gate is told of each
-    /// request that is run. Each request that is executed has its row then, and `done` and `hand_over` give what came of
+    /// Runs a layer by these workers, but for the requests and the members that `skip` names, which count as starved. The gate is
+    /// told of each request that is run. Each request that is executed has its row then, and `done` and `hand_over` give what came of
     /// this layer.
     ///
     /// `ExecFault` says why it is not run, the first that applies: Failed, Foreign, Stale, Memory. All but Failed hand it
@@ -76,7 +76,7 @@ impl Back {
     pub fn run<W: Workers>(
         &mut self,
         layer: Layer,
-        skip: &[RequestId],
+        skip: &[SkipId],
         workers: &W,
         gate: &(dyn Gate + Sync),
     ) -> Result<(), ExecFault>
@@ -108,7 +108,7 @@ impl Back {
     /// Gives what came of the last layer that was run, and keeps nothing of it but its rows. It takes no memory.
     pub fn hand_over(&mut self) -> Done
         ensures given { result ≡ self.old.last }
-        ensures left { self.new ≡ record self.old { last = no_results } }
+        ensures left { self.new ≡ record self.old { last = [] } }
     {
         mem::replace(&mut self.last, Done::none(self.alloc))
     }

@@ -3,7 +3,6 @@
 ghost use Rattle.std.specs.Prelude.{◌≡◌, ◌≤◌, [], length, IsOk, OnOk};
 ghost use Rattle.back.specs.Rooms.{words_of, HasRoomFor};
 
-use groups::{RequestId, Stamp};
 use journal::Rows;
 use layer_planner::Job;
 use layer_results::DoneRow;
@@ -19,7 +18,6 @@ use std::collections::VecDeque;
 pub struct ResultsRoom {
     pub words: VecDeque<PackedRequest>,
     pub rows: Vec<DoneRow>,
-    pub starved: Vec<(RequestId, Stamp)>,
 }
 
 impl ResultsRoom {
@@ -30,7 +28,6 @@ impl ResultsRoom {
         ResultsRoom {
             words: VecDeque::new(alloc),
             rows: Vec::new(alloc),
-            starved: Vec::new(alloc),
         }
     }
 
@@ -40,7 +37,6 @@ impl ResultsRoom {
     {
         self.words.clear();
         self.rows.clear();
-        self.starved.clear();
     }
 
     /// Makes it the room for what comes of these requests, and takes room for their rows among the others. A layer without requests
@@ -59,7 +55,6 @@ impl ResultsRoom {
         }
         rows.reserve(jobs.len())?;
         self.rows.reserve(jobs.len())?;
-        self.starved.reserve(jobs.len())?;
         copy_words(&mut self.words, jobs)
     }
 }

@@ -1,14 +1,14 @@
 //! A layer that is run over the store, and the rows that come of it.
 
-ghost use Rattle.std.specs.Prelude.{◌≡◌, ◌+◌, ◌++◌, ◌<◌, ◌≤◌, [], false, length, IfOk, IfErr, OnOk, vec_capacity};
+ghost use Rattle.std.specs.Prelude.{◌≡◌, ◌+◌, ◌++◌, ◌<◌, ◌≤◌, [], ◌∷◌, false, length, IfOk, IfErr, OnOk, vec_capacity};
 ghost use Rattle.back.specs.Backs.{back_of};
 ghost use Rattle.back.specs.Rooms.{FitsEnded};
-ghost use Rattle.back.specs.Rows.{with_row, rows_of, with_done, with_starved, results_of};
+ghost use Rattle.back.specs.Rows.{with_row, rows_of, done_of, results_of};
 ghost use Rattle.back.specs.Runs.{HasRun, IsRefused, IsNotAdmitted, WhyUnrun};
 ghost use Rattle.shard_exec.specs.Layers.{AddressTheirGroups};
 
 use crate::room::ResultsRoom;
-use groups::{RequestId, Stamp};
+use groups::SkipId;
 use journal::Rows;
 use layer_planner::Layer;
 use layer_results::{Done, DoneRow};
@@ -27,7 +27,7 @@ pub fn run_over<W: Workers>(
     last: &mut Done,
     room: &mut ResultsRoom,
     layer: Layer,
-    skip: &[RequestId],
+    skip: &[SkipId],
     workers: &W,
     gate: &(dyn Gate + Sync),
 ) -> Result<(), ExecFault>
@@ -97,12 +97,9 @@ fn tell_all(alloc: Global, rows: &mut Rows, ended: Vec<Ended>, room: &mut Result
         let Some(copy) = room.words.pop_front() else {
             unreachable!()
         };
-        tell(rows, request, copy, &mut room.rows, &mut room.starved);
+        tell(rows, request, copy, &mut room.rows);
     }
-    Done::new(
-        taken(alloc, &mut room.rows),
-        taken(alloc, &mut room.starved),
-    )
+    Done::new(taken(alloc, &mut room.rows))
 }
 
 /// Takes a list out, if there is something in it; one in which nothing is stays, with its memory.
@@ -117,23 +114,14 @@ fn taken<T>(alloc: Global, list: &mut Vec<T>) -> Vec<T>
 }
 
 /// Adds the row of a request, if it was executed, and notes what came of it, with this copy of its words. There is room.
-fn tell(
-    rows: &mut Rows,
-    request: Ended,
-    copy: PackedRequest,
-    done: &mut Vec<DoneRow>,
-    starved: &mut Vec<(RequestId, Stamp)>,
-)
+fn tell(rows: &mut Rows, request: Ended, copy: PackedRequest, done: &mut Vec<DoneRow>)
     requires copy { copy ≡ request.words }
     requires row { 0 < rows.old.room }
     requires done { length done.old.items < vec_capacity done.old }
-    requires starved { length starved.old.items < vec_capacity starved.old }
     ensures row { rows.new.rows ≡ rows.old.rows ++ with_row request request.reply [] }
     ensures row_room { rows.old.room ≤ rows.new.room + 1 }
-    ensures done { done.new.items ≡ done.old.items ++ with_done request request.reply [] }
+    ensures done { done.new.items ≡ done.old.items ++ done_of request ∷ [] }
     ensures done_room { vec_capacity done.old ≤ vec_capacity done.new }
-    ensures starved { starved.new.items ≡ starved.old.items ++ with_starved request request.reply [] }
-    ensures starved_room { vec_capacity starved.old ≤ vec_capacity starved.new }
 {
     let Ended {
         id,
@@ -141,11 +129,10 @@ fn tell(
         words,
         reply,
     } = request;
-    let Some(answered) = reply else {
-        starved.push_reserved((id, stamp));
-        return;
+    let reply = match reply {
+        Some(answered) => Some(rows.push(id, &stamp, words, answered)),
+        None => None,
     };
-    let reply = rows.push(id, &stamp, words, answered);
     done.push_reserved(DoneRow {
         id,
         stamp,

@@ -5,7 +5,9 @@ use Rattle.std.proofs.Common.{refl, sym, ap, ◌∙◌, subst, arith}
 use Rattle.std.specs.List.{AllZip}
 use Rattle.execution_order.specs.Entries.{Row}
 use Rattle.front.specs.Fronts.{FrontView, Told, retold, retold_reply, retold_outcome, retold_standing, retold_world}
-use Rattle.tasks.specs.Tasks.{task_reading}
+use Rattle.sessions.specs.declared.session.Session.{Session}
+use Rattle.tasks.specs.Tasks.{starved_names}
+use Rattle.batches.specs.Starved.{starved_in}
 use Rattle.cluster.proofs.Effects.{by_collected}
 use Rattle.cluster.proofs.Submits.{said_once}
 use Rattle.cluster.proofs.Telling.{all_settled, starved_retold}
@@ -14,7 +16,7 @@ use Rattle.cluster.specs.Clusters.{SeatView, last_id, Fits, CanCollect, IsCollec
 use Rattle.cluster.specs.Histories.{HistoryView, IsIn, retold_effect, IsMade, IsFault}
 use Rattle.cluster.specs.Outcomes.{IsOfRow, HasStarved, IsAtOnce, ComesFrom, IsAbove}
 use Rattle.cluster.specs.Making.{effect_shown}
-use Rattle.cluster.specs.Submits.{submits_by, IsSaid}
+use Rattle.cluster.specs.Submits.{submits_by, IsSaid, session_met}
 use Rattle.cluster.specs.declared.effect.Effect as ours
 use Rattle.cluster.specs.declared.effect.Effect.TheVariants as effect
 use Rattle.cluster.specs.declared.fault.StepFault.{StepFault}
@@ -23,6 +25,8 @@ use Rattle.groups.proofs.Options.{some_same}
 use Rattle.groups.specs.Order.{In}
 use Rattle.groups.specs.declared.request.ConnId.{ConnId}
 use Rattle.groups.specs.declared.request.RequestId.{RequestId}
+use Rattle.groups.specs.declared.skip_id.SkipId.{SkipId}
+use Rattle.groups.specs.declared.skip_id.SkipId.TheVariants.{Whole}
 use Rattle.journal.specs.declared.step.Step.{Step}
 use Rattle.journal.specs.declared.step.Step.TheVariants.{Open, Submit, Deliver, Take, Run, Settle, Collect, Close, Repeat}
 use Rattle.placement.specs.Layout.{Layout}
@@ -36,14 +40,15 @@ use Rattle.router.specs.declared.connection.Standing.TheVariants as stand
 use Rattle.router.specs.declared.outcome.Outcome as kept
 use Rattle.system_view.specs.Connections.{outcome_shown, ShowsOpen, ShowsClosed, ShowsConnection, ShowsConnections}
 use Rattle.system_view.specs.Layers.{AreRows, IsRow}
-use Rattle.world.specs.Steps.{opening, Collects, Steps, Makes, starved_among, if_starved, reply_of, outcome_of, at}
+use Rattle.world.specs.Steps.{opening, Collects, Steps, Makes, starved_among, reply_of, outcome_of, at}
 use Rattle.world.specs.Steps as world
 use Rattle.world.specs.World.{World, Outcome, Standing, Closed, Idle, Waiting, Answered, Ended}
 use Rattle.world_laws.proofs.Telling.{collects_its_own}
 use Rattle.world_laws.proofs.Values.{same_collected}
 use Rattle.world_laws.proofs.Worlds.{good_world}
-use Rattle.world_laws.specs.Collecting.{Submits, WasSubmitted, reply_at_once}
+use Rattle.world_laws.specs.Collecting.{Submits, WasSubmitted, WasSubmittedFrom, IsRepliedAtOnce}
 use Rattle.world_laws.specs.Headline.{rows_of, with_row}
+use Rattle.world_laws.specs.Sessions.{Sessions, all_free, sessions_after, sessions_from}
 
 -- ---- an outcome waits
 
@@ -135,19 +140,20 @@ above h s o can same = subst (λ (x : Outcome). IsAbove x.stamp s.floor) (sym sa
 
 -- ---- whose it is
 
-record IsSaidFrom (test : List (List ℕ) → Type 0) (i : RequestId) (h : List Step) (seq : ℕ) : Type 0 where
+-- the words of a request, which its connection's session and they pass, by what the connections remembered at first
+record IsSaidFrom (test : Session → List (List ℕ) → Type 0) (i : RequestId) (sessions : Sessions) (h : List Step) (seq : ℕ) : Type 0 where
   pub words : List (List ℕ)
   pub before : List Step
   pub behind : List Step
   pub split : h ≡ before ++ Submit i.conn words ∷ behind
   pub number : i.seq ≡ suc (seq + submits_by i.conn.0 before)
-  pub passes : test words
+  pub passes : test (sessions_from sessions before i.conn.0) words
 
-submitted_now : (t : Layout) (test : List (List ℕ) → Type 0) (i : RequestId) (conn : ConnId) (words : List (List ℕ)) (h : List Step)
-    (e : world.Effect) (old mid : World) → world.Submits t old conn.0 words e mid → Submits test i (Submit conn words) e →
-    IsSaidFrom test i (Submit conn words ∷ h) (old.seq i.conn.0)
-submitted_now t test i conn words h (world.Opened c) old mid step now = absurd now
-submitted_now t test i conn words h (world.Submitted j) old mid step now =
+submitted_now : (t : Layout) (test : Session → List (List ℕ) → Type 0) (i : RequestId) (sessions : Sessions) (conn : ConnId)
+    (words : List (List ℕ)) (h : List Step) (e : world.Effect) (old mid : World) → world.Submits t old conn.0 words e mid →
+    Submits test i sessions (Submit conn words) e → IsSaidFrom test i sessions (Submit conn words ∷ h) (old.seq i.conn.0)
+submitted_now t test i sessions conn words h (world.Opened c) old mid step now = absurd now
+submitted_now t test i sessions conn words h (world.Submitted j) old mid step now =
     let same : i ≡ world.next_id old conn.0 = sym now.1 ∙ same_submitted j (world.next_id old conn.0) step.answers in
     let seq = ap (λ (k : RequestId). k.seq) same in
     let number : i.seq ≡ suc (old.seq i.conn.0) = seq ∙ ap (λ (c : ConnId). suc (old.seq c.0)) now.0 in
@@ -157,35 +163,37 @@ submitted_now t test i conn words h (world.Submitted j) old mid step now =
       behind = h;
       split = ap (λ c. Submit c words ∷ h) now.0;
       number = omega arith;
-      passes = now.2;
+      passes = subst (λ (c : ConnId). test (sessions c.0) words) now.0 now.2;
     }
   where
     same_submitted : (j k : RequestId) → world.Submitted j ≡ world.Submitted k → j ≡ k
     same_submitted j k same = let e = same in cc
-submitted_now t test i conn words h (world.Ran ids) old mid step now = absurd now
-submitted_now t test i conn words h (world.Collected o) old mid step now = absurd now
-submitted_now t test i conn words h world.Made old mid step now = absurd now
+submitted_now t test i sessions conn words h (world.Ran ids) old mid step now = absurd now
+submitted_now t test i sessions conn words h (world.Collected o) old mid step now = absurd now
+submitted_now t test i sessions conn words h world.Made old mid step now = absurd now
 
-said_now : (t : Layout) (test : List (List ℕ) → Type 0) (i : RequestId) (s : Step) (h : List Step) (e : world.Effect) (old mid : World) →
-    Steps t old s e mid → Submits test i s e → IsSaidFrom test i (s ∷ h) (old.seq i.conn.0)
-said_now t test i Open h e old mid step now = absurd now
-said_now t test i (Submit conn words) h e old mid step now = submitted_now t test i conn words h e old mid step now
-said_now t test i (Deliver k) h e old mid step now = absurd now
-said_now t test i Take h e old mid step now = absurd now
-said_now t test i (Run starved) h e old mid step now = absurd now
-said_now t test i Settle h e old mid step now = absurd now
-said_now t test i (Collect conn) h e old mid step now = absurd now
-said_now t test i (Close conn) h e old mid step now = absurd now
-said_now t test i (Repeat k) h e old mid step now = absurd now
+said_now : (t : Layout) (test : Session → List (List ℕ) → Type 0) (i : RequestId) (sessions : Sessions) (s : Step) (h : List Step)
+    (e : world.Effect) (old mid : World) → Steps t old s e mid → Submits test i sessions s e →
+    IsSaidFrom test i sessions (s ∷ h) (old.seq i.conn.0)
+said_now t test i sessions Open h e old mid step now = absurd now
+said_now t test i sessions (Submit conn words) h e old mid step now = submitted_now t test i sessions conn words h e old mid step now
+said_now t test i sessions (Deliver k) h e old mid step now = absurd now
+said_now t test i sessions Take h e old mid step now = absurd now
+said_now t test i sessions (Run starved) h e old mid step now = absurd now
+said_now t test i sessions Settle h e old mid step now = absurd now
+said_now t test i sessions (Collect conn) h e old mid step now = absurd now
+said_now t test i sessions (Close conn) h e old mid step now = absurd now
+said_now t test i sessions (Repeat k) h e old mid step now = absurd now
 
 -- the words of a request that was submitted
-said_of : (t : Layout) (test : List (List ℕ) → Type 0) (i : RequestId) (h : List Step) (es : List world.Effect) (old new : World) →
-    Makes t old h es new → WasSubmitted test i h es → IsSaidFrom test i h (old.seq i.conn.0)
-said_of t test i [] es old new made was = absurd was
-said_of t test i (s ∷ h) [] old new made was = absurd was
-said_of t test i (s ∷ h) (e ∷ es) old new made (inl now) = said_now t test i s h e old made.0 made.1 now
-said_of t test i (s ∷ h) (e ∷ es) old new made (inr later) =
-    let rest = said_of t test i h es made.0 new made.2 later in
+said_of : (t : Layout) (test : Session → List (List ℕ) → Type 0) (i : RequestId) (sessions : Sessions) (h : List Step)
+    (es : List world.Effect) (old new : World) → Makes t old h es new → WasSubmittedFrom test i sessions h es →
+    IsSaidFrom test i sessions h (old.seq i.conn.0)
+said_of t test i sessions [] es old new made was = absurd was
+said_of t test i sessions (s ∷ h) [] old new made was = absurd was
+said_of t test i sessions (s ∷ h) (e ∷ es) old new made (inl now) = said_now t test i sessions s h e old made.0 made.1 now
+said_of t test i sessions (s ∷ h) (e ∷ es) old new made (inr later) =
+    let rest = said_of t test i (sessions_after sessions s) h es made.0 new made.2 later in
     let one = step_seq t old made.0 s e i.conn.0 made.1 in
     let number = rest.number in
     record {
@@ -222,7 +230,7 @@ zip_at R (z ∷ xs) (y ∷ ys) x all (inr later) = let rest = zip_at R xs ys x a
 
 abbrev row_of : Ended → Content → Row
 row_of e reply = record {
-  entry = record { id = e.id; stamp = e.stamp; groups = e.groups; task = e.task };
+  entry = record { id = e.id; stamp = e.stamp; groups = e.groups; task = e.task; starved = starved_in e.task reply };
   reply = reply;
 }
 
@@ -237,33 +245,34 @@ in_rows (f ∷ es) e reply (inl here) is =
     (subst (λ r. In (row_of e reply) (with_row e r (rows_of es))) (sym is) (inl refl))
 in_rows (f ∷ es) e reply (inr later) is = in_row e f (row_of e reply) f.reply (rows_of es) (in_rows es e reply later is)
 
-in_if : (reply : Option Content) (id : RequestId) (i : RequestId) (ids : List RequestId) → In i ids → In i (if_starved reply id ids)
-in_if None id i ids there = inr there
-in_if (Some reply) id i ids there = there
+in_right : (xs ys : List SkipId) (n : SkipId) → In n ys → In n (xs ++ ys)
+in_right [] ys n there = there
+in_right (x ∷ xs) ys n there = inr (in_right xs ys n there)
 
-in_starved : (es : List Ended) (e : Ended) → In e es → e.reply ≡ None → In e.id (starved_among es)
+in_starved : (es : List Ended) (e : Ended) → In e es → e.reply ≡ None → In (Whole e.id) (starved_among es)
 in_starved [] e there is = absurd there
 in_starved (f ∷ es) e (inl here) is =
-    subst (λ (f : Ended). In e.id (if_starved f.reply f.id (starved_among es))) here
-    (subst (λ r. In e.id (if_starved r e.id (starved_among es))) (sym is) (inl refl))
-in_starved (f ∷ es) e (inr later) is = in_if f.reply f.id e.id (starved_among es) (in_starved es e later is)
+    subst (λ (f : Ended). In (Whole e.id) (starved_names f.id f.task f.reply ++ starved_among es)) here
+    (subst (λ r. In (Whole e.id) (starved_names e.id e.task r ++ starved_among es)) (sym is) (inl refl))
+in_starved (f ∷ es) e (inr later) is =
+    in_right (starved_names f.id f.task f.reply) (starved_among es) (Whole e.id) (in_starved es e later is)
 
 in_map : (told : Told) (es : List Ended) (e : Ended) → In e es → In (retold told e) (map (retold told) es)
 in_map told [] e there = absurd there
 in_map told (f ∷ es) e (inl here) = inl (ap (retold told) here)
 in_map told (f ∷ es) e (inr later) = inr (in_map told es e later)
 
--- of a request that was run
-by_reply : (f : FrontView) (es : List Ended) (o : Outcome) (words : List (List ℕ)) (e : Ended) (reply : Option Content) →
-    AreRows es f.rows → f.starved ≡ starved_among es → In e es → o ≡ outcome_of e → e.reply ≡ reply → ComesFrom f words o
-by_reply f es o words e None rows names there so reply =
+-- of a request that was run, whatever session its words met
+by_reply : (f : FrontView) (es : List Ended) (o : Outcome) (session : Session) (words : List (List ℕ)) (e : Ended) (reply : Option Content) →
+    AreRows es f.rows → f.starved ≡ starved_among es → In e es → o ≡ outcome_of e → e.reply ≡ reply → ComesFrom f session words o
+by_reply f es o session words e None rows names there so reply =
     inr (inl (record {
-      there = subst (λ i. In i f.starved) (sym (ap (λ (x : Outcome). x.id) so))
-          (subst (λ l. In e.id l) (sym names) (in_starved es e there reply));
+      there = subst (λ (i : RequestId). In (Whole i) f.starved) (sym (ap (λ (x : Outcome). x.id) so))
+          (subst (λ l. In (Whole e.id) l) (sym names) (in_starved es e there reply));
       stamp = subst (λ (x : Outcome). IsSome x.stamp) (sym so) refl;
       reply = ap (λ (x : Outcome). x.reply) so ∙ ap reply_of reply;
     }))
-by_reply f es o words e (Some reply') rows names there so reply =
+by_reply f es o session words e (Some reply') rows names there so reply =
     let found = zip_at IsRow (rows_of es) f.rows (row_of e reply') rows (in_rows es e reply' there reply) in
     inl (record {
       row = found.0;
@@ -273,30 +282,33 @@ by_reply f es o words e (Some reply') rows names there so reply =
       reply = found.2.reply ∙ ap text (sym (ap (λ (x : Outcome). x.reply) so ∙ ap reply_of reply));
     })
 
-from_ended : (h : HistoryView) (o : Outcome) (w : World) (told : Told) (words : List (List ℕ)) (e : Ended) → h.front.whole ≡ true →
-    IsIn h w told → In e w.ended → o ≡ outcome_of (retold told e) → ComesFrom h.front words o
-from_ended h o w told words e whole shown there so =
+from_ended : (h : HistoryView) (o : Outcome) (w : World) (told : Told) (session : Session) (words : List (List ℕ)) (e : Ended) →
+    h.front.whole ≡ true → IsIn h w told → In e w.ended → o ≡ outcome_of (retold told e) → ComesFrom h.front session words o
+from_ended h o w told session words e whole shown there so =
     let shows = shown.at.shows in
     let all = all_settled w.ended shows.settled w.layer shows.split shown.not_run in
-    by_reply h.front (map (retold told) shows.settled) o words (retold told e) (told e.id) (shows.rows whole)
+    by_reply h.front (map (retold told) shows.settled) o session words (retold told e) (told e.id) (shows.rows whole)
     (shows.starved whole ∙ sym (starved_retold told shows.settled shows.truly))
     (in_map told shows.settled e (subst (λ es. In e es) all there)) so refl
+
+-- where the outcome of these words comes from, by the session that they met
+abbrev pub HasCome : HistoryView → HistoryView → List (List ℕ) → Outcome → Type 0
+HasCome h h' words o = (said : IsSaid h.steps o.id words) × ComesFrom h'.front (session_met said) words o
 
 -- of words that were answered at once
 at_once : (h : HistoryView) (s : SeatView) (o : Outcome) (w : World) (told : Told) (shown : IsIn h w told) → Fits s h.steps →
     o.id ≡ last_id s → o.stamp ≡ None →
-    WasSubmitted (λ words. reply_at_once h.front.table (task_reading words) ≡ Some o.reply) o.id h.steps shown.at.leads.0 →
-    ComesFrom h.front s.words o
+    WasSubmitted (IsRepliedAtOnce h.front.table o.reply) o.id h.steps shown.at.leads.0 → HasCome h h s.words o
 at_once h s o w told shown fits id none was =
     let t = h.front.table in
-    let said = said_of t _ o.id h.steps shown.at.leads.0 opening w shown.at.leads.1 was in
-    let number = said.number in
+    let said = said_of t (IsRepliedAtOnce t o.reply) o.id all_free h.steps shown.at.leads.0 opening w shown.at.leads.1 was in
+    let number : o.id.seq ≡ suc (0 + submits_by o.id.conn.0 said.before) = said.number in
     let seq = ap (λ (i : RequestId). i.seq) id in
     let here : IsSaid h.steps o.id said.words =
     record { before = said.before; behind = said.behind; split = said.split; number = omega arith } in
-    let mine : IsSaid h.steps o.id s.words = subst (λ i. IsSaid h.steps i s.words) (sym id) (fits.said (omega arith)) in
+    let mine : IsSaid h.steps o.id s.words = subst (λ i. IsSaid h.steps i s.words) (sym id) (fits.said (omega (arith, number, seq))) in
     let same = said_once h.steps o.id said.words s.words here mine in
-    inr (inr (record { stamp = none; reply = ap (λ ws. reply_at_once t (task_reading ws)) (sym same) ∙ said.passes }))
+    subst (λ ws. HasCome h h ws o) same (here, inr (inr (record { stamp = none; reply = said.passes })))
 
 -- an outcome without a stamp is not told otherwise
 untold : (told : Told) (o : Outcome) → o.stamp ≡ None → retold_outcome told o ≡ o
@@ -307,22 +319,11 @@ untold told o none = λ k. record {
 }
 
 -- rows, names and table stay
-passes : (f f' : FrontView) (words : List (List ℕ)) (o : Outcome) → f'.rows ≡ f.rows → f'.starved ≡ f.starved → f'.table ≡ f.table →
-    ComesFrom f words o → ComesFrom f' words o
-passes f f' words o rows starved table (inl row) = inl (subst (λ rs. IsOfRow rs o) (sym rows) row)
-passes f f' words o rows starved table (inr (inl name)) = inr (inl (subst (λ is. HasStarved is o) (sym starved) name))
-passes f f' words o rows starved table (inr (inr once)) = inr (inr (subst (λ t. IsAtOnce t words o) (sym table) once))
-
-pub from : (h h' : HistoryView) (s : SeatView) (o : Outcome) (w : World) (told : Told) (e : world.Effect) → IsIn h w told →
-    h.front.whole ≡ true → Fits s h.steps → IsCollected h h' s o w told → IsMade h (Collect s.conn) e h' → ComesFrom h'.front s.words o
-from h h' s o w told e shown whole fits is made =
-    let t = h.front.table in
-    let law = collects_its_own t h.steps shown.at.leads.0 w _ shown.at.leads.1 s.conn is.there is.step in
-    passes h.front h'.front s.words o made.rows made.starved made.table (elim law.1 [
-      | inl ended ↦ from_ended h o w told s.words ended.0 whole shown ended.1 (is.same ∙ ap (retold_outcome told) ended.2)
-      | inr once ↦ subst (ComesFrom h.front s.words) (sym (is.same ∙ untold told is.there once.0))
-          (at_once h s is.there w told shown fits (own_there h h' s o w told shown fits is) once.0 once.1)
-    ])
+passes : (f f' : FrontView) (session : Session) (words : List (List ℕ)) (o : Outcome) → f'.rows ≡ f.rows → f'.starved ≡ f.starved →
+    f'.table ≡ f.table → ComesFrom f session words o → ComesFrom f' session words o
+passes f f' session words o rows starved table (inl row) = inl (subst (λ rs. IsOfRow rs o) (sym rows) row)
+passes f f' session words o rows starved table (inr (inl name)) = inr (inl (subst (λ is. HasStarved is o) (sym starved) name))
+passes f f' session words o rows starved table (inr (inr once)) = inr (inr (subst (λ t. IsAtOnce t session words o) (sym table) once))
 
 -- ---- why it isn't
 
@@ -353,8 +354,10 @@ some_submitted h h' s o w told shown fits is =
           let same = ap (λ (x : Outcome). x.id.seq) ended.2 in
           omega arith
       | inr once ↦
-          let number = (said_of t _ is.there.id h.steps shown.at.leads.0 opening w shown.at.leads.1 once.1).number in
-          omega arith
+          let test = IsRepliedAtOnce t is.there.reply in
+          let said = said_of t test is.there.id all_free h.steps shown.at.leads.0 opening w shown.at.leads.1 once.1 in
+          let number : is.there.id.seq ≡ suc (0 + submits_by is.there.id.conn.0 said.before) = said.number in
+          omega (arith, number, seq)
     ]
 
 -- the trace has the seat's words for it
@@ -363,3 +366,24 @@ pub said : (h h' : HistoryView) (s : SeatView) (o : Outcome) (w : World) (told :
 said h h' s o w told shown fits is =
     subst (λ i. IsSaid h.steps i s.words) (sym (own h h' s o w told shown fits is))
     (fits.said (some_submitted h h' s o w told shown fits is))
+
+-- ---- where it comes from, by the session that the words met
+
+come : (h : HistoryView) (s : SeatView) (o : Outcome) (w : World) (told : Told) (h' : HistoryView) → IsIn h w told →
+    h.front.whole ≡ true → Fits s h.steps → IsCollected h h' s o w told → HasCome h h s.words o
+come h s o w told h' shown whole fits is =
+    let t = h.front.table in
+    let law = collects_its_own t h.steps shown.at.leads.0 w _ shown.at.leads.1 s.conn is.there is.step in
+    elim law.1 [
+      | inl ended ↦
+          let mine = said h h' s o w told shown fits is in
+          (mine, from_ended h o w told (session_met mine) s.words ended.0 whole shown ended.1 (is.same ∙ ap (retold_outcome told) ended.2))
+      | inr once ↦ subst (HasCome h h s.words) (sym (is.same ∙ untold told is.there once.0))
+          (at_once h s is.there w told shown fits (own_there h h' s o w told shown fits is) once.0 once.1)
+    ]
+
+pub from : (h h' : HistoryView) (s : SeatView) (o : Outcome) (w : World) (told : Told) (e : world.Effect) → IsIn h w told →
+    h.front.whole ≡ true → Fits s h.steps → IsCollected h h' s o w told → IsMade h (Collect s.conn) e h' → HasCome h h' s.words o
+from h h' s o w told e shown whole fits is made =
+    let found = come h s o w told h' shown whole fits is in
+    (found.0, passes h.front h'.front (session_met found.0) s.words o made.rows made.starved made.table found.1)

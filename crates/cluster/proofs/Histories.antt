@@ -1,7 +1,6 @@
 -- A history stays one, whether a step is made or not.
-use Rattle.std.proofs.Common.{◌≡◌, ◌≢◌, ℕ, ◌+◌, ◌<◌, ◌≤◌, List, [], ◌∷◌, ◌++◌, length, None, Result, Ok, Err, refl, sym}
+use Rattle.std.proofs.Common.{◌≡◌, ◌≢◌, ℕ, ◌+◌, ◌<◌, ◌≤◌, List, [], ◌∷◌, ◌++◌, length, None, refl, sym}
 use Rattle.std.proofs.Common.{ap, ◌∙◌, subst, arith, length-append}
-use Rattle.command_table.specs.declared.refusal.Refusal.{Refusal}
 use Rattle.front.proofs.Showing.{NoRun, still_unrun}
 use Rattle.front.specs.Fronts.{FrontView, Told, IsOut, FrontIsAt, HasNotRun}
 use Rattle.front.specs.Fronts as front
@@ -10,7 +9,8 @@ use Rattle.front.specs.Refusing as refusing
 use Rattle.front.specs.Refusing.{MayStep}
 use Rattle.front.specs.declared.fault.FrontFault.{FrontFault}
 use Rattle.front.specs.declared.fault.FrontFault.TheVariants as front_fault
-use Rattle.tasks.specs.Tasks.{Task, task_reading, task_groups}
+use Rattle.sessions.specs.Session.{Answer, Now, Go, asks}
+use Rattle.tasks.specs.Tasks.{Task, task_groups}
 use Rattle.cluster.specs.Histories.{HistoryView, IsIn, IsLawful, kept_for, IsHistory, kept_back, MayGoOn}
 use Rattle.cluster.specs.Histories.{IsMade, IsUnchanged, IsRefused, HasNoFault, IsFault, IsPlain}
 use Rattle.cluster.specs.Making.{Makes, of_front}
@@ -21,7 +21,7 @@ use Rattle.journal.specs.declared.step.Step.TheVariants.{Open, Submit, Deliver, 
 use Rattle.journal.specs.declared.trace.TheConstants.{GREATEST_STEPS}
 use Rattle.placement.specs.Layout.{Layout}
 use Rattle.skeen_core.specs.declared.packet.Delivered.{Delivered}
-use Rattle.world.specs.Steps.{OwnFault, opening, Effect, Collects, Steps, submitted, submitted_to}
+use Rattle.world.specs.Steps.{OwnFault, opening, Effect, Collects, Steps, submitted, submitted_to, in_session}
 use Rattle.world.specs.Steps as world
 use Rattle.world.specs.World.{World, Standing, Closed, Idle, Waiting, Answered, Layer, NoneTaken, Taken, HasRun}
 
@@ -109,9 +109,9 @@ submitted_to_layer : (w : World) (c : ℕ) (task : Task) (gs : List ℕ) → (su
 submitted_to_layer w c task [] = refl
 submitted_to_layer w c task (g ∷ gs) = refl
 
-submitted_layer : (t : Layout) (w : World) (c : ℕ) (r : Result Task Refusal) → (submitted t w c r).layer ≡ w.layer
-submitted_layer t w c (Err refusal) = refl
-submitted_layer t w c (Ok task) = submitted_to_layer w c task (task_groups t task)
+submitted_layer : (t : Layout) (w : World) (c : ℕ) (a : Answer) → (submitted t w c a).layer ≡ w.layer
+submitted_layer t w c (Now reply) = refl
+submitted_layer t w c (Go task) = submitted_to_layer w c task (task_groups t task)
 
 collects_layer : (w w' : World) (c : ℕ) (standing : Standing) (e : Effect) → Collects standing w c e w' → w'.layer ≡ w.layer
 collects_layer w w' c Closed e step = absurd step
@@ -121,7 +121,9 @@ collects_layer w w' c (Answered o) e step = ap (λ v. v.layer) step.1
 
 layer_stays : (t : Layout) (w w' : World) (s : Step) (e : Effect) → IsPlain s → Steps t w s e w' → w'.layer ≡ w.layer
 layer_stays t w w' Open e plain step = ap (λ v. v.layer) step.after
-layer_stays t w w' (Submit conn words) e plain step = ap (λ v. v.layer) step.after ∙ submitted_layer t w conn.0 (task_reading words)
+layer_stays t w w' (Submit conn words) e plain step =
+    let came = asks (w.session conn.0) words in
+    ap (λ v. v.layer) step.after ∙ submitted_layer t (in_session w conn.0 came.0) conn.0 came.1
 layer_stays t w w' (Deliver k) e plain step = ap (λ v. v.layer) step.after
 layer_stays t w w' Take e plain step = absurd plain
 layer_stays t w w' (Run starved) e plain step = absurd plain
@@ -163,6 +165,7 @@ history_made old new step effect is plain counts made =
       counted = omega arith;
       whole = counts.whole ∙ is.whole;
       lawful = record { world = next.after; told = is.lawful.told; shows = next.shows };
+      tidy = is.tidy;
     }
 
 -- ---- a step that was not
@@ -194,6 +197,7 @@ history_still old new is still =
         told = is.lawful.told;
         shows = in_still old new still is.lawful.world is.lawful.told is.lawful.shows;
       };
+      tidy = is.tidy;
     }
 
 -- what it leaves, where only room has changed
@@ -271,4 +275,5 @@ history_new t most f max steps room few is same none =
         told = told;
         shows = record { at = subst (λ h. FrontIsAt f h opening told) (sym none) at'; not_run = tt };
       };
+      tidy = λ i. tt;
     }

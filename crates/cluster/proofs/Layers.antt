@@ -1,24 +1,26 @@
 -- A layer is handed out, and what came of it is settled.
-use Rattle.std.proofs.Common.{◌≡◌, ◌≢◌, ◌+◌, ◌<◌, List, [], ◌∷◌, ◌++◌, length, Result, Ok, Err, OnOk, sym, ap, ◌∙◌, subst, arith}
+use Rattle.std.proofs.Common.{◌≡◌, ◌≢◌, ◌+◌, ◌<◌, List, [], ◌∷◌, ◌++◌, length, inl, inr, Result, Ok, Err, OnOk, sym, ap, ◌∙◌, subst, arith}
 use Rattle.std.proofs.Common.{length-append}
-use Rattle.front.proofs.Telling.{now_told}
-use Rattle.front.specs.Fronts.{FrontIsAt, HasNotRun, IsFront}
+use Rattle.front.proofs.Telling.{now_told, is_told}
+use Rattle.front.specs.Fronts.{Told, FrontIsAt, HasNotRun}
 use Rattle.front.specs.Making.{IsStep}
 use Rattle.front.specs.Settling as settling
-use Rattle.front.specs.Settling.{ids_starved}
+use Rattle.front.specs.Settling.{IsToldOf}
 use Rattle.front.specs.Taking.{Takes}
 use Rattle.front.specs.declared.fault.FrontFault.{FrontFault}
 use Rattle.front.specs.declared.fault.FrontFault.TheVariants as front_fault
 use Rattle.cluster.proofs.Histories.{kept_few, kept_some, kept_none, made}
 use Rattle.cluster.proofs.Making.{takes_so}
-use Rattle.cluster.proofs.Telling.{can_be_told}
 use Rattle.cluster.specs.Histories.{HistoryView, IsHistory}
 use Rattle.cluster.specs.Layers.{HandsOut, IsSettled, IsSettleFault}
 use Rattle.cluster.specs.Making.{of_front}
+use Rattle.cluster.specs.Tidy.{IsTidyTold, AreTidy}
 use Rattle.cluster.specs.declared.fault.StepFault.{StepFault}
+use Rattle.groups.specs.declared.request.RequestId.{RequestId}
 use Rattle.journal.specs.declared.step.Step.TheVariants.{Take, Run, Settle}
 use Rattle.layer_planner.specs.declared.job.Job.{Job}
-use Rattle.layer_results.specs.Results.{Results}
+use Rattle.layer_results.specs.Results.{names_of}
+use Rattle.layer_results.specs.declared.done.DoneRow.{DoneRow}
 use Rattle.world.specs.Steps.{Made, Settles, taken}
 use Rattle.world.specs.World.{World}
 
@@ -59,6 +61,7 @@ history_taken old new jobs is counts out =
       counted = omega arith;
       whole = counts.whole ∙ is.whole;
       lawful = record { world = taken is.lawful.world new.front.out; told = is.lawful.told; shows = next.shows };
+      tidy = is.tidy;
     }
 
 -- ---- what came of it is settled
@@ -75,21 +78,27 @@ may_settle h is some =
 settled_so : (mid w' : World) → Settles mid Made w' → HasNotRun w'.layer
 settled_so mid w' step = subst (λ (v : World). HasNotRun v.layer) (sym step.after) tt
 
-pub settled : (old new : HistoryView) (done : Results) → IsHistory old → old.front.out ≢ [] → IsFront new.front →
+-- told of tidy replies beside what was told so
+tidy_now : (done : List DoneRow) (before now : Told) → AreTidy done → ((i : RequestId) → IsTidyTold (before i)) →
+    IsToldOf done before now → (i : RequestId) → IsTidyTold (now i)
+tidy_now done before now tidy was told i = elim (told.others i) [
+  | inl same ↦ subst IsTidyTold (sym same) (was i)
+  | inr row ↦ subst (λ j. IsTidyTold (now j)) row.2 (subst IsTidyTold (sym (told.rows row.0 row.1)) (tidy row.0 row.1))
+]
+
+pub settled : (old new : HistoryView) (done : List DoneRow) → IsHistory old → old.front.out ≢ [] → AreTidy done →
     settling.Settles old.front done new.front → new.max_steps ≡ old.max_steps →
-    new.steps ≡ old.steps ++ Run (ids_starved done) ∷ Settle ∷ [] → IsSettled old done new
-settled old new done is some front settles most steps = record {
+    new.steps ≡ old.steps ++ Run (names_of done) ∷ Settle ∷ [] → IsSettled old done new
+settled old new done is some tidy settles most steps = record {
   left = let within = is.within in let kept = kept_some old.front.out some in omega arith;
+  tidy = tidy;
   max_steps = most;
   steps = steps;
   table = settles.table;
   out = settles.out;
   rows = settles.rows;
   starved = settles.starved;
-  told = λ before. (
-    now_told done before,
-    can_be_told new.front front (settles.whole ∙ is.whole) old.front.rows old.front.starved done settles.rows settles.starved before,
-  );
+  told = λ before. (now_told done before, is_told done before settles.once);
   from_each = λ w before now shown told.
       let next = settles.from_taken old.steps w before now shown.at told shown.not_run in
       record {
@@ -104,13 +113,13 @@ settled old new done is some front settles most steps = record {
       };
 }
 
-pub history_settled : (old new : HistoryView) (done : Results) → IsHistory old → settling.Settles old.front done new.front →
+pub history_settled : (old new : HistoryView) (done : List DoneRow) → IsHistory old → settling.Settles old.front done new.front →
     IsSettled old done new → IsHistory new
 history_settled old new done is counts settled =
     let now = settled.told is.lawful.told in
     let next = settled.from_each is.lawful.world is.lawful.told now.0 is.lawful.shows now.1 in
     let longer = ap length settled.steps in
-    let two = length-append old.steps (Run (ids_starved done) ∷ Settle ∷ []) in
+    let two = length-append old.steps (Run (names_of done) ∷ Settle ∷ []) in
     let few = is.few in
     let left = settled.left in
     let same = settled.max_steps in
@@ -124,11 +133,12 @@ history_settled old new done is counts settled =
       counted = omega arith;
       whole = counts.whole ∙ is.whole;
       lawful = record { world = next.after; told = now.0; shows = next.shows };
+      tidy = tidy_now done is.lawful.told now.0 settled.tidy is.tidy now.1;
     }
 
 -- ---- why nothing is settled
 
-pub settle_fault : (h : HistoryView) (done : Results) (fault : FrontFault) (told : StepFault) → told ≡ of_front fault →
+pub settle_fault : (h : HistoryView) (done : List DoneRow) (fault : FrontFault) (told : StepFault) → told ≡ of_front fault →
     h.front.out ≢ [] → settling.IsSettleFault h.front done fault → IsSettleFault h done told
 settle_fault h done fault told same some why = subst (IsSettleFault h done) (sym same) (so fault why)
   where
@@ -137,7 +147,7 @@ settle_fault h done fault told same some why = subst (IsSettleFault h done) (sym
     so front_fault.NoConn why = absurd why
     so front_fault.NoPacket why = absurd why
     so front_fault.InFlight why = absurd why
-    so front_fault.NoLayer why = why
+    so front_fault.NoLayer why = λ both. why both.0
     so front_fault.Memory why = some
 
 -- ---- answers

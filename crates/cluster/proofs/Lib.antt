@@ -2,6 +2,7 @@ pub mod Histories
 pub mod Making
 pub mod Effects
 pub mod Telling
+pub mod TidyRows
 pub mod Layers
 pub mod Turns
 pub mod Submits

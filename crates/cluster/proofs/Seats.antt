@@ -6,7 +6,6 @@ use Rattle.std.proofs.lemmas.Bool.{both_ways, cond-true, cond-false, cases_Bool}
 use Rattle.std.proofs.lemmas.List.{append_assoc}
 use Rattle.std.specs.Cmp.{unsigned_tied}
 use Rattle.std.specs.Ordering.{is_eq, nat_cmp}
-use Rattle.front.specs.Settling.{ids_starved}
 use Rattle.cluster.proofs.Effects.{opened_so, submitted_so}
 use Rattle.cluster.proofs.Histories.{in_still}
 use Rattle.cluster.proofs.Submits.{submits-append, submits-one, submits_by-one, other_submit, no_submit, last_still, last_now}
@@ -26,7 +25,8 @@ use Rattle.journal.specs.declared.step.Step.{Step}
 use Rattle.journal.specs.declared.step.Step.TheVariants.{Open, Submit, Deliver, Take, Run, Settle, Collect, Close, Repeat}
 use Rattle.journal.specs.declared.trace.TheConstants.{GREATEST_STEPS}
 use Rattle.layer_planner.specs.declared.job.Job.{Job}
-use Rattle.layer_results.specs.Results.{Results}
+use Rattle.layer_results.specs.Results.{names_of}
+use Rattle.layer_results.specs.declared.done.DoneRow.{DoneRow}
 use Rattle.world.specs.Steps.{at, opening, Leads, Effect, Opened, Submitted, Ran, Made}
 use Rattle.world.specs.World.{World, Standing, Closed, Idle}
 use Rattle.world_laws.proofs.Values.{at_here}
@@ -489,11 +489,11 @@ cluster_taken all parts requests lasts h h' book sat stood back (Err f) out stil
     cluster_still all parts requests lasts h h' book sat stood back still is
 
 -- two steps more, neither of which opens a connection or submits a request
-cluster_settled : (all parts requests : ℕ) (lasts : List (ℕ × Last)) (h h' : HistoryView) (book sat stood back : ℕ) (done : Results) →
+cluster_settled : (all parts requests : ℕ) (lasts : List (ℕ × Last)) (h h' : HistoryView) (book sat stood back : ℕ) (done : List DoneRow) →
     IsSettled h done h' → IsCluster all parts requests lasts (cluster h book sat stood back) →
     IsCluster all parts requests lasts (cluster h' book sat stood back)
 cluster_settled all parts requests lasts h h' book sat stood back done settled is =
-    let run = Run (ids_starved done) in
+    let run = Run (names_of done) in
     let seated = is.seated in
     let now = settled.told seated.told in
     let next = settled.from_each seated.world seated.told now.0 seated.shows now.1 in
@@ -523,15 +523,15 @@ cluster_settled all parts requests lasts h h' book sat stood back done settled i
         told = now.0;
         shows = next.shows;
         opened = opened_stays h.front.table next.mid next.after Settle Made tt next.settles
-            ∙ (opened_stays h.front.table seated.world next.mid run (Ran (ids_starved done)) tt next.runs ∙ seated.opened);
+            ∙ (opened_stays h.front.table seated.world next.mid run (Ran (names_of done)) tt next.runs ∙ seated.opened);
         known = λ i. known_still (last_of lasts i) _ _ (closed_stays h.front.table next.mid next.after Settle Made i tt next.settles)
             (known_still (last_of lasts i) _ _
-            (closed_stays h.front.table seated.world next.mid run (Ran (ids_starved done)) i tt next.runs) (seated.known i));
+            (closed_stays h.front.table seated.world next.mid run (Ran (names_of done)) i tt next.runs) (seated.known i));
       };
     }
 
 -- whatever a settle answers it leaves a cluster
-pub cluster_told : (all parts requests : ℕ) (lasts : List (ℕ × Last)) (h h' : HistoryView) (book sat stood back : ℕ) (done : Results)
+pub cluster_told : (all parts requests : ℕ) (lasts : List (ℕ × Last)) (h h' : HistoryView) (book sat stood back : ℕ) (done : List DoneRow)
     {E : Type 0} (r : Result (Unit {0}) E) → OnOk r (IsSettled h done h') → OnErr r (IsUnchanged h h') →
     IsCluster all parts requests lasts (cluster h book sat stood back) → IsCluster all parts requests lasts (cluster h' book sat stood back)
 cluster_told all parts requests lasts h h' book sat stood back done (Ok u) settled still is =

@@ -119,11 +119,12 @@ said_once steps i ws ws' said again =
     let two = again.number in
     split_once i.conn ws ws' said.behind again.behind said.before again.before (sym said.split ∙ again.split) (omega arith)
 
--- what was said is said of the longer trace
-pub said_still : (steps : List Step) (s : Step) (i : RequestId) (ws : List (List ℕ)) → IsSaid steps i ws → IsSaid (steps ++ s ∷ []) i ws
-said_still steps s i ws said = record {
+-- what was said is said of the longer trace, and met the same session
+abbrev pub said_later : (steps steps' : List Step) (s : Step) (i : RequestId) (ws : List (List ℕ)) → steps' ≡ steps ++ s ∷ [] →
+    IsSaid steps i ws → IsSaid steps' i ws
+said_later steps steps' s i ws longer said = record {
   before = said.before;
   behind = said.behind ++ s ∷ [];
-  split = ap (λ h. h ++ s ∷ []) said.split ∙ append_assoc said.before (Submit i.conn ws ∷ said.behind) (s ∷ []);
+  split = longer ∙ ap (λ h. h ++ s ∷ []) said.split ∙ append_assoc said.before (Submit i.conn ws ∷ said.behind) (s ∷ []);
   number = said.number;
 }

@@ -1,16 +1,16 @@
 -- What a step of the world leaves as it was: how many requests a connection has submitted, how many connections were
 -- opened, and who is closed.
-use Rattle.std.proofs.Common.{◌≡◌, ℕ, suc, ◌+◌, ◌==◌, cond, false, List, [], ◌∷◌, Result, Ok, Err, refl}
+use Rattle.std.proofs.Common.{◌≡◌, ℕ, suc, ◌+◌, ◌==◌, cond, false, List, [], ◌∷◌, refl}
 use Rattle.std.proofs.Common.{sym, ap, ◌∙◌}
 use Rattle.std.proofs.Common.{arith, inl, inr, eqb-true}
 use Rattle.std.proofs.lemmas.Bool.{cond-true, cond-false, cases_Bool}
 use Rattle.cluster.specs.Submits.{submit_by, submits_by}
-use Rattle.command_table.specs.declared.refusal.Refusal.{Refusal}
 use Rattle.journal.specs.declared.step.Step.{Step}
 use Rattle.journal.specs.declared.step.Step.TheVariants.{Open, Submit, Deliver, Take, Run, Settle, Collect, Close, Repeat}
 use Rattle.placement.specs.Layout.{Layout}
-use Rattle.tasks.specs.Tasks.{Task, task_reading, task_groups}
-use Rattle.world.specs.Steps.{at, opening, Effect, Collects, Steps, Makes, Leads, submitted, submitted_to}
+use Rattle.sessions.specs.Session.{Answer, Now, Go, asks}
+use Rattle.tasks.specs.Tasks.{Task, task_groups}
+use Rattle.world.specs.Steps.{at, opening, Effect, Collects, Steps, Makes, Leads, submitted, submitted_to, in_session}
 use Rattle.world.specs.World.{World, Standing, Closed, Idle, Waiting, Answered}
 use Rattle.world_laws.proofs.Connections.{settled_closed}
 
@@ -20,9 +20,9 @@ submitted_to_seq : (w : World) (c : ℕ) (task : Task) (gs : List ℕ) → (subm
 submitted_to_seq w c task [] = refl
 submitted_to_seq w c task (g ∷ gs) = refl
 
-submitted_seq : (t : Layout) (w : World) (c : ℕ) (r : Result Task Refusal) → (submitted t w c r).seq ≡ at w.seq c (suc (w.seq c))
-submitted_seq t w c (Err refusal) = refl
-submitted_seq t w c (Ok task) = submitted_to_seq w c task (task_groups t task)
+submitted_seq : (t : Layout) (w : World) (c : ℕ) (a : Answer) → (submitted t w c a).seq ≡ at w.seq c (suc (w.seq c))
+submitted_seq t w c (Now reply) = refl
+submitted_seq t w c (Go task) = submitted_to_seq w c task (task_groups t task)
 
 one_more_at : (f : ℕ → ℕ) (c d : ℕ) → at f d (suc (f d)) c ≡ f c + cond (c == d) 1 0
 one_more_at f c d = elim (cases_Bool (c == d)) [
@@ -46,7 +46,9 @@ none_more f g c same = let k = ap (λ (h : ℕ → ℕ). h c) same in omega arit
 pub step_seq : (t : Layout) (w w' : World) (s : Step) (e : Effect) (c : ℕ) → Steps t w s e w' → w'.seq c ≡ w.seq c + submit_by c s
 step_seq t w w' Open e c step = none_more w'.seq w.seq c (ap (λ v. v.seq) step.after)
 step_seq t w w' (Submit conn words) e c step =
-    ap (λ v. v.seq c) step.after ∙ (ap (λ (f : ℕ → ℕ). f c) (submitted_seq t w conn.0 (task_reading words)) ∙ one_more_at w.seq c conn.0)
+    let came = asks (w.session conn.0) words in
+    ap (λ v. v.seq c) step.after
+    ∙ (ap (λ (f : ℕ → ℕ). f c) (submitted_seq t (in_session w conn.0 came.0) conn.0 came.1) ∙ one_more_at w.seq c conn.0)
 step_seq t w w' (Deliver k) e c step = none_more w'.seq w.seq c (ap (λ v. v.seq) step.after)
 step_seq t w w' Take e c step = none_more w'.seq w.seq c (ap (λ v. v.seq) step.after)
 step_seq t w w' (Run starved) e c step = none_more w'.seq w.seq c (ap (λ v. v.seq) step.after)
@@ -85,9 +87,9 @@ submitted_to_opened : (w : World) (c : ℕ) (task : Task) (gs : List ℕ) → (s
 submitted_to_opened w c task [] = refl
 submitted_to_opened w c task (g ∷ gs) = refl
 
-submitted_opened : (t : Layout) (w : World) (c : ℕ) (r : Result Task Refusal) → (submitted t w c r).opened ≡ w.opened
-submitted_opened t w c (Err refusal) = refl
-submitted_opened t w c (Ok task) = submitted_to_opened w c task (task_groups t task)
+submitted_opened : (t : Layout) (w : World) (c : ℕ) (a : Answer) → (submitted t w c a).opened ≡ w.opened
+submitted_opened t w c (Now reply) = refl
+submitted_opened t w c (Go task) = submitted_to_opened w c task (task_groups t task)
 
 collects_opened : (w w' : World) (c : ℕ) (standing : Standing) (e : Effect) → Collects standing w c e w' → w'.opened ≡ w.opened
 collects_opened w w' c Closed e step = absurd step
@@ -97,7 +99,9 @@ collects_opened w w' c (Answered o) e step = ap (λ v. v.opened) step.1
 
 pub opened_stays : (t : Layout) (w w' : World) (s : Step) (e : Effect) → IsNoOpen s → Steps t w s e w' → w'.opened ≡ w.opened
 opened_stays t w w' Open e plain step = absurd plain
-opened_stays t w w' (Submit conn words) e plain step = ap (λ v. v.opened) step.after ∙ submitted_opened t w conn.0 (task_reading words)
+opened_stays t w w' (Submit conn words) e plain step =
+    let came = asks (w.session conn.0) words in
+    ap (λ v. v.opened) step.after ∙ submitted_opened t (in_session w conn.0 came.0) conn.0 came.1
 opened_stays t w w' (Deliver k) e plain step = ap (λ v. v.opened) step.after
 opened_stays t w w' Take e plain step = ap (λ v. v.opened) step.after
 opened_stays t w w' (Run starved) e plain step = ap (λ v. v.opened) step.after
@@ -121,10 +125,10 @@ submitted_to_closed : (w : World) (c d : ℕ) (task : Task) (gs : List ℕ) → 
 submitted_to_closed w c d task [] else' shut = at_apart w.standing c d _ else' shut
 submitted_to_closed w c d task (g ∷ gs) else' shut = at_apart w.standing c d Waiting else' shut
 
-submitted_closed : (t : Layout) (w : World) (c d : ℕ) (r : Result Task Refusal) → (c == d) ≡ false → w.standing c ≡ Closed →
-    (submitted t w d r).standing c ≡ Closed
-submitted_closed t w c d (Err refusal) else' shut = at_apart w.standing c d _ else' shut
-submitted_closed t w c d (Ok task) else' shut = submitted_to_closed w c d task (task_groups t task) else' shut
+submitted_closed : (t : Layout) (w : World) (c d : ℕ) (a : Answer) → (c == d) ≡ false → w.standing c ≡ Closed →
+    (submitted t w d a).standing c ≡ Closed
+submitted_closed t w c d (Now reply) else' shut = at_apart w.standing c d _ else' shut
+submitted_closed t w c d (Go task) else' shut = submitted_to_closed w c d task (task_groups t task) else' shut
 
 collects_closed : (w w' : World) (c d : ℕ) (s : Standing) (e : Effect) → w.standing d ≡ s → Collects s w d e w' → w.standing c ≡ Closed →
     w'.standing c ≡ Closed
@@ -146,8 +150,10 @@ pub closed_stays : (t : Layout) (w w' : World) (s : Step) (e : Effect) (c : ℕ)
     w'.standing c ≡ Closed
 closed_stays t w w' Open e c plain step shut = absurd plain
 closed_stays t w w' (Submit conn words) e c plain step shut =
+    let came = asks (w.session conn.0) words in
     ap (λ v. v.standing c) step.after
-    ∙ submitted_closed t w c conn.0 (task_reading words) (apart w.standing c conn.0 Idle shut step.idle (λ k. let e = k in cc)) shut
+    ∙ submitted_closed t (in_session w conn.0 came.0) c conn.0 came.1
+    (apart w.standing c conn.0 Idle shut step.idle (λ k. let e = k in cc)) shut
 closed_stays t w w' (Deliver k) e c plain step shut = ap (λ v. v.standing c) step.after ∙ shut
 closed_stays t w w' Take e c plain step shut = ap (λ v. v.standing c) step.after ∙ shut
 closed_stays t w w' (Run starved) e c plain step shut = ap (λ v. v.standing c) step.after ∙ shut

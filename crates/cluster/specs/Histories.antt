@@ -3,6 +3,8 @@ use Rattle.std.specs.Prelude.{◌≡◌, ℕ, ◌+◌, ◌<◌, ◌≤◌, true,
 use Rattle.front.specs.Fronts.{FrontView, Told, retold_outcome, FrontIsAt, HasNotRun}
 use Rattle.cluster.specs.declared.fault.StepFault.{StepFault}
 use Rattle.cluster.specs.declared.fault.StepFault.TheVariants.{Busy, NoConn, NoPacket, InFlight, NoLayer, Exhausted, Memory}
+use Rattle.cluster.specs.Tidy.{IsTidyTold}
+use Rattle.groups.specs.declared.request.RequestId.{RequestId}
 use Rattle.journal.specs.declared.step.Step.{Step}
 use Rattle.journal.specs.declared.step.Step.TheVariants.{Open, Submit, Deliver, Take, Run, Settle, Collect, Close, Repeat}
 use Rattle.journal.specs.declared.trace.TheConstants.{GREATEST_STEPS}
@@ -31,19 +33,25 @@ pub record IsLawful (h : HistoryView) : Type 0 where
   pub told : Told
   pub shows : IsIn h world told
 
+-- so it does, told tidy replies alone
+pub record IsToldTidily (h : HistoryView) : Type 0 where
+  pub lawful : IsLawful h
+  pub tidy : (i : RequestId) → IsTidyTold (lawful.told i)
+
 -- how many steps are kept back while these are out: the Run and the Settle of their layer
 abbrev pub kept_for : List Delivered → ℕ
 kept_for [] = 0
 kept_for (d ∷ ds) = 2
 
--- What each history is: it is lawful, its rows and names are those of all that was settled, its front has counted the
--- steps, and those that are kept back fit behind them.
+-- What each history is: it is lawful, its rows and names are those of all that was settled, its front was told tidy replies
+-- and has counted the steps, and those that are kept back fit behind them.
 pub record IsHistory (h : HistoryView) : Type 0 where
   pub few : h.max_steps ≤ GREATEST_STEPS
   pub within : length h.steps + kept_for h.front.out ≤ h.max_steps
   pub counted : h.front.steps + h.front.layers ≡ length h.steps
   pub whole : h.front.whole ≡ true
   pub lawful : IsLawful h
+  pub tidy : (i : RequestId) → IsTidyTold (lawful.told i)
 
 -- ---- a step
 

@@ -1,4 +1,5 @@
 pub mod Submits
+pub mod Tidy
 pub mod Histories
 pub mod Making
 pub mod Layers

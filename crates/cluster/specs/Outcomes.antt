@@ -6,11 +6,12 @@ use Rattle.placement.specs.Layout.{Layout}
 use Rattle.resp.specs.Content.{out_of_memory}
 use Rattle.resp.specs.Text.{text}
 use Rattle.groups.specs.Order.{In}
-use Rattle.groups.specs.declared.request.RequestId.{RequestId}
+use Rattle.groups.specs.declared.skip_id.SkipId.{SkipId}
+use Rattle.groups.specs.declared.skip_id.SkipId.TheVariants.{Whole}
 use Rattle.groups.specs.declared.stamp.Stamp.{Stamp}
-use Rattle.tasks.specs.Tasks.{task_reading}
+use Rattle.sessions.specs.declared.session.Session.{Session}
 use Rattle.world.specs.World.{Outcome}
-use Rattle.world_laws.specs.Collecting.{reply_at_once}
+use Rattle.world_laws.specs.Collecting.{IsRepliedAtOnce}
 
 -- it is a row: the request was executed, with this final stamp, and this is the text of its reply
 pub record IsOfRow (rows : List RowView) (o : Outcome) : Type 0 where
@@ -20,19 +21,20 @@ pub record IsOfRow (rows : List RowView) (o : Outcome) : Type 0 where
   pub stamp : o.stamp ≡ Some row.stamp
   pub reply : row.reply ≡ text o.reply
 
--- the request starved
-pub record HasStarved (starved : List RequestId) (o : Outcome) : Type 0 where
-  pub there : In o.id starved
+-- the request starved as a whole
+pub record HasStarved (starved : List SkipId) (o : Outcome) : Type 0 where
+  pub there : In (Whole o.id) starved
   pub stamp : IsSome o.stamp
   pub reply : o.reply ≡ out_of_memory
 
--- its words are refused, or say a task that addresses no group, and this is their reply
-pub record IsAtOnce (t : Layout) (words : List (List ℕ)) (o : Outcome) : Type 0 where
+-- by what the connection remembers the words are answered, or say a task that addresses no group, and this is their reply
+pub record IsAtOnce (t : Layout) (session : Session) (words : List (List ℕ)) (o : Outcome) : Type 0 where
   pub stamp : o.stamp ≡ None
-  pub reply : reply_at_once t (task_reading words) ≡ Some o.reply
+  pub reply : IsRepliedAtOnce t o.reply session words
 
-abbrev pub ComesFrom : FrontView → List (List ℕ) → Outcome → Type 0
-ComesFrom f words o = IsOfRow f.rows o ⊎ (HasStarved f.starved o ⊎ IsAtOnce f.table words o)
+-- where the outcome of these words comes from, which met this session
+abbrev pub ComesFrom : FrontView → Session → List (List ℕ) → Outcome → Type 0
+ComesFrom f session words o = IsOfRow f.rows o ⊎ (HasStarved f.starved o ⊎ IsAtOnce f.table session words o)
 
 -- ---- floors
 

@@ -5,6 +5,8 @@ use Rattle.journal.specs.declared.step.Step.{Step}
 use Rattle.journal.specs.declared.step.Step.TheVariants.{Open, Submit, Deliver, Take, Run, Settle, Collect, Close, Repeat}
 use Rattle.groups.specs.declared.request.ConnId.{ConnId}
 use Rattle.groups.specs.declared.request.RequestId.{RequestId}
+use Rattle.sessions.specs.declared.session.Session.{Session}
+use Rattle.world_laws.specs.Sessions.{all_free, sessions_from}
 
 -- ---- how many
 
@@ -49,6 +51,10 @@ pub record IsSaid (steps : List Step) (id : RequestId) (words : List (List ℕ))
   pub behind : List Step
   pub split : steps ≡ before ++ Submit id.conn words ∷ behind
   pub number : id.seq ≡ suc (submits_by id.conn.0 before)
+
+-- what its connection remembered then: what its Submits before made of its session
+abbrev pub session_met : {steps : List Step} {id : RequestId} {words : List (List ℕ)} → IsSaid steps id words → Session
+session_met {steps} {id} {words} said = sessions_from all_free said.before id.conn.0
 
 -- ---- where the last one of a connection lies
 

@@ -1,12 +1,14 @@
 //! Whether two lists of rows are the same. Nothing here takes memory.
 
-ghost use Rattle.std.specs.Prelude.{◌≡◌, IsTrue, ◌↔◌, slice_get};
+ghost use Rattle.std.specs.Prelude.{◌≡◌, ◌<◌, ◌^◌, IsTrue, ◌↔◌, length, slice_get};
+ghost use Rattle.cluster.specs.Tidy.{IsShortAt, AreShort};
 
 use journal::{Row, Rows};
 
 /// Whether both have the same rows, in the same order.
 pub(super) fn are_same(rows: &Rows, others: &Rows) -> bool
-    ensures { IsTrue result ↔ (rows.now.rows ≡ others.now.rows) }
+    ensures same { IsTrue result ↔ (rows.now.rows ≡ others.now.rows) }
+    ensures short { IsTrue result → AreShort rows.now.rows }
 {
     if rows.len() != others.len() {
         return false;
@@ -21,7 +23,8 @@ pub(super) fn are_same(rows: &Rows, others: &Rows) -> bool
 
 /// Whether both have the same row at this place, or both none.
 fn are_same_at(rows: &Rows, others: &Rows, place: usize) -> bool
-    ensures { IsTrue result ↔ (slice_get rows.now.rows place ≡ slice_get others.now.rows place) }
+    ensures same { IsTrue result ↔ (slice_get rows.now.rows place ≡ slice_get others.now.rows place) }
+    ensures short { IsTrue result → IsShortAt rows.now.rows place }
 {
     match rows.row(place) {
         Some(row) => match others.row(place) {
@@ -34,8 +37,11 @@ fn are_same_at(rows: &Rows, others: &Rows, place: usize) -> bool
 
 /// Whether both rows are the same: their ids, their stamps, their words and the texts of their replies.
 fn is_same(row: &Row<'_>, other: &Row<'_>) -> bool
-    ensures { IsTrue result ↔ (row.now ≡ other.now) }
+    ensures same { IsTrue result ↔ (row.now ≡ other.now) }
+    ensures short { length row.now.reply < 2 ^ 64 }
 {
+    // `len` is called for its clause that it is a `usize`.
+    let _size = row.reply().len();
     row.id() == other.id()
         && row.stamp() == other.stamp()
         && row.reply() == other.reply()

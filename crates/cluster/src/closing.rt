@@ -3,7 +3,8 @@
 ghost use Rattle.std.specs.Prelude.{◌≡◌};
 
 /// What is told of a cluster that is closed: how many requests were submitted, and of those that addressed a group how
-/// many were executed and how many starved. Only `Cluster::closing` makes one.
+/// many were executed; and how many requests, and members of EXECs that were executed, starved. Only `Cluster::closing`
+/// makes one.
 #[derive(Clone, Copy, Debug, PartialEq, Eq)]
 pub struct Closing {
     pub(crate) requests: u64,
@@ -26,7 +27,7 @@ impl Closing {
         self.executed
     }
 
-    /// How many of those that addressed a group starved.
+    /// How many of those that addressed a group starved, and how many members of those that were executed.
     pub fn starved(&self) -> u64
         ensures { result ≡ self.now.starved }
     {

@@ -12,7 +12,7 @@ ghost use Rattle.cluster.specs.Histories.{kept_for, IsLawful, IsMade, IsUnchange
 ghost use Rattle.cluster.specs.Layers.{HandsOut, IsSettled, IsSettleFault};
 ghost use Rattle.cluster.specs.Outcomes.{ComesFrom, IsAbove, raised};
 ghost use Rattle.cluster.specs.Making.{effect_shown};
-ghost use Rattle.cluster.specs.Submits.{submits, submits_by, IsSaid};
+ghost use Rattle.cluster.specs.Submits.{submits, submits_by, IsSaid, session_met};
 ghost use Rattle.cluster.specs.Turns.{Delivers, IsTurnFault};
 ghost use Rattle.journal.specs.Codes.{steps_size};
 ghost use Rattle.journal.specs.declared.step.Step.{Step};
@@ -433,7 +433,8 @@ impl<L: Ledger> Cluster<L> {
         ensures id { IfOk result (λ answer. IfSome answer (λ a. a.id ≡ last_id seat.old)) }
         ensures words { IfOk result (λ answer. IfSome answer (λ a. a.words ≡ seat.old.words)) }
         ensures said { IfOk result (λ answer. IfSome answer (λ a. IsSaid self.old.history.steps a.id a.words)) }
-        ensures from { IfOk result (λ answer. IfSome answer (λ a. ComesFrom self.new.history.front a.words (shown_outcome a))) }
+        ensures from { IfOk result (λ answer. IfSome answer (λ a. (said : IsSaid self.old.history.steps a.id a.words)
+            × ComesFrom self.new.history.front (session_met said) a.words (shown_outcome a))) }
         ensures above { IfOk result (λ answer. IfSome answer (λ a. IsAbove a.stamp seat.old.floor)) }
         ensures seat { IfOk result (λ answer. IfSome answer (λ a. seat.new ≡ record seat.old { floor = raised a.stamp seat.old.floor })) }
         ensures rest { SameBook self.old self.new × (self.new.sat ≡ self.old.sat) }
@@ -686,7 +687,8 @@ fn take_outcome<L: Ledger>(
     ensures above { IfOk result (λ outcome. IsAbove outcome.stamp seat.old.floor) }
     ensures id { IfOk result (λ outcome. outcome.id ≡ last_id seat.old) }
     ensures said { IfOk result (λ outcome. IsSaid history.old.steps outcome.id seat.old.words) }
-    ensures from { IfOk result (λ outcome. ComesFrom history.new.front seat.old.words (outcome_shown outcome)) }
+    ensures from { IfOk result (λ outcome. (said : IsSaid history.old.steps outcome.id seat.old.words)
+        × ComesFrom history.new.front (session_met said) seat.old.words (outcome_shown outcome)) }
     ensures seat { IfOk result (λ outcome. seat.new ≡ record seat.old { floor = raised outcome.stamp seat.old.floor }) }
     ensures refused { IfErr result (IsCollectFault history.old seat.old) }
     ensures unchanged { OnErr result (IsUnchanged history.old history.new × (seat.new ≡ seat.old)) }

@@ -1,7 +1,7 @@
 //! A front beside the trace of the steps that were made.
 
-ghost use Rattle.std.specs.Prelude.{◌≡◌, ◌+◌, ◌++◌, ◌∷◌, ◌≤◌, ◌<◌, true, false, [], length, map, IfOk, IfErr, OnOk, OnErr};
-ghost use Rattle.cluster.specs.Histories.{kept_for, IsLawful, IsMade, IsUnchanged, IsFault, IsPlain, IsUnanswered};
+ghost use Rattle.std.specs.Prelude.{◌≡◌, ◌+◌, ◌++◌, ◌∷◌, ◌≤◌, ◌<◌, true, false, [], length, IfOk, IfErr, OnOk, OnErr};
+ghost use Rattle.cluster.specs.Histories.{kept_for, IsLawful, IsToldTidily, IsMade, IsUnchanged, IsFault, IsPlain, IsUnanswered};
 ghost use Rattle.cluster.specs.Layers.{HandsOut, IsSettled, IsSettleFault};
 ghost use Rattle.cluster.specs.Making.{effect_shown};
 ghost use Rattle.cluster.specs.Turns.{Delivers, IsTurnFault};
@@ -10,15 +10,16 @@ ghost use Rattle.front.specs.Refusing.{WantsMemory};
 ghost use Rattle.journal.specs.Codes.{step_size, steps_size};
 ghost use Rattle.journal.specs.declared.step.Step.{Step};
 ghost use Rattle.journal.specs.declared.trace.TheConstants.{GREATEST_STEPS};
+ghost use Rattle.layer_results.specs.Results.{names_of};
 ghost use Rattle.world.specs.Steps.{Made};
 
 use super::effect::Effect;
 use super::fault::StepFault;
 use super::pick::Pick;
 use super::steps::{make, own_fault};
+use super::tidy::are_tidy;
 use front::Front;
-use groups::{RequestId, Stamp};
-use journal::{RequestIds, Step, Trace};
+use journal::{Step, Trace};
 use layer_planner::Layer;
 use layer_results::Done;
 use placement::Table;
@@ -99,6 +100,7 @@ impl History {
     /// It does nothing: its contract says what the history is.
     pub fn lawful(&self)
         ensures lawful { IsLawful self.now }
+        ensures tidy { IsToldTidily self.now }
         ensures whole { self.now.front.whole ≡ true }
     {
         let _ = &self.front;
@@ -214,8 +216,11 @@ impl History {
         }
     }
 
-    /// Tells what came of the layer that is out, and puts its Run, with the ids that starved, and its Settle behind the steps
+    /// Tells what came of the layer that is out, and puts its Run, with what starved, and its Settle behind the steps
     /// of the trace. Room for so many bytes is kept there. An error gives back what was told.
+    ///
+    /// No store hands over a reply with a line that ends within. It is looked for, since the row that is kept of such a reply
+    /// would not say which members starved.
     pub fn settle(&mut self, done: Done, kept: usize) -> Result<(), (Done, StepFault)>
         ensures settled { OnOk result (IsSettled self.old done self.new) }
         ensures fault { IfErr result (λ back. (back.0 ≡ done) × IsSettleFault self.old done back.1) }
@@ -225,8 +230,11 @@ impl History {
         if !self.front.is_out() {
             return Err((done, StepFault::NoLayer));
         }
+        if !are_tidy(&done) {
+            return Err((done, StepFault::NoLayer));
+        }
         let place = self.trace.size();
-        let Ok(()) = push_run(self.alloc, &mut self.trace, done.starved(), kept) else {
+        let Ok(()) = push_run(self.alloc, &mut self.trace, &done, kept) else {
             return Err((done, StepFault::Memory));
         };
         match self.front.settle(done) {
@@ -266,34 +274,18 @@ impl History {
     }
 }
 
-/// Puts a Run with these ids behind the steps, and keeps room for a Settle and for so many bytes more. The only error is want of
+/// Puts a Run with what starved behind the steps, and keeps room for a Settle and for so many bytes more. The only error is want of
 /// memory, which changes nothing.
-fn push_run(
-    alloc: Global,
-    trace: &mut Trace,
-    starved: &[(RequestId, Stamp)],
-    kept: usize,
-) -> Result<(), AllocError>
+fn push_run(alloc: Global, trace: &mut Trace, done: &Done, kept: usize) -> Result<(), AllocError>
     ensures max { trace.new.max ≡ trace.old.max }
-    ensures steps { OnOk result (trace.new.steps ≡ trace.old.steps ++ Step.Run (map (λ s. s.0) starved.now) ∷ []) }
+    ensures steps { OnOk result (trace.new.steps ≡ trace.old.steps ++ Step.Run (names_of done.now) ∷ []) }
     ensures room { OnOk result (step_size Step.Settle + kept ≤ trace.new.room) }
-    ensures room_left { OnOk result (trace.old.room ≤ trace.new.room + step_size (Step.Run (map (λ s. s.0) starved.now))) }
+    ensures room_left { OnOk result (trace.old.room ≤ trace.new.room + step_size (Step.Run (names_of done.now))) }
     ensures unchanged { OnErr result (trace.new ≡ trace.old) }
 {
     let Some(kept) = kept.checked_add(SETTLE_SIZE) else {
         return Err(AllocError);
     };
-    let starved = RequestIds::from(ids_of(alloc, starved)?);
+    let starved = done.names(alloc)?;
     trace.push_keeping(&Step::Run { starved }, kept)
-}
-
-/// The ids of these requests, in their order.
-fn ids_of(alloc: Global, starved: &[(RequestId, Stamp)]) -> Result<Vec<RequestId>, AllocError>
-    ensures { IfOk result (λ ids. ids.items ≡ map (λ s. s.0) starved.now) }
-{
-    let mut ids = Vec::with_capacity(alloc, starved.len())?;
-    for (id, _) in starved {
-        ids.push_reserved(*id);
-    }
-    Ok(ids)
 }

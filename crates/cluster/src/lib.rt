@@ -14,6 +14,7 @@ mod fault;
 mod history;
 mod pick;
 mod steps;
+mod tidy;
 
 pub use closing::Closing;
 pub use cluster::{Answer, CloseFault, Cluster, SealedReply, Seat};

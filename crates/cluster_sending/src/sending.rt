@@ -10,15 +10,21 @@ ghost use Rattle.back.specs.contracts.back.Back as back_type;
 ghost use Rattle.layer_results.specs.contracts.done.Done as done_type;
 ghost use Rattle.layer_results.specs.contracts.done.DoneRow as done_row_type;
 ghost use Rattle.router.specs.contracts.outcome.Outcome as outcome_type;
+ghost use Rattle.packing.specs.contracts.packed_request.PackedRequest as packed_request_type;
 ghost use Rattle.resp.specs.contracts.request.Request as request_type;
+ghost use Rattle.sessions.specs.contracts.member.Member as member_type;
+ghost use Rattle.worded.specs.contracts.worded.Worded as worded_type;
 
 use command_table::Command;
 use journal::Rows;
 use layer_results::{Done, DoneRow};
 use multicast::Multicast;
+use packing::PackedRequest;
 use resp::{Reply, Request};
-use router::{Outcome, Router};
+use router::Outcome;
+use sessions::{Batch, Member, Members};
 use shard_exec::Store;
+use worded::Worded;
 
 fn sends<T: Send>()
     ensures { IsSend T.row }
@@ -29,14 +35,36 @@ pub fn syncs<T: Sync>()
     ensures { IsSync T.row }
 {}
 
+fn member_sends()
+    ensures { IsSend member_type.the_row }
+{
+    sends::<Command>();
+    sends::<Member>();
+}
+
+fn packed_request_sends()
+    ensures { IsSend packed_request_type.the_row }
+{
+    sends::<PackedRequest>();
+}
+
+fn worded_sends()
+    ensures { IsSend worded_type.the_row }
+{
+    sends::<Command>();
+    sends::<Member>();
+    sends::<Members>();
+    sends::<Batch>();
+    sends::<Worded>();
+}
+
 fn router_sends()
     ensures { IsSend router_type.the_row }
 {
-    sends::<Command>();
-    sends::<Request>();
-    sends::<Reply>();
-    sends::<Outcome>();
-    sends::<Router>();
+    member_sends();
+    packed_request_sends();
+    worded_sends();
+    outcome_sends();
 }
 
 fn store_sends()

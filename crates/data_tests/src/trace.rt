@@ -26,6 +26,21 @@ const REPEATED: &str =
     "max 50\nopen\nsubmit 1 474554 61\nrepeat 0\nrepeat 1\ndeliver 0\ndeliver 0\ntake\nrun\n\
     settle\nrepeat 18446744073709551615\ncollect 1\nend 11\n";
 
+/// A member of a list starves, and one of another request does besides a whole one.
+const MEMBERS: &str =
+    "max 50\nopen\nsubmit 1 4d554c5449\ncollect 1\nsubmit 1 494e4352 63\ncollect 1\n\
+    submit 1 45584543\ndeliver 0\ntake\nrun 1.3.1 2.1 18446744073709551615.1.18446744073709551615\nsettle\n\
+    collect 1\nend 11\n";
+
+/// Before there were lists, their three names were unknown, whatever stood behind them.
+const WITHOUT_LISTS: &str =
+    "max 50\nsubmit 1 4d554c5449\nsubmit 1 45784563 61\nsubmit 1 64697363617264\n\
+    submit 1 4d554c544901\nend 4\n";
+
+/// What was brought over of them: the one empty word, which is as unknown.
+const BROUGHT_OVER: &str =
+    "max 50\nsubmit 1 -\nsubmit 1 -\nsubmit 1 -\nsubmit 1 4d554c544901\nend 4\n";
+
 /// A text of this version, with these lines behind the first.
 fn text_of(alloc: Global, version: &str, lines: &str) -> Result<String, AllocError> {
     format!(in alloc; "shardkv-trace {version}\n{lines}")
@@ -59,12 +74,17 @@ fn written_again(alloc: Global, text: &str) -> Result<Vec<u8>, TraceFault> {
 type Known = (&'static str, &'static str, &'static str, &'static str);
 
 #[rattlefmt::skip]
-const KNOWN: [Known; 6] = [
+const KNOWN: [Known; 11] = [
     ("two that cross", "1", CROSSING, CROSSING),
     ("two that cross", "2", CROSSING, CROSSING),
     ("one that starves", "1", STARVED, STARVED),
     ("one that starves", "2", STARVED, STARVED),
+    ("two that cross", "3", CROSSING, CROSSING),
     ("packets that are repeated", "2", REPEATED, REPEATED),
+    ("members that starve", "3", MEMBERS, MEMBERS),
+    ("names of lists", "1", WITHOUT_LISTS, BROUGHT_OVER),
+    ("names of lists", "2", WITHOUT_LISTS, BROUGHT_OVER),
+    ("names of lists", "3", WITHOUT_LISTS, WITHOUT_LISTS),
     (
         "either case",
         "1",
@@ -73,12 +93,12 @@ const KNOWN: [Known; 6] = [
     ),
 ];
 
-/// A text of either version is written in the second one.
+/// A text of any version is written in the third one.
 fn is_written(alloc: Global, known: &Known) -> Result<(), Fail> {
     let (name, version, lines, written) = *known;
     let text = text_of(alloc, version, lines)?;
     let again = written_again(alloc, text.as_str())?;
-    let want = format!(in alloc; "before shardkv-trace 2\n{written}")?;
+    let want = format!(in alloc; "before shardkv-trace 3\n{written}")?;
     same_bytes(name, &again, want.as_bytes())
 }
 
@@ -115,7 +135,7 @@ fn beginnings_are_bad(alloc: Global, text: &[u8]) -> Result<(), Fail> {
 
 #[test]
 fn a_beginning_is_bad_where_it_ends(rt: HostRuntime) -> Result<(), Fail> {
-    let text = text_of(rt.alloc(), "2", REPEATED)?;
+    let text = text_of(rt.alloc(), "3", MEMBERS)?;
     beginnings_are_bad(rt.alloc(), text.as_bytes())
 }
 
@@ -141,7 +161,7 @@ fn another_byte_is_bad_in_its_line(rt: HostRuntime) -> Result<(), Fail> {
 type Bad = (&'static str, u64);
 
 #[rattlefmt::skip]
-const OTHERS: [Bad; 22] = [
+const OTHERS: [Bad; 26] = [
     ("", 1),
     ("shardkv-trace 1\nmax 0\nend 0\n", 2),
     ("shardkv-trace 1\nmax 4611686018427387905\nend 0\n", 2),
@@ -159,6 +179,10 @@ const OTHERS: [Bad; 22] = [
     ("shardkv-trace 1\nmax 7\nsubmit 1 616\nend 1\n", 3),
     ("shardkv-trace 1\nmax 7\nrun 1\nend 1\n", 3),
     ("shardkv-trace 1\nmax 7\nrun 1.1.1\nend 1\n", 3),
+    ("shardkv-trace 2\nmax 7\nrun 1.5.3\nend 1\n", 3),
+    ("shardkv-trace 3\nmax 7\nrun 1.5.0\nend 1\n", 3),
+    ("shardkv-trace 3\nmax 7\nrun 1.5.03\nend 1\n", 3),
+    ("shardkv-trace 3\nmax 7\nrun 1.5.3.1\nend 1\n", 3),
     ("shardkv-trace 1\nmax 7\nopen\nrepeat 0\nend 2\n", 4),
     ("shardkv-trace 2\nmax 7\nrepeat\nend 1\n", 3),
     ("shardkv-trace 2\nmax 7\nrepeat 0 0\nend 1\n", 3),
@@ -180,7 +204,7 @@ fn other_texts_are_bad_at_the_first_other_line(rt: HostRuntime) -> Result<(), Fa
 }
 
 /// Versions that aren't known; the last number but one is 1 modulo 2^64.
-const OTHER_VERSIONS: [&str; 7] = ["0", "3", "02", "10", "1 ", "18446744073709551617", ""];
+const OTHER_VERSIONS: [&str; 7] = ["0", "4", "02", "10", "1 ", "18446744073709551617", ""];
 
 /// A text that spells a trace but for this version is bad at its first line.
 fn other_version_is_bad(alloc: Global, version: &str) -> Result<(), Fail> {

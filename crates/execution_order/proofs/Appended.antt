@@ -7,20 +7,20 @@ use Rattle.placement.specs.Layout.{Layout}
 use Rattle.groups.proofs.Lists.{In-append}
 use Rattle.groups.specs.Order.{In}
 use Rattle.groups.specs.Stamp.{stamp_lt}
-use Rattle.tasks.specs.Tasks.{task_effect, tasks_in_turn}
-use Rattle.execution_order.specs.Entries.{Entry, Row, tasks_of, entries_of, replies_of, rows_from, Touch, InOrder, AreAddressed}
+use Rattle.tasks.specs.Tasks.{deed_effect, deeds_in_turn}
+use Rattle.execution_order.specs.Entries.{Entry, Row, deed, deeds_of, entries_of, replies_of, rows_from, Touch, InOrder, AreAddressed}
 
 -- the rows of more requests stand behind
 pub rows_from-append : (m : Map) (es fs : List Entry)
-    → rows_from m (es ++ fs) ≡ rows_from m es ++ rows_from (tasks_in_turn m (tasks_of es)).0 fs
+    → rows_from m (es ++ fs) ≡ rows_from m es ++ rows_from (deeds_in_turn m (deeds_of es)).0 fs
 rows_from-append m [] fs = refl
 rows_from-append m (e ∷ es) fs =
-    ap (λ l. record { entry = e; reply = (task_effect e.task m).1 } ∷ l) (rows_from-append (task_effect e.task m).0 es fs)
+    ap (λ l. record { entry = e; reply = (deed_effect (deed e) m).1 } ∷ l) (rows_from-append (deed_effect (deed e) m).0 es fs)
 
-pub tasks-append : (rows more : List Row)
-    → tasks_of (entries_of (rows ++ more)) ≡ tasks_of (entries_of rows) ++ tasks_of (entries_of more)
-tasks-append [] more = refl
-tasks-append (r ∷ rows) more = ap (λ l. r.entry.task ∷ l) (tasks-append rows more)
+pub deeds-append : (rows more : List Row)
+    → deeds_of (entries_of (rows ++ more)) ≡ deeds_of (entries_of rows) ++ deeds_of (entries_of more)
+deeds-append [] more = refl
+deeds-append (r ∷ rows) more = ap (λ l. deed r.entry ∷ l) (deeds-append rows more)
 
 pub replies-append : (rows more : List Row) → replies_of (rows ++ more) ≡ replies_of rows ++ replies_of more
 replies-append [] more = refl
@@ -32,19 +32,19 @@ entries-append (r ∷ rows) more = ap (λ l. r.entry ∷ l) (entries-append rows
 
 -- rows with the replies of one thread, and behind them rows with its replies as it goes on
 pub solo-append : (old mid new : Map) (rows more : List Row)
-    → (mid, replies_of rows) ≡ tasks_in_turn old (tasks_of (entries_of rows))
-    → (new, replies_of more) ≡ tasks_in_turn mid (tasks_of (entries_of more))
-    → (new, replies_of (rows ++ more)) ≡ tasks_in_turn old (tasks_of (entries_of (rows ++ more)))
+    → (mid, replies_of rows) ≡ deeds_in_turn old (deeds_of (entries_of rows))
+    → (new, replies_of more) ≡ deeds_in_turn mid (deeds_of (entries_of more))
+    → (new, replies_of (rows ++ more)) ≡ deeds_in_turn old (deeds_of (entries_of (rows ++ more)))
 solo-append old mid new rows more before behind =
     ap (λ l. (new, l)) (replies-append rows more)
-    ∙ in_turn-append task_effect old mid new (tasks_of (entries_of rows)) (tasks_of (entries_of more)) (replies_of rows)
+    ∙ in_turn-append deed_effect old mid new (deeds_of (entries_of rows)) (deeds_of (entries_of more)) (replies_of rows)
     (replies_of more) before behind
-    ∙ ap (tasks_in_turn old) (sym (tasks-append rows more))
+    ∙ ap (deeds_in_turn old) (sym (deeds-append rows more))
 
 -- and one row more
 pub solo-push : (old mid new : Map) (rows : List Row) (r : Row)
-    → (mid, replies_of rows) ≡ tasks_in_turn old (tasks_of (entries_of rows)) → (new, r.reply) ≡ task_effect r.entry.task mid
-    → (new, replies_of (rows ++ r ∷ [])) ≡ tasks_in_turn old (tasks_of (entries_of (rows ++ r ∷ [])))
+    → (mid, replies_of rows) ≡ deeds_in_turn old (deeds_of (entries_of rows)) → (new, r.reply) ≡ deed_effect (deed r.entry) mid
+    → (new, replies_of (rows ++ r ∷ [])) ≡ deeds_in_turn old (deeds_of (entries_of (rows ++ r ∷ [])))
 solo-push old mid new rows r before here = solo-append old mid new rows (r ∷ []) before (ap (λ v. (v.0, v.1 ∷ [])) here)
 
 -- ---- the order of execution

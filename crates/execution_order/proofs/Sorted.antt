@@ -8,10 +8,10 @@ use Rattle.placement.specs.Layout.{Layout, IsTable}
 use Rattle.resp.specs.Content.{Content}
 use Rattle.groups.specs.Order.{In}
 use Rattle.groups.specs.Stamp.{stamp_lt}
-use Rattle.tasks.specs.Tasks.{task_effect, tasks_in_turn}
+use Rattle.tasks.specs.Tasks.{deed_effect, deeds_in_turn}
 use Rattle.execution_order.proofs.Sorting.{In-sort, entries-rows_by_stamp}
 use Rattle.execution_order.proofs.Untouched.{untouched_commute, Touch-swap}
-use Rattle.execution_order.specs.Entries.{Entry, Row, tasks_of, entries_of, replies_of, rows_from, insert_by, by_stamp, rows_by_stamp}
+use Rattle.execution_order.specs.Entries.{Entry, Row, deed, deeds_of, entries_of, replies_of, rows_from, insert_by, by_stamp, rows_by_stamp}
 use Rattle.execution_order.specs.Entries.{Touch, InOrder, IsAddressed, AreAddressed}
 use Rattle.execution_order.specs.Laws.{SameInStampOrder, RepliesInStampOrder, RowsAreSolo}
 
@@ -23,13 +23,13 @@ row_earlier r s = stamp_lt r.entry.stamp s.entry.stamp
 
 -- what a list of requests leaves of a map
 abbrev left_by : Map → List Entry → Map
-left_by m es = (tasks_in_turn m (tasks_of es)).0
+left_by m es = (deeds_in_turn m (deeds_of es)).0
 
 abbrev after : Entry → Map → Map
-after e m = (task_effect e.task m).0
+after e m = (deed_effect (deed e) m).0
 
 abbrev answer : Entry → Map → Content
-answer e m = (task_effect e.task m).1
+answer e m = (deed_effect (deed e) m).1
 
 abbrev row : Entry → Map → Row
 row e m = record { entry = e; reply = answer e m }
@@ -106,7 +106,7 @@ entries-rows_from : (m : Map) (es : List Entry) → entries_of (rows_from m es) 
 entries-rows_from m [] = refl
 entries-rows_from m (e ∷ es) = ap (λ l. e ∷ l) (entries-rows_from (after e m) es)
 
-replies-rows_from : (m : Map) (es : List Entry) → replies_of (rows_from m es) ≡ (tasks_in_turn m (tasks_of es)).1
+replies-rows_from : (m : Map) (es : List Entry) → replies_of (rows_from m es) ≡ (deeds_in_turn m (deeds_of es)).1
 replies-rows_from m [] = refl
 replies-rows_from m (e ∷ es) = ap (λ l. answer e m ∷ l) (replies-rows_from (after e m) es)
 
@@ -114,19 +114,19 @@ pub rows_are_solo : RowsAreSolo
 rows_are_solo m es = (entries-rows_from m es, replies-rows_from m es)
 
 -- rows whose replies are those of one thread are the rows of one thread
-pub rows-from_replies : (m : Map) (rows : List Row) → replies_of rows ≡ (tasks_in_turn m (tasks_of (entries_of rows))).1
+pub rows-from_replies : (m : Map) (rows : List Row) → replies_of rows ≡ (deeds_in_turn m (deeds_of (entries_of rows))).1
     → rows ≡ rows_from m (entries_of rows)
 rows-from_replies m [] e = refl
 rows-from_replies m (r ∷ rows) e =
     ap (λ c. record { entry = r.entry; reply = c } ∷ rows) (first_same e)
     ∙ ap (λ l. row r.entry m ∷ l) (rows-from_replies (after r.entry m) rows (rest_same e))
   where
-    first_same : r.reply ∷ replies_of rows ≡ answer r.entry m ∷ (tasks_in_turn (after r.entry m) (tasks_of (entries_of rows))).1
+    first_same : r.reply ∷ replies_of rows ≡ answer r.entry m ∷ (deeds_in_turn (after r.entry m) (deeds_of (entries_of rows))).1
         → r.reply ≡ answer r.entry m
     first_same h = cc
 
-    rest_same : r.reply ∷ replies_of rows ≡ answer r.entry m ∷ (tasks_in_turn (after r.entry m) (tasks_of (entries_of rows))).1
-        → replies_of rows ≡ (tasks_in_turn (after r.entry m) (tasks_of (entries_of rows))).1
+    rest_same : r.reply ∷ replies_of rows ≡ answer r.entry m ∷ (deeds_in_turn (after r.entry m) (deeds_of (entries_of rows))).1
+        → replies_of rows ≡ (deeds_in_turn (after r.entry m) (deeds_of (entries_of rows))).1
     rest_same h = cc
 
 pub replies_in_stamp_order : RepliesInStampOrder
@@ -138,4 +138,4 @@ replies_in_stamp_order table old new rows is_table at order solo =
     let sorted_entries = entries-rows_by_stamp rows in
     pair _ _ _ _
     (ap (λ v. v.0) solo ∙ sym (left-by_stamp table is_table old es at order) ∙ ap (left_by old) (sym sorted_entries))
-    (ap replies_of sorted ∙ replies-rows_from old (by_stamp es) ∙ ap (λ fs. (tasks_in_turn old (tasks_of fs)).1) (sym sorted_entries))
+    (ap replies_of sorted ∙ replies-rows_from old (by_stamp es) ∙ ap (λ fs. (deeds_in_turn old (deeds_of fs)).1) (sym sorted_entries))

@@ -8,7 +8,7 @@ use Rattle.groups.specs.Order.{In}
 use Rattle.groups.specs.Stamp.{stamp_lt}
 use Rattle.groups.specs.declared.request.RequestId.{RequestId}
 use Rattle.groups.specs.declared.stamp.Stamp.{Stamp}
-use Rattle.tasks.specs.Tasks.{Task, task_groups, task_effect}
+use Rattle.tasks.specs.Tasks.{Task, Deed, task_groups, deed_effect}
 
 -- a request that was executed
 pub record Entry : Type 0 where
@@ -16,14 +16,19 @@ pub record Entry : Type 0 where
   pub stamp : Stamp
   pub groups : List ℕ
   pub task : Task
+  pub starved : List ℕ  -- the numbers of its task's members that starved
 
 -- and the reply that it got
 pub record Row : Type 0 where
   pub entry : Entry
   pub reply : Content
 
-abbrev pub tasks_of : List Entry → List Task
-tasks_of entries = map (λ e. e.task) entries
+-- what it did
+abbrev pub deed : Entry → Deed
+deed e = (e.task, e.starved)
+
+abbrev pub deeds_of : List Entry → List Deed
+deeds_of entries = map deed entries
 
 abbrev pub entries_of : List Row → List Entry
 entries_of rows = map (λ r. r.entry) rows
@@ -34,7 +39,7 @@ replies_of rows = map (λ r. r.reply) rows
 -- each request with its reply, where they are executed one after another on one map
 abbrev pub rows_from : Map → List Entry → List Row
 rows_from m [] = []
-rows_from m (e ∷ es) = record { entry = e; reply = (task_effect e.task m).1 } ∷ rows_from (task_effect e.task m).0 es
+rows_from m (e ∷ es) = record { entry = e; reply = (deed_effect (deed e) m).1 } ∷ rows_from (deed_effect (deed e) m).0 es
 
 -- ---- the order of stamps
 

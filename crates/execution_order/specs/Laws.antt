@@ -3,8 +3,8 @@ use Rattle.std.specs.Prelude.{◌≡◌, List}
 use Rattle.std.specs.List.Sorted.{IsPermutation}
 use Rattle.keyspace.specs.Map.{Map}
 use Rattle.placement.specs.Layout.{Layout, IsTable}
-use Rattle.tasks.specs.Tasks.{task_effect, tasks_in_turn}
-use Rattle.execution_order.specs.Entries.{Entry, Row, tasks_of, entries_of, replies_of, rows_from, by_stamp, rows_by_stamp, Touch}
+use Rattle.tasks.specs.Tasks.{deed_effect, deeds_in_turn}
+use Rattle.execution_order.specs.Entries.{Entry, Row, deed, deeds_of, entries_of, replies_of, rows_from, by_stamp, rows_by_stamp, Touch}
 use Rattle.execution_order.specs.Entries.{AscendsByStamp, InOrder, IsAddressed, AreAddressed}
 
 -- requests that don't touch can change places: the second one answers the same whether the first has run before it or
@@ -13,8 +13,8 @@ abbrev pub UntouchedCommute : Type 0
 UntouchedCommute =
     (table : Layout) (e f : Entry) (m : Map)
     → IsTable table → IsAddressed table e → IsAddressed table f → (Touch e f → ⊥)
-    → ((task_effect f.task (task_effect e.task m).0).1 ≡ (task_effect f.task m).1)
-    × ((task_effect f.task (task_effect e.task m).0).0 ≡ (task_effect e.task (task_effect f.task m).0).0)
+    → ((deed_effect (deed f) (deed_effect (deed e) m).0).1 ≡ (deed_effect (deed f) m).1)
+    × ((deed_effect (deed f) (deed_effect (deed e) m).0).0 ≡ (deed_effect (deed e) (deed_effect (deed f) m).0).0)
 
 -- one thread that runs the requests in the order of their stamps leaves the same map as one that runs them in the
 -- order of execution, and each request gets the same reply
@@ -22,7 +22,7 @@ abbrev pub SameInStampOrder : Type 0
 SameInStampOrder =
     (table : Layout) (m : Map) (es : List Entry)
     → IsTable table → AreAddressed table es → InOrder es
-    → ((tasks_in_turn m (tasks_of (by_stamp es))).0 ≡ (tasks_in_turn m (tasks_of es)).0)
+    → ((deeds_in_turn m (deeds_of (by_stamp es))).0 ≡ (deeds_in_turn m (deeds_of es)).0)
     × (rows_from m (by_stamp es) ≡ rows_by_stamp (rows_from m es))
 
 -- so where rows have the replies of one thread in the order of execution, the sorted rows have those of one thread in
@@ -31,14 +31,14 @@ abbrev pub RepliesInStampOrder : Type 0
 RepliesInStampOrder =
     (table : Layout) (old new : Map) (rows : List Row)
     → IsTable table → AreAddressed table (entries_of rows) → InOrder (entries_of rows)
-    → (new, replies_of rows) ≡ tasks_in_turn old (tasks_of (entries_of rows))
-    → (new, replies_of (rows_by_stamp rows)) ≡ tasks_in_turn old (tasks_of (entries_of (rows_by_stamp rows)))
+    → (new, replies_of rows) ≡ deeds_in_turn old (deeds_of (entries_of rows))
+    → (new, replies_of (rows_by_stamp rows)) ≡ deeds_in_turn old (deeds_of (entries_of (rows_by_stamp rows)))
 
 -- the rows of requests are what one thread does with their tasks
 abbrev pub RowsAreSolo : Type 0
 RowsAreSolo =
     (m : Map) (es : List Entry)
-    → (entries_of (rows_from m es) ≡ es) × (replies_of (rows_from m es) ≡ (tasks_in_turn m (tasks_of es)).1)
+    → (entries_of (rows_from m es) ≡ es) × (replies_of (rows_from m es) ≡ (deeds_in_turn m (deeds_of es)).1)
 
 -- the sorted list has the same requests, and they ascend by their stamps; rows are sorted as their requests are
 abbrev pub SortingAscends : Type 0

@@ -25,7 +25,7 @@ pub fn same_in_stamp_order()
     ensures replies { RepliesInStampOrder }
 {}
 
-/// What rows and sorted rows are: the rows of requests are what one thread does with their tasks; sorted rows are
+/// What rows and sorted rows are: the rows of requests are what one thread does with their deeds; sorted rows are
 /// the same rows, and their requests ascend by stamp.
 pub fn laws_of_rows()
     ensures rows_are_solo { RowsAreSolo }

@@ -1,15 +1,17 @@
 -- Open, Collect and Close of a front are steps of the world.
 use Rattle.std.proofs.Common.{◌≡◌, ℕ, suc, ◌+◌, ◌==◌, cond, List, [], ◌∷◌, ◌++◌, Option, Some, None, option_map}
 use Rattle.std.proofs.Common.{refl, sym, ap, ◌∙◌, subst, arith}
+use Rattle.front.proofs.Keeping.{keeps_open, keeps_collect, keeps_close}
 use Rattle.front.proofs.Retelling.{at_retold, same_standings}
 use Rattle.front.proofs.Showing.{stepped, is_stepped, by_messages, is_after}
-use Rattle.front.specs.Fronts.{FrontView, Told, retold_outcome, retold_standing, retold_world, FrontIsAt}
+use Rattle.front.specs.Fronts.{FrontView, Told, retold_outcome, retold_standing, retold_world, KeepsWords, FrontIsAt}
 use Rattle.front.specs.Making.{Makes, Collects}
 use Rattle.groups.specs.declared.request.ConnId.{ConnId}
+use Rattle.groups.specs.declared.request.RequestId.{RequestId}
 use Rattle.journal.specs.declared.step.Step.{Step}
 use Rattle.journal.specs.declared.step.Step.TheVariants.{Open, Collect, Close}
 use Rattle.router.specs.Connection.{just_opened}
-use Rattle.router.specs.Router.{RouterView, connection}
+use Rattle.router.specs.Router.{RouterView, connection, session_at}
 use Rattle.router.specs.Router as router
 use Rattle.router.specs.declared.outcome.Outcome as kept
 use Rattle.system_view.proofs.Connections.{IsUnopened, opened_world, standing_world, unopened, shows_opened}
@@ -25,7 +27,7 @@ use Rattle.world_laws.proofs.Worlds.{good_world}
 
 unopened_retold : (told : Told) (w : World) → IsUnopened w → IsUnopened (retold_world told w)
 unopened_retold told w first =
-    record { standing = ap (retold_standing told) first.standing; seq = first.seq; last = first.last }
+    record { standing = ap (retold_standing told) first.standing; seq = first.seq; last = first.last; session = first.session }
 
 packets_same : (f : FrontView) (w w' : World) → w'.group ≡ w.group → w'.packets ≡ w.packets → w'.queue ≡ w.queue →
     ShowsMulticast f.table f.multicast w → ShowsMulticast f.table f.multicast w'
@@ -38,19 +40,21 @@ packets_same f w w' group packets queue shows = record {
 
 pub open_makes : (old : FrontView) (r : RouterView) (c : ConnId) → c.0 ≡ old.router.opened + 1 → r.opened ≡ old.router.opened + 1 →
     ((d : ℕ) → connection r d ≡ cond (d == r.opened) (Some just_opened) (connection old.router d)) →
-    Makes old Open (Opened c.0) (stepped old r old.multicast)
-open_makes old r c number count changes = record {
+    session_at r ≡ session_at old.router → Makes old Open (Opened c.0) (stepped old r old.multicast)
+open_makes old r c number count changes sessions = record {
   is_step = is_stepped old r old.multicast;
   from_each = λ h w told at'.
       let good = good_world old.table h w at'.leads in
       let next : c.0 ≡ suc w.opened = let e = at'.shows.connections.opened in omega arith in
-      let opened = shows_opened old.router r (retold_world told w) old.table (unopened_retold told w (unopened old.table w good))
-      good.requests at'.shows.connections count changes in
+      let first = unopened_retold told w (unopened old.table w good) in
+      let opened = shows_opened old.router r (retold_world told w) old.table first good.requests at'.shows.connections
+      count changes sessions in
       let made : Steps old.table w Open (Opened c.0) (opened_world w) = record { answers = ap Opened next; after = refl } in (
         opened_world w,
         made,
         is_after told old (stepped old r old.multicast) h w (opened_world w) Open (Opened c.0) refl at' made
             (by_messages told old r old.multicast w (opened_world w) refl refl at'.shows
+            (keeps_open old.table (retold_world told w) old.router r first good.requests at'.shows.connections count changes)
             (same_standings r (retold_world told (opened_world w)) (opened_world (retold_world told w)).standing
             (retold_world told (opened_world w)).standing (at_retold told w.standing (suc w.opened) Idle) opened)
             (packets_same old w (opened_world w) refl refl refl at'.shows.multicast)),
@@ -64,7 +68,7 @@ abbrev Gives : Told → Option kept.Outcome → Option Outcome → Type 0
 Gives told given o = option_map outcome_shown given ≡ option_map (retold_outcome told) o
 
 module _ (old : FrontView) (r : RouterView) (told : Told) (h : List Step) (w : World) (conn : ConnId) (given : Option kept.Outcome)
-    (at' : FrontIsAt old h w told) where
+    (at' : FrontIsAt old h w told) (keeps : (i : RequestId) → KeepsWords old.router i → KeepsWords r i) where
   abbrev new : FrontView
   new = stepped old r old.multicast
 
@@ -81,7 +85,7 @@ module _ (old : FrontView) (r : RouterView) (told : Told) (h : List Step) (w : W
     made,
     gives,
     is_after told old new h w (record w { standing = f }) (Collect conn) (Collected o) refl at' made
-        (by_messages told old r old.multicast w (record w { standing = f }) refl refl at'.shows connections
+        (by_messages told old r old.multicast w (record w { standing = f }) refl refl at'.shows keeps connections
         (packets_same old w (record w { standing = f }) refl refl refl at'.shows.multicast)),
   )
 
@@ -114,7 +118,8 @@ collect_makes old r conn given collects = record {
   is_step = is_stepped old r old.multicast;
   from_each = λ h w told at'.
       let as_world = shows_collect old.router r (retold_world told w) conn.0 given collects at'.shows.connections in
-      collected old r told h w conn given at' (w.standing conn.0) refl as_world.0 as_world.1 as_world.2;
+      collected old r told h w conn given at' (keeps_collect old.router r conn.0 given collects)
+      (w.standing conn.0) refl as_world.0 as_world.1 as_world.2;
 }
 
 -- ---- Close
@@ -134,7 +139,7 @@ close_makes old r conn closes = record {
         after,
         made,
         is_after told old (stepped old r old.multicast) h w after (Close conn) Made refl at' made
-            (by_messages told old r old.multicast w after refl refl at'.shows
+            (by_messages told old r old.multicast w after refl refl at'.shows (keeps_close old.router r conn.0 closes)
             (same_standings r (retold_world told after) (standing_world (retold_world told w) conn.0 Closed).standing
             (retold_world told after).standing (at_retold told w.standing conn.0 Closed) as_world.1)
             (packets_same old w after refl refl refl at'.shows.multicast)),

@@ -4,12 +4,10 @@ use Rattle.std.proofs.Common.{append_assoc}
 use Rattle.std.specs.List.{AllZip}
 use Rattle.front.proofs.Handing.{WasSettled, once_given, settle_may, settle_did}
 use Rattle.front.specs.Fronts.{Told, retold}
-use Rattle.front.specs.Outcomes.{IsSettling, IsToldBy, IsNamedBy}
-use Rattle.groups.specs.declared.request.RequestId.{RequestId}
+use Rattle.front.specs.Outcomes.{IsSettling, IsToldBy, Gives}
 use Rattle.groups.specs.declared.stamp.Stamp.{Stamp}
 use Rattle.layer_results.specs.declared.done.DoneRow.{DoneRow}
 use Rattle.placement.specs.Layout.{Layout}
-use Rattle.resp.specs.Content.{content, out_of_memory}
 use Rattle.router.specs.Router.{RouterView, connection}
 use Rattle.router.specs.declared.connection.Connection.{Connection}
 use Rattle.router.specs.declared.outcome.Outcome as kept
@@ -21,59 +19,51 @@ use Rattle.world.specs.World.{World, Standing, Ended}
 abbrev pub IsShown : Told → Ended → kept.Outcome → Type 0
 IsShown now e k = outcome_shown k ≡ outcome_of (retold now e)
 
-pub told_shown : (now : Told) (e : Ended) (row : DoneRow) (k : kept.Outcome) → IsToldBy now e row → k.id ≡ row.id →
-    content k.reply ≡ content row.reply → k.stamp ≡ Some row.stamp → IsShown now e k
-told_shown now e row k is id reply stamp = λ i. record {
-  id = (id ∙ is.id) i;
-  reply = (reply ∙ ap reply_of (sym is.reply)) i;
-  stamp = (stamp ∙ ap Some is.stamp) i;
+pub gives_shown : (now : Told) (e : Ended) (row : DoneRow) (k : kept.Outcome) → IsToldBy now e row → Gives row k → IsShown now e k
+gives_shown now e row k is gives = λ i. record {
+  id = (gives.id ∙ is.id) i;
+  reply = (gives.reply ∙ ap reply_of (sym is.reply)) i;
+  stamp = (gives.stamp ∙ ap Some is.stamp) i;
 }
 
-pub named_shown : (now : Told) (e : Ended) (s : RequestId × Stamp) (k : kept.Outcome) → IsNamedBy now e s → k.id ≡ s.0 →
-    content k.reply ≡ out_of_memory → k.stamp ≡ Some s.1 → IsShown now e k
-named_shown now e s k is id reply stamp = λ i. record {
-  id = (id ∙ is.id) i;
-  reply = (reply ∙ ap reply_of (sym is.starved)) i;
-  stamp = (stamp ∙ ap Some is.stamp) i;
-}
-
-module _ {X : Type 0} (Tells : Told → Ended → X → Type 0) (t : Layout) (w : World) (now : Told) (done es back : List Ended)
-    (standing : ℕ → Standing) where
-  pub record HalfSettled (xs : List X) (r : RouterView) : Type 0 where
+module _ (t : Layout) (w : World) (now : Told) (done es : List Ended) (standing : ℕ → Standing) where
+  pub record HalfSettled (rows : List DoneRow) (r : RouterView) : Type 0 where
     pub front : List Ended
     pub rest : List Ended
     pub split : es ≡ front ++ rest
-    pub told : AllZip (Tells now) rest xs
-    pub settling : IsSettling t w (done ++ front) (rest ++ back) (settled (map (retold now) front) standing) r
+    pub told : AllZip (IsToldBy now) rest rows
+    pub settling : IsSettling t w (done ++ front) rest (settled (map (retold now) front) standing) r
 
-  pub half_starts : (xs : List X) (r : RouterView) → AllZip (Tells now) es xs → IsSettling t w done (es ++ back) standing r →
-      HalfSettled xs r
-  half_starts xs r told settling = record {
+  pub half_starts : (rows : List DoneRow) (r : RouterView) → AllZip (IsToldBy now) es rows → IsSettling t w done es standing r →
+      HalfSettled rows r
+  half_starts rows r told settling = record {
     front = [];
     rest = es;
     split = refl;
     told = told;
-    settling = subst (λ l. IsSettling t w l (es ++ back) standing r) (sym (append-nil done)) settling;
+    settling = subst (λ l. IsSettling t w l es standing r) (sym (append-nil done)) settling;
   }
 
   -- the next request
-  pub record NextOutcome (x : X) (xs : List X) (r : RouterView) (front : List Ended) : Type 0 where
+  pub record NextOutcome (x : DoneRow) (rows : List DoneRow) (r : RouterView) (front : List Ended) : Type 0 where
     pub e : Ended
     pub behind : List Ended
     pub split : es ≡ front ++ e ∷ behind
-    pub is : Tells now e x
-    pub told : AllZip (Tells now) behind xs
-    pub settling : IsSettling t w (done ++ front) (e ∷ (behind ++ back)) (settled (map (retold now) front) standing) r
+    pub is : IsToldBy now e x
+    pub told : AllZip (IsToldBy now) behind rows
+    pub settling : IsSettling t w (done ++ front) (e ∷ behind) (settled (map (retold now) front) standing) r
 
-  next_by : (front rest : List Ended) (x : X) (xs : List X) (r : RouterView) → es ≡ front ++ rest → AllZip (Tells now) rest (x ∷ xs) →
-      IsSettling t w (done ++ front) (rest ++ back) (settled (map (retold now) front) standing) r → NextOutcome x xs r front
-  next_by front [] x xs r split told settling = absurd told
-  next_by front (e ∷ rest) x xs r split told settling =
+  next_by : (front rest : List Ended) (x : DoneRow) (rows : List DoneRow) (r : RouterView) → es ≡ front ++ rest →
+      AllZip (IsToldBy now) rest (x ∷ rows) → IsSettling t w (done ++ front) rest (settled (map (retold now) front) standing) r →
+      NextOutcome x rows r front
+  next_by front [] x rows r split told settling = absurd told
+  next_by front (e ∷ rest) x rows r split told settling =
       record { e = e; behind = rest; split = split; is = told.0; told = told.1; settling = settling }
 
-  pub next_outcome : (xs ys : List X) (x : X) (r : RouterView) (half : HalfSettled xs r) → xs ≡ x ∷ ys → NextOutcome x ys r half.front
-  next_outcome xs ys x r half is =
-      next_by half.front half.rest x ys r half.split (subst (λ l. AllZip (Tells now) half.rest l) is half.told) half.settling
+  pub next_outcome : (rows behind : List DoneRow) (x : DoneRow) (r : RouterView) (half : HalfSettled rows r) → rows ≡ x ∷ behind →
+      NextOutcome x behind r half.front
+  next_outcome rows behind x r half is =
+      next_by half.front half.rest x behind r half.split (subst (λ l. AllZip (IsToldBy now) half.rest l) is half.told) half.settling
 
   more_settled : (front : List Ended) (e : Ended) (s : ℕ → Standing) → settled (map (retold now) (front ++ e ∷ [])) s
       ≡ once_given (outcome_of (retold now e)) (settled (map (retold now) front) s)
@@ -81,38 +71,38 @@ module _ {X : Type 0} (Tells : Told → Ended → X → Type 0) (t : Layout) (w 
   more_settled (x ∷ front) e s = more_settled front e (once_given (outcome_of (retold now x)) s)
 
   -- so much the router's settle asks
-  pub next_may : (x : X) (xs : List X) (r : RouterView) (front : List Ended) (next : NextOutcome x xs r front) (k : kept.Outcome) →
-      IsShown now next.e k → (v : Connection) × (connection r k.id.conn.0 ≡ Some v)
-  next_may x xs r front next k shown =
-      settle_may t w (done ++ front) next.e (next.behind ++ back) _ r next.settling (outcome_of (retold now next.e)) refl refl k shown
+  pub next_may : (x : DoneRow) (rows : List DoneRow) (r : RouterView) (front : List Ended) (next : NextOutcome x rows r front)
+      (k : kept.Outcome) → Gives x k → (v : Connection) × (connection r k.id.conn.0 ≡ Some v)
+  next_may x rows r front next k gives =
+      settle_may t w (done ++ front) next.e next.behind _ r next.settling (outcome_of (retold now next.e)) refl refl k
+      (gives_shown now next.e x k next.is gives)
 
   -- and then one more has gone
-  pub next_did : (x : X) (xs : List X) (r r' : RouterView) (front : List Ended) (next : NextOutcome x xs r front) (k : kept.Outcome)
-      (s : Stamp) → IsShown now next.e k → s ≡ next.e.stamp → WasSettled r r' k.id.conn.0 s.clock k → HalfSettled xs r'
-  next_did x xs r r' front next k s shown stamp did = record {
+  pub next_did : (x : DoneRow) (rows : List DoneRow) (r r' : RouterView) (front : List Ended) (next : NextOutcome x rows r front)
+      (k : kept.Outcome) (s : Stamp) → Gives x k → s ≡ x.stamp → WasSettled r r' k.id.conn.0 s.clock k → HalfSettled rows r'
+  next_did x rows r r' front next k s gives stamp did = record {
     front = front ++ next.e ∷ [];
     rest = next.behind;
     split = next.split ∙ sym (append_assoc front (next.e ∷ []) next.behind);
     told = next.told;
     settling =
-        subst (λ f. IsSettling t w (done ++ (front ++ next.e ∷ [])) (next.behind ++ back) f r') (sym (more_settled front next.e standing))
-        (subst (λ l. IsSettling t w l (next.behind ++ back)
+        subst (λ f. IsSettling t w (done ++ (front ++ next.e ∷ [])) next.behind f r') (sym (more_settled front next.e standing))
+        (subst (λ l. IsSettling t w l next.behind
         (once_given (outcome_of (retold now next.e)) (settled (map (retold now) front) standing)) r')
         (append_assoc done front (next.e ∷ []))
-        (settle_did t w (done ++ front) next.e (next.behind ++ back) _ r next.settling (outcome_of (retold now next.e)) refl refl
-        r' k s shown stamp did));
+        (settle_did t w (done ++ front) next.e next.behind _ r next.settling (outcome_of (retold now next.e)) refl refl
+        r' k s (gives_shown now next.e x k next.is gives) (stamp ∙ next.is.stamp) did));
   }
 
-  none_left : (rest : List Ended) (xs : List X) → xs ≡ [] → AllZip (Tells now) rest xs → rest ≡ []
-  none_left [] xs none told = refl
+  none_left : (rest : List Ended) (rows : List DoneRow) → rows ≡ [] → AllZip (IsToldBy now) rest rows → rest ≡ []
+  none_left [] rows none told = refl
   none_left (e ∷ rest) [] none told = absurd told
-  none_left (e ∷ rest) (x ∷ xs) none told = cc
+  none_left (e ∷ rest) (x ∷ rows) none told = cc
 
-  pub half_ends : (xs : List X) (r : RouterView) → xs ≡ [] → HalfSettled xs r →
-      IsSettling t w (done ++ es) back (settled (map (retold now) es) standing) r
-  half_ends xs r none half =
-      let behind = none_left half.rest xs none half.told in
+  pub half_ends : (rows : List DoneRow) (r : RouterView) → rows ≡ [] → HalfSettled rows r →
+      IsSettling t w (done ++ es) [] (settled (map (retold now) es) standing) r
+  half_ends rows r none half =
+      let behind = none_left half.rest rows none half.told in
       let all : half.front ≡ es = sym (half.split ∙ ap (λ l. half.front ++ l) behind ∙ append-nil half.front) in
-      subst (λ l. IsSettling t w (done ++ l) back (settled (map (retold now) l) standing) r) all
-      (subst (λ l. IsSettling t w (done ++ half.front) (l ++ back) (settled (map (retold now) half.front) standing) r) behind
-      half.settling)
+      subst (λ l. IsSettling t w (done ++ l) [] (settled (map (retold now) l) standing) r) all
+      (subst (λ l. IsSettling t w (done ++ half.front) l (settled (map (retold now) half.front) standing) r) behind half.settling)

@@ -1,10 +1,11 @@
--- The outcomes of a layer go to their connections, one after another, in whatever order, as the front was told of them.
+-- The outcomes of a layer go to their connections, one after another, as the front was told of them.
 use Rattle.std.proofs.Common.{◌≡◌, ℕ, ◌==◌, Bool, true, false, cond, ◌||◌, List, [], ◌∷◌, ◌++◌, inl, inr}
 use Rattle.std.proofs.Common.{Some, None, refl, sym}
 use Rattle.std.proofs.Common.{ap, ◌∙◌, subst, eqb-true, eq-eqb}
 use Rattle.std.proofs.Math.Seq.{append_snoc}
 use Rattle.std.proofs.lemmas.Bool.{both_ways, cases_Bool, cond-true, cond-false}
 use Rattle.std.proofs.lemmas.List.{append_cancel_right}
+use Rattle.front.proofs.Names.{in_ids}
 use Rattle.front.specs.Outcomes.{half_settled, IsSettling}
 use Rattle.groups.proofs.Ids.{same_id-true}
 use Rattle.groups.proofs.Lists.{In-left, In-right}
@@ -15,12 +16,13 @@ use Rattle.groups.specs.declared.request.RequestId.{RequestId}
 use Rattle.groups.specs.declared.stamp.Stamp.{Stamp}
 use Rattle.placement.specs.Layout.{Layout}
 use Rattle.router.specs.Connection.{is_under_way, settled_with}
-use Rattle.router.specs.Router.{RouterView, connection, once_settled, Changes}
+use Rattle.router.specs.Router.{RouterView, connection, session_at, once_settled, Changes}
 use Rattle.router.specs.declared.connection.Connection.{Connection}
 use Rattle.router.specs.declared.outcome.Outcome as kept
 use Rattle.skeen_core.specs.Group.{EachOnce, has_id}
 use Rattle.system_view.proofs.Connections.{Alike, each_of, kept_else, kept_at, StandsUnderWay, stands_under_way}
-use Rattle.system_view.specs.Connections.{outcome_shown, id_of, ShowsConnection, ShowsKept, IsSettled, IsKeptFor}
+use Rattle.system_view.proofs.Sessions.{sessions_given}
+use Rattle.system_view.specs.Connections.{outcome_shown, id_of, ShowsConnection, ShowsKept, ShowsSessions, IsSettled, IsKeptFor}
 use Rattle.world.specs.Steps.{at, floor_of, given}
 use Rattle.world.specs.World.{World, Outcome, Standing, Closed, Waiting, Answered, Ended}
 use Rattle.world_laws.proofs.Floors.{floor_is_final, run_is_last}
@@ -37,11 +39,6 @@ once_given o standing = at standing o.id.conn.0 (given o (standing o.id.conn.0))
 abbrev pub WasSettled : RouterView → RouterView → ℕ → ℕ → kept.Outcome → Type 0
 WasSettled r r' c clock o =
     (v : Connection) × (connection r c ≡ Some v) × Changes r r' c (once_settled v clock o)
-
-pub in_ids : (es : List Ended) (e : Ended) → In e es → In e.id (ids_of es)
-in_ids [] e there = absurd there
-in_ids (x ∷ es) e (inl same) = inl (ap (λ (y : Ended). y.id) same)
-in_ids (x ∷ es) e (inr there) = inr (in_ids es e there)
 
 -- where each request ends once, none has ended in both parts
 pub ends_apart : (xs ys : List Ended) (e : Ended) → EachOnce (ids_of (xs ++ ys)) → Named xs e.id → In e ys → ⊥
@@ -165,6 +162,8 @@ module _ (t : Layout) (w : World) (done : List Ended) (e : Ended) (back : List E
       closed = once_closed;
       shows = record {
         opened = changes.opened ∙ is.shows.opened;
+        sessions = subst (λ kept. ShowsSessions kept (once_given o standing) w.session) (sym changes.sessions)
+            (sessions_given (session_at r) standing w.session o.id.conn.0 o is.shows.sessions);
         each = each_of r r' before after o.id.conn.0 (once_settled v e.stamp.clock k) changes.at alike_settled
             is.shows.each (settled_here v k v.is_open refl same here.0
             (stands_under_way v before o.id.conn.0 busy here));

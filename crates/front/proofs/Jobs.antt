@@ -12,7 +12,7 @@ use Rattle.router.specs.Router.{RouterView, connection, pending_at}
 use Rattle.router.specs.declared.connection.Pending.{Pending}
 use Rattle.groups.proofs.Options.{some_same}
 use Rattle.groups.proofs.Lists.{In-right}
-use Rattle.front.proofs.Parts.{zip_append}
+use Rattle.front.proofs.Lists.{zip_append}
 use Rattle.skeen_core.proofs.Lawful.{None≢Some}
 use Rattle.groups.specs.Order.{In}
 use Rattle.groups.specs.Stamp.{final}

@@ -4,11 +4,12 @@ pub mod Half
 pub mod Handing
 pub mod Histories
 pub mod Jobs
-pub mod Merging
+pub mod Keeping
+pub mod Kept
+pub mod Lists
 pub mod Messages
-pub mod Once
+pub mod Names
 pub mod Opening
-pub mod Parts
 pub mod Refusals
 pub mod Retelling
 pub mod Retold

@@ -1,13 +1,12 @@
 -- Submit, Deliver and Repeat of a front are steps of the world.
 use Rattle.std.proofs.Common.{◌≡◌, ℕ, zero, suc, Bool, ◌≤◌, true, false, cond, List, [], ◌∷◌, ◌++◌, length, None, ◌⊎◌}
-use Rattle.std.proofs.Common.{Result, Ok, Err, refl, sym, ap, ◌∙◌, subst, arith, append-nil}
-use Rattle.command_table.specs.declared.refusal.Refusal.{Refusal}
+use Rattle.std.proofs.Common.{refl, sym, ap, ◌∙◌, subst, arith, append-nil}
 use Rattle.delivery.specs.Queues.{queue_of}
-use Rattle.tasks.proofs.Keyless.{addresses}
-use Rattle.tasks.specs.Tasks.{Task, task_reading, task_groups}
+use Rattle.tasks.specs.Tasks.{Task, task_groups}
+use Rattle.front.proofs.Keeping.{keeps_submit}
 use Rattle.front.proofs.Retelling.{was_idle, at_retold, same_standings, alike_retold}
 use Rattle.front.proofs.Showing.{stepped, is_stepped, by_messages, is_after}
-use Rattle.front.specs.Fronts.{FrontView, Told, retold_world, FrontShows, roomless}
+use Rattle.front.specs.Fronts.{FrontView, Told, retold_standing, retold_world, KeepsWords, FrontShows, roomless}
 use Rattle.front.specs.Making.{Makes}
 use Rattle.groups.specs.GroupSet.{chosen}
 use Rattle.groups.specs.declared.request.ConnId.{ConnId}
@@ -17,17 +16,20 @@ use Rattle.journal.specs.declared.step.Step.TheVariants.{Submit, Deliver, Repeat
 use Rattle.multicast.specs.Multicast.{MulticastView, IsSame, Begins, Delivers, Repeats, group_of, starts_to}
 use Rattle.placement.specs.Layout.{Layout, IsTable}
 use Rattle.resp.specs.Content.{Content}
-use Rattle.router.specs.Router.{RouterView, connection}
+use Rattle.router.specs.Router.{RouterView, connection, session_at}
 use Rattle.router.specs.Submitting.{Submits, groups_by}
 use Rattle.router.specs.declared.submission.Submission.{Submission}
+use Rattle.sessions.specs.Session.{Answer, Now, Go, asks}
+use Rattle.sessions.specs.declared.session.Session.{Session}
 use Rattle.skeen_core.specs.declared.packet.Body.TheVariants.{Start}
 use Rattle.skeen_core.specs.declared.packet.Packet.{Packet}
 use Rattle.system_view.proofs.Connections.{Alike, connection_alike}
 use Rattle.system_view.proofs.Delivering.{shows_deliver, shows_repeat}
 use Rattle.system_view.proofs.Submits.{shows_submitted}
-use Rattle.system_view.specs.Connections.{InLayer, IsSettled, IsKeptFor, ShowsConnections}
+use Rattle.system_view.specs.Connections.{InLayer, IsSettled, IsKeptFor, ShowsSessions, ShowsConnections}
 use Rattle.system_view.specs.Multicast.{ShowsMulticast}
-use Rattle.world.specs.Steps.{Made, Submitted, opening, next_id, starts, multicast, answered, submitted}
+use Rattle.world.specs.Steps.{Made, Submitted, opening, next_id, starts, multicast, answered, in_session, submitted}
+use Rattle.world.specs.Steps.{answer_to, remembered}
 use Rattle.world.specs.Steps.{submitted_to, floor_of, Comes, Leads, Steps}
 use Rattle.world.specs.Steps as world
 use Rattle.world.specs.World.{World, Request, Waiting, Answered}
@@ -47,10 +49,10 @@ length-chosen test a (suc m) =
       | false ↦ omega arith
     ]
 
--- words address no more groups than there are
-pub groups_few : (t : Layout) (result : Result Task Refusal) → length (groups_by t result) ≤ t.shards
-groups_few t (Ok task) = length-chosen _ 0 t.shards
-groups_few t (Err refusal) = omega arith
+-- what is to be run addresses no more groups than there are
+pub groups_few : (t : Layout) (answer : Answer) → length (groups_by t answer) ≤ t.shards
+groups_few t (Go task) = length-chosen _ 0 t.shards
+groups_few t (Now reply) = omega arith
 
 -- room is no part of what is shown
 pub begins_roomless : (old mid new : MulticastView) (id : RequestId) (floor : ℕ) (groups : List ℕ) → IsSame old mid →
@@ -94,35 +96,48 @@ module _ (t : Layout) (old m : MulticastView) (w : World) (c : ℕ) (shows : Sho
     queues = λ g. ap (λ qs. queue_of qs g) begins.queues ∙ shows.queues g;
   }
 
+-- what the groups show is no session
+in_a_session : (t : Layout) (m : MulticastView) (w : World) (c : ℕ) (session : Session) → ShowsMulticast t m w →
+    ShowsMulticast t m (in_session w c session)
+in_a_session t m w c session shows =
+    record { count = shows.count; groups = shows.groups; packets = shows.packets; queues = shows.queues }
+
 module _ (told : Told) (old : FrontView) (r : RouterView) (m : MulticastView) (w : World) (c : ℕ) (sent : Submission)
     (shows : FrontShows told old w) (begins : Begins old.multicast sent.id sent.floor sent.groups m)
-    (id : sent.id ≡ next_id w c) (floor : sent.floor ≡ floor_of w c) where
+    (id : sent.id ≡ next_id w c) (floor : sent.floor ≡ floor_of w c)
+    (keeps : (i : RequestId) → KeepsWords old.router i → KeepsWords r i) (session : Session) where
+  abbrev w' : World
+  w' = in_session w c session
+
+  packets : ShowsMulticast old.table old.multicast w'
+  packets = in_a_session old.table old.multicast w c session shows.multicast
+
   -- an answer at once is told by no layer
-  shows_reply : (reply : Content) → sent.groups ≡ [] → ShowsConnections r (answered (retold_world told w) c reply) →
-      FrontShows told (stepped old r m) (answered w c reply)
+  shows_reply : (reply : Content) → sent.groups ≡ [] → ShowsConnections r (answered (in_session (retold_world told w) c session) c reply) →
+      FrontShows told (stepped old r m) (answered w' c reply)
   shows_reply reply groups connections =
-      by_messages told old r m w (answered w c reply) refl refl shows
-      (same_standings r (retold_world told (answered w c reply)) (answered (retold_world told w) c reply).standing
-      (retold_world told (answered w c reply)).standing
+      by_messages told old r m w (answered w' c reply) refl refl shows keeps
+      (same_standings r (retold_world told (answered w' c reply)) (answered (in_session (retold_world told w) c session) c reply).standing
+      (retold_world told (answered w' c reply)).standing
       (at_retold told w.standing c (Answered (record { id = next_id w c; reply = reply; stamp = None }))) connections)
-      (shows_none old.table old.multicast m w c shows.multicast sent reply begins groups)
+      (shows_none old.table old.multicast m w' c packets sent reply begins groups)
 
   by_groups : (task : Task) (gs : List ℕ) → sent.groups ≡ gs →
-      ShowsConnections r (submitted_to (retold_world told w) c task gs) →
-      FrontShows told (stepped old r m) (submitted_to w c task gs)
+      ShowsConnections r (submitted_to (in_session (retold_world told w) c session) c task gs) →
+      FrontShows told (stepped old r m) (submitted_to w' c task gs)
   by_groups task [] groups connections = shows_reply _ groups connections
   by_groups task (g ∷ gs) groups connections =
       let q : Request = record { floor = floor_of w c; groups = g ∷ gs; task = task } in
-      by_messages told old r m w (multicast w c q) refl refl shows
-      (same_standings r (retold_world told (multicast w c q)) (multicast (retold_world told w) c q).standing
-      (retold_world told (multicast w c q)).standing (at_retold told w.standing c Waiting) connections)
-      (shows_starts old.table old.multicast m w c shows.multicast sent q begins id floor groups)
+      by_messages told old r m w (multicast w' c q) refl refl shows keeps
+      (same_standings r (retold_world told (multicast w' c q)) (multicast (in_session (retold_world told w) c session) c q).standing
+      (retold_world told (multicast w' c q)).standing (at_retold told w.standing c Waiting) connections)
+      (shows_starts old.table old.multicast m w' c packets sent q begins id floor groups)
 
-  by_words : (read : Result Task Refusal) → sent.groups ≡ groups_by old.table read →
-      ShowsConnections r (submitted old.table (retold_world told w) c read) →
-      FrontShows told (stepped old r m) (submitted old.table w c read)
-  by_words (Err refusal) groups connections = shows_reply _ groups connections
-  by_words (Ok task) groups connections = by_groups task (task_groups old.table task) groups connections
+  by_answer : (answer : Answer) → sent.groups ≡ groups_by old.table answer →
+      ShowsConnections r (submitted old.table (in_session (retold_world told w) c session) c answer) →
+      FrontShows told (stepped old r m) (submitted old.table w' c answer)
+  by_answer (Now reply) groups connections = shows_reply reply groups connections
+  by_answer (Go task) groups connections = by_groups task (task_groups old.table task) groups connections
 
 pub submit_makes : (old : FrontView) (r : RouterView) (m : MulticastView) (conn : ConnId) (words : List (List ℕ)) (sent : Submission) →
     IsTable old.table → Submits old.table conn.0 words old.router sent r →
@@ -133,8 +148,9 @@ submit_makes old r m conn words sent table submits begins = record {
   from_each = λ h w told at'.
       let good = good_world old.table h w at'.leads in
       let as_world = shows_submitted old.table (retold_world told w) conn.0 good.requests words old.router r sent
-      (addresses old.table table words) submits at'.shows.connections in
-      let after = submitted old.table w conn.0 (task_reading words) in
+      table submits at'.shows.connections in
+      let asked = asks (w.session conn.0) words in
+      let after = submitted old.table (remembered w conn.0 words) conn.0 (answer_to w conn.0 words) in
       let made : Steps old.table w (Submit conn words) (Submitted sent.id) after = record {
         idle = was_idle told (w.standing conn.0) as_world.0;
         answers = ap Submitted as_world.1;
@@ -143,7 +159,8 @@ submit_makes old r m conn words sent table submits begins = record {
         after,
         made,
         is_after told old (stepped old r m) h w after (Submit conn words) (Submitted sent.id) refl at' made
-            (by_words told old r m w conn.0 sent at'.shows begins as_world.1 as_world.2 (task_reading words) submits.groups as_world.3),
+            (by_answer told old r m w conn.0 sent at'.shows begins as_world.1 as_world.2
+            (keeps_submit old.table conn.0 words old.router r sent submits) asked.0 asked.1 as_world.4 as_world.3),
       );
 }
 
@@ -178,6 +195,8 @@ module _ (t : Layout) (h : List Step) (w w' : World) (k : ℕ) (told : Told) (le
   shows_received : (r : RouterView) → ShowsConnections r (retold_world told w) → ShowsConnections r (retold_world told w')
   shows_received r shows = record {
     opened = shows.opened ∙ sym (ap (λ (v : World). v.opened) comes.after);
+    sessions = subst (λ (v : World). ShowsSessions (session_at r) (λ c. retold_standing told (v.standing c)) v.session) (sym comes.after)
+        shows.sessions;
     each = λ c. connection_alike (connection r c) (retold_world told w) (retold_world told w') c
         (alike_retold told w w' c (alike_received c)) (shows.each c);
     under_way = λ id q asked. subst (λ (v : World). IsSettled v id ⊎ IsKeptFor r id) (sym comes.after)
@@ -195,7 +214,7 @@ deliver_makes old m place delivers = record {
         comes,
         is_after told old (stepped old old.router m) h w as_world.0 (Deliver place) Made refl at' comes
             (by_messages told old old.router m w as_world.0 (ap (λ (v : World). v.layer) comes.after)
-            (ap (λ (v : World). v.ended) comes.after) at'.shows
+            (ap (λ (v : World). v.ended) comes.after) at'.shows (λ i kept. kept)
             (shows_received old.table h w as_world.0 place told at'.leads comes old.router at'.shows.connections) as_world.2),
       );
 }
@@ -215,6 +234,8 @@ module _ (w w' : World) (k : ℕ) (told : Told) (repeats : world.Repeats w k Mad
   shows_repeated : (r : RouterView) → ShowsConnections r (retold_world told w) → ShowsConnections r (retold_world told w')
   shows_repeated r shows = record {
     opened = shows.opened ∙ sym (ap (λ (v : World). v.opened) repeats.after);
+    sessions = subst (λ (v : World). ShowsSessions (session_at r) (λ c. retold_standing told (v.standing c)) v.session) (sym repeats.after)
+        shows.sessions;
     each = λ c. connection_alike (connection r c) (retold_world told w) (retold_world told w') c
         (alike_retold told w w' c (alike_repeated c)) (shows.each c);
     under_way = λ id q asked. subst (λ (v : World). IsSettled v id ⊎ IsKeptFor r id) (sym repeats.after)
@@ -232,7 +253,7 @@ repeat_makes old m place repeats = record {
         made,
         is_after told old (stepped old old.router m) h w as_world.0 (Repeat place) Made refl at' made
             (by_messages told old old.router m w as_world.0 (ap (λ (v : World). v.layer) made.after)
-            (ap (λ (v : World). v.ended) made.after) at'.shows
+            (ap (λ (v : World). v.ended) made.after) at'.shows (λ i kept. kept)
             (shows_repeated w as_world.0 place told made old.router at'.shows.connections) as_world.2),
       );
 }

@@ -5,16 +5,20 @@ use Rattle.std.specs.Map.{lookup}
 use Rattle.std.specs.Ordering.{nat_cmp}
 use Rattle.delivery.specs.Queues.{queue_of}
 use Rattle.front.specs.Fronts.{FrontView, Told, retold_world, FrontIsAt}
+use Rattle.groups.specs.Order.{In}
 use Rattle.multicast.specs.Multicast.{group_of}
-use Rattle.router.specs.Router.{RouterView}
+use Rattle.router.specs.Router.{RouterView, session_at}
+use Rattle.sessions.specs.declared.session.Session.TheVariants.{Free}
 use Rattle.skeen_core.specs.Group.{fresh}
 use Rattle.system_view.specs.Connections.{ShowsConnections, ShowsConnection}
 use Rattle.system_view.specs.Layers.{AreRows}
 use Rattle.world.specs.Steps.{opening}
 
-connections : (told : Told) (r : RouterView) → r.opened ≡ 0 → r.kept ≡ [] → ShowsConnections r (retold_world told opening)
-connections told r opened none = record {
+connections : (told : Told) (r : RouterView) → r.opened ≡ 0 → r.kept ≡ [] → ((c : ℕ) → session_at r c ≡ Free) →
+    ShowsConnections r (retold_world told opening)
+connections told r opened none free = record {
   opened = opened;
+  sessions = record { of_open = λ c live. free c; of_closed = λ c shut. free c };
   each = λ c. subst (λ kept. ShowsConnection (lookup (is_at (nat_cmp c)) kept) (retold_world told opening) c) (sym none) refl;
   under_way = λ id q asked. absurd (let k = asked in cc);
 }
@@ -23,6 +27,7 @@ connections told r opened none = record {
 pub record IsOpening (f : FrontView) : Type 0 where
   pub opened : f.router.opened ≡ 0
   pub kept : f.router.kept ≡ []
+  pub sessions : (c : ℕ) → session_at f.router c ≡ Free
   pub count : length f.multicast.groups ≡ f.table.shards
   pub fresh : (g : ℕ) → group_of f.multicast.groups g ≡ fresh
   pub packets : f.multicast.packets ≡ []
@@ -35,9 +40,10 @@ pub opening_shown : (f : FrontView) → IsOpening f → (told : Told) → FrontI
 opening_shown f is told = record {
   leads = ([], (refl, refl));
   shows = record {
-    connections = connections told f.router is.opened is.kept;
+    connections = connections told f.router is.opened is.kept is.sessions;
     multicast = record { count = is.count; groups = is.fresh; packets = is.packets; queues = is.empty };
     out = is.out;
+    words = λ d there. absurd (subst (λ l. In d l) is.out there);
     settled = [];
     split = refl;
     truly = λ e there. absurd there;

@@ -1,7 +1,7 @@
 -- What a front is told of requests that aren't settled changes nothing that it shows.
-use Rattle.std.proofs.Common.{◌≡◌, ℕ, List, inl, inr, Option, Some, None, is_none, refl, sym, ap, ◌∙◌, subst}
+use Rattle.std.proofs.Common.{◌≡◌, ℕ, List, inl, inr, Option, Some, None, refl, sym, ap, ◌∙◌, subst}
 use Rattle.journal.specs.declared.step.Step.{Step}
-use Rattle.front.proofs.Parts.{in_either}
+use Rattle.front.proofs.Lists.{in_either}
 use Rattle.front.proofs.Retelling.{same_standings}
 use Rattle.front.proofs.Told.{waits_before, rows_same}
 use Rattle.front.specs.Fronts.{FrontView, Told, retold_reply, retold_outcome, retold_standing, retold_world, FrontIsAt}
@@ -12,6 +12,7 @@ use Rattle.groups.specs.declared.stamp.Stamp.{Stamp}
 use Rattle.resp.specs.Content.{Content}
 use Rattle.system_view.specs.Connections.{IsSettled}
 use Rattle.system_view.specs.Layers.{AreRows}
+use Rattle.tasks.specs.Tasks.{starved_names}
 use Rattle.world.specs.World.{World, Outcome, Standing, Closed, Idle, Waiting, Answered, Ended, Layer}
 use Rattle.world.specs.World.{NoneTaken, Taken, HasRun}
 use Rattle.world_laws.proofs.Worlds.{good_world}
@@ -66,9 +67,10 @@ module _ (f : FrontView) (h : List Step) (w : World) (before now : Told) (at' : 
           (λ c. stands_so c (w.standing c) refl) at'.shows.connections;
       multicast = at'.shows.multicast;
       out = at'.shows.out;
+      words = at'.shows.words;
       settled = at'.shows.settled;
       split = at'.shows.split;
-      truly = λ e there. ap is_none (of_settled e there) ∙ at'.shows.truly e there;
+      truly = λ e there. ap (starved_names e.id e.task) (of_settled e there) ∙ at'.shows.truly e there;
       rows = λ whole. subst (λ l. AreRows l f.rows) (sym (rows_same before now at'.shows.settled of_settled)) (at'.shows.rows whole);
       starved = at'.shows.starved;
     };

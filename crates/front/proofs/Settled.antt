@@ -1,47 +1,30 @@
 -- A layer's outcomes, from the first to the last: then the router shows the world that has settled it.
-use Rattle.std.proofs.Common.{◌≡◌, ℕ, true, List, [], ◌∷◌, ◌++◌, inl, inr, map, refl, sym, ap, ◌∙◌, subst, append-nil}
+use Rattle.std.proofs.Common.{◌≡◌, ℕ, ◌==◌, List, [], ◌∷◌, ◌++◌, inl, inr, map, Some, Ok, refl, sym, ap, ◌∙◌, subst, append-nil}
 use Rattle.std.proofs.lemmas.Bool.{both_ways}
 use Rattle.std.proofs.lemmas.List.{append_cancel_right}
-use Rattle.front.proofs.Once.{once_right, once_behind, conns_apart}
-use Rattle.front.proofs.Parts.{in_parts, parts_in, in_the_parts, in_either, settled_parts, ConnsApart}
+use Rattle.front.proofs.Keeping.{kept_words}
 use Rattle.front.proofs.Retelling.{at_retold}
 use Rattle.front.proofs.Handing.{once_given, ends_apart}
 use Rattle.front.specs.Fronts.{Told, retold, retold_standing, retold_world}
 use Rattle.front.specs.Outcomes.{half_settled, IsSettling}
-use Rattle.groups.proofs.Lists.{In-left, In-right}
+use Rattle.groups.proofs.Lists.{In-right}
+use Rattle.groups.proofs.Options.{some_same}
 use Rattle.groups.specs.Order.{In}
 use Rattle.groups.specs.declared.request.RequestId.{RequestId}
 use Rattle.journal.specs.declared.step.Step.{Step}
 use Rattle.placement.specs.Layout.{Layout}
-use Rattle.router.specs.Router.{RouterView, connection}
-use Rattle.skeen_core.proofs.Lawful.{id_there, named}
-use Rattle.skeen_core.specs.Group.{EachOnce, has_id}
-use Rattle.skeen_core.specs.declared.packet.Delivered.{Delivered}
-use Rattle.system_view.proofs.Connections.{Alike, connection_alike}
-use Rattle.system_view.specs.Connections.{InLayer, id_of, IsSettled, IsKeptFor, ShowsConnections}
+use Rattle.router.specs.Router.{RouterView, connection, session_at, taken_at}
+use Rattle.skeen_core.specs.Group.{EachOnce}
+use Rattle.system_view.proofs.Connections.{Alike, connection_alike, kept_at}
+use Rattle.system_view.specs.Connections.{InLayer, id_of, IsSettled, IsKeptFor, ShowsSessions, ShowsConnections}
 use Rattle.world.specs.Steps.{opening, at, outcome_of, given, settled, Leads}
-use Rattle.world.specs.World.{World, Standing, Closed, Idle, Waiting, Answered, Ended, Layer, NoneTaken, HasRun}
-use Rattle.world_laws.proofs.Layers.{in_delivered}
+use Rattle.tasks.specs.Tasks.{task_reading}
+use Rattle.world.specs.World.{World, Request, Standing, Closed, Idle, Waiting, Answered, Ended, Layer, NoneTaken, HasRun}
 use Rattle.world_laws.proofs.OrderLaws.{ends_once}
+use Rattle.world_laws.proofs.Values.{same_request}
 use Rattle.world_laws.proofs.Worlds.{good_world}
-use Rattle.world_laws.specs.Good.{Named, run_in, delivered_of, all_delivered, WorldGood}
+use Rattle.world_laws.specs.Good.{Named, run_in, WorldGood}
 use Rattle.world_laws.specs.Order.{ids_of}
-
--- ---- who is in a layer
-
-of_delivered : (es : List Ended) (d : Delivered) → In d (all_delivered es) → (e : Ended) × In e es × (delivered_of e ≡ d)
-of_delivered [] d there = absurd there
-of_delivered (e ∷ es) d (inl same) = (e, inl refl, sym same)
-of_delivered (e ∷ es) d (inr later) = let rest = of_delivered es d later in (rest.0, inr rest.1, rest.2)
-
--- who is in the layer is in its parts
-still_there : (es : List Ended) (i : RequestId) → has_id (all_delivered es) i ≡ true → has_id (all_delivered (in_parts es)) i ≡ true
-still_there es i there =
-    let one = named (all_delivered es) i there in
-    let e = of_delivered es one.one one.there in
-    let here = in_delivered (in_parts es) e.0 (in_the_parts es e.0 e.1) in
-    subst (λ j. has_id (all_delivered (in_parts es)) j ≡ true) (ap (λ (d : Delivered). d.id) e.2 ∙ one.id)
-    (id_there (all_delivered (in_parts es)) (delivered_of e.0) here)
 
 -- ---- where connections stand, told
 
@@ -100,32 +83,44 @@ module _ (t : Layout) (h : List Step) (w : World) (es before : List Ended) (now 
           | inr kept ↦ kept
         ]
 
-    pub apart : ConnsApart es
-    apart = conns_apart r es (once_right before es once_ended) kept_for
+    -- the words that the router keeps of a request of the layer say its task
+    pub says_task : (e : Ended) → In e es → (i : RequestId) → i ≡ e.id → (words : List (List ℕ)) →
+        taken_at (connection r i.conn.0) i.seq ≡ Some words → task_reading words ≡ Ok e.task
+    says_task e here i id words kept_as =
+        let kept = kept_for e here in
+        let same : connection r i.conn.0 ≡ Some kept.v = ap (λ (j : RequestId). connection r j.conn.0) id ∙ kept.kept in
+        let taken = ap (λ o. taken_at o i.seq) (sym same) ∙ kept_as in
+        let shown = kept_words kept.v (kept.v.seq == i.seq) (retold_world now w) e.id.conn.0 words taken
+        (kept_at r (retold_world now w) e.id.conn.0 kept.v kept.kept shows) in
+        let this : id_of e.id.conn.0 kept.v.seq ≡ e.id = same_request (id_of e.id.conn.0 kept.v.seq) e.id refl kept.seq in
+        let asked = good.run.tasks e (in_ended e here) in
+        let one : shown.0 ≡ asked.0 = some_same shown.0 asked.0 (sym shown.1 ∙ ap w.asked this ∙ asked.1) in
+        shown.2 ∙ ap (λ (q : Request). Ok q.task) one ∙ ap Ok (sym asked.2)
 
-    alike_first : (c : ℕ) → Alike (retold_world now w) (half_settled w before (in_parts es) first_standing) c
+    alike_first : (c : ℕ) → Alike (retold_world now w) (half_settled w before es first_standing) c
     alike_first c = record {
       standing = refl;
       seq = refl;
       floor = λ free. refl;
       asked = λ seq. refl;
-      layer = λ seq there. still_there es (id_of c seq) (subst (λ (l : Layer). InLayer l (id_of c seq)) has_run there);
+      layer = λ seq there. subst (λ (l : Layer). InLayer l (id_of c seq)) has_run there;
     }
 
-    pub settle_starts : IsSettling t w before (in_parts es) first_standing r
+    pub settle_starts : IsSettling t w before es first_standing r
     settle_starts = record {
       steps = h;
       leads = leads;
       layer = es;
       has_run = has_run;
-      among = parts_in es;
+      among = λ e there. there;
       run = in_ended;
-      once = once_behind before es once_ended;
+      once = once_ended;
       closed = λ c closed. ap (retold_standing now) closed;
       shows = record {
         opened = shows.opened;
-        each = λ c. connection_alike (connection r c) (retold_world now w) (half_settled w before (in_parts es) first_standing) c
-            (alike_first c) (shows.each c);
+        sessions = shows.sessions;
+        each = λ c. connection_alike (connection r c) (retold_world now w) (half_settled w before es first_standing) c (alike_first c)
+            (shows.each c);
         under_way = λ i q asked. elim (shows.under_way i q asked) [
           | inl done ↦ inl (before, refl, settled_so i done)
           | inr kept ↦ inr kept
@@ -134,43 +129,32 @@ module _ (t : Layout) (h : List Step) (w : World) (es before : List Ended) (now 
     }
 
   abbrev pub last_standing : ℕ → Standing
-  last_standing = settled (map (retold now) (in_parts es)) first_standing
+  last_standing = settled (map (retold now) es) first_standing
 
-  module _ (r : RouterView) (apart : ConnsApart es) (is : IsSettling t w (before ++ in_parts es) [] last_standing r) where
-    last_so : (c : ℕ) → retold_standing now (settled es w.standing c) ≡ last_standing c
-    last_so c = settled_retold now es w.standing c
-        ∙ sym (ap (λ f. f c) (settled_parts (retold now) (λ e. refl) es first_standing apart))
+  module _ (r : RouterView) (is : IsSettling t w (before ++ es) [] last_standing r) where
+    same_last : (λ c. retold_standing now (settled es w.standing c)) ≡ last_standing
+    same_last = λ k c. settled_retold now es w.standing c k
 
-    alike_last : (c : ℕ) → Alike (half_settled w (before ++ in_parts es) [] last_standing) (retold_world now all_settled) c
+    alike_last : (c : ℕ) → Alike (half_settled w (before ++ es) [] last_standing) (retold_world now all_settled) c
     alike_last c = record {
-      standing = last_so c;
+      standing = settled_retold now es w.standing c;
       seq = refl;
       floor = λ free. refl;
       asked = λ seq. refl;
       layer = λ seq there. absurd (both_ways _ refl there);
     }
 
-    settled_last : (i : RequestId) → IsSettled (half_settled w (before ++ in_parts es) [] last_standing) i →
+    settled_last : (i : RequestId) → IsSettled (half_settled w (before ++ es) [] last_standing) i →
         IsSettled (retold_world now all_settled) i
     settled_last i done =
-        let same = append_cancel_right done.0 (before ++ in_parts es) [] (sym done.1) in
-        let here = subst (λ l. Named l i) same done.2 in (
-          w.ended,
-          sym (append-nil w.ended),
-          (
-            here.0,
-            elim (in_either before (in_parts es) here.0 here.1) [
-              | inl front ↦ subst (λ l. In here.0 l) (sym split) (In-left here.0 before es front)
-              | inr part ↦ in_ended here.0 (parts_in es here.0 part)
-            ],
-            here.2,
-          ),
-        )
+        let same = append_cancel_right done.0 (before ++ es) [] (sym done.1) ∙ sym split in
+        (w.ended, sym (append-nil w.ended), subst (λ l. Named l i) same done.2)
 
     pub settle_ends : ShowsConnections r (retold_world now all_settled)
     settle_ends = record {
       opened = is.shows.opened;
-      each = λ c. connection_alike (connection r c) (half_settled w (before ++ in_parts es) [] last_standing)
+      sessions = subst (λ s. ShowsSessions (session_at r) s w.session) (sym same_last) is.shows.sessions;
+      each = λ c. connection_alike (connection r c) (half_settled w (before ++ es) [] last_standing)
           (retold_world now all_settled) c (alike_last c) (is.shows.each c);
       under_way = λ i q asked. elim (is.shows.under_way i q asked) [
         | inl done ↦ inl (settled_last i done)

@@ -1,21 +1,23 @@
 -- What a front shows after a step that settles nothing, and that it is then as each front is.
 use Rattle.std.proofs.Common.{◌≡◌, ℕ, ◌+◌, List, [], ◌∷◌, ◌++◌, length, refl, sym, ap, ◌∙◌, subst, arith, length-append}
 use Rattle.front.proofs.Histories.{leads_more}
-use Rattle.front.specs.Fronts.{FrontView, Told, retold_world, IsOut, FrontShows, FrontIsAt, HasNotRun}
+use Rattle.front.specs.Fronts.{FrontView, Told, retold_world, IsOut, KeepsWords, FrontShows, FrontIsAt, HasNotRun}
 use Rattle.front.specs.Fronts.{IsFront, roomless}
 use Rattle.front.specs.Making.{IsStep, Makes, Collects}
 use Rattle.journal.specs.declared.step.Step.{Step}
 use Rattle.journal.specs.declared.step.Step.TheVariants.{Open, Submit, Deliver, Take, Run, Settle, Collect, Close, Repeat}
 use Rattle.groups.specs.declared.request.ConnId.{ConnId}
-use Rattle.command_table.specs.declared.refusal.Refusal.{Refusal}
+use Rattle.groups.specs.declared.request.RequestId.{RequestId}
 use Rattle.multicast.specs.Multicast.{MulticastView, IsSame}
 use Rattle.placement.specs.Layout.{Layout, IsTable}
 use Rattle.router.specs.Router.{RouterView}
-use Rattle.std.proofs.Common.{Result, Ok, Err, Option}
+use Rattle.sessions.specs.Session.{Answer, Now, Go, asks}
+use Rattle.sessions.specs.declared.session.Session.{Session}
+use Rattle.std.proofs.Common.{Option}
 use Rattle.system_view.specs.Connections.{ShowsConnections}
 use Rattle.system_view.specs.Multicast.{ShowsMulticast}
-use Rattle.tasks.specs.Tasks.{Task, task_reading, task_groups}
-use Rattle.world.specs.Steps.{opening, Effect, Steps, Leads, submitted, submitted_to}
+use Rattle.tasks.specs.Tasks.{task_groups}
+use Rattle.world.specs.Steps.{opening, Effect, Steps, Leads, in_session, submitted, submitted_to}
 use Rattle.world.specs.Steps as world
 use Rattle.world.specs.World.{World, Standing, Closed, Idle, Waiting, Answered, Layer}
 use Rattle.world_laws.specs.Good.{run_in}
@@ -49,11 +51,12 @@ is_stepped f r m = record { table = refl; steps = refl; layers = refl; rows = re
 
 -- a step that leaves the layer and what has ended alone
 pub by_messages : (told : Told) (f : FrontView) (r : RouterView) (m : MulticastView) (w w' : World) → w'.layer ≡ w.layer →
-    w'.ended ≡ w.ended → FrontShows told f w → ShowsConnections r (retold_world told w') → ShowsMulticast f.table m w' →
-    FrontShows told (stepped f r m) w'
-by_messages told f r m w w' layer ended shows connections packets = record {
+    w'.ended ≡ w.ended → FrontShows told f w → ((i : RequestId) → KeepsWords f.router i → KeepsWords r i) →
+    ShowsConnections r (retold_world told w') → ShowsMulticast f.table m w' → FrontShows told (stepped f r m) w'
+by_messages told f r m w w' layer ended shows keeps connections packets = record {
   connections = connections;
   multicast = packets;
+  words = λ d there. keeps d.id (shows.words d there);
   out = subst (λ (l : Layer). IsOut l f.out) (sym layer) shows.out;
   settled = shows.settled;
   split = ended ∙ shows.split ∙ ap (λ (l : Layer). shows.settled ++ run_in l) (sym layer);
@@ -81,12 +84,12 @@ NoRun step = Unit {0}
 unrun : (w w' after : World) → w' ≡ after → HasNotRun after.layer → HasNotRun w'.layer
 unrun w w' after is not_run = subst (λ (v : World). HasNotRun v.layer) (sym is) not_run
 
-submit_unrun : (t : Layout) (w : World) (c : ℕ) (read : Result Task Refusal) → HasNotRun w.layer →
-    HasNotRun (submitted t w c read).layer
-submit_unrun t w c (Err refusal) not_run = not_run
-submit_unrun t w c (Ok task) not_run = by_groups (task_groups t task)
+submit_unrun : (t : Layout) (w : World) (c : ℕ) (session : Session) (answer : Answer) → HasNotRun w.layer →
+    HasNotRun (submitted t (in_session w c session) c answer).layer
+submit_unrun t w c session (Now reply) not_run = not_run
+submit_unrun t w c session (Go task) not_run = by_groups (task_groups t task)
   where
-    by_groups : (gs : List ℕ) → HasNotRun (submitted_to w c task gs).layer
+    by_groups : (gs : List ℕ) → HasNotRun (submitted_to (in_session w c session) c task gs).layer
     by_groups [] = not_run
     by_groups (g ∷ gs) = not_run
 
@@ -102,7 +105,8 @@ pub still_unrun : (t : Layout) (w w' : World) (step : Step) (effect : Effect) �
     HasNotRun w.layer → HasNotRun w'.layer
 still_unrun t w w' Open effect plain made not_run = unrun w w' _ made.after not_run
 still_unrun t w w' (Submit conn words) effect plain made not_run =
-    unrun w w' _ made.after (submit_unrun t w conn.0 (task_reading words) not_run)
+    let asked = asks (w.session conn.0) words in
+    unrun w w' _ made.after (submit_unrun t w conn.0 asked.0 asked.1 not_run)
 still_unrun t w w' (Deliver k) effect plain made not_run = unrun w w' _ made.after not_run
 still_unrun t w w' Take effect plain made not_run = unrun w w' _ made.after tt
 still_unrun t w w' (Run starved) effect plain made not_run = absurd plain

@@ -1,5 +1,5 @@
 -- Take of a front is the world's.
-use Rattle.std.proofs.Common.{◌≡◌, ◌≢◌, ℕ, ◌+◌, List, [], ◌∷◌, ◌++◌, inl, length, refl, sym, ap, ◌∙◌, subst, arith}
+use Rattle.std.proofs.Common.{◌≡◌, ◌≢◌, ℕ, ◌+◌, List, [], ◌∷◌, ◌++◌, inl, refl, sym, ap, ◌∙◌, subst}
 use Rattle.delivery.specs.Queues.{queue_of}
 use Rattle.delivery.specs.Ready.{QueueOf, IsReady, IsLayer}
 use Rattle.delivery.proofs.Layers.{one_is_ready}
@@ -81,11 +81,6 @@ pub some_ready : (queue : QueueOf) (ds : List Delivered) → IsLayer queue ds �
 some_ready queue [] layer some none = some refl
 some_ready queue (d ∷ ds) layer some none = let one = one_is_ready queue d (layer.only d (inl refl)) in none one.0 one.1
 
--- a list of no length is empty
-pub none_listed : {X : Type 0} (xs : List X) → length xs ≡ 0 → xs ≡ []
-none_listed [] e = refl
-none_listed (x ∷ xs) e = absurd (omega arith)
-
 -- ---- it is taken
 
 module _ (old : FrontView) (none : old.out ≡ []) (ds : List Delivered) (ready : IsLayer (queue_of old.multicast.queues) ds) where
@@ -114,6 +109,7 @@ module _ (old : FrontView) (none : old.out ≡ []) (ds : List Delivered) (ready 
               connections = ends.1;
               multicast = take_queues old.table w ds old.multicast m at'.shows.multicast loses;
               out = (refl, some);
+              words = last.0.words;
               settled = at'.shows.settled;
               split = at'.shows.split ∙ ap (λ (l : Layer). at'.shows.settled ++ run_in l) (none_out old none h w told at');
               truly = at'.shows.truly;

@@ -1,15 +1,18 @@
 -- Taking a layer out of the router, one request after another, is a step of the world.
 use Rattle.std.proofs.Common.{◌≡◌, ◌≢◌, ℕ, ◌==◌, true, cond, List, [], ◌∷◌, ◌++◌, ◌⊎◌, inl, inr, length, IfSome, Option}
 use Rattle.std.proofs.Common.{Some, None, Ok, option_map, refl, sym, ap, ◌∙◌, subst, eq-eqb, append-nil}
-use Rattle.std.proofs.lemmas.Bool.{both_ways}
+use Rattle.std.proofs.lemmas.Bool.{both_ways, cond-true}
 use Rattle.std.proofs.Math.Seq.{append_snoc}
 use Rattle.delivery.proofs.Layers.{taken_somewhere}
 use Rattle.delivery.specs.Ready.{IsLayer, left_in}
+use Rattle.front.proofs.Keeping.{keeps_but}
+use Rattle.front.proofs.Lists.{in_either}
+use Rattle.front.specs.Fronts.{KeepsWords}
 use Rattle.journal.specs.declared.step.Step.{Step}
 use Rattle.multicast.specs.Multicast.{MulticastView, group_of, LosesLayer}
 use Rattle.placement.specs.Layout.{Layout}
 use Rattle.router.specs.Connection.{is_under_way, with_standing}
-use Rattle.router.specs.Router.{RouterView, connection, pending_in, pending_at, Changes}
+use Rattle.router.specs.Router.{RouterView, connection, pending_in, pending_at, taken_in, taken_at, Changes}
 use Rattle.router.specs.declared.connection.Connection.{Connection}
 use Rattle.router.specs.declared.connection.Pending.{Pending}
 use Rattle.router.specs.declared.connection.Standing.{Standing}
@@ -27,7 +30,7 @@ use Rattle.system_view.proofs.Connections.{Alike, connection_alike, each_of, kep
 use Rattle.system_view.proofs.Connections.{stands_under_way}
 use Rattle.system_view.specs.Connections.{Waits, AreItsWords, InLayer, id_of, ShowsOpen, ShowsClosed}
 use Rattle.system_view.specs.Connections.{ShowsConnection, ShowsKept}
-use Rattle.system_view.specs.Connections.{IsKeptFor, ShowsConnections}
+use Rattle.system_view.specs.Connections.{IsKeptFor, ShowsSessions, ShowsConnections}
 use Rattle.system_view.specs.Multicast.{ShowsMulticast}
 use Rattle.front.specs.Taking.{with_layer, IsTaking}
 use Rattle.worded.specs.declared.worded.Worded.{Worded}
@@ -217,6 +220,7 @@ module _ (t : Layout) (w : World) (standing : ℕ → Stand) (front : List Deliv
     layer = subst (λ ds. IsLayer w.queue ds) (sym (append_snoc front d back)) is.layer;
     shows = record {
       opened = changes.opened ∙ is.shows.opened;
+      sessions = subst (λ kept. ShowsSessions kept standing w.session) (sym changes.sessions) is.shows.sessions;
       each = each_of r r' before after d.id.conn.0 (Some (with_standing v (router.Taken words))) changes.at
           (λ c other. alike_taken c) is.shows.each
           (taken_here v words its seq here.0 (stands_under_way v before d.id.conn.0 busy here));
@@ -226,6 +230,14 @@ module _ (t : Layout) (w : World) (standing : ℕ → Stand) (front : List Deliv
             (λ waits. (with_standing v (router.Taken words), refl, refl, refl)) kept)
       ];
     };
+    words = λ e there. elim (in_either front (d ∷ []) e there) [
+      | inl earlier ↦ keeps_but r r' d.id.conn.0 (Some (with_standing v (router.Taken words))) e.id changes.at kept_for.v kept_for.kept
+          (ap (λ s. taken_in s (kept_for.v.seq == e.id.seq)) is_pending.1) (is.words e earlier)
+      | inr last ↦ elim last [
+        | inl this ↦ subst (λ (x : Delivered). KeepsWords r' x.id) (sym this) (words, now_taken)
+        | inr none ↦ absurd none
+      ]
+    ];
   }
     where
       same : kept_for.v ≡ v
@@ -239,6 +251,13 @@ module _ (t : Layout) (w : World) (standing : ℕ → Stand) (front : List Deliv
 
       seq : v.seq ≡ d.id.seq
       seq = subst (λ (u : Connection). u.seq ≡ d.id.seq) same kept_for.seq
+
+      now_taken : taken_at (connection r' d.id.conn.0) d.id.seq ≡ Some words
+      now_taken =
+          ap (λ o. taken_at o d.id.seq) (changes.at d.id.conn.0
+          ∙ cond-true (d.id.conn.0 == d.id.conn.0) (Some (with_standing v (router.Taken words))) (connection r d.id.conn.0)
+          (eq-eqb d.id.conn.0 d.id.conn.0 refl))
+          ∙ ap (λ b. cond b (Some words) None) (eq-eqb v.seq d.id.seq seq)
 
   -- so much the router's take gives and does
   pub take_did : (r' : RouterView) (o : Option Worded) →
@@ -269,6 +288,7 @@ take_starts t steps w standing ds r leads none layer shows = record {
   layer = layer;
   shows = record {
     opened = shows.opened;
+    sessions = shows.sessions;
     each = λ c. connection_alike (connection r c) (record w { standing = standing }) (with_layer w standing (Taken [])) c (alike c)
         (shows.each c);
     under_way = λ i q asked. elim (shows.under_way i q asked) [
@@ -276,6 +296,7 @@ take_starts t steps w standing ds r leads none layer shows = record {
       | inr kept ↦ inr kept
     ];
   };
+  words = λ d there. absurd there;
 }
   where
     alike : (c : ℕ) → Alike (record w { standing = standing }) (with_layer w standing (Taken [])) c
@@ -294,6 +315,7 @@ take_ends t w standing ds r is some = (
   takes_layer w ds is.none (subst (λ l. IsLayer w.queue l) (append-nil ds) is.layer) some,
   record {
     opened = is.shows.opened;
+    sessions = is.shows.sessions;
     each = λ c. connection_alike (connection r c) (with_layer w standing (Taken ds)) (record (taken w ds) { standing = standing }) c
         (alike c) (is.shows.each c);
     under_way = is.shows.under_way;

@@ -1,20 +1,20 @@
 -- What a front is told of a layer changes nothing that it shows of the requests before.
-use Rattle.std.proofs.Common.{◌≡◌, ℕ, true, List, [], ◌∷◌, ◌++◌, ◌⊎◌, inl, inr, map, Option, Some, None}
-use Rattle.std.proofs.Common.{is_none, Ok, refl, sym}
-use Rattle.std.proofs.Common.{ap, ◌∙◌, subst}
+use Rattle.std.proofs.Common.{◌≡◌, ℕ, List, [], ◌∷◌, ◌++◌, ◌⊎◌, inl, inr, map, Option, Some, None, option_map, Ok}
+use Rattle.std.proofs.Common.{refl, sym, ap, ◌∙◌, subst, append_assoc}
 use Rattle.std.specs.List.{AllZip}
 use Rattle.execution_order.specs.Rows.{IsRow}
-use Rattle.tasks.specs.Tasks.{task_reading}
-use Rattle.front.proofs.Parts.{executed, if_executed, IsRowOf}
+use Rattle.tasks.specs.Tasks.{task_reading, starved_names}
 use Rattle.front.specs.Fronts.{Told, retold, retold_reply, retold_outcome, retold_standing}
-use Rattle.front.specs.Settling.{row_of}
+use Rattle.front.specs.Outcomes.{IsToldBy}
+use Rattle.front.specs.Settling.{row_of, with_kept, kept_rows}
 use Rattle.groups.specs.Order.{In}
 use Rattle.groups.specs.declared.request.RequestId.{RequestId}
 use Rattle.layer_results.specs.declared.done.DoneRow.{DoneRow}
 use Rattle.placement.specs.Layout.{Layout}
 use Rattle.resp.specs.Content.{Content, content}
+use Rattle.resp.specs.declared.reply.Reply.{Reply}
 use Rattle.system_view.specs.Layers.{AreRows}
-use Rattle.world.specs.Steps.{if_starved, starved_among}
+use Rattle.world.specs.Steps.{starved_among}
 use Rattle.world.specs.World.{World, Outcome, Standing, Closed, Idle, Waiting, Answered, Ended, HasRun}
 use Rattle.world_laws.proofs.Values.{answered_open, answered_not_waiting}
 use Rattle.world_laws.proofs.Worlds.{run_is_pending}
@@ -66,12 +66,9 @@ rows_of-append (e ∷ es) fs = ap (with_row e e.reply) (rows_of-append es fs) �
 
 pub starved-append : (es fs : List Ended) → starved_among (es ++ fs) ≡ starved_among es ++ starved_among fs
 starved-append [] fs = refl
-starved-append (e ∷ es) fs = ap (if_starved e.reply e.id) (starved-append es fs) ∙ by_reply e.reply
-  where
-    by_reply : (o : Option Content) →
-        if_starved o e.id (starved_among es ++ starved_among fs) ≡ if_starved o e.id (starved_among es) ++ starved_among fs
-    by_reply None = refl
-    by_reply (Some reply) = refl
+starved-append (e ∷ es) fs =
+    let names = starved_names e.id e.task e.reply in
+    ap (λ l. names ++ l) (starved-append es fs) ∙ sym (append_assoc names (starved_among es) (starved_among fs))
 
 -- the rows of requests that were told alike before and now are the same
 pub rows_same : (before now : Told) (es : List Ended) → ((e : Ended) → In e es → now e.id ≡ before e.id) →
@@ -80,41 +77,25 @@ rows_same before now [] same = refl
 rows_same before now (e ∷ es) same = λ k.
     record e { reply = same e (inl refl) k } ∷ rows_same before now es (λ x there. same x (inr there)) k
 
--- what is told of a request that was executed: its reply; and its words say its task
+-- the row tells so of the request, and its words say its task
 pub record IsToldRow (now : Told) (e : Ended) (r : DoneRow) : Type 0 where
-  pub of : IsRowOf e r
-  pub reply : now e.id ≡ Some (content r.reply)
+  pub by : IsToldBy now e r
   pub says : task_reading r.words ≡ Ok e.task
 
 -- the rows of a layer's executed requests are those that are kept
-pub rows_told : (now : Told) (es : List Ended) (rows : List DoneRow) →
-    ((e : Ended) → In e es → is_none (now e.id) ≡ is_none e.reply) → AllZip (IsToldRow now) (executed es) rows →
-    AreRows (map (retold now) es) (map row_of rows)
-rows_told now [] [] truly zip = tt
-rows_told now [] (r ∷ rows) truly zip = absurd zip
-rows_told now (e ∷ es) rows truly zip =
-    by_reply e.reply refl (λ rs. rows_told now es rs (λ x there. truly x (inr there))) zip
+pub rows_told : (now : Told) (es : List Ended) (rows : List DoneRow) → AllZip (IsToldRow now) es rows →
+    AreRows (map (retold now) es) (kept_rows rows)
+rows_told now [] [] zip = tt
+rows_told now [] (r ∷ rows) zip = absurd zip
+rows_told now (e ∷ es) [] zip = absurd zip
+rows_told now (e ∷ es) (r ∷ rows) zip = by_reply r.reply zip.0.by.reply (rows_told now es rows zip.1)
   where
-    by_reply : (o : Option Content) → e.reply ≡ o →
-        ((rs : List DoneRow) → AllZip (IsToldRow now) (executed es) rs → AreRows (map (retold now) es) (map row_of rs)) →
-        AllZip (IsToldRow now) (if_executed o e (executed es)) rows →
-        AllZip IsRow (with_row (retold now e) (now e.id) (rows_of (map (retold now) es))) (map row_of rows)
-    by_reply None is further zip =
-        subst (λ o. AllZip IsRow (with_row (retold now e) o (rows_of (map (retold now) es))) (map row_of rows))
-        (sym (none_of (now e.id) (truly e (inl refl) ∙ ap is_none is)))
-        (further rows zip)
-      where
-        none_of : (o : Option Content) → is_none o ≡ true → o ≡ None
-        none_of None none = refl
-        none_of (Some reply) none = cc
-    by_reply (Some reply) is further zip = some_row rows zip
-      where
-        some_row : (rs : List DoneRow) → AllZip (IsToldRow now) (e ∷ executed es) rs →
-            AllZip IsRow (with_row (retold now e) (now e.id) (rows_of (map (retold now) es))) (map row_of rs)
-        some_row [] zip = absurd zip
-        some_row (r ∷ rs) zip =
-            subst (λ o. AllZip IsRow (with_row (retold now e) o (rows_of (map (retold now) es))) (map row_of (r ∷ rs)))
-            (sym zip.0.reply) (
-              record { id = zip.0.of.id; stamp = zip.0.of.stamp; says = zip.0.says; reply = refl },
-              further rs zip.1,
-            )
+    by_reply : (o : Option Reply) → now e.id ≡ option_map content o → AreRows (map (retold now) es) (kept_rows rows) →
+        AllZip IsRow (with_row (retold now e) (now e.id) (rows_of (map (retold now) es))) (with_kept r o (kept_rows rows))
+    by_reply None told rest =
+        subst (λ x. AllZip IsRow (with_row (retold now e) x (rows_of (map (retold now) es))) (kept_rows rows)) (sym told) rest
+    by_reply (Some reply) told rest =
+        subst (λ x. AllZip IsRow (with_row (retold now e) x (rows_of (map (retold now) es))) (row_of r reply ∷ kept_rows rows)) (sym told) (
+          record { id = zip.0.by.id; stamp = zip.0.by.stamp; says = zip.0.says; reply = refl; starved = refl },
+          rest,
+        )

@@ -1,19 +1,21 @@
 -- What a front shows of a world: connections, groups, packets and queues are the world's, but of a layer that was run it
 -- knows what it was told alone, once it was told.
-use Rattle.std.specs.Prelude.{◌≡◌, ◌≢◌, ℕ, ◌+◌, Bool, true, List, [], ◌++◌, length, map, Option, Some, None, is_none}
+use Rattle.std.specs.Prelude.{◌≡◌, ◌≢◌, ℕ, ◌+◌, Bool, true, List, [], ◌++◌, length, map, Option, Some, None}
 use Rattle.groups.specs.Order.{In}
 use Rattle.groups.specs.declared.request.RequestId.{RequestId}
+use Rattle.groups.specs.declared.skip_id.SkipId.{SkipId}
 use Rattle.groups.specs.declared.stamp.Stamp.{Stamp}
 use Rattle.journal.specs.Views.{RowView}
 use Rattle.journal.specs.declared.step.Step.{Step}
 use Rattle.multicast.specs.Multicast.{MulticastView}
 use Rattle.placement.specs.Layout.{Layout, IsTable}
 use Rattle.resp.specs.Content.{Content}
-use Rattle.router.specs.Router.{RouterView}
+use Rattle.router.specs.Router.{RouterView, connection, taken_at}
 use Rattle.skeen_core.specs.declared.packet.Delivered.{Delivered}
 use Rattle.system_view.specs.Connections.{ShowsConnections}
 use Rattle.system_view.specs.Layers.{AreRows}
 use Rattle.system_view.specs.Multicast.{ShowsMulticast}
+use Rattle.tasks.specs.Tasks.{starved_names}
 use Rattle.world.specs.Steps.{opening, reply_of, starved_among, Leads}
 use Rattle.world.specs.World.{World, Outcome, Standing, Closed, Idle, Waiting, Answered, Ended, Layer}
 use Rattle.world.specs.World.{NoneTaken, Taken, HasRun}
@@ -29,14 +31,14 @@ pub record FrontView : Type 0 where
   pub multicast : MulticastView
   pub out : List Delivered  -- the requests of the layer that is out, in its order; none where none is
   pub rows : List RowView  -- of the executed requests of settled layers, in the order of execution
-  pub starved : List RequestId  -- those of them that starved
+  pub starved : List SkipId  -- the names of what starved of them: of requests as a whole, and of members of those that were executed
   pub whole : Bool  -- whether these are the rows and the names of all that was settled
   pub steps : ℕ  -- how many calls made a step
   pub layers : ℕ  -- how many layers were settled
 
 -- ---- what it was told
 
--- what came of each request: its reply, or none where it starved
+-- what came of each request: its reply, which tells which of its members starved, or none where it starved as a whole
 abbrev pub Told : Type 0
 Told = RequestId → Option Content
 
@@ -70,15 +72,20 @@ IsOut NoneTaken out = out ≡ []
 IsOut (Taken ds) out = (out ≡ ds) × (ds ≢ [])
 IsOut (HasRun es) out = (out ≡ all_delivered es) × (es ≢ [])
 
+-- the router keeps the words of the request, which was taken out of it
+abbrev pub KeepsWords : RouterView → RequestId → Type 0
+KeepsWords r i = (words : List (List ℕ)) × (taken_at (connection r i.conn.0) i.seq ≡ Some words)
+
 pub record FrontShows (told : Told) (f : FrontView) (w : World) : Type 0 where
   pub connections : ShowsConnections f.router (retold_world told w)
   pub multicast : ShowsMulticast f.table f.multicast w
   pub out : IsOut w.layer f.out
-  -- the requests of the layers that were settled: it was told truly which of them starved, and keeps what it was told, where
-  -- it keeps that of all
+  pub words : (d : Delivered) → In d f.out → KeepsWords f.router d.id
+  -- the requests of the layers that were settled: it was told truly what starved of each, and keeps what it was told, where it
+  -- keeps that of all
   pub settled : List Ended
   pub split : w.ended ≡ settled ++ run_in w.layer
-  pub truly : (e : Ended) → In e settled → is_none (told e.id) ≡ is_none e.reply
+  pub truly : (e : Ended) → In e settled → starved_names e.id e.task (told e.id) ≡ starved_names e.id e.task e.reply
   pub rows : f.whole ≡ true → AreRows (map (retold told) settled) f.rows
   pub starved : f.whole ≡ true → f.starved ≡ starved_among settled
 

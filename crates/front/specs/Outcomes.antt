@@ -1,19 +1,17 @@
--- The outcomes of a layer go to their connections, one after another: first those of the executed requests, then those of
--- the ones that starved.
+-- The outcomes of a layer go to their connections, one after another.
 use Rattle.std.specs.List.{AllZip}
-use Rattle.std.specs.Prelude.{◌≡◌, ℕ, List, ◌++◌, map, Some, None}
+use Rattle.std.specs.Prelude.{◌≡◌, ℕ, List, [], ◌++◌, map, Some, option_map}
 use Rattle.front.specs.Fronts.{Told, retold}
 use Rattle.groups.specs.Order.{In}
-use Rattle.groups.specs.declared.request.RequestId.{RequestId}
-use Rattle.groups.specs.declared.stamp.Stamp.{Stamp}
 use Rattle.journal.specs.declared.step.Step.{Step}
 use Rattle.layer_results.specs.declared.done.DoneRow.{DoneRow}
 use Rattle.placement.specs.Layout.{Layout}
 use Rattle.resp.specs.Content.{content}
 use Rattle.router.specs.Router.{RouterView}
+use Rattle.router.specs.declared.outcome.Outcome as kept
 use Rattle.skeen_core.specs.Group.{EachOnce}
 use Rattle.system_view.specs.Connections.{ShowsConnections}
-use Rattle.world.specs.Steps.{opening, settled, Leads}
+use Rattle.world.specs.Steps.{opening, reply_of, settled, Leads}
 use Rattle.world.specs.World.{World, Standing, Closed, Ended, HasRun}
 use Rattle.world_laws.specs.Order.{ids_of}
 
@@ -37,28 +35,27 @@ pub record IsSettling (t : Layout) (w : World) (done back : List Ended) (standin
 pub record IsToldBy (now : Told) (e : Ended) (row : DoneRow) : Type 0 where
   pub id : row.id ≡ e.id
   pub stamp : row.stamp ≡ e.stamp
-  pub reply : now e.id ≡ Some (content row.reply)
+  pub reply : now e.id ≡ option_map content row.reply
 
--- it starved, and is named so
-pub record IsNamedBy (now : Told) (e : Ended) (s : RequestId × Stamp) : Type 0 where
-  pub id : s.0 ≡ e.id
-  pub stamp : s.1 ≡ e.stamp
-  pub starved : now e.id ≡ None
+-- so much the connection of the row's request is given: the reply, or that there was no memory, with the stamp
+pub record Gives (row : DoneRow) (o : kept.Outcome) : Type 0 where
+  pub id : o.id ≡ row.id
+  pub reply : content o.reply ≡ reply_of (option_map content row.reply)
+  pub stamp : o.stamp ≡ Some row.stamp
 
 -- these outcomes may go now
-pub record MaySettle {X : Type 0} (Tells : Told → Ended → X → Type 0) (xs : List X) (r : RouterView) : Type 0 where
+pub record MaySettle (rows : List DoneRow) (r : RouterView) : Type 0 where
   pub table : Layout
   pub world : World
   pub now : Told
   pub done : List Ended
   pub es : List Ended
-  pub back : List Ended
   pub standing : ℕ → Standing
-  pub told : AllZip (Tells now) es xs
-  pub settling : IsSettling table world done (es ++ back) standing r
+  pub told : AllZip (IsToldBy now) es rows
+  pub settling : IsSettling table world done es standing r
 
 -- and have gone
-abbrev pub AreSettled : {X : Type 0} → (Told → Ended → X → Type 0) → List X → RouterView → RouterView → Type 0
-AreSettled Tells xs old new = (t : Layout) (w : World) (now : Told) (done es back : List Ended) (standing : ℕ → Standing) →
-    AllZip (Tells now) es xs → IsSettling t w done (es ++ back) standing old →
-    IsSettling t w (done ++ es) back (settled (map (retold now) es) standing) new
+abbrev pub AreSettled : List DoneRow → RouterView → RouterView → Type 0
+AreSettled rows old new = (t : Layout) (w : World) (now : Told) (done es : List Ended) (standing : ℕ → Standing) →
+    AllZip (IsToldBy now) es rows → IsSettling t w done es standing old →
+    IsSettling t w (done ++ es) [] (settled (map (retold now) es) standing) new

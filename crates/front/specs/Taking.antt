@@ -1,10 +1,11 @@
 -- A layer that is taken out of the router, one request after another.
 use Rattle.std.specs.Prelude.{◌≡◌, ℕ, List, ◌++◌}
 use Rattle.delivery.specs.Ready.{IsLayer}
-use Rattle.front.specs.Fronts.{FrontView, Told, FrontIsAt}
+use Rattle.front.specs.Fronts.{FrontView, Told, KeepsWords, FrontIsAt}
 use Rattle.front.specs.Making.{IsStep}
 use Rattle.journal.specs.declared.step.Step.{Step}
 use Rattle.journal.specs.declared.step.Step.TheVariants.{Take}
+use Rattle.groups.specs.Order.{In}
 use Rattle.layer_planner.specs.declared.job.Job.{Job}
 use Rattle.placement.specs.Layout.{Layout}
 use Rattle.router.specs.Router.{RouterView}
@@ -20,13 +21,14 @@ abbrev pub with_layer : World → (ℕ → Standing) → Layer → World
 with_layer w standing layer = record w { standing = standing; layer = layer }
 
 -- of the requests that are ready or lined up in a world in which no layer is there, those in front are out of the
--- router, and those behind wait in it
+-- router, which keeps their words, and those behind wait in it
 pub record IsTaking (t : Layout) (w : World) (standing : ℕ → Standing) (front back : List Delivered) (r : RouterView) : Type 0 where
   pub steps : List Step
   pub leads : Leads t opening steps w
   pub none : w.layer ≡ NoneTaken
   pub layer : IsLayer w.queue (front ++ back)
   pub shows : ShowsConnections r (with_layer w standing (Taken front))
+  pub words : (d : Delivered) → In d front → KeepsWords r d.id
 
 -- ---- a Take
 

@@ -3,7 +3,7 @@
 ghost use Rattle.std.specs.Prelude.{◌≡◌, IfOk};
 ghost use Rattle.front.specs.Fronts.{IsNew};
 
-use groups::RequestId;
+use groups::SkipId;
 use journal::Rows;
 use multicast::Multicast;
 use placement::Table;
@@ -26,7 +26,7 @@ pub struct Front {
     pub(super) multicast: Multicast,
     pub(super) out: Vec<Delivered>,
     pub(super) rows: Rows,
-    pub(super) starved: Vec<RequestId>,
+    pub(super) starved: Vec<SkipId>,
     pub(super) whole: bool,
     pub(super) steps: u64,
     pub(super) layers: u64,

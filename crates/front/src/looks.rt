@@ -7,11 +7,12 @@ ghost use Rattle.front.specs.Fronts.{IsFront};
 ghost use Rattle.front.specs.Making.{SeesNoRun, MayBeRetold};
 ghost use Rattle.front.specs.Looking.{IsQuiet};
 ghost use Rattle.multicast.specs.Multicast.{group_of};
-ghost use Rattle.router.specs.Router.{waiting};
+ghost use Rattle.router.specs.Lists.{is_listing};
+ghost use Rattle.router.specs.Router.{session_at, waiting};
 ghost use Rattle.skeen_core.specs.declared.packet.Delivered.{Delivered};
 
 use super::front::Front;
-use groups::{ConnId, GroupId, RequestId};
+use groups::{ConnId, GroupId, SkipId};
 use journal::Rows;
 use placement::Table;
 use router::Outcome;
@@ -94,6 +95,13 @@ impl Front {
         self.router.waits(conn)
     }
 
+    /// Whether requests are added to a list that is open on the connection.
+    pub fn has_list(&self, conn: ConnId) -> bool
+        ensures { result ≡ is_listing (session_at self.now.router conn.0) }
+    {
+        self.router.has_list(conn)
+    }
+
     /// The rows of what was executed and settled, in the order of execution.
     pub fn rows(&self) -> &Rows
         ensures { result.now.rows ≡ self.now.rows }
@@ -101,8 +109,9 @@ impl Front {
         &self.rows
     }
 
-    /// The ids of the settled requests that starved, in the order in which their turns came.
-    pub fn starved(&self) -> &[RequestId]
+    /// The names of what starved of the settled requests: of requests as a whole, and of members of those that were executed,
+    /// in the order in which their turns came.
+    pub fn starved(&self) -> &[SkipId]
         ensures { result.now ≡ self.now.starved }
     {
         self.starved.as_slice()

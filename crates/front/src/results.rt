@@ -1,79 +1,60 @@
 //! Whether something came of the layer that is out.
 
-ghost use Rattle.std.specs.Prelude.{IsTrue, ◌↔◌, IfSome, IfNone, List, map};
-ghost use Rattle.front.specs.Settling.{FollowsRow, FollowsName, Merge, CameOf, HasItsWords, IsResultOf};
+ghost use Rattle.std.specs.Prelude.{IsTrue, ◌↔◌};
+ghost use Rattle.std.specs.List.{AllZip};
+ghost use Rattle.front.specs.Settling.{IsRowFor, CameOf, HasItsWords, HasItsMembers, IsResultOf, IsOutcomeOf};
 ghost use Rattle.groups.specs.Order.{In};
 ghost use Rattle.layer_results.specs.declared.done.DoneRow.{DoneRow};
-ghost use Rattle.skeen_core.specs.Group.{EachOnce};
 
-use groups::{RequestId, Stamp};
-use layer_results::{Done, DoneRow};
+use layer_results::{Done, DoneRow, member_count};
 use router::Router;
 use skeen_core::Delivered;
 
-/// Whether this came of the requests that are out, in whose order each of its lists is: of all of them, of no others, and
-/// with the words that the router keeps of each. Where none is out nothing came of them. It takes no memory.
+/// Whether this came of the requests that are out, in whose order it is: of all of them, of no others, and with the words
+/// that the router keeps of each. Where none is out nothing came of them. It takes no memory.
 pub(super) fn is_of_layer(router: &Router, out: &[Delivered], done: &Done) -> bool
-    requires { EachOnce (map (λ d. d.id) out.now) }
     ensures { IsTrue result ↔ IsResultOf router.now out.now done.now }
 {
-    if out.is_empty() {
-        return false;
-    }
-    are_merged(out, done.rows(), done.starved()) && have_their_words(router, done.rows())
+    came_of(out, done.rows()) && have_their_words(router, done.rows())
 }
 
-/// Whether this came of the requests that are out, in whose order each of its lists is: of all of them, and of no others. Words
-/// aren't looked at. It takes no memory.
-pub(super) fn came_of(out: &[Delivered], done: &Done) -> bool
-    requires { EachOnce (map (λ d. d.id) out.now) }
-    ensures { IsTrue result ↔ CameOf out.now done.now }
+/// Whether this came of the requests that are out, in whose order it is: of all of them, of no others, and of each with as
+/// many members as it has. No words are compared. It takes no memory.
+pub(super) fn tells_of_layer(router: &Router, out: &[Delivered], done: &Done) -> bool
+    ensures { IsTrue result ↔ IsOutcomeOf router.now out.now done.now }
 {
-    !out.is_empty() && are_merged(out, done.rows(), done.starved())
+    came_of(out, done.rows()) && have_their_members(router, done.rows())
 }
 
-/// Whether the requests that are out, one after another, are those of the rows and those that starved.
-fn are_merged(out: &[Delivered], rows: &[DoneRow], starved: &[(RequestId, Stamp)]) -> bool
-    requires { EachOnce (map (λ d. d.id) out.now) }
-    ensures { IsTrue result ↔ Merge out.now rows.now starved.now }
+/// Whether some requests are out, and the rows are theirs, each at its place.
+fn came_of(out: &[Delivered], rows: &[DoneRow]) -> bool
+    ensures { IsTrue result ↔ CameOf out.now rows.now }
+{
+    !out.is_empty() && are_rows_for(out, rows)
+}
+
+/// Whether the rows are those of the requests, each at its place.
+fn are_rows_for(out: &[Delivered], rows: &[DoneRow]) -> bool
+    ensures { IsTrue result ↔ AllZip IsRowFor out.now rows.now }
 {
     let mut rows_left = rows;
-    let mut names_left = starved;
     for request in out {
-        if let Some(rest) = behind_row(rows_left, request) {
-            rows_left = rest;
-        } else if let Some(rest) = behind_name(names_left, request) {
-            names_left = rest;
-        } else {
+        let Some((row, rest)) = rows_left.split_first() else {
+            return false;
+        };
+        if !is_row_for(request, row) {
             return false;
         }
+        rows_left = rest;
     }
-    rows_left.is_empty() && names_left.is_empty()
+    rows_left.is_empty()
 }
 
-/// The rows behind the first, if that is the request's.
-fn behind_row<'a>(rows: &'a [DoneRow], request: &Delivered) -> Option<&'a [DoneRow]>
-    ensures some { IfSome result (λ rest. FollowsRow request.now rows.now rest.now) }
-    ensures none { IfNone result ((rest : List DoneRow) → ¬ FollowsRow request.now rows.now rest) }
+/// Whether the row is that of the request.
+fn is_row_for(request: &Delivered, row: &DoneRow) -> bool
+    ensures { IsTrue result ↔ IsRowFor request.now row.now }
 {
-    match rows.split_first() {
-        Some((row, rest)) if row.id == request.id && row.stamp == request.stamp => Some(rest),
-        _ => None,
-    }
-}
-
-/// The names behind the first, if that is the request's.
-fn behind_name<'a>(
-    starved: &'a [(RequestId, Stamp)],
-    request: &Delivered,
-) -> Option<&'a [(RequestId, Stamp)]>
-    ensures some { IfSome result (λ rest. FollowsName request.now starved.now rest.now) }
-    ensures none { IfNone result ((rest : List _) → ¬ FollowsName request.now starved.now rest) }
-{
-    match starved.split_first() {
-        Some(((id, stamp), rest)) if *id == request.id && *stamp == request.stamp => Some(rest),
-        _ => None,
-    }
+    row.id == request.id && row.stamp == request.stamp
 }
 
 /// Whether the words of each row are those that the router keeps of its request.
@@ -94,6 +75,28 @@ fn has_its_words(router: &Router, row: &DoneRow) -> bool
 {
     match router.taken_words(row.id) {
         Some(words) => words.as_bytes() == row.words.as_bytes(),
+        None => false,
+    }
+}
+
+/// Whether each row has as many members as its request.
+fn have_their_members(router: &Router, rows: &[DoneRow]) -> bool
+    ensures { IsTrue result ↔ ((row : DoneRow) → In row rows.now → HasItsMembers router.now row) }
+{
+    for row in rows {
+        if !has_its_members(router, row) {
+            return false;
+        }
+    }
+    true
+}
+
+/// Whether the row's words say as many members as those that the router keeps of its request.
+fn has_its_members(router: &Router, row: &DoneRow) -> bool
+    ensures { IsTrue result ↔ HasItsMembers router.now row.now }
+{
+    match router.taken_words(row.id) {
+        Some(words) => member_count(words) == member_count(&row.words),
         None => false,
     }
 }

@@ -1,25 +1,26 @@
 //! What came of the layer that is out is told, and its outcomes go to their connections.
 
-ghost use Rattle.std.specs.Prelude.{◌≡◌, ◌+◌, ◌++◌, ◌≤◌, length, IfErr, OnOk, OnErr, IfOk, vec_capacity};
+ghost use Rattle.std.specs.Prelude.{◌≡◌, ◌+◌, ◌≤◌, length, IfErr, OnOk, OnErr, IfOk, IfSome, vec_capacity};
 ghost use Rattle.std.specs.Bool.{OnTrue};
 ghost use Rattle.std.specs.List.{AllByRecursion};
-ghost use Rattle.front.specs.Room.{HaveBlocks, IsShort};
-ghost use Rattle.front.specs.Settling.{CameOf, Settles, HandsOn, IsSettleFault, MaySettle};
+ghost use Rattle.front.specs.Room.{HaveBlocks, IsShort, text_length};
+ghost use Rattle.front.specs.Settling.{TellsOfLayer, Settles, HandsOn, IsSettleFault, MaySettle};
+ghost use Rattle.layer_results.specs.Results.{names_of};
 
 use super::fault::FrontFault;
 use super::front::Front;
-use super::outcomes::{hand_rows, hand_starved, keep_names, settle_rows};
-use super::results::{came_of, is_of_layer};
-use groups::RequestId;
+use super::outcomes::{hand_rows, settle_rows};
+use super::results::{is_of_layer, tells_of_layer};
+use groups::SkipId;
 use journal::Rows;
 use layer_results::{Done, DoneRow};
 use resp::{LONG, text_block, text_size};
 use std::alloc::{AllocError, Global};
 
 impl Front {
-    /// Tells what came of the layer that is out: its executed requests get their rows, and each of its requests its outcome,
-    /// that of a closed connection dropped. In the history it is a Run, with these starving, and a Settle. Of the replies the
-    /// front knows nothing: it keeps what it is told.
+    /// Tells what came of the layer that is out: its executed requests get their rows, what starved its names, and each of its
+    /// requests its outcome, that of a closed connection dropped. In the history it is a Run, with these starving, and a
+    /// Settle. Of the replies the front knows no more than they tell of who starved: it keeps what it is told.
     ///
     /// Errors, with nothing changed and the `Done` given back: `NoLayer`, it isn't what came of the layer that is out, request
     /// by request and word by word; `Memory`.
@@ -35,10 +36,14 @@ impl Front {
         let Ok(blocks) = room_for(self.alloc, &mut self.rows, &mut self.starved, &done) else {
             return Err((done, FrontFault::Memory));
         };
-        let (rows, starved) = done.into_parts();
-        settle_rows(self.alloc, &mut self.router, &mut self.rows, rows, blocks);
-        keep_names(&mut self.starved, starved.as_slice());
-        hand_starved(&mut self.router, starved.as_slice());
+        done.push_names(&mut self.starved);
+        settle_rows(
+            self.alloc,
+            &mut self.router,
+            &mut self.rows,
+            done.into_rows(),
+            blocks,
+        );
         self.out.clear();
         self.steps += 1;
         self.layers += 1;
@@ -48,20 +53,18 @@ impl Front {
     /// Tells what came of the layer that is out, for who keeps the rows elsewhere: each of its requests gets its outcome, and
     /// neither a row nor a name is kept. In the history it is a Run, with these starving, and a Settle. It takes no memory.
     ///
-    /// The only error is that it isn't what came of the layer that is out, request by request; then nothing is changed and the
-    /// `Done` is given back. At words it doesn't look, since it keeps none.
+    /// The only error is that it isn't what came of the layer that is out, request by request, each with as many members; then
+    /// nothing is changed and the `Done` is given back. It compares no words, since it keeps none.
     pub fn settle_outcomes(&mut self, done: Done) -> Result<(), Done>
         requires { MaySettle self.old }
         ensures settled { OnOk result (HandsOn self.old done self.new) }
-        ensures refused { IfErr result (λ back. (back ≡ done) × (¬ CameOf self.old.out done)) }
+        ensures refused { IfErr result (λ back. (back ≡ done) × (¬ TellsOfLayer self.old done)) }
         ensures unchanged { OnErr result (self.new ≡ self.old) }
     {
-        if !came_of(self.out.as_slice(), &done) {
+        if !tells_of_layer(&self.router, self.out.as_slice(), &done) {
             return Err(done);
         }
-        let (rows, starved) = done.into_parts();
-        hand_rows(&mut self.router, rows);
-        hand_starved(&mut self.router, starved.as_slice());
+        hand_rows(&mut self.router, done.into_rows());
         self.out.clear();
         self.whole = false;
         self.steps += 1;
@@ -75,17 +78,20 @@ impl Front {
 fn room_for(
     alloc: Global,
     rows: &mut Rows,
-    starved: &mut Vec<RequestId>,
+    starved: &mut Vec<SkipId>,
     done: &Done,
 ) -> Result<Vec<Vec<u8>>, AllocError>
     ensures rows { rows.new.rows ≡ rows.old.rows }
     ensures starved { starved.new.items ≡ starved.old.items }
-    ensures room_of_rows { OnOk result (length done.now.rows ≤ rows.new.room) }
-    ensures room_of_starved { OnOk result (length starved.new.items + length done.now.starved ≤ vec_capacity starved.new) }
-    ensures blocks { IfOk result (λ blocks. HaveBlocks done.now.rows blocks.items) }
+    ensures room_of_rows { OnOk result (length done.now ≤ rows.new.room) }
+    ensures room_of_starved { OnOk result (length starved.new.items + length (names_of done.now) ≤ vec_capacity starved.new) }
+    ensures blocks { IfOk result (λ blocks. HaveBlocks done.now blocks.items) }
 {
     rows.reserve(done.rows().len())?;
-    starved.reserve(done.starved().len())?;
+    let Some(names) = done.names_count() else {
+        return Err(AllocError);
+    };
+    starved.reserve(names)?;
     blocks_for(alloc, done.rows())
 }
 
@@ -98,7 +104,7 @@ fn blocks_for(alloc: Global, rows: &[DoneRow]) -> Result<Vec<Vec<u8>>, AllocErro
     }
     let mut blocks = Vec::with_capacity(alloc, rows.len())?;
     for row in rows {
-        let Some(size) = text_size(&row.reply) else {
+        let Some(size) = text_length(row) else {
             return Err(AllocError);
         };
         blocks.push(text_block(alloc, size)?)?;
@@ -122,8 +128,18 @@ fn are_short(rows: &[DoneRow]) -> bool
 fn is_short(row: &DoneRow) -> bool
     ensures { OnTrue result (IsShort row.now) }
 {
-    match text_size(&row.reply) {
+    match text_length(row) {
         Some(size) => size <= LONG,
         None => false,
+    }
+}
+
+/// How long the text of the row's reply is; where it has none, nothing is kept of it. `None` where that is 2^64 or more.
+fn text_length(row: &DoneRow) -> Option<usize>
+    ensures { IfSome result (λ size. size ≡ text_length row.now.reply) }
+{
+    match &row.reply {
+        Some(reply) => text_size(reply),
+        None => Some(0),
     }
 }

@@ -5,7 +5,7 @@ ghost use Rattle.front.specs.Settling.{MaySettle};
 
 use crate::trouble::Trouble;
 use front::{Front, FrontFault};
-use groups::{ConnId, RequestId, Stamp};
+use groups::{ConnId, RequestId};
 use layer_planner::{Job, Layer};
 use layer_results::{Done, DoneRow};
 use placement::Table;
@@ -123,9 +123,19 @@ pub(crate) fn collects(
 /// A new connection submits these words, and their packets come; its number.
 pub(crate) fn asks(alloc: Global, front: &mut Front, words: &str) -> Result<ConnId, Trouble> {
     let conn = open(front)?;
-    submit(alloc, front, conn, words)?;
-    deliver_all(front)?;
+    ask(alloc, front, conn, words)?;
     Ok(conn)
+}
+
+/// A connection submits these words, and their packets come.
+pub(crate) fn ask(
+    alloc: Global,
+    front: &mut Front,
+    conn: ConnId,
+    words: &str,
+) -> Result<(), Trouble> {
+    submit(alloc, front, conn, words)?;
+    deliver_all(front)
 }
 
 /// Takes a layer whose first so many requests starve, and settles it; whether that was done.
@@ -150,28 +160,42 @@ pub(crate) fn close(front: &mut Front, conn: ConnId) -> Result<(), Trouble> {
 /// What comes of a layer: the first so many of its requests starve, and each other one is answered its place, from 0.
 pub(crate) fn done_of(alloc: Global, layer: Layer, starving: usize) -> Result<Done, Trouble> {
     let mut rows = Vec::new(alloc);
-    let mut starved = Vec::new(alloc);
     let mut place: i64 = 0;
     for job in layer.into_jobs() {
-        let Job {
-            id,
-            stamp,
-            groups: _,
-            asked,
-        } = job;
-        if starved.len() < starving {
-            starved.push((id, stamp))?;
+        let reply = if rows.len() < starving {
+            None
         } else {
-            let (words, _command) = asked.into_parts();
-            let reply = Reply::Int(place);
-            rows.push(DoneRow {
-                id,
-                stamp: Stamp { ..stamp },
-                words,
-                reply,
-            })?;
-        }
+            Some(Reply::Int(place))
+        };
+        rows.push(row_of(job, reply))?;
         place = place.saturating_add(1);
     }
-    Ok(Done::new(rows, starved))
+    Ok(Done::new(rows))
+}
+
+/// What comes of a layer of one request, which is answered so.
+pub(crate) fn answered(alloc: Global, layer: Layer, reply: Reply) -> Result<Done, Trouble> {
+    let mut rows = Vec::new(alloc);
+    let mut given = Some(reply);
+    for job in layer.into_jobs() {
+        rows.push(row_of(job, given.take()))?;
+    }
+    Ok(Done::new(rows))
+}
+
+/// The row of a request that came to this.
+fn row_of(job: Job, reply: Option<Reply>) -> DoneRow {
+    let Job {
+        id,
+        stamp,
+        groups: _,
+        asked,
+    } = job;
+    let (words, _batch) = asked.into_parts();
+    DoneRow {
+        id,
+        stamp,
+        words,
+        reply,
+    }
 }

@@ -1,20 +1,24 @@
 -- What was put of steps and rows is read back, and how long it is.
-use Rattle.std.proofs.Common.{◌≡◌, ℕ, ◌+◌, ◌<◌, ◌≤◌, ◌^◌, List, [], ◌∷◌, ◌++◌, length, take, drop, refl}
-use Rattle.std.proofs.Common.{ap, sym, ◌∙◌, arith, length-append, lit<}
+use Rattle.std.proofs.Common.{◌≡◌, ℕ, zero, suc, ◌+◌, ◌<◌, ◌≤◌, ◌^◌, List, [], ◌∷◌, ◌++◌, length, take, drop, refl}
+use Rattle.std.proofs.Common.{ap, sym, subst, ◌∙◌, arith, length-append, lit<, Some, slice_get}
 use Rattle.std.specs.List.{flat_map, AllByRecursion}
 use Rattle.std.proofs.lemmas.List.{append_assoc, append-nil, take_at, drop_at}
 use Rattle.groups.specs.declared.request.RequestId.{RequestId}
+use Rattle.groups.specs.declared.skip_id.SkipId.{SkipId}
+use Rattle.groups.specs.declared.skip_id.SkipId.TheVariants.{Whole, Part}
 use Rattle.groups.specs.declared.stamp.Stamp.{Stamp}
 use Rattle.packing.specs.Codes.{number_code, number_at, word_code, words_code, words_at, WordFits, WordsFit}
 use Rattle.packing.specs.CodeLaws.{number_at-code, number_code-few, many-codes, words_at-code}
 use Rattle.journal.specs.declared.step.Step.{Step}
 use Rattle.journal.specs.declared.step.Step.TheVariants.{Open, Submit, Deliver, Take, Run, Settle, Collect, Close, Repeat}
 use Rattle.journal.specs.Views.{RowView}
-use Rattle.journal.specs.Codes.{id_code, id_at, ids_code, ids_at, IdFits, IdsFit, step_code, step_at, step_of, submit_of, submit_at}
+use Rattle.journal.specs.Names.{IsNumbered, AreNumbered}
+use Rattle.journal.specs.Codes.{id_code, id_at, IdFits, skip_code, skip_of, skip_at, skips_code, skips_at, SkipFits, SkipsFit}
+use Rattle.journal.specs.Codes.{step_code, step_at, step_of, submit_of, submit_at}
 use Rattle.journal.specs.Codes.{deliver_at, run_at, collect_at, close_at, repeat_at, StepFits, steps_in, head_code, row_code, row_of}
 use Rattle.journal.specs.Codes.{RowFits, RowWords, RowIsIn}
 
--- ---- ids
+-- ---- ids and names
 
 pub id_at-code : (id : RequestId) (rest : List ℕ) → IdFits id → id_at (id_code id ++ rest) ≡ (id, rest)
 unfolding id_at id_code
@@ -29,19 +33,46 @@ pub id_code-is : (id : RequestId) → id_code id ≡ number_code id.conn.0 ++ nu
 unfolding id_code
 id_code-is id = refl
 
-pub ids_code-is : (ids : List RequestId) → ids_code ids ≡ number_code (length ids) ++ flat_map id_code ids
-unfolding ids_code
-ids_code-is ids = refl
+pub length-part : (id : RequestId) (n : ℕ)
+    → length (id_code id ++ number_code n) ≡ length (number_code id.conn.0) + length (number_code id.seq) + length (number_code n)
+length-part id n = omega (arith, length-append (id_code id) (number_code n), length-id_code id)
 
-pub length-ids_code : (ids : List RequestId) → length (ids_code ids) ≡ length (number_code (length ids)) + length (flat_map id_code ids)
-unfolding ids_code
-length-ids_code ids = length-append (number_code (length ids)) (flat_map id_code ids)
+pub skip_at-code : (name : SkipId) (rest : List ℕ) → SkipFits name → skip_at (skip_code name ++ rest) ≡ (name, rest)
+unfolding skip_at skip_code
+skip_at-code (Whole id) rest fit =
+    rw (append_assoc, id_at-code id (number_code 0 ++ rest) fit, number_at-code 0 rest (lit< tt)) refl
+skip_at-code (Part id zero) rest fit = absurd (let least = fit.1 in omega arith)
+skip_at-code (Part id (suc n)) rest fit =
+    rw (append_assoc, id_at-code id (number_code (suc n) ++ rest) fit.0, number_at-code (suc n) rest fit.2) refl
 
-pub ids_at-code : (ids : List RequestId) (rest : List ℕ) → IdsFit ids → ids_at (ids_code ids ++ rest) ≡ (ids, rest)
-unfolding ids_at ids_code
-ids_at-code ids rest fit =
-    rw (append_assoc, number_at-code (length ids) (flat_map id_code ids ++ rest) fit.count)
-    (many-codes id_code id_at IdFits id_at-code ids rest fit.each)
+pub skips_code-is : (names : List SkipId) → skips_code names ≡ number_code (length names) ++ flat_map skip_code names
+unfolding skips_code
+skips_code-is names = refl
+
+pub length-skips_code : (names : List SkipId)
+    → length (skips_code names) ≡ length (number_code (length names)) + length (flat_map skip_code names)
+unfolding skips_code
+length-skips_code names = length-append (number_code (length names)) (flat_map skip_code names)
+
+pub skips_at-code : (names : List SkipId) (rest : List ℕ) → SkipsFit names → skips_at (skips_code names ++ rest) ≡ (names, rest)
+unfolding skips_at skips_code
+skips_at-code names rest fit =
+    rw (append_assoc, number_at-code (length names) (flat_map skip_code names ++ rest) fit.count)
+    (many-codes skip_code skip_at SkipFits skip_at-code names rest fit.each)
+
+numbered_of : (id : RequestId) (n : ℕ) → IsNumbered (skip_of id n)
+numbered_of id zero = tt
+numbered_of id (suc n) = omega arith
+
+-- members are numbered from 1 in what is read of any bytes
+pub numbered_at : (bytes : List ℕ) → IsNumbered (skip_at bytes).0
+unfolding skip_at
+numbered_at bytes = numbered_of (id_at bytes).0 (number_at (id_at bytes).1).0
+
+pub numbered_one : (names : List SkipId) (i : ℕ) (name : SkipId) → slice_get names i ≡ Some name → AreNumbered names → IsNumbered name
+numbered_one [] i name at all = cc
+numbered_one (n ∷ ns) zero name at all = let same : n ≡ name = cc in subst IsNumbered same all.0
+numbered_one (n ∷ ns) (suc i) name at all = numbered_one ns i name at all.1
 
 -- ---- steps
 
@@ -62,7 +93,7 @@ step_at-code (Submit conn words) rest fit =
     rw append_assoc (submit_at-code conn.0 words rest fit.0 fit.1 ∙ ap (λ s. (s, rest)) (submit_of-some conn.0 words fit.1.some))
 step_at-code (Deliver place) rest fit = unfold deliver_at in rw (number_at-code place rest fit) refl
 step_at-code Take rest fit = refl
-step_at-code (Run starved) rest fit = unfold run_at in rw (ids_at-code starved rest fit) refl
+step_at-code (Run starved) rest fit = unfold run_at in rw (skips_at-code starved rest fit) refl
 step_at-code Settle rest fit = refl
 step_at-code (Collect conn) rest fit = unfold collect_at in rw (number_at-code conn.0 rest fit) refl
 step_at-code (Close conn) rest fit = unfold close_at in rw (number_at-code conn.0 rest fit) refl

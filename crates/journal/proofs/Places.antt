@@ -8,30 +8,33 @@ use Rattle.std.proofs.lemmas.List.Concat.{flat_map-append}
 use Rattle.std.proofs.lemmas.Slice.Eq.{starts_is}
 use Rattle.groups.specs.declared.request.ConnId.{ConnId}
 use Rattle.groups.specs.declared.request.RequestId.{RequestId}
+use Rattle.groups.specs.declared.skip_id.SkipId.{SkipId}
+use Rattle.groups.specs.declared.skip_id.SkipId.TheVariants.{Whole, Part}
 use Rattle.packing.specs.Codes.{number_code, words_code, words_at, WordsFit}
 use Rattle.packing.specs.CodeLaws.{number_code-few, number_code-some, words_at-code, length-words_code}
 use Rattle.packing.specs.Packed.{ArePacked}
 use Rattle.journal.specs.declared.step.Step.{Step}
 use Rattle.journal.specs.declared.step.Step.TheVariants.{Submit, Run}
-use Rattle.journal.specs.Codes.{id_code, step_code, step_size, steps_size, steps_in, StepFits, AreSteps}
-use Rattle.journal.proofs.CodeLaws.{steps_in-codes, length-id_code, length-ids_code}
+use Rattle.journal.specs.Codes.{id_code, skip_code, step_code, step_size, steps_size, steps_in, StepFits, AreSteps}
+use Rattle.journal.proofs.CodeLaws.{steps_in-codes, length-part, length-skips_code}
 
 -- ---- a Run
 
-ids-few : (ids : List RequestId) → length (flat_map id_code ids) ≤ 18 * length ids
-ids-few [] = omega arith
-ids-few (id ∷ ids) = omega (
-  arith,
-  ids-few ids,
-  length-append (id_code id) (flat_map id_code ids),
-  length-id_code id,
-  number_code-few id.conn.0,
-  number_code-few id.seq,
-)
+part-few : (id : RequestId) (n : ℕ) → length (id_code id ++ number_code n) ≤ 27
+part-few id n = omega (arith, length-part id n, number_code-few id.conn.0, number_code-few id.seq, number_code-few n)
 
-pub run-few : (ids : List RequestId) (n : ℕ) → length ids ≤ n → step_size (Run ids) ≤ 10 + 18 * n
+pub skip-few : (name : SkipId) → length (skip_code name) ≤ 27
+unfolding skip_code
+skip-few (Whole id) = part-few id 0
+skip-few (Part id n) = part-few id n
+
+skips-few : (names : List SkipId) → length (flat_map skip_code names) ≤ 27 * length names
+skips-few [] = omega arith
+skips-few (name ∷ names) = omega (arith, skips-few names, length-append (skip_code name) (flat_map skip_code names), skip-few name)
+
+pub run-few : (names : List SkipId) (n : ℕ) → length names ≤ n → step_size (Run names) ≤ 10 + 27 * n
 unfolding step_code
-run-few ids n few = omega (arith, ids-few ids, length-ids_code ids, number_code-few (length ids))
+run-few names n few = omega (arith, skips-few names, length-skips_code names, number_code-few (length names))
 
 -- ---- the last step
 

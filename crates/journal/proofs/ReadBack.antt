@@ -1,6 +1,6 @@
 -- What was written of a trace spells that trace.
 use Rattle.std.proofs.Common.{◌≡◌, ◌≢◌, ℕ, zero, suc, ◌+◌, ◌/◌, ◌%◌, ◌^◌, ◌<◌, ◌≤◌, List, [], ◌∷◌, ◌++◌, length, map, get_or, Bool, true}
-use Rattle.std.proofs.Common.{false, ◌&&◌, refl, ap, ◌∙◌, arith, Option, Some, ◌==◌, codes, lit<}
+use Rattle.std.proofs.Common.{false, ◌&&◌, refl, ap, ◌∙◌, arith, Option, Some, None, ◌==◌, codes, lit<}
 use Rattle.std.specs.Fmt.{decimal}
 use Rattle.std.specs.List.{flat_map, AllByRecursion, AllZip}
 use Rattle.std.specs.Result.{result_ok}
@@ -11,12 +11,14 @@ use Rattle.hex.specs.Hex.{encode_lower, encode_with, lower_digits, IsBytes}
 use Rattle.hex.proofs.HexLemmas.{decode_of-encode_lower}
 use Rattle.groups.specs.declared.request.ConnId.{ConnId}
 use Rattle.groups.specs.declared.request.RequestId.{RequestId}
+use Rattle.groups.specs.declared.skip_id.SkipId.{SkipId}
+use Rattle.groups.specs.declared.skip_id.SkipId.TheVariants.{Whole, Part}
 use Rattle.packing.specs.Codes.{WordFits, WordsFit}
 use Rattle.journal.specs.declared.step.Step.{Step}
 use Rattle.journal.specs.declared.step.Step.TheVariants.{Open, Submit, Deliver, Take, Run, Settle, Collect, Close, Repeat}
-use Rattle.journal.specs.Codes.{IdFits, StepFits}
-use Rattle.journal.specs.TraceText.{word_text, id_text, step_name, step_args, joined, step_line, first_line, max_line, end_line, trace_text}
-use Rattle.journal.specs.TraceText.{word_in, cut_at, id_of, id_in, all_in, parts_in, named, step_in, IsStepLine, HasNoLf, Spells}
+use Rattle.journal.specs.Codes.{IdFits, SkipFits, StepFits}
+use Rattle.journal.specs.TraceText.{word_text, id_text, skip_text, step_name, step_args, joined, step_line, first_line, max_line, end_line}
+use Rattle.journal.specs.TraceText.{trace_text, word_in, cut_at, id_of, skip_in, all_in, parts_in, named, step_in, IsStepLine, HasNoLf, Spells}
 use Rattle.journal.proofs.TextLaws.{number_in-decimal}
 use Rattle.journal.specs.declared.trace.TheConstants.{GREATEST_STEPS}
 use Rattle.journal.specs.declared.version.TheConstants.{WRITTEN_VERSION}
@@ -93,6 +95,11 @@ id-plain id fits = all_append Visible (decimal id.conn.0 ++ codes ".") (decimal 
     (all_append Visible (decimal id.conn.0) (codes ".") (decimal-plain id.conn.0 fits.conn) (lit< tt, tt))
     (decimal-plain id.seq fits.seq)
 
+skip-plain : (name : SkipId) → SkipFits name → Plain (skip_text name)
+skip-plain (Whole id) fits = id-plain id fits
+skip-plain (Part id number) fits = all_append Visible (id_text id ++ codes ".") (decimal number)
+    (all_append Visible (id_text id) (codes ".") (id-plain id fits.0) (lit< tt, tt)) (decimal-plain number fits.2)
+
 -- ---- what is read of each part
 
 and-false : (a : Bool) → (a && false) ≡ false
@@ -112,13 +119,44 @@ cut-at-dot [] rest all = refl
 cut-at-dot (d ∷ ds) rest all =
     let high = all.0 in let other : (d == 46) ≡ false = ne_eqb d 46 (omega arith) in rw (other, cut-at-dot ds rest all.1) refl
 
-id_in-text : (id : RequestId) → IdFits id → id_in (id_text id) ≡ Some id
-unfolding id_in id_of
-id_in-text id fits =
+cut-no-dot : (ds : List ℕ) → Digits ds → cut_at 46 ds ≡ (ds, None)
+unfolding cut_at
+cut-no-dot [] all = refl
+cut-no-dot (d ∷ ds) all =
+    let high = all.0 in let other : (d == 46) ≡ false = ne_eqb d 46 (omega arith) in rw (other, cut-no-dot ds all.1) refl
+
+whole_in-text : (id : RequestId) → IdFits id → skip_in WRITTEN_VERSION (id_text id) ≡ Some (Whole id)
+unfolding skip_in id_of
+whole_in-text id fits =
     let cut : cut_at 46 (id_text id) ≡ (decimal id.conn.0, Some (decimal id.seq)) = ap (cut_at 46)
     (append_assoc (decimal id.conn.0) (codes ".") (decimal id.seq)) ∙ cut-at-dot (decimal id.conn.0) (decimal id.seq)
     (decimal-digits id.conn.0 fits.conn) in
-    rw (cut, number_in-decimal id.conn.0 (decimal id.conn.0) fits.conn refl, number_in-decimal id.seq (decimal id.seq) fits.seq refl) refl
+    rw (
+      cut,
+      cut-no-dot (decimal id.seq) (decimal-digits id.seq fits.seq),
+      number_in-decimal id.conn.0 (decimal id.conn.0) fits.conn refl,
+      number_in-decimal id.seq (decimal id.seq) fits.seq refl,
+    ) refl
+
+part_in-text : (id : RequestId) (n : ℕ) → IdFits id → suc n < 2 ^ 64
+    → skip_in WRITTEN_VERSION (skip_text (Part id (suc n))) ≡ Some (Part id (suc n))
+unfolding skip_in id_of
+part_in-text id n fits low =
+    let behind = decimal id.seq ++ 46 ∷ decimal (suc n) in
+    let cut : cut_at 46 (skip_text (Part id (suc n))) ≡ (decimal id.conn.0, Some behind) = ap (cut_at 46)
+    (simp append_assoc) ∙ cut-at-dot (decimal id.conn.0) behind (decimal-digits id.conn.0 fits.conn) in
+    rw (
+      cut,
+      cut-at-dot (decimal id.seq) (decimal (suc n)) (decimal-digits id.seq fits.seq),
+      number_in-decimal id.conn.0 (decimal id.conn.0) fits.conn refl,
+      number_in-decimal id.seq (decimal id.seq) fits.seq refl,
+      number_in-decimal (suc n) (decimal (suc n)) low refl,
+    ) refl
+
+skip_in-text : (name : SkipId) → SkipFits name → skip_in WRITTEN_VERSION (skip_text name) ≡ Some name
+skip_in-text (Whole id) fits = whole_in-text id fits
+skip_in-text (Part id zero) fits = absurd (let least = fits.1 in omega arith)
+skip_in-text (Part id (suc n)) fits = part_in-text id n fits.0 fits.2
 
 all_in-text : {A : Type 0} (Fits : A → Type 0) (read : List ℕ → Option A) (text : A → List ℕ) → ((x : A) → Fits x → read (text x) ≡ Some x)
     → (xs : List A) → AllByRecursion Fits xs → all_in read (map text xs) ≡ Some xs
@@ -157,16 +195,16 @@ args-plain Open fit = tt
 args-plain (Submit conn words) fit = (decimal-plain conn.0 fit.0, all_in-plain WordFits word_text word-plain words fit.1.each)
 args-plain (Deliver place) fit = (decimal-plain place fit, tt)
 args-plain Take fit = tt
-args-plain (Run starved) fit = all_in-plain IdFits id_text id-plain starved fit.each
+args-plain (Run starved) fit = all_in-plain SkipFits skip_text skip-plain starved fit.each
 args-plain Settle fit = tt
 args-plain (Collect conn) fit = (decimal-plain conn.0 fit, tt)
 args-plain (Close conn) fit = (decimal-plain conn.0 fit, tt)
 args-plain (Repeat place) fit = (decimal-plain place fit, tt)
 
-submit-named : (version : ℕ) (conn : ConnId) (words : List (List ℕ)) → conn.0 < 2 ^ 64 → WordsFit words → named version (codes "submit")
+submit-named : (conn : ConnId) (words : List (List ℕ)) → conn.0 < 2 ^ 64 → WordsFit words → named WRITTEN_VERSION (codes "submit")
     (decimal conn.0 ∷ map word_text words) ≡ Some (Submit conn words)
-submit-named version conn [] low fit = let some = fit.some in absurd (omega arith)
-submit-named version conn (word ∷ words) low fit =
+submit-named conn [] low fit = let some = fit.some in absurd (omega arith)
+submit-named conn (word ∷ words) low fit =
     rw (
       number_in-decimal conn.0 (decimal conn.0) low refl,
       all_in-text WordFits word_in word_text word_in-text
@@ -176,10 +214,10 @@ submit-named version conn (word ∷ words) low fit =
 -- each kind has a line in the version that is written
 named-step : (step : Step) → StepFits step → named WRITTEN_VERSION (step_name step) (step_args step) ≡ Some step
 named-step Open fit = refl
-named-step (Submit conn words) fit = submit-named WRITTEN_VERSION conn words fit.0 fit.1
+named-step (Submit conn words) fit = submit-named conn words fit.0 fit.1
 named-step (Deliver place) fit = rw (number_in-decimal place (decimal place) fit refl) refl
 named-step Take fit = refl
-named-step (Run starved) fit = rw (all_in-text IdFits id_in id_text id_in-text starved fit.each) refl
+named-step (Run starved) fit = rw (all_in-text SkipFits (skip_in WRITTEN_VERSION) skip_text skip_in-text starved fit.each) refl
 named-step Settle fit = refl
 named-step (Collect conn) fit = rw (number_in-decimal conn.0 (decimal conn.0) fit refl) refl
 named-step (Close conn) fit = rw (number_in-decimal conn.0 (decimal conn.0) fit refl) refl

@@ -5,10 +5,10 @@ use Rattle.std.specs.List.{flat_map}
 use Rattle.std.proofs.lemmas.List.{append_assoc, append-nil}
 use Rattle.std.proofs.lemmas.List.Concat.{flat_map-append}
 use Rattle.groups.specs.declared.request.ConnId.{ConnId}
-use Rattle.groups.specs.declared.request.RequestId.{RequestId}
+use Rattle.groups.specs.declared.skip_id.SkipId.{SkipId}
 use Rattle.journal.specs.declared.step.Step.{Step}
 use Rattle.journal.specs.declared.step.Step.TheVariants.{Submit, Run}
-use Rattle.journal.specs.TraceText.{word_text, id_text, step_line, ended, first_line, max_line, end_line, trace_text}
+use Rattle.journal.specs.TraceText.{word_text, skip_text, step_line, ended, first_line, max_line, end_line, trace_text}
 use Rattle.journal.specs.declared.version.TheConstants.{WRITTEN_VERSION}
 
 flat_map-map : {A B : Type 0} (f : B → List ℕ) (g : A → B) (xs : List A) → flat_map f (map g xs) ≡ flat_map (λ x. f (g x)) xs
@@ -21,9 +21,9 @@ pub submit-written : (conn : ConnId) (words : List (List ℕ))
 submit-written conn words =
     ap (λ c. codes "submit " ++ (decimal conn.0 ++ c) ++ 10 ∷ []) (flat_map-map (λ arg. 32 ∷ arg) word_text words) ∙ simp append_assoc
 
-pub run-written : (starved : List RequestId) → ended (step_line (Run starved)) ≡ codes "run" ++
-    (flat_map (λ id. 32 ∷ id_text id) starved ++ 10 ∷ [])
-run-written starved = ap (λ c. codes "run" ++ c ++ 10 ∷ []) (flat_map-map (λ arg. 32 ∷ arg) id_text starved)
+pub run-written : (starved : List SkipId) → ended (step_line (Run starved)) ≡ codes "run" ++
+    (flat_map (λ name. 32 ∷ skip_text name) starved ++ 10 ∷ [])
+run-written starved = ap (λ c. codes "run" ++ c ++ 10 ∷ []) (flat_map-map (λ arg. 32 ∷ arg) skip_text starved)
 
 pub trace-written : (max : ℕ) (steps : List Step)
     → trace_text max steps ≡ ended (first_line WRITTEN_VERSION) ++ (ended (max_line max) ++

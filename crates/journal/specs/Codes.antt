@@ -1,8 +1,10 @@
 -- How steps and rows lie in bytes.
-use Rattle.std.specs.Prelude.{◌≡◌, ℕ, ◌+◌, ◌-◌, ◌<◌, ◌≤◌, ◌^◌, List, [], ◌∷◌, ◌++◌, length, take, drop, map, ◌==◌, slice_index}
+use Rattle.std.specs.Prelude.{◌≡◌, ℕ, zero, suc, ◌+◌, ◌-◌, ◌<◌, ◌≤◌, ◌^◌, List, [], ◌∷◌, ◌++◌, length, take, drop, map, ◌==◌, slice_index}
 use Rattle.std.specs.Prelude.{if◌then◌else◌}
 use Rattle.std.specs.List.{flat_map, AllByRecursion}
 use Rattle.groups.specs.declared.request.RequestId.{RequestId}
+use Rattle.groups.specs.declared.skip_id.SkipId.{SkipId}
+use Rattle.groups.specs.declared.skip_id.SkipId.TheVariants.{Whole, Part}
 use Rattle.groups.specs.declared.stamp.Stamp.{Stamp}
 use Rattle.packing.specs.Codes.{number_code, number_at, words_code, words_at, many, WordsFit}
 use Rattle.journal.specs.declared.step.Step.{Step}
@@ -10,7 +12,7 @@ use Rattle.journal.specs.declared.step.Step.TheVariants.{Open, Submit, Deliver, 
 use Rattle.journal.specs.Views.{RowView}
 use Rattle.journal.specs.declared.trace.TheConstants.{GREATEST_STEPS}
 
--- ---- ids
+-- ---- ids and names
 
 unfoldable pub id_code : RequestId → List ℕ
 id_code id = number_code id.conn.0 ++ number_code id.seq
@@ -19,19 +21,35 @@ unfoldable pub id_at : List ℕ → RequestId × List ℕ
 id_at bytes =
     let conn = number_at bytes in let seq = number_at conn.1 in (record { conn = record { 0 = conn.0 }; seq = seq.0 }, seq.1)
 
-unfoldable pub ids_code : List RequestId → List ℕ
-ids_code ids = number_code (length ids) ++ flat_map id_code ids
+-- the id, and the member's number, or 0 for the whole request
+unfoldable pub skip_code : SkipId → List ℕ
+skip_code (Whole id) = id_code id ++ number_code 0
+skip_code (Part id number) = id_code id ++ number_code number
 
-unfoldable pub ids_at : List ℕ → List RequestId × List ℕ
-ids_at bytes = let n = number_at bytes in many id_at n.0 n.1
+abbrev pub skip_of : RequestId → ℕ → SkipId
+skip_of id zero = Whole id
+skip_of id (suc n) = Part id (suc n)
+
+unfoldable pub skip_at : List ℕ → SkipId × List ℕ
+skip_at bytes = let id = id_at bytes in let number = number_at id.1 in (skip_of id.0 number.0, number.1)
+
+unfoldable pub skips_code : List SkipId → List ℕ
+skips_code names = number_code (length names) ++ flat_map skip_code names
+
+unfoldable pub skips_at : List ℕ → List SkipId × List ℕ
+skips_at bytes = let n = number_at bytes in many skip_at n.0 n.1
 
 pub record IdFits (id : RequestId) : Type 0 where
   pub conn : id.conn.0 < 2 ^ 64
   pub seq : id.seq < 2 ^ 64
 
-pub record IdsFit (ids : List RequestId) : Type 0 where
-  pub count : length ids < 2 ^ 64
-  pub each : AllByRecursion IdFits ids
+abbrev pub SkipFits : SkipId → Type 0
+SkipFits (Whole id) = IdFits id
+SkipFits (Part id number) = IdFits id × (1 ≤ number) × (number < 2 ^ 64)
+
+pub record SkipsFit (names : List SkipId) : Type 0 where
+  pub count : length names < 2 ^ 64
+  pub each : AllByRecursion SkipFits names
 
 -- ---- steps: a byte that says the kind, and what belongs to it
 
@@ -40,7 +58,7 @@ step_code Open = 0 ∷ []
 step_code (Submit conn words) = 1 ∷ (number_code conn.0 ++ words_code words)
 step_code (Deliver place) = 2 ∷ number_code place
 step_code Take = 3 ∷ []
-step_code (Run starved) = 4 ∷ ids_code starved
+step_code (Run starved) = 4 ∷ skips_code starved
 step_code Settle = 5 ∷ []
 step_code (Collect conn) = 6 ∷ number_code conn.0
 step_code (Close conn) = 7 ∷ number_code conn.0
@@ -58,7 +76,7 @@ unfoldable pub deliver_at : List ℕ → Step × List ℕ
 deliver_at bytes = let place = number_at bytes in (Deliver place.0, place.1)
 
 unfoldable pub run_at : List ℕ → Step × List ℕ
-run_at bytes = let ids = ids_at bytes in (Run ids.0, ids.1)
+run_at bytes = let names = skips_at bytes in (Run names.0, names.1)
 
 unfoldable pub collect_at : List ℕ → Step × List ℕ
 collect_at bytes = let conn = number_at bytes in (Collect (record { 0 = conn.0 }), conn.1)
@@ -89,7 +107,7 @@ step_at (kind ∷ bytes) = step_of kind bytes
 abbrev pub StepFits : Step → Type 0
 StepFits (Submit conn words) = (conn.0 < 2 ^ 64) × WordsFit words
 StepFits (Deliver place) = place < 2 ^ 64
-StepFits (Run starved) = IdsFit starved
+StepFits (Run starved) = SkipsFit starved
 StepFits (Collect conn) = conn.0 < 2 ^ 64
 StepFits (Close conn) = conn.0 < 2 ^ 64
 StepFits (Repeat place) = place < 2 ^ 64

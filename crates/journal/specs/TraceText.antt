@@ -1,10 +1,13 @@
 -- The text of a trace, line by line, and which texts spell which trace.
-use Rattle.std.specs.Prelude.{◌≡◌, ◌≢◌, ℕ, ◌+◌, ◌-◌, ◌*◌, ◌^◌, ◌≤◌, ◌&&◌, nat_lt, nat_le, ◌==◌, if◌then◌else◌, List, [], ◌∷◌, ◌++◌}
+use Rattle.std.specs.Prelude.{◌≡◌, ◌≢◌, ℕ, zero, suc, ◌+◌, ◌-◌, ◌*◌, ◌^◌, ◌≤◌, ◌&&◌, nat_lt, nat_le, ◌==◌, if◌then◌else◌, List, [], ◌∷◌, ◌++◌}
 use Rattle.std.specs.Prelude.{length, map, Option, Some, None, option_map, option_and_then, codes, decimal, bytes_eq}
 use Rattle.std.specs.List.{flat_map, fold, AllZip, AllByRecursion}
 use Rattle.std.specs.Result.{result_ok}
 use Rattle.hex.specs.Hex.{encode_lower, decode_of}
 use Rattle.groups.specs.declared.request.RequestId.{RequestId}
+use Rattle.groups.specs.declared.skip_id.SkipId.{SkipId}
+use Rattle.groups.specs.declared.skip_id.SkipId.TheVariants.{Whole, Part}
+use Rattle.sessions.specs.Control.{is_control}
 use Rattle.journal.specs.declared.fault.TraceFault.{TraceFault}
 use Rattle.journal.specs.declared.fault.TraceFault.TheVariants.{Bad, Memory}
 use Rattle.journal.specs.declared.step.Step.{Step}
@@ -29,6 +32,11 @@ word_text (byte ∷ bytes) = encode_lower (byte ∷ bytes)
 abbrev pub id_text : RequestId → List ℕ
 id_text id = decimal id.conn.0 ++ codes "." ++ decimal id.seq
 
+-- a request as a whole, or a member of it
+abbrev pub skip_text : SkipId → List ℕ
+skip_text (Whole id) = id_text id
+skip_text (Part id number) = id_text id ++ codes "." ++ decimal number
+
 -- the name of a step, and what belongs to it
 abbrev pub step_name : Step → List ℕ
 step_name Open = codes "open"
@@ -46,7 +54,7 @@ step_args Open = []
 step_args (Submit conn words) = decimal conn.0 ∷ map word_text words
 step_args (Deliver place) = decimal place ∷ []
 step_args Take = []
-step_args (Run starved) = map id_text starved
+step_args (Run starved) = map skip_text starved
 step_args Settle = []
 step_args (Collect conn) = decimal conn.0 ∷ []
 step_args (Close conn) = decimal conn.0 ∷ []
@@ -103,6 +111,27 @@ id_of None seq = None
 unfoldable pub id_in : List ℕ → Option RequestId
 id_in text = let parts = cut_at 46 text in id_of (number_in parts.0) (option_and_then number_in parts.1)
 
+-- members are numbered from 1
+abbrev pub member_of : RequestId → Option ℕ → Option SkipId
+member_of id None = None
+member_of id (Some zero) = None
+member_of id (Some (suc n)) = Some (Part id (suc n))
+
+-- a request as a whole, or its member whose number stands behind it, if one does
+abbrev pub skip_of : Option RequestId → Option (List ℕ) → Option SkipId
+skip_of None number = None
+skip_of (Some id) None = Some (Whole id)
+skip_of (Some id) (Some number) = member_of id (number_in number)
+
+abbrev pub skip_behind : Option ℕ → Option (List ℕ) → Option SkipId
+skip_behind conn None = None
+skip_behind conn (Some rest) = let parts = cut_at 46 rest in skip_of (id_of conn (number_in parts.0)) parts.1
+
+-- a request's id, and of a member another dot and its number; versions before 3 know no members
+unfoldable pub skip_in : ℕ → List ℕ → Option SkipId
+skip_in version text =
+    if nat_le 3 version then (let parts = cut_at 46 text in skip_behind (number_in parts.0) parts.1) else option_map Whole (id_in text)
+
 -- what each of these says, if each says something
 abbrev pub all_in : {A : Type 0} → (List ℕ → Option A) → List (List ℕ) → Option (List A)
 all_in read [] = Some []
@@ -130,23 +159,34 @@ only_number (arg ∷ more ∷ args) = None
 abbrev pub with_number : (ℕ → Step) → List (List ℕ) → Option Step
 with_number step args = option_map step (only_number args)
 
-abbrev pub submit_in : List (List ℕ) → Option Step
-submit_in [] = None
-submit_in (conn ∷ []) = None
-submit_in (conn ∷ word ∷ words) =
-    option_and_then (λ n. option_map (λ ws. Submit (record { 0 = n }) ws) (all_in word_in (word ∷ words))) (number_in conn)
+-- A request whose name is MULTI, EXEC or DISCARD was one of an unknown command before version 3, and is read as such a one:
+-- as that of one empty word, which is none of the three.
+abbrev pub without_control : List (List ℕ) → List (List ℕ)
+without_control [] = []
+without_control (name ∷ words) = if is_control name then [] ∷ [] else name ∷ words
 
-abbrev pub run_in : List (List ℕ) → Option Step
-run_in args = option_map (λ ids. Run ids) (all_in id_in args)
+-- the words of a request, as they are told in a text of this version
+abbrev pub words_of : ℕ → List (List ℕ) → List (List ℕ)
+words_of version words = if nat_le 3 version then words else without_control words
+
+abbrev pub submit_in : ℕ → List (List ℕ) → Option Step
+submit_in version [] = None
+submit_in version (conn ∷ []) = None
+submit_in version (conn ∷ word ∷ words) =
+    option_and_then (λ n. option_map (λ ws. Submit (record { 0 = n }) (words_of version ws)) (all_in word_in (word ∷ words)))
+    (number_in conn)
+
+abbrev pub run_in : ℕ → List (List ℕ) → Option Step
+run_in version args = option_map (λ names. Run names) (all_in (skip_in version) args)
 
 -- the step of this name, in a text of this version: the first one knows no repeated packets
 abbrev pub named : ℕ → List ℕ → List (List ℕ) → Option Step
 named version name args =
     if bytes_eq name (codes "open") then alone Open args
-    else if bytes_eq name (codes "submit") then submit_in args
+    else if bytes_eq name (codes "submit") then submit_in version args
     else if bytes_eq name (codes "deliver") then with_number (λ n. Deliver n) args
     else if bytes_eq name (codes "take") then alone Take args
-    else if bytes_eq name (codes "run") then run_in args
+    else if bytes_eq name (codes "run") then run_in version args
     else if bytes_eq name (codes "settle") then alone Settle args
     else if bytes_eq name (codes "collect") then with_number (λ n. Collect (record { 0 = n })) args
     else if bytes_eq name (codes "close") then with_number (λ n. Close (record { 0 = n })) args

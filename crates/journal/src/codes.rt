@@ -2,14 +2,16 @@
 
 ghost use Rattle.std.specs.Prelude.{◌≡◌, ◌+◌, ◌≤◌, ◌<◌, ◌^◌, ◌++◌, List, length, vec_len, vec_capacity, MatchOption, IfOk, IsOk, OnOk};
 ghost use Rattle.std.specs.Prelude.{OnErr, IfSome};
-ghost use Rattle.journal.specs.Codes.{id_at, ids_code, ids_at, submit_at, step_code, step_at, step_size};
-ghost use Rattle.journal.specs.Codes.{IdsFit, StepFits, head_code, HeadFits};
+ghost use Rattle.journal.specs.Codes.{id_code, id_at, skip_code, skip_at, skips_code, skips_at, submit_at, step_code, step_at, step_size};
+ghost use Rattle.journal.specs.Codes.{SkipFits, SkipsFit, StepFits, head_code, HeadFits};
+ghost use Rattle.journal.specs.Names.{IsNumbered, AreNumbered};
+ghost use Rattle.packing.specs.Codes.{number_code};
 ghost use Rattle.journal.specs.declared.step.Step.{Step};
-ghost use Rattle.groups.specs.declared.request.RequestId.{RequestId};
+ghost use Rattle.groups.specs.declared.skip_id.SkipId.{SkipId};
 
-use super::request_ids::RequestIds;
+use super::skip_ids::SkipIds;
 use super::step::Step;
-use groups::{ConnId, RequestId, Stamp};
+use groups::{ConnId, RequestId, SkipId, Stamp};
 use packing::{grow, number_size, put_number, put_words, take_number, take_words, words_size};
 use resp::Request;
 use std::alloc::{AllocError, Global};
@@ -36,30 +38,64 @@ const REPEAT: u8 = 8;
 /// The greatest number of bytes of a row's numbers.
 pub const GREATEST_HEAD: usize = 45;
 
-/// How many bytes the ids take; `None` where that is 2^64 or more.
-fn size_of_ids(ids: &[RequestId]) -> Option<usize>
-    ensures { MatchOption result (2 ^ 64 ≤ length (ids_code ids.now))
-        (λ size. (size ≡ length (ids_code ids.now)) × IdsFit ids.now) }
+/// The request of which the name is, and the member's number; 0 where it is the whole request.
+#[tactic(auto, unfolding(crate::specs::Codes::skip_code))]
+fn parts_of(name: SkipId) -> (RequestId, u64)
+    ensures { skip_code name ≡ id_code result.0 ++ number_code result.1 }
 {
-    let mut size = number_size(ids.len() as u64);
-    for id in ids {
-        size = size.checked_add(number_size(id.conn.0) + number_size(id.seq))?;
+    match name {
+        SkipId::Whole(id) => (id, 0),
+        SkipId::Part(id, number) => (id, number),
+    }
+}
+
+/// How many bytes the names take; `None` where that is 2^64 or more.
+fn size_of_skips(names: &[SkipId]) -> Option<usize>
+    requires { AreNumbered names.now }
+    ensures { MatchOption result (2 ^ 64 ≤ length (skips_code names.now))
+        (λ size. (size ≡ length (skips_code names.now)) × SkipsFit names.now) }
+{
+    let mut size = number_size(names.len() as u64);
+    for name in names {
+        size = size.checked_add(size_of_skip(*name))?;
     }
     Some(size)
 }
 
-/// Appends the ids, for which there is room.
-fn put_ids(ids: &[RequestId], out: &mut Vec<u8>)
-    requires { vec_len out.old + length (ids_code ids.now) ≤ vec_capacity out.old }
-    ensures items { out.new.items ≡ out.old.items ++ ids_code ids.now }
-    ensures len { vec_len out.new ≡ vec_len out.old + length (ids_code ids.now) }
+/// How many bytes a name takes.
+fn size_of_skip(name: SkipId) -> usize
+    ensures size { result ≡ length (skip_code name) }
+    ensures few { result ≤ 27 }
+    ensures fits { IsNumbered name → SkipFits name }
+{
+    let (id, number) = parts_of(name);
+    number_size(id.conn.0) + number_size(id.seq) + number_size(number)
+}
+
+/// Appends the names, for which there is room.
+fn put_skips(names: &[SkipId], out: &mut Vec<u8>)
+    requires { vec_len out.old + length (skips_code names.now) ≤ vec_capacity out.old }
+    ensures items { out.new.items ≡ out.old.items ++ skips_code names.now }
+    ensures len { vec_len out.new ≡ vec_len out.old + length (skips_code names.now) }
     ensures capacity { vec_capacity out.old ≤ vec_capacity out.new }
 {
-    put_number(ids.len() as u64, out);
-    for id in ids {
-        put_number(id.conn.0, out);
-        put_number(id.seq, out);
+    put_number(names.len() as u64, out);
+    for name in names {
+        put_skip(*name, out);
     }
+}
+
+/// Appends a name, for which there is room.
+fn put_skip(name: SkipId, out: &mut Vec<u8>)
+    requires { vec_len out.old + length (skip_code name) ≤ vec_capacity out.old }
+    ensures items { out.new.items ≡ out.old.items ++ skip_code name }
+    ensures len { vec_len out.new ≡ vec_len out.old + length (skip_code name) }
+    ensures capacity { vec_capacity out.old ≤ vec_capacity out.new }
+{
+    let (id, number) = parts_of(name);
+    put_number(id.conn.0, out);
+    put_number(id.seq, out);
+    put_number(number, out);
 }
 
 /// The id at the front of the bytes, and the bytes behind it.
@@ -74,31 +110,47 @@ pub fn take_id(bytes: &[u8]) -> (RequestId, &[u8])
     (RequestId { conn, seq }, rest)
 }
 
-/// The ids at the front of the bytes, and the bytes behind them; `AllocError` where there is no memory for them.
-#[tactic(auto, unfolding(crate::specs::Codes::ids_at))]
-fn take_ids(alloc: Global, bytes: &[u8]) -> Result<(Vec<RequestId>, &[u8]), AllocError>
-    ensures ids { IfOk result (λ r. r.0.items ≡ (ids_at bytes.now).0) }
-    ensures rest { IfOk result (λ r. r.1.now ≡ (ids_at bytes.now).1) }
+/// The name at the front of the bytes, and the bytes behind it.
+#[tactic(auto, unfolding(crate::specs::Codes::skip_at))]
+fn take_skip(bytes: &[u8]) -> (SkipId, &[u8])
+    ensures name { result.0 ≡ (skip_at bytes.now).0 }
+    ensures rest { result.1.now ≡ (skip_at bytes.now).1 }
 {
-    let (count, mut rest) = take_number(bytes);
-    let mut ids = Vec::with_capacity(alloc, count as usize)?;
-    for _ in 0..count {
-        let (id, more) = take_id(rest);
-        ids.push(id)?;
-        rest = more;
+    let (id, rest) = take_id(bytes);
+    let (number, rest) = take_number(rest);
+    if number == 0 {
+        (SkipId::Whole(id), rest)
+    } else {
+        (SkipId::Part(id, number), rest)
     }
-    Ok((ids, rest))
 }
 
-/// How many bytes a Run takes at most, at which at most so many requests starved; `None` where that may be 2^64 or
-/// more.
+/// The names at the front of the bytes, and the bytes behind them; `AllocError` where there is no memory for them.
+#[tactic(auto, unfolding(crate::specs::Codes::skips_at))]
+fn take_skips(alloc: Global, bytes: &[u8]) -> Result<(Vec<SkipId>, &[u8]), AllocError>
+    ensures names { IfOk result (λ r. r.0.items ≡ (skips_at bytes.now).0) }
+    ensures numbered { IfOk result (λ r. AreNumbered r.0.items) }
+    ensures rest { IfOk result (λ r. r.1.now ≡ (skips_at bytes.now).1) }
+{
+    let (count, mut rest) = take_number(bytes);
+    let mut names = Vec::with_capacity(alloc, count as usize)?;
+    for _ in 0..count {
+        let (name, more) = take_skip(rest);
+        names.push(name)?;
+        rest = more;
+    }
+    Ok((names, rest))
+}
+
+/// How many bytes a Run takes at most, at which at most so many requests and members starved; `None` where that may be
+/// 2^64 or more.
 pub fn size_of_run(starved: usize) -> Option<usize>
-    ensures { IfSome result (λ size. (ids : List RequestId) → length ids ≤ starved → step_size (Step.Run ids) ≤ size) }
+    ensures { IfSome result (λ size. (names : List SkipId) → length names ≤ starved → step_size (Step.Run names) ≤ size) }
 {
     if starved > usize::MAX / 32 {
         return None;
     }
-    Some(10 + 18 * starved)
+    Some(10 + 27 * starved)
 }
 
 /// How many bytes a step takes; `None` where that is 2^64 or more.
@@ -113,7 +165,7 @@ fn size_of_step(step: &Step) -> Option<usize>
         Step::Open | Step::Take | Step::Settle => Some(1),
         Step::Submit { conn, words } => words_size(words)?.checked_add(1 + number_size(conn.0)),
         Step::Deliver { place } | Step::Repeat { place } => Some(1 + number_size(*place)),
-        Step::Run { starved } => size_of_ids(starved.as_slice())?.checked_add(1),
+        Step::Run { starved } => size_of_skips(starved.as_slice())?.checked_add(1),
         Step::Collect { conn } | Step::Close { conn } => Some(1 + number_size(conn.0)),
     }
 }
@@ -162,7 +214,7 @@ pub fn put_step(step: &Step, out: &mut Vec<u8>)
         Step::Take => out.push_reserved(TAKE),
         Step::Run { starved } => {
             out.push_reserved(RUN);
-            put_ids(starved.as_slice(), out);
+            put_skips(starved.as_slice(), out);
         }
         Step::Settle => out.push_reserved(SETTLE),
         Step::Collect { conn } => {
@@ -194,8 +246,8 @@ pub fn take_step(alloc: Global, bytes: &[u8]) -> Result<(Step, &[u8]), AllocErro
         }
         [TAKE, rest @ ..] => Ok((Step::Take, rest)),
         [RUN, rest @ ..] => {
-            let (ids, rest) = take_ids(alloc, rest)?;
-            let starved = RequestIds::from(ids);
+            let (names, rest) = take_skips(alloc, rest)?;
+            let starved = SkipIds::new(names);
             Ok((Step::Run { starved }, rest))
         }
         [SETTLE, rest @ ..] => Ok((Step::Settle, rest)),

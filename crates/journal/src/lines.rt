@@ -1,14 +1,16 @@
 //! The steps of a trace's lines.
 
-ghost use Rattle.std.specs.Prelude.{◌≡◌, ◌∷◌, [], ◌<◌, IfOk, MatchOption, option_map};
+ghost use Rattle.std.specs.Prelude.{◌≡◌, ◌∷◌, [], ◌<◌, length, IfOk, IfSome, MatchOption, option_map};
 ghost use Rattle.texts.specs.Texts.{texts_of};
-ghost use Rattle.journal.specs.TraceText.{alone, all_in, id_in, only_number, parts_in, run_in, step_in, submit_in, word_in};
+ghost use Rattle.journal.specs.TraceText.{alone, all_in, only_number, parts_in, run_in, skip_in, step_in, submit_in, word_in, words_of};
+ghost use Rattle.journal.specs.Names.{AreNumbered};
 
-use super::parts::{cut_at, id_in, number_in, word_in};
-use super::request_ids::RequestIds;
+use super::parts::{cut_at, number_in, skip_in, word_in};
+use super::skip_ids::SkipIds;
 use super::step::Step;
-use groups::{ConnId, RequestId};
+use groups::{ConnId, SkipId};
 use resp::Request;
+use sessions::is_control;
 use std::alloc::{AllocError, Global};
 use std::marker::Model;
 
@@ -83,23 +85,42 @@ fn words_in(alloc: Global, mut args: Args<'_>) -> Result<Option<Vec<Vec<u8>>>, A
     Ok(Some(words))
 }
 
-/// The ids that the parts are; `AllocError` where there is no memory for them.
-fn ids_in(alloc: Global, mut args: Args<'_>) -> Result<Option<Vec<RequestId>>, AllocError>
-    ensures { IfOk result (λ r. option_map (λ ids. ids.items) r ≡ all_in id_in args.entry) }
+/// The names that the parts are in a text of this version; `AllocError` where there is no memory for them.
+fn skips_in(
+    alloc: Global,
+    version: u64,
+    mut args: Args<'_>,
+) -> Result<Option<Vec<SkipId>>, AllocError>
+    ensures names { IfOk result (λ r. option_map (λ names. names.items) r ≡ all_in (skip_in version) args.entry) }
+    ensures numbered { IfOk result (λ r. IfSome r (λ names. AreNumbered names.items)) }
 {
-    let mut ids = Vec::new(alloc);
+    let mut names = Vec::new(alloc);
     while let Some(arg) = args.next() {
-        match id_in(arg) {
-            Some(id) => ids.push(id)?,
+        match skip_in(version, arg) {
+            Some(name) => names.push(name)?,
             None => return Ok(None),
         }
     }
-    Ok(Some(ids))
+    Ok(Some(names))
 }
 
-/// The submit of a connection's number and words, of which there is at least one.
-fn submit_in(alloc: Global, mut args: Args<'_>) -> Result<Option<Step>, AllocError>
-    ensures { IfOk result (λ r. r ≡ submit_in args.entry) }
+/// The words of a request, as these are read in a text of this version: before version 3 a request of one of the three
+/// names of a list is one of an empty word.
+fn words_of(alloc: Global, version: u64, words: Vec<Vec<u8>>) -> Result<Vec<Vec<u8>>, AllocError>
+    requires { 0 < length words.items }
+    ensures { IfOk result (λ r. texts_of r.items ≡ words_of version (texts_of words.items)) }
+{
+    if version >= 3 || !is_control(words[0].as_slice()) {
+        return Ok(words);
+    }
+    let mut unnamed = Vec::with_capacity(alloc, 1)?;
+    unnamed.push(Vec::new(alloc))?;
+    Ok(unnamed)
+}
+
+/// The submit of a connection's number and words, of which there is at least one, in a text of this version.
+fn submit_in(alloc: Global, version: u64, mut args: Args<'_>) -> Result<Option<Step>, AllocError>
+    ensures { IfOk result (λ r. r ≡ submit_in version args.entry) }
 {
     let Some(conn) = args.next() else {
         return Ok(None);
@@ -113,21 +134,21 @@ fn submit_in(alloc: Global, mut args: Args<'_>) -> Result<Option<Step>, AllocErr
     let Some(conn) = number_in(conn) else {
         return Ok(None);
     };
-    let words = Request::from_words(words);
+    let words = Request::from_words(words_of(alloc, version, words)?);
     Ok(Some(Step::Submit {
         conn: ConnId(conn),
         words,
     }))
 }
 
-/// The run of these ids.
-fn run_in(alloc: Global, args: Args<'_>) -> Result<Option<Step>, AllocError>
-    ensures { IfOk result (λ r. r ≡ run_in args.entry) }
+/// The run of these names in a text of this version.
+fn run_in(alloc: Global, version: u64, args: Args<'_>) -> Result<Option<Step>, AllocError>
+    ensures { IfOk result (λ r. r ≡ run_in version args.entry) }
 {
-    let Some(ids) = ids_in(alloc, args)? else {
+    let Some(names) = skips_in(alloc, version, args)? else {
         return Ok(None);
     };
-    let starved = RequestIds::from(ids);
+    let starved = SkipIds::new(names);
     Ok(Some(Step::Run { starved }))
 }
 
@@ -141,7 +162,7 @@ pub fn step_in(alloc: Global, version: u64, line: &[u8]) -> Result<Option<Step>,
         return Ok(alone(Step::Open, args));
     }
     if name == b"submit".as_slice() {
-        return submit_in(alloc, args);
+        return submit_in(alloc, version, args);
     }
     if name == b"deliver".as_slice() {
         return Ok(only_number(args).map(|place| Step::Deliver { place }));
@@ -150,7 +171,7 @@ pub fn step_in(alloc: Global, version: u64, line: &[u8]) -> Result<Option<Step>,
         return Ok(alone(Step::Take, args));
     }
     if name == b"run".as_slice() {
-        return run_in(alloc, args);
+        return run_in(alloc, version, args);
     }
     if name == b"settle".as_slice() {
         return Ok(alone(Step::Settle, args));

@@ -1,10 +1,11 @@
-//! The parts of a trace's lines: numbers, words and ids. Each is read in whole, and takes as many steps as it has
+//! The parts of a trace's lines: numbers, words and names. Each is read in whole, and takes as many steps as it has
 //! bytes.
 
-ghost use Rattle.std.specs.Prelude.{◌≡◌, IfOk, option_map};
-ghost use Rattle.journal.specs.TraceText.{number_in, word_in, cut_at, id_in};
+ghost use Rattle.std.specs.Prelude.{◌≡◌, Some, IfOk, IfSome, option_map};
+ghost use Rattle.journal.specs.TraceText.{number_in, word_in, cut_at, id_in, member_of, skip_in};
+ghost use Rattle.journal.specs.Names.{IsNumbered};
 
-use groups::{ConnId, RequestId};
+use groups::{ConnId, RequestId, SkipId};
 use hex::FromHexError;
 use itoa::Buffer;
 use std::alloc::{AllocError, Global};
@@ -61,7 +62,7 @@ pub fn word_in(alloc: Global, text: &[u8]) -> Result<Option<Vec<u8>>, AllocError
 
 /// The id that this is: a number, a dot and a number.
 #[tactic(auto, unfolding(crate::specs::TraceText::id_in, crate::specs::TraceText::id_of))]
-pub fn id_in(text: &[u8]) -> Option<RequestId>
+fn id_in(text: &[u8]) -> Option<RequestId>
     ensures { result ≡ id_in text.now }
 {
     let (conn, seq) = cut_at(text, b'.');
@@ -71,4 +72,37 @@ pub fn id_in(text: &[u8]) -> Option<RequestId>
         conn: ConnId(conn),
         seq,
     })
+}
+
+/// The name that this is in a text of this version: a request's id, and of a member another dot and its number.
+#[tactic(auto, unfolding(crate::specs::TraceText::skip_in, crate::specs::TraceText::id_of))]
+pub fn skip_in(version: u64, text: &[u8]) -> Option<SkipId>
+    ensures name { result ≡ skip_in version text.now }
+    ensures numbered { IfSome result IsNumbered }
+{
+    if version < 3 {
+        return id_in(text).map(SkipId::Whole);
+    }
+    let (conn, rest) = cut_at(text, b'.');
+    let (seq, number) = cut_at(rest?, b'.');
+    let id = RequestId {
+        conn: ConnId(number_in(conn)?),
+        seq: number_in(seq)?,
+    };
+    match number {
+        None => Some(SkipId::Whole(id)),
+        Some(number) => member_of(id, number_in(number)?),
+    }
+}
+
+/// The member of this number, which counts from 1.
+fn member_of(id: RequestId, number: u64) -> Option<SkipId>
+    ensures name { result ≡ member_of id (Some number) }
+    ensures numbered { IfSome result IsNumbered }
+{
+    if number == 0 {
+        None
+    } else {
+        Some(SkipId::Part(id, number))
+    }
 }

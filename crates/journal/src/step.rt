@@ -1,11 +1,11 @@
 //! The steps of the system.
 
-use super::request_ids::RequestIds;
+use super::skip_ids::SkipIds;
 use groups::ConnId;
 use resp::Request;
 
 /// One step of the system, which happens whole or not at all. Contracts compare steps by the bytes of their words and
-/// the list of their ids.
+/// the list of their names.
 #[derive(Drop)]
 pub enum Step {
     /// The next connection is opened.
@@ -20,8 +20,8 @@ pub enum Step {
     /// All requests that are ready or lined up are taken as the next layer.
     Take,
 
-    /// The layer that was taken is run, but for these of its requests, which count as starved.
-    Run { starved: RequestIds },
+    /// The layer that was taken is run, but for these of its requests, and of their members, which count as starved.
+    Run { starved: SkipIds },
 
     /// The outcomes of the layer that was run go to their connections.
     Settle,

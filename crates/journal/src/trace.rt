@@ -5,7 +5,7 @@ ghost use Rattle.std.specs.Prelude.{MatchOption, IsTrue, ◌↔◌};
 ghost use Rattle.std.specs.List.{AllByRecursion};
 ghost use Rattle.journal.specs.Codes.{step_size, steps_size, StepFits};
 ghost use Rattle.journal.specs.declared.step.Step.{Step};
-ghost use Rattle.groups.specs.declared.request.RequestId.{RequestId};
+ghost use Rattle.groups.specs.declared.skip_id.SkipId.{SkipId};
 
 use super::codes::{put_step, reserve_step, size_of_run, take_step};
 use super::step::Step;
@@ -117,13 +117,13 @@ impl Trace {
         Ok(())
     }
 
-    /// Takes the room for a Run at which at most so many requests starved, and for so many bytes more, so that a push
-    /// that keeps these can't fail. The only error is want of memory, which changes nothing.
+    /// Takes the room for a Run at which at most so many requests and members starved, and for so many bytes more, so that a
+    /// push that keeps these can't fail. The only error is want of memory, which changes nothing.
     pub fn reserve_run(&mut self, starved: usize, kept: usize) -> Result<(), AllocError>
         ensures max { self.new.max ≡ self.old.max }
         ensures steps { self.new.steps ≡ self.old.steps }
-        ensures room { OnOk result ((ids : List RequestId) → length ids ≤ starved
-            → step_size (Step.Run ids) + kept ≤ self.new.room) }
+        ensures room { OnOk result ((names : List SkipId) → length names ≤ starved
+            → step_size (Step.Run names) + kept ≤ self.new.room) }
         ensures room_kept { self.old.room ≤ self.new.room }
         ensures unchanged { OnErr result (self.new ≡ self.old) }
     {
@@ -173,7 +173,7 @@ impl Trace {
         lies[start..].starts_with(words)
     }
 
-    /// The steps, to be read one after another from the first. A caller learns that their numbers, words and ids lie
+    /// The steps, to be read one after another from the first. A caller learns that their numbers, words and names lie
     /// in memory.
     pub fn steps(&self) -> Steps<'_>
         ensures steps { result ≡ self.now.steps }

@@ -3,13 +3,13 @@
 ghost use Rattle.std.specs.Prelude.{◌≡◌, ℕ, [], ◌∷◌, ◌++◌, List, OnOk, OnErr, decimal};
 ghost use Rattle.std.specs.Io.KnownBytes.{Appends, Keeps, append_known};
 ghost use Rattle.std.specs.List.{flat_map};
-ghost use Rattle.journal.specs.TraceText.{word_text, id_text, step_line, ended, trace_text, Spells};
+ghost use Rattle.journal.specs.TraceText.{word_text, id_text, skip_text, step_line, ended, trace_text, Spells};
 
 use super::fault::SendFault;
 use super::step::Step;
 use super::trace::{Steps, Trace};
 use super::version::WRITTEN_VERSION;
-use groups::RequestId;
+use groups::{RequestId, SkipId};
 use itoa::Buffer;
 use resp::Request;
 use std::alloc::{AllocError, Global};
@@ -130,7 +130,7 @@ fn put_step(alloc: Global, step: &Step, out: &mut Vec<u8>) -> Result<(), AllocEr
         Step::Take => out.extend_from_slice(b"take\n")?,
         Step::Run { starved } => {
             out.extend_from_slice(b"run")?;
-            put_ids(starved.as_slice(), out)?;
+            put_skips(starved.as_slice(), out)?;
             out.extend_from_slice(b"\n")?;
         }
         Step::Settle => out.extend_from_slice(b"settle\n")?,
@@ -177,16 +177,41 @@ fn put_word(alloc: Global, word: &[u8], out: &mut Vec<u8>) -> Result<(), AllocEr
     Ok(())
 }
 
-/// Appends the ids, each behind a space.
-fn put_ids(ids: &[RequestId], out: &mut Vec<u8>) -> Result<(), AllocError>
-    ensures ok { OnOk result (out.new.items ≡ out.old.items ++ flat_map (λ id. 32 ∷ id_text id) ids.now) }
+/// Appends the names, each behind a space.
+fn put_skips(names: &[SkipId], out: &mut Vec<u8>) -> Result<(), AllocError>
+    ensures ok { OnOk result (out.new.items ≡ out.old.items ++ flat_map (λ name. 32 ∷ skip_text name) names.now) }
     ensures err { OnErr result ((more : List ℕ) × (out.new.items ≡ out.old.items ++ more)) }
 {
-    for id in ids {
-        out.extend_from_slice(b" ")?;
-        out.extend_from_slice(Buffer::new().format(id.conn.0).as_bytes())?;
-        out.extend_from_slice(b".")?;
-        out.extend_from_slice(Buffer::new().format(id.seq).as_bytes())?;
+    for name in names {
+        put_skip(*name, out)?;
     }
+    Ok(())
+}
+
+/// Appends a space and a name: a request's id, and of a member another dot and its number.
+fn put_skip(name: SkipId, out: &mut Vec<u8>) -> Result<(), AllocError>
+    ensures ok { OnOk result (out.new.items ≡ out.old.items ++ 32 ∷ skip_text name) }
+    ensures err { OnErr result ((more : List ℕ) × (out.new.items ≡ out.old.items ++ more)) }
+{
+    out.push(b' ')?;
+    match name {
+        SkipId::Whole(id) => put_id(id, out)?,
+        SkipId::Part(id, number) => {
+            put_id(id, out)?;
+            out.extend_from_slice(b".")?;
+            out.extend_from_slice(Buffer::new().format(number).as_bytes())?;
+        }
+    }
+    Ok(())
+}
+
+/// Appends an id.
+fn put_id(id: RequestId, out: &mut Vec<u8>) -> Result<(), AllocError>
+    ensures ok { OnOk result (out.new.items ≡ out.old.items ++ id_text id) }
+    ensures err { OnErr result ((more : List ℕ) × (out.new.items ≡ out.old.items ++ more)) }
+{
+    out.extend_from_slice(Buffer::new().format(id.conn.0).as_bytes())?;
+    out.extend_from_slice(b".")?;
+    out.extend_from_slice(Buffer::new().format(id.seq).as_bytes())?;
     Ok(())
 }

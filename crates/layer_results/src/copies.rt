@@ -1,12 +1,12 @@
 //! Copies of what came of a layer.
 
-ghost use Rattle.std.specs.Prelude.{◌≡◌, IfOk, map};
+ghost use Rattle.std.specs.Prelude.{◌≡◌, IfOk, map, option_map};
 ghost use Rattle.std.specs.List.{AllZip};
 ghost use Rattle.resp.specs.Content.{content};
 ghost use Rattle.layer_results.specs.Results.{IsCopy};
 
 use crate::DoneRow;
-use groups::{RequestId, Stamp};
+use groups::Stamp;
 use resp::Reply;
 use std::alloc::{AllocError, Global};
 
@@ -26,7 +26,10 @@ fn copy_of(alloc: Global, row: &DoneRow) -> Result<DoneRow, AllocError>
     ensures { IfOk result (IsCopy row.now) }
 {
     let words = row.words.try_clone()?;
-    let reply = reply_copy(alloc, &row.reply)?;
+    let reply = match &row.reply {
+        Some(reply) => Some(reply_copy(alloc, reply)?),
+        None => None,
+    };
     Ok(DoneRow {
         id: row.id,
         stamp: Stamp { ..row.stamp },
@@ -54,18 +57,4 @@ fn reply_copy(alloc: Global, reply: &Reply) -> Result<Reply, AllocError>
             Reply::Array(copies)
         }
     })
-}
-
-/// Copies of these ids and stamps, in their order.
-pub fn stamped_copies(
-    alloc: Global,
-    stamped: &[(RequestId, Stamp)],
-) -> Result<Vec<(RequestId, Stamp)>, AllocError>
-    ensures { IfOk result (λ copies. copies.items ≡ stamped.now) }
-{
-    let mut copies = Vec::with_capacity(alloc, stamped.len())?;
-    for (id, stamp) in stamped {
-        copies.push((*id, Stamp { ..*stamp }))?;
-    }
-    Ok(copies)
 }

@@ -1,13 +1,13 @@
 //! The store with its rows: what comes of the layers that it is brought, and which of them come back.
 
 use crate::backs::Does::{
-    Brings, BringsHalf, BringsToUnwilling, HandsOver, HasFailed, HasRows, Holds, Tells,
+    Brings, BringsBut, BringsToUnwilling, HandsOver, HasFailed, HasRows, Holds, Tells,
 };
 use crate::held::Unwilling;
 use crate::jobs::{ONE, discard, layer_of, string, table_of, two_shards};
 use crate::trouble::Trouble;
 use back::Back;
-use groups::{ConnId, RequestId};
+use groups::{ConnId, RequestId, SkipId};
 use layer_results::{Done, DoneRow};
 use placement::Table;
 use resp::write_reply;
@@ -18,11 +18,26 @@ use std::alloc::{AllocError, Global};
 use std::test::Fail;
 use test_support::{holds, same_bytes, same_count, same_text};
 
-/// The second request of a layer.
-const SECOND: RequestId = RequestId {
+/// The first request of a layer.
+const FIRST: SkipId = SkipId::Whole(RequestId {
+    conn: ConnId(1),
+    seq: 1,
+});
+
+/// The second one.
+const SECOND: SkipId = SkipId::Whole(RequestId {
     conn: ConnId(1),
     seq: 2,
-};
+});
+
+/// The first member of the first request.
+const FIRST_MEMBER: SkipId = SkipId::Part(
+    RequestId {
+        conn: ConnId(1),
+        seq: 1,
+    },
+    1,
+);
 
 /// The words of a layer's requests, and their clock.
 type Brought = (u64, &'static [&'static str]);
@@ -41,8 +56,8 @@ enum Does {
     Brings(Brought, Became),
     /// The same, by workers of which none can be started.
     BringsToUnwilling(Brought, Became),
-    /// It is brought this layer of two requests, of which the second is to starve. It is run.
-    BringsHalf(Brought),
+    /// It is brought this layer, of which this is to starve. It is run.
+    BringsBut(Brought, SkipId),
     /// This came of the last layer.
     Tells(&'static str),
     /// The same, which is handed over.
@@ -83,7 +98,7 @@ fn bring<W: Workers>(
     back: &mut Back,
     table: &Table,
     brought: &Brought,
-    starved: &[RequestId],
+    starved: &[SkipId],
     workers: &W,
     wanted: Became,
 ) -> Result<(), Fail> {
@@ -94,29 +109,27 @@ fn bring<W: Workers>(
     same_became(got, wanted)
 }
 
-/// Puts the replies behind, with a blank behind each.
-fn push_replies(bytes: &mut Vec<u8>, rows: &[DoneRow]) -> Result<(), AllocError> {
+/// Puts the reply of a request behind, or the number of one that starved, with a blank behind it.
+fn push_row(alloc: Global, bytes: &mut Vec<u8>, row: &DoneRow) -> Result<(), AllocError> {
+    match &row.reply {
+        Some(reply) => write_reply(reply, bytes)?,
+        None => bytes.extend_from_slice(format!(in alloc; "{} starved", row.id.seq)?.as_bytes())?,
+    }
+    bytes.extend_from_slice(b" ")
+}
+
+/// Puts what came of each request behind.
+fn push_rows(alloc: Global, bytes: &mut Vec<u8>, rows: &[DoneRow]) -> Result<(), AllocError> {
     for row in rows {
-        write_reply(&row.reply, bytes)?;
-        bytes.extend_from_slice(b" ")?;
+        push_row(alloc, bytes, row)?;
     }
     Ok(())
 }
 
-/// Puts the numbers of the requests that starved behind.
-fn push_starved(alloc: Global, bytes: &mut Vec<u8>, done: &Done) -> Result<(), AllocError> {
-    for (id, _) in done.starved() {
-        let line = format!(in alloc; "{} starved ", id.seq)?;
-        bytes.extend_from_slice(line.as_bytes())?;
-    }
-    Ok(())
-}
-
-/// The replies, and the numbers of the requests that starved, with a blank behind each.
+/// The replies, and the numbers of the requests that starved, in the order of the layer.
 fn told(alloc: Global, done: &Done) -> Result<String, Trouble> {
     let mut bytes = Vec::new(alloc);
-    push_replies(&mut bytes, done.rows())?;
-    push_starved(alloc, &mut bytes, done)?;
+    push_rows(alloc, &mut bytes, done.rows())?;
     string(bytes)
 }
 
@@ -152,7 +165,7 @@ fn act(alloc: Global, back: &mut Back, table: &Table, does: &Does) -> Result<(),
         BringsToUnwilling(brought, wanted) => {
             bring(alloc, back, table, brought, &[], &Unwilling, *wanted)
         }
-        BringsHalf(brought) => bring(alloc, back, table, brought, &[SECOND], &ONE, RUN),
+        BringsBut(brought, starved) => bring(alloc, back, table, brought, &[*starved], &ONE, RUN),
         Tells(wanted) => same_done(alloc, back, wanted),
         HandsOver(wanted) => same_handed_over(alloc, back, wanted),
         HasRows(wanted) => same_count("rows", back.rows().len(), *wanted),
@@ -187,7 +200,7 @@ const EXECUTED: [Does; 7] = [
     Tells(""),
     Brings((1, &["SET a 1", "SET c 2"]), RUN),
     Tells("+OK\r\n +OK\r\n "),
-    BringsHalf((2, &["GET a", "DEL c"])),
+    BringsBut((2, &["GET a", "DEL c"]), SECOND),
     Tells("$1\r\n1\r\n 2 starved "),
     HasRows(3),
     Holds("key 61 string 31\nkey 63 string 32\n"),
@@ -196,6 +209,22 @@ const EXECUTED: [Does; 7] = [
 #[test]
 fn each_executed_request_has_its_row(rt: HostRuntime) -> Result<(), Fail> {
     follow_own(rt.alloc(), &EXECUTED)
+}
+
+/// A request that starves before another is told of in its place, and an EXEC has its row where one of its members starves.
+#[rattlefmt::skip]
+const IN_THEIR_PLACES: [Does; 6] = [
+    BringsBut((1, &["SET a 1", "SET c 2"]), FIRST),
+    Tells("1 starved +OK\r\n "),
+    BringsBut((2, &["SETNX a 1; APPEND c 3"]), FIRST_MEMBER),
+    Tells("*2\r\n-ERR out of memory\r\n:2\r\n "),
+    HasRows(2),
+    Holds("key 63 string 3233\n"),
+];
+
+#[test]
+fn what_starved_is_told_of_in_its_place(rt: HostRuntime) -> Result<(), Fail> {
+    follow_own(rt.alloc(), &IN_THEIR_PLACES)
 }
 
 #[rattlefmt::skip]

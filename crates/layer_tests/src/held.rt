@@ -2,7 +2,7 @@
 
 use crate::jobs::{ONE, ask_all, layer_of, number_of, two_shards};
 use crate::trouble::Trouble;
-use groups::RequestId;
+use groups::{RequestId, SkipId};
 use layer_planner::Layer;
 use placement::Table;
 use shard_crew::Crew;
@@ -110,16 +110,17 @@ impl Workers for Unwilling {
         NonZeroUsize::MIN.saturating_add(1)
     }
 
-    fn reserve(&self, alloc: Global, loads: usize) -> Result<Room, AllocError> {
+    fn reserve<'s>(&self, alloc: Global, loads: usize) -> Result<Room<'s>, AllocError> {
         InTurn(NonZeroUsize::MIN).reserve(alloc, loads)
     }
 
-    fn run_loads(
+    fn run_loads<'s>(
         &self,
         _alloc: Global,
         _table: &Table,
+        _skip: &'s [SkipId],
         _gate: &(dyn Gate + Sync),
-        _room: Room,
+        _room: Room<'s>,
         _loads: Vec<Load>,
     ) -> Result<Vec<Vec<Ran>>, Refused> {
         Err(Refused)

@@ -1,18 +1,21 @@
 //! Jobs from the words of a request, and replies as the text that a client gets.
 
 use crate::trouble::Trouble;
-use groups::{ConnId, Groups, RequestId, Stamp};
+use groups::{ConnId, Groups, RequestId, SkipId, Stamp};
 use layer_planner::{Job, Layer};
+use packing::PackedRequest;
 use placement::{GroupId, Table};
 use resp::{Answered, Request, write_reply};
+use sessions::Batch;
 use shard_exec::{Ended, ExecFault, Store};
 use shard_workers::{Gate, InTurn, OpenGate, Workers};
 use std::alloc::{AllocError, Global};
 use std::num::NonZeroUsize;
 use std::process::Abort;
 use std::test::Fail;
+use tasks::task_groups;
 use test_support::same_text;
-use worded::Worded;
+use worded::{Worded, read_batch};
 
 /// One worker, and no thread.
 pub(crate) const ONE: InTurn = InTurn(NonZeroUsize::MIN);
@@ -61,6 +64,51 @@ fn request(alloc: Global, words: &str) -> Result<Request, Trouble> {
     Ok(Request::from_words(copies))
 }
 
+/// The words of a member, separated by blanks, packed in one word.
+fn packed(alloc: Global, words: &str) -> Result<Vec<u8>, Trouble> {
+    let request = request(alloc, words)?;
+    let packed = PackedRequest::copy_of(alloc, &request)?;
+    Ok(Vec::from_slice(alloc, packed.as_bytes())?)
+}
+
+/// Puts a word behind for each member, which are separated by `; `.
+fn push_members(alloc: Global, copies: &mut Vec<Vec<u8>>, members: &str) -> Result<(), Trouble> {
+    for member in members.split("; ") {
+        copies.push(packed(alloc, member)?)?;
+    }
+    Ok(())
+}
+
+/// The words that say an EXEC of these members, separated by `; `.
+fn exec_words(alloc: Global, members: &str) -> Result<Request, Trouble> {
+    let mut copies = Vec::new(alloc);
+    copies.push(Vec::from_slice(alloc, b"exec")?)?;
+    push_members(alloc, &mut copies, members)?;
+    if copies.is_empty() {
+        return Err(Trouble::Asked);
+    }
+    Ok(Request::from_words(copies))
+}
+
+/// An EXEC of these members, separated by `; `.
+fn exec_of(alloc: Global, members: &str) -> Result<Worded, Trouble> {
+    let words = exec_words(alloc, members)?;
+    let copy = PackedRequest::copy_of(alloc, &words)?;
+    match read_batch(alloc, words)? {
+        Batch::Exec(members) => Ok(Worded::of_members(copy, members)),
+        Batch::Plain(_) => Err(Trouble::Asked),
+    }
+}
+
+/// What these words ask: an EXEC, where a `; ` separates its members, else a command.
+fn asked_of(alloc: Global, words: &str) -> Result<Worded, Trouble> {
+    if words.contains("; ") {
+        return exec_of(alloc, words);
+    }
+    let request = request(alloc, words)?;
+    Ok(Worded::read(alloc, request)?)
+}
+
 /// The greatest of these groups, or 0.
 pub(crate) fn last_of(groups: &Groups) -> GroupId {
     let mut last = GroupId::new(0);
@@ -72,7 +120,7 @@ pub(crate) fn last_of(groups: &Groups) -> GroupId {
 
 /// The job of what is asked: its id is (1, seq), and its stamp is of its greatest group.
 fn job_of(table: &Table, seq: u64, clock: u64, asked: Worded) -> Job {
-    let groups = table.groups(asked.command());
+    let groups = task_groups(table, asked.batch());
     Job {
         id: RequestId {
             conn: ConnId(1),
@@ -96,8 +144,7 @@ pub(crate) fn push_job(
     clock: u64,
     words: &str,
 ) -> Result<(), Trouble> {
-    let request = request(alloc, words)?;
-    let asked = Worded::read(alloc, request)?;
+    let asked = asked_of(alloc, words)?;
     jobs.push(job_of(table, seq, clock, asked))?;
     Ok(())
 }
@@ -138,13 +185,13 @@ fn push_jobs(
 /// Lets a value go. What that takes for each of its kinds is seen here alone.
 pub(crate) fn discard<T: Drop>(_value: T) {}
 
-/// Runs a layer, and lets these of its requests starve.
+/// Runs a layer, and lets these of its requests, and of their members, starve.
 pub(crate) fn run_or_not<W: Workers>(
     rt: &impl Abort,
     alloc: Global,
     store: &mut Store,
     layer: Layer,
-    starved: &[RequestId],
+    starved: &[SkipId],
     workers: &W,
     gate: &(dyn Gate + Sync),
 ) -> Result<Vec<Ended>, ExecFault> {
@@ -164,13 +211,13 @@ pub(crate) fn answers<W: Workers>(
     answers_but(rt, alloc, store, layer, &[], workers, gate)
 }
 
-/// The same, where these of its requests are to starve.
+/// The same, where these of its requests, and of their members, are to starve.
 pub(crate) fn answers_but<W: Workers>(
     rt: &impl Abort,
     alloc: Global,
     store: &mut Store,
     layer: Layer,
-    starved: &[RequestId],
+    starved: &[SkipId],
     workers: &W,
     gate: &(dyn Gate + Sync),
 ) -> Result<String, Trouble> {

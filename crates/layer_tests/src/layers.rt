@@ -1,7 +1,7 @@
 //! What becomes of one layer after another.
 
 use crate::jobs::{Asked, ONE, answers_but, ask_all, ask_anew, ask_rows, layer_of, two_shards};
-use groups::{ConnId, RequestId};
+use groups::{ConnId, RequestId, SkipId};
 use layer_planner::Job;
 use placement::Table;
 use shard_exec::Store;
@@ -44,11 +44,11 @@ fn have_two_groups(jobs: &[Job]) -> Result<(), Fail> {
 fn skip_both(rt: &impl Abort, alloc: Global, store: &mut Store, table: &Table) -> Result<(), Fail> {
     let both = layer_of(alloc, table, 5, &["DEL a c"])?;
     have_two_groups(both.jobs())?;
-    let id = RequestId {
+    let first = SkipId::Whole(RequestId {
         conn: ConnId(1),
         seq: 1,
-    };
-    let answered = answers_but(rt, alloc, store, both, &[id], &ONE, &OpenGate)?;
+    });
+    let answered = answers_but(rt, alloc, store, both, &[first], &ONE, &OpenGate)?;
     same_text("DEL a c", answered.as_str(), "starved ")
 }
 

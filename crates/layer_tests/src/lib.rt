@@ -4,6 +4,8 @@
 #[cfg(test)]
 mod backs;
 #[cfg(test)]
+mod execs;
+#[cfg(test)]
 mod held;
 #[cfg(test)]
 mod jobs;

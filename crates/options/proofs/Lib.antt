@@ -1,3 +1,1 @@
-mod PictureRefusals
-mod ReplayRefusals
-mod ServerRefusals
+mod Refusals

@@ -1,22 +1,19 @@
 -- What the words of the replayer's command line say.
-use Rattle.std.specs.Prelude.{◌≡◌, ◌≢◌, ◌⊎◌, false, ⊤, List, Some, None, codes}
-use Rattle.clap.specs.Words.{App, Row, Text, first_of, matches_of, new_app, takes, with_rule}
-use Rattle.clap.specs.Values.{kind_of}
-use Rattle.clap.specs.declared.error.Error.{Error}
-use Rattle.clap.specs.declared.error.kind.ErrorKind.TheVariants.{OutOfMemory}
-use Rattle.options.specs.CommandLine.{SaysOr, IsOutside, option_named}
+use Rattle.std.specs.Prelude.{◌≡◌, ◌⊎◌, List, Some, None, codes}
+use Rattle.clap.specs.Words.{App, Row, Text, first_of, matches_of, with_rule}
+use Rattle.options.specs.CommandLine.{SaysOr, IsOutside, a_u64, app_named, needed_named, number_named}
+use Rattle.options.specs.Refusals.{IsRefusalBy, LacksBy, names_none}
+use Rattle.options.specs.declared.fault.OptionsFault.{OptionsFault}
 use Rattle.options.specs.declared.replay.Asked.{Asked}
-use Rattle.options.specs.declared.replay.OptionsFault.{OptionsFault}
-use Rattle.options.specs.declared.replay.OptionsFault.TheVariants.{Usage, Workers, Memory}
 use Rattle.options.specs.declared.command_line.TheConstants.{WORKERS, GREATEST_WORKERS}
 
 -- the command line's options
 abbrev pub line : App
 line =
-    with_rule (with_rule (with_rule (new_app (codes "shardkv-replay"))
-    (option_named (codes "table")))
-    (option_named (codes "trace")))
-    (option_named (codes "workers"))
+    with_rule (with_rule (with_rule (app_named (codes "shardkv-replay"))
+    (needed_named (codes "table")))
+    (needed_named (codes "trace")))
+    (number_named a_u64 (codes "workers"))
 
 -- these rows of options and their values say so
 pub record AreSaidBy (rows : List Row) (asked : Asked) : Type 0 where
@@ -28,21 +25,17 @@ pub record AreSaidBy (rows : List Row) (asked : Asked) : Type 0 where
 abbrev pub AreSaid : List Text → Asked → Type 0
 AreSaid words asked = AreSaidBy (matches_of line words) asked
 
--- ---- why it says nothing
+-- ---- why they say nothing
 
--- a file isn't named, or the number of workers isn't 1 to 64
+-- the file that is told isn't named, or the number of workers isn't 1 to 64
+abbrev pub IsOutOfBounds : List Row → Text → Type 0
+IsOutOfBounds rows name =
+    ((name ≡ codes "table") × (first_of (codes "table") rows ≡ None))
+    ⊎ (((name ≡ codes "trace") × (first_of (codes "trace") rows ≡ None))
+    ⊎ ((name ≡ codes "workers") × IsOutside WORKERS 1 GREATEST_WORKERS (first_of (codes "workers") rows)))
+
 abbrev pub Lacks : List Row → OptionsFault → Type 0
-Lacks rows Usage = (first_of (codes "table") rows ≡ None) ⊎ (first_of (codes "trace") rows ≡ None)
-Lacks rows Workers = IsOutside WORKERS 1 GREATEST_WORKERS (first_of (codes "workers") rows)
-Lacks rows Memory = ⊥
+Lacks = LacksBy IsOutOfBounds names_none
 
--- what is told where clap refuses the words: want of memory as such
-abbrev pub TellsRefusal : Error → OptionsFault → Type 0
-TellsRefusal error fault =
-    ((kind_of error ≡ OutOfMemory) × (fault ≡ Memory)) ⊎ ((kind_of error ≢ OutOfMemory) × (fault ≡ Usage))
-
--- clap refuses the words, or they lack something, or there is no memory
 abbrev pub IsRefusal : List Text → OptionsFault → Type 0
-IsRefusal words Usage = (takes line words ≡ false) ⊎ Lacks (matches_of line words) Usage
-IsRefusal words Workers = Lacks (matches_of line words) Workers
-IsRefusal words Memory = ⊤
+IsRefusal = IsRefusalBy line IsOutOfBounds names_none

@@ -3,6 +3,9 @@
 #![tactic(auto)]
 
 mod command_line;
+mod fault;
 pub mod picture;
 pub mod replay;
 pub mod server;
+
+pub use fault::OptionsFault;

@@ -2,15 +2,13 @@
 
 ghost use Rattle.std.specs.Prelude.{◌≡◌, [], IfOk, IfErr, OnOk, map};
 ghost use Rattle.clap.specs.Words.{app_of, fault_of, found_of, rows_of};
-ghost use Rattle.options.specs.Picture.{AreSaid, AreSaidBy, IsRefusal, Lacks, TellsRefusal, line};
-ghost use Rattle.options.specs.declared.picture.OptionsFault.TheVariants as options_fault;
+ghost use Rattle.options.specs.Picture.{AreSaid, AreSaidBy, IsRefusal, Lacks, line};
 
-use crate::command_line::{number_in, value_in, valued};
-use clap::error::ErrorKind;
+use crate::command_line::{named, needed, number, number_within, value_in};
+use crate::fault::OptionsFault;
 use clap::{ArgMatches, Command};
 use std::alloc::{AllocError, Global};
 use std::convert::AsStr;
-use thiserror::Error;
 
 /// The first step that is drawn where the words name none.
 const FIRST: u64 = 0;
@@ -34,30 +32,6 @@ pub struct Asked<'a> {
     pub to: u64,
 }
 
-/// Why the words are no such line.
-#[derive(Clone, Copy, Debug, Drop, Error)]
-pub enum OptionsFault {
-    /// They are no options of the program, or `--table` or `--trace` is missing.
-    #[error("usage: shardkv-picture --table FILE --trace FILE [--from STEP] [--to STEP]")]
-    Usage,
-
-    /// A step isn't a number of 64 bits.
-    #[error("--from and --to take the number of a step")]
-    Step,
-
-    /// There was no memory.
-    #[error("out of memory")]
-    Memory,
-}
-
-impl From<AllocError> for OptionsFault {
-    ghost from_gives = { λ _ fault. fault ≡ options_fault.Memory };
-
-    fn from(_error: AllocError) -> OptionsFault {
-        OptionsFault::Memory
-    }
-}
-
 /// Reads the words, of which the first is the program's name: `--table FILE --trace FILE`, `--from STEP`, and `--to STEP`,
 /// which is the first step that isn't drawn.
 ///
@@ -71,40 +45,22 @@ pub fn read_options<'a, S: AsStr>(alloc: Global, words: &'a [S]) -> Result<Asked
     let line = line(alloc)?;
     let found = match line.try_get_matches_from(words) {
         Ok(found) => found,
-        Err(error) => return Err(refusal_of(&error)),
+        Err(error) => return Err(OptionsFault::from(error)),
     };
     asked_in(&found)
-}
-
-/// What is told where `clap` refuses the words.
-fn refusal_of(error: &clap::Error) -> OptionsFault
-    ensures { TellsRefusal error.now result }
-{
-    match error.kind() {
-        ErrorKind::OutOfMemory => OptionsFault::Memory,
-        _ => OptionsFault::Usage,
-    }
 }
 
 /// The command line.
 fn line<'a>(alloc: Global) -> Result<Command<'a>, AllocError>
     ensures { IfOk result (λ command. app_of command ≡ line) }
 {
-    let table = valued(alloc, "table", "FILE", "The placement table");
-    let trace = valued(alloc, "trace", "FILE", "The trace");
-    let from = valued(
-        alloc,
-        "from",
-        "STEP",
-        "The first step that is drawn [default: 0]",
-    );
-    let to = valued(
-        alloc,
-        "to",
-        "STEP",
-        "The first step that isn't drawn [default: none]",
-    );
-    Command::new(alloc, "shardkv-picture")
+    let table = needed(alloc, "table", "FILE", "The placement table");
+    let trace = needed(alloc, "trace", "FILE", "The trace");
+    let from = "The first step that is drawn [default: 0]";
+    let from = number(alloc, "from", "STEP", from);
+    let to = "The first step that isn't drawn [default: none]";
+    let to = number(alloc, "to", "STEP", to);
+    named(alloc, "shardkv-picture")
         .arg(table)?
         .arg(trace)?
         .arg(from)?
@@ -117,17 +73,13 @@ fn asked_in<'a>(found: &ArgMatches<'a>) -> Result<Asked<'a>, OptionsFault>
     ensures refused { IfErr result (Lacks (rows_of (found_of found.now))) }
 {
     let Some(table) = value_in(found, "table") else {
-        return Err(OptionsFault::Usage);
+        return Err(OptionsFault::Range("table"));
     };
     let Some(trace) = value_in(found, "trace") else {
-        return Err(OptionsFault::Usage);
+        return Err(OptionsFault::Range("trace"));
     };
-    let Some(from) = number_in(found, "from", FIRST) else {
-        return Err(OptionsFault::Step);
-    };
-    let Some(to) = number_in(found, "to", LAST) else {
-        return Err(OptionsFault::Step);
-    };
+    let from = number_within(found, "from", FIRST, 0, u64::MAX)?;
+    let to = number_within(found, "to", LAST, 0, u64::MAX)?;
     Ok(Asked {
         table,
         trace,

@@ -2,15 +2,15 @@
 
 ghost use Rattle.std.specs.Prelude.{◌≡◌, ◌≤◌, [], IfOk, IfErr, OnOk, map};
 ghost use Rattle.clap.specs.Words.{app_of, fault_of, found_of, rows_of};
-ghost use Rattle.options.specs.Replay.{AreSaid, AreSaidBy, IsRefusal, Lacks, TellsRefusal, line};
-ghost use Rattle.options.specs.declared.replay.OptionsFault.TheVariants as options_fault;
+ghost use Rattle.options.specs.Replay.{AreSaid, AreSaidBy, IsRefusal, Lacks, line};
 
-use crate::command_line::{GREATEST_WORKERS, WORKERS, number_in, value_in, valued};
-use clap::error::ErrorKind;
+use crate::command_line::{
+    GREATEST_WORKERS, WORKERS, named, needed, number, number_within, value_in,
+};
+use crate::fault::OptionsFault;
 use clap::{ArgMatches, Command};
 use std::alloc::{AllocError, Global};
 use std::convert::AsStr;
-use thiserror::Error;
 
 /// What the words ask for.
 #[derive(Clone, Copy, Debug, Drop)]
@@ -23,30 +23,6 @@ pub struct Asked<'a> {
 
     /// How many workers: 1 to 64, and 1 where the words say nothing.
     pub workers: u8,
-}
-
-/// Why the words are no such line.
-#[derive(Clone, Copy, Debug, Drop, Error)]
-pub enum OptionsFault {
-    /// They are no options of the program, or `--table` or `--trace` is missing.
-    #[error("usage: shardkv-replay --table FILE --trace FILE [--workers N]")]
-    Usage,
-
-    /// The number of workers isn't 1 to 64.
-    #[error("--workers takes a number from 1 to 64")]
-    Workers,
-
-    /// There was no memory.
-    #[error("out of memory")]
-    Memory,
-}
-
-impl From<AllocError> for OptionsFault {
-    ghost from_gives = { λ _ fault. fault ≡ options_fault.Memory };
-
-    fn from(_error: AllocError) -> OptionsFault {
-        OptionsFault::Memory
-    }
 }
 
 /// Reads the words, of which the first is the program's name: `--table FILE --trace FILE`, and `--workers N` from 1 to 64.
@@ -63,34 +39,20 @@ pub fn read_options<'a, S: AsStr>(alloc: Global, words: &'a [S]) -> Result<Asked
     let line = line(alloc)?;
     let found = match line.try_get_matches_from(words) {
         Ok(found) => found,
-        Err(error) => return Err(refusal_of(&error)),
+        Err(error) => return Err(OptionsFault::from(error)),
     };
     asked_in(&found)
-}
-
-/// What is told where `clap` refuses the words.
-fn refusal_of(error: &clap::Error) -> OptionsFault
-    ensures { TellsRefusal error.now result }
-{
-    match error.kind() {
-        ErrorKind::OutOfMemory => OptionsFault::Memory,
-        _ => OptionsFault::Usage,
-    }
 }
 
 /// The command line.
 fn line<'a>(alloc: Global) -> Result<Command<'a>, AllocError>
     ensures { IfOk result (λ command. app_of command ≡ line) }
 {
-    let table = valued(alloc, "table", "FILE", "The placement table");
-    let trace = valued(alloc, "trace", "FILE", "The trace");
-    let workers = valued(
-        alloc,
-        "workers",
-        "N",
-        "How many workers, 1 to 64 [default: 1]",
-    );
-    Command::new(alloc, "shardkv-replay")
+    let table = needed(alloc, "table", "FILE", "The placement table");
+    let trace = needed(alloc, "trace", "FILE", "The trace");
+    let workers = "How many workers, 1 to 64 [default: 1]";
+    let workers = number(alloc, "workers", "N", workers);
+    named(alloc, "shardkv-replay")
         .arg(table)?
         .arg(trace)?
         .arg(workers)
@@ -104,17 +66,15 @@ fn asked_in<'a>(found: &ArgMatches<'a>) -> Result<Asked<'a>, OptionsFault>
     ensures refused { IfErr result (Lacks (rows_of (found_of found.now))) }
 {
     let Some(table) = value_in(found, "table") else {
-        return Err(OptionsFault::Usage);
+        return Err(OptionsFault::Range("table"));
     };
     let Some(trace) = value_in(found, "trace") else {
-        return Err(OptionsFault::Usage);
+        return Err(OptionsFault::Range("trace"));
     };
-    match number_in(found, "workers", WORKERS) {
-        Some(workers) if workers >= 1 && workers <= GREATEST_WORKERS => Ok(Asked {
-            table,
-            trace,
-            workers: workers as u8,
-        }),
-        _ => Err(OptionsFault::Workers),
-    }
+    let workers = number_within(found, "workers", WORKERS, 1, GREATEST_WORKERS)?;
+    Ok(Asked {
+        table,
+        trace,
+        workers: workers as u8,
+    })
 }

@@ -2,6 +2,7 @@
 use Rattle.std.proofs.Common.{◌≡◌, ◌∙◌, ℕ, ◌<◌, cond, List, [], ◌∷◌, ◌++◌, Option, Some, None, length, map, refl, sym, ap, subst, arith}
 use Rattle.std.proofs.lemmas.List.{append-nil, map_push}
 use Rattle.groups.specs.declared.request.RequestId.{RequestId}
+use Rattle.groups.specs.declared.skip_id.SkipId.{SkipId}
 use Rattle.picture.proofs.Putting.{pushed}
 use Rattle.picture.specs.Layers.{JobTold, LayerTold, job_in, last_jobs, layer_in, marked, reply_at, reply_in, run_at, with_last}
 use Rattle.picture.specs.Notes.{ids_in, ids_of, replies_noted}
@@ -27,7 +28,7 @@ jobs-more (k ∷ j ∷ js) l = jobs-more (j ∷ js) l
 
 -- ---- what is put down of a layer
 
-pub jobs-run : (n : ℕ) (starved : List RequestId) (ls : List LayerTold) →
+pub jobs-run : (n : ℕ) (starved : List SkipId) (ls : List LayerTold) →
     ids_of (last_jobs (with_last (run_at n starved) ls)) ≡ ids_of (last_jobs ls)
 jobs-run n starved [] = refl
 jobs-run n starved (l ∷ []) = ids-marked l.jobs

@@ -6,11 +6,11 @@ use Rattle.std.proofs.lemmas.List.Elements.{filter_agree}
 use Rattle.std.proofs.lemmas.Option.{same_Some, slice_get-map}
 use Rattle.std.specs.Prelude.{is_some, option_map}
 use Rattle.groups.specs.declared.request.RequestId.{RequestId}
+use Rattle.groups.specs.declared.skip_id.SkipId.{SkipId}
 use Rattle.journal.specs.declared.step.Step.{Step}
 use Rattle.journal.specs.declared.step.Step.TheVariants as step
 use Rattle.keyspace.specs.Map.{Map}
 use Rattle.layer_planner.specs.declared.job.Job.{Job}
-use Rattle.tasks.specs.Tasks.{task_reading}
 use Rattle.picture.proofs.Lasts.{jobs-more, jobs-run}
 use Rattle.picture.proofs.Runs.{told_more, made_more, last_more, submitted_layer, collected_layer}
 use Rattle.picture.specs.Arrivals.{delivered_by, delivered_from, delivery_in, delivery_of, receipt_in, received_by, received_from}
@@ -43,7 +43,7 @@ use Rattle.system.specs.declared.stage.Stage.{Stage}
 use Rattle.system.specs.declared.stage.Stage.TheVariants as stage
 use Rattle.system_view.specs.Connections.{ShowsClosed, ShowsConnection, ShowsOpen, outcome_shown}
 use Rattle.system_view.specs.Layers.{AreJobs}
-use Rattle.world.specs.Steps.{RunInTurn, RunsLayer, Steps, map_after, opening, starved_among}
+use Rattle.world.specs.Steps.{RunInTurn, RunsLayer, Steps, answer_to, map_after, opening, remembered, starved_among}
 use Rattle.world.specs.Steps as world
 use Rattle.world.specs.World.{World, Ended, NoneTaken, Taken, HasRun}
 use Rattle.world_laws.specs.Good.{Asked}
@@ -94,7 +94,7 @@ ids-jobs : (ds : List Delivered) → ids_of (map job_of ds) ≡ map (λ (d : Del
 ids-jobs [] = refl
 ids-jobs (d ∷ ds) = ap (λ ids. d.id ∷ ids) (ids-jobs ds)
 
-ids-run : (asked : Asked) (starved : List RequestId) (m : Map) (ds : List Delivered) (es : List Ended) → RunInTurn asked starved m ds es →
+ids-run : (asked : Asked) (starved : List SkipId) (m : Map) (ds : List Delivered) (es : List Ended) → RunInTurn asked starved m ds es →
     map (λ (d : Delivered). d.id) ds ≡ map (λ (e : Ended). e.id) es
 ids-run asked starved m [] es run = sym (ap (map (λ (e : Ended). e.id)) run)
 ids-run asked starved m (d ∷ ds) [] run = absurd run
@@ -197,7 +197,7 @@ module _ (t : Layout) (w w' : World) (n : ℕ) (before' after : SystemView) (sho
       }
 
   -- it is run
-  runs : (skip starved : List RequestId) (ds : List Delivered) (es : List Ended) → w.layer ≡ Taken ds → w'.layer ≡ HasRun es →
+  runs : (skip starved : List SkipId) (ds : List Delivered) (es : List Ended) → w.layer ≡ Taken ds → w'.layer ≡ HasRun es →
       starved ≡ starved_among es → map (λ (d : Delivered). d.id) ds ≡ map (λ (x : Ended). x.id) es →
       Notes n before.Run (effect.Ran starved) after old new → Tells n w (step.Run skip) w' old new
   runs skip starved ds es taken run named ids put =
@@ -232,7 +232,7 @@ module _ (t : Layout) (w w' : World) (n : ℕ) (before' after : SystemView) (sho
         last = subst (λ l. IsLast l (map layer_in new.layers.layers.items)) (sym none) tt;
       }
 
-  ran : (skip : List RequestId) (e : Effect) → RunsLayer w skip (effect_shown e) w' → Notes n before.Run e after old new →
+  ran : (skip : List SkipId) (e : Effect) → RunsLayer w skip (effect_shown e) w' → Notes n before.Run e after old new →
       Tells n w (step.Run skip) w' old new
   ran skip (effect.Opened conn) is put = let a : world.Opened conn.0 ≡ world.Ran (starved_among is.outcomes) = is.answers in cc
   ran skip (effect.Submitted id) is put = let a : world.Submitted id ≡ world.Ran (starved_among is.outcomes) = is.answers in cc
@@ -262,7 +262,8 @@ module _ (t : Layout) (w w' : World) (n : ℕ) (before' after : SystemView) (sho
       Notes n b e after old new → Tells n w s w' old new
   tells step.Open e b landed is was lands put = plain (other b e was put) (ap (λ v. v.layer) is.after) step.Open refl refl refl refl
   tells (step.Submit conn words) e b landed is was lands put =
-      plain (other b e was put) (ap (λ v. v.layer) is.after ∙ submitted_layer t w conn.0 (task_reading words))
+      plain (other b e was put) (ap (λ v. v.layer) is.after
+      ∙ submitted_layer t (remembered w conn.0 words) conn.0 (answer_to w conn.0 words))
       (step.Submit conn words) refl refl refl refl
   tells (step.Deliver k) e b landed is was lands put =
       comes landed is.packet e k (lands ∙ slice_get-map flight_of w.packets k ∙ ap (option_map flight_of) is.there) is.there

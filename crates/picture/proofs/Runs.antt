@@ -1,16 +1,16 @@
 -- A run, one step after another.
-use Rattle.std.proofs.Common.{◌≡◌, ◌∙◌, ℕ, suc, ◌+◌, ◌≤◌, List, [], ◌∷◌, ◌++◌, Result, Ok, Err}
+use Rattle.std.proofs.Common.{◌≡◌, ◌∙◌, ℕ, suc, ◌+◌, ◌≤◌, List, [], ◌∷◌, ◌++◌}
 use Rattle.std.proofs.Common.{length, drop, refl, sym, ap, subst, arith, append_assoc}
 use Rattle.std.proofs.lemmas.List.{append-nil}
-use Rattle.command_table.specs.declared.refusal.Refusal.{Refusal}
 use Rattle.journal.specs.declared.step.Step.{Step}
 use Rattle.journal.specs.declared.step.Step.TheVariants as step
-use Rattle.tasks.specs.Tasks.{Task, task_reading, task_groups}
+use Rattle.sessions.specs.Session.{Answer, Now, Go}
+use Rattle.tasks.specs.Tasks.{Task, task_groups}
 use Rattle.picture.specs.Flights.{arrival_in, kept_at}
 use Rattle.picture.specs.Run.{Moment, Walks, InEach, last_of, made_by, steps_of, told_by}
 use Rattle.placement.specs.Layout.{Layout}
 use Rattle.skeen_core.specs.declared.packet.Packet.{Packet}
-use Rattle.world.specs.Steps.{Effect, Steps, Collects, submitted, submitted_to, starts, next_id, floor_of}
+use Rattle.world.specs.Steps.{Effect, Steps, Collects, answer_to, remembered, submitted, submitted_to, starts, next_id, floor_of}
 use Rattle.world.specs.World.{World, Standing, Closed, Idle, Waiting, Answered}
 
 -- ---- one moment more
@@ -80,10 +80,10 @@ sent_to t w c task [] = ([], sym (append-nil w.packets))
 sent_to t w c task (g ∷ gs) =
     (starts (next_id w c) (record { floor = floor_of w c; groups = g ∷ gs; task = task }) (g ∷ gs), refl)
 
-sent_where : (t : Layout) (w : World) (c : ℕ) (r : Result Task Refusal) →
-    (ss : List Packet) × ((submitted t w c r).packets ≡ w.packets ++ ss)
-sent_where t w c (Err refusal) = ([], sym (append-nil w.packets))
-sent_where t w c (Ok task) = sent_to t w c task (task_groups t task)
+sent_where : (t : Layout) (w : World) (c : ℕ) (answer : Answer) →
+    (ss : List Packet) × ((submitted t w c answer).packets ≡ w.packets ++ ss)
+sent_where t w c (Now reply) = ([], sym (append-nil w.packets))
+sent_where t w c (Go task) = sent_to t w c task (task_groups t task)
 
 collected : (o : Standing) (old new : World) (c : ℕ) (e : Effect) → Collects o old c e new → new.packets ≡ old.packets
 collected Closed old new c e is = absurd is
@@ -96,7 +96,8 @@ pub packets_after : (t : Layout) (old new : World) (s : Step) (e : Effect) → S
     (ss : List Packet) × (new.packets ≡ kept_at (arrival_in s) old.packets ++ ss)
 packets_after t old new step.Open e is = ([], ap (λ w. w.packets) is.after ∙ sym (append-nil old.packets))
 packets_after t old new (step.Submit conn words) e is =
-    let sent = sent_where t old conn.0 (task_reading words) in (sent.0, ap (λ w. w.packets) is.after ∙ sent.1)
+    let sent = sent_where t (remembered old conn.0 words) conn.0 (answer_to old conn.0 words) in
+    (sent.0, ap (λ w. w.packets) is.after ∙ sent.1)
 packets_after t old new (step.Deliver k) e is = (is.sent, ap (λ w. w.packets) is.after)
 packets_after t old new step.Take e is = ([], ap (λ w. w.packets) is.after ∙ sym (append-nil old.packets))
 packets_after t old new (step.Run starved) e is = ([], ap (λ w. w.packets) is.after ∙ sym (append-nil old.packets))
@@ -113,9 +114,9 @@ sent_layer t w c task [] = refl
 sent_layer t w c task (g ∷ gs) = refl
 
 -- a Submit and a Collect leave it
-pub submitted_layer : (t : Layout) (w : World) (c : ℕ) (r : Result Task Refusal) → (submitted t w c r).layer ≡ w.layer
-submitted_layer t w c (Err refusal) = refl
-submitted_layer t w c (Ok task) = sent_layer t w c task (task_groups t task)
+pub submitted_layer : (t : Layout) (w : World) (c : ℕ) (answer : Answer) → (submitted t w c answer).layer ≡ w.layer
+submitted_layer t w c (Now reply) = refl
+submitted_layer t w c (Go task) = sent_layer t w c task (task_groups t task)
 
 pub collected_layer : (o : Standing) (old new : World) (c : ℕ) (e : Effect) → Collects o old c e new → new.layer ≡ old.layer
 collected_layer Closed old new c e is = absurd is

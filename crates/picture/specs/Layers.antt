@@ -1,7 +1,9 @@
 -- The layers of a run, in its worlds, and the replies that go to connections.
 use Rattle.std.specs.Prelude.{ℕ, Bool, true, false, List, [], ◌∷◌, ◌++◌, map, Option, Some, None}
 use Rattle.std.specs.List.{filter}
+use Rattle.groups.specs.Skips.{names_whole}
 use Rattle.groups.specs.declared.request.RequestId.{RequestId}
+use Rattle.groups.specs.declared.skip_id.SkipId.{SkipId}
 use Rattle.groups.specs.declared.stamp.Stamp.{Stamp}
 use Rattle.journal.specs.declared.step.Step.{Step}
 use Rattle.journal.specs.declared.step.Step.TheVariants.{Take, Run, Settle}
@@ -9,12 +11,12 @@ use Rattle.picture_shapes.specs.declared.facts.JobFacts.{JobFacts}
 use Rattle.picture_shapes.specs.declared.facts.LayerFacts.{LayerFacts}
 use Rattle.picture_shapes.specs.declared.facts.ReplyFacts.{ReplyFacts}
 use Rattle.skeen_core.specs.declared.packet.Delivered.{Delivered}
-use Rattle.world.specs.Steps.{names, starved_among}
+use Rattle.world.specs.Steps.{starved_among}
 use Rattle.world.specs.World.{World, Standing, Closed, Idle, Waiting, Answered, Ended, Layer, NoneTaken, Taken, HasRun}
 
 -- ---- layers
 
--- a request of a layer, with its final stamp and its groups, and whether it starved
+-- a request of a layer, with its final stamp and its groups, and whether it starved as a whole
 pub record JobTold : Type 0 where
   pub id : RequestId
   pub stamp : Stamp
@@ -37,14 +39,14 @@ layer_in l = record { take = l.take; run = l.run; settle = l.settle; jobs = map 
 abbrev pub job_of : Delivered → JobTold
 job_of d = record { id = d.id; stamp = d.stamp; groups = d.groups; starved = false }
 
--- it starved if it is one of these
-abbrev pub marked : List RequestId → JobTold → JobTold
-marked starved j = record { id = j.id; stamp = j.stamp; groups = j.groups; starved = names starved j.id }
+-- it starved if one of these names it as a whole
+abbrev pub marked : List SkipId → JobTold → JobTold
+marked starved j = record { id = j.id; stamp = j.stamp; groups = j.groups; starved = names_whole starved j.id }
 
 abbrev pub taken_at : ℕ → List JobTold → LayerTold
 taken_at n jobs = record { take = n; run = None; settle = None; jobs = jobs }
 
-abbrev pub run_at : ℕ → List RequestId → LayerTold → LayerTold
+abbrev pub run_at : ℕ → List SkipId → LayerTold → LayerTold
 run_at n starved l = record { take = l.take; run = Some n; settle = l.settle; jobs = map (marked starved) l.jobs }
 
 abbrev pub settled_at : ℕ → LayerTold → LayerTold

@@ -3,6 +3,7 @@ use Rattle.std.specs.Prelude.{◌≡◌, ℕ, nat_lt, false, List, [], ◌∷◌
 use Rattle.std.specs.Prelude.{is_some, option_map}
 use Rattle.std.specs.List.{filter}
 use Rattle.groups.specs.declared.request.RequestId.{RequestId}
+use Rattle.groups.specs.declared.skip_id.SkipId.{SkipId}
 use Rattle.journal.specs.declared.step.Step.{Step}
 use Rattle.journal.specs.declared.step.Step.TheVariants as step
 use Rattle.layer_planner.specs.declared.job.Job.{Job}
@@ -50,7 +51,7 @@ pub record Takes (n : ℕ) (jobs : List Job) (old new : Layers) : Type 0 where
   pub layers : map layer_in new.layers.items ≡ map layer_in old.layers.items ++ taken_at n (map job_noted jobs) ∷ []
   pub replies : new.replies ≡ old.replies
 
-pub record Runs (n : ℕ) (starved : List RequestId) (old new : Layers) : Type 0 where
+pub record Runs (n : ℕ) (starved : List SkipId) (old new : Layers) : Type 0 where
   pub layers : map layer_in new.layers.items ≡ with_last (run_at n starved) (map layer_in old.layers.items)
   pub replies : new.replies ≡ old.replies
 

@@ -2,7 +2,7 @@
 
 ghost use Rattle.std.specs.Prelude.{◌<◌};
 
-use picture_shapes::{ELLIPSIS, cut};
+use picture_shapes::{ELLIPSIS, Piece, cut, put_pieces};
 use resp::{Reply, Request, write_reply};
 use std::alloc::{AllocError, Global};
 
@@ -35,6 +35,23 @@ pub(super) fn words_label(
         label.extend_from_slice(&[b' ', ELLIPSIS])?;
     }
     Ok(label)
+}
+
+/// The label of a request that runs a list of so many members.
+pub(super) fn list_label(alloc: Global, members: u64) -> Result<Vec<u8>, AllocError> {
+    let mut label = Vec::new(alloc);
+    put_pieces(&[Piece::Text(b"exec "), Piece::Number(members)], &mut label)?;
+    Ok(label)
+}
+
+/// The title of such a request.
+pub(super) fn list_title(alloc: Global, members: u64) -> Result<Vec<u8>, AllocError> {
+    let mut title = Vec::new(alloc);
+    put_pieces(
+        &[Piece::Text(b"exec, members: "), Piece::Number(members)],
+        &mut title,
+    )?;
+    Ok(title)
 }
 
 /// Appends a word, cut to so many characters; quoted where it is empty or has a blank.

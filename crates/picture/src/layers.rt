@@ -5,10 +5,10 @@ ghost use Rattle.picture.specs.Layers.{job_in, marked, reply_in};
 ghost use Rattle.picture.specs.Notes.{Runs, Settles, Takes, ids_in, job_noted, replies_noted};
 
 use crate::flights::asked;
-use groups::{Groups, RequestId};
+use groups::{Groups, SkipId};
 use layer_planner::Job;
 use picture_shapes::{JobFacts, LayerFacts, ReplyFacts};
-use replay::is_among;
+use replay::is_whole_among;
 use std::alloc::{AllocError, Global};
 use system::System;
 
@@ -63,8 +63,8 @@ impl Layers {
         Ok(())
     }
 
-    /// The layer was run, and these of its requests starved.
-    pub(super) fn run(&mut self, step: usize, starved: &[RequestId]) -> Result<(), AllocError>
+    /// The layer was run, and these are the names of what starved of it.
+    pub(super) fn run(&mut self, step: usize, starved: &[SkipId]) -> Result<(), AllocError>
         ensures { OnOk result (Runs step starved.now self.old self.new) }
     {
         let Some(mut layer) = self.layers.pop() else {
@@ -112,18 +112,14 @@ fn jobs_of(
     Ok(jobs)
 }
 
-/// The same requests, each with whether it is one of those that starved.
-fn marked(
-    alloc: Global,
-    jobs: &[JobFacts],
-    starved: &[RequestId],
-) -> Result<Vec<JobFacts>, AllocError>
+/// The same requests, each with whether it starved as a whole.
+fn marked(alloc: Global, jobs: &[JobFacts], starved: &[SkipId]) -> Result<Vec<JobFacts>, AllocError>
     ensures { IfOk result (λ told. map job_in told.items ≡ map (marked starved.now) (map job_in jobs.now)) }
 {
     let mut told = Vec::with_capacity(alloc, jobs.len())?;
     for job in jobs {
         told.push(JobFacts {
-            starved: is_among(&job.asked.id, starved),
+            starved: is_whole_among(job.asked.id, starved),
             ..*job
         })?;
     }

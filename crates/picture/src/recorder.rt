@@ -7,7 +7,7 @@ use crate::arrivals::{Arrivals, Arriving};
 use crate::labels::{LONG, SHORT, words_label};
 use crate::layers::Layers;
 use crate::requests::Requests;
-use groups::{ConnId, RequestId};
+use groups::{ConnId, SkipId};
 use journal::Step;
 use picture_shapes::{PacketFacts, RunFacts, StepWord};
 use std::alloc::{AllocError, Global};
@@ -153,6 +153,7 @@ impl Recorder {
             Before::Take => {
                 let last = self.requests.last();
                 self.layers.take(step, system.layer(), last)?;
+                self.requests.take(system.layer())?;
                 Ok(())
             }
             Before::Run => match effect {
@@ -180,8 +181,8 @@ impl Recorder {
         }
     }
 
-    /// The layer was run, and these of its requests starved.
-    fn note_run(&mut self, step: usize, starved: &[RequestId]) -> Result<(), AllocError>
+    /// The layer was run, and these are the names of what starved of it.
+    fn note_run(&mut self, step: usize, starved: &[SkipId]) -> Result<(), AllocError>
         ensures arrivals { self.new.arrivals ≡ self.old.arrivals }
         ensures layers { OnOk result (Runs step starved.now self.old.layers self.new.layers) }
     {

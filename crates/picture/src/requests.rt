@@ -1,9 +1,11 @@
 //! Connections and their requests.
 
 use crate::flights::{last_of, place_of};
-use crate::labels::reply_label;
+use crate::labels::{list_label, list_title, reply_label};
 use groups::{ConnId, RequestId};
+use layer_planner::Job;
 use picture_shapes::{Asked, ConnectionFacts, JobFacts, RequestFacts};
+use sessions::Batch;
 use std::alloc::{AllocError, Global};
 use system::System;
 
@@ -104,6 +106,27 @@ impl Requests {
     ) -> Result<(), AllocError> {
         for job in jobs {
             self.answer(step, job.asked.id.conn, system)?;
+        }
+        Ok(())
+    }
+
+    /// The requests of a layer were taken: of a list that is run it is known now how many members it has.
+    pub(super) fn take(&mut self, layer: &[Job]) -> Result<(), AllocError> {
+        for job in layer {
+            if let Batch::Exec(members) = job.asked.batch() {
+                self.name_list(job.id.conn, members.len() as u64)?;
+            }
+        }
+        Ok(())
+    }
+
+    /// The last request of a connection runs a list of so many members.
+    fn name_list(&mut self, conn: ConnId, members: u64) -> Result<(), AllocError> {
+        let words = list_label(self.alloc, members)?;
+        let title = list_title(self.alloc, members)?;
+        if let Some(request) = self.last_request(conn) {
+            request.words = words;
+            request.title = title;
         }
         Ok(())
     }

@@ -34,13 +34,42 @@ submit 1 474554 63
 end 8
 ";
 
+/// A list of SET a 1, LPUSH a x and INCR c is run, whose third member starves; another one isn't taken.
+const LISTS: &str = "shardkv-trace 3
+max 50
+open
+submit 1 4d554c5449
+collect 1
+submit 1 534554 61 31
+collect 1
+submit 1 4c50555348 61 78
+collect 1
+submit 1 494e4352 63
+collect 1
+submit 1 45584543
+deliver 0
+deliver 0
+deliver 0
+deliver 0
+take
+run 1.5.3
+settle
+collect 1
+submit 1 4d554c5449
+collect 1
+submit 1 474554 61
+collect 1
+submit 1 45584543
+end 23
+";
+
 /// A trace, the first step that is drawn and the first that isn't, and a text that stands in the picture so many times.
 type Part = (&'static str, usize, usize, &'static str, usize);
 
 const ALL: usize = usize::MAX;
 
 #[rattlefmt::skip]
-const PARTS: [Part; 34] = [
+const PARTS: [Part; 41] = [
     (EMPTY, 0, ALL, ">A run of 0 steps<", 1),
     (EMPTY, 0, ALL, " width=\"880\" height=\"504\" viewBox=\"0 0 880 504\"", 1),
     (EMPTY, 0, ALL, ": groups 2, connections 0, requests 0, executed 0, starved 0, packets 0, under way 0, layers 0. ", 1),
@@ -82,6 +111,14 @@ const PARTS: [Part; 34] = [
     (STARVED, 0, ALL, "<rect class=\"job c0 bad\" ", 2),
     (STARVED, 0, ALL, "; reply -ERR out of memory<", 1),
     (STARVED, 0, ALL, ", sent at step 7, under way<", 2),
+    // A list that was taken is told with the number of its members; a member that starves doesn't mark it.
+    (LISTS, 0, ALL, ">request 1.5: exec, members: 3<", 1),
+    (LISTS, 0, ALL, ">request 1.5: exec, members: 3; reply [OK -WRONGTYPE", 1),
+    (LISTS, 0, ALL, "class=\"job c4 bad\"", 0),
+    (LISTS, 0, ALL, "class=\"answer c4 bad\"", 0),
+    (LISTS, 0, ALL, ": groups 2, connections 1, requests 8, executed 1, starved 0, packets 5, under way 1, layers 1. ", 1),
+    (LISTS, 0, ALL, "; reply QUEUED<", 4),
+    (LISTS, 0, ALL, ">request 1.8: EXEC<", 1),
 ];
 
 /// The picture of a window of a trace.

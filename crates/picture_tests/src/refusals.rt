@@ -1,6 +1,7 @@
 //! Texts of which there is no picture, a writer that fails, and the words of the command line.
 
-use options::picture::{OptionsFault, read_options};
+use options::OptionsFault;
+use options::picture::read_options;
 use picture::told;
 use progress::Unwatched;
 use std::alloc::Global;
@@ -68,10 +69,13 @@ fn words(rt: HostRuntime) -> Result<(), Fail> {
     same_number("the step behind the last", asked.to, u64::MAX)?;
     let refused = matches!(
         read_options(rt.alloc(), &words[..3]),
-        Err(OptionsFault::Usage)
+        Err(OptionsFault::Words(_))
     );
     holds("no table", refused)?;
     let words = ["p", "--trace", "r", "--table", "t", "--to", "x"];
-    let refused = matches!(read_options(rt.alloc(), &words), Err(OptionsFault::Step));
+    let refused = matches!(
+        read_options(rt.alloc(), &words),
+        Err(OptionsFault::Words(_))
+    );
     holds("no number", refused)
 }

@@ -1,5 +1,7 @@
 pub mod Places
 mod Sorting
+mod Members
+mod Parts
 mod Comparing
 pub mod Making
 mod Writing

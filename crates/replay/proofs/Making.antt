@@ -1,26 +1,33 @@
 -- Steps of a trace that are made, and the one that isn't.
-use Rattle.std.proofs.Common.{◌≡◌, ◌≢◌, ℕ, suc, ◌+◌, Bool, true, false, cond, ◌||◌, List, [], ◌∷◌, ◌++◌}
+use Rattle.std.proofs.Common.{◌≡◌, ◌≢◌, ℕ, suc, ◌+◌, Bool, true, false, cond, List, [], ◌∷◌, ◌++◌}
 use Rattle.std.proofs.Common.{length, take, drop, zero, ◌<◌, inl, inr, Option, Some, None}
 use Rattle.std.proofs.Common.{refl, sym, ap, ◌∙◌, subst, arith, length-append}
-use Rattle.std.proofs.lemmas.Bool.{and_parts, or_cases}
-use Rattle.std.specs.List.{AllByRecursion, list_all, list_any}
+use Rattle.std.proofs.lemmas.Bool.{and_parts}
+use Rattle.std.specs.List.{AllByRecursion, list_all}
+use Rattle.batches.specs.Starved.{has, starved_in}
+use Rattle.groups.proofs.Options.{some_same}
+use Rattle.groups.specs.Order.{In}
+use Rattle.groups.specs.Skips.{names_whole, parts_of}
+use Rattle.groups.specs.declared.skip_id.SkipId.{SkipId}
+use Rattle.groups.specs.declared.skip_id.SkipId.TheVariants.{Whole, Part}
 use Rattle.journal.specs.declared.step.Step.{Step}
 use Rattle.journal.specs.declared.step.Step.TheVariants as step
 use Rattle.keyspace.specs.Map.{Map}
 use Rattle.placement.specs.Layout.{Layout}
-use Rattle.tasks.specs.Tasks.{task_effect}
+use Rattle.resp.specs.Content.{Content}
+use Rattle.tasks.proofs.Told.{told_again}
+use Rattle.tasks.specs.Tasks.{Task, deed_effect, deed_of, starved_names}
+use Rattle.replay.proofs.Members.{same_tests, same_deed}
 use Rattle.replay.proofs.Places.{split_at, take_next}
-use Rattle.replay.specs.Replay.{IsRefusal, IsRefusedAt, StandsAt, IsFaultOf, IsRefusalOf, named_in, starved_in}
+use Rattle.replay.specs.Names.{is_named}
+use Rattle.replay.specs.Replay.{IsRefusal, IsRefusedAt, StandsAt, IsFaultOf, IsRefusalOf, named_in, starved_at}
 use Rattle.replay.specs.declared.fault.ReplayFault.{ReplayFault}
 use Rattle.replay.specs.declared.fault.ReplayFault.TheVariants as replay
 use Rattle.std.specs.Option.{MatchOption}
-use Rattle.groups.proofs.Ids.{same_id-true}
-use Rattle.groups.specs.Order.{In}
-use Rattle.groups.specs.Request.{same_id}
 use Rattle.skeen_core.specs.declared.packet.Delivered.{Delivered}
-use Rattle.groups.specs.declared.request.RequestId.{RequestId}
 use Rattle.front.proofs.Histories.{leads_more}
-use Rattle.system.specs.Halves.{Starves, effect_shown, stored}
+use Rattle.system.proofs.Names.{in_whole, in_numbers, in_starved}
+use Rattle.system.specs.Halves.{Starves, StarvesSo, StarveInTurn, met_by, effect_shown, stored}
 use Rattle.system.specs.Reads.{table_of, failed}
 use Rattle.system.specs.System.{SystemView, IsStep, IsRefused}
 use Rattle.system.specs.declared.effect.Effect.{Effect}
@@ -28,73 +35,97 @@ use Rattle.system.specs.declared.effect.Effect.TheVariants as effect
 use Rattle.system.specs.declared.fault.StepFault.{StepFault}
 use Rattle.system.specs.declared.fault.StepFault.TheVariants.{Busy, NoConn, NoPacket, InFlight, NoLayer, Exhausted, Memory, Failed}
 use Rattle.system.specs.declared.halves.Halves.{Halves}
-use Rattle.world.specs.Steps.{opening, names, map_after, RunInTurn, Steps, Leads}
-use Rattle.world.specs.World.{World, Ended}
+use Rattle.world.specs.Steps.{opening, map_after, ended_as, starved_among, RunInTurn, Steps, Leads}
+use Rattle.world.specs.Steps as world
+use Rattle.world.specs.World.{World, Request, Ended, Taken}
 use Rattle.world_laws.specs.Good.{Asked}
 
 -- ---- a Run starves those that its line names, and no other
 
-pub any-names : (ids : List RequestId) (id : RequestId) → list_any (λ y. same_id y id) ids ≡ names ids id
-any-names [] id = refl
-any-names (i ∷ is) id = ap (λ b. same_id i id || b) (any-names is id)
+run_same : (asked : Asked) (starved : List SkipId) (m : Map) (ds : List Delivered) (es es' : List Ended) →
+    RunInTurn asked starved m ds es → RunInTurn asked starved m ds es' → es ≡ es'
+run_same asked starved m [] es es' a b = a ∙ sym b
+run_same asked starved m (d ∷ ds) [] es' a b = absurd a
+run_same asked starved m (d ∷ ds) (e ∷ es) [] a b = absurd b
+run_same asked starved m (d ∷ ds) (e ∷ es) (e' ∷ es') a b =
+    let requests : a.0.0 ≡ b.0.0 = some_same a.0.0 b.0.0 (sym a.0.1 ∙ b.0.1) in
+    let heads : e ≡ e' = a.0.2 ∙ ap (λ (q : Request). ended_as starved m d q.task) requests ∙ sym b.0.2 in
+    let rest = run_same asked starved (map_after e.reply e.task m) ds es es' a.1
+    (subst (λ (x : Ended). RunInTurn asked starved (map_after x.reply x.task m) ds es') (sym heads) b.1) in
+    ap (λ x. x ∷ es) heads ∙ ap (λ l. e' ∷ l) rest
 
-named_also : (ids others : List RequestId) (id : RequestId) → AllByRecursion (λ i. names others i ≡ true) ids → names ids id ≡ true →
-    names others id ≡ true
-named_also [] others id are named = cc
-named_also (i ∷ is) others id are named = elim (or_cases (same_id i id) (names is id) named) [
-  | inl here ↦ subst (λ j. names others j ≡ true) (same_id-true i id here) are.0
-  | inr later ↦ named_also is others id are.1 later
-]
+same_taken : (ds es : List Delivered) → Taken ds ≡ Taken es → ds ≡ es
+same_taken ds es e = cc
 
-same_tests : (a b : Bool) → (a ≡ true → b ≡ true) → (b ≡ true → a ≡ true) → a ≡ b
-same_tests true b ab ba = sym (ab refl)
-same_tests false true ab ba = sym (sym (ba refl))
-same_tests false false ab ba = refl
+-- each member of the request that starved is named
+abbrev TellsNamed : List SkipId → Ended → Type 0
+TellsNamed skip e = (reply : Content) → e.reply ≡ Some reply → (k : ℕ) → has (starved_in e.task reply) k ≡ true →
+    has (parts_of skip e.id) k ≡ true
 
-run_alike : (asked : Asked) (starved skip : List RequestId) (m : Map) (ds : List Delivered) (es : List Ended) →
-    ((d : Delivered) → In d ds → names starved d.id ≡ names skip d.id) → RunInTurn asked starved m ds es → RunInTurn asked skip m ds es
-run_alike asked starved skip m [] es alike run = run
-run_alike asked starved skip m (d ∷ ds) [] alike run = absurd run
-run_alike asked starved skip m (d ∷ ds) (e ∷ es) alike run = (
-  (
-    run.0.0,
-    run.0.1,
-    run.0.2 ∙ ap (λ b. record {
-      id = d.id;
-      stamp = d.stamp;
-      groups = d.groups;
-      task = run.0.0.task;
-      reply = cond b None (Some (task_effect run.0.0.task m).1);
-    }) (alike d (inl refl)),
-  ),
-  run_alike asked starved skip (map_after e.reply e.task m) ds es (λ f there. alike f (inr there)) run.1,
+-- where the same requests starve as wholes, and the same members, each request ends the same
+ends_alike : (table : Layout) (starved skip : List SkipId) (m : Map) (d : Delivered) (task : Task) (e : Ended) →
+    e ≡ ended_as starved m d task → names_whole starved d.id ≡ names_whole skip d.id → StarvesSo table skip m e → TellsNamed skip e →
+    e ≡ ended_as skip m d task
+ends_alike table starved skip m d task e is same so named =
+    is ∙ ap (λ o. record { id = d.id; stamp = d.stamp; groups = d.groups; task = task; reply = o })
+    (by_whole (names_whole starved d.id) refl)
+  where
+    reply_of : List SkipId → Bool → Option Content
+    reply_of names whole = cond whole None (Some (deed_effect (task, parts_of names d.id) m).1)
+
+    by_whole : (b : Bool) → names_whole starved d.id ≡ b →
+        reply_of starved (names_whole starved d.id) ≡ reply_of skip (names_whole skip d.id)
+    by_whole true whole = ap (reply_of starved) whole ∙ ap (reply_of skip) (sym whole ∙ same)
+    by_whole false part =
+        let said = (deed_effect (task, parts_of starved d.id) m).1 in
+        let some : e.reply ≡ Some said = ap (λ (x : Ended). x.reply) is ∙ ap (reply_of starved) part in
+        let task_is : e.task ≡ task = ap (λ (x : Ended). x.task) is in
+        let id_is : e.id ≡ d.id = ap (λ (x : Ended). x.id) is in
+        let alike = same_deed e.task (parts_of skip e.id) (met_by table e.task m) m said (so.members said some) (named said some) in
+        let there : deed_effect (task, parts_of skip d.id) m ≡ deed_effect (deed_of task said) m =
+        subst (λ i. deed_effect (task, parts_of skip i) m ≡ deed_effect (deed_of task said) m) id_is
+        (subst (λ c. deed_effect (c, parts_of skip e.id) m ≡ deed_effect (deed_of c said) m) task_is alike) in
+        ap (reply_of starved) part
+        ∙ ap (λ (x : Map × Content). Some x.1) (sym (there ∙ told_again task (parts_of starved d.id) m))
+        ∙ ap (reply_of skip) (sym part ∙ same)
+
+run_alike : (table : Layout) (asked : Asked) (starved skip : List SkipId) (m : Map) (ds : List Delivered) (es : List Ended) →
+    ((d : Delivered) → In d ds → names_whole starved d.id ≡ names_whole skip d.id) → StarveInTurn table skip m es →
+    ((e : Ended) → In e es → TellsNamed skip e) → RunInTurn asked starved m ds es → RunInTurn asked skip m ds es
+run_alike table asked starved skip m [] es alike so named run = run
+run_alike table asked starved skip m (d ∷ ds) [] alike so named run = absurd run
+run_alike table asked starved skip m (d ∷ ds) (e ∷ es) alike so named run = (
+  (run.0.0, run.0.1, ends_alike table starved skip m d run.0.0.task e run.0.2 (alike d (inl refl)) so.0 (named e (inl refl))),
+  run_alike table asked starved skip (map_after e.reply e.task m) ds es (λ f there. alike f (inr there)) so.1
+      (λ f there. named f (inr there)) run.1,
 )
 
--- those that starved are all named
+-- what starved is all named
 abbrev pub AreNamed : Step → Effect → Type 0
-AreNamed (step.Run skip) (effect.Ran starved) = AllByRecursion (λ i. names skip i ≡ true) starved
+AreNamed (step.Run skip) (effect.Ran starved) = AllByRecursion (λ name. is_named skip name ≡ true) starved
 AreNamed step effect = Unit {0}
 
-pub named_run : (s : Step) (ids starved : List RequestId) → ids ≡ named_in s → AllByRecursion (λ i. names ids i ≡ true) starved →
+pub named_run : (s : Step) (named starved : List SkipId) → named ≡ named_in s →
+    AllByRecursion (λ name. is_named named name ≡ true) starved →
     AreNamed s (effect.Ran starved)
-named_run step.Open ids starved is are = tt
-named_run (step.Submit conn words) ids starved is are = tt
-named_run (step.Deliver place) ids starved is are = tt
-named_run step.Take ids starved is are = tt
-named_run (step.Run skip) ids starved is are = subst (λ l. AllByRecursion (λ i. names l i ≡ true) starved) is are
-named_run step.Settle ids starved is are = tt
-named_run (step.Collect conn) ids starved is are = tt
-named_run (step.Close conn) ids starved is are = tt
-named_run (step.Repeat place) ids starved is are = tt
+named_run step.Open named starved is are = tt
+named_run (step.Submit conn words) named starved is are = tt
+named_run (step.Deliver place) named starved is are = tt
+named_run step.Take named starved is are = tt
+named_run (step.Run skip) named starved is are = subst (λ l. AllByRecursion (λ name. is_named l name ≡ true) starved) is are
+named_run step.Settle named starved is are = tt
+named_run (step.Collect conn) named starved is are = tt
+named_run (step.Close conn) named starved is are = tt
+named_run (step.Repeat place) named starved is are = tt
 
-named_else : (skip : List RequestId) (e : Effect) → ((starved : List RequestId) → e ≡ effect.Ran starved → ⊥) → AreNamed (step.Run skip) e
+named_else : (skip : List SkipId) (e : Effect) → ((starved : List SkipId) → e ≡ effect.Ran starved → ⊥) → AreNamed (step.Run skip) e
 named_else skip (effect.Ran starved) apart = absurd (apart starved refl)
 named_else skip (effect.Opened conn) apart = tt
 named_else skip (effect.Submitted id) apart = tt
 named_else skip (effect.Collected outcome) apart = tt
 named_else skip effect.Made apart = tt
 
-pub named_other : (s : Step) (e : Effect) → ((starved : List RequestId) → e ≡ effect.Ran starved → ⊥) → AreNamed s e
+pub named_other : (s : Step) (e : Effect) → ((starved : List SkipId) → e ≡ effect.Ran starved → ⊥) → AreNamed s e
 named_other step.Open e apart = tt
 named_other (step.Submit conn words) e apart = tt
 named_other (step.Deliver place) e apart = tt
@@ -109,13 +140,13 @@ all_pass : {A : Type 0} (p : A → Bool) (xs : List A) → list_all p xs ≡ tru
 all_pass p [] pass = tt
 all_pass p (x ∷ xs) pass = let parts = and_parts (p x) (list_all p xs) pass in (parts.0, all_pass p xs parts.1)
 
-pub named_all : (s : Step) (e : Effect) (ids : List RequestId) → ids ≡ named_in s → list_all (names ids) (starved_in e) ≡ true →
+pub named_all : (s : Step) (e : Effect) (named : List SkipId) → named ≡ named_in s → list_all (is_named named) (starved_at e) ≡ true →
     AreNamed s e
-named_all s (effect.Ran starved) ids is are = named_run s ids starved is (all_pass (names ids) starved are)
-named_all s (effect.Opened conn) ids is are = named_other s (effect.Opened conn) (λ starved e. cc)
-named_all s (effect.Submitted id) ids is are = named_other s (effect.Submitted id) (λ starved e. cc)
-named_all s (effect.Collected outcome) ids is are = named_other s (effect.Collected outcome) (λ starved e. cc)
-named_all s effect.Made ids is are = named_other s effect.Made (λ starved e. cc)
+named_all s (effect.Ran starved) named is are = named_run s named starved is (all_pass (is_named named) starved are)
+named_all s (effect.Opened conn) named is are = named_other s (effect.Opened conn) (λ starved e. cc)
+named_all s (effect.Submitted id) named is are = named_other s (effect.Submitted id) (λ starved e. cc)
+named_all s (effect.Collected outcome) named is are = named_other s (effect.Collected outcome) (λ starved e. cc)
+named_all s effect.Made named is are = named_other s effect.Made (λ starved e. cc)
 
 -- so the step itself is the world's, and not only the one that is stored
 pub made_itself : (p : Halves) (t : Layout) (w w' : World) (s : Step) (e : Effect) → Starves p s e w → AreNamed s e →
@@ -136,12 +167,46 @@ made_itself p t w w' (step.Run skip) (effect.Ran starved) starve named made = re
   layer = made.layer;
   outcomes = made.outcomes;
   there = made.there;
-  in_turn = run_alike w.asked starved skip w.contents made.layer made.outcomes
-      (λ d there. same_tests (names starved d.id) (names skip d.id) (named_also starved skip d.id named)
-      (starve.named made.layer made.there d there)) made.in_turn;
+  in_turn = run_alike p.back.store.table w.asked starved skip w.contents made.layer made.outcomes alike so tells made.in_turn;
   answers = made.answers;
   after = made.after;
 }
+  where
+    all_named : (name : SkipId) → In name starved → is_named skip name ≡ true
+    all_named name there = among starved named name there
+      where
+        among : (names : List SkipId) → AllByRecursion (λ n. is_named skip n ≡ true) names →
+            (n : SkipId) → In n names → is_named skip n ≡ true
+        among [] are n there = absurd there
+        among (x ∷ xs) are n (inl same) = subst (λ y. is_named skip y ≡ true) (sym same) are.0
+        among (x ∷ xs) are n (inr later) = among xs are.1 n later
+
+    layers : made.layer ≡ starve.requests
+    layers = same_taken made.layer starve.requests (sym made.there ∙ starve.taken)
+
+    outcomes : made.outcomes ≡ starve.outcomes
+    outcomes = run_same w.asked starved w.contents made.layer made.outcomes starve.outcomes made.in_turn
+        (subst (λ ds. RunInTurn w.asked starved w.contents ds starve.outcomes) (sym layers) starve.ran)
+
+    so : StarveInTurn p.back.store.table skip w.contents made.outcomes
+    so = subst (StarveInTurn p.back.store.table skip w.contents) (sym outcomes) starve.so
+
+    names_are : starved ≡ starved_among made.outcomes
+    names_are = same_names starved (starved_among made.outcomes) made.answers
+      where
+        same_names : (xs ys : List SkipId) → world.Ran xs ≡ world.Ran ys → xs ≡ ys
+        same_names xs ys e = cc
+
+    alike : (d : Delivered) → In d made.layer → names_whole starved d.id ≡ names_whole skip d.id
+    alike d there = same_tests (names_whole starved d.id) (names_whole skip d.id)
+        (λ whole. all_named (Whole d.id) (in_whole starved d.id whole)) (starve.named made.layer made.there d there)
+
+    tells : (e : Ended) → In e made.outcomes → TellsNamed skip e
+    tells e there reply some k among =
+        all_named (Part e.id k)
+        (subst (In (Part e.id k)) (sym names_are)
+        (in_starved made.outcomes e (Part e.id k) there
+        (subst (λ o. In (Part e.id k) (starved_names e.id e.task o)) (sym some) (in_numbers e.id (starved_in e.task reply) k among))))
 
 -- one step more
 pub stands_next : (t : Layout) (most : ℕ) (before : List Step) (old new : SystemView) (s : Step) (e : Effect) → IsStep old s e new →

@@ -1,4 +1,6 @@
+pub mod Names
 pub mod Report
+pub mod Running
 pub mod Order
 pub mod Replay
 pub mod Show

@@ -2,7 +2,7 @@
 use Rattle.std.specs.Prelude.{◌≡◌, ◌≢◌, ℕ, ◌<◌, Bool, true, false, List, [], ◌∷◌, ◌++◌, length}
 use Rattle.journal.specs.declared.step.Step.{Step}
 use Rattle.journal.specs.declared.step.Step.TheVariants.{Run}
-use Rattle.groups.specs.declared.request.RequestId.{RequestId}
+use Rattle.groups.specs.declared.skip_id.SkipId.{SkipId}
 use Rattle.placement.specs.Layout.{Layout}
 use Rattle.replay.specs.Report.{report_text}
 use Rattle.replay.specs.declared.report.Report.{Report}
@@ -63,15 +63,15 @@ IsFaultOf may_refuse t most steps replay.Memory = Unit {0}
 
 -- ---- on the way
 
--- the ids that a Run names; none of another step
-abbrev pub named_in : Step → List RequestId
+-- what a Run names; nothing of another step
+abbrev pub named_in : Step → List SkipId
 named_in (Run starved) = starved
 named_in step = []
 
--- the ids of the requests that a Run starved; none of another step
-abbrev pub starved_in : Effect → List RequestId
-starved_in (Ran starved) = starved
-starved_in effect = []
+-- the names of what starved at a step: at a Run
+abbrev pub starved_at : Effect → List SkipId
+starved_at (Ran starved) = starved
+starved_at effect = []
 
 -- the fault of a step with this index: it is the system's, and not want of memory
 abbrev pub IsRefusalOf : Bool → SystemView → Step → ℕ → SystemView → ReplayFault → Type 0

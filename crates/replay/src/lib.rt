@@ -12,11 +12,12 @@ mod lines;
 mod named;
 mod order;
 mod report;
+mod running;
 mod shown;
 mod steps;
 
 pub use fault::ReplayFault;
-pub use named::{are_named, is_among, named_in};
+pub use named::{are_named, is_whole_among, named_in};
 pub use progress::{Line, Progress, Unwatched};
 pub use report::{Report, compared};
 pub use shown::{ShowFault, show, told, told_watched};

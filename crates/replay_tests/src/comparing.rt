@@ -1,6 +1,6 @@
 //! That the comparison with one thread on one map is really made.
 
-use groups::{ConnId, GroupId, RequestId, Stamp};
+use groups::{ConnId, GroupId, RequestId, SkipId, Stamp};
 use journal::Rows;
 use packing::PackedRequest;
 use replay::{Report, compared};
@@ -9,30 +9,39 @@ use std::alloc::{AllocError, Global};
 use std::test::Fail;
 use test_support::{holds, same_bytes};
 
-/// The rows of one SET a 1 that was answered so.
-fn rows_of(alloc: Global, reply: Reply) -> Result<Rows, AllocError> {
-    let words: &[&[u8]] = &[b"SET", b"a", b"1"];
-    let request = Request::copy_of(alloc, words)?;
+/// The id of the one row.
+const ID: RequestId = RequestId {
+    conn: ConnId(1),
+    seq: 1,
+};
+
+/// The name of another request, which starved.
+const OTHER: SkipId = SkipId::Whole(RequestId {
+    conn: ConnId(2),
+    seq: 7,
+});
+
+/// The words of the one command.
+const SET: &[&[u8]] = &[b"SET", b"a", b"1"];
+
+/// The rows of one request of these words that was answered so.
+fn rows_of(alloc: Global, request: &Request, reply: Reply) -> Result<Rows, AllocError> {
     let mut rows = Rows::new(alloc);
-    let id = RequestId {
-        conn: ConnId(1),
-        seq: 1,
-    };
     let stamp = Stamp {
         clock: 1,
         group: GroupId::new(0),
     };
-    let words = PackedRequest::copy_of(alloc, &request)?;
+    let words = PackedRequest::copy_of(alloc, request)?;
     let answered = Answered::with_text(alloc, reply)?;
     rows.reserve(1)?;
-    let _ = rows.push(id, &stamp, words, answered);
+    let _ = rows.push(ID, &stamp, words, answered);
     Ok(rows)
 }
 
-/// The report of a row that was answered so, with its reply in hexadecimal, and of this dump, ends with this line.
+/// The report of a row of SET a 1 that was answered so, with its reply in hexadecimal, and of this dump, ends with this line.
 fn ends_with(alloc: Global, reply: Reply, text: &str, dump: &str, last: &str) -> Result<(), Fail> {
-    let rows = rows_of(alloc, reply)?;
-    let report = compared(alloc, &rows, b"starved 2.7\n", dump.as_bytes())?;
+    let rows = rows_of(alloc, &Request::copy_of(alloc, SET)?, reply)?;
+    let report = compared(alloc, &rows, &[OTHER], dump.as_bytes())?;
     let wanted = format!(in alloc; "row 1.0 1.1 set {text}\nstarved 2.7\n{dump}{last}\n")?;
     is_report(last, &report, wanted.as_bytes())
 }
@@ -57,4 +66,50 @@ fn a_changed_reply_or_dump_differs(rt: HostRuntime) -> Result<(), Fail> {
     ends_with(alloc, one, "3a310d0a", "key 61 string 31\n", "differ")?;
     ends_with(alloc, ok(), text, "key 61 string 32\n", "differ")?;
     ends_with(alloc, ok(), text, "", "differ")
+}
+
+/// The words of a list of SET a 1.
+fn list_words(alloc: Global) -> Result<Request, AllocError> {
+    let member = PackedRequest::copy_of(alloc, &Request::copy_of(alloc, SET)?)?;
+    Request::copy_of(alloc, &[b"exec", member.as_bytes()])
+}
+
+/// The array of this reply alone.
+fn array_of(alloc: Global, reply: Reply) -> Result<Reply, AllocError> {
+    let mut replies = Vec::new(alloc);
+    replies.push(reply)?;
+    Ok(Reply::Array(replies))
+}
+
+/// The report of a list of SET a 1 whose member was answered so, of these names of what starved and of this dump, ends with
+/// this line.
+fn list_ends_with(
+    alloc: Global,
+    reply: Reply,
+    starved: &[SkipId],
+    dump: &str,
+    last: &str,
+) -> Result<(), Fail> {
+    let rows = rows_of(alloc, &list_words(alloc)?, array_of(alloc, reply)?)?;
+    let report = compared(alloc, &rows, starved, dump.as_bytes())?;
+    holds(
+        last,
+        report
+            .text
+            .ends_with(format!(in alloc; "{dump}{last}\n")?.as_bytes()),
+    )?;
+    holds("whether it agrees", report.agree == (last == "agree"))
+}
+
+#[test]
+fn a_member_that_starved_is_not_run(rt: HostRuntime) -> Result<(), Fail> {
+    let alloc = rt.alloc();
+    let dump = "key 61 string 31\n";
+    let first = SkipId::Part(ID, 1);
+    list_ends_with(alloc, ok(), &[], dump, "agree")?;
+    list_ends_with(alloc, ok(), &[SkipId::Part(ID, 2)], dump, "agree")?;
+    list_ends_with(alloc, ok(), &[first], "", "differ")?;
+    list_ends_with(alloc, Reply::out_of_memory(), &[first], "", "agree")?;
+    list_ends_with(alloc, Reply::out_of_memory(), &[first], dump, "differ")?;
+    list_ends_with(alloc, Reply::out_of_memory(), &[OTHER], "", "differ")
 }

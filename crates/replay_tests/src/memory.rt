@@ -4,7 +4,7 @@
 //! turn: what that call was asked for isn't begun, and the next one does all of it. Where the allocation is the test's
 //! own, the test begins anew.
 
-use crate::traces::{CROSSING, LAYER_OF_TWO, REPEATED, Row, STARVED};
+use crate::traces::{CROSSING, LAYER_OF_TWO, MEMBER_STARVED, REPEATED, Row, STARVED};
 use command_table::{Command, read};
 use journal::{Step, Trace, TraceFault, read_trace, write_trace};
 use placement::{Table, TableFault};
@@ -66,10 +66,10 @@ fn writes(rt: &impl Abort, alloc: Global, trace: &Trace, text: &str) -> Result<(
     assert_behind(rt, alloc, out.as_slice(), text)
 }
 
-/// A trace's text as it is written, which is in version 2.
+/// A trace's text as it is written, which is in version 3.
 fn as_written(alloc: Global, text: &str) -> Result<String, AllocError> {
-    match text.strip_prefix("shardkv-trace 1\n") {
-        Some(lines) => format!(in alloc; "shardkv-trace 2\n{lines}"),
+    match text.split_once('\n') {
+        Some((_, lines)) => format!(in alloc; "shardkv-trace 3\n{lines}"),
         None => String::from_str(alloc, text),
     }
 }
@@ -82,7 +82,7 @@ fn read_and_written(rt: &impl Abort, alloc: Global, row: Row) -> Result<(), Allo
 
 #[test]
 fn traces_are_read_and_written_where_memory_fails(rt: HostRuntime) -> Result<(), Fail> {
-    for row in [CROSSING, STARVED, REPEATED] {
+    for row in [CROSSING, STARVED, REPEATED, MEMBER_STARVED] {
         if read_and_written(&rt, rt.alloc(), row).is_err() {
             read_and_written(&rt, rt.alloc(), row)?;
         }
@@ -274,7 +274,7 @@ fn is_no_memory(fault: &ShowFault) -> bool {
 
 #[test]
 fn reports_come_whole_where_memory_fails(rt: HostRuntime) -> Result<(), Fail> {
-    for row in [CROSSING, STARVED, LAYER_OF_TWO, REPEATED] {
+    for row in [CROSSING, STARVED, LAYER_OF_TWO, REPEATED, MEMBER_STARVED] {
         if shown(&rt, rt.alloc(), row, &ONE).is_err() {
             shown(&rt, rt.alloc(), row, &ONE)?;
         }

@@ -1,7 +1,7 @@
 //! Texts that are no table or no trace, and traces of which a step is refused.
 
 use crate::showing::is_shown;
-use crate::traces::{CROSSING, REPEATED, Row, STARVED};
+use crate::traces::{CROSSING, MEMBER_STARVED, REPEATED, Row, STARVED, TRANSACTION};
 use journal::read_trace;
 use placement::{Table, TableFault};
 use replay::{ReplayFault, ShowFault, replay, show, told};
@@ -35,7 +35,7 @@ fn refused_step(alloc: Global, trace: &str) -> Result<String, Fail> {
 /// A trace, a part of it and what stands in its place, and the place and the fault of the step that is refused then.
 type Refusal = (Row, &'static str, &'static str, &'static str);
 
-const REFUSALS: [Refusal; 10] = [
+const REFUSALS: [Refusal; 12] = [
     (STARVED, "32\ndeliver 0\n", "32\ndeliver 3\n", "2: NoPacket"),
     (
         CROSSING,
@@ -61,6 +61,20 @@ const REFUSALS: [Refusal; 10] = [
         "3: NoPacket",
     ),
     (REPEATED, "max 50\n", "max 2\n", "2: Exhausted"),
+    // A list's member is a request under way until it is collected.
+    (
+        TRANSACTION,
+        "61 31\ncollect 1\n",
+        "61 31\nsubmit 1 61\n",
+        "5: Busy",
+    ),
+    // In version 2 SET a 1 goes to its group, and is not answered yet.
+    (
+        TRANSACTION,
+        "shardkv-trace 3\n",
+        "shardkv-trace 2\n",
+        "6: Busy",
+    ),
 ];
 
 #[test]
@@ -88,14 +102,18 @@ fn is_refused(alloc: Global, trace: &str, wanted: &str) -> Result<(), Fail> {
 /// A trace, a part of it and what stands in its place, and the number of the first bad line then.
 type BadLine = (Row, &'static str, &'static str, u64);
 
-/// A text of version 1 knows no `repeat`.
-const BAD_LINES: [BadLine; 6] = [
+/// A text of version 1 knows no `repeat`, and only one of version 3 knows members. Members are numbered from 1.
+const BAD_LINES: [BadLine; 10] = [
     (CROSSING, "end 20\n", "", 23),
     (CROSSING, "end 20\n", "end 19\n", 23),
     (CROSSING, "34\ndeliver 0\n", "34\ndeliver 00\n", 7),
     (CROSSING, "34\ndeliver 0\n", "34\nrepeat 0\n", 7),
     (REPEATED, "shardkv-trace 2\n", "shardkv-trace 1\n", 5),
     (REPEATED, "repeat 0\n", "repeat\n", 5),
+    (MEMBER_STARVED, "shardkv-trace 3\n", "shardkv-trace 2\n", 18),
+    (MEMBER_STARVED, "run 1.5.3\n", "run 1.5.0\n", 18),
+    (MEMBER_STARVED, "run 1.5.3\n", "run 1.5.\n", 18),
+    (MEMBER_STARVED, "run 1.5.3\n", "run 1.5.3.1\n", 18),
 ];
 
 /// The number of the first line that is bad. It is 0 where none is told.

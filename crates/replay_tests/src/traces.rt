@@ -303,3 +303,138 @@ end 28
 ",
     report: CROSSED,
 };
+
+/// A list of SET a 1, LPUSH a x and INCR c, which is run over both shards; the third member starves.
+pub(crate) const MEMBER_STARVED: Row = Row {
+    name: "a member starved",
+    trace: "shardkv-trace 3
+max 1000
+open
+submit 1 4d554c5449
+collect 1
+submit 1 534554 61 31
+collect 1
+submit 1 4c50555348 61 78
+collect 1
+submit 1 494e4352 63
+collect 1
+submit 1 45584543
+deliver 0
+deliver 0
+deliver 0
+deliver 0
+take
+run 1.5.3
+settle
+collect 1
+end 18
+",
+    report: "row 1.1 1.5 exec 2a330d0a2b4f4b0d0a2d57524f4e4754595045204f7065726174696f6e20616761696e73742061206b657920686f6c64696e67207468652077726f6e67206b696e64206f662076616c75650d0a2d455252206f7574206f66206d656d6f72790d0a
+starved 1.5.3
+key 61 string 31
+agree
+",
+};
+
+/// A list of SET a 1 and INCR c crosses MSET a 3 c 4: each comes to another group first.
+pub(crate) const TRANSACTION: Row = Row {
+    name: "transaction",
+    trace: "shardkv-trace 3
+max 1000
+open
+open
+submit 1 4d554c5449
+collect 1
+submit 1 534554 61 31
+collect 1
+submit 1 494e4352 63
+collect 1
+submit 1 45584543
+submit 2 4d534554 61 33 63 34
+deliver 0
+deliver 2
+deliver 1
+deliver 0
+deliver 0
+deliver 0
+deliver 0
+deliver 0
+take
+run
+settle
+take
+run
+settle
+collect 1
+collect 2
+end 26
+",
+    report: "row 2.0 2.1 mset 2b4f4b0d0a
+row 2.1 1.4 exec 2a320d0a2b4f4b0d0a3a350d0a
+key 61 string 31
+key 63 string 35
+agree
+",
+};
+
+/// SET a 1, DBSIZE and FLUSHALL in a list, of which the last starves; then a list that is spoilt.
+pub(crate) const ALL_KEYS: Row = Row {
+    name: "all keys in a list",
+    trace: "shardkv-trace 3
+max 50
+open
+submit 1 4d554c5449
+collect 1
+submit 1 534554 61 31
+collect 1
+submit 1 444253495a45
+collect 1
+submit 1 464c555348414c4c
+collect 1
+submit 1 45584543
+deliver 0
+deliver 0
+deliver 0
+deliver 0
+take
+run 1.5.3
+settle
+collect 1
+submit 1 4d554c5449
+collect 1
+submit 1 464f4f
+collect 1
+submit 1 45584543
+collect 1
+end 24
+",
+    report: "row 1.1 1.5 exec 2a330d0a2b4f4b0d0a3a310d0a2d455252206f7574206f66206d656d6f72790d0a
+starved 1.5.3
+key 61 string 31
+agree
+",
+};
+
+/// In a text of version 2 MULTI and EXEC were unknown commands, and are so still.
+pub(crate) const UNKNOWN_IN_TWO: Row = Row {
+    name: "unknown in version 2",
+    trace: "shardkv-trace 2
+max 50
+open
+submit 1 4d554c5449
+collect 1
+submit 1 534554 61 31
+deliver 0
+take
+run
+settle
+collect 1
+submit 1 65786563
+collect 1
+end 11
+",
+    report: "row 1.0 1.2 set 2b4f4b0d0a
+key 61 string 31
+agree
+",
+};

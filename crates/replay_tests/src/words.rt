@@ -1,6 +1,7 @@
 //! Lines, good and bad, and what they ask for.
 
-use options::replay::{OptionsFault, read_options};
+use options::OptionsFault;
+use options::replay::read_options;
 use std::alloc::Global;
 use std::test::Fail;
 use test_support::{holds, same_number, same_text};
@@ -37,7 +38,7 @@ fn good_lines(rt: HostRuntime) -> Result<(), Fail> {
 
 /// The line is no options of the program.
 fn is_no_usage(alloc: Global, words: &[&str]) -> bool {
-    matches!(read_options(alloc, words), Err(OptionsFault::Usage))
+    matches!(read_options(alloc, words), Err(OptionsFault::Words(_)))
 }
 
 /// So many workers can't be asked for.
@@ -51,7 +52,10 @@ fn is_no_number(alloc: Global, number: &str) -> bool {
         "--workers",
         number,
     ];
-    matches!(read_options(alloc, &words), Err(OptionsFault::Workers))
+    matches!(
+        read_options(alloc, &words),
+        Err(OptionsFault::Words(_) | OptionsFault::Range(_))
+    )
 }
 
 #[test]

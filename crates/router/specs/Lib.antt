@@ -1,3 +1,4 @@
 pub mod Connection
+pub mod Lists
 pub mod Router
 pub mod Submitting

@@ -1,5 +1,7 @@
 -- The connections that the router keeps, by their numbers.
 use Rattle.std.specs.Prelude.{◌≡◌, ℕ, ◌==◌, Bool, true, false, List, Option, Some, None, cond, MatchOption}
+use Rattle.sessions.specs.declared.session.Session.{Session}
+use Rattle.sessions.specs.declared.session.Session.TheVariants.{Free}
 use Rattle.std.specs.BTreeMap.{is_at}
 use Rattle.std.specs.Map.{lookup}
 use Rattle.std.specs.Ordering.{nat_cmp}
@@ -8,22 +10,40 @@ use Rattle.router.specs.declared.connection.Pending.{Pending}
 use Rattle.router.specs.declared.connection.Standing.{Standing}
 use Rattle.router.specs.declared.connection.Standing.TheVariants.{Idle, Waiting, Taken}
 use Rattle.router.specs.declared.connection.Connection.{Connection}
+use Rattle.router.specs.Lists.{ListView}
 use Rattle.router.specs.declared.outcome.Outcome.{Outcome}
 
--- how many connections were opened, and those that are kept: each that is open, and each closed one whose request is
--- under way
+-- how many connections were opened; those that are kept: each that is open, and each closed one whose request is under way;
+-- and the lists that are open, by which each remembers its requests
 pub record RouterView : Type 0 where
   pub opened : ℕ
   pub kept : List (ℕ × Connection)
+  pub lists : List (ℕ × ListView)
+
+-- what a connection remembers, by its list, if one is open
+abbrev pub session_of : Option ListView → Session
+session_of None = Free
+session_of (Some listed) = listed.session
+
+-- by the lists that are open
+abbrev pub session_at : RouterView → ℕ → Session
+session_at r c = session_of (lookup (is_at (nat_cmp c)) r.lists)
 
 -- the connection of a number, if it is kept
 abbrev pub connection : RouterView → ℕ → Option Connection
 connection r c = lookup (is_at (nat_cmp c)) r.kept
 
--- connection c is now so, or isn't kept; all others are as they were
+-- connection c is now so, or isn't kept, and all others are as they were; each remembers what it did
 pub record Changes (old new : RouterView) (c : ℕ) (now : Option Connection) : Type 0 where
   pub opened : new.opened ≡ old.opened
   pub at : (d : ℕ) → connection new d ≡ cond (d == c) now (connection old d)
+  pub sessions : session_at new ≡ session_at old
+
+-- connection c is now so, or isn't kept, and remembers this; all others are as they were, and remember what they did
+pub record Turns (old new : RouterView) (c : ℕ) (now : Option Connection) (remembers : Session) : Type 0 where
+  pub opened : new.opened ≡ old.opened
+  pub at : (d : ℕ) → connection new d ≡ cond (d == c) now (connection old d)
+  pub sessions : (d : ℕ) → session_at new d ≡ cond (d == c) remembers (session_at old d)
 
 -- whether a connection is there and open
 abbrev pub is_open : Option Connection → Bool
@@ -75,9 +95,9 @@ pub record Collects (old : RouterView) (c : ℕ) (outcome : Option Outcome) (new
   pub given : outcome ≡ outcome_in was.standing
   pub after : MatchOption (outcome_in was.standing) (new ≡ old) (λ outcome. Changes old new c (Some (with_standing was Idle)))
 
--- the connection is closed
+-- the connection is closed, and remembers nothing any more
 pub record Closes (old : RouterView) (c : ℕ) (new : RouterView) : Type 0 where
   pub was : Connection
   pub kept : connection old c ≡ Some was
   pub live : was.is_open ≡ true
-  pub changes : Changes old new c (once_closed was)
+  pub changes : Turns old new c (once_closed was) Free

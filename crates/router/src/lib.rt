@@ -6,7 +6,9 @@
 //! can be seen of what it is. The system calls the router at its steps; the router knows no packet.
 #![tactic(auto)]
 
+mod asking;
 mod connection;
+mod listed;
 mod outcome;
 mod router;
 mod submission;

@@ -1,36 +1,41 @@
 //! The router.
 
-ghost use Rattle.std.specs.Prelude.{◌≡◌, ℕ, ◌==◌, cond, ◌<◌, ◌+◌, [], Some, None, false, Ok, IfOk, OnOk, OnErr, IfErr, IsSome, IfSome};
+ghost use Rattle.std.specs.Prelude.{◌≡◌, ℕ, ◌==◌, cond, ◌<◌, ◌+◌, [], Some, None, false, true, IfOk, OnOk, OnErr, IfErr, IsSome, IfSome};
 ghost use Rattle.std.specs.Prelude.{IfNone, ◌≢◌, option_map, option_copied};
 ghost use Rattle.router.specs.Connection.{just_opened, with_standing};
-ghost use Rattle.router.specs.Router.{connection, is_open, waiting, pending_at, taken_at, once_settled, Changes, Collects, Closes};
+ghost use Rattle.router.specs.Lists.{is_listing, is_open_list};
+ghost use Rattle.router.specs.Router.{connection, session_at, is_open, waiting, pending_at, taken_at, once_closed, once_settled, Changes, Collects, Closes};
 ghost use Rattle.router.specs.declared.connection.Standing.{Standing};
-ghost use Rattle.router.specs.declared.connection.Standing.TheVariants.{Answered};
-ghost use Rattle.router.specs.Submitting.{Submits, IsRefused, IsIdle, IsIdleAt, StandsBy, groups_by};
+ghost use Rattle.router.specs.Submitting.{Submits, IsRefused, IsIdle, IsIdleAt, TellsOf};
 ghost use Rattle.router.specs.declared.submission.SubmitFault.{SubmitFault};
 ghost use Rattle.router.specs.declared.connection.Connection.{Connection};
-ghost use Rattle.tasks.specs.Tasks.{task_reading, keyless_reply};
+ghost use Rattle.placement.specs.Layout.{Layout};
+ghost use Rattle.sessions.specs.Control.{control_in};
+ghost use Rattle.sessions.specs.Session.{asks};
+ghost use Rattle.sessions.specs.declared.session.Session.TheVariants.{Free, Listing};
 
+use super::asking::{answered, ask_plain};
 use super::connection::{Connection, Pending, Standing};
+use super::listed::Listed;
 use super::outcome::Outcome;
 use super::submission::{NoConn, Submission, SubmitFault};
-use command_bodies::local;
-use command_table::Command;
 use groups::{ConnId, Groups, RequestId, Stamp};
 use packing::PackedRequest;
 use placement::Table;
-use resp::{Reply, Request};
+use resp::Request;
+use sessions::{Ask, Batch, Session, is_control};
 use std::alloc::{AllocError, Global};
 use std::collections::BTreeMap;
 use std::marker::Model;
 use std::mem;
-use worded::{Worded, WordedFault};
+use worded::Worded;
 
 /// Connections, and the requests of each, are numbered from 1 to this, so that no number passes 64 bits.
 pub const GREATEST_NUMBER: u64 = 1 << 62;
 
-/// All connections and their requests. A contract sees how many connections were opened, and each connection that is
-/// kept: whether it is open, how many requests it has submitted, its floor, and how its request stands.
+/// All connections and their requests. A contract sees how many connections were opened; each connection that is
+/// kept: whether it is open, how many requests it has submitted, its floor, and how its request stands; and what each
+/// connection remembers of its requests.
 ///
 /// A connection that is closed and has nothing under way leaves nothing behind.
 #[derive(Drop)]
@@ -38,6 +43,7 @@ pub struct Router {
     alloc: Global,
     opened: u64,
     kept: BTreeMap<u64, Connection>,
+    lists: BTreeMap<u64, Listed>,
 }
 
 impl Model for Router {
@@ -49,7 +55,7 @@ impl Model for Router {
 
     ghost coded = { Prim.hlevel (codes, reply.the_row.coded) };
 
-    ghost view = { λ r. record { opened = r.opened; kept = r.kept.entries } };
+    ghost view = { λ r. record { opened = r.opened; kept = r.kept.entries; lists = r.lists.entries } };
 }
 
 impl Router {
@@ -57,11 +63,13 @@ impl Router {
     pub fn new(alloc: Global) -> Self
         ensures opened { result.opened ≡ 0 }
         ensures none { result.kept ≡ [] }
+        ensures sessions { session_at result ≡ λ c. Free }
     {
         Router {
             alloc,
             opened: 0,
             kept: BTreeMap::new(alloc),
+            lists: BTreeMap::new(alloc),
         }
     }
 
@@ -72,6 +80,7 @@ impl Router {
         ensures opened { OnOk result (self.new.opened ≡ self.old.opened + 1) }
         ensures at { OnOk result ((d : ℕ) →
             connection self.new d ≡ cond (d == self.new.opened) (Some just_opened) (connection self.old d)) }
+        ensures sessions { session_at self.new ≡ session_at self.old }
         ensures unchanged { OnErr result (self.new ≡ self.old) }
     {
         let number = self.opened + 1;
@@ -94,8 +103,9 @@ impl Router {
         }
     }
 
-    /// A connection submits a request of these words. Refused words and a command that looks at no key have their
-    /// outcome at once and address no group; any other request waits to be taken.
+    /// A connection submits a request of these words. What it remembers says what comes of them: they have their outcome at
+    /// once, or a batch is to be run. One that looks at no key is answered at once and addresses no group, and any other waits
+    /// to be taken.
     ///
     /// Errors, with nothing changed: `NoConn`, the connection isn't open; `Busy`, it hasn't collected the outcome of
     /// its last request; `Memory`.
@@ -112,7 +122,9 @@ impl Router {
     {
         let Idle { seq, floor } = self.idle(conn)?;
         let id = RequestId { conn, seq: seq + 1 };
-        let (standing, groups) = standing_of(self.alloc, table, id, words)?;
+        let Ok((standing, groups)) = self.ask(table, id, words) else {
+            return Err(SubmitFault::Memory);
+        };
         self.put(
             conn,
             Connection {
@@ -135,14 +147,24 @@ impl Router {
         Ok(())
     }
 
-    /// The command of a request that waits to be taken; none where this request doesn't. It takes no memory.
-    pub fn command(&self, id: RequestId) -> Option<&Command>
-        ensures { option_copied result ≡ option_map (λ p. p.asked.command) (pending_at (connection self.now id.conn.0) id.seq) }
+    /// Whether requests are added to a list that is open on the connection. It takes no memory.
+    pub fn has_list(&self, conn: ConnId) -> bool
+        ensures { result ≡ is_listing (session_at self.now conn.0) }
+    {
+        match self.lists.get(&conn.0) {
+            Some(listed) => listed.is_listing(),
+            None => false,
+        }
+    }
+
+    /// The batch of a request that waits to be taken; none where this request doesn't. It takes no memory.
+    pub fn batch(&self, id: RequestId) -> Option<&Batch>
+        ensures { option_copied result ≡ option_map (λ p. p.asked.batch) (pending_at (connection self.now id.conn.0) id.seq) }
     {
         let connection = self.kept.get(&id.conn.0)?;
         match &connection.standing {
             Standing::Waiting(pending) if connection.seq == id.seq => {
-                Some(pending.asked.command())
+                Some(pending.asked.batch())
             }
             _ => None,
         }
@@ -156,7 +178,7 @@ impl Router {
             × Changes self.old self.new id.conn.0 (Some (with_standing v (Standing.Taken asked.words)))) }
         ensures unchanged { IfNone result (self.new ≡ self.old) }
     {
-        self.command(id)?;
+        self.batch(id)?;
         let connection = self.kept.get_mut(&id.conn.0)?;
         let Standing::Waiting(Pending { asked, words }) = mem::replace(
             &mut connection.standing,
@@ -239,8 +261,8 @@ impl Router {
         }
     }
 
-    /// Closes a connection. A request of it that is under way still runs, and its outcome is dropped. It takes no
-    /// memory.
+    /// Closes a connection. A request of it that is under way still runs, and its outcome is dropped, as a list is that is
+    /// open. It takes no memory.
     pub fn close(&mut self, conn: ConnId) -> Result<(), NoConn>
         ensures closed { OnOk result (Closes self.old conn.0 self.new) }
         ensures refused { OnErr result (is_open (connection self.old conn.0) ≡ false) }
@@ -249,14 +271,8 @@ impl Router {
         if !self.is_open(conn) {
             return Err(NoConn);
         }
-        let Some(connection) = self.kept.get_mut(&conn.0) else {
-            unreachable!()
-        };
-        if connection.standing.is_under_way() {
-            connection.is_open = false;
-        } else {
-            self.forget(conn);
-        }
+        self.shut(conn);
+        self.drop_list(conn);
         Ok(())
     }
 
@@ -288,6 +304,143 @@ impl Router {
             }),
             _ => Err(SubmitFault::Busy),
         }
+    }
+
+    /// What comes of a request of these words, and what its connection remembers then. The only error is want of memory,
+    /// which changes nothing.
+    fn ask(
+        &mut self,
+        table: &Table,
+        id: RequestId,
+        words: Request,
+    ) -> Result<(Standing, Groups), AllocError>
+        ensures opened { self.new.opened ≡ self.old.opened }
+        ensures kept { self.new.kept ≡ self.old.kept }
+        ensures told { IfOk result (TellsOf table.now id (asks (session_at self.old id.conn.0) words).1) }
+        ensures sessions { OnOk result ((d : ℕ) →
+            session_at self.new d ≡ cond (d == id.conn.0) (asks (session_at self.old id.conn.0) words).0 (session_at self.old d)) }
+        ensures unchanged { OnErr result (self.new ≡ self.old) }
+    {
+        if self.has_open_list(id.conn) {
+            return self.ask_listed(table, id, words);
+        }
+        // `len` is called for its clause that there is a word.
+        let _words = words.len();
+        if is_control(words.word(0)) {
+            self.ask_control(id, words)
+        } else {
+            ask_plain(self.alloc, table, id, words)
+        }
+    }
+
+    /// Whether a list is open on the connection, spoilt or not.
+    fn has_open_list(&self, conn: ConnId) -> bool
+        ensures { result ≡ is_open_list (session_at self.now conn.0) }
+    {
+        match self.lists.get(&conn.0) {
+            Some(listed) => listed.is_open(),
+            None => false,
+        }
+    }
+
+    /// What comes of a request of a connection whose list is open. The only error is want of memory, which changes nothing.
+    fn ask_listed(
+        &mut self,
+        table: &Table,
+        id: RequestId,
+        words: Request,
+    ) -> Result<(Standing, Groups), AllocError>
+        requires { is_open_list (session_at self.old id.conn.0) ≡ true }
+        ensures opened { self.new.opened ≡ self.old.opened }
+        ensures kept { self.new.kept ≡ self.old.kept }
+        ensures told { IfOk result (TellsOf table.now id (asks (session_at self.old id.conn.0) words).1) }
+        ensures sessions { OnOk result ((d : ℕ) →
+            session_at self.new d ≡ cond (d == id.conn.0) (asks (session_at self.old id.conn.0) words).0 (session_at self.old d)) }
+        ensures unchanged { OnErr result (self.new ≡ self.old) }
+    {
+        let Some(listed) = self.lists.get_mut(&id.conn.0) else {
+            unreachable!()
+        };
+        let told = listed.ask(self.alloc, table, id, words)?;
+        if !listed.is_open() {
+            self.drop_list(id.conn);
+        }
+        Ok(told)
+    }
+
+    /// What comes of a request of one of the three names of a list, of a connection on which none is open. The only error is
+    /// want of memory, which changes nothing.
+    fn ask_control(
+        &mut self,
+        id: RequestId,
+        words: Request,
+    ) -> Result<(Standing, Groups), AllocError>
+        requires none { is_open_list (session_at self.old id.conn.0) ≡ false }
+        requires control { IsSome (control_in words) }
+        ensures opened { self.new.opened ≡ self.old.opened }
+        ensures kept { self.new.kept ≡ self.old.kept }
+        ensures told { (table : Layout) → IfOk result (TellsOf table id (asks (session_at self.old id.conn.0) words).1) }
+        ensures sessions { OnOk result ((d : ℕ) →
+            session_at self.new d ≡ cond (d == id.conn.0) (asks (session_at self.old id.conn.0) words).0 (session_at self.old d)) }
+        ensures unchanged { OnErr result (self.new ≡ self.old) }
+    {
+        let mut session = Session::new();
+        match session.take(self.alloc, words) {
+            Ok(Ask::Now(reply)) => {
+                if let Session::Listing(_) = &session {
+                    self.open_list(id.conn, session)?;
+                }
+                Ok((answered(id, reply), Groups::empty()))
+            }
+            Ok(Ask::Go(_)) => unreachable!(),
+            Err(_) => Err(AllocError),
+        }
+    }
+
+    /// The connection remembers a list without members from now on. The only error is want of memory, which changes nothing.
+    fn open_list(&mut self, conn: ConnId, session: Session) -> Result<(), AllocError>
+        requires { session ≡ Listing [] }
+        ensures opened { self.new.opened ≡ self.old.opened }
+        ensures kept { self.new.kept ≡ self.old.kept }
+        ensures sessions { OnOk result ((d : ℕ) → session_at self.new d ≡ cond (d == conn.0) (Listing []) (session_at self.old d)) }
+        ensures unchanged { OnErr result (self.new ≡ self.old) }
+    {
+        let listed = Listed::new(self.alloc, session);
+        match self.lists.insert(conn.0, listed) {
+            Ok(before) => {
+                discard(before);
+                Ok(())
+            }
+            Err(refused) => {
+                discard(refused);
+                Err(AllocError)
+            }
+        }
+    }
+
+    /// A connection that is open is closed, but for its list.
+    fn shut(&mut self, conn: ConnId)
+        requires { is_open (connection self.old conn.0) ≡ true }
+        ensures { (v : Connection) × (connection self.old conn.0 ≡ Some v) × (v.is_open ≡ true)
+            × Changes self.old self.new conn.0 (once_closed v) }
+    {
+        let Some(connection) = self.kept.get_mut(&conn.0) else {
+            unreachable!()
+        };
+        if connection.standing.is_under_way() {
+            connection.is_open = false;
+        } else {
+            self.forget(conn);
+        }
+    }
+
+    /// The connection remembers no list from now on. It takes no memory.
+    fn drop_list(&mut self, conn: ConnId)
+        ensures opened { self.new.opened ≡ self.old.opened }
+        ensures kept { self.new.kept ≡ self.old.kept }
+        ensures sessions { (d : ℕ) → session_at self.new d ≡ cond (d == conn.0) Free (session_at self.old d) }
+    {
+        discard(self.lists.remove(&conn.0));
     }
 
     /// Puts this in the place of a connection that is kept, and gives what was there.
@@ -322,67 +475,6 @@ impl Router {
 struct Idle {
     seq: u64,
     floor: u64,
-}
-
-/// How a connection stands that submits these words, and the groups that they address. The only fault is `Memory`.
-fn standing_of(
-    alloc: Global,
-    table: &Table,
-    id: RequestId,
-    words: Request,
-) -> Result<(Standing, Groups), SubmitFault>
-    ensures standing { IfOk result (λ r. StandsBy id words (task_reading words) r.0) }
-    ensures groups { IfOk result (λ r. r.1 ≡ groups_by table.now (task_reading words)) }
-    ensures fault { IfErr result (λ e. e ≡ SubmitFault.Memory) }
-{
-    match Worded::read(alloc, words) {
-        Ok(asked) => {
-            let groups = table.groups(asked.command());
-            Ok((standing_with(id, asked)?, groups))
-        }
-        Err(WordedFault::Refused(refusal)) => {
-            let reply = Reply::Error(refusal.text());
-            Ok((answered(id, reply), Groups::empty()))
-        }
-        Err(WordedFault::Memory) => Err(SubmitFault::Memory),
-    }
-}
-
-/// How a connection stands that asks this. The only fault is `Memory`.
-fn standing_with(id: RequestId, asked: Worded) -> Result<Standing, SubmitFault>
-    ensures standing { IfOk result (StandsBy id asked.words (Ok asked.command)) }
-    ensures fault { IfErr result (λ e. e ≡ SubmitFault.Memory) }
-{
-    if let Command::Local(_) = asked.command() {
-        return Ok(standing_at_once(id, asked));
-    }
-    let Ok(words) = asked.words().try_clone() else {
-        return Err(SubmitFault::Memory);
-    };
-    Ok(Standing::Waiting(Pending { asked, words }))
-}
-
-/// How a connection stands that asks a command which looks at no key.
-fn standing_at_once(id: RequestId, asked: Worded) -> Standing
-    requires { IsSome (keyless_reply asked.command) }
-    ensures { StandsBy id asked.words (Ok asked.command) result }
-{
-    let (_, command) = asked.into_parts();
-    let Command::Local(command) = command else {
-        unreachable!()
-    };
-    answered(id, local(command))
-}
-
-/// A request that addresses no group has its outcome at once.
-fn answered(id: RequestId, reply: Reply) -> Standing
-    ensures { result ≡ Answered (record { id = id; reply = reply; stamp = None }) }
-{
-    Standing::Answered(Outcome {
-        id,
-        reply,
-        stamp: None,
-    })
 }
 
 /// Lets a value go. What that takes for each kind of command is seen here alone.

@@ -23,7 +23,7 @@ use Rattle.std.specs.declared.sync.ledger.Ledger.{Ghosts}
 use Rattle.back.specs.contracts.back.Back as Back
 use Rattle.cluster_sending.proofs.Crossing.{cluster_send}
 use Rattle.front.specs.contracts.front.Front as Front
-use Rattle.server.specs.contracts.faults.FirstFault as FirstFault
+use Rattle.server.specs.contracts.course.Course as Course
 use Rattle.server.specs.contracts.streams.Streams as Streams
 use Rattle.server_waiting.specs.contracts.endings.Endings as Endings
 use Rattle.shared_cluster.proofs.Crossing.{shared_sync}
@@ -45,8 +45,8 @@ u64_send = search sendable depth 20
 endings_sync : IsSync Endings.the_row
 endings_sync = search (sendable, crosses) depth 40 fits 3000
 
-faults_sync : IsSync FirstFault.the_row
-faults_sync = search (sendable, crosses) depth 40 fits 3000
+course_sync : IsSync Course.the_row
+course_sync = search (sendable, crosses) depth 40 fits 3000
 
 streams_sync : IsSync Streams.the_row
 streams_sync = search (sendable, crosses, maps.BTreeMap-send) depth 40 fits 3000
@@ -62,7 +62,7 @@ module _ (δ : Ty) (ν : Sym) (L R : RattleType) (g : Ghosts L.Denot) where
   abbrev pub served : (ℓ₁ : Lifetime) (κ₁ : Lft) (ℓ₂ : Lifetime) (κ₂ : Lft) (ℓ₃ : Lifetime) (κ₃ : Lft) (ℓ₄ : Lifetime) (κ₄ : Lft)
       (ℓ₅ : Lifetime) (κ₅ : Lft) → List RattleType
   served ℓ₁ κ₁ ℓ₂ κ₂ ℓ₃ κ₃ ℓ₄ κ₄ ℓ₅ κ₅ =
-      ShrRef ℓ₁ κ₁ (Shared.the_row (param 0 L) g) ∷ Turns.the_row ∷ (u64-field).row ∷ ShrRef ℓ₂ κ₂ FirstFault.the_row
+      ShrRef ℓ₁ κ₁ (Shared.the_row (param 0 L) g) ∷ Turns.the_row ∷ (u64-field).row ∷ ShrRef ℓ₂ κ₂ Course.the_row
       ∷ ShrRef ℓ₃ κ₃ (param 1 R) ∷ Arc.the_row TcpStream.the_row Heap.the_row ghosts ∷ ShrRef ℓ₄ κ₄ Streams.the_row
       ∷ (u64-field).row ∷ ShrRef ℓ₅ κ₅ Endings.the_row ∷ []
 
@@ -78,7 +78,7 @@ module _ (δ : Ty) (ν : Sym) (L R : RattleType) (g : Ghosts L.Denot) where
           (
             u64_send,
             (
-              shr_send ℓ₂ κ₂ FirstFault.the_row faults_sync,
+              shr_send ℓ₂ κ₂ Course.the_row course_sync,
               (
                 shr_send ℓ₃ κ₃ (param 1 R) (param_sync 1 R r),
                 (
@@ -99,7 +99,7 @@ module _ (δ : Ty) (ν : Sym) (L R : RattleType) (g : Ghosts L.Denot) where
   -- what the thread that drives captures
   abbrev pub driver : (ℓ₁ : Lifetime) (κ₁ : Lft) (ℓ₂ : Lifetime) (κ₂ : Lft) (ℓ₃ : Lifetime) (κ₃ : Lft) → List RattleType
   driver ℓ₁ κ₁ ℓ₂ κ₂ ℓ₃ κ₃ =
-      ShrRef ℓ₁ κ₁ (Shared.the_row (param 0 L) g) ∷ Turns.the_row ∷ (u64-field).row ∷ ShrRef ℓ₂ κ₂ FirstFault.the_row
+      ShrRef ℓ₁ κ₁ (Shared.the_row (param 0 L) g) ∷ Turns.the_row ∷ (u64-field).row ∷ ShrRef ℓ₂ κ₂ Course.the_row
       ∷ ShrRef ℓ₃ κ₃ (param 1 R) ∷ NonZeroUsize.the_row ∷ []
 
   pub driver_send : (ℓ₁ : Lifetime) (κ₁ : Lft) (ℓ₂ : Lifetime) (κ₂ : Lft) (ℓ₃ : Lifetime) (κ₃ : Lft) → IsSync R
@@ -113,7 +113,7 @@ module _ (δ : Ty) (ν : Sym) (L R : RattleType) (g : Ghosts L.Denot) where
           turns_send,
           (
             u64_send,
-            (shr_send ℓ₂ κ₂ FirstFault.the_row faults_sync, (shr_send ℓ₃ κ₃ (param 1 R) (param_sync 1 R r), (workers_send, tt))),
+            (shr_send ℓ₂ κ₂ Course.the_row course_sync, (shr_send ℓ₃ κ₃ (param 1 R) (param_sync 1 R r), (workers_send, tt))),
           ),
         ),
       ) in
@@ -123,7 +123,7 @@ module _ (δ : Ty) (ν : Sym) (L R : RattleType) (g : Ghosts L.Denot) where
   -- what the thread that carries captures
   abbrev pub carrier : (ℓ₁ : Lifetime) (κ₁ : Lft) (ℓ₂ : Lifetime) (κ₂ : Lft) (ℓ₃ : Lifetime) (κ₃ : Lft) → List RattleType
   carrier ℓ₁ κ₁ ℓ₂ κ₂ ℓ₃ κ₃ =
-      ShrRef ℓ₁ κ₁ (Shared.the_row (param 0 L) g) ∷ Turns.the_row ∷ (u64-field).row ∷ ShrRef ℓ₂ κ₂ FirstFault.the_row
+      ShrRef ℓ₁ κ₁ (Shared.the_row (param 0 L) g) ∷ Turns.the_row ∷ (u64-field).row ∷ ShrRef ℓ₂ κ₂ Course.the_row
       ∷ ShrRef ℓ₃ κ₃ (param 1 R) ∷ []
 
   pub carrier_send : (ℓ₁ : Lifetime) (κ₁ : Lft) (ℓ₂ : Lifetime) (κ₂ : Lft) (ℓ₃ : Lifetime) (κ₃ : Lft) → IsSync R
@@ -135,7 +135,7 @@ module _ (δ : Ty) (ν : Sym) (L R : RattleType) (g : Ghosts L.Denot) where
         shr_send ℓ₁ κ₁ (Shared.the_row (param 0 L) g) (shared_syncs (param 0 L) g f b),
         (
           turns_send,
-          (u64_send, (shr_send ℓ₂ κ₂ FirstFault.the_row faults_sync, (shr_send ℓ₃ κ₃ (param 1 R) (param_sync 1 R r), tt))),
+          (u64_send, (shr_send ℓ₂ κ₂ Course.the_row course_sync, (shr_send ℓ₃ κ₃ (param 1 R) (param_sync 1 R r), tt))),
         ),
       ) in
       param_send 1 (arg δ no (declared.row T)) (arg_send δ no (declared.row T)
@@ -145,7 +145,7 @@ module _ (δ : Ty) (ν : Sym) (L R : RattleType) (g : Ghosts L.Denot) where
   abbrev pub taking : (ℓ₁ : Lifetime) (κ₁ : Lft) (ℓ₂ : Lifetime) (κ₂ : Lft) (ℓ₃ : Lifetime) (κ₃ : Lft) (ℓ₄ : Lifetime) (κ₄ : Lft)
       → List RattleType
   taking ℓ₁ κ₁ ℓ₂ κ₂ ℓ₃ κ₃ ℓ₄ κ₄ =
-      ShrRef ℓ₁ κ₁ (Shared.the_row (param 0 L) g) ∷ Turns.the_row ∷ (u64-field).row ∷ ShrRef ℓ₂ κ₂ FirstFault.the_row
+      ShrRef ℓ₁ κ₁ (Shared.the_row (param 0 L) g) ∷ Turns.the_row ∷ (u64-field).row ∷ ShrRef ℓ₂ κ₂ Course.the_row
       ∷ ShrRef ℓ₃ κ₃ (param 1 R) ∷ ShrRef ℓ₄ κ₄ TcpListener.the_row ∷ (u64-field).row ∷ []
 
   pub taking_send : (ℓ₁ : Lifetime) (κ₁ : Lft) (ℓ₂ : Lifetime) (κ₂ : Lft) (ℓ₃ : Lifetime) (κ₃ : Lft) (ℓ₄ : Lifetime) (κ₄ : Lft)
@@ -159,7 +159,7 @@ module _ (δ : Ty) (ν : Sym) (L R : RattleType) (g : Ghosts L.Denot) where
           (
             u64_send,
             (
-              shr_send ℓ₂ κ₂ FirstFault.the_row faults_sync,
+              shr_send ℓ₂ κ₂ Course.the_row course_sync,
               (
                 shr_send ℓ₃ κ₃ (param 1 R) (param_sync 1 R r),
                 (shr_send ℓ₄ κ₄ TcpListener.the_row listener_sync, (u64_send, tt)),

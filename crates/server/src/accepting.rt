@@ -1,7 +1,8 @@
 //! Taking the connections that come to a listener.
 
 use crate::connection::{Service, WITHOUT_MEMORY, say, serve_connection};
-use crate::faults::{FirstFault, HostFault};
+use crate::course::{Course, WAKING};
+use crate::faults::HostFault;
 use crate::streams::Streams;
 use cluster_sending::{halves_send, syncs};
 use server_waiting::Endings;
@@ -31,7 +32,7 @@ const PATIENCE: u64 = 300;
 /// Serves so many connections, each on a thread of its own, and gives how many were refused: there was no memory or no
 /// thread for them. A thread that has ended is joined when the next connection comes, or is waited for.
 ///
-/// Where a fault of the whole server is met no more connections are taken, and those that are served end.
+/// Once the server is to end no more connections are taken, and those that are served end.
 pub(crate) fn serve_connections<L: Ledger + Send + Sync, R>(
     rt: &R,
     listener: &TcpListener,
@@ -45,7 +46,7 @@ where
     let shared = service.shared;
     let turns = service.turns;
     let max_steps = service.max_steps;
-    let faults = service.faults;
+    let course = service.course;
     let endings = Endings::new(alloc);
     let endings = &endings;
     let streams = Streams::new(alloc);
@@ -56,7 +57,7 @@ where
         let mut threads = BTreeMap::new(alloc);
         let mut refused: u64 = 0;
         for number in 0..connections {
-            let Some(stream) = accepted(rt, listener, faults, endings, &mut threads) else {
+            let Some(stream) = accepted(rt, listener, course, endings, &mut threads) else {
                 break;
             };
             endings.join(rt, &mut threads);
@@ -65,13 +66,16 @@ where
                 continue;
             };
             let its_stream = Arc::try_clone(&stream);
-            let Ok(its_stream) = its_stream else { continue };
+            let Ok(its_stream) = its_stream else {
+                streams.remove(rt, number);
+                continue;
+            };
             let thread = scope.spawn(move || {
                 let service = Service {
                     shared,
                     turns,
                     max_steps,
-                    faults,
+                    course,
                 };
                 serve_connection(rt, &service, &its_stream);
                 streams.remove(rt, number);
@@ -89,9 +93,7 @@ where
                 }
             }
         }
-        if faults.met(rt).is_some() {
-            end_all(rt, endings, streams, &mut threads);
-        }
+        wait_for_all(rt, course, endings, streams, &mut threads);
         refused
     })
 }
@@ -122,6 +124,26 @@ fn prepared<R: Wait + AllocGlobal + Clock>(
     None
 }
 
+/// Waits until all connections that are served have ended, and ends them where the server is to end.
+fn wait_for_all<R: Threads + Wait + Clock>(
+    rt: &R,
+    course: &Course,
+    endings: &Endings,
+    streams: &Streams,
+    threads: &mut BTreeMap<u64, JoinHandle<()>>,
+) {
+    for _ in 0..u64::MAX {
+        endings.join(rt, threads);
+        if streams.is_empty(rt) {
+            return;
+        }
+        if course.is_over(rt) {
+            return end_all(rt, endings, streams, threads);
+        }
+        endings.wait_within(rt, Duration::from_millis(WAKING));
+    }
+}
+
 /// Ends the connections that are served: nothing more is read of them, and what was sent to them may be read for a short
 /// while.
 fn end_all<R: Threads + Wait + Clock>(
@@ -139,7 +161,7 @@ fn end_all<R: Threads + Wait + Clock>(
         endings.join(rt, threads);
         let passed = start.elapsed(rt).unwrap_or(patience);
         let left = patience.saturating_sub(passed);
-        if threads.is_empty() || left.is_zero() {
+        if streams.is_empty(rt) || left.is_zero() {
             break;
         }
         endings.wait_within(rt, left);
@@ -147,19 +169,19 @@ fn end_all<R: Threads + Wait + Clock>(
     streams.shut_down(rt, Shutdown::Both);
 }
 
-/// The next connection, as long as no fault of the whole server is met. Where the system has no room for it, it waits at
+/// The next connection, unless the server is to end. Where the system has no room for it, it waits at
 /// the listener until one of those that are served has ended; so who opens many connections keeps others from opening
 /// theirs, and ends nothing.
-fn accepted<R: Threads + Wait + Eprint>(
+fn accepted<R: Threads + Wait + Eprint + Clock>(
     rt: &R,
     listener: &TcpListener,
-    faults: &FirstFault,
+    course: &Course,
     endings: &Endings,
     threads: &mut BTreeMap<u64, JoinHandle<()>>,
 ) -> Option<TcpStream> {
     for _ in 0..u64::MAX {
         let taken = listener.accept();
-        if faults.met(rt).is_some() {
+        if course.is_over(rt) {
             return None;
         }
         let fault = match taken {
@@ -167,14 +189,14 @@ fn accepted<R: Threads + Wait + Eprint>(
             Err(fault) => fault,
         };
         if wants_room(&fault) && !threads.is_empty() {
-            endings.wait(rt);
+            endings.wait_within(rt, Duration::from_millis(WAKING));
             endings.join(rt, threads);
             continue;
         }
         match fault.kind() {
             ErrorKind::Interrupted | ErrorKind::ConnectionAborted => {}
             _ => {
-                faults.meet(rt, HostFault::Network);
+                course.meet(rt, HostFault::Network);
                 return None;
             }
         }

@@ -1,6 +1,7 @@
 //! Serving one connection.
 
-use crate::faults::{FirstFault, HostFault};
+use crate::course::Course;
+use crate::faults::HostFault;
 use resp_decoder::Limits;
 use serving::{Door, ServeFault, Served, serve};
 use shared_cluster::{AskFault, Desk, FaultKind, Shared, Turns};
@@ -24,21 +25,31 @@ pub(crate) const WITHOUT_MEMORY: &str = "no memory for this connection";
 /// How much of what still comes is read at once.
 const DROPPED: usize = 4096;
 
-/// What a connection is served with: the cluster, who makes its turns, and where a fault of the whole server is told.
+/// What a connection is served with: the cluster, who makes its turns, and the course of the server, which is told its faults.
 #[derive(Drop)]
 pub(crate) struct Service<'a, L: Ledger> {
     pub shared: &'a Shared<L>,
     pub turns: Turns,
     pub max_steps: u64,
-    pub faults: &'a FirstFault,
+    pub course: &'a Course,
 }
 
-/// Serves one connection, at a seat of its own.
+/// Serves one connection, which is counted meanwhile.
 pub(crate) fn serve_connection<L: Ledger, R>(rt: &R, service: &Service<'_, L>, stream: &TcpStream)
 where
     R: Wait + AllocGlobal + Eprint + Clock,
 {
+    service.course.comes();
     let _ = stream.set_nodelay(true);
+    serve_seat(rt, service, stream);
+    service.course.leaves();
+}
+
+/// Serves one connection, at a seat of its own.
+fn serve_seat<L: Ledger, R>(rt: &R, service: &Service<'_, L>, stream: &TcpStream)
+where
+    R: Wait + AllocGlobal + Eprint + Clock,
+{
     let seat = match service.shared.sit(rt) {
         Ok(seat) => seat,
         Err(fault) => return end_by(rt, service, stream, fault),
@@ -83,9 +94,11 @@ impl<L: Ledger> Service<'_, L> {
                 steps: self.max_steps,
             },
             FaultKind::Failed => HostFault::Worker,
-            FaultKind::Closed | FaultKind::Memory | FaultKind::NoConn => return,
+            FaultKind::Closed | FaultKind::Memory | FaultKind::NoConn | FaultKind::Unlisted => {
+                return;
+            }
         };
-        self.faults.meet(rt, fault);
+        self.course.meet(rt, fault);
     }
 }
 

@@ -6,9 +6,11 @@ ghost use Rattle.options.specs.Server.{InRange};
 
 use crate::accepting::serve_connections;
 use crate::connection::Service;
-use crate::faults::{FirstFault, HostFault};
+use crate::course::Course;
+use crate::faults::HostFault;
+use crate::report::Report;
 use crate::trace_file::store_trace;
-use cluster::First;
+use cluster::{Closing, First};
 use cluster_sending::{halves_send, syncs};
 use options::server::Options;
 use placement::Table;
@@ -19,7 +21,7 @@ use shared_cluster::{Shared, Turns};
 use std::hash::RandomState;
 use std::io::Write;
 use std::marker::Brand;
-use std::net::{Net, TcpListener};
+use std::net::{Net, SocketAddr, TcpListener};
 use std::num::NonZeroUsize;
 use std::random::RandomSource;
 use std::rt::Files;
@@ -32,20 +34,49 @@ use std::time::Clock;
 /// space a stack of the usual 8 MiB would take the place of a connection.
 const CARRIER_STACK: usize = 256 * 1024;
 
-/// Serves as many connections as the options say, and gives the program's status.
+/// Where a server tells that it listens, and how it has ended.
+#[derive(Drop)]
+struct Console<'a, W> {
+    out: &'a mut W,
+    // Where it listens.
+    address: SocketAddr,
+}
+
+impl<W: Write> Console<'_, W> {
+    /// It listens.
+    fn tell_listening(&mut self) {
+        let _ = writeln!(self.out, "listening {}", self.address);
+        let _ = self.out.flush();
+    }
+
+    /// It has ended well.
+    fn tell_closing(&mut self, closing: &Closing) {
+        let _ = writeln!(
+            self.out,
+            "closed requests={} executed={} starved={}",
+            closing.requests(),
+            closing.executed(),
+            closing.starved()
+        );
+        let _ = self.out.flush();
+    }
+}
+
+/// Serves as many connections as the options say, or until the course is asked to end, and gives the program's status.
 ///
-/// `listening ADDRESS` is written to `out` before the first connection, and at a good end
+/// `listening ADDRESS` is written to `out` once all that serves stands, and at a good end
 /// `closed requests=R executed=E starved=S`. The first fault that the server as a whole meets is told on standard error
 /// at once, and decides the status: 4 the network failed, 5 no more steps may be made or a close was refused, 6 the trace
 /// wasn't written, 7 there was no memory, or a thread could not be started. Then no more connections are taken, those
-/// that are served end, and the trace of what was done is written. What goes wrong with one connection ends that one
-/// alone.
+/// that are served end, and the trace of what was done is written; so too where it is asked to end, which is a good one.
+/// What goes wrong with one connection ends that one alone.
 pub fn host<R, W: Write>(
     rt: &R,
     listener: &TcpListener,
     options: &Options<'_>,
     table: Table,
     out: &mut W,
+    course: &Course,
 ) -> u8
 where
     R: Threads + Wait + AllocGlobal + Files + RandomSource + Eprint + Net + Clock + Sync,
@@ -56,14 +87,20 @@ where
         let _ = eprintln!(rt; "shardkv-server: {}", HostFault::Network);
         return HostFault::Network.status();
     };
-    let faults = FirstFault::new(address);
+    let mut console = Console { out, address };
     let blank = Blank::new(options.max_steps + 1);
     if let Err(fault) = serve_all::<Brand, R, W>(
-        rt, listener, options, table, out, blank, &faults,
+        rt,
+        listener,
+        options,
+        table,
+        &mut console,
+        blank,
+        course,
     ) {
-        faults.meet(rt, fault);
+        course.meet(rt, fault);
     }
-    match faults.met(rt) {
+    match course.met(rt) {
         Some(fault) => fault.status(),
         None => 0,
     }
@@ -75,9 +112,9 @@ fn serve_all<L: Ledger + Send + Sync, R, W: Write>(
     listener: &TcpListener,
     options: &Options<'_>,
     table: Table,
-    out: &mut W,
+    console: &mut Console<'_, W>,
     blank: Blank,
-    faults: &FirstFault,
+    course: &Course,
 ) -> Result<(), HostFault>
 where
     R: Threads + Wait + AllocGlobal + Files + RandomSource + Eprint + Net + Clock + Sync,
@@ -91,30 +128,22 @@ where
     };
     let hasher = ShardHasher::Random(keys);
     let shared: Shared<L> = Shared::new(rt.alloc(), table, options.max_steps, hasher, blank)?;
-    let _ = writeln!(out, "listening {}", faults.address());
-    let _ = out.flush();
-    let refused = serve_and_drive(rt, listener, &shared, options, faults);
+    let refused = serve_and_drive(rt, listener, &shared, options, console, course);
+    course.clear(rt);
     if refused > 0 {
         let _ = eprintln!(rt; "shardkv-server: connections without memory or a thread: {refused}");
     }
     let closed = shared.close(rt);
     if let Err(fault) = closed {
-        faults.meet(rt, HostFault::Close(fault));
+        course.meet(rt, HostFault::Close(fault));
     }
     if let Some(path) = options.trace {
         store_trace(rt, &shared, path)?;
     }
     if let Ok(closing) = closed
-        && faults.met(rt).is_none()
+        && course.met(rt).is_none()
     {
-        let _ = writeln!(
-            out,
-            "closed requests={} executed={} starved={}",
-            closing.requests(),
-            closing.executed(),
-            closing.starved()
-        );
-        let _ = out.flush();
+        console.tell_closing(&closing);
     }
     Ok(())
 }
@@ -140,12 +169,13 @@ fn carry_packets<L: Ledger, R: Wait + Eprint + Clock>(rt: &R, service: &Service<
 }
 
 /// Serves all connections, and makes the turns that are left. Gives how many connections were refused.
-fn serve_and_drive<L: Ledger + Send + Sync, R>(
+fn serve_and_drive<L: Ledger + Send + Sync, R, W: Write>(
     rt: &R,
     listener: &TcpListener,
     shared: &Shared<L>,
     options: &Options<'_>,
-    faults: &FirstFault,
+    console: &mut Console<'_, W>,
+    course: &Course,
 ) -> u64
 where
     R: Threads + Wait + AllocGlobal + Eprint + Net + Clock + Sync,
@@ -157,13 +187,13 @@ where
         Turns::Driver
     };
     let max_steps = options.max_steps;
-    let refused = serve_beside_driver(rt, listener, shared, options, turns, faults);
+    let refused = serve_beside_driver(rt, listener, shared, options, turns, console, course);
     if let Err(fault) = shared.drive(rt, &First, &InTurn(NonZeroUsize::MIN), &OpenGate) {
         let service = Service {
             shared,
             turns,
             max_steps,
-            faults,
+            course,
         };
         service.meet(rt, &fault);
     }
@@ -171,15 +201,16 @@ where
 }
 
 /// Serves all connections, and shuts the cluster. A thread of its own takes the connections, so that this one can wake
-/// it; with several workers a third one drives the cluster, and a fourth one brings packets to their groups meanwhile. Gives how
-/// many connections were refused.
-fn serve_beside_driver<L: Ledger + Send + Sync, R>(
+/// it; with several workers a third one drives the cluster, and a fourth one brings packets to their groups meanwhile. That it
+/// listens is told when these have started. Gives how many connections were refused.
+fn serve_beside_driver<L: Ledger + Send + Sync, R, W: Write>(
     rt: &R,
     listener: &TcpListener,
     shared: &Shared<L>,
     options: &Options<'_>,
     turns: Turns,
-    faults: &FirstFault,
+    console: &mut Console<'_, W>,
+    course: &Course,
 ) -> u64
 where
     R: Threads + Wait + AllocGlobal + Eprint + Net + Clock + Sync,
@@ -187,6 +218,7 @@ where
     let workers = options.workers;
     let max_steps = options.max_steps;
     let connections = options.connections;
+    let seconds = options.report;
     thread::scope(thread::scope_env(), rt, |scope| {
         halves_send();
         syncs::<R>();
@@ -196,7 +228,7 @@ where
                 shared,
                 turns,
                 max_steps,
-                faults,
+                course,
             };
             drive_by_crew(rt, rt, &service, workers);
         };
@@ -205,12 +237,12 @@ where
                 shared,
                 turns,
                 max_steps,
-                faults,
+                course,
             };
             carry_packets(rt, &service);
         };
         if drives && scope.spawn(driver).is_err() {
-            faults.meet(rt, HostFault::Thread);
+            course.meet(rt, HostFault::Thread);
             shared.shut(rt);
             return 0;
         }
@@ -224,15 +256,17 @@ where
                 shared,
                 turns,
                 max_steps,
-                faults,
+                course,
             };
             let refused = serve_connections(rt, listener, connections, &service);
-            faults.end(rt, refused);
+            course.end(rt, refused);
         });
         let refused = if taking.is_ok() {
-            faults.wait_for_end(rt)
+            console.tell_listening();
+            let mut report = Report::new(rt, seconds, max_steps);
+            course.wait_for_end(rt, &console.address, shared, &mut report)
         } else {
-            faults.meet(rt, HostFault::Thread);
+            course.meet(rt, HostFault::Thread);
             0
         };
         shared.shut(rt);

@@ -3,11 +3,15 @@
 
 mod accepting;
 mod connection;
+mod course;
 mod faults;
 mod hosting;
+mod report;
 mod sending;
 mod streams;
 mod trace_file;
 
+pub use course::Course;
 pub use hosting::host;
 pub use sending::shared_syncs;
+pub use trace_file::try_trace;

@@ -37,6 +37,11 @@ impl Streams {
         self.open.lock(rt).remove(&number);
     }
 
+    /// Whether none is served.
+    pub(crate) fn is_empty<R: Wait>(&self, rt: &R) -> bool {
+        self.open.lock(rt).is_empty()
+    }
+
     /// Shuts one side of all streams, or both.
     pub(crate) fn shut_down<R: Wait>(&self, rt: &R, how: Shutdown) {
         for stream in self.open.lock(rt).values() {

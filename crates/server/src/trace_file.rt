@@ -2,9 +2,9 @@
 
 use crate::faults::HostFault;
 use shared_cluster::Shared;
-use std::alloc::Global;
+use std::alloc::{AllocError, Global};
 use std::fs;
-use std::io::Write;
+use std::io::{self, ErrorKind, Write};
 use std::rt::Files;
 use std::string::String;
 use std::sync::Wait;
@@ -12,6 +12,18 @@ use std::sync::ledger::Ledger;
 
 /// What stands behind the name of a trace's file while it isn't whole.
 const UNFINISHED: &str = ".part";
+
+/// Tries whether a trace could be written to this path, as far as that can be told before: the file that isn't whole can be
+/// made, and no folder has the name. It leaves nothing behind.
+pub fn try_trace<R: AllocGlobal + Files>(rt: &R, path: &str) -> io::Result<()> {
+    let part = beside(rt.alloc(), path)?;
+    drop(fs::create(rt, part.as_str())?);
+    fs::remove_file(rt, part.as_str())?;
+    match fs::metadata(rt, path) {
+        Ok(found) if found.is_dir() => Err(io::Error::from(ErrorKind::IsADirectory)),
+        _ => Ok(()),
+    }
+}
 
 /// Writes the trace to a new file beside the one of this path, which it takes the name of once it is whole: what had
 /// that name before stays until then.
@@ -29,7 +41,7 @@ pub(crate) fn store_trace<L: Ledger, R: Wait + AllocGlobal + Files>(
 }
 
 /// The path of the file that isn't whole.
-fn beside(alloc: Global, path: &str) -> Result<String, HostFault> {
+fn beside(alloc: Global, path: &str) -> Result<String, AllocError> {
     let mut part = String::new(alloc);
     part.push_str(path)?;
     part.push_str(UNFINISHED)?;

@@ -82,18 +82,17 @@ fn other_row(row: DoneRow) -> DoneRow {
         id: row.id,
         stamp: row.stamp,
         words: row.words,
-        reply: Reply::Int(7),
+        reply: Some(Reply::Int(7)),
     }
 }
 
 /// The same of one row with another reply.
 fn other_reply(alloc: Global, done: Done) -> Result<Done, Fail> {
-    let (mut rows, starved) = done.into_parts();
     let mut others = Vec::new(alloc);
-    if let Some(row) = rows.pop() {
+    if let Some(row) = done.into_rows().pop() {
         others.push(other_row(row))?;
     }
-    Ok(Done::new(others, starved))
+    Ok(Done::new(others))
 }
 
 /// What came of a layer is not settled, since it isn't what came of the one that is out.

@@ -7,7 +7,7 @@ use crate::clients::{Act, follow};
 use options::server::Options;
 use placement::Table;
 use replay::show;
-use server::host;
+use server::{Course, host};
 use shard_workers::InTurn;
 use std::alloc::Global;
 use std::fs;
@@ -46,10 +46,13 @@ pub(crate) fn options<'a>(
     Ok(Options {
         table: "",
         port: 0,
+        bind: None,
         workers,
         connections,
         max_steps,
         trace,
+        report: 0,
+        until_input_ends: false,
     })
 }
 
@@ -64,7 +67,14 @@ where
 {
     let mut printed = Vec::new(rt.alloc());
     let status = match Table::from_toml(rt.alloc(), TWO_SHARDS) {
-        Ok(table) => host(rt, listener, options, table, &mut printed),
+        Ok(table) => host(
+            rt,
+            listener,
+            options,
+            table,
+            &mut printed,
+            &Course::new(false),
+        ),
         Err(_) => 7,
     };
     (status, printed)

@@ -25,6 +25,8 @@ mod rows;
 #[cfg(test)]
 mod sockets;
 #[cfg(test)]
+mod transactions;
+#[cfg(test)]
 mod trouble;
 #[cfg(test)]
 mod turns;

@@ -219,7 +219,7 @@ pub(crate) fn syncs<T: Sync>()
 {}
 
 /// Two threads ask their rows of a new cluster, which counts so many requests, and so many that were executed.
-fn ask_both<R: Threads + Wait + Clock + Sync>(
+pub(crate) fn ask_both<R: Threads + Wait + Clock + Sync>(
     rt: &R,
     alloc: Global,
     one: Rows<'_>,
@@ -336,7 +336,7 @@ fn turn_row<L: Ledger, R: Wait + Clock>(
 }
 
 /// Asks at a seat and makes the turns: the replies are to have these texts.
-fn turn_rows<L: Ledger, R: Wait + Clock>(
+pub(crate) fn turn_rows<L: Ledger, R: Wait + Clock>(
     rt: &R,
     alloc: Global,
     shared: &Shared<L>,
@@ -458,7 +458,7 @@ fn drives_no_more<L: Ledger, R: Wait + Clock>(rt: &R, shared: &Shared<L>) -> Res
 }
 
 /// The trace of three steps.
-const THREE: &[u8] = b"shardkv-trace 2\nmax 3\nopen\nsubmit 1 534554 61 31\ndeliver 0\nend 3\n";
+const THREE: &[u8] = b"shardkv-trace 3\nmax 3\nopen\nsubmit 1 534554 61 31\ndeliver 0\nend 3\n";
 
 /// The trace of a cluster is that of three steps.
 fn has_three<L: Ledger, R: Wait>(rt: &R, alloc: Global, shared: &Shared<L>) -> Result<(), Fail> {

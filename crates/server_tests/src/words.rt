@@ -1,9 +1,11 @@
 //! The words that the server is started with, good and bad.
 
-use options::server::{Options, OptionsFault, read_options};
+use options::OptionsFault;
+use options::server::{Options, read_options};
 use std::alloc::{AllocError, Global};
 use std::test::Fail;
 use test_support::{same_number, same_text};
+use version::VERSION;
 
 /// Puts a word behind.
 fn push_word(alloc: Global, words: &mut Vec<String>, word: &str) -> Result<(), AllocError> {
@@ -28,17 +30,25 @@ pub(crate) fn words_of(alloc: Global, line: &str) -> Result<Vec<String>, AllocEr
     Ok(words)
 }
 
-/// What options say: table, port, workers, connections, steps and trace.
+/// What options say: table, port, workers, connections, steps and trace; then the seconds between two reports, whether it ends with
+/// its input, and the address, where one is named.
 fn shown(alloc: Global, options: &Options<'_>) -> Result<String, AllocError> {
-    format!(in alloc;
-        "{} {} {} {} {} {}",
+    let mut text = format!(in alloc;
+        "{} {} {} {} {} {} {} {}",
         options.table,
         options.port,
         options.workers.get(),
         options.connections,
         options.max_steps,
-        options.trace.unwrap_or("-")
-    )
+        options.trace.unwrap_or("-"),
+        options.report,
+        options.until_input_ends
+    )?;
+    if let Some(address) = options.bind {
+        let named = format!(in alloc; " {address}")?;
+        text.push_str(named.as_str())?;
+    }
+    Ok(text)
 }
 
 /// These are the options that a line asks for.
@@ -60,15 +70,19 @@ fn asks_for(alloc: Global, line: &str, wanted: &str) -> Result<(), Fail> {
 }
 
 /// Lines, and what they ask for.
-const GOOD: [(&str, &str); 3] = [
-    ("--table t.toml", "t.toml 7379 1 64 1000000 -"),
+const GOOD: [(&str, &str); 4] = [
+    ("--table t.toml", "t.toml 7379 1 64 1000000 - 0 false"),
     (
         "--table t.toml --port 0 --workers 64 --connections 1000000000 --max-steps 4611686018427387904 --trace r.trace",
-        "t.toml 0 64 1000000000 4611686018427387904 r.trace",
+        "t.toml 0 64 1000000000 4611686018427387904 r.trace 0 false",
     ),
     (
         "--trace r --max-steps 1 --connections 1 --workers 1 --port 65535 --table=t",
-        "t 65535 1 1 1 r",
+        "t 65535 1 1 1 r 0 false",
+    ),
+    (
+        "--until-input-ends --table t --bind 192.168.0.7 --report 86400",
+        "t 7379 1 64 1000000 - 86400 true 192.168.0.7",
     ),
 ];
 
@@ -91,7 +105,11 @@ fn same_fault<R: Print + Eprint>(
 ) -> Result<(), Fail> {
     let text = format!(in alloc; "{fault}")?;
     same_text(line, text.as_str().lines().next().unwrap_or(""), told)?;
-    same_number(line, u64::from(fault.tell(rt)), u64::from(status))
+    same_number(
+        line,
+        u64::from(fault.tell(rt, "shardkv-server", 7)),
+        u64::from(status),
+    )
 }
 
 /// A line is no options: the first line of the text that is told, and the status.
@@ -110,7 +128,7 @@ fn refused<R: Print + Eprint>(
 }
 
 /// Lines that are no options, and the first line of what is told.
-const BAD: [(&str, &str); 8] = [
+const BAD: [(&str, &str); 10] = [
     (
         "--port 1",
         "error: the following required arguments were not provided:",
@@ -140,6 +158,14 @@ const BAD: [(&str, &str); 8] = [
         "--table t --max-steps 18446744073709551616",
         "error: invalid value '18446744073709551616' for '--max-steps <N>': number too large to fit in target type",
     ),
+    (
+        "--table t --bind localhost",
+        "error: the value of --bind is no IP address, as 127.0.0.1 or ::1",
+    ),
+    (
+        "--table t --until-input-ends=yes",
+        "error: unexpected value 'yes' for '--until-input-ends' found; no more were expected",
+    ),
 ];
 
 #[test]
@@ -148,16 +174,19 @@ fn bad_lines(rt: HostRuntime) -> Result<(), Fail> {
         refused(&rt, rt.alloc(), line, told, 2)?;
     }
     let usage = "Usage: shardkv-server [OPTIONS] --table <FILE>";
-    refused(&rt, rt.alloc(), "--help", usage, 0)
+    refused(&rt, rt.alloc(), "--help", usage, 0)?;
+    let version = format!(in rt.alloc(); "shardkv-server {VERSION}")?;
+    refused(&rt, rt.alloc(), "--version", version.as_str(), 0)
 }
 
 /// Numbers of the command line that are out of their ranges.
-const OUT_OF_RANGE: [(&str, &str); 5] = [
+const OUT_OF_RANGE: [(&str, &str); 6] = [
     ("workers", "0"),
     ("workers", "65"),
     ("connections", "0"),
     ("max-steps", "0"),
     ("max-steps", "4611686018427387905"),
+    ("report", "86401"),
 ];
 
 /// A number of that name is out of its range.

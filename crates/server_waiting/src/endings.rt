@@ -35,17 +35,6 @@ impl Endings {
         self.more.notify_all();
     }
 
-    /// Waits until a connection has ended.
-    pub fn wait<R: Wait>(&self, rt: &R) {
-        let mut numbers = self.numbers.lock(rt);
-        for _ in rt.forever() {
-            if !numbers.is_empty() {
-                return;
-            }
-            numbers = self.more.wait(rt, numbers);
-        }
-    }
-
     /// Waits for so long at most until a connection has ended.
     pub fn wait_within<R: Wait + Clock>(&self, rt: &R, most: Duration) {
         let numbers = self.numbers.lock(rt);

@@ -2,11 +2,13 @@
 
 ghost use Rattle.std.specs.Prelude.{◌≡◌, [], IfOk, IfSome, OnErr, length, ◌≤◌, ◌<◌, vec_capacity};
 ghost use Rattle.std.specs.List.{AllZip, AllByRecursion};
+ghost use Rattle.shard_crew.specs.Promises.{IsToRun};
 ghost use Rattle.shard_crew.specs.Rooms.{HasRoom};
 ghost use Rattle.shard_workers.specs.Loads.{IsReadyLoad, HasRunLoad};
 ghost use Rattle.shard_workers.specs.contracts.load.Load as load_type;
 ghost use denote.Param.Send.{IsSend};
 
+use groups::SkipId;
 use layer_planner::Job;
 use placement::Table;
 use shard_workers::{
@@ -51,82 +53,94 @@ impl<'r, R: Threads + Wait> Workers for Crew<'r, R> {
         self.number
     }
 
-    fn reserve(&self, alloc: Global, loads: usize) -> Result<Room, AllocError> {
+    fn reserve<'s>(&self, alloc: Global, loads: usize) -> Result<Room<'s>, AllocError> {
         let results = Vec::with_capacity(alloc, loads)?;
         let children = Vec::with_capacity(alloc, loads)?;
         Ok(Room { results, children })
     }
 
-    fn run_loads(
+    fn run_loads<'s>(
         &self,
         alloc: Global,
         table: &Table,
+        skip: &'s [SkipId],
         gate: &(dyn Gate + Sync),
-        room: Room,
+        room: Room<'s>,
         loads: Vec<Load>,
     ) -> Result<Vec<Vec<Ran>>, Refused> {
-        run_in_threads(self.rt, alloc, table, gate, room, loads)
+        run_in_threads(self.rt, alloc, table, skip, gate, room, loads)
     }
+}
+
+/// What the threads are to skip, and the room for their handles, which promise that. It is one value, since the closure of a scope
+/// takes in one that borrows something, and no two that borrow the same.
+#[derive(Drop)]
+struct Starting<'a> {
+    skip: &'a [SkipId],
+    children: Vec<Child<'a>>,
 }
 
 /// Runs the loads, each on a thread of its own but the last; a single load starts none. With `Refused` a thread could not
 /// be started: the shards of all loads are lost, and those threads that were started have ended.
-fn run_in_threads<R: Threads + Wait>(
+fn run_in_threads<'a, R: Threads + Wait>(
     rt: &R,
     alloc: Global,
     table: &Table,
+    skip: &'a [SkipId],
     gate: &(dyn Gate + Sync),
-    room: Room,
+    room: Room<'a>,
     loads: Vec<Load>,
 ) -> Result<Vec<Vec<Ran>>, Refused>
     requires room { HasRoom room (length loads.items) }
     requires ready { AllByRecursion (IsReadyLoad table.now) loads.items }
-    ensures each { IfOk result (λ r. AllZip (HasRunLoad table.now) loads.items r.items) }
+    ensures each { IfOk result (λ r. AllZip (HasRunLoad table.now skip.now) loads.items r.items) }
     ensures refused { OnErr result (1 < length loads.items) }
 {
     let Room { results, children } = room;
     if loads.len() <= 1 {
-        return Ok(run_in_turn(alloc, table, gate, results, loads));
+        return Ok(run_in_turn(alloc, table, skip, gate, results, loads));
     }
+    let starting = Starting { skip, children };
     thread::scope(
         thread::scope_env(),
         rt,
         |scope| -> Result<Vec<Vec<Ran>>, Refused>
-            requires { (length loads.items ≤ vec_capacity results) × (length loads.items ≤ vec_capacity children)
-                × (results.items ≡ []) × (children.items ≡ []) × AllByRecursion (IsReadyLoad table.now) loads.items }
-            ensures { IfOk result (λ r. AllZip (HasRunLoad table.entry.now) loads.items r.items) }
-        { run_apart(rt, scope, alloc, table, gate, loads, children, results) },
+            requires { (length loads.items ≤ vec_capacity results) × (length loads.items ≤ vec_capacity starting.children)
+                × (results.items ≡ []) × (starting.children.items ≡ []) × AllByRecursion (IsReadyLoad table.now) loads.items }
+            ensures { IfOk result (λ r. AllZip (HasRunLoad table.entry.now starting.entry.skip.now) loads.items r.items) }
+        { run_apart(rt, scope, alloc, table, gate, loads, starting, results) },
     )
 }
 
 /// Starts a thread for each load but the last, runs that one meanwhile, and gives what all gave, in the order of the
 /// loads. With `Refused` the last load was not run; threads that were started go on to the end of the scope, and what
 /// they give is lost.
-fn run_apart<'s, E, R: Threads>(
+fn run_apart<'s, 'a: 's, E, R: Threads>(
     rt: &R,
     scope: &Scope<'s, E>,
     alloc: Global,
     table: &'s Table,
     gate: &'s (dyn Gate + Sync),
     loads: Vec<Load>,
-    children: Vec<Child>,
+    starting: Starting<'a>,
     results: Vec<Vec<Ran>>,
 ) -> Result<Vec<Vec<Ran>>, Refused>
-    requires handles { length loads.items ≤ vec_capacity children }
+    requires handles { length loads.items ≤ vec_capacity starting.children }
     requires room { length loads.items ≤ vec_capacity results }
-    requires none { children.items ≡ [] }
+    requires none { starting.children.items ≡ [] }
     requires empty { results.items ≡ [] }
     requires ready { AllByRecursion (IsReadyLoad table.now) loads.items }
-    ensures { IfOk result (λ r. AllZip (HasRunLoad table.now) loads.items r.items) }
+    ensures { IfOk result (λ r. AllZip (HasRunLoad table.now starting.entry.skip.now) loads.items r.items) }
 {
+    let Starting { skip, children } = starting;
     let mut others = loads;
     let Some(last) = others.pop() else {
         return Ok(results);
     };
-    let Some(children) = start_all(scope, alloc, table, gate, others, children) else {
+    let Some(children) = start_all(scope, alloc, table, skip, gate, others, children) else {
         return Err(Refused);
     };
-    let mine = last.run(alloc, table, gate);
+    let mine = last.run(alloc, table, skip, gate);
     let mut all = join_all(rt, children, results);
     let Ok(()) = all.push(mine) else {
         unreachable!()
@@ -136,22 +150,23 @@ fn run_apart<'s, E, R: Threads>(
 
 /// Starts a thread for each load, and gives their handles in the order of the loads. None where one could not be started:
 /// the loads behind it are not run, and the handles of those before it are dropped.
-fn start_all<'s, E>(
+fn start_all<'s, 'a: 's, E>(
     scope: &Scope<'s, E>,
     alloc: Global,
     table: &'s Table,
+    skip: &'a [SkipId],
     gate: &'s (dyn Gate + Sync),
     loads: Vec<Load>,
-    children: Vec<Child>,
-) -> Option<Vec<Child>>
+    children: Vec<Child<'a>>,
+) -> Option<Vec<Child<'a>>>
     requires room { length loads.items ≤ vec_capacity children }
     requires empty { children.items ≡ [] }
     requires ready { AllByRecursion (IsReadyLoad table.now) loads.items }
-    ensures { IfSome result (λ hs. AllZip (λ p h. (h.promise.load.value ≡ p) × (h.promise.table.value ≡ table.now)) loads.items hs.items) }
+    ensures { IfSome result (λ hs. AllZip (λ p h. IsToRun table.now skip.now p h.promise) loads.items hs.items) }
 {
     let mut children = children;
     for load in loads {
-        let child = start(scope, alloc, table, gate, load)?;
+        let child = start(scope, alloc, table, skip, gate, load)?;
         let Ok(()) = children.push(child) else {
             unreachable!()
         };
@@ -160,10 +175,14 @@ fn start_all<'s, E>(
 }
 
 /// Waits for each of the threads, and gives what they gave, in the order of their handles, in `results`, whose room stays.
-fn join_all<R: Threads>(rt: &R, children: Vec<Child>, results: Vec<Vec<Ran>>) -> Vec<Vec<Ran>>
+fn join_all<'a, R: Threads>(
+    rt: &R,
+    children: Vec<Child<'a>>,
+    results: Vec<Vec<Ran>>,
+) -> Vec<Vec<Ran>>
     requires room { length children.items ≤ vec_capacity results }
     requires empty { results.items ≡ [] }
-    ensures each { AllZip (λ h r. HasRunLoad h.promise.table.value h.promise.load.value r) children.items result.items }
+    ensures each { AllZip (λ h r. HasRunLoad h.promise.table.value h.promise.skip.value.now h.promise.load.value r) children.entry.items result.items }
     ensures room { vec_capacity results ≤ vec_capacity result }
 {
     let mut results = results;
@@ -193,27 +212,29 @@ fn load_sends()
 
 /// Starts a thread that runs the load, and gives its handle. None where it could not be started: the load is lost with
 /// its shards.
-fn start<'s, E>(
+fn start<'s, 'a: 's, E>(
     scope: &Scope<'s, E>,
     alloc: Global,
     table: &'s Table,
+    skip: &'a [SkipId],
     gate: &'s (dyn Gate + Sync),
     load: Load,
-) -> Option<Child>
+) -> Option<Child<'a>>
     requires { IsReadyLoad table.now load }
-    ensures { IfSome result (λ h. (h.promise.load.value ≡ load) × (h.promise.table.value ≡ table.now)) }
+    ensures { IfSome result (λ h. IsToRun table.now skip.now load h.promise) }
 {
     let promise = RunOfLoad {
         table: Snapshot::of(table),
         load: Snapshot::of(&load),
+        skip: Snapshot::of(&skip),
     };
     load_sends();
     match scope.spawn_with(
         promise,
         move || -> Vec<Ran>
             requires { IsReadyLoad table.now load }
-            ensures { HasRunLoad table.entry.now load result }
-        { load.run(alloc, table, gate) },
+            ensures { HasRunLoad table.entry.now skip.entry.now load result }
+        { load.run(alloc, table, skip, gate) },
     ) {
         Ok(child) => Some(child),
         Err(_) => None,

@@ -10,7 +10,7 @@ use Rattle.std.specs.Global.{Vec}
 use Rattle.std.specs.List.{AllZip, AllByRecursion, concat}
 use Rattle.groups.specs.GroupSet.{has}
 use Rattle.groups.specs.Order.{In}
-use Rattle.groups.specs.declared.request.RequestId.{RequestId}
+use Rattle.groups.specs.declared.skip_id.SkipId.{SkipId}
 use Rattle.keyspace.specs.Map.{Map}
 use Rattle.layer_planner.specs.Parts.{units_in}
 use Rattle.layer_planner.specs.Units.{groups_each, AreUnitsOf}
@@ -34,7 +34,7 @@ use Rattle.shard_workers.specs.declared.work.Ran.{Ran}
 use Rattle.tasks.proofs.Groups.{task_groups-below}
 use Rattle.shard_exec.specs.Dealing.{flat, left_at, placed, all_works, all_rans, jobs_of, spans_of, AreInside}
 use Rattle.shard_exec.specs.DealtRooms.{IsForGroups, MadeWorks, FitsLoad, HaveRoomFor, all_rooms, IsInRow}
-use Rattle.shard_exec.specs.Layers.{commands_of, AddressTheirGroups, HaveGiven, TookJobs}
+use Rattle.shard_exec.specs.Layers.{tasks_of, AddressTheirGroups, HaveGiven, TookJobs}
 use Rattle.shard_exec.specs.declared.dealt_room.LoadRoom.{LoadRoom}
 use Rattle.shard_exec.specs.declared.dealt_room.UnitRoom.{UnitRoom}
 use Rattle.shard_exec.proofs.Slots.{still, left_still, left_at-append, within}
@@ -51,79 +51,79 @@ rans_each rs = map (λ r. r.jobs.items) rs
 
 -- ---- what was made
 
-pub took_length : (skip : List RequestId) (slots : List (Option Job)) (is : List ℕ) (ts : List PlacedJob) → TookJobs skip slots is ts
+pub took_length : (slots : List (Option Job)) (is : List ℕ) (ts : List PlacedJob) → TookJobs slots is ts
     → length ts ≡ length is
-took_length skip slots [] [] took = refl
-took_length skip slots [] (t ∷ ts) took = absurd took
-took_length skip slots (i ∷ is) [] took = absurd took
-took_length skip slots (i ∷ is) (t ∷ ts) took = ap suc (took_length skip (slice_set slots i None) is ts took.1)
+took_length slots [] [] took = refl
+took_length slots [] (t ∷ ts) took = absurd took
+took_length slots (i ∷ is) [] took = absurd took
+took_length slots (i ∷ is) (t ∷ ts) took = ap suc (took_length (slice_set slots i None) is ts took.1)
 
-took_of : (skip : List RequestId) (layer : List Job) (slots : List (Option Job)) (is : List ℕ) (ts : List PlacedJob)
-    → ((i : ℕ) (j : Job) → slice_get slots i ≡ Some (Some j) → slice_get layer i ≡ Some j) → TookJobs skip slots is ts
-    → AllZip (IsJobOf skip layer) is ts
-took_of skip layer slots [] [] sub took = tt
-took_of skip layer slots [] (t ∷ ts) sub took = absurd took
-took_of skip layer slots (i ∷ is) [] sub took = absurd took
-took_of skip layer slots (i ∷ is) (t ∷ ts) sub took = (
-  record { at = sub i t.job took.0.there; place = took.0.place; skipped = took.0.skipped },
-  took_of skip layer (slice_set slots i None) is ts (λ k j e. sub k j (still slots i k j e)) took.1,
+took_of : (layer : List Job) (slots : List (Option Job)) (is : List ℕ) (ts : List PlacedJob)
+    → ((i : ℕ) (j : Job) → slice_get slots i ≡ Some (Some j) → slice_get layer i ≡ Some j) → TookJobs slots is ts
+    → AllZip (IsJobOf layer) is ts
+took_of layer slots [] [] sub took = tt
+took_of layer slots [] (t ∷ ts) sub took = absurd took
+took_of layer slots (i ∷ is) [] sub took = absurd took
+took_of layer slots (i ∷ is) (t ∷ ts) sub took = (
+  record { at = sub i t.job took.0.there; place = took.0.place },
+  took_of layer (slice_set slots i None) is ts (λ k j e. sub k j (still slots i k j e)) took.1,
 )
 
-pub made_jobs : (skip : List RequestId) (layer : List Job) (slots : List (Option Job)) (row : List Map) (us : List (List ℕ))
+pub made_jobs : (layer : List Job) (slots : List (Option Job)) (row : List Map) (us : List (List ℕ))
     (ms : List UnitRoom) (ws : List Work) (left : List Map)
-    → ((i : ℕ) (j : Job) → slice_get slots i ≡ Some (Some j) → slice_get layer i ≡ Some j) → MadeWorks skip slots row us ms ws left
-    → AllZip (AllZip (IsJobOf skip layer)) us (jobs_each ws)
-made_jobs skip layer slots row [] [] [] left sub made = tt
-made_jobs skip layer slots row [] [] (w ∷ ws) left sub made = absurd made
-made_jobs skip layer slots row [] (m ∷ ms) ws left sub made = absurd made
-made_jobs skip layer slots row (u ∷ us) [] ws left sub made = absurd made
-made_jobs skip layer slots row (u ∷ us) (m ∷ ms) [] left sub made = absurd made
-made_jobs skip layer slots row (u ∷ us) (m ∷ ms) (w ∷ ws) left sub made = (
-  took_of skip layer slots u w.jobs.items sub made.0,
-  made_jobs skip layer (left_at slots u) (emptied empty row m.groups) us ms ws left (λ i j e. sub i j (left_still slots u i j e)) made.2,
+    → ((i : ℕ) (j : Job) → slice_get slots i ≡ Some (Some j) → slice_get layer i ≡ Some j) → MadeWorks slots row us ms ws left
+    → AllZip (AllZip (IsJobOf layer)) us (jobs_each ws)
+made_jobs layer slots row [] [] [] left sub made = tt
+made_jobs layer slots row [] [] (w ∷ ws) left sub made = absurd made
+made_jobs layer slots row [] (m ∷ ms) ws left sub made = absurd made
+made_jobs layer slots row (u ∷ us) [] ws left sub made = absurd made
+made_jobs layer slots row (u ∷ us) (m ∷ ms) [] left sub made = absurd made
+made_jobs layer slots row (u ∷ us) (m ∷ ms) (w ∷ ws) left sub made = (
+  took_of layer slots u w.jobs.items sub made.0,
+  made_jobs layer (left_at slots u) (emptied empty row m.groups) us ms ws left (λ i j e. sub i j (left_still slots u i j e)) made.2,
 )
 
 abbrev room_groups : List UnitRoom → List (List ℕ)
 room_groups ms = map (λ m. m.groups) ms
 
-made_spans : (skip : List RequestId) (slots : List (Option Job)) (row : List Map) (us : List (List ℕ)) (ms : List UnitRoom)
-    (ws : List Work) (left : List Map) → MadeWorks skip slots row us ms ws left
+made_spans : (slots : List (Option Job)) (row : List Map) (us : List (List ℕ)) (ms : List UnitRoom)
+    (ws : List Work) (left : List Map) → MadeWorks slots row us ms ws left
     → ◌≡◌ {A = List Span} (map (λ w. w.shards.items) ws) (taken_out_each empty row (room_groups ms))
-made_spans skip slots row [] [] [] left made = refl
-made_spans skip slots row [] [] (w ∷ ws) left made = absurd made
-made_spans skip slots row [] (m ∷ ms) ws left made = absurd made
-made_spans skip slots row (u ∷ us) [] ws left made = absurd made
-made_spans skip slots row (u ∷ us) (m ∷ ms) [] left made = absurd made
-made_spans skip slots row (u ∷ us) (m ∷ ms) (w ∷ ws) left made =
+made_spans slots row [] [] [] left made = refl
+made_spans slots row [] [] (w ∷ ws) left made = absurd made
+made_spans slots row [] (m ∷ ms) ws left made = absurd made
+made_spans slots row (u ∷ us) [] ws left made = absurd made
+made_spans slots row (u ∷ us) (m ∷ ms) [] left made = absurd made
+made_spans slots row (u ∷ us) (m ∷ ms) (w ∷ ws) left made =
     ap (λ (s : Span). s ∷ map (λ v. v.shards.items) ws) made.1
     ∙ ap (λ (l : List Span). taken_out empty row m.groups ∷ l)
-    (made_spans skip (left_at slots u) (emptied empty row m.groups) us ms ws left made.2)
+    (made_spans (left_at slots u) (emptied empty row m.groups) us ms ws left made.2)
 
-pub made_left : (skip : List RequestId) (slots : List (Option Job)) (row : List Map) (us : List (List ℕ)) (ms : List UnitRoom)
-    (ws : List Work) (left : List Map) → MadeWorks skip slots row us ms ws left → left ≡ emptied_each empty row (room_groups ms)
-made_left skip slots row [] [] [] left made = made
-made_left skip slots row [] [] (w ∷ ws) left made = absurd made
-made_left skip slots row [] (m ∷ ms) ws left made = absurd made
-made_left skip slots row (u ∷ us) [] ws left made = absurd made
-made_left skip slots row (u ∷ us) (m ∷ ms) [] left made = absurd made
-made_left skip slots row (u ∷ us) (m ∷ ms) (w ∷ ws) left made =
-    made_left skip (left_at slots u) (emptied empty row m.groups) us ms ws left made.2
+pub made_left : (slots : List (Option Job)) (row : List Map) (us : List (List ℕ)) (ms : List UnitRoom)
+    (ws : List Work) (left : List Map) → MadeWorks slots row us ms ws left → left ≡ emptied_each empty row (room_groups ms)
+made_left slots row [] [] [] left made = made
+made_left slots row [] [] (w ∷ ws) left made = absurd made
+made_left slots row [] (m ∷ ms) ws left made = absurd made
+made_left slots row (u ∷ us) [] ws left made = absurd made
+made_left slots row (u ∷ us) (m ∷ ms) [] left made = absurd made
+made_left slots row (u ∷ us) (m ∷ ms) (w ∷ ws) left made =
+    made_left (left_at slots u) (emptied empty row m.groups) us ms ws left made.2
 
 -- the units of one part, and those of the others
-pub made_both : (skip : List RequestId) (slots : List (Option Job)) (row mid left : List Map) (us us' : List (List ℕ))
+pub made_both : (slots : List (Option Job)) (row mid left : List Map) (us us' : List (List ℕ))
     (ms ms' : List UnitRoom)
-    (ws ws' : List Work) → MadeWorks skip slots row us ms ws mid → MadeWorks skip (left_at slots (concat us)) mid us' ms' ws' left
-    → MadeWorks skip slots row (us ++ us') (ms ++ ms') (ws ++ ws') left
-made_both skip slots row mid left [] us' [] ms' [] ws' made more = subst (λ r. MadeWorks skip slots r us' ms' ws' left) made more
-made_both skip slots row mid left [] us' [] ms' (w ∷ ws) ws' made more = absurd made
-made_both skip slots row mid left [] us' (m ∷ ms) ms' ws ws' made more = absurd made
-made_both skip slots row mid left (u ∷ us) us' [] ms' ws ws' made more = absurd made
-made_both skip slots row mid left (u ∷ us) us' (m ∷ ms) ms' [] ws' made more = absurd made
-made_both skip slots row mid left (u ∷ us) us' (m ∷ ms) ms' (w ∷ ws) ws' made more = (
+    (ws ws' : List Work) → MadeWorks slots row us ms ws mid → MadeWorks (left_at slots (concat us)) mid us' ms' ws' left
+    → MadeWorks slots row (us ++ us') (ms ++ ms') (ws ++ ws') left
+made_both slots row mid left [] us' [] ms' [] ws' made more = subst (λ r. MadeWorks slots r us' ms' ws' left) made more
+made_both slots row mid left [] us' [] ms' (w ∷ ws) ws' made more = absurd made
+made_both slots row mid left [] us' (m ∷ ms) ms' ws ws' made more = absurd made
+made_both slots row mid left (u ∷ us) us' [] ms' ws ws' made more = absurd made
+made_both slots row mid left (u ∷ us) us' (m ∷ ms) ms' [] ws' made more = absurd made
+made_both slots row mid left (u ∷ us) us' (m ∷ ms) ms' (w ∷ ws) ws' made more = (
   made.0,
   made.1,
-  made_both skip (left_at slots u) (emptied empty row m.groups) mid left us us' ms ms' ws ws' made.2
-      (subst (λ s. MadeWorks skip s mid us' ms' ws' left) (left_at-append slots u (concat us)) more),
+  made_both (left_at slots u) (emptied empty row m.groups) mid left us us' ms ms' ws ws' made.2
+      (subst (λ s. MadeWorks s mid us' ms' ws' left) (left_at-append slots u (concat us)) more),
 )
 
 pub works_snoc : (ps : List Load) (p : Load) (ws : List Work) → all_works (ps ++ p ∷ []) ++ ws ≡ all_works ps ++ (p.works.items ++ ws)
@@ -167,13 +167,13 @@ have_rooms sets plan rooms z = zip_map (FitsLoad sets) HaveRoomFor (λ p r f. f.
 
 -- ---- all loads
 
-pub zip_loads : (table : Layout) (ps : List Load) (rs : List (Vec Ran)) → AllZip (HasRunLoad table) ps rs
-    → AllZip (HasRun table) (all_works ps) (all_rans rs)
-zip_loads table [] [] z = tt
-zip_loads table [] (r ∷ rs) z = absurd z
-zip_loads table (p ∷ ps) [] z = absurd z
-zip_loads table (p ∷ ps) (r ∷ rs) z =
-    zip_both (HasRun table) p.works.items (all_works ps) r.items (all_rans rs) z.0 (zip_loads table ps rs z.1)
+pub zip_loads : (table : Layout) (skip : List SkipId) (ps : List Load) (rs : List (Vec Ran)) → AllZip (HasRunLoad table skip) ps rs
+    → AllZip (HasRun table skip) (all_works ps) (all_rans rs)
+zip_loads table skip [] [] z = tt
+zip_loads table skip [] (r ∷ rs) z = absurd z
+zip_loads table skip (p ∷ ps) [] z = absurd z
+zip_loads table skip (p ∷ ps) (r ∷ rs) z =
+    zip_both (HasRun table skip) p.works.items (all_works ps) r.items (all_rans rs) z.0 (zip_loads table skip ps rs z.1)
 
 pub all_first : {A : Type 0} (P : A → Type 0) (xs ys : List A) → AllByRecursion P (xs ++ ys) → AllByRecursion P xs × AllByRecursion P ys
 all_first P [] ys h = (tt, h)
@@ -219,7 +219,7 @@ unit_inside table layer units a of (p ∷ u) i g there = at_place (some_job laye
     some_job (j ∷ js) (suc k) h = some_job js k (omega (arith, h))
 
     at_place : (j : Job) × (slice_get layer p ≡ Some j) → g < table.shards
-    at_place j = task_groups-below table j.0.asked.command g
+    at_place j = task_groups-below table j.0.asked.batch g
         (ap (λ gs. has gs g) (sym (address_at table layer a p j.0 j.1)) ∙ ap (λ gs. has gs g) (sym (get_set layer p j.0 j.1)) ∙ there)
 
 pub rooms_inside : (table : Layout) (layer : List Job) (units : List (List ℕ)) (n : ℕ) → n ≡ table.shards → AddressTheirGroups table layer
@@ -234,12 +234,12 @@ rooms_inside table layer units n long a of (u ∷ us) (m ∷ ms) sub z = (
   rooms_inside table layer units n long a of us ms (λ v i. sub v (inr i)) z.1,
 )
 
-over_numbers : (table : Layout) (ts : List PlacedJob) (rs : List JobRan) (before after : Span) → HaveRunOver table ts before rs after
+over_numbers : (table : Layout) (skip : List SkipId) (ts : List PlacedJob) (rs : List JobRan) (before after : Span) → HaveRunOver table skip ts before rs after
     → numbers after ≡ numbers before
-over_numbers table [] [] before after run = ap numbers run
-over_numbers table [] (r ∷ rs) before after run = absurd run
-over_numbers table (t ∷ ts) [] before after run = absurd run
-over_numbers table (t ∷ ts) (r ∷ rs) before after run = over_numbers table ts rs run.0 after run.2 ∙ run.1.numbers
+over_numbers table skip [] [] before after run = ap numbers run
+over_numbers table skip [] (r ∷ rs) before after run = absurd run
+over_numbers table skip (t ∷ ts) [] before after run = absurd run
+over_numbers table skip (t ∷ ts) (r ∷ rs) before after run = over_numbers table skip ts rs run.0 after run.2 ∙ run.1.numbers
 
 below_all : (n : ℕ) (span : Span) → ((g : ℕ) → has (numbers span) g ≡ true → g < n) → AllByRecursion (λ s. s.0 < n) span
 below_all n [] h = tt
@@ -262,34 +262,34 @@ put_spans-append row (x ∷ xs) ys = put_spans-append (put_span row x) xs ys
 
 -- ---- what follows
 
-module _ (table : Layout) (maps : List Map) (skip : List RequestId) (layer : List Job) (units : List (List ℕ)) (rooms : List UnitRoom)
+module _ (table : Layout) (maps : List Map) (layer : List Job) (units : List (List ℕ)) (rooms : List UnitRoom)
     (works : List Work) (left : List Map) (slots : List (Option Job)) (is_table : IsTable table) (own : HasOwnKeys table maps)
     (address : AddressTheirGroups table layer) (of : AreUnitsOf (groups_each layer) units)
     (for_groups : AllZip (IsForGroups (groups_each layer)) units rooms)
     (sub : (i : ℕ) (j : Job) → slice_get slots i ≡ Some (Some j) → slice_get layer i ≡ Some j)
-    (made : MadeWorks skip slots maps units rooms works left) (taken_law : TakenOutAsTheyWere) where
+    (made : MadeWorks slots maps units rooms works left) (taken_law : TakenOutAsTheyWere) where
   abbrev sets : List (List ℕ)
   sets = groups_each layer
 
-  jobs : AllZip (AllZip (IsJobOf skip layer)) units (jobs_each works)
-  jobs = made_jobs skip layer slots maps units rooms works left sub made
+  jobs : AllZip (AllZip (IsJobOf layer)) units (jobs_each works)
+  jobs = made_jobs layer slots maps units rooms works left sub made
 
   abbrev law_works : List layers.Work
   law_works = works_of sets units (jobs_each works)
 
   groups_same : ◌≡◌ {A = List (List ℕ)} (room_groups rooms) (map (λ (w : layers.Work). w.groups) law_works)
   groups_same = groups_of_rooms sets units rooms (jobs_each works) for_groups
-      (zip_lengths (AllZip (IsJobOf skip layer)) units (jobs_each works) jobs)
+      (zip_lengths (AllZip (IsJobOf layer)) units (jobs_each works) jobs)
 
   pub left_is : left ≡ layers.left_of maps law_works
-  left_is = made_left skip slots maps units rooms works left made ∙ ap (emptied_each empty maps) groups_same
+  left_is = made_left slots maps units rooms works left made ∙ ap (emptied_each empty maps) groups_same
 
   spans_are : ◌≡◌ {A = List Span} (map (λ w. w.shards.items) works) (map (λ (w : layers.Work). span_at maps w.groups) law_works)
-  spans_are = made_spans skip slots maps units rooms works left made ∙ ap (taken_out_each empty maps) groups_same
-      ∙ taken_law table maps (commands_of layer) law_works (are_works table skip layer units (jobs_each works) address of jobs)
+  spans_are = made_spans slots maps units rooms works left made ∙ ap (taken_out_each empty maps) groups_same
+      ∙ taken_law table maps (tasks_of layer) law_works (are_works table layer units (jobs_each works) address of jobs)
 
   -- each unit has its shards as they were
-  has_span : (us : List (List ℕ)) (ws : List Work) → AllZip (AllZip (IsJobOf skip layer)) us (jobs_each ws)
+  has_span : (us : List (List ℕ)) (ws : List Work) → AllZip (AllZip (IsJobOf layer)) us (jobs_each ws)
       → ◌≡◌ {A = List Span} (map (λ w. w.shards.items) ws)
       (map (λ (w : layers.Work). span_at maps w.groups) (works_of sets us (jobs_each ws)))
       → AllZip (λ u w. w.shards.items ≡ span_at maps (unit_groups sets u)) us ws
@@ -305,13 +305,13 @@ module _ (table : Layout) (maps : List Map) (skip : List RequestId) (layer : Lis
   with_spans = has_span units works jobs spans_are
 
   ready_each : (us : List (List ℕ)) (ws : List Work) → ((u : List ℕ) → In u us → In u units)
-      → AllZip (AllZip (IsJobOf skip layer)) us (jobs_each ws) → AllZip (λ u w. w.shards.items ≡ span_at maps (unit_groups sets u)) us ws
+      → AllZip (AllZip (IsJobOf layer)) us (jobs_each ws) → AllZip (λ u w. w.shards.items ≡ span_at maps (unit_groups sets u)) us ws
       → AllByRecursion (IsReady table) ws
   ready_each [] [] inside z e = tt
   ready_each [] (w ∷ ws) inside z e = absurd z
   ready_each (u ∷ us) [] inside z e = tt
   ready_each (u ∷ us) (w ∷ ws) inside z e = (
-    are_ready table skip layer is_table address u w.jobs.items w.shards.items (of.each u (inside u (inl refl))) z.0
+    are_ready table layer is_table address u w.jobs.items w.shards.items (of.each u (inside u (inl refl))) z.0
         (ap numbers e.0 ∙ numbers-span_at maps (unit_groups sets u))
         (subst (SpanHasOwnKeys table) (sym e.0) (own_span table maps (unit_groups sets u) own)),
     ready_each us ws (λ v i. inside v (inr i)) z.1 e.1,
@@ -320,27 +320,27 @@ module _ (table : Layout) (maps : List Map) (skip : List RequestId) (layer : Lis
   pub all_ready : AllByRecursion (IsReady table) works
   all_ready = ready_each units works (λ u i. i) jobs with_spans
 
-  module _ (rans : List Ran) (ran : AllZip (HasRun table) works rans) where
-    tells_each : (ws : List Work) (rs : List Ran) → AllZip (HasRun table) ws rs → AllZip (AllZip Tells) (jobs_each ws) (rans_each rs)
+  module _ (skip : List SkipId) (rans : List Ran) (ran : AllZip (HasRun table skip) works rans) where
+    tells_each : (ws : List Work) (rs : List Ran) → AllZip (HasRun table skip) ws rs → AllZip (AllZip Tells) (jobs_each ws) (rans_each rs)
     tells_each [] [] z = tt
     tells_each [] (r ∷ rs) z = absurd z
     tells_each (w ∷ ws) [] z = absurd z
     tells_each (w ∷ ws) (r ∷ rs) z =
-        (tells_all table w.jobs.items r.jobs.items w.shards.items r.shards.items z.0, tells_each ws rs z.1)
+        (tells_all table skip w.jobs.items r.jobs.items w.shards.items r.shards.items z.0, tells_each ws rs z.1)
 
     tells : AllZip (AllZip Tells) (jobs_each works) (rans_each rans)
     tells = tells_each works rans ran
 
     runs_each : (us : List (List ℕ)) (ws : List Work) (rs : List Ran)
-        → AllZip (λ u w. w.shards.items ≡ span_at maps (unit_groups sets u)) us ws → AllZip (HasRun table) ws rs
-        → UnitsRunOn sets maps us (jobs_each ws) (rans_each rs)
+        → AllZip (λ u w. w.shards.items ≡ span_at maps (unit_groups sets u)) us ws → AllZip (HasRun table skip) ws rs
+        → UnitsRunOn skip sets maps us (jobs_each ws) (rans_each rs)
     runs_each [] [] rs e z = tt
     runs_each [] (w ∷ ws) rs e z = absurd e
     runs_each (u ∷ us) [] rs e z = absurd e
     runs_each (u ∷ us) (w ∷ ws) [] e z = absurd z
     runs_each (u ∷ us) (w ∷ ws) (r ∷ rs) e z = (
-      subst (λ s. HaveRunOn w.jobs.items (union s) r.jobs.items) e.0
-          (run_on table w.jobs.items r.jobs.items w.shards.items r.shards.items z.0),
+      subst (λ s. HaveRunOn skip w.jobs.items (union s) r.jobs.items) e.0
+          (run_on table skip w.jobs.items r.jobs.items w.shards.items r.shards.items z.0),
       runs_each us ws rs e.1 z.1,
     )
 
@@ -352,8 +352,8 @@ module _ (table : Layout) (maps : List Map) (skip : List RequestId) (layer : Lis
     spans_same (r ∷ rs) = ap (λ (l : List Span). r.shards.items ∷ l) (spans_same rs)
 
     runs_of : (outs : List (Option Content)) (us : List (List ℕ)) (ws : List Work) (rs : List Ran) → ((u : List ℕ) → In u us → In u units)
-        → AllZip (AllZip (IsJobOf skip layer)) us (jobs_each ws)
-        → AllZip (λ u w. w.shards.items ≡ span_at maps (unit_groups sets u)) us ws → AllZip (HasRun table) ws rs
+        → AllZip (AllZip (IsJobOf layer)) us (jobs_each ws)
+        → AllZip (λ u w. w.shards.items ≡ span_at maps (unit_groups sets u)) us ws → AllZip (HasRun table skip) ws rs
         → AllZip (λ u r. layers.StandAt outs u (map (λ t. outcome t.reply) r)) us (rans_each rs)
         → AllZip (layers.IsRunOf table maps outs) (works_of sets us (jobs_each ws)) (law_rans rs)
     runs_of outs [] [] [] inside z e run stand = tt
@@ -363,10 +363,10 @@ module _ (table : Layout) (maps : List Map) (skip : List RequestId) (layer : Lis
     runs_of outs (u ∷ us) (w ∷ ws) [] inside z e run stand = absurd run
     runs_of outs (u ∷ us) (w ∷ ws) (r ∷ rs) inside z e run stand = (
       record {
-        ran = subst (λ s. layers.UnitRan table (map (λ t. t.job.asked.command) w.jobs.items) s
+        ran = subst (λ s. layers.UnitRan table (map (λ t. t.job.asked.batch) w.jobs.items) s
             (map (λ t. outcome t.reply) r.jobs.items) r.shards.items)
-            e.0 (unit_ran table w.jobs.items r.jobs.items w.shards.items r.shards.items
-            (are_ready table skip layer is_table address u w.jobs.items w.shards.items (of.each u (inside u (inl refl))) z.0
+            e.0 (unit_ran table skip w.jobs.items r.jobs.items w.shards.items r.shards.items
+            (are_ready table layer is_table address u w.jobs.items w.shards.items (of.each u (inside u (inl refl))) z.0
             (ap numbers e.0 ∙ numbers-span_at maps (unit_groups sets u))
             (subst (SpanHasOwnKeys table) (sym e.0) (own_span table maps (unit_groups sets u) own))) run.0);
         stand = stand.0;
@@ -375,7 +375,7 @@ module _ (table : Layout) (maps : List Map) (skip : List RequestId) (layer : Lis
     )
 
     spans_each : (n : ℕ) → n ≡ table.shards → (us : List (List ℕ)) (ws : List Work) (rs : List Ran) → ((u : List ℕ) → In u us → In u units)
-        → AllZip (λ u w. w.shards.items ≡ span_at maps (unit_groups sets u)) us ws → AllZip (HasRun table) ws rs
+        → AllZip (λ u w. w.shards.items ≡ span_at maps (unit_groups sets u)) us ws → AllZip (HasRun table skip) ws rs
         → AllByRecursion (AllByRecursion (λ s. s.0 < n)) (spans_of rs)
     spans_each n long us ws [] inside e run = tt
     spans_each n long us [] (r ∷ rs) inside e run = absurd run
@@ -384,7 +384,7 @@ module _ (table : Layout) (maps : List Map) (skip : List RequestId) (layer : Lis
       below_all n r.shards.items (λ g there. subst (λ k. g < k) (sym long)
           (unit_inside table layer units address of u (inside u (inl refl)) g
           (ap (λ gs. has gs g) (sym (numbers-span_at maps (unit_groups sets u)) ∙ ap numbers (sym e.0)
-          ∙ sym (over_numbers table w.jobs.items r.jobs.items w.shards.items r.shards.items run.0)) ∙ there))),
+          ∙ sym (over_numbers table skip w.jobs.items r.jobs.items w.shards.items r.shards.items run.0)) ∙ there))),
       spans_each n long us ws rs (λ v i. inside v (inr i)) e.1 run.1,
     )
 
@@ -394,7 +394,7 @@ module _ (table : Layout) (maps : List Map) (skip : List RequestId) (layer : Lis
 
     pub jobs_inside : (n : ℕ) → n ≡ length layer → AreInside n (jobs_of rans)
     jobs_inside n long = subst (AreInside n) (flat_jobs rans)
-        (places_inside skip layer units (jobs_each works) (rans_each rans) of jobs tells n long)
+        (places_inside layer units (jobs_each works) (rans_each rans) of jobs tells n long)
 
     -- the layer is done once the shards are back and the outcomes in their places
     pub dealt_given : PartsAreInTurn → length maps ≡ table.shards → (rans0 gave : List (Option JobRan)) (new : List Map)
@@ -403,19 +403,19 @@ module _ (table : Layout) (maps : List Map) (skip : List RequestId) (layer : Lis
     dealt_given law long rans0 gave new none put back =
         let is : gave ≡ placed (replicate (length layer) None) (flat (rans_each rans)) =
         put ∙ ap (λ s. placed s (jobs_of rans)) none ∙ ap (placed (replicate (length layer) None)) (sym (flat_jobs rans)) in
-        let there = units_there skip layer units (jobs_each works) (rans_each rans) of jobs tells gave is in
-        let outs = outcomes skip layer units (jobs_each works) (rans_each rans) of jobs tells gave is in
+        let there = units_there layer units (jobs_each works) (rans_each rans) of jobs tells gave is in
+        let outs = outcomes layer units (jobs_each works) (rans_each rans) of jobs tells gave is in
         let stand : AllZip (λ u rs. layers.StandAt outs u (map (λ t. outcome t.reply) rs)) units (rans_each rans) =
         zip_map (AllZip (λ i r. slice_get gave i ≡ Some (Some r))) (λ u rs. layers.StandAt outs u (map (λ t. outcome t.reply) rs))
-        (outcomes_stand skip layer units (jobs_each works) (rans_each rans) of jobs tells gave is) units (rans_each rans) there in
+        (outcomes_stand layer units (jobs_each works) (rans_each rans) of jobs tells gave is) units (rans_each rans) there in
         let row : layers.with_rans (layers.left_of maps law_works) (law_rans rans) ≡ new =
         ap (put_spans (layers.left_of maps law_works)) (spans_same rans) ∙ ap (λ r. put_spans r (spans_of rans)) (sym left_is) ∙ sym back in
-        let turn = law table maps (commands_of layer) law_works (law_rans rans) outs is_table own long
-        (are_works table skip layer units (jobs_each works) address of jobs)
-        (outcomes_many skip layer units (jobs_each works) (rans_each rans) of jobs tells gave is)
+        let turn = law table maps (tasks_of layer) law_works (law_rans rans) outs is_table own long
+        (are_works table layer units (jobs_each works) address of jobs)
+        (outcomes_many layer units (jobs_each works) (rans_each rans) of jobs tells gave is)
         (runs_of outs units works rans (λ u i. i) jobs with_spans ran stand) in
-        given skip layer units (jobs_each works) (rans_each rans) of jobs tells gave is table maps is_table own address
+        given layer units (jobs_each works) (rans_each rans) of jobs tells gave is table maps skip is_table own address
         (runs_each units works rans with_spans ran) new
-        (subst (layers.LayerRan table maps (commands_of layer) outs) row turn.0)
-        (subst (λ n. layers.AnsweredInTurn (joined maps) (commands_of layer) outs (joined n)) row turn.1)
+        (subst (layers.LayerRan table maps (tasks_of layer) outs) row turn.0)
+        (subst (λ n. layers.AnsweredInTurn (joined maps) (tasks_of layer) outs (joined n)) row turn.1)
         (subst (HasOwnKeys table) row turn.2)

@@ -7,7 +7,7 @@ use Rattle.std.specs.FinMap.{empty}
 use Rattle.std.specs.List.{AllByRecursion, concat, count_by}
 use Rattle.groups.specs.GroupSet.{has, IsAscending}
 use Rattle.groups.specs.Order.{In}
-use Rattle.groups.specs.declared.request.RequestId.{RequestId}
+use Rattle.groups.specs.declared.skip_id.SkipId.{SkipId}
 use Rattle.keyspace.specs.Map.{Map}
 use Rattle.layer_planner.specs.Units.{groups_at, IsUnit, AreUnitsOf}
 use Rattle.layer_planner.specs.declared.job.Job.{Job}
@@ -23,16 +23,16 @@ use Rattle.shard_workers.specs.declared.placed_job.PlacedJob.{PlacedJob}
 use Rattle.shard_workers.specs.declared.placed_job.JobRan.{JobRan}
 use Rattle.tasks.specs.Tasks.{task_groups}
 use Rattle.tasks.proofs.Groups.{IsAscending-task_groups, task_groups-below}
-use Rattle.shard_exec.specs.Layers.{is_named, IsDone, ended_of}
+use Rattle.shard_exec.specs.Layers.{IsDone, ended_of}
 use Rattle.shard_exec.specs.RowRuns.{HasRunInRow}
 use Rattle.shard_exec.proofs.RowLaws.{own_span, row_given}
 
 module _ (table : Layout) (maps : List Map) (t : PlacedJob) (is_table : IsTable table) (long : length maps ≡ table.shards)
-    (own : HasOwnKeys table maps) (groups : t.job.groups ≡ task_groups table t.job.asked.command) where
+    (own : HasOwnKeys table maps) (groups : t.job.groups ≡ task_groups table t.job.asked.batch) where
   -- its shards are in the row
   pub groups_inside : (g : ℕ) → has t.job.groups g ≡ true → g < length maps
   groups_inside g there =
-      subst (λ n. g < n) (sym long) (task_groups-below table t.job.asked.command g (ap (λ gs. has gs g) (sym groups) ∙ there))
+      subst (λ n. g < n) (sym long) (task_groups-below table t.job.asked.batch g (ap (λ gs. has gs g) (sym groups) ∙ there))
 
   pub group_inside : (g : ℕ) → t.job.groups ≡ g ∷ [] → g < length maps
   group_inside g lone = groups_inside g (ap (λ gs. has gs g) lone ∙ or_left _ _ (eq-eqb g g refl))
@@ -46,19 +46,19 @@ module _ (table : Layout) (maps : List Map) (t : PlacedJob) (is_table : IsTable 
   }
 
   -- over the shard of its one group
-  pub in_place : (r : JobRan) (g : ℕ) (new : List Map) → t.job.groups ≡ g ∷ []
-      → HasRunOn t (map_of_shard maps g) r (map_of_shard new g) → new ≡ slice_set maps g (map_of_shard new g)
-      → HasRunInRow table t maps r new
-  in_place r g new lone run put = record {
-    over = subst (λ gs. HasRunOver table t (span_at maps gs) r (span_at new gs)) (sym lone)
-        (one_over table t r ((g, map_of_shard maps g) ∷ []) ((g, map_of_shard new g) ∷ [])
+  pub in_place : (skip : List SkipId) (r : JobRan) (g : ℕ) (new : List Map) → t.job.groups ≡ g ∷ []
+      → HasRunOn skip t (map_of_shard maps g) r (map_of_shard new g) → new ≡ slice_set maps g (map_of_shard new g)
+      → HasRunInRow table skip t maps r new
+  in_place skip r g new lone run put = record {
+    over = subst (λ gs. HasRunOver table skip t (span_at maps gs) r (span_at new gs)) (sym lone)
+        (one_over table skip t r ((g, map_of_shard maps g) ∷ []) ((g, map_of_shard new g) ∷ [])
         (ready ((g, map_of_shard maps g) ∷ []) (ap (span_at maps) (sym lone))) refl refl run);
     others = λ shard away. ap (λ row. map_of_shard row shard) put
         ∙ at-put_span empty maps ((g, map_of_shard new g) ∷ []) shard (ap (λ gs. has gs shard) (sym lone) ∙ away);
   }
 
   up : IsAscending t.job.groups
-  up = subst IsAscending (sym groups) (IsAscending-task_groups table t.job.asked.command)
+  up = subst IsAscending (sym groups) (IsAscending-task_groups table t.job.asked.batch)
 
   -- over its shards moved out
   pub moved_ready : (span : Span) → span ≡ taken_out empty maps t.job.groups → IsReadyFor table t span
@@ -78,12 +78,12 @@ module _ (table : Layout) (maps : List Map) (t : PlacedJob) (is_table : IsTable 
       below [] h = tt
       below (s ∷ ss) h = (h s.0 (or_left _ _ (eq-eqb s.0 s.0 refl)), below ss (λ g there. h g (or_right _ _ there)))
 
-  pub moved : (r : JobRan) (before after : Span) (left new : List Map) → before ≡ taken_out empty maps t.job.groups
-      → left ≡ emptied empty maps t.job.groups → HasRunOver table t before r after → new ≡ put_span left after
-      → HasRunInRow table t maps r new
-  moved r before after left new is emptied_is run put = record {
-    over = subst (λ s. HasRunOver table t s r (span_at new t.job.groups)) (is ∙ taken_out-picked empty maps t.job.groups up)
-        (subst (HasRunOver table t before r) (sym stands) run);
+  pub moved : (skip : List SkipId) (r : JobRan) (before after : Span) (left new : List Map) → before ≡ taken_out empty maps t.job.groups
+      → left ≡ emptied empty maps t.job.groups → HasRunOver table skip t before r after → new ≡ put_span left after
+      → HasRunInRow table skip t maps r new
+  moved skip r before after left new is emptied_is run put = record {
+    over = subst (λ s. HasRunOver table skip t s r (span_at new t.job.groups)) (is ∙ taken_out-picked empty maps t.job.groups up)
+        (subst (HasRunOver table skip t before r) (sym stands) run);
     others = λ shard away. ap (λ row. map_of_shard row shard) put
         ∙ at-put_span empty left after shard (ap (λ ns. has ns shard) names ∙ away)
         ∙ ap (λ row. map_of_shard row shard) emptied_is ∙ at-emptied empty maps t.job.groups shard away;
@@ -128,13 +128,13 @@ lone_unit gs = record { each = each; once = once }
     once (suc i) = (let a = ne_eqb 0 (suc i) (λ e. absurd (let f = e in cc)) in let b = le-ltb (suc i) 1 (omega arith) in
         ap (λ x. 0 + cond x 1 0) a ∙ ap (λ x. cond x 1 0) (sym b))
 
-pub alone_done : WorksAreInTurn → (table : Layout) (maps new : List Map) (skip : List RequestId) (t : PlacedJob) (r : JobRan)
-    → IsTable table → HasOwnKeys table maps → t.job.groups ≡ task_groups table t.job.asked.command → t.place ≡ 0
-    → t.skipped ≡ is_named skip t.job.id → HasRunInRow table t maps r new → IsDone table maps skip (t.job ∷ []) (ended_of r ∷ []) new
-alone_done law table maps new skip t r is_table own groups place skipped run =
+pub alone_done : WorksAreInTurn → (table : Layout) (maps new : List Map) (skip : List SkipId) (t : PlacedJob) (r : JobRan)
+    → IsTable table → HasOwnKeys table maps → t.job.groups ≡ task_groups table t.job.asked.batch → t.place ≡ 0
+    → HasRunInRow table skip t maps r new → IsDone table maps skip (t.job ∷ []) (ended_of r ∷ []) new
+alone_done law table maps new skip t r is_table own groups place run =
     (row_given table maps skip (t.job ∷ []) is_table own (groups, tt) law ((0 ∷ []) ∷ []) (Some t.job ∷ []) (None ∷ []) (Some r ∷ []) new
     (lone_unit t.job.groups) at_zero refl
-    (t, r, new, record { there = refl; place = place; skipped = skipped }, run, (refl, refl))).done
+    (t, r, new, record { there = refl; place = place }, run, (refl, refl))).done
   where
     at_zero : (i : ℕ) (j : Job) → slice_get (Some t.job ∷ []) i ≡ Some (Some j) → slice_get (t.job ∷ []) i ≡ Some j
     at_zero zero j e = (let f = e in cc)

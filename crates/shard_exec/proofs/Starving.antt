@@ -6,7 +6,8 @@ use Rattle.std.proofs.lemmas.Bool.{cases_eq, cases_Bool, both_ways, or_left, or_
 use Rattle.std.specs.FinMap.{get}
 use Rattle.groups.specs.GroupSet.{has, IsAscending}
 use Rattle.groups.specs.Order.{In}
-use Rattle.groups.specs.declared.request.RequestId.{RequestId}
+use Rattle.groups.specs.Skips.{names_whole, parts_of}
+use Rattle.groups.specs.declared.skip_id.SkipId.{SkipId}
 use Rattle.keyspace.proofs.Gets.{same, get-retain_keys}
 use Rattle.keyspace.specs.Map.{Map}
 use Rattle.layer_planner.specs.Units.{groups_at, IsUnit}
@@ -19,9 +20,9 @@ use Rattle.shard_workers.specs.Runs.{HaveRunOver}
 use Rattle.shard_workers.specs.PlacedJobs.{outcome, MapRan, HasRunOn}
 use Rattle.shard_workers.specs.declared.placed_job.PlacedJob.{PlacedJob}
 use Rattle.shard_workers.specs.declared.placed_job.JobRan.{JobRan}
-use Rattle.tasks.specs.Tasks.{Task, task_groups, task_effect, task_takes_memory}
+use Rattle.tasks.specs.Tasks.{Task, task_groups, deed_effect, deed_of, task_takes_memory, MembersStarveRightly}
 use Rattle.tasks.proofs.Within.{same_elsewhere, same_there}
-use Rattle.shard_exec.specs.Layers.{AddressTheirGroups, is_named, on_groups, left_by, MayStarveInTurn, ended_of}
+use Rattle.shard_exec.specs.Layers.{AddressTheirGroups, on_groups, left_by, MayStarveInTurn, ended_of}
 use Rattle.shard_exec.specs.declared.done.Ended.{Ended}
 use Rattle.values.specs.declared.Value.{Value}
 
@@ -52,17 +53,17 @@ module _ (table : Layout) (c : Task) (m : Map) (is_table : IsTable table) where
   of_itself q = is_part q ∙ cond_twice (has (task_groups table c) (shard_of table q)) (get m q)
       ∙ ap (λ o. cond (has (task_groups table c) (shard_of table q)) o None) (sym (is_part q))
 
-  -- a command leaves on its own shards what it leaves of what they have
+  -- a task leaves on its own shards what it leaves of what they have
   pub left-own : (o : Option Content) → on_groups table (task_groups table c) (left_by c m o) ≡ left_by c own_part o
   left-own None = refl
-  left-own (Some reply) = same _ _ (λ q. get-on_groups table (task_groups table c) (task_effect c m).0 q ∙ at_key q)
+  left-own (Some reply) = same _ _ (λ q. get-on_groups table (task_groups table c) (deed_effect (deed_of c reply) m).0 q ∙ at_key q)
     where
-      at_key : (q : List ℕ) → cond (has (task_groups table c) (shard_of table q)) (get (task_effect c m).0 q) None
-          ≡ get (task_effect c own_part).0 q
+      at_key : (q : List ℕ) → cond (has (task_groups table c) (shard_of table q)) (get (deed_effect (deed_of c reply) m).0 q) None
+          ≡ get (deed_effect (deed_of c reply) own_part).0 q
       at_key q = elim (has (task_groups table c) (shard_of table q)) as (λ b. has (task_groups table c) (shard_of table q) ≡ b
-          → cond b (get (task_effect c m).0 q) None ≡ get (task_effect c own_part).0 q) [
-            | true ↦ λ there. sym (same_there table c m own_part is_table is_part q there)
-            | false ↦ λ away. sym (same_elsewhere table c own_part own_part is_table of_itself q away
+          → cond b (get (deed_effect (deed_of c reply) m).0 q) None ≡ get (deed_effect (deed_of c reply) own_part).0 q) [
+            | true ↦ λ there. sym (same_there table (deed_of c reply) m own_part is_table is_part q there)
+            | false ↦ λ away. sym (same_elsewhere table (deed_of c reply) own_part own_part is_table of_itself q away
                 ∙ is_part q ∙ ap (λ b. cond b (get m q) None) away)
           ] refl
 
@@ -71,13 +72,13 @@ module _ (table : Layout) (c : Task) (m : Map) (is_table : IsTable table) where
       → on_groups table gs (left_by c m o) ≡ on_groups table gs m
   left-other gs apart None = refl
   left-other gs apart (Some reply) = same _ _ (λ q.
-      get-on_groups table gs (task_effect c m).0 q ∙ at_key q ∙ sym (get-on_groups table gs m q))
+      get-on_groups table gs (deed_effect (deed_of c reply) m).0 q ∙ at_key q ∙ sym (get-on_groups table gs m q))
     where
-      at_key : (q : List ℕ) → cond (has gs (shard_of table q)) (get (task_effect c m).0 q) None
+      at_key : (q : List ℕ) → cond (has gs (shard_of table q)) (get (deed_effect (deed_of c reply) m).0 q) None
           ≡ cond (has gs (shard_of table q)) (get m q) None
       at_key q = elim (has gs (shard_of table q)) as (λ b. has gs (shard_of table q) ≡ b
-          → cond b (get (task_effect c m).0 q) None ≡ cond b (get m q) None) [
-            | true ↦ λ there. same_elsewhere table c m own_part is_table is_part q
+          → cond b (get (deed_effect (deed_of c reply) m).0 q) None ≡ cond b (get m q) None) [
+            | true ↦ λ there. same_elsewhere table (deed_of c reply) m own_part is_table is_part q
                 (elim (cases_Bool (has (task_groups table c) (shard_of table q))) [
                   | inl here ↦ absurd (apart (shard_of table q) there here)
                   | inr away ↦ away
@@ -88,15 +89,16 @@ module _ (table : Layout) (c : Task) (m : Map) (is_table : IsTable table) where
 -- ---- the requests of a unit, along the layer
 
 -- the request starves only where it may, on this map
-pub record StarvesOn (skip : List RequestId) (j : Job) (e : Ended) (u : Map) : Type 0 where
-  pub skipped : is_named skip j.id ≡ true → outcome e.reply ≡ None
-  pub starved : is_named skip j.id ≡ false → outcome e.reply ≡ None → task_takes_memory j.asked.command u
+pub record StarvesOn (skip : List SkipId) (j : Job) (e : Ended) (u : Map) : Type 0 where
+  pub skipped : names_whole skip j.id ≡ true → outcome e.reply ≡ None
+  pub starved : names_whole skip j.id ≡ false → outcome e.reply ≡ None → task_takes_memory j.asked.batch u
+  pub members : (reply : Content) → outcome e.reply ≡ Some reply → MembersStarveRightly (parts_of skip j.id) j.asked.batch u reply
 
 abbrev next_map : Bool → Job → Ended → Map → Map
-next_map b j e u = cond b (left_by j.asked.command u (outcome e.reply)) u
+next_map b j e u = cond b (left_by j.asked.batch u (outcome e.reply)) u
 
 -- from the n-th place of the layer on: each request of the unit on what those of the unit before it left
-abbrev pub StarveAlong : List RequestId → List ℕ → ℕ → List Job → List Ended → Map → Type 0
+abbrev pub StarveAlong : List SkipId → List ℕ → ℕ → List Job → List Ended → Map → Type 0
 StarveAlong skip unit n [] es u = Unit {0}
 StarveAlong skip unit n (j ∷ js) [] u = Unit {0}
 StarveAlong skip unit n (j ∷ js) (e ∷ es) u =
@@ -112,7 +114,7 @@ has_unit_groups sets [] is n there = absurd (let k = is.some in omega (arith, k)
 has_unit_groups sets (i ∷ unit) is n there = is.alike n i there (or_left _ _ (eq-eqb i i refl))
 
 -- so each request of the layer starves only where it may
-pub starve_turns : (table : Layout) (skip : List RequestId) (sets units : List (List ℕ)) → IsTable table
+pub starve_turns : (table : Layout) (skip : List SkipId) (sets units : List (List ℕ)) → IsTable table
     → ((unit : List ℕ) → In unit units → IsUnit sets unit)
     → ((i : ℕ) → i < length sets → (unit : List ℕ) × In unit units × (has unit i ≡ true))
     → (n : ℕ) (js : List Job) (es : List Ended) (m : Map)
@@ -127,8 +129,9 @@ starve_turns table skip sets units t each all n (j ∷ js) (e ∷ es) m at long 
   record {
     skipped = here.skipped;
     starved = here.starved;
+    members = here.members;
   },
-  starve_turns table skip sets units t each all (suc n) js es (left_by j.asked.command m (outcome e.reply)) later
+  starve_turns table skip sets units t each all (suc n) js es (left_by j.asked.batch m (outcome e.reply)) later
       (omega (arith, long)) address.1
       (λ unit i. subst (StarveAlong skip unit (suc n) js es) (sym (moves unit i)) (along unit i).1),
 )
@@ -147,21 +150,21 @@ starve_turns table skip sets units t each all n (j ∷ js) (e ∷ es) m at long 
     later k i e = (let z : n + suc k ≡ suc n + k = omega arith in
         (ap (groups_at sets) (sym z) ∙ (at (suc k) i e).0, subst (λ x. x < length sets) z (at (suc k) i e).1))
 
-    moves : (unit : List ℕ) (i : In unit units) → on_groups table (unit_groups sets unit) (left_by j.asked.command m (outcome e.reply))
+    moves : (unit : List ℕ) (i : In unit units) → on_groups table (unit_groups sets unit) (left_by j.asked.batch m (outcome e.reply))
         ≡ next_map (has unit n) j e (on_groups table (unit_groups sets unit) m)
     moves unit i = elim (has unit n) as (λ b. has unit n ≡ b
-        → on_groups table (unit_groups sets unit) (left_by j.asked.command m (outcome e.reply))
+        → on_groups table (unit_groups sets unit) (left_by j.asked.batch m (outcome e.reply))
         ≡ next_map b j e (on_groups table (unit_groups sets unit) m)) [
           | true ↦ λ there.
-              let is : task_groups table j.asked.command ≡ unit_groups sets unit =
+              let is : task_groups table j.asked.batch ≡ unit_groups sets unit =
               sym (at_n.0 ∙ address.0) ∙ has_unit_groups sets unit (each unit i) n there in
-              subst (λ gs. on_groups table gs (left_by j.asked.command m (outcome e.reply))
-              ≡ left_by j.asked.command (on_groups table gs m) (outcome e.reply)) is
-              (left-own table j.asked.command m t (outcome e.reply))
-          | false ↦ λ away. left-other table j.asked.command m t (unit_groups sets unit) (apart away) (outcome e.reply)
+              subst (λ gs. on_groups table gs (left_by j.asked.batch m (outcome e.reply))
+              ≡ left_by j.asked.batch (on_groups table gs m) (outcome e.reply)) is
+              (left-own table j.asked.batch m t (outcome e.reply))
+          | false ↦ λ away. left-other table j.asked.batch m t (unit_groups sets unit) (apart away) (outcome e.reply)
         ] refl
       where
-        apart : has unit n ≡ false → (g : ℕ) → has (unit_groups sets unit) g ≡ true → has (task_groups table j.asked.command) g ≡ true → ⊥
+        apart : has unit n ≡ false → (g : ℕ) → has (unit_groups sets unit) g ≡ true → has (task_groups table j.asked.batch) g ≡ true → ⊥
         apart away g there its = first unit (each unit i) away there
           where
             first : (unit : List ℕ) → IsUnit sets unit → has unit n ≡ false → has (unit_groups sets unit) g ≡ true → ⊥
@@ -184,56 +187,56 @@ at_later n y xs i x (zero, is, e) above = absurd (omega (arith, is, above))
 at_later n y xs i x (suc k, is, e) above = (k, omega (arith, is), e)
 
 -- at these places stand these requests, and what is told of them
-abbrev pub Items : List RequestId → ℕ → List Job → List Ended → List ℕ → List PlacedJob → List JobRan → Type 0
-Items skip n js es [] [] [] = Unit {0}
-Items skip n js es (i ∷ is) (t ∷ ts) (r ∷ rs) =
-    (StandsAt n js i t.job × StandsAt n es i (ended_of r) × (t.skipped ≡ is_named skip t.job.id)) × Items skip n js es is ts rs
-Items skip n js es _ _ _ = ⊥
+abbrev pub Items : ℕ → List Job → List Ended → List ℕ → List PlacedJob → List JobRan → Type 0
+Items n js es [] [] [] = Unit {0}
+Items n js es (i ∷ is) (t ∷ ts) (r ∷ rs) =
+    (StandsAt n js i t.job × StandsAt n es i (ended_of r)) × Items n js es is ts rs
+Items n js es _ _ _ = ⊥
 
 -- each was run on the map that those before it left
-abbrev pub HaveRunOn : List PlacedJob → Map → List JobRan → Type 0
-HaveRunOn [] u [] = Unit {0}
-HaveRunOn (t ∷ ts) u (r ∷ rs) = (mid : Map) × HasRunOn t u r mid × HaveRunOn ts mid rs
-HaveRunOn _ u _ = ⊥
+abbrev pub HaveRunOn : List SkipId → List PlacedJob → Map → List JobRan → Type 0
+HaveRunOn skip [] u [] = Unit {0}
+HaveRunOn skip (t ∷ ts) u (r ∷ rs) = (mid : Map) × HasRunOn skip t u r mid × HaveRunOn skip ts mid rs
+HaveRunOn skip _ u _ = ⊥
 
-pub run_on : (table : Layout) (ts : List PlacedJob) (rs : List JobRan) (before after : Span) → HaveRunOver table ts before rs after
-    → HaveRunOn ts (union before) rs
-run_on table [] [] before after run = tt
-run_on table [] (r ∷ rs) before after run = absurd run
-run_on table (t ∷ ts) [] before after run = absurd run
-run_on table (t ∷ ts) (r ∷ rs) before after run = (union run.0, run.1.on, run_on table ts rs run.0 after run.2)
+pub run_on : (table : Layout) (skip : List SkipId) (ts : List PlacedJob) (rs : List JobRan) (before after : Span) → HaveRunOver table skip ts before rs after
+    → HaveRunOn skip ts (union before) rs
+run_on table skip [] [] before after run = tt
+run_on table skip [] (r ∷ rs) before after run = absurd run
+run_on table skip (t ∷ ts) [] before after run = absurd run
+run_on table skip (t ∷ ts) (r ∷ rs) before after run = (union run.0, run.1.on, run_on table skip ts rs run.0 after run.2)
 
-items_later : (skip : List RequestId) (n : ℕ) (j : Job) (js : List Job) (e : Ended) (es : List Ended) (is : List ℕ) (ts : List PlacedJob)
-    (rs : List JobRan) → ((i : ℕ) → has is i ≡ true → n < i) → Items skip n (j ∷ js) (e ∷ es) is ts rs → Items skip (suc n) js es is ts rs
-items_later skip n j js e es [] [] [] above z = tt
-items_later skip n j js e es [] [] (r ∷ rs) above z = absurd z
-items_later skip n j js e es [] (t ∷ ts) rs above z = absurd z
-items_later skip n j js e es (i ∷ is) [] rs above z = absurd z
-items_later skip n j js e es (i ∷ is) (t ∷ ts) [] above z = absurd z
-items_later skip n j js e es (i ∷ is) (t ∷ ts) (r ∷ rs) above z =
+items_later : (n : ℕ) (j : Job) (js : List Job) (e : Ended) (es : List Ended) (is : List ℕ) (ts : List PlacedJob)
+    (rs : List JobRan) → ((i : ℕ) → has is i ≡ true → n < i) → Items n (j ∷ js) (e ∷ es) is ts rs → Items (suc n) js es is ts rs
+items_later n j js e es [] [] [] above z = tt
+items_later n j js e es [] [] (r ∷ rs) above z = absurd z
+items_later n j js e es [] (t ∷ ts) rs above z = absurd z
+items_later n j js e es (i ∷ is) [] rs above z = absurd z
+items_later n j js e es (i ∷ is) (t ∷ ts) [] above z = absurd z
+items_later n j js e es (i ∷ is) (t ∷ ts) (r ∷ rs) above z =
     let up = above i (or_left _ _ (eq-eqb i i refl)) in (
-      (at_later n j js i t.job z.0.0 up, at_later n e es i (ended_of r) z.0.1 up, z.0.2),
-      items_later skip n j js e es is ts rs (λ k there. above k (or_right _ _ there)) z.1,
+      (at_later n j js i t.job z.0.0 up, at_later n e es i (ended_of r) z.0.1 up),
+      items_later n j js e es is ts rs (λ k there. above k (or_right _ _ there)) z.1,
     )
 
 -- what a request left
-left_is : (t : PlacedJob) (u : Map) (r : JobRan) (mid : Map) → HasRunOn t u r mid → mid ≡ left_by t.job.asked.command u (outcome r.reply)
-left_is t u r mid run = by_outcome (outcome r.reply) run.ran
+left_is : (skip : List SkipId) (t : PlacedJob) (u : Map) (r : JobRan) (mid : Map) → HasRunOn skip t u r mid → mid ≡ left_by t.job.asked.batch u (outcome r.reply)
+left_is skip t u r mid run = by_outcome (outcome r.reply) run.ran
   where
-    by_outcome : (o : Option Content) → MapRan t.job.asked.command u o mid → mid ≡ left_by t.job.asked.command u o
+    by_outcome : (o : Option Content) → MapRan t.job.asked.batch u o mid → mid ≡ left_by t.job.asked.batch u o
     by_outcome None ran = ran
     by_outcome (Some reply) ran = ap (λ p. p.0) ran
 
 -- the same from the next place on, for whatever is left of the unit
-abbrev Again : List RequestId → List ℕ → ℕ → List Job → List Ended → Type 0
+abbrev Again : List SkipId → List ℕ → ℕ → List Job → List Ended → Type 0
 Again skip unit n js es = (is : List ℕ) (ts : List PlacedJob) (rs : List JobRan) (v : Map)
     → ((k : ℕ) → has unit (suc n + k) ≡ has is (suc n + k)) → IsAscending is → ((i : ℕ) → has is i ≡ true → suc n < suc i)
-    → Items skip (suc n) js es is ts rs → HaveRunOn ts v rs → StarveAlong skip unit (suc n) js es v
+    → Items (suc n) js es is ts rs → HaveRunOn skip ts v rs → StarveAlong skip unit (suc n) js es v
 
-pub starve_along : (skip : List RequestId) (unit : List ℕ) (n : ℕ) (js : List Job) (es : List Ended) (is : List ℕ) (ts : List PlacedJob)
+pub starve_along : (skip : List SkipId) (unit : List ℕ) (n : ℕ) (js : List Job) (es : List Ended) (is : List ℕ) (ts : List PlacedJob)
     (rs : List JobRan) (u : Map)
     → ((k : ℕ) → has unit (n + k) ≡ has is (n + k)) → IsAscending is → ((i : ℕ) → has is i ≡ true → n < suc i)
-    → Items skip n js es is ts rs → HaveRunOn ts u rs → StarveAlong skip unit n js es u
+    → Items n js es is ts rs → HaveRunOn skip ts u rs → StarveAlong skip unit n js es u
 starve_along skip unit n [] es is ts rs u same_has up above items run = tt
 starve_along skip unit n (j ∷ js) [] is ts rs u same_has up above items run = tt
 starve_along skip unit n (j ∷ js) (e ∷ es) is ts rs u same_has up above items run =
@@ -246,7 +249,7 @@ starve_along skip unit n (j ∷ js) (e ∷ es) is ts rs u same_has up above item
     -- where the unit's next place isn't this one
     skips : Again skip unit n js es → (is : List ℕ) (ts : List PlacedJob) (rs : List JobRan)
         → ((k : ℕ) → has unit (n + k) ≡ has is (n + k)) → IsAscending is
-        → ((i : ℕ) → has is i ≡ true → n < i) → Items skip n (j ∷ js) (e ∷ es) is ts rs → HaveRunOn ts u rs
+        → ((i : ℕ) → has is i ≡ true → n < i) → Items n (j ∷ js) (e ∷ es) is ts rs → HaveRunOn skip ts u rs
         → StarveAlong skip unit n (j ∷ js) (e ∷ es) u
     skips again is ts rs same_has up above items run =
         let out_of : has is n ≡ false =
@@ -256,7 +259,7 @@ starve_along skip unit n (j ∷ js) (e ∷ es) is ts rs u same_has up above item
           subst (λ b. StarveAlong skip unit (suc n) js es (next_map b j e u)) (sym out)
               (again is ts rs u
               (λ k. (let z : n + suc k ≡ suc n + k = omega arith in subst (λ x. has unit x ≡ has is x) z (same_has (suc k))))
-              up (λ i there. (let k = above i there in omega (arith, k))) (items_later skip n j js e es is ts rs above items) run),
+              up (λ i there. (let k = above i there in omega (arith, k))) (items_later n j js e es is ts rs above items) run),
         )
 
     first_is : (i : ℕ) (is : List ℕ) → (i ≡ n → ⊥) → IsAscending (i ∷ is) → n < suc i → (k : ℕ) → has (i ∷ is) k ≡ true → n < k
@@ -273,26 +276,28 @@ starve_along skip unit n (j ∷ js) (e ∷ es) is ts rs u same_has up above item
 
     takes : Again skip unit n js es → (i : ℕ) (is : List ℕ) (t : PlacedJob) (ts : List PlacedJob) (r : JobRan) (rs : List JobRan)
         → ((k : ℕ) → has unit (n + k) ≡ has (i ∷ is) (n + k)) → IsAscending (i ∷ is)
-        → Items skip n (j ∷ js) (e ∷ es) (i ∷ is) (t ∷ ts) (r ∷ rs) → HaveRunOn (t ∷ ts) u (r ∷ rs) → i ≡ n
+        → Items n (j ∷ js) (e ∷ es) (i ∷ is) (t ∷ ts) (r ∷ rs) → HaveRunOn skip (t ∷ ts) u (r ∷ rs) → i ≡ n
         → StarveAlong skip unit n (j ∷ js) (e ∷ es) u
     takes again i is t ts r rs same_has up items run at =
         let job : j ≡ t.job = at_first n j js t.job (subst (λ x. StandsAt n (j ∷ js) x t.job) at items.0.0) in
         let told : e ≡ ended_of r = at_first n e es (ended_of r) (subst (λ x. StandsAt n (e ∷ es) x (ended_of r)) at items.0.1) in
         let there : has unit n ≡ true = here (i ∷ is) same_has ∙ or_left _ _ (eq-eqb i n at) in
         let reply : outcome e.reply ≡ outcome r.reply = ap (λ (x : Ended). outcome x.reply) told in
-        let named : t.skipped ≡ is_named skip j.id = items.0.2 ∙ ap (λ (x : Job). is_named skip x.id) (sym job) in
+        let named : names_whole skip t.job.id ≡ names_whole skip j.id = ap (λ (x : Job). names_whole skip x.id) (sym job) in
         let left : run.0 ≡ next_map true j e u =
-        left_is t u r run.0 run.1 ∙ ap (λ (x : Job). left_by x.asked.command u (outcome r.reply)) (sym job)
-        ∙ ap (left_by j.asked.command u) (sym reply) in (
+        left_is skip t u r run.0 run.1 ∙ ap (λ (x : Job). left_by x.asked.batch u (outcome r.reply)) (sym job)
+        ∙ ap (left_by j.asked.batch u) (sym reply) in (
           λ _. record {
             skipped = λ is_skipped. reply ∙ run.1.skipped (named ∙ is_skipped);
-            starved = λ passed none. subst (λ (x : Job). task_takes_memory x.asked.command u) (sym job)
+            starved = λ passed none. subst (λ (x : Job). task_takes_memory x.asked.batch u) (sym job)
                 (run.1.starved (named ∙ passed) (sym reply ∙ none));
+            members = λ told_so is. subst (λ (x : Job). MembersStarveRightly (parts_of skip x.id) x.asked.batch u told_so) (sym job)
+                (run.1.members told_so (sym reply ∙ is));
           },
           subst (λ b. StarveAlong skip unit (suc n) js es (next_map b j e u)) (sym there)
               (subst (StarveAlong skip unit (suc n) js es) left
               (again is ts rs run.0 rest up.1 (λ k there. (let h = up.0 k there in omega (arith, at, h)))
-              (items_later skip n j js e es is ts rs (λ k there. (let h = up.0 k there in omega (arith, at, h))) items.1) run.2)),
+              (items_later n j js e es is ts rs (λ k there. (let h = up.0 k there in omega (arith, at, h))) items.1) run.2)),
         )
       where
         rest : (k : ℕ) → has unit (suc n + k) ≡ has is (suc n + k)
@@ -303,7 +308,7 @@ starve_along skip unit n (j ∷ js) (e ∷ es) is ts rs u same_has up above item
 
     by_first : Again skip unit n js es → (is : List ℕ) (ts : List PlacedJob) (rs : List JobRan)
         → ((k : ℕ) → has unit (n + k) ≡ has is (n + k)) → IsAscending is
-        → ((i : ℕ) → has is i ≡ true → n < suc i) → Items skip n (j ∷ js) (e ∷ es) is ts rs → HaveRunOn ts u rs
+        → ((i : ℕ) → has is i ≡ true → n < suc i) → Items n (j ∷ js) (e ∷ es) is ts rs → HaveRunOn skip ts u rs
         → StarveAlong skip unit n (j ∷ js) (e ∷ es) u
     by_first again [] [] [] same_has up above items run =
         skips again [] [] [] same_has up (λ i there. absurd (let k = there in cc)) items run

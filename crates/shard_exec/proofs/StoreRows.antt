@@ -19,7 +19,7 @@ pub all_inside : (table : Layout) (n : ℕ) (jobs : List Job) → n ≡ table.sh
     → AllByRecursion (IsInside n) jobs
 all_inside table n [] e a = tt
 all_inside table n (j ∷ js) e a = (
-  (λ g there. subst (λ m. g < m) (sym e) (task_groups-below table j.asked.command g (ap (λ gs. has gs g) (sym a.0) ∙ there))),
+  (λ g there. subst (λ m. g < m) (sym e) (task_groups-below table j.asked.batch g (ap (λ gs. has gs g) (sym a.0) ∙ there))),
   all_inside table n js e a.1,
 )
 

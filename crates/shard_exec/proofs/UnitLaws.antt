@@ -10,7 +10,7 @@ use Rattle.std.specs.List.{AllZip, AllByRecursion, concat}
 use Rattle.std.specs.Option.{IsSome}
 use Rattle.groups.specs.GroupSet.{has}
 use Rattle.groups.specs.Order.{In}
-use Rattle.groups.specs.declared.request.RequestId.{RequestId}
+use Rattle.groups.specs.declared.skip_id.SkipId.{SkipId}
 use Rattle.groups.specs.declared.stamp.Stamp.{Stamp}
 use Rattle.keyspace.specs.Map.{Map}
 use Rattle.layer_planner.specs.Units.{groups_each, groups_at, IsUnit, AreUnitsOf}
@@ -26,7 +26,7 @@ use Rattle.shard_workers.specs.declared.placed_job.JobRan.{JobRan}
 use Rattle.tasks.specs.Tasks.{Task, task_groups}
 use Rattle.tasks.proofs.Groups.{task_groups-below}
 use Rattle.shard_exec.specs.Dealing.{filled, flat, placed, AreInside}
-use Rattle.shard_exec.specs.Layers.{commands_of, AddressTheirGroups, is_named, outcomes_of_ended, IsOf, MayStarveInTurn, ended_of}
+use Rattle.shard_exec.specs.Layers.{tasks_of, AddressTheirGroups, outcomes_of_ended, IsOf, MayStarveInTurn, ended_of}
 use Rattle.shard_exec.specs.Layers.{HasItsGroups, HaveGiven, on_groups}
 use Rattle.shard_exec.specs.Stamps.{AreInRow, raise, raised, raised_by}
 use Rattle.shard_exec.specs.declared.done.Ended.{Ended}
@@ -98,10 +98,9 @@ zip_units R (u ∷ us) (ys ∷ yss) z = zip_both R u (concat us) ys (flat yss) z
 -- ---- the requests of a layer by their places
 
 -- this is the request at the place of the layer
-pub record IsJobOf (skip : List RequestId) (layer : List Job) (i : ℕ) (t : PlacedJob) : Type 0 where
+pub record IsJobOf (layer : List Job) (i : ℕ) (t : PlacedJob) : Type 0 where
   pub at : slice_get layer i ≡ Some t.job
   pub place : t.place ≡ i
-  pub skipped : t.skipped ≡ is_named skip t.job.id
 
 -- this is what became of it
 pub record Tells (t : PlacedJob) (r : JobRan) : Type 0 where
@@ -120,15 +119,15 @@ pub record TellsOf (layer : List Job) (i : ℕ) (r : JobRan) : Type 0 where
   pub groups : r.groups ≡ job.groups
   pub words : r.words ≡ job.asked.words
 
-tells_of : (skip : List RequestId) (layer : List Job) (is : List ℕ) (ts : List PlacedJob) (rs : List JobRan)
-    → AllZip (IsJobOf skip layer) is ts
+tells_of : (layer : List Job) (is : List ℕ) (ts : List PlacedJob) (rs : List JobRan)
+    → AllZip (IsJobOf layer) is ts
     → AllZip Tells ts rs → AllZip (TellsOf layer) is rs
-tells_of skip layer [] [] [] z w = tt
-tells_of skip layer [] [] (r ∷ rs) z w = absurd w
-tells_of skip layer [] (t ∷ ts) rs z w = absurd z
-tells_of skip layer (i ∷ is) [] rs z w = absurd z
-tells_of skip layer (i ∷ is) (t ∷ ts) [] z w = absurd w
-tells_of skip layer (i ∷ is) (t ∷ ts) (r ∷ rs) z w = (
+tells_of layer [] [] [] z w = tt
+tells_of layer [] [] (r ∷ rs) z w = absurd w
+tells_of layer [] (t ∷ ts) rs z w = absurd z
+tells_of layer (i ∷ is) [] rs z w = absurd z
+tells_of layer (i ∷ is) (t ∷ ts) [] z w = absurd w
+tells_of layer (i ∷ is) (t ∷ ts) (r ∷ rs) z w = (
   record {
     job = t.job;
     at = z.0.at;
@@ -138,17 +137,17 @@ tells_of skip layer (i ∷ is) (t ∷ ts) (r ∷ rs) z w = (
     groups = w.0.groups;
     words = w.0.words;
   },
-  tells_of skip layer is ts rs z.1 w.1,
+  tells_of layer is ts rs z.1 w.1,
 )
 
-pub tells_all : (table : Layout) (ts : List PlacedJob) (rs : List JobRan) (before after : Span) → HaveRunOver table ts before rs after
+pub tells_all : (table : Layout) (skip : List SkipId) (ts : List PlacedJob) (rs : List JobRan) (before after : Span) → HaveRunOver table skip ts before rs after
     → AllZip Tells ts rs
-tells_all table [] [] before after run = tt
-tells_all table [] (r ∷ rs) before after run = absurd run
-tells_all table (t ∷ ts) [] before after run = absurd run
-tells_all table (t ∷ ts) (r ∷ rs) before after run = (
+tells_all table skip [] [] before after run = tt
+tells_all table skip [] (r ∷ rs) before after run = absurd run
+tells_all table skip (t ∷ ts) [] before after run = absurd run
+tells_all table skip (t ∷ ts) (r ∷ rs) before after run = (
   record { place = run.1.on.place; id = run.1.on.id; stamp = run.1.on.stamp; groups = run.1.on.groups; words = run.1.on.words },
-  tells_all table ts rs run.0 after run.2,
+  tells_all table skip ts rs run.0 after run.2,
 )
 
 -- ---- in their places
@@ -184,18 +183,18 @@ stand_at xs f (i ∷ is) (y ∷ ys) z =
     ap (λ o. o ∷ map (slice_get xs) is) z.0 ∙ ap (λ l. Some (f y) ∷ l) (stand_at xs f is ys z.1)
 
 -- each unit was run from what its shards had
-abbrev pub UnitsRunOn : List (List ℕ) → List Map → List (List ℕ) → List (List PlacedJob) → List (List JobRan) → Type 0
-UnitsRunOn sets maps (u ∷ us) (ts ∷ tss) (rs ∷ rss) =
-    HaveRunOn ts (union (span_at maps (unit_groups sets u))) rs × UnitsRunOn sets maps us tss rss
-UnitsRunOn sets maps _ _ _ = Unit {0}
+abbrev pub UnitsRunOn : List SkipId → List (List ℕ) → List Map → List (List ℕ) → List (List PlacedJob) → List (List JobRan) → Type 0
+UnitsRunOn skip sets maps (u ∷ us) (ts ∷ tss) (rs ∷ rss) =
+    HaveRunOn skip ts (union (span_at maps (unit_groups sets u))) rs × UnitsRunOn skip sets maps us tss rss
+UnitsRunOn skip sets maps _ _ _ = Unit {0}
 
 -- what became of the requests names places of the layer
-pub places_inside : (skip : List RequestId) (layer : List Job) (units : List (List ℕ)) (tss : List (List PlacedJob))
-    (rss : List (List JobRan)) → AreUnitsOf (groups_each layer) units → AllZip (AllZip (IsJobOf skip layer)) units tss
+pub places_inside : (layer : List Job) (units : List (List ℕ)) (tss : List (List PlacedJob))
+    (rss : List (List JobRan)) → AreUnitsOf (groups_each layer) units → AllZip (AllZip (IsJobOf layer)) units tss
     → AllZip (AllZip Tells) tss rss → (n : ℕ) → n ≡ length layer → AreInside n (flat rss)
-places_inside skip layer units tss rss of jobs tells n long =
-    each (concat units) (flat rss) (tells_of skip layer (concat units) (flat tss) (flat rss)
-    (zip_units (IsJobOf skip layer) units tss jobs)
+places_inside layer units tss rss of jobs tells n long =
+    each (concat units) (flat rss) (tells_of layer (concat units) (flat tss) (flat rss)
+    (zip_units (IsJobOf layer) units tss jobs)
     (zip_flat Tells tss rss tells))
   where
     each : (is : List ℕ) (rs : List JobRan) → AllZip (TellsOf layer) is rs → AreInside n rs
@@ -207,8 +206,8 @@ places_inside skip layer units tss rss of jobs tells n long =
       each is rs z.1,
     )
 
-module _ (skip : List RequestId) (layer : List Job) (units : List (List ℕ)) (tss : List (List PlacedJob)) (rss : List (List JobRan))
-    (of : AreUnitsOf (groups_each layer) units) (jobs : AllZip (AllZip (IsJobOf skip layer)) units tss)
+module _ (layer : List Job) (units : List (List ℕ)) (tss : List (List PlacedJob)) (rss : List (List JobRan))
+    (of : AreUnitsOf (groups_each layer) units) (jobs : AllZip (AllZip (IsJobOf layer)) units tss)
     (tells : AllZip (AllZip Tells) tss rss) (slots : List (Option JobRan))
     (is : slots ≡ placed (replicate (length layer) None) (flat rss)) where
   sets_length : length (groups_each layer) ≡ length layer
@@ -219,7 +218,7 @@ module _ (skip : List RequestId) (layer : List Job) (units : List (List ℕ)) (t
       map_length (j ∷ js) = ap suc (map_length js)
 
   by_place : AllZip (TellsOf layer) (concat units) (flat rss)
-  by_place = tells_of skip layer (concat units) (flat tss) (flat rss) (zip_units (IsJobOf skip layer) units tss jobs)
+  by_place = tells_of layer (concat units) (flat tss) (flat rss) (zip_units (IsJobOf layer) units tss jobs)
       (zip_flat Tells tss rss tells)
 
   pub below : (i : ℕ) → In i (concat units) → i < length layer
@@ -289,14 +288,14 @@ module _ (skip : List RequestId) (layer : List Job) (units : List (List ℕ)) (t
       split (i ∷ u) [] z w = absurd z
       split (i ∷ u) (y ∷ ys) z w = (let rest = split u ys z.1 w.1 in ((w.0, rest.0), rest.1))
 
-  tells_units : (us : List (List ℕ)) (xss : List (List PlacedJob)) (yss : List (List JobRan)) → AllZip (AllZip (IsJobOf skip layer)) us xss
+  tells_units : (us : List (List ℕ)) (xss : List (List PlacedJob)) (yss : List (List JobRan)) → AllZip (AllZip (IsJobOf layer)) us xss
       → AllZip (AllZip Tells) xss yss → AllZip (AllZip (TellsOf layer)) us yss
   tells_units [] [] [] z w = tt
   tells_units [] [] (ys ∷ yss) z w = absurd w
   tells_units [] (xs ∷ xss) yss z w = absurd z
   tells_units (u ∷ us) [] yss z w = absurd z
   tells_units (u ∷ us) (xs ∷ xss) [] z w = absurd w
-  tells_units (u ∷ us) (xs ∷ xss) (ys ∷ yss) z w = (tells_of skip layer u xs ys z.0 w.0, tells_units us xss yss z.1 w.1)
+  tells_units (u ∷ us) (xs ∷ xss) (ys ∷ yss) z w = (tells_of layer u xs ys z.0 w.0, tells_units us xss yss z.1 w.1)
 
   pub units_there : AllZip (AllZip (λ i r. slice_get slots i ≡ Some (Some r))) units rss
   units_there = at_units units rss (tells_units units tss rss jobs tells) in_slots
@@ -304,9 +303,9 @@ module _ (skip : List RequestId) (layer : List Job) (units : List (List ℕ)) (t
   abbrev pub outcomes : List (Option Content)
   outcomes = outcomes_of_ended done
 
-  pub outcomes_many : length outcomes ≡ length (commands_of layer)
+  pub outcomes_many : length outcomes ≡ length (tasks_of layer)
   outcomes_many = length-map done (λ (d : Ended). outcome d.reply) ∙ length-map (filled slots) ended_of ∙ length-filled slots full ∙ as_many
-      ∙ sym (length-map layer (λ (j : Job). j.asked.command))
+      ∙ sym (length-map layer (λ (j : Job). j.asked.batch))
 
   outcome_at : (i : ℕ) (r : JobRan) → slice_get slots i ≡ Some (Some r) → slice_get outcomes i ≡ Some (outcome r.reply)
   outcome_at i r e = get_map (λ (d : Ended). outcome d.reply) done i (ended_of r)
@@ -320,27 +319,27 @@ module _ (skip : List RequestId) (layer : List Job) (units : List (List ℕ)) (t
 
   -- ---- whom it starves
 
-  module _ (table : Layout) (maps : List Map) (is_table : IsTable table) (own : HasOwnKeys table maps)
+  module _ (table : Layout) (maps : List Map) (skip : List SkipId) (is_table : IsTable table) (own : HasOwnKeys table maps)
       (address : AddressTheirGroups table layer)
-      (runs : UnitsRunOn (groups_each layer) maps units tss rss) where
+      (runs : UnitsRunOn skip (groups_each layer) maps units tss rss) where
     abbrev met_by : List ℕ → Map
     met_by u = on_groups table (unit_groups (groups_each layer) u) (joined maps)
 
-    items : (is : List ℕ) (ts : List PlacedJob) (rs : List JobRan) → AllZip (IsJobOf skip layer) is ts
-        → AllZip (λ i r. slice_get slots i ≡ Some (Some r)) is rs → Items skip 0 layer done is ts rs
+    items : (is : List ℕ) (ts : List PlacedJob) (rs : List JobRan) → AllZip (IsJobOf layer) is ts
+        → AllZip (λ i r. slice_get slots i ≡ Some (Some r)) is rs → Items 0 layer done is ts rs
     items [] [] [] z w = tt
     items [] [] (r ∷ rs) z w = absurd w
     items [] (t ∷ ts) rs z w = absurd z
     items (i ∷ is) [] rs z w = absurd z
     items (i ∷ is) (t ∷ ts) [] z w = absurd w
     items (i ∷ is) (t ∷ ts) (r ∷ rs) z w = (
-      ((i, omega arith, z.0.at), (i, omega arith, get_map ended_of (filled slots) i r (at_filled slots full i r w.0)), z.0.skipped),
+      ((i, omega arith, z.0.at), (i, omega arith, get_map ended_of (filled slots) i r (at_filled slots full i r w.0))),
       items is ts rs z.1 w.1,
     )
 
     along : (us : List (List ℕ)) (xss : List (List PlacedJob)) (yss : List (List JobRan)) → ((u : List ℕ) → In u us → In u units)
-        → AllZip (AllZip (IsJobOf skip layer)) us xss → AllZip (AllZip (λ i r. slice_get slots i ≡ Some (Some r))) us yss
-        → UnitsRunOn (groups_each layer) maps us xss yss → (u : List ℕ) → In u us → StarveAlong skip u 0 layer done (met_by u)
+        → AllZip (AllZip (IsJobOf layer)) us xss → AllZip (AllZip (λ i r. slice_get slots i ≡ Some (Some r))) us yss
+        → UnitsRunOn skip (groups_each layer) maps us xss yss → (u : List ℕ) → In u us → StarveAlong skip u 0 layer done (met_by u)
     along [] xss yss sub z w run u there = absurd there
     along (v ∷ us) [] yss sub z w run u there = absurd z
     along (v ∷ us) (xs ∷ xss) [] sub z w run u there = absurd w
@@ -348,7 +347,7 @@ module _ (skip : List RequestId) (layer : List Job) (units : List (List ℕ)) (t
         subst (λ x. StarveAlong skip x 0 layer done (met_by x)) (sym e)
         (starve_along skip v 0 layer done v xs ys (met_by v) (λ k. refl) (of.each v (sub v (inl refl))).ascending (λ i there. omega arith)
         (items v xs ys z.0 w.0)
-        (subst (λ m. HaveRunOn xs m ys) (union-on_groups table maps (unit_groups (groups_each layer) v) own) run.0))
+        (subst (λ m. HaveRunOn skip xs m ys) (union-on_groups table maps (unit_groups (groups_each layer) v) own) run.0))
     along (v ∷ us) (xs ∷ xss) (ys ∷ yss) sub z w run u (inr later) = along us xss yss (λ x i. sub x (inr i)) z.1 w.1 run.1 u later
 
     pub starved : MayStarveInTurn table (joined maps) skip layer done
@@ -364,9 +363,9 @@ module _ (skip : List RequestId) (layer : List Job) (units : List (List ℕ)) (t
         long [] = refl
         long (r ∷ rs) = ap suc (long rs)
 
-    -- so the layer is done, where its commands were run
-    pub given : (new : List Map) → layers.LayerRan table maps (commands_of layer) outcomes new
-        → layers.AnsweredInTurn (joined maps) (commands_of layer) outcomes (joined new) → HasOwnKeys table new
+    -- so the layer is done, where its requests were run
+    pub given : (new : List Map) → layers.LayerRan table maps (tasks_of layer) outcomes new
+        → layers.AnsweredInTurn (joined maps) (tasks_of layer) outcomes (joined new) → HasOwnKeys table new
         → HaveGiven table maps skip layer slots new
     given new ran turn own' = record {
       full = full;
@@ -400,7 +399,7 @@ groups_in_row table n [] (r ∷ rs) long a z = absurd z
 groups_in_row table n (j ∷ js) [] long a z = tt
 groups_in_row table n (j ∷ js) (r ∷ rs) long a z = (
   (λ g there. subst (λ m. g < m) (sym long)
-      (task_groups-below table j.asked.command g (ap (λ gs. has gs g) (sym (z.0.0 ∙ a.0)) ∙ there))),
+      (task_groups-below table j.asked.batch g (ap (λ gs. has gs g) (sym (z.0.0 ∙ a.0)) ∙ there))),
   groups_in_row table n js rs long a.1 z.1,
 )
 
@@ -408,61 +407,61 @@ groups_in_row table n (j ∷ js) (r ∷ rs) long a z = (
 
 abbrev pub works_of : List (List ℕ) → List (List ℕ) → List (List PlacedJob) → List layers.Work
 works_of sets (u ∷ us) (ts ∷ tss) =
-    record { places = u; tasks = map (λ t. t.job.asked.command) ts; groups = unit_groups sets u } ∷ works_of sets us tss
+    record { places = u; tasks = map (λ t. t.job.asked.batch) ts; groups = unit_groups sets u } ∷ works_of sets us tss
 works_of sets _ _ = []
 
 groups_are : (table : Layout) (jobs : List Job) → AddressTheirGroups table jobs
-    → groups_each jobs ≡ map (task_groups table) (commands_of jobs)
+    → groups_each jobs ≡ map (task_groups table) (tasks_of jobs)
 groups_are table [] a = refl
 groups_are table (j ∷ js) a =
     ap (λ (g : List ℕ). g ∷ groups_each js) a.0
-    ∙ ap (λ (l : List (List ℕ)). task_groups table j.asked.command ∷ l) (groups_are table js a.1)
+    ∙ ap (λ (l : List (List ℕ)). task_groups table j.asked.batch ∷ l) (groups_are table js a.1)
 
 pub address_at : (table : Layout) (jobs : List Job) → AddressTheirGroups table jobs → (i : ℕ) (j : Job) → slice_get jobs i ≡ Some j
-    → j.groups ≡ task_groups table j.asked.command
+    → j.groups ≡ task_groups table j.asked.batch
 address_at table [] a i j e = absurd (let k = e in cc)
-address_at table (x ∷ jobs) a zero j e = subst (λ (v : Job). v.groups ≡ task_groups table v.asked.command) (same_some x j e) a.0
+address_at table (x ∷ jobs) a zero j e = subst (λ (v : Job). v.groups ≡ task_groups table v.asked.batch) (same_some x j e) a.0
 address_at table (x ∷ jobs) a (suc i) j e = address_at table jobs a.1 i j e
 
 -- each request of a unit has its groups
-pub unit_jobs : (skip : List RequestId) (layer : List Job) (unit : List ℕ) → IsUnit (groups_each layer) unit
+pub unit_jobs : (layer : List Job) (unit : List ℕ) → IsUnit (groups_each layer) unit
     → (is : List ℕ) (ts : List PlacedJob)
-    → ((i : ℕ) → has is i ≡ true → has unit i ≡ true) → AllZip (IsJobOf skip layer) is ts
+    → ((i : ℕ) → has is i ≡ true → has unit i ≡ true) → AllZip (IsJobOf layer) is ts
     → AllByRecursion (λ t. t.job.groups ≡ unit_groups (groups_each layer) unit) ts
-unit_jobs skip layer unit is [] [] sub z = tt
-unit_jobs skip layer unit is [] (t ∷ ts) sub z = absurd z
-unit_jobs skip layer unit is (i ∷ js) [] sub z = absurd z
-unit_jobs skip layer unit is (i ∷ js) (t ∷ ts) sub z = (
+unit_jobs layer unit is [] [] sub z = tt
+unit_jobs layer unit is [] (t ∷ ts) sub z = absurd z
+unit_jobs layer unit is (i ∷ js) [] sub z = absurd z
+unit_jobs layer unit is (i ∷ js) (t ∷ ts) sub z = (
   sym (get_set layer i t.job z.0.at) ∙ has_unit_groups (groups_each layer) unit is i (sub i (or_left _ _ (eq-eqb i i refl))),
-  unit_jobs skip layer unit is js ts (λ k there. sub k (or_right _ _ there)) z.1,
+  unit_jobs layer unit is js ts (λ k there. sub k (or_right _ _ there)) z.1,
 )
 
-jobs_address : (table : Layout) (skip : List RequestId) (layer : List Job) → AddressTheirGroups table layer
+jobs_address : (table : Layout) (layer : List Job) → AddressTheirGroups table layer
     → (is : List ℕ) (ts : List PlacedJob)
-    → AllZip (IsJobOf skip layer) is ts → AllByRecursion (λ t. t.job.groups ≡ task_groups table t.job.asked.command) ts
-jobs_address table skip layer a [] [] z = tt
-jobs_address table skip layer a [] (t ∷ ts) z = absurd z
-jobs_address table skip layer a (i ∷ is) [] z = absurd z
-jobs_address table skip layer a (i ∷ is) (t ∷ ts) z =
-    (address_at table layer a i t.job z.0.at, jobs_address table skip layer a is ts z.1)
+    → AllZip (IsJobOf layer) is ts → AllByRecursion (λ t. t.job.groups ≡ task_groups table t.job.asked.batch) ts
+jobs_address table layer a [] [] z = tt
+jobs_address table layer a [] (t ∷ ts) z = absurd z
+jobs_address table layer a (i ∷ is) [] z = absurd z
+jobs_address table layer a (i ∷ is) (t ∷ ts) z =
+    (address_at table layer a i t.job z.0.at, jobs_address table layer a is ts z.1)
 
-pub are_ready : (table : Layout) (skip : List RequestId) (layer : List Job) → IsTable table → AddressTheirGroups table layer
+pub are_ready : (table : Layout) (layer : List Job) → IsTable table → AddressTheirGroups table layer
     → (unit : List ℕ)
-    (ts : List PlacedJob) (span : Span) → IsUnit (groups_each layer) unit → AllZip (IsJobOf skip layer) unit ts
+    (ts : List PlacedJob) (span : Span) → IsUnit (groups_each layer) unit → AllZip (IsJobOf layer) unit ts
     → numbers span ≡ unit_groups (groups_each layer) unit → SpanHasOwnKeys table span → AllByRecursion (λ t. IsReadyFor table t span) ts
-are_ready table skip layer t a unit ts span is z ns own =
-    each ts (unit_jobs skip layer unit is unit ts (λ i h. h) z) (jobs_address table skip layer a unit ts z)
+are_ready table layer t a unit ts span is z ns own =
+    each ts (unit_jobs layer unit is unit ts (λ i h. h) z) (jobs_address table layer a unit ts z)
   where
     each : (us : List PlacedJob) → AllByRecursion (λ u. u.job.groups ≡ unit_groups (groups_each layer) unit) us
-        → AllByRecursion (λ u. u.job.groups ≡ task_groups table u.job.asked.command) us → AllByRecursion (λ u. IsReadyFor table u span) us
+        → AllByRecursion (λ u. u.job.groups ≡ task_groups table u.job.asked.batch) us → AllByRecursion (λ u. IsReadyFor table u span) us
     each [] g b = tt
     each (u ∷ us) g b = (record { is_table = t; groups = b.0; numbers = ns ∙ sym g.0; own = own }, each us g.1 b.1)
 
--- they are the units of the layer's commands
-pub are_works : (table : Layout) (skip : List RequestId) (layer : List Job) (units : List (List ℕ)) (tss : List (List PlacedJob))
-    → AddressTheirGroups table layer → AreUnitsOf (groups_each layer) units → AllZip (AllZip (IsJobOf skip layer)) units tss
-    → layers.AreWorksOf table (commands_of layer) (works_of (groups_each layer) units tss)
-are_works table skip layer units tss a of z = record {
+-- they are the units of the layer's tasks
+pub are_works : (table : Layout) (layer : List Job) (units : List (List ℕ)) (tss : List (List PlacedJob))
+    → AddressTheirGroups table layer → AreUnitsOf (groups_each layer) units → AllZip (AllZip (IsJobOf layer)) units tss
+    → layers.AreWorksOf table (tasks_of layer) (works_of (groups_each layer) units tss)
+are_works table layer units tss a of z = record {
   units = subst (λ sets. AreUnitsOf sets (map (λ (w : layers.Work). w.places) (works_of (groups_each layer) units tss)))
       (groups_are table layer a)
       (subst (AreUnitsOf (groups_each layer)) (sym (places units tss z)) of);
@@ -470,37 +469,37 @@ are_works table skip layer units tss a of z = record {
   groups = groups units tss (λ u i. i) z;
 }
   where
-    places : (us : List (List ℕ)) (xss : List (List PlacedJob)) → AllZip (AllZip (IsJobOf skip layer)) us xss
+    places : (us : List (List ℕ)) (xss : List (List PlacedJob)) → AllZip (AllZip (IsJobOf layer)) us xss
         → ◌≡◌ {A = List (List ℕ)} (map (λ (w : layers.Work). w.places) (works_of (groups_each layer) us xss)) us
     places [] [] z = refl
     places [] (xs ∷ xss) z = absurd z
     places (u ∷ us) [] z = absurd z
     places (u ∷ us) (xs ∷ xss) z = ap (λ (l : List (List ℕ)). u ∷ l) (places us xss z.1)
 
-    commands : (is : List ℕ) (ts : List PlacedJob) → AllZip (IsJobOf skip layer) is ts
-        → AllZip (λ i t. slice_get (commands_of layer) i ≡ Some t.job.asked.command) is ts
-    commands is ts z = zip_map (IsJobOf skip layer) (λ i t. slice_get (commands_of layer) i ≡ Some t.job.asked.command)
-        (λ i t of. get_map (λ (j : Job). j.asked.command) layer i t.job of.at) is ts z
+    tasks : (is : List ℕ) (ts : List PlacedJob) → AllZip (IsJobOf layer) is ts
+        → AllZip (λ i t. slice_get (tasks_of layer) i ≡ Some t.job.asked.batch) is ts
+    tasks is ts z = zip_map (IsJobOf layer) (λ i t. slice_get (tasks_of layer) i ≡ Some t.job.asked.batch)
+        (λ i t of. get_map (λ (j : Job). j.asked.batch) layer i t.job of.at) is ts z
 
-    stand : (us : List (List ℕ)) (xss : List (List PlacedJob)) → AllZip (AllZip (IsJobOf skip layer)) us xss → (w : layers.Work)
-        → In w (works_of (groups_each layer) us xss) → layers.StandAt (commands_of layer) w.places w.tasks
+    stand : (us : List (List ℕ)) (xss : List (List PlacedJob)) → AllZip (AllZip (IsJobOf layer)) us xss → (w : layers.Work)
+        → In w (works_of (groups_each layer) us xss) → layers.StandAt (tasks_of layer) w.places w.tasks
     stand [] xss z w there = absurd there
     stand (u ∷ us) [] z w there = absurd there
-    stand (u ∷ us) (xs ∷ xss) z w (inl e) = subst (λ v. layers.StandAt (commands_of layer) v.places v.tasks) (sym e)
-        (stand_at (commands_of layer) (λ t. t.job.asked.command) u xs (commands u xs z.0))
+    stand (u ∷ us) (xs ∷ xss) z w (inl e) = subst (λ v. layers.StandAt (tasks_of layer) v.places v.tasks) (sym e)
+        (stand_at (tasks_of layer) (λ t. t.job.asked.batch) u xs (tasks u xs z.0))
     stand (u ∷ us) (xs ∷ xss) z w (inr later) = stand us xss z.1 w later
 
     groups : (us : List (List ℕ)) (xss : List (List PlacedJob)) → ((u : List ℕ) → In u us → In u units)
-        → AllZip (AllZip (IsJobOf skip layer)) us xss → (w : layers.Work) (c : Task)
+        → AllZip (AllZip (IsJobOf layer)) us xss → (w : layers.Work) (c : Task)
         → In w (works_of (groups_each layer) us xss) → In c w.tasks → task_groups table c ≡ w.groups
     groups [] xss sub z w c there in_it = absurd there
     groups (u ∷ us) [] sub z w c there in_it = absurd there
     groups (u ∷ us) (xs ∷ xss) sub z w c (inl e) in_it = subst (λ v. task_groups table c ≡ v.groups) (sym e)
-        (one xs (unit_jobs skip layer u (of.each u (sub u (inl refl))) u xs (λ i h. h) z.0) (jobs_address table skip layer a u xs z.0)
+        (one xs (unit_jobs layer u (of.each u (sub u (inl refl))) u xs (λ i h. h) z.0) (jobs_address table layer a u xs z.0)
         (subst (λ v. In c v.tasks) e in_it))
       where
         one : (ts : List PlacedJob) → AllByRecursion (λ t. t.job.groups ≡ unit_groups (groups_each layer) u) ts
-            → AllByRecursion (λ t. t.job.groups ≡ task_groups table t.job.asked.command) ts → In c (map (λ t. t.job.asked.command) ts)
+            → AllByRecursion (λ t. t.job.groups ≡ task_groups table t.job.asked.batch) ts → In c (map (λ t. t.job.asked.batch) ts)
             → task_groups table c ≡ unit_groups (groups_each layer) u
         one [] g b there = absurd there
         one (t ∷ ts) g b (inl e) = ap (task_groups table) e ∙ sym b.0 ∙ g.0

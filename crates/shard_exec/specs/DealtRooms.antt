@@ -3,7 +3,6 @@ use Rattle.std.specs.Prelude.{◌≡◌, ℕ, ◌≤◌, ◌<◌, true, List, []
 use Rattle.std.specs.FinMap.{empty}
 use Rattle.std.specs.List.{AllZip, AllByRecursion}
 use Rattle.groups.specs.GroupSet.{has}
-use Rattle.groups.specs.declared.request.RequestId.{RequestId}
 use Rattle.keyspace.specs.Map.{Map}
 use Rattle.layer_planner.specs.Units.{groups_at}
 use Rattle.layer_planner.specs.declared.job.Job.{Job}
@@ -59,9 +58,9 @@ all_rooms (r ∷ rs) = r.units.items ++ all_rooms rs
 
 -- these units were made, one after another, of the requests at their places and of the shards of their groups, and this is
 -- left of the row
-abbrev pub MadeWorks : List RequestId → List (Option Job) → List Map → List (List ℕ) → List UnitRoom → List Work → List Map → Type 0
-MadeWorks skip slots row [] [] [] left = left ≡ row
-MadeWorks skip slots row (u ∷ us) (m ∷ ms) (w ∷ ws) left =
-    TookJobs skip slots u w.jobs.items × (w.shards.items ≡ taken_out empty row m.groups)
-    × MadeWorks skip (left_at slots u) (emptied empty row m.groups) us ms ws left
-MadeWorks skip slots row _ _ _ left = ⊥
+abbrev pub MadeWorks : List (Option Job) → List Map → List (List ℕ) → List UnitRoom → List Work → List Map → Type 0
+MadeWorks slots row [] [] [] left = left ≡ row
+MadeWorks slots row (u ∷ us) (m ∷ ms) (w ∷ ws) left =
+    TookJobs slots u w.jobs.items × (w.shards.items ≡ taken_out empty row m.groups)
+    × MadeWorks (left_at slots u) (emptied empty row m.groups) us ms ws left
+MadeWorks slots row _ _ _ left = ⊥

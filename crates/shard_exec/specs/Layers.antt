@@ -1,15 +1,15 @@
 -- A layer that is run over the store: what it needs, and what comes of it.
-use Rattle.std.specs.Prelude.{◌≡◌, ℕ, ◌<◌, Bool, true, false, List, [], ◌∷◌, length, map, Option, Some, None, IsSome, slice_get, slice_set}
+use Rattle.std.specs.Prelude.{◌≡◌, ℕ, ◌<◌, true, false, List, [], ◌∷◌, length, map, Option, Some, None, IsSome, slice_get, slice_set}
 use Rattle.std.specs.FinMap.{retain_keys}
-use Rattle.std.specs.List.{AllZip, AllByRecursion, list_any}
+use Rattle.std.specs.List.{AllZip, AllByRecursion}
 use Rattle.groups.specs.GroupSet.{has}
-use Rattle.groups.specs.Request.{same_id}
-use Rattle.groups.specs.declared.request.RequestId.{RequestId}
+use Rattle.groups.specs.Skips.{names_whole, parts_of}
+use Rattle.groups.specs.declared.skip_id.SkipId.{SkipId}
 use Rattle.keyspace.specs.Map.{Map}
 use Rattle.layer_planner.specs.declared.job.Job.{Job}
 use Rattle.placement.specs.Layout.{Layout, shard_of}
 use Rattle.resp.specs.Content.{Content}
-use Rattle.tasks.specs.Tasks.{Task, task_groups, task_effect, task_takes_memory}
+use Rattle.tasks.specs.Tasks.{Task, task_groups, deed_effect, deed_of, task_takes_memory, MembersStarveRightly}
 use Rattle.shard_exec.specs.Dealing.{filled}
 use Rattle.shard_exec.specs.declared.done.Ended.{Ended}
 use Rattle.shard_maps.specs.Joined.{joined, HasOwnKeys}
@@ -18,16 +18,12 @@ use Rattle.shard_workers.specs.PlacedJobs.{outcome}
 use Rattle.shard_workers.specs.declared.placed_job.PlacedJob.{PlacedJob}
 use Rattle.shard_workers.specs.declared.placed_job.JobRan.{JobRan}
 
-abbrev pub commands_of : List Job → List Task
-commands_of jobs = map (λ j. j.asked.command) jobs
+abbrev pub tasks_of : List Job → List Task
+tasks_of jobs = map (λ j. j.asked.batch) jobs
 
--- each request addresses the groups that the table gives its command
+-- each request addresses the groups that the table gives its batch
 abbrev pub AddressTheirGroups : Layout → List Job → Type 0
-AddressTheirGroups table jobs = AllByRecursion (λ j. j.groups ≡ task_groups table j.asked.command) jobs
-
--- the request is one of those that are to be skipped
-abbrev pub is_named : List RequestId → RequestId → Bool
-is_named skip id = list_any (same_id id) skip
+AddressTheirGroups table jobs = AllByRecursion (λ j. j.groups ≡ task_groups table j.asked.batch) jobs
 
 -- what each request was answered; nothing where it starved
 abbrev pub outcomes_of_ended : List Ended → List (Option Content)
@@ -37,26 +33,29 @@ outcomes_of_ended done = map (λ e. outcome e.reply) done
 abbrev pub on_groups : Layout → List ℕ → Map → Map
 on_groups table groups m = retain_keys m (λ key. has groups (shard_of table key))
 
--- A request that starved was to be skipped, or its command, on what the shards of its groups have of the map that it met,
--- takes memory or answers text; and one that was to be skipped starved.
-pub record MayStarve (table : Layout) (met : Map) (skip : List RequestId) (j : Job) (e : Ended) : Type 0 where
-  pub skipped : is_named skip j.id ≡ true → outcome e.reply ≡ None
-  pub starved : is_named skip j.id ≡ false → outcome e.reply ≡ None
-      → task_takes_memory j.asked.command (on_groups table j.groups met)
+-- A request that starved was to be skipped, or its batch, on what the shards of its groups have of the map that it met, takes
+-- memory as a whole; and one that was to be skipped starved. Of the members of one that didn't starve those did that were to be
+-- skipped, and others only where they take memory on what they met.
+pub record MayStarve (table : Layout) (met : Map) (skip : List SkipId) (j : Job) (e : Ended) : Type 0 where
+  pub skipped : names_whole skip j.id ≡ true → outcome e.reply ≡ None
+  pub starved : names_whole skip j.id ≡ false → outcome e.reply ≡ None
+      → task_takes_memory j.asked.batch (on_groups table j.groups met)
+  pub members : (reply : Content) → outcome e.reply ≡ Some reply
+      → MembersStarveRightly (parts_of skip j.id) j.asked.batch (on_groups table j.groups met) reply
 
--- what a command leaves of the map that it meets, by what it answers: where it starves, the map as it is
+-- what a task leaves of the map that it meets, by what it answers: where it starves, the map as it is
 abbrev pub left_by : Task → Map → Option Content → Map
-left_by command met None = met
-left_by command met (Some reply) = (task_effect command met).0
+left_by task met None = met
+left_by task met (Some reply) = (deed_effect (deed_of task reply) met).0
 
 -- So of each request of a layer: it meets the map that those before it left. What this has on its shards is what they had
 -- before the layer, as the earlier requests of its unit left it, since no other one addresses them.
-abbrev pub MayStarveInTurn : Layout → Map → List RequestId → List Job → List Ended → Type 0
+abbrev pub MayStarveInTurn : Layout → Map → List SkipId → List Job → List Ended → Type 0
 MayStarveInTurn table met skip [] [] = Unit {0}
 MayStarveInTurn table met skip [] (e ∷ es) = ⊥
 MayStarveInTurn table met skip (j ∷ js) [] = ⊥
 MayStarveInTurn table met skip (j ∷ js) (e ∷ es) =
-    MayStarve table met skip j e × MayStarveInTurn table (left_by j.asked.command met (outcome e.reply)) skip js es
+    MayStarve table met skip j e × MayStarveInTurn table (left_by j.asked.batch met (outcome e.reply)) skip js es
 
 -- the rows tell of these requests, in their order, each with its words
 abbrev pub IsOf : Job → Ended → Type 0
@@ -65,11 +64,11 @@ IsOf j e = (e.id ≡ j.id) × (e.stamp ≡ j.stamp) × (e.words ≡ j.asked.word
 -- The requests of a layer were run over the shards, unit by unit, each over those of its groups, which comes to the same as
 -- one after another on the joined map, in the order of the layer, the starved ones skipped. Other shards are as they were,
 -- and each shard has only its own keys.
-pub record IsDone (table : Layout) (old : List Map) (skip : List RequestId) (layer : List Job) (done : List Ended) (new : List Map)
+pub record IsDone (table : Layout) (old : List Map) (skip : List SkipId) (layer : List Job) (done : List Ended) (new : List Map)
     : Type 0 where
   pub told : AllZip IsOf layer done
-  pub in_turn : AnsweredInTurn (joined old) (commands_of layer) (outcomes_of_ended done) (joined new)
-  pub shards : LayerRan table old (commands_of layer) (outcomes_of_ended done) new
+  pub in_turn : AnsweredInTurn (joined old) (tasks_of layer) (outcomes_of_ended done) (joined new)
+  pub shards : LayerRan table old (tasks_of layer) (outcomes_of_ended done) new
   pub own : HasOwnKeys table new
   pub starved : MayStarveInTurn table (joined old) skip layer done
 
@@ -79,18 +78,17 @@ pub record IsDone (table : Layout) (old : List Map) (skip : List RequestId) (lay
 abbrev pub IsInside : ℕ → Job → Type 0
 IsInside shards j = (g : ℕ) → has j.groups g ≡ true → g < shards
 
--- this is the request in a slot, with its place, and whether it is to be skipped
-pub record IsJobAt (skip : List RequestId) (slots : List (Option Job)) (at : ℕ) (t : PlacedJob) : Type 0 where
+-- this is the request in a slot, with its place
+pub record IsJobAt (slots : List (Option Job)) (at : ℕ) (t : PlacedJob) : Type 0 where
   pub there : slice_get slots at ≡ Some (Some t.job)
   pub place : t.place ≡ at
-  pub skipped : t.skipped ≡ is_named skip t.job.id
 
 -- these were taken from these places, one after another
-abbrev pub TookJobs : List RequestId → List (Option Job) → List ℕ → List PlacedJob → Type 0
-TookJobs skip slots [] [] = Unit {0}
-TookJobs skip slots [] (t ∷ ts) = ⊥
-TookJobs skip slots (i ∷ is) [] = ⊥
-TookJobs skip slots (i ∷ is) (t ∷ ts) = IsJobAt skip slots i t × TookJobs skip (slice_set slots i None) is ts
+abbrev pub TookJobs : List (Option Job) → List ℕ → List PlacedJob → Type 0
+TookJobs slots [] [] = Unit {0}
+TookJobs slots [] (t ∷ ts) = ⊥
+TookJobs slots (i ∷ is) [] = ⊥
+TookJobs slots (i ∷ is) (t ∷ ts) = IsJobAt slots i t × TookJobs (slice_set slots i None) is ts
 
 abbrev pub ended_of : JobRan → Ended
 ended_of r = record { id = r.id; stamp = r.stamp; words = r.words; reply = r.reply }
@@ -100,7 +98,7 @@ abbrev pub HasItsGroups : Job → JobRan → Type 0
 HasItsGroups j r = (r.groups ≡ j.groups) × (r.stamp ≡ j.stamp)
 
 -- in each place stands what became of its request, and so the layer is done
-pub record HaveGiven (table : Layout) (old : List Map) (skip : List RequestId) (layer : List Job) (slots : List (Option JobRan))
+pub record HaveGiven (table : Layout) (old : List Map) (skip : List SkipId) (layer : List Job) (slots : List (Option JobRan))
     (new : List Map) : Type 0 where
   pub full : AllByRecursion IsSome slots
   pub as_many : length slots ≡ length layer

@@ -4,7 +4,7 @@ use Rattle.std.specs.FinMap.{empty}
 use Rattle.std.proofs.Math.ListN.{replicate}
 use Rattle.layer_planner.specs.declared.job.Job.{Job}
 use Rattle.placement.specs.Layout.{Layout}
-use Rattle.groups.specs.declared.request.RequestId.{RequestId}
+use Rattle.groups.specs.declared.skip_id.SkipId.{SkipId}
 use Rattle.groups.specs.declared.stamp.Stamp.{Stamp}
 use Rattle.shard_exec.specs.declared.done.Ended.{Ended}
 use Rattle.shard_exec.specs.declared.done.ExecFault.{ExecFault}
@@ -18,7 +18,7 @@ abbrev pub empty_store : Layout → StoreState
 empty_store table = record { table = table; maps = replicate table.shards empty; lasts = replicate table.shards None; failed = false }
 
 -- the layer was run: its stamps were above the last ones of its shards, and they are the last ones now
-pub record HasRunLayer (old : StoreState) (skip : List RequestId) (layer : List Job) (ended : List Ended) (new : StoreState) : Type 0 where
+pub record HasRunLayer (old : StoreState) (skip : List SkipId) (layer : List Job) (ended : List Ended) (new : StoreState) : Type 0 where
   pub lives : old.failed ≡ false
   pub fresh : AreFresh old.lasts layer
   pub done : IsDone old.table old.maps skip layer ended new.maps

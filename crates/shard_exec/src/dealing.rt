@@ -13,7 +13,6 @@ ghost use Rattle.shard_maps.specs.Rows.{taken_out, emptied};
 use crate::dealt_room::{LoadRoom, UnitRoom};
 use crate::moves::take_shards;
 use crate::taking::take_jobs;
-use groups::RequestId;
 use layer_planner::{Job, Part};
 use shard_workers::{Load, Work};
 use shards::{Shard, ShardHasher};
@@ -26,7 +25,6 @@ pub fn take_loads(
     row: &mut Vec<Shard>,
     slots: Vec<Option<Job>>,
     plan: &[Part],
-    skip: &[RequestId],
     rooms: Vec<LoadRoom>,
     loads: Vec<Load>,
 ) -> Vec<Load>
@@ -35,7 +33,7 @@ pub fn take_loads(
     requires inside { AllByRecursion (IsInRow (length row.old.items)) (all_rooms rooms.items) }
     requires none { loads.items ≡ [] }
     requires room { length plan.now ≤ vec_capacity loads }
-    ensures made { MadeWorks skip.now slots.items row.old.items (units_in plan.now) (all_rooms rooms.items)
+    ensures made { MadeWorks slots.items row.old.items (units_in plan.now) (all_rooms rooms.items)
         (all_works result.items) row.new.items }
     ensures loads { length result.items ≡ length plan.now }
 {
@@ -46,7 +44,7 @@ pub fn take_loads(
         let Some(room) = rooms.next() else {
             unreachable!()
         };
-        let Ok(()) = loads.push(take_load(alloc, hasher, row, &mut slots, part, skip, room)) else {
+        let Ok(()) = loads.push(take_load(alloc, hasher, row, &mut slots, part, room)) else {
             unreachable!()
         };
     }
@@ -60,19 +58,18 @@ fn take_load(
     row: &mut Vec<Shard>,
     slots: &mut Vec<Option<Job>>,
     part: &Part,
-    skip: &[RequestId],
     room: LoadRoom,
 ) -> Load
     requires there { CanTake slots.old.items (concat part.now) }
     requires room { HaveRoomFor part.now room }
     requires inside { AllByRecursion (IsInRow (length row.old.items)) room.units.items }
-    ensures made { MadeWorks skip.now slots.old.items row.old.items part.now room.units.items
+    ensures made { MadeWorks slots.old.items row.old.items part.now room.units.items
         result.works.items row.new.items }
     ensures left { slots.new.items ≡ left_at slots.old.items (concat part.now) }
     ensures len { length row.new.items ≡ length row.old.items }
 {
     let LoadRoom { units, works, rans } = room;
-    let works = take_units(alloc, hasher, row, slots, part, skip, units, works);
+    let works = take_units(alloc, hasher, row, slots, part, units, works);
     Load::new(works, rans)
 }
 
@@ -83,7 +80,6 @@ fn take_units(
     row: &mut Vec<Shard>,
     slots: &mut Vec<Option<Job>>,
     part: &Part,
-    skip: &[RequestId],
     rooms: Vec<UnitRoom>,
     works: Vec<Work>,
 ) -> Vec<Work>
@@ -92,7 +88,7 @@ fn take_units(
     requires inside { AllByRecursion (IsInRow (length row.old.items)) rooms.items }
     requires none { works.items ≡ [] }
     requires room { length part.now ≤ vec_capacity works }
-    ensures made { MadeWorks skip.now slots.old.items row.old.items part.now rooms.items result.items row.new.items }
+    ensures made { MadeWorks slots.old.items row.old.items part.now rooms.items result.items row.new.items }
     ensures left { slots.new.items ≡ left_at slots.old.items (concat part.now) }
     ensures count { length result.items ≡ length part.now }
     ensures len { length row.new.items ≡ length row.old.items }
@@ -104,7 +100,7 @@ fn take_units(
             unreachable!()
         };
         let unit = part.unit(number);
-        let Ok(()) = works.push(take_unit(alloc, hasher, row, slots, unit, skip, room)) else {
+        let Ok(()) = works.push(take_unit(alloc, hasher, row, slots, unit, room)) else {
             unreachable!()
         };
     }
@@ -118,13 +114,12 @@ fn take_unit(
     row: &mut Vec<Shard>,
     slots: &mut Vec<Option<Job>>,
     places: &[usize],
-    skip: &[RequestId],
     room: UnitRoom,
 ) -> Work
     requires there { CanTake slots.old.items places.now }
     requires room { HasRoomFor places.now room }
     requires inside { IsInRow (length row.old.items) room }
-    ensures took { TookJobs skip.now slots.old.items places.now result.jobs.items }
+    ensures took { TookJobs slots.old.items places.now result.jobs.items }
     ensures left { slots.new.items ≡ left_at slots.old.items places.now }
     ensures shards { result.shards.items ≡ taken_out empty row.old.items room.groups }
     ensures row { row.new.items ≡ emptied empty row.old.items room.groups }
@@ -135,7 +130,7 @@ fn take_unit(
         rans,
         span,
     } = room;
-    let jobs = take_jobs(slots, places, skip, jobs);
+    let jobs = take_jobs(slots, places, jobs);
     let shards = take_shards(alloc, hasher, row, groups, span);
     Work::new(jobs, rans, shards)
 }

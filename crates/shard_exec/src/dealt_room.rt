@@ -30,13 +30,13 @@ pub struct LoadRoom {
 
 /// Room for the loads of a layer, and what the workers need.
 #[derive(Drop)]
-pub struct DealtRoom {
+pub struct DealtRoom<'s> {
     pub rooms: Vec<LoadRoom>,
     pub loads: Vec<Load>,
-    pub room: Room,
+    pub room: Room<'s>,
 }
 
-impl DealtRoom {
+impl<'s> DealtRoom<'s> {
     /// The room for a layer that is divided by this plan among these workers.
     pub fn reserve<W: Workers>(
         alloc: Global,

@@ -16,27 +16,27 @@ use crate::dealing::take_loads;
 use crate::dealt_room::DealtRoom;
 use crate::moves::put_back;
 use crate::taking::place_rans;
-use groups::RequestId;
+use groups::SkipId;
 use layer_planner::{Job, Part};
 use placement::Table;
 use shard_workers::{Gate, JobRan, Ran, Refused, Workers};
 use shards::{Shard, ShardHasher};
 use std::alloc::Global;
 
-/// Runs the units of a layer, dealt to the workers by this plan, and puts what became of each request in its place. It takes
-/// no memory but the commands' own. With `Refused` the shards that were taken out are lost, and empty ones stand in their
+/// Runs the units of a layer but for what `skip` names, dealt to the workers by this plan, and puts what became of each request in its place. It takes
+/// no memory but the requests' own. With `Refused` the shards that were taken out are lost, and empty ones stand in their
 /// places.
-pub fn run_dealt<W: Workers>(
+pub fn run_dealt<'s, W: Workers>(
     alloc: Global,
     table: &Table,
     hasher: ShardHasher,
     row: &mut Vec<Shard>,
     slots: Vec<Option<Job>>,
     plan: &[Part],
-    skip: &[RequestId],
+    skip: &'s [SkipId],
     workers: &W,
     gate: &(dyn Gate + Sync),
-    dealt: DealtRoom,
+    dealt: DealtRoom<'s>,
     rans: Vec<Option<JobRan>>,
 ) -> Result<Vec<Option<JobRan>>, Refused>
     requires is_table { IsTable table.now }
@@ -55,8 +55,8 @@ pub fn run_dealt<W: Workers>(
     ensures own { HasOwnKeys table.now row.new.items }
 {
     let DealtRoom { rooms, loads, room } = dealt;
-    let loads = take_loads(alloc, hasher, row, slots, plan, skip, rooms, loads);
-    let results = match workers.run_loads(alloc, table, gate, room, loads) {
+    let loads = take_loads(alloc, hasher, row, slots, plan, rooms, loads);
+    let results = match workers.run_loads(alloc, table, skip, gate, room, loads) {
         Ok(results) => results,
         Err(refused) => return Err(refused),
     };

@@ -24,7 +24,7 @@ pub enum ExecFault {
     Memory(Layer),
     /// 3: a worker could not be started, now or earlier. No later layer is run.
     Failed,
-    /// 4: one of its requests addresses other groups than the table gives its command. Nothing has changed. A store asks
+    /// 4: one of its requests addresses other groups than the table gives its batch. Nothing has changed. A store asks
     /// its caller to see to that, and never answers it.
     Foreign(Layer),
 }

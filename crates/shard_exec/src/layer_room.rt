@@ -16,23 +16,23 @@ use std::alloc::{AllocError, Global};
 /// Room for the requests of a layer, for what became of each, for what is told of them, and for the way in which they are
 /// run.
 #[derive(Drop)]
-pub struct LayerRoom {
+pub struct LayerRoom<'s> {
     pub slots: Vec<Option<Job>>,
     pub rans: Vec<Option<JobRan>>,
     pub done: Vec<Ended>,
-    pub runs: RunRoom,
+    pub runs: RunRoom<'s>,
 }
 
 /// The units of a layer as they are to be run, and the room for that.
 #[derive(Drop)]
-pub enum RunRoom {
+pub enum RunRoom<'s> {
     /// By the caller, where their shards stand: there is room for the shards of each request of several groups.
     InRow(Part, Vec<Vec<(GroupId, Shard)>>),
     /// By several workers.
-    Dealt(Vec<Part>, DealtRoom),
+    Dealt(Vec<Part>, DealtRoom<'s>),
 }
 
-impl LayerRoom {
+impl<'s> LayerRoom<'s> {
     /// The room for this layer with these workers.
     pub fn reserve<W: Workers>(
         alloc: Global,
@@ -57,7 +57,7 @@ impl LayerRoom {
     }
 }
 
-impl RunRoom {
+impl<'s> RunRoom<'s> {
     /// The units of this layer, and the room for them with these workers.
     fn reserve<W: Workers>(alloc: Global, layer: &Layer, workers: &W) -> Result<Self, AllocError>
         requires { 0 < length layer.now }

@@ -15,27 +15,27 @@ use crate::Ended;
 use crate::dealt_run::run_dealt;
 use crate::layer_room::{LayerRoom, RunRoom};
 use crate::row_run::{run_in_row, run_places};
-use crate::taking::{in_slots, is_named, tell, tell_all};
-use groups::{GroupId, RequestId, Stamp};
+use crate::taking::{in_slots, tell, tell_all};
+use groups::{GroupId, SkipId, Stamp};
 use layer_planner::Job;
 use placement::Table;
 use shard_workers::{Gate, JobRan, PlacedJob, Refused, Workers};
 use shards::{Shard, ShardHasher};
 use std::alloc::Global;
 
-/// Runs the requests of a layer unit by unit, each over the shards of its groups, and tells what became of each. With
+/// Runs the requests of a layer but for what `skip` names, unit by unit, each over the shards of its groups, and tells what became of each. With
 /// `Refused` the shards that were taken out are lost, and empty ones stand in their places.
-pub fn run_layer_over<W: Workers>(
+pub fn run_layer_over<'s, W: Workers>(
     alloc: Global,
     table: &Table,
     hasher: ShardHasher,
     row: &mut Vec<Shard>,
     lasts: &mut Vec<Option<Stamp>>,
     jobs: Vec<Job>,
-    skip: &[RequestId],
+    skip: &'s [SkipId],
     workers: &W,
     gate: &(dyn Gate + Sync),
-    room: LayerRoom,
+    room: LayerRoom<'s>,
 ) -> Result<Vec<Ended>, Refused>
     requires is_table { IsTable table.now }
     requires shards { length row.old.items ≡ table.now.shards }
@@ -69,16 +69,16 @@ pub fn run_layer_over<W: Workers>(
 }
 
 /// Runs the units of a layer, in the row or by the workers, and puts what became of each request in its place.
-fn run_units<W: Workers>(
+fn run_units<'s, W: Workers>(
     alloc: Global,
     table: &Table,
     hasher: ShardHasher,
     row: &mut Vec<Shard>,
     slots: Vec<Option<Job>>,
-    skip: &[RequestId],
+    skip: &'s [SkipId],
     workers: &W,
     gate: &(dyn Gate + Sync),
-    runs: RunRoom,
+    runs: RunRoom<'s>,
     rans: Vec<Option<JobRan>>,
 ) -> Result<Vec<Option<JobRan>>, Refused>
     requires is_table { IsTable table.now }
@@ -125,7 +125,7 @@ fn run_units<W: Workers>(
 }
 
 /// Runs a request that is alone in its layer over the shards of its groups, which `span` has room for, and tells what
-/// became of it. It takes no memory but the command's own.
+/// became of it. It takes no memory but the request's own.
 // Inlined up to the layer of one request, which then moves its request and what came of it fewer times.
 #[inline(always)]
 pub fn run_alone(
@@ -135,7 +135,7 @@ pub fn run_alone(
     row: &mut Vec<Shard>,
     lasts: &mut Vec<Option<Stamp>>,
     job: Job,
-    skip: &[RequestId],
+    skip: &[SkipId],
     gate: &(dyn Gate + Sync),
     span: Vec<(GroupId, Shard)>,
 ) -> Ended
@@ -143,7 +143,7 @@ pub fn run_alone(
     requires shards { length row.old.items ≡ table.now.shards }
     requires lasts { length lasts.old.items ≡ table.now.shards }
     requires own { HasOwnKeys table.now row.old.items }
-    requires groups { job.groups ≡ task_groups table.now job.asked.command }
+    requires groups { job.groups ≡ task_groups table.now job.asked.batch }
     requires room { FitsAlone job span }
     ensures done { IsDone table.now row.old.items skip.now (job ∷ []) (result ∷ []) row.new.items }
     ensures lasts { lasts.new.items ≡ raised lasts.old.items (job ∷ []) }
@@ -151,12 +151,7 @@ pub fn run_alone(
     ensures stamps { length lasts.new.items ≡ length lasts.old.items }
     ensures own { HasOwnKeys table.now row.new.items }
 {
-    let skipped = is_named(skip, &job.id);
-    let placed = PlacedJob {
-        place: 0,
-        job,
-        skipped,
-    };
-    let ran = run_in_row(alloc, table, hasher, row, placed, span, gate);
+    let placed = PlacedJob { place: 0, job };
+    let ran = run_in_row(alloc, table, hasher, row, placed, span, skip, gate);
     tell(lasts, ran)
 }

@@ -12,7 +12,7 @@ ghost use Rattle.shard_workers.specs.PlacedJobs.{HasRunOn};
 
 use crate::moves::{put_back, take_shards};
 use crate::taking::take_job;
-use groups::{GroupId, RequestId};
+use groups::{GroupId, SkipId};
 use layer_planner::Job;
 use placement::Table;
 use shard_workers::{Gate, JobRan, PlacedJob};
@@ -21,7 +21,7 @@ use std::alloc::Global;
 
 /// Runs the requests at these places, one after another in this order, each over the shards of its groups, and puts what
 /// became of each in its place. There is room in `spans` for each that has several groups. It takes no memory but the
-/// commands' own.
+/// requests' own.
 pub fn run_places(
     alloc: Global,
     table: &Table,
@@ -30,7 +30,7 @@ pub fn run_places(
     slots: Vec<Option<Job>>,
     places: &[usize],
     spans: Vec<Vec<(GroupId, Shard)>>,
-    skip: &[RequestId],
+    skip: &[SkipId],
     gate: &(dyn Gate + Sync),
     rans: Vec<Option<JobRan>>,
 ) -> Vec<Option<JobRan>>
@@ -51,14 +51,14 @@ pub fn run_places(
         let Some(span) = spans.next() else {
             unreachable!()
         };
-        let placed = take_job(&mut slots, *place, skip);
-        rans[*place] = Some(run_in_row(alloc, table, hasher, row, placed, span, gate));
+        let placed = take_job(&mut slots, *place);
+        rans[*place] = Some(run_in_row(alloc, table, hasher, row, placed, span, skip, gate));
     }
     rans
 }
 
 /// Runs a request over the shards of its groups: one of one group over the shard where it stands, any other over its shards
-/// moved out, which `span` has room for, and back. It takes no memory but the command's own.
+/// moved out, which `span` has room for, and back. It takes no memory but the request's own.
 // Inlined up to the layer of one request, which then moves its request and what came of it fewer times.
 #[inline(always)]
 pub fn run_in_row(
@@ -68,22 +68,23 @@ pub fn run_in_row(
     row: &mut Vec<Shard>,
     placed: PlacedJob,
     span: Vec<(GroupId, Shard)>,
+    skip: &[SkipId],
     gate: &(dyn Gate + Sync),
 ) -> JobRan
     requires is_table { IsTable table.now }
     requires shards { length row.old.items ≡ table.now.shards }
     requires own { HasOwnKeys table.now row.old.items }
-    requires groups { placed.job.groups ≡ task_groups table.now placed.job.asked.command }
+    requires groups { placed.job.groups ≡ task_groups table.now placed.job.asked.batch }
     requires room { FitsAlone placed.job span }
-    ensures ran { HasRunInRow table.now placed row.old.items result row.new.items }
+    ensures ran { HasRunInRow table.now skip.now placed row.old.items result row.new.items }
     ensures shards { length row.new.items ≡ length row.old.items }
 {
     let groups = placed.groups();
     if let Some(group) = groups.alone() {
-        return run_in_place(alloc, row, group, placed, gate);
+        return run_in_place(alloc, row, group, placed, skip, gate);
     }
     let shards = take_shards(alloc, hasher, row, groups, span);
-    let (ran, shards) = placed.run_over(alloc, table, shards, gate);
+    let (ran, shards) = placed.run_over(alloc, table, shards, skip, gate);
     put_back(row, shards);
     ran
 }
@@ -96,12 +97,13 @@ fn run_in_place(
     row: &mut Vec<Shard>,
     group: GroupId,
     placed: PlacedJob,
+    skip: &[SkipId],
     gate: &(dyn Gate + Sync),
 ) -> JobRan
     requires { group < length row.old.items }
-    ensures ran { HasRunOn placed (map_of_shard row.old.items group) result (map_of_shard row.new.items group) }
+    ensures ran { HasRunOn skip.now placed (map_of_shard row.old.items group) result (map_of_shard row.new.items group) }
     ensures row { row.new.items ≡ slice_set row.old.items group (map_of_shard row.new.items group) }
 {
     let shard = &mut row[usize::from(group.number())];
-    placed.run(alloc, shard, gate)
+    placed.run(alloc, shard, skip, gate)
 }

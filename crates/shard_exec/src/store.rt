@@ -17,13 +17,14 @@ use crate::layer_room::{LayerRoom, reserve_alone};
 use crate::layer_run::{run_alone, run_layer_over};
 use crate::{Ended, ExecFault};
 use dumps::Dump;
-use groups::{RequestId, Stamp};
+use groups::{SkipId, Stamp};
 use layer_planner::{Job, Layer};
 use placement::Table;
 use shard_workers::{Gate, Workers};
 use shards::{Shard, ShardHasher};
 use std::alloc::{AllocError, Global};
 use std::marker::Model;
+use tasks::task_groups;
 
 /// The shards of a table, and the stamp of the last request that addressed each.
 ///
@@ -106,7 +107,7 @@ impl Store {
         dump.write(out)
     }
 
-    /// Whether each request of the layer addresses the groups that the table gives its command: the condition of
+    /// Whether each request of the layer addresses the groups that the table gives its batch: the condition of
     /// `run_layer`, for callers that can't prove it.
     pub fn may_run(&self, layer: &Layer) -> bool
         ensures may { OnTrue result (AddressTheirGroups self.now.table layer.now) }
@@ -130,12 +131,13 @@ impl Store {
     /// other request, in the order of their first stamps. The gate is told of each request that is run.
     ///
     /// Those named in `skip` are not run and count as starved. A request for whose execution there is no memory
-    /// starves: it changes nothing but the last stamps of its shards. `ExecFault` says why a layer is not run.
+    /// starves: it changes nothing but the last stamps of its shards. So it is with members of an EXEC, each for itself: its
+    /// place of the reply says then that there was no memory. `ExecFault` says why a layer is not run.
     pub fn run_layer<W: Workers>(
         &mut self,
         alloc: Global,
         layer: Layer,
-        skip: &[RequestId],
+        skip: &[SkipId],
         workers: &W,
         gate: &(dyn Gate + Sync),
     ) -> Result<Vec<Ended>, ExecFault>
@@ -183,7 +185,7 @@ impl Store {
         &mut self,
         alloc: Global,
         layer: Layer,
-        skip: &[RequestId],
+        skip: &[SkipId],
         gate: &(dyn Gate + Sync),
     ) -> Result<Vec<Ended>, Layer>
         requires lone { length layer ≡ 1 }
@@ -256,7 +258,7 @@ fn add_shards<'a>(shards: &'a [Shard], dump: &mut Dump<'a>) -> Result<(), AllocE
     Ok(())
 }
 
-/// Whether each request addresses the groups that the table gives its command.
+/// Whether each request addresses the groups that the table gives its batch.
 fn address_their_groups(table: &Table, jobs: &[Job]) -> bool
     ensures all { OnTrue result (AddressTheirGroups table.now jobs.now) }
     ensures not_all { OnFalse result (AddressTheirGroups table.now jobs.now → ⊥) }
@@ -269,12 +271,12 @@ fn address_their_groups(table: &Table, jobs: &[Job]) -> bool
     true
 }
 
-/// Whether the request addresses the groups that the table gives its command.
+/// Whether the request addresses the groups that the table gives its batch.
 fn addresses_its_groups(table: &Table, job: &Job) -> bool
-    ensures its { OnTrue result (job.now.groups ≡ task_groups table.now job.now.asked.command) }
-    ensures others { OnFalse result (job.now.groups ≡ task_groups table.now job.now.asked.command → ⊥) }
+    ensures its { OnTrue result (job.now.groups ≡ task_groups table.now job.now.asked.batch) }
+    ensures others { OnFalse result (job.now.groups ≡ task_groups table.now job.now.asked.batch → ⊥) }
 {
-    job.groups == table.groups(job.asked.command())
+    job.groups == task_groups(table, job.asked.batch())
 }
 
 /// Whether the stamp of each request is above the last one of each of its shards.

@@ -5,12 +5,12 @@ ghost use Rattle.std.specs.List.{AllByRecursion};
 ghost use Rattle.groups.specs.GroupSet.{has};
 ghost use Rattle.layer_planner.specs.declared.job.Job.{Job};
 ghost use Rattle.shard_exec.specs.Dealing.{CanTake, left_at, filled, placed, AreInside};
-ghost use Rattle.shard_exec.specs.Layers.{is_named, IsJobAt, TookJobs, ended_of};
+ghost use Rattle.shard_exec.specs.Layers.{IsJobAt, TookJobs, ended_of};
 ghost use Rattle.shard_exec.specs.Stamps.{AreInRow, raise, raised_by};
 
 use crate::Ended;
 use crate::moves::raise;
-use groups::{RequestId, Stamp};
+use groups::Stamp;
 use layer_planner::Job;
 use shard_workers::{JobRan, PlacedJob};
 
@@ -33,18 +33,17 @@ pub fn in_slots(jobs: Vec<Job>, slots: Vec<Option<Job>>) -> Vec<Option<Job>>
 pub fn take_jobs(
     slots: &mut Vec<Option<Job>>,
     places: &[usize],
-    skip: &[RequestId],
     jobs: Vec<PlacedJob>,
 ) -> Vec<PlacedJob>
     requires there { CanTake slots.old.items places.now }
     requires none { jobs.items ≡ [] }
     requires room { length places.now ≤ vec_capacity jobs }
-    ensures took { TookJobs skip.now slots.old.items places.now result.items }
+    ensures took { TookJobs slots.old.items places.now result.items }
     ensures left { slots.new.items ≡ left_at slots.old.items places.now }
 {
     let mut jobs = jobs;
     for place in places {
-        let Ok(()) = jobs.push(take_job(slots, *place, skip)) else {
+        let Ok(()) = jobs.push(take_job(slots, *place)) else {
             unreachable!()
         };
     }
@@ -52,27 +51,15 @@ pub fn take_jobs(
 }
 
 /// Takes the request at a place.
-pub fn take_job(slots: &mut Vec<Option<Job>>, place: usize, skip: &[RequestId]) -> PlacedJob
+pub fn take_job(slots: &mut Vec<Option<Job>>, place: usize) -> PlacedJob
     requires { (job : Job) × (slice_get slots.old.items place ≡ Some (Some job)) }
-    ensures taken { IsJobAt skip.now slots.old.items place result }
+    ensures taken { IsJobAt slots.old.items place result }
     ensures left { slots.new.items ≡ slice_set slots.old.items place None }
 {
     let Some(job) = slots[place].take() else {
         unreachable!()
     };
-    let skipped = is_named(skip, &job.id);
-    PlacedJob {
-        place,
-        job,
-        skipped,
-    }
-}
-
-/// Whether the request is one of these.
-pub fn is_named(skip: &[RequestId], id: &RequestId) -> bool
-    ensures { result ≡ is_named skip.now id.now }
-{
-    skip.iter().any(|named| *id == *named)
+    PlacedJob { place, job }
 }
 
 /// Puts what became of requests in their places.

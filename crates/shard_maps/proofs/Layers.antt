@@ -11,7 +11,7 @@ use Rattle.keyspace.proofs.Gets.{same}
 use Rattle.keyspace.specs.Map.{Map}
 use Rattle.placement.specs.Layout.{Layout, IsTable, shard_of}
 use Rattle.resp.specs.Content.{Content}
-use Rattle.tasks.specs.Tasks.{Task, task_groups, task_effect, tasks_in_turn}
+use Rattle.tasks.specs.Tasks.{Task, task_groups, deed_effect, deed_of, deeds_in_turn}
 use Rattle.tasks.proofs.Groups.{IsAscending-task_groups}
 use Rattle.shard_maps.proofs.Joins.{get-joined}
 use Rattle.shard_maps.proofs.Rows.{picked-alike}
@@ -209,12 +209,12 @@ layer_in_turn table old new (c ∷ cs) (Some reply ∷ os) is_table own meet ran
 -- those that starved leave no trace
 pub starved_leave_no_trace : (old new : Map) (tasks : List Task) (outcomes : List (Option Content))
     → AnsweredInTurn old tasks outcomes new
-    → (new, replies_of outcomes) ≡ tasks_in_turn old (executed_of tasks outcomes)
+    → (new, replies_of outcomes) ≡ deeds_in_turn old (executed_of tasks outcomes)
 starved_leave_no_trace old new [] [] h = ap (λ m. (m, [])) h
 starved_leave_no_trace old new [] (o ∷ os) h = absurd h
 starved_leave_no_trace old new (c ∷ cs) [] h = absurd h
 starved_leave_no_trace old new (c ∷ cs) (None ∷ os) h = starved_leave_no_trace old new cs os h
 starved_leave_no_trace old new (c ∷ cs) (Some reply ∷ os) h =
-    let rest = starved_leave_no_trace (task_effect c old).0 new cs os h.1 in
+    let rest = starved_leave_no_trace (deed_effect (deed_of c reply) old).0 new cs os h.1 in
     pair _ _ _ _ (ap (λ r. r.0) rest)
-    (ap (λ r. r ∷ replies_of os) h.0 ∙ ap (λ l. (task_effect c old).1 ∷ l) (ap (λ r. r.1) rest))
+    (ap (λ r. r ∷ replies_of os) h.0 ∙ ap (λ l. (deed_effect (deed_of c reply) old).1 ∷ l) (ap (λ r. r.1) rest))

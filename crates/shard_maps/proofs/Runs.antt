@@ -4,7 +4,7 @@ use Rattle.command_bodies.proofs.Turns.{pair}
 use Rattle.groups.specs.GroupSet.{IsAscending}
 use Rattle.placement.specs.Layout.{Layout}
 use Rattle.resp.specs.Content.{Content}
-use Rattle.tasks.specs.Tasks.{Task, task_effect}
+use Rattle.tasks.specs.Tasks.{Task, deed_effect, deed_of}
 use Rattle.shard_maps.proofs.Unions.{divided-union}
 use Rattle.shard_maps.specs.Joined.{Span, numbers, union, SpanHasOwnKeys, divided, SpanRan}
 
@@ -15,7 +15,7 @@ module _ (table : Layout) (task : Task) (before after : Span) (up : IsAscending 
   is_divided =
       sym (divided-union table after own (subst IsAscending (sym kept) up)) ∙ ap (λ ns. divided table ns (union after)) kept
 
-  pub SpanRan-answered : (reply : Content) → (union after, reply) ≡ task_effect task (union before)
+  pub SpanRan-answered : (reply : Content) → (union after, reply) ≡ deed_effect (deed_of task reply) (union before)
       → SpanRan table task before (Some reply) after
   SpanRan-answered reply did =
       pair _ _ _ _ (is_divided ∙ ap (divided table (numbers before)) (ap (λ r. r.0) did)) (ap (λ r. r.1) did)

@@ -11,7 +11,7 @@ use Rattle.groups.specs.GroupSet.{has}
 use Rattle.keyspace.specs.Map.{Map}
 use Rattle.placement.specs.Layout.{Layout, shard_of}
 use Rattle.resp.specs.Content.{Content}
-use Rattle.tasks.specs.Tasks.{Task, task_effect}
+use Rattle.tasks.specs.Tasks.{Task, deed_effect, deed_of}
 use Rattle.shard_maps.proofs.Joins.{get-joined-cons, get-joined, none_elsewhere, or_same}
 use Rattle.shard_maps.specs.Joined.{joined, map_of_shard, HasOwnKeys, Span, numbers, union, span_at, divided, SpanRan}
 use Rattle.values.specs.declared.Value.{Value}
@@ -63,4 +63,4 @@ pub numbers-SpanRan : (table : Layout) (task : Task) (before after : Span) (outc
     → SpanRan table task before outcome after → numbers after ≡ numbers before
 numbers-SpanRan table task before after None ran = ap numbers ran
 numbers-SpanRan table task before after (Some reply) ran =
-    ap (λ r. numbers r.0) ran ∙ numbers-divided table (task_effect task (union before)).0 (numbers before)
+    ap (λ r. numbers r.0) ran ∙ numbers-divided table (deed_effect (deed_of task reply) (union before)).0 (numbers before)

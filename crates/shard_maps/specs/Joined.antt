@@ -5,7 +5,7 @@ use Rattle.std.specs.List.{AllByRecursion}
 use Rattle.keyspace.specs.Map.{Map, with_entries}
 use Rattle.placement.specs.Layout.{Layout, shard_of}
 use Rattle.resp.specs.Content.{Content}
-use Rattle.tasks.specs.Tasks.{Task, task_effect}
+use Rattle.tasks.specs.Tasks.{Task, Deed, deed_effect, deed_of}
 
 -- the union of maps: at each key what the first of them that has the key has there
 abbrev pub joined : List Map → Map
@@ -52,12 +52,13 @@ part_of table m shard = retain_keys m (λ key. shard_of table key == shard)
 abbrev pub divided : Layout → List ℕ → Map → Span
 divided table groups m = map (λ g. (g, part_of table m g)) groups
 
--- a task over the shards of a span: its effect on their union, which is then divided among them
-abbrev pub span_effect : Layout → Task → Span → Span × Content
-span_effect table task span =
-    (divided table (numbers span) (task_effect task (union span)).0, (task_effect task (union span)).1)
+-- a deed over the shards of a span: its effect on their union, which is then divided among them
+abbrev pub span_effect : Layout → Deed → Span → Span × Content
+span_effect table deed span =
+    (divided table (numbers span) (deed_effect deed (union span)).0, (deed_effect deed (union span)).1)
 
--- what a task left of a span, and what it answered; where it starved there is no reply, and the span is as it was
+-- what a task left of a span, and what it answered, which tells what of it was done; where it starved there is no reply, and the
+-- span is as it was
 abbrev pub SpanRan : Layout → Task → Span → Option Content → Span → Type 0
 SpanRan table task before None after = after ≡ before
-SpanRan table task before (Some reply) after = (after, reply) ≡ span_effect table task before
+SpanRan table task before (Some reply) after = (after, reply) ≡ span_effect table (deed_of task reply) before

@@ -6,7 +6,7 @@ use Rattle.groups.specs.GroupSet.{has}
 use Rattle.keyspace.specs.Map.{Map}
 use Rattle.placement.specs.Layout.{Layout, IsTable, shard_of}
 use Rattle.resp.specs.Content.{Content}
-use Rattle.tasks.specs.Tasks.{Task, task_groups, task_effect, tasks_in_turn}
+use Rattle.tasks.specs.Tasks.{Task, task_groups, deed_effect, deed_of, deeds_in_turn}
 use Rattle.shard_maps.specs.Joined.{joined, map_of_shard, HasOwnKeys, span_at, SpanRan}
 use Rattle.shard_maps.specs.Rows.{taken_out_each}
 use Rattle.shard_maps.specs.Layer.{MeetAlike, LayerRan, Work, Ran, AreWorksOf, IsRunOf, left_of, with_rans, WorksRan, AnsweredInTurn}
@@ -23,7 +23,7 @@ SpansAreJoined =
     (table : Layout) (old new : List Map) (task : Task) (reply : Content) → IsTable table → HasOwnKeys table old
     → SpanRan table task (span_at old (task_groups table task)) (Some reply) (span_at new (task_groups table task))
     → ((shard : ℕ) → has (task_groups table task) shard ≡ false → map_of_shard new shard ≡ map_of_shard old shard)
-    → ((joined new, reply) ≡ task_effect task (joined old)) × HasOwnKeys table new
+    → ((joined new, reply) ≡ deed_effect (deed_of task reply) (joined old)) × HasOwnKeys table new
 
 -- the tasks of a layer, run in units, each over the shards of its groups, are run one after another on the joined map,
 -- in the layer's order
@@ -60,9 +60,9 @@ WorksAreInTurn =
     → length outcomes ≡ length layer → WorksRan table outcomes old works new
     → LayerRan table old layer outcomes new × AnsweredInTurn (joined old) layer outcomes (joined new) × HasOwnKeys table new
 
--- what is answered in turn is what one thread does with the tasks that didn't starve
+-- what is answered in turn is what one thread does with the tasks that didn't starve, each but for its members that did
 abbrev pub StarvedLeaveNoTrace : Type 0
 StarvedLeaveNoTrace =
     (old new : Map) (tasks : List Task) (outcomes : List (Option Content))
     → AnsweredInTurn old tasks outcomes new
-    → (new, replies_of outcomes) ≡ tasks_in_turn old (executed_of tasks outcomes)
+    → (new, replies_of outcomes) ≡ deeds_in_turn old (executed_of tasks outcomes)

@@ -8,7 +8,7 @@ use Rattle.keyspace.specs.Map.{Map}
 use Rattle.layer_planner.specs.Units.{AreUnitsOf}
 use Rattle.placement.specs.Layout.{Layout}
 use Rattle.resp.specs.Content.{Content}
-use Rattle.tasks.specs.Tasks.{Task, task_groups, task_effect}
+use Rattle.tasks.specs.Tasks.{Task, Deed, task_groups, deed_effect, deed_of}
 use Rattle.shard_maps.specs.Joined.{map_of_shard, Span, span_at, SpanRan}
 use Rattle.shard_maps.specs.Rows.{put_spans, emptied_each}
 
@@ -107,14 +107,14 @@ AnsweredInTurn old [] (o ∷ os) new = ⊥
 AnsweredInTurn old (c ∷ cs) [] new = ⊥
 AnsweredInTurn old (c ∷ cs) (None ∷ os) new = AnsweredInTurn old cs os new
 AnsweredInTurn old (c ∷ cs) (Some reply ∷ os) new =
-    (reply ≡ (task_effect c old).1) × AnsweredInTurn (task_effect c old).0 cs os new
+    (reply ≡ (deed_effect (deed_of c reply) old).1) × AnsweredInTurn (deed_effect (deed_of c reply) old).0 cs os new
 
--- the tasks that were run, and their replies
-abbrev pub executed_of : List Task → List (Option Content) → List Task
+-- what was done of the tasks that were run, and their replies
+abbrev pub executed_of : List Task → List (Option Content) → List Deed
 executed_of [] os = []
 executed_of (c ∷ cs) [] = []
 executed_of (c ∷ cs) (None ∷ os) = executed_of cs os
-executed_of (c ∷ cs) (Some reply ∷ os) = c ∷ executed_of cs os
+executed_of (c ∷ cs) (Some reply ∷ os) = deed_of c reply ∷ executed_of cs os
 
 abbrev pub replies_of : List (Option Content) → List Content
 replies_of [] = []

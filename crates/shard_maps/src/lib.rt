@@ -21,7 +21,8 @@ ghost use Rattle.shard_maps.specs.Laws.{TakenOutAsTheyWere, PartsAreInTurn, Work
 /// - However the units are dealt to parts, once the shards are put back it is as if the tasks had been run one after
 ///   another.
 /// - So it is where the units are run in place, one after another.
-/// - What is answered one after another is what one thread does with the tasks that did not starve.
+/// - What is answered one after another is what one thread does with the tasks that did not starve, each but for its members
+///   that did.
 pub fn laws_of_joined_maps()
     ensures keys_lie_on_their_shards { KeysLieOnTheirShards }
     ensures spans_are_joined { SpansAreJoined }

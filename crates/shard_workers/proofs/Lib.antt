@@ -1,2 +1,3 @@
+pub mod WholeNames
 pub mod Zips
 pub mod Turns

@@ -1,3 +1,4 @@
+pub mod WholeNames
 pub mod PlacedJobs
 pub mod Runs
 pub mod Loads

@@ -8,6 +8,7 @@ mod child;
 mod gate;
 mod load;
 mod placed_job;
+mod skipping;
 mod work;
 mod workers;
 

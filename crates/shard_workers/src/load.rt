@@ -3,6 +3,7 @@
 ghost use Rattle.std.specs.Prelude.{◌≡◌, ◌≤◌, [], length, vec_capacity};
 
 use crate::{Gate, Ran, Work};
+use groups::SkipId;
 use placement::Table;
 use std::alloc::Global;
 
@@ -27,15 +28,21 @@ impl Load {
         Load { works, rans }
     }
 
-    /// Runs the units in their order, each in one go, and gives their shards back with what they answer. It takes memory
-    /// only for the replies and the keys and values that the requests write.
-    pub fn run(self, alloc: Global, table: &Table, gate: &(dyn Gate + Sync)) -> Vec<Ran>
+    /// Runs the units in their order, each in one go and but for what `skip` names, and gives their shards back with what they
+    /// answer. It takes memory only for the replies and the keys and values that the requests write.
+    pub fn run(
+        self,
+        alloc: Global,
+        table: &Table,
+        skip: &[SkipId],
+        gate: &(dyn Gate + Sync),
+    ) -> Vec<Ran>
         requires { IsReadyLoad table.now self }
-        ensures { HasRunLoad table.now self result }
+        ensures { HasRunLoad table.now skip.now self result }
     {
         let Load { works, mut rans } = self;
         for work in works {
-            let Ok(()) = rans.push(work.run(alloc, table, gate)) else {
+            let Ok(()) = rans.push(work.run(alloc, table, skip, gate)) else {
                 unreachable!()
             };
         }

@@ -1,4 +1,4 @@
-//! One request, over whatever keyspace has the keys of its command.
+//! One request, over whatever keyspace has the keys of its batch.
 
 ghost use Rattle.std.specs.Prelude.{◌≡◌, All, IsTrue, length};
 ghost use Rattle.shard_maps.specs.Joined.{numbers, union};
@@ -7,8 +7,9 @@ ghost use Rattle.shard_workers.specs.PlacedJobs.{HasRunOn, IsReadyFor, HasRunOve
 ghost use Rattle.shards.specs.Spans.{IsSpan, lies_on};
 
 use crate::Gate;
-use command_bodies::answer;
-use groups::{GroupId, Groups, RequestId, Stamp};
+use crate::skipping::names_whole;
+use batches::answer_batch;
+use groups::{GroupId, Groups, RequestId, SkipId, Stamp};
 use keyspace::Keyspace;
 use layer_planner::Job;
 use packing::PackedRequest;
@@ -23,7 +24,6 @@ use std::marker::Brand;
 pub struct PlacedJob {
     pub place: usize,
     pub job: Job,
-    pub skipped: bool,
 }
 
 /// A request that was run, skipped or starved, with its place in the layer and its words. There is a reply where it was run,
@@ -46,33 +46,30 @@ impl PlacedJob {
         self.job.groups
     }
 
-    /// Runs the request over a keyspace that covers its command's keys, unless it is to be skipped. The command is used up,
-    /// and the words are kept. The gate is told only of what is run.
+    /// Runs the request over a keyspace that covers its batch's keys, unless `skip` names it; those of its members that are
+    /// named there are skipped. The batch is used up, and the words are kept. The gate is told only of what is run.
     // Inlined, so that a request and what came of it are moved fewer times.
     #[inline(always)]
     pub fn run<K: Keyspace>(
         self,
         alloc: Global,
         keyspace: &mut K,
+        skip: &[SkipId],
         gate: &(dyn Gate + Sync),
     ) -> JobRan
-        requires { All (λ key. IsTrue (K.covered keyspace.old key)) (task_keys self.job.asked.command) }
-        ensures ran { HasRunOn self (K.contents keyspace.old) result (K.contents keyspace.new) }
+        requires { All (λ key. IsTrue (K.covered keyspace.old key)) (task_keys self.job.asked.batch) }
+        ensures ran { HasRunOn skip.now self (K.contents keyspace.old) result (K.contents keyspace.new) }
         ensures covers { K.covered keyspace.new ≡ K.covered keyspace.old }
     {
-        let PlacedJob {
-            place,
-            job,
-            skipped,
-        } = self;
+        let PlacedJob { place, job } = self;
         let Job {
             id,
             stamp,
             groups,
             asked,
         } = job;
-        let (words, command) = asked.into_parts();
-        if skipped {
+        let (words, batch) = asked.into_parts();
+        if names_whole(skip, &id) {
             return JobRan {
                 place,
                 id,
@@ -83,7 +80,7 @@ impl PlacedJob {
             };
         }
         gate.enter(id);
-        let outcome = answer(alloc, keyspace, command);
+        let outcome = answer_batch(alloc, keyspace, batch, id, skip);
         gate.leave(id);
         JobRan {
             place,
@@ -102,15 +99,16 @@ impl PlacedJob {
         alloc: Global,
         table: &Table,
         shards: Vec<(GroupId, Shard)>,
+        skip: &[SkipId],
         gate: &(dyn Gate + Sync),
     ) -> (JobRan, Vec<(GroupId, Shard)>)
         requires { IsReadyFor table.now self shards.items }
-        ensures { HasRunOver table.now self shards.items result.0 result.1.items }
+        ensures { HasRunOver table.now skip.now self shards.items result.0 result.1.items }
     {
         if shards.len() == 1 {
-            return run_on_one(alloc, shards, self, gate);
+            return run_on_one(alloc, shards, self, skip, gate);
         }
-        run_on_all::<Brand>(alloc, *table, shards, self, gate)
+        run_on_all::<Brand>(alloc, *table, shards, self, skip, gate)
     }
 }
 
@@ -119,15 +117,16 @@ fn run_on_one(
     alloc: Global,
     shards: Vec<(GroupId, Shard)>,
     placed: PlacedJob,
+    skip: &[SkipId],
     gate: &(dyn Gate + Sync),
 ) -> (JobRan, Vec<(GroupId, Shard)>)
     requires { length shards.items ≡ 1 }
     ensures number { numbers result.1.items ≡ numbers shards.items }
-    ensures ran { HasRunOn placed (first_map shards.items) result.0 (first_map result.1.items) }
+    ensures ran { HasRunOn skip.now placed (first_map shards.items) result.0 (first_map result.1.items) }
 {
     let mut shards = shards;
     let shard = &mut shards[0].1;
-    let ran = placed.run(alloc, shard, gate);
+    let ran = placed.run(alloc, shard, skip, gate);
     (ran, shards)
 }
 
@@ -137,15 +136,16 @@ fn run_on_all<F: SpanFrame>(
     table: Table,
     shards: Vec<(GroupId, Shard)>,
     placed: PlacedJob,
+    skip: &[SkipId],
     gate: &(dyn Gate + Sync),
 ) -> (JobRan, Vec<(GroupId, Shard)>)
     requires table { table ≡ F.layout }
     requires shards { IsSpan F.layout F.groups shards.items }
-    requires keys { All (λ key. IsTrue (lies_on F.layout F.groups key)) (task_keys placed.job.asked.command) }
+    requires keys { All (λ key. IsTrue (lies_on F.layout F.groups key)) (task_keys placed.job.asked.batch) }
     ensures shards { IsSpan F.layout F.groups result.1.items }
-    ensures ran { HasRunOn placed (union shards.items) result.0 (union result.1.items) }
+    ensures ran { HasRunOn skip.now placed (union shards.items) result.0 (union result.1.items) }
 {
     let mut span: Span<F> = Span::new(table, shards);
-    let ran = placed.run(alloc, &mut span, gate);
+    let ran = placed.run(alloc, &mut span, skip, gate);
     (ran, span.into_shards())
 }

@@ -3,7 +3,7 @@
 ghost use Rattle.std.specs.Prelude.{◌≡◌, ◌≤◌, [], length, vec_capacity};
 
 use crate::{Gate, JobRan, PlacedJob};
-use groups::GroupId;
+use groups::{GroupId, SkipId};
 use placement::Table;
 use shards::Shard;
 use std::alloc::Global;
@@ -39,11 +39,10 @@ impl Work {
         Work { jobs, rans, shards }
     }
 
-    /// Runs the requests one after another over the shards, but for those that are to be skipped. The gate is told only of
-    /// what is run.
-    pub fn run(self, alloc: Global, table: &Table, gate: &(dyn Gate + Sync)) -> Ran
+    /// Runs the requests one after another over the shards, but for what `skip` names. The gate is told only of what is run.
+    pub fn run(self, alloc: Global, table: &Table, skip: &[SkipId], gate: &(dyn Gate + Sync)) -> Ran
         requires { IsReady table.now self }
-        ensures { HasRun table.now self result }
+        ensures { HasRun table.now skip.now self result }
     {
         let Work {
             jobs,
@@ -51,7 +50,7 @@ impl Work {
             mut shards,
         } = self;
         for placed in jobs {
-            let (ran, left) = placed.run_over(alloc, table, shards, gate);
+            let (ran, left) = placed.run_over(alloc, table, shards, skip, gate);
             shards = left;
             let Ok(()) = rans.push(ran) else {
                 unreachable!()

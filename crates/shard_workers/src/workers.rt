@@ -6,6 +6,7 @@ ghost use Rattle.std.specs.List.{AllZip, AllByRecursion};
 ghost use Rattle.shard_workers.specs.Loads.{IsReadyLoad, HasRunLoad};
 
 use crate::{Child, Gate, Load, Ran};
+use groups::SkipId;
 use placement::Table;
 use std::alloc::{AllocError, Global};
 use std::num::NonZeroUsize;
@@ -16,11 +17,11 @@ pub struct Refused;
 
 /// Room for what the workers give and for their handles, taken before any shard is moved.
 #[derive(Drop)]
-pub struct Room {
+pub struct Room<'s> {
     /// For what each load gives.
     pub results: Vec<Vec<Ran>>,
     /// For the handles of the threads that run loads, where any do.
-    pub children: Vec<Child>,
+    pub children: Vec<Child<'s>>,
 }
 
 /// Those that run the loads of a layer.
@@ -45,23 +46,24 @@ pub trait Workers {
         ensures { non_zero_usize_get result ≡ count self.now };
 
     /// The room that they need for so many loads.
-    fn reserve(&self, alloc: Global, loads: usize) -> Result<Room, AllocError>
+    fn reserve<'s>(&self, alloc: Global, loads: usize) -> Result<Room<'s>, AllocError>
         ensures { IfOk result (λ room. has_room room loads) };
 
-    /// Runs the loads, no more than there are workers, each with its units in their order, and gives for each load what
-    /// its units gave, in the order of the loads. The gate is told of each request that is run.
-    fn run_loads(
+    /// Runs the loads, no more than there are workers, each with its units in their order and but for what `skip` names, and
+    /// gives for each load what its units gave, in the order of the loads. The gate is told of each request that is run.
+    fn run_loads<'s>(
         &self,
         alloc: Global,
         table: &Table,
+        skip: &'s [SkipId],
         gate: &(dyn Gate + Sync),
-        room: Room,
+        room: Room<'s>,
         loads: Vec<Load>,
     ) -> Result<Vec<Vec<Ran>>, Refused>
         requires few { length loads.items ≤ count self.now }
         requires room { has_room room (length loads.items) }
         requires ready { AllByRecursion (IsReadyLoad table.now) loads.items }
-        ensures each { IfOk result (λ r. AllZip (HasRunLoad table.now) loads.items r.items) }
+        ensures each { IfOk result (λ r. AllZip (HasRunLoad table.now skip.now) loads.items r.items) }
         ensures refused { OnErr result (may_refuse self.now ≡ true) };
 }
 
@@ -83,7 +85,7 @@ impl Workers for InTurn {
         self.0
     }
 
-    fn reserve(&self, alloc: Global, loads: usize) -> Result<Room, AllocError> {
+    fn reserve<'s>(&self, alloc: Global, loads: usize) -> Result<Room<'s>, AllocError> {
         let results = Vec::with_capacity(alloc, loads)?;
         Ok(Room {
             results,
@@ -91,22 +93,24 @@ impl Workers for InTurn {
         })
     }
 
-    fn run_loads(
+    fn run_loads<'s>(
         &self,
         alloc: Global,
         table: &Table,
+        skip: &'s [SkipId],
         gate: &(dyn Gate + Sync),
-        room: Room,
+        room: Room<'s>,
         loads: Vec<Load>,
     ) -> Result<Vec<Vec<Ran>>, Refused> {
-        Ok(run_in_turn(alloc, table, gate, room.results, loads))
+        Ok(run_in_turn(alloc, table, skip, gate, room.results, loads))
     }
 }
 
-/// Runs the loads one after another on the caller's thread, and gives for each what its units gave.
+/// Runs the loads one after another on the caller's thread, but for what `skip` names, and gives for each what its units gave.
 pub fn run_in_turn(
     alloc: Global,
     table: &Table,
+    skip: &[SkipId],
     gate: &(dyn Gate + Sync),
     results: Vec<Vec<Ran>>,
     loads: Vec<Load>,
@@ -114,11 +118,11 @@ pub fn run_in_turn(
     requires empty { results.items ≡ [] }
     requires room { length loads.items ≤ vec_capacity results }
     requires ready { AllByRecursion (IsReadyLoad table.now) loads.items }
-    ensures { AllZip (HasRunLoad table.now) loads.items result.items }
+    ensures { AllZip (HasRunLoad table.now skip.now) loads.items result.items }
 {
     let mut results = results;
     for load in loads {
-        let Ok(()) = results.push(load.run(alloc, table, gate)) else {
+        let Ok(()) = results.push(load.run(alloc, table, skip, gate)) else {
             unreachable!()
         };
     }

@@ -9,14 +9,14 @@
 //! is written.
 #![tactic(auto)]
 
-use options::picture::{OptionsFault, read_options};
+use options::picture::read_options;
 use picture::told;
 use progress::Line;
 use std::io::{self, ErrorKind, IsTerminal};
 use std::process::ExitCode;
 use std::{env, fs};
 
-/// The program's name, as the line of the steps tells it.
+/// The program's name.
 const PROGRAM: &str = "shardkv-picture";
 
 fn main(rt: HostRuntime) -> ExitCode {
@@ -26,22 +26,25 @@ fn main(rt: HostRuntime) -> ExitCode {
     };
     let asked = match read_options(rt.alloc(), words.as_slice()) {
         Ok(asked) => asked,
-        Err(fault) => {
-            let _ = eprintln!(rt; "shardkv-picture: {fault}");
-            return ExitCode::from(status_of_words(fault));
-        }
+        Err(fault) => return ExitCode::from(fault.tell(&rt, PROGRAM, 6)),
     };
     let table = match fs::read(&rt, asked.table) {
         Ok(bytes) => bytes,
         Err(fault) => {
-            let _ = eprintln!(rt; "shardkv-picture: the table: {fault}");
+            let _ = eprintln!(rt;
+                "{PROGRAM}: the table {} can't be read: {fault}",
+                asked.table
+            );
             return ExitCode::from(status_of_read(&fault, 3));
         }
     };
     let trace = match fs::read(&rt, asked.trace) {
         Ok(bytes) => bytes,
         Err(fault) => {
-            let _ = eprintln!(rt; "shardkv-picture: the trace: {fault}");
+            let _ = eprintln!(rt;
+                "{PROGRAM}: the trace {} can't be read: {fault}",
+                asked.trace
+            );
             return ExitCode::from(status_of_read(&fault, 7));
         }
     };
@@ -58,7 +61,7 @@ fn main(rt: HostRuntime) -> ExitCode {
     ) {
         Ok(()) => ExitCode::from(0),
         Err(fault) => {
-            let _ = eprintln!(rt; "shardkv-picture: {fault}");
+            let _ = eprintln!(rt; "{PROGRAM}: {fault}");
             ExitCode::from(fault.status())
         }
     }
@@ -67,14 +70,6 @@ fn main(rt: HostRuntime) -> ExitCode {
 /// The words on the command line.
 fn words<R: env::Env + AllocGlobal>(rt: &R) -> io::Result<Vec<String>> {
     Ok(env::args(rt)?.collect(rt.alloc())?)
-}
-
-/// The status where the words are none of the program's.
-fn status_of_words(fault: OptionsFault) -> u8 {
-    match fault {
-        OptionsFault::Usage | OptionsFault::Step => 2,
-        OptionsFault::Memory => 6,
-    }
 }
 
 /// The status where a file couldn't be read, and this one is the file's.

@@ -10,7 +10,7 @@
 //! is written.
 #![tactic(auto)]
 
-use options::replay::{OptionsFault, read_options};
+use options::replay::read_options;
 use replay::{Line, Progress, ShowFault, told_watched};
 use shard_crew::Crew;
 use shard_workers::InTurn;
@@ -21,7 +21,7 @@ use std::sync::Wait;
 use std::thread::Threads;
 use std::{env, fs};
 
-/// The program's name, as the line of the steps tells it.
+/// The program's name.
 const PROGRAM: &str = "shardkv-replay";
 
 fn main(rt: HostRuntime) -> ExitCode {
@@ -31,22 +31,25 @@ fn main(rt: HostRuntime) -> ExitCode {
     };
     let asked = match read_options(rt.alloc(), words.as_slice()) {
         Ok(asked) => asked,
-        Err(fault) => {
-            let _ = eprintln!(rt; "shardkv-replay: {fault}");
-            return ExitCode::from(status_of_words(fault));
-        }
+        Err(fault) => return ExitCode::from(fault.tell(&rt, PROGRAM, 6)),
     };
     let table = match fs::read(&rt, asked.table) {
         Ok(bytes) => bytes,
         Err(fault) => {
-            let _ = eprintln!(rt; "shardkv-replay: the table: {fault}");
+            let _ = eprintln!(rt;
+                "{PROGRAM}: the table {} can't be read: {fault}",
+                asked.table
+            );
             return ExitCode::from(status_of_read(&fault, 3));
         }
     };
     let trace = match fs::read(&rt, asked.trace) {
         Ok(bytes) => bytes,
         Err(fault) => {
-            let _ = eprintln!(rt; "shardkv-replay: the trace: {fault}");
+            let _ = eprintln!(rt;
+                "{PROGRAM}: the trace {} can't be read: {fault}",
+                asked.trace
+            );
             return ExitCode::from(status_of_read(&fault, 7));
         }
     };
@@ -58,7 +61,7 @@ fn main(rt: HostRuntime) -> ExitCode {
     match report(&rt, table, trace, workers, &mut line, &mut rt.stdout()) {
         Ok(agree) => ExitCode::from(u8::from(!agree)),
         Err(fault) => {
-            let _ = eprintln!(rt; "shardkv-replay: {fault}");
+            let _ = eprintln!(rt; "{PROGRAM}: {fault}");
             ExitCode::from(fault.status())
         }
     }
@@ -90,14 +93,6 @@ fn report<R: Threads + Wait + AllocGlobal, P: Progress, O: Write>(
         progress,
         out,
     )
-}
-
-/// The status where the words are none of the program's.
-fn status_of_words(fault: OptionsFault) -> u8 {
-    match fault {
-        OptionsFault::Usage | OptionsFault::Workers => 2,
-        OptionsFault::Memory => 6,
-    }
 }
 
 /// The status where a file couldn't be read, and this one is the file's.

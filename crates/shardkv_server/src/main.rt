@@ -1,79 +1,97 @@
-//! `shardkv-server`: serves Redis clients, on 127.0.0.1.
+//! `shardkv-server`: serves Redis clients, on 127.0.0.1 unless it is told another address.
 //!
 //! It reads a placement table, serves so many connections and says how many requests were executed. The statuses: 0 at
-//! the end; 2 where the words are no options; 3 where the table can't be read or is none; 4 where the network failed; 5
-//! where no more steps may be made, or the store couldn't be closed; 6 where the trace wasn't written; 7 where memory was
-//! wanting, or a thread couldn't be started. What went wrong is told on standard error.
+//! the end, and for help and the version; 2 where the words are no options; 3 where the table can't be read or is none; 4
+//! where the network failed; 5 where no more steps may be made, or the store couldn't be closed; 6 where the trace can't be
+//! or wasn't written; 7 where memory was wanting, or a thread couldn't be started. What went wrong is told on standard error.
 #![tactic(auto)]
 
+mod input;
+mod table_file;
+
+use crate::input::end_with_input;
+use crate::table_file::read_table;
 use options::server::{Options, read_options};
-use placement::{Table, TableFault};
-use server::host;
+use placement::Table;
+use server::{Course, host, try_trace};
 use std::fs::Files;
-use std::io::ErrorKind;
+use std::io::{ErrorKind, IsTerminal};
 use std::net::{IpAddr, Ipv4Addr, Net, SocketAddr, TcpListener};
 use std::process::ExitCode;
-use std::{env, fs, io};
+use std::sync::Arc;
+use std::{env, io};
+
+/// The program's name.
+pub(crate) const PROGRAM: &str = "shardkv-server";
 
 fn main(rt: HostRuntime) -> ExitCode {
     let words = match words(&rt) {
         Ok(words) => words,
-        Err(fault) => return ExitCode::from(ended(
-            &rt,
-            status_of(&fault, 2),
-            "the words can't be read",
-        )),
+        Err(fault) => {
+            let _ = eprintln!(rt; "{PROGRAM}: the words can't be read: {fault}");
+            return ExitCode::from(status_of(&fault, 2));
+        }
     };
     let options = match read_options(rt.alloc(), words.as_slice()) {
         Ok(options) => options,
-        Err(fault) => return ExitCode::from(fault.tell(&rt)),
+        Err(fault) => return ExitCode::from(fault.tell(&rt, PROGRAM, 7)),
     };
     let (table, listener) = match opened(&rt, &options) {
         Ok(both) => both,
         Err(status) => return ExitCode::from(status),
     };
-    ExitCode::from(host(&rt, &listener, &options, table, &mut rt.stdout()))
+    let course = Arc::new(rt.alloc(), Course::new(rt.stderr().is_terminal()));
+    let Ok(course) = course else {
+        let _ = eprintln!(rt; "{PROGRAM}: out of memory");
+        return ExitCode::from(7);
+    };
+    if options.until_input_ends && end_with_input(rt, rt.stdin(), &course).is_err() {
+        let _ = eprintln!(rt; "{PROGRAM}: a thread could not be started");
+        return ExitCode::from(7);
+    }
+    ExitCode::from(host(&rt, &listener, &options, table, &mut rt.stdout(), &course))
 }
 
 /// The words on the command line.
-fn words<R: std::env::Env + AllocGlobal>(rt: &R) -> io::Result<Vec<String>> {
+fn words<R: env::Env + AllocGlobal>(rt: &R) -> io::Result<Vec<String>> {
     Ok(env::args(rt)?.collect(rt.alloc())?)
 }
 
-/// The table of the options' file, and a listener at their port. Else what went wrong is told, and its status given.
+/// The table of the options' file, and a listener at their address and port, where the trace can be written, if there is to be
+/// one. Else what went wrong is told, and its status given.
 fn opened<R: Net + Files + AllocGlobal + Eprint>(
     rt: &R,
     options: &Options<'_>,
 ) -> Result<(Table, R::Listener), u8> {
-    let text = match fs::read_to_string(rt, options.table) {
-        Ok(text) => text,
-        Err(fault) => return Err(ended(rt, status_of(&fault, 3), "the table can't be read")),
-    };
-    let table = match Table::from_toml(rt.alloc(), text.as_str()) {
-        Ok(table) => table,
-        Err(TableFault::Memory) => return Err(ended(rt, 7, "out of memory")),
-        Err(fault) => {
-            let _ = eprintln!(rt; "shardkv-server: {fault}");
-            return Err(3);
-        }
-    };
-    let address = SocketAddr::new(IpAddr::V4(Ipv4Addr::LOCALHOST), options.port);
+    let table = read_table(rt, options.table)?;
+    if let Some(path) = options.trace
+        && let Err(fault) = try_trace(rt, path)
+    {
+        let _ = eprintln!(rt; "{PROGRAM}: the trace can't be written to {path}: {fault}");
+        return Err(status_of(&fault, 6));
+    }
+    let ip = options.bind.unwrap_or(IpAddr::V4(Ipv4Addr::LOCALHOST));
+    let address = SocketAddr::new(ip, options.port);
     match TcpListener::bind(rt, address) {
-        Ok(listener) => Ok((table, listener)),
-        Err(_) => Err(ended(rt, 4, "the port can't be bound")),
+        Ok(listener) => {
+            if !ip.is_loopback() {
+                let _ = eprintln!(rt;
+                    "{PROGRAM}: no client is asked for a password: who reaches {ip} has the store"
+                );
+            }
+            Ok((table, listener))
+        }
+        Err(fault) => {
+            let _ = eprintln!(rt; "{PROGRAM}: {address} can't be bound: {fault}");
+            Err(status_of(&fault, 4))
+        }
     }
 }
 
-/// The status of a fault of reading: 7 where memory was wanting.
-fn status_of(fault: &io::Error, status: u8) -> u8 {
+/// The status of a fault of the system: 7 where memory was wanting.
+pub(crate) fn status_of(fault: &io::Error, status: u8) -> u8 {
     match fault.kind() {
         ErrorKind::OutOfMemory => 7,
         _ => status,
     }
-}
-
-/// Tells what went wrong, and gives the status.
-fn ended<R: Eprint>(rt: &R, status: u8, fault: &str) -> u8 {
-    let _ = eprintln!(rt; "shardkv-server: {fault}");
-    status
 }

@@ -3,13 +3,13 @@ use Rattle.std.proofs.Common.{◌≡◌, ◌∙◌, ap, sym, subst, ℕ, Bool, L
 use Rattle.std.proofs.Common.{IfErr, IfSome, None, inr}
 use Rattle.std.specs.Io.KnownBytes.{Appends}
 use Rattle.back.specs.Backs.{BackState}
-use Rattle.cluster.proofs.Submits.{said_still}
+use Rattle.cluster.proofs.Submits.{said_later}
 use Rattle.cluster.specs.Answers.{shown_outcome}
 use Rattle.cluster.specs.Answers as cluster_answer
 use Rattle.cluster.specs.Clusters.{SeatView, ClusterView, last_id}
 use Rattle.cluster.specs.Histories.{HistoryView, IsLawful, IsMade}
 use Rattle.cluster.specs.Outcomes.{ComesFrom, IsAbove, raised}
-use Rattle.cluster.specs.Submits.{IsSaid}
+use Rattle.cluster.specs.Submits.{IsSaid, session_met}
 use Rattle.cluster.specs.declared.cluster.Answer.{Answer}
 use Rattle.cluster.specs.declared.cluster.SealedReply.{SealedReply}
 use Rattle.cluster.specs.declared.closing.Closing.{Closing}
@@ -23,22 +23,28 @@ use Rattle.shared_cluster.specs.declared.fault.CloseFault.{CloseFault}
 use Rattle.shared_cluster.specs.declared.held.AskFault.{AskFault}
 use Rattle.system_view.specs.Connections.{outcome_shown}
 use Rattle.world.specs.Steps.{Collected}
+use Rattle.world.specs.World.{Outcome}
+
+-- where the outcome of these words comes from, by the session that they met
+abbrev HasCome : HistoryView → HistoryView → List (List ℕ) → Outcome → Type 0
+HasCome before after words o = (said : IsSaid before.steps o.id words) × ComesFrom after.front (session_met said) words o
 
 pub answered_of : (before after : HistoryView) (old new : SeatView) (a : Answer)
     → IsMade before (Collect old.conn) (Collected (Some (shown_outcome a))) after
-    → a.id ≡ last_id old → a.words ≡ old.words → IsSaid before.steps a.id a.words → ComesFrom after.front a.words (shown_outcome a)
+    → a.id ≡ last_id old → a.words ≡ old.words → HasCome before after a.words (shown_outcome a)
     → IsAbove a.stamp old.floor → new ≡ record old { floor = raised a.stamp old.floor } → IsLawful after
     → Answers before old (shown_outcome a) after new
-answered_of before after old new a collected id words said from above seat lawful = record {
-  collected = collected;
-  lawful = lawful;
-  id = id;
-  said = subst (λ steps. IsSaid steps a.id old.words) (sym collected.steps)
-      (said_still before.steps (Collect old.conn) a.id old.words (subst (IsSaid before.steps a.id) words said));
-  from = subst (λ w. ComesFrom after.front w (shown_outcome a)) words from;
-  above = above;
-  seat = seat;
-}
+answered_of before after old new a collected id words from above seat lawful =
+    let come = subst (λ w. HasCome before after w (shown_outcome a)) words from in
+    record {
+      collected = collected;
+      lawful = lawful;
+      id = id;
+      said = said_later before.steps after.steps (Collect old.conn) a.id old.words collected.steps come.0;
+      from = come.1;
+      above = above;
+      seat = seat;
+    }
 
 pub replied_of : (before after : HistoryView) (old new : SeatView) (reply : Reply) → cluster_answer.IsReplied before old reply after new
     → IsLawful after → Replies before old (content reply) after new

@@ -1,14 +1,27 @@
 -- What is told of a step that is refused.
-use Rattle.std.proofs.Common.{◌≡◌, ◌≢◌, Bool, true, false, inl, Some, Result, Ok, Err, IfErr, subst}
+use Rattle.std.proofs.Common.{◌≡◌, ◌≢◌, ℕ, Bool, true, false, ◌&&◌, ◌==◌, if◌then◌else◌, List, [], ◌∷◌, ◌++◌, length, inl, inr}
+use Rattle.std.proofs.Common.{Some, is_none, Result, Ok, Err, IfErr, refl, sym, ap, ◌∙◌, subst}
+use Rattle.std.proofs.lemmas.Bool.{both_ways}
+use Rattle.std.specs.Prelude.{codes}
+use Rattle.router.specs.Lists.{is_listing}
+use Rattle.router.specs.Router.{session_at}
+use Rattle.command_table.specs.Words.{Word, is_word}
+use Rattle.sessions.specs.Control.{control_of, control_in}
+use Rattle.sessions.specs.Replies.{queued, nested}
+use Rattle.sessions.specs.Session.{Answer, Now, asked, asks, Queues}
+use Rattle.sessions.specs.declared.member.Member.{Member}
+use Rattle.sessions.specs.declared.session.Session.{Session}
+use Rattle.sessions.specs.declared.session.Session.TheVariants.{Free, Listing, Spoilt}
 use Rattle.cluster.specs.Clusters.{SeatView}
 use Rattle.cluster.specs.Histories.{HistoryView, IsLawful}
 use Rattle.cluster.specs.declared.fault.StepFault.{StepFault}
-use Rattle.shared_cluster.specs.Asks.{told, unless_memory, lasting, Refuses, IsStoppedOr, RefusesAsk}
+use Rattle.shared_cluster.specs.Asks.{told, unlisted, unless_memory, lasting, Refuses, IsStoppedOr, RefusesAsk, RefusesSubmit}
 use Rattle.shared_cluster.specs.Asks.{RefusesCollect, RefusesTurn}
-use Rattle.shared_cluster.specs.Asks.{IsCollectFault, IsStopped}
+use Rattle.shared_cluster.specs.Asks.{IsCollectFault, IsStopped, IsAskFault}
+use Rattle.shared_cluster.specs.Desks.{IsUnqueued}
 use Rattle.shared_cluster.specs.declared.fault.FaultKind.{FaultKind}
-use Rattle.shared_cluster.specs.declared.fault.FaultKind.TheVariants.{Closed, Memory, Exhausted, Failed, NoConn}
-use Rattle.layer_results.specs.Results.{Results}
+use Rattle.shared_cluster.specs.declared.fault.FaultKind.TheVariants.{Closed, Memory, Exhausted, Failed, NoConn, Unlisted}
+use Rattle.layer_results.specs.declared.done.DoneRow.{DoneRow}
 use Rattle.shared_cluster.specs.Turning.{RefusesSettle}
 use Rattle.shared_cluster.specs.declared.held.AskFault.{AskFault}
 use Rattle.shared_cluster.specs.declared.held.Unsettled.{Unsettled}
@@ -16,11 +29,13 @@ use Rattle.shared_cluster.specs.declared.held.Unsettled.TheVariants.{Starved, Fo
 
 -- ---- behind the lock
 
-pub open_refuses : (shut stopped : Bool) (h : HistoryView) (IsWhy : StepFault → Type 0) (own : StepFault) (kind : FaultKind)
-    → shut ≡ false → stopped ≡ false → IsLawful h → IsWhy own → kind ≡ told own → RefusesAsk shut stopped h IsWhy kind
-open_refuses true stopped h IsWhy own kind shut goes lawful refused is = cc
-open_refuses false true h IsWhy own kind shut goes lawful refused is = cc
-open_refuses false false h IsWhy own kind shut goes lawful refused is = record { lawful = lawful; own = own; is = cc; why = refused }
+pub open_refuses : (shut stopped : Bool) (h : HistoryView) (telling : StepFault → FaultKind) (IsWhy : StepFault → Type 0)
+    (own : StepFault) (kind : FaultKind) → shut ≡ false → stopped ≡ false → IsLawful h → IsWhy own → kind ≡ telling own
+    → RefusesAsk shut stopped h telling IsWhy kind
+open_refuses true stopped h telling IsWhy own kind shut goes lawful refused is = cc
+open_refuses false true h telling IsWhy own kind shut goes lawful refused is = cc
+open_refuses false false h telling IsWhy own kind shut goes lawful refused is =
+    record { lawful = lawful; own = own; is = sym is; why = refused }
 
 kept_by_lasting : (k kind : FaultKind) → unless_memory k ≡ Some kind → (k ≡ kind) × (kind ≢ Memory)
 kept_by_lasting Closed kind is = (cc, λ same. cc)
@@ -28,10 +43,11 @@ kept_by_lasting Memory kind is = cc
 kept_by_lasting Exhausted kind is = (cc, λ same. cc)
 kept_by_lasting Failed kind is = (cc, λ same. cc)
 kept_by_lasting NoConn kind is = (cc, λ same. cc)
+kept_by_lasting Unlisted kind is = (cc, λ same. cc)
 
 pub refuses_lasting : (stopped : Bool) (h : HistoryView) (IsWhy : StepFault → Type 0) (own : StepFault) (kind : FaultKind)
     → stopped ≡ false → IsLawful h → IsWhy own → lasting own ≡ Some kind
-    → (kind ≢ Memory) × IsStoppedOr stopped (Refuses h IsWhy kind) kind
+    → (kind ≢ Memory) × IsStoppedOr stopped (Refuses h told IsWhy kind) kind
 refuses_lasting true h IsWhy own kind goes lawful refused is = (λ same. cc, cc)
 refuses_lasting false h IsWhy own kind goes lawful refused is =
     let kept = kept_by_lasting (told own) kind is in
@@ -44,8 +60,89 @@ pub found_collect : {X : Type 0} (r : Result X AskFault) (stopped : Bool) (h : H
 found_collect (Ok got) stopped h s refused = tt
 found_collect (Err fault) stopped h s refused = inl (stopped, h, refused)
 
-pub found_unsettled : (h : HistoryView) (done : Results) (u : Unsettled) (fault : AskFault) → RefusesSettle h done u
+pub found_unsettled : (h : HistoryView) (done : List DoneRow) (u : Unsettled) (fault : AskFault) → RefusesSettle h done u
     → u ≡ Foreign fault → IsStopped fault
 found_unsettled h done (Starved given) fault refused is = cc
 found_unsettled h done (Foreign why) fault refused is =
     let same : why ≡ fault = cc in (true, h, subst (RefusesTurn true h) same refused.1)
+
+-- ---- of a request that was to be the next member of an open list
+
+-- what is told as want of memory is told of words that aren't listed
+memory_unlisted : (listed : Bool) (kind : FaultKind) → unlisted listed kind ≡ Memory → listed ≡ false
+memory_unlisted false kind is = refl
+memory_unlisted true Closed is = cc
+memory_unlisted true Memory is = cc
+memory_unlisted true Exhausted is = cc
+memory_unlisted true Failed is = cc
+memory_unlisted true NoConn is = cc
+memory_unlisted true Unlisted is = cc
+
+-- whichever of three tests is the first to pass, or none
+of_three : {A : Type 0} (P : A → Type 0) (a b c : Bool) (x y z w : A) → P x → P y → P z → P w
+    → P (if a then x else if b then y else if c then z else w)
+of_three P true b c x y z w px py pz pw = px
+of_three P false true c x y z w px py pz pw = py
+of_three P false false true x y z w px py pz pw = pz
+of_three P false false false x y z w px py pz pw = pw
+
+neither : {A B : Type 0} (one : Bool) (x y z : A) → (x ≡ z → B) → (y ≡ z → B) → (if one then x else y) ≡ z → B
+neither true x y z unlike differs is = unlike is
+neither false x y z unlike differs is = differs is
+
+-- no list is open then
+not_free : {B : Type 0} (said : Answer) (more : List Member) → ◌≡◌ {A = Session × Answer} (Free, said) (Listing more, Now queued) → B
+not_free said more is = absurd (let k = ap (λ (p : Session × Answer). p.0) is in cc)
+
+not_spoilt : {B : Type 0} (said : Answer) (more : List Member) → ◌≡◌ {A = Session × Answer} (Spoilt, said) (Listing more, Now queued) → B
+not_spoilt said more is = absurd (let k = ap (λ (p : Session × Answer). p.0) is in cc)
+
+not_nested : {B : Type 0} (members more : List Member)
+    → ◌≡◌ {A = Session × Answer} (Listing members, Now nested) (Listing more, Now queued) → B
+not_nested members more is = absurd (let k = ap (λ (p : Session × Answer). p.1) is in cc)
+
+-- none of MULTI, EXEC and DISCARD is a member
+no_control : (members more : List Member) (words : List Word) (name : Word)
+    → asked (Listing members) words (control_of name) ≡ (Listing more, Now queued) → is_none (control_of name) ≡ true
+no_control [] more words name =
+    of_three (λ which. asked (Listing []) words which ≡ (Listing more, Now queued) → is_none which ≡ true)
+    (is_word (codes "multi") name) (is_word (codes "exec") name) (is_word (codes "discard") name) _ _ _ _
+    (neither (length words == 1) _ _ _ (not_nested [] more) (not_spoilt _ more))
+    (neither (length words == 1) _ _ _ (not_free _ more) (not_spoilt _ more))
+    (neither (length words == 1) _ _ _ (not_free _ more) (not_spoilt _ more)) (λ is. refl)
+no_control (m ∷ ms) more words name =
+    of_three (λ which. asked (Listing (m ∷ ms)) words which ≡ (Listing more, Now queued) → is_none which ≡ true)
+    (is_word (codes "multi") name) (is_word (codes "exec") name) (is_word (codes "discard") name) _ _ _ _
+    (neither (length words == 1) _ _ _ (not_nested (m ∷ ms) more) (not_spoilt _ more))
+    (neither (length words == 1) _ _ _ (not_free _ more) (not_spoilt _ more))
+    (neither (length words == 1) _ _ _ (not_free _ more) (not_spoilt _ more)) (λ is. refl)
+
+no_member : (members more : List Member) (words : List Word) → asks (Listing members) words ≡ (Listing more, Now queued)
+    → is_none (control_in words) ≡ true
+no_member members more [] is = refl
+no_member members more (name ∷ words) is = no_control members more (name ∷ words) name is
+
+queued_listed : (session : Session) (words : List (List ℕ)) → Queues session words
+    → (is_listing session && is_none (control_in words)) ≡ true
+queued_listed session words queues =
+    let at : asks (Listing queues.0) words ≡ (Listing (queues.0 ++ queues.1 ∷ []), Now queued) =
+    subst (λ s. asks s words ≡ (Listing (queues.0 ++ queues.1 ∷ []), Now queued)) queues.2 queues.3 in
+    ap (λ s. is_listing s && is_none (control_in words)) queues.2
+    ∙ no_member queues.0 (queues.0 ++ queues.1 ∷ []) words at
+
+unqueued : (s : SeatView) (words : List (List ℕ)) (shut stopped : Bool) (h : HistoryView) (fault : AskFault)
+    → RefusesSubmit shut stopped h s words fault → fault.kind ≡ Memory → IsUnqueued s words
+unqueued s words true stopped h fault refused is = absurd (let k = sym refused.1 ∙ is in cc)
+unqueued s words false true h fault refused is = absurd (let k = sym refused.1 ∙ is in cc)
+unqueued s words false false h fault refused is = (
+  h,
+  refused.1.lawful,
+  λ queues. both_ways _ (memory_unlisted _ _ (refused.1.is ∙ is)) (queued_listed (session_at h.front.router s.conn.0) words queues),
+)
+
+-- a desk that answers want of memory
+pub told_of_memory : (old : SeatView) (words : List (List ℕ)) (fault : AskFault) (new : SeatView) → IsAskFault old words fault new
+    → fault.kind ≡ Memory → (new ≡ old) × IsUnqueued old words
+told_of_memory old words fault new (inl (why, same)) is = (same, unqueued old words why.0 why.1 why.2 fault why.3 is)
+told_of_memory old words fault new (inr (inl why, same)) is = absurd (why.2.1 is)
+told_of_memory old words fault new (inr (inr why, same)) is = absurd (why.2.1 is)

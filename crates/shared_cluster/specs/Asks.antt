@@ -1,19 +1,23 @@
 -- What a seat asks of a shared cluster, and what it is answered. The cluster under the lock is another one each time it
 -- is taken, so a clause says that there was such a cluster, and not which.
-use Rattle.std.specs.Prelude.{◌≡◌, ◌≢◌, ℕ, ◌+◌, Bool, true, false, List, [], ◌⊎◌, Option, Some, None}
+use Rattle.std.specs.Prelude.{◌≡◌, ◌≢◌, ℕ, ◌+◌, Bool, true, false, ◌&&◌, List, [], ◌⊎◌, Option, Some, None, is_none}
 use Rattle.cluster.specs.Clusters.{SeatView, last_id, next_id}
 use Rattle.cluster.specs.Clusters as cluster
 use Rattle.cluster.specs.Histories.{HistoryView, IsLawful, IsMade, IsFault}
 use Rattle.cluster.specs.Outcomes.{ComesFrom, IsAbove, raised}
-use Rattle.cluster.specs.Submits.{IsSaid}
+use Rattle.cluster.specs.Submits.{IsSaid, session_met}
 use Rattle.cluster.specs.Turns.{IsTurnFault}
 use Rattle.cluster.specs.declared.fault.StepFault.{StepFault}
 use Rattle.cluster.specs.declared.fault.StepFault.TheVariants as step
+use Rattle.groups.specs.declared.request.ConnId.{ConnId}
 use Rattle.journal.specs.declared.step.Step.TheVariants.{Open, Submit, Take, Collect}
 use Rattle.resp.specs.Content.{Content}
+use Rattle.router.specs.Lists.{is_listing}
+use Rattle.router.specs.Router.{session_at}
+use Rattle.sessions.specs.Control.{control_in}
 use Rattle.shared_cluster.specs.declared.fault.AskStep.TheVariants as asked
 use Rattle.shared_cluster.specs.declared.fault.FaultKind.{FaultKind}
-use Rattle.shared_cluster.specs.declared.fault.FaultKind.TheVariants.{Closed, Memory, Exhausted, Failed, NoConn}
+use Rattle.shared_cluster.specs.declared.fault.FaultKind.TheVariants.{Closed, Memory, Exhausted, Failed, NoConn, Unlisted}
 use Rattle.shared_cluster.specs.declared.held.AskFault.{AskFault}
 use Rattle.world.specs.Steps.{Opened, Submitted, Collected}
 use Rattle.world.specs.World.{Outcome}
@@ -39,14 +43,14 @@ Submits before s words after = IsMade before (Submit s.conn words) (Submitted (n
 
 -- What came of the seat's last request: the seat's connection collected it as the step from one history to the other, which
 -- is lawful. It is the outcome of the seat's last id, which the history has with the seat's words; it is a row of that
--- history, or the request starved, or it is the reply to words that address no group. Its stamp is above the seat's floor,
--- and becomes it.
+-- history, or the request starved, or by the session that the words met it is their reply, which takes no group. Its stamp is
+-- above the seat's floor, and becomes it.
 pub record Answers (before : HistoryView) (old : SeatView) (o : Outcome) (after : HistoryView) (new : SeatView) : Type 0 where
   pub collected : IsMade before (Collect old.conn) (Collected (Some o)) after
   pub lawful : IsLawful after
   pub id : o.id ≡ last_id old
   pub said : IsSaid after.steps o.id old.words
-  pub from : ComesFrom after.front old.words o
+  pub from : ComesFrom after.front (session_met said) old.words o
   pub above : IsAbove o.stamp old.floor
   pub seat : new ≡ record old { floor = raised o.stamp old.floor }
 
@@ -79,6 +83,18 @@ told step.NoPacket = NoConn
 told step.InFlight = NoConn
 told step.NoLayer = NoConn
 
+-- the connection's list is open, and these words are none of MULTI, EXEC and DISCARD
+abbrev pub is_listed : HistoryView → ConnId → List (List ℕ) → Bool
+is_listed h conn words = is_listing (session_at h.front.router conn.0) && is_none (control_in words)
+
+-- what a seat is told where its submit isn't made: for such words want of memory has a kind of its own
+abbrev pub unlisted : Bool → FaultKind → FaultKind
+unlisted true Memory = Unlisted
+unlisted listed kind = kind
+
+abbrev pub told_in : Bool → StepFault → FaultKind
+told_in listed fault = unlisted listed (told fault)
+
 -- the same where it isn't want of memory, after which the step is tried again
 abbrev pub unless_memory : FaultKind → Option FaultKind
 unless_memory Memory = None
@@ -88,10 +104,10 @@ abbrev pub lasting : StepFault → Option FaultKind
 lasting fault = unless_memory (told fault)
 
 -- A cluster, which is lawful, refuses a step for a fault of the step's own, and it is told so.
-pub record Refuses (h : HistoryView) (IsWhy : StepFault → Type 0) (kind : FaultKind) : Type 0 where
+pub record Refuses (h : HistoryView) (telling : StepFault → FaultKind) (IsWhy : StepFault → Type 0) (kind : FaultKind) : Type 0 where
   pub lawful : IsLawful h
   pub own : StepFault
-  pub is : told own ≡ kind
+  pub is : telling own ≡ kind
   pub why : IsWhy own
 
 -- what is locked is stopped, since a layer was refused for good, or its cluster refuses
@@ -106,21 +122,22 @@ IsShutOr false refuses kind = refuses
 
 -- ---- refusals of what is locked: whether it is shut, whether it is stopped, and its cluster's history
 
-abbrev pub RefusesAsk : Bool → Bool → HistoryView → (StepFault → Type 0) → FaultKind → Type 0
-RefusesAsk shut stopped h IsWhy kind = IsShutOr shut (IsStoppedOr stopped (Refuses h IsWhy kind) kind) kind
+abbrev pub RefusesAsk : Bool → Bool → HistoryView → (StepFault → FaultKind) → (StepFault → Type 0) → FaultKind → Type 0
+RefusesAsk shut stopped h telling IsWhy kind = IsShutOr shut (IsStoppedOr stopped (Refuses h telling IsWhy kind) kind) kind
 
 abbrev pub RefusesSit : Bool → Bool → HistoryView → AskFault → Type 0
-RefusesSit shut stopped h fault = (fault.step ≡ asked.Sit) × RefusesAsk shut stopped h (IsFault h Open) fault.kind
+RefusesSit shut stopped h fault = (fault.step ≡ asked.Sit) × RefusesAsk shut stopped h told (IsFault h Open) fault.kind
 
 abbrev pub RefusesSubmit : Bool → Bool → HistoryView → SeatView → List (List ℕ) → AskFault → Type 0
 RefusesSubmit shut stopped h s words fault =
-    (fault.step ≡ asked.Submit s.conn s.count) × RefusesAsk shut stopped h (cluster.IsSubmitFault h s words) fault.kind
+    (fault.step ≡ asked.Submit s.conn s.count)
+    × RefusesAsk shut stopped h (told_in (is_listed h s.conn words)) (cluster.IsSubmitFault h s words) fault.kind
 
 -- want of memory isn't told: it is tried again
 abbrev pub RefusesCollect : Bool → HistoryView → SeatView → AskFault → Type 0
 RefusesCollect stopped h s fault =
     (fault.step ≡ asked.Collect s.conn s.count) × (fault.kind ≢ Memory)
-    × IsStoppedOr stopped (Refuses h (cluster.IsCollectFault h s) fault.kind) fault.kind
+    × IsStoppedOr stopped (Refuses h told (cluster.IsCollectFault h s) fault.kind) fault.kind
 
 -- why no packet comes to its group, or no layer is taken
 abbrev pub IsOwnTurnFault : HistoryView → StepFault → Type 0
@@ -128,7 +145,7 @@ IsOwnTurnFault h own = IsTurnFault h own ⊎ IsFault h Take own
 
 abbrev pub RefusesTurn : Bool → HistoryView → AskFault → Type 0
 RefusesTurn stopped h fault =
-    (fault.step ≡ asked.Turn) × (fault.kind ≢ Memory) × IsStoppedOr stopped (Refuses h (IsOwnTurnFault h) fault.kind) fault.kind
+    (fault.step ≡ asked.Turn) × (fault.kind ≢ Memory) × IsStoppedOr stopped (Refuses h told (IsOwnTurnFault h) fault.kind) fault.kind
 
 -- ---- the same of a shared cluster, which was such a one when it was locked
 

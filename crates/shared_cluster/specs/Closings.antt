@@ -14,6 +14,7 @@ use Rattle.cluster.specs.declared.cluster.CloseFault.TheVariants as fault
 use Rattle.journal.specs.TraceText.{trace_text}
 use Rattle.shared_cluster.specs.declared.fault.CloseFault.{CloseFault}
 use Rattle.shared_cluster.specs.declared.fault.CloseFault.TheVariants.{Failed, SeatsOut, NotQuiet, Disagree}
+use Rattle.shared_cluster.specs.declared.sight.Sight.{Sight}
 
 -- This cluster is lawful and quiet, as many seats stood as sat, and what those submitted that stood is all that was
 -- submitted. Its rows are those of this store, which has not failed and is lawful: each request was told the reply of the
@@ -79,3 +80,15 @@ IsSent before after = (h : HistoryView) × Sends h before after
 -- so many requests had been submitted
 abbrev pub HasSubmitted : ℕ → Type 0
 HasSubmitted count = (h : HistoryView) × (count ≡ submits h.steps)
+
+-- ---- how far a cluster is
+
+-- so many requests were submitted and so many steps made, and so many requests and members starved
+pub record IsSight (h : HistoryView) (sight : Sight) : Type 0 where
+  pub requests : sight.requests ≡ submits h.steps
+  pub steps : sight.steps ≡ length h.steps
+  pub starved : sight.starved ≡ length h.front.starved
+
+-- a cluster was that far
+abbrev pub IsSeen : Sight → Type 0
+IsSeen sight = (h : HistoryView) × IsSight h sight

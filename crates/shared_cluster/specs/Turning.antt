@@ -1,5 +1,5 @@
 -- How the turns of a locked cluster go on.
-use Rattle.std.specs.Prelude.{◌≡◌, ◌≢◌, ℕ, Bool, true, [], ◌⊎◌}
+use Rattle.std.specs.Prelude.{◌≡◌, ◌≢◌, ℕ, Bool, true, List, [], ◌⊎◌}
 use Rattle.delivery.specs.Queues.{queue_of}
 use Rattle.delivery.specs.Ready.{IsReady}
 use Rattle.front.specs.Looking.{IsQuiet}
@@ -7,7 +7,7 @@ use Rattle.cluster.specs.Histories.{HistoryView, IsUnchanged}
 use Rattle.cluster.specs.Layers.{HandsOut, IsSettleFault}
 use Rattle.cluster.specs.Turns.{Delivers}
 use Rattle.cluster.specs.declared.fault.StepFault.TheVariants as fault
-use Rattle.layer_results.specs.Results.{Results}
+use Rattle.layer_results.specs.declared.done.DoneRow.{DoneRow}
 use Rattle.shared_cluster.specs.Asks.{RefusesTurn}
 use Rattle.shared_cluster.specs.declared.held.Next.{Next}
 use Rattle.shared_cluster.specs.declared.held.Next.TheVariants.{Taken, Delivered, Starved, Quiet}
@@ -44,7 +44,7 @@ GoesOn pick old new Quiet = (¬ MayTake old) × (old.front.multicast.packets ≡
 
 -- Why what came of a layer isn't settled: there was no memory while a layer is out, and it is given back; or it isn't what came
 -- of the layer that is out.
-abbrev pub RefusesSettle : HistoryView → Results → Unsettled → Type 0
+abbrev pub RefusesSettle : HistoryView → List DoneRow → Unsettled → Type 0
 RefusesSettle h done (unsettled.Starved given) = (given ≡ done) × IsSettleFault h done fault.Memory
 RefusesSettle h done (unsettled.Foreign why) = IsSettleFault h done fault.NoLayer × RefusesTurn true h why
 

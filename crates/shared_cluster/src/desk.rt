@@ -6,7 +6,7 @@ ghost use Rattle.shared_cluster.specs.Asks.{submitted, IsReplied, IsAskFault};
 
 use crate::fault::FaultKind;
 use crate::held::AskFault;
-use crate::long_work::combines_sets;
+use crate::long_work::Asked;
 use crate::shared::Shared;
 use cluster::{SealedReply, Seat};
 use resp::{Reply, Request};
@@ -20,20 +20,22 @@ use std::time::Clock;
 pub enum Turns {
     /// The thread that asks.
     Own,
-    /// The thread that asks, but for requests that combine whole sets: a thread that drives the cluster makes theirs,
-    /// with workers that may run several at once.
+    /// The thread that asks, but for requests that combine whole sets, EXECs among them: a thread that drives the cluster
+    /// makes theirs, with workers that may run several at once.
     Driver,
 }
 
 /// A seat at a shared cluster, which asks what its connection requests.
 ///
-/// A request for which there is no memory is answered so, and the connection goes on; any other refusal ends it.
+/// A request for which there is no memory is answered so, and the connection goes on; but where it was to be a member of
+/// an open list, or is refused otherwise, the connection ends.
 #[derive(Drop)]
 pub struct Desk<'a, L: Ledger, R: Wait + Clock> {
     rt: &'a R,
     shared: &'a Shared<L>,
     seat: Seat<L>,
     turns: Turns,
+    asked: Asked,
 }
 
 impl<'a, L: Ledger, R: Wait + Clock> Desk<'a, L, R> {
@@ -47,6 +49,7 @@ impl<'a, L: Ledger, R: Wait + Clock> Desk<'a, L, R> {
             shared,
             seat,
             turns,
+            asked: Asked::nothing(),
         }
     }
 
@@ -56,12 +59,19 @@ impl<'a, L: Ledger, R: Wait + Clock> Desk<'a, L, R> {
         ensures refused { IfErr result (λ fault. IsAskFault self.old.seat request fault self.new.seat) }
     {
         let conn = self.seat.conn();
-        if self.turns == Turns::Driver && combines_sets(request.word(0)) {
+        if self.is_for_driver(request.word(0)) {
             self.shared.turnstile().leave(self.rt, conn);
             return self.shared.ask_driven(self.rt, &mut self.seat, request);
         }
         self.shared.turnstile().enter(self.rt, conn);
         self.shared.ask_turning(self.rt, &mut self.seat, request)
+    }
+
+    /// Whether the turns of a request of this name, which is asked now, are left to the thread that drives.
+    fn is_for_driver(&mut self, name: &[u8]) -> bool
+        ensures { self.new.seat ≡ self.old.seat }
+    {
+        self.turns == Turns::Driver && self.asked.combines_sets(name)
     }
 
     /// The seat, given back.

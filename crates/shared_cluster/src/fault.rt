@@ -1,7 +1,7 @@
 //! Why a seat isn't served, and why a cluster isn't closed.
 
 ghost use Rattle.std.specs.Prelude.{◌≡◌};
-ghost use Rattle.shared_cluster.specs.Asks.{told, lasting};
+ghost use Rattle.shared_cluster.specs.Asks.{told, told_in, lasting};
 ghost use Rattle.shared_cluster.specs.Closings.{of_cluster};
 
 use cluster::{CloseFault as ClusterFault, StepFault};
@@ -32,6 +32,11 @@ pub enum FaultKind {
     /// seat's count tells whether the request was submitted.
     #[error("the seat is not one of this server")]
     NoConn,
+
+    /// 6: there was no memory for a request in an open list, which is none of MULTI, EXEC and DISCARD. Nothing was
+    /// submitted, so the list lacks it.
+    #[error("no memory for this connection")]
+    Unlisted,
 }
 
 /// The step that was not made: of a seat, its connection and how many requests it had submitted.
@@ -93,6 +98,16 @@ pub(crate) fn told(fault: StepFault) -> FaultKind
         | StepFault::NoPacket
         | StepFault::InFlight
         | StepFault::NoLayer => FaultKind::NoConn,
+    }
+}
+
+/// What a seat is told where its submit isn't made, of a request in an open list or of another one.
+pub(crate) fn told_in(listed: bool, fault: StepFault) -> FaultKind
+    ensures { result ≡ told_in listed fault }
+{
+    match told(fault) {
+        FaultKind::Memory if listed => FaultKind::Unlisted,
+        kind => kind,
     }
 }
 

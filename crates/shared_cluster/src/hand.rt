@@ -5,7 +5,7 @@ ghost use Rattle.std.specs.Prelude.{◌≡◌};
 ghost use Rattle.shared_cluster.specs.Running.{BringsOn};
 
 use back::Back;
-use groups::RequestId;
+use groups::SkipId;
 use layer_planner::Layer;
 use layer_results::Done;
 use shard_exec::ExecFault;
@@ -57,7 +57,7 @@ pub(crate) fn run_layer<W: Workers>(
 ) -> Run
     ensures { BringsOn (W.may_refuse workers.now) back.old layer result back.new }
 {
-    let skip: [RequestId; 0] = [];
+    let skip: [SkipId; 0] = [];
     match back.run(layer, &skip, workers, gate) {
         Ok(()) => Run::Handed(back.hand_over()),
         Err(ExecFault::Memory(layer)) => Run::Starved(layer),

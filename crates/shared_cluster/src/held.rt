@@ -4,9 +4,9 @@
 ghost use Rattle.std.specs.Prelude.{◌≡◌, ◌+◌, ◌⊎◌, true, OnErr, OnOk, IfOk, IfErr, IfSome, IfNone, OnSome, IsTrue, ◌↔◌};
 ghost use Rattle.cluster.specs.Answers.{shown_outcome};
 ghost use Rattle.resp.specs.Content.{content};
-ghost use Rattle.shared_cluster.specs.Asks.{submitted, IsSeated, Submits, Answers, Replies, RefusesSit, RefusesSubmit, RefusesCollect};
+ghost use Rattle.shared_cluster.specs.Asks.{submitted, is_listed, IsSeated, Submits, Answers, Replies, RefusesSit, RefusesSubmit, RefusesCollect};
 ghost use Rattle.shared_cluster.specs.Asks.{RefusesTurn};
-ghost use Rattle.shared_cluster.specs.Closings.{Closes, RefusesClose, Writes, Sends};
+ghost use Rattle.shared_cluster.specs.Closings.{Closes, RefusesClose, Writes, Sends, IsSight};
 ghost use Rattle.shared_cluster.specs.Turning.{GoesOn, Carries, Takes, MayTake, RefusesSettle, IsAtRest};
 ghost use Rattle.cluster.specs.Clusters.{StaysOpen};
 ghost use Rattle.cluster.specs.Histories.{IsMade};
@@ -15,8 +15,9 @@ ghost use Rattle.cluster.specs.Submits.{submits};
 ghost use Rattle.journal.specs.declared.step.Step.{Step};
 ghost use Rattle.world.specs.Steps.{Made};
 
-use crate::fault::{AskStep, CloseFault, FaultKind, lasting, of_cluster, told};
+use crate::fault::{AskStep, CloseFault, FaultKind, lasting, of_cluster, told, told_in};
 use crate::hand::Broken;
+use crate::sight::Sight;
 use back::Back;
 use cluster::{Answer, Closing, Cluster, Pick, SealedReply, Seat, StepFault};
 use groups::ConnId;
@@ -24,6 +25,7 @@ use journal::{SendFault, send_trace, write_trace};
 use layer_planner::Layer;
 use layer_results::Done;
 use resp::Request;
+use sessions::is_control;
 use std::alloc::AllocError;
 use std::io::Write;
 use std::sync::ledger::Ledger;
@@ -148,7 +150,8 @@ impl<L: Ledger> Held<L> {
         ensures shut { self.new.shut ≡ self.old.shut }
         ensures stopped { self.new.stopped ≡ self.old.stopped }
     {
-        let step = AskStep::Submit(seat.conn(), seat.count());
+        let conn = seat.conn();
+        let step = AskStep::Submit(conn, seat.count());
         if self.shut {
             return Err(AskFault {
                 kind: FaultKind::Closed,
@@ -162,19 +165,29 @@ impl<L: Ledger> Held<L> {
             });
         }
         self.cluster.lawful();
+        let listed = self.is_listed(conn, &words);
         if self.is_short() {
             return Err(AskFault {
-                kind: told(self.cluster.submit_refusal(seat, words)),
+                kind: told_in(listed, self.cluster.submit_refusal(seat, words)),
                 step,
             });
         }
         match self.cluster.submit(seat, words) {
             Ok(_) => Ok(()),
             Err(fault) => Err(AskFault {
-                kind: told(fault),
+                kind: told_in(listed, fault),
                 step,
             }),
         }
+    }
+
+    /// Whether the connection's list is open, and the request is none of MULTI, EXEC and DISCARD.
+    fn is_listed(&self, conn: ConnId, words: &Request) -> bool
+        ensures { result ≡ is_listed self.now.cluster.history conn words.now }
+    {
+        // `len` is called for its clause that there is a word.
+        let _count = words.len();
+        self.cluster.front().has_list(conn) && !is_control(words.word(0))
     }
 
     /// Takes the memory again that is kept back for turns, where it was let go, and room ahead. Says whether there is none for the
@@ -410,6 +423,17 @@ impl<L: Ledger> Held<L> {
         ensures { result ≡ submits self.now.cluster.history.steps }
     {
         self.cluster.requests()
+    }
+
+    /// How far it is.
+    pub fn sight(&self) -> Sight
+        ensures { IsSight self.now.cluster.history result }
+    {
+        Sight {
+            requests: self.cluster.requests(),
+            steps: self.cluster.trace().len() as u64,
+            starved: self.cluster.front().starved().len() as u64,
+        }
     }
 
     /// Shuts: no one sits or asks any more.

@@ -8,8 +8,10 @@ mod hand;
 mod held;
 mod long_work;
 mod shared;
+mod sight;
 
 pub use desk::{Desk, Turns};
 pub use fault::{AskStep, CloseFault, FaultKind};
 pub use held::{AskFault, AtRest};
 pub use shared::Shared;
+pub use sight::Sight;

@@ -27,7 +27,7 @@ ghost use Rattle.resp.specs.Content.{content};
 ghost use Rattle.shared_cluster.specs.Asks.{submitted, IsNewSeat, IsAnswered, IsReplied, IsSitFault, IsSubmitFault};
 ghost use Rattle.shared_cluster.specs.Asks.{IsCollectFault, IsAskFault};
 ghost use Rattle.shared_cluster.specs.Asks.{IsStopped};
-ghost use Rattle.shared_cluster.specs.Closings.{IsClosed, IsCloseFault, IsWritten, IsSent, HasSubmitted};
+ghost use Rattle.shared_cluster.specs.Closings.{IsClosed, IsCloseFault, IsWritten, IsSent, HasSubmitted, IsSeen};
 ghost use Rattle.shared_cluster.specs.declared.hand.Hand.{Hand};
 ghost use Rattle.journal.specs.declared.trace.TheConstants.{GREATEST_STEPS};
 
@@ -35,6 +35,7 @@ use crate::fault::{CloseFault, FaultKind};
 use crate::hand::{Hand, Run, run_layer};
 use crate::held::{AskFault, AtRest, Held, Next, RESERVE, Unsettled};
 use crate::long_work::takes_long;
+use crate::sight::Sight;
 use back::Back;
 use cluster::{Answer, Closing, Cluster, First, Pick, SealedReply, Seat};
 use groups::{ConnId, GroupId};
@@ -274,6 +275,13 @@ impl<L: Ledger> Shared<L> {
         ensures { HasSubmitted result }
     {
         self.front.lock(rt).requests()
+    }
+
+    /// How far it is.
+    pub fn sight<R: Wait>(&self, rt: &R) -> Sight
+        ensures { IsSeen result }
+    {
+        self.front.lock(rt).sight()
     }
 
     /// What is told of the cluster when it is closed: all seats have stood, nothing is under way, and what was told of the
@@ -658,9 +666,6 @@ impl<L: Ledger> Shared<L> {
         }
         for row in done.rows() {
             self.wake_seat(row.id.conn);
-        }
-        for (id, _) in done.starved() {
-            self.wake_seat(id.conn);
         }
     }
 

@@ -2,6 +2,7 @@
 use Rattle.std.proofs.Common.{◌≡◌, Bool, false, List, [], ◌∷◌, length, ◌⊎◌, inl, inr, Option, Some, None, refl, sym, ap, ◌∙◌, subst}
 use Rattle.std.proofs.Common.{arith}
 use Rattle.std.specs.List.{AllZip}
+use Rattle.batches.specs.Starved.{starved_in}
 use Rattle.delivery.specs.Queues.{queue_of}
 use Rattle.delivery.specs.Ready.{QueueOf, IsReady}
 use Rattle.execution_order.specs.Entries.{Row}
@@ -13,10 +14,13 @@ use Rattle.groups.specs.Order.{In}
 use Rattle.skeen_core.specs.declared.packet.Delivered.{Delivered}
 use Rattle.skeen_core.specs.declared.packet.Packet.{Packet}
 use Rattle.groups.specs.declared.request.RequestId.{RequestId}
+use Rattle.groups.specs.declared.skip_id.SkipId.{SkipId}
+use Rattle.groups.specs.declared.skip_id.SkipId.TheVariants.{Whole}
 use Rattle.front.proofs.TakeMakes.{take_memory}
 use Rattle.front.specs.Fronts.{IsOut}
 use Rattle.system.proofs.Fronting.{front_at}
 use Rattle.system.proofs.Layering.{run_admitted}
+use Rattle.system.proofs.Names.{whole_starved}
 use Rattle.system.proofs.Submitted.{was_asked}
 use Rattle.system.specs.Endings.{IsExecuted, HasStarved, EachHasEnded, MayBeMade, SomeMayBeMade, TurnsAreFew}
 use Rattle.system.specs.Faults.{own_fault}
@@ -31,7 +35,7 @@ use Rattle.system.specs.declared.halves.Halves.{Halves}
 use Rattle.system.specs.declared.stage.Stage.{Stage}
 use Rattle.system.specs.declared.stage.Stage.TheVariants as stage
 use Rattle.system_view.specs.Layers.{IsRow}
-use Rattle.world.specs.Steps.{opening, OwnFault, NothingToSettle, Refused, if_starved, starved_among}
+use Rattle.world.specs.Steps.{opening, OwnFault, NothingToSettle, Refused, starved_among}
 use Rattle.world.specs.Steps as world
 use Rattle.world.specs.World.{World, Ended, Layer, NoneTaken, Taken, HasRun}
 use Rattle.world_laws.proofs.BoundLaws.{turns_are_bounded}
@@ -43,35 +47,40 @@ use Rattle.world_laws.specs.Quiet as quiet
 
 -- ---- what has ended
 
--- it has a row, or is among the starved
-abbrev Told : List Row → List RequestId → RequestId → Type 0
-Told rows starved i = ((x : Row) × In x rows × (x.entry.id ≡ i)) ⊎ In i starved
+-- one of the rows is its
+abbrev HasRow : List Row → RequestId → Type 0
+HasRow rows i = (x : Row) × In x rows × (x.entry.id ≡ i)
+
+-- it has a row, or is among what starved
+abbrev Told : List Row → List SkipId → RequestId → Type 0
+Told rows starved i = HasRow rows i ⊎ In (Whole i) starved
 
 abbrev row_of : Ended → Content → Row
 row_of e reply = record {
-  entry = record { id = e.id; stamp = e.stamp; groups = e.groups; task = e.task };
+  entry = record { id = e.id; stamp = e.stamp; groups = e.groups; task = e.task; starved = starved_in e.task reply };
   reply = reply;
 }
 
-told_first : (e : Ended) (reply : Option Content) (rows : List Row) (starved : List RequestId) →
-    Told (with_row e reply rows) (if_starved reply e.id starved) e.id
-told_first e None rows starved = inr (inl refl)
-told_first e (Some reply) rows starved = inl (row_of e reply, inl refl, refl)
+row_later : (e : Ended) (reply : Option Content) (rows : List Row) (i : RequestId) → HasRow rows i → HasRow (with_row e reply rows) i
+row_later e None rows i it = it
+row_later e (Some reply) rows i it = (it.0, inr it.1, it.2)
 
-told_later : (e : Ended) (reply : Option Content) (rows : List Row) (starved : List RequestId) (i : RequestId) → Told rows starved i →
-    Told (with_row e reply rows) (if_starved reply e.id starved) i
-told_later e None rows starved i (inl row) = inl row
-told_later e None rows starved i (inr there) = inr (inr there)
-told_later e (Some reply) rows starved i (inl row) = inl (row.0, inr row.1, row.2)
-told_later e (Some reply) rows starved i (inr there) = inr there
+-- a request that was executed has its row
+has_row : (es : List Ended) (e : Ended) (reply : Content) → In e es → e.reply ≡ Some reply → HasRow (rows_of es) e.id
+has_row [] e reply there some = absurd there
+has_row (f ∷ fs) e reply (inl same) some =
+    subst (λ (x : Ended). HasRow (with_row f f.reply (rows_of fs)) x.id) (sym same)
+    (subst (λ o. HasRow (with_row f o (rows_of fs)) f.id) (sym (ap (λ (x : Ended). x.reply) (sym same) ∙ some))
+    (row_of f reply, inl refl, refl))
+has_row (f ∷ fs) e reply (inr later) some = row_later f f.reply (rows_of fs) e.id (has_row fs e reply later some)
 
 -- what has ended was executed, or starved
 told : (es : List Ended) (e : Ended) → In e es → Told (rows_of es) (starved_among es) e.id
-told [] e there = absurd there
-told (f ∷ es) e (inl here) =
-    subst (λ (x : Ended). Told (rows_of (f ∷ es)) (starved_among (f ∷ es)) x.id) (sym here)
-    (told_first f f.reply (rows_of es) (starved_among es))
-told (f ∷ es) e (inr later) = told_later f f.reply (rows_of es) (starved_among es) e.id (told es e later)
+told es e there = by_reply e.reply refl
+  where
+    by_reply : (o : Option Content) → e.reply ≡ o → Told (rows_of es) (starved_among es) e.id
+    by_reply None none = inr (whole_starved es e there none)
+    by_reply (Some reply) some = inl (has_row es e reply there some)
 
 -- the row that is kept of an executed request
 kept : (xs : List Row) (rows : List RowView) (x : Row) → AllZip IsRow xs rows → In x xs → (row : RowView) × In row rows × IsRow x row
@@ -106,7 +115,8 @@ each_has_ended s is h w at' effects made i submitted = (ended, shown)
           let row = kept (rows_of w.ended) s.halves.back.rows executed.0 at'.shows.rows executed.1 in
           inl (row.0, row.1, row.2.id ∙ (executed.2 ∙ ended.2))
       | inr starved ↦
-          inr (subst (λ ids. In i ids) (sym at'.shows.starved) (subst (λ j. In j (starved_among w.ended)) ended.2 starved))
+          inr (subst (λ names. In (Whole i) names) (sym at'.shows.starved)
+          (subst (λ j. In (Whole j) (starved_among w.ended)) ended.2 starved))
     ]
 
 -- ---- what can be done

@@ -15,7 +15,7 @@ use Rattle.journal.specs.Views.{RowView}
 use Rattle.journal.specs.declared.step.Step.{Step}
 use Rattle.journal.specs.declared.step.Step.TheVariants.{Take, Collect}
 use Rattle.layer_planner.specs.declared.job.Job.{Job}
-use Rattle.layer_results.specs.Results.{Results}
+use Rattle.layer_results.specs.declared.done.DoneRow.{DoneRow}
 use Rattle.router.specs.declared.outcome.Outcome as kept
 use Rattle.system.proofs.Replies.{untold, same_collected}
 use Rattle.system.proofs.Rest.{LeavesLayer, is_rest, keeps_asked, stage_same, store_same}
@@ -68,7 +68,7 @@ is_at p h w table front store stage rows starved = record {
 pub may_step : (p : Halves) → Lives p → MayStep p.front
 may_step p lives = let few = lives.few in let counted = lives.counted in omega arith
 
-pub may_settle : (p : Halves) → Lives p → (done : Results) → p.stage ≡ stage.HasRun done → MaySettle p.front
+pub may_settle : (p : Halves) → Lives p → (done : List DoneRow) → p.stage ≡ stage.HasRun done → MaySettle p.front
 may_settle p lives done has_run =
     let few = lives.few in
     let counted = lives.counted in

@@ -2,6 +2,7 @@ pub mod Replies
 pub mod Rest
 pub mod Fronting
 pub mod Opening
+pub mod Names
 pub mod Starving
 pub mod Layering
 pub mod Lasting

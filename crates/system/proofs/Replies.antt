@@ -2,7 +2,7 @@
 use Rattle.std.proofs.Common.{◌≡◌, ℕ, true, cond, List, [], ◌∷◌, ◌++◌, inl, inr, Option, Some, None, option_map, refl, sym, ap, ◌∙◌, subst}
 use Rattle.std.proofs.lemmas.Bool.{cond-true, cond-false}
 use Rattle.std.proofs.lemmas.List.{append_cancel_right}
-use Rattle.front.proofs.Handing.{in_ids}
+use Rattle.front.proofs.Names.{in_ids}
 use Rattle.front.proofs.Retelling.{same_standings}
 use Rattle.front.specs.Fronts.{FrontView, retold_reply, retold_outcome, retold_standing, retold_world, FrontIsAt}
 use Rattle.front.specs.Making.{MayBeRetold}

@@ -1,6 +1,5 @@
 -- What is the same in the worlds before and after a step of the front, and what the halves show of it.
-use Rattle.std.proofs.Common.{◌≡◌, ℕ, true, List, [], ◌∷◌, Some, refl, sym, ◌∙◌, subst, Result, Ok, Err}
-use Rattle.command_table.specs.declared.refusal.Refusal.{Refusal}
+use Rattle.std.proofs.Common.{◌≡◌, ℕ, true, List, [], ◌∷◌, Some, refl, sym, ◌∙◌, subst}
 use Rattle.groups.specs.GroupSet.{has}
 use Rattle.journal.specs.declared.step.Step.{Step}
 use Rattle.journal.specs.declared.step.Step.TheVariants.{Open, Submit, Deliver, Take, Run, Settle, Collect, Close, Repeat}
@@ -10,12 +9,13 @@ use Rattle.shard_exec.specs.StoreStates.{StoreState}
 use Rattle.groups.specs.Order.{In}
 use Rattle.skeen_core.specs.declared.packet.Delivered.{Delivered}
 use Rattle.groups.specs.declared.request.RequestId.{RequestId}
-use Rattle.tasks.specs.Tasks.{Task, task_reading, task_groups}
+use Rattle.sessions.specs.Session.{Answer, Now, Go}
+use Rattle.tasks.specs.Tasks.{task_groups}
 use Rattle.system.specs.Halves.{ShowsStage}
 use Rattle.system.specs.declared.stage.Stage.{Stage}
 use Rattle.system.specs.declared.stage.Stage.TheVariants as stage
 use Rattle.system_view.specs.Layers.{AreJobs, ShowsStore}
-use Rattle.world.specs.Steps.{Effect, Steps, submitted, submitted_to}
+use Rattle.world.specs.Steps.{Effect, Steps, answer_to, remembered, submitted, submitted_to}
 use Rattle.world.specs.Steps as world
 use Rattle.world.specs.World.{World, Request, Standing, Closed, Idle, Waiting, Answered}
 use Rattle.world_laws.proofs.Floors.{knows_more}
@@ -32,9 +32,9 @@ pub record IsRest (w w' : World) : Type 0 where
 rest_of : (w w' after : World) → w' ≡ after → IsRest w after → IsRest w w'
 rest_of w w' after is rest = subst (λ v. IsRest w v) (sym is) rest
 
-submit_rest : (t : Layout) (w : World) (c : ℕ) (read : Result Task Refusal) → IsRest w (submitted t w c read)
-submit_rest t w c (Err refusal) = record { layer = refl; ended = refl; contents = refl }
-submit_rest t w c (Ok task) = by_groups (task_groups t task)
+submit_rest : (t : Layout) (w : World) (c : ℕ) (answer : Answer) → IsRest w (submitted t w c answer)
+submit_rest t w c (Now reply) = record { layer = refl; ended = refl; contents = refl }
+submit_rest t w c (Go task) = by_groups (task_groups t task)
   where
     by_groups : (gs : List ℕ) → IsRest w (submitted_to w c task gs)
     by_groups [] = record { layer = refl; ended = refl; contents = refl }
@@ -60,7 +60,9 @@ LeavesLayer (Repeat place) = Unit {0}
 pub is_rest : (t : Layout) (w w' : World) (step : Step) (effect : Effect) → LeavesLayer step → Steps t w step effect w' → IsRest w w'
 is_rest t w w' Open effect leaves made = rest_of w w' _ made.after (record { layer = refl; ended = refl; contents = refl })
 is_rest t w w' (Submit conn words) effect leaves made =
-    rest_of w w' (submitted t w conn.0 (task_reading words)) made.after (submit_rest t w conn.0 (task_reading words))
+    let rest = submit_rest t (remembered w conn.0 words) conn.0 (answer_to w conn.0 words) in
+    rest_of w w' (submitted t (remembered w conn.0 words) conn.0 (answer_to w conn.0 words)) made.after
+    (record { layer = rest.layer; ended = rest.ended; contents = rest.contents })
 is_rest t w w' (Deliver place) effect leaves made = rest_of w w' _ made.after (record { layer = refl; ended = refl; contents = refl })
 is_rest t w w' Take effect leaves made = absurd leaves
 is_rest t w w' (Run starved) effect leaves made = absurd leaves

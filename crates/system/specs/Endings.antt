@@ -1,12 +1,15 @@
 -- That nothing is left behind, that something can be done until then, and that there is an end to it.
-use Rattle.std.specs.Prelude.{◌≡◌, ◌≢◌, ℕ, ◌≤◌, Bool, List, [], ◌⊎◌, None, Ok}
+use Rattle.std.specs.Prelude.{◌≡◌, ◌≢◌, ℕ, ◌≤◌, Bool, List, [], ◌⊎◌, None}
 use Rattle.journal.specs.Views.{RowView}
 use Rattle.journal.specs.declared.step.Step.{Step}
 use Rattle.journal.specs.declared.step.Step.TheVariants.{Deliver, Take, Run, Settle}
 use Rattle.placement.specs.Layout.{Layout}
 use Rattle.groups.specs.Order.{In}
 use Rattle.groups.specs.declared.request.RequestId.{RequestId}
-use Rattle.tasks.specs.Tasks.{Task, task_reading, task_groups}
+use Rattle.groups.specs.declared.skip_id.SkipId.{SkipId}
+use Rattle.groups.specs.declared.skip_id.SkipId.TheVariants.{Whole}
+use Rattle.sessions.specs.declared.session.Session.{Session}
+use Rattle.tasks.specs.Tasks.{Task, task_groups}
 use Rattle.system.specs.Faults.{own_fault}
 use Rattle.system.specs.Halves.{IsAt}
 use Rattle.system.specs.Reads.{table_of, rows_of, starved_of}
@@ -18,7 +21,7 @@ use Rattle.system.specs.declared.stage.Progress.TheVariants.{Free, Taken, HasRun
 use Rattle.world.specs.Steps.{opening, Effect, Makes}
 use Rattle.world.specs.World.{World}
 use Rattle.world_laws.specs.Bound.{turns, allowances}
-use Rattle.world_laws.specs.Collecting.{WasSubmitted}
+use Rattle.world_laws.specs.Collecting.{ComesTo, WasSubmitted}
 use Rattle.world_laws.specs.Good.{Named}
 
 -- ---- what has ended
@@ -27,12 +30,13 @@ use Rattle.world_laws.specs.Good.{Named}
 abbrev pub IsExecuted : SystemView → RequestId → Type 0
 IsExecuted s i = (row : RowView) × In row (rows_of s) × (row.id ≡ i)
 
+-- it starved as a whole
 abbrev pub HasStarved : SystemView → RequestId → Type 0
-HasStarved s i = In i (starved_of s)
+HasStarved s i = In (Whole i) (starved_of s)
 
--- the words are a task that addresses groups
-abbrev pub AsksGroups : Layout → List (List ℕ) → Type 0
-AsksGroups t words = (task : Task) × (task_reading words ≡ Ok task) × (task_groups t task ≢ [])
+-- with this session the words come to a task that addresses groups
+abbrev pub AsksGroups : Layout → Session → List (List ℕ) → Type 0
+AsksGroups t session words = (task : Task) × ComesTo task session words × (task_groups t task ≢ [])
 
 -- whatever history led here, each request that it submitted to groups has ended: it was executed, or it starved
 abbrev pub EachHasEnded : SystemView → Type 0
@@ -51,7 +55,7 @@ pub record MayBeMade (s : SystemView) (step : Step) : Type 0 where
 -- a layer that is there can be run or settled; else one can be taken, or the oldest packet brought
 abbrev pub SomeMayBeMade : Progress → SystemView → Type 0
 SomeMayBeMade Free s = MayBeMade s Take ⊎ MayBeMade s (Deliver 0)
-SomeMayBeMade Taken s = (starved : List RequestId) → MayBeMade s (Run starved)
+SomeMayBeMade Taken s = (starved : List SkipId) → MayBeMade s (Run starved)
 SomeMayBeMade HasRun s = MayBeMade s Settle
 
 -- ---- how many steps there can be

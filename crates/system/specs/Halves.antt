@@ -1,17 +1,19 @@
 -- What the two halves of the system show, together, of a world.
-use Rattle.std.specs.Prelude.{◌≡◌, ℕ, suc, ◌+◌, true, false, List, [], ◌∷◌, ◌++◌, None, option_map}
+use Rattle.std.specs.Prelude.{◌≡◌, ℕ, suc, ◌+◌, true, false, List, [], ◌∷◌, ◌++◌, Some, None, option_map}
 use Rattle.front.specs.Fronts.{FrontShows}
 use Rattle.journal.specs.Views.{RowView}
 use Rattle.journal.specs.declared.step.Step.{Step}
 use Rattle.journal.specs.declared.step.Step.TheVariants.{Run}
 use Rattle.layer_planner.specs.declared.job.Job.{Job}
 use Rattle.groups.specs.Order.{In}
-use Rattle.groups.specs.declared.request.RequestId.{RequestId}
+use Rattle.groups.specs.Skips.{names_whole, parts_of}
+use Rattle.groups.specs.declared.skip_id.SkipId.{SkipId}
 use Rattle.keyspace.specs.Map.{Map}
 use Rattle.placement.specs.Layout.{Layout}
+use Rattle.resp.specs.Content.{Content}
 use Rattle.shard_exec.specs.Layers.{on_groups}
 use Rattle.skeen_core.specs.declared.packet.Delivered.{Delivered}
-use Rattle.tasks.specs.Tasks.{Task, task_groups, task_takes_memory}
+use Rattle.tasks.specs.Tasks.{Task, task_groups, task_takes_memory, MembersStarveRightly}
 use Rattle.system.specs.Outcomes.{IsWhatCameOf, replies_in}
 use Rattle.system.specs.declared.effect.Effect.{Effect}
 use Rattle.system.specs.declared.effect.Effect.TheVariants.{Opened, Submitted, Ran, Collected, Made}
@@ -23,7 +25,7 @@ use Rattle.system.specs.declared.stage.Stage.TheVariants.{Free, Taken, HasRun}
 use Rattle.system_view.specs.Connections.{outcome_shown, ShowsConnections}
 use Rattle.system_view.specs.Layers.{AreJobs, AreRows, ShowsStore}
 use Rattle.system_view.specs.Multicast.{ShowsMulticast}
-use Rattle.world.specs.Steps.{opening, names, starved_among, map_after, RunInTurn, Leads, Steps}
+use Rattle.world.specs.Steps.{opening, starved_among, map_after, RunInTurn, Leads, Steps}
 use Rattle.world.specs.Steps as world
 use Rattle.world.specs.World.{World, Ended}
 use Rattle.world.specs.World as layer
@@ -75,37 +77,42 @@ count_of p = p.front.steps + p.front.layers + ran_in p.stage
 abbrev pub effect_shown : Effect → world.Effect
 effect_shown (Opened conn) = world.Opened conn.0
 effect_shown (Submitted id) = world.Submitted id
-effect_shown (Ran ids) = world.Ran ids
+effect_shown (Ran starved) = world.Ran starved
 effect_shown (Collected outcome) = world.Collected (option_map outcome_shown outcome)
 effect_shown Made = world.Made
 
--- the step as it stands in a history: a Run is told the requests that starved
+-- the step as it stands in a history: a Run is told the names of what starved
 abbrev pub stored : Step → Effect → Step
 stored (Run skip) (Ran starved) = Run starved
 stored step effect = step
 
--- there may be no memory to answer the task on what the shards of its groups have of this map
-abbrev pub MayWant : Layout → Map → Task → Type 0
-MayWant table m task = task_takes_memory task (on_groups table (task_groups table task) m)
+-- what the shards of its groups have of the map that a task meets
+abbrev pub met_by : Layout → Task → Map → Map
+met_by table task m = on_groups table (task_groups table task) m
 
--- Requests of a layer as they ended, the first on this map and each other one on the map that those before it left: one that
--- starved was named, or there may have been no memory to answer it there.
-abbrev pub WantInTurn : Layout → List RequestId → Map → List Ended → Type 0
-WantInTurn table skip m [] = Unit {0}
-WantInTurn table skip m (e ∷ es) =
-    (e.reply ≡ None → names skip e.id ≡ false → MayWant table m e.task)
-    × WantInTurn table skip (map_after e.reply e.task m) es
+-- Whom a request of the layer starves, by how it ended on this map. Where it starved as a whole it was named so, or there may
+-- have been no memory to answer it there. Where it was executed each of its members that was named starved; and each one that
+-- starved was named, or there may have been no memory to answer it on the map that those before it left.
+pub record StarvesSo (table : Layout) (skip : List SkipId) (m : Map) (e : Ended) : Type 0 where
+  pub whole : e.reply ≡ None → names_whole skip e.id ≡ false → task_takes_memory e.task (met_by table e.task m)
+  pub members : (reply : Content) → e.reply ≡ Some reply →
+      MembersStarveRightly (parts_of skip e.id) e.task (met_by table e.task m) reply
 
--- of the layer each request starves that a Run names, and another one only where there may be no memory to answer it on
--- what it met
-pub record StarvesRightly (p : Halves) (skip starved : List RequestId) (w : World) : Type 0 where
-  pub named : (ds : List Delivered) → w.layer ≡ layer.Taken ds → (d : Delivered) → In d ds → names skip d.id ≡ true →
-      names starved d.id ≡ true
+-- so of the requests of a layer, the first on this map and each other one on the map that those before it left
+abbrev pub StarveInTurn : Layout → List SkipId → Map → List Ended → Type 0
+StarveInTurn table skip m [] = Unit {0}
+StarveInTurn table skip m (e ∷ es) = StarvesSo table skip m e × StarveInTurn table skip (map_after e.reply e.task m) es
+
+-- of the layer each request starves that a Run names, and each member of one that it names; and another one only where there
+-- may be no memory to answer it on what it met
+pub record StarvesRightly (p : Halves) (skip starved : List SkipId) (w : World) : Type 0 where
+  pub named : (ds : List Delivered) → w.layer ≡ layer.Taken ds → (d : Delivered) → In d ds → names_whole skip d.id ≡ true →
+      names_whole starved d.id ≡ true
   pub requests : List Delivered
   pub taken : w.layer ≡ layer.Taken requests
   pub outcomes : List Ended
   pub ran : RunInTurn w.asked starved w.contents requests outcomes
-  pub others : WantInTurn p.back.store.table skip w.contents outcomes
+  pub so : StarveInTurn p.back.store.table skip w.contents outcomes
 
 -- whom the step starves
 abbrev pub Starves : Halves → Step → Effect → World → Type 0

@@ -1,20 +1,31 @@
 -- What came of a layer that was run, and what came of each request of a world.
-use Rattle.std.specs.Prelude.{◌≡◌, cond, List, [], ◌∷◌, None}
+use Rattle.std.specs.Prelude.{◌≡◌, ℕ, ◌+◌, cond, List, [], ◌∷◌, length, map, sum, None}
 use Rattle.back.specs.Rows.{results_of}
 use Rattle.front.specs.Fronts.{Told}
 use Rattle.groups.specs.Request.{same_id}
-use Rattle.layer_results.specs.Results.{Results}
+use Rattle.layer_planner.specs.declared.job.Job.{Job}
+use Rattle.layer_results.specs.declared.done.DoneRow.{DoneRow}
+use Rattle.sessions.specs.declared.batch.Batch.TheVariants.{Plain, Exec}
 use Rattle.shard_exec.specs.declared.done.Ended as run
 use Rattle.system_view.specs.Layers.{AreEnded}
+use Rattle.tasks.specs.Tasks.{Task}
 use Rattle.world.specs.World.{Ended}
 
 -- this is what the store told of these requests, in their order
-pub record IsWhatCameOf (es : List Ended) (done : Results) : Type 0 where
+pub record IsWhatCameOf (es : List Ended) (done : List DoneRow) : Type 0 where
   pub told : List run.Ended
   pub are : AreEnded es told
   pub same : done ≡ results_of told
 
--- what came of each of these: its reply, or none where it starved
+-- what came of each of these: its reply, or none where it starved as a whole
 abbrev pub replies_in : List Ended → Told
 replies_in [] i = None
 replies_in (e ∷ es) i = cond (same_id e.id i) e.reply (replies_in es i)
+
+-- how many names of what starves may come of a request at most: its own, and those of its members
+abbrev pub most_names : Task → ℕ
+most_names (Plain command) = 1
+most_names (Exec members) = length members + 1
+
+abbrev pub most_of : List Job → ℕ
+most_of jobs = sum (map (λ j. most_names j.asked.batch) jobs)

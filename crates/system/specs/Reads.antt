@@ -2,7 +2,7 @@
 use Rattle.std.specs.Prelude.{ℕ, Bool, List, Option}
 use Rattle.delivery.specs.Queues.{queue_of}
 use Rattle.delivery.specs.Ready.{QueueOf}
-use Rattle.groups.specs.declared.request.RequestId.{RequestId}
+use Rattle.groups.specs.declared.skip_id.SkipId.{SkipId}
 use Rattle.journal.specs.Views.{RowView}
 use Rattle.keyspace.specs.Map.{Map}
 use Rattle.placement.specs.Layout.{Layout}
@@ -37,8 +37,8 @@ contents_of s = joined (maps_of s)
 abbrev pub rows_of : SystemView → List RowView
 rows_of s = s.halves.back.rows
 
--- what starved, in the order of turns
-abbrev pub starved_of : SystemView → List RequestId
+-- the names of what starved, in the order of turns
+abbrev pub starved_of : SystemView → List SkipId
 starved_of s = s.halves.starved.items
 
 -- the packets under way, oldest first

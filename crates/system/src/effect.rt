@@ -1,7 +1,7 @@
 //! What a step answers.
 
 use groups::{ConnId, RequestId};
-use journal::RequestIds;
+use journal::SkipIds;
 use router::Outcome;
 
 /// What a step that was made answers.
@@ -13,9 +13,9 @@ pub enum Effect {
     /// The id of the request that was submitted.
     Submitted(RequestId),
 
-    /// The requests of the layer that starved, in the order of the layer. A run that is told to let these starve comes
-    /// to the same.
-    Ran(RequestIds),
+    /// The names of what starved of the layer, in its order: of requests, and of members of requests that were executed. A
+    /// run that is told to let these starve comes to the same.
+    Ran(SkipIds),
 
     /// The outcome that waited for the connection, if one did.
     Collected(Option<Outcome>),

@@ -8,12 +8,12 @@ ghost use Rattle.journal.specs.declared.step.Step.{Step};
 
 use super::effect::Effect;
 use super::fault::StepFault;
-use super::outcomes::note_starved;
+use super::outcomes::{most_of, note_starved};
 use super::stage::Stage;
 use back::Back;
 use front::Front;
-use groups::{ConnId, RequestId};
-use journal::{RequestIds, Step};
+use groups::{ConnId, SkipId};
+use journal::{SkipIds, Step};
 use resp::Request;
 use shard_exec::ExecFault;
 use shard_workers::{Gate, Workers};
@@ -21,13 +21,13 @@ use std::alloc::Global;
 use std::mem;
 
 /// The front, with the connections and the groups; the back, with the shards and the rows of what was executed; the layer
-/// that is under way between them; and the ids of what starved.
+/// that is under way between them; and the names of what starved.
 #[derive(Drop)]
 pub struct Halves {
     pub front: Front,
     pub back: Back,
     pub stage: Stage,
-    pub starved: Vec<RequestId>,
+    pub starved: Vec<SkipId>,
 }
 
 impl Halves {
@@ -137,13 +137,13 @@ impl Halves {
         }
     }
 
-    /// The back runs the layer that was taken, but for the requests of `skip`, which count as starved, and hands over what
-    /// came of it.
+    /// The back runs the layer that was taken, but for the requests and the members of `skip`, which count as starved, and
+    /// hands over what came of it.
     #[inline(never)]
     fn run<W: Workers>(
         &mut self,
         alloc: Global,
-        skip: RequestIds,
+        skip: SkipIds,
         workers: &W,
         gate: &(dyn Gate + Sync),
     ) -> Result<Effect, StepFault>
@@ -158,7 +158,9 @@ impl Halves {
         let Stage::Taken(taken) = &self.stage else {
             return Err(StepFault::NoLayer);
         };
-        let count = taken.len();
+        let Some(count) = most_of(taken.jobs()) else {
+            return Err(StepFault::Memory);
+        };
         self.starved.reserve(count)?;
         let mut starved = Vec::with_capacity(alloc, count)?;
         let Stage::Taken(layer) = mem::replace(&mut self.stage, Stage::Free) else {
@@ -167,9 +169,9 @@ impl Halves {
         match self.back.run(layer, skip.as_slice(), workers, gate) {
             Ok(()) => {
                 let done = self.back.hand_over();
-                note_starved(done.starved(), &mut starved, &mut self.starved);
+                note_starved(&done, &mut starved, &mut self.starved);
                 set_stage(&mut self.stage, Stage::HasRun(done));
-                Ok(Effect::Ran(RequestIds::from(starved)))
+                Ok(Effect::Ran(SkipIds::new(starved)))
             }
             Err(ExecFault::Memory(layer)) => {
                 set_stage(&mut self.stage, Stage::Taken(layer));

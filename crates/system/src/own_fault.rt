@@ -1,7 +1,7 @@
 //! Why a step is refused for a fault of its own, as things are. Nothing here changes anything or takes memory.
 
 ghost use Rattle.std.specs.Prelude.{ℕ, List, IfSome, IfNone};
-ghost use Rattle.journal.specs.declared.request_ids.RequestIds.{RequestIds};
+ghost use Rattle.groups.specs.declared.skip_id.SkipId.{SkipId};
 ghost use Rattle.journal.specs.declared.step.Step.{Step};
 ghost use Rattle.system.specs.Refusing.{IsFault, RefusesNot};
 
@@ -62,8 +62,8 @@ impl Halves {
     }
 
     fn run_fault(&self) -> Option<StepFault>
-        ensures some { IfSome result (λ fault. (skip : RequestIds) → IsFault self.now (Step.Run skip) fault) }
-        ensures none { IfNone result ((skip : RequestIds) → RefusesNot self.now (Step.Run skip)) }
+        ensures some { IfSome result (λ fault. (skip : List SkipId) → IsFault self.now (Step.Run skip) fault) }
+        ensures none { IfNone result ((skip : List SkipId) → RefusesNot self.now (Step.Run skip)) }
     {
         match &self.stage {
             Stage::Taken(_) => None,

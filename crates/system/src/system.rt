@@ -26,7 +26,7 @@ use super::halves::Halves;
 use super::stage::{Progress, Stage};
 use back::Back;
 use front::Front;
-use groups::{ConnId, GroupId, RequestId};
+use groups::{ConnId, GroupId, SkipId};
 use journal::{Rows, Step};
 use layer_planner::Job;
 use placement::Table;
@@ -232,8 +232,9 @@ impl System {
         self.halves.back.rows()
     }
 
-    /// The ids of the requests that starved, in the order in which their turns came.
-    pub fn starved(&self) -> &[RequestId]
+    /// The names of what starved, in the order in which the turns came: of requests, and of members of requests that were
+    /// executed.
+    pub fn starved(&self) -> &[SkipId]
         ensures { result.now ≡ starved_of self.now }
     {
         self.halves.starved.as_slice()

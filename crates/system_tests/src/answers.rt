@@ -4,7 +4,7 @@ use crate::steps::{conn_of, first_word, place_of, step_of, steps_of};
 use crate::tables::system_of;
 use crate::trouble::Trouble;
 use crate::wording::{
-    by_stamp, push_effect, push_fault, push_ids, push_row, push_rows, push_waiting,
+    by_stamp, push_effect, push_fault, push_names, push_row, push_rows, push_waiting,
 };
 use groups::ConnId;
 use journal::Step;
@@ -210,7 +210,7 @@ fn push_state(alloc: Global, text: &mut String, system: &System) -> Result<(), T
         system.packets()
     )?;
     write!(text, ", quiet {}\nstarved", system.quiet())?;
-    push_ids(text, system.starved())?;
+    push_names(text, system.starved())?;
     text.push('\n')?;
     push_rows(alloc, text, system.rows())?;
     push_outcomes(alloc, text, system)
@@ -241,7 +241,7 @@ fn sorted_at(alloc: Global, system: &System, place: usize) -> Result<String, Tro
 
 fn starved(alloc: Global, system: &System) -> Result<String, Trouble> {
     let mut text = format!(in alloc; "{}:", system.starved().len())?;
-    push_ids(&mut text, system.starved())?;
+    push_names(&mut text, system.starved())?;
     Ok(text)
 }
 

@@ -22,6 +22,8 @@ mod steps;
 #[cfg(test)]
 mod tables;
 #[cfg(test)]
+mod transactions;
+#[cfg(test)]
 mod trouble;
 #[cfg(test)]
 mod wording;

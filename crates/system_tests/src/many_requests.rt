@@ -1,12 +1,11 @@
-//! Many requests of several connections, whose packets come in any order, and some more than once, against one store on one
-//! map.
+//! Many requests of several connections, lists of MULTI among them, whose packets come in any order, and some more than once,
+//! against one store on one map.
 
 use crate::answers::{ask, assert_holds, deliver_all, discard, follow, make, run_layers};
 use crate::steps::step_of;
 use crate::tables::system_of;
 use crate::trouble::Trouble;
 use crate::wording::{by_stamp, push_rows};
-use command_table::read;
 use groups::RequestId;
 use journal::{Row, Rows};
 use resp::{Reply, write_reply};
@@ -21,6 +20,7 @@ use std::process::Abort;
 use std::test::Fail;
 use system::{Effect, StepFault, System};
 use test_support::{Dice, same_text};
+use worded::read_batch;
 
 /// One store on one map.
 type Store = Solo<BuildHasherDefault<FoldHasher>>;
@@ -32,7 +32,7 @@ const OPENED: &str = "open; open; open; open => opened 1; opened 2; opened 3; op
 open; open; open; open => opened 5; opened 6; opened 7; opened 8";
 
 /// Requests in which `K` stands for one of 12 keys, and `N` for a number below 50.
-const REQUESTS: [&str; 24] = [
+const REQUESTS: [&str; 31] = [
     "SET K N",
     "SET K N NX",
     "GET K",
@@ -57,6 +57,13 @@ const REQUESTS: [&str; 24] = [
     "HGETALL K",
     "DBSIZE",
     "PING N",
+    "MULTI",
+    "MULTI",
+    "EXEC",
+    "EXEC",
+    "EXEC",
+    "EXEC",
+    "EXEC N",
 ];
 
 /// Requests of a key, with what stands before and behind it, that tell all that lies there, whatever its type.
@@ -70,7 +77,7 @@ const LOOKS: [(&str, &str); 5] = [
 
 /// Adds one of the requests, with its keys and numbers, a blank before each word.
 fn push_request(text: &mut String, dice: &mut Dice) -> Result<(), Trouble> {
-    let place = dice.below(24) as usize;
+    let place = dice.below(31) as usize;
     let pattern = REQUESTS.get(place).ok_or("no such request")?;
     for word in pattern.split(' ') {
         push_word(text, word, dice)?;
@@ -214,7 +221,7 @@ fn play_step<W: Workers>(
     make_or_not(rt, alloc, system, words.as_str(), workers)
 }
 
-/// Makes 10,000 steps at random.
+/// Makes 16,000 steps at random.
 fn play_steps<W: Workers>(
     rt: &impl Abort,
     alloc: Global,
@@ -222,7 +229,7 @@ fn play_steps<W: Workers>(
     workers: &W,
 ) -> Result<(), Trouble> {
     let mut dice = Dice::new(88_172_645_463_325_252);
-    for _ in 0..10_000u32 {
+    for _ in 0..16_000u32 {
         play_step(rt, alloc, system, &mut dice, workers)?;
     }
     Ok(())
@@ -287,7 +294,7 @@ fn is_counted(places: &[usize]) -> bool {
     true
 }
 
-/// Looks whether the reply of the row at this place is what one store gives now.
+/// Looks whether the reply of the row at this place is what one store gives now, a list's members one after another.
 fn look_at_row(
     rt: &impl Abort,
     alloc: Global,
@@ -296,8 +303,8 @@ fn look_at_row(
     place: usize,
 ) -> Result<(), Trouble> {
     let row = rows.row(place).ok_or("no such row")?;
-    match read(row.request(alloc)?) {
-        Ok(command) => assert_reply(rt, alloc, &row, &one.run(command)),
+    match read_batch(alloc, row.request(alloc)?) {
+        Ok(batch) => assert_reply(rt, alloc, &row, &one.run_batch(batch, &[])),
         Err(_) => Err("a refused request".into()),
     }
 }
@@ -317,9 +324,24 @@ fn look_at_rows(
     Ok(())
 }
 
-/// The rows, more than 300 and not executed in the order of their stamps, are answered as by one new store.
+/// How many rows are of lists.
+fn lists_in(rows: &Rows) -> usize {
+    let mut count: usize = 0;
+    for place in 0..rows.len() {
+        if let Some(row) = rows.row(place) {
+            if row.word_count() > 0 && row.word(0) == b"exec".as_slice() {
+                count = count.saturating_add(1);
+            }
+        }
+    }
+    count
+}
+
+/// The rows, more than 300, more than 10 of them of lists, and not executed in the order of their stamps, are answered as by
+/// one new store.
 fn assert_as_one(rt: &impl Abort, alloc: Global, rows: &Rows) -> Result<(), Trouble> {
     assert_holds(rt, "many requests", rows.len() > 300);
+    assert_holds(rt, "many lists", lists_in(rows) > 10);
     let places = by_stamp(alloc, rows)?;
     let counted = is_counted(places.as_slice());
     assert_holds(

@@ -7,7 +7,7 @@ use crate::answers::{answer, assert_holds, assert_same, assert_unchanged, discar
 use crate::steps::{first_word, step_of};
 use crate::tables::system_of;
 use crate::trouble::Trouble;
-use crate::wording::{push_effect, push_fault, push_ids};
+use crate::wording::{push_effect, push_fault, push_names};
 use shard_crew::Crew;
 use shard_workers::{InTurn, OpenGate, Workers};
 use std::alloc::Global;
@@ -190,8 +190,40 @@ row 3 => 3.1 at 3.0 MSET a 5 c 6 +OK|
 row 4 => 4.1 at 4.0 GET a $1|5|
 starved => 0:";
 
+/// A list of both groups, whose members are run, and then both keys are looked at.
+const LIST: &str = "open => opened 1
+submit 1 MULTI => submitted 1.1
+collect 1 => 1.1 +OK|
+submit 1 MSET a 1 c 2 => submitted 1.2
+collect 1 => 1.2 +QUEUED|
+submit 1 APPEND a 3 => submitted 1.3
+collect 1 => 1.3 +QUEUED|
+submit 1 MGET a c => submitted 1.4
+collect 1 => 1.4 +QUEUED|
+submit 1 EXEC => submitted 1.5
+deliver 0 => made
+deliver 0 => made
+deliver 0 => made
+deliver 0 => made
+take => made
+run => ran
+settle => made
+collect 1 => 1.5 at 1.1 *3|+OK|:2|*2|$2|13|$1|2|
+submit 1 MGET a c => submitted 1.6
+deliver 0 => made
+deliver 0 => made
+deliver 0 => made
+deliver 0 => made
+take => made
+run => ran
+settle => made
+collect 1 => 1.6 at 2.1 *2|$2|13|$1|2|
+rows => 2
+row 1 => 1.6 at 2.1 MGET a c *2|$2|13|$1|2|
+starved => 0:";
+
 /// Makes the steps of each line, and again where there was no memory for it. What is added is a script again: what each
-/// step came to, and in each run the requests that starved.
+/// step came to, and in each run what starved.
 fn push_followed<W: Workers>(
     rt: &impl Abort,
     alloc: Global,
@@ -294,18 +326,18 @@ fn push_made(
     }
 }
 
-/// Adds a step and what it came to. A run in which requests starved is told to let them starve.
+/// Adds a step and what it came to. A run in which something starved is told to let it starve.
 fn push_told(alloc: Global, text: &mut String, said: &str, effect: &Effect) -> Result<(), Trouble> {
     text.push_str(said)?;
     if let Effect::Ran(starved) = effect {
-        push_ids(text, starved.as_slice())?;
+        push_names(text, starved.as_slice())?;
     }
     text.push_str(" => ")?;
     push_effect(alloc, text, effect)
 }
 
-/// Follows the script in this system. Where no request starved, all is as if memory had always been there; where one
-/// did, all is as in a run that is told to let it starve.
+/// Follows the script in this system. Where nothing starved, all is as if memory had always been there; where a request did, or
+/// a member of one, all is as in a run that is told to let it starve.
 fn attempt_in<W: Workers>(
     rt: &impl Abort,
     alloc: Global,
@@ -407,6 +439,12 @@ fn same_key_twice_where_memory_fails(rt: HostRuntime) -> Result<(), Fail> {
 #[test]
 fn repeated_where_memory_fails(rt: HostRuntime) -> Result<(), Fail> {
     attempts(&rt, rt.alloc(), 1000, REPEATED, &InTurn(NonZeroUsize::MIN))?;
+    Ok(())
+}
+
+#[test]
+fn list_where_memory_fails(rt: HostRuntime) -> Result<(), Fail> {
+    attempts(&rt, rt.alloc(), 1000, LIST, &InTurn(NonZeroUsize::MIN))?;
     Ok(())
 }
 

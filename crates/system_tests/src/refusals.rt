@@ -3,6 +3,7 @@
 use crate::answers::{Row, follow, follow_rows};
 use crate::tables::system_of;
 use crate::trouble::Trouble;
+use groups::SkipId;
 use placement::Table;
 use shard_workers::{Gate, InTurn, Load, Ran, Refused, Room, Workers};
 use std::alloc::{AllocError, Global};
@@ -222,16 +223,17 @@ impl Workers for Unwilling {
         NonZeroUsize::MIN.saturating_add(1)
     }
 
-    fn reserve(&self, alloc: Global, loads: usize) -> Result<Room, AllocError> {
+    fn reserve<'s>(&self, alloc: Global, loads: usize) -> Result<Room<'s>, AllocError> {
         InTurn(NonZeroUsize::MIN).reserve(alloc, loads)
     }
 
-    fn run_loads(
+    fn run_loads<'s>(
         &self,
         _alloc: Global,
         _table: &Table,
+        _skip: &'s [SkipId],
         _gate: &(dyn Gate + Sync),
-        _room: Room,
+        _room: Room<'s>,
         _loads: Vec<Load>,
     ) -> Result<Vec<Vec<Ran>>, Refused> {
         Err(Refused)

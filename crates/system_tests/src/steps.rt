@@ -1,8 +1,11 @@
 //! Steps in words.
 
+ghost use Rattle.std.specs.Prelude.{◌≤◌, IfOk};
+ghost use Rattle.journal.specs.Names.{IsNumbered};
+
 use crate::trouble::Trouble;
-use groups::{ConnId, RequestId};
-use journal::{RequestIds, Step};
+use groups::{ConnId, RequestId, SkipId};
+use journal::{SkipIds, Step};
 use resp::Request;
 use std::alloc::Global;
 
@@ -20,8 +23,8 @@ pub(crate) fn steps_of(alloc: Global, list: &str) -> Result<Vec<Step>, Trouble> 
     Ok(steps)
 }
 
-/// The step that these words say: `open`, `submit CONN WORD ..`, `deliver PLACE`, `take`, `run`, `run CONN.SEQ ..`
-/// where these requests are to starve, `settle`, `collect CONN`, `close CONN` or `repeat PLACE`.
+/// The step that these words say: `open`, `submit CONN WORD ..`, `deliver PLACE`, `take`, `run`, `run NAME ..` where these
+/// requests and members of requests are to starve, `settle`, `collect CONN`, `close CONN` or `repeat PLACE`.
 pub(crate) fn step_of(alloc: Global, words: &str) -> Result<Step, Trouble> {
     let (name, rest) = first_word(words);
     match name {
@@ -82,18 +85,39 @@ pub(crate) fn request_of(alloc: Global, words: &str) -> Result<Request, Trouble>
 }
 
 fn run_of(alloc: Global, list: &str) -> Result<Step, Trouble> {
-    let mut ids = Vec::new(alloc);
-    for id in list.split_whitespace() {
-        ids.push(id_of(id)?)?;
+    let mut names = Vec::new(alloc);
+    for name in list.split_whitespace() {
+        names.push(name_of(name)?)?;
     }
     Ok(Step::Run {
-        starved: RequestIds::from(ids),
+        starved: SkipIds::new(names),
     })
 }
 
-/// The request of an id `CONN.SEQ`.
-fn id_of(id: &str) -> Result<RequestId, Trouble> {
-    let (conn, seq) = id.split_once('.').ok_or("no id")?;
+/// The request of a name `CONN.SEQ`, or a member of it by a name `CONN.SEQ.NUMBER`.
+fn name_of(name: &str) -> Result<SkipId, Trouble>
+    ensures { IfOk result IsNumbered }
+{
+    let (conn, rest) = name.split_once('.').ok_or("no name")?;
+    match rest.split_once('.') {
+        None => Ok(SkipId::Whole(id_of(conn, rest)?)),
+        Some((seq, number)) => Ok(SkipId::Part(id_of(conn, seq)?, member_of(number)?)),
+    }
+}
+
+/// The number of a member, from 1.
+fn member_of(text: &str) -> Result<u64, Trouble>
+    ensures { IfOk result (λ number. 1 ≤ number) }
+{
+    let number = number_of(text)?;
+    if number == 0 {
+        return Err("members are numbered from 1".into());
+    }
+    Ok(number)
+}
+
+/// The request of this number of a connection.
+fn id_of(conn: &str, seq: &str) -> Result<RequestId, Trouble> {
     Ok(RequestId {
         conn: conn_of(conn)?,
         seq: number_of(seq)?,

@@ -1,7 +1,7 @@
 //! What steps come to, and what is there then, as text. In replies `|` stands for CR LF.
 
 use crate::trouble::Trouble;
-use groups::{RequestId, Stamp};
+use groups::{RequestId, SkipId, Stamp};
 use journal::{Row, Rows};
 use resp::{Request, write_reply};
 use router::Outcome;
@@ -36,22 +36,33 @@ fn push_id(text: &mut String, id: &RequestId) -> Result<(), Trouble> {
     Ok(write!(text, "{}.{}", id.conn.0, id.seq)?)
 }
 
-fn push_ran(text: &mut String, starved: &[RequestId]) -> Result<(), Trouble> {
+fn push_ran(text: &mut String, starved: &[SkipId]) -> Result<(), Trouble> {
     text.push_str("ran")?;
     if !starved.is_empty() {
         text.push_str(", starved")?;
-        push_ids(text, starved)?;
+        push_names(text, starved)?;
     }
     Ok(())
 }
 
-/// Adds the ids, a blank before each.
-pub(crate) fn push_ids(text: &mut String, ids: &[RequestId]) -> Result<(), Trouble> {
-    for id in ids {
+/// Adds the names, a blank before each.
+pub(crate) fn push_names(text: &mut String, names: &[SkipId]) -> Result<(), Trouble> {
+    for name in names {
         text.push(' ')?;
-        push_id(text, id)?;
+        push_name(text, name)?;
     }
     Ok(())
+}
+
+/// Adds `CONN.SEQ` of a request, and `CONN.SEQ.NUMBER` of a member of one.
+fn push_name(text: &mut String, name: &SkipId) -> Result<(), Trouble> {
+    match name {
+        SkipId::Whole(id) => push_id(text, id),
+        SkipId::Part(id, number) => {
+            push_id(text, id)?;
+            Ok(write!(text, ".{number}")?)
+        }
+    }
 }
 
 /// Adds an outcome, if one is there.

@@ -4,19 +4,22 @@ use Rattle.std.proofs.Common.{MatchOption, refl, sym, ap, ◌∙◌, subst, arit
 use Rattle.std.proofs.lemmas.Bool.{both_ways, cases_Bool}
 use Rattle.placement.specs.Layout.{Layout}
 use Rattle.router.specs.Connection.{just_opened, is_under_way, with_standing, closed, outcome_in}
-use Rattle.router.specs.Router.{RouterView, connection, Changes, Collects, Closes, once_closed}
+use Rattle.router.specs.Router.{RouterView, connection, session_at, Changes, Collects, Closes, once_closed}
 use Rattle.router.specs.declared.connection.Connection.{Connection}
 use Rattle.router.specs.declared.connection.Standing.{Standing}
 use Rattle.router.specs.declared.connection.Standing.TheVariants as router
 use Rattle.router.specs.declared.outcome.Outcome as kept
 use Rattle.groups.proofs.Options.{some_same}
 use Rattle.groups.specs.declared.request.RequestId.{RequestId}
+use Rattle.sessions.specs.declared.session.Session.TheVariants.{Free}
 use Rattle.system_view.specs.Connections.{outcome_shown, Waits, AreItsWords, InLayer, id_of, ShowsOpen, ShowsClosed, ShowsKept}
-use Rattle.system_view.specs.Connections.{ShowsConnection, IsKeptFor, ShowsConnections}
+use Rattle.system_view.specs.Connections.{ShowsConnection, IsKeptFor, ShowsSessions, ShowsConnections}
+use Rattle.system_view.proofs.Sessions.{sessions_close, sessions_open, sessions_live}
 use Rattle.world.specs.Steps.{Collects as WorldCollects, at, final_clock_of, floor_of, Collected}
 use Rattle.world.specs.World.{Standing as Stand, World, Request, Outcome, Closed, Idle, Waiting, Answered}
 use Rattle.std.proofs.lemmas.Bool.{cond-true, cond-false}
 use Rattle.worded.specs.declared.worded.Worded.{Worded}
+use Rattle.world_laws.proofs.Values.{idle_open, answered_open}
 use Rattle.world_laws.specs.Conditions.{IsFree}
 use Rattle.world_laws.specs.Good.{AskedGood, WorldGood}
 
@@ -146,18 +149,19 @@ pub record IsUnopened (w : World) : Type 0 where
   pub standing : w.standing (suc w.opened) ≡ Closed
   pub seq : w.seq (suc w.opened) ≡ 0
   pub last : w.last (suc w.opened) ≡ None
+  pub session : w.session (suc w.opened) ≡ Free
 
 pub unopened : (t : Layout) (w : World) → WorldGood t w → IsUnopened w
 unopened t w good =
     let first = good.connections.unopened (suc w.opened) (omega arith) in
-    record { standing = first.0; seq = first.1; last = first.2 }
+    record { standing = first.0; seq = first.1; last = first.2; session = good.sessions (suc w.opened) (omega arith) }
 
 -- so it can be opened
 pub shows_opened : (old new : RouterView) (w : World) (t : Layout) → IsUnopened w → AskedGood t w.asked w.proposed w.seq w.last →
     ShowsConnections old w → new.opened ≡ old.opened + 1 →
-    ((d : ℕ) → connection new d ≡ cond (d == new.opened) (Some just_opened) (connection old d)) →
+    ((d : ℕ) → connection new d ≡ cond (d == new.opened) (Some just_opened) (connection old d)) → session_at new ≡ session_at old →
     ShowsConnections new (opened_world w)
-shows_opened old new w t first requests shows count changes =
+shows_opened old new w t first requests shows count changes sessions =
     let next : new.opened ≡ suc w.opened = let e = shows.opened in omega arith in
     let changes' : (d : ℕ) → connection new d ≡ cond (d == suc w.opened) (Some just_opened) (connection old d) =
     λ d. subst (λ n. connection new d ≡ cond (d == n) (Some just_opened) (connection old d)) next (changes d) in
@@ -174,6 +178,8 @@ shows_opened old new w t first requests shows count changes =
           ),
         ),
       );
+      sessions = subst (λ s. ShowsSessions s (opened_world w).standing w.session) (sym sessions)
+          (sessions_open (session_at old) w.standing w.session shows.sessions (suc w.opened) first.standing first.session);
       under_way = λ i q asked. elim (shows.under_way i q asked) [
         | inl settled ↦ inl settled
         | inr kept ↦ inr (kept_else old new (suc w.opened) (Some just_opened) i changes' (unlike i q asked) kept)
@@ -269,6 +275,9 @@ collects_some old new w c was o there is live changes shows =
         each = each_of old new w (standing_world w c Idle) c (Some (with_standing was router.Idle)) changes.at
             (alike_standing w c Idle) shows.each
             (here.0, inl (live, (standing_here w c Idle, answered.1)));
+        sessions = subst (λ s. ShowsSessions s (standing_world w c Idle).standing w.session) (sym changes.sessions)
+            (sessions_live (session_at old) w.standing w.session shows.sessions c Idle
+            (λ is. answered_open (outcome_shown o) (sym answered.0 ∙ is)) idle_open);
         under_way = λ i q asked. elim (shows.under_way i q asked) [
           | inl settled ↦ inl settled
           | inr kept ↦ inr
@@ -337,6 +346,7 @@ shows_close old new w c closes shows =
         opened = closes.changes.opened ∙ shows.opened;
         each = each_of old new w (standing_world w c Closed) c (once_closed was) closes.changes.at
             (alike_standing w c Closed) shows.each (shut was.standing was w c here.0 here.1);
+        sessions = sessions_close (session_at old) w.standing w.session shows.sessions (session_at new) c closes.changes.sessions;
         under_way = λ i q asked. elim (shows.under_way i q asked) [
           | inl settled ↦ inl settled
           | inr kept ↦ inr (kept_here old new c was (once_closed was) i closes.kept closes.changes.at

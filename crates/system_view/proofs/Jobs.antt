@@ -17,7 +17,7 @@ job_waits w d asked j waits id stamp groups same = record {
   id = id;
   stamp = stamp;
   groups = groups;
-  asked_so = (waits.0, waits.1, waits.2 ∙ ap (λ (a : Worded). a.command) (sym same));
+  asked_so = (waits.0, waits.1, waits.2 ∙ ap (λ (a : Worded). a.batch) (sym same));
 }
 
 -- ---- what holds of each of them

@@ -1,3 +1,4 @@
+pub mod Sessions
 pub mod Connections
 pub mod Running
 pub mod Submits

@@ -2,21 +2,21 @@
 use Rattle.std.proofs.Common.{refl, sym, ap, ◌∙◌, subst, inl, inr, append-nil}
 use Rattle.std.proofs.Math.Seq.{append_snoc}
 use Rattle.std.specs.List.{AllZip}
-use Rattle.std.specs.Prelude.{◌≡◌, ℕ, Bool, true, false, cond, ◌||◌, List, [], ◌∷◌, ◌++◌, map}
-use Rattle.std.specs.Prelude.{Option, Some, None, is_none}
+use Rattle.std.specs.Prelude.{◌≡◌, ℕ, true, cond, List, [], ◌∷◌, ◌++◌, map}
+use Rattle.std.specs.Prelude.{Option, Some, None}
 use Rattle.groups.specs.GroupSet.{has}
 use Rattle.keyspace.specs.Map.{Map}
 use Rattle.journal.specs.declared.step.Step.{Step}
 use Rattle.layer_planner.specs.declared.job.Job.{Job}
+use Rattle.layer_results.proofs.Names.{names_by_task}
 use Rattle.placement.specs.Layout.{Layout}
 use Rattle.resp.specs.Content.{Content}
-use Rattle.resp.specs.declared.answered.Answered.{Answered}
 use Rattle.router.specs.Router.{RouterView, connection}
 use Rattle.router.specs.declared.connection.Connection.{Connection}
 use Rattle.router.specs.declared.connection.Standing.{Standing}
 use Rattle.router.specs.declared.connection.Standing.TheVariants as router
 use Rattle.shard_exec.proofs.LastStamps.{raised_last}
-use Rattle.shard_exec.specs.Layers.{commands_of, AddressTheirGroups, outcomes_of_ended, IsOf}
+use Rattle.shard_exec.specs.Layers.{tasks_of, AddressTheirGroups, outcomes_of_ended, IsOf}
 use Rattle.shard_workers.specs.Runs.{outcome}
 use Rattle.shard_exec.specs.Stamps.{last_of, is_above, IsFresh, AreFresh, raised}
 use Rattle.shard_exec.specs.StoreStates.{StoreState}
@@ -24,27 +24,29 @@ use Rattle.shard_exec.specs.Stores.{HasRunLayer}
 use Rattle.shard_exec.specs.declared.done.Ended as run
 use Rattle.shard_maps.specs.Joined.{joined}
 use Rattle.shard_maps.specs.Layer.{AnsweredInTurn}
-use Rattle.groups.proofs.Ids.{same_id-refl, ne-same_id}
 use Rattle.groups.proofs.Options.{some_same}
 use Rattle.groups.proofs.Lists.{In-left, In-right}
 use Rattle.skeen_core.specs.Group.{EachOnce, has_id}
 use Rattle.groups.specs.Order.{In}
+use Rattle.groups.specs.Skips.{names_whole, parts_of}
 use Rattle.groups.specs.Stamp.{stamp_lt}
 use Rattle.skeen_core.specs.declared.packet.Delivered.{Delivered}
 use Rattle.groups.specs.declared.request.RequestId.{RequestId}
+use Rattle.groups.specs.declared.skip_id.SkipId.{SkipId}
 use Rattle.groups.specs.declared.stamp.Stamp.{Stamp}
-use Rattle.tasks.specs.Tasks.{Task, task_reading, task_groups, task_effect}
+use Rattle.tasks.specs.Tasks.{Task, task_reading, task_groups, deed_effect, starved_names}
 use Rattle.system_view.proofs.Jobs.{all_jobs}
 use Rattle.system_view.specs.Connections.{InLayer, id_of, ShowsOpen, ShowsClosed, ShowsConnection}
 use Rattle.system_view.specs.Connections.{IsSettled, ShowsConnections}
-use Rattle.system_view.specs.Layers.{IsJob, AreJobs, AreEnded, if_none, starved_of, ShowsStore}
-use Rattle.world.specs.Steps.{opening, Ran, names, map_after, after_all, ended_as, RunInTurn}
-use Rattle.world.specs.Steps.{if_starved, starved_among, RunsLayer, Leads}
+use Rattle.system_view.specs.Layers.{IsJob, AreJobs, AreEnded, starved_of, ShowsStore}
+use Rattle.world.specs.Steps.{opening, Ran, map_after, after_all, ended_as, RunInTurn, starved_among, RunsLayer, Leads}
 use Rattle.world.specs.World.{World, Request, Ended, Layer, Taken, HasRun}
 use Rattle.world_laws.proofs.ConditionLaws.{layer_is_submitted, layer_is_above}
 use Rattle.world_laws.proofs.Layers.{run_of_layer, taken_once}
+use Rattle.world_laws.proofs.Names.{Tells, IsAnswer, ends_again, TellsEach, starved_tell}
 use Rattle.world_laws.proofs.Worlds.{good_world}
 use Rattle.world_laws.specs.Good.{Asked, run_in, all_delivered, all_taken, TakenGood, WorldGood}
+use Rattle.world_laws.specs.Order.{ids_of}
 
 -- ---- a layer that was taken may be run
 
@@ -57,13 +59,13 @@ above_of (Some before) stamp above = above before refl
 module _ (t : Layout) (s : StoreState) (w : World) (ds : List Delivered) (good : WorldGood t w)
     (is_taken : w.layer ≡ Taken ds) (shows : ShowsStore t s w) where
   job_addresses : (d : Delivered) (j : Job) → In d ds → IsJob w.asked d j →
-      j.groups ≡ task_groups s.table j.asked.command
+      j.groups ≡ task_groups s.table j.asked.batch
   job_addresses d j there is =
       let submitted = layer_is_submitted t w good ds is_taken d there in
       let same : submitted.0 ≡ is.asked_so.0 =
       some_same submitted.0 is.asked_so.0 (sym submitted.1.submitted ∙ is.asked_so.1) in
       is.groups ∙ submitted.2 ∙ ap (λ (q : Request). task_groups t q.task) same ∙ ap (task_groups t) is.asked_so.2
-      ∙ ap (λ (l : Layout). task_groups l j.asked.command) (sym shows.table)
+      ∙ ap (λ (l : Layout). task_groups l j.asked.batch) (sym shows.table)
 
   job_is_fresh : (d : Delivered) (j : Job) → In d ds → IsJob w.asked d j → IsFresh s.lasts j
   job_is_fresh d j there is g member = above_of (last_of s.lasts g) j.stamp (λ before e.
@@ -78,7 +80,7 @@ pub may_be_run : (t : Layout) (s : StoreState) (w : World) (steps : List Step) (
     AddressTheirGroups s.table js × AreFresh s.lasts js
 may_be_run t s w steps ds js leads is_taken are shows =
     let good = good_world t steps w leads in (
-      all_jobs (λ j. j.groups ≡ task_groups s.table j.asked.command) w.asked ds js are
+      all_jobs (λ j. j.groups ≡ task_groups s.table j.asked.batch) w.asked ds js are
           (job_addresses t s w ds good is_taken shows),
       all_jobs (IsFresh s.lasts) w.asked ds js are (job_is_fresh t s w ds good is_taken shows),
     )
@@ -86,7 +88,7 @@ may_be_run t s w steps ds js leads is_taken are shows =
 -- ---- the requests that ended
 
 abbrev ended_by : Job → run.Ended → Ended
-ended_by j r = record { id = j.id; stamp = j.stamp; groups = j.groups; task = j.asked.command; reply = outcome r.reply }
+ended_by j r = record { id = j.id; stamp = j.stamp; groups = j.groups; task = j.asked.batch; reply = outcome r.reply }
 
 -- how the requests of a layer ended, as the world tells of them
 abbrev pub ended_in : List Job → List run.Ended → List Ended
@@ -105,62 +107,19 @@ are_ended (j ∷ js) (r ∷ rs) told = (
 
 -- ---- who starved
 
-abbrev ids_run : List run.Ended → List RequestId
-ids_run rs = map (λ r. r.id) rs
-
 abbrev ids_delivered : List Delivered → List RequestId
 ids_delivered ds = map (λ d. d.id) ds
 
--- the test tells of each request whether it starved
-abbrev pub TellsStarved : (RequestId → Bool) → List run.Ended → Type 0
-TellsStarved starves [] = Unit {0}
-TellsStarved starves (r ∷ rs) = (starves r.id ≡ is_none (outcome r.reply)) × TellsStarved starves rs
-
-if_same : (reply : Option Answered) (i : RequestId) (ids : List RequestId) →
-    if_none reply i ids ≡ if_starved (outcome reply) i ids
-if_same None i ids = refl
-if_same (Some reply) i ids = refl
-
+-- the names that the store tells are those of the world
 pub starved_same : (js : List Job) (rs : List run.Ended) → AllZip IsOf js rs →
     starved_of rs ≡ starved_among (ended_in js rs)
 starved_same [] [] told = refl
 starved_same [] (r ∷ rs) told = absurd told
 starved_same (j ∷ js) [] told = absurd told
 starved_same (j ∷ js) (r ∷ rs) told =
-    if_same r.reply r.id (starved_of rs) ∙ ap (λ i. if_starved (outcome r.reply) i (starved_of rs)) told.0.0
-    ∙ ap (if_starved (outcome r.reply) j.id) (starved_same js rs told.1)
-
--- another request's id makes no difference
-names_but : (reply : Option Answered) (i id : RequestId) (ids : List RequestId) → (i ≡ id → ⊥) →
-    names (if_none reply i ids) id ≡ names ids id
-names_but None i id ids differ = ap (λ b. b || names ids id) (ne-same_id i id differ)
-names_but (Some reply) i id ids differ = refl
-
-names_own : (reply : Option Answered) (i : RequestId) (ids : List RequestId) → names ids i ≡ false →
-    names (if_none reply i ids) i ≡ is_none (outcome reply)
-names_own None i ids out = ap (λ b. b || names ids i) (same_id-refl i)
-names_own (Some reply) i ids out = out
-
-names_none : (rs : List run.Ended) (i : RequestId) → (In i (ids_run rs) → ⊥) → names (starved_of rs) i ≡ false
-names_none [] i out = refl
-names_none (r ∷ rs) i out =
-    names_but r.reply r.id i (starved_of rs) (λ e. out (inl (sym e))) ∙ names_none rs i (λ there. out (inr there))
-
-tells_more : (reply : Option Answered) (i : RequestId) (ids : List RequestId) (rs : List run.Ended) →
-    (In i (ids_run rs) → ⊥) → TellsStarved (names ids) rs → TellsStarved (names (if_none reply i ids)) rs
-tells_more reply i ids [] out tells = tt
-tells_more reply i ids (r ∷ rs) out tells = (
-  names_but reply i r.id ids (λ e. out (inl e)) ∙ tells.0,
-  tells_more reply i ids rs (λ there. out (inr there)) tells.1,
-)
-
--- where each id stands once, the starved ids name just those that starved
-pub tells_starved : (rs : List run.Ended) → EachOnce (ids_run rs) → TellsStarved (names (starved_of rs)) rs
-tells_starved [] once = tt
-tells_starved (r ∷ rs) once = (
-  names_own r.reply r.id (starved_of rs) (names_none rs r.id once.0),
-  tells_more r.reply r.id (starved_of rs) rs once.0 (tells_starved rs once.1),
-)
+    ap (λ l. l ++ starved_of rs) (names_by_task r.id r.words j.asked.batch (outcome r.reply) (ap task_reading told.0.2 ∙ j.asked.says)
+    ∙ ap (λ i. starved_names i j.asked.batch (outcome r.reply)) told.0.0)
+    ∙ ap (λ l. starved_names j.id j.asked.batch (outcome r.reply) ++ l) (starved_same js rs told.1)
 
 in_delivered_ids : (ds : List Delivered) (i : RequestId) → In i (ids_delivered ds) →
     (d : Delivered) × In d ds × (i ≡ d.id)
@@ -188,39 +147,44 @@ once_layer t w ds good is_taken = once_taken t w (all_delivered w.ended) ds good
     (subst (λ l. TakenGood w.asked w.proposed w.gone (all_taken w.ended l)) is_taken good.taken)
 
 ids_same : (asked : Asked) (ds : List Delivered) (js : List Job) (rs : List run.Ended) →
-    AreJobs asked ds js → AllZip IsOf js rs → ids_delivered ds ≡ ids_run rs
+    AreJobs asked ds js → AllZip IsOf js rs → ids_delivered ds ≡ ids_of (ended_in js rs)
 ids_same asked [] [] [] are told = refl
 ids_same asked [] [] (r ∷ rs) are told = absurd told
 ids_same asked [] (j ∷ js) rs are told = absurd are
 ids_same asked (d ∷ ds) [] rs are told = absurd are
 ids_same asked (d ∷ ds) (j ∷ js) [] are told = absurd told
 ids_same asked (d ∷ ds) (j ∷ js) (r ∷ rs) are told =
-    ap (λ i. i ∷ ids_delivered ds) (sym (told.0.0 ∙ are.0.id))
-    ∙ ap (λ l. r.id ∷ l) (ids_same asked ds js rs are.1 told.1)
+    ap (λ i. i ∷ ids_delivered ds) (sym are.0.id)
+    ∙ ap (λ l. j.id ∷ l) (ids_same asked ds js rs are.1 told.1)
+
+-- where each id stands once, the names that the store tells name just the requests that starved as a whole, and of each other one
+-- its members that did
+pub tells_starved : (js : List Job) (rs : List run.Ended) → AllZip IsOf js rs → EachOnce (ids_of (ended_in js rs)) →
+    TellsEach (starved_of rs) (ended_in js rs)
+tells_starved js rs told once =
+    subst (λ names. TellsEach names (ended_in js rs)) (sym (starved_same js rs told)) (starved_tell (ended_in js rs) once)
 
 -- ---- one after another
 
 -- the first of the tasks starved, or was answered on the map; the others go on from what it left
 answered_first : (o : Option Content) (m new : Map) (c : Task) (cs : List Task) (os : List (Option Content)) →
-    AnsweredInTurn m (c ∷ cs) (o ∷ os) new →
-    (o ≡ cond (is_none o) None (Some (task_effect c m).1)) × AnsweredInTurn (map_after o c m) cs os new
-answered_first None m new c cs os answered = (refl, answered)
-answered_first (Some reply) m new c cs os answered = (ap Some answered.0, answered.1)
+    AnsweredInTurn m (c ∷ cs) (o ∷ os) new → IsAnswer m c o × AnsweredInTurn (map_after o c m) cs os new
+answered_first None m new c cs os answered = (tt, answered)
+answered_first (Some reply) m new c cs os answered = answered
 
 contents_after : (m new : Map) (js : List Job) (rs : List run.Ended) →
-    AnsweredInTurn m (commands_of js) (outcomes_of_ended rs) new → new ≡ after_all m (ended_in js rs)
+    AnsweredInTurn m (tasks_of js) (outcomes_of_ended rs) new → new ≡ after_all m (ended_in js rs)
 contents_after m new [] [] answered = answered
 contents_after m new [] (r ∷ rs) answered = absurd answered
 contents_after m new (j ∷ js) [] answered = absurd answered
-contents_after m new (j ∷ js) (r ∷ rs) answered = contents_after (map_after (outcome r.reply) j.asked.command m) new js rs
-    (answered_first (outcome r.reply) m new j.asked.command (commands_of js) (outcomes_of_ended rs) answered).1
+contents_after m new (j ∷ js) (r ∷ rs) answered = contents_after (map_after (outcome r.reply) j.asked.batch m) new js rs
+    (answered_first (outcome r.reply) m new j.asked.batch (tasks_of js) (outcomes_of_ended rs) answered).1
 
 -- a request ends as the world says
-ends_as : (asked : Asked) (starved : List RequestId) (m : Map) (d : Delivered) (j : Job)
-    (r : run.Ended) → (is : IsJob asked d j) → IsOf j r → names starved r.id ≡ is_none (outcome r.reply) →
-    outcome r.reply ≡ cond (is_none (outcome r.reply)) None (Some (task_effect j.asked.command m).1) →
-    ended_by j r ≡ ended_as starved m d is.asked_so.0.task
-ends_as asked starved m d j r is of tells answer = λ i. record {
+ends_as : (asked : Asked) (starved : List SkipId) (m : Map) (d : Delivered) (j : Job)
+    (r : run.Ended) → (is : IsJob asked d j) → Tells starved j.id j.asked.batch (outcome r.reply) →
+    IsAnswer m j.asked.batch (outcome r.reply) → ended_by j r ≡ ended_as starved m d is.asked_so.0.task
+ends_as asked starved m d j r is tells answer = λ i. record {
   id = is.id i;
   stamp = is.stamp i;
   groups = is.groups i;
@@ -228,17 +192,18 @@ ends_as asked starved m d j r is of tells answer = λ i. record {
   reply = reply i;
 }
   where
-    task : j.asked.command ≡ is.asked_so.0.task
+    task : j.asked.batch ≡ is.asked_so.0.task
     task = sym is.asked_so.2
 
-    reply : outcome r.reply ≡ cond (names starved d.id) None (Some (task_effect is.asked_so.0.task m).1)
+    reply : outcome r.reply ≡ cond (names_whole starved d.id) None (Some (deed_effect (is.asked_so.0.task, parts_of starved d.id) m).1)
     reply =
-        answer ∙ ap (λ b. cond b None (Some (task_effect j.asked.command m).1)) (sym tells ∙ ap (names starved) (of.0 ∙ is.id))
-        ∙ ap (λ c. cond (names starved d.id) None (Some (task_effect c m).1)) task
+        ends_again starved j.id j.asked.batch (outcome r.reply) m tells answer
+        ∙ ap (λ i. cond (names_whole starved i) None (Some (deed_effect (j.asked.batch, parts_of starved i) m).1)) is.id
+        ∙ ap (λ c. cond (names_whole starved d.id) None (Some (deed_effect (c, parts_of starved d.id) m).1)) task
 
-run_in_turn : (asked : Asked) (starved : List RequestId) (m new : Map) (ds : List Delivered) (js : List Job)
+run_in_turn : (asked : Asked) (starved : List SkipId) (m new : Map) (ds : List Delivered) (js : List Job)
     (rs : List run.Ended) → AreJobs asked ds js → AllZip IsOf js rs →
-    TellsStarved (names starved) rs → AnsweredInTurn m (commands_of js) (outcomes_of_ended rs) new →
+    TellsEach starved (ended_in js rs) → AnsweredInTurn m (tasks_of js) (outcomes_of_ended rs) new →
     RunInTurn asked starved m ds (ended_in js rs)
 run_in_turn asked starved m new [] [] [] are told tells answered = refl
 run_in_turn asked starved m new [] [] (r ∷ rs) are told tells answered = absurd told
@@ -246,9 +211,9 @@ run_in_turn asked starved m new [] (j ∷ js) rs are told tells answered = absur
 run_in_turn asked starved m new (d ∷ ds) [] rs are told tells answered = absurd are
 run_in_turn asked starved m new (d ∷ ds) (j ∷ js) [] are told tells answered = absurd told
 run_in_turn asked starved m new (d ∷ ds) (j ∷ js) (r ∷ rs) are told tells answered =
-    let first = answered_first (outcome r.reply) m new j.asked.command (commands_of js) (outcomes_of_ended rs) answered in (
-      (are.0.asked_so.0, are.0.asked_so.1, ends_as asked starved m d j r are.0 told.0 tells.0 first.0),
-      run_in_turn asked starved (map_after (outcome r.reply) j.asked.command m) new ds js rs are.1 told.1 tells.1 first.1,
+    let first = answered_first (outcome r.reply) m new j.asked.batch (tasks_of js) (outcomes_of_ended rs) answered in (
+      (are.0.asked_so.0, are.0.asked_so.1, ends_as asked starved m d j r are.0 tells.0 first.0),
+      run_in_turn asked starved (map_after (outcome r.reply) j.asked.batch m) new ds js rs are.1 told.1 tells.1 first.1,
     )
 
 -- ---- the last stamps
@@ -269,7 +234,7 @@ in_ended (k ∷ ks) (r ∷ rs) j told (inr there) =
 abbrev pub ran_world : World → List Ended → World
 ran_world w es = record w { layer = HasRun es; ended = w.ended ++ es; contents = after_all w.contents es }
 
-pub store_run : (t : Layout) (old new : StoreState) (w : World) (skip : List RequestId) (js : List Job)
+pub store_run : (t : Layout) (old new : StoreState) (w : World) (skip : List SkipId) (js : List Job)
     (rs : List run.Ended) → HasRunLayer old skip js rs new → ShowsStore t old w →
     ShowsStore t new (ran_world w (ended_in js rs))
 store_run t old new w skip js rs ran shows = record {
@@ -329,6 +294,7 @@ module _ (w : World) (ds : List Delivered) (es : List Ended) (is_taken : w.layer
   connections_run r shows = record {
     opened = shows.opened;
     each = λ c. connection_run (connection r c) c (shows.each c);
+    sessions = shows.sessions;
     under_way = λ i q asked. elim (shows.under_way i q asked) [
       | inl settled ↦ inl (settled_run i settled)
       | inr kept ↦ inr kept
@@ -347,7 +313,7 @@ pub record ShowsRun (t : Layout) (w : World) (r : RouterView) (rs : List run.End
   pub connections : ShowsConnections r (ran_world w es)
 
 pub shows_run : (t : Layout) (w : World) (steps : List Step) (ds : List Delivered) (js : List Job)
-    (r : RouterView) (old new : StoreState) (skip : List RequestId) (rs : List run.Ended) →
+    (r : RouterView) (old new : StoreState) (skip : List SkipId) (rs : List run.Ended) →
     Leads t opening steps w → w.layer ≡ Taken ds → AreJobs w.asked ds js → ShowsStore t old w →
     ShowsConnections r w → HasRunLayer old skip js rs new → ShowsRun t w r rs new
 shows_run t w steps ds js r old new skip rs leads is_taken are store connections ran = record {
@@ -370,12 +336,12 @@ shows_run t w steps ds js r old new skip rs leads is_taken are store connections
     told : AllZip IsOf js rs
     told = ran.done.told
 
-    once : EachOnce (ids_run rs)
+    once : EachOnce (ids_of (ended_in js rs))
     once = subst EachOnce (ids_same w.asked ds js rs are ran.done.told)
         (once_layer t w ds (good_world t steps w leads) is_taken)
 
     in_turn : RunInTurn w.asked (starved_of rs) w.contents ds (ended_in js rs)
     in_turn = run_in_turn w.asked (starved_of rs) w.contents (joined new.maps) ds js rs are ran.done.told
-        (tells_starved rs once)
-        (subst (λ m. AnsweredInTurn m (commands_of js) (outcomes_of_ended rs) (joined new.maps)) store.contents
+        (tells_starved js rs told once)
+        (subst (λ m. AnsweredInTurn m (tasks_of js) (outcomes_of_ended rs) (joined new.maps)) store.contents
         ran.done.in_turn)

@@ -1,15 +1,13 @@
 -- A submit of the router is a step of the world.
-use Rattle.std.proofs.Common.{◌≡◌, ℕ, suc, ◌==◌, true, false, cond, List, ◌∷◌, inl, inr, Option, Some, None, Result, Ok}
-use Rattle.std.proofs.Common.{Err, IfOk, refl, sym, ap, ◌∙◌, subst, eq-eqb}
+use Rattle.std.proofs.Common.{◌≡◌, ℕ, suc, ◌==◌, true, false, cond, List, [], ◌∷◌, inl, inr, Option, Some, None}
+use Rattle.std.proofs.Common.{refl, sym, ap, ◌∙◌, subst, eq-eqb}
 use Rattle.std.proofs.lemmas.Bool.{both_ways, cases_Bool}
 use Rattle.std.specs.FinMap.{empty}
-use Rattle.command_table.specs.Refusal.{refusal_text}
-use Rattle.command_table.specs.declared.refusal.Refusal.{Refusal}
-use Rattle.placement.specs.Layout.{Layout}
-use Rattle.resp.specs.Content.{Content, ErrorLine}
-use Rattle.router.specs.Connection.{Answer, is_under_way}
-use Rattle.router.specs.Router.{RouterView, connection, Changes}
-use Rattle.router.specs.Submitting.{StandsAs, StandsBy, Submits, next_id}
+use Rattle.placement.specs.Layout.{Layout, IsTable}
+use Rattle.resp.specs.Content.{Content}
+use Rattle.router.specs.Connection.{Answer as Told, is_under_way}
+use Rattle.router.specs.Router.{RouterView, connection, session_at, Turns}
+use Rattle.router.specs.Submitting.{groups_by, StandsAs, StandsBy, Submits, next_id}
 use Rattle.router.specs.declared.connection.Connection.{Connection}
 use Rattle.router.specs.declared.connection.Pending.{Pending}
 use Rattle.router.specs.declared.connection.Standing.{Standing}
@@ -19,35 +17,43 @@ use Rattle.router.specs.declared.submission.Submission.{Submission}
 use Rattle.groups.proofs.Ids.{same_id-true, eq-same_id}
 use Rattle.groups.specs.Request.{same_id}
 use Rattle.groups.specs.declared.request.RequestId.{RequestId}
-use Rattle.tasks.proofs.Keyless.{keyless_effect}
-use Rattle.tasks.specs.Tasks.{Task, task_reading, task_groups, task_effect, keyless_reply, AddressesBy, Addresses}
+use Rattle.sessions.specs.Session.{Answer, Now, Go, asks}
+use Rattle.sessions.specs.declared.session.Session.{Session}
+use Rattle.tasks.proofs.Keyless.{addresses, keyless_effect}
+use Rattle.tasks.specs.Tasks.{Task, task_groups, deed_effect, keyless_reply, AddressesBy}
 use Rattle.system_view.proofs.Connections.{Alike, each_of, kept_here, kept_open}
+use Rattle.system_view.proofs.Sessions.{sessions_turn}
 use Rattle.system_view.specs.Connections.{outcome_shown, id_of, ShowsOpen, ShowsConnection, ShowsConnections}
-use Rattle.world.specs.Steps.{next_id as world_id, asks, final_clock, final_clock_of, floor_of, answered, multicast}
-use Rattle.world.specs.Steps.{submitted, submitted_to}
-use Rattle.world.specs.World.{World, Request, Outcome, Idle, Waiting, Answered}
+use Rattle.world.specs.Steps.{next_id as world_id, with_asked, final_clock, final_clock_of, floor_of, answered, multicast}
+use Rattle.world.specs.Steps.{submitted, submitted_to, in_session, answer_to, remembered}
+use Rattle.world.specs.World.{World, Request, Outcome, Closed, Idle, Waiting, Answered}
 use Rattle.std.proofs.lemmas.Bool.{cond-true, cond-false}
+use Rattle.world_laws.proofs.Values.{answered_open, idle_open}
 use Rattle.world_laws.specs.Good.{AskedGood}
 
--- the submitting connection, as the router has it before and after
-pub record Submitter (old new : RouterView) (w : World) (c : ℕ) (was now : Connection) : Type 0 where
+-- the submitting connection, as the router has it before and after, and what it remembers then
+pub record Submitter (old new : RouterView) (w : World) (c : ℕ) (session : Session) (was now : Connection) : Type 0 where
   pub kept : connection old c ≡ Some was
   pub idle : was.standing ≡ router.Idle
   pub seq : now.seq ≡ suc (w.seq c)
   pub live : now.is_open ≡ true
   pub floor : now.floor ≡ floor_of w c
-  pub changes : Changes old new c (Some now)
+  pub changes : Turns old new c (Some now) session
 
 not_busy : (was : Connection) → was.standing ≡ router.Idle → is_under_way was.standing ≡ true → ⊥
 not_busy was idle busy = both_ways _ (ap is_under_way idle) busy
 
-abbrev to_outcome : Answer → Outcome
+waiting_open : Waiting ≡ Closed → ⊥
+waiting_open e = cc
+
+abbrev to_outcome : Told → Outcome
 to_outcome a = record { id = a.id; reply = a.reply; stamp = a.stamp }
 
 -- ---- answered at once
 
-alike_answered : (w : World) (c : ℕ) (reply : Content) (d : ℕ) → (d == c) ≡ false → Alike w (answered w c reply) d
-alike_answered w c reply d other = record {
+alike_answered : (w : World) (c : ℕ) (session : Session) (reply : Content) (d : ℕ) → (d == c) ≡ false →
+    Alike w (answered (in_session w c session) c reply) d
+alike_answered w c session reply d other = record {
   standing = cond-false (d == c) _ (w.standing d) other;
   seq = cond-false (d == c) (suc (w.seq c)) (w.seq d) other;
   floor = λ free. refl;
@@ -55,21 +61,23 @@ alike_answered w c reply d other = record {
   layer = λ seq there. there;
 }
 
-shows_answered : (old new : RouterView) (w : World) (c : ℕ) (was now : Connection) (o : kept.Outcome)
-    (reply : Content) → ShowsConnections old w → Submitter old new w c was now →
+shows_answered : (old new : RouterView) (w : World) (c : ℕ) (session : Session) (was now : Connection) (o : kept.Outcome)
+    (reply : Content) → ShowsConnections old w → Submitter old new w c session was now →
     now.standing ≡ router.Answered o →
     outcome_shown o ≡ record { id = id_of c (suc (w.seq c)); reply = reply; stamp = None } →
-    ShowsConnections new (answered w c reply)
-shows_answered old new w c was now o reply shows s is says = record {
+    ShowsConnections new (answered (in_session w c session) c reply)
+shows_answered old new w c session was now o reply shows s is says = record {
   opened = s.changes.opened ∙ shows.opened;
-  each = each_of old new w (answered w c reply) c (Some now) s.changes.at (alike_answered w c reply) shows.each (
-    s.seq ∙ sym (cond-true (c == c) (suc (w.seq c)) (w.seq c) (eq-eqb c c refl)),
-    inl (
-      s.live,
-      subst (λ t. ShowsOpen t now (answered w c reply) c) (sym is)
-          (cond-true (c == c) _ (w.standing c) (eq-eqb c c refl) ∙ ap Answered (sym says), s.floor),
-    ),
-  );
+  each = each_of old new w (answered (in_session w c session) c reply) c (Some now) s.changes.at (alike_answered w c session reply)
+      shows.each (
+        s.seq ∙ sym (cond-true (c == c) (suc (w.seq c)) (w.seq c) (eq-eqb c c refl)),
+        inl (
+          s.live,
+          subst (λ t. ShowsOpen t now (answered (in_session w c session) c reply) c) (sym is)
+              (cond-true (c == c) _ (w.standing c) (eq-eqb c c refl) ∙ ap Answered (sym says), s.floor),
+        ),
+      );
+  sessions = sessions_turn (session_at old) w.standing w.session shows.sessions (session_at new) c _ session (answered_open _) s.changes.sessions;
   under_way = λ i q asked. elim (shows.under_way i q asked) [
     | inl settled ↦ inl settled
     | inr kept ↦ inr
@@ -79,18 +87,22 @@ shows_answered old new w c was now o reply shows s is says = record {
 
 -- ---- sent to groups
 
-module _ (t : Layout) (w : World) (c : ℕ) (r : Request) (good : AskedGood t w.asked w.proposed w.seq w.last) where
+module _ (t : Layout) (w : World) (c : ℕ) (session : Session) (r : Request) (good : AskedGood t w.asked w.proposed w.seq w.last) where
+  -- the world once the request was sent
+  abbrev sent_world : World
+  sent_world = multicast (in_session w c session) c r
+
   other_id : (d seq : ℕ) → (d == c) ≡ false → same_id (id_of d seq) (id_of c (suc (w.seq c))) ≡ false
   other_id d seq other = elim (cases_Bool (same_id (id_of d seq) (id_of c (suc (w.seq c))))) [
     | inl e ↦ absurd (both_ways _ other (eq-eqb d c (ap (λ i. i.conn.0) (same_id-true _ _ e))))
     | inr e ↦ e
   ]
 
-  floor_else : (d : ℕ) → (d == c) ≡ false → floor_of (multicast w c r) d ≡ floor_of w d
-  floor_else d other = ap (final_clock_of (multicast w c r)) (cond-false (d == c) _ (w.last d) other)
+  floor_else : (d : ℕ) → (d == c) ≡ false → floor_of sent_world d ≡ floor_of w d
+  floor_else d other = ap (final_clock_of sent_world) (cond-false (d == c) _ (w.last d) other)
       ∙ by_last (w.last d) refl
     where
-      by_last : (o : Option RequestId) → w.last d ≡ o → final_clock_of (multicast w c r) o ≡ final_clock_of w o
+      by_last : (o : Option RequestId) → w.last d ≡ o → final_clock_of sent_world o ≡ final_clock_of w o
       by_last None e = refl
       by_last (Some i) e =
           let conn = (good.lasts d i e).0 in
@@ -98,10 +110,10 @@ module _ (t : Layout) (w : World) (c : ℕ) (r : Request) (good : AskedGood t w.
           ap (final_clock w.proposed i) (cond-false' i (other_id i.conn.0 i.seq unlike))
         where
           cond-false' : (i : RequestId) → same_id (id_of i.conn.0 i.seq) (id_of c (suc (w.seq c))) ≡ false →
-              asks w.asked (id_of c (suc (w.seq c))) r i ≡ w.asked i
+              with_asked w.asked (id_of c (suc (w.seq c))) r i ≡ w.asked i
           cond-false' i e = ap (λ b. cond b (Some r) (w.asked i)) e
 
-  alike_multicast : (d : ℕ) → (d == c) ≡ false → Alike w (multicast w c r) d
+  alike_multicast : (d : ℕ) → (d == c) ≡ false → Alike w sent_world d
   alike_multicast d other = record {
     standing = cond-false (d == c) Waiting (w.standing d) other;
     seq = cond-false (d == c) (suc (w.seq c)) (w.seq d) other;
@@ -111,16 +123,16 @@ module _ (t : Layout) (w : World) (c : ℕ) (r : Request) (good : AskedGood t w.
   }
 
   shows_multicast : (old new : RouterView) (was now : Connection) (p : Pending) → ShowsConnections old w →
-      Submitter old new w c was now →
-      now.standing ≡ router.Waiting p → r.task ≡ p.asked.command →
-      ShowsConnections new (multicast w c r)
+      Submitter old new w c session was now →
+      now.standing ≡ router.Waiting p → r.task ≡ p.asked.batch →
+      ShowsConnections new sent_world
   shows_multicast old new was now p shows s is task = record {
     opened = s.changes.opened ∙ shows.opened;
-    each = each_of old new w (multicast w c r) c (Some now) s.changes.at alike_multicast shows.each (
+    each = each_of old new w sent_world c (Some now) s.changes.at alike_multicast shows.each (
       s.seq ∙ sym (cond-true (c == c) (suc (w.seq c)) (w.seq c) (eq-eqb c c refl)),
       inl (
         s.live,
-        subst (λ t. ShowsOpen t now (multicast w c r) c) (sym is) (
+        subst (λ t. ShowsOpen t now sent_world c) (sym is) (
           cond-true (c == c) Waiting (w.standing c) (eq-eqb c c refl),
           (
             r,
@@ -131,6 +143,7 @@ module _ (t : Layout) (w : World) (c : ℕ) (r : Request) (good : AskedGood t w.
         ),
       ),
     );
+    sessions = sessions_turn (session_at old) w.standing w.session shows.sessions (session_at new) c Waiting session waiting_open s.changes.sessions;
     under_way = λ i q asked. elim (cases_Bool (same_id i (id_of c (suc (w.seq c))))) [
       | inl e ↦
           let id = same_id-true _ _ e in
@@ -149,41 +162,41 @@ module _ (t : Layout) (w : World) (c : ℕ) (r : Request) (good : AskedGood t w.
     ];
   }
 
--- ---- what the words say
+-- ---- what comes of the words
 
-module _ (t : Layout) (w : World) (c : ℕ) (good : AskedGood t w.asked w.proposed w.seq w.last) (words : List (List ℕ)) where
+module _ (t : Layout) (w : World) (c : ℕ) (session : Session) (good : AskedGood t w.asked w.proposed w.seq w.last) where
   -- a task that addresses groups waits, and the world has sent it to them
   waits_as : (old new : RouterView) (was now : Connection) (task : Task) (p : Pending) →
       (g : ℕ) (gs : List ℕ) → task_groups t task ≡ g ∷ gs →
-      ShowsConnections old w → Submitter old new w c was now → now.standing ≡ router.Waiting p →
-      (p.asked.words ≡ words) × (p.asked.command ≡ task) →
-      ShowsConnections new (submitted_to w c task (task_groups t task))
+      ShowsConnections old w → Submitter old new w c session was now → now.standing ≡ router.Waiting p → p.asked.batch ≡ task →
+      ShowsConnections new (submitted_to (in_session w c session) c task (task_groups t task))
   waits_as old new was now task p g gs groups shows s is same =
-      subst (λ all. ShowsConnections new (submitted_to w c task all)) (sym groups)
-      (shows_multicast t w c
+      subst (λ all. ShowsConnections new (submitted_to (in_session w c session) c task all)) (sym groups)
+      (shows_multicast t w c session
       (record { floor = floor_of w c; groups = g ∷ gs; task = task }) good old new was now p shows s is
-      (sym same.1))
+      (sym same))
 
-  -- the words are read; the router has done as they say, and so has the world
-  by_reading : (old new : RouterView) (was now : Connection) (result : Result Task Refusal) →
-      IfOk result (Addresses t) → ShowsConnections old w → Submitter old new w c was now →
-      StandsBy (id_of c (suc (w.seq c))) words result now.standing → ShowsConnections new (submitted t w c result)
-  by_reading old new was now (Err refusal) addresses shows s stands = by_standing now.standing refl stands
+  -- the words are answered, or a task is to be run; the router has done so, and so has the world
+  by_answer : (old new : RouterView) (was now : Connection) (answer : Answer) →
+      IsTable t → ShowsConnections old w → Submitter old new w c session was now →
+      StandsBy (id_of c (suc (w.seq c))) answer now.standing → ShowsConnections new (submitted t (in_session w c session) c answer)
+  by_answer old new was now (Now reply) table shows s stands = by_standing now.standing refl stands
     where
-      by_standing : (x : Standing) → now.standing ≡ x → StandsBy (id_of c (suc (w.seq c))) words (Err refusal) x →
-          ShowsConnections new (answered w c (ErrorLine (refusal_text refusal)))
+      by_standing : (x : Standing) → now.standing ≡ x → StandsBy (id_of c (suc (w.seq c))) (Now reply) x →
+          ShowsConnections new (answered (in_session w c session) c reply)
       by_standing router.Idle e says = absurd says
       by_standing (router.Waiting p) e says = absurd says
       by_standing (router.Taken w) e says = absurd says
-      by_standing (router.Answered o) e says = shows_answered old new w c was now o _ shows s e (ap to_outcome says)
-  by_reading old new was now (Ok task) addresses shows s stands = by_standing now.standing refl (keyless_reply task) refl addresses stands
+      by_standing (router.Answered o) e says = shows_answered old new w c session was now o _ shows s e (ap to_outcome says)
+  by_answer old new was now (Go task) table shows s stands =
+      by_standing now.standing refl (keyless_reply task) refl (addresses t table task) stands
     where
       by_standing : (x : Standing) → now.standing ≡ x → (reply : Option Content) → keyless_reply task ≡ reply →
-          AddressesBy reply (task_groups t task) → StandsAs (id_of c (suc (w.seq c))) words task reply x →
-          ShowsConnections new (submitted_to w c task (task_groups t task))
+          AddressesBy reply (task_groups t task) → StandsAs (id_of c (suc (w.seq c))) task reply x →
+          ShowsConnections new (submitted_to (in_session w c session) c task (task_groups t task))
       by_standing (router.Answered o) e (Some reply) keyless none says =
-          subst (λ gs. ShowsConnections new (submitted_to w c task gs)) (sym none)
-          (shows_answered old new w c was now o (task_effect task empty).1 shows s e
+          subst (λ gs. ShowsConnections new (submitted_to (in_session w c session) c task gs)) (sym none)
+          (shows_answered old new w c session was now o (deed_effect (task, []) empty).1 shows s e
           (ap to_outcome says ∙ ap (λ r. to_outcome (record { id = id_of c (suc (w.seq c)); reply = r; stamp = None }))
           (sym (keyless_effect task reply keyless))))
       by_standing (router.Waiting p) e None keyless some says = waits_as old new was now task p some.0 some.1 some.2 shows s e says
@@ -194,28 +207,33 @@ module _ (t : Layout) (w : World) (c : ℕ) (good : AskedGood t w.asked w.propos
       by_standing (router.Taken w) e None keyless addressed says = absurd says
       by_standing (router.Answered o) e None keyless addressed says = absurd says
 
-  pub shows_submitted : (old new : RouterView) (sent : Submission) → IfOk (task_reading words) (Addresses t) →
+module _ (t : Layout) (w : World) (c : ℕ) (good : AskedGood t w.asked w.proposed w.seq w.last) (words : List (List ℕ)) where
+  pub shows_submitted : (old new : RouterView) (sent : Submission) → IsTable t →
       Submits t c words old sent new → ShowsConnections old w →
-      (w.standing c ≡ Idle) × (sent.id ≡ world_id w c) × (sent.floor ≡ floor_of w c) × ShowsConnections new
-      (submitted t w c (task_reading words))
-  shows_submitted old new sent addresses submits shows =
+      (w.standing c ≡ Idle) × (sent.id ≡ world_id w c) × (sent.floor ≡ floor_of w c)
+      × ShowsConnections new (submitted t (remembered w c words) c (answer_to w c words))
+      × (sent.groups ≡ groups_by t (answer_to w c words))
+  shows_submitted old new sent table submits shows =
       let was = submits.was in
       let here = kept_open was w c submits.live (subst (λ x. ShowsConnection x w c) submits.kept (shows.each c)) in
       let idle : (w.standing c ≡ Idle) × (was.floor ≡ floor_of w c) =
       subst (λ s. ShowsOpen s was w c) submits.idle here.1 in
-      let id : next_id c was ≡ id_of c (suc (w.seq c)) = ap (λ n. id_of c (suc n)) here.0 in (
+      let id : next_id c was ≡ id_of c (suc (w.seq c)) = ap (λ n. id_of c (suc n)) here.0 in
+      let session : session_at old c ≡ w.session c = shows.sessions.of_open c (λ is. idle_open (sym idle.0 ∙ is)) in
+      let come : asks (session_at old c) words ≡ asks (w.session c) words = ap (λ x. asks x words) session in (
         idle.0,
         submits.id ∙ id,
         submits.floor ∙ idle.1,
-        by_reading old new was submits.now (task_reading words) addresses shows
+        by_answer t w c (asks (w.session c) words).0 good old new was submits.now (answer_to w c words) table shows
             (record {
               kept = submits.kept;
               idle = submits.idle;
               seq = submits.seq ∙ ap suc here.0;
-              live =
-                  submits.still;
+              live = submits.still;
               floor = submits.same_floor ∙ idle.1;
-              changes = submits.changes;
+              changes = subst (λ a. Turns old new c (Some submits.now) a.0) come submits.changes;
             })
-            (subst (λ i. StandsBy i words (task_reading words) submits.now.standing) id submits.standing),
+            (subst (λ i. StandsBy i (answer_to w c words) submits.now.standing) id
+            (subst (λ a. StandsBy (next_id c was) a.1 submits.now.standing) come submits.standing)),
+        submits.groups ∙ ap (λ a. groups_by t a.1) come,
       )

@@ -1,18 +1,19 @@
 -- What the router shows of a world.
-use Rattle.std.specs.Prelude.{◌≡◌, ℕ, true, false, List, [], ◌∷◌, ◌++◌, ◌⊎◌, Option, Some, None, Result, Ok, Err}
-use Rattle.command_table.specs.declared.refusal.Refusal.{Refusal}
+use Rattle.std.specs.Prelude.{◌≡◌, ℕ, true, false, List, [], ◌∷◌, ◌++◌, ◌⊎◌, Option, Some, None, Ok}
 use Rattle.placement.specs.Layout.{Layout}
 use Rattle.resp.specs.Content.{content}
 use Rattle.router.specs.Connection.{is_under_way}
-use Rattle.router.specs.Router.{RouterView, connection}
+use Rattle.router.specs.Router.{RouterView, connection, session_at}
 use Rattle.router.specs.declared.connection.Connection.{Connection}
 use Rattle.router.specs.declared.connection.Standing.{Standing}
 use Rattle.router.specs.declared.connection.Standing.TheVariants as router
 use Rattle.router.specs.declared.outcome.Outcome as kept
 use Rattle.groups.specs.declared.request.RequestId.{RequestId}
-use Rattle.tasks.specs.Tasks.{Task, task_reading, task_groups}
+use Rattle.sessions.specs.declared.session.Session.{Session}
+use Rattle.sessions.specs.declared.session.Session.TheVariants.{Free}
+use Rattle.tasks.specs.Tasks.{task_reading}
 use Rattle.world.specs.Steps.{floor_of}
-use Rattle.world.specs.World.{World, Request, Outcome, Closed, Idle, Waiting, Answered, Ended, Layer, NoneTaken, Taken}
+use Rattle.world.specs.World.{World, Request, Outcome, Standing as Stand, Closed, Idle, Waiting, Answered, Ended, Layer, NoneTaken, Taken}
 use Rattle.world.specs.World.{HasRun}
 use Rattle.worded.specs.declared.worded.Worded.{Worded}
 use Rattle.world_laws.specs.Good.{Named, run_in, all_delivered}
@@ -24,7 +25,7 @@ outcome_shown o = record { id = o.id; reply = content o.reply; stamp = o.stamp }
 
 -- what a request asks that waits to be taken: it was submitted with that task
 abbrev pub Waits : World → RequestId → Worded → Type 0
-Waits w id asked = (q : Request) × (w.asked id ≡ Some q) × (q.task ≡ asked.command)
+Waits w id asked = (q : Request) × (w.asked id ≡ Some q) × (q.task ≡ asked.batch)
 
 -- these words say the task with which the request was submitted
 abbrev pub AreItsWords : World → RequestId → List (List ℕ) → Type 0
@@ -76,7 +77,13 @@ pub record IsKeptFor (r : RouterView) (id : RequestId) : Type 0 where
   pub seq : v.seq ≡ id.seq
   pub under_way : is_under_way v.standing ≡ true
 
+-- the router remembers of each open connection what the world does, and of any other one nothing
+pub record ShowsSessions (kept : ℕ → Session) (standing : ℕ → Stand) (session : ℕ → Session) : Type 0 where
+  pub of_open : (c : ℕ) → (standing c ≡ Closed → ⊥) → kept c ≡ session c
+  pub of_closed : (c : ℕ) → standing c ≡ Closed → kept c ≡ Free
+
 pub record ShowsConnections (r : RouterView) (w : World) : Type 0 where
   pub opened : r.opened ≡ w.opened
   pub each : (c : ℕ) → ShowsConnection (connection r c) w c
+  pub sessions : ShowsSessions (session_at r) w.standing w.session
   pub under_way : (id : RequestId) (q : Request) → w.asked id ≡ Some q → IsSettled w id ⊎ IsKeptFor r id

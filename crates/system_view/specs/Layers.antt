@@ -1,12 +1,12 @@
--- What the layer, the store, the rows and the starved ids of the system show of a world.
-use Rattle.std.specs.List.{AllZip}
-use Rattle.std.specs.Prelude.{◌≡◌, ℕ, true, false, List, [], ◌∷◌, Option, Some, None, Ok}
+-- What the layer, the store, the rows and the names of what starved of the system show of a world.
+use Rattle.std.specs.List.{AllZip, flat_map}
+use Rattle.std.specs.Prelude.{◌≡◌, ℕ, true, false, List, Some, Ok}
 pub use Rattle.execution_order.specs.Rows.{IsRow}
 use Rattle.groups.specs.GroupSet.{has}
 use Rattle.journal.specs.Views.{RowView}
 use Rattle.layer_planner.specs.declared.job.Job.{Job}
+use Rattle.layer_results.specs.Results.{names_by}
 use Rattle.placement.specs.Layout.{Layout}
-use Rattle.resp.specs.declared.answered.Answered.{Answered}
 use Rattle.shard_workers.specs.Runs.{outcome}
 use Rattle.shard_exec.specs.Stamps.{last_of}
 use Rattle.shard_exec.specs.StoreStates.{StoreState}
@@ -14,7 +14,7 @@ use Rattle.shard_exec.specs.declared.done.Ended as run
 use Rattle.shard_maps.specs.Joined.{joined}
 use Rattle.groups.specs.Order.{In}
 use Rattle.skeen_core.specs.declared.packet.Delivered.{Delivered}
-use Rattle.groups.specs.declared.request.RequestId.{RequestId}
+use Rattle.groups.specs.declared.skip_id.SkipId.{SkipId}
 use Rattle.groups.specs.declared.stamp.Stamp.{Stamp}
 use Rattle.tasks.specs.Tasks.{task_reading}
 use Rattle.world.specs.World.{World, Request, Ended}
@@ -28,7 +28,7 @@ pub record IsJob (asked : Asked) (d : Delivered) (j : Job) : Type 0 where
   pub id : j.id ≡ d.id
   pub stamp : j.stamp ≡ d.stamp
   pub groups : j.groups ≡ d.groups
-  pub asked_so : (q : Request) × (asked d.id ≡ Some q) × (q.task ≡ j.asked.command)
+  pub asked_so : (q : Request) × (asked d.id ≡ Some q) × (q.task ≡ j.asked.batch)
 
 abbrev pub AreJobs : Asked → List Delivered → List Job → Type 0
 AreJobs asked ds js = AllZip (IsJob asked) ds js
@@ -45,14 +45,9 @@ pub record IsEnded (e : Ended) (r : run.Ended) : Type 0 where
 abbrev pub AreEnded : List Ended → List run.Ended → Type 0
 AreEnded es rs = AllZip IsEnded es rs
 
-abbrev pub if_none : Option Answered → RequestId → List RequestId → List RequestId
-if_none None id ids = id ∷ ids
-if_none (Some answered) id ids = ids
-
--- the ids of those that starved
-abbrev pub starved_of : List run.Ended → List RequestId
-starved_of [] = []
-starved_of (r ∷ rs) = if_none r.reply r.id (starved_of rs)
+-- the names of what starved: of requests as a whole, and of members of those that were executed
+abbrev pub starved_of : List run.Ended → List SkipId
+starved_of rs = flat_map (λ r. names_by r.id r.words (outcome r.reply)) rs
 
 -- ---- the store
 
@@ -66,6 +61,6 @@ pub record ShowsStore (t : Layout) (s : StoreState) (w : World) : Type 0 where
 
 -- ---- the rows
 
--- one for each executed request, in the order of execution; those that starved have none
+-- one for each executed request, in the order of execution; those that starved as a whole have none
 abbrev pub AreRows : List Ended → List RowView → Type 0
 AreRows es kept = AllZip IsRow (rows_of es) kept

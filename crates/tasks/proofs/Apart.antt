@@ -1,40 +1,26 @@
--- Tasks that address groups and share none can change places: their keys are apart, and one that is for all keys shares a group
--- with each other.
-use Rattle.std.proofs.Common.{◌≡◌, ℕ, true, false, refl}
-use Rattle.command_bodies.proofs.Effects.{commands_answer, commands_leave}
-use Rattle.command_table.specs.Command.{is_whole}
+-- Deeds whose tasks share no group can change places: each looks at and changes what lies on its own groups alone.
+use Rattle.std.proofs.Common.{◌≡◌, ℕ, List, true, false, refl}
 use Rattle.groups.specs.GroupSet.{has}
-use Rattle.keyspace.specs.Map.{Map, among, AreApart}
+use Rattle.keyspace.specs.Map.{Map}
 use Rattle.placement.specs.Layout.{Layout, IsTable, shard_of}
-use Rattle.tasks.proofs.Groups.{has-task_groups-among, whole_has}
-use Rattle.tasks.specs.Tasks.{Task, task_keys, task_groups, task_effect}
+use Rattle.tasks.proofs.Locality.{apart_answer, apart_leave}
+use Rattle.tasks.proofs.Within.{on_groups_of, within-deed}
+use Rattle.tasks.specs.Tasks.{Deed, task_groups, deed_effect}
 
-module _ (table : Layout) (a b : Task) (is_table : IsTable table)
-    (some_a : (g : ℕ) × (has (task_groups table a) g ≡ true)) (some_b : (g : ℕ) × (has (task_groups table b) g ≡ true))
-    (apart : (g : ℕ) → has (task_groups table a) g ≡ true → has (task_groups table b) g ≡ true → ⊥) where
-  first_isnt_whole : is_whole a ≡ false
-  first_isnt_whole = elim (is_whole a) as (λ c. is_whole a ≡ c → c ≡ false) [
-    | true ↦ λ is. absurd (apart some_b.0 (whole_has table a b some_b.0 is some_b.1) some_b.1)
-    | false ↦ λ _. refl
-  ] refl
-
-  second_isnt_whole : is_whole b ≡ false
-  second_isnt_whole = elim (is_whole b) as (λ c. is_whole b ≡ c → c ≡ false) [
-    | true ↦ λ is. absurd (apart some_a.0 some_a.1 (whole_has table b a some_a.0 is some_a.1))
-    | false ↦ λ _. refl
-  ] refl
-
-  keys_apart : AreApart (task_keys a) (task_keys b)
-  keys_apart key here = elim (among (task_keys b) key) as (λ c. among (task_keys b) key ≡ c → c ≡ false) [
-    | true ↦ λ there. absurd (apart (shard_of table key) (has-task_groups-among table a key is_table here)
-        (has-task_groups-among table b key is_table there))
+module _ (table : Layout) (a b : Deed) (is_table : IsTable table)
+    (apart : (g : ℕ) → has (task_groups table a.0) g ≡ true → has (task_groups table b.0) g ≡ true → ⊥) where
+  not_there : (q : List ℕ) → on_groups_of table a.0 q ≡ true → on_groups_of table b.0 q ≡ false
+  not_there q here = elim (on_groups_of table b.0 q) as (λ c. on_groups_of table b.0 q ≡ c → c ≡ false) [
+    | true ↦ λ there. absurd (apart (shard_of table q) here there)
     | false ↦ λ _. refl
   ] refl
 
   -- the second one answers the same whether the first has run before it or not
-  pub tasks_answer : (m : Map) → (task_effect b (task_effect a m).0).1 ≡ (task_effect b m).1
-  tasks_answer m = commands_answer a b m first_isnt_whole second_isnt_whole keys_apart
+  pub deeds_answer : (m : Map) → (deed_effect b (deed_effect a m).0).1 ≡ (deed_effect b m).1
+  deeds_answer = apart_answer (on_groups_of table a.0) (on_groups_of table b.0) (deed_effect a) (deed_effect b)
+      (within-deed table a is_table) (within-deed table b is_table) not_there
 
   -- and both leave the same map in either order
-  pub tasks_leave : (m : Map) → (task_effect b (task_effect a m).0).0 ≡ (task_effect a (task_effect b m).0).0
-  tasks_leave m = commands_leave a b m first_isnt_whole second_isnt_whole keys_apart
+  pub deeds_leave : (m : Map) → (deed_effect b (deed_effect a m).0).0 ≡ (deed_effect a (deed_effect b m).0).0
+  deeds_leave = apart_leave (on_groups_of table a.0) (on_groups_of table b.0) (deed_effect a) (deed_effect b)
+      (within-deed table a is_table) (within-deed table b is_table) not_there

@@ -1,1 +1,2 @@
+pub mod Addressing
 pub mod Tasks

@@ -1,22 +1,26 @@
-//! A command with the words that say it.
+//! A batch with the words that say it.
 
 ghost use Rattle.std.specs.Prelude.{◌≡◌, Ok, IfOk, IfErr};
+ghost use Rattle.command_table.specs.Keyed.{IsKeyed};
 ghost use Rattle.command_table.specs.Reading.{reading};
+ghost use Rattle.sessions.specs.declared.batch.Batch.TheVariants.{Plain, Exec};
 ghost use Rattle.worded.specs.Faults.{IsFault};
+ghost use Rattle.worded.specs.Reading.{batch_reading, IsPlain};
 
 use super::fault::WordedFault;
-use command_table::{Command, read};
+use command_table::read;
 use packing::PackedRequest;
 use resp::Request;
+use sessions::{Batch, Members};
 use std::alloc::Global;
 
-/// A command, and the words that say it, in one buffer. Contracts see both; they are never other words than the table
-/// reads as this command.
+/// A batch, and the words that say it, in one buffer. Contracts see both; they are never other words than are read as this
+/// batch.
 #[derive(Drop)]
 pub struct Worded {
     words: PackedRequest,
-    command: Command,
-    pub ghost says: { reading words ≡ Ok command },
+    batch: Batch,
+    pub ghost says: { batch_reading words ≡ Ok batch },
 }
 
 impl Worded {
@@ -24,6 +28,7 @@ impl Worded {
     /// there was none for the copy, which is made before they are read.
     pub fn read(alloc: Global, words: Request) -> Result<Self, WordedFault>
         ensures words { IfOk result (λ asked. asked.words ≡ words) }
+        ensures plain { IfOk result (λ asked. IsPlain words asked.batch) }
         ensures fault { IfErr result (IsFault words) }
     {
         let Ok(copy) = PackedRequest::copy_of(alloc, &words) else {
@@ -32,9 +37,21 @@ impl Worded {
         match read(words) {
             Ok(command) => Ok(Worded {
                 words: copy,
-                command,
+                batch: Batch::Plain(command),
             }),
             Err(refusal) => Err(WordedFault::Refused(refusal)),
+        }
+    }
+
+    /// The members of an EXEC, with the words that say them. It takes no memory.
+    pub fn of_members(words: PackedRequest, members: Members) -> Self
+        requires { batch_reading words ≡ Ok (Exec members) }
+        ensures words { result.words ≡ words }
+        ensures batch { result.batch ≡ Exec members }
+    {
+        Worded {
+            words,
+            batch: Batch::Exec(members),
         }
     }
 
@@ -45,19 +62,19 @@ impl Worded {
         &self.words
     }
 
-    /// The command, left in place.
-    pub fn command(&self) -> &Command
-        ensures { result.now ≡ self.now.command }
+    /// The batch, left in place.
+    pub fn batch(&self) -> &Batch
+        ensures { result.now ≡ self.now.batch }
     {
-        &self.command
+        &self.batch
     }
 
-    /// The words and the command, each for itself. It takes no memory.
-    pub fn into_parts(self) -> (PackedRequest, Command)
+    /// The words and the batch, each for itself. It takes no memory.
+    pub fn into_parts(self) -> (PackedRequest, Batch)
         ensures words { result.0 ≡ self.words }
-        ensures command { result.1 ≡ self.command }
+        ensures batch { result.1 ≡ self.batch }
     {
-        let Worded { words, command } = self;
-        (words, command)
+        let Worded { words, batch } = self;
+        (words, batch)
     }
 }

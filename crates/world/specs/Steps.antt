@@ -1,25 +1,28 @@
 -- The nine kinds of step: when each is accepted, what it answers, and the world after it.
 use Rattle.std.specs.FinMap.{get, empty}
 use Rattle.std.specs.Prelude.{◌≡◌, ◌≢◌, ℕ, suc, ◌≤◌, Bool, false, cond, ◌||◌, ◌&&◌, ◌==◌, List, [], ◌∷◌, ◌++◌, length, remove, slice_get}
-use Rattle.std.specs.Prelude.{Option, Some, None, Result, Ok, Err}
-use Rattle.command_table.specs.Refusal.{refusal_text}
-use Rattle.command_table.specs.declared.refusal.Refusal.{Refusal}
+use Rattle.std.specs.Prelude.{Option, Some, None}
 use Rattle.delivery.specs.Ready.{IsReady, IsLayer, taken_from, left_in}
 use Rattle.journal.specs.declared.step.Step.{Step}
 use Rattle.journal.specs.declared.step.Step.TheVariants.{Open, Submit, Deliver, Take, Run, Settle, Collect, Close, Repeat}
 use Rattle.keyspace.specs.Map.{Map}
 use Rattle.placement.specs.Layout.{Layout}
-use Rattle.resp.specs.Content.{Content, ErrorLine, out_of_memory}
+use Rattle.resp.specs.Content.{Content, out_of_memory}
 use Rattle.skeen_core.specs.Group.{GroupState, fresh, is_past, next_clock, Receives}
 use Rattle.groups.specs.Request.{same_id}
+use Rattle.groups.specs.Skips.{names_whole, parts_of}
 use Rattle.groups.specs.Stamp.{final}
 use Rattle.skeen_core.specs.declared.packet.Body.{Body}
 use Rattle.skeen_core.specs.declared.packet.Body.TheVariants.{Start, Proposal}
 use Rattle.skeen_core.specs.declared.packet.Delivered.{Delivered}
 use Rattle.skeen_core.specs.declared.packet.Packet.{Packet}
 use Rattle.groups.specs.declared.request.RequestId.{RequestId}
+use Rattle.groups.specs.declared.skip_id.SkipId.{SkipId}
 use Rattle.groups.specs.declared.stamp.Stamp.{Stamp}
-use Rattle.tasks.specs.Tasks.{Task, task_reading, task_groups, task_effect}
+use Rattle.sessions.specs.Session.{Answer, Now, Go, asks}
+use Rattle.sessions.specs.declared.session.Session.{Session}
+use Rattle.sessions.specs.declared.session.Session.TheVariants.{Free}
+use Rattle.tasks.specs.Tasks.{Task, task_groups, deed_effect, deed_of, starved_names}
 use Rattle.world.specs.World.{World, Request, Outcome, Standing, Closed, Idle, Waiting, Answered, Ended, Layer, NoneTaken, Taken, HasRun}
 use Rattle.world.specs.World.{Proposals}
 
@@ -33,6 +36,7 @@ opening = record {
   opened = 0;
   standing = λ c. Closed;
   seq = λ c. 0;
+  session = λ c. Free;
   last = λ c. None;
   asked = λ i. None;
   packets = [];
@@ -49,7 +53,7 @@ opening = record {
 pub data Effect : Type 0 where
   Opened : ℕ → Effect
   Submitted : RequestId → Effect
-  Ran : List RequestId → Effect
+  Ran : List SkipId → Effect
   Collected : Option Outcome → Effect
   Made : Effect
 
@@ -87,8 +91,8 @@ abbrev pub starts : RequestId → Request → List ℕ → List Packet
 starts id r [] = []
 starts id r (g ∷ gs) = record { to = g; id = id; body = Start r.floor r.groups } ∷ starts id r gs
 
-abbrev pub asks : (RequestId → Option Request) → RequestId → Request → RequestId → Option Request
-asks asked id r = λ i. cond (same_id i id) (Some r) (asked i)
+abbrev pub with_asked : (RequestId → Option Request) → RequestId → Request → RequestId → Option Request
+with_asked asked id r = λ i. cond (same_id i id) (Some r) (asked i)
 
 -- the request goes to its groups
 abbrev pub multicast : World → ℕ → Request → World
@@ -96,7 +100,7 @@ multicast w c r = record w {
   standing = at w.standing c Waiting;
   seq = at w.seq c (suc (w.seq c));
   last = at w.last c (Some (next_id w c));
-  asked = asks w.asked (next_id w c) r;
+  asked = with_asked w.asked (next_id w c) r;
   packets = w.packets ++ starts (next_id w c) r r.groups;
 }
 
@@ -109,19 +113,30 @@ answered w c reply = record w {
 
 -- a task that addresses no group looks at no key: it is answered as on the empty map
 abbrev pub submitted_to : World → ℕ → Task → List ℕ → World
-submitted_to w c task [] = answered w c (task_effect task empty).1
+submitted_to w c task [] = answered w c (deed_effect (task, []) empty).1
 submitted_to w c task (g ∷ gs) = multicast w c (record { floor = floor_of w c; groups = g ∷ gs; task = task })
 
--- the words are refused, or read as a task
-abbrev pub submitted : Layout → World → ℕ → Result Task Refusal → World
-submitted t w c (Err refusal) = answered w c (ErrorLine (refusal_text refusal))
-submitted t w c (Ok task) = submitted_to w c task (task_groups t task)
+-- what comes of the words: they are answered, or a task is to be run
+abbrev pub submitted : Layout → World → ℕ → Answer → World
+submitted t w c (Now reply) = answered w c reply
+submitted t w c (Go task) = submitted_to w c task (task_groups t task)
+
+-- the connection remembers this
+abbrev pub in_session : World → ℕ → Session → World
+in_session w c session = record w { session = at w.session c session }
+
+-- the connection's session says what comes of the words, and what the connection remembers then
+abbrev pub answer_to : World → ℕ → List (List ℕ) → Answer
+answer_to w c words = (asks (w.session c) words).1
+
+abbrev pub remembered : World → ℕ → List (List ℕ) → World
+remembered w c words = in_session w c (asks (w.session c) words).0
 
 pub record Submits (t : Layout) (old : World) (c : ℕ) (words : List (List ℕ)) (effect : Effect)
     (new : World) : Type 0 where
   pub idle : old.standing c ≡ Idle
   pub answers : effect ≡ Submitted (next_id old c)
-  pub after : new ≡ submitted t old c (task_reading words)
+  pub after : new ≡ submitted t (remembered old c words) c (answer_to old c words)
 
 -- ---- Deliver: a packet comes to its group
 
@@ -186,47 +201,40 @@ pub record Takes (old : World) (effect : Effect) (new : World) : Type 0 where
 
 -- ---- Run: the layer that was taken is run, but for those that starve
 
-abbrev pub names : List RequestId → RequestId → Bool
-names [] id = false
-names (i ∷ is) id = same_id i id || names is id
-
--- what the task does to the map, unless it starved
+-- what a task that was answered so has done to the map: nothing, where it starved as a whole and has no reply
 abbrev pub map_after : Option Content → Task → Map → Map
 map_after None task m = m
-map_after (Some reply) task m = (task_effect task m).0
+map_after (Some reply) task m = (deed_effect (deed_of task reply) m).0
 
 abbrev pub after_all : Map → List Ended → Map
 after_all m [] = m
 after_all m (e ∷ es) = after_all (map_after e.reply e.task m) es
 
--- how a request of the layer ends on this map
-abbrev pub ended_as : List RequestId → Map → Delivered → Task → Ended
+-- how a request of the layer ends on this map: it starves as a whole where it is named so, or else is executed, and those of its
+-- members starve that are named
+abbrev pub ended_as : List SkipId → Map → Delivered → Task → Ended
 ended_as starved m d task = record {
   id = d.id;
   stamp = d.stamp;
   groups = d.groups;
   task = task;
-  reply = cond (names starved d.id) None (Some (task_effect task m).1);
+  reply = cond (names_whole starved d.id) None (Some (deed_effect (task, parts_of starved d.id) m).1);
 }
 
 -- the layer's requests, one after another on the map: each ends so
-abbrev pub RunInTurn : (RequestId → Option Request) → List RequestId → Map → List Delivered → List Ended → Type 0
+abbrev pub RunInTurn : (RequestId → Option Request) → List SkipId → Map → List Delivered → List Ended → Type 0
 RunInTurn asked starved m [] es = es ≡ []
 RunInTurn asked starved m (d ∷ ds) [] = ⊥
 RunInTurn asked starved m (d ∷ ds) (e ∷ es) =
     ((r : Request) × (asked d.id ≡ Some r) × (e ≡ ended_as starved m d r.task))
     × RunInTurn asked starved (map_after e.reply e.task m) ds es
 
-abbrev pub if_starved : Option Content → RequestId → List RequestId → List RequestId
-if_starved None id ids = id ∷ ids
-if_starved (Some reply) id ids = ids
-
--- the ids of those that starved
-abbrev pub starved_among : List Ended → List RequestId
+-- the names of what starved: of requests as a whole, and of members of those that were executed
+abbrev pub starved_among : List Ended → List SkipId
 starved_among [] = []
-starved_among (e ∷ es) = if_starved e.reply e.id (starved_among es)
+starved_among (e ∷ es) = starved_names e.id e.task e.reply ++ starved_among es
 
-pub record RunsLayer (old : World) (starved : List RequestId) (effect : Effect) (new : World) : Type 0 where
+pub record RunsLayer (old : World) (starved : List SkipId) (effect : Effect) (new : World) : Type 0 where
   pub layer : List Delivered
   pub outcomes : List Ended
   pub there : old.layer ≡ Taken layer
@@ -240,7 +248,7 @@ pub record RunsLayer (old : World) (starved : List RequestId) (effect : Effect) 
 
 -- ---- Settle: the layer's outcomes go to their connections
 
--- a request that starved is answered that there was no memory
+-- a request that starved as a whole is answered that there was no memory
 abbrev pub reply_of : Option Content → Content
 reply_of None = out_of_memory
 reply_of (Some reply) = reply
@@ -281,8 +289,8 @@ pub record Closes (old : World) (c : ℕ) (effect : Effect) (new : World) : Type
 
 -- ---- all of them
 
--- In the world old the step is accepted; it answers so, and new is the world after it. A Run is told the ids that
--- starve; one that isn't in the layer adds nothing.
+-- In the world old the step is accepted; it answers so, and new is the world after it. A Run is told which requests starve, and
+-- which members of requests; what isn't in the layer adds nothing.
 abbrev pub Steps : Layout → World → Step → Effect → World → Type 0
 Steps t old Open effect new = Opens old effect new
 Steps t old (Submit conn words) effect new = Submits t old conn.0 words effect new

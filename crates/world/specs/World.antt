@@ -8,6 +8,7 @@ use Rattle.skeen_core.specs.declared.packet.Delivered.{Delivered}
 use Rattle.skeen_core.specs.declared.packet.Packet.{Packet}
 use Rattle.groups.specs.declared.request.RequestId.{RequestId}
 use Rattle.groups.specs.declared.stamp.Stamp.{Stamp}
+use Rattle.sessions.specs.declared.session.Session.{Session}
 use Rattle.tasks.specs.Tasks.{Task}
 
 -- a request that addresses groups: each proposal for it stands above the floor
@@ -29,7 +30,8 @@ pub data Standing : Type 0 where
   Waiting : Standing
   Answered : Outcome → Standing
 
--- a request of a layer that was run: executed, with its reply, or starved, with none
+-- a request of a layer that was run: it was executed, and its reply tells which of its members starved; or it starved as a whole,
+-- and has none
 pub record Ended : Type 0 where
   pub id : RequestId
   pub stamp : Stamp
@@ -51,6 +53,7 @@ pub record World : Type 0 where
   pub opened : ℕ  -- how many connections were opened: they are numbered from 1
   pub standing : ℕ → Standing  -- where each connection stands
   pub seq : ℕ → ℕ  -- how many requests it has submitted
+  pub session : ℕ → Session  -- what it remembers of them: the list that it has open, if it has one
   pub last : ℕ → Option RequestId  -- the last of them that addressed groups
   pub asked : RequestId → Option Request  -- each request that addressed groups
   pub packets : List Packet  -- under way, in order of sending

@@ -1,12 +1,11 @@
 -- Each such step uses up what was allowed: 1 for each packet under way, for each group that hasn't proposed one for each
 -- packet that it will send, and 3 for a request that no layer has taken.
 use Rattle.std.proofs.Common.{◌≡◌, ◌≢◌, ℕ, suc, ◌+◌, ◌*◌, ◌≤◌, ◌==◌, ◌&&◌, Bool, true, false, cond, List, [], ◌∷◌, ◌++◌, inl, inr}
-use Rattle.std.proofs.Common.{Some, None, Result, Ok, Err, length, map, refl, sym, ap, ◌∙◌, subst, arith, append_assoc, length-append}
+use Rattle.std.proofs.Common.{Some, None, length, map, refl, sym, ap, ◌∙◌, subst, arith, append_assoc, length-append}
 use Rattle.std.proofs.Common.{eqb-true, eq-eqb}
 use Rattle.std.proofs.lemmas.Bool.{both_ways, or_cases, and_from}
 use Rattle.std.proofs.Math.Nat.{suc-mul}
 use Rattle.std.specs.List.{remove}
-use Rattle.command_table.specs.declared.refusal.Refusal.{Refusal}
 use Rattle.groups.specs.GroupSet.{has}
 use Rattle.journal.specs.declared.step.Step.{Step}
 use Rattle.journal.specs.declared.step.Step.TheVariants.{Open, Submit, Deliver, Take, Run, Settle, Collect, Close, Repeat}
@@ -21,16 +20,20 @@ use Rattle.skeen_core.specs.declared.packet.Body.TheVariants.{Start, Proposal}
 use Rattle.skeen_core.specs.declared.packet.Delivered.{Delivered}
 use Rattle.skeen_core.specs.declared.packet.Packet.{Packet}
 use Rattle.groups.specs.declared.request.RequestId.{RequestId}
-use Rattle.tasks.specs.Tasks.{Task, task_reading, task_groups}
-use Rattle.world.specs.Steps.{starts, opening, Effect, next_id, floor_of, multicast, submitted_to, submitted, Comes, Repeats, Takes}
+use Rattle.groups.specs.declared.skip_id.SkipId.{SkipId}
+use Rattle.sessions.specs.Session.{Answer, Now, Go}
+use Rattle.tasks.specs.Tasks.{Task, task_groups}
+use Rattle.world.specs.Steps.{starts, opening, Effect, next_id, floor_of, multicast, submitted_to, submitted, remembered, answer_to, Comes, Repeats, Takes}
 use Rattle.world.specs.Steps.{RunsLayer, Settles, Collects, Steps, Makes, hears}
 use Rattle.world.specs.World.{World, Request, Standing, Closed, Idle, Waiting, Answered, Layer, NoneTaken, Taken, HasRun, Proposals}
-use Rattle.world_laws.specs.Bound.{turn, turns, allowed_to, allowed_by, allowance, allowances, TurnsAreBounded}
+use Rattle.world_laws.specs.Bound.{turn, turns, allowed_to, allowed_by, allowance, allowances_from, TurnsAreBounded}
 use Rattle.world_laws.specs.Good.{Asked, BodyGood, all_delivered, all_taken, TakenGood, WorldGood}
+use Rattle.world_laws.specs.Sessions.{sessions_after}
 use Rattle.world_laws.proofs.Arrivals.{Arrival, LeftOut, Begins, Hears, arrival}
 use Rattle.world_laws.proofs.Groups.{by_test}
 use Rattle.world_laws.proofs.Layers.{taken_run, taken_once}
 use Rattle.world_laws.proofs.Lists.{in_place, length_without}
+use Rattle.world_laws.proofs.Sessions.{session_step}
 use Rattle.world_laws.proofs.Worlds.{keeps, good_world, good_opening}
 
 -- ---- what groups will send
@@ -259,10 +262,10 @@ paid_submitted_to w c task [] m a p =
 paid_submitted_to w c task (g ∷ gs) m a p =
     paid_multicast w c (record { floor = floor_of w c; groups = g ∷ gs; task = task }) (length gs) m a refl p
 
-paid_submitted : (t : Layout) (w : World) (c : ℕ) (r : Result Task Refusal) (m a : ℕ) → Paid w m a →
+paid_submitted : (t : Layout) (w : World) (c : ℕ) (r : Answer) (m a : ℕ) → Paid w m a →
     Paid (submitted t w c r) m (a + allowed_by t r)
-paid_submitted t w c (Ok task) m a p = paid_submitted_to w c task (task_groups t task) m a p
-paid_submitted t w c (Err refusal) m a p = record { list = p.list; paid = let paid = p.paid in omega arith }
+paid_submitted t w c (Go task) m a p = paid_submitted_to w c task (task_groups t task) m a p
+paid_submitted t w c (Now reply) m a p = record { list = p.list; paid = let paid = p.paid in omega arith }
 
 some_taken : (ds : List Delivered) → ds ≢ [] → 1 ≤ length ds
 some_taken [] some = absurd (some refl)
@@ -278,7 +281,7 @@ paid_take old new effect m a step p =
     let now = length-append (all_delivered old.ended) step.layer in
     subst (λ w. Paid w (m + 1) a) (sym step.after) (record { list = p.list; paid = omega arith })
 
-paid_run : (old new : World) (starved : List RequestId) (effect : Effect) (m a : ℕ) → RunsLayer old starved effect new → Paid old m a →
+paid_run : (old new : World) (starved : List SkipId) (effect : Effect) (m a : ℕ) → RunsLayer old starved effect new → Paid old m a →
     Paid new (m + 1) a
 paid_run old new starved effect m a step p =
     let two = ap layer_weight step.there in
@@ -307,12 +310,13 @@ more_by : (w : World) (m n a b : ℕ) → m ≡ n → a ≡ b → Paid w m a →
 more_by w m n a b e d p = subst (λ k. Paid w k b) e (subst (λ k. Paid w m k) d p)
 
 paid_step : (t : Layout) (old new : World) (step : Step) (effect : Effect) (m a : ℕ) → Steps t old step effect new → WorldGood t old →
-    Paid old m a → Paid new (m + turn step) (a + allowance t step)
+    Paid old m a → Paid new (m + turn step) (a + allowance t old.session step)
 paid_step t old new Open effect m a s good p = subst (λ w. Paid w (m + 0) (a + 0)) (sym s.after)
     (more_by _ m (m + 0) a (a + 0) (omega arith) (omega arith) (record { list = p.list; paid = p.paid }))
 paid_step t old new (Submit conn words) effect m a s good p =
-    subst (λ w. Paid w (m + 0) (a + allowed_by t (task_reading words))) (sym s.after)
-    (more_by _ m (m + 0) _ _ (omega arith) refl (paid_submitted t old conn.0 (task_reading words) m a p))
+    subst (λ w. Paid w (m + 0) (a + allowed_by t (answer_to old conn.0 words))) (sym s.after)
+    (more_by _ m (m + 0) _ _ (omega arith) refl
+    (paid_submitted t (remembered old conn.0 words) conn.0 (answer_to old conn.0 words) m a (record { list = p.list; paid = p.paid })))
 paid_step t old new (Deliver k) effect m a s good p = more_by new (m + 1) (m + 1) a (a + 0) refl (omega arith)
     (paid_deliver t old new k effect m a s good p)
 paid_step t old new Take effect m a s good p = more_by new (m + 1) (m + 1) a (a + 0) refl (omega arith) (paid_take old new effect m a s p)
@@ -328,13 +332,15 @@ paid_step t old new (Repeat k) effect m a s good p = more_by new m (m + 0) (a + 
     (paid_repeat old new k effect m a s p)
 
 paid_steps : (t : Layout) (old new : World) (steps : List Step) (effects : List Effect) (m a : ℕ) → Makes t old steps effects new →
-    WorldGood t old → Paid old m a → Paid new (m + turns steps) (a + allowances t steps)
+    WorldGood t old → Paid old m a → Paid new (m + turns steps) (a + allowances_from t old.session steps)
 paid_steps t old new [] effects m a made good p = subst (λ w. Paid w (m + 0) (a + 0)) (sym made.1)
     (more_by old m (m + 0) a (a + 0) (omega arith) (omega arith) p)
 paid_steps t old new (s ∷ ss) [] m a made good p = absurd made
 paid_steps t old new (s ∷ ss) (e ∷ es) m a made good p =
+    let same : allowances_from t made.0.session ss ≡ allowances_from t (sessions_after old.session s) ss =
+    ap (λ x. allowances_from t x ss) (session_step t old made.0 s e made.1) in
     more_by new _ _ _ _ (omega arith) (omega arith)
-    (paid_steps t made.0 new ss es (m + turn s) (a + allowance t s) made.2 (keeps t old made.0 s e made.1 good)
+    (paid_steps t made.0 new ss es (m + turn s) (a + allowance t old.session s) made.2 (keeps t old made.0 s e made.1 good)
     (paid_step t old made.0 s e m a made.1 good p))
 
 -- ---- no more was taken than submitted

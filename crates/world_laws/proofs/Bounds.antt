@@ -1,10 +1,9 @@
 -- No number of a world is above the number of steps that led to it.
 use Rattle.std.proofs.Common.{◌≡◌, ℕ, suc, ◌+◌, ◌≤◌, ◌==◌, ◌&&◌, true, false, cond, inl, inr}
 use Rattle.std.proofs.Common.{List, [], ◌∷◌, length, Option, Some}
-use Rattle.std.proofs.Common.{None, Result, Ok, Err, refl, sym, ap, subst, arith}
+use Rattle.std.proofs.Common.{None, refl, sym, ap, subst, arith}
 use Rattle.std.proofs.lemmas.Bool.{cases_Bool}
 use Rattle.std.specs.FinMap.{get}
-use Rattle.command_table.specs.declared.refusal.Refusal.{Refusal}
 use Rattle.groups.specs.GroupSet.{has}
 use Rattle.journal.specs.declared.step.Step.{Step}
 use Rattle.journal.specs.declared.step.Step.TheVariants.{Open, Submit, Deliver, Take, Run, Settle, Collect, Close, Repeat}
@@ -19,16 +18,17 @@ use Rattle.skeen_core.specs.declared.packet.Body.TheVariants.{Start, Proposal}
 use Rattle.skeen_core.specs.declared.packet.Packet.{Packet}
 use Rattle.groups.specs.declared.request.RequestId.{RequestId}
 use Rattle.groups.specs.declared.stamp.Stamp.{Stamp}
-use Rattle.tasks.specs.Tasks.{Task, task_reading, task_groups}
+use Rattle.sessions.specs.Session.{Answer, Now, Go}
+use Rattle.tasks.specs.Tasks.{Task, task_groups}
 use Rattle.world.specs.Steps.{at, opening, Effect, next_id, clock_of, final_clock, final_clock_of, floor_of, multicast, answered}
-use Rattle.world.specs.Steps.{submitted_to, submitted, hears, Comes, Collects, Steps, Makes, Leads}
+use Rattle.world.specs.Steps.{submitted_to, submitted, remembered, answer_to, hears, Comes, Collects, Steps, Makes, Leads}
 use Rattle.world.specs.World.{World, Request, Standing, Closed, Idle, Waiting, Answered, Proposals}
 use Rattle.world_laws.specs.Good.{Asked, Addressed, Among, BodyGood, log_of, WorldGood, Bounded}
 use Rattle.world_laws.proofs.Arrivals.{hearing, beginning, Arrival, LeftOut, Begins, Hears, arrival}
 use Rattle.world_laws.proofs.Groups.{mid_start, mid_proposal, by_test}
 use Rattle.world_laws.proofs.Lists.{in_place}
 use Rattle.world_laws.proofs.Requests.{final_is_proposed}
-use Rattle.world_laws.proofs.Worlds.{keeps, good_opening}
+use Rattle.world_laws.proofs.Worlds.{good_remembered, keeps, good_opening}
 use Rattle.std.proofs.lemmas.Bool.{cond-true, cond-false}
 
 -- ---- clocks
@@ -148,10 +148,10 @@ submitted_to_grown t old c n task [] good b = answered_grown old c _ n b
 submitted_to_grown t old c n task (g ∷ gs) good b =
     multicast_grown old c n (record { floor = floor_of old c; groups = g ∷ gs; task = task }) (floor_at_most t old n c good b) b
 
-submitted_grown : (t : Layout) (old : World) (c n : ℕ) (r : Result Task Refusal) → WorldGood t old → Bounded old n →
+submitted_grown : (t : Layout) (old : World) (c n : ℕ) (r : Answer) → WorldGood t old → Bounded old n →
     Bounded (submitted t old c r) (suc n)
-submitted_grown t old c n (Ok task) good b = submitted_to_grown t old c n task (task_groups t task) good b
-submitted_grown t old c n (Err refusal) good b = answered_grown old c _ n b
+submitted_grown t old c n (Go task) good b = submitted_to_grown t old c n task (task_groups t task) good b
+submitted_grown t old c n (Now reply) good b = answered_grown old c _ n b
 
 -- one group has another state
 clocks_at : (old : World) (to n : ℕ) (state : GroupState) → state.clock ≤ suc n → Bounded old n →
@@ -213,7 +213,8 @@ bounded_step t old new Open effect n s good b =
       requests = more.requests;
     })
 bounded_step t old new (Submit conn words) effect n s good b = subst (λ w. Bounded w (suc n)) (sym s.after)
-    (submitted_grown t old conn.0 n (task_reading words) good b)
+    (submitted_grown t (remembered old conn.0 words) conn.0 n (answer_to old conn.0 words) (good_remembered t old conn.0 words s.idle good)
+    (record { clocks = b.clocks; floors = b.floors; connections = b.connections; requests = b.requests }))
 bounded_step t old new (Deliver k) effect n s good b = deliver_grown t old new k effect n s good b
 bounded_step t old new Take effect n s good b =
     let more = same_grown old n b in

@@ -1,18 +1,17 @@
 -- What connections are told, over histories.
-use Rattle.std.proofs.Common.{◌≡◌, ℕ, suc, ◌<◌, ◌==◌, true, false, cond, List, [], ◌∷◌, ◌⊎◌, inl, inr, Some, None, Result, Ok, Err, refl}
+use Rattle.std.proofs.Common.{◌≡◌, ℕ, suc, ◌<◌, ◌==◌, true, false, cond, List, [], ◌∷◌, ◌⊎◌, inl, inr, Some, None, refl}
 use Rattle.std.proofs.Common.{sym, ap, ◌∙◌, subst, arith, eqb-true, eq-eqb}
 use Rattle.std.proofs.lemmas.Bool.{cases_Bool}
-use Rattle.command_table.specs.Refusal.{refusal_text}
-use Rattle.command_table.specs.declared.refusal.Refusal.{Refusal}
 use Rattle.journal.specs.declared.step.Step.{Step}
 use Rattle.journal.specs.declared.step.Step.TheVariants.{Open, Submit, Deliver, Take, Run, Settle, Collect, Close, Repeat}
 use Rattle.placement.specs.Layout.{Layout}
-use Rattle.resp.specs.Content.{ErrorLine}
 use Rattle.skeen_core.specs.Group.{EachOnce}
 use Rattle.groups.specs.Order.{In}
 use Rattle.groups.specs.declared.request.RequestId.{RequestId}
-use Rattle.tasks.specs.Tasks.{Task, task_reading, task_groups}
+use Rattle.sessions.specs.Session.{Answer, Now, Go}
+use Rattle.tasks.specs.Tasks.{Task, task_groups}
 use Rattle.world.specs.Steps.{at, opening, Effect, Opened, Submitted, Ran, Collected, Made, answered, submitted_to, submitted, settled}
+use Rattle.world.specs.Steps.{remembered, answer_to}
 use Rattle.world.specs.Steps.{Collects, Steps, Makes}
 use Rattle.world.specs.World.{World, Outcome, Standing, Closed, Idle, Waiting, Answered, Ended}
 use Rattle.world_laws.specs.Collecting.{with_collected, collected_in, CollectedOnce}
@@ -57,11 +56,10 @@ spent_submitted_to old i c task [] spent = spent_submit old (submitted_to old c 
 spent_submitted_to old i c task (g ∷ gs) spent = spent_submit old (submitted_to old c task (g ∷ gs)) i c Waiting (λ d. refl)
     (λ d. refl) spent
 
-spent_submitted : (t : Layout) (old : World) (i : RequestId) (c : ℕ) (r : Result Task Refusal) → Spent old i →
+spent_submitted : (t : Layout) (old : World) (i : RequestId) (c : ℕ) (r : Answer) → Spent old i →
     Spent (submitted t old c r) i
-spent_submitted t old i c (Ok task) spent = spent_submitted_to old i c task (task_groups t task) spent
-spent_submitted t old i c (Err refusal) spent = spent_submit old (answered old c (ErrorLine (refusal_text refusal))) i c _ (λ d. refl)
-    (λ d. refl) spent
+spent_submitted t old i c (Go task) spent = spent_submitted_to old i c task (task_groups t task) spent
+spent_submitted t old i c (Now reply) spent = spent_submit old (answered old c reply) i c _ (λ d. refl) (λ d. refl) spent
 
 -- a connection that becomes idle or closed
 rests_at : (standing : ℕ → Standing) (c d : ℕ) (s : Standing) → Resting s → Resting (standing d) → Resting (at standing c s d)
@@ -90,7 +88,7 @@ spent_step t old new Open effect i s good spent = subst (λ w. Spent w i) (sym s
     (spent_standing old (record old { opened = suc old.opened; standing = at old.standing (suc old.opened) Idle }) i refl
     (rests_at old.standing (suc old.opened) i.conn.0 Idle (inl refl)) spent)
 spent_step t old new (Submit conn words) effect i s good spent = subst (λ w. Spent w i) (sym s.after)
-    (spent_submitted t old i conn.0 (task_reading words) spent)
+    (spent_submitted t (remembered old conn.0 words) i conn.0 (answer_to old conn.0 words) spent)
 spent_step t old new (Deliver k) effect i s good spent = subst (λ w. Spent w i) (sym s.after) spent
 spent_step t old new Take effect i s good spent = subst (λ w. Spent w i) (sym s.after) spent
 spent_step t old new (Run starved) effect i s good spent = subst (λ w. Spent w i) (sym s.after) spent

@@ -9,7 +9,7 @@ use Rattle.groups.specs.Order.{In}
 use Rattle.groups.specs.Request.{same_id}
 use Rattle.skeen_core.specs.declared.packet.Delivered.{Delivered}
 use Rattle.groups.specs.declared.request.RequestId.{RequestId}
-use Rattle.world.specs.Steps.{at, asks, outcome_of, given, settled}
+use Rattle.world.specs.Steps.{at, with_asked, outcome_of, given, settled}
 use Rattle.world.specs.World.{Request, Outcome, Standing, Closed, Idle, Waiting, Answered, Ended, Layer, NoneTaken, Taken, HasRun}
 use Rattle.world_laws.specs.Good.{Asked, run_in, Named, EarlierEnded, Pending, OutcomeGood, ConnectionsGood}
 use Rattle.world_laws.proofs.Groups.{by_test}
@@ -128,7 +128,7 @@ pub connections_multicast : (opened : ℕ) (standing : ℕ → Standing) (seq : 
     standing c ≡ Idle → ConnectionsGood opened standing seq last asked ended layer →
     ConnectionsGood opened (at standing c Waiting) (at seq c (suc (seq c)))
     (at last c (Some (record { conn = record { 0 = c }; seq = suc (seq c) })))
-    (asks asked (record { conn = record { 0 = c }; seq = suc (seq c) }) q) ended layer
+    (with_asked asked (record { conn = record { 0 = c }; seq = suc (seq c) }) q) ended layer
 connections_multicast opened standing seq last asked ended layer c q idle good = record {
   unopened = λ d less.
       let before = good.unopened d less in
@@ -221,7 +221,7 @@ pub earlier_multicast : (opened : ℕ) (standing : ℕ → Standing) (seq : ℕ 
     (ended : List Ended) (layer : Layer) (c : ℕ) (q : Request) → standing c ≡ Idle →
     ((i : RequestId) (q : Request) → asked i ≡ Some q → (0 < i.seq) × (i.seq ≤ seq i.conn.0)) →
     ConnectionsGood opened standing seq last asked ended layer → EarlierEnded asked ended →
-    EarlierEnded (asks asked (record { conn = record { 0 = c }; seq = suc (seq c) }) q) ended
+    EarlierEnded (with_asked asked (record { conn = record { 0 = c }; seq = suc (seq c) }) q) ended
 earlier_multicast opened standing seq last asked ended layer c q idle fresh good before i j r s conns less e d =
     by_test (same_id i id) q (asked i) r (Named ended i) e
     (λ p same.

@@ -10,7 +10,7 @@ use Rattle.delivery.proofs.Layers.{one_is_ready}
 use Rattle.groups.specs.Order.{In}
 use Rattle.skeen_core.specs.declared.packet.Delivered.{Delivered}
 use Rattle.skeen_core.specs.declared.packet.Packet.{Packet}
-use Rattle.groups.specs.declared.request.RequestId.{RequestId}
+use Rattle.groups.specs.declared.skip_id.SkipId.{SkipId}
 use Rattle.world.specs.Steps.{Effect, Ran, starved_among, after_all, map_after, ended_as, RunInTurn, received, taken, settled, Comes}
 use Rattle.world.specs.Steps.{Repeats, Takes, RunsLayer, Settles, Collects, Makes, Busy, NoConn, NoPacket, InFlight, NoLayer, IsBusy}
 use Rattle.world.specs.Steps.{IsInFlight, NothingToRun, NothingToSettle}
@@ -58,7 +58,7 @@ same_taken ds es e = cc
 same_run : (ds es : List Ended) → HasRun ds ≡ HasRun es → ds ≡ es
 same_run ds es e = cc
 
-run_same : (asked : Asked) (starved : List RequestId) (m : Map) (ds : List Delivered) (es es' : List Ended) →
+run_same : (asked : Asked) (starved : List SkipId) (m : Map) (ds : List Delivered) (es es' : List Ended) →
     RunInTurn asked starved m ds es → RunInTurn asked starved m ds es' → es ≡ es'
 run_same asked starved m [] es es' a b = a ∙ sym b
 run_same asked starved m (d ∷ ds) [] es' a b = absurd a
@@ -70,7 +70,7 @@ run_same asked starved m (d ∷ ds) (e ∷ es) (e' ∷ es') a b =
     (subst (λ (x : Ended). RunInTurn asked starved (map_after x.reply x.task m) ds es') (sym heads) b.1) in
     ap (λ x. x ∷ es) heads ∙ ap (λ l. e' ∷ l) rest
 
-runs_same : (old new new' : World) (starved : List RequestId) (effect effect' : Effect) → RunsLayer old starved effect new →
+runs_same : (old new new' : World) (starved : List SkipId) (effect effect' : Effect) → RunsLayer old starved effect new →
     RunsLayer old starved effect' new' → Same effect effect' new new'
 runs_same old new new' starved effect effect' a b =
     let layers : a.layer ≡ b.layer = same_taken a.layer b.layer (sym a.there ∙ b.there) in

@@ -1,6 +1,5 @@
 -- The floors that connections have between their requests.
-use Rattle.std.proofs.Common.{◌≡◌, ℕ, List, [], ◌∷◌, ◌⊎◌, inl, inr, Option, Some, None, Result, Ok, Err, refl, sym, ap, ◌∙◌, subst, arith}
-use Rattle.command_table.specs.declared.refusal.Refusal.{Refusal}
+use Rattle.std.proofs.Common.{◌≡◌, ℕ, List, [], ◌∷◌, ◌⊎◌, inl, inr, Option, Some, None, refl, sym, ap, ◌∙◌, subst, arith}
 use Rattle.journal.specs.declared.step.Step.{Step}
 use Rattle.journal.specs.declared.step.Step.TheVariants.{Open, Submit, Deliver, Take, Run, Settle, Collect, Close, Repeat}
 use Rattle.placement.specs.Layout.{Layout}
@@ -10,8 +9,10 @@ use Rattle.groups.specs.Order.{In}
 use Rattle.groups.specs.Stamp.{final}
 use Rattle.groups.specs.declared.request.RequestId.{RequestId}
 use Rattle.groups.specs.declared.stamp.Stamp.{Stamp}
-use Rattle.tasks.specs.Tasks.{Task, task_reading, task_groups}
+use Rattle.sessions.specs.Session.{Answer, Now, Go}
+use Rattle.tasks.specs.Tasks.{Task, task_groups}
 use Rattle.world.specs.Steps.{Effect, next_id, clock_of, final_clock, final_clock_of, floor_of, submitted_to, submitted, Collects, Steps}
+use Rattle.world.specs.Steps.{remembered, answer_to}
 use Rattle.world.specs.World.{World, Request, Standing, Closed, Idle, Waiting, Answered, Ended, HasRun}
 use Rattle.world_laws.specs.Conditions.{SettledIsLast, FloorsAreFinal, IsFree, FloorsStay}
 use Rattle.world_laws.specs.Good.{Among, ConnectionsGood, WorldGood}
@@ -20,7 +21,7 @@ use Rattle.world_laws.proofs.Groups.{AskedMore}
 use Rattle.world_laws.proofs.OrderLaws.{ended_as_submitted}
 use Rattle.world_laws.proofs.Receipts.{among_arrives}
 use Rattle.world_laws.proofs.Requests.{asks_more, next_is_new, Rested}
-use Rattle.world_laws.proofs.Worlds.{rested, run_is_pending, good_world}
+use Rattle.world_laws.proofs.Worlds.{good_remembered, rested, run_is_pending, good_world}
 use Rattle.world_laws.proofs.Values.{same_request, idle_open, idle_not_waiting, answered_open, answered_not_waiting}
 
 -- the floor, where the last request and its final stamp are known
@@ -66,18 +67,18 @@ asked_submitted_to t old c task [] good = λ i q e. e
 asked_submitted_to t old c task (g ∷ gs) good =
     asks_more old.asked (next_id old c) _ (next_is_new t old.asked old.proposed old.seq old.last c good.requests)
 
-asked_submitted : (t : Layout) (old : World) (c : ℕ) (r : Result Task Refusal) → WorldGood t old →
+asked_submitted : (t : Layout) (old : World) (c : ℕ) (r : Answer) → WorldGood t old →
     AskedMore old.asked (submitted t old c r).asked
-asked_submitted t old c (Ok task) good = asked_submitted_to t old c task (task_groups t task) good
-asked_submitted t old c (Err refusal) good = λ i q e. e
+asked_submitted t old c (Go task) good = asked_submitted_to t old c task (task_groups t task) good
+asked_submitted t old c (Now reply) good = λ i q e. e
 
 proposed_submitted_to : (old : World) (c : ℕ) (task : Task) (gs : List ℕ) → (submitted_to old c task gs).proposed ≡ old.proposed
 proposed_submitted_to old c task [] = refl
 proposed_submitted_to old c task (g ∷ gs) = refl
 
-proposed_submitted : (t : Layout) (old : World) (c : ℕ) (r : Result Task Refusal) → (submitted t old c r).proposed ≡ old.proposed
-proposed_submitted t old c (Ok task) = proposed_submitted_to old c task (task_groups t task)
-proposed_submitted t old c (Err refusal) = refl
+proposed_submitted : (t : Layout) (old : World) (c : ℕ) (r : Answer) → (submitted t old c r).proposed ≡ old.proposed
+proposed_submitted t old c (Go task) = proposed_submitted_to old c task (task_groups t task)
+proposed_submitted t old c (Now reply) = refl
 
 abbrev pub KnowsMore : World → World → Type 0
 KnowsMore old new = AskedMore old.asked new.asked × Among old.proposed new.proposed
@@ -101,9 +102,9 @@ pub knows_more : (t : Layout) (old new : World) (step : Step) (effect : Effect) 
     KnowsMore old new
 knows_more t old new Open effect s good = knows_same old new (ap (λ (w : World). w.asked) s.after) (ap (λ (w : World). w.proposed) s.after)
 knows_more t old new (Submit conn words) effect s good = subst (λ w. KnowsMore old w) (sym s.after) (
-  asked_submitted t old conn.0 (task_reading words) good,
+  asked_submitted t (remembered old conn.0 words) conn.0 (answer_to old conn.0 words) (good_remembered t old conn.0 words s.idle good),
   λ i g n e. ap (λ (f : RequestId → ℕ → Option ℕ). f i g)
-      (proposed_submitted t old conn.0 (task_reading words)) ∙ e,
+      (proposed_submitted t (remembered old conn.0 words) conn.0 (answer_to old conn.0 words)) ∙ e,
 )
 knows_more t old new (Deliver k) effect s good = (
   λ i q e. ap (λ (w : World). w.asked i) s.after ∙ e,

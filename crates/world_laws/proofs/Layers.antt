@@ -17,11 +17,15 @@ use Rattle.groups.specs.Stamp.{stamp_lt, final}
 use Rattle.skeen_core.specs.declared.packet.Delivered.{Delivered}
 use Rattle.skeen_core.specs.declared.packet.Packet.{Packet}
 use Rattle.groups.specs.declared.request.RequestId.{RequestId}
-use Rattle.tasks.specs.Tasks.{task_effect}
-use Rattle.world.specs.Steps.{names, map_after, after_all, RunInTurn}
+use Rattle.groups.specs.Skips.{names_whole, parts_of}
+use Rattle.groups.specs.declared.skip_id.SkipId.{SkipId}
+use Rattle.resp.specs.Content.{Content}
+use Rattle.tasks.proofs.Told.{told_again}
+use Rattle.tasks.specs.Tasks.{deed_effect}
+use Rattle.world.specs.Steps.{map_after, after_all, RunInTurn}
 use Rattle.world.specs.World.{Request, Ended, NoneTaken, Taken, HasRun, Proposals}
 use Rattle.world_laws.specs.Good.{Rising, Asked, Known, SkeenGood, AskedGood, delivered_of, all_delivered, all_taken, Touching, TakenGood}
-use Rattle.world_laws.specs.Good.{RepliesOn, RepliesInTurn, RunGood}
+use Rattle.world_laws.specs.Good.{AnswersOn, RepliesOn, RepliesInTurn, RunGood}
 use Rattle.world_laws.proofs.Groups.{AskedMore}
 use Rattle.world_laws.proofs.Lists.{rising_append, rising_cross, rising_left}
 use Rattle.groups.proofs.Options.{some_same}
@@ -114,7 +118,7 @@ all_delivered-append [] ys = refl
 all_delivered-append (x ∷ xs) ys = ap (λ l. delivered_of x ∷ l) (all_delivered-append xs ys)
 
 -- what was run is the layer
-pub run_of_layer : (asked : Asked) (starved : List RequestId) (m : Map) (ds : List Delivered) (es : List Ended) →
+pub run_of_layer : (asked : Asked) (starved : List SkipId) (m : Map) (ds : List Delivered) (es : List Ended) →
     RunInTurn asked starved m ds es → all_delivered es ≡ ds
 run_of_layer asked starved m [] es run = ap all_delivered run
 run_of_layer asked starved m (d ∷ ds) [] run = absurd run
@@ -122,7 +126,7 @@ run_of_layer asked starved m (d ∷ ds) (e ∷ es) run =
     ap (λ x. delivered_of x ∷ all_delivered es) run.0.2
     ∙ ap (λ l. d ∷ l) (run_of_layer asked starved (map_after e.reply e.task m) ds es run.1)
 
-pub taken_run : (asked : Asked) (starved : List RequestId) (m : Map) (ended es : List Ended) (ds : List Delivered) →
+pub taken_run : (asked : Asked) (starved : List SkipId) (m : Map) (ended es : List Ended) (ds : List Delivered) →
     RunInTurn asked starved m ds es →
     all_taken ended (Taken ds) ≡ all_taken (ended ++ es) (HasRun es)
 taken_run asked starved m ended es ds run =
@@ -135,31 +139,34 @@ in_delivered (x ∷ es) e (inl same) = inl (ap delivered_of same)
 in_delivered (x ∷ es) e (inr there) = inr (in_delivered es e there)
 
 -- each has the task that was submitted
-run_commands : (asked : Asked) (starved : List RequestId) (m : Map) (ds : List Delivered) (es : List Ended) →
+run_tasks : (asked : Asked) (starved : List SkipId) (m : Map) (ds : List Delivered) (es : List Ended) →
     RunInTurn asked starved m ds es →
     (e : Ended) → In e es → (q : Request) × (asked e.id ≡ Some q) × (e.task ≡ q.task)
-run_commands asked starved m [] es run e there = absurd (subst (λ l. In e l) run there)
-run_commands asked starved m (d ∷ ds) [] run e there = absurd run
-run_commands asked starved m (d ∷ ds) (x ∷ es) run e (inl same) =
+run_tasks asked starved m [] es run e there = absurd (subst (λ l. In e l) run there)
+run_tasks asked starved m (d ∷ ds) [] run e there = absurd run
+run_tasks asked starved m (d ∷ ds) (x ∷ es) run e (inl same) =
     let it = same ∙ run.0.2 in
     (run.0.0, ap (λ y. asked y.id) it ∙ run.0.1, ap (λ y. y.task) it)
-run_commands asked starved m (d ∷ ds) (x ∷ es) run e (inr there) =
-    run_commands asked starved (map_after x.reply x.task m) ds es run.1 e there
+run_tasks asked starved m (d ∷ ds) (x ∷ es) run e (inr there) =
+    run_tasks asked starved (map_after x.reply x.task m) ds es run.1 e there
 
--- each starves, or is answered as its task answers there
-run_replies : (asked : Asked) (starved : List RequestId) (m : Map) (ds : List Delivered) (es : List Ended) →
+-- each starves as a whole, or is answered as its task is answered there
+pub run_replies : (asked : Asked) (starved : List SkipId) (m : Map) (ds : List Delivered) (es : List Ended) →
     RunInTurn asked starved m ds es → RepliesInTurn m es
 run_replies asked starved m [] es run = subst (λ l. RepliesInTurn m l) (sym run) tt
 run_replies asked starved m (d ∷ ds) [] run = absurd run
 run_replies asked starved m (d ∷ ds) (e ∷ es) run = (
-  subst (λ x. RepliesOn m x) (sym run.0.2) (one (names starved d.id)),
+  subst (λ x. RepliesOn m x) (sym run.0.2) (one (names_whole starved d.id)),
   run_replies asked starved (map_after e.reply e.task m) ds es run.1,
 )
   where
-    one : (b : Bool) → (cond b None (Some (task_effect run.0.0.task m).1) ≡ None)
-        ⊎ (cond b None (Some (task_effect run.0.0.task m).1) ≡ Some (task_effect run.0.0.task m).1)
+    told : Content
+    told = (deed_effect (run.0.0.task, parts_of starved d.id) m).1
+
+    one : (b : Bool) → (cond b None (Some told) ≡ None)
+        ⊎ ((reply : Content) × (cond b None (Some told) ≡ Some reply) × AnswersOn m run.0.0.task reply)
     one true = inl refl
-    one false = inr refl
+    one false = inr (told, refl, sym (ap (λ (x : Map × Content). x.1) (told_again run.0.0.task (parts_of starved d.id) m)))
 
 pub after_all-append : (m : Map) (xs ys : List Ended) → after_all m (xs ++ ys) ≡ after_all (after_all m xs) ys
 after_all-append m [] ys = refl
@@ -169,13 +176,13 @@ pub replies-append : (m : Map) (xs ys : List Ended) → RepliesInTurn m xs → R
 replies-append m [] ys a b = b
 replies-append m (x ∷ xs) ys a b = (a.0, replies-append (map_after x.reply x.task m) xs ys a.1 b)
 
-pub run_layer_good : (asked : Asked) (starved : List RequestId) (contents : Map) (ended es : List Ended) (ds : List Delivered) →
+pub run_layer_good : (asked : Asked) (starved : List SkipId) (contents : Map) (ended es : List Ended) (ds : List Delivered) →
     RunInTurn asked starved contents ds es → RunGood asked ended contents →
     RunGood asked (ended ++ es) (after_all contents es)
 run_layer_good asked starved contents ended es ds run good = record {
   tasks = λ e there. elim (In-append e ended es there) [
     | inl before ↦ good.tasks e before
-    | inr now ↦ run_commands asked starved contents ds es run e now
+    | inr now ↦ run_tasks asked starved contents ds es run e now
   ];
   replies = replies-append empty ended es good.replies
       (subst (λ m. RepliesInTurn m es) good.map (run_replies asked starved contents ds es run));

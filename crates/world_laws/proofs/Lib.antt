@@ -1,4 +1,5 @@
 pub mod Values
+pub mod Sessions
 pub mod Lists
 pub mod Groups
 pub mod Packets
@@ -7,6 +8,7 @@ pub mod Receipts
 pub mod Requests
 pub mod Connections
 pub mod Layers
+pub mod Names
 pub mod Worlds
 pub mod Bounds
 pub mod OrderLaws
@@ -21,3 +23,4 @@ pub mod CollectingLaws
 pub mod Telling
 pub mod Floors
 pub mod DeterminedLaws
+pub mod RunningAgain

@@ -1,8 +1,7 @@
 -- The laws of order, read off what every world is like.
-use Rattle.std.proofs.Common.{◌≡◌, ℕ, ◌≤◌, ◌==◌, true, false, List, [], ◌∷◌, ◌++◌, inl, inr, Some, Result, Ok, Err}
+use Rattle.std.proofs.Common.{◌≡◌, ℕ, ◌≤◌, ◌==◌, true, false, List, [], ◌∷◌, ◌++◌, inl, inr, Some}
 use Rattle.std.proofs.Common.{refl, sym, ap, ◌∙◌, subst, arith, eqb-true, append-nil, append_assoc}
 use Rattle.std.proofs.lemmas.Bool.{cases_Bool}
-use Rattle.command_table.specs.declared.refusal.Refusal.{Refusal}
 use Rattle.groups.specs.GroupSet.{has}
 use Rattle.journal.specs.declared.step.Step.TheVariants.{Open, Submit, Deliver, Take, Run, Settle, Collect, Close, Repeat}
 use Rattle.placement.specs.Layout.{Layout}
@@ -14,8 +13,9 @@ use Rattle.groups.specs.Stamp.{final}
 use Rattle.skeen_core.specs.declared.packet.Delivered.{Delivered}
 use Rattle.groups.specs.declared.request.RequestId.{RequestId}
 use Rattle.groups.specs.declared.stamp.Stamp.{Stamp}
-use Rattle.tasks.specs.Tasks.{Task, task_reading, task_groups}
-use Rattle.world.specs.Steps.{Effect, submitted_to, submitted, Comes, Collects}
+use Rattle.sessions.specs.Session.{Answer, Now, Go}
+use Rattle.tasks.specs.Tasks.{Task, task_groups}
+use Rattle.world.specs.Steps.{Effect, submitted_to, submitted, remembered, answer_to, Comes, Collects}
 use Rattle.world.specs.World.{World, Request, Standing, Closed, Idle, Waiting, Answered, Ended}
 use Rattle.world_laws.specs.Good.{Rising, Known, log_of, delivered_of, all_delivered, taken_in, all_taken, Touching, TakenGood, WorldGood}
 use Rattle.world_laws.specs.Order.{HasFinal, GroupsAgree, FinalIsGreatest, FinalIsProposed, FinalStampsDiffer, StampsOfConnectionRise}
@@ -139,9 +139,9 @@ submit_still : (t : Layout) (old : World) (c : ℕ) (task : Task) (gs : List ℕ
 submit_still t old c task [] g = (refl, refl)
 submit_still t old c task (h ∷ hs) g = (refl, refl)
 
-submitted_still : (t : Layout) (old : World) (c : ℕ) (r : Result Task Refusal) (g : ℕ) → Still old (submitted t old c r) g
-submitted_still t old c (Ok task) g = submit_still t old c task (task_groups t task) g
-submitted_still t old c (Err refusal) g = (refl, refl)
+submitted_still : (t : Layout) (old : World) (c : ℕ) (r : Answer) (g : ℕ) → Still old (submitted t old c r) g
+submitted_still t old c (Go task) g = submit_still t old c task (task_groups t task) g
+submitted_still t old c (Now reply) g = (refl, refl)
 
 deliver_still : (old new : World) (k : ℕ) (effect : Effect) (g : ℕ) → Comes old k effect new → ¬ Brings old (Deliver k) g → Still old new g
 deliver_still old new k effect g step none =
@@ -165,7 +165,7 @@ collect_still old new c (Answered o) effect g step = subst (λ w. Still old w g)
 pub others_keep_still : OthersKeepStill
 others_keep_still t old new Open effect s g none = subst (λ w. Still old w g) (sym s.after) (refl, refl)
 others_keep_still t old new (Submit conn words) effect s g none = subst (λ w. Still old w g) (sym s.after)
-    (submitted_still t old conn.0 (task_reading words) g)
+    (submitted_still t (remembered old conn.0 words) conn.0 (answer_to old conn.0 words) g)
 others_keep_still t old new (Deliver k) effect s g none = deliver_still old new k effect g s none
 others_keep_still t old new Take effect s g none = subst (λ w. Still old w g) (sym s.after)
     (refl, sym (ap (λ (f : ℕ → List Delivered). f g) (log_taken old.gone old.queue s.layer)))
@@ -199,8 +199,8 @@ split_delivered : (before after : List Ended) (e : Ended) →
     all_delivered (before ++ e ∷ after) ≡ all_delivered before ++ delivered_of e ∷ all_delivered after
 split_delivered before after e = all_delivered-append before (e ∷ after)
 
-pub ends_once : EndsOnce
-ends_once t steps w leads = once_from w.ended (λ e f before after split there same.
+pub once_good : (t : Layout) (w : World) → WorldGood t w → EachOnce (ids_of w.ended)
+once_good t w good = once_from w.ended (λ e f before after split there same.
     let whole : all_taken w.ended w.layer ≡ all_delivered (before ++ e ∷ []) ++ (all_delivered after ++ taken_in w.layer) =
     ap (λ es. all_delivered es ++ taken_in w.layer) (split ∙ sym (append_assoc before (e ∷ []) after))
     ∙ ap (λ ds. ds ++ taken_in w.layer) (all_delivered-append (before ++ e ∷ []) after)
@@ -211,9 +211,9 @@ ends_once t steps w leads = once_from w.ended (λ e f before after split there s
     (delivered_of e) (delivered_of f)
     (in_delivered (before ++ e ∷ []) e (In-right e before (e ∷ []) (inl refl)))
     (In-left (delivered_of f) (all_delivered after) (taken_in w.layer) (in_delivered after f there)) same)
-  where
-    good : WorldGood t w
-    good = good_world t steps w leads
+
+pub ends_once : EndsOnce
+ends_once t steps w leads = once_good t w (good_world t steps w leads)
 
 pub ended_as_submitted : (t : Layout) (w : World) → WorldGood t w → (e : Ended) → In e w.ended → (q : Request) × HasFinal w e.id q e.stamp
     × (e.task ≡ q.task) × (e.groups ≡ q.groups)
@@ -252,9 +252,9 @@ submitted_to_kept : (old : World) (c : ℕ) (task : Task) (gs : List ℕ) → (s
 submitted_to_kept old c task [] = refl
 submitted_to_kept old c task (g ∷ gs) = refl
 
-submitted_kept : (t : Layout) (old : World) (c : ℕ) (r : Result Task Refusal) → (submitted t old c r).ended ≡ old.ended
-submitted_kept t old c (Ok task) = submitted_to_kept old c task (task_groups t task)
-submitted_kept t old c (Err refusal) = refl
+submitted_kept : (t : Layout) (old : World) (c : ℕ) (r : Answer) → (submitted t old c r).ended ≡ old.ended
+submitted_kept t old c (Go task) = submitted_to_kept old c task (task_groups t task)
+submitted_kept t old c (Now reply) = refl
 
 collect_kept : (old new : World) (c : ℕ) (s : Standing) (effect : Effect) → Collects s old c effect new → Kept old new
 collect_kept old new c Closed effect step = absurd step
@@ -265,7 +265,7 @@ collect_kept old new c (Answered o) effect step = none_more old new (ap (λ (w :
 pub ended_is_kept : EndedIsKept
 ended_is_kept t old new Open effect s = none_more old new (ap (λ (w : World). w.ended) s.after)
 ended_is_kept t old new (Submit conn words) effect s = none_more old new (ap (λ (w : World). w.ended) s.after
-    ∙ submitted_kept t old conn.0 (task_reading words))
+    ∙ submitted_kept t (remembered old conn.0 words) conn.0 (answer_to old conn.0 words))
 ended_is_kept t old new (Deliver k) effect s = none_more old new (ap (λ (w : World). w.ended) s.after)
 ended_is_kept t old new Take effect s = none_more old new (ap (λ (w : World). w.ended) s.after)
 ended_is_kept t old new (Run starved) effect s = (s.outcomes, ap (λ (w : World). w.ended) s.after)

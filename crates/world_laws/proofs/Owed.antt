@@ -1,8 +1,7 @@
 -- Every world owes what a good one may owe.
-use Rattle.std.proofs.Common.{◌≡◌, ℕ, ◌==◌, true, false, cond, List, [], ◌∷◌, ◌++◌, ◌⊎◌, inl, inr, Some, Result, Ok, Err, slice_get, refl}
+use Rattle.std.proofs.Common.{◌≡◌, ℕ, ◌==◌, true, false, cond, List, [], ◌∷◌, ◌++◌, ◌⊎◌, inl, inr, Some, slice_get, refl}
 use Rattle.std.proofs.Common.{sym, ap, ◌∙◌, subst, eqb-true, eq-eqb, append_assoc}
 use Rattle.std.proofs.lemmas.Bool.{both_ways}
-use Rattle.command_table.specs.declared.refusal.Refusal.{Refusal}
 use Rattle.delivery.proofs.Layers.{taken_somewhere}
 use Rattle.delivery.specs.Ready.{taken_from}
 use Rattle.journal.specs.declared.step.Step.{Step}
@@ -17,9 +16,10 @@ use Rattle.groups.specs.Request.{same_id}
 use Rattle.skeen_core.specs.declared.packet.Body.TheVariants.{Start, Proposal}
 use Rattle.skeen_core.specs.declared.packet.Delivered.{Delivered}
 use Rattle.skeen_core.specs.declared.packet.Packet.{Packet}
-use Rattle.groups.specs.declared.request.RequestId.{RequestId}
-use Rattle.tasks.specs.Tasks.{Task, task_reading, task_groups}
-use Rattle.world.specs.Steps.{at, starts, opening, Effect, next_id, floor_of, multicast, submitted_to, submitted, Comes}
+use Rattle.groups.specs.declared.skip_id.SkipId.{SkipId}
+use Rattle.sessions.specs.Session.{Answer, Now, Go}
+use Rattle.tasks.specs.Tasks.{Task, task_groups}
+use Rattle.world.specs.Steps.{at, starts, opening, Effect, next_id, floor_of, multicast, submitted_to, submitted, remembered, answer_to, Comes}
 use Rattle.world.specs.Steps.{Repeats, Takes, RunsLayer, Settles, Collects, Steps, Makes, Leads}
 use Rattle.world.specs.World.{World, Request, Standing, Closed, Idle, Waiting, Answered, Proposals}
 use Rattle.world_laws.specs.Good.{IsOut, BodyGood, log_of, all_delivered, all_taken, WorldGood}
@@ -31,7 +31,7 @@ use Rattle.world_laws.proofs.Layers.{log_taken, taken_run}
 use Rattle.world_laws.proofs.Lists.{in_place}
 use Rattle.world_laws.proofs.Owing.{owes_delivers, without_owes, begins_owes, begins_mid_owes, hears_mid_owes}
 use Rattle.world_laws.proofs.Requests.{next_is_new}
-use Rattle.world_laws.proofs.Worlds.{keeps, good_opening}
+use Rattle.world_laws.proofs.Worlds.{good_remembered, keeps, good_opening}
 
 abbrev pub Owes : World → Type 0
 Owes w = OwesGood w.asked w.proposed w.packets w.group (log_of w) w.gone (all_taken w.ended w.layer)
@@ -121,9 +121,9 @@ owes_submitted_to t w c task [] good owes = owes
 owes_submitted_to t w c task (g ∷ gs) good owes =
     owes_multicast t w c (record { floor = floor_of w c; groups = g ∷ gs; task = task }) good owes
 
-owes_submitted : (t : Layout) (w : World) (c : ℕ) (r : Result Task Refusal) → WorldGood t w → Owes w → Owes (submitted t w c r)
-owes_submitted t w c (Ok task) good owes = owes_submitted_to t w c task (task_groups t task) good owes
-owes_submitted t w c (Err refusal) good owes = owes
+owes_submitted : (t : Layout) (w : World) (c : ℕ) (r : Answer) → WorldGood t w → Owes w → Owes (submitted t w c r)
+owes_submitted t w c (Go task) good owes = owes_submitted_to t w c task (task_groups t task) good owes
+owes_submitted t w c (Now reply) good owes = owes
 
 -- ---- Take, Run, Settle
 
@@ -161,7 +161,7 @@ owes_take t old new effect step good owes = subst (λ w. Owes w) (sym step.after
   ];
 })
 
-owes_run : (old new : World) (starved : List RequestId) (effect : Effect) → RunsLayer old starved effect new → Owes old → Owes new
+owes_run : (old new : World) (starved : List SkipId) (effect : Effect) → RunsLayer old starved effect new → Owes old → Owes new
 owes_run old new starved effect step owes = subst (λ w. Owes w) (sym step.after) (record {
   groups = owes.groups;
   taken = λ g d there. subst (λ ds. In d ds) (taken_run old.asked starved old.contents old.ended step.outcomes step.layer step.in_turn)
@@ -186,7 +186,7 @@ pub owes_step : (t : Layout) (old new : World) (step : Step) (effect : Effect) �
     Owes new
 owes_step t old new Open effect s good owes = subst (λ w. Owes w) (sym s.after) owes
 owes_step t old new (Submit conn words) effect s good owes = subst (λ w. Owes w) (sym s.after)
-    (owes_submitted t old conn.0 (task_reading words) good owes)
+    (owes_submitted t (remembered old conn.0 words) conn.0 (answer_to old conn.0 words) (good_remembered t old conn.0 words s.idle good) owes)
 owes_step t old new (Deliver k) effect s good owes = owes_deliver t old new k effect s good owes
 owes_step t old new Take effect s good owes = owes_take t old new effect s good owes
 owes_step t old new (Run starved) effect s good owes = owes_run old new starved effect s owes

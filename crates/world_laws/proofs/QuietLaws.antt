@@ -213,8 +213,8 @@ below_shards : (t : Layout) (w : World) → WorldGood t w → (g : ℕ) (d : Del
 below_shards t w good g d there h member =
     let named = ((good.skeen.groups g).known d there).named in
     let shaped = good.requests.shaped d.id named.0 named.1 in
-    let of_command = subst (λ gs. has gs h ≡ true) (sym (shaped.groups ∙ named.2)) member in
-    ltb-true h t.shards (and_parts (nat_lt h t.shards) _ (sym (has-chosen _ t.shards h) ∙ of_command)).0
+    let of_task = subst (λ gs. has gs h ≡ true) (sym (shaped.groups ∙ named.2)) member in
+    ltb-true h t.shards (and_parts (nat_lt h t.shards) _ (sym (has-chosen _ t.shards h) ∙ of_task)).0
 
 -- the request with the least stamp at the head of a queue is ready
 least_is_ready : (t : Layout) (w : World) → WorldGood t w → Owes w → w.packets ≡ [] → (l : LeastHead w.queue t.shards) →

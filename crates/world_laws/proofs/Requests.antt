@@ -16,7 +16,7 @@ use Rattle.skeen_core.specs.declared.packet.Delivered.{Delivered}
 use Rattle.skeen_core.specs.declared.packet.Packet.{Packet}
 use Rattle.groups.specs.declared.request.RequestId.{RequestId}
 use Rattle.groups.specs.declared.stamp.Stamp.{Stamp}
-use Rattle.world.specs.Steps.{at, asks, starts}
+use Rattle.world.specs.Steps.{at, with_asked, starts}
 use Rattle.world.specs.World.{Request, Proposals}
 use Rattle.world_laws.specs.Good.{Asked, Among, start_to, SkeenGood, ShapedFor, Under, AskedGood, TakenGood}
 use Rattle.world_laws.proofs.Groups.{AskedMore, known_more, group_grows, by_test}
@@ -27,13 +27,13 @@ use Rattle.world_laws.proofs.Values.{same_request, at_here}
 
 -- ---- small facts
 
-pub asks_more : (asked : Asked) (id : RequestId) (q : Request) → asked id ≡ None → AskedMore asked (asks asked id q)
+pub asks_more : (asked : Asked) (id : RequestId) (q : Request) → asked id ≡ None → AskedMore asked (with_asked asked id q)
 asks_more asked id q none i r e = elim (cases_Bool (same_id i id)) [
   | inl p ↦ absurd (None≢Some r (sym none ∙ subst (λ j. asked j ≡ Some r) (same_id-true i id p) e))
   | inr p ↦ cond-false _ (Some q) (asked i) p ∙ e
 ]
 
-pub asks_new : (asked : Asked) (id : RequestId) (q : Request) → asks asked id q id ≡ Some q
+pub asks_new : (asked : Asked) (id : RequestId) (q : Request) → with_asked asked id q id ≡ Some q
 asks_new asked id q = cond-true _ (Some q) (asked id) (same_id-refl id)
 
 -- the final stamp of some groups is one of their proposals
@@ -51,12 +51,12 @@ under_more proposed proposed' i gs n among u = (u.0, final_within (proposed i) (
 pub skeen_multicast : (asked : Asked) (proposed : Proposals) (packets : List Packet) (group : ℕ → GroupState) (log : ℕ → List Delivered)
     (id : RequestId) (q : Request) →
     SkeenGood asked proposed packets group log → asked id ≡ None →
-    SkeenGood (asks asked id q) proposed (packets ++ starts id q q.groups) group log
+    SkeenGood (with_asked asked id q) proposed (packets ++ starts id q q.groups) group log
 skeen_multicast asked proposed packets group log id q good none = record {
   sent = λ p there. elim (In-append p packets (starts id q q.groups) there) [
-    | inl before ↦ body_more asked (asks asked id q) proposed proposed p.to p.id p.body (asks_more asked id q none) (λ i h m e. e)
+    | inl before ↦ body_more asked (with_asked asked id q) proposed proposed p.to p.id p.body (asks_more asked id q none) (λ i h m e. e)
         (good.sent p before)
-    | inr now ↦ starts_good (asks asked id q) proposed id q q.groups (asks_new asked id q) (λ g e. e) p now
+    | inr now ↦ starts_good (with_asked asked id q) proposed id q q.groups (asks_new asked id q) (λ g e. e) p now
   ];
   coming = λ i r g named member. by_test (same_id i id) q (asked i) r
       (In (start_to g i r) (packets ++ starts id q q.groups) ⊎ IsSome (proposed i g)) named
@@ -69,7 +69,7 @@ skeen_multicast asked proposed packets group log id q good none = record {
         | inr told ↦ inr told
       ]);
   made = λ i g n e. let m = good.made i g n e in (m.0, asks_more asked id q none i m.0 m.1, m.2, m.3);
-  groups = λ g. group_grows asked (asks asked id q) proposed proposed g (group g) (log g) (asks_more asked id q none) (λ i h m e. e)
+  groups = λ g. group_grows asked (with_asked asked id q) proposed proposed g (group g) (log g) (asks_more asked id q none) (λ i h m e. e)
       (λ i n e. e) (good.groups g);
 }
 
@@ -137,7 +137,7 @@ pub requests_multicast : (t : Layout) (asked : Asked) (proposed : Proposals) (pa
     (log : ℕ → List Delivered) (seq : ℕ → ℕ) (last : ℕ → Option RequestId) (c : ℕ) (q : Request) →
     SkeenGood asked proposed packets group log → AskedGood t asked proposed seq last → Rested asked proposed last c q.floor →
     ShapedFor t q →
-    AskedGood t (asks asked (record { conn = record { 0 = c }; seq = suc (seq c) }) q) proposed (at seq c (suc (seq c)))
+    AskedGood t (with_asked asked (record { conn = record { 0 = c }; seq = suc (seq c) }) q) proposed (at seq c (suc (seq c)))
     (at last c (Some (record { conn = record { 0 = c }; seq = suc (seq c) })))
 requests_multicast t asked proposed packets group log seq last c q skeen good rested shaped = record {
   shaped = λ i r e. by_test (same_id i id) q (asked i) r (ShapedFor t r) e
@@ -147,8 +147,8 @@ requests_multicast t asked proposed packets group log seq last c q skeen good re
       (λ p same. subst (λ j. (0 < j.seq) × (j.seq ≤ at seq c (suc (seq c)) j.conn.0)) (sym (same_id-true i id p))
       (let now = at_here seq c (suc (seq c)) in (omega arith, omega arith)))
       (λ p old. let before = good.fresh i r old in let more = at_more seq c i.conn.0 in (before.0, omega arith));
-  lasts = λ d i e. by_test (d == c) id (last d) i ((i.conn.0 ≡ d) × ((r : Request) × (asks asked id q i ≡ Some r))) e
-      (λ p same. subst (λ j. (j.conn.0 ≡ d) × ((r : Request) × (asks asked id q j ≡ Some r))) same (
+  lasts = λ d i e. by_test (d == c) id (last d) i ((i.conn.0 ≡ d) × ((r : Request) × (with_asked asked id q i ≡ Some r))) e
+      (λ p same. subst (λ j. (j.conn.0 ≡ d) × ((r : Request) × (with_asked asked id q j ≡ Some r))) same (
         sym (eqb-true d c p),
         (q, asks_new asked id q),
       ))

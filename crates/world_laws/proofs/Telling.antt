@@ -1,27 +1,28 @@
 -- What is asked and answered comes from what was submitted.
 use Rattle.std.proofs.Common.{◌≡◌, ℕ, suc, ◌==◌, List, [], ◌∷◌, ◌⊎◌, inl, inr}
-use Rattle.std.proofs.Common.{Option, Some, None, Result, Ok, Err, refl, sym, ap, ◌∙◌}
+use Rattle.std.proofs.Common.{Option, Some, None, refl, sym, ap, ◌∙◌}
 use Rattle.std.proofs.Common.{subst}
 use Rattle.std.proofs.lemmas.Bool.{cases_Bool}
-use Rattle.std.specs.FinMap.{empty}
-use Rattle.command_table.specs.Refusal.{refusal_text}
-use Rattle.command_table.specs.declared.refusal.Refusal.{Refusal}
 use Rattle.journal.specs.declared.step.Step.{Step}
 use Rattle.journal.specs.declared.step.Step.TheVariants.{Open, Submit, Deliver, Take, Run, Settle, Collect, Close, Repeat}
 use Rattle.placement.specs.Layout.{Layout}
-use Rattle.resp.specs.Content.{Content, ErrorLine}
+use Rattle.resp.specs.Content.{Content}
 use Rattle.groups.proofs.Ids.{same_id-true}
 use Rattle.skeen_core.proofs.Lawful.{None≢Some}
 use Rattle.groups.specs.Request.{same_id}
 use Rattle.groups.specs.declared.request.ConnId.{ConnId}
 use Rattle.groups.specs.declared.request.RequestId.{RequestId}
-use Rattle.tasks.specs.Tasks.{Task, task_reading, task_groups, task_effect}
+use Rattle.sessions.specs.Session.{Answer, Now, Go}
+use Rattle.tasks.specs.Tasks.{Task, task_groups}
 use Rattle.world.specs.Steps.{at, opening, Effect, Submitted, Collected, next_id, floor_of, multicast, answered, submitted_to, submitted}
-use Rattle.world.specs.Steps.{outcome_of, Collects, Steps, Makes}
+use Rattle.world.specs.Steps.{remembered, answer_to, outcome_of, Collects, Steps, Makes}
 use Rattle.world.specs.World.{World, Request, Outcome, Standing, Closed, Idle, Waiting, Answered, Ended}
-use Rattle.world_laws.specs.Collecting.{Submits, WasSubmitted, reply_at_none, reply_at_once, AskedAsSubmitted, CollectsItsOwn}
+use Rattle.world_laws.specs.Collecting.{Submits, WasSubmittedFrom, WasSubmitted, ComesTo, reply_at_none, reply_at_once, IsRepliedAtOnce}
+use Rattle.world_laws.specs.Collecting.{AskedAsSubmitted, CollectsItsOwn}
+use Rattle.world_laws.specs.Sessions.{Sessions, sessions_after}
 use Rattle.world_laws.proofs.Connections.{settled_result}
 use Rattle.world_laws.proofs.Groups.{by_test}
+use Rattle.world_laws.proofs.Sessions.{session_step}
 use Rattle.world_laws.proofs.Worlds.{keeps_all, good_opening}
 use Rattle.std.proofs.lemmas.Bool.{cond-true, cond-false}
 use Rattle.world_laws.proofs.Values.{idle_not_answered, waiting_not_answered, closed_not_answered, same_outcome, same_collected}
@@ -30,12 +31,6 @@ use Rattle.world_laws.proofs.Values.{idle_not_answered, waiting_not_answered, cl
 record Said (w : World) (H : RequestId → Task → Type 0) (K : RequestId → Content → Type 0) : Type 0 where
   pub asked : (i : RequestId) (q : Request) → w.asked i ≡ Some q → H i q.task
   pub answers : (c : ℕ) (o : Outcome) → w.standing c ≡ Answered o → o.stamp ≡ None → K o.id o.reply
-
-abbrev Reads : Task → List (List ℕ) → Type 0
-Reads task words = task_reading words ≡ Ok task
-
-abbrev RepliesAtOnce : Layout → Content → List (List ℕ) → Type 0
-RepliesAtOnce t reply words = reply_at_once t (task_reading words) ≡ Some reply
 
 -- the same world but for its standings
 said_same : (old new : World) (H : RequestId → Task → Type 0) (K : RequestId → Content → Type 0) → new.asked ≡ old.asked →
@@ -91,35 +86,34 @@ said_submitted_to : (t : Layout) (old : World) (H : RequestId → Task → Type 
     (task : Task) (gs : List ℕ) → H (next_id old c) task →
     ((r : Content) → reply_at_none task gs ≡ Some r → K (next_id old c) r) → Said old H K → Said (submitted_to old c task gs) H K
 said_submitted_to t old H K c task [] h k said =
-    said_answered old H K c (task_effect task empty).1 (k (task_effect task empty).1 refl) said
+    said_answered old H K c _ (k _ refl) said
 said_submitted_to t old H K c task (g ∷ gs) h k said =
     said_multicast old H K c (record { floor = floor_of old c; groups = g ∷ gs; task = task }) h said
 
 said_submitted : (t : Layout) (old : World) (H : RequestId → Task → Type 0) (K : RequestId → Content → Type 0) (c : ℕ)
-    (r : Result Task Refusal) → ((task : Task) → r ≡ Ok task → H (next_id old c) task) →
+    (r : Answer) → ((task : Task) → r ≡ Go task → H (next_id old c) task) →
     ((reply : Content) → reply_at_once t r ≡ Some reply → K (next_id old c) reply) → Said old H K → Said (submitted t old c r) H K
-said_submitted t old H K c (Ok task) h k said = said_submitted_to t old H K c task (task_groups t task) (h task refl) k said
-said_submitted t old H K c (Err refusal) h k said = said_answered old H K c (ErrorLine (refusal_text refusal))
-    (k (ErrorLine (refusal_text refusal)) refl) said
+said_submitted t old H K c (Go task) h k said = said_submitted_to t old H K c task (task_groups t task) (h task refl) k said
+said_submitted t old H K c (Now reply) h k said = said_answered old H K c reply (k reply refl) said
 
 -- ---- all steps
 
-abbrev More : (RequestId → Task → Type 0) → Step → Effect → RequestId → Task → Type 0
-More H s e i task = H i task ⊎ Submits (Reads task) i s e
+abbrev More : (RequestId → Task → Type 0) → Sessions → Step → Effect → RequestId → Task → Type 0
+More H sessions s e i task = H i task ⊎ Submits (ComesTo task) i sessions s e
 
-abbrev MoreReplies : Layout → (RequestId → Content → Type 0) → Step → Effect → RequestId → Content → Type 0
-MoreReplies t K s e i reply = K i reply ⊎ Submits (RepliesAtOnce t reply) i s e
+abbrev MoreReplies : Layout → (RequestId → Content → Type 0) → Sessions → Step → Effect → RequestId → Content → Type 0
+MoreReplies t K sessions s e i reply = K i reply ⊎ Submits (IsRepliedAtOnce t reply) i sessions s e
 
 said_now : (t : Layout) (old new : World) (H : RequestId → Task → Type 0) (K : RequestId → Content → Type 0) (s : Step) (e : Effect) →
     new.asked ≡ old.asked →
     ((c : ℕ) (o : Outcome) → new.standing c ≡ Answered o → o.stamp ≡ None → (d : ℕ) × (old.standing d ≡ Answered o)) → Said old H K →
-    Said new (More H s e) (MoreReplies t K s e)
-said_now t old new H K s e same from said = said_more new H (More H s e) K (MoreReplies t K s e) (λ i c h. inl h) (λ i r k. inl k)
-    (said_same old new H K same from said)
+    Said new (More H old.session s e) (MoreReplies t K old.session s e)
+said_now t old new H K s e same from said = said_more new H (More H old.session s e) K (MoreReplies t K old.session s e)
+    (λ i c h. inl h) (λ i r k. inl k) (said_same old new H K same from said)
 
 said_collects : (t : Layout) (old new : World) (H : RequestId → Task → Type 0) (K : RequestId → Content → Type 0) (conn : ConnId)
     (s : Standing) (e : Effect) → Collects s old conn.0 e new → Said old H K →
-    Said new (More H (Collect conn) e) (MoreReplies t K (Collect conn) e)
+    Said new (More H old.session (Collect conn) e) (MoreReplies t K old.session (Collect conn) e)
 said_collects t old new H K conn Closed e step said = absurd step
 said_collects t old new H K conn Idle e step said = said_now t old new H K (Collect conn) e (ap (λ (w : World). w.asked) step.1)
     (λ c o is none. (c, sym (ap (λ (w : World). w.standing c) step.1) ∙ is)) said
@@ -128,22 +122,28 @@ said_collects t old new H K conn Waiting e step said = said_now t old new H K (C
 said_collects t old new H K conn (Answered p) e step said = said_now t old new H K (Collect conn) e (ap (λ (w : World). w.asked) step.1)
     (λ c o is none. kept_answer old.standing conn.0 Idle idle_not_answered c o (sym (ap (λ (w : World). w.standing c) step.1) ∙ is)) said
 
+-- once these words were submitted
+abbrev Asks : (RequestId → Task → Type 0) → World → ConnId → List (List ℕ) → RequestId → Task → Type 0
+Asks H old conn words = More H old.session (Submit conn words) (Submitted (next_id old conn.0))
+
+abbrev Replies : Layout → (RequestId → Content → Type 0) → World → ConnId → List (List ℕ) → RequestId → Content → Type 0
+Replies t K old conn words = MoreReplies t K old.session (Submit conn words) (Submitted (next_id old conn.0))
+
 some_not_none : (e : Ended) (o : Outcome) → Answered (outcome_of e) ≡ Answered o → o.stamp ≡ None → ⊥
 some_not_none e o is none = None≢Some e.stamp (sym none ∙ ap (λ (p : Outcome). p.stamp) (sym (same_outcome (outcome_of e) o is)))
 
 said_step : (t : Layout) (old new : World) (H : RequestId → Task → Type 0) (K : RequestId → Content → Type 0) (s : Step) (e : Effect) →
-    Steps t old s e new → Said old H K → Said new (More H s e) (MoreReplies t K s e)
+    Steps t old s e new → Said old H K → Said new (More H old.session s e) (MoreReplies t K old.session s e)
 said_step t old new H K Open e step said = said_now t old new H K Open e (ap (λ (w : World). w.asked) step.after)
     (λ c o is none. kept_answer old.standing (suc old.opened) Idle idle_not_answered c o (sym (ap (λ (w : World). w.standing c) step.after)
     ∙ is)) said
 said_step t old new H K (Submit conn words) e step said =
-    subst (λ f. Said new (More H (Submit conn words) f) (MoreReplies t K (Submit conn words) f)) (sym step.answers)
-    (subst (λ w. Said w (More H (Submit conn words) (Submitted (next_id old conn.0)))
-    (MoreReplies t K (Submit conn words) (Submitted (next_id old conn.0)))) (sym step.after)
-    (said_submitted t old (More H (Submit conn words) (Submitted (next_id old conn.0)))
-    (MoreReplies t K (Submit conn words) (Submitted (next_id old conn.0))) conn.0 (task_reading words)
+    subst (λ f. Said new (More H old.session (Submit conn words) f) (MoreReplies t K old.session (Submit conn words) f)) (sym step.answers)
+    (subst (λ w. Said w (Asks H old conn words) (Replies t K old conn words)) (sym step.after)
+    (said_submitted t (remembered old conn.0 words) (Asks H old conn words) (Replies t K old conn words) conn.0 (answer_to old conn.0 words)
     (λ task is. inr (refl, refl, is)) (λ reply is. inr (refl, refl, is))
-    (said_more old H _ K _ (λ i c h. inl h) (λ i r k. inl k) said)))
+    (said_more (remembered old conn.0 words) H _ K _ (λ i c h. inl h) (λ i r k. inl k)
+    (record { asked = said.asked; answers = said.answers }))))
 said_step t old new H K (Deliver k) e step said = said_now t old new H K (Deliver k) e (ap (λ (w : World). w.asked) step.after)
     (λ c o is none. (c, sym (ap (λ (w : World). w.standing c) step.after) ∙ is)) said
 said_step t old new H K Take e step said = said_now t old new H K Take e (ap (λ (w : World). w.asked) step.after)
@@ -164,11 +164,11 @@ said_step t old new H K (Repeat k) e step said = said_now t old new H K (Repeat 
 
 -- ---- histories
 
-abbrev WasAsked : (RequestId → Task → Type 0) → List Step → List Effect → RequestId → Task → Type 0
-WasAsked H ss es i task = H i task ⊎ WasSubmitted (Reads task) i ss es
+abbrev WasAsked : (RequestId → Task → Type 0) → Sessions → List Step → List Effect → RequestId → Task → Type 0
+WasAsked H sessions ss es i task = H i task ⊎ WasSubmittedFrom (ComesTo task) i sessions ss es
 
-abbrev WasReplied : Layout → (RequestId → Content → Type 0) → List Step → List Effect → RequestId → Content → Type 0
-WasReplied t K ss es i reply = K i reply ⊎ WasSubmitted (RepliesAtOnce t reply) i ss es
+abbrev WasReplied : Layout → (RequestId → Content → Type 0) → Sessions → List Step → List Effect → RequestId → Content → Type 0
+WasReplied t K sessions ss es i reply = K i reply ⊎ WasSubmittedFrom (IsRepliedAtOnce t reply) i sessions ss es
 
 regroup : {A B C : Type 0} → (A ⊎ B) ⊎ C → A ⊎ (B ⊎ C)
 regroup (inl (inl a)) = inl a
@@ -176,23 +176,26 @@ regroup (inl (inr b)) = inr (inl b)
 regroup (inr c) = inr (inr c)
 
 said_steps : (t : Layout) (old new : World) (H : RequestId → Task → Type 0) (K : RequestId → Content → Type 0) (ss : List Step)
-    (es : List Effect) → Makes t old ss es new → Said old H K → Said new (WasAsked H ss es) (WasReplied t K ss es)
-said_steps t old new H K [] es made said = subst (λ w. Said w (WasAsked H [] es) (WasReplied t K [] es)) (sym made.1)
+    (es : List Effect) → Makes t old ss es new → Said old H K → Said new (WasAsked H old.session ss es) (WasReplied t K old.session ss es)
+said_steps t old new H K [] es made said = subst (λ w. Said w (WasAsked H old.session [] es) (WasReplied t K old.session [] es)) (sym made.1)
     (said_more old H _ K _ (λ i c h. inl h) (λ i r k. inl k) said)
 said_steps t old new H K (s ∷ ss) [] made said = absurd made
 said_steps t old new H K (s ∷ ss) (e ∷ es) made said =
-    said_more new (WasAsked (More H s e) ss es) (WasAsked H (s ∷ ss) (e ∷ es)) (WasReplied t (MoreReplies t K s e) ss es)
-    (WasReplied t K (s ∷ ss) (e ∷ es))
+    said_more new (WasAsked (More H old.session s e) (sessions_after old.session s) ss es) (WasAsked H old.session (s ∷ ss) (e ∷ es))
+    (WasReplied t (MoreReplies t K old.session s e) (sessions_after old.session s) ss es) (WasReplied t K old.session (s ∷ ss) (e ∷ es))
     (λ i c h. regroup h) (λ i r k. regroup k)
-    (said_steps t made.0 new (More H s e) (MoreReplies t K s e) ss es made.2 (said_step t old made.0 H K s e made.1 said))
+    (subst (λ x. Said new (WasAsked (More H old.session s e) x ss es) (WasReplied t (MoreReplies t K old.session s e) x ss es))
+    (session_step t old made.0 s e made.1)
+    (said_steps t made.0 new (More H old.session s e) (MoreReplies t K old.session s e) ss es made.2
+    (said_step t old made.0 H K s e made.1 said)))
 
 said_opening : Said opening (λ i c. ⊥) (λ i r. ⊥)
 said_opening = record { asked = λ i q e. None≢Some q e; answers = λ c o is none. closed_not_answered o is }
 
 said_world : (t : Layout) (steps : List Step) (effects : List Effect) (w : World) → Makes t opening steps effects w →
-    Said w (λ i c. WasSubmitted (Reads c) i steps effects) (λ i r. WasSubmitted (RepliesAtOnce t r) i steps effects)
+    Said w (λ i c. WasSubmitted (ComesTo c) i steps effects) (λ i r. WasSubmitted (IsRepliedAtOnce t r) i steps effects)
 said_world t steps effects w made =
-    said_more w _ (λ i c. WasSubmitted (Reads c) i steps effects) _ (λ i r. WasSubmitted (RepliesAtOnce t r) i steps effects)
+    said_more w _ (λ i c. WasSubmitted (ComesTo c) i steps effects) _ (λ i r. WasSubmitted (IsRepliedAtOnce t r) i steps effects)
     (λ i c h. second h) (λ i r k. second k)
     (said_steps t opening w (λ i c. ⊥) (λ i r. ⊥) steps effects made said_opening)
   where

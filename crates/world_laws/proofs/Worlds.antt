@@ -1,9 +1,7 @@
 -- Each kind of step leads from a good world to a good one.
-use Rattle.std.proofs.Common.{◌≡◌, ℕ, ◌<◌, true, List, [], ◌∷◌, ◌++◌, inl, inr, Some, None, Result, Ok, Err, ◌==◌, refl, sym, ap, ◌∙◌}
-use Rattle.std.proofs.Common.{subst, arith, append-nil, eq-eqb}
-use Rattle.std.proofs.lemmas.Bool.{cases_eq, or_left}
-use Rattle.std.specs.FinMap.{empty}
-use Rattle.command_table.specs.declared.refusal.Refusal.{Refusal}
+use Rattle.std.proofs.Common.{◌≡◌, ℕ, ◌<◌, true, List, [], ◌∷◌, ◌++◌, inl, inr, Some, None, ◌==◌, refl, sym, ap, ◌∙◌}
+use Rattle.std.proofs.Common.{subst, arith, append-nil, eqb-true, eq-eqb}
+use Rattle.std.proofs.lemmas.Bool.{cases_Bool, cases_eq, or_left, cond-false}
 use Rattle.groups.specs.GroupSet.{has}
 use Rattle.journal.specs.declared.step.Step.{Step}
 use Rattle.journal.specs.declared.step.Step.TheVariants.{Open, Submit, Deliver, Take, Run, Settle, Collect, Close, Repeat}
@@ -19,9 +17,11 @@ use Rattle.groups.specs.Order.{In}
 use Rattle.groups.specs.Stamp.{final}
 use Rattle.groups.specs.declared.request.RequestId.{RequestId}
 use Rattle.groups.specs.declared.stamp.Stamp.{Stamp}
-use Rattle.tasks.specs.Tasks.{Task, task_reading, task_groups, task_effect}
+use Rattle.groups.specs.declared.skip_id.SkipId.{SkipId}
+use Rattle.sessions.specs.Session.{Answer, Now, Go}
+use Rattle.tasks.specs.Tasks.{Task, task_groups}
 use Rattle.world.specs.Steps.{opening, Effect, Opens, next_id, clock_of, final_clock, final_clock_of, floor_of, multicast, answered}
-use Rattle.world.specs.Steps.{submitted_to, submitted, Submits, received, Comes, Repeats, Takes, RunsLayer, Settles, Collects, Closes}
+use Rattle.world.specs.Steps.{submitted_to, submitted, answer_to, remembered, Submits, received, Comes, Repeats, Takes, RunsLayer, Settles, Collects, Closes}
 use Rattle.world.specs.Steps.{Steps, Makes, Leads}
 use Rattle.world.specs.World.{World, Request, Standing, Closed, Idle, Waiting, Answered, Ended, HasRun}
 use Rattle.world_laws.specs.Good.{Among, GroupGood, log_of, SkeenGood, ShapedFor, delivered_of, all_delivered, all_taken, TakenGood}
@@ -76,6 +76,7 @@ good_opening t = record {
     pending = λ i q e. absurd (None≢Some q e);
     outcomes = λ c o e. absurd (closed_not_answered o e);
   };
+  sessions = λ c less. refl;
   earlier = λ i j q r conns less e d. absurd (None≢Some q e);
   past = λ i q g named member past. absurd (None≢Some q named);
   run = record { tasks = λ e there. absurd there; replies = tt; map = refl };
@@ -112,6 +113,7 @@ keeps_open t old new effect step good = subst (λ w. WorldGood t w) (sym step.af
   taken = good.taken;
   connections =
       connections_open old.opened old.standing old.seq old.last old.asked old.ended old.layer good.requests.fresh good.connections;
+  sessions = λ c less. good.sessions c (omega arith);
   earlier = good.earlier;
   past = good.past;
   run = good.run;
@@ -127,6 +129,7 @@ good_answered t old c reply idle good = record {
   taken = good.taken;
   connections = connections_answered old.opened old.standing old.seq old.last old.asked old.ended old.layer c
       (record { id = next_id old c; reply = reply; stamp = None }) idle refl refl good.connections;
+  sessions = good.sessions;
   earlier = good.earlier;
   past = good.past;
   run = good.run;
@@ -174,6 +177,7 @@ good_multicast t old c q idle floor shaped good =
           (rested t old c Idle idle idle_open idle_not_waiting good)) shaped;
       taken = taken;
       connections = connections_multicast old.opened old.standing old.seq old.last old.asked old.ended old.layer c q idle good.connections;
+      sessions = good.sessions;
       earlier = earlier;
       past = past_is_out (multicast old c q) skeen taken earlier;
       run = run_more old.asked _ old.ended old.contents more good.run;
@@ -181,20 +185,37 @@ good_multicast t old c q idle floor shaped good =
 
 good_submitted_to : (t : Layout) (old : World) (c : ℕ) (task : Task) (gs : List ℕ) → task_groups t task ≡ gs →
     old.standing c ≡ Idle → WorldGood t old → WorldGood t (submitted_to old c task gs)
-good_submitted_to t old c task [] is idle good = good_answered t old c (task_effect task empty).1 idle good
+good_submitted_to t old c task [] is idle good = good_answered t old c _ idle good
 good_submitted_to t old c task (g ∷ gs) is idle good =
     good_multicast t old c (record { floor = floor_of old c; groups = g ∷ gs; task = task }) idle refl
     (record { groups = is; some = (g, or_left (g == g) (has gs g) (eq-eqb g g refl)) }) good
 
-good_submitted : (t : Layout) (old : World) (c : ℕ) (r : Result Task Refusal) → old.standing c ≡ Idle → WorldGood t old →
+good_submitted : (t : Layout) (old : World) (c : ℕ) (r : Answer) → old.standing c ≡ Idle → WorldGood t old →
     WorldGood t (submitted t old c r)
-good_submitted t old c (Ok task) idle good = good_submitted_to t old c task (task_groups t task) refl idle good
-good_submitted t old c (Err refusal) idle good = good_answered t old c _ idle good
+good_submitted t old c (Go task) idle good = good_submitted_to t old c task (task_groups t task) refl idle good
+good_submitted t old c (Now reply) idle good = good_answered t old c _ idle good
+
+-- what a connection remembers makes no difference to the rest
+pub good_remembered : (t : Layout) (old : World) (c : ℕ) (words : List (List ℕ)) → old.standing c ≡ Idle → WorldGood t old →
+    WorldGood t (remembered old c words)
+good_remembered t old c words idle good = record {
+  skeen = good.skeen;
+  requests = good.requests;
+  taken = good.taken;
+  connections = good.connections;
+  sessions = λ d less. elim (cases_Bool (d == c)) [
+    | inl e ↦ absurd (idle_open (sym idle ∙ ap old.standing (sym (eqb-true d c e)) ∙ (good.connections.unopened d less).0))
+    | inr e ↦ cond-false (d == c) _ (old.session d) e ∙ good.sessions d less
+  ];
+  earlier = good.earlier;
+  past = good.past;
+  run = good.run;
+}
 
 pub keeps_submit : (t : Layout) (old new : World) (c : ℕ) (words : List (List ℕ)) (effect : Effect) → Submits t old c words effect new →
     WorldGood t old → WorldGood t new
 keeps_submit t old new c words effect step good = subst (λ w. WorldGood t w) (sym step.after)
-    (good_submitted t old c (task_reading words) step.idle good)
+    (good_submitted t (remembered old c words) c (answer_to old c words) step.idle (good_remembered t old c words step.idle good))
 
 -- ---- Deliver
 
@@ -214,6 +235,7 @@ keeps_deliver t old new k effect step good =
           requests = requests_proposed t old.asked old.proposed _ old.seq old.last among good.requests;
           taken = taken;
           connections = good.connections;
+          sessions = good.sessions;
           earlier = good.earlier;
           past = past_is_out (received old k step.packet step.sent step.delivered step.state) skeen taken good.earlier;
           run = good.run;
@@ -227,6 +249,7 @@ keeps_repeat t old new k effect step good = subst (λ w. WorldGood t w) (sym ste
   requests = good.requests;
   taken = good.taken;
   connections = good.connections;
+  sessions = good.sessions;
   earlier = good.earlier;
   past = good.past;
   run = good.run;
@@ -249,12 +272,13 @@ keeps_take t old new effect step good = subst (λ w. WorldGood t w) (sym step.af
         pending = before.pending;
         outcomes = before.outcomes;
       };
+  sessions = good.sessions;
   earlier = good.earlier;
   past = subst (λ log. PastIsOut old.asked old.group log) (log_taken old.gone old.queue step.layer) good.past;
   run = good.run;
 })
 
-pub keeps_run : (t : Layout) (old new : World) (starved : List RequestId) (effect : Effect) → RunsLayer old starved effect new →
+pub keeps_run : (t : Layout) (old new : World) (starved : List SkipId) (effect : Effect) → RunsLayer old starved effect new →
     WorldGood t old → WorldGood t new
 keeps_run t old new starved effect step good = subst (λ w. WorldGood t w) (sym step.after) (record {
   skeen = good.skeen;
@@ -264,6 +288,7 @@ keeps_run t old new starved effect step good = subst (λ w. WorldGood t w) (sym 
       (subst (λ l. TakenGood old.asked old.proposed old.gone (all_taken old.ended l)) step.there good.taken);
   connections = connections_run old.opened old.standing old.seq old.last old.asked old.ended step.outcomes step.layer
       (subst (λ l. ConnectionsGood old.opened old.standing old.seq old.last old.asked old.ended l) step.there good.connections);
+  sessions = good.sessions;
   earlier = λ i j q r conns less e d. named_left old.ended step.outcomes i (good.earlier i j q r conns less e d);
   past = good.past;
   run = run_layer_good old.asked starved old.contents old.ended step.outcomes step.layer step.in_turn good.run;
@@ -296,6 +321,7 @@ keeps_settle t old new effect step good = subst (λ w. WorldGood t w) (sym step.
   connections = connections_settle old.opened old.standing old.seq old.last old.asked old.ended step.outcomes
       (run_is_pending t old step.outcomes step.there good)
       (subst (λ l. ConnectionsGood old.opened old.standing old.seq old.last old.asked old.ended l) step.there good.connections);
+  sessions = good.sessions;
   earlier = good.earlier;
   past = good.past;
   run = good.run;
@@ -313,6 +339,7 @@ keeps_collects t old new c (Answered o) effect is step good = subst (λ w. World
   requests = good.requests;
   taken = good.taken;
   connections = connections_collect old.opened old.standing old.seq old.last old.asked old.ended old.layer c o is good.connections;
+  sessions = good.sessions;
   earlier = good.earlier;
   past = good.past;
   run = good.run;
@@ -328,6 +355,7 @@ keeps_close t old new c effect step good = subst (λ w. WorldGood t w) (sym step
   requests = good.requests;
   taken = good.taken;
   connections = connections_close old.opened old.standing old.seq old.last old.asked old.ended old.layer c good.connections;
+  sessions = good.sessions;
   earlier = good.earlier;
   past = good.past;
   run = good.run;

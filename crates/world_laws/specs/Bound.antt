@@ -1,13 +1,14 @@
 -- How many steps there can be that bring packets, take layers, run and settle them: a packet that is repeated is brought
 -- once more.
-use Rattle.std.specs.Prelude.{ℕ, ◌+◌, ◌*◌, ◌≤◌, List, [], ◌∷◌, length, Result, Ok, Err}
-use Rattle.command_table.specs.declared.refusal.Refusal.{Refusal}
+use Rattle.std.specs.Prelude.{ℕ, ◌+◌, ◌*◌, ◌≤◌, List, [], ◌∷◌, length}
 use Rattle.journal.specs.declared.step.Step.{Step}
 use Rattle.journal.specs.declared.step.Step.TheVariants.{Open, Submit, Deliver, Take, Run, Settle, Collect, Close, Repeat}
 use Rattle.placement.specs.Layout.{Layout}
-use Rattle.tasks.specs.Tasks.{Task, task_reading, task_groups}
+use Rattle.sessions.specs.Session.{Answer, Now, Go, asks}
+use Rattle.tasks.specs.Tasks.{task_groups}
 use Rattle.world.specs.Steps.{opening, Leads}
 use Rattle.world.specs.World.{World}
+use Rattle.world_laws.specs.Sessions.{Sessions, all_free, sessions_after}
 
 -- 1 for a step that brings a packet, or takes, runs or settles a layer
 abbrev pub turn : Step → ℕ
@@ -31,19 +32,25 @@ abbrev pub allowed_to : List ℕ → ℕ
 allowed_to [] = 0
 allowed_to (g ∷ gs) = length (g ∷ gs) * length (g ∷ gs) + 3
 
-abbrev pub allowed_by : Layout → Result Task Refusal → ℕ
-allowed_by t (Ok task) = allowed_to (task_groups t task)
-allowed_by t (Err refusal) = 0
+-- by what comes of its words: words that are answered at once allow nothing
+abbrev pub allowed_by : Layout → Answer → ℕ
+allowed_by t (Go task) = allowed_to (task_groups t task)
+allowed_by t (Now reply) = 0
 
-abbrev pub allowance : Layout → Step → ℕ
-allowance t (Submit conn words) = allowed_by t (task_reading words)
-allowance t (Repeat place) = 1
-allowance t step = 0
+-- what a step allows, where connections remember this
+abbrev pub allowance : Layout → Sessions → Step → ℕ
+allowance t sessions (Submit conn words) = allowed_by t (asks (sessions conn.0) words).1
+allowance t sessions (Repeat place) = 1
+allowance t sessions step = 0
+
+-- what steps allow, one after another, where connections remember this before the first of them
+abbrev pub allowances_from : Layout → Sessions → List Step → ℕ
+allowances_from t sessions [] = 0
+allowances_from t sessions (s ∷ ss) = allowance t sessions s + allowances_from t (sessions_after sessions s) ss
 
 -- what all submitted requests and all repeated packets allow
 abbrev pub allowances : Layout → List Step → ℕ
-allowances t [] = 0
-allowances t (s ∷ ss) = allowance t s + allowances t ss
+allowances t steps = allowances_from t all_free steps
 
 -- there are never more such steps than these allow
 abbrev pub TurnsAreBounded : Type 0

@@ -8,6 +8,7 @@ use Rattle.placement.specs.Layout.{Layout}
 use Rattle.skeen_core.proofs.Ahead.{Going}
 use Rattle.skeen_core.specs.Group.{GroupState, heard, is_past}
 use Rattle.skeen_core.specs.Runs.{HasReached}
+use Rattle.resp.specs.Content.{Content}
 use Rattle.groups.specs.Order.{In}
 use Rattle.groups.specs.Stamp.{stamp_lt, final}
 use Rattle.skeen_core.specs.declared.packet.Body.{Body}
@@ -16,7 +17,9 @@ use Rattle.skeen_core.specs.declared.packet.Delivered.{Delivered}
 use Rattle.skeen_core.specs.declared.packet.Packet.{Packet}
 use Rattle.groups.specs.declared.request.RequestId.{RequestId}
 use Rattle.groups.specs.declared.stamp.Stamp.{Stamp}
-use Rattle.tasks.specs.Tasks.{task_groups, task_effect}
+use Rattle.sessions.specs.declared.session.Session.{Session}
+use Rattle.sessions.specs.declared.session.Session.TheVariants.{Free}
+use Rattle.tasks.specs.Tasks.{Task, task_groups, deed_effect, deed_of}
 use Rattle.world.specs.Steps.{map_after, after_all, outcome_of}
 use Rattle.world.specs.World.{World, Request, Outcome, Standing, Closed, Waiting, Answered, Ended, Layer, NoneTaken, Taken, HasRun}
 use Rattle.world.specs.World.{Proposals}
@@ -189,11 +192,19 @@ pub record ConnectionsGood (opened : ℕ) (standing : ℕ → Standing) (seq : �
   pub pending : (i : RequestId) (q : Request) → asked i ≡ Some q → Named settled i ⊎ Pending standing seq i
   pub outcomes : (c : ℕ) (o : Outcome) → standing c ≡ Answered o → OutcomeGood seq ended c o
 
+-- a connection that wasn't opened remembers nothing
+abbrev pub SessionsGood : ℕ → (ℕ → Session) → Type 0
+SessionsGood opened session = (c : ℕ) → opened < c → session c ≡ Free
+
 -- ---- what was run
 
--- it starved, or its reply is what its task answers on this map
+-- what a task is answered on this map, where it is executed and just those of its members starve that the reply tells
+abbrev pub AnswersOn : Map → Task → Content → Type 0
+AnswersOn m task reply = reply ≡ (deed_effect (deed_of task reply) m).1
+
+-- it starved as a whole, or its reply is what its task is answered on this map
 abbrev pub RepliesOn : Map → Ended → Type 0
-RepliesOn m e = (e.reply ≡ None) ⊎ (e.reply ≡ Some (task_effect e.task m).1)
+RepliesOn m e = (e.reply ≡ None) ⊎ ((reply : Content) × (e.reply ≡ Some reply) × AnswersOn m e.task reply)
 
 -- the replies are those of the tasks run one after another from this map
 abbrev pub RepliesInTurn : Map → List Ended → Type 0
@@ -212,6 +223,7 @@ pub record WorldGood (t : Layout) (w : World) : Type 0 where
   pub requests : AskedGood t w.asked w.proposed w.seq w.last
   pub taken : TakenGood w.asked w.proposed w.gone (all_taken w.ended w.layer)
   pub connections : ConnectionsGood w.opened w.standing w.seq w.last w.asked w.ended w.layer
+  pub sessions : SessionsGood w.opened w.session
   pub earlier : EarlierEnded w.asked w.ended
   pub past : PastIsOut w.asked w.group (log_of w)
   pub run : RunGood w.asked w.ended w.contents

@@ -1,5 +1,6 @@
 -- What was executed, as one thread on one map does it.
 use Rattle.std.specs.Prelude.{List, [], ◌∷◌, Option, Some, None}
+use Rattle.batches.specs.Starved.{starved_in}
 use Rattle.execution_order.specs.Entries.{Row, rows_by_stamp}
 pub use Rattle.execution_order.specs.Rows.{IsOneThread}
 use Rattle.journal.specs.declared.step.Step.{Step}
@@ -14,11 +15,12 @@ abbrev pub with_row : Ended → Option Content → List Row → List Row
 with_row e None rows = rows
 with_row e (Some reply) rows =
     record {
-      entry = record { id = e.id; stamp = e.stamp; groups = e.groups; task = e.task };
+      entry = record { id = e.id; stamp = e.stamp; groups = e.groups; task = e.task; starved = starved_in e.task reply };
       reply = reply;
     } ∷ rows
 
--- the executed requests with their replies, in the order of execution; those that starved are left out
+-- the executed requests with their replies and the numbers of their members that starved, in the order of execution; those that
+-- starved as a whole are left out
 abbrev pub rows_of : List Ended → List Row
 rows_of [] = []
 rows_of (e ∷ es) = with_row e e.reply (rows_of es)

@@ -1,4 +1,5 @@
 pub mod Good
+pub mod Sessions
 pub mod Order
 pub mod Conditions
 pub mod Headline

@@ -182,7 +182,7 @@ LinedUpIsBehindAlone = OfEveryWorld LinedUpInWords
 abbrev pub ids_of : List Ended → List RequestId
 ids_of es = map (λ e. e.id) es
 
--- each request ends at most once: it is executed, or it starves
+-- each request ends at most once: it is executed, or it starves as a whole
 abbrev pub EndedOnce : Layout → World → Type 0
 EndedOnce t w = EachOnce (ids_of w.ended)
 

@@ -9,6 +9,7 @@ use Rattle.skeen_core.specs.declared.packet.Body.TheVariants.{Proposal}
 use Rattle.skeen_core.specs.declared.packet.Delivered.{Delivered}
 use Rattle.skeen_core.specs.declared.packet.Packet.{Packet}
 use Rattle.groups.specs.declared.request.RequestId.{RequestId}
+use Rattle.groups.specs.declared.skip_id.SkipId.{SkipId}
 use Rattle.world.specs.Steps.{OwnFault, NoPacket, NoLayer, Refused}
 use Rattle.world.specs.World.{World, Request, NoneTaken, Proposals}
 use Rattle.world_laws.specs.Good.{Asked, IsOut, Named}
@@ -20,7 +21,7 @@ pub record IsQuiet (w : World) : Type 0 where
   pub layer : w.layer ≡ NoneTaken
   pub none_ready : (d : Delivered) → ¬ IsReady w.queue d
 
--- then each request that addressed groups has ended: it was executed, or it starved
+-- then each request that addressed groups has ended: it was executed, or it starved as a whole
 abbrev pub QuietMeansEnded : Type 0
 QuietMeansEnded = OfEveryWorld (λ t w. IsQuiet w → (i : RequestId) (q : Request) → w.asked i ≡ Some q → Named w.ended i)
 
@@ -28,7 +29,7 @@ QuietMeansEnded = OfEveryWorld (λ t w. IsQuiet w → (i : RequestId) (q : Reque
 pub record TurnsAreRefused (w : World) : Type 0 where
   pub deliver : Refused w (Deliver 0) NoPacket
   pub take : (fault : OwnFault) × Refused w Take fault
-  pub run : (starved : List RequestId) → Refused w (Run starved) NoLayer
+  pub run : (starved : List SkipId) → Refused w (Run starved) NoLayer
   pub settle : Refused w Settle NoLayer
 
 -- a world is quiet just where these are refused, so where it isn't something can be done

@@ -1,4 +1,4 @@
-use Rattle.std.proofs.Common.{◌++◌, ℕ, List}
+use Rattle.std.proofs.Common.{ℕ, List}
 use Rattle.std.specs.List.{AllZip}
 use Rattle.front.proofs.Half.{HalfSettled}
 use Rattle.front.specs.Fronts.{Told}
@@ -9,6 +9,6 @@ use Rattle.front.proofs.outcomes.hand_rows.Given as goal
 
 -- the outcomes of those in front have gone
 abbrev pub invariant-loop-row : goal.invariant-loop-row
-invariant-loop-row l = (t : Layout) (w : World) (now : Told) (done es back : List Ended) (standing : ℕ → Standing) →
-    AllZip (IsToldBy now) es l.fn.rows.items → IsSettling t w done (es ++ back) standing l.fn.router →
-    HalfSettled IsToldBy t w now done es back standing l.row-iterator.rest.items l.router
+invariant-loop-row l = (t : Layout) (w : World) (now : Told) (done es : List Ended) (standing : ℕ → Standing) →
+    AllZip (IsToldBy now) es l.fn.rows.items → IsSettling t w done es standing l.fn.router →
+    HalfSettled t w now done es standing l.row-iterator.rest.items l.router

@@ -1,6 +1,6 @@
 use Rattle.std.proofs.Common.{rules, ◌∷◌, [], take, inl, inr, sym, subst}
 use Rattle.std.proofs.lemmas.Bool.{both_ways}
-use Rattle.front.proofs.Parts.{in_either}
+use Rattle.front.proofs.Lists.{in_either}
 use Rattle.front.proofs.Turns.{passed_at, is_there}
 use Rattle.front.specs.Settling.{HasItsWords}
 use Rattle.groups.specs.Order.{In}

@@ -2,7 +2,7 @@ use Rattle.std.proofs.Common.{◌++◌, ◌∷◌, [], take, sym, subst, arith}
 use Rattle.std.specs.List.{AllZip}
 use Rattle.std.proofs.lemmas.List.{take_all}
 use Rattle.front.proofs.Blocks.{short_blocks, zip_blocks}
-use Rattle.front.proofs.Parts.{zip_append}
+use Rattle.front.proofs.Lists.{zip_append}
 use Rattle.front.proofs.Turns.{passed_at}
 use Rattle.front.specs.Room.{Holds, HaveBlocks}
 use Rattle.front.proofs.settling.blocks_for.Goals as goal
@@ -13,7 +13,7 @@ loop-row-preserved c =
     let i = c.loop-row.row-index in
     let row = c.row-item.result in
     let block = c.in_ok-text_block.field-0 in
-    let size = c.in-Some.ensures.1 in
+    let size = c.in-Some.ensures in
     let room = c.in_ok-text_block.ensures.room in
     let holds : Holds row block = record { empty = c.in_ok-text_block.ensures.empty; room = λ long. omega arith } in
     subst (λ l. AllZip Holds l c.push.new.self.items) (sym (passed_at rows i row c.loop-row-test.true c.row-item.is))

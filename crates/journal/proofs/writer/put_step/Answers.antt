@@ -20,9 +20,9 @@ pub returns-in_ok-extend_from_slice-in-Run-2-clause-ok : goal.returns-in_ok-exte
 returns-in_ok-extend_from_slice-in-Run-2-clause-ok c =
     rw (
       c.in_ok-extend_from_slice-in-Run-2.ensures.items,
-      c.in_ok-put_ids-in-Run.ensures.ok,
+      c.in_ok-put_skips-in-Run.ensures.ok,
       c.in_ok-extend_from_slice-in-Run.ensures.items,
-      c.as_slice.ensures,
+      c.as_slice.ensures.names,
       c.in-Run.is,
       run-written c.in-Run.starved,
     )

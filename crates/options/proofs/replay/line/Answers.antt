@@ -5,9 +5,9 @@ use Rattle.options.proofs.replay.line.Goals as goal
 
 pub returns : goal.returns
 returns c =
-    let table = c.valued-table.ensures in
-    let trace = c.valued-trace.ensures in
-    let workers = c.valued-workers.ensures in
-    let first = c.in_ok-arg.ensures.shape table.local ∙ ap₂ with_rule c.new.ensures.app table.rule in
+    let table = c.needed-table.ensures in
+    let trace = c.needed-trace.ensures in
+    let workers = c.number-workers.ensures in
+    let first = c.in_ok-arg.ensures.shape table.local ∙ ap₂ with_rule c.named.ensures table.rule in
     let second = c.in_ok-arg-2.ensures.shape trace.local ∙ ap₂ with_rule first trace.rule in
     IfOk-weaker c.arg-3.result _ _ (λ command adds. adds.shape workers.local ∙ ap₂ with_rule second workers.rule) c.arg-3.ensures

@@ -3,8 +3,8 @@ use Rattle.std.proofs.lemmas.Result.{IfErr-weaker, IfOk-weaker}
 use Rattle.clap.specs.Words.{App, HasKind, HasMatchesOf, Row, fault_of, is_simple, is_simple_and_free, takes}
 use Rattle.clap.proofs.BuiltLemmas.{on_ok_always}
 use Rattle.clap.proofs.OnLiterals.{clap_on_literals}
-use Rattle.options.proofs.ServerRefusals.{told_refusal, lacking}
-use Rattle.options.specs.Server.{AreSaidBy, Lacks, line}
+use Rattle.options.proofs.Refusals.{told_refusal, lacking}
+use Rattle.options.specs.Server.{AreSaidBy, IsOutOfBounds, Lacks, NamesNoAddress, line}
 use Rattle.options.proofs.server.read_options.Goals as goal
 
 line_is_simple : is_simple line ≡ true
@@ -21,7 +21,8 @@ returns-in-Err-clause-refused g c =
     let passes = ap (λ (app : App). takes app words) c.in_ok-command.ensures in
     let kinds = subst (λ (app : App). is_simple_and_free app ≡ true → HasKind (fault_of app words) c.in-Err.error)
     c.in_ok-command.ensures c.in-Err.ensures.kinds line_is_free in
-    told_refusal words c.in-Err.error c.from.result (λ taken. c.in-Err.ensures.passes (passes ∙ taken)) kinds c.from.ensures
+    told_refusal line IsOutOfBounds NamesNoAddress words c.in-Err.error c.from.result (λ taken. c.in-Err.ensures.passes (passes ∙ taken)) kinds
+    c.from.ensures
 
 pub returns-clause-taken : goal.returns-clause-taken
 returns-clause-taken g c =
@@ -42,4 +43,5 @@ returns-clause-refused g c =
     let words = map g.S.AsStr.text c.args.words.now in
     let found = subst (λ (app : App). HasMatchesOf app words c.in-Ok.matches) c.in_ok-command.ensures c.in-Ok.ensures.matches in
     IfErr-weaker c.options_of.result _ _
-    (λ f lacks. lacking words f (subst (λ (rows : List Row). Lacks rows f) (found line_is_simple).0 lacks)) c.options_of.ensures.refused
+    (λ f lacks. lacking line IsOutOfBounds NamesNoAddress words f (subst (λ (rows : List Row). Lacks rows f) (found line_is_simple).0 lacks))
+    c.options_of.ensures.refused

@@ -10,11 +10,11 @@ pub loop-job-preserved : goal.loop-job-preserved
 loop-job-preserved c =
     let job = c.job-item.result in
     let starved = c.args.starved.now in
-    let put : JobFacts = record { asked = job.asked; stamp = job.stamp; groups = job.groups; starved = c.is_among.result } in
+    let put : JobFacts = record { asked = job.asked; stamp = job.stamp; groups = job.groups; starved = c.is_whole_among.result } in
     ap (map job_in) c.in_ok-push.ensures.items
     ∙ map_more job_in (λ j. marked starved (job_in j)) c.args.jobs.now c.loop-job.job-index job c.loop-job.told.items put
     c.loop-job-test.true c.job-item.is c.loop-job.invariant
-    (λ i. record { id = job.asked.id; stamp = job.stamp; groups = job.groups; starved = c.is_among.ensures i })
+    (λ i. record { id = job.asked.id; stamp = job.stamp; groups = job.groups; starved = c.is_whole_among.ensures i })
 
 pub returns : goal.returns
 returns c =

@@ -4,9 +4,9 @@ use Rattle.picture.specs.Flights.{Lands, arrival_in, kept_at}
 use Rattle.picture.proofs.Landing.{flies}
 use Rattle.picture.proofs.Recording.{ran_next}
 use Rattle.replay.proofs.Making.{named_all}
-use Rattle.replay.specs.Replay.{starved_in}
+use Rattle.replay.specs.Names.{is_named}
+use Rattle.replay.specs.Replay.{starved_at}
 use Rattle.system.specs.Reads.{packets_of}
-use Rattle.world.specs.Steps.{names}
 use Rattle.picture.proofs.making.make.Goals as goal
 
 pub returns-clause-made : goal.returns-clause-made
@@ -21,7 +21,7 @@ returns-clause-made c = λ t most before at ran.
     let landed = c.land-landed.result in
     let kept = c.kept_at-kept.result in
     let named = named_all step effect c.in_ok-named.named.items c.in_ok-named.ensures
-    (subst (λ l. list_all (names l) (starved_in effect) ≡ true) c.as_slice.ensures.value
+    (subst (λ l. list_all (is_named l) (starved_at effect) ≡ true) c.as_slice.ensures.value
     (sym c.are_named.ensures ∙ c.if-not-are_named.false)) in
     let lands = subst (λ a. Lands index a flights mid landed) c.arrival_in-arrival.ensures c.land-landed.ensures in
     let count = subst (λ a. length (kept_at a (packets_of old)) ≡ kept) c.arrival_in-arrival.ensures

@@ -10,8 +10,8 @@ use Rattle.replay.proofs.compare.put_rows.Given as goal
 abbrev pub invariant-loop-key : goal.invariant-loop-key
 invariant-loop-key g l =
     (executed : List Row) → AllZip IsRow executed l.rows.rows →
-    Whole executed l.keys l.out.items (l.fn.out.items ++ flat_map row_line (rows_by_stamp executed)) l.solo
-    (left_by l.fn.solo (rows_by_stamp executed)) l.same (replies_agree l.fn.solo (rows_by_stamp executed))
+    Whole l.starved executed l.keys l.out.items (l.fn.out.items ++ flat_map row_line (rows_by_stamp executed)) l.solo
+    (left_by l.starved l.fn.solo (rows_by_stamp executed)) l.same (replies_agree l.starved l.fn.solo (rows_by_stamp executed))
 
 abbrev pub decreases-loop-key : goal.decreases-loop-key
 decreases-loop-key g l = length l.keys

@@ -1,8 +1,8 @@
 use Rattle.std.proofs.Common.{◌≡◌, true, take}
 use Rattle.std.specs.List.{list_all}
-use Rattle.world.specs.Steps.{names}
+use Rattle.replay.specs.Names.{is_named}
 use Rattle.replay.proofs.named.are_among.Given as goal
 
 -- those so far are
-abbrev pub invariant-loop-id : goal.invariant-loop-id
-invariant-loop-id l = list_all (names l.others) (take l.id-index l.ids) ≡ true
+abbrev pub invariant-loop-name : goal.invariant-loop-name
+invariant-loop-name l = list_all (is_named l.others) (take l.name-index l.names) ≡ true

@@ -41,7 +41,6 @@ pub loop-part-preserved : goal.loop-part-preserved
 loop-part-preserved c =
     let n = c.loop-part.part-index in let plan = c.args.plan.now in let p = c.part-item.result in let rest = drop (n + 1) plan in
     let inv = c.loop-part.invariant in let slots = c.loop-part.slots.items in let row = c.loop-part.row.items in
-    let skip = c.args.skip.now in
     let room = c.in-Some.room in let rooms = c.next.new.self.rest.items in let load = c.take_load.result in
     let mid = c.take_load.new.row.items in
     let next : drop n plan ≡ p ∷ rest =
@@ -49,16 +48,16 @@ loop-part-preserved c =
     ∙ ap (λ k. p ∷ drop k plan) (sym (add-one n)) in
     record {
       made = λ ws left h.
-          subst (λ l. MadeWorks skip c.args.slots.items c.args.row.now.items (units_in plan) (all_rooms c.args.rooms.items) l left)
+          subst (λ l. MadeWorks c.args.slots.items c.args.row.now.items (units_in plan) (all_rooms c.args.rooms.items) l left)
           (sym (ap (λ l. all_works l ++ ws) c.in-Ok.ensures.items ∙ works_snoc c.loop-part.loads.items load ws))
           (inv.made (load.works.items ++ ws) left
-          (subst (λ l. MadeWorks skip slots row (units_in l) (all_rooms c.loop-part.rooms.rest.items) (load.works.items ++ ws) left)
+          (subst (λ l. MadeWorks slots row (units_in l) (all_rooms c.loop-part.rooms.rest.items) (load.works.items ++ ws) left)
           (sym next)
-          (subst (λ l. MadeWorks skip slots row (p ++ units_in rest) (all_rooms l) (load.works.items ++ ws) left)
+          (subst (λ l. MadeWorks slots row (p ++ units_in rest) (all_rooms l) (load.works.items ++ ws) left)
           (sym c.in-Some.ensures.items)
-          (made_both skip slots row mid left p (units_in rest) room.units.items
+          (made_both slots row mid left p (units_in rest) room.units.items
           (all_rooms rooms) load.works.items ws c.take_load.ensures.made
-          (subst (λ s. MadeWorks skip s mid (units_in rest) (all_rooms rooms) ws left) c.take_load.ensures.left h)))));
+          (subst (λ s. MadeWorks s mid (units_in rest) (all_rooms rooms) ws left) c.take_load.ensures.left h)))));
       there = subst (λ s. CanTake s (concat (units_in rest))) (sym c.take_load.ensures.left)
           (can_take_rest slots (concat p) (concat (units_in rest))
           (subst (CanTake slots) (ap (λ l. concat (units_in l)) next ∙ concat-append p (units_in rest)) inv.there));
@@ -77,9 +76,9 @@ returns-clause-made c =
     let none : drop n plan ≡ [] = (let end : n ≡ length plan = omega arith in ap (λ k. drop k plan) end ∙ drop-length plan) in
     let no_rooms : c.loop-part.rooms.rest.items ≡ [] =
     nil_from_length _ (let e = zip_length _ _ _ inv.rooms in let f = ap (λ (l : _). length l) none in omega (arith, e, f)) in
-    subst (λ l. MadeWorks c.args.skip.now c.args.slots.items c.args.row.now.items (units_in plan) (all_rooms c.args.rooms.items) l row)
+    subst (λ l. MadeWorks c.args.slots.items c.args.row.now.items (units_in plan) (all_rooms c.args.rooms.items) l row)
     (append-nil _)
     (inv.made [] row
-    (subst (λ l. MadeWorks c.args.skip.now c.loop-part.slots.items row (units_in l) (all_rooms c.loop-part.rooms.rest.items) [] row)
+    (subst (λ l. MadeWorks c.loop-part.slots.items row (units_in l) (all_rooms c.loop-part.rooms.rest.items) [] row)
     (sym none)
-    (subst (λ l. MadeWorks c.args.skip.now c.loop-part.slots.items row [] (all_rooms l) [] row) (sym no_rooms) refl)))
+    (subst (λ l. MadeWorks c.loop-part.slots.items row [] (all_rooms l) [] row) (sym no_rooms) refl)))

@@ -9,8 +9,8 @@ use Rattle.shard_exec.proofs.dealing.take_loads.Given as goal
 abbrev pub invariant-loop-part : goal.invariant-loop-part
 invariant-loop-part l = record {
   made : (ws : _) (left : _)
-      → MadeWorks l.skip l.slots.items l.row.items (units_in (drop l.part-index l.plan)) (all_rooms l.rooms.rest.items) ws left
-      → MadeWorks l.skip l.fn.slots.items l.fn.row.items (units_in l.plan) (all_rooms l.fn.rooms.items)
+      → MadeWorks l.slots.items l.row.items (units_in (drop l.part-index l.plan)) (all_rooms l.rooms.rest.items) ws left
+      → MadeWorks l.fn.slots.items l.fn.row.items (units_in l.plan) (all_rooms l.fn.rooms.items)
       (all_works l.loads.items ++ ws) left;
   there : CanTake l.slots.items (concat (units_in (drop l.part-index l.plan)));
   rooms : AllZip HaveRoomFor (drop l.part-index l.plan) l.rooms.rest.items;

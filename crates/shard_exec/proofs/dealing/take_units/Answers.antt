@@ -38,21 +38,21 @@ pub loop-number-preserved : goal.loop-number-preserved
 loop-number-preserved c =
     let n = c.loop-number.number in let part = c.args.part.now in let u = c.unit-unit.result.now in let rest = drop (n + 1) part in
     let inv = c.loop-number.invariant in let slots = c.loop-number.slots.items in let row = c.loop-number.row.items in
-    let room = c.in-Some.room in let rooms = c.next.new.self.rest.items in let w = c.take_unit.result in let skip = c.args.skip.now in
+    let room = c.in-Some.room in let rooms = c.next.new.self.rest.items in let w = c.take_unit.result in
     let next : drop n part ≡ u ∷ rest =
     drop-cons part n [] (omega arith) ∙ ap (λ x. x ∷ drop (suc n) part) (sym c.unit-unit.ensures)
     ∙ ap (λ k. u ∷ drop k part) (sym (add-one n)) in
     record {
       made = λ ws left h.
-          subst (λ l. MadeWorks skip c.args.slots.now.items c.args.row.now.items part c.args.rooms.items l left)
+          subst (λ l. MadeWorks c.args.slots.now.items c.args.row.now.items part c.args.rooms.items l left)
           (sym (ap (λ l. l ++ ws) c.in-Ok.ensures.items ∙ append_snoc c.loop-number.works.items w ws))
           (inv.made (w ∷ ws) left
-          (subst (λ us. MadeWorks skip slots row us c.loop-number.rooms.rest.items (w ∷ ws) left) (sym next)
-          (subst (λ ms. MadeWorks skip slots row (u ∷ rest) ms (w ∷ ws) left) (sym c.in-Some.ensures.items) (
+          (subst (λ us. MadeWorks slots row us c.loop-number.rooms.rest.items (w ∷ ws) left) (sym next)
+          (subst (λ ms. MadeWorks slots row (u ∷ rest) ms (w ∷ ws) left) (sym c.in-Some.ensures.items) (
             c.take_unit.ensures.took,
             c.take_unit.ensures.shards,
-            subst (λ s. MadeWorks skip s (emptied empty row room.groups) rest rooms ws left) c.take_unit.ensures.left
-                (subst (λ r. MadeWorks skip c.take_unit.new.slots.items r rest rooms ws left) c.take_unit.ensures.row h),
+            subst (λ s. MadeWorks s (emptied empty row room.groups) rest rooms ws left) c.take_unit.ensures.left
+                (subst (λ r. MadeWorks c.take_unit.new.slots.items r rest rooms ws left) c.take_unit.ensures.row h),
           ))));
       there = subst (λ s. CanTake s (concat rest)) (sym c.take_unit.ensures.left)
           (can_take_rest slots u (concat rest) (subst (λ l. CanTake slots (concat l)) next inv.there));
@@ -77,7 +77,7 @@ returns-clause-made c =
     let none : drop n part ≡ [] = (let end : n ≡ length part = omega arith in ap (λ k. drop k part) end ∙ drop-length part) in
     let no_rooms : c.loop-number.rooms.rest.items ≡ [] =
     nil_from_length _ (let e = zip_length _ _ _ inv.rooms in let f = ap (λ (l : _). length l) none in omega (arith, e, f)) in
-    subst (λ l. MadeWorks c.args.skip.now c.args.slots.now.items c.args.row.now.items part c.args.rooms.items l row) (append-nil _)
-    (inv.made [] row (subst (λ us. MadeWorks c.args.skip.now c.loop-number.slots.items row us c.loop-number.rooms.rest.items [] row)
+    subst (λ l. MadeWorks c.args.slots.now.items c.args.row.now.items part c.args.rooms.items l row) (append-nil _)
+    (inv.made [] row (subst (λ us. MadeWorks c.loop-number.slots.items row us c.loop-number.rooms.rest.items [] row)
     (sym none)
-    (subst (λ ms. MadeWorks c.args.skip.now c.loop-number.slots.items row [] ms [] row) (sym no_rooms) refl)))
+    (subst (λ ms. MadeWorks c.loop-number.slots.items row [] ms [] row) (sym no_rooms) refl)))

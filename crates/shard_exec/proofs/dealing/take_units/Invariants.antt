@@ -8,8 +8,8 @@ use Rattle.shard_exec.proofs.dealing.take_units.Given as goal
 abbrev pub invariant-loop-number : goal.invariant-loop-number
 invariant-loop-number l = record {
   made : (ws : _) (left : _)
-      → MadeWorks l.skip l.slots.items l.row.items (drop l.number l.part) l.rooms.rest.items ws left
-      → MadeWorks l.skip l.fn.slots.items l.fn.row.items l.part l.fn.rooms.items (l.works.items ++ ws) left;
+      → MadeWorks l.slots.items l.row.items (drop l.number l.part) l.rooms.rest.items ws left
+      → MadeWorks l.fn.slots.items l.fn.row.items l.part l.fn.rooms.items (l.works.items ++ ws) left;
   there : CanTake l.slots.items (concat (drop l.number l.part));
   left : left_at l.slots.items (concat (drop l.number l.part)) ≡ left_at l.fn.slots.items (concat l.part);
   rooms : AllZip HasRoomFor (drop l.number l.part) l.rooms.rest.items;

@@ -39,7 +39,7 @@ pub run_loads-requires-clause-ready : goal.run_loads-requires-clause-ready
 run_loads-requires-clause-ready g c =
     let layer = filled c.args.slots.items in let units = units_in c.args.plan.now in
     ready_loads c.args.table.now c.take_loads-loads.result.items
-    (all_ready c.args.table.now c.args.row.now.items c.args.skip.now layer units (all_rooms c.args.dealt.rooms.items)
+    (all_ready c.args.table.now c.args.row.now.items layer units (all_rooms c.args.dealt.rooms.items)
     (all_works c.take_loads-loads.result.items) c.take_loads-loads.new.row.items c.args.slots.items c.requires.is_table c.requires.own
     c.requires.groups c.requires.units (rooms_in (groups_each layer) c.args.plan.now c.args.dealt.rooms.items c.requires.fits.rooms)
     (at_filled c.args.slots.items c.requires.full) c.take_loads-loads.ensures.made taken_out_as_they_were)
@@ -47,13 +47,14 @@ run_loads-requires-clause-ready g c =
 pub put_all-requires-clause-shards : goal.put_all-requires-clause-shards
 put_all-requires-clause-shards g c =
     let layer = filled c.args.slots.items in let units = units_in c.args.plan.now in
-    spans_inside c.args.table.now c.args.row.now.items c.args.skip.now layer units (all_rooms c.args.dealt.rooms.items)
+    spans_inside c.args.table.now c.args.row.now.items layer units (all_rooms c.args.dealt.rooms.items)
     (all_works c.take_loads-loads.result.items) c.take_loads-loads.new.row.items c.args.slots.items c.requires.is_table c.requires.own
     c.requires.groups c.requires.units (rooms_in (groups_each layer) c.args.plan.now c.args.dealt.rooms.items c.requires.fits.rooms)
     (at_filled c.args.slots.items c.requires.full) c.take_loads-loads.ensures.made taken_out_as_they_were
-    (all_rans c.in-Ok.results.items) (zip_loads c.args.table.now c.take_loads-loads.result.items c.in-Ok.results.items c.in-Ok.ensures.each)
+    c.args.skip.now (all_rans c.in-Ok.results.items) (zip_loads c.args.table.now c.args.skip.now c.take_loads-loads.result.items
+    c.in-Ok.results.items c.in-Ok.ensures.each)
     (length c.take_loads-loads.new.row.items)
-    (ap (λ (l : List _). length l) (made_left c.args.skip.now c.args.slots.items c.args.row.now.items units
+    (ap (λ (l : List _). length l) (made_left c.args.slots.items c.args.row.now.items units
     (all_rooms c.args.dealt.rooms.items) (all_works c.take_loads-loads.result.items) c.take_loads-loads.new.row.items
     c.take_loads-loads.ensures.made)
     ∙ length-emptied_each empty c.args.row.now.items (map (λ m. m.groups) (all_rooms c.args.dealt.rooms.items)) ∙ c.requires.shards)
@@ -61,36 +62,38 @@ put_all-requires-clause-shards g c =
 pub put_all-requires-clause-places : goal.put_all-requires-clause-places
 put_all-requires-clause-places g c =
     let layer = filled c.args.slots.items in let units = units_in c.args.plan.now in
-    jobs_inside c.args.table.now c.args.row.now.items c.args.skip.now layer units (all_rooms c.args.dealt.rooms.items)
+    jobs_inside c.args.table.now c.args.row.now.items layer units (all_rooms c.args.dealt.rooms.items)
     (all_works c.take_loads-loads.result.items) c.take_loads-loads.new.row.items c.args.slots.items c.requires.is_table c.requires.own
     c.requires.groups c.requires.units (rooms_in (groups_each layer) c.args.plan.now c.args.dealt.rooms.items c.requires.fits.rooms)
     (at_filled c.args.slots.items c.requires.full) c.take_loads-loads.ensures.made taken_out_as_they_were
-    (all_rans c.in-Ok.results.items) (zip_loads c.args.table.now c.take_loads-loads.result.items c.in-Ok.results.items c.in-Ok.ensures.each)
+    c.args.skip.now (all_rans c.in-Ok.results.items) (zip_loads c.args.table.now c.args.skip.now c.take_loads-loads.result.items
+    c.in-Ok.results.items c.in-Ok.ensures.each)
     (length c.args.rans.items)
     (ap (λ (l : List _). length l) c.requires.none ∙ length-replicate _ _ ∙ sym (length-filled c.args.slots.items c.requires.full))
 
 pub returns-clause-given : goal.returns-clause-given
 returns-clause-given g c =
     let layer = filled c.args.slots.items in let units = units_in c.args.plan.now in
-    dealt_given c.args.table.now c.args.row.now.items c.args.skip.now layer units (all_rooms c.args.dealt.rooms.items)
+    dealt_given c.args.table.now c.args.row.now.items layer units (all_rooms c.args.dealt.rooms.items)
     (all_works c.take_loads-loads.result.items) c.take_loads-loads.new.row.items c.args.slots.items c.requires.is_table c.requires.own
     c.requires.groups c.requires.units (rooms_in (groups_each layer) c.args.plan.now c.args.dealt.rooms.items c.requires.fits.rooms)
     (at_filled c.args.slots.items c.requires.full) c.take_loads-loads.ensures.made taken_out_as_they_were
-    (all_rans c.in-Ok.results.items) (zip_loads c.args.table.now c.take_loads-loads.result.items c.in-Ok.results.items c.in-Ok.ensures.each)
+    c.args.skip.now (all_rans c.in-Ok.results.items) (zip_loads c.args.table.now c.args.skip.now c.take_loads-loads.result.items
+    c.in-Ok.results.items c.in-Ok.ensures.each)
     parts_in_turn c.requires.shards c.args.rans.items c.put_all.result.items c.put_all.new.row.items
     (c.requires.none ∙ ap (λ n. replicate n None) (sym (length-filled c.args.slots.items c.requires.full)))
     c.put_all.ensures.placed c.put_all.ensures.row
 
 pub returns-in-Err-clause-shards : goal.returns-in-Err-clause-shards
 returns-in-Err-clause-shards g c =
-    ap (λ (l : List _). length l) (made_left c.args.skip.now c.args.slots.items c.args.row.now.items (units_in c.args.plan.now)
+    ap (λ (l : List _). length l) (made_left c.args.slots.items c.args.row.now.items (units_in c.args.plan.now)
     (all_rooms c.args.dealt.rooms.items) (all_works c.take_loads-loads.result.items) c.take_loads-loads.new.row.items
     c.take_loads-loads.ensures.made)
     ∙ length-emptied_each empty c.args.row.now.items (map (λ m. m.groups) (all_rooms c.args.dealt.rooms.items))
 
 pub returns-in-Err-clause-own : goal.returns-in-Err-clause-own
 returns-in-Err-clause-own g c =
-    subst (HasOwnKeys c.args.table.now) (sym (made_left c.args.skip.now c.args.slots.items c.args.row.now.items (units_in c.args.plan.now)
+    subst (HasOwnKeys c.args.table.now) (sym (made_left c.args.slots.items c.args.row.now.items (units_in c.args.plan.now)
     (all_rooms c.args.dealt.rooms.items) (all_works c.take_loads-loads.result.items) c.take_loads-loads.new.row.items
     c.take_loads-loads.ensures.made))
     (own_left c.args.table.now c.args.row.now.items (map (λ m. m.groups) (all_rooms c.args.dealt.rooms.items)) c.requires.own)
@@ -98,7 +101,7 @@ returns-in-Err-clause-own g c =
 pub returns-clause-shards : goal.returns-clause-shards
 returns-clause-shards g c =
     c.put_all.ensures.len
-    ∙ ap (λ (l : List _). length l) (made_left c.args.skip.now c.args.slots.items c.args.row.now.items (units_in c.args.plan.now)
+    ∙ ap (λ (l : List _). length l) (made_left c.args.slots.items c.args.row.now.items (units_in c.args.plan.now)
     (all_rooms c.args.dealt.rooms.items) (all_works c.take_loads-loads.result.items) c.take_loads-loads.new.row.items
     c.take_loads-loads.ensures.made)
     ∙ length-emptied_each empty c.args.row.now.items (map (λ m. m.groups) (all_rooms c.args.dealt.rooms.items))
@@ -106,11 +109,12 @@ returns-clause-shards g c =
 pub returns-clause-own : goal.returns-clause-own
 returns-clause-own g c =
     let layer = filled c.args.slots.items in let units = units_in c.args.plan.now in
-    (dealt_given c.args.table.now c.args.row.now.items c.args.skip.now layer units (all_rooms c.args.dealt.rooms.items)
+    (dealt_given c.args.table.now c.args.row.now.items layer units (all_rooms c.args.dealt.rooms.items)
     (all_works c.take_loads-loads.result.items) c.take_loads-loads.new.row.items c.args.slots.items c.requires.is_table c.requires.own
     c.requires.groups c.requires.units (rooms_in (groups_each layer) c.args.plan.now c.args.dealt.rooms.items c.requires.fits.rooms)
     (at_filled c.args.slots.items c.requires.full) c.take_loads-loads.ensures.made taken_out_as_they_were
-    (all_rans c.in-Ok.results.items) (zip_loads c.args.table.now c.take_loads-loads.result.items c.in-Ok.results.items c.in-Ok.ensures.each)
+    c.args.skip.now (all_rans c.in-Ok.results.items) (zip_loads c.args.table.now c.args.skip.now c.take_loads-loads.result.items
+    c.in-Ok.results.items c.in-Ok.ensures.each)
     parts_in_turn c.requires.shards c.args.rans.items c.put_all.result.items c.put_all.new.row.items
     (c.requires.none ∙ ap (λ n. replicate n None) (sym (length-filled c.args.slots.items c.requires.full)))
     c.put_all.ensures.placed c.put_all.ensures.row).done.own

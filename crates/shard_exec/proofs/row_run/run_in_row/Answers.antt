@@ -14,7 +14,7 @@ run_in_place-requires g c =
 pub returns-in-Some-clause-ran : goal.returns-in-Some-clause-ran
 returns-in-Some-clause-ran g c =
     in_place c.args.table.now c.args.row.now.items c.args.placed c.requires.is_table c.requires.shards c.requires.own c.requires.groups
-    c.run_in_place.result c.in-Some.group c.run_in_place.new.row.items (sym c.groups-groups.ensures ∙ c.in-Some.ensures)
+    c.args.skip.now c.run_in_place.result c.in-Some.group c.run_in_place.new.row.items (sym c.groups-groups.ensures ∙ c.in-Some.ensures)
     c.run_in_place.ensures.ran c.run_in_place.ensures.row
 
 pub take_shards-shards-requires-clause-inside : goal.take_shards-shards-requires-clause-inside
@@ -39,8 +39,8 @@ put_back-requires g c =
 pub returns-clause-ran : goal.returns-clause-ran
 returns-clause-ran g c =
     moved c.args.table.now c.args.row.now.items c.args.placed c.requires.is_table c.requires.shards c.requires.own c.requires.groups
-    c.run_over-ran.result.0 c.take_shards-shards.result.items c.run_over-ran.result.1.items c.take_shards-shards.new.row.items
-    c.put_back.new.row.items
+    c.args.skip.now c.run_over-ran.result.0 c.take_shards-shards.result.items c.run_over-ran.result.1.items
+    c.take_shards-shards.new.row.items c.put_back.new.row.items
     (c.take_shards-shards.ensures.taken ∙ ap (λ gs. taken_out empty c.args.row.now.items gs) c.groups-groups.ensures)
     (c.take_shards-shards.ensures.left ∙ ap (λ gs. emptied empty c.args.row.now.items gs) c.groups-groups.ensures)
     c.run_over-ran.ensures c.put_back.ensures.row

@@ -15,5 +15,5 @@ returns-clause-took c =
     let none : drop c.loop-place.place-index c.args.places.now ≡ [] =
     (let end : c.loop-place.place-index ≡ length c.args.places.now = omega arith in ap (λ k. drop k c.args.places.now) end
     ∙ drop-length c.args.places.now) in
-    subst (TookJobs c.args.skip.now c.args.slots.now.items c.args.places.now) (append-nil _)
-    (c.loop-place.invariant.took [] (subst (λ is. TookJobs c.args.skip.now c.loop-place.slots.items is []) (sym none) tt))
+    subst (TookJobs c.args.slots.now.items c.args.places.now) (append-nil _)
+    (c.loop-place.invariant.took [] (subst (λ is. TookJobs c.loop-place.slots.items is []) (sym none) tt))

@@ -1,6 +1,7 @@
-use Rattle.std.proofs.Common.{Some, subst}
+use Rattle.std.proofs.Common.{◌≡◌, Some, ap, subst}
+use Rattle.cluster.proofs.Collecting.{HasCome}
 use Rattle.cluster.proofs.Seats.{cluster_still, cluster_collected, room_still}
-use Rattle.cluster.specs.Clusters.{ClusterView, CanCollect}
+use Rattle.cluster.specs.Clusters.{ClusterView, SeatView, CanCollect}
 use Rattle.cluster.specs.Histories.{IsMade}
 use Rattle.journal.specs.declared.step.Step.TheVariants.{Collect}
 use Rattle.system_view.specs.Connections.{outcome_shown}
@@ -33,6 +34,15 @@ returns-clause-collected g c =
     let o = outcome_shown c.in-Ok-take_outcome.outcome in
     subst (λ (v : ClusterView). IsMade v.history (Collect c.args.seat.now.conn) (Collected (Some o)) c.take_outcome.new.history)
     c.self.view_is c.in-Ok-take_outcome.ensures.taken
+
+pub returns-clause-from : goal.returns-clause-from
+returns-clause-from g c =
+    let o = outcome_shown c.in-Ok-take_outcome.outcome in
+    let after = c.take_outcome.new.history in
+    let seat = ap (λ (s : SeatView). s.words) c.seat.view_is in
+    let words : c.args.seat.now.words ≡ c.in-Ok-try_clone.words = cc (c.in-Ok-try_clone.ensures, seat) in
+    subst (λ (v : ClusterView). HasCome v.history after c.in-Ok-try_clone.words o) c.self.view_is
+    (subst (λ w. HasCome c.self.inside.history after w o) words c.in-Ok-take_outcome.ensures.from)
 
 pub returns-in_default-clause-refused : goal.returns-in_default-clause-refused
 returns-in_default-clause-refused g c =

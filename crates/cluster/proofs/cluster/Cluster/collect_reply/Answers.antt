@@ -1,9 +1,8 @@
-use Rattle.std.proofs.Common.{Some, sym, subst, refl}
+use Rattle.std.proofs.Common.{Some, subst, refl}
 use Rattle.cluster.proofs.Seats.{cluster_still, cluster_collected, room_still}
-use Rattle.cluster.proofs.Submits.{said_still}
+use Rattle.cluster.proofs.Submits.{said_later}
 use Rattle.cluster.specs.Clusters.{ClusterView}
 use Rattle.cluster.specs.Histories.{IsMade}
-use Rattle.cluster.specs.Submits.{IsSaid}
 use Rattle.journal.specs.declared.step.Step.TheVariants.{Collect}
 use Rattle.system_view.specs.Connections.{outcome_shown}
 use Rattle.world.specs.Steps.{Collected}
@@ -41,9 +40,9 @@ returns-clause-replied g c =
       made = subst (λ (v : ClusterView). IsMade v.history (Collect s.conn) (Collected (Some (outcome_shown outcome)))
           c.take_outcome.new.history) c.self.view_is is.taken;
       id = is.id;
-      said = subst (λ steps. IsSaid steps outcome.id s.words) (sym is.taken.steps)
-          (said_still c.self.inside.history.steps (Collect s.conn) outcome.id s.words is.said);
-      from = is.from;
+      said = said_later c.self.inside.history.steps c.take_outcome.new.history.steps (Collect s.conn) outcome.id s.words is.taken.steps
+          is.from.0;
+      from = is.from.1;
       above = is.above;
       seat = is.seat;
     }

@@ -1,4 +1,4 @@
-use Rattle.std.proofs.Common.{true, [], None, refl, ◌∙◌}
+use Rattle.std.proofs.Common.{true, [], None, refl, ap, ◌∙◌}
 use Rattle.front.proofs.Opening.{IsOpening, opening_shown}
 use Rattle.front.specs.Fronts.{FrontView, roomless}
 use Rattle.world.specs.Steps.{opening}
@@ -23,6 +23,7 @@ is_opening : (c : After-new-5) → IsOpening (new_front c)
 is_opening c = record {
   opened = c.new-2.ensures.opened;
   kept = c.new-2.ensures.none;
+  sessions = λ n. ap (λ f. f n) c.new-2.ensures.sessions;
   count = c.in_ok-multicast.ensures.count ∙ c.shards.ensures.value;
   fresh = c.in_ok-multicast.ensures.fresh;
   packets = c.in_ok-multicast.ensures.none;

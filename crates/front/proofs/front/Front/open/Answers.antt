@@ -17,11 +17,11 @@ invariant_of-self-2 c =
     let old = seen c.self.inside in
     let opened = c.in_ok-conn.ensures in
     once_made old (stepped old c.open.new.self old.multicast) c.self.invariant Open tt (Opened c.in_ok-conn.conn.0)
-    (open_makes old c.open.new.self c.in_ok-conn.conn opened.number opened.opened opened.at)
+    (open_makes old c.open.new.self c.in_ok-conn.conn opened.number opened.opened opened.at opened.sessions)
 
 pub returns-clause-made : goal.returns-clause-made
 returns-clause-made c =
     let old = seen c.self.inside in
     let opened = c.in_ok-conn.ensures in
     subst (λ v. Makes v Open (Opened c.in_ok-conn.conn.0) (stepped old c.open.new.self old.multicast)) c.self.view_is
-    (open_makes old c.open.new.self c.in_ok-conn.conn opened.number opened.opened opened.at)
+    (open_makes old c.open.new.self c.in_ok-conn.conn opened.number opened.opened opened.at opened.sessions)

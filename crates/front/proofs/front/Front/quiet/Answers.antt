@@ -2,7 +2,7 @@ use Rattle.std.proofs.Common.{rules, ◌≡◌, ◌↔◌, [], Bool, true, false
 use Rattle.std.proofs.lemmas.Bool.{both_ways}
 use Rattle.delivery.specs.Queues.{queue_of}
 use Rattle.delivery.specs.Ready.{IsReady}
-use Rattle.front.proofs.TakeMakes.{none_listed}
+use Rattle.front.proofs.Lists.{none_listed}
 use Rattle.front.proofs.Views.{seen}
 use Rattle.front.specs.Fronts.{FrontView}
 use Rattle.front.specs.Looking.{IsQuiet}

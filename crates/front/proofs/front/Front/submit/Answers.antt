@@ -7,7 +7,8 @@ use Rattle.front.specs.Fronts.{roomless}
 use Rattle.front.specs.Making.{Makes}
 use Rattle.front.specs.Refusing.{IsFault, MayStep}
 use Rattle.journal.specs.declared.step.Step.TheVariants.{Submit}
-use Rattle.tasks.specs.Tasks.{task_reading}
+use Rattle.router.specs.Router.{session_at}
+use Rattle.sessions.specs.Session.{asks}
 use Rattle.world.specs.Steps.{Submitted}
 use Rattle.front.proofs.front.Front.submit.Goals as goal
 
@@ -28,7 +29,7 @@ submit-requires c = few_asked (seen c.self.inside) c.self.invariant (subst MaySt
 
 pub start-requires : goal.start-requires
 start-requires c =
-    let few = groups_few c.self.inside.table (task_reading c.args.words) in
+    let few = groups_few c.self.inside.table (asks (session_at c.self.inside.router c.args.conn.0) c.args.words).1 in
     let groups = ap length c.in-Ok-submit.ensures.submitted.groups in
     let room = c.in-Ok.ensures.room in
     let from = c.from-groups.ensures in

@@ -3,7 +3,8 @@ use Rattle.std.specs.Prelude.{IsOk, IsSome}
 use Rattle.delivery.specs.Queues.{queue_of}
 use Rattle.delivery.specs.Ready.{IsLayer}
 use Rattle.front.proofs.Jobs.{jobs_may_stand}
-use Rattle.front.proofs.TakeMakes.{taken_front, take_memory, take_no_layer, some_ready, none_listed}
+use Rattle.front.proofs.Lists.{none_listed}
+use Rattle.front.proofs.TakeMakes.{taken_front, take_memory, take_no_layer, some_ready}
 use Rattle.front.proofs.TakeMakes.{take_may_start, take_made, once_taken_out, loses_roomless}
 use Rattle.front.proofs.Views.{seen}
 use Rattle.front.specs.Fronts.{roomless}

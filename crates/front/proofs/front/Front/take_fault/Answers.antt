@@ -1,6 +1,7 @@
 use Rattle.std.proofs.Common.{rules, ◌≡◌, [], subst}
 use Rattle.std.proofs.lemmas.Bool.{both_ways}
-use Rattle.front.proofs.TakeMakes.{none_listed, take_memory, take_unready}
+use Rattle.front.proofs.Lists.{none_listed}
+use Rattle.front.proofs.TakeMakes.{take_memory, take_unready}
 use Rattle.front.proofs.Views.{seen}
 use Rattle.front.specs.Refusing.{Refuses, RefusesNot}
 use Rattle.journal.specs.declared.step.Step.TheVariants.{Take}

@@ -6,5 +6,5 @@ use Rattle.shard_workers.proofs.Zips.{none_left}
 use Rattle.shard_workers.proofs.load.Load.run.Goals as goal
 
 pub returns : goal.returns
-returns g c = subst (AllZip (HasRun c.args.table.now) c.args.self.works.items) (append-nil _)
+returns g c = subst (AllZip (HasRun c.args.table.now c.args.skip.now) c.args.self.works.items) (append-nil _)
     (c.loop-work.invariant.0 [] (none_left _ _ (search rules)))

@@ -15,16 +15,16 @@ pub run_on_all-requires-clause-shards : goal.run_on_all-requires-clause-shards
 run_on_all-requires-clause-shards g c = record {
   numbers = refl;
   ascending = subst IsAscending (sym (c.requires.numbers ∙ c.requires.groups))
-      (IsAscending-task_groups c.args.table.now c.args.self.job.asked.command);
+      (IsAscending-task_groups c.args.table.now c.args.self.job.asked.batch);
   own = c.requires.own;
 }
 
 pub run_on_all-requires-clause-keys : goal.run_on_all-requires-clause-keys
 run_on_all-requires-clause-keys g c k d below =
-    let command = c.args.self.job.asked.command in
-    let key = get_or (task_keys command) k d in
+    let task = c.args.self.job.asked.batch in
+    let key = get_or (task_keys task) k d in
     ap (λ gs. has gs (shard_of c.args.table.now key)) (c.requires.numbers ∙ c.requires.groups)
-    ∙ has-task_groups-key c.args.table.now command key c.requires.is_table (k, below, any_default (task_keys command) k _ d below)
+    ∙ has-task_groups-key c.args.table.now task key c.requires.is_table (k, below, any_default (task_keys task) k _ d below)
 
 pub returns : goal.returns
 returns g c = record {
@@ -36,5 +36,5 @@ returns g c = record {
 pub returns-then-len-eq1 : goal.returns-then-len-eq1
 returns-then-len-eq1 g c =
     let one : length c.args.shards.items ≡ 1 = search rules in
-    one_over c.args.table.now c.args.self c.run_on_one.result.0 c.args.shards.items c.run_on_one.result.1.items c.requires one
+    one_over c.args.table.now c.args.skip.now c.args.self c.run_on_one.result.0 c.args.shards.items c.run_on_one.result.1.items c.requires one
     c.run_on_one.ensures.number c.run_on_one.ensures.ran

@@ -1,22 +1,31 @@
-use Rattle.std.proofs.Common.{rules}
+use Rattle.std.proofs.Common.{rules, ap, ◌∙◌, subst, ◌≡◌}
 use Rattle.cluster.specs.Clusters.{IsSubmitFault}
 use Rattle.shared_cluster.proofs.Refusals.{open_refuses}
+use Rattle.shared_cluster.specs.Asks.{told_in, is_listed}
 use Rattle.shared_cluster.proofs.held.Held.submit.Goals as goal
 
 pub returns-in-Err-clause-refused : goal.returns-in-Err-clause-refused
 returns-in-Err-clause-refused g c =
-    let h = c.args.self.now.cluster.history in (
+    let h = c.args.self.now.cluster.history in
+    let s = c.args.seat.now in
+    let listed : c.is_listed-listed.result ≡ is_listed h s.conn c.args.words =
+    subst (λ conn. c.is_listed-listed.result ≡ is_listed h conn c.args.words) c.conn-conn.ensures c.is_listed-listed.ensures in (
       cc,
-      open_refuses c.args.self.now.shut c.args.self.now.stopped h (IsSubmitFault h c.args.seat.now c.args.words) c.in-Err.fault
-          c.told-in-Err.result (search rules) (search rules) c.lawful.ensures.lawful
-          (rw c.is_short.ensures.0 at c.in-Err.ensures.refused) c.told-in-Err.ensures,
+      open_refuses c.args.self.now.shut c.args.self.now.stopped h (told_in (is_listed h s.conn c.args.words))
+          (IsSubmitFault h s c.args.words) c.in-Err.fault c.told_in-in-Err.result (search rules) (search rules) c.lawful.ensures.lawful
+          (rw c.is_short.ensures.0 at c.in-Err.ensures.refused)
+          (c.told_in-in-Err.ensures ∙ ap (λ b. told_in b c.in-Err.fault) listed),
     )
 
 pub returns-then-is_short-clause-refused : goal.returns-then-is_short-clause-refused
 returns-then-is_short-clause-refused g c =
-    let h = c.args.self.now.cluster.history in (
+    let h = c.args.self.now.cluster.history in
+    let s = c.args.seat.now in
+    let listed : c.is_listed-listed.result ≡ is_listed h s.conn c.args.words =
+    subst (λ conn. c.is_listed-listed.result ≡ is_listed h conn c.args.words) c.conn-conn.ensures c.is_listed-listed.ensures in (
       cc,
-      open_refuses c.args.self.now.shut c.args.self.now.stopped h (IsSubmitFault h c.args.seat.now c.args.words)
-          c.submit_refusal.result c.told.result (search rules) (search rules) c.lawful.ensures.lawful
-          (rw c.is_short.ensures.0 at c.submit_refusal.ensures) c.told.ensures,
+      open_refuses c.args.self.now.shut c.args.self.now.stopped h (told_in (is_listed h s.conn c.args.words))
+          (IsSubmitFault h s c.args.words) c.submit_refusal.result c.told_in.result (search rules) (search rules) c.lawful.ensures.lawful
+          (rw c.is_short.ensures.0 at c.submit_refusal.ensures)
+          (c.told_in.ensures ∙ ap (λ b. told_in b c.submit_refusal.result) listed),
     )

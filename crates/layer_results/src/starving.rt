@@ -1,0 +1,75 @@
+//! What starved of a request.
+
+ghost use Rattle.std.specs.Prelude.{◌≡◌, ◌+◌, ◌≤◌, ◌++◌, length, map, vec_len, vec_capacity};
+ghost use Rattle.batches.specs.Starved.{wants_in};
+ghost use Rattle.groups.specs.declared.skip_id.SkipId.TheVariants.{Part};
+ghost use Rattle.layer_results.specs.Results.{row_names};
+ghost use Rattle.layer_results.specs.Wants.{wants_among};
+ghost use Rattle.resp.specs.Content.{content};
+
+use super::done::DoneRow;
+use super::members::member_count;
+use batches::is_want_reply;
+use groups::{RequestId, SkipId};
+use resp::Reply;
+
+/// How many names a row tells.
+pub(super) fn row_count(row: &DoneRow) -> usize
+    ensures { result ≡ length (row_names row.now) }
+{
+    match &row.reply {
+        None => 1,
+        Some(reply) => want_count(places(member_count(&row.words), reply)),
+    }
+}
+
+/// Appends the names that a row tells, for which there is room.
+pub(super) fn push_row_names(row: &DoneRow, names: &mut Vec<SkipId>)
+    requires { vec_len names.old + length (row_names row.now) ≤ vec_capacity names.old }
+    ensures items { names.new.items ≡ names.old.items ++ row_names row.now }
+    ensures len { vec_len names.new ≡ vec_len names.old + length (row_names row.now) }
+    ensures capacity { vec_capacity names.old ≤ vec_capacity names.new }
+{
+    match &row.reply {
+        None => names.push_reserved(SkipId::Whole(row.id)),
+        Some(reply) => push_wants(row.id, places(member_count(&row.words), reply), names),
+    }
+}
+
+/// The first places of an array, at most so many; another reply has none.
+#[tactic(auto, using(resp::proofs::Contents::content_of))]
+fn places(count: usize, reply: &Reply) -> &[Reply]
+    ensures { wants_in count (content reply.now) ≡ wants_among 1 (map content result.now) }
+{
+    match reply {
+        Reply::Array(replies) => &replies[..count.min(replies.len())],
+        Reply::Simple(_) | Reply::Error(_) | Reply::Int(_) | Reply::Bulk(_) | Reply::Null => &[],
+    }
+}
+
+/// How many of the replies say that there was no memory.
+fn want_count(replies: &[Reply]) -> usize
+    ensures { result ≡ length (wants_among 1 (map content replies.now)) }
+{
+    let mut count = 0;
+    for reply in replies {
+        if is_want_reply(reply) {
+            count += 1;
+        }
+    }
+    count
+}
+
+/// Appends a name for each of the replies that says so: that of the request's member of this place, counted from 1.
+fn push_wants(id: RequestId, replies: &[Reply], names: &mut Vec<SkipId>)
+    requires { vec_len names.old + length (wants_among 1 (map content replies.now)) ≤ vec_capacity names.old }
+    ensures items { names.new.items ≡ names.old.items ++ map (Part id) (wants_among 1 (map content replies.now)) }
+    ensures len { vec_len names.new ≡ vec_len names.old + length (wants_among 1 (map content replies.now)) }
+    ensures capacity { vec_capacity names.old ≤ vec_capacity names.new }
+{
+    for (place, reply) in replies.iter().enumerate() {
+        if is_want_reply(reply) {
+            names.push_reserved(SkipId::Part(id, place as u64 + 1));
+        }
+    }
+}

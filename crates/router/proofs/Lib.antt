@@ -1,0 +1,3 @@
+mod Queuing
+mod Standings
+mod Turning

@@ -1,0 +1,104 @@
+//! What comes of a request: how its connection stands, and the groups that it addresses.
+
+ghost use Rattle.std.specs.Prelude.{◌≡◌, ◌<◌, length, None, Ok, IfOk, IfErr};
+ghost use Rattle.batches.specs.AtOnce.{IsKeyedBatch};
+ghost use Rattle.router.specs.Submitting.{TellsOf};
+ghost use Rattle.sessions.specs.declared.batch.Batch.TheVariants.{Exec};
+ghost use Rattle.router.specs.declared.connection.Standing.TheVariants.{Answered};
+ghost use Rattle.sessions.specs.Control.{control_in};
+ghost use Rattle.sessions.specs.Session.{asks, Go};
+ghost use Rattle.sessions.specs.declared.session.Session.TheVariants.{Free};
+ghost use Rattle.worded.specs.Reading.{members_of};
+
+use super::connection::{Pending, Standing};
+use super::outcome::Outcome;
+use batches::answer_at_once;
+use groups::{Groups, RequestId};
+use packing::{PackedList, PackedRequest};
+use placement::Table;
+use resp::{Reply, Request};
+use sessions::{Batch, Members};
+use std::alloc::{AllocError, Global};
+use tasks::task_groups;
+use worded::{Worded, WordedFault};
+
+/// What comes of a request outside a list, which is none of the three names of a list: refused words and commands that look
+/// at no key are answered, and any other command waits. The only error is want of memory.
+pub(super) fn ask_plain(
+    alloc: Global,
+    table: &Table,
+    id: RequestId,
+    words: Request,
+) -> Result<(Standing, Groups), AllocError>
+    requires { control_in words ≡ None }
+    ensures { IfOk result (TellsOf table.now id (asks Free words).1) }
+{
+    match Worded::read(alloc, words) {
+        Ok(asked) => match ask_task(alloc, table, id, asked) {
+            Ok(told) => Ok(told),
+            Err(_) => Err(AllocError),
+        },
+        Err(WordedFault::Refused(refusal)) => {
+            let reply = Reply::Error(refusal.text());
+            Ok((answered(id, reply), Groups::empty()))
+        }
+        Err(WordedFault::Memory) => Err(AllocError),
+    }
+}
+
+/// What comes of an EXEC whose members have these words: members that look at no key are answered, and others wait. Where
+/// there is no memory the members are given back.
+pub(super) fn ask_exec(
+    alloc: Global,
+    table: &Table,
+    id: RequestId,
+    members: Members,
+    list: &PackedList,
+) -> Result<(Standing, Groups), Batch>
+    requires some { 0 < length members }
+    requires read { members_of list.now ≡ Ok members }
+    ensures told { IfOk result (TellsOf table.now id (Go (Exec members))) }
+    ensures back { IfErr result (λ back. back ≡ Exec members) }
+{
+    match PackedRequest::of_list(alloc, b"exec", list) {
+        Ok(words) => ask_task(alloc, table, id, Worded::of_members(words, members)),
+        Err(_) => Err(Batch::Exec(members)),
+    }
+}
+
+/// What comes of a batch: one that looks at no key is answered, and any other waits. Where there is no memory for the copy of
+/// its words, or for the array of its replies, it is given back.
+fn ask_task(
+    alloc: Global,
+    table: &Table,
+    id: RequestId,
+    asked: Worded,
+) -> Result<(Standing, Groups), Batch>
+    requires { IsKeyedBatch asked.batch }
+    ensures told { IfOk result (TellsOf table.now id (Go asked.batch)) }
+    ensures back { IfErr result (λ back. back ≡ asked.batch) }
+{
+    // `shards` is called for its clause that the table is one.
+    let _shards = table.shards();
+    let groups = task_groups(table, asked.batch());
+    if groups.is_empty() {
+        let (_, batch) = asked.into_parts();
+        let reply = answer_at_once(alloc, batch)?;
+        return Ok((answered(id, reply), groups));
+    }
+    match asked.words().try_clone() {
+        Ok(words) => Ok((Standing::Waiting(Pending { asked, words }), groups)),
+        Err(_) => Err(asked.into_parts().1),
+    }
+}
+
+/// A request that addresses no group has its outcome at once.
+pub(super) fn answered(id: RequestId, reply: Reply) -> Standing
+    ensures { result ≡ Answered (record { id = id; reply = reply; stamp = None }) }
+{
+    Standing::Answered(Outcome {
+        id,
+        reply,
+        stamp: None,
+    })
+}

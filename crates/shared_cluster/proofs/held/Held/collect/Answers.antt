@@ -1,0 +1,12 @@
+use Rattle.shared_cluster.proofs.Collecting.{answered_of}
+use Rattle.shared_cluster.proofs.held.Held.collect.Goals as goal
+
+pub returns-in-Ok-Some-clause-answered : goal.returns-in-Ok-Some-clause-answered
+returns-in-Ok-Some-clause-answered g c =
+    let arm = c.in-Ok-Some in
+    let told = arm.ensures in
+    let is = arm.field-0-is in
+    rw arm.answer-is
+    (answered_of c.args.self.now.cluster.history c.collect.new.self.history c.args.seat.now c.collect.new.seat arm.answer
+    (rw is at told.collected) (rw is at told.id) (rw is at told.words) (rw is at told.from) (rw is at told.above) (rw is at told.seat)
+    c.lawful-in-Ok-Some.ensures.lawful)

@@ -1,0 +1,91 @@
+-- What some names of requests and of their members name, and which of these stand among those of what starved.
+use Rattle.std.proofs.Common.{◌≡◌, ℕ, Bool, true, false, cond, ◌||◌, List, [], ◌∷◌, ◌⊎◌, inl, inr, map, None, refl, sym, ap, subst}
+use Rattle.std.proofs.Common.{eq-eqb, eqb-true, nat_eq}
+use Rattle.std.proofs.lemmas.Bool.{cases_Bool, or_cases, or_right}
+use Rattle.batches.specs.Starved.{has}
+use Rattle.groups.proofs.Ids.{same_id-true, eq-same_id}
+use Rattle.groups.proofs.Lists.{In-left, In-right}
+use Rattle.groups.specs.Order.{In}
+use Rattle.groups.specs.Request.{same_id}
+use Rattle.groups.specs.Skips.{names_whole, parts_of}
+use Rattle.groups.specs.declared.request.RequestId.{RequestId}
+use Rattle.groups.specs.declared.skip_id.SkipId.{SkipId}
+use Rattle.groups.specs.declared.skip_id.SkipId.TheVariants.{Whole, Part}
+use Rattle.tasks.specs.Tasks.{starved_names}
+use Rattle.world.specs.Steps.{starved_among}
+use Rattle.world.specs.World.{Ended}
+
+-- ---- requests as wholes
+
+pub whole_in : (names : List SkipId) (id : RequestId) → In (Whole id) names → names_whole names id ≡ true
+whole_in [] id there = absurd there
+whole_in (Whole i ∷ names) id (inl same) =
+    let e : i ≡ id = cc in ap (λ b. b || names_whole names id) (eq-same_id i id e)
+whole_in (Whole i ∷ names) id (inr there) = or_right (same_id i id) (names_whole names id) (whole_in names id there)
+whole_in (Part i n ∷ names) id (inl same) = cc
+whole_in (Part i n ∷ names) id (inr there) = whole_in names id there
+
+pub in_whole : (names : List SkipId) (id : RequestId) → names_whole names id ≡ true → In (Whole id) names
+in_whole [] id named = cc
+in_whole (Whole i ∷ names) id named = elim (or_cases (same_id i id) (names_whole names id) named) [
+  | inl here ↦ inl (ap Whole (sym (same_id-true i id here)))
+  | inr later ↦ inr (in_whole names id later)
+]
+in_whole (Part i n ∷ names) id named = inr (in_whole names id named)
+
+-- ---- members
+
+pub part_in : (names : List SkipId) (id : RequestId) (n : ℕ) → In (Part id n) names → has (parts_of names id) n ≡ true
+part_in [] id n there = absurd there
+part_in (Whole i ∷ names) id n (inl same) = cc
+part_in (Whole i ∷ names) id n (inr there) = part_in names id n there
+part_in (Part i k ∷ names) id n (inl same) =
+    let e : i ≡ id = cc in
+    let number : k ≡ n = cc in
+    subst (λ b. has (cond b (k ∷ parts_of names id) (parts_of names id)) n ≡ true) (sym (eq-same_id i id e))
+    (ap (λ b. b || has (parts_of names id) n) (eq-eqb k n number))
+part_in (Part i k ∷ names) id n (inr there) = behind (same_id i id) (part_in names id n there)
+  where
+    behind : (b : Bool) → has (parts_of names id) n ≡ true → has (cond b (k ∷ parts_of names id) (parts_of names id)) n ≡ true
+    behind true later = or_right (nat_eq k n) (has (parts_of names id) n) later
+    behind false later = later
+
+pub in_part : (names : List SkipId) (id : RequestId) (n : ℕ) → has (parts_of names id) n ≡ true → In (Part id n) names
+in_part [] id n named = cc
+in_part (Whole i ∷ names) id n named = inr (in_part names id n named)
+in_part (Part i k ∷ names) id n named = elim (cases_Bool (same_id i id)) [
+  | inl here ↦ by_number here (in_part names id n) (or_cases (nat_eq k n) (has (parts_of names id) n)
+      (subst (λ b. has (cond b (k ∷ parts_of names id) (parts_of names id)) n ≡ true) here named))
+  | inr other ↦ inr (in_part names id n
+      (subst (λ b. has (cond b (k ∷ parts_of names id) (parts_of names id)) n ≡ true) other named))
+]
+  where
+    by_number : same_id i id ≡ true → (has (parts_of names id) n ≡ true → In (Part id n) names) →
+        (nat_eq k n ≡ true) ⊎ (has (parts_of names id) n ≡ true) → In (Part id n) (Part i k ∷ names)
+    by_number here rest (inl this) =
+        let e = same_id-true i id here in let number = eqb-true k n this in inl (λ j. Part (sym e j) (sym number j))
+    by_number here rest (inr later) = inr (rest later)
+
+pub in_numbers : (id : RequestId) (numbers : List ℕ) (n : ℕ) → has numbers n ≡ true → In (Part id n) (map (Part id) numbers)
+in_numbers id [] n among = cc
+in_numbers id (k ∷ ks) n among = elim (or_cases (nat_eq k n) (has ks n) among) [
+  | inl this ↦ inl (ap (Part id) (sym (eqb-true k n this)))
+  | inr later ↦ inr (in_numbers id ks n later)
+]
+
+-- ---- what starved
+
+-- what starved of a request stands among what starved of all
+pub in_starved : (es : List Ended) (e : Ended) (name : SkipId) → In e es → In name (starved_names e.id e.task e.reply) →
+    In name (starved_among es)
+in_starved [] e name there named = absurd there
+in_starved (f ∷ fs) e name (inl same) named =
+    In-left name (starved_names f.id f.task f.reply) (starved_among fs)
+    (subst (λ (x : Ended). In name (starved_names x.id x.task x.reply)) same named)
+in_starved (f ∷ fs) e name (inr later) named =
+    In-right name (starved_names f.id f.task f.reply) (starved_among fs) (in_starved fs e name later named)
+
+-- a request without a reply starved as a whole
+pub whole_starved : (es : List Ended) (e : Ended) → In e es → e.reply ≡ None → In (Whole e.id) (starved_among es)
+whole_starved es e there none =
+    in_starved es e (Whole e.id) there (subst (λ o. In (Whole e.id) (starved_names e.id e.task o)) (sym none) (inl refl))

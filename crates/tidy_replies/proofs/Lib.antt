@@ -1,0 +1,11 @@
+pub mod Tidy
+pub mod TidyOfKeys
+pub mod TidyOfStrings
+pub mod TidyOfLists
+pub mod TidyOfHashes
+pub mod TidyOfSets
+pub mod TidyOfCommands
+pub mod TidyOfBatches
+pub mod Lines
+pub mod OneText
+pub mod Arrays
