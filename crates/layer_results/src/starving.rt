@@ -3,7 +3,7 @@
 ghost use Rattle.std.specs.Prelude.{◌≡◌, ◌+◌, ◌≤◌, ◌++◌, length, map, vec_len, vec_capacity};
 ghost use Rattle.batches.specs.Starved.{wants_in};
 ghost use Rattle.groups.specs.declared.skip_id.SkipId.TheVariants.{Part};
-ghost use Rattle.layer_results.specs.Results.{row_names};
+ghost use Rattle.layer_results.specs.Results.{member_count, row_names};
 ghost use Rattle.layer_results.specs.Wants.{wants_among};
 ghost use Rattle.resp.specs.Content.{content};
 
@@ -11,6 +11,7 @@ use super::done::DoneRow;
 use super::members::member_count;
 use batches::is_want_reply;
 use groups::{RequestId, SkipId};
+use packing::PackedRequest;
 use resp::Reply;
 
 /// How many names a row tells.
@@ -19,7 +20,7 @@ pub(super) fn row_count(row: &DoneRow) -> usize
 {
     match &row.reply {
         None => 1,
-        Some(reply) => want_count(places(member_count(&row.words), reply)),
+        Some(reply) => want_count(places(&row.words, reply)),
     }
 }
 
@@ -32,17 +33,17 @@ pub(super) fn push_row_names(row: &DoneRow, names: &mut Vec<SkipId>)
 {
     match &row.reply {
         None => names.push_reserved(SkipId::Whole(row.id)),
-        Some(reply) => push_wants(row.id, places(member_count(&row.words), reply), names),
+        Some(reply) => push_wants(row.id, places(&row.words, reply), names),
     }
 }
 
-/// The first places of an array, at most so many; another reply has none.
+/// The places of the members of a request of these words, where it was answered by an array; another reply has none.
 #[tactic(auto, using(resp::proofs::Contents::content_of))]
-fn places(count: usize, reply: &Reply) -> &[Reply]
-    ensures { wants_in count (content reply.now) ≡ wants_among 1 (map content result.now) }
+fn places<'a>(words: &PackedRequest, reply: &'a Reply) -> &'a [Reply]
+    ensures { wants_in (member_count words.now) (content reply.now) ≡ wants_among 1 (map content result.now) }
 {
     match reply {
-        Reply::Array(replies) => &replies[..count.min(replies.len())],
+        Reply::Array(replies) => &replies[..member_count(words).min(replies.len())],
         Reply::Simple(_) | Reply::Error(_) | Reply::Int(_) | Reply::Bulk(_) | Reply::Null => &[],
     }
 }

@@ -68,6 +68,8 @@ pub(super) fn ask_exec(
 
 /// What comes of a batch: one that looks at no key is answered, and any other waits. Where there is no memory for the copy of
 /// its words, or for the array of its replies, it is given back.
+// Inlined, so that a plain command is moved once.
+#[inline(always)]
 fn ask_task(
     alloc: Global,
     table: &Table,

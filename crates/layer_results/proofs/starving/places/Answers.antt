@@ -2,14 +2,15 @@ use Rattle.std.proofs.Common.{◌≡◌, ◌∙◌, ap, arith, length, map, min,
 use Rattle.batches.specs.Starved.{wants_in}
 use Rattle.resp.proofs.Contents.{content-Array}
 use Rattle.resp.specs.Content.{content}
+use Rattle.layer_results.specs.Results.{member_count}
 use Rattle.layer_results.specs.Wants.{wants_among}
 use Rattle.layer_results.proofs.Names.{places_taken}
 use Rattle.layer_results.proofs.starving.places.Goals as goal
 
 pub returns-in-Array : goal.returns-in-Array
 returns-in-Array c =
-    let count = c.args.count in let replies = c.in-Array.replies.items in
-    let least : c.min.result ≡ min count (length replies) = omega (arith, c.min.ensures, c.len.ensures, c.in-Array.replies.ok.0) in
+    let count = member_count c.args.words.now in let replies = c.in-Array.replies.items in
+    let least : c.min.result ≡ min count (length replies) = omega (arith, c.member_count.ensures, c.min.ensures, c.len.ensures, c.in-Array.replies.ok.0) in
     ap (λ r. wants_in count (content r)) c.in-Array.is ∙ ap (wants_in count) (content-Array c.in-Array.replies)
     ∙ places_taken count c.min.result replies least
     ∙ ap (λ rs. wants_among 1 (map content (take c.min.result rs))) (sym c.deref.ensures.value)
