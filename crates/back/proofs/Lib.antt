@@ -1,3 +1,4 @@
 pub mod Executed
+pub mod Behind
 pub mod Keeping
 pub mod Fitting

@@ -73,6 +73,8 @@ impl Done {
     }
 
     /// How many requests, and members of those that were executed, starved; `None` where that is 2^64 or more.
+    // Inlined, as `push_names`: most layers have one row.
+    #[inline(always)]
     pub fn names_count(&self) -> Option<usize>
         ensures { MatchOption result (2 ^ 64 ≤ length (names_of self.now)) (λ count. count ≡ length (names_of self.now)) }
     {
@@ -84,6 +86,7 @@ impl Done {
     }
 
     /// Appends the names of what starved, for which there is room.
+    #[inline(always)]
     pub fn push_names(&self, names: &mut Vec<SkipId>)
         requires { vec_len names.old + length (names_of self.now) ≤ vec_capacity names.old }
         ensures items { names.new.items ≡ names.old.items ++ names_of self.now }

@@ -15,6 +15,8 @@ use packing::PackedRequest;
 use resp::Reply;
 
 /// How many names a row tells.
+// Inlined, as `push_row_names` and `places`: most replies are no arrays.
+#[inline(always)]
 pub(super) fn row_count(row: &DoneRow) -> usize
     ensures { result ≡ length (row_names row.now) }
 {
@@ -25,6 +27,7 @@ pub(super) fn row_count(row: &DoneRow) -> usize
 }
 
 /// Appends the names that a row tells, for which there is room.
+#[inline(always)]
 pub(super) fn push_row_names(row: &DoneRow, names: &mut Vec<SkipId>)
     requires { vec_len names.old + length (row_names row.now) ≤ vec_capacity names.old }
     ensures items { names.new.items ≡ names.old.items ++ row_names row.now }
@@ -38,6 +41,7 @@ pub(super) fn push_row_names(row: &DoneRow, names: &mut Vec<SkipId>)
 }
 
 /// The places of the members of a request of these words, where it was answered by an array; another reply has none.
+#[inline(always)]
 #[tactic(auto, using(resp::proofs::Contents::content_of))]
 fn places<'a>(words: &PackedRequest, reply: &'a Reply) -> &'a [Reply]
     ensures { wants_in (member_count words.now) (content reply.now) ≡ wants_among 1 (map content result.now) }

@@ -40,6 +40,7 @@ fn is_error_line(line: &ErrorText) -> bool
     }
 }
 
+#[inline(always)]
 fn is_line(bytes: &[u8]) -> bool
     ensures { result ≡ is_line bytes.now }
 {
