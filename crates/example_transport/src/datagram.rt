@@ -14,7 +14,7 @@ const PROPOSAL: u64 = 1;
 /// The bytes of a packet.
 pub(crate) fn bytes_of(alloc: Global, packet: &Packet) -> Result<Vec<u8>, AllocError> {
     let mut bytes = Vec::new(alloc);
-    put_group(packet.to, &mut bytes)?;
+    put(u64::from(packet.to.number()), &mut bytes)?;
     put(packet.id.conn.0, &mut bytes)?;
     put(packet.id.seq, &mut bytes)?;
     match packet.body {
@@ -22,13 +22,13 @@ pub(crate) fn bytes_of(alloc: Global, packet: &Packet) -> Result<Vec<u8>, AllocE
             put(START, &mut bytes)?;
             put(floor, &mut bytes)?;
             for group in groups.iter() {
-                put_group(group, &mut bytes)?;
+                put(u64::from(group.number()), &mut bytes)?;
             }
         }
         Body::Proposal { from, clock } => {
             put(PROPOSAL, &mut bytes)?;
             put(clock, &mut bytes)?;
-            put_group(from, &mut bytes)?;
+            put(u64::from(from.number()), &mut bytes)?;
         }
     }
     Ok(bytes)
@@ -36,10 +36,6 @@ pub(crate) fn bytes_of(alloc: Global, packet: &Packet) -> Result<Vec<u8>, AllocE
 
 fn put(number: u64, bytes: &mut Vec<u8>) -> Result<(), AllocError> {
     bytes.extend_from_slice(&number.to_le_bytes())
-}
-
-fn put_group(group: GroupId, bytes: &mut Vec<u8>) -> Result<(), AllocError> {
-    put(u64::from(group.number()), bytes)
 }
 
 /// The packet of these bytes, if they are those of one.

@@ -2,22 +2,20 @@
 //! machine, where some are lost, some come twice, and none keeps its order.
 //!
 //! Each group delivers the requests that address it. What two groups have in common they have delivered in one order, which
-//! is compared here, and told. The statuses: 0 where all agree, 1 where two don't, 2 where a socket failed, 3 where memory was
-//! wanting, 4 where a group didn't get all of its requests in time.
+//! is compared here, and told. The statuses: 0 where all agree, 1 where two don't, 2 where a socket failed, memory was wanting,
+//! or a group didn't get all of its requests in time.
 #![tactic(auto)]
 
 mod agreement;
 mod datagram;
-mod fault;
 mod link;
 mod member;
 
 use crate::agreement::{agree, shared};
-use crate::fault::Fault;
 use crate::member::take_part;
-use groups::{GroupId, Groups};
+use groups::GroupId;
 use skeen_core::Delivered;
-use std::alloc::Global;
+use std::io;
 use std::net::{Ipv4Addr, Net, SocketAddr, UdpSocket};
 use std::process::ExitCode;
 use std::sync::atomic::AtomicU64;
@@ -32,13 +30,13 @@ fn main(rt: HostRuntime) -> ExitCode {
         Ok(false) => ExitCode::from(1),
         Err(fault) => {
             let _ = eprintln!(rt; "example_transport: {fault}");
-            ExitCode::from(fault.status())
+            ExitCode::from(2)
         }
     }
 }
 
 /// Has all groups take part, and tells what each has delivered, and of any two whether they agree. Whether all do.
-fn run<R: Threads + Net + AllocGlobal + Print + Sync>(rt: &R) -> Result<bool, Fault> {
+fn run<R: Threads + Net + AllocGlobal + Print + Sync>(rt: &R) -> io::Result<bool> {
     let alloc = rt.alloc();
     let mut sockets = Vec::new(alloc);
     let mut addresses = Vec::new(alloc);
@@ -47,11 +45,7 @@ fn run<R: Threads + Net + AllocGlobal + Print + Sync>(rt: &R) -> Result<bool, Fa
         addresses.push(socket.local_addr()?)?;
         sockets.push(socket)?;
     }
-    let parts = take_parts(rt, sockets.as_slice(), addresses.as_slice())?;
-    let mut logs = Vec::new(alloc);
-    for part in parts {
-        logs.push(part?)?;
-    }
+    let logs = take_parts(rt, sockets.as_slice(), addresses.as_slice())?;
     tell(rt, logs.as_slice())
 }
 
@@ -60,7 +54,7 @@ fn take_parts<R: Threads + AllocGlobal + Sync>(
     rt: &R,
     sockets: &[UdpSocket],
     addresses: &[SocketAddr],
-) -> Result<Vec<Result<Vec<Delivered>, Fault>>, Fault> {
+) -> io::Result<Vec<Vec<Delivered>>> {
     let alloc = rt.alloc();
     let done = AtomicU64::new(0);
     let parts = map_indices(
@@ -68,20 +62,19 @@ fn take_parts<R: Threads + AllocGlobal + Sync>(
         alloc,
         sockets.len().min(64),
         &|number| {
-            take_part(
-                alloc,
-                GroupId::new(number as u8),
-                &sockets[number],
-                addresses,
-                &done,
-            )
+            let id = GroupId::new(number as u8);
+            take_part(alloc, id, &sockets[number], addresses, &done)
         },
     )?;
-    Ok(parts)
+    let mut logs = Vec::new(alloc);
+    for part in parts {
+        logs.push(part?)?;
+    }
+    Ok(logs)
 }
 
 /// Tells how many requests each group has delivered, and of any two whether they agree on those that both have. Whether all do.
-fn tell<R: AllocGlobal + Print>(rt: &R, logs: &[Vec<Delivered>]) -> Result<bool, Fault> {
+fn tell<R: AllocGlobal + Print>(rt: &R, logs: &[Vec<Delivered>]) -> io::Result<bool> {
     let alloc = rt.alloc();
     let mut all_agree = true;
     for (number, log) in logs.iter().enumerate() {

@@ -1,11 +1,11 @@
 //! A group that takes part: what it hears, what it says, and when it is done.
 
 use crate::GROUPS;
-use crate::fault::Fault;
 use crate::link::Link;
 use groups::{ConnId, GroupId, Groups, RequestId};
 use skeen_core::{Body, Delivered, Group, Packet};
 use std::alloc::{AllocError, Global};
+use std::io::{self, ErrorKind};
 use std::net::{SocketAddr, UdpSocket};
 use std::sync::atomic::{AtomicU64, Ordering};
 
@@ -27,25 +27,31 @@ struct Member {
 }
 
 impl Member {
-    /// A group that nothing has come to. It begins every third request.
-    fn new(alloc: Global, id: GroupId) -> Result<Self, AllocError> {
-        let mut says = Vec::new(alloc);
-        for conn in 0..REQUESTS {
-            if conn % u64::from(GROUPS) == u64::from(id.number()) {
-                for to in addressed_by(conn).iter() {
-                    says.push(start(conn, to))?;
-                }
-            }
+    /// A request begins: a Start goes to each of its groups. It is its connection's first and only one, so it has the number 1,
+    /// and its stamp stands above 0.
+    fn begin(&mut self, conn: u64) -> Result<(), AllocError> {
+        let groups = addressed_by(conn);
+        for to in groups.iter() {
+            let id = RequestId {
+                conn: ConnId(conn),
+                seq: 1,
+            };
+            let body = Body::Start { floor: 0, groups };
+            self.says.push(Packet { to, id, body })?;
         }
-        Ok(Member {
-            group: Group::new(alloc, id),
-            says,
-            delivered: Vec::new(alloc),
-        })
+        Ok(())
+    }
+
+    /// Sends all that it has to say, the last first: so nothing keeps its order.
+    fn say(&self, alloc: Global, link: &mut Link<'_>) -> io::Result<()> {
+        for packet in self.says.iter().rev() {
+            link.send(alloc, packet)?;
+        }
+        Ok(())
     }
 
     /// Hears packets until none comes. One that may not come, as none of these groups sends it, is passed over.
-    fn hear(&mut self, alloc: Global, link: &Link<'_>) -> Result<(), Fault> {
+    fn hear(&mut self, alloc: Global, link: &Link<'_>) -> io::Result<()> {
         for _ in 0..MOST_HEARD {
             let Some(packet) = link.receive()? else {
                 break;
@@ -62,62 +68,52 @@ impl Member {
 
 /// The groups that the request of this connection addresses: two of the three, or all.
 fn addressed_by(conn: u64) -> Groups {
-    let all = Groups::all(GROUPS);
-    if conn % 4 == 3 {
-        return all;
-    }
-    let mut two = Groups::empty();
-    for group in all.iter() {
+    let mut groups = Groups::empty();
+    for group in Groups::all(GROUPS).iter() {
         if u64::from(group.number()) != conn % 4 {
-            two = two.with(group);
+            groups = groups.with(group);
         }
     }
-    two
+    groups
 }
 
-/// The packet by which the request of this connection begins at one of its groups. It is the connection's first and only one, so
-/// nothing of it was delivered before, and its stamp may be any.
-fn start(conn: u64, to: GroupId) -> Packet {
-    Packet {
-        to,
-        id: RequestId {
-            conn: ConnId(conn),
-            seq: 1,
-        },
-        body: Body::Start {
-            floor: 0,
-            groups: addressed_by(conn),
-        },
+/// A group with all that it has to say at first: it begins every third request.
+fn beginning(alloc: Global, id: GroupId) -> Result<Member, AllocError> {
+    let mut member = Member {
+        group: Group::new(alloc, id),
+        says: Vec::new(alloc),
+        delivered: Vec::new(alloc),
+    };
+    for conn in 0..REQUESTS {
+        if conn % u64::from(GROUPS) == u64::from(id.number()) {
+            member.begin(conn)?;
+        }
     }
-}
-
-/// How many requests address the group.
-fn count_for(id: GroupId) -> usize {
-    let all = 0..REQUESTS;
-    all.filter(|conn| addressed_by(*conn).contains(id)).count()
+    Ok(member)
 }
 
 /// A group takes part until all have delivered the requests that address them, which `done` counts. Gives what it has delivered, in
 /// order.
 ///
-/// What it has to say it says again and again, since it may be lost, and the last first, so that nothing keeps its order. A group
-/// that has all of its own requests goes on, since others may still lack what it said.
+/// What it has to say may be lost, so it says it again and again. A group that has all of its own requests goes on, since others may
+/// still lack what it said.
 pub(crate) fn take_part(
     alloc: Global,
     id: GroupId,
     socket: &UdpSocket,
     addresses: &[SocketAddr],
     done: &AtomicU64,
-) -> Result<Vec<Delivered>, Fault> {
+) -> io::Result<Vec<Delivered>> {
+    let all = (0..REQUESTS)
+        .filter(|conn| addressed_by(*conn).contains(id))
+        .count();
     let mut link = Link::new(socket, addresses, u64::from(id.number()))?;
-    let mut member = Member::new(alloc, id)?;
+    let mut member = beginning(alloc, id)?;
     let mut has_all = false;
     for _ in 0..ROUNDS {
-        for packet in member.says.iter().rev() {
-            link.send(alloc, packet)?;
-        }
+        member.say(alloc, &mut link)?;
         member.hear(alloc, &link)?;
-        if !has_all && member.delivered.len() == count_for(id) {
+        if !has_all && member.delivered.len() == all {
             has_all = true;
             done.fetch_add(1, Ordering::SeqCst);
         }
@@ -125,5 +121,5 @@ pub(crate) fn take_part(
             return Ok(member.delivered);
         }
     }
-    Err(Fault::Late)
+    Err(ErrorKind::TimedOut.into())
 }
