@@ -1,12 +1,11 @@
 -- Two deliveries that are compared field by field.
-use Rattle.std.proofs.Common.{◌≡◌, ℕ, Bool, true, ◌==◌, ◌&&◌, nat_eq, List, refl, eqb-true, eq-eqb, subst}
+use Rattle.std.proofs.Common.{◌≡◌, Bool, true, ◌==◌, ◌&&◌, nat_eq, refl, eqb-true, eq-eqb, subst}
 use Rattle.std.proofs.lemmas.Bool.{and_parts}
 use Rattle.std.proofs.lemmas.Slice.Eq.{bytes_eq-Decides}
 use Rattle.std.specs.Bool.{Decides}
 use Rattle.std.specs.Cmp.Lexicographic.{pointwise}
 use Rattle.groups.proofs.Ids.{same_id-true, same_id-refl}
 use Rattle.groups.specs.Request.{same_id}
-use Rattle.groups.specs.declared.request.RequestId.{RequestId}
 use Rattle.skeen_core.specs.declared.packet.Delivered.{Delivered}
 
 -- as `==` does
