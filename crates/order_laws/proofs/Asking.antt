@@ -22,14 +22,14 @@ same_asked old new same i q is = ap (λ f. f i) same ∙ is
 
 submitted_to_asks : (t : Layout) (w : World) (c : ℕ) (task : Task) (gs : List ℕ) →
     AskedGood t w.asked w.proposed w.seq w.last → AskedMore w.asked (submitted_to w c task gs).asked
-submitted_to_asks t w c task [] good i q is = is
+submitted_to_asks t w c task [] good = λ i q is. is
 submitted_to_asks t w c task (g ∷ gs) good =
     asks_more w.asked (next_id w c) (record { floor = floor_of w c; groups = g ∷ gs; task = task })
     (next_is_new t w.asked w.proposed w.seq w.last c good)
 
 submitted_asks : (t : Layout) (w : World) (c : ℕ) (a : Answer) → AskedGood t w.asked w.proposed w.seq w.last →
     AskedMore w.asked (submitted t w c a).asked
-submitted_asks t w c (Now reply) good i q is = is
+submitted_asks t w c (Now reply) good = λ i q is. is
 submitted_asks t w c (Go task) good = submitted_to_asks t w c task (task_groups t task) good
 
 collects_asks : (old new : World) (c : ℕ) (s : Standing) (effect : Effect) → Collects s old c effect new → AskedMore old.asked new.asked

@@ -1,18 +1,20 @@
 -- What was taken, run and settled is in turn, whatever the steps are.
-use Rattle.std.proofs.Common.{◌≡◌, ℕ, zero, suc, ◌+◌, List, [], ◌∷◌, ◌++◌, map, flat_map, length, refl, sym, ap, ◌∙◌, subst, append-nil, append_assoc, length-append, arith}
+use Rattle.std.proofs.Common.{◌≡◌, ℕ, zero, suc, ◌+◌, List, [], ◌∷◌, ◌++◌, map, flat_map, length, refl, sym, ap, ◌∙◌}
+use Rattle.std.proofs.Common.{subst, append-nil, append_assoc, length-append, arith}
 use Rattle.std.proofs.lemmas.Grind.{flat_map-append}
 use Rattle.std.proofs.lemmas.List.{map-append}
 use Rattle.journal.specs.declared.step.Step.{Step}
 use Rattle.journal.specs.declared.step.Step.TheVariants.{Open, Submit, Deliver, Take, Run, Settle, Collect, Close, Repeat}
 use Rattle.order_laws.proofs.Yielding.{yields_of, leads_of, same_yield}
 use Rattle.order_laws.specs.Layers.{Yields, handed_out, run_by, settled_by, takes, settles, not_run, not_settled, all_of, InTurn}
-use Rattle.order_laws.specs.Runs.{LayersAreInTurn}
+use Rattle.order_laws.specs.Runs.{LeavesLayers, OthersLeaveLayers, LayersAreInTurn}
 use Rattle.placement.specs.Layout.{Layout}
 use Rattle.sessions.specs.Session.{Answer, Now, Go}
 use Rattle.skeen_core.specs.declared.packet.Delivered.{Delivered}
 use Rattle.tasks.specs.Tasks.{Task, task_groups}
 use Rattle.world.specs.Steps.{opening, Effect, Steps, Leads, Collects, submitted, submitted_to, remembered, answer_to}
 use Rattle.world.specs.World.{World, Standing, Closed, Idle, Waiting, Answered, Ended, Layer, NoneTaken, Taken, HasRun}
+use Rattle.world_laws.proofs.DeterminedLaws.{steps_determine}
 use Rattle.world_laws.proofs.Layers.{run_of_layer}
 use Rattle.world_laws.specs.Good.{all_delivered, taken_in, run_in}
 
@@ -32,11 +34,33 @@ submitted_keeps t old w c (Go task) keeps = submitted_to_keeps old w c task (tas
 
 collects_keeps : (old new : World) (c : ℕ) (s : Standing) (effect : Effect) → Collects s old c effect new → Keeps old new
 collects_keeps old new c Closed effect step = absurd step
-collects_keeps old new c Idle effect step = record { layer = ap (λ (w : World). w.layer) step.1; ended = ap (λ (w : World). w.ended) step.1 }
+collects_keeps old new c Idle effect step =
+    record { layer = ap (λ (w : World). w.layer) step.1; ended = ap (λ (w : World). w.ended) step.1 }
 collects_keeps old new c Waiting effect step =
     record { layer = ap (λ (w : World). w.layer) step.1; ended = ap (λ (w : World). w.ended) step.1 }
 collects_keeps old new c (Answered o) effect step =
     record { layer = ap (λ (w : World). w.layer) step.1; ended = ap (λ (w : World). w.ended) step.1 }
+
+-- a step that takes no layer, runs none and settles none
+pub leaves : (t : Layout) (old new : World) (s : Step) (effect : Effect) → LeavesLayers s → Steps t old s effect new → Keeps old new
+leaves t old new Open effect plain step =
+    record { layer = ap (λ (w : World). w.layer) step.after; ended = ap (λ (w : World). w.ended) step.after }
+leaves t old new (Submit conn words) effect plain step =
+    subst (λ w. Keeps old w) (sym step.after)
+    (submitted_keeps t old (remembered old conn.0 words) conn.0 (answer_to old conn.0 words) (record { layer = refl; ended = refl }))
+leaves t old new (Deliver k) effect plain step =
+    record { layer = ap (λ (w : World). w.layer) step.after; ended = ap (λ (w : World). w.ended) step.after }
+leaves t old new Take effect plain step = absurd plain
+leaves t old new (Run starved) effect plain step = absurd plain
+leaves t old new Settle effect plain step = absurd plain
+leaves t old new (Collect conn) effect plain step = collects_keeps old new conn.0 (old.standing conn.0) effect step
+leaves t old new (Close conn) effect plain step =
+    record { layer = ap (λ (w : World). w.layer) step.after; ended = ap (λ (w : World). w.ended) step.after }
+leaves t old new (Repeat k) effect plain step =
+    record { layer = ap (λ (w : World). w.layer) step.after; ended = ap (λ (w : World). w.ended) step.after }
+
+pub others_leave_layers : OthersLeaveLayers
+others_leave_layers t old new step effect plain made = let keeps = leaves t old new step effect plain made in (keeps.layer, keeps.ended)
 
 -- ---- in turn, from any world
 
@@ -107,13 +131,9 @@ module _ (handed : List (List Delivered)) (ran settled : List (List Ended)) (old
       AreInTurn (handed ++ handed_out old s new) (ran ++ run_by old s new) (settled ++ settled_by old s new) new
 
   step_stays : (t : Layout) (s : Step) (effect : Effect) → Steps t old s effect new → Stay s
-  step_stays t Open effect step are =
-      kept (record { layer = ap (λ (w : World). w.layer) step.after; ended = ap (λ (w : World). w.ended) step.after }) are
-  step_stays t (Submit conn words) effect step are =
-      kept (subst (λ w. Keeps old w) (sym step.after)
-      (submitted_keeps t old (remembered old conn.0 words) conn.0 (answer_to old conn.0 words) (record { layer = refl; ended = refl }))) are
-  step_stays t (Deliver k) effect step are =
-      kept (record { layer = ap (λ (w : World). w.layer) step.after; ended = ap (λ (w : World). w.ended) step.after }) are
+  step_stays t Open effect step are = kept (leaves t old new Open effect tt step) are
+  step_stays t (Submit conn words) effect step are = kept (leaves t old new (Submit conn words) effect tt step) are
+  step_stays t (Deliver k) effect step are = kept (leaves t old new (Deliver k) effect tt step) are
   step_stays t Take effect step are =
       by_take step.layer step.free (ap (λ (w : World). w.layer) step.after) (ap (λ (w : World). w.ended) step.after) are
   step_stays t (Run starved) effect step are =
@@ -122,11 +142,9 @@ module _ (handed : List (List Delivered)) (ran settled : List (List Ended)) (old
       (ap (λ (w : World). w.ended) step.after) are
   step_stays t Settle effect step are =
       by_settle step.outcomes step.there (ap (λ (w : World). w.layer) step.after) (ap (λ (w : World). w.ended) step.after) are
-  step_stays t (Collect conn) effect step are = kept (collects_keeps old new conn.0 (old.standing conn.0) effect step) are
-  step_stays t (Close conn) effect step are =
-      kept (record { layer = ap (λ (w : World). w.layer) step.after; ended = ap (λ (w : World). w.ended) step.after }) are
-  step_stays t (Repeat k) effect step are =
-      kept (record { layer = ap (λ (w : World). w.layer) step.after; ended = ap (λ (w : World). w.ended) step.after }) are
+  step_stays t (Collect conn) effect step are = kept (leaves t old new (Collect conn) effect tt step) are
+  step_stays t (Close conn) effect step are = kept (leaves t old new (Close conn) effect tt step) are
+  step_stays t (Repeat k) effect step are = kept (leaves t old new (Repeat k) effect tt step) are
 
 all_stay : (t : Layout) (old new : World) (ss : List Step) (handed hs : List (List Delivered)) (ran rs settled sets : List (List Ended)) →
     Yields handed_out t old ss hs new → Yields run_by t old ss rs new → Yields settled_by t old ss sets new →
@@ -149,10 +167,10 @@ all_stay t old new (s ∷ ss) handed hs ran rs settled sets a b c are =
     joined xs ys zs all is = append_assoc xs ys zs ∙ ap (λ l. xs ++ l) (sym is)
 
     b_same : a.1 ≡ b.1
-    b_same = (Rattle.world_laws.proofs.DeterminedLaws.steps_determine t old a.1 b.1 s a.0 b.0 a.3 b.3).1
+    b_same = (steps_determine t old a.1 b.1 s a.0 b.0 a.3 b.3).1
 
     c_same : a.1 ≡ c.1
-    c_same = (Rattle.world_laws.proofs.DeterminedLaws.steps_determine t old a.1 c.1 s a.0 c.0 a.3 c.3).1
+    c_same = (steps_determine t old a.1 c.1 s a.0 c.0 a.3 c.3).1
 
     b_is : rs ≡ run_by old s a.1 ++ b.2
     b_is = b.5 ∙ ap (λ w. run_by old s w ++ b.2) (sym b_same)

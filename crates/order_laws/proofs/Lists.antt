@@ -1,5 +1,6 @@
 -- What stands where in a list that grows.
-use Rattle.std.proofs.Common.{◌≡◌, ℕ, zero, suc, ◌+◌, ◌<◌, ◌≤◌, List, [], ◌∷◌, ◌++◌, length, Option, Some, slice_get, refl, sym, ap, ◌∙◌, subst, arith}
+use Rattle.std.proofs.Common.{◌≡◌, ℕ, zero, suc, ◌+◌, ◌<◌, ◌≤◌, List, [], ◌∷◌, ◌++◌, length, Option, Some, slice_get}
+use Rattle.std.proofs.Common.{refl, sym, ap, ◌∙◌, subst, arith}
 use Rattle.std.proofs.lemmas.List.{append-nil}
 use mathlib.Core.List.{IsPrefix}
 use Rattle.groups.specs.Order.{In}
@@ -19,7 +20,8 @@ get_inside (y ∷ xs) zero less = (y, refl)
 get_inside (y ∷ xs) (suc k) less = get_inside xs k (omega (arith, less))
 
 -- what stands in the longer list at a place of the shorter stands there too
-pub get_before : {A : Type 0} (xs rest : List A) (k : ℕ) (x : A) → k < length xs → slice_get (xs ++ rest) k ≡ Some x → slice_get xs k ≡ Some x
+pub get_before : {A : Type 0} (xs rest : List A) (k : ℕ) (x : A) → k < length xs → slice_get (xs ++ rest) k ≡ Some x →
+    slice_get xs k ≡ Some x
 get_before [] rest k x less h = absurd (omega (arith, less))
 get_before (y ∷ xs) rest zero x less h = h
 get_before (y ∷ xs) rest (suc k) x less h = get_before xs rest k x (omega (arith, less)) h

@@ -1,5 +1,6 @@
 -- A layer that a store has run as one thread does is run so in the world.
-use Rattle.std.proofs.Common.{◌≡◌, List, [], ◌∷◌, ◌++◌, map, flat_map, cond, inl, inr, Option, Some, None, refl, sym, ap, ◌∙◌, subst, append-nil, append_assoc}
+use Rattle.std.proofs.Common.{◌≡◌, List, [], ◌∷◌, ◌++◌, map, flat_map, cond, inl, inr, Option, Some, None, refl, sym}
+use Rattle.std.proofs.Common.{ap, ◌∙◌, subst, append-nil, append_assoc}
 use Rattle.std.proofs.lemmas.Grind.{flat_map-append}
 use Rattle.std.specs.FinMap.{empty}
 use Rattle.execution_order.specs.Entries.{Row, deeds_of, entries_of, replies_of}
@@ -89,7 +90,7 @@ replies_from m left (e ∷ es) is = by_reply e.reply refl is (λ n. replies_from
         ≡ (deeds_in_turn (deed_effect (deed_of e.task reply) m).0 (deeds_of (entries_of (rows_of es)))).1 = cc lists in (
           inr (reply, some, first),
           subst (λ r. RepliesInTurn (map_after r e.task m) es) (sym some)
-              (rest (deed_effect (deed_of e.task reply) m).0 (λ i. (is i .0, then i))),
+              (rest (deed_effect (deed_of e.task reply) m).0 (λ i. ((is i).0, then i))),
         )
 
 replies_behind : (m : Map) (xs ys : List Ended) → RepliesInTurn m (xs ++ ys) → RepliesInTurn (after_all m xs) ys

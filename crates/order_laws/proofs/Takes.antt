@@ -1,5 +1,6 @@
 -- What the Takes of a history handed out.
-use Rattle.std.proofs.Common.{◌≡◌, ℕ, ◌<◌, List, [], ◌∷◌, ◌++◌, map, length, slice_get, Some, refl, sym, ap, ◌∙◌, subst, append-nil, arith}
+use Rattle.std.proofs.Common.{◌≡◌, ℕ, ◌<◌, List, [], ◌∷◌, ◌++◌, map, length, suc, slice_get, Some, refl, sym, ap, ◌∙◌}
+use Rattle.std.proofs.Common.{subst, append-nil, arith}
 use mathlib.Core.List.{IsPrefix}
 use Rattle.groups.proofs.Options.{some_same}
 use Rattle.journal.specs.declared.step.Step.{Step}
@@ -40,9 +41,9 @@ takes_agree t one other all w leads p q number layer same hands there =
     (subst (λ l. Yields handed_out t opening l b.layers b.world) q.1 b.takes) in
     some_same layer same (sym a.there ∙ ap (λ l. slice_get l number) lists.0 ∙ b.there)
 
-length_of_map : {A B : Type 0} (f : A → B) (xs : List A) → length (map f xs) ≡ length xs
+pub length_of_map : {A B : Type 0} (f : A → B) (xs : List A) → length (map f xs) ≡ length xs
 length_of_map f [] = refl
-length_of_map f (x ∷ xs) = ap Rattle.std.proofs.Common.suc (length_of_map f xs)
+length_of_map f (x ∷ xs) = ap suc (length_of_map f xs)
 
 pub out_is_of_last_take : OutIsOfLastTake
 out_is_of_last_take t steps w leads layer taken =
@@ -58,5 +59,6 @@ out_is_of_last_take t steps w leads layer taken =
       world = w;
       takes = turns.takes;
       there = ap (λ l. slice_get l (settles steps)) handed
-          ∙ subst (λ n. slice_get (map all_delivered turns.ran ++ layer ∷ []) n ≡ Some layer) place (get_last (map all_delivered turns.ran) layer);
+          ∙ subst (λ n. slice_get (map all_delivered turns.ran ++ layer ∷ []) n ≡ Some layer) place
+          (get_last (map all_delivered turns.ran) layer);
     }

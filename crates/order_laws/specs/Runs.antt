@@ -2,10 +2,25 @@
 use Rattle.std.specs.Prelude.{◌≡◌, ℕ, ◌<◌, ◌≤◌, List, ◌++◌, length, slice_get, Some}
 use mathlib.Core.List.{IsPrefix}
 use Rattle.journal.specs.declared.step.Step.{Step}
+use Rattle.journal.specs.declared.step.Step.TheVariants.{Take, Run, Settle}
 use Rattle.order_laws.specs.Layers.{Yields, run_by, settled_by, settles, InTurn}
 use Rattle.placement.specs.Layout.{Layout}
-use Rattle.world.specs.Steps.{opening, Leads}
+use Rattle.world.specs.Steps.{opening, Effect, Steps, Leads}
 use Rattle.world.specs.World.{World, Ended}
+
+-- the step takes no layer, runs none and settles none
+abbrev pub LeavesLayers : Step → Type 0
+LeavesLayers Take = ⊥
+LeavesLayers (Run starved) = ⊥
+LeavesLayers Settle = ⊥
+LeavesLayers step = Unit {0}
+
+-- ---- the laws
+
+-- such a step leaves the layer and what has ended as they were
+abbrev pub OthersLeaveLayers : Type 0
+OthersLeaveLayers = (t : Layout) (old new : World) (step : Step) (effect : Effect) → LeavesLayers step →
+    Steps t old step effect new → (new.layer ≡ old.layer) × (new.ended ≡ old.ended)
 
 -- what is run and what is settled in each history is what it took, in turn
 abbrev pub LayersAreInTurn : Type 0
