@@ -1,6 +1,5 @@
 -- What was asked stays.
-use Rattle.std.proofs.Common.{◌≡◌, ℕ, List, [], ◌∷◌, ◌++◌, Some, sym, ap, ◌∙◌, subst}
-use Rattle.groups.specs.declared.request.RequestId.{RequestId}
+use Rattle.std.proofs.Common.{◌≡◌, ℕ, List, [], ◌∷◌, ◌++◌, sym, ap, ◌∙◌, subst}
 use Rattle.journal.specs.declared.step.Step.{Step}
 use Rattle.journal.specs.declared.step.Step.TheVariants.{Open, Submit, Deliver, Take, Run, Settle, Collect, Close, Repeat}
 use Rattle.order_laws.proofs.Yielding.{yields_of, begins}
@@ -10,7 +9,7 @@ use Rattle.placement.specs.Layout.{Layout}
 use Rattle.sessions.specs.Session.{Answer, Now, Go}
 use Rattle.tasks.specs.Tasks.{Task, task_groups}
 use Rattle.world.specs.Steps.{opening, Effect, Steps, Collects, submitted, submitted_to, remembered, answer_to, floor_of, next_id}
-use Rattle.world.specs.World.{World, Request, Standing, Closed, Idle, Waiting, Answered}
+use Rattle.world.specs.World.{World, Standing, Closed, Idle, Waiting, Answered}
 use Rattle.world_laws.proofs.Groups.{AskedMore}
 use Rattle.world_laws.proofs.Requests.{asks_more, next_is_new}
 use Rattle.world_laws.proofs.Worlds.{keeps, good_world}

@@ -1,19 +1,19 @@
 -- What was taken, run and settled is in turn, whatever the steps are.
-use Rattle.std.proofs.Common.{◌≡◌, ℕ, zero, suc, ◌+◌, List, [], ◌∷◌, ◌++◌, map, flat_map, length, refl, sym, ap, ◌∙◌}
-use Rattle.std.proofs.Common.{subst, append-nil, append_assoc, length-append, arith}
+use Rattle.std.proofs.Common.{◌≡◌, ℕ, suc, List, [], ◌∷◌, ◌++◌, map, length, refl, sym, ap, ◌∙◌}
+use Rattle.std.proofs.Common.{subst, append-nil, append_assoc}
 use Rattle.std.proofs.lemmas.Grind.{flat_map-append}
 use Rattle.std.proofs.lemmas.List.{map-append}
 use Rattle.journal.specs.declared.step.Step.{Step}
 use Rattle.journal.specs.declared.step.Step.TheVariants.{Open, Submit, Deliver, Take, Run, Settle, Collect, Close, Repeat}
-use Rattle.order_laws.proofs.Yielding.{yields_of, leads_of, same_yield}
-use Rattle.order_laws.specs.Layers.{Yields, handed_out, run_by, settled_by, takes, settles, not_run, not_settled, all_of, InTurn}
+use Rattle.order_laws.proofs.Yielding.{yields_of}
+use Rattle.order_laws.specs.Layers.{Yields, handed_out, run_by, settled_by, takes, settles, not_run, not_settled, all_of}
 use Rattle.order_laws.specs.Runs.{LeavesLayers, OthersLeaveLayers, LayersAreInTurn}
 use Rattle.placement.specs.Layout.{Layout}
 use Rattle.sessions.specs.Session.{Answer, Now, Go}
 use Rattle.skeen_core.specs.declared.packet.Delivered.{Delivered}
 use Rattle.tasks.specs.Tasks.{Task, task_groups}
-use Rattle.world.specs.Steps.{opening, Effect, Steps, Leads, Collects, submitted, submitted_to, remembered, answer_to}
-use Rattle.world.specs.World.{World, Standing, Closed, Idle, Waiting, Answered, Ended, Layer, NoneTaken, Taken, HasRun}
+use Rattle.world.specs.Steps.{opening, Effect, Steps, Collects, submitted, submitted_to, remembered, answer_to}
+use Rattle.world.specs.World.{World, Standing, Closed, Idle, Waiting, Answered, Ended, NoneTaken, Taken, HasRun}
 use Rattle.world_laws.proofs.DeterminedLaws.{steps_determine}
 use Rattle.world_laws.proofs.Layers.{run_of_layer}
 use Rattle.world_laws.specs.Good.{all_delivered, taken_in, run_in}

@@ -1,8 +1,8 @@
 pub mod Lists
 pub mod Yielding
 pub mod Layers
-pub mod Takes
+pub mod TakeLaws
 pub mod Asking
-pub mod Runs
-pub mod Serial
+pub mod RunLaws
+pub mod SerialLaws
 pub mod Order

@@ -1,5 +1,5 @@
 -- The layers that a history ran keep the law of a store's layers.
-use Rattle.std.proofs.Common.{◌≡◌, ℕ, true, false, List, [], ◌∷◌, inl, inr, Option, Some, None, refl, sym, ap, ◌∙◌, subst}
+use Rattle.std.proofs.Common.{◌≡◌, true, false, List, [], ◌∷◌, inl, inr, Option, Some, None, refl, sym, ap, ◌∙◌, subst}
 use Rattle.batches.specs.Starved.{starved_in}
 use Rattle.execution_order.specs.Entries.{Entry, Row, entries_of, Touch, InOrder, IsAddressed, AreAddressed}
 use Rattle.execution_order.specs.Rows.{IsOneThread}
@@ -8,11 +8,10 @@ use Rattle.groups.specs.GroupSet.{has}
 use Rattle.groups.specs.Order.{In}
 use Rattle.groups.specs.Stamp.{stamp_lt}
 use Rattle.journal.specs.declared.step.Step.{Step}
-use Rattle.order_laws.proofs.Serial.{rows_are_of_runs}
+use Rattle.order_laws.proofs.SerialLaws.{rows_are_of_runs}
 use Rattle.order_laws.proofs.Yielding.{leads_of}
 use Rattle.order_laws.specs.Layers.{run_by}
-use Rattle.order_laws.specs.Serial.{RanLayer, all_rows, IsSerial}
-use Rattle.order_laws.specs.Truth.{AreRunsOf, RunsAreSerial}
+use Rattle.order_laws.specs.Truth.{RunsAreSerial}
 use Rattle.placement.specs.Layout.{Layout}
 use Rattle.resp.specs.Content.{Content}
 use Rattle.tasks.specs.Tasks.{task_groups}

@@ -1,10 +1,10 @@
 -- The layers of a history: which ones its steps take, what comes of them when they are run, and what is settled.
 use Rattle.std.specs.Prelude.{◌≡◌, ℕ, suc, List, [], ◌∷◌, ◌++◌, map, flat_map}
 use Rattle.journal.specs.declared.step.Step.{Step}
-use Rattle.journal.specs.declared.step.Step.TheVariants.{Open, Submit, Deliver, Take, Run, Settle, Collect, Close, Repeat}
+use Rattle.journal.specs.declared.step.Step.TheVariants.{Take, Run, Settle}
 use Rattle.placement.specs.Layout.{Layout}
 use Rattle.skeen_core.specs.declared.packet.Delivered.{Delivered}
-use Rattle.world.specs.Steps.{opening, Effect, Steps, Leads}
+use Rattle.world.specs.Steps.{opening, Effect, Steps}
 use Rattle.world.specs.World.{World, Ended, Layer, NoneTaken, Taken, HasRun}
 use Rattle.world_laws.specs.Good.{all_delivered, taken_in, run_in}
 

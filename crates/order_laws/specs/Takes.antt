@@ -1,9 +1,9 @@
 -- What the Takes of a history handed out.
-use Rattle.std.specs.Prelude.{◌≡◌, ℕ, suc, ◌<◌, List, ◌++◌, length, slice_get, Some}
+use Rattle.std.specs.Prelude.{◌≡◌, ℕ, ◌<◌, List, ◌++◌, slice_get, Some}
 use mathlib.Core.List.{IsPrefix}
 use Rattle.groups.specs.declared.request.RequestId.{RequestId}
 use Rattle.journal.specs.declared.step.Step.{Step}
-use Rattle.order_laws.specs.Layers.{Yields, handed_out, takes, settles, InTurn}
+use Rattle.order_laws.specs.Layers.{Yields, handed_out, takes, settles}
 use Rattle.placement.specs.Layout.{Layout}
 use Rattle.skeen_core.specs.declared.packet.Delivered.{Delivered}
 use Rattle.world.specs.Steps.{opening, Leads}

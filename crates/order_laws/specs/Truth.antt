@@ -7,7 +7,7 @@ use Rattle.order_laws.specs.Layers.{Yields, run_by}
 use Rattle.order_laws.specs.Serial.{RanLayer, all_rows, all_starved, IsSerial}
 use Rattle.placement.specs.Layout.{Layout}
 use Rattle.skeen_core.specs.declared.packet.Delivered.{Delivered}
-use Rattle.world.specs.Steps.{opening, Ran, starved_among, after_all, Steps, Leads}
+use Rattle.world.specs.Steps.{opening, Ran, starved_among, after_all, Steps}
 use Rattle.world.specs.World.{World, Request, Ended, Taken, HasRun}
 use Rattle.world_laws.specs.Good.{Asked, all_delivered}
 use Rattle.world_laws.specs.Headline.{rows_of}

@@ -1,5 +1,5 @@
 use Rattle.order_laws.proofs.Layers.{others_leave_layers, layers_are_in_turn}
-use Rattle.order_laws.proofs.Runs.{settled_are_counted, runs_stay, settled_stay, runs_agree, later_run_behind}
+use Rattle.order_laws.proofs.RunLaws.{settled_are_counted, runs_stay, settled_stay, runs_agree, later_run_behind}
 use Rattle.order_laws.proofs.runs.runs_of_layers.Goals as goal
 
 pub returns : goal.returns

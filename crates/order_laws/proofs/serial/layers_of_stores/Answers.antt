@@ -1,5 +1,5 @@
 use Rattle.order_laws.proofs.Order.{runs_are_serial}
-use Rattle.order_laws.proofs.Serial.{rows_are_of_runs, serial_is_true}
+use Rattle.order_laws.proofs.SerialLaws.{rows_are_of_runs, serial_is_true}
 use Rattle.order_laws.proofs.serial.layers_of_stores.Goals as goal
 
 pub returns : goal.returns

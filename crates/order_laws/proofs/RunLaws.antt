@@ -1,7 +1,6 @@
 -- What came of the layers of a history.
-use Rattle.std.proofs.Common.{◌≡◌, ℕ, ◌<◌, ◌≤◌, List, [], ◌∷◌, ◌++◌, length, slice_get, Some, refl, sym, ap, ◌∙◌, subst, arith}
+use Rattle.std.proofs.Common.{◌≡◌, ◌<◌, List, ◌++◌, length, slice_get, Some, sym, ap, ◌∙◌, subst, arith}
 use Rattle.std.proofs.lemmas.Grind.{flat_map-append}
-use mathlib.Core.List.{IsPrefix}
 use Rattle.journal.specs.declared.step.Step.{Step}
 use Rattle.order_laws.proofs.Layers.{layers_are_in_turn, settles_counted}
 use Rattle.order_laws.proofs.Lists.{get_before, shorter_begins}

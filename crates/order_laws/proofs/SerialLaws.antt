@@ -1,5 +1,5 @@
 -- A layer that a store has run as one thread does is run so in the world.
-use Rattle.std.proofs.Common.{◌≡◌, List, [], ◌∷◌, ◌++◌, map, flat_map, cond, inl, inr, Option, Some, None, refl, sym}
+use Rattle.std.proofs.Common.{◌≡◌, List, [], ◌∷◌, ◌++◌, map, cond, inl, inr, Option, Some, None, refl, sym}
 use Rattle.std.proofs.Common.{ap, ◌∙◌, subst, append-nil, append_assoc}
 use Rattle.std.proofs.lemmas.Grind.{flat_map-append}
 use Rattle.std.specs.FinMap.{empty}
@@ -15,15 +15,15 @@ use Rattle.keyspace.specs.Map.{Map}
 use Rattle.order_laws.proofs.Layers.{layers_are_in_turn}
 use Rattle.order_laws.proofs.Yielding.{leads_of, same_yield}
 use Rattle.order_laws.specs.Layers.{Yields, run_by, all_of}
-use Rattle.order_laws.specs.Serial.{RanLayer, all_rows, all_starved, IsSerial}
-use Rattle.order_laws.specs.Truth.{ran_as, AreRunsOf, CameOf, with_run, RowsAreOfRuns, SerialIsTrue}
+use Rattle.order_laws.specs.Serial.{all_rows, all_starved}
+use Rattle.order_laws.specs.Truth.{ran_as, RowsAreOfRuns, SerialIsTrue}
 use Rattle.placement.specs.Layout.{Layout}
 use Rattle.resp.specs.Content.{Content}
 use Rattle.skeen_core.specs.Group.{EachOnce}
 use Rattle.skeen_core.specs.declared.packet.Delivered.{Delivered}
 use Rattle.tasks.specs.Tasks.{Task, deed_effect, deed_of, deeds_in_turn, starved_names}
 use Rattle.world.specs.Steps.{opening, map_after, after_all, ended_as, starved_among, RunInTurn}
-use Rattle.world.specs.World.{World, Request, Ended, Taken}
+use Rattle.world.specs.World.{World, Request, Ended}
 use Rattle.world_laws.proofs.Layers.{taken_once}
 use Rattle.world_laws.proofs.Names.{IsAnswer, Tells, TellsEach, ends_again, starved_tell}
 use Rattle.world_laws.proofs.Worlds.{good_world}

@@ -1,18 +1,13 @@
 -- What the Takes of a history handed out.
-use Rattle.std.proofs.Common.{◌≡◌, ℕ, ◌<◌, List, [], ◌∷◌, ◌++◌, map, length, suc, slice_get, Some, refl, sym, ap, ◌∙◌}
+use Rattle.std.proofs.Common.{◌≡◌, List, [], ◌∷◌, ◌++◌, map, length, suc, slice_get, Some, refl, sym, ap, ◌∙◌}
 use Rattle.std.proofs.Common.{subst, append-nil, arith}
-use mathlib.Core.List.{IsPrefix}
 use Rattle.groups.proofs.Options.{some_same}
-use Rattle.journal.specs.declared.step.Step.{Step}
 use Rattle.order_laws.proofs.Layers.{layers_are_in_turn, takes_counted, settles_counted}
 use Rattle.order_laws.proofs.Lists.{get_more, get_last, get_inside}
 use Rattle.order_laws.proofs.Yielding.{yields_of, same_yield, begins}
 use Rattle.order_laws.specs.Layers.{Yields, handed_out, settles, not_run, not_settled}
-use Rattle.order_laws.specs.Takes.{HandsOut, EachTakeHandsOut, TakesStay, TakesAgree, OutIsOfLastTake}
-use Rattle.placement.specs.Layout.{Layout}
-use Rattle.skeen_core.specs.declared.packet.Delivered.{Delivered}
+use Rattle.order_laws.specs.Takes.{EachTakeHandsOut, TakesStay, TakesAgree, OutIsOfLastTake}
 use Rattle.world.specs.Steps.{opening, Leads}
-use Rattle.world.specs.World.{World, Taken}
 use Rattle.world_laws.specs.Good.{all_delivered}
 
 pub each_take_hands_out : EachTakeHandsOut
