@@ -13,7 +13,7 @@ use std::sync::atomic::{AtomicU64, Ordering};
 const REQUESTS: u64 = 40;
 
 /// How often at most a group says all that it has to say.
-const ROUNDS: u32 = 2000;
+const ROUNDS: u32 = 1000;
 
 /// How many packets it hears at most in between.
 const MOST_HEARD: u32 = 256;
