@@ -1,0 +1,3 @@
+pub mod Serial
+pub mod Sealed
+pub mod Histories
