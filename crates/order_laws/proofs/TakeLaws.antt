@@ -1,6 +1,7 @@
 -- What the Takes of a history handed out.
-use Rattle.std.proofs.Common.{◌≡◌, List, [], ◌∷◌, ◌++◌, map, length, suc, slice_get, Some, refl, sym, ap, ◌∙◌}
+use Rattle.std.proofs.Common.{◌≡◌, [], ◌∷◌, ◌++◌, map, length, slice_get, Some, sym, ap, ◌∙◌}
 use Rattle.std.proofs.Common.{subst, append-nil, arith}
+use Rattle.std.proofs.lemmas.List.{length-map}
 use Rattle.groups.proofs.Options.{some_same}
 use Rattle.order_laws.proofs.Layers.{layers_are_in_turn, takes_counted, settles_counted}
 use Rattle.order_laws.proofs.Lists.{get_more, get_last, get_inside}
@@ -36,10 +37,6 @@ takes_agree t one other all w leads p q number layer same hands there =
     (subst (λ l. Yields handed_out t opening l b.layers b.world) q.1 b.takes) in
     some_same layer same (sym a.there ∙ ap (λ l. slice_get l number) lists.0 ∙ b.there)
 
-pub length_of_map : {A B : Type 0} (f : A → B) (xs : List A) → length (map f xs) ≡ length xs
-length_of_map f [] = refl
-length_of_map f (x ∷ xs) = ap suc (length_of_map f xs)
-
 pub out_is_of_last_take : OutIsOfLastTake
 out_is_of_last_take t steps w leads layer taken =
     let turns = layers_are_in_turn t steps w leads in
@@ -48,7 +45,7 @@ out_is_of_last_take t steps w leads layer taken =
     let ran : turns.ran ≡ turns.settled =
     turns.of_runs ∙ ap (λ l. turns.settled ++ not_settled l) taken ∙ append-nil turns.settled in
     let place : length (map all_delivered turns.ran) ≡ settles steps =
-    length_of_map all_delivered turns.ran ∙ ap length ran ∙ settles_counted t opening w steps turns.settled turns.settles in
+    length-map turns.ran all_delivered ∙ ap length ran ∙ settles_counted t opening w steps turns.settled turns.settles in
     record {
       layers = turns.handed;
       world = w;
