@@ -2,9 +2,10 @@
 use Rattle.std.proofs.Common.{◌≡◌, ◌≢◌, ℕ, suc, List, [], ◌∷◌, ◌++◌, map, length, refl, sym, ap, ◌∙◌, subst}
 use Rattle.std.proofs.Common.{append-nil, arith, length-append}
 use mathlib.Core.List.{IsPrefix}
+use Rattle.std.proofs.lemmas.List.{length-map}
 use Rattle.front.specs.Fronts.{IsOut, HasNotRun}
 use Rattle.order_laws.proofs.Layers.{layers_are_in_turn, settles_counted}
-use Rattle.order_laws.proofs.TakeLaws.{out_is_of_last_take, length_of_map}
+use Rattle.order_laws.proofs.TakeLaws.{out_is_of_last_take}
 use Rattle.order_laws.proofs.Yielding.{same_yield}
 use Rattle.order_laws.specs.Layers.{run_by, not_settled, settles}
 use Rattle.order_laws.specs.Takes.{HandsOut}
@@ -34,7 +35,7 @@ module _ (h : HistoryView) (w : World) (is : IsTrueIn h w) where
       let turns = layers_are_in_turn t h.steps w is.at.leads in
       let same : is.ran.ended ≡ turns.settled = (same_yield run_by t opening w w h.steps is.ran.ended turns.ran is.ran.runs turns.runs).0
       ∙ turns.of_runs ∙ ap (λ l. turns.settled ++ l) (none_unsettled w.layer is.not_run) ∙ append-nil turns.settled in
-      is.layers ∙ sym (length_of_map (layer_of t) h.ran) ∙ ap length is.ran.each ∙ length_of_map ran_as is.ran.ended ∙ ap length same
+      is.layers ∙ sym (length-map h.ran (layer_of t)) ∙ ap length is.ran.each ∙ length-map is.ran.ended ran_as ∙ ap length same
       ∙ settles_counted t opening w h.steps turns.settled turns.settles
 
   -- what is out is what the Take of that number handed out
