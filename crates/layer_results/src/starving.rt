@@ -36,13 +36,15 @@ pub(super) fn push_row_names(row: &DoneRow, names: &mut Vec<SkipId>)
     }
 }
 
-/// The first places of an array, at most so many; another reply has none.
+/// The first of an array's replies, at most so many. Any other reply has none; of bulk strings and nulls alone none says
+/// that there was no memory.
 #[tactic(auto, using(resp::proofs::Contents::content_of))]
 fn places(count: usize, reply: &Reply) -> &[Reply]
     ensures { wants_in count (content reply.now) ≡ wants_among 1 (map content result.now) }
 {
     match reply {
         Reply::Array(replies) => &replies[..count.min(replies.len())],
+        Reply::Bulks(_texts) => &[],
         Reply::Simple(_) | Reply::Error(_) | Reply::Int(_) | Reply::Bulk(_) | Reply::Null => &[],
     }
 }
