@@ -1,0 +1,5 @@
+pub mod Layers
+pub mod Takes
+pub mod Runs
+pub mod Serial
+pub mod Truth
