@@ -1,3 +1,5 @@
+pub mod Bulks
+pub mod BulksRead
 pub mod Contents
 pub mod Sizes
 pub mod Texts

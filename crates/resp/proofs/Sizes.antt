@@ -1,8 +1,8 @@
 -- How long the texts of bulk strings and of arrays are.
 use Rattle.std.specs.Fmt.{decimal, signed_decimal}
 use Rattle.std.proofs.Common.{◌≡◌, ℕ, ℤ, ◌+◌, ◌^◌, ◌<◌, ◌≤◌, List, ◌∷◌, ◌++◌, length, arith}
-use Rattle.std.proofs.Common.{Bor, refl, length-append}
-use Rattle.std.proofs.lemmas.Fmt.{length-decimal-le}
+use Rattle.std.proofs.Common.{Bor, [], ◌/◌, ◌%◌, refl, ap, ◌∙◌, length-append}
+use Rattle.std.proofs.lemmas.Fmt.{decimal_digit, decimal_step, length-decimal-le}
 use Rattle.resp.specs.declared.answered.TheConstants.{LONG, SHORT_BULK}
 use Rattle.resp.specs.Ascii.{colon, dollar, plus}
 use Rattle.resp.specs.Content.{BulkText}
@@ -10,6 +10,12 @@ use Rattle.resp.specs.Text.{crlf, text, reply_text}
 use Rattle.resp.specs.declared.reply.Reply.{Reply}
 use Rattle.resp.specs.declared.reply.Reply.TheVariants.{Simple, Int}
 use Rattle.resp.proofs.Texts.{text-Simple, text-Int}
+
+pub one_digit : (n : ℕ) → n < 10 → decimal n ≡ (48 + n) ∷ []
+one_digit n low = decimal_digit n low
+
+pub two_digits : (n : ℕ) → 10 ≤ n → n < 100 → decimal n ≡ (48 + n / 10) ∷ (48 + n % 10) ∷ []
+two_digits n high low = decimal_step n high (omega arith) ∙ ap (λ ds. ds ++ (48 + n % 10) ∷ []) (decimal_digit (n / 10) (omega arith))
 
 -- a bulk string's text is its length's line, its bytes, and the end of their line
 pub length-text-BulkText : (bytes : List ℕ) → length (dollar ∷ decimal (length bytes) ++ crlf) + length bytes + 2 ≡ length (text

@@ -1,18 +1,19 @@
 -- The text of each kind of reply, and of an array as its replies' texts in a row.
 use Rattle.std.specs.Global.{Vec}
 use Rattle.std.specs.Fmt.{decimal, signed_decimal}
-use Rattle.std.proofs.Common.{◌≡◌, ℕ, ℤ, ◌+◌, List, [], ◌∷◌, ◌++◌, map, length, ap, ◌∙◌, refl, Bor, arith, codes, take, ◌<◌, ◌≤◌}
-use Rattle.std.proofs.Common.{append_assoc, length-append, get_or}
+use Rattle.std.proofs.Common.{◌≡◌, ℕ, ℤ, ◌+◌, List, [], ◌∷◌, ◌++◌, map, length, ap, sym, ◌∙◌, refl, Bor, arith, codes, take, ◌<◌, ◌≤◌}
+use Rattle.std.proofs.Common.{append_assoc, length-append, get_or, Option, Some, None}
 use Rattle.std.proofs.lemmas.List.{take_all}
 use Rattle.std.proofs.lemmas.List.Folds.{length-flat_map-take}
 use Rattle.std.specs.List.{flat_map}
 use Rattle.resp.specs.declared.reply.ErrorText.{ErrorText}
 use Rattle.resp.specs.declared.reply.Reply.{Reply}
-use Rattle.resp.specs.declared.reply.Reply.TheVariants.{Simple, Error, Int, Bulk, Null, Array}
+use Rattle.resp.specs.declared.reply.Reply.TheVariants.{Simple, Error, Int, Bulk, Null, Array, Bulks}
 use Rattle.resp.specs.Ascii.{plus, colon, minus, dollar, asterisk}
-use Rattle.resp.specs.Content.{content, contents, error_text}
+use Rattle.resp.specs.Bulks.{bulk_text}
+use Rattle.resp.specs.Content.{text_or_null, content, contents, error_text}
 use Rattle.resp.specs.Text.{crlf, text, contents_text, count_of, reply_text}
-use Rattle.resp.proofs.Contents.{content-Simple, content-Error, content-Int, content-Bulk, content-Null, content-Array}
+use Rattle.resp.proofs.Contents.{content-Simple, content-Error, content-Int, content-Bulk, content-Null, content-Array, content-Bulks}
 
 count_of-contents : (replies : List Reply) → count_of (contents (map content replies)) ≡ length replies
 count_of-contents [] = refl
@@ -42,7 +43,23 @@ pub text-Array : (replies : Vec Reply) → text (content (Array replies)) ≡ co
 text-Array replies =
     rw (content-Array replies, count_of-contents replies.items, contents_text-contents replies.items)
 
-pub ruleset text_of = (text-Simple, text-Error, text-Int, text-Bulk, text-Null, text-Array)
+count_of-bulks : (texts : List (Option (List ℕ))) → count_of (contents (map text_or_null texts)) ≡ length texts
+count_of-bulks [] = refl
+count_of-bulks (t ∷ ts) = ap (λ n. n + 1) (count_of-bulks ts) ∙ omega arith
+
+text-one : (item : Option (List ℕ)) → text (text_or_null item) ≡ bulk_text item
+text-one None = refl
+text-one (Some bytes) = refl
+
+contents_text-bulks : (texts : List (Option (List ℕ))) → contents_text (contents (map text_or_null texts)) ≡ flat_map bulk_text texts
+contents_text-bulks [] = refl
+contents_text-bulks (t ∷ ts) = rw text-one (ap (λ more. bulk_text t ++ more) (contents_text-bulks ts))
+
+pub text-Bulks : (texts : List (Option (List ℕ))) → text (content (Bulks texts)) ≡ codes "*" ++ decimal (length texts) ++ crlf
+    ++ flat_map bulk_text texts
+text-Bulks texts = rw (content-Bulks texts, count_of-bulks texts, contents_text-bulks texts)
+
+pub ruleset text_of = (text-Simple, text-Error, text-Int, text-Bulk, text-Null, text-Array, text-Bulks)
 
 -- the length's line and then the texts of all replies are the text of the array
 pub text-Array-written : (old begun out : List ℕ) (reply : Reply) (replies : Vec Reply) (i n : ℕ) → reply ≡ Array replies
@@ -104,3 +121,15 @@ array_item_fits old begun out reply item replies n i is counted within at begins
       texts,
       this,
     )
+
+-- ---- the same of bulk strings and nulls that are kept as their texts
+
+pub length-text-Bulks : (reply : Reply) (texts : List (Option (List ℕ))) (n : ℕ) → reply ≡ Bulks texts → n ≡ length texts
+    → length (asterisk ∷ decimal n ++ crlf) + length (flat_map bulk_text texts) ≡ length (text (content reply))
+length-text-Bulks reply texts n is counted =
+    rw (is, text-Bulks texts, counted) (sym (length-append (asterisk ∷ decimal (length texts) ++ crlf) (flat_map bulk_text texts)))
+
+pub text-Bulks-written : (old begun out : List ℕ) (reply : Reply) (texts : List (Option (List ℕ))) (n : ℕ) → reply ≡ Bulks texts
+    → n ≡ length texts → begun ≡ old ++ asterisk ∷ decimal n ++ crlf → out ≡ begun ++ flat_map bulk_text texts
+    → out ≡ old ++ text (content reply)
+text-Bulks-written old begun out reply texts n is counted begins goes = goes ∙ rw (begins, counted, is, text-Bulks texts) (simp append_assoc)

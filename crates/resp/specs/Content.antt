@@ -1,5 +1,5 @@
 -- What a reply says, apart from how it lies in memory: RESP2's kinds of reply over byte strings and numbers.
-use Rattle.std.specs.Prelude.{ℕ, ℤ, List, [], ◌∷◌, ◌++◌, codes}
+use Rattle.std.specs.Prelude.{ℕ, ℤ, List, [], ◌∷◌, ◌++◌, map, codes, Option, Some, None}
 use Rattle.resp.specs.declared.reply.ErrorText.{ErrorText}
 use Rattle.resp.specs.declared.reply.ErrorText.TheVariants.{Fixed, Arity}
 use Rattle.resp.specs.declared.reply.Reply.{Reply}
@@ -26,6 +26,11 @@ abbrev pub contents : List Content → Contents
 contents [] = NoMore
 contents (c ∷ cs) = Then c (contents cs)
 
+-- a bulk string, or null
+abbrev pub text_or_null : Option (List ℕ) → Content
+text_or_null None = Nothing
+text_or_null (Some bytes) = BulkText bytes
+
 -- what an error says
 abbrev pub error_text : ErrorText → List ℕ
 error_text (Fixed text) = text.now
@@ -39,6 +44,7 @@ content_step (Reply-F.Int n) = Number n
 content_step (Reply-F.Bulk text) = BulkText text.items
 content_step Reply-F.Null = Nothing
 content_step (Reply-F.Array replies) = Several (contents replies.items)
+content_step (Reply-F.Bulks texts) = Several (contents (map text_or_null texts))
 
 -- what a reply says
 abbrev pub content : Reply → Content

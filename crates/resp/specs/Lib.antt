@@ -1,4 +1,5 @@
 pub mod Ascii
+pub mod Bulks
 pub mod Content
 pub mod LongText
 pub mod Text

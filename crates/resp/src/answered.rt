@@ -112,6 +112,7 @@ fn has_short_text(reply: &Reply)
         Reply::Bulk(_bytes) => {}
         Reply::Null => {}
         Reply::Array(_replies) => {}
+        Reply::Bulks(_texts) => {}
     }
 }
 
@@ -130,6 +131,6 @@ fn is_short(reply: &Reply) -> bool
         Reply::Error(ErrorText::Fixed(line)) => line.len() <= SHORT_BULK,
         Reply::Bulk(bytes) => bytes.len() <= SHORT_BULK,
         Reply::Int(_) | Reply::Null => true,
-        Reply::Error(ErrorText::Arity(_)) | Reply::Array(_) => false,
+        Reply::Error(ErrorText::Arity(_)) | Reply::Array(_) | Reply::Bulks(_) => false,
     }
 }

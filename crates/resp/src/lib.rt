@@ -6,12 +6,14 @@
 #![tactic(auto)]
 
 mod answered;
+mod bulk_texts;
 mod reply;
 mod request;
 mod size;
 mod write;
 
 pub use answered::{Answered, LONG, SHORT_BULK, text_block};
+pub use bulk_texts::BulkTexts;
 pub use reply::{ErrorText, Reply};
 pub use request::Request;
 pub use size::{bulk_size, text_size};

@@ -5,6 +5,8 @@
 ghost use Rattle.std.specs.Prelude.{◌≡◌};
 ghost use Rattle.resp.specs.Content.{content, out_of_memory};
 
+use crate::bulk_texts::BulkTexts;
+
 /// A reply. Contracts compare what replies say, their `content`, and not how they lie in memory.
 #[derive(Drop)]
 pub enum Reply {
@@ -25,6 +27,9 @@ pub enum Reply {
 
     /// An array of replies.
     Array(Vec<Reply>),
+
+    /// An array of bulk strings and nulls, kept as their text.
+    Bulks(BulkTexts),
 }
 
 /// What an error says, its prefix included. It takes no memory to make.

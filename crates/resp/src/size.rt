@@ -30,6 +30,7 @@ pub fn text_size(reply: &Reply) -> Option<usize>
             }
             Some(size)
         }
+        Reply::Bulks(texts) => length_size(texts.len()).checked_add(texts.as_bytes().len()),
     }
 }
 
@@ -62,5 +63,20 @@ fn length_size(number: usize) -> usize
     ensures size { (kind : ℕ) → result ≡ length (kind ∷ decimal number ++ crlf) }
     ensures small { result ≤ 23 }
 {
-    Buffer::new().format(number).len() + 3
+    digit_count(number) + 3
+}
+
+/// The number of digits of a number.
+#[tactic(auto, using(crate::proofs::Sizes::one_digit, crate::proofs::Sizes::two_digits))]
+pub(crate) fn digit_count(number: usize) -> usize
+    ensures count { result ≡ length (decimal number) }
+    ensures few { result ≤ 20 }
+{
+    if number < 10 {
+        1
+    } else if number < 100 {
+        2
+    } else {
+        Buffer::new().format(number).len()
+    }
 }

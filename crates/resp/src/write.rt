@@ -10,6 +10,7 @@ ghost use Rattle.resp.specs.Content.{content, error_text};
 ghost use Rattle.resp.specs.Text.{crlf, text};
 
 use crate::reply::{ErrorText, Reply};
+use crate::size::digit_count;
 use itoa::Buffer;
 use std::alloc::AllocError;
 
@@ -49,6 +50,10 @@ fn put(reply: &Reply, out: &mut Vec<u8>) -> Result<(), AllocError>
                 put(reply, out)?;
             }
         }
+        Reply::Bulks(texts) => {
+            put_length(b'*', texts.len(), out)?;
+            out.extend_from_slice(texts.as_bytes())?;
+        }
     }
     Ok(())
 }
@@ -84,23 +89,51 @@ fn put_line(kind: u8, line: &[u8], out: &mut Vec<u8>) -> Result<(), AllocError>
     Ok(())
 }
 
-/// Appends a bulk string: the line that says how long it is, and its bytes on a line of their own.
-fn put_bulk(bytes: &[u8], out: &mut Vec<u8>) -> Result<(), AllocError>
+/// Appends a bulk string: the line that says how long it is, and its bytes on a line of their own. With `AllocError`
+/// nothing is appended.
+pub(crate) fn put_bulk(bytes: &[u8], out: &mut Vec<u8>) -> Result<(), AllocError>
     ensures ok { OnOk result (out.new.items ≡ out.old.items ++ dollar ∷ decimal (length bytes.now) ++ crlf ++ bytes.now ++ crlf) }
-    ensures err { OnErr result ((more : List ℕ) × (out.new.items ≡ out.old.items ++ more)) }
+    ensures err { OnErr result (out.new.items ≡ out.old.items) }
     ensures capacity { vec_capacity out.old ≤ vec_capacity out.new }
     ensures full { OnErr result (vec_capacity out.old
         < vec_len out.old + length (dollar ∷ decimal (length bytes.now) ++ crlf ++ bytes.now ++ crlf)) }
 {
-    let mut buffer = Buffer::new();
-    let digits = buffer.format(bytes.len()).as_bytes();
-    out.reserve(digits.len() + bytes.len() + 5)?;
+    out.reserve(digit_count(bytes.len()) + bytes.len() + 5)?;
     out.push_reserved(b'$');
-    out.extend_from_slice(digits)?;
+    put_digits(bytes.len(), out);
     put_line_end(out);
-    out.extend_from_slice(bytes)?;
+    put_bytes(bytes, out);
     put_line_end(out);
     Ok(())
+}
+
+/// Appends the digits of a number, for which there is room.
+// Most numbers are lengths of few digits, written without a buffer.
+#[tactic(auto, using(crate::proofs::Sizes::one_digit, crate::proofs::Sizes::two_digits))]
+fn put_digits(number: usize, out: &mut Vec<u8>)
+    requires { vec_len out.old + length (decimal number) ≤ vec_capacity out.old }
+    ensures items { out.new.items ≡ out.old.items ++ decimal number }
+    ensures len { vec_len out.new ≡ vec_len out.old + length (decimal number) }
+    ensures capacity { vec_capacity out.old ≤ vec_capacity out.new }
+{
+    if number < 10 {
+        out.push_reserved(b'0' + number as u8);
+    } else if number < 100 {
+        out.push_reserved(b'0' + (number / 10) as u8);
+        out.push_reserved(b'0' + (number % 10) as u8);
+    } else {
+        put_bytes(Buffer::new().format(number).as_bytes(), out);
+    }
+}
+
+/// Appends these bytes, for which there is room.
+fn put_bytes(bytes: &[u8], out: &mut Vec<u8>)
+    requires { vec_len out.old + length bytes.now ≤ vec_capacity out.old }
+    ensures items { out.new.items ≡ out.old.items ++ bytes.now }
+    ensures len { vec_len out.new ≡ vec_len out.old + length bytes.now }
+    ensures capacity { vec_capacity out.old ≤ vec_capacity out.new }
+{
+    let _ = out.extend_from_slice(bytes);
 }
 
 /// Appends CR LF, for which there is room.

@@ -1,11 +1,12 @@
-use Rattle.std.proofs.Common.{rules, arith, ◌≡◌, ◌^◌, ◌<◌, ◌∷◌, ◌++◌, [], length, take, ap, refl, length-append, ◌∙◌}
+use Rattle.std.proofs.Common.{rules, arith, ◌≡◌, ◌+◌, ◌^◌, ◌<◌, ◌∷◌, ◌++◌, [], length, take, ap, refl, length-append, ◌∙◌, subst}
 use Rattle.std.proofs.lemmas.List.{take_all}
 use Rattle.std.specs.Fmt.{decimal, signed_decimal}
 use Rattle.std.specs.List.{flat_map}
+use Rattle.std.specs.Option.{SomeIff}
 use Rattle.resp.specs.Ascii.{asterisk, plus, colon}
 use Rattle.resp.specs.Text.{crlf, reply_text}
 use Rattle.resp.proofs.Sizes.{sized, length-text-Simple, length-text-Int}
-use Rattle.resp.proofs.Texts.{length-text-Array, array_item_fits}
+use Rattle.resp.proofs.Texts.{length-text-Array, length-text-Bulks, array_item_fits}
 use Rattle.resp.proofs.size.+text_size.Goals as goal
 
 pub returns-in-Simple : goal.returns-in-Simple
@@ -57,3 +58,11 @@ returns-after-loop-reply t c =
     let whole = length-text-Array c.args.reply.now c.in-Array.replies c.len.result c.in-Array.is counted in
     let before = rw all at (rw items at c.loop-reply.invariant.texts) in
     sized _ _ (omega (arith, whole, before, c.length_size-size.ensures.size asterisk)) c.loop-reply.invariant.fits
+
+pub returns-in-Bulks : goal.returns-in-Bulks
+returns-in-Bulks t c =
+    let whole = length-text-Bulks c.args.reply.now c.in-Bulks.texts c.len-in-Bulks.result c.in-Bulks.is c.len-in-Bulks.ensures in
+    let head = c.length_size.ensures.size asterisk in
+    let sum : c.length_size.result + length c.as_bytes-in-Bulks.result.now ≡ length (reply_text c.args.reply.now) =
+    omega (arith, whole, head, ap length c.as_bytes-in-Bulks.ensures) in
+    subst (λ n. SomeIff c.checked_add-in-Bulks.result (n < 2 ^ 64) n) sum c.checked_add-in-Bulks.ensures

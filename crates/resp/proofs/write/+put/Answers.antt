@@ -1,8 +1,9 @@
-use Rattle.std.proofs.Common.{◌≡◌, ◌<◌, ◌+◌, rules, arith, length, ap, sym, ◌∙◌, vec_len, vec_capacity}
-use Rattle.std.specs.Fmt.{signed_decimal}
-use Rattle.resp.specs.Text.{reply_text}
+use Rattle.std.proofs.Common.{◌≡◌, ◌<◌, ◌+◌, ◌∷◌, ◌++◌, append_assoc, length-append, rules, arith, length, ap, sym, ◌∙◌, vec_len, vec_capacity}
+use Rattle.std.specs.Fmt.{decimal, signed_decimal}
+use Rattle.resp.specs.Ascii.{asterisk}
+use Rattle.resp.specs.Text.{crlf, reply_text}
 use Rattle.resp.proofs.Texts.{text-Simple-written, text-Error-written, text-Int-written, text-Bulk-written, text-Array-written}
-use Rattle.resp.proofs.Texts.{array_head_fits, array_item_fits}
+use Rattle.resp.proofs.Texts.{array_head_fits, array_item_fits, length-text-Bulks, text-Bulks-written}
 use Rattle.resp.proofs.write.+put.Goals as goal
 
 pub returns-in_ok-put_line-in-Simple-clause-ok : goal.returns-in_ok-put_line-in-Simple-clause-ok
@@ -58,3 +59,37 @@ returns-after-loop-reply-clause-ok t c =
     c.in_ok-put_length-in-Array.ensures.ok
     (rw c.deref-reply-items.ensures.value at c.loop-reply.invariant.texts)
     (omega (arith, ap length c.deref-reply-items.ensures.value))
+
+pub returns-in_err-put_length-in-Bulks-clause-full : goal.returns-in_err-put_length-in-Bulks-clause-full
+returns-in_err-put_length-in-Bulks-clause-full t c =
+    let whole = length-text-Bulks c.args.reply.now c.in-Bulks.texts c.len-in-Bulks.result c.in-Bulks.is c.len-in-Bulks.ensures in
+    let fails : vec_capacity c.args.out.now < vec_len c.args.out.now + length (reply_text c.args.reply.now) =
+    omega (arith, c.in_err-put_length-in-Bulks.ensures.full, whole) in
+    search (rules, fails)
+
+pub returns-in_err-extend_from_slice-in-Bulks-clause-full : goal.returns-in_err-extend_from_slice-in-Bulks-clause-full
+returns-in_err-extend_from_slice-in-Bulks-clause-full t c =
+    let whole = length-text-Bulks c.args.reply.now c.in-Bulks.texts c.len-in-Bulks.result c.in-Bulks.is c.len-in-Bulks.ensures in
+    let begun : length c.put_length-in-Bulks.new.out.items
+    ≡ length c.args.out.now.items + length (asterisk ∷ decimal c.len-in-Bulks.result ++ crlf) =
+    ap length (c.in_ok-put_length-in-Bulks.ensures.ok
+    ∙ append_assoc c.args.out.now.items (asterisk ∷ decimal c.len-in-Bulks.result) crlf)
+    ∙ length-append c.args.out.now.items (asterisk ∷ decimal c.len-in-Bulks.result ++ crlf) in
+    let fails : vec_capacity c.args.out.now < vec_len c.args.out.now + length (reply_text c.args.reply.now) =
+    omega (
+      arith,
+      whole,
+      begun,
+      ap length c.as_bytes-in-Bulks.ensures,
+      c.in_err-extend_from_slice-in-Bulks.ensures.full,
+      c.in_ok-put_length-in-Bulks.ensures.capacity,
+      c.put_length-in-Bulks.new.out.ok,
+      c.args.out.now.ok,
+    ) in
+    search (rules, fails)
+
+pub returns-in_ok-extend_from_slice-in-Bulks-clause-ok : goal.returns-in_ok-extend_from_slice-in-Bulks-clause-ok
+returns-in_ok-extend_from_slice-in-Bulks-clause-ok t c =
+    text-Bulks-written _ _ _ _ c.in-Bulks.texts c.len-in-Bulks.result c.in-Bulks.is c.len-in-Bulks.ensures
+    c.in_ok-put_length-in-Bulks.ensures.ok
+    (rw c.as_bytes-in-Bulks.ensures at c.in_ok-extend_from_slice-in-Bulks.ensures.items)
