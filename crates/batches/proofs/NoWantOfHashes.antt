@@ -5,7 +5,7 @@ use Rattle.command_cases.specs.Replies.{ok, count, truth}
 use Rattle.command_table.specs.declared.hash_commands.HashCommand.{HashCommand}
 use Rattle.command_table.specs.declared.hash_commands.HashCommand.TheVariants.{Hlen, Hget, Hexists, Hstrlen, Hkeys, Hvals, Hgetall, Hmget}
 use Rattle.command_table.specs.declared.hash_commands.HashCommand.TheVariants.{Hdel, Hsetnx, Hset, Hmset, Hincrby}
-use Rattle.hash_commands.specs.HashCommand.{HashPairs, at_hash, text_or_null, hlen_answer, hget_answer, hexists_answer, hstrlen_answer}
+use Rattle.hash_commands.specs.HashCommand.{HashPairs, at_hash, hlen_answer, hget_answer, hexists_answer, hstrlen_answer}
 use Rattle.hash_commands.specs.HashCommand.{hkeys_answer, hvals_answer, hgetall_answer, hmget_answer, hdel_change, set_change, with_sum}
 use Rattle.hash_commands.specs.HashCommand.{looks_at_hash, changes_hash, hsetnx_step, hincrby_step, hash_command_case}
 use Rattle.integers.specs.Sum.{stored_sum}
@@ -18,7 +18,7 @@ use Rattle.values.specs.HashValue.{field_value, with_field}
 use Rattle.values.specs.Value.{hash_value}
 use Rattle.values.specs.declared.Value.{Value}
 use Rattle.values.specs.declared.Value.TheVariants as kind
-use Rattle.batches.proofs.NoWant.{IsNoWant, no_want-truth, no_want-chosen}
+use Rattle.batches.proofs.NoWant.{IsNoWant, no_want-truth, no_want-chosen, no_want-text}
 
 at_hash_none : (step : HashPairs → Option Value → Option Value × Content)
     → ((pairs : HashPairs) (before : Option Value) → IsNoWant (step pairs before).1)
@@ -37,10 +37,6 @@ changes_none : (change : HashPairs → HashPairs × Content) → ((pairs : HashP
     → IsNoWant (changes_hash change there).1
 changes_none change none there =
     at_hash_none (λ pairs before. (hash_value (change pairs).0, (change pairs).1)) (λ pairs before. none pairs) there
-
-text_none : (text : Option Bytes) → IsNoWant (text_or_null text)
-text_none None = refl
-text_none (Some text) = refl
 
 setnx_none : (field value : Bytes) (there : Option Value) → IsNoWant (hsetnx_step field value there).1
 setnx_none field value there =
@@ -62,7 +58,7 @@ incrby_none field by there =
 
 pub no_want-hash_command : (c : HashCommand) (m : Map) → IsNoWant (hash_command_case c m).1
 no_want-hash_command (Hlen key) m = looks_none hlen_answer (λ pairs. refl) (get m key)
-no_want-hash_command (Hget key field) m = looks_none (hget_answer field) (λ pairs. text_none (field_value pairs field)) (get m key)
+no_want-hash_command (Hget key field) m = looks_none (hget_answer field) (λ pairs. no_want-text (field_value pairs field)) (get m key)
 no_want-hash_command (Hexists key field) m =
     looks_none (hexists_answer field) (λ pairs. no_want-truth (is_some (field_value pairs field))) (get m key)
 no_want-hash_command (Hstrlen key field) m = looks_none (hstrlen_answer field) (λ pairs. refl) (get m key)

@@ -7,7 +7,7 @@ use Rattle.command_table.specs.declared.list_commands.ListCommand.TheVariants.{L
 use Rattle.command_table.specs.declared.list_commands.ListCommand.TheVariants.{Lrange, Ltrim, Lrem, Linsert, Lmove, Rpoplpush}
 use Rattle.command_table.specs.declared.list_commands.Side.{Side}
 use Rattle.keyspace.specs.Map.{Map}
-use Rattle.list_commands.specs.ListCommand.{at_list, text_or_null, first_or_null, length_step, pop_step, push_step, push_there_step}
+use Rattle.list_commands.specs.ListCommand.{at_list, first_or_null, length_step, pop_step, push_step, push_there_step}
 use Rattle.list_commands.specs.ListCommand.{place_in, item_at, index_step, set_at, set_step, range_step, trim_step, remove_step}
 use Rattle.list_commands.specs.ListCommand.{insert_beside, insert_step, move_step, list_command_case}
 use Rattle.resp.specs.Content.{Content}
@@ -17,7 +17,7 @@ use Rattle.texts.specs.declared.text_list.End.TheVariants.{Head, Tail}
 use Rattle.values.specs.ListValue.{end_item}
 use Rattle.values.specs.declared.Value.{Value}
 use Rattle.values.specs.declared.Value.TheVariants as kind
-use Rattle.batches.proofs.NoWant.{IsNoWant}
+use Rattle.batches.proofs.NoWant.{IsNoWant, no_want-text}
 
 at_list_none : (step : Option (List Bytes) → Option Value × Content) → ((before : Option (List Bytes)) → IsNoWant (step before).1)
     → (there : Option Value) → IsNoWant (at_list step there).1
@@ -26,10 +26,6 @@ at_list_none step none (Some (kind.List items)) = none (Some items)
 at_list_none step none (Some (kind.Str text)) = refl
 at_list_none step none (Some (kind.Hash pairs)) = refl
 at_list_none step none (Some (kind.Set members)) = refl
-
-text_none : (text : Option Bytes) → IsNoWant (text_or_null text)
-text_none None = refl
-text_none (Some text) = refl
 
 first_none : (texts : List Bytes) → IsNoWant (first_or_null texts)
 first_none [] = refl
@@ -53,7 +49,7 @@ push_there_none end more (Some items) = refl
 
 index_none : (at : ℤ) (before : Option (List Bytes)) → IsNoWant (index_step at before).1
 index_none at None = refl
-index_none at (Some items) = text_none (item_at items (place_in at (length items)))
+index_none at (Some items) = no_want-text (item_at items (place_in at (length items)))
 
 set_at_none : (items : List Bytes) (item : Bytes) (place : Option ℕ) → IsNoWant (set_at items item place).1
 set_at_none items item None = refl

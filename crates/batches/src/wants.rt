@@ -14,7 +14,8 @@ pub fn is_want_reply(reply: &Reply) -> bool
 {
     match reply {
         Reply::Error(line) => is_want_line(line),
-        Reply::Simple(_) | Reply::Int(_) | Reply::Bulk(_) | Reply::Null | Reply::Array(_) => false,
+        Reply::Simple(_) | Reply::Int(_) | Reply::Bulk(_) | Reply::Null => false,
+        Reply::Array(_) | Reply::Bulks(_) => false,
     }
 }
 

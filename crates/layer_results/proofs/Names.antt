@@ -20,7 +20,7 @@ use Rattle.layer_results.specs.Wants.{wants_among}
 use Rattle.layer_results.specs.declared.done.DoneRow.{DoneRow}
 use Rattle.packing.specs.Codes.{number_code, number_at, word_code, word_at, words_code, WordsFit}
 use Rattle.packing.specs.CodeLaws.{number_at-code, word_at-code, words_code-is}
-use Rattle.resp.specs.Content.{Content, Contents, SimpleText, ErrorLine, Number, BulkText, Nothing, Several, NoMore, Then, content, contents}
+use Rattle.resp.specs.Content.{Content, Contents, SimpleText, ErrorLine, Number, BulkText, Nothing, Several, NoMore, Then, content, contents, text_or_null}
 use Rattle.resp.specs.declared.reply.Reply.{Reply}
 use Rattle.sessions.specs.Control.{exec_name}
 use Rattle.sessions.specs.declared.batch.Batch.TheVariants.{Plain, Exec}
@@ -38,6 +38,13 @@ wants_taken (suc count) n (c ∷ cs) = rw (wants_taken count (suc n) cs) refl
 with_one : (b : Bool) (n : ℕ) (xs ys : List ℕ) → cond b (n ∷ (xs ++ ys)) (xs ++ ys) ≡ cond b (n ∷ xs) xs ++ ys
 with_one true n xs ys = refl
 with_one false n xs ys = refl
+
+-- bulk strings and nulls tell nothing
+pub no_wants : (count n : ℕ) (texts : List (Option (List ℕ))) → wants_from count n (contents (map text_or_null texts)) ≡ []
+no_wants zero n texts = refl
+no_wants (suc count) n [] = refl
+no_wants (suc count) n (None ∷ texts) = no_wants count (suc n) texts
+no_wants (suc count) n (Some text ∷ texts) = no_wants count (suc n) texts
 
 wants_push : (n k : ℕ) (cs : List Content) (c : Content) → k ≡ n + length cs
     → wants_among n (cs ++ c ∷ []) ≡ wants_among n cs ++ cond (is_want c) (k ∷ []) []

@@ -56,5 +56,6 @@ fn reply_copy(alloc: Global, reply: &Reply) -> Result<Reply, AllocError>
             }
             Reply::Array(copies)
         }
+        Reply::Bulks(texts) => Reply::Bulks(texts.try_clone(alloc)?),
     })
 }

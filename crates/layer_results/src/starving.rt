@@ -40,7 +40,8 @@ pub(super) fn push_row_names(row: &DoneRow, names: &mut Vec<SkipId>)
     }
 }
 
-/// The places of the members of a request of these words, where it was answered by an array; another reply has none.
+/// The places of the members of a request of these words, where it was answered by an array; another reply has none, and
+/// of bulk strings and nulls alone none says that there was no memory.
 #[inline(always)]
 #[tactic(auto, using(resp::proofs::Contents::content_of))]
 fn places<'a>(words: &PackedRequest, reply: &'a Reply) -> &'a [Reply]
@@ -48,6 +49,7 @@ fn places<'a>(words: &PackedRequest, reply: &'a Reply) -> &'a [Reply]
 {
     match reply {
         Reply::Array(replies) => &replies[..member_count(words).min(replies.len())],
+        Reply::Bulks(_texts) => &[],
         Reply::Simple(_) | Reply::Error(_) | Reply::Int(_) | Reply::Bulk(_) | Reply::Null => &[],
     }
 }

@@ -3,7 +3,7 @@
 ghost use Rattle.std.specs.Prelude.{◌<◌};
 
 use picture_shapes::{ELLIPSIS, Piece, cut, put_pieces};
-use resp::{Reply, Request, write_reply};
+use resp::{BulkTexts, Reply, Request, write_reply};
 use std::alloc::{AllocError, Global};
 
 /// How many words of a request, and items of an array, a label has.
@@ -17,6 +17,9 @@ pub(super) const LONG: usize = 32;
 
 /// How many characters of a bulk string a label has.
 const BULK: usize = 24;
+
+/// The label of a null.
+const NIL: &[u8] = b"nil";
 
 /// The label of a request's words, each cut to so many characters.
 pub(super) fn words_label(
@@ -115,8 +118,8 @@ fn put_reply(alloc: Global, reply: &Reply, out: &mut Vec<u8>) -> Result<(), Allo
     match reply {
         Reply::Simple(_) | Reply::Int(_) => put_line(alloc, reply, 1, out),
         Reply::Error(_) => put_line(alloc, reply, 0, out),
-        Reply::Bulk(bytes) => put_quoted(shown(alloc, bytes.as_slice(), BULK)?.as_slice(), out),
-        Reply::Null => out.extend_from_slice(b"nil"),
+        Reply::Bulk(bytes) => put_text(alloc, bytes.as_slice(), out),
+        Reply::Null => out.extend_from_slice(NIL),
         Reply::Array(replies) => {
             out.extend_from_slice(b"[")?;
             for (place, reply) in replies.iter().enumerate() {
@@ -128,12 +131,39 @@ fn put_reply(alloc: Global, reply: &Reply, out: &mut Vec<u8>) -> Result<(), Allo
                 }
                 put_reply(alloc, reply, out)?;
             }
-            if replies.len() > MOST {
-                out.extend_from_slice(&[b' ', ELLIPSIS])?;
-            }
-            out.extend_from_slice(b"]")
+            put_end(replies.len(), out)
+        }
+        Reply::Bulks(texts) => put_texts(alloc, texts, out),
+    }
+}
+
+/// Appends the label of an array of bulk strings and nulls.
+fn put_texts(alloc: Global, texts: &BulkTexts, out: &mut Vec<u8>) -> Result<(), AllocError> {
+    out.extend_from_slice(b"[")?;
+    let first = texts.first(alloc, MOST)?;
+    for (place, text) in first.iter().enumerate() {
+        if place > 0 {
+            out.push(b' ')?;
+        }
+        match text {
+            Some(bytes) => put_text(alloc, bytes, out)?,
+            None => out.extend_from_slice(NIL)?,
         }
     }
+    put_end(texts.len(), out)
+}
+
+/// Appends the label of a bulk string.
+fn put_text(alloc: Global, bytes: &[u8], out: &mut Vec<u8>) -> Result<(), AllocError> {
+    put_quoted(shown(alloc, bytes, BULK)?.as_slice(), out)
+}
+
+/// Appends the end of the label of an array of so many items.
+fn put_end(items: usize, out: &mut Vec<u8>) -> Result<(), AllocError> {
+    if items > MOST {
+        out.extend_from_slice(&[b' ', ELLIPSIS])?;
+    }
+    out.extend_from_slice(b"]")
 }
 
 /// Appends the line of a reply of one line, but for so many bytes of its beginning, and its end.

@@ -5,7 +5,7 @@ use Rattle.command_cases.specs.Replies.{ok, count, truth}
 use Rattle.command_table.specs.declared.hash_commands.HashCommand.{HashCommand}
 use Rattle.command_table.specs.declared.hash_commands.HashCommand.TheVariants.{Hlen, Hget, Hexists, Hstrlen, Hkeys, Hvals, Hgetall, Hmget}
 use Rattle.command_table.specs.declared.hash_commands.HashCommand.TheVariants.{Hdel, Hsetnx, Hset, Hmset, Hincrby}
-use Rattle.hash_commands.specs.HashCommand.{HashPairs, at_hash, text_or_null, hlen_answer, hget_answer, hexists_answer, hstrlen_answer}
+use Rattle.hash_commands.specs.HashCommand.{HashPairs, at_hash, hlen_answer, hget_answer, hexists_answer, hstrlen_answer}
 use Rattle.hash_commands.specs.HashCommand.{hkeys_answer, hvals_answer, hgetall_answer, hmget_answer, hdel_change, set_change, with_sum}
 use Rattle.hash_commands.specs.HashCommand.{looks_at_hash, changes_hash, hsetnx_step, hincrby_step, hash_command_case}
 use Rattle.integers.specs.Sum.{stored_sum}
@@ -18,7 +18,7 @@ use Rattle.values.specs.HashValue.{field_value, with_field}
 use Rattle.values.specs.Value.{hash_value}
 use Rattle.values.specs.declared.Value.{Value}
 use Rattle.values.specs.declared.Value.TheVariants as kind
-use Rattle.tidy_replies.proofs.Tidy.{tidy-truth, tidy-chosen, tidy-each, tidy-texts}
+use Rattle.tidy_replies.proofs.Tidy.{tidy-truth, tidy-chosen, tidy-each, tidy-text, tidy-texts}
 use Rattle.tidy_replies.specs.Tidy.{IsTidy}
 
 at_hash_tidy : (step : HashPairs → Option Value → Option Value × Content)
@@ -38,10 +38,6 @@ changes_tidy : (change : HashPairs → HashPairs × Content) → ((pairs : HashP
     → IsTidy (changes_hash change there).1
 changes_tidy change none there =
     at_hash_tidy (λ pairs before. (hash_value (change pairs).0, (change pairs).1)) (λ pairs before. none pairs) there
-
-text_tidy : (text : Option Bytes) → IsTidy (text_or_null text)
-text_tidy None = refl
-text_tidy (Some text) = refl
 
 setnx_tidy : (field value : Bytes) (there : Option Value) → IsTidy (hsetnx_step field value there).1
 setnx_tidy field value there =
@@ -63,7 +59,7 @@ incrby_tidy field by there =
 
 pub tidy-hash_command : (c : HashCommand) (m : Map) → IsTidy (hash_command_case c m).1
 tidy-hash_command (Hlen key) m = looks_tidy hlen_answer (λ pairs. refl) (get m key)
-tidy-hash_command (Hget key field) m = looks_tidy (hget_answer field) (λ pairs. text_tidy (field_value pairs field)) (get m key)
+tidy-hash_command (Hget key field) m = looks_tidy (hget_answer field) (λ pairs. tidy-text (field_value pairs field)) (get m key)
 tidy-hash_command (Hexists key field) m =
     looks_tidy (hexists_answer field) (λ pairs. tidy-truth (is_some (field_value pairs field))) (get m key)
 tidy-hash_command (Hstrlen key field) m = looks_tidy (hstrlen_answer field) (λ pairs. refl) (get m key)
@@ -72,7 +68,7 @@ tidy-hash_command (Hvals key) m = looks_tidy hvals_answer (λ pairs. tidy-texts 
 tidy-hash_command (Hgetall key) m = looks_tidy hgetall_answer (λ pairs. tidy-texts (by_turns pairs)) (get m key)
 tidy-hash_command (Hmget key fields) m =
     looks_tidy (hmget_answer fields)
-    (λ pairs. tidy-each (λ field. hget_answer field pairs) (λ field. text_tidy (field_value pairs field)) fields) (get m key)
+    (λ pairs. tidy-each (λ field. hget_answer field pairs) (λ field. tidy-text (field_value pairs field)) fields) (get m key)
 tidy-hash_command (Hdel key fields) m = changes_tidy (hdel_change fields) (λ pairs. refl) (get m key)
 tidy-hash_command (Hsetnx key field value) m = setnx_tidy field value (get m key)
 tidy-hash_command (Hset key pairs) m = changes_tidy (set_change count pairs) (λ there. refl) (get m key)

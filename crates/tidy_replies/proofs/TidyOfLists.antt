@@ -8,7 +8,7 @@ use Rattle.command_table.specs.declared.list_commands.ListCommand.TheVariants.{L
 use Rattle.command_table.specs.declared.list_commands.Side.{Side}
 use Rattle.integers.specs.Range.{range_items}
 use Rattle.keyspace.specs.Map.{Map}
-use Rattle.list_commands.specs.ListCommand.{at_list, text_or_null, first_or_null, length_step, pop_step, push_step, push_there_step}
+use Rattle.list_commands.specs.ListCommand.{at_list, first_or_null, length_step, pop_step, push_step, push_there_step}
 use Rattle.list_commands.specs.ListCommand.{place_in, item_at, index_step, set_at, set_step, range_step, trim_step, remove_step}
 use Rattle.list_commands.specs.ListCommand.{insert_beside, insert_step, move_step, list_command_case}
 use Rattle.resp.specs.Content.{Content}
@@ -18,7 +18,7 @@ use Rattle.texts.specs.declared.text_list.End.TheVariants.{Head, Tail}
 use Rattle.values.specs.ListValue.{end_item}
 use Rattle.values.specs.declared.Value.{Value}
 use Rattle.values.specs.declared.Value.TheVariants as kind
-use Rattle.tidy_replies.proofs.Tidy.{tidy-texts}
+use Rattle.tidy_replies.proofs.Tidy.{tidy-text, tidy-texts}
 use Rattle.tidy_replies.specs.Tidy.{IsTidy}
 
 at_list_tidy : (step : Option (List Bytes) → Option Value × Content) → ((before : Option (List Bytes)) → IsTidy (step before).1)
@@ -28,10 +28,6 @@ at_list_tidy step none (Some (kind.List items)) = none (Some items)
 at_list_tidy step none (Some (kind.Str text)) = refl
 at_list_tidy step none (Some (kind.Hash pairs)) = refl
 at_list_tidy step none (Some (kind.Set members)) = refl
-
-text_tidy : (text : Option Bytes) → IsTidy (text_or_null text)
-text_tidy None = refl
-text_tidy (Some text) = refl
 
 first_tidy : (texts : List Bytes) → IsTidy (first_or_null texts)
 first_tidy [] = refl
@@ -55,7 +51,7 @@ push_there_tidy end more (Some items) = refl
 
 index_tidy : (at : ℤ) (before : Option (List Bytes)) → IsTidy (index_step at before).1
 index_tidy at None = refl
-index_tidy at (Some items) = text_tidy (item_at items (place_in at (length items)))
+index_tidy at (Some items) = tidy-text (item_at items (place_in at (length items)))
 
 set_at_tidy : (items : List Bytes) (item : Bytes) (place : Option ℕ) → IsTidy (set_at items item place).1
 set_at_tidy items item None = refl

@@ -20,6 +20,7 @@ pub fn is_tidy(reply: &Reply) -> bool
         Reply::Int(_) => true,
         Reply::Bulk(_) => true,
         Reply::Null => true,
+        Reply::Bulks(_texts) => true,
         Reply::Array(replies) => {
             for reply in replies {
                 if !is_tidy(reply) {
