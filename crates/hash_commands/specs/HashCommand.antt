@@ -13,7 +13,7 @@ use Rattle.integers.specs.Sum.{stored_sum}
 use Rattle.integers.specs.declared.sum.SumFault.{SumFault}
 use Rattle.integers.specs.declared.sum.SumFault.TheVariants.{NotInteger, Overflow}
 use Rattle.keyspace.specs.Map.{Map}
-use Rattle.resp.specs.Content.{Content, BulkText, ErrorLine, Nothing, Number, Several, contents}
+use Rattle.resp.specs.Content.{Content, BulkText, ErrorLine, Number, Several, contents, text_or_null}
 use Rattle.texts.specs.Texts.{Bytes, by_turns}
 use Rattle.values.specs.HashValue.{field_value, with_field, with_fields, without_fields}
 use Rattle.values.specs.Value.{hash_value}
@@ -45,11 +45,6 @@ changes_hash change = at_hash (λ pairs before. (hash_value (change pairs).0, (c
 abbrev pub found_pairs : Option HashPairs → HashPairs
 found_pairs None = []
 found_pairs (Some pairs) = pairs
-
--- a text that may be missing
-abbrev pub text_or_null : Option Bytes → Content
-text_or_null None = Nothing
-text_or_null (Some text) = BulkText text
 
 abbrev pub length_or_zero : Option Bytes → ℕ
 length_or_zero None = 0

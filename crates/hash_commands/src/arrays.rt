@@ -1,18 +1,19 @@
 //! HKEYS, HVALS, HGETALL and HMGET: many texts of a hash in one reply.
 //!
-//! The room for the reply is taken first, and each text is copied once.
+//! The room for the reply is taken first, in one buffer, and each text is copied once.
 
-ghost use Rattle.std.specs.Prelude.{◌≡◌, ◌<◌, IsTrue, IsSome, IfOk, OnErr, length};
+ghost use Rattle.std.specs.Prelude.{◌≡◌, ◌<◌, ◌⊎◌, IsTrue, IsSome, IfOk, OnErr, length};
 ghost use Rattle.std.specs.FinMap as map;
 ghost use Rattle.std.specs.Option.{option_copied};
 ghost use Rattle.command_cases.specs.Case.{Does, at_key};
-ghost use Rattle.hash_commands.specs.HashCommand.{looks_at_hash, hkeys_answer, hvals_answer, hgetall_answer, hmget_answer, hget_answer};
+ghost use Rattle.hash_commands.specs.HashCommand.{looks_at_hash, hkeys_answer, hvals_answer, hgetall_answer, hmget_answer};
 ghost use Rattle.hash_commands.specs.HashCommand.{some_pairs, pairs_there, found_pairs};
-ghost use Rattle.resp.specs.Content.{BulkText, content};
+ghost use Rattle.resp.specs.Content.{content};
+ghost use Rattle.values.specs.HashValue.{field_value};
 
 use command_cases::{Starved, wrong_type_reply};
 use keyspace::Keyspace;
-use resp::Reply;
+use resp::{BulkTexts, Reply, bulk_size};
 use std::alloc::{AllocError, Global};
 use texts::{Text, Texts};
 use values::{HashValue, Value};
@@ -86,29 +87,21 @@ pub(crate) fn hmget<K: Keyspace>(
     }
 }
 
-/// A copy of these bytes as a reply.
-#[tactic(auto, using(resp::proofs::Contents::content_of))]
-fn bulk_copy(alloc: Global, bytes: &[u8]) -> Result<Reply, AllocError>
-    ensures { IfOk result (λ reply. content reply ≡ BulkText bytes.now) }
-{
-    let copy = Text::copy_of(alloc, bytes)?;
-    Ok(Reply::Bulk(copy.into_vec()))
-}
-
 /// The fields of a hash, copied.
 #[tactic(auto, using(resp::proofs::Contents::content_of))]
 fn fields_reply(alloc: Global, hash: &HashValue) -> Result<Reply, AllocError>
     ensures copied { IfOk result (λ reply. content reply ≡ hkeys_answer hash.now) }
     ensures starves { OnErr result (0 < length hash.now) }
 {
-    let mut replies = Vec::with_capacity(alloc, hash.len())?;
+    let (size, _) = text_sizes(hash);
+    let mut texts = BulkTexts::with_room(alloc, size)?;
     for place in 0..hash.len() {
         let Some((field, _)) = hash.pair(place) else {
             unreachable!();
         };
-        replies.push(bulk_copy(alloc, field)?)?;
+        texts.push(field)?;
     }
-    Ok(Reply::Array(replies))
+    Ok(Reply::Bulks(texts))
 }
 
 /// The values of a hash, copied.
@@ -117,14 +110,15 @@ fn values_reply(alloc: Global, hash: &HashValue) -> Result<Reply, AllocError>
     ensures copied { IfOk result (λ reply. content reply ≡ hvals_answer hash.now) }
     ensures starves { OnErr result (0 < length hash.now) }
 {
-    let mut replies = Vec::with_capacity(alloc, hash.len())?;
+    let (_, size) = text_sizes(hash);
+    let mut texts = BulkTexts::with_room(alloc, size)?;
     for place in 0..hash.len() {
         let Some((_, value)) = hash.pair(place) else {
             unreachable!();
         };
-        replies.push(bulk_copy(alloc, value)?)?;
+        texts.push(value)?;
     }
-    Ok(Reply::Array(replies))
+    Ok(Reply::Bulks(texts))
 }
 
 /// The fields of a hash and their values by turns, copied.
@@ -133,15 +127,31 @@ fn pairs_reply(alloc: Global, hash: &HashValue) -> Result<Reply, AllocError>
     ensures copied { IfOk result (λ reply. content reply ≡ hgetall_answer hash.now) }
     ensures starves { OnErr result (0 < length hash.now) }
 {
-    let mut replies = Vec::with_capacity(alloc, hash.len().saturating_mul(2))?;
+    let (fields, values) = text_sizes(hash);
+    let mut texts = BulkTexts::with_room(alloc, fields.saturating_add(values))?;
     for place in 0..hash.len() {
         let Some((field, value)) = hash.pair(place) else {
             unreachable!();
         };
-        replies.push(bulk_copy(alloc, field)?)?;
-        replies.push(bulk_copy(alloc, value)?)?;
+        texts.push(field)?;
+        texts.push(value)?;
     }
-    Ok(Reply::Array(replies))
+    Ok(Reply::Bulks(texts))
+}
+
+/// The number of bytes of the fields' texts, and that of the values', or the greatest number; 0 where there are none.
+fn text_sizes(hash: &HashValue) -> (usize, usize)
+    ensures { (0 < result.0) ⊎ (0 < result.1) → 0 < length hash.now }
+{
+    let mut fields: usize = 0;
+    let mut values: usize = 0;
+    for place in 0..hash.len() {
+        if let Some((field, value)) = hash.pair(place) {
+            fields = fields.saturating_add(bulk_size(field));
+            values = values.saturating_add(bulk_size(value));
+        }
+    }
+    (fields, values)
 }
 
 /// The value of each of these fields, copied, or null; a hash that is missing has none.
@@ -153,24 +163,19 @@ fn each_value_reply(
 ) -> Result<Reply, AllocError>
     ensures { IfOk result (λ reply. content reply ≡ hmget_answer fields.now (found_pairs (option_copied hash.entry))) }
 {
-    let mut replies = Vec::with_capacity(alloc, fields.len())?;
+    let mut found = Vec::with_capacity(alloc, fields.len())?;
     for field in fields.as_slice() {
-        replies.push(value_reply(alloc, hash, field.as_slice())?)?;
+        found.push(value_of(hash, field.as_slice()))?;
     }
-    Ok(Reply::Array(replies))
+    Ok(Reply::Bulks(BulkTexts::copy_of(alloc, found.as_slice())?))
 }
 
-/// The value of a field, copied, or null; a hash that is missing has none.
-#[tactic(auto, using(resp::proofs::Contents::content_of))]
-fn value_reply(alloc: Global, hash: Option<&HashValue>, field: &[u8]) -> Result<Reply, AllocError>
-    ensures { IfOk result (λ reply. content reply ≡ hget_answer field.now (found_pairs (option_copied hash.entry))) }
+/// The value of a field; a hash that is missing has none.
+fn value_of<'a>(hash: Option<&'a HashValue>, field: &[u8]) -> Option<&'a [u8]>
+    ensures { option_copied result ≡ field_value (found_pairs (option_copied hash.entry)) field.now }
 {
-    let value = match hash {
-        None => return Ok(Reply::Null),
+    match hash {
+        None => None,
         Some(hash) => hash.get(field),
-    };
-    match value {
-        None => Ok(Reply::Null),
-        Some(value) => bulk_copy(alloc, value),
     }
 }

@@ -13,7 +13,7 @@ use Rattle.command_table.specs.declared.list_commands.Side.{Side}
 use Rattle.command_table.specs.declared.list_commands.Side.TheVariants.{Before, After}
 use Rattle.integers.specs.Range.{place, range_items}
 use Rattle.keyspace.specs.Map.{Map}
-use Rattle.resp.specs.Content.{Content, ErrorLine, Number, BulkText, Nothing, Several, contents}
+use Rattle.resp.specs.Content.{Content, ErrorLine, Number, BulkText, Nothing, Several, contents, text_or_null}
 use Rattle.texts.specs.Texts.{Bytes}
 use Rattle.texts.specs.declared.text_list.End.{End}
 use Rattle.texts.specs.declared.text_list.End.TheVariants.{Head, Tail}
@@ -51,11 +51,6 @@ items_there (Some (kind.List items)) = items
 items_there (Some (kind.Str text)) = []
 items_there (Some (kind.Hash pairs)) = []
 items_there (Some (kind.Set members)) = []
-
--- a text, or null
-abbrev pub text_or_null : Option Bytes → Content
-text_or_null None = Nothing
-text_or_null (Some text) = BulkText text
 
 -- the first of these texts, or null
 abbrev pub first_or_null : List Bytes → Content

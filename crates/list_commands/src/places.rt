@@ -1,18 +1,18 @@
 //! The commands that look at places of a list: LLEN, LINDEX and LRANGE.
 
-ghost use Rattle.std.specs.Prelude.{◌≡◌, ◌≤◌, ◌<◌, length, map, slice_get, slice_range, IsTrue, IsOk, IfOk, IfSome, OnErr};
+ghost use Rattle.std.specs.Prelude.{◌≡◌, ◌≤◌, ◌<◌, length, map, slice_range, Some, IsTrue, IsOk, IfOk, IfSome, OnErr};
 ghost use Rattle.std.specs.FinMap as map;
 ghost use Rattle.command_cases.specs.Case.{Does, at_key};
 ghost use Rattle.list_commands.specs.ListCommand.{at_list, is_list, length_step, index_step, range_step};
-ghost use Rattle.list_commands.specs.ListCommand.{item_at, place_in, several, text_or_null};
+ghost use Rattle.list_commands.specs.ListCommand.{item_at, place_in, several};
 ghost use Rattle.integers.specs.Range.{range_items};
-ghost use Rattle.resp.specs.Content.{BulkText, content};
+ghost use Rattle.resp.specs.Content.{content, text_or_null};
 
-use crate::lists::copy_at;
+use crate::lists::item_at;
 use command_cases::{Starved, count_reply, wrong_type_reply};
 use integers::range_of;
 use keyspace::Keyspace;
-use resp::Reply;
+use resp::{BulkTexts, Reply, bulk_size};
 use std::alloc::{AllocError, Global};
 use texts::Text;
 use values::{ListValue, Value};
@@ -118,28 +118,29 @@ fn range_reply(alloc: Global, list: &ListValue, start: i64, end: i64) -> Result<
     ensures { IfOk result (λ reply. content reply ≡ several (range_items start end list.now)) }
 {
     let (from, to) = range_of(start, end, list.len());
-    Ok(Reply::Array(copies(alloc, list, from, to)?))
+    Ok(Reply::Bulks(copies(alloc, list, from, to)?))
 }
 
 /// Copies of the items from one place to before another.
-fn copies(alloc: Global, list: &ListValue, from: usize, to: usize) -> Result<Vec<Reply>, AllocError>
+fn copies(alloc: Global, list: &ListValue, from: usize, to: usize) -> Result<BulkTexts, AllocError>
     requires ordered { from ≤ to }
     requires within { to ≤ length list.now }
-    ensures { IfOk result (λ replies. map content replies.items ≡ map BulkText (slice_range list.now from to)) }
+    ensures { IfOk result (λ texts. texts ≡ map Some (slice_range list.now from to)) }
 {
-    let mut replies = Vec::with_capacity(alloc, to - from)?;
+    let mut texts = BulkTexts::with_room(alloc, texts_size(list, from, to))?;
     for place in from..to {
-        replies.push(copied(alloc, list, place)?)?;
+        texts.push(item_at(list, place))?;
     }
-    Ok(replies)
+    Ok(texts)
 }
 
-/// A copy of the item at a place.
-#[tactic(auto, using(resp::proofs::Contents::content_of))]
-fn copied(alloc: Global, list: &ListValue, place: usize) -> Result<Reply, AllocError>
-    requires { place < length list.now }
-    ensures { IfOk result (λ reply. content reply ≡ text_or_null (slice_get list.now place)) }
-{
-    let copy = copy_at(alloc, list, place)?;
-    Ok(Reply::Bulk(copy.into_vec()))
+/// The number of bytes of the items' texts from one place to before another, or the greatest number.
+fn texts_size(list: &ListValue, from: usize, to: usize) -> usize {
+    let mut size: usize = 0;
+    for place in from..to {
+        if let Some(item) = list.item(place) {
+            size = size.saturating_add(bulk_size(item));
+        }
+    }
+    size
 }

@@ -1,7 +1,7 @@
 //! SINTER, SUNION and SDIFF, and the commands that store what these answer.
 //!
-//! All sets are read before anything changes, and the result is made once: its members are moved to the reply, or to a
-//! set, which is moved to the target.
+//! All sets are read before anything changes, and the result is made once: its members are copied to the reply, or moved
+//! to a set, which is moved to the target.
 
 ghost use Rattle.std.specs.Prelude.{◌≡◌, All, IsTrue, IfOk, MatchResult, length};
 ghost use Rattle.std.specs.Option.{option_map};
@@ -19,7 +19,7 @@ use crate::combine::{Combination, combine, combine_as_set};
 use crate::sets::{find_sets, order_walked};
 use command_cases::{Starved, count_reply, wrong_type_reply};
 use keyspace::Keyspace;
-use resp::Reply;
+use resp::{BulkTexts, Reply, bulk_size};
 use std::alloc::{AllocError, Global};
 use texts::{Text, Texts};
 use values::{SetValue, Value};
@@ -141,21 +141,28 @@ fn answer<K: Keyspace>(
         return Ok(wrong_type_reply());
     };
     let combined = combine(alloc, how, sets.as_slice())?;
-    Ok(members_reply(alloc, combined)?)
+    Ok(members_reply(alloc, &combined)?)
 }
 
-/// The members of a combination, moved to the reply.
+/// The members of a combination, copied to the reply.
 #[tactic(auto, using(resp::proofs::Contents::content_of))]
-fn members_reply(alloc: Global, combined: Texts) -> Result<Reply, AllocError>
-    ensures { IfOk result (λ reply. content reply ≡ bulk_texts combined) }
+fn members_reply(alloc: Global, combined: &Texts) -> Result<Reply, AllocError>
+    ensures { IfOk result (λ reply. content reply ≡ bulk_texts combined.now) }
 {
-    let mut members = combined.into_vec();
-    let mut replies = Vec::with_capacity(alloc, members.len())?;
-    members.reverse();
-    while let Some(member) = members.pop() {
-        replies.push(Reply::Bulk(member))?;
+    let mut texts = BulkTexts::with_room(alloc, texts_size(combined))?;
+    for member in combined.as_slice() {
+        texts.push(member.as_slice())?;
     }
-    Ok(Reply::Array(replies))
+    Ok(Reply::Bulks(texts))
+}
+
+/// The number of bytes of the members' texts, or the greatest number.
+fn texts_size(members: &Texts) -> usize {
+    let mut size: usize = 0;
+    for member in members.as_slice() {
+        size = size.saturating_add(bulk_size(member.as_slice()));
+    }
+    size
 }
 
 /// Puts a combination of the sets at the sources at the target.

@@ -1,12 +1,12 @@
 //! SMEMBERS and SMISMEMBER: several replies of one set.
 //!
-//! The room for the replies is taken first, and each member is copied once.
+//! The room for the reply is taken first, and each member is copied once.
 
 ghost use Rattle.std.specs.Prelude.{◌≡◌, ◌<◌, IsTrue, IsSome, IfOk, OnErr, length};
 ghost use Rattle.std.specs.FinMap as map;
 ghost use Rattle.std.specs.Option.{option_copied};
 ghost use Rattle.command_cases.specs.Case.{Does, at_key};
-ghost use Rattle.resp.specs.Content.{BulkText, content};
+ghost use Rattle.resp.specs.Content.{content};
 ghost use Rattle.set_commands.specs.Combination.{found_members};
 ghost use Rattle.set_commands.specs.SetCommand.{looks_at_set, smembers_answer, sismember_answer, smismember_answer};
 ghost use Rattle.set_commands.specs.SetCommand.{members_there, some_members};
@@ -14,7 +14,7 @@ ghost use Rattle.set_commands.specs.SetCommand.{members_there, some_members};
 use crate::sets::order_set;
 use command_cases::{Starved, truth_reply, wrong_type_reply};
 use keyspace::Keyspace;
-use resp::Reply;
+use resp::{BulkTexts, Reply, bulk_size};
 use std::alloc::{AllocError, Global};
 use texts::{Text, Texts};
 use values::{SetValue, Value};
@@ -62,27 +62,32 @@ pub(crate) fn smismember<K: Keyspace>(
     }
 }
 
-/// A copy of these bytes as a reply.
-#[tactic(auto, using(resp::proofs::Contents::content_of))]
-fn bulk_copy(alloc: Global, bytes: &[u8]) -> Result<Reply, AllocError>
-    ensures { IfOk result (λ reply. content reply ≡ BulkText bytes.now) }
-{
-    let copy = Text::copy_of(alloc, bytes)?;
-    Ok(Reply::Bulk(copy.into_vec()))
-}
-
 /// The members of a set, copied.
 #[tactic(auto, using(resp::proofs::Contents::content_of))]
 fn members_reply(alloc: Global, set: &SetValue) -> Result<Reply, AllocError>
     ensures copied { IfOk result (λ reply. content reply ≡ smembers_answer set.now) }
     ensures starves { OnErr result (0 < length set.now) }
 {
-    let mut replies = Vec::with_capacity(alloc, set.len())?;
+    let mut texts = BulkTexts::with_room(alloc, texts_size(set))?;
     let mut members = set.members(alloc);
     while let Some(member) = members.next() {
-        replies.push(bulk_copy(alloc, member)?)?;
+        texts.push(member)?;
     }
-    Ok(Reply::Array(replies))
+    Ok(Reply::Bulks(texts))
+}
+
+/// The number of bytes of the members' texts, or the greatest number. A set has a member.
+fn texts_size(set: &SetValue) -> usize
+    ensures { 0 < length set.now }
+{
+    let mut size: usize = 0;
+    let mut members = set.in_any_order();
+    for _ in 0..set.len() {
+        if let Some(member) = members.next() {
+            size = size.saturating_add(bulk_size(member));
+        }
+    }
+    size
 }
 
 /// Whether each of these is a member; a set that is missing has none.

@@ -5,14 +5,14 @@ ghost use Rattle.command_cases.specs.Case.{Does};
 ghost use Rattle.command_cases.specs.Shapes.{at_each};
 ghost use Rattle.string_commands.specs.StringCommand.{mget_reply, string_or_null};
 ghost use Rattle.std.specs.FinMap as map;
-ghost use Rattle.resp.specs.Content.{content};
-ghost use Rattle.std.specs.Prelude.{IfOk};
+ghost use Rattle.std.specs.Option.{option_copied};
+ghost use Rattle.resp.specs.Content.{text_or_null};
 
 use command_cases::Starved;
 use keyspace::Keyspace;
-use resp::Reply;
+use resp::{BulkTexts, Reply};
 use std::alloc::Global;
-use texts::{Text, Texts};
+use texts::Texts;
 use values::Value;
 
 /// `MGET key [key ..]`: the string at each key, or null where the key is missing or holds a value of another type.
@@ -23,28 +23,22 @@ pub(crate) fn mget<K: Keyspace>(alloc: Global, keyspace: &K, keys: Texts) -> Res
     ensures done { Does (at_each keys mget_reply)
         (K.contents keyspace.now) (K.contents keyspace.now) result }
 {
-    let mut replies = Vec::with_capacity(alloc, keys.len())?;
+    let mut found = Vec::with_capacity(alloc, keys.len())?;
     for key in keys.as_slice() {
-        let reply = string_reply(alloc, keyspace, key.as_slice())?;
-        let Ok(()) = replies.push(reply) else {
+        let Ok(()) = found.push(string_at(keyspace, key.as_slice())) else {
             return Err(Starved);
         };
     }
-    Ok(Reply::Array(replies))
+    Ok(Reply::Bulks(BulkTexts::copy_of(alloc, found.as_slice())?))
 }
 
-/// The string at the key, or null where there is none.
-#[tactic(auto, using(resp::proofs::Contents::content_of))]
-fn string_reply<K: Keyspace>(alloc: Global, keyspace: &K, key: &[u8]) -> Result<Reply, Starved>
+/// The string at the key, if there is one.
+fn string_at<'a, K: Keyspace>(keyspace: &'a K, key: &[u8]) -> Option<&'a [u8]>
     requires { IsTrue (K.covered keyspace.now key.now) }
-    ensures { IfOk result (λ reply.
-        content reply ≡ string_or_null (map.get (K.contents keyspace.now) key.now)) }
+    ensures { text_or_null (option_copied result) ≡ string_or_null (map.get (K.contents keyspace.now) key.now) }
 {
     match keyspace.look(key) {
-        Some(Value::Str(text)) => {
-            let copy = Text::copy_of(alloc, text.as_slice())?;
-            Ok(Reply::Bulk(copy.into_vec()))
-        }
-        Some(_) | None => Ok(Reply::Null),
+        Some(Value::Str(text)) => Some(text.as_slice()),
+        Some(_) | None => None,
     }
 }

@@ -1,8 +1,7 @@
-use Rattle.std.proofs.Common.{◌≡◌, map, take}
-use Rattle.resp.specs.Content.{BulkText, content}
+use Rattle.std.proofs.Common.{◌≡◌, Some, map, take}
 use Rattle.texts.specs.Texts.{by_turns}
 use Rattle.hash_commands.proofs.arrays.pairs_reply.Given as goal
 
--- the pairs so far have their replies
+-- the pairs so far have their texts
 abbrev pub invariant-loop-place : goal.invariant-loop-place
-invariant-loop-place l = map content l.replies.items ≡ map BulkText (by_turns (take l.place l.hash))
+invariant-loop-place l = l.texts ≡ map Some (by_turns (take l.place l.hash))

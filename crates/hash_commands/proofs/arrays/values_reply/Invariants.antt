@@ -1,7 +1,6 @@
-use Rattle.std.proofs.Common.{◌≡◌, map, take}
-use Rattle.resp.specs.Content.{BulkText, content}
+use Rattle.std.proofs.Common.{◌≡◌, Some, map, take}
 use Rattle.hash_commands.proofs.arrays.values_reply.Given as goal
 
--- the pairs so far have their replies
+-- the pairs so far have their texts
 abbrev pub invariant-loop-place : goal.invariant-loop-place
-invariant-loop-place l = map content l.replies.items ≡ map (λ p. BulkText p.1) (take l.place l.hash)
+invariant-loop-place l = l.texts ≡ map (λ p. Some p.1) (take l.place l.hash)

@@ -1,10 +1,11 @@
-use Rattle.std.proofs.Common.{◌≡◌, ℕ, ◌<◌, ◌≤◌, ◌&&◌, nat_le, nat_lt, length, map, w64, subst, sym, ap, ◌∙◌, arith}
+use Rattle.std.proofs.Common.{◌≡◌, ℕ, ◌<◌, ◌≤◌, ◌&&◌, nat_le, nat_lt, length, map, Some, w64, subst, sym, ap, ◌∙◌, arith}
 use Rattle.std.proofs.lemmas.Int.{to_z-of_z}
 use mir.Val.{to_z, of_z}
-use Rattle.integers.specs.Range.{is_in_range}
+use Rattle.integers.specs.Range.{is_in_range, range_items}
 use Rattle.integers.specs.RangeLaws.{range_items-slice}
-use Rattle.resp.proofs.Contents.{content-Array}
-use Rattle.resp.specs.Content.{BulkText, Several, contents}
+use Rattle.resp.proofs.Contents.{content-texts}
+use Rattle.resp.specs.Content.{content}
+use Rattle.resp.specs.declared.reply.Reply.TheVariants.{Bulks}
 use Rattle.list_commands.proofs.places.range_reply.Goals as goal
 
 -- the items at the places of the range are one slice
@@ -24,7 +25,6 @@ returns c =
     let places : (p : ℕ) → p < length xs → is_in_range c.args.start c.args.end (length xs) p ≡ (nat_le from p && nat_lt p to) =
     subst (λ n. (p : ℕ) → p < n → is_in_range c.args.start c.args.end n p ≡ (nat_le from p && nat_lt p to)) c.len.ensures.len with_end in
     let within : to ≤ length xs = omega (arith, c.range_of-from.ensures.within, c.len.ensures.len) in
-    content-Array c.in_ok-copies.field-0
-    ∙ ap (λ rs. Several (contents rs))
-    (c.in_ok-copies.ensures ∙ ap (map BulkText)
+    ap (λ ts. content (Bulks ts)) (c.in_ok-copies.ensures ∙ ap (map Some)
     (sym (range_items-slice c.args.start c.args.end xs from to c.range_of-from.ensures.ordered within places)))
+    ∙ content-texts (range_items c.args.start c.args.end xs)
