@@ -77,10 +77,6 @@ IsWritten before after = (h : HistoryView) × Writes h before after
 abbrev pub IsSent : Option (List ℕ) → Option (List ℕ) → Type 0
 IsSent before after = (h : HistoryView) × Sends h before after
 
--- so many requests had been submitted
-abbrev pub HasSubmitted : ℕ → Type 0
-HasSubmitted count = (h : HistoryView) × (count ≡ submits h.steps)
-
 -- ---- how far a cluster is
 
 -- so many requests were submitted and so many steps made, and so many requests and members starved
@@ -88,7 +84,3 @@ pub record IsSight (h : HistoryView) (sight : Sight) : Type 0 where
   pub requests : sight.requests ≡ submits h.steps
   pub steps : sight.steps ≡ length h.steps
   pub starved : sight.starved ≡ length h.front.starved
-
--- a cluster was that far
-abbrev pub IsSeen : Sight → Type 0
-IsSeen sight = (h : HistoryView) × IsSight h sight
