@@ -1,5 +1,5 @@
 //! What the front's lock guards: a cluster, whether it is shut, and whether it is stopped. No other module makes a fault of an
-//! ask.
+//! ask or of a close.
 
 ghost use Rattle.std.specs.Prelude.{◌≡◌, ◌+◌, ◌⊎◌, true, None, OnErr, OnOk, IfOk, IfErr, IfSome, IfNone, OnSome, IsTrue, ◌↔◌};
 ghost use Rattle.cluster.specs.Answers.{shown_outcome};
@@ -16,7 +16,7 @@ ghost use Rattle.journal.specs.declared.step.Step.{Step};
 ghost use Rattle.router.specs.Router.{waiting};
 ghost use Rattle.world.specs.Steps.{Made};
 
-use crate::fault::{AskStep, CloseFault, FaultKind, lasting, of_cluster, told, told_in};
+use crate::fault::{AskStep, CloseKind, FaultKind, lasting, of_cluster, told, told_in};
 use crate::hand::Broken;
 use crate::sight::Sight;
 use back::Back;
@@ -54,6 +54,23 @@ impl AskFault {
         ensures { result ≡ self.now.step }
     {
         self.step
+    }
+}
+
+/// Why a cluster isn't closed. Nothing was changed. It can't be made up, since only what the lock guards makes one, where a close
+/// is refused.
+#[derive(Debug, Drop, PartialEq, Eq, Error)]
+#[error("{kind}")]
+pub struct CloseFault {
+    kind: CloseKind,
+}
+
+impl CloseFault {
+    /// The kind of fault.
+    pub fn kind(&self) -> CloseKind
+        ensures { result ≡ self.now.kind }
+    {
+        self.kind
     }
 }
 
@@ -487,16 +504,20 @@ impl<L: Ledger> Held<L> {
     /// What is told of the cluster when it is closed beside this store.
     pub fn close(&mut self, back: &Back) -> Result<Closing, CloseFault>
         ensures closed { IfOk result (Closes self.old.cluster back.now) }
-        ensures refused { IfErr result (RefusesClose self.old.stopped self.old.cluster back.now) }
+        ensures refused { IfErr result (λ fault. RefusesClose self.old.stopped self.old.cluster back.now fault.kind) }
         ensures same { self.new ≡ self.old }
     {
         if self.stopped || back.has_failed() {
-            return Err(CloseFault::Failed);
+            return Err(CloseFault {
+                kind: CloseKind::Failed,
+            });
         }
         self.cluster.lawful();
         match self.cluster.closing(back) {
             Ok(closing) => Ok(closing),
-            Err(fault) => Err(of_cluster(fault)),
+            Err(fault) => Err(CloseFault {
+                kind: of_cluster(fault),
+            }),
         }
     }
 

@@ -33,9 +33,9 @@ ghost use Rattle.shared_cluster.specs.Hands.{IsUncollected, LooksInVain};
 ghost use Rattle.shared_cluster.specs.declared.hand.Hand.{Hand};
 ghost use Rattle.journal.specs.declared.trace.TheConstants.{GREATEST_STEPS};
 
-use crate::fault::{CloseFault, FaultKind};
+use crate::fault::FaultKind;
 use crate::hand::{Hand, Run, bring_to};
-use crate::held::{AskFault, AtRest, Held, Next, RESERVE, Unsettled};
+use crate::held::{AskFault, AtRest, CloseFault, Held, Next, RESERVE, Unsettled};
 use crate::long_work::takes_long;
 use crate::sight::Sight;
 use back::Back;
