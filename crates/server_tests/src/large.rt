@@ -81,7 +81,14 @@ fn a_request_of_a_million_words(rt: HostRuntime) -> Result<(), Fail> {
 fn many_reads_and_writes_of_one_byte(rt: HostRuntime) -> Result<(), Fail> {
     let row = often(rt.alloc(), "ECHO ", "x", 200_000, "")?;
     let replies = often(rt.alloc(), "$200000|", "x", 200_000, "|")?;
-    comes_of_row(&rt, rt.alloc(), row.as_str(), 1, replies.as_str(), (1, 0, 0))
+    comes_of_row(
+        &rt,
+        rt.alloc(),
+        row.as_str(),
+        1,
+        replies.as_str(),
+        (1, 0, 0),
+    )
 }
 
 /// How many seats ask for a layer of theirs, and how many packets are under way at once.
