@@ -1,10 +1,13 @@
 //! Serving one connection.
 
+ghost use Rattle.server.specs.Serving.{ServesDesk};
+
 use crate::course::Course;
 use crate::faults::HostFault;
 use resp_decoder::Limits;
 use serving::{Door, ServeFault, Served, serve};
 use shared_cluster::{AskFault, Desk, FaultKind, Shared, Turns};
+use std::alloc::Global;
 use std::fmt::Display;
 use std::io::{ErrorKind, Read, Write};
 use std::net::{Shutdown, TcpStream};
@@ -57,14 +60,7 @@ where
     let mut desk = Desk::new(rt, service.shared, seat, service.turns);
     let mut reader = stream;
     let mut writer = stream;
-    let served = serve(
-        rt.alloc(),
-        Limits::DEFAULT,
-        &mut reader,
-        &mut writer,
-        &mut desk,
-    );
-    desk.rest();
+    let served = serve_desk(rt.alloc(), &mut desk, &mut reader, &mut writer);
     service.shared.stand(rt, desk.into_seat());
     match served {
         Ok(Served::End | Served::Inside) | Err(ServeFault::Read | ServeFault::Write) => {}
@@ -72,6 +68,26 @@ where
         Err(ServeFault::Memory) => say(rt, stream, WITHOUT_MEMORY, LINGERING),
         Err(ServeFault::Door(fault)) => end_by(rt, service, stream, fault),
     }
+}
+
+/// Serves at a desk what the reader gives, and has the writer take the replies: how each connection of a server is served, over any
+/// reader and writer. A request has at most as many words, of as many bytes, as Redis allows by default.
+///
+/// What was read, asked and written with each outcome is said by `Serves`, and what a request is answered by `Asks`: the outcome of
+/// the seat's next request, or that there was no memory for it. With `ServeFault::Door` the desk was refused an ask, by the fault that is
+/// given. The desk lets others pass before each read and write, and at the end.
+pub fn serve_desk<L: Ledger, C: Wait + Clock, R: Read, W: Write>(
+    alloc: Global,
+    desk: &mut Desk<'_, L, C>,
+    reader: &mut R,
+    writer: &mut W,
+) -> Result<Served, ServeFault<AskFault>>
+    ensures { ServesDesk desk.old desk.new (λ d. d.seat) Limits.DEFAULT
+        (R.remaining reader.old) (R.remaining reader.new) (W.contents writer.old) (W.contents writer.new) result }
+{
+    let served = serve(alloc, Limits::DEFAULT, reader, writer, desk);
+    desk.rest();
+    served
 }
 
 /// Ends a connection by the fault with which it was refused, which may be one of the whole server.

@@ -4,7 +4,7 @@ ghost use Rattle.std.specs.Prelude.{◌≡◌, ◌≤◌};
 ghost use Rattle.server.specs.declared.faults.HostFault.TheVariants as host_fault;
 
 use journal::SendFault;
-use shared_cluster::CloseFault;
+use shared_cluster::CloseKind;
 use std::alloc::AllocError;
 use thiserror::Error;
 
@@ -16,7 +16,7 @@ pub(crate) enum HostFault {
     #[error("no more steps may be made: {requests} requests took the {steps} of --max-steps")]
     Exhausted { requests: u64, steps: u64 },
     #[error("not closed: {0}")]
-    Close(CloseFault),
+    Close(CloseKind),
     #[error("the trace could not be written")]
     Trace,
     #[error("out of memory")]

@@ -134,16 +134,16 @@ where
         let _ = eprintln!(rt; "shardkv-server: connections without memory or a thread: {refused}");
     }
     let closed = shared.close(rt);
-    if let Err(fault) = closed {
-        course.meet(rt, HostFault::Close(fault));
+    if let Err(fault) = &closed {
+        course.meet(rt, HostFault::Close(fault.kind()));
     }
     if let Some(path) = options.trace {
         store_trace(rt, &shared, path)?;
     }
-    if let Ok(closing) = closed
+    if let Ok(closing) = &closed
         && course.met(rt).is_none()
     {
-        console.tell_closing(&closing);
+        console.tell_closing(closing);
     }
     Ok(())
 }

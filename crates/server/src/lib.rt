@@ -11,6 +11,7 @@ mod sending;
 mod streams;
 mod trace_file;
 
+pub use connection::serve_desk;
 pub use course::Course;
 pub use hosting::host;
 pub use sending::shared_syncs;

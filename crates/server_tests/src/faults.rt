@@ -4,8 +4,8 @@ ghost use Rattle.std.specs.Prelude.{◌≡◌, ◌<◌};
 
 use crate::asking::{Numbers, closes, discard};
 use crate::rows::{MOST, shared};
-use resp_decoder::Limits;
-use serving::{Door, ServeFault, Served, serve};
+use server::serve_desk;
+use serving::{ServeFault, Served};
 use shared_cluster::{AskFault, Desk, Shared, Turns};
 use std::alloc::Global;
 use std::marker::Brand;
@@ -40,8 +40,7 @@ fn serve_one<L: Ledger, R: Wait + Clock>(
 ) -> Result<(&'static str, u64), Fail> {
     let seat = shared.sit(rt)?;
     let mut desk = Desk::new(rt, shared, seat, Turns::Own);
-    let ended = serve(alloc, Limits::DEFAULT, reader, writer, &mut desk);
-    desk.rest();
+    let ended = serve_desk(alloc, &mut desk, reader, writer);
     let seat = desk.into_seat();
     let count = seat.count();
     shared.stand(rt, seat);
@@ -52,10 +51,10 @@ fn serve_one<L: Ledger, R: Wait + Clock>(
 
 /// What is to come of a connection: how its serving ends, the replies that are written, and what the cluster counts.
 #[derive(Clone, Copy)]
-struct Wanted<'a> {
-    ended: &'a str,
-    replies: &'a [u8],
-    numbers: Numbers,
+pub(crate) struct Wanted<'a> {
+    pub ended: &'a str,
+    pub replies: &'a [u8],
+    pub numbers: Numbers,
 }
 
 /// That came of a connection, how it ended and how many requests its seat has, which is wanted.
@@ -95,7 +94,7 @@ fn comes_of<L: Ledger, R: Wait + Clock>(
 }
 
 /// The same over a new cluster.
-fn comes<R: Wait + Clock>(
+pub(crate) fn comes<R: Wait + Clock>(
     rt: &R,
     alloc: Global,
     reader: &mut Source<'_>,

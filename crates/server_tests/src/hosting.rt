@@ -289,7 +289,7 @@ pub(crate) fn replay_trace<R: Wait + AllocGlobal + Files>(
 }
 
 /// A trace is replayed: its report agrees, has so many rows, and ends so.
-fn replays(alloc: Global, trace: &[u8], rows: usize, ending: &[u8]) -> Result<(), Fail> {
+pub(crate) fn replays(alloc: Global, trace: &[u8], rows: usize, ending: &[u8]) -> Result<(), Fail> {
     let mut report = Vec::new(alloc);
     let one = InTurn(NonZeroUsize::MIN);
     let status = show(alloc, TWO_SHARDS.as_bytes(), trace, &one, &mut report);

@@ -19,6 +19,8 @@ mod faults;
 #[cfg(test)]
 mod hosting;
 #[cfg(test)]
+mod large;
+#[cfg(test)]
 mod limits;
 #[cfg(test)]
 mod rows;

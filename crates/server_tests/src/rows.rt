@@ -6,13 +6,13 @@ ghost use Rattle.journal.specs.declared.trace.TheConstants.{GREATEST_STEPS};
 
 use crate::asking::{Numbers, closes, request, same_reply, stays, text};
 use crate::hosting::as_wanted;
-use cluster::{First, Seat};
+use cluster::{Closing, First, Seat};
 use placement::Table;
 use resp::{Reply, Request};
 use server::shared_syncs;
 use shard_workers::{InTurn, OpenGate};
 use shards::ShardHasher;
-use shared_cluster::{AskFault, AtRest, CloseFault, FaultKind, Shared};
+use shared_cluster::{AskFault, AtRest, CloseFault, CloseKind, FaultKind, Shared};
 use std::alloc::Global;
 use std::marker::Brand;
 use std::num::NonZeroUsize;
@@ -302,6 +302,14 @@ fn is_refused<T: Drop>(outcome: Result<T, AskFault>, kind: FaultKind) -> Result<
     holds("a refusal of the kind that is wanted", refused)
 }
 
+/// A cluster is closed, or why not, by the kind of its fault.
+fn kinds(closed: Result<Closing, CloseFault>) -> Result<Closing, CloseKind> {
+    match closed {
+        Ok(closing) => Ok(closing),
+        Err(fault) => Err(fault.kind()),
+    }
+}
+
 /// What the thread asks that makes the turns itself.
 const TURNED: Rows<'static> = &[
     ("SET a 1", "+OK\r\n"),
@@ -375,6 +383,17 @@ fn refuses<L: Ledger, R: Wait + Clock>(
     same_number("the requests of the seat", seat.count(), count)
 }
 
+/// What was asked is counted: five requests, of which none starved. Of the steps one is the seat's Open; PING and the unknown command
+/// took two each, Submit and Collect; SET and GET six, with Deliver, Take, Run and Settle; and MSET nine, since over two shards there are
+/// four packets.
+fn is_as_far<L: Ledger, R: Wait>(rt: &R, shared: &Shared<L>) -> Result<(), Fail> {
+    let sight = shared.sight(rt);
+    same_number("the requests", shared.requests(rt), 5)?;
+    same_number("the requests that are seen", sight.requests, 5)?;
+    same_number("the steps", sight.steps, 26)?;
+    same_number("those that starved", sight.starved, 0)
+}
+
 /// Asks, and then shuts the cluster, which then takes no request.
 fn turn_and_shut<L: Ledger, R: Wait + Clock>(
     rt: &R,
@@ -383,7 +402,8 @@ fn turn_and_shut<L: Ledger, R: Wait + Clock>(
     seat: &mut Seat<L>,
 ) -> Result<(), Fail> {
     turn_rows(rt, alloc, shared, seat, TURNED)?;
-    stays(shared.close(rt), CloseFault::SeatsOut)?;
+    is_as_far(rt, shared)?;
+    stays(kinds(shared.close(rt)), CloseKind::SeatsOut)?;
     shared.shut(rt);
     refuses(rt, alloc, shared, seat, "PING", FaultKind::Closed, 5)
 }
@@ -477,7 +497,7 @@ fn exhaust<L: Ledger, R: Wait + Clock>(
     let exhausted = exhausts(rt, alloc, shared, &mut seat);
     shared.stand(rt, seat);
     exhausted?;
-    stays(shared.close(rt), CloseFault::NotQuiet)?;
+    stays(kinds(shared.close(rt)), CloseKind::NotQuiet)?;
     has_three(rt, alloc, shared)
 }
 

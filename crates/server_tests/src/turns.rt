@@ -90,7 +90,7 @@ fn ask_row<L: Ledger>(
 }
 
 /// Asks at a seat, and the replies are to have these texts.
-fn ask_rows<L: Ledger>(
+pub(crate) fn ask_rows<L: Ledger>(
     alloc: Global,
     cluster: &mut Cluster<L>,
     back: &mut Back,

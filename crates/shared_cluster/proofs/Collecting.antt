@@ -19,7 +19,7 @@ use Rattle.resp.specs.Content.{content}
 use Rattle.resp.specs.declared.reply.Reply.{Reply}
 use Rattle.shared_cluster.specs.Asks.{submitted, Answers, Replies, IsReplied, IsCollectFault, IsAskFault}
 use Rattle.shared_cluster.specs.Closings.{Closes, RefusesClose, Writes, Sends, IsClosed, IsCloseFault, IsWritten, IsSent}
-use Rattle.shared_cluster.specs.declared.fault.CloseFault.{CloseFault}
+use Rattle.shared_cluster.specs.declared.held.CloseFault.{CloseFault}
 use Rattle.shared_cluster.specs.declared.held.AskFault.{AskFault}
 use Rattle.system_view.specs.Connections.{outcome_shown}
 use Rattle.world.specs.Steps.{Collected}
@@ -87,7 +87,7 @@ found_closed k b (Ok closing) closes = (k, b, closes)
 found_closed k b (Err fault) closes = tt
 
 pub found_close_fault : (stopped : Bool) (k : ClusterView) (b : BackState) (r : Result Closing CloseFault)
-    → IfErr r (RefusesClose stopped k b) → IfErr r IsCloseFault
+    → IfErr r (λ fault. RefusesClose stopped k b fault.kind) → IfErr r IsCloseFault
 found_close_fault stopped k b (Ok closing) refused = tt
 found_close_fault stopped k b (Err fault) refused = (stopped, k, b, refused)
 

@@ -1,4 +1,5 @@
 pub mod Refusals
 pub mod Collecting
 pub mod Taking
+pub mod Hands
 pub mod Crossing

@@ -1,6 +1,6 @@
 -- What is told of a step that is refused.
 use Rattle.std.proofs.Common.{◌≡◌, ◌≢◌, ℕ, Bool, true, false, ◌&&◌, ◌==◌, if◌then◌else◌, List, [], ◌∷◌, ◌++◌, length, inl, inr}
-use Rattle.std.proofs.Common.{Some, is_none, Result, Ok, Err, IfErr, refl, sym, ap, ◌∙◌, subst}
+use Rattle.std.proofs.Common.{Some, None, is_none, Result, Ok, Err, IfErr, refl, sym, ap, ◌∙◌, subst}
 use Rattle.std.proofs.lemmas.Bool.{both_ways}
 use Rattle.std.specs.Prelude.{codes}
 use Rattle.router.specs.Lists.{is_listing}
@@ -15,10 +15,11 @@ use Rattle.sessions.specs.declared.session.Session.TheVariants.{Free, Listing, S
 use Rattle.cluster.specs.Clusters.{SeatView}
 use Rattle.cluster.specs.Histories.{HistoryView, IsLawful}
 use Rattle.cluster.specs.declared.fault.StepFault.{StepFault}
+use Rattle.cluster.specs.declared.fault.StepFault.TheVariants as step
 use Rattle.shared_cluster.specs.Asks.{told, unlisted, unless_memory, lasting, Refuses, IsStoppedOr, RefusesAsk, RefusesSubmit}
 use Rattle.shared_cluster.specs.Asks.{RefusesCollect, RefusesTurn}
 use Rattle.shared_cluster.specs.Asks.{IsCollectFault, IsStopped, IsAskFault}
-use Rattle.shared_cluster.specs.Desks.{IsUnqueued}
+use Rattle.shared_cluster.specs.Desks.{IsUnqueued, IsStarved}
 use Rattle.shared_cluster.specs.declared.fault.FaultKind.{FaultKind}
 use Rattle.shared_cluster.specs.declared.fault.FaultKind.TheVariants.{Closed, Memory, Exhausted, Failed, NoConn, Unlisted}
 use Rattle.layer_results.specs.declared.done.DoneRow.{DoneRow}
@@ -53,12 +54,27 @@ refuses_lasting false h IsWhy own kind goes lawful refused is =
     let kept = kept_by_lasting (told own) kind is in
     (kept.1, record { lawful = lawful; own = own; is = kept.0; why = refused })
 
+-- what isn't told is want of memory
+pub untold : (IsWhy : StepFault → Type 0) (own : StepFault) → lasting own ≡ None → IsWhy own → IsWhy step.Memory
+untold IsWhy step.Busy is why = cc
+untold IsWhy step.NoConn is why = cc
+untold IsWhy step.NoPacket is why = cc
+untold IsWhy step.InFlight is why = cc
+untold IsWhy step.NoLayer is why = cc
+untold IsWhy step.Exhausted is why = cc
+untold IsWhy step.Memory is why = why
+
 -- ---- of a shared cluster
 
 pub found_collect : {X : Type 0} (r : Result X AskFault) (stopped : Bool) (h : HistoryView) (s : SeatView)
     → IfErr r (RefusesCollect stopped h s) → IfErr r (IsCollectFault s)
 found_collect (Ok got) stopped h s refused = tt
 found_collect (Err fault) stopped h s refused = inl (stopped, h, refused)
+
+pub found_stopped : {X : Type 0} (r : Result X AskFault) (stopped : Bool) (h : HistoryView) → IfErr r (RefusesTurn stopped h)
+    → IfErr r IsStopped
+found_stopped (Ok got) stopped h refused = tt
+found_stopped (Err fault) stopped h refused = (stopped, h, refused)
 
 pub found_unsettled : (h : HistoryView) (done : List DoneRow) (u : Unsettled) (fault : AskFault) → RefusesSettle h done u
     → u ≡ Foreign fault → IsStopped fault
@@ -142,7 +158,8 @@ unqueued s words false false h fault refused is = (
 
 -- a desk that answers want of memory
 pub told_of_memory : (old : SeatView) (words : List (List ℕ)) (fault : AskFault) (new : SeatView) → IsAskFault old words fault new
-    → fault.kind ≡ Memory → (new ≡ old) × IsUnqueued old words
-told_of_memory old words fault new (inl (why, same)) is = (same, unqueued old words why.0 why.1 why.2 fault why.3 is)
+    → fault.kind ≡ Memory → (new ≡ old) × IsUnqueued old words × IsStarved old words
+told_of_memory old words fault new (inl (why, same)) is =
+    (same, unqueued old words why.0 why.1 why.2 fault why.3 is, (fault, is, why))
 told_of_memory old words fault new (inr (inl why, same)) is = absurd (why.2.1 is)
 told_of_memory old words fault new (inr (inr why, same)) is = absurd (why.2.1 is)

@@ -12,8 +12,9 @@ use Rattle.cluster.specs.declared.closing.Closing.{Closing}
 use Rattle.cluster.specs.declared.cluster.CloseFault as front
 use Rattle.cluster.specs.declared.cluster.CloseFault.TheVariants as fault
 use Rattle.journal.specs.TraceText.{trace_text}
-use Rattle.shared_cluster.specs.declared.fault.CloseFault.{CloseFault}
-use Rattle.shared_cluster.specs.declared.fault.CloseFault.TheVariants.{Failed, SeatsOut, NotQuiet, Disagree}
+use Rattle.shared_cluster.specs.declared.fault.CloseKind.{CloseKind}
+use Rattle.shared_cluster.specs.declared.fault.CloseKind.TheVariants.{Failed, SeatsOut, NotQuiet, Disagree}
+use Rattle.shared_cluster.specs.declared.held.CloseFault.{CloseFault}
 use Rattle.shared_cluster.specs.declared.sight.Sight.{Sight}
 
 -- This cluster is lawful and quiet, as many seats stood as sat, and what those submitted that stood is all that was
@@ -34,13 +35,13 @@ pub record Closes (c : ClusterView) (b : BackState) (closing : Closing) : Type 0
   pub starved : closing.starved ≡ length c.history.front.starved
 
 -- why a cluster isn't closed, told of one that no layer stopped
-abbrev pub of_cluster : front.CloseFault → CloseFault
+abbrev pub of_cluster : front.CloseFault → CloseKind
 of_cluster fault.SeatsOut = SeatsOut
 of_cluster fault.NotQuiet = NotQuiet
 of_cluster fault.Disagree = Disagree
 
 -- Why a cluster isn't closed beside this store: the first that applies. A layer was refused for good, or the cluster refuses.
-abbrev pub RefusesClose : Bool → ClusterView → BackState → CloseFault → Type 0
+abbrev pub RefusesClose : Bool → ClusterView → BackState → CloseKind → Type 0
 RefusesClose stopped c back Failed = (stopped ≡ true) ⊎ (back.store.failed ≡ true)
 RefusesClose stopped c back SeatsOut =
     (stopped ≡ false) × (back.store.failed ≡ false) × cluster.IsCloseFault c back.rows fault.SeatsOut
@@ -67,7 +68,7 @@ IsClosed closing = (c : ClusterView) × (back : BackState) × Closes c back clos
 
 -- a cluster wasn't closed, for this reason
 abbrev pub IsCloseFault : CloseFault → Type 0
-IsCloseFault fault = (stopped : Bool) × (c : ClusterView) × (back : BackState) × RefusesClose stopped c back fault
+IsCloseFault fault = (stopped : Bool) × (c : ClusterView) × (back : BackState) × RefusesClose stopped c back fault.kind
 
 -- the text of a trace was appended
 abbrev pub IsWritten : List ℕ → List ℕ → Type 0
@@ -77,10 +78,6 @@ IsWritten before after = (h : HistoryView) × Writes h before after
 abbrev pub IsSent : Option (List ℕ) → Option (List ℕ) → Type 0
 IsSent before after = (h : HistoryView) × Sends h before after
 
--- so many requests had been submitted
-abbrev pub HasSubmitted : ℕ → Type 0
-HasSubmitted count = (h : HistoryView) × (count ≡ submits h.steps)
-
 -- ---- how far a cluster is
 
 -- so many requests were submitted and so many steps made, and so many requests and members starved
@@ -88,7 +85,3 @@ pub record IsSight (h : HistoryView) (sight : Sight) : Type 0 where
   pub requests : sight.requests ≡ submits h.steps
   pub steps : sight.steps ≡ length h.steps
   pub starved : sight.starved ≡ length h.front.starved
-
--- a cluster was that far
-abbrev pub IsSeen : Sight → Type 0
-IsSeen sight = (h : HistoryView) × IsSight h sight

@@ -2,7 +2,7 @@
 use Rattle.std.specs.Prelude.{◌≡◌, ◌≢◌, ℕ, List, Ok, Err}
 use Rattle.cluster.specs.Clusters.{SeatView}
 use Rattle.cluster.specs.Histories.{HistoryView, IsLawful}
-use Rattle.shared_cluster.specs.Asks.{submitted, IsReplied, IsAskFault}
+use Rattle.shared_cluster.specs.Asks.{submitted, IsReplied, IsSubmitFault, IsAskFault}
 use Rattle.shared_cluster.specs.declared.fault.FaultKind.TheVariants as kind
 use Rattle.shared_cluster.specs.declared.held.AskFault.{AskFault}
 use Rattle.router.specs.Router.{session_at}
@@ -14,9 +14,14 @@ use Rattle.sessions.specs.Session.{Queues}
 abbrev pub IsUnqueued : SeatView → List (List ℕ) → Type 0
 IsUnqueued s words = (h : HistoryView) × IsLawful h × ¬ Queues (session_at h.front.router s.conn.0) words
 
--- The reply is that of what came of these words, which the seat asked as its next request; or there was no memory for words
--- that no list was to have, and the seat is as before; or the connection ends, for the reason for which the ask was refused.
+-- the submit of these words was refused for want of memory
+abbrev pub IsStarved : SeatView → List (List ℕ) → Type 0
+IsStarved s words = (fault : AskFault) × (fault.kind ≡ kind.Memory) × IsSubmitFault s words fault
+
+-- The reply is that of what came of these words, which the seat asked as its next request; or the submit of words that no list
+-- was to have was refused for want of memory, and the seat is as before; or the connection ends, for the reason for which the
+-- ask was refused.
 abbrev pub Asks : SeatView → List (List ℕ) → Answer AskFault → SeatView → Type 0
 Asks old words (Ok reply) new = IsReplied (submitted old words) reply new
-Asks old words (Err Memory) new = (new ≡ old) × IsUnqueued old words
+Asks old words (Err Memory) new = (new ≡ old) × IsUnqueued old words × IsStarved old words
 Asks old words (Err (Ended reason)) new = (reason.kind ≢ kind.Memory) × IsAskFault old words reason new

@@ -1,6 +1,7 @@
 pub mod Asks
 pub mod Closings
 pub mod Desks
+pub mod Hands
 pub mod LongWork
 pub mod Running
 pub mod Turning

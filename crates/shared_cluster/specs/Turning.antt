@@ -1,13 +1,15 @@
 -- How the turns of a locked cluster go on.
-use Rattle.std.specs.Prelude.{◌≡◌, ◌≢◌, ℕ, Bool, true, List, [], ◌⊎◌}
+use Rattle.std.specs.Prelude.{◌≡◌, ◌≢◌, ℕ, Bool, true, List, [], ◌⊎◌, None}
 use Rattle.delivery.specs.Queues.{queue_of}
 use Rattle.delivery.specs.Ready.{IsReady}
 use Rattle.front.specs.Looking.{IsQuiet}
+use Rattle.cluster.specs.Clusters.{SeatView, ClusterView, SameBook, IsCollectFault}
 use Rattle.cluster.specs.Histories.{HistoryView, IsUnchanged}
 use Rattle.cluster.specs.Layers.{HandsOut, IsSettleFault}
 use Rattle.cluster.specs.Turns.{Delivers}
 use Rattle.cluster.specs.declared.fault.StepFault.TheVariants as fault
 use Rattle.layer_results.specs.declared.done.DoneRow.{DoneRow}
+use Rattle.router.specs.Router.{waiting}
 use Rattle.shared_cluster.specs.Asks.{RefusesTurn}
 use Rattle.shared_cluster.specs.declared.held.Next.{Next}
 use Rattle.shared_cluster.specs.declared.held.Next.TheVariants.{Taken, Delivered, Starved, Quiet}
@@ -47,6 +49,16 @@ GoesOn pick old new Quiet = (¬ MayTake old) × (old.front.multicast.packets ≡
 abbrev pub RefusesSettle : HistoryView → List DoneRow → Unsettled → Type 0
 RefusesSettle h done (unsettled.Starved given) = (given ≡ done) × IsSettleFault h done fault.Memory
 RefusesSettle h done (unsettled.Foreign why) = IsSettleFault h done fault.NoLayer × RefusesTurn true h why
+
+-- nothing of the cluster has changed but room
+pub record StaysSo (old new : ClusterView) : Type 0 where
+  pub history : IsUnchanged old.history new.history
+  pub book : SameBook old new
+  pub sat : new.sat ≡ old.sat
+
+-- why nothing is collected though it isn't refused: no outcome waits for the seat, or one waits and there was no memory for it
+abbrev pub IsNotThere : HistoryView → SeatView → Type 0
+IsNotThere h s = (waiting h.front.router s.conn.0 ≡ None) ⊎ IsCollectFault h s fault.Memory
 
 -- it is shut, and nothing is under way
 abbrev pub IsAtRest : Bool → HistoryView → Type 0

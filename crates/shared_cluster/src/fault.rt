@@ -55,9 +55,9 @@ pub enum AskStep {
     Turn,
 }
 
-/// Why a cluster isn't closed. Nothing was changed. Where several apply it is the first.
+/// Why a cluster isn't closed. Where several apply it is the first.
 #[derive(Clone, Copy, Debug, Drop, PartialEq, Eq, Error)]
-pub enum CloseFault {
+pub enum CloseKind {
     /// A layer was refused for good: a worker could not be started.
     #[error("a worker could not be started")]
     Failed,
@@ -76,13 +76,13 @@ pub enum CloseFault {
 }
 
 /// Why a cluster isn't closed, told of one that no layer stopped.
-pub(crate) fn of_cluster(fault: ClusterFault) -> CloseFault
+pub(crate) fn of_cluster(fault: ClusterFault) -> CloseKind
     ensures { result ≡ of_cluster fault }
 {
     match fault {
-        ClusterFault::SeatsOut => CloseFault::SeatsOut,
-        ClusterFault::NotQuiet => CloseFault::NotQuiet,
-        ClusterFault::Disagree => CloseFault::Disagree,
+        ClusterFault::SeatsOut => CloseKind::SeatsOut,
+        ClusterFault::NotQuiet => CloseKind::NotQuiet,
+        ClusterFault::Disagree => CloseKind::Disagree,
     }
 }
 

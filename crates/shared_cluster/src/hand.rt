@@ -1,8 +1,10 @@
 //! What a thread that brings work on has in its hand, and how a layer that is there is run. No other module tells that a layer
 //! was refused for good.
 
-ghost use Rattle.std.specs.Prelude.{◌≡◌};
+ghost use Rattle.std.specs.Prelude.{◌≡◌, IsTrue, ◌↔◌};
+ghost use Rattle.shared_cluster.specs.Hands.{IsBrought};
 ghost use Rattle.shared_cluster.specs.Running.{BringsOn};
+ghost use Rattle.shared_cluster.specs.declared.hand.Hand.{Hand};
 
 use back::Back;
 use groups::SkipId;
@@ -25,7 +27,9 @@ pub(crate) enum Hand {
 
 impl Hand {
     /// Whether nothing is in it.
-    pub fn is_free(&self) -> bool {
+    pub fn is_free(&self) -> bool
+        ensures { IsTrue result ↔ (self.now ≡ Hand.Free) }
+    {
         matches!(self, Hand::Free)
     }
 }
@@ -49,7 +53,7 @@ pub(crate) enum Run {
 }
 
 /// Runs a layer, and hands over what came of it.
-pub(crate) fn run_layer<W: Workers>(
+fn run_layer<W: Workers>(
     back: &mut Back,
     layer: Layer,
     workers: &W,
@@ -63,4 +67,17 @@ pub(crate) fn run_layer<W: Workers>(
         Err(ExecFault::Memory(layer)) => Run::Starved(layer),
         Err(_) => Run::Refused(Broken { seen: () }),
     }
+}
+
+/// Runs a layer in a store, which is lawful, and hands over what came of it.
+pub(crate) fn bring_to<W: Workers>(
+    back: &mut Back,
+    layer: Layer,
+    workers: &W,
+    gate: &(dyn Gate + Sync),
+) -> Run
+    ensures { IsBrought (W.may_refuse workers.now) layer result }
+{
+    back.lawful();
+    run_layer(back, layer, workers, gate)
 }

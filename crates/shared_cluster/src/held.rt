@@ -1,21 +1,22 @@
 //! What the front's lock guards: a cluster, whether it is shut, and whether it is stopped. No other module makes a fault of an
-//! ask.
+//! ask or of a close.
 
-ghost use Rattle.std.specs.Prelude.{◌≡◌, ◌+◌, ◌⊎◌, true, OnErr, OnOk, IfOk, IfErr, IfSome, IfNone, OnSome, IsTrue, ◌↔◌};
+ghost use Rattle.std.specs.Prelude.{◌≡◌, ◌+◌, ◌⊎◌, true, None, OnErr, OnOk, IfOk, IfErr, IfSome, IfNone, OnSome, IsTrue, ◌↔◌};
 ghost use Rattle.cluster.specs.Answers.{shown_outcome};
 ghost use Rattle.resp.specs.Content.{content};
 ghost use Rattle.shared_cluster.specs.Asks.{submitted, is_listed, IsSeated, Submits, Answers, Replies, RefusesSit, RefusesSubmit, RefusesCollect};
 ghost use Rattle.shared_cluster.specs.Asks.{RefusesTurn};
 ghost use Rattle.shared_cluster.specs.Closings.{Closes, RefusesClose, Writes, Sends, IsSight};
-ghost use Rattle.shared_cluster.specs.Turning.{GoesOn, Carries, Takes, MayTake, RefusesSettle, IsAtRest};
+ghost use Rattle.shared_cluster.specs.Turning.{GoesOn, Carries, Takes, MayTake, RefusesSettle, StaysSo, IsNotThere, IsAtRest};
 ghost use Rattle.cluster.specs.Clusters.{StaysOpen};
-ghost use Rattle.cluster.specs.Histories.{IsMade};
+ghost use Rattle.cluster.specs.Histories.{IsLawful, IsMade};
 ghost use Rattle.cluster.specs.Layers.{IsSettled};
 ghost use Rattle.cluster.specs.Submits.{submits};
 ghost use Rattle.journal.specs.declared.step.Step.{Step};
+ghost use Rattle.router.specs.Router.{waiting};
 ghost use Rattle.world.specs.Steps.{Made};
 
-use crate::fault::{AskStep, CloseFault, FaultKind, lasting, of_cluster, told, told_in};
+use crate::fault::{AskStep, CloseKind, FaultKind, lasting, of_cluster, told, told_in};
 use crate::hand::Broken;
 use crate::sight::Sight;
 use back::Back;
@@ -53,6 +54,23 @@ impl AskFault {
         ensures { result ≡ self.now.step }
     {
         self.step
+    }
+}
+
+/// Why a cluster isn't closed. Nothing was changed. It can't be made up, since only what the lock guards makes one, where a close
+/// is refused.
+#[derive(Debug, Drop, PartialEq, Eq, Error)]
+#[error("{kind}")]
+pub struct CloseFault {
+    kind: CloseKind,
+}
+
+impl CloseFault {
+    /// The kind of fault.
+    pub fn kind(&self) -> CloseKind
+        ensures { result ≡ self.now.kind }
+    {
+        self.kind
     }
 }
 
@@ -106,6 +124,7 @@ impl<L: Ledger> Held<L> {
     pub fn sit(&mut self) -> Result<Seat<L>, AskFault>
         ensures seat { IfOk result (λ seat. IsSeated self.old.cluster.history seat self.new.cluster.history) }
         ensures refused { IfErr result (RefusesSit self.old.shut self.old.stopped self.old.cluster.history) }
+        ensures stays { OnErr result (StaysSo self.old.cluster self.new.cluster) }
         ensures shut { self.new.shut ≡ self.old.shut }
         ensures stopped { self.new.stopped ≡ self.old.stopped }
     {
@@ -147,6 +166,7 @@ impl<L: Ledger> Held<L> {
         ensures submitted { OnOk result (seat.new ≡ submitted seat.old words) }
         ensures refused { IfErr result (RefusesSubmit self.old.shut self.old.stopped self.old.cluster.history seat.old words) }
         ensures unchanged { OnErr result (seat.new ≡ seat.old) }
+        ensures stays { OnErr result (StaysSo self.old.cluster self.new.cluster) }
         ensures shut { self.new.shut ≡ self.old.shut }
         ensures stopped { self.new.stopped ≡ self.old.stopped }
     {
@@ -206,9 +226,13 @@ impl<L: Ledger> Held<L> {
         ensures answered { IfOk result (λ answer. IfSome answer (λ a.
             Answers self.old.cluster.history seat.old (shown_outcome a) self.new.cluster.history seat.new)) }
         ensures words { IfOk result (λ answer. IfSome answer (λ a. a.words ≡ seat.old.words)) }
+        ensures none { IfOk result (λ answer. IfNone answer (IsLawful self.old.cluster.history
+            × IsNotThere self.old.cluster.history seat.old)) }
         ensures unasked { IfOk result (λ answer. IfNone answer (seat.new ≡ seat.old)) }
+        ensures still { IfOk result (λ answer. IfNone answer (StaysSo self.old.cluster self.new.cluster)) }
         ensures refused { IfErr result (RefusesCollect self.old.stopped self.old.cluster.history seat.old) }
         ensures unchanged { OnErr result (seat.new ≡ seat.old) }
+        ensures stays { OnErr result (StaysSo self.old.cluster self.new.cluster) }
         ensures shut { self.new.shut ≡ self.old.shut }
         ensures stopped { self.new.stopped ≡ self.old.stopped }
     {
@@ -238,9 +262,13 @@ impl<L: Ledger> Held<L> {
     pub fn collect_reply(&mut self, seat: &mut Seat<L>) -> Result<Option<SealedReply>, AskFault>
         ensures answered { IfOk result (λ reply. IfSome reply (λ r.
             Replies self.old.cluster.history seat.old (content r.reply) self.new.cluster.history seat.new)) }
+        ensures none { IfOk result (λ reply. IfNone reply (IsLawful self.old.cluster.history
+            × IsNotThere self.old.cluster.history seat.old)) }
         ensures unasked { IfOk result (λ reply. IfNone reply (seat.new ≡ seat.old)) }
+        ensures still { IfOk result (λ reply. IfNone reply (StaysSo self.old.cluster self.new.cluster)) }
         ensures refused { IfErr result (RefusesCollect self.old.stopped self.old.cluster.history seat.old) }
         ensures unchanged { OnErr result (seat.new ≡ seat.old) }
+        ensures stays { OnErr result (StaysSo self.old.cluster self.new.cluster) }
         ensures shut { self.new.shut ≡ self.old.shut }
         ensures stopped { self.new.stopped ≡ self.old.stopped }
     {
@@ -265,10 +293,20 @@ impl<L: Ledger> Held<L> {
         }
     }
 
+    /// Whether turns are made, and no outcome waits for the connection.
+    pub fn has_no_outcome(&self, conn: ConnId) -> bool
+        ensures { result ≡ true → IsLawful self.now.cluster.history × (waiting self.now.cluster.history.front.router conn.0 ≡ None) }
+    {
+        self.cluster.lawful();
+        !self.stopped && self.cluster.front().waits(conn).is_none()
+    }
+
     /// Takes the next layer, if a request is ready and none is out; else brings a packet to its group, if one is under way.
     pub fn turn<P: Pick>(&mut self, pick: &P) -> Result<Next, AskFault>
         ensures made { IfOk result (GoesOn (P.picks pick.now) self.old.cluster.history self.new.cluster.history) }
+        ensures lawful { OnOk result (IsLawful self.old.cluster.history) }
         ensures refused { IfErr result (RefusesTurn self.old.stopped self.old.cluster.history) }
+        ensures stays { OnErr result (StaysSo self.old.cluster self.new.cluster) }
         ensures shut { self.new.shut ≡ self.old.shut }
         ensures stopped { self.new.stopped ≡ self.old.stopped }
     {
@@ -293,7 +331,9 @@ impl<L: Ledger> Held<L> {
     fn take(&mut self) -> Result<Next, AskFault>
         requires { MayTake self.old.cluster.history }
         ensures made { IfOk result (Takes self.old.cluster.history self.new.cluster.history) }
+        ensures lawful { OnOk result (IsLawful self.old.cluster.history) }
         ensures refused { IfErr result (RefusesTurn self.old.stopped self.old.cluster.history) }
+        ensures stays { OnErr result (StaysSo self.old.cluster self.new.cluster) }
         ensures shut { self.new.shut ≡ self.old.shut }
         ensures stopped { self.new.stopped ≡ self.old.stopped }
     {
@@ -320,7 +360,9 @@ impl<L: Ledger> Held<L> {
     /// Brings a packet to its group, if one is under way.
     pub fn deliver<P: Pick>(&mut self, pick: &P) -> Result<Next, AskFault>
         ensures made { IfOk result (Carries (P.picks pick.now) self.old.cluster.history self.new.cluster.history) }
+        ensures lawful { OnOk result (IsLawful self.old.cluster.history) }
         ensures refused { IfErr result (RefusesTurn self.old.stopped self.old.cluster.history) }
+        ensures stays { OnErr result (StaysSo self.old.cluster self.new.cluster) }
         ensures shut { self.new.shut ≡ self.old.shut }
         ensures stopped { self.new.stopped ≡ self.old.stopped }
     {
@@ -348,7 +390,9 @@ impl<L: Ledger> Held<L> {
     /// Tells what came of the layer that is out. What isn't that stops all.
     pub fn settle(&mut self, done: Done) -> Result<(), Unsettled>
         ensures settled { OnOk result (IsSettled self.old.cluster.history done self.new.cluster.history) }
+        ensures lawful { IsLawful self.old.cluster.history }
         ensures refused { IfErr result (RefusesSettle self.old.cluster.history done) }
+        ensures stays { OnErr result (StaysSo self.old.cluster self.new.cluster) }
         ensures shut { self.new.shut ≡ self.old.shut }
         ensures stopped { OnOk result (self.new.stopped ≡ self.old.stopped) }
     {
@@ -460,16 +504,20 @@ impl<L: Ledger> Held<L> {
     /// What is told of the cluster when it is closed beside this store.
     pub fn close(&mut self, back: &Back) -> Result<Closing, CloseFault>
         ensures closed { IfOk result (Closes self.old.cluster back.now) }
-        ensures refused { IfErr result (RefusesClose self.old.stopped self.old.cluster back.now) }
+        ensures refused { IfErr result (λ fault. RefusesClose self.old.stopped self.old.cluster back.now fault.kind) }
         ensures same { self.new ≡ self.old }
     {
         if self.stopped || back.has_failed() {
-            return Err(CloseFault::Failed);
+            return Err(CloseFault {
+                kind: CloseKind::Failed,
+            });
         }
         self.cluster.lawful();
         match self.cluster.closing(back) {
             Ok(closing) => Ok(closing),
-            Err(fault) => Err(of_cluster(fault)),
+            Err(fault) => Err(CloseFault {
+                kind: of_cluster(fault),
+            }),
         }
     }
 

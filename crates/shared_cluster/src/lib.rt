@@ -11,7 +11,7 @@ mod shared;
 mod sight;
 
 pub use desk::{Desk, Turns};
-pub use fault::{AskStep, CloseFault, FaultKind};
-pub use held::{AskFault, AtRest};
+pub use fault::{AskStep, CloseKind, FaultKind};
+pub use held::{AskFault, AtRest, CloseFault};
 pub use shared::Shared;
 pub use sight::Sight;

@@ -21,19 +21,21 @@
 //! Each looks under the front's lock whether he has something to do before he goes to sleep, and each is woken after the change
 //! under that lock, so no call is missed.
 
-ghost use Rattle.std.specs.Prelude.{◌≡◌, ◌≤◌, ◌<◌, IfOk, IfErr, IfSome, IfNone, OnOk, OnErr};
+ghost use Rattle.std.specs.Prelude.{◌≡◌, ◌≤◌, ◌<◌, ◌⊎◌, true, IfOk, IfErr, IfSome, IfNone, OnOk, OnErr, OnSome};
 ghost use Rattle.cluster.specs.Answers.{shown_outcome};
 ghost use Rattle.resp.specs.Content.{content};
 ghost use Rattle.shared_cluster.specs.Asks.{submitted, IsNewSeat, IsAnswered, IsReplied, IsSitFault, IsSubmitFault};
 ghost use Rattle.shared_cluster.specs.Asks.{IsCollectFault, IsAskFault};
 ghost use Rattle.shared_cluster.specs.Asks.{IsStopped};
-ghost use Rattle.shared_cluster.specs.Closings.{IsClosed, IsCloseFault, IsWritten, IsSent, HasSubmitted, IsSeen};
+ghost use Rattle.shared_cluster.specs.Closings.{IsClosed, IsCloseFault, IsWritten, IsSent};
+ghost use Rattle.shared_cluster.specs.Hands.{IsFound, IsBrought, Begins, Brings, HasSettled, Settles, Advances, HasTurned};
+ghost use Rattle.shared_cluster.specs.Hands.{IsUncollected, LooksInVain};
 ghost use Rattle.shared_cluster.specs.declared.hand.Hand.{Hand};
 ghost use Rattle.journal.specs.declared.trace.TheConstants.{GREATEST_STEPS};
 
-use crate::fault::{CloseFault, FaultKind};
-use crate::hand::{Hand, Run, run_layer};
-use crate::held::{AskFault, AtRest, Held, Next, RESERVE, Unsettled};
+use crate::fault::FaultKind;
+use crate::hand::{Hand, Run, bring_to};
+use crate::held::{AskFault, AtRest, CloseFault, Held, Next, RESERVE, Unsettled};
 use crate::long_work::takes_long;
 use crate::sight::Sight;
 use back::Back;
@@ -271,16 +273,12 @@ impl<L: Ledger> Shared<L> {
     }
 
     /// How many requests were submitted so far.
-    pub fn requests<R: Wait>(&self, rt: &R) -> u64
-        ensures { HasSubmitted result }
-    {
+    pub fn requests<R: Wait>(&self, rt: &R) -> u64 {
         self.front.lock(rt).requests()
     }
 
     /// How far it is.
-    pub fn sight<R: Wait>(&self, rt: &R) -> Sight
-        ensures { IsSeen result }
-    {
+    pub fn sight<R: Wait>(&self, rt: &R) -> Sight {
         self.front.lock(rt).sight()
     }
 
@@ -388,29 +386,27 @@ impl<L: Ledger> Shared<L> {
         pause: &mut Pause,
     ) -> Result<Option<SealedReply>, AskFault>
         ensures replied { IfOk result (λ reply. IfSome reply (λ r. IsReplied seat.old (content r.reply) seat.new)) }
+        ensures free { IfOk result (λ reply. OnSome reply ((hand.old ≡ Hand.Free) × (hand.new ≡ Hand.Free))) }
         ensures unasked { IfOk result (λ reply. IfNone reply (seat.new ≡ seat.old)) }
+        ensures goes_on { IfOk result (λ reply. IfNone reply (LooksInVain seat.old hand.old hand.new ⊎ HasTurned hand.old hand.new)) }
         ensures refused { IfErr result (IsCollectFault seat.old) }
         ensures unchanged { OnErr result (seat.new ≡ seat.old) }
+        ensures let_go { OnErr result (hand.new ≡ Hand.Free) }
     {
-        if *may_wait && hand.is_free() {
+        if may_look(*may_wait, hand) {
             *may_wait = false;
             return self.look(rt, seat);
         }
         self.pass(rt, seat.conn(), hand);
-        match self.advance(rt, hand, &First, &InTurn(NonZeroUsize::MIN), &OpenGate) {
-            Ok(Turn::Quiet) => {
-                *may_wait = true;
-                self.wait_for_layer(rt, seat.conn());
-            }
-            Ok(Turn::Starved) => {
-                *may_wait = true;
-                self.let_others_pass(rt, seat.conn(), pause);
-            }
-            Ok(turn) => {
-                *may_wait = turn != Turn::Made { settled: false };
-                pause.end();
-            }
+        let turn = match self.advance(rt, hand, &First, &InTurn(NonZeroUsize::MIN), &OpenGate) {
+            Ok(turn) => turn,
             Err(fault) => return Err(fault),
+        };
+        *may_wait = turn != Turn::Made { settled: false };
+        match turn {
+            Turn::Made { .. } => pause.end(),
+            Turn::Starved => self.let_others_pass(rt, seat.conn(), pause),
+            Turn::Quiet => self.wait_for_layer(rt, seat.conn()),
         }
         Ok(None)
     }
@@ -418,12 +414,13 @@ impl<L: Ledger> Shared<L> {
     /// Collects what came of the seat's last request, if it is there.
     fn look<R: Wait>(&self, rt: &R, seat: &mut Seat<L>) -> Result<Option<SealedReply>, AskFault>
         ensures replied { IfOk result (λ reply. IfSome reply (λ r. IsReplied seat.old (content r.reply) seat.new)) }
+        ensures none { IfOk result (λ reply. IfNone reply (IsUncollected seat.old)) }
         ensures unasked { IfOk result (λ reply. IfNone reply (seat.new ≡ seat.old)) }
         ensures refused { IfErr result (IsCollectFault seat.old) }
         ensures unchanged { OnErr result (seat.new ≡ seat.old) }
     {
         let mut held = self.front.lock(rt);
-        if !held.stopped && held.cluster.front().waits(seat.conn()).is_none() {
+        if held.has_no_outcome(seat.conn()) {
             return Ok(None);
         }
         held.collect_reply(seat)
@@ -470,27 +467,39 @@ impl<L: Ledger> Shared<L> {
         gate: &(dyn Gate + Sync),
         pause: &mut Pause,
     ) -> Result<Option<AtRest>, AskFault>
-        ensures { IfErr result IsStopped }
+        ensures free { IfOk result (λ rest. OnSome rest ((hand.old ≡ Hand.Free) × (hand.new ≡ Hand.Free))) }
+        ensures goes_on { IfOk result (λ rest. IfNone rest (HasTurned hand.old hand.new)) }
+        ensures refused { IfErr result IsStopped }
+        ensures let_go { OnErr result (hand.new ≡ Hand.Free) }
     {
-        match self.advance(rt, hand, pick, workers, gate) {
-            Ok(Turn::Starved) => {
-                pause.sleep(rt);
-                return Ok(None);
-            }
-            Ok(Turn::Quiet) => {
-                let held = self.front.lock(rt);
-                if let Some(rest) = held.at_rest() {
-                    return Ok(Some(rest));
-                }
-                if !held.has_work() {
-                    drop(self.work.wait(rt, held));
-                }
-            }
-            Ok(Turn::Made { .. }) => {}
+        let turn = match self.advance(rt, hand, pick, workers, gate) {
+            Ok(turn) => turn,
             Err(fault) => return Err(fault),
+        };
+        match turn {
+            Turn::Made { .. } => {
+                pause.end();
+                Ok(None)
+            }
+            Turn::Starved => {
+                pause.sleep(rt);
+                Ok(None)
+            }
+            Turn::Quiet => {
+                pause.end();
+                Ok(self.rest_or_wait(rt))
+            }
         }
-        pause.end();
-        Ok(None)
+    }
+
+    /// Says that it was found at rest, if so; else waits for work, where there is none.
+    fn rest_or_wait<R: Wait>(&self, rt: &R) -> Option<AtRest> {
+        let held = self.front.lock(rt);
+        let rest = held.at_rest();
+        if rest.is_none() && !held.has_work() {
+            drop(self.work.wait(rt, held));
+        }
+        rest
     }
 
     /// Brings a packet to its group, or waits for one to be under way; or says that it was found at rest.
@@ -523,7 +532,8 @@ impl<L: Ledger> Shared<L> {
     }
 
     /// Makes the first of these that is there to be made, if one is: what came of the hand's layer is settled, the layer is run,
-    /// the next one is taken, a packet comes to its group. Where it is refused the hand is free.
+    /// the next one is taken, a packet comes to its group. What is in the hand stays there until it is settled; but where a turn
+    /// is refused the hand is free.
     fn advance<P: Pick, W: Workers, R: Wait>(
         &self,
         rt: &R,
@@ -532,6 +542,7 @@ impl<L: Ledger> Shared<L> {
         workers: &W,
         gate: &(dyn Gate + Sync),
     ) -> Result<Turn, AskFault>
+        ensures made { IfOk result (λ turn. Advances (P.picks pick.now) (W.may_refuse workers.now) hand.old turn hand.new) }
         ensures refused { IfErr result IsStopped }
         ensures free { OnErr result (hand.new ≡ Hand.Free) }
     {
@@ -544,31 +555,48 @@ impl<L: Ledger> Shared<L> {
 
     /// Tells what came of the layer, which stays in the hand where there is no memory for it.
     fn settle<R: Wait>(&self, rt: &R, hand: &mut Hand, done: Done) -> Result<Turn, AskFault>
+        ensures made { IfOk result (λ turn. Settles done hand.old turn hand.new) }
         ensures refused { IfErr result IsStopped }
         ensures free { OnErr result (hand.new ≡ hand.old) }
     {
         let mut held = self.front.lock(rt);
         // They come to the lock once it is let go.
         self.wake_outcomes(&done);
-        let done = match self.settle_once(&mut held, done) {
-            Ok(Some(done)) => done,
-            Ok(None) => return Ok(Turn::Made { settled: true }),
+        let left = match self.settle_or_retry(&mut held, done) {
+            Ok(left) => left,
             Err(fault) => return Err(fault),
         };
-        // What was kept back is there now.
-        match self.settle_once(&mut held, done) {
-            Ok(Some(done)) => {
+        match left {
+            Some(done) => {
                 *hand = Hand::HasRun(done);
                 Ok(Turn::Starved)
             }
-            Ok(None) => Ok(Turn::Made { settled: true }),
-            Err(fault) => Err(fault),
+            None => Ok(Turn::Made { settled: true }),
+        }
+    }
+
+    /// Tells what came of the layer. Where there is no memory for that it is tried once more, with what is kept back, and else given
+    /// back.
+    fn settle_or_retry(&self, held: &mut Held<L>, done: Done) -> Result<Option<Done>, AskFault>
+        ensures settled { IfOk result (λ left. IfNone left (HasSettled done)) }
+        ensures given { IfOk result (λ left. IfSome left (λ given. given ≡ done)) }
+        ensures refused { IfErr result IsStopped }
+    {
+        let left = match self.settle_once(held, done) {
+            Ok(left) => left,
+            Err(fault) => return Err(fault),
+        };
+        match left {
+            Some(done) => self.settle_once(held, done),
+            None => Ok(None),
         }
     }
 
     /// Tells what came of the layer, and wakes who may bring on what is ready then; or gives it back where there is no memory.
     fn settle_once(&self, held: &mut Held<L>, done: Done) -> Result<Option<Done>, AskFault>
-        ensures { IfErr result IsStopped }
+        ensures settled { IfOk result (λ left. IfNone left (HasSettled done)) }
+        ensures given { IfOk result (λ left. IfSome left (λ given. given ≡ done)) }
+        ensures refused { IfErr result IsStopped }
     {
         let unsettled = match held.settle(done) {
             Ok(()) => {
@@ -584,8 +612,7 @@ impl<L: Ledger> Shared<L> {
         Ok(Some(done))
     }
 
-    /// Runs the layer, under the store's lock alone. Where there is no memory for that it is tried once more, with what is kept
-    /// back; and where there is none then, the layer stays in the hand.
+    /// Runs the layer, and has what came of it in the hand. Where there is no memory for that, the layer stays there.
     fn run<W: Workers, R: Wait>(
         &self,
         rt: &R,
@@ -594,13 +621,11 @@ impl<L: Ledger> Shared<L> {
         workers: &W,
         gate: &(dyn Gate + Sync),
     ) -> Result<Turn, AskFault>
+        ensures made { IfOk result (λ turn. Brings (W.may_refuse workers.now) layer turn hand.new) }
         ensures refused { IfErr result IsStopped }
         ensures free { OnErr result (hand.new ≡ hand.old) }
     {
-        let run = match self.run_in_store(rt, layer, workers, gate) {
-            Run::Starved(layer) => self.run_in_store(rt, layer, workers, gate),
-            run => run,
-        };
+        let run = self.run_or_retry(rt, layer, workers, gate);
         match run {
             Run::Handed(done) => {
                 *hand = Hand::HasRun(done);
@@ -614,6 +639,23 @@ impl<L: Ledger> Shared<L> {
         }
     }
 
+    /// Runs the layer. Where there is no memory for that it is tried once more, with what is kept back.
+    fn run_or_retry<W: Workers, R: Wait>(
+        &self,
+        rt: &R,
+        layer: Layer,
+        workers: &W,
+        gate: &(dyn Gate + Sync),
+    ) -> Run
+        ensures { IsBrought (W.may_refuse workers.now) layer result }
+    {
+        let run = self.run_in_store(rt, layer, workers, gate);
+        match run {
+            Run::Starved(layer) => self.run_in_store(rt, layer, workers, gate),
+            run => run,
+        }
+    }
+
     /// Runs the layer, under the store's lock alone, and takes the room for the rows of those behind it. Where there is no memory
     /// for the one, what is kept back is let go; and where there is none for the other, no one submits before there is some.
     fn run_in_store<W: Workers, R: Wait>(
@@ -622,9 +664,11 @@ impl<L: Ledger> Shared<L> {
         layer: Layer,
         workers: &W,
         gate: &(dyn Gate + Sync),
-    ) -> Run {
+    ) -> Run
+        ensures { IsBrought (W.may_refuse workers.now) layer result }
+    {
         let mut back = self.back.lock(rt);
-        let run = run_layer(&mut back, layer, workers, gate);
+        let run = bring_to(&mut back, layer, workers, gate);
         let has_room = back.take_room_ahead().is_ok();
         drop(back);
         if !has_room {
@@ -636,26 +680,41 @@ impl<L: Ledger> Shared<L> {
         run
     }
 
-    /// Takes the next layer into the hand, which is free; else brings a packet to its group. Where there is no memory for that it is
-    /// tried once more, with what is kept back.
+    /// Takes the next layer into the hand, which is free; else brings a packet to its group.
     fn begin<P: Pick, R: Wait>(&self, rt: &R, hand: &mut Hand, pick: &P) -> Result<Turn, AskFault>
+        ensures made { IfOk result (λ turn. Begins (P.picks pick.now) hand.old turn hand.new) }
         ensures refused { IfErr result IsStopped }
         ensures free { OnErr result (hand.new ≡ hand.old) }
     {
-        let mut held = self.front.lock(rt);
-        let next = match held.turn(pick) {
-            Ok(Next::Starved) => held.turn(pick),
-            next => next,
+        let found = match self.turn_or_retry(rt, pick) {
+            Ok(found) => found,
+            Err(fault) => return Err(fault),
         };
-        match next {
-            Ok(Next::Taken(layer)) => {
+        match found {
+            Next::Taken(layer) => {
                 *hand = Hand::Taken(layer);
                 Ok(Turn::Made { settled: false })
             }
-            Ok(Next::Delivered) => Ok(Turn::Made { settled: false }),
-            Ok(Next::Starved) => Ok(Turn::Starved),
-            Ok(Next::Quiet) => Ok(Turn::Quiet),
-            Err(fault) => Err(fault),
+            Next::Delivered => Ok(Turn::Made { settled: false }),
+            Next::Starved => Ok(Turn::Starved),
+            Next::Quiet => Ok(Turn::Quiet),
+        }
+    }
+
+    /// Takes the next layer, or brings a packet to its group. Where there is no memory for that it is tried once more, with what is
+    /// kept back.
+    fn turn_or_retry<P: Pick, R: Wait>(&self, rt: &R, pick: &P) -> Result<Next, AskFault>
+        ensures made { IfOk result (IsFound (P.picks pick.now)) }
+        ensures refused { IfErr result IsStopped }
+    {
+        let mut held = self.front.lock(rt);
+        let found = match turn_once(&mut held, pick) {
+            Ok(found) => found,
+            Err(fault) => return Err(fault),
+        };
+        match found {
+            Next::Starved => turn_once(&mut held, pick),
+            found => Ok(found),
         }
     }
 
@@ -708,4 +767,19 @@ impl<L: Ledger> Shared<L> {
         self.done.wake_all();
         self.idle.wake_all();
     }
+}
+
+/// Whether it may be looked for what came of a seat's request: it may wait, and nothing is in the hand.
+fn may_look(may_wait: bool, hand: &Hand) -> bool
+    ensures { result ≡ true → hand.now ≡ Hand.Free }
+{
+    may_wait && hand.is_free()
+}
+
+/// Takes the next layer, or brings a packet to its group.
+fn turn_once<L: Ledger, P: Pick>(held: &mut Held<L>, pick: &P) -> Result<Next, AskFault>
+    ensures made { IfOk result (IsFound (P.picks pick.now)) }
+    ensures refused { IfErr result IsStopped }
+{
+    held.turn(pick)
 }

@@ -1,4 +1,7 @@
+use Rattle.std.proofs.Common.{sym, ◌∙◌, inl, inr}
+use Rattle.cluster.specs.Clusters.{IsCollectFault}
 use Rattle.shared_cluster.proofs.Collecting.{answered_of}
+use Rattle.shared_cluster.proofs.Refusals.{untold}
 use Rattle.shared_cluster.proofs.held.Held.collect.Goals as goal
 
 pub returns-in-Ok-Some-clause-answered : goal.returns-in-Ok-Some-clause-answered
@@ -10,3 +13,13 @@ returns-in-Ok-Some-clause-answered g c =
     (answered_of c.args.self.now.cluster.history c.collect.new.self.history c.args.seat.now c.collect.new.seat arm.answer
     (rw is at told.collected) (rw is at told.id) (rw is at told.words) (rw is at told.from) (rw is at told.above) (rw is at told.seat)
     c.lawful-in-Ok-Some.ensures.lawful)
+
+pub returns-in-Ok-None-clause-none : goal.returns-in-Ok-None-clause-none
+returns-in-Ok-None-clause-none g c = (c.lawful.ensures.lawful, inl (rw c.in-Ok-None.field-0-is at c.in-Ok-None.ensures.none))
+
+pub returns-in-None-clause-none : goal.returns-in-None-clause-none
+returns-in-None-clause-none g c = (
+  c.lawful.ensures.lawful,
+  inr (untold (IsCollectFault c.args.self.now.cluster.history c.args.seat.now) c.in-Err.fault (sym c.lasting.ensures ∙ c.in-None.is)
+      c.in-Err.ensures.refused),
+)

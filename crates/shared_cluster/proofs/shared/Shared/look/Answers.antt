@@ -1,4 +1,5 @@
 use Rattle.shared_cluster.proofs.Collecting.{found_replied}
+use Rattle.shared_cluster.proofs.Hands.{nothing_there, found_uncollected}
 use Rattle.shared_cluster.proofs.Refusals.{found_collect}
 use Rattle.shared_cluster.proofs.shared.Shared.look.Goals as goal
 
@@ -11,3 +12,13 @@ pub returns-clause-refused : goal.returns-clause-refused
 returns-clause-refused g c =
     let held = c.deref_mut.result.now in
     found_collect c.collect_reply.result held.stopped held.cluster.history c.args.seat.now c.collect_reply.ensures.refused
+
+pub returns-clause-none : goal.returns-clause-none
+returns-clause-none g c =
+    found_uncollected c.deref_mut.result.now.cluster c.collect_reply.new.self.cluster c.args.seat.now c.collect_reply.result
+    c.collect_reply.ensures.none c.collect_reply.ensures.still
+
+pub returns-then-has_no_outcome-clause-none : goal.returns-then-has_no_outcome-clause-none
+returns-then-has_no_outcome-clause-none g c =
+    nothing_there c.deref.result.now.cluster c.args.seat.now c.conn.result c.conn.ensures
+    (c.has_no_outcome.ensures c.if-has_no_outcome.true)

@@ -1,0 +1,175 @@
+-- What is in a hand behind a turn, and what came of a seat's request.
+use Rattle.std.proofs.Common.{◌≡◌, ◌∙◌, ℕ, Bool, true, false, List, Option, Some, None, Result, Ok, Err, inl, inr, refl, sym, subst}
+use Rattle.std.proofs.Common.{◌⊎◌, IfOk, IfSome, IfNone, OnOk, OnErr}
+use Rattle.cluster.specs.Clusters.{SeatView, ClusterView, SameBook}
+use Rattle.cluster.specs.Histories.{HistoryView, IsLawful, IsUnchanged}
+use Rattle.groups.specs.declared.request.ConnId.{ConnId}
+use Rattle.layer_planner.specs.declared.job.Job.{Job}
+use Rattle.layer_results.specs.declared.done.DoneRow.{DoneRow}
+use Rattle.router.specs.Router.{waiting}
+use Rattle.shared_cluster.specs.Hands.{IsFound, taken_up, turn_of, Begins, IsBrought, Brings, HasSettled, Settles, Advances, HasTurned}
+use Rattle.shared_cluster.specs.Hands.{IsUncollected, LooksInVain}
+use Rattle.shared_cluster.specs.Turning.{GoesOn, RefusesSettle, StaysSo, IsNotThere}
+use Rattle.shared_cluster.specs.declared.hand.Hand.{Hand}
+use Rattle.shared_cluster.specs.declared.hand.Hand.TheVariants as hand
+use Rattle.shared_cluster.specs.declared.hand.Run.{Run}
+use Rattle.shared_cluster.specs.declared.hand.Run.TheVariants as run
+use Rattle.shared_cluster.specs.declared.held.Next.{Next}
+use Rattle.shared_cluster.specs.declared.held.Next.TheVariants as next
+use Rattle.shared_cluster.specs.declared.held.Unsettled.{Unsettled}
+use Rattle.shared_cluster.specs.declared.held.Unsettled.TheVariants.{Starved, Foreign}
+use Rattle.shared_cluster.specs.declared.shared.Turn.{Turn}
+use Rattle.shared_cluster.specs.declared.shared.Turn.TheVariants as turn
+
+-- ---- a hand that is free begins
+
+pub found_so : {E : Type 0} (pick : ℕ → ℕ) (before after : HistoryView) (r : Result Next E) → OnOk r (IsLawful before)
+    → IfOk r (GoesOn pick before after) → IfOk r (IsFound pick)
+found_so pick before after (Ok found) lawful goes = record { before = before; after = after; lawful = lawful; goes_on = goes }
+found_so pick before after (Err fault) lawful goes = tt
+
+pub begins_so : (pick : ℕ → ℕ) (old : Hand) (found which : Next) → IsFound pick found → found ≡ which
+    → Begins pick old (turn_of which) (taken_up old which)
+begins_so pick old found which was is = record { found = which; was = subst (IsFound pick) is was; told = refl; holds = refl }
+
+-- ---- a layer is in the hand
+
+-- a layer that found no memory is given back, so who runs it again runs the same
+pub brought_again : (may_refuse : Bool) (layer given : List Job) (first came : Run) → IsBrought may_refuse layer first
+    → first ≡ run.Starved given → IsBrought may_refuse given came → IsBrought may_refuse layer came
+brought_again may_refuse layer given first came brought is again =
+    let back : IsBrought may_refuse layer (run.Starved given) = subst (IsBrought may_refuse layer) is brought in
+    subst (λ (l : List Job). IsBrought may_refuse l came) back.brings_on.4 again
+
+pub brings_done : (may_refuse : Bool) (layer : List Job) (came : Run) (done : List DoneRow) → IsBrought may_refuse layer came
+    → came ≡ run.Handed done → Brings may_refuse layer (turn.Made false) (hand.HasRun done)
+brings_done may_refuse layer came done brought is = (refl, subst (IsBrought may_refuse layer) is brought)
+
+pub brings_back : (may_refuse : Bool) (layer given : List Job) (came : Run) → IsBrought may_refuse layer came
+    → came ≡ run.Starved given → Brings may_refuse layer turn.Starved (hand.Taken given)
+brings_back may_refuse layer given came brought is =
+    let back : IsBrought may_refuse layer (run.Starved given) = subst (IsBrought may_refuse layer) is brought in
+    (refl, back.brings_on.4)
+
+-- ---- what came of a layer is in the hand
+
+-- what isn't settled is given back
+pub given_back : (h : HistoryView) (done given : List DoneRow) (u : Unsettled) → RefusesSettle h done u → u ≡ Starved given → given ≡ done
+given_back h done given (Starved other) refused is = let same : other ≡ given = cc in sym same ∙ refused.0
+given_back h done given (Foreign why) refused is = cc
+
+-- what was left of a settling that gives back what it was given
+pub given_left : (done given : List DoneRow) (left : Option (List DoneRow)) → IfSome left (λ other. other ≡ done) → left ≡ Some given
+    → given ≡ done
+given_left done given left same is = subst (λ (l : Option (List DoneRow)). IfSome l (λ other. other ≡ done)) is same
+
+pub settled_none : (done : List DoneRow) (left : Option (List DoneRow)) → IfNone left (HasSettled done) → left ≡ None → HasSettled done
+settled_none done left settled is = subst (λ (l : Option (List DoneRow)). IfNone l (HasSettled done)) is settled
+
+pub settled_again : {E : Type 0} (done given : List DoneRow) (r : Result (Option (List DoneRow)) E) → given ≡ done
+    → IfOk r (λ left. IfNone left (HasSettled given)) → IfOk r (λ left. IfNone left (HasSettled done))
+settled_again done given r same settled = subst (λ (d : List DoneRow). IfOk r (λ left. IfNone left (HasSettled d))) same settled
+
+pub given_again : {E : Type 0} (done given : List DoneRow) (r : Result (Option (List DoneRow)) E) → given ≡ done
+    → IfOk r (λ left. IfSome left (λ other. other ≡ given)) → IfOk r (λ left. IfSome left (λ other. other ≡ done))
+given_again done given r same back = subst (λ (d : List DoneRow). IfOk r (λ left. IfSome left (λ other. other ≡ d))) same back
+
+-- ---- any hand
+
+pub advances_free : {E : Type 0} (pick : ℕ → ℕ) (may_refuse : Bool) (old mid new : Hand) (r : Result Turn E) → old ≡ hand.Free
+    → mid ≡ hand.Free → IfOk r (λ which. Begins pick mid which new) → IfOk r (λ which. Advances pick may_refuse old which new)
+advances_free pick may_refuse old mid new (Ok which) is free begins =
+    subst (λ (o : Hand). Advances pick may_refuse o which new) (sym is) (subst (λ (m : Hand). Begins pick m which new) free begins)
+advances_free pick may_refuse old mid new (Err fault) is free begins = tt
+
+pub advances_taken : {E : Type 0} (pick : ℕ → ℕ) (may_refuse : Bool) (old new : Hand) (layer : List Job) (r : Result Turn E)
+    → old ≡ hand.Taken layer → IfOk r (λ which. Brings may_refuse layer which new)
+    → IfOk r (λ which. Advances pick may_refuse old which new)
+advances_taken pick may_refuse old new layer (Ok which) is brings =
+    subst (λ (o : Hand). Advances pick may_refuse o which new) (sym is) brings
+advances_taken pick may_refuse old new layer (Err fault) is brings = tt
+
+pub advances_run : {E : Type 0} (pick : ℕ → ℕ) (may_refuse : Bool) (old mid new : Hand) (done : List DoneRow) (r : Result Turn E)
+    → old ≡ hand.HasRun done → mid ≡ hand.Free → IfOk r (λ which. Settles done mid which new)
+    → IfOk r (λ which. Advances pick may_refuse old which new)
+advances_run pick may_refuse old mid new done (Ok which) is free settles =
+    subst (λ (o : Hand). Advances pick may_refuse o which new) (sym is) (subst (λ (m : Hand). Settles done m which new) free settles)
+advances_run pick may_refuse old mid new done (Err fault) is free settles = tt
+
+-- there is nothing to do only for a hand that is free, and it stays so
+idle_so : (found : Next) (new : Hand) → turn.Quiet ≡ turn_of found → new ≡ taken_up hand.Free found → new ≡ hand.Free
+idle_so (next.Taken layer) new is same = cc
+idle_so next.Delivered new is same = cc
+idle_so next.Starved new is same = cc
+idle_so next.Quiet new is same = same
+
+quiet_is_free : (pick : ℕ → ℕ) (may_refuse : Bool) (old new : Hand) → Advances pick may_refuse old turn.Quiet new
+    → (old ≡ hand.Free) × (new ≡ hand.Free)
+quiet_is_free pick may_refuse hand.Free new turns = (refl, idle_so turns.found new turns.told turns.holds)
+quiet_is_free pick may_refuse (hand.Taken layer) hand.Free turns = absurd turns
+quiet_is_free pick may_refuse (hand.Taken layer) (hand.Taken given) turns = absurd (let other = turns.0 in cc)
+quiet_is_free pick may_refuse (hand.Taken layer) (hand.HasRun done) turns = absurd (let other = turns.0 in cc)
+quiet_is_free pick may_refuse (hand.HasRun done) new turns = absurd turns
+
+pub idle_is_free : (pick : ℕ → ℕ) (may_refuse : Bool) (old new : Hand) (which : Turn) → Advances pick may_refuse old which new
+    → which ≡ turn.Quiet → (old ≡ hand.Free) × (new ≡ hand.Free)
+idle_is_free pick may_refuse old new which turns is =
+    quiet_is_free pick may_refuse old new (subst (λ (t : Turn). Advances pick may_refuse old t new) is turns)
+
+-- ---- what came of a seat's request
+
+-- nothing has changed
+pub stays_so : (k : ClusterView) → StaysSo k k
+stays_so k = record {
+  history = record { front = refl; max_steps = refl; steps = refl };
+  book = record { book = refl; back = refl; stood = refl };
+  sat = refl;
+}
+
+pub stays_by : (old new : ClusterView) → new ≡ old → StaysSo old new
+stays_by old new same = subst (StaysSo old) (sym same) (stays_so old)
+
+pub nothing_there : (k : ClusterView) (s : SeatView) (conn : ConnId) → conn ≡ s.conn
+    → IsLawful k.history × (waiting k.history.front.router conn.0 ≡ None) → IsUncollected s
+nothing_there k s conn is none = record {
+  before = k;
+  after = k;
+  lawful = none.0;
+  none = inl (subst (λ (c : ConnId). waiting k.history.front.router c.0 ≡ None) is none.1);
+  stays = stays_so k;
+}
+
+pub found_uncollected : {X E : Type 0} (old new : ClusterView) (s : SeatView) (r : Result (Option X) E)
+    → IfOk r (λ reply. IfNone reply (IsLawful old.history × IsNotThere old.history s))
+    → IfOk r (λ reply. IfNone reply (StaysSo old new)) → IfOk r (λ reply. IfNone reply (IsUncollected s))
+found_uncollected old new s (Ok (Some x)) none same = tt
+found_uncollected old new s (Ok None) none same =
+    record { before = old; after = new; lawful = none.0; none = none.1; stays = same }
+found_uncollected old new s (Err fault) none same = tt
+
+-- a hand that is free is so behind a look, which changes none
+pub free_both : {X E : Type 0} (h : Hand) (r : Result (Option X) E) → h ≡ hand.Free
+    → IfOk r (λ reply. IfSome reply (λ x. (h ≡ hand.Free) × (h ≡ hand.Free)))
+free_both h (Ok (Some x)) free = (free, free)
+free_both h (Ok None) free = tt
+free_both h (Err fault) free = tt
+
+pub looked_in_vain : {X E : Type 0} (h : Hand) (s : SeatView) (r : Result (Option X) E) → IfOk r (λ reply. IfNone reply (IsUncollected s))
+    → IfOk r (λ reply. IfNone reply (LooksInVain s h h ⊎ HasTurned h h))
+looked_in_vain h s (Ok (Some x)) none = tt
+looked_in_vain h s (Ok None) none = inl (none, refl)
+looked_in_vain h s (Err fault) none = tt
+
+-- ---- what holds whatever is answered
+
+pub on_err : {X E P : Type 0} (r : Result X E) → P → OnErr r P
+on_err (Ok x) holds = tt
+on_err (Err fault) holds = holds
+
+pub if_some : {X P : Type 0} (o : Option X) → P → IfSome o (λ x. P)
+if_some (Some x) holds = holds
+if_some None holds = tt
+
+pub if_none : {X P : Type 0} (o : Option X) → P → IfNone o P
+if_none (Some x) holds = tt
+if_none None holds = holds
