@@ -1,1 +1,2 @@
+pub mod Hasher
 pub mod Places

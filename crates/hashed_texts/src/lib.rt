@@ -1,8 +1,9 @@
 //! Byte strings as the keys of hashed tables, handed to the hasher in one write.
 //!
 //! A `Vec<u8>` is hashed byte by byte, which for long keys costs more than all the rest of a look-up. `keyspace` keeps
-//! its keys as these, and a hash of `values` its fields; both look them up by borrowed bytes. A short key lies inside the
-//! table's entry, so that a look-up reads no memory behind it.
+//! its keys as these, and `values` the fields of a hash and the members of a set; both look them up by borrowed bytes. A
+//! short key lies inside the table's entry, so that a look-up reads no memory behind it. `TextHasher` says whether the
+//! seed is fixed or drawn at random.
 #![tactic(auto)]
 
 ghost use Rattle.std.specs.Prelude.{◌≡◌, [], ◌∷◌, Some};
@@ -12,6 +13,9 @@ ghost use Rattle.std.specs.Cmp.Lexicographic.{bytes_decides, nat_list_cmp_total,
 ghost use Rattle.std.specs.Ordering.{nat_cmp};
 ghost use Rattle.std.specs.Str.{bytes_eq};
 
+mod hasher;
+
+pub use hasher::{TextHash, TextHasher};
 use indexmap::Equivalent;
 use std::cmp::Ordering;
 use std::hash::{Hash, Hasher};

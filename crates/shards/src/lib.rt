@@ -5,10 +5,8 @@
 //! table's word.
 #![tactic(auto)]
 
-mod hasher;
 mod shard;
 mod span;
 
-pub use hasher::{KeyHasher, ShardHasher};
 pub use shard::Shard;
 pub use span::{Span, SpanFrame};
