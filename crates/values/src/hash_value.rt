@@ -11,6 +11,7 @@ ghost use Rattle.values.specs.ListValue.{nonempty};
 
 use crate::items::{Items, Rest};
 use crate::pair_table::{PairTable, insert, insert_each, look_up, remove_each};
+use hashed_texts::TextHasher;
 use indexmap::IndexMap;
 use std::alloc::{AllocError, Global};
 use std::marker::Model;
@@ -39,15 +40,21 @@ impl Model for HashValue {
 }
 
 impl HashValue {
-    /// The hash that these pairs make, one after another, of no hash; `None` where there are none.
+    /// The hash that these pairs make, one after another, of no hash; `None` where there are none. It hashes its fields
+    /// by `hasher`, whatever is done to it later.
     ///
     /// `AllocError` where there is no memory for it.
     #[tactic(auto, using(crate::proofs::PairsSeen::seen))]
-    pub fn from_pairs(alloc: Global, pairs: Pairs) -> Result<Option<Self>, AllocError>
+    pub fn from_pairs(
+        alloc: Global,
+        hasher: TextHasher,
+        pairs: Pairs,
+    ) -> Result<Option<Self>, AllocError>
         ensures { IfOk result (λ hash. hash ≡ nonempty (with_fields [] pairs)) }
     {
         let turns = pairs.into_turns();
-        let mut table: PairTable = IndexMap::with_capacity(alloc, turns.len() / 2)?;
+        let room = turns.len() / 2;
+        let mut table: PairTable = IndexMap::with_capacity_and_hasher(alloc, room, hasher)?;
         insert_each(&mut table, turns);
         let Ok(pairs) = Box::new(alloc, table) else {
             return Err(AllocError);

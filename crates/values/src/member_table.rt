@@ -9,16 +9,15 @@ ghost use Rattle.texts.specs.Texts.{texts_of};
 ghost use Rattle.values.specs.SetValue.{IsAscending, is_above, is_below, is_member, members_after, members_seen};
 ghost use Rattle.values.specs.SetValue.{with_member, without_member, with_members, without_members};
 
-use hashed_texts::{HashedSlice, HashedText};
+use hashed_texts::{HashedSlice, HashedText, TextHasher};
 use indexmap::IndexSet;
 use std::alloc::{AllocError, Global};
-use std::hash::{BuildHasherDefault, FoldHasher};
 
 /// The room that a table keeps, however few members are left.
 const KEPT_ROOM: usize = 64;
 
-/// Members in one hashed table, in any order. Its seed is fixed.
-pub(crate) type MemberTable = IndexSet<HashedText, BuildHasherDefault<FoldHasher>>;
+/// Members in one hashed table, in any order. It keeps the hasher that it was made with.
+pub(crate) type MemberTable = IndexSet<HashedText, TextHasher>;
 
 /// Whether this is a member.
 pub(crate) fn contains(there: &MemberTable, member: &[u8]) -> bool

@@ -10,14 +10,13 @@ ghost use Rattle.values.specs.HashValue.{pairs_seen, field_value, with_field, wi
 ghost use Rattle.values.specs.SetValue.{is_member, members_seen};
 
 use crate::member_table::{self, MemberTable};
-use hashed_texts::{HashedSlice, HashedText};
+use hashed_texts::{HashedSlice, HashedText, TextHasher};
 use indexmap::IndexMap;
 use std::alloc::AllocError;
-use std::hash::{BuildHasherDefault, FoldHasher};
 use texts::Text;
 
-/// Fields and their values in one hashed table, in order of insertion. Its seed is fixed.
-pub(crate) type PairTable = IndexMap<HashedText, Vec<u8>, BuildHasherDefault<FoldHasher>>;
+/// Fields and their values in one hashed table, in order of insertion. It keeps the hasher that it was made with.
+pub(crate) type PairTable = IndexMap<HashedText, Vec<u8>, TextHasher>;
 
 /// So many fields are removed one after another, each by a walk over the pairs after it.
 const FEW_FIELDS: usize = 8;
@@ -120,7 +119,8 @@ pub(crate) fn remove_each(pairs: &mut PairTable, fields: Vec<Vec<u8>>)
     ensures bound { index_map_len pairs.new ≤ index_map_len pairs.old }
 {
     if fields.len() > FEW_FIELDS && pairs.len() > FEW_FIELDS {
-        let table = MemberTable::with_capacity(*fields.allocator(), fields.len());
+        let (alloc, hasher) = (*fields.allocator(), *pairs.hasher());
+        let table = MemberTable::with_capacity_and_hasher(alloc, fields.len(), hasher);
         if let Ok(mut gone) = table {
             member_table::insert_each(&mut gone, fields);
             return keep_others(pairs, &gone);

@@ -10,6 +10,7 @@ use crate::items::{Items, LeastMembers, Rest};
 use crate::member_table::{
     MemberTable, ascending, contains, give_back, insert, insert_each, order, remove, remove_each,
 };
+use hashed_texts::TextHasher;
 use indexmap::IndexSet;
 use std::alloc::{AllocError, Global};
 use std::marker::Model;
@@ -42,16 +43,21 @@ impl Model for SetValue {
 
 impl SetValue {
     /// The set of these members, which may come in any order and more than once; `None` where there are none. No string
-    /// is copied.
+    /// is copied. It hashes its members by `hasher`, whatever is done to it later.
     ///
     /// `AllocError` where there is no memory for it.
     #[tactic(auto, using(crate::proofs::MembersSeen::members))]
-    pub fn from_members(alloc: Global, members: Texts) -> Result<Option<Self>, AllocError>
+    pub fn from_members(
+        alloc: Global,
+        hasher: TextHasher,
+        members: Texts,
+    ) -> Result<Option<Self>, AllocError>
         ensures made { IfOk result (λ set. set ≡ nonempty (with_members [] members)) }
         ensures ascending { IsAscending members → IfOk result (λ set. set ≡ nonempty members) }
     {
         let members = members.into_vec();
-        let mut table: MemberTable = IndexSet::with_capacity(alloc, members.len())?;
+        let room = members.len();
+        let mut table: MemberTable = IndexSet::with_capacity_and_hasher(alloc, room, hasher)?;
         insert_each(&mut table, members);
         let Ok(members) = Box::new(alloc, table) else {
             return Err(AllocError);
