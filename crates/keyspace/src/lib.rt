@@ -14,6 +14,7 @@ ghost use Rattle.std.specs.Option.{option_copied, option_copied_mut};
 ghost use Rattle.keyspace.specs.Lends.{lends_value};
 ghost use Rattle.keyspace.specs.Map.{Map, set};
 
+use hashed_texts::TextHasher;
 pub use listed::Listed;
 pub use plain::Plain;
 use values::Value;
@@ -74,6 +75,10 @@ pub trait Keyspace {
     /// The number of keys, or 9223372036854775807 where there are more.
     fn size(&self) -> i64
         ensures { result ≡ pos (min (map.len (contents self.now)) 9223372036854775807) };
+
+    /// By what the values hash their members and fields that are made for this keyspace. No contract speaks of it, since
+    /// no value shows by what it hashes.
+    fn hasher(&self) -> TextHasher;
 
     /// Removes all keys.
     fn clear(&mut self)

@@ -4,7 +4,7 @@ ghost use Rattle.std.specs.Prelude.{◌≡◌, ◌≤◌};
 ghost use Rattle.std.specs.FinMap as map;
 
 use crate::{Keyspace, Listed};
-use hashed_texts::{HashedSlice, HashedText};
+use hashed_texts::{HashedSlice, HashedText, TextHasher};
 use indexmap::IndexMap;
 use std::alloc::Global;
 use std::hash::BuildHasher;
@@ -21,15 +21,17 @@ const KEPT_ROOM: usize = 1024;
 #[derive(Drop)]
 pub struct Plain<S: BuildHasher> {
     entries: IndexMap<HashedText, Value, S>,
+    of_values: TextHasher,
 }
 
 impl<S: BuildHasher> Plain<S> {
-    /// No keys. It takes no memory.
-    pub fn new(alloc: Global, hasher: S) -> Self
+    /// No keys. It takes no memory. Keys are hashed by `hasher`, members and fields of their values by `of_values`.
+    pub fn new(alloc: Global, hasher: S, of_values: TextHasher) -> Self
         ensures { ⟦<Plain<S> as Keyspace>⟧.contents result ≡ map.empty }
     {
         Plain {
             entries: IndexMap::with_hasher(alloc, hasher),
+            of_values,
         }
     }
 
@@ -98,6 +100,10 @@ impl<S: BuildHasher> Keyspace for Plain<S> {
 
     fn size(&self) -> i64 {
         self.entries.len() as i64
+    }
+
+    fn hasher(&self) -> TextHasher {
+        self.of_values
     }
 
     fn clear(&mut self) {
