@@ -5,6 +5,7 @@ use Rattle.std.proofs.lemmas.Grind.{flat_map-append}
 use Rattle.std.specs.FinMap.{empty}
 use Rattle.execution_order.specs.Entries.{Row, deeds_of, entries_of, replies_of}
 use Rattle.execution_order.specs.Rows.{IsOneThread}
+use Rattle.execution_order.specs.Serial.{all_rows, all_starved}
 use Rattle.groups.proofs.Lists.{In-right}
 use Rattle.groups.specs.Order.{In}
 use Rattle.groups.specs.Skips.{names_whole, parts_of}
@@ -15,7 +16,6 @@ use Rattle.keyspace.specs.Map.{Map}
 use Rattle.order_laws.proofs.Layers.{layers_are_in_turn}
 use Rattle.order_laws.proofs.Yielding.{leads_of, same_yield}
 use Rattle.order_laws.specs.Layers.{Yields, run_by, all_of}
-use Rattle.order_laws.specs.Serial.{all_rows, all_starved}
 use Rattle.order_laws.specs.Truth.{ran_as, RowsAreOfRuns, SerialIsTrue}
 use Rattle.placement.specs.Layout.{Layout}
 use Rattle.resp.specs.Content.{Content}

@@ -1,5 +1,4 @@
 pub mod Layers
 pub mod Takes
 pub mod Runs
-pub mod Serial
 pub mod Truth

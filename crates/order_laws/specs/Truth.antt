@@ -1,10 +1,10 @@
 -- What came of a history's layers, beside the layers as a store has run them.
 use Rattle.std.specs.Prelude.{◌≡◌, List, [], ◌∷◌, ◌++◌, map, Some}
+use Rattle.execution_order.specs.Serial.{RanLayer, all_rows, all_starved, IsSerial}
 use Rattle.groups.specs.Order.{In}
 use Rattle.journal.specs.declared.step.Step.{Step}
 use Rattle.journal.specs.declared.step.Step.TheVariants.{Run}
 use Rattle.order_laws.specs.Layers.{Yields, run_by}
-use Rattle.order_laws.specs.Serial.{RanLayer, all_rows, all_starved, IsSerial}
 use Rattle.placement.specs.Layout.{Layout}
 use Rattle.skeen_core.specs.declared.packet.Delivered.{Delivered}
 use Rattle.world.specs.Steps.{opening, Ran, starved_among, after_all, Steps}
