@@ -3,8 +3,8 @@
 
 PROGRAMS is the folder crates/ of this repository with the programs as the gate leaves them. One connection asks 1,200,000 small requests,
 each tenth an increment; 2,000 connections ask for one increment each while a long request is run, so that theirs are one layer; and
-40,000 keys are set that collide under the fixed seed, 20,000 such members are added to one set and 20,000 such fields set in one hash,
-and as many of each that don't collide. Each reply is the one that Redis's command reference gives, each trace has so many steps or such
+40,000 keys are set that collide under the fixed seed, as many such members are added to one set and as many such fields set in one hash,
+each beside as many that don't collide. Each reply is the one that Redis's command reference gives, each trace has so many steps or such
 a layer, and replays to `agree`; and what collides takes no longer than the rest. What comes of the machine's haste, how large the layer
 is and how long keys, members and fields take, is tried again, twice at most.
 """
@@ -23,7 +23,7 @@ TOP = os.path.join(os.path.dirname(os.path.abspath(__file__)), "..")
 TABLE = os.path.join(TOP, "examples/four-shards.toml")
 ROUNDS, EACH = 120_000, 10
 CLIENTS = 2000
-KEYS, WITHIN = 40_000, 20_000
+TEXTS = 40_000
 TRIES = 3
 # The seed of std's FoldHasher, and what is added of a text of 16 bytes. Where these are a text's first 8 bytes, one factor of its product
 # is 0, and so is its hash, whatever the other 8 bytes are.
@@ -125,9 +125,9 @@ def one_layer(room):
     return faults, [] if largest >= CLIENTS // 2 else [f"the largest layer has {largest} requests"]
 
 
-def texts(first, count):
-    """So many texts of 16 bytes that begin so; as keys, all at one shard."""
-    return [first + b"{a}%05d" % number for number in range(count)]
+def texts(first):
+    """Texts of 16 bytes that begin so; as keys, all at one shard."""
+    return [first + b"{a}%05d" % number for number in range(TEXTS)]
 
 
 def seconds(client, text, wanted):
@@ -139,18 +139,18 @@ def seconds(client, text, wanted):
 
 def seconds_to_set(client, first):
     """How long it takes to set keys that begin so."""
-    return seconds(client, b"".join(request(b"SET", key, b"1") for key in texts(first, KEYS)), b"+OK\r\n" * KEYS)
+    return seconds(client, b"".join(request(b"SET", key, b"1") for key in texts(first)), b"+OK\r\n" * TEXTS)
 
 
 def seconds_to_add(client, first):
     """How long it takes to add members that begin so to one set, in one request."""
-    return seconds(client, request(b"SADD", b"set" + first, *texts(first, WITHIN)), b":%d\r\n" % WITHIN)
+    return seconds(client, request(b"SADD", b"set" + first, *texts(first)), b":%d\r\n" % TEXTS)
 
 
 def seconds_to_fill(client, first):
     """How long it takes to set fields that begin so in one hash, in one request."""
-    pairs = [word for field in texts(first, WITHIN) for word in (field, b"1")]
-    return seconds(client, request(b"HSET", b"hash" + first, *pairs), b":%d\r\n" % WITHIN)
+    pairs = [word for field in texts(first) for word in (field, b"1")]
+    return seconds(client, request(b"HSET", b"hash" + first, *pairs), b":%d\r\n" % TEXTS)
 
 
 def colliding(room, seconds_to, count):
@@ -167,7 +167,7 @@ def colliding(room, seconds_to, count):
 
 
 def colliding_keys(room):
-    return colliding(room, seconds_to_set, KEYS)
+    return colliding(room, seconds_to_set, TEXTS)
 
 
 def colliding_members(room):
