@@ -12,11 +12,11 @@ use crate::report::Report;
 use crate::trace_file::store_trace;
 use cluster::{Closing, First};
 use cluster_sending::{halves_send, syncs};
+use hashed_texts::TextHasher;
 use options::server::Options;
 use placement::Table;
 use shard_crew::Crew;
 use shard_workers::{InTurn, OpenGate};
-use shards::ShardHasher;
 use shared_cluster::{Shared, Turns};
 use std::hash::RandomState;
 use std::io::Write;
@@ -126,7 +126,7 @@ where
     let Ok(keys) = RandomState::new(rt) else {
         return Err(HostFault::Memory);
     };
-    let hasher = ShardHasher::Random(keys);
+    let hasher = TextHasher::Random(keys);
     let shared: Shared<L> = Shared::new(rt.alloc(), table, options.max_steps, hasher, blank)?;
     let refused = serve_and_drive(rt, listener, &shared, options, console, course);
     course.clear(rt);

@@ -41,6 +41,7 @@ use crate::sight::Sight;
 use back::Back;
 use cluster::{Answer, Closing, Cluster, First, Pick, SealedReply, Seat};
 use groups::{ConnId, GroupId};
+use hashed_texts::TextHasher;
 use journal::SendFault;
 use layer_planner::Layer;
 use layer_results::Done;
@@ -48,7 +49,6 @@ use placement::Table;
 use resp::Request;
 use server_waiting::{Pause, Turnstile, Waiting};
 use shard_workers::{Gate, InTurn, OpenGate, Workers};
-use shards::ShardHasher;
 use std::alloc::{AllocError, Global};
 use std::io::Write;
 use std::mem;
@@ -87,12 +87,13 @@ enum Turn {
 
 impl<L: Ledger> Shared<L> {
     /// A cluster without seats, which has made no step and makes `max_steps` at most. Keys lie as the table
-    /// says, and each shard hashes them by a copy of `hasher`. The only error is want of memory.
+    /// says, and each shard hashes them, and the members and fields of their values, by a copy of `hasher`. The
+    /// only error is want of memory.
     pub fn new(
         alloc: Global,
         table: Table,
         max_steps: u64,
-        hasher: ShardHasher,
+        hasher: TextHasher,
         blank: Blank,
     ) -> Result<Self, AllocError>
         requires name { blank.name ≡ L.name }
