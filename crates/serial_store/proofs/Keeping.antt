@@ -30,19 +30,18 @@ use Rattle.shard_maps.specs.Joined.{joined}
 
 -- ---- nothing was run yet
 
+pub none_serial : (table : Layout) → AreSerial table []
+none_serial table = record {
+  addressed = λ e there. absurd there;
+  in_order = tt;
+  told = λ row there. absurd there;
+  left = empty;
+  in_turn = refl;
+}
+
 new_lawful : (table : Layout) → IsSerialStore table (empty_store table) []
 new_lawful table = record {
-  lawful = record {
-    table = refl;
-    serial = record {
-      addressed = λ e there. absurd there;
-      in_order = tt;
-      told = λ row there. absurd there;
-      left = empty;
-      in_turn = refl;
-    };
-    contents = λ _. joined-empty table.shards;
-  };
+  lawful = record { table = refl; serial = none_serial table; contents = λ _. joined-empty table.shards };
   reached = λ _ e g there. absurd there;
 }
 
