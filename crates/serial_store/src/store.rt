@@ -13,7 +13,7 @@ use crate::ran::Ran;
 use crate::running::run_over;
 use groups::SkipId;
 use hashed_texts::TextHasher;
-use history::{Naming, Writer};
+use history::{Naming, Part, Writer};
 use layer_planner::Layer;
 use layer_results::Done;
 use placement::Table;
@@ -111,6 +111,13 @@ impl<T: Tabled, J: Naming> SerialStore<T, J> {
         ensures is_store { IsStore self.now.store }
     {
         self.store.table()
+    }
+
+    /// What came of each layer that it has run, as a part that was seen.
+    pub fn part(&self) -> Part<Serial<T>, J>
+        ensures { result ≡ self.now.runs }
+    {
+        self.runs.part()
     }
 
     /// How many layers it has run.
