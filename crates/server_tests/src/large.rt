@@ -94,8 +94,8 @@ fn many_reads_and_writes_of_one_byte(rt: HostRuntime) -> Result<(), Fail> {
 /// How many seats ask for a layer of theirs.
 const SEATS: usize = 2000;
 
-/// For each of them an Open, a Submit, a Deliver and a Collect; and a Take, a Run and a Settle.
-const STEPS: u64 = 8003;
+/// For each of them an Open, a Submit, a Deliver, a Collect and a Close; and a Take, a Run and a Settle.
+const STEPS: u64 = 10_003;
 
 /// Seats sit, and each submits an increment of one key.
 fn submit_each<L: Ledger>(
@@ -163,7 +163,7 @@ fn collect_each<L: Ledger>(
 
 /// Seats submit, are one layer, and collect, in a new cluster beside a new store.
 fn ask_at_once<L: Ledger>(alloc: Global, blank: Blank) -> Result<(), Fail>
-    requires { (blank.name ≡ L.name) × (blank.parts ≡ L.parts) × (8003 < blank.parts) }
+    requires { (blank.name ≡ L.name) × (blank.parts ≡ L.parts) × (10003 < blank.parts) }
 {
     let table = Table::from_toml(alloc, TWO_SHARDS)?;
     let mut cluster: Cluster<L> = Cluster::new(alloc, table, STEPS, blank)?;
