@@ -60,7 +60,13 @@ where
     let mut desk = Desk::new(rt, service.shared, seat, service.turns);
     let mut reader = stream;
     let mut writer = stream;
-    let served = serve_desk(rt.alloc(), &mut desk, &mut reader, &mut writer);
+    let served = serve_desk(
+        rt.alloc(),
+        Limits::DEFAULT,
+        &mut desk,
+        &mut reader,
+        &mut writer,
+    );
     service.shared.stand(rt, desk.into_seat());
     match served {
         Ok(Served::End | Served::Inside) | Err(ServeFault::Read | ServeFault::Write) => {}
@@ -78,14 +84,15 @@ where
 /// given. The desk lets others pass before each read and write, and at the end.
 pub fn serve_desk<L: Ledger, C: Wait + Clock, R: Read, W: Write>(
     alloc: Global,
+    limits: Limits,
     desk: &mut Desk<'_, L, C>,
     reader: &mut R,
     writer: &mut W,
 ) -> Result<Served, ServeFault<AskFault>>
-    ensures { ServesDesk desk.old desk.new (λ d. d.seat) Limits.DEFAULT
+    ensures { ServesDesk desk.old desk.new (λ d. d.seat) limits
         (R.remaining reader.old) (R.remaining reader.new) (W.contents writer.old) (W.contents writer.new) result }
 {
-    let served = serve(alloc, Limits::DEFAULT, reader, writer, desk);
+    let served = serve(alloc, limits, reader, writer, desk);
     desk.rest();
     served
 }

@@ -4,6 +4,7 @@ ghost use Rattle.std.specs.Prelude.{◌≡◌, ◌<◌};
 
 use crate::asking::{Numbers, closes, discard};
 use crate::rows::{MOST, shared};
+use resp_decoder::Limits;
 use server::serve_desk;
 use serving::{ServeFault, Served};
 use shared_cluster::{AskFault, Desk, Shared, Turns};
@@ -40,7 +41,7 @@ fn serve_one<L: Ledger, R: Wait + Clock>(
 ) -> Result<(&'static str, u64), Fail> {
     let seat = shared.sit(rt)?;
     let mut desk = Desk::new(rt, shared, seat, Turns::Own);
-    let ended = serve_desk(alloc, &mut desk, reader, writer);
+    let ended = serve_desk(alloc, Limits::DEFAULT, &mut desk, reader, writer);
     let seat = desk.into_seat();
     let count = seat.count();
     shared.stand(rt, seat);

@@ -68,11 +68,11 @@ fn a_request_of_20001_words(rt: HostRuntime) -> Result<(), Fail> {
     comes_of_row(&rt, rt.alloc(), row.as_str(), PIECE, replies, (2, 2, 0))
 }
 
-/// An EXISTS of a million words, by which one key is counted 999,999 times.
+/// An EXISTS of 200,000 words, by which one key is counted 199,999 times.
 #[test]
-fn a_request_of_a_million_words(rt: HostRuntime) -> Result<(), Fail> {
-    let row = often(rt.alloc(), "SET a 1; EXISTS", " a", 999_999, "")?;
-    let replies = "+OK|:999999|";
+fn a_request_of_200000_words(rt: HostRuntime) -> Result<(), Fail> {
+    let row = often(rt.alloc(), "SET a 1; EXISTS", " a", 199_999, "")?;
+    let replies = "+OK|:199999|";
     comes_of_row(&rt, rt.alloc(), row.as_str(), PIECE, replies, (2, 2, 0))
 }
 
