@@ -3,17 +3,13 @@ use Rattle.std.proofs.Common.{◌≡◌, List, Option, Some, None, option_map, r
 use Rattle.std.specs.Prelude.{IfSome, IfNone}
 use Rattle.front.specs.Fronts.{FrontView, Told}
 use Rattle.front.specs.Making as making
-use Rattle.front.specs.Taking.{Takes}
-use Rattle.front.specs.Taking.{Takes}
-use Rattle.cluster.specs.Histories.{retold_effect}
-use Rattle.cluster.specs.Making.{Makes}
+use Rattle.cluster.specs.Making.{retold_effect, Makes}
 use Rattle.groups.specs.declared.request.ConnId.{ConnId}
 use Rattle.journal.specs.declared.step.Step.{Step}
-use Rattle.journal.specs.declared.step.Step.TheVariants.{Take, Collect}
-use Rattle.layer_planner.specs.declared.job.Job.{Job}
+use Rattle.journal.specs.declared.step.Step.TheVariants.{Collect}
 use Rattle.router.specs.declared.outcome.Outcome as kept
 use Rattle.system_view.specs.Connections.{outcome_shown}
-use Rattle.world.specs.Steps.{Effect, Collected, Made, taken}
+use Rattle.world.specs.Steps.{Effect, Collected}
 
 -- a step that answers the same whatever was told
 pub makes_so : (old new : FrontView) (step : Step) (effect : Effect) → ((told : Told) → effect ≡ retold_effect told effect) →
@@ -31,13 +27,6 @@ collects_so old new conn given is = record {
   from_each = λ h w told at'.
       let next = is.from_each h w told at' in
       (Collected next.0, next.1, next.2, ap Collected next.3, next.4);
-}
-
--- a layer is taken
-pub takes_so : (old new : FrontView) (jobs : List Job) → Takes old jobs new → Makes old Take Made new
-takes_so old new jobs is = record {
-  is_step = is.is_step;
-  from_each = λ h w told at'. let next = is.from_each h w told at' in (Made, taken w new.out, next.0, refl, next.2);
 }
 
 -- ---- refusals

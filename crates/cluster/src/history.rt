@@ -1,77 +1,108 @@
-//! A front beside the trace of the steps that were made.
+//! A front beside the history of its steps.
 
-ghost use Rattle.std.specs.Prelude.{◌≡◌, ◌+◌, ◌++◌, ◌∷◌, ◌≤◌, ◌<◌, true, false, [], length, IfOk, IfErr, OnOk, OnErr};
-ghost use Rattle.cluster.specs.Histories.{kept_for, IsLawful, IsToldTidily, IsMade, IsUnchanged, IsFault, IsPlain, IsUnanswered};
+ghost use Rattle.std.specs.Prelude.{◌≡◌, ◌+◌, ◌≤◌, ◌<◌, true, false, [], length, IfOk, IfErr, OnOk, OnErr, IfSome};
+ghost use mathlib.Core.List.{IsPrefix};
+ghost use Rattle.cluster.specs.Counting.{executed, starved, as_word};
+ghost use Rattle.cluster.specs.Histories.{kept_for, IsLawful, IsMade, IsUnchanged, IsFault, IsPlain, IsUnanswered};
 ghost use Rattle.cluster.specs.Layers.{HandsOut, IsSettled, IsSettleFault};
 ghost use Rattle.cluster.specs.Making.{effect_shown};
+ghost use Rattle.cluster.specs.Traces.{IsTraceOf, HasRoom, KeepsRoom};
 ghost use Rattle.cluster.specs.Turns.{Delivers, IsTurnFault};
 ghost use Rattle.cluster.specs.declared.fault.StepFault.{StepFault};
 ghost use Rattle.front.specs.Refusing.{WantsMemory};
-ghost use Rattle.journal.specs.Codes.{step_size, steps_size};
+ghost use Rattle.journal.specs.Codes.{step_size};
 ghost use Rattle.journal.specs.declared.step.Step.{Step};
 ghost use Rattle.journal.specs.declared.trace.TheConstants.{GREATEST_STEPS};
-ghost use Rattle.layer_results.specs.Results.{names_of};
 ghost use Rattle.world.specs.Steps.{Made};
 
+use super::counting::{executed_in, starved_in};
 use super::effect::Effect;
 use super::fault::StepFault;
+use super::names::{ItsRun, ItsStep, Leading, RunsOf, Server, StepsOf};
 use super::pick::Pick;
+use super::sealed::{Ran, Taken};
 use super::steps::{make, own_fault};
-use super::tidy::are_tidy;
+use super::tape::{place, push_keeping, push_run, take_back};
 use front::Front;
+use history::{Itself, Part, Writer};
 use journal::{Step, Trace};
-use layer_planner::Layer;
 use layer_results::Done;
 use placement::Table;
+use serial_store::{Serial, Tabled};
 use std::alloc::{AllocError, Global};
 use std::marker::Model;
+use std::snapshot::Snapshot;
 
 /// How many steps are kept back for a layer that is out: its Run and its Settle.
 const KEPT_BACK: u64 = 2;
 
-/// How many bytes a Settle takes in the trace.
-const SETTLE_SIZE: usize = 1;
-
-/// A front, and the trace of all steps that were made. Contracts see both, and that the front shows the world of its trace, as
-/// it was told.
+/// A front, the history of its steps, and the part of the store's history that it was told; and the trace, where one is kept. Contracts
+/// see all of these: the front shows the world to which its steps lead, and what was run there is what the store ran first.
 #[derive(Drop)]
-pub(super) struct History {
+pub(super) struct History<T: Tabled, L: Server> {
     alloc: Global,
     front: Front,
-    trace: Trace,
+    told: Writer<Leading<T>, StepsOf<L>>,
+    ran: Part<Serial<T>, RunsOf<L>>,
+    max_steps: u64,
+    trace: Option<Trace>,
+    executed: u64,
+    starved: u64,
 }
 
-impl Model for History {
+impl<T: Tabled, L: Server> Model for History<T, L> {
     ghost use Rattle.std.specs.Coded.{codes};
     ghost use Rattle.resp.specs.contracts.reply.Reply as reply;
     ghost use Rattle.skeen_core.specs.Kept.{group_code};
+    ghost use Rattle.cluster.specs.Counting.{executed, starved, as_word};
     ghost use Rattle.cluster.specs.Histories.{HistoryView, IsHistory};
 
     ghost Value = { HistoryView };
 
     ghost coded = { Prim.hlevel (codes, reply.the_row.coded, group_code) };
 
-    ghost view = { λ h. record { front = h.front; max_steps = h.trace.max; steps = h.trace.steps; room = h.trace.room } };
+    ghost view = { λ h. record { front = h.front; max_steps = h.max_steps; steps = h.told; ran = h.ran; trace = h.trace } };
 
-    ghost invariant = { λ h. IsHistory
-        (record { front = h.front; max_steps = h.trace.max; steps = h.trace.steps; room = h.trace.room }) };
+    ghost invariant = { λ h. IsHistory T.table
+        (record { front = h.front; max_steps = h.max_steps; steps = h.told; ran = h.ran; trace = h.trace })
+        × (h.executed ≡ as_word (executed h.ran)) × (h.starved ≡ as_word (starved h.ran)) };
 }
 
-impl History {
-    /// No step was made. Keys lie as the table says. The only error is want of memory.
-    pub fn new(alloc: Global, table: Table, max_steps: u64) -> Result<Self, AllocError>
+impl<T: Tabled, L: Server> History<T, L> {
+    /// No step was made. Keys lie as the table says. Steps are kept as a trace where `keeps` says so. The only error is want of memory.
+    pub fn new(
+        alloc: Global,
+        table: Table,
+        max_steps: u64,
+        keeps: bool,
+        told: Writer<Leading<T>, StepsOf<L>>,
+        ran: Part<Serial<T>, RunsOf<L>>,
+    ) -> Result<Self, AllocError>
         requires some { 1 ≤ max_steps }
         requires few { max_steps ≤ GREATEST_STEPS }
+        requires table { table ≡ T.table }
+        requires told { told ≡ [] }
+        requires ran { ran ≡ [] }
         ensures steps { IfOk result (λ h. h.steps ≡ []) }
+        ensures ran { IfOk result (λ h. h.ran ≡ []) }
         ensures max_steps { IfOk result (λ h. h.max_steps ≡ max_steps) }
         ensures table { IfOk result (λ h. h.front.table ≡ table) }
     {
         let front = Front::new(alloc, table)?;
-        let trace = Trace::new(alloc, max_steps);
+        let trace = if keeps {
+            Some(Trace::new(alloc, max_steps))
+        } else {
+            None
+        };
         Ok(History {
             alloc,
             front,
+            told,
+            ran,
+            max_steps,
             trace,
+            executed: 0,
+            starved: 0,
         })
     }
 
@@ -82,28 +113,63 @@ impl History {
         &self.front
     }
 
-    /// Takes the room for rows ahead in the front. The only error is want of memory.
-    pub fn take_room_ahead(&mut self) -> Result<(), AllocError>
-        ensures { self.new ≡ self.old }
-    {
-        self.front.take_room_ahead()
-    }
-
-    /// The trace.
-    pub fn trace(&self) -> &Trace
-        ensures max_steps { result.now.max ≡ self.now.max_steps }
-        ensures steps { result.now.steps ≡ self.now.steps }
+    /// The trace, where one is kept.
+    pub fn trace(&self) -> &Option<Trace>
+        ensures { result.now ≡ self.now.trace }
     {
         &self.trace
+    }
+
+    /// All steps so far, as a part that was seen.
+    pub fn part(&self) -> Part<Leading<T>, StepsOf<L>>
+        ensures { result ≡ self.now.steps }
+    {
+        self.told.part()
+    }
+
+    /// What came of each layer that was settled, as a part that was seen.
+    pub fn ran(&self) -> &Part<Serial<T>, RunsOf<L>>
+        ensures { result.now ≡ self.now.ran }
+    {
+        &self.ran
+    }
+
+    /// How many requests of the layers that were settled were executed.
+    pub fn executed(&self) -> u64
+        ensures { result ≡ as_word (executed self.now.ran) }
+    {
+        self.executed
+    }
+
+    /// How many of them starved as a whole, and how many members of those that were executed.
+    pub fn starved(&self) -> u64
+        ensures { result ≡ as_word (starved self.now.ran) }
+    {
+        self.starved
     }
 
     /// It does nothing: its contract says what the history is.
     pub fn lawful(&self)
         ensures lawful { IsLawful self.now }
-        ensures tidy { IsToldTidily self.now }
-        ensures whole { self.now.front.whole ≡ true }
+        ensures table { self.now.front.table ≡ T.table }
+        ensures within { length self.now.steps ≤ self.now.max_steps }
+        ensures few { self.now.max_steps ≤ GREATEST_STEPS }
     {
         let _ = &self.front;
+    }
+
+    /// It does nothing: its contract says that the trace, where one is kept, is that of the steps.
+    pub fn holds(&self)
+        ensures { IsTraceOf self.now.trace self.now.steps self.now.max_steps }
+    {
+        let _ = &self.trace;
+    }
+
+    /// How many steps were made.
+    pub fn count(&self) -> u64
+        ensures { result ≡ length self.now.steps }
+    {
+        self.front.steps() + self.front.layers()
     }
 
     /// Whether as many steps were made as may be, but for those that are kept back for a layer that is out.
@@ -112,7 +178,7 @@ impl History {
         ensures left { result ≡ false → length self.now.steps + kept_for self.now.front.out < self.now.max_steps }
     {
         let kept = if self.front.is_out() { KEPT_BACK } else { 0 };
-        self.trace.max() <= self.trace.len() as u64 + kept
+        self.max_steps <= self.count() + kept
     }
 
     /// Why a step isn't made for which there was no memory: what else refuses it comes first.
@@ -130,31 +196,52 @@ impl History {
         }
     }
 
-    /// Makes a step that hands no layer out and settles none, and puts it behind those of the trace, where room for so many
-    /// bytes is kept. Answers what it came to, and at which place of the trace's bytes it begins.
+    /// The fault that a step has of its own, if it has one, where one more may be made.
+    pub fn own_fault(&self, step: &Step) -> Option<StepFault>
+        requires plain { IsPlain step.now }
+        requires left { length self.now.steps + kept_for self.now.front.out < self.now.max_steps }
+        ensures { IfSome result (IsFault self.now step.now) }
+    {
+        match own_fault(&self.front, step) {
+            Some(fault) => Some(StepFault::from(fault)),
+            None => None,
+        }
+    }
+
+    /// Makes a step that hands no layer out and settles none, behind all that is in the part, and puts it into the trace, where room
+    /// for so many bytes is kept.
     // Inlined as far down as the step is looked at, since each caller knows which step it makes.
     #[inline(always)]
-    pub fn make(&mut self, step: Step, kept: usize) -> Result<(Effect, usize), StepFault>
+    pub fn make(
+        &mut self,
+        step: Step,
+        kept: usize,
+        behind: &Part<Leading<T>, StepsOf<L>>,
+    ) -> Result<Effect, StepFault>
         requires { IsPlain step }
-        ensures made { IfOk result (λ made. IsMade self.old step (effect_shown made.0) self.new) }
-        ensures place { IfOk result (λ made. made.1 ≡ steps_size self.old.steps) }
-        ensures room { OnOk result (kept ≤ self.new.room) }
+        ensures made { IfOk result (λ effect. IsMade self.old step (effect_shown effect) self.new) }
+        ensures behind { OnOk result (IsPrefix behind.now self.old.steps) }
+        ensures room { OnOk result (HasRoom kept self.new.trace) }
         ensures fault { IfErr result (IsFault self.old step) }
         ensures unchanged { OnErr result (IsUnchanged self.old self.new) }
-        ensures room_back { OnErr result (self.old.room ≤ self.new.room) }
-        ensures wants { step_size step + kept ≤ self.old.room → IfErr result (λ fault. fault ≡ StepFault.Memory → WantsMemory step) }
+        ensures room_back { OnErr result (KeepsRoom self.old.trace self.new.trace) }
+        ensures wants { HasRoom (step_size step + kept) self.old.trace → IfErr result (λ fault. fault ≡ StepFault.Memory → WantsMemory step) }
     {
         if self.is_exhausted() {
             return Err(StepFault::Exhausted);
         }
-        let place = self.trace.size();
-        let Ok(()) = self.trace.push_keeping(&step, kept) else {
+        let place = place(&self.trace);
+        let Ok(()) = push_keeping(&mut self.trace, &step, kept) else {
             return Err(self.refusal(&step));
         };
+        let made = Snapshot::of(&step);
         match make(&mut self.front, step) {
-            Ok(effect) => Ok((effect, place)),
+            Ok(effect) => {
+                self.told.write_behind::<Snapshot<Step>, ItsStep>(made, behind);
+                Ok(effect)
+            }
             Err(fault) => {
-                self.trace.take_back(place);
+                take_back(&mut self.trace, place);
                 Err(StepFault::from(fault))
             }
         }
@@ -165,40 +252,47 @@ impl History {
     pub fn make_unanswered(&mut self, step: Step, kept: usize) -> Result<(), StepFault>
         requires { IsUnanswered step }
         ensures made { OnOk result (IsMade self.old step Made self.new) }
-        ensures room { OnOk result (kept ≤ self.new.room) }
+        ensures room { OnOk result (HasRoom kept self.new.trace) }
         ensures fault { IfErr result (IsFault self.old step) }
         ensures unchanged { OnErr result (IsUnchanged self.old self.new) }
-        ensures room_back { OnErr result (self.old.room ≤ self.new.room) }
-        ensures wants { step_size step + kept ≤ self.old.room → IfErr result (λ fault. fault ≡ StepFault.Memory → WantsMemory step) }
+        ensures room_back { OnErr result (KeepsRoom self.old.trace self.new.trace) }
+        ensures wants { HasRoom (step_size step + kept) self.old.trace → IfErr result (λ fault. fault ≡ StepFault.Memory → WantsMemory step) }
     {
-        self.lawful();
-        let effect = match self.make(step, kept) {
-            Ok((effect, _)) => effect,
+        let all = self.told.part();
+        let effect = match self.make(step, kept, &all) {
+            Ok(effect) => effect,
             Err(fault) => return Err(fault),
         };
         let Effect::Made = effect else { unreachable!() };
         Ok(())
     }
 
-    /// Takes all requests that are ready or lined up as the next layer, and hands them out to be run. Room for so many bytes
-    /// is kept in the trace.
-    pub fn take(&mut self, kept: usize) -> Result<Layer, StepFault>
-        ensures taken { IfOk result (λ layer. HandsOut self.old layer self.new) }
+    /// Takes all requests that are ready or lined up as the next layer, and hands them out to be run, sealed. Room for so many bytes is
+    /// kept in the trace.
+    pub fn take(&mut self, kept: usize) -> Result<Taken<T, L>, StepFault>
+        ensures taken { IfOk result (λ taken. HandsOut self.old taken self.new) }
         ensures fault { IfErr result (IsFault self.old Step.Take) }
         ensures unchanged { OnErr result (IsUnchanged self.old self.new) }
-        ensures room { kept ≤ self.old.room → kept ≤ self.new.room }
+        ensures room { HasRoom kept self.old.trace → HasRoom kept self.new.trace }
     {
-        if self.trace.max() <= self.trace.len() as u64 + KEPT_BACK {
+        if self.max_steps <= self.count() + KEPT_BACK {
             return Err(StepFault::Exhausted);
         }
-        let place = self.trace.size();
-        let Ok(()) = self.trace.push_keeping(&Step::Take, kept) else {
+        let place = place(&self.trace);
+        let Ok(()) = push_keeping(&mut self.trace, &Step::Take, kept) else {
             return Err(self.take_refusal());
         };
         match self.front.take() {
-            Ok(layer) => Ok(layer),
+            Ok(layer) => {
+                self.told.write::<Step, Itself>(Step::Take);
+                Ok(Taken {
+                    layer,
+                    number: self.front.layers(),
+                    told: self.told.part(),
+                })
+            }
             Err(fault) => {
-                self.trace.take_back(place);
+                take_back(&mut self.trace, place);
                 Err(StepFault::from(fault))
             }
         }
@@ -216,40 +310,44 @@ impl History {
         }
     }
 
-    /// Tells what came of the layer that is out, and puts its Run, with what starved, and its Settle behind the steps
-    /// of the trace. Room for so many bytes is kept there. An error gives back what was told.
+    /// Settles what came of the layer that is out: its Run, with what starved, and its Settle are made. Room for so many bytes is kept in
+    /// the trace. An error gives back what came of it.
     ///
-    /// No store hands over a reply with a line that ends within. It is looked for, since the row that is kept of such a reply
-    /// would not say which members starved.
-    pub fn settle(&mut self, done: Done, kept: usize) -> Result<(), (Done, StepFault)>
-        ensures settled { OnOk result (IsSettled self.old done self.new) }
-        ensures fault { IfErr result (λ back. (back.0 ≡ done) × IsSettleFault self.old done back.1) }
+    /// What is compared is the layer's number alone. Without a trace it takes no memory.
+    pub fn settle(
+        &mut self,
+        ran: Ran<T, L>,
+        kept: usize,
+    ) -> Result<(), (Ran<T, L>, StepFault)>
+        ensures settled { OnOk result (IsSettled self.old ran.done self.new) }
+        ensures fault { IfErr result (λ back. (back.0 ≡ ran) × IsSettleFault self.old ran back.1) }
         ensures unchanged { OnErr result (IsUnchanged self.old self.new) }
-        ensures room { kept ≤ self.old.room → kept ≤ self.new.room }
+        ensures room { HasRoom kept self.old.trace → HasRoom kept self.new.trace }
     {
-        if !self.front.is_out() {
-            return Err((done, StepFault::NoLayer));
+        if !self.front.is_out() || ran.ran.number() != self.front.layers() {
+            return Err((ran, StepFault::NoLayer));
         }
-        if !are_tidy(&done) {
-            return Err((done, StepFault::NoLayer));
-        }
-        let place = self.trace.size();
-        let Ok(()) = push_run(self.alloc, &mut self.trace, &done, kept) else {
-            return Err((done, StepFault::Memory));
+        let Ok(()) = push_run(self.alloc, &mut self.trace, ran.ran.done(), kept) else {
+            return Err((ran, StepFault::Memory));
         };
-        match self.front.settle(done) {
-            Ok(()) => {
-                self.front.holds();
-                let Ok(()) = self.trace.push_keeping(&Step::Settle, kept) else {
-                    unreachable!()
-                };
-                Ok(())
-            }
-            Err((done, fault)) => {
-                self.trace.take_back(place);
-                Err((done, StepFault::from(fault)))
-            }
-        }
+        let Ran { told, ran } = ran;
+        let all_told = told.with(&self.told.part());
+        all_told.is_legal();
+        let (done, runs) = ran.into_parts();
+        let _all_ran = runs.with(&self.ran);
+        runs.is_legal();
+        self.told.write::<&Done, ItsRun>(&done);
+        self.executed = self.executed.saturating_add(executed_in(done.rows()));
+        self.starved = self.starved.saturating_add(starved_in(&done));
+        let Ok(()) = self.front.settle_outcomes(done) else {
+            unreachable!()
+        };
+        self.told.write::<Step, Itself>(Step::Settle);
+        let Ok(()) = push_keeping(&mut self.trace, &Step::Settle, kept) else {
+            unreachable!()
+        };
+        self.ran = runs;
+        Ok(())
     }
 
     /// Makes the Deliver of the packet that is picked, if one is under way. Says whether one was. Room for so many bytes is
@@ -260,7 +358,7 @@ impl History {
         ensures unmade { IfOk result (λ made. made ≡ false → self.new ≡ self.old) }
         ensures refused { IfErr result (IsTurnFault self.old) }
         ensures unchanged { OnErr result (IsUnchanged self.old self.new) }
-        ensures room { kept ≤ self.old.room → kept ≤ self.new.room }
+        ensures room { HasRoom kept self.old.trace → HasRoom kept self.new.trace }
     {
         let packets = self.front.packets();
         if packets == 0 {
@@ -272,20 +370,4 @@ impl History {
             Err(fault) => Err(fault),
         }
     }
-}
-
-/// Puts a Run with what starved behind the steps, and keeps room for a Settle and for so many bytes more. The only error is want of
-/// memory, which changes nothing.
-fn push_run(alloc: Global, trace: &mut Trace, done: &Done, kept: usize) -> Result<(), AllocError>
-    ensures max { trace.new.max ≡ trace.old.max }
-    ensures steps { OnOk result (trace.new.steps ≡ trace.old.steps ++ Step.Run (names_of done.now) ∷ []) }
-    ensures room { OnOk result (step_size Step.Settle + kept ≤ trace.new.room) }
-    ensures room_left { OnOk result (trace.old.room ≤ trace.new.room + step_size (Step.Run (names_of done.now))) }
-    ensures unchanged { OnErr result (trace.new ≡ trace.old) }
-{
-    let Some(kept) = kept.checked_add(SETTLE_SIZE) else {
-        return Err(AllocError);
-    };
-    let starved = done.names(alloc)?;
-    trace.push_keeping(&Step::Run { starved }, kept)
 }

@@ -3,5 +3,4 @@ pub mod Closings
 pub mod Desks
 pub mod Hands
 pub mod LongWork
-pub mod Running
 pub mod Turning

@@ -1,8 +1,8 @@
-//! A cluster under two locks, for any number of threads: the front with its seats under the one, the store with its rows under
-//! the other.
+//! A cluster under two locks, for any number of threads: the front with its seats under the one, the store under the other.
 //!
-//! What a call does to the cluster no clause can say, since the cluster is another one each time the lock is taken. A
-//! clause says what was true of the cluster that was found: it was lawful, and what a seat was answered came from it.
+//! What a call does to the cluster no clause can say, since the cluster is another one each time the lock is taken. But all that seats
+//! have seen are beginnings of one history of steps. A clause says of an answer that it is the one which the seat's own request gets in
+//! the world of that history.
 //!
 //! Who sleeps, and who wakes him:
 //!
@@ -22,9 +22,8 @@
 //! under that lock, so no call is missed.
 
 ghost use Rattle.std.specs.Prelude.{◌≡◌, ◌≤◌, ◌<◌, ◌⊎◌, true, IfOk, IfErr, IfSome, IfNone, OnOk, OnErr, OnSome};
-ghost use Rattle.cluster.specs.Answers.{shown_outcome};
 ghost use Rattle.resp.specs.Content.{content};
-ghost use Rattle.shared_cluster.specs.Asks.{submitted, IsNewSeat, IsAnswered, IsReplied, IsSitFault, IsSubmitFault};
+ghost use Rattle.shared_cluster.specs.Asks.{IsNewSeat, HasSubmitted, IsCollected, IsReplied, IsSitFault, IsSubmitFault};
 ghost use Rattle.shared_cluster.specs.Asks.{IsCollectFault, IsAskFault};
 ghost use Rattle.shared_cluster.specs.Asks.{IsStopped};
 ghost use Rattle.shared_cluster.specs.Closings.{IsClosed, IsCloseFault, IsWritten, IsSent};
@@ -34,35 +33,37 @@ ghost use Rattle.shared_cluster.specs.declared.hand.Hand.{Hand};
 ghost use Rattle.journal.specs.declared.trace.TheConstants.{GREATEST_STEPS};
 
 use crate::fault::FaultKind;
-use crate::hand::{Hand, Run, bring_to};
+use crate::hand::{Hand, HandOf, Run, RunOf, bring_to};
 use crate::held::{AskFault, AtRest, CloseFault, Held, Next, RESERVE, Unsettled};
 use crate::long_work::takes_long;
 use crate::sight::Sight;
-use back::Back;
-use cluster::{Answer, Closing, Cluster, First, Pick, SealedReply, Seat};
+use cluster::{
+    Closing, Cluster, First, Leading, Pick, Ran, RunsOf, SealedReply, Seat, Server, StepsOf, Taken,
+};
 use groups::{ConnId, GroupId};
 use journal::SendFault;
-use layer_planner::Layer;
+use history::Writer;
 use layer_results::Done;
 use placement::Table;
 use resp::Request;
+use serial_store::{Serial, SerialStore, Tabled};
 use server_waiting::{Pause, Turnstile, Waiting};
 use shard_workers::{Gate, InTurn, OpenGate, Workers};
-use shards::ShardHasher;
+use hashed_texts::TextHasher;
 use std::alloc::{AllocError, Global};
 use std::io::Write;
 use std::mem;
 use std::num::NonZeroUsize;
-use std::sync::ledger::{Blank, Ledger};
+use std::sync::ledger::Blank;
 use std::sync::{Condvar, Mutex, Wait};
 use std::time::Clock;
 
 /// A cluster under two locks. Each accepted step is one holding of the front's, but for a Run, which is one of the store's; and
 /// no one waits for one while he holds the other, but in `close`, which takes the front's first.
 #[derive(Drop)]
-pub struct Shared<L: Ledger> {
-    front: Mutex<Held<L>>,
-    back: Mutex<Back>,
+pub struct Shared<T: Tabled, L: Server> {
+    front: Mutex<Held<T, L>>,
+    store: Mutex<SerialStore<T, RunsOf<L>>>,
     // A request waits for who drives, or the cluster is shut.
     work: Condvar,
     // A packet may be under way for who carries, or the cluster is shut.
@@ -72,6 +73,15 @@ pub struct Shared<L: Ledger> {
     // The same for seats whose threads make their own turns; or a layer may be taken.
     idle: Waiting,
     turnstile: Turnstile,
+}
+
+/// What names a cluster, of which one is made: its ledger, and the writers of the histories of its steps and of its store's layers, in
+/// which nothing is written yet.
+#[derive(Drop)]
+pub struct Names<T: Tabled, L: Server> {
+    pub blank: Blank,
+    pub steps: Writer<Leading<T>, StepsOf<L>>,
+    pub runs: Writer<Serial<T>, RunsOf<L>>,
 }
 
 /// How the turns go on.
@@ -85,34 +95,40 @@ enum Turn {
     Quiet,
 }
 
-impl<L: Ledger> Shared<L> {
-    /// A cluster without seats, which has made no step and makes `max_steps` at most. Keys lie as the table
-    /// says, and each shard hashes them by a copy of `hasher`. The only error is want of memory.
+impl<T: Tabled, L: Server> Shared<T, L> {
+    /// A cluster without seats, which has made no step and makes `max_steps` at most. Keys lie as the table says, and each shard hashes
+    /// them, and what lies at them, by a copy of `hasher`. Its steps are kept as a trace where `keeps` says so. The only error is want of
+    /// memory.
     pub fn new(
         alloc: Global,
         table: Table,
         max_steps: u64,
-        hasher: ShardHasher,
-        blank: Blank,
+        keeps: bool,
+        hasher: TextHasher,
+        names: Names<T, L>,
     ) -> Result<Self, AllocError>
-        requires name { blank.name ≡ L.name }
-        requires parts { blank.parts ≡ L.parts }
-        requires enough { max_steps < blank.parts }
+        requires name { names.blank.name ≡ L.name }
+        requires parts { names.blank.parts ≡ L.parts }
+        requires enough { max_steps < names.blank.parts }
         requires some { 1 ≤ max_steps }
         requires few { max_steps ≤ GREATEST_STEPS }
+        requires table { table ≡ T.table }
+        requires steps { names.steps ≡ [] }
+        requires runs { names.runs ≡ [] }
     {
-        let back = Back::new(alloc, table, hasher)?;
-        let cluster = Cluster::new(alloc, table, max_steps, blank)?;
+        let Names { blank, steps, runs } = names;
+        let ran = runs.part();
+        let store = SerialStore::new(alloc, table, hasher, runs)?;
+        let cluster = Cluster::new(alloc, table, max_steps, keeps, blank, steps, ran)?;
         let reserve = Vec::with_capacity(alloc, RESERVE)?;
         Ok(Shared {
             front: Mutex::new(Held {
                 cluster,
                 shut: false,
                 stopped: false,
-                store_is_short: false,
                 reserve,
             }),
-            back: Mutex::new(back),
+            store: Mutex::new(store),
             work: Condvar::new(),
             packets: Condvar::new(),
             done: Waiting::new(),
@@ -122,19 +138,11 @@ impl<L: Ledger> Shared<L> {
     }
 
     /// Opens a connection, and gives the seat that has it. It may wait for the lock.
-    pub fn sit<R: Wait>(&self, rt: &R) -> Result<Seat<L>, AskFault>
+    pub fn sit<R: Wait>(&self, rt: &R) -> Result<Seat<T, L>, AskFault>
         ensures seat { IfOk result IsNewSeat }
         ensures refused { IfErr result IsSitFault }
     {
-        let mut held = self.front.lock(rt);
-        match held.sit() {
-            Ok(seat) => Ok(seat),
-            Err(fault) => {
-                drop(held);
-                self.look_for_room(rt, fault.kind());
-                Err(fault)
-            }
-        }
+        self.front.lock(rt).sit()
     }
 
     /// What the connections that make their own turns pass one at a time.
@@ -142,16 +150,15 @@ impl<L: Ledger> Shared<L> {
         &self.turnstile
     }
 
-    /// Submits a request of these words, and waits until another thread that drives the cluster has brought what came
-    /// of it.
+    /// Submits a request of these words, and waits until another thread that drives the cluster has brought what came of it. It gives
+    /// the reply, sealed.
     pub fn ask<R: Wait + Clock>(
         &self,
         rt: &R,
-        seat: &mut Seat<L>,
+        seat: &mut Seat<T, L>,
         words: Request,
-    ) -> Result<Answer, AskFault>
-        ensures answered { IfOk result (λ a. IsAnswered (submitted seat.old words) (shown_outcome a) seat.new) }
-        ensures words { IfOk result (λ a. a.words ≡ words) }
+    ) -> Result<SealedReply, AskFault>
+        ensures replied { IfOk result (λ r. IsReplied T.table seat.old words (content r.reply) seat.new) }
         ensures refused { IfErr result (λ fault. IsAskFault seat.old words fault seat.new) }
     {
         match self.submit(rt, seat, words) {
@@ -168,30 +175,14 @@ impl<L: Ledger> Shared<L> {
     pub fn ask_turning<R: Wait + Clock>(
         &self,
         rt: &R,
-        seat: &mut Seat<L>,
+        seat: &mut Seat<T, L>,
         words: Request,
     ) -> Result<SealedReply, AskFault>
-        ensures replied { IfOk result (λ r. IsReplied (submitted seat.old words) (content r.reply) seat.new) }
+        ensures replied { IfOk result (λ r. IsReplied T.table seat.old words (content r.reply) seat.new) }
         ensures refused { IfErr result (λ fault. IsAskFault seat.old words fault seat.new) }
     {
         match self.submit(rt, seat, words) {
             Ok(may_wait) => self.turn_until_replied(rt, seat, may_wait),
-            Err(fault) => Err(fault),
-        }
-    }
-
-    /// What `ask` answers, of which it gives the reply alone.
-    pub fn ask_driven<R: Wait + Clock>(
-        &self,
-        rt: &R,
-        seat: &mut Seat<L>,
-        words: Request,
-    ) -> Result<SealedReply, AskFault>
-        ensures replied { IfOk result (λ r. IsReplied (submitted seat.old words) (content r.reply) seat.new) }
-        ensures refused { IfErr result (λ fault. IsAskFault seat.old words fault seat.new) }
-    {
-        match self.ask(rt, seat, words) {
-            Ok(answer) => Ok(answer.into_sealed()),
             Err(fault) => Err(fault),
         }
     }
@@ -210,7 +201,7 @@ impl<L: Ledger> Shared<L> {
         ensures { IfErr result IsStopped }
     {
         let mut pause = Pause::new();
-        let mut hand = Hand::Free;
+        let mut hand: HandOf<T, L> = Hand::Free;
         for _ in rt.forever() {
             match self.drive_once(rt, &mut hand, pick, workers, gate, &mut pause) {
                 Ok(None) => {}
@@ -252,22 +243,23 @@ impl<L: Ledger> Shared<L> {
     }
 
     /// Takes a seat back, and closes its connection. What it has under way still runs, and its outcome is dropped.
-    pub fn stand<R: Wait>(&self, rt: &R, seat: Seat<L>) {
+    pub fn stand<R: Wait>(&self, rt: &R, seat: Seat<T, L>) {
         self.front.lock(rt).stand(seat);
     }
 
-    /// Appends the text of the trace. With `AllocError`, where there is no memory for all of it, `out` is as it was.
-    pub fn write_trace<R: Wait>(&self, rt: &R, out: &mut Vec<u8>) -> Result<(), AllocError>
-        ensures written { OnOk result (IsWritten out.old.items out.new.items) }
+    /// Appends the text of the trace, where one is kept, and says whether it is. With `AllocError`, where there is no memory for all of
+    /// it, `out` is as it was.
+    pub fn write_trace<R: Wait>(&self, rt: &R, out: &mut Vec<u8>) -> Result<bool, AllocError>
+        ensures written { IfOk result (λ kept. IsWritten out.old.items kept out.new.items) }
         ensures unchanged { OnErr result (out.new.items ≡ out.old.items) }
     {
         self.front.lock(rt).write_trace(out)
     }
 
-    /// Writes the text of the trace, by pieces of some 64 KiB, or of one step where that is longer. It holds the lock
-    /// meanwhile. With an error a part of it may have been written.
-    pub fn send_trace<R: Wait, W: Write>(&self, rt: &R, writer: &mut W) -> Result<(), SendFault>
-        ensures { OnOk result (IsSent (W.contents writer.old) (W.contents writer.new)) }
+    /// Writes the text of the trace, where one is kept, by pieces of some 64 KiB, or of one step where that is longer, and says whether
+    /// it is kept. It holds the lock meanwhile. With an error a part of it may have been written.
+    pub fn send_trace<R: Wait, W: Write>(&self, rt: &R, writer: &mut W) -> Result<bool, SendFault>
+        ensures { IfOk result (λ kept. IsSent (W.contents writer.old) kept (W.contents writer.new)) }
     {
         self.front.lock(rt).send_trace(writer)
     }
@@ -282,45 +274,33 @@ impl<L: Ledger> Shared<L> {
         self.front.lock(rt).sight()
     }
 
-    /// What is told of the cluster when it is closed: all seats have stood, nothing is under way, and what was told of the
-    /// layers is what the store has kept. It changes nothing.
+    /// What is told of the cluster when it is closed: all seats have stood, nothing is under way, and the store has run the layers that
+    /// were settled. It changes nothing.
     pub fn close<R: Wait>(&self, rt: &R) -> Result<Closing, CloseFault>
-        ensures closed { IfOk result IsClosed }
+        ensures closed { IfOk result (IsClosed T.table) }
         ensures refused { IfErr result IsCloseFault }
     {
         let mut held = self.front.lock(rt);
-        let back = self.back.lock(rt);
-        held.close(&back)
+        let store = self.store.lock(rt);
+        held.close(&store)
     }
 
     /// Submits a request of these words. Says whether what came of it waits at once, as that of a refused one does.
-    fn submit<R: Wait>(&self, rt: &R, seat: &mut Seat<L>, words: Request) -> Result<bool, AskFault>
-        ensures submitted { OnOk result (seat.new ≡ submitted seat.old words) }
+    fn submit<R: Wait>(&self, rt: &R, seat: &mut Seat<T, L>, words: Request) -> Result<bool, AskFault>
+        ensures submitted { OnOk result (HasSubmitted seat.old words seat.new) }
         ensures refused { IfErr result (IsSubmitFault seat.old words) }
         ensures unchanged { OnErr result (seat.new ≡ seat.old) }
     {
         let mut held = self.front.lock(rt);
         match held.submit(seat, words) {
             Ok(()) => Ok(held.cluster.front().waits(seat.conn()).is_some()),
-            Err(fault) => {
-                drop(held);
-                self.look_for_room(rt, fault.kind());
-                Err(fault)
-            }
-        }
-    }
-
-    /// Where someone was refused for want of memory: has the store look for room ahead, so that the next one isn't if there is some.
-    fn look_for_room<R: Wait>(&self, rt: &R, refused: FaultKind) {
-        if refused == FaultKind::Memory && self.back.lock(rt).take_room_ahead().is_ok() {
-            self.front.lock(rt).store_is_short = false;
+            Err(fault) => Err(fault),
         }
     }
 
     /// Waits until what came of the seat's last request is there.
-    fn wait<R: Wait + Clock>(&self, rt: &R, seat: &mut Seat<L>) -> Result<Answer, AskFault>
-        ensures answered { IfOk result (λ a. IsAnswered seat.old (shown_outcome a) seat.new) }
-        ensures words { IfOk result (λ a. a.words ≡ seat.old.words) }
+    fn wait<R: Wait + Clock>(&self, rt: &R, seat: &mut Seat<T, L>) -> Result<SealedReply, AskFault>
+        ensures replied { IfOk result (λ r. IsCollected T.table seat.old (content r.reply) seat.new) }
         ensures refused { IfErr result (IsCollectFault seat.old) }
         ensures unchanged { OnErr result (seat.new ≡ seat.old) }
     {
@@ -328,7 +308,7 @@ impl<L: Ledger> Shared<L> {
         let mut held = self.front.lock(rt);
         for _ in rt.forever() {
             match held.collect(seat) {
-                Ok(Some(answer)) => return Ok(answer),
+                Ok(Some(reply)) => return Ok(reply),
                 Ok(None) => {}
                 Err(fault) => return Err(fault),
             }
@@ -349,14 +329,14 @@ impl<L: Ledger> Shared<L> {
     fn turn_until_replied<R: Wait + Clock>(
         &self,
         rt: &R,
-        seat: &mut Seat<L>,
+        seat: &mut Seat<T, L>,
         may_wait: bool,
     ) -> Result<SealedReply, AskFault>
-        ensures replied { IfOk result (λ r. IsReplied seat.old (content r.reply) seat.new) }
+        ensures replied { IfOk result (λ r. IsCollected T.table seat.old (content r.reply) seat.new) }
         ensures refused { IfErr result (IsCollectFault seat.old) }
         ensures unchanged { OnErr result (seat.new ≡ seat.old) }
     {
-        let mut hand = Hand::Free;
+        let mut hand: HandOf<T, L> = Hand::Free;
         let mut may_wait = may_wait;
         let mut pause = Pause::new();
         for _ in rt.forever() {
@@ -380,15 +360,15 @@ impl<L: Ledger> Shared<L> {
     fn turn_or_collect<R: Wait + Clock>(
         &self,
         rt: &R,
-        seat: &mut Seat<L>,
-        hand: &mut Hand,
+        seat: &mut Seat<T, L>,
+        hand: &mut HandOf<T, L>,
         may_wait: &mut bool,
         pause: &mut Pause,
     ) -> Result<Option<SealedReply>, AskFault>
-        ensures replied { IfOk result (λ reply. IfSome reply (λ r. IsReplied seat.old (content r.reply) seat.new)) }
+        ensures replied { IfOk result (λ reply. IfSome reply (λ r. IsCollected T.table seat.old (content r.reply) seat.new)) }
         ensures free { IfOk result (λ reply. OnSome reply ((hand.old ≡ Hand.Free) × (hand.new ≡ Hand.Free))) }
         ensures unasked { IfOk result (λ reply. IfNone reply (seat.new ≡ seat.old)) }
-        ensures goes_on { IfOk result (λ reply. IfNone reply (LooksInVain seat.old hand.old hand.new ⊎ HasTurned hand.old hand.new)) }
+        ensures goes_on { IfOk result (λ reply. IfNone reply (LooksInVain seat.old hand.old hand.new ⊎ HasTurned T.table hand.old hand.new)) }
         ensures refused { IfErr result (IsCollectFault seat.old) }
         ensures unchanged { OnErr result (seat.new ≡ seat.old) }
         ensures let_go { OnErr result (hand.new ≡ Hand.Free) }
@@ -412,8 +392,8 @@ impl<L: Ledger> Shared<L> {
     }
 
     /// Collects what came of the seat's last request, if it is there.
-    fn look<R: Wait>(&self, rt: &R, seat: &mut Seat<L>) -> Result<Option<SealedReply>, AskFault>
-        ensures replied { IfOk result (λ reply. IfSome reply (λ r. IsReplied seat.old (content r.reply) seat.new)) }
+    fn look<R: Wait>(&self, rt: &R, seat: &mut Seat<T, L>) -> Result<Option<SealedReply>, AskFault>
+        ensures replied { IfOk result (λ reply. IfSome reply (λ r. IsCollected T.table seat.old (content r.reply) seat.new)) }
         ensures none { IfOk result (λ reply. IfNone reply (IsUncollected seat.old)) }
         ensures unasked { IfOk result (λ reply. IfNone reply (seat.new ≡ seat.old)) }
         ensures refused { IfErr result (IsCollectFault seat.old) }
@@ -423,15 +403,15 @@ impl<L: Ledger> Shared<L> {
         if held.has_no_outcome(seat.conn()) {
             return Ok(None);
         }
-        held.collect_reply(seat)
+        held.collect(seat)
     }
 
     /// Passes the turnstile, to take the next layer or bring a packet on; or leaves it before it runs a layer that takes long, so
     /// that those behind it submit, and the next layer has them all.
-    fn pass<R: Wait>(&self, rt: &R, conn: ConnId, hand: &Hand) {
+    fn pass<R: Wait>(&self, rt: &R, conn: ConnId, hand: &HandOf<T, L>) {
         match hand {
             Hand::Free => self.turnstile.enter(rt, conn),
-            Hand::Taken(layer) if takes_long(layer) => self.turnstile.leave(rt, conn),
+            Hand::Taken(taken) if takes_long(taken.layer()) => self.turnstile.leave(rt, conn),
             Hand::Taken(_) | Hand::HasRun(_) => {}
         }
     }
@@ -461,14 +441,14 @@ impl<L: Ledger> Shared<L> {
     fn drive_once<P: Pick, W: Workers, R: Wait + Clock>(
         &self,
         rt: &R,
-        hand: &mut Hand,
+        hand: &mut HandOf<T, L>,
         pick: &P,
         workers: &W,
         gate: &(dyn Gate + Sync),
         pause: &mut Pause,
     ) -> Result<Option<AtRest>, AskFault>
         ensures free { IfOk result (λ rest. OnSome rest ((hand.old ≡ Hand.Free) × (hand.new ≡ Hand.Free))) }
-        ensures goes_on { IfOk result (λ rest. IfNone rest (HasTurned hand.old hand.new)) }
+        ensures goes_on { IfOk result (λ rest. IfNone rest (HasTurned T.table hand.old hand.new)) }
         ensures refused { IfErr result IsStopped }
         ensures let_go { OnErr result (hand.new ≡ Hand.Free) }
     {
@@ -537,38 +517,38 @@ impl<L: Ledger> Shared<L> {
     fn advance<P: Pick, W: Workers, R: Wait>(
         &self,
         rt: &R,
-        hand: &mut Hand,
+        hand: &mut HandOf<T, L>,
         pick: &P,
         workers: &W,
         gate: &(dyn Gate + Sync),
     ) -> Result<Turn, AskFault>
-        ensures made { IfOk result (λ turn. Advances (P.picks pick.now) (W.may_refuse workers.now) hand.old turn hand.new) }
+        ensures made { IfOk result (λ turn. Advances T.table (P.picks pick.now) (W.may_refuse workers.now) hand.old turn hand.new) }
         ensures refused { IfErr result IsStopped }
         ensures free { OnErr result (hand.new ≡ Hand.Free) }
     {
         match mem::replace(hand, Hand::Free) {
-            Hand::HasRun(done) => self.settle(rt, hand, done),
+            Hand::HasRun(ran) => self.settle(rt, hand, ran),
             Hand::Taken(layer) => self.run(rt, hand, layer, workers, gate),
             Hand::Free => self.begin(rt, hand, pick),
         }
     }
 
     /// Tells what came of the layer, which stays in the hand where there is no memory for it.
-    fn settle<R: Wait>(&self, rt: &R, hand: &mut Hand, done: Done) -> Result<Turn, AskFault>
-        ensures made { IfOk result (λ turn. Settles done hand.old turn hand.new) }
+    fn settle<R: Wait>(&self, rt: &R, hand: &mut HandOf<T, L>, ran: Ran<T, L>) -> Result<Turn, AskFault>
+        ensures made { IfOk result (λ turn. Settles ran hand.old turn hand.new) }
         ensures refused { IfErr result IsStopped }
         ensures free { OnErr result (hand.new ≡ hand.old) }
     {
         let mut held = self.front.lock(rt);
         // They come to the lock once it is let go.
-        self.wake_outcomes(&done);
-        let left = match self.settle_or_retry(&mut held, done) {
+        self.wake_outcomes(ran.done());
+        let left = match self.settle_or_retry(&mut held, ran) {
             Ok(left) => left,
             Err(fault) => return Err(fault),
         };
         match left {
-            Some(done) => {
-                *hand = Hand::HasRun(done);
+            Some(ran) => {
+                *hand = Hand::HasRun(ran);
                 Ok(Turn::Starved)
             }
             None => Ok(Turn::Made { settled: true }),
@@ -577,58 +557,58 @@ impl<L: Ledger> Shared<L> {
 
     /// Tells what came of the layer. Where there is no memory for that it is tried once more, with what is kept back, and else given
     /// back.
-    fn settle_or_retry(&self, held: &mut Held<L>, done: Done) -> Result<Option<Done>, AskFault>
-        ensures settled { IfOk result (λ left. IfNone left (HasSettled done)) }
-        ensures given { IfOk result (λ left. IfSome left (λ given. given ≡ done)) }
+    fn settle_or_retry(&self, held: &mut Held<T, L>, ran: Ran<T, L>) -> Result<Option<Ran<T, L>>, AskFault>
+        ensures settled { IfOk result (λ left. IfNone left (HasSettled ran)) }
+        ensures given { IfOk result (λ left. IfSome left (λ given. given ≡ ran)) }
         ensures refused { IfErr result IsStopped }
     {
-        let left = match self.settle_once(held, done) {
+        let left = match self.settle_once(held, ran) {
             Ok(left) => left,
             Err(fault) => return Err(fault),
         };
         match left {
-            Some(done) => self.settle_once(held, done),
+            Some(ran) => self.settle_once(held, ran),
             None => Ok(None),
         }
     }
 
     /// Tells what came of the layer, and wakes who may bring on what is ready then; or gives it back where there is no memory.
-    fn settle_once(&self, held: &mut Held<L>, done: Done) -> Result<Option<Done>, AskFault>
-        ensures settled { IfOk result (λ left. IfNone left (HasSettled done)) }
-        ensures given { IfOk result (λ left. IfSome left (λ given. given ≡ done)) }
+    fn settle_once(&self, held: &mut Held<T, L>, ran: Ran<T, L>) -> Result<Option<Ran<T, L>>, AskFault>
+        ensures settled { IfOk result (λ left. IfNone left (HasSettled ran)) }
+        ensures given { IfOk result (λ left. IfSome left (λ given. given ≡ ran)) }
         ensures refused { IfErr result IsStopped }
     {
-        let unsettled = match held.settle(done) {
+        let unsettled = match held.settle(ran) {
             Ok(()) => {
                 self.wake_next(held);
                 return Ok(None);
             }
             Err(unsettled) => unsettled,
         };
-        let done = match unsettled {
-            Unsettled::Starved(done) => done,
+        let ran = match unsettled {
+            Unsettled::Starved(ran) => ran,
             Unsettled::Foreign(fault) => return Err(fault),
         };
-        Ok(Some(done))
+        Ok(Some(ran))
     }
 
     /// Runs the layer, and has what came of it in the hand. Where there is no memory for that, the layer stays there.
     fn run<W: Workers, R: Wait>(
         &self,
         rt: &R,
-        hand: &mut Hand,
-        layer: Layer,
+        hand: &mut HandOf<T, L>,
+        layer: Taken<T, L>,
         workers: &W,
         gate: &(dyn Gate + Sync),
     ) -> Result<Turn, AskFault>
-        ensures made { IfOk result (λ turn. Brings (W.may_refuse workers.now) layer turn hand.new) }
+        ensures made { IfOk result (λ turn. Brings T.table (W.may_refuse workers.now) layer turn hand.new) }
         ensures refused { IfErr result IsStopped }
         ensures free { OnErr result (hand.new ≡ hand.old) }
     {
         let run = self.run_or_retry(rt, layer, workers, gate);
         match run {
-            Run::Handed(done) => {
-                *hand = Hand::HasRun(done);
+            Run::Handed(ran) => {
+                *hand = Hand::HasRun(ran);
                 Ok(Turn::Made { settled: false })
             }
             Run::Starved(layer) => {
@@ -643,11 +623,11 @@ impl<L: Ledger> Shared<L> {
     fn run_or_retry<W: Workers, R: Wait>(
         &self,
         rt: &R,
-        layer: Layer,
+        layer: Taken<T, L>,
         workers: &W,
         gate: &(dyn Gate + Sync),
-    ) -> Run
-        ensures { IsBrought (W.may_refuse workers.now) layer result }
+    ) -> RunOf<T, L>
+        ensures { IsBrought T.table (W.may_refuse workers.now) layer result }
     {
         let run = self.run_in_store(rt, layer, workers, gate);
         match run {
@@ -656,24 +636,19 @@ impl<L: Ledger> Shared<L> {
         }
     }
 
-    /// Runs the layer, under the store's lock alone, and takes the room for the rows of those behind it. Where there is no memory
-    /// for the one, what is kept back is let go; and where there is none for the other, no one submits before there is some.
+    /// Runs the layer, under the store's lock alone. Where there is no memory for it, what is kept back is let go.
     fn run_in_store<W: Workers, R: Wait>(
         &self,
         rt: &R,
-        layer: Layer,
+        layer: Taken<T, L>,
         workers: &W,
         gate: &(dyn Gate + Sync),
-    ) -> Run
-        ensures { IsBrought (W.may_refuse workers.now) layer result }
+    ) -> RunOf<T, L>
+        ensures { IsBrought T.table (W.may_refuse workers.now) layer result }
     {
-        let mut back = self.back.lock(rt);
-        let run = bring_to(&mut back, layer, workers, gate);
-        let has_room = back.take_room_ahead().is_ok();
-        drop(back);
-        if !has_room {
-            self.front.lock(rt).store_is_short = true;
-        }
+        let mut store = self.store.lock(rt);
+        let run = bring_to(&mut store, layer, workers, gate);
+        drop(store);
         if let Run::Starved(_) = &run {
             self.front.lock(rt).let_reserve_go();
         }
@@ -681,7 +656,7 @@ impl<L: Ledger> Shared<L> {
     }
 
     /// Takes the next layer into the hand, which is free; else brings a packet to its group.
-    fn begin<P: Pick, R: Wait>(&self, rt: &R, hand: &mut Hand, pick: &P) -> Result<Turn, AskFault>
+    fn begin<P: Pick, R: Wait>(&self, rt: &R, hand: &mut HandOf<T, L>, pick: &P) -> Result<Turn, AskFault>
         ensures made { IfOk result (λ turn. Begins (P.picks pick.now) hand.old turn hand.new) }
         ensures refused { IfErr result IsStopped }
         ensures free { OnErr result (hand.new ≡ hand.old) }
@@ -703,7 +678,7 @@ impl<L: Ledger> Shared<L> {
 
     /// Takes the next layer, or brings a packet to its group. Where there is no memory for that it is tried once more, with what is
     /// kept back.
-    fn turn_or_retry<P: Pick, R: Wait>(&self, rt: &R, pick: &P) -> Result<Next, AskFault>
+    fn turn_or_retry<P: Pick, R: Wait>(&self, rt: &R, pick: &P) -> Result<Next<Taken<T, L>>, AskFault>
         ensures made { IfOk result (IsFound (P.picks pick.now)) }
         ensures refused { IfErr result IsStopped }
     {
@@ -736,7 +711,7 @@ impl<L: Ledger> Shared<L> {
 
     /// Wakes, behind a Settle, those who may bring on what is ready now: who drives, and the seats of the requests at the heads
     /// of the queues, one of which is ready. Where it is shut it may have been the last one.
-    fn wake_next(&self, held: &Held<L>) {
+    fn wake_next(&self, held: &Held<T, L>) {
         let front = held.cluster.front();
         if held.shut {
             self.wake_workers();
@@ -770,14 +745,14 @@ impl<L: Ledger> Shared<L> {
 }
 
 /// Whether it may be looked for what came of a seat's request: it may wait, and nothing is in the hand.
-fn may_look(may_wait: bool, hand: &Hand) -> bool
+fn may_look(may_wait: bool, hand: &HandOf<T, L>) -> bool
     ensures { result ≡ true → hand.now ≡ Hand.Free }
 {
     may_wait && hand.is_free()
 }
 
 /// Takes the next layer, or brings a packet to its group.
-fn turn_once<L: Ledger, P: Pick>(held: &mut Held<L>, pick: &P) -> Result<Next, AskFault>
+fn turn_once<T: Tabled, L: Server, P: Pick>(held: &mut Held<T, L>, pick: &P) -> Result<Next<Taken<T, L>>, AskFault>
     ensures made { IfOk result (IsFound (P.picks pick.now)) }
     ensures refused { IfErr result IsStopped }
 {
