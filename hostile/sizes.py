@@ -3,9 +3,10 @@
 
 PROGRAMS is the folder crates/ of this repository with the programs as the gate leaves them. One connection asks 1,200,000 small requests,
 each tenth an increment; 2,000 connections ask for one increment each while a long request is run, so that theirs are one layer; and
-40,000 keys are set that collide under the fixed seed, and as many that don't. Each reply is the one that Redis's command reference
-gives, each trace has so many steps or such a layer, and replays to `agree`; and keys that collide take no longer than others. What
-comes of the machine's haste, how large the layer is and how long keys take, is tried again, twice at most.
+40,000 keys are set that collide under the fixed seed, as many such members are added to one set and as many such fields set in one hash,
+each beside as many that don't collide. Each reply is the one that Redis's command reference gives, each trace has so many steps or such
+a layer, and replays to `agree`; and what collides takes no longer than the rest. What comes of the machine's haste, how large the layer
+is and how long keys, members and fields take, is tried again, twice at most.
 """
 import os
 import re
@@ -22,11 +23,12 @@ TOP = os.path.join(os.path.dirname(os.path.abspath(__file__)), "..")
 TABLE = os.path.join(TOP, "examples/four-shards.toml")
 ROUNDS, EACH = 120_000, 10
 CLIENTS = 2000
-KEYS = 40_000
+TEXTS = 40_000
 TRIES = 3
-# The seed of std's FoldHasher, and what is added of a key of 16 bytes. Where these are a key's first 8 bytes, one factor of its product
+# The seed of std's FoldHasher, and what is added of a text of 16 bytes. Where these are a text's first 8 bytes, one factor of its product
 # is 0, and so is its hash, whatever the other 8 bytes are.
 SEED, LENGTH = 0x243F6A8885A308D3, 16
+OTHERS, COLLIDING = b"8 bytes.", (SEED + LENGTH).to_bytes(8, "little")
 
 
 class Room:
@@ -123,24 +125,57 @@ def one_layer(room):
     return faults, [] if largest >= CLIENTS // 2 else [f"the largest layer has {largest} requests"]
 
 
-def seconds_to_set(client, first):
-    """How long it takes to set keys of 16 bytes that begin so, all at one shard."""
+def texts(first):
+    """Texts of 16 bytes that begin so; as keys, all at one shard."""
+    return [first + b"{a}%05d" % number for number in range(TEXTS)]
+
+
+def seconds(client, text, wanted):
+    """How long it takes until these requests are answered so; None where other replies come."""
     begun = time.time()
-    came = asked(client, b"".join(request(b"SET", first + b"{a}%05d" % number, b"1") for number in range(KEYS)), 5 * KEYS)
-    return time.time() - begun if came == b"+OK\r\n" * KEYS else None
+    came = asked(client, text, len(wanted))
+    return time.time() - begun if came == wanted else None
+
+
+def seconds_to_set(client, first):
+    """How long it takes to set keys that begin so."""
+    return seconds(client, b"".join(request(b"SET", key, b"1") for key in texts(first)), b"+OK\r\n" * TEXTS)
+
+
+def seconds_to_add(client, first):
+    """How long it takes to add members that begin so to one set, in one request."""
+    return seconds(client, request(b"SADD", b"set" + first, *texts(first)), b":%d\r\n" % TEXTS)
+
+
+def seconds_to_fill(client, first):
+    """How long it takes to set fields that begin so in one hash, in one request."""
+    pairs = [word for field in texts(first) for word in (field, b"1")]
+    return seconds(client, request(b"HSET", b"hash" + first, *pairs), b":%d\r\n" % TEXTS)
+
+
+def colliding(room, seconds_to, count):
+    """Texts that collide under the fixed seed, after as many others, in so many requests each."""
+    with room.server(1) as server:
+        client = Client(server.port, timeout=120.0)
+        others, same = seconds_to(client, OTHERS), seconds_to(client, COLLIDING)
+        client.close()
+        faults = room.ended(server, f"closed requests={2 * count} executed={2 * count} starved=0\n")
+    if others is None or same is None:
+        return faults + ["other replies came"], []
+    print(f"  {others:.2f} s, and {same:.2f} s where they collide under the fixed seed")
+    return faults, [] if same < 4 * others + 0.5 else ["what collides takes long"]
 
 
 def colliding_keys(room):
-    with room.server(1) as server:
-        client = Client(server.port, timeout=120.0)
-        others = seconds_to_set(client, b"8 bytes.")
-        colliding = seconds_to_set(client, (SEED + LENGTH).to_bytes(8, "little"))
-        client.close()
-        faults = room.ended(server, f"closed requests={2 * KEYS} executed={2 * KEYS} starved=0\n")
-    if others is None or colliding is None:
-        return faults + ["other replies came"], []
-    print(f"  {others:.2f} s, and {colliding:.2f} s where they collide under the fixed seed")
-    return faults, [] if colliding < 4 * others + 0.5 else ["keys that collide take long"]
+    return colliding(room, seconds_to_set, TEXTS)
+
+
+def colliding_members(room):
+    return colliding(room, seconds_to_add, 1)
+
+
+def colliding_fields(room):
+    return colliding(room, seconds_to_fill, 1)
 
 
 def tried(case, programs):
@@ -153,9 +188,13 @@ def tried(case, programs):
     return slow
 
 
+CASES = (("many requests", many_requests), ("one layer", one_layer), ("colliding keys", colliding_keys),
+         ("colliding members", colliding_members), ("colliding fields", colliding_fields))
+
+
 def main():
     passed = failed = 0
-    for name, case in (("many requests", many_requests), ("one layer", one_layer), ("colliding keys", colliding_keys)):
+    for name, case in CASES:
         begun = time.time()
         faults = tried(case, sys.argv[1])
         print(f"{name}: {time.time() - begun:.1f} s")

@@ -11,13 +11,13 @@ ghost use Rattle.shard_maps.specs.Joined.{joined};
 use crate::room::ResultsRoom;
 use crate::running::run_over;
 use groups::SkipId;
+use hashed_texts::TextHasher;
 use journal::Rows;
 use layer_planner::Layer;
 use layer_results::Done;
 use placement::Table;
 use shard_exec::{ExecFault, Store};
 use shard_workers::{Gate, Workers};
-use shards::ShardHasher;
 use std::alloc::{AllocError, Global};
 use std::marker::Model;
 use std::mem;
@@ -52,9 +52,9 @@ impl Model for Back {
 }
 
 impl Back {
-    /// A store without keys, placed by this table, and no row. Each shard hashes its keys by a copy of `hasher`. The only
-    /// error is want of memory.
-    pub fn new(alloc: Global, table: Table, hasher: ShardHasher) -> Result<Self, AllocError>
+    /// A store without keys, placed by this table, and no row. Each shard hashes its keys, and the members and fields of
+    /// their values, by a copy of `hasher`. The only error is want of memory.
+    pub fn new(alloc: Global, table: Table, hasher: TextHasher) -> Result<Self, AllocError>
         ensures { IfOk result (λ back. back ≡ new_back table) }
     {
         let store = Store::with_hasher(alloc, table, hasher)?;

@@ -2,6 +2,7 @@
 
 use crate::keys::{Keys, no_keys, put};
 use dumps::Dump;
+use hashed_texts::TextHasher;
 use std::alloc::Global;
 use std::test::Fail;
 use test_support::{same_bytes, same_count};
@@ -61,13 +62,14 @@ fn list(alloc: Global) -> Result<Value, Fail> {
 fn hash(alloc: Global) -> Result<Value, Fail> {
     let turns = texts(alloc, &["g", "2", "f", "jk"])?;
     same_count("what is left over", turns.len() % 2, 0)?;
-    let hash = HashValue::from_pairs(alloc, Pairs::from_turns(turns))?.ok_or("no hash")?;
+    let pairs = Pairs::from_turns(turns);
+    let hash = HashValue::from_pairs(alloc, TextHasher::Fixed, pairs)?.ok_or("no hash")?;
     Ok(Value::Hash(hash))
 }
 
 fn set(alloc: Global) -> Result<Value, Fail> {
     let members = Texts::from(texts(alloc, &["n", "m", "n"])?);
-    let set = SetValue::from_members(alloc, members)?.ok_or("no set")?;
+    let set = SetValue::from_members(alloc, TextHasher::Fixed, members)?.ok_or("no set")?;
     Ok(Value::Set(set))
 }
 

@@ -1,5 +1,6 @@
 //! Keys of one table, at a concrete hasher: they come and go, and the room of many that went is given back.
 
+use hashed_texts::TextHasher;
 use keyspace::{Keyspace, Plain};
 use std::alloc::{AllocError, Global};
 use std::hash::{BuildHasherDefault, FoldHasher};
@@ -11,7 +12,8 @@ use values::Value;
 pub(crate) type Keys = Plain<BuildHasherDefault<FoldHasher>>;
 
 pub(crate) fn no_keys(alloc: Global) -> Keys {
-    Plain::new(alloc, BuildHasherDefault::<FoldHasher>::new())
+    let hasher = BuildHasherDefault::<FoldHasher>::new();
+    Plain::new(alloc, hasher, TextHasher::Fixed)
 }
 
 pub(crate) fn put(alloc: Global, keys: &mut Keys, key: &[u8], value: Value) -> Result<(), Fail> {

@@ -1,5 +1,6 @@
 //! That each call that may find no memory succeeds where there is some, on rows whose results are Redis'.
 
+use hashed_texts::TextHasher;
 use std::alloc::Global;
 use std::test::Fail;
 use test_support::{holds, same_bytes, same_count, same_text};
@@ -104,7 +105,7 @@ fn lists_are_pushed_and_moved(rt: HostRuntime) -> Result<(), Fail> {
 }
 
 fn hash_of(alloc: Global, text: &str) -> Result<HashValue, Fail> {
-    let made = HashValue::from_pairs(alloc, pairs(alloc, text)?)?;
+    let made = HashValue::from_pairs(alloc, TextHasher::Fixed, pairs(alloc, text)?)?;
     Ok(made.ok_or("no hash")?)
 }
 
@@ -179,7 +180,7 @@ fn hashes_lose_many_fields_at_once(rt: HostRuntime) -> Result<(), Fail> {
 }
 
 fn set_of(alloc: Global, members: &str) -> Result<SetValue, Fail> {
-    let made = SetValue::from_members(alloc, texts(alloc, members)?)?;
+    let made = SetValue::from_members(alloc, TextHasher::Fixed, texts(alloc, members)?)?;
     Ok(made.ok_or("no set")?)
 }
 

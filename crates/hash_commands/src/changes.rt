@@ -17,6 +17,7 @@ ghost use Rattle.values.specs.HashValue.{field_value, with_field};
 ghost use Rattle.values.specs.Value.{hash_value};
 
 use command_cases::{Starved, count_reply, ok_reply, truth_reply, wrong_type_reply};
+use hashed_texts::TextHasher;
 use keyspace::Keyspace;
 use resp::Reply;
 use std::alloc::{AllocError, Global};
@@ -198,7 +199,7 @@ fn set_new_hash<K: Keyspace>(
         (K.contents keyspace.old) (K.contents keyspace.new) result }
     ensures covers { K.covered keyspace.new ≡ K.covered keyspace.old }
 {
-    let Some(hash) = HashValue::from_pairs(alloc, pairs)? else {
+    let Some(hash) = HashValue::from_pairs(alloc, keyspace.hasher(), pairs)? else {
         return Ok(answer.reply(0));
     };
     let added = hash.len();
@@ -259,21 +260,26 @@ fn set_first_field<K: Keyspace>(
     ensures err { OnErr result (K.contents keyspace.new ≡ K.contents keyspace.old) }
     ensures covers { K.covered keyspace.new ≡ K.covered keyspace.old }
 {
-    let hash = hash_of_one(alloc, field, value)?;
+    let hash = hash_of_one(alloc, keyspace.hasher(), field, value)?;
     let Ok(_) = keyspace.put(key.into_vec(), Value::Hash(hash)) else {
         return Err(Starved);
     };
     Ok(())
 }
 
-/// A hash of one field.
-fn hash_of_one(alloc: Global, field: Text, value: Text) -> Result<HashValue, AllocError>
+/// A hash of one field, which hashes its fields by `hasher`.
+fn hash_of_one(
+    alloc: Global,
+    hasher: TextHasher,
+    field: Text,
+    value: Text,
+) -> Result<HashValue, AllocError>
     ensures { IfOk result (λ hash. hash ≡ with_field [] field value) }
 {
     let mut turns = Vec::with_capacity(alloc, 2)?;
     turns.push_reserved(field.into_vec());
     turns.push_reserved(value.into_vec());
-    let Some(hash) = HashValue::from_pairs(alloc, Pairs::from_turns(turns))? else {
+    let Some(hash) = HashValue::from_pairs(alloc, hasher, Pairs::from_turns(turns))? else {
         unreachable!();
     };
     Ok(hash)

@@ -8,12 +8,12 @@ use crate::jobs::{ONE, discard, layer_of, string, table_of, two_shards};
 use crate::trouble::Trouble;
 use back::Back;
 use groups::{ConnId, RequestId, SkipId};
+use hashed_texts::TextHasher;
 use layer_results::{Done, DoneRow};
 use placement::Table;
 use resp::write_reply;
 use shard_exec::ExecFault;
 use shard_workers::{OpenGate, Workers};
-use shards::ShardHasher;
 use std::alloc::{AllocError, Global};
 use std::test::Fail;
 use test_support::{holds, same_bytes, same_count, same_text};
@@ -72,7 +72,7 @@ enum Does {
 
 /// A store of these shards with no rows.
 fn new_back(alloc: Global, table: &Table) -> Result<Back, Trouble> {
-    Ok(Back::new(alloc, *table, ShardHasher::Fixed)?)
+    Ok(Back::new(alloc, *table, TextHasher::Fixed)?)
 }
 
 /// What became of a layer.

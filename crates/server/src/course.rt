@@ -3,11 +3,12 @@
 ghost use Rattle.std.specs.Prelude.{◌≡◌};
 
 use crate::faults::HostFault;
+use cluster::Server;
 use crate::report::{Report, Seen};
 use shared_cluster::Shared;
+use serial_store::Tabled;
 use std::net::{Net, SocketAddr, TcpStream};
 use std::sync::atomic::{AtomicBool, AtomicU64, Ordering};
-use std::sync::ledger::Ledger;
 use std::sync::{Condvar, CondvarTimeouts, Mutex, Wait};
 use std::time::{Clock, Duration};
 
@@ -110,11 +111,11 @@ impl Course {
     /// Waits until no more connections are taken, and gives how many were refused. Where the server is to end meanwhile, the
     /// thread that takes connections at this address is woken: one more comes, which it doesn't serve. Reports are told when
     /// their time has come.
-    pub(crate) fn wait_for_end<L: Ledger, R: Wait + Net + Clock + Eprint>(
+    pub(crate) fn wait_for_end<T: Tabled, L: Server, R: Wait + Net + Clock + Eprint>(
         &self,
         rt: &R,
         address: &SocketAddr,
-        shared: &Shared<L>,
+        shared: &Shared<T, L>,
         report: &mut Report,
     ) -> u64 {
         let again = Duration::from_millis(WAKING);

@@ -10,14 +10,15 @@ use crate::course::Course;
 use crate::faults::HostFault;
 use crate::report::Report;
 use crate::trace_file::store_trace;
-use cluster::{Closing, First};
+use cluster::{Closing, First, Server};
 use cluster_sending::{halves_send, syncs};
+use hashed_texts::TextHasher;
 use options::server::Options;
 use placement::Table;
 use shard_crew::Crew;
 use shard_workers::{InTurn, OpenGate};
-use shards::ShardHasher;
-use shared_cluster::{Shared, Turns};
+use shared_cluster::{Blanks, Shared, Turns};
+use serial_store::Tabled;
 use std::hash::RandomState;
 use std::io::Write;
 use std::marker::Brand;
@@ -26,7 +27,6 @@ use std::num::NonZeroUsize;
 use std::random::RandomSource;
 use std::rt::Files;
 use std::sync::Wait;
-use std::sync::ledger::{Blank, Ledger};
 use std::thread::{self, Builder, Threads};
 use std::time::Clock;
 
@@ -88,16 +88,7 @@ where
         return HostFault::Network.status();
     };
     let mut console = Console { out, address };
-    let blank = Blank::new(options.max_steps + 1);
-    if let Err(fault) = serve_all::<Brand, R, W>(
-        rt,
-        listener,
-        options,
-        table,
-        &mut console,
-        blank,
-        course,
-    ) {
+    if let Err(fault) = serve_at::<Brand, R, W>(rt, listener, options, table, &mut console, course) {
         course.meet(rt, fault);
     }
     match course.met(rt) {
@@ -106,28 +97,52 @@ where
     }
 }
 
-/// Serves all connections, closes, writes the trace and tells of it.
-fn serve_all<L: Ledger + Send + Sync, R, W: Write>(
+/// Serves all connections, where keys lie as the table says, as a server that gets its names.
+fn serve_at<T: Tabled + Send + Sync, R, W: Write>(
     rt: &R,
     listener: &TcpListener,
     options: &Options<'_>,
     table: Table,
     console: &mut Console<'_, W>,
-    blank: Blank,
     course: &Course,
 ) -> Result<(), HostFault>
 where
     R: Threads + Wait + AllocGlobal + Files + RandomSource + Eprint + Net + Clock + Sync,
-    requires name { blank.name ≡ L.name }
-    requires parts { blank.parts ≡ L.parts }
-    requires enough { options.now.max_steps < blank.parts }
+    requires table { table ≡ T.table }
+    requires range { InRange options.now }
+{
+    let blanks: Blanks<T> = Blanks::open(rt.alloc(), options.max_steps);
+    serve_all::<T, Brand, R, W>(rt, listener, options, table, console, blanks, course)
+}
+
+/// Serves all connections, closes, writes the trace and tells of it.
+fn serve_all<T: Tabled + Send + Sync, L: Server + Send + Sync, R, W: Write>(
+    rt: &R,
+    listener: &TcpListener,
+    options: &Options<'_>,
+    table: Table,
+    console: &mut Console<'_, W>,
+    blanks: Blanks<T>,
+    course: &Course,
+) -> Result<(), HostFault>
+where
+    R: Threads + Wait + AllocGlobal + Files + RandomSource + Eprint + Net + Clock + Sync,
+    requires table { table ≡ T.table }
+    requires name { blanks.blank.name ≡ L.name }
+    requires parts { blanks.blank.parts ≡ L.parts }
+    requires enough { options.now.max_steps < blanks.blank.parts }
+    requires steps { blanks.steps ≡ L.steps }
+    requires runs { blanks.runs ≡ L.runs }
     requires range { InRange options.now }
 {
     let Ok(keys) = RandomState::new(rt) else {
         return Err(HostFault::Memory);
     };
-    let hasher = ShardHasher::Random(keys);
-    let shared: Shared<L> = Shared::new(rt.alloc(), table, options.max_steps, hasher, blank)?;
+    let hasher = TextHasher::Random(keys);
+    let names = blanks.named::<L>();
+    let keeps = options.trace.is_some();
+    let shared: Shared<T, L> =
+        Shared::new(rt.alloc(), table, options.max_steps, keeps, hasher, names)?;
     let refused = serve_and_drive(rt, listener, &shared, options, console, course);
     course.clear(rt);
     if refused > 0 {
@@ -149,10 +164,10 @@ where
 }
 
 /// Drives the cluster with workers that are threads of their own, which `starter` starts.
-fn drive_by_crew<L: Ledger, R: Threads + Wait + Eprint + Clock>(
+fn drive_by_crew<T: Tabled, L: Server, R: Threads + Wait + Eprint + Clock>(
     rt: &R,
     starter: &R,
-    service: &Service<'_, L>,
+    service: &Service<'_, T, L>,
     workers: NonZeroUsize,
 ) {
     let crew = Crew::new(starter, workers);
@@ -162,17 +177,17 @@ fn drive_by_crew<L: Ledger, R: Threads + Wait + Eprint + Clock>(
 }
 
 /// Brings packets to their groups, beside the thread that drives the cluster.
-fn carry_packets<L: Ledger, R: Wait + Eprint + Clock>(rt: &R, service: &Service<'_, L>) {
+fn carry_packets<T: Tabled, L: Server, R: Wait + Eprint + Clock>(rt: &R, service: &Service<'_, T, L>) {
     if let Err(fault) = service.shared.carry(rt, &First) {
         service.meet(rt, &fault);
     }
 }
 
 /// Serves all connections, and makes the turns that are left. Gives how many connections were refused.
-fn serve_and_drive<L: Ledger + Send + Sync, R, W: Write>(
+fn serve_and_drive<T: Tabled + Send + Sync, L: Server + Send + Sync, R, W: Write>(
     rt: &R,
     listener: &TcpListener,
-    shared: &Shared<L>,
+    shared: &Shared<T, L>,
     options: &Options<'_>,
     console: &mut Console<'_, W>,
     course: &Course,
@@ -203,10 +218,10 @@ where
 /// Serves all connections, and shuts the cluster. A thread of its own takes the connections, so that this one can wake
 /// it; with several workers a third one drives the cluster, and a fourth one brings packets to their groups meanwhile. That it
 /// listens is told when these have started. Gives how many connections were refused.
-fn serve_beside_driver<L: Ledger + Send + Sync, R, W: Write>(
+fn serve_beside_driver<T: Tabled + Send + Sync, L: Server + Send + Sync, R, W: Write>(
     rt: &R,
     listener: &TcpListener,
-    shared: &Shared<L>,
+    shared: &Shared<T, L>,
     options: &Options<'_>,
     turns: Turns,
     console: &mut Console<'_, W>,

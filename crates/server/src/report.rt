@@ -1,9 +1,10 @@
 //! Reports of how far a server is.
 
 use shared_cluster::{Shared, Sight};
+use cluster::Server;
+use serial_store::Tabled;
 use std::fmt;
 use std::sync::Wait;
-use std::sync::ledger::Ledger;
 use std::time::{Clock, Duration, Instant};
 
 /// How many milliseconds a second has.
@@ -81,11 +82,11 @@ impl Report {
     }
 
     /// The one that is due, if its time has come: of so many connections, and of the cluster.
-    pub(crate) fn due<L: Ledger, R: Wait + Clock>(
+    pub(crate) fn due<T: Tabled, L: Server, R: Wait + Clock>(
         &mut self,
         rt: &R,
         connections: u64,
-        shared: &Shared<L>,
+        shared: &Shared<T, L>,
     ) -> Option<Seen> {
         let (Some(every), Some(last)) = (self.every, self.last) else {
             return None;

@@ -1,14 +1,15 @@
 //! The trace in its file.
 
 use crate::faults::HostFault;
+use cluster::Server;
 use shared_cluster::Shared;
+use serial_store::Tabled;
 use std::alloc::{AllocError, Global};
 use std::fs;
 use std::io::{self, ErrorKind, Write};
 use std::rt::Files;
 use std::string::String;
 use std::sync::Wait;
-use std::sync::ledger::Ledger;
 
 /// What stands behind the name of a trace's file while it isn't whole.
 const UNFINISHED: &str = ".part";
@@ -27,9 +28,9 @@ pub fn try_trace<R: AllocGlobal + Files>(rt: &R, path: &str) -> io::Result<()> {
 
 /// Writes the trace to a new file beside the one of this path, which it takes the name of once it is whole: what had
 /// that name before stays until then.
-pub(crate) fn store_trace<L: Ledger, R: Wait + AllocGlobal + Files>(
+pub(crate) fn store_trace<T: Tabled, L: Server, R: Wait + AllocGlobal + Files>(
     rt: &R,
-    shared: &Shared<L>,
+    shared: &Shared<T, L>,
     path: &str,
 ) -> Result<(), HostFault> {
     let part = beside(rt.alloc(), path)?;
@@ -49,9 +50,9 @@ fn beside(alloc: Global, path: &str) -> Result<String, AllocError> {
 }
 
 /// Writes the trace to the file `part`, which then gets its name.
-fn store<L: Ledger, R: Wait + AllocGlobal + Files>(
+fn store<T: Tabled, L: Server, R: Wait + AllocGlobal + Files>(
     rt: &R,
-    shared: &Shared<L>,
+    shared: &Shared<T, L>,
     part: &str,
     path: &str,
 ) -> Result<(), HostFault> {

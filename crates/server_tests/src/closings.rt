@@ -9,11 +9,11 @@ use crate::turns::run;
 use back::Back;
 use cluster::{CloseFault, Cluster, First, Seat, StepFault};
 use groups::{ConnId, GroupId, Groups, RequestId, Stamp};
+use hashed_texts::TextHasher;
 use layer_planner::{Job, Layer};
 use layer_results::{Done, DoneRow};
 use placement::Table;
 use resp::Reply;
-use shards::ShardHasher;
 use std::alloc::Global;
 use std::marker::Brand;
 use std::sync::ledger::{Blank, Ledger};
@@ -204,8 +204,8 @@ fn ask_anew<L: Ledger>(alloc: Global, most: u64, blank: Blank, case: Case) -> Re
 {
     let table = Table::from_toml(alloc, TWO_SHARDS)?;
     let mut cluster: Cluster<L> = Cluster::new(alloc, table, most, blank)?;
-    let mut back = Back::new(alloc, table, ShardHasher::Fixed)?;
-    let idle = Back::new(alloc, table, ShardHasher::Fixed)?;
+    let mut back = Back::new(alloc, table, TextHasher::Fixed)?;
+    let idle = Back::new(alloc, table, TextHasher::Fixed)?;
     ask_and_close(alloc, &mut cluster, &mut back, &idle, case)
 }
 

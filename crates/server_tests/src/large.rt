@@ -9,9 +9,9 @@ use crate::hosting::replays;
 use crate::turns::{ask_rows, run};
 use back::Back;
 use cluster::{Cluster, First, Seat};
+use hashed_texts::TextHasher;
 use journal::write_trace;
 use placement::Table;
-use shards::ShardHasher;
 use std::alloc::{AllocError, Global};
 use std::marker::Brand;
 use std::sync::Wait;
@@ -167,7 +167,7 @@ fn ask_at_once<L: Ledger>(alloc: Global, blank: Blank) -> Result<(), Fail>
 {
     let table = Table::from_toml(alloc, TWO_SHARDS)?;
     let mut cluster: Cluster<L> = Cluster::new(alloc, table, STEPS, blank)?;
-    let mut back = Back::new(alloc, table, ShardHasher::Fixed)?;
+    let mut back = Back::new(alloc, table, TextHasher::Fixed)?;
     let mut seats = Vec::new(alloc);
     submit_each(alloc, &mut cluster, &mut seats)?;
     is_one_layer(&mut cluster, &mut back)?;
@@ -220,7 +220,7 @@ fn ask_late<L: Ledger>(alloc: Global, blank: Blank) -> Result<(), Fail>
 {
     let table = Table::from_toml(alloc, TWO_SHARDS)?;
     let mut cluster: Cluster<L> = Cluster::new(alloc, table, MANY_STEPS, blank)?;
-    let mut back = Back::new(alloc, table, ShardHasher::Fixed)?;
+    let mut back = Back::new(alloc, table, TextHasher::Fixed)?;
     sit_and_stand(&mut cluster)?;
     ask_behind(alloc, &mut cluster, &mut back)?;
     replays_well(alloc, &cluster)

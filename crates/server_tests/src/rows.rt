@@ -7,11 +7,11 @@ ghost use Rattle.journal.specs.declared.trace.TheConstants.{GREATEST_STEPS};
 use crate::asking::{Numbers, closes, request, same_reply, stays, text};
 use crate::hosting::as_wanted;
 use cluster::{Closing, First, Seat};
+use hashed_texts::TextHasher;
 use placement::Table;
 use resp::{Reply, Request};
 use server::shared_syncs;
 use shard_workers::{InTurn, OpenGate};
-use shards::ShardHasher;
 use shared_cluster::{AskFault, AtRest, CloseFault, CloseKind, FaultKind, Shared};
 use std::alloc::Global;
 use std::marker::Brand;
@@ -32,7 +32,7 @@ pub(crate) fn shared<L: Ledger>(alloc: Global, most: u64, blank: Blank) -> Resul
     requires most { (1 ≤ most) × (most ≤ GREATEST_STEPS) }
 {
     let table = Table::from_toml(alloc, TWO_SHARDS)?;
-    Ok(Shared::new(alloc, table, most, ShardHasher::Fixed, blank)?)
+    Ok(Shared::new(alloc, table, most, TextHasher::Fixed, blank)?)
 }
 
 /// Requests and the replies that are wanted for them.

@@ -6,12 +6,12 @@ use crate::asking::{closes, request, same_reply, stays};
 use crate::rows::Rows;
 use back::Back;
 use cluster::{Answer, CloseFault, Cluster, First, Seat};
+use hashed_texts::TextHasher;
 use layer_planner::Layer;
 use layer_results::Done;
 use placement::Table;
 use resp::Reply;
 use shard_workers::{InTurn, OpenGate};
-use shards::ShardHasher;
 use std::alloc::Global;
 use std::marker::Brand;
 use std::num::NonZeroUsize;
@@ -213,7 +213,7 @@ fn ask_anew<L: Ledger>(alloc: Global, blank: Blank) -> Result<(), Fail>
 {
     let table = Table::from_toml(alloc, TWO_SHARDS)?;
     let mut cluster: Cluster<L> = Cluster::new(alloc, table, MOST, blank)?;
-    let mut back = Back::new(alloc, table, ShardHasher::Fixed)?;
+    let mut back = Back::new(alloc, table, TextHasher::Fixed)?;
     two_seats_ask(alloc, &mut cluster, &mut back)
 }
 

@@ -184,7 +184,7 @@ fn store<K: Keyspace>(
         let Some(sets) = find_sets(alloc, keyspace, sources)? else {
             return Ok(wrong_type_reply());
         };
-        combine_as_set(alloc, how, sets.as_slice())?
+        combine_as_set(alloc, keyspace.hasher(), how, sets.as_slice())?
     };
     put_set(keyspace, target, combined)
 }

@@ -65,7 +65,7 @@ fn add_new_set<K: Keyspace>(
         (K.contents keyspace.old) (K.contents keyspace.new) result }
     ensures covers { K.covered keyspace.new ≡ K.covered keyspace.old }
 {
-    let Some(set) = SetValue::from_members(alloc, members)? else {
+    let Some(set) = SetValue::from_members(alloc, keyspace.hasher(), members)? else {
         return Ok(count_reply(0));
     };
     let added = set.len();

@@ -9,6 +9,7 @@ ghost use Rattle.texts.specs.Texts.{Bytes, texts_of};
 ghost use Rattle.values.specs.ListValue.{nonempty};
 ghost use Rattle.values.specs.SetValue.{IsAscending, is_member, with_members};
 
+use hashed_texts::TextHasher;
 use std::alloc::{AllocError, Global};
 use texts::{Text, Texts};
 use values::SetValue;
@@ -37,16 +38,17 @@ pub(crate) fn combine(
     in_order(gather(alloc, how, sets)?)
 }
 
-/// The combination of these sets as a set, if it has a member; a set that is missing has none.
+/// The combination of these sets as a set that hashes by `hasher`, if it has a member; a set that is missing has none.
 pub(crate) fn combine_as_set(
     alloc: Global,
+    hasher: TextHasher,
     how: Combination,
     sets: &[Option<&SetValue>],
 ) -> Result<Option<SetValue>, AllocError>
     ensures { IfOk result (λ set. set ≡ nonempty (combined how (found_sets sets.now))) }
 {
     let members = gather(alloc, how, sets)?;
-    SetValue::from_members(alloc, Texts::from(members))
+    SetValue::from_members(alloc, hasher, Texts::from(members))
 }
 
 /// These texts in ascending order, each once.

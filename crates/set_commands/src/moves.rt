@@ -15,6 +15,7 @@ ghost use Rattle.values.specs.Value.{set_value};
 ghost use Rattle.values.specs.declared.Value.TheVariants as kind;
 
 use command_cases::{Starved, truth_reply, wrong_type_reply};
+use hashed_texts::TextHasher;
 use keyspace::Keyspace;
 use resp::Reply;
 use std::alloc::{AllocError, Global};
@@ -103,7 +104,7 @@ fn put_member<K: Keyspace>(
     ensures covers { K.covered keyspace.new ≡ K.covered keyspace.old }
 {
     if keyspace.look(key.as_slice()).is_none() {
-        let set = set_of_one(alloc, member)?;
+        let set = set_of_one(alloc, keyspace.hasher(), member)?;
         return match keyspace.put(key.into_vec(), Value::Set(set)) {
             Ok(_) => Ok(()),
             Err(_) => Err(Starved),
@@ -119,13 +120,13 @@ fn put_member<K: Keyspace>(
     Ok(())
 }
 
-/// The set of this member alone.
-fn set_of_one(alloc: Global, member: Text) -> Result<SetValue, AllocError>
+/// The set of this member alone, which hashes its members by `hasher`.
+fn set_of_one(alloc: Global, hasher: TextHasher, member: Text) -> Result<SetValue, AllocError>
     ensures { IfOk result (λ set. set ≡ with_member [] member) }
 {
     let mut members = Vec::with_capacity(alloc, 1)?;
     members.push(member.into_vec())?;
-    let Some(set) = SetValue::from_members(alloc, Texts::from(members))? else {
+    let Some(set) = SetValue::from_members(alloc, hasher, Texts::from(members))? else {
         unreachable!();
     };
     Ok(set)

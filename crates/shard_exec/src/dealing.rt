@@ -13,15 +13,16 @@ ghost use Rattle.shard_maps.specs.Rows.{taken_out, emptied};
 use crate::dealt_room::{LoadRoom, UnitRoom};
 use crate::moves::take_shards;
 use crate::taking::take_jobs;
+use hashed_texts::TextHasher;
 use layer_planner::{Job, Part};
 use shard_workers::{Load, Work};
-use shards::{Shard, ShardHasher};
+use shards::Shard;
 use std::alloc::Global;
 
 /// Takes the units of each part, with their shards, out of the slots and out of the row: the loads. It takes no memory.
 pub fn take_loads(
     alloc: Global,
-    hasher: ShardHasher,
+    hasher: TextHasher,
     row: &mut Vec<Shard>,
     slots: Vec<Option<Job>>,
     plan: &[Part],
@@ -54,7 +55,7 @@ pub fn take_loads(
 /// Takes the units of a part, with their shards: a load.
 fn take_load(
     alloc: Global,
-    hasher: ShardHasher,
+    hasher: TextHasher,
     row: &mut Vec<Shard>,
     slots: &mut Vec<Option<Job>>,
     part: &Part,
@@ -76,7 +77,7 @@ fn take_load(
 /// Takes the units of a part, with their shards, into `works`, which has the room.
 fn take_units(
     alloc: Global,
-    hasher: ShardHasher,
+    hasher: TextHasher,
     row: &mut Vec<Shard>,
     slots: &mut Vec<Option<Job>>,
     part: &Part,
@@ -110,7 +111,7 @@ fn take_units(
 /// Takes the requests at these places, and the shards of their groups.
 fn take_unit(
     alloc: Global,
-    hasher: ShardHasher,
+    hasher: TextHasher,
     row: &mut Vec<Shard>,
     slots: &mut Vec<Option<Job>>,
     places: &[usize],

@@ -17,10 +17,11 @@ use crate::dealt_room::DealtRoom;
 use crate::moves::put_back;
 use crate::taking::place_rans;
 use groups::SkipId;
+use hashed_texts::TextHasher;
 use layer_planner::{Job, Part};
 use placement::Table;
 use shard_workers::{Gate, JobRan, Ran, Refused, Workers};
-use shards::{Shard, ShardHasher};
+use shards::Shard;
 use std::alloc::Global;
 
 /// Runs the units of a layer but for what `skip` names, dealt to the workers by this plan, and puts what became of each request in its place. It takes
@@ -29,7 +30,7 @@ use std::alloc::Global;
 pub fn run_dealt<'s, W: Workers>(
     alloc: Global,
     table: &Table,
-    hasher: ShardHasher,
+    hasher: TextHasher,
     row: &mut Vec<Shard>,
     slots: Vec<Option<Job>>,
     plan: &[Part],

@@ -17,10 +17,11 @@ use crate::layer_room::{LayerRoom, RunRoom};
 use crate::row_run::{run_in_row, run_places};
 use crate::taking::{in_slots, tell, tell_all};
 use groups::{GroupId, SkipId, Stamp};
+use hashed_texts::TextHasher;
 use layer_planner::Job;
 use placement::Table;
 use shard_workers::{Gate, JobRan, PlacedJob, Refused, Workers};
-use shards::{Shard, ShardHasher};
+use shards::Shard;
 use std::alloc::Global;
 
 /// Runs the requests of a layer but for what `skip` names, unit by unit, each over the shards of its groups, and tells what became of each. With
@@ -28,7 +29,7 @@ use std::alloc::Global;
 pub fn run_layer_over<'s, W: Workers>(
     alloc: Global,
     table: &Table,
-    hasher: ShardHasher,
+    hasher: TextHasher,
     row: &mut Vec<Shard>,
     lasts: &mut Vec<Option<Stamp>>,
     jobs: Vec<Job>,
@@ -72,7 +73,7 @@ pub fn run_layer_over<'s, W: Workers>(
 fn run_units<'s, W: Workers>(
     alloc: Global,
     table: &Table,
-    hasher: ShardHasher,
+    hasher: TextHasher,
     row: &mut Vec<Shard>,
     slots: Vec<Option<Job>>,
     skip: &'s [SkipId],
@@ -131,7 +132,7 @@ fn run_units<'s, W: Workers>(
 pub fn run_alone(
     alloc: Global,
     table: &Table,
-    hasher: ShardHasher,
+    hasher: TextHasher,
     row: &mut Vec<Shard>,
     lasts: &mut Vec<Option<Stamp>>,
     job: Job,

@@ -8,7 +8,8 @@ ghost use Rattle.shard_maps.specs.Rows.{taken_out, emptied, put_span};
 ghost use Rattle.shard_exec.specs.Stamps.{raise};
 
 use groups::{GroupId, Groups, Stamp};
-use shards::{Shard, ShardHasher};
+use hashed_texts::TextHasher;
+use shards::Shard;
 use std::alloc::Global;
 use std::mem;
 
@@ -16,7 +17,7 @@ use std::mem;
 /// takes no memory.
 pub fn take_shards(
     alloc: Global,
-    hasher: ShardHasher,
+    hasher: TextHasher,
     row: &mut Vec<Shard>,
     groups: Groups,
     span: Vec<(GroupId, Shard)>,
@@ -38,7 +39,7 @@ pub fn take_shards(
 }
 
 /// Takes one shard out of the row and leaves an empty one.
-fn take_shard(alloc: Global, hasher: ShardHasher, row: &mut Vec<Shard>, group: GroupId) -> Shard
+fn take_shard(alloc: Global, hasher: TextHasher, row: &mut Vec<Shard>, group: GroupId) -> Shard
     requires { group < length row.old.items }
     ensures taken { result ≡ slice_index_or row.old.items group empty }
     ensures left { row.new.items ≡ slice_set row.old.items group empty }

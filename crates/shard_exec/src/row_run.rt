@@ -13,10 +13,11 @@ ghost use Rattle.shard_workers.specs.PlacedJobs.{HasRunOn};
 use crate::moves::{put_back, take_shards};
 use crate::taking::take_job;
 use groups::{GroupId, SkipId};
+use hashed_texts::TextHasher;
 use layer_planner::Job;
 use placement::Table;
 use shard_workers::{Gate, JobRan, PlacedJob};
-use shards::{Shard, ShardHasher};
+use shards::Shard;
 use std::alloc::Global;
 
 /// Runs the requests at these places, one after another in this order, each over the shards of its groups, and puts what
@@ -25,7 +26,7 @@ use std::alloc::Global;
 pub fn run_places(
     alloc: Global,
     table: &Table,
-    hasher: ShardHasher,
+    hasher: TextHasher,
     row: &mut Vec<Shard>,
     slots: Vec<Option<Job>>,
     places: &[usize],
@@ -64,7 +65,7 @@ pub fn run_places(
 pub fn run_in_row(
     alloc: Global,
     table: &Table,
-    hasher: ShardHasher,
+    hasher: TextHasher,
     row: &mut Vec<Shard>,
     placed: PlacedJob,
     span: Vec<(GroupId, Shard)>,

@@ -18,10 +18,11 @@ use crate::layer_run::{run_alone, run_layer_over};
 use crate::{Ended, ExecFault};
 use dumps::Dump;
 use groups::{SkipId, Stamp};
+use hashed_texts::TextHasher;
 use layer_planner::{Job, Layer};
 use placement::Table;
 use shard_workers::{Gate, Workers};
-use shards::{Shard, ShardHasher};
+use shards::Shard;
 use std::alloc::{AllocError, Global};
 use std::marker::Model;
 use tasks::task_groups;
@@ -33,7 +34,7 @@ use tasks::task_groups;
 #[derive(Drop)]
 pub struct Store {
     table: Table,
-    hasher: ShardHasher,
+    hasher: TextHasher,
     shards: Vec<Shard>,
     lasts: Vec<Option<Stamp>>,
     failed: bool,
@@ -52,15 +53,16 @@ impl Model for Store {
 }
 
 impl Store {
-    /// A store without keys. Keys are hashed with the fixed seed. The only error is want of memory.
+    /// A store without keys. All is hashed with the fixed seed. The only error is want of memory.
     pub fn new(alloc: Global, table: Table) -> Result<Self, AllocError>
         ensures { IfOk result (λ store. store ≡ empty_store table) }
     {
-        Store::with_hasher(alloc, table, ShardHasher::Fixed)
+        Store::with_hasher(alloc, table, TextHasher::Fixed)
     }
 
-    /// A store without keys, whose shards each hash their keys by a copy of `hasher`. The only error is want of memory.
-    pub fn with_hasher(alloc: Global, table: Table, hasher: ShardHasher) -> Result<Self, AllocError>
+    /// A store without keys, whose shards each hash their keys, and the members and fields of their values, by a copy of
+    /// `hasher`. The only error is want of memory.
+    pub fn with_hasher(alloc: Global, table: Table, hasher: TextHasher) -> Result<Self, AllocError>
         ensures { IfOk result (λ store. store ≡ empty_store table) }
     {
         let count = usize::from(table.shards());

@@ -4,8 +4,8 @@ ghost use Rattle.std.specs.Prelude.{◌≡◌, OnOk};
 ghost use Rattle.std.specs.FinMap as map;
 ghost use Rattle.keyspace.specs.Map.{with_entries};
 
-use crate::ShardHasher;
 use dumps::Dump;
+use hashed_texts::TextHasher;
 use keyspace::{Keyspace, Plain};
 use std::alloc::{AllocError, Global};
 use std::marker::Model;
@@ -14,7 +14,7 @@ use values::Value;
 /// The keys of one shard with their values. Contracts see the map.
 #[derive(Drop)]
 pub struct Shard {
-    keys: Plain<ShardHasher>,
+    keys: Plain<TextHasher>,
 }
 
 impl Model for Shard {
@@ -32,12 +32,12 @@ impl Model for Shard {
 }
 
 impl Shard {
-    /// No keys. It takes no memory; keys are hashed by `hasher`.
-    pub fn new(alloc: Global, hasher: ShardHasher) -> Self
+    /// No keys. It takes no memory; keys, and the members and fields of their values, are hashed by `hasher`.
+    pub fn new(alloc: Global, hasher: TextHasher) -> Self
         ensures { result ≡ map.empty }
     {
         Shard {
-            keys: Plain::new(alloc, hasher),
+            keys: Plain::new(alloc, hasher, hasher),
         }
     }
 
@@ -83,6 +83,10 @@ impl Keyspace for Shard {
 
     fn size(&self) -> i64 {
         self.keys.size()
+    }
+
+    fn hasher(&self) -> TextHasher {
+        self.keys.hasher()
     }
 
     fn clear(&mut self) {

@@ -8,6 +8,7 @@ ghost use Rattle.shards.specs.Spans.{IsSpan, lies_on};
 
 use crate::Shard;
 use groups::GroupId;
+use hashed_texts::TextHasher;
 use keyspace::Keyspace;
 use placement::Table;
 use std::marker::{Brand, Model, PhantomData};
@@ -177,6 +178,15 @@ impl<F: SpanFrame> Keyspace for Span<F> {
             size = size.saturating_add(shard.size());
         }
         size
+    }
+
+    /// That of the first shard, since the shards of one store have the same. A span of none covers no key, so nobody
+    /// makes a value for it.
+    fn hasher(&self) -> TextHasher {
+        match self.shards.first() {
+            Some((_, shard)) => shard.hasher(),
+            None => TextHasher::Fixed,
+        }
     }
 
     fn clear(&mut self) {

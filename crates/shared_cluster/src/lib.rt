@@ -7,11 +7,13 @@ mod fault;
 mod hand;
 mod held;
 mod long_work;
+mod names;
 mod shared;
 mod sight;
 
 pub use desk::{Desk, Turns};
 pub use fault::{AskStep, CloseKind, FaultKind};
 pub use held::{AskFault, AtRest, CloseFault};
+pub use names::{Blanks, Names};
 pub use shared::Shared;
 pub use sight::Sight;

@@ -36,17 +36,18 @@ use crate::fault::FaultKind;
 use crate::hand::{Hand, HandOf, Run, RunOf, bring_to};
 use crate::held::{AskFault, AtRest, CloseFault, Held, Next, RESERVE, Unsettled};
 use crate::long_work::takes_long;
+use crate::names::Names;
 use crate::sight::Sight;
 use cluster::{
-    Closing, Cluster, First, Leading, Pick, Ran, RunsOf, SealedReply, Seat, Server, StepsOf, Taken,
+    Closing, Cluster, First, Pick, Ran, RunsOf, SealedReply, Seat, Server, Taken,
 };
 use groups::{ConnId, GroupId};
+use hashed_texts::TextHasher;
 use journal::SendFault;
-use history::Writer;
 use layer_results::Done;
 use placement::Table;
 use resp::Request;
-use serial_store::{Serial, SerialStore, Tabled};
+use serial_store::{SerialStore, Tabled};
 use server_waiting::{Pause, Turnstile, Waiting};
 use shard_workers::{Gate, InTurn, OpenGate, Workers};
 use hashed_texts::TextHasher;
@@ -54,7 +55,6 @@ use std::alloc::{AllocError, Global};
 use std::io::Write;
 use std::mem;
 use std::num::NonZeroUsize;
-use std::sync::ledger::Blank;
 use std::sync::{Condvar, Mutex, Wait};
 use std::time::Clock;
 
@@ -73,15 +73,6 @@ pub struct Shared<T: Tabled, L: Server> {
     // The same for seats whose threads make their own turns; or a layer may be taken.
     idle: Waiting,
     turnstile: Turnstile,
-}
-
-/// What names a cluster, of which one is made: its ledger, and the writers of the histories of its steps and of its store's layers, in
-/// which nothing is written yet.
-#[derive(Drop)]
-pub struct Names<T: Tabled, L: Server> {
-    pub blank: Blank,
-    pub steps: Writer<Leading<T>, StepsOf<L>>,
-    pub runs: Writer<Serial<T>, RunsOf<L>>,
 }
 
 /// How the turns go on.

@@ -17,6 +17,7 @@ use command_bodies::execute;
 use command_cases::Starved;
 use command_table::{Command, read};
 use dumps::Dump;
+use hashed_texts::TextHasher;
 use keyspace::Plain;
 use resp::{Reply, Request};
 use resp_decoder::Ahead;
@@ -49,13 +50,14 @@ impl<S: BuildHasher> Model for Solo<S> {
 }
 
 impl<S: BuildHasher> Solo<S> {
-    /// No keys. It takes no memory; keys are hashed by `hasher`.
+    /// No keys. It takes no memory; keys are hashed by `hasher`, and the members and fields of their values with a fixed
+    /// seed: a store on one map serves whoever starts it.
     pub fn new(alloc: Global, hasher: S) -> Self
         ensures { result ≡ finite.empty }
     {
         Solo {
             alloc,
-            keys: Plain::new(alloc, hasher),
+            keys: Plain::new(alloc, hasher, TextHasher::Fixed),
             sight: Sight::new(),
         }
     }

@@ -27,12 +27,12 @@ use super::stage::{Progress, Stage};
 use back::Back;
 use front::Front;
 use groups::{ConnId, GroupId, SkipId};
+use hashed_texts::TextHasher;
 use journal::{Rows, Step};
 use layer_planner::Job;
 use placement::Table;
 use router::Outcome;
 use shard_workers::{Gate, Workers};
-use shards::ShardHasher;
 use skeen_core::{Delivered, Packet};
 use std::alloc::{AllocError, Global};
 use std::marker::Model;
@@ -68,23 +68,23 @@ impl Model for System {
 }
 
 impl System {
-    /// A system in which nothing has happened, whose keys lie as the table says. Keys are hashed with the fixed seed.
-    /// The only error is want of memory.
+    /// A system in which nothing has happened, whose keys lie as the table says. All is hashed with the fixed seed. The
+    /// only error is want of memory.
     pub fn new(alloc: Global, table: Table, max_steps: u64) -> Result<Self, AllocError>
         requires some { 1 ≤ max_steps }
         requires few { max_steps ≤ GREATEST_STEPS }
         ensures { IfOk result (IsNew table max_steps) }
     {
-        System::with_hasher(alloc, table, max_steps, ShardHasher::Fixed)
+        System::with_hasher(alloc, table, max_steps, TextHasher::Fixed)
     }
 
-    /// A system in which nothing has happened, each of whose shards hashes its keys by a copy of `hasher`. The only
-    /// error is want of memory.
+    /// A system in which nothing has happened, each of whose shards hashes its keys, and the members and fields of their
+    /// values, by a copy of `hasher`. The only error is want of memory.
     pub fn with_hasher(
         alloc: Global,
         table: Table,
         max_steps: u64,
-        hasher: ShardHasher,
+        hasher: TextHasher,
     ) -> Result<Self, AllocError>
         requires some { 1 ≤ max_steps }
         requires few { max_steps ≤ GREATEST_STEPS }
