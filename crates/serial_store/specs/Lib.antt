@@ -1,0 +1,5 @@
+pub mod Tables
+pub mod Serial
+pub mod Stores
+pub mod Runs
+pub mod Rans
