@@ -50,7 +50,6 @@ use resp::Request;
 use serial_store::{SerialStore, Tabled};
 use server_waiting::{Pause, Turnstile, Waiting};
 use shard_workers::{Gate, InTurn, OpenGate, Workers};
-use hashed_texts::TextHasher;
 use std::alloc::{AllocError, Global};
 use std::io::Write;
 use std::mem;
@@ -736,7 +735,7 @@ impl<T: Tabled, L: Server> Shared<T, L> {
 }
 
 /// Whether it may be looked for what came of a seat's request: it may wait, and nothing is in the hand.
-fn may_look(may_wait: bool, hand: &HandOf<T, L>) -> bool
+fn may_look<A, B>(may_wait: bool, hand: &Hand<A, B>) -> bool
     ensures { result ≡ true → hand.now ≡ Hand.Free }
 {
     may_wait && hand.is_free()
