@@ -19,5 +19,5 @@ returns-then-not-is_tidy t c =
 
 pub returns-in-Bulks : goal.returns-in-Bulks
 returns-in-Bulks t c =
-    sym (ap (λ r. tidy (content r)) c.in-Bulks.is ∙ ap tidy (content-Bulks c.in-Bulks.texts)
-    ∙ tidy-each text_or_null tidy-text c.in-Bulks.texts)
+    sym (ap (λ r. tidy (content r)) c.in-Bulks.is ∙ ap tidy (content-Bulks c.in-Bulks._texts)
+    ∙ tidy-each text_or_null tidy-text c.in-Bulks._texts)

@@ -17,5 +17,6 @@ returns-in-Array c =
 
 pub returns-in-Bulks : goal.returns-in-Bulks
 returns-in-Bulks c =
-    ap (λ r. wants_in c.args.count (content r)) c.in-Bulks.is ∙ ap (wants_in c.args.count) (content-Bulks c.in-Bulks.texts)
-    ∙ no_wants c.args.count 1 c.in-Bulks.texts
+    let count = member_count c.args.words.now in
+    ap (λ r. wants_in count (content r)) c.in-Bulks.is ∙ ap (wants_in count) (content-Bulks c.in-Bulks._texts)
+    ∙ no_wants count 1 c.in-Bulks._texts
