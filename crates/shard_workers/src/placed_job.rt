@@ -131,6 +131,8 @@ fn run_on_one(
 }
 
 /// Runs a request over these shards as one keyspace.
+// Inlined, so that the request is moved once.
+#[inline(always)]
 fn run_on_all<F: SpanFrame>(
     alloc: Global,
     table: Table,
