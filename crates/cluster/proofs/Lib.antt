@@ -3,7 +3,7 @@ pub mod Worlds
 pub mod Submits
 pub mod Sizes
 pub mod Tapes
-pub mod Counting
+pub mod Counts
 pub mod Numbers
 pub mod Came
 pub mod Making

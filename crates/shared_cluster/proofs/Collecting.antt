@@ -1,108 +1,149 @@
--- What was collected is what came of the seat's last request; what a closed cluster tells, and its trace.
-use Rattle.std.proofs.Common.{◌≡◌, ◌∙◌, ap, sym, subst, ℕ, Bool, List, ◌++◌, Option, Some, Result, Ok, Err, OnOk, OnErr, IfOk}
-use Rattle.std.proofs.Common.{IfErr, IfSome, None, inr}
-use Rattle.std.specs.Io.KnownBytes.{Appends}
-use Rattle.back.specs.Backs.{BackState}
-use Rattle.cluster.proofs.Submits.{said_later}
-use Rattle.cluster.specs.Answers.{shown_outcome}
-use Rattle.cluster.specs.Answers as cluster_answer
+-- What was submitted, and what was collected, is what a seat is answered; what a closed cluster tells, and its trace.
+use Rattle.std.proofs.Common.{◌≡◌, ◌∙◌, ap, sym, subst, refl, ℕ, suc, ◌+◌, Bool, true, false, List, [], ◌∷◌, ◌++◌, Option, Some, Result, Ok, Err, OnOk, OnErr, IfOk}
+use Rattle.std.proofs.Common.{IfErr, IfSome, None, inr, append_assoc, arith}
+use mathlib.Core.List.{IsPrefix}
+use Rattle.cluster.proofs.Submits.{own_submit, submits_by-append}
 use Rattle.cluster.specs.Clusters.{SeatView, ClusterView, last_id}
-use Rattle.cluster.specs.Histories.{HistoryView, IsLawful, IsMade}
-use Rattle.cluster.specs.Outcomes.{ComesFrom, IsAbove, raised}
-use Rattle.cluster.specs.Submits.{IsSaid, session_met}
-use Rattle.cluster.specs.declared.cluster.Answer.{Answer}
+use Rattle.cluster.specs.Histories.{HistoryView, IsLawful}
+use Rattle.cluster.specs.Outcomes.{ComesFrom, raised}
+use Rattle.cluster.specs.Submits.{submits_by, IsSaid, session_met}
 use Rattle.cluster.specs.declared.cluster.SealedReply.{SealedReply}
 use Rattle.cluster.specs.declared.closing.Closing.{Closing}
-use Rattle.journal.specs.TraceText.{trace_text}
-use Rattle.journal.specs.declared.step.Step.TheVariants.{Collect}
-use Rattle.resp.specs.Content.{content}
-use Rattle.resp.specs.declared.reply.Reply.{Reply}
-use Rattle.shared_cluster.specs.Asks.{submitted, Answers, Replies, IsReplied, IsCollectFault, IsAskFault}
+use Rattle.groups.specs.declared.request.RequestId.{RequestId}
+use Rattle.journal.specs.declared.step.Step.{Step}
+use Rattle.journal.specs.declared.step.Step.TheVariants.{Submit, Collect}
+use Rattle.placement.specs.Layout.{Layout}
+use Rattle.resp.specs.Content.{Content, content}
+use Rattle.serial_store.specs.Stores.{SerialState}
+use Rattle.shared_cluster.specs.Asks.{Submits, HasSubmitted, Replies, IsCollected, IsReplied, IsCollectFault, IsAskFault}
 use Rattle.shared_cluster.specs.Closings.{Closes, RefusesClose, Writes, Sends, IsClosed, IsCloseFault, IsWritten, IsSent}
 use Rattle.shared_cluster.specs.declared.held.CloseFault.{CloseFault}
 use Rattle.shared_cluster.specs.declared.held.AskFault.{AskFault}
 use Rattle.system_view.specs.Connections.{outcome_shown}
-use Rattle.world.specs.Steps.{Collected}
-use Rattle.world.specs.World.{Outcome}
+use Rattle.world.specs.Steps.{Collected, Steps, Leads, opening}
 
--- where the outcome of these words comes from, by the session that they met
-abbrev HasCome : HistoryView → HistoryView → List (List ℕ) → Outcome → Type 0
-HasCome before after words o = (said : IsSaid before.steps o.id words) × ComesFrom after.front (session_met said) words o
+-- ---- of a shared cluster
 
-pub answered_of : (before after : HistoryView) (old new : SeatView) (a : Answer)
-    → IsMade before (Collect old.conn) (Collected (Some (shown_outcome a))) after
-    → a.id ≡ last_id old → a.words ≡ old.words → HasCome before after a.words (shown_outcome a)
-    → IsAbove a.stamp old.floor → new ≡ record old { floor = raised a.stamp old.floor } → IsLawful after
-    → Answers before old (shown_outcome a) after new
-answered_of before after old new a collected id words from above seat lawful =
-    let come = subst (λ w. HasCome before after w (shown_outcome a)) words from in
+pub found_submitted : {E : Type 0} (before after : HistoryView) (old new : SeatView) (words : List (List ℕ)) (r : Result (Unit {0}) E)
+    → OnOk r (Submits before old words after new) → OnOk r (HasSubmitted old words new)
+found_submitted before after old new words (Ok u) submits = record {
+  before = before.steps;
+  behind = submits.behind;
+  seat = submits.seat ∙ (λ k. record {
+    conn = old.conn;
+    floor = old.floor;
+    count = old.count + 1;
+    last = ap (λ (i : RequestId). i.seq) submits.number k;
+    seen = submits.made.steps k;
+  });
+}
+found_submitted before after old new words (Err fault) submits = tt
+
+pub found_replied : {E : Type 0} (t : Layout) (before after : HistoryView) (old new : SeatView) (r : Result (Option SealedReply) E)
+    → IfOk r (λ reply. IfSome reply (λ x. Replies t before old (content x.reply) after new))
+    → IfOk r (λ reply. IfSome reply (λ x. IsCollected t old (content x.reply) new))
+found_replied t before after old new (Ok (Some x)) replies =
+    let it = replies.replied in
     record {
-      collected = collected;
-      lawful = lawful;
-      id = id;
-      said = said_later before.steps after.steps (Collect old.conn) a.id old.words collected.steps come.0;
-      from = come.1;
-      above = above;
-      seat = seat;
+      steps = before.steps;
+      behind = it.behind;
+      world = it.made.world;
+      leads = subst (λ s. Leads s opening before.steps it.made.world) replies.table it.made.leads;
+      outcome = outcome_shown it.outcome;
+      after = it.made.after;
+      collects = subst (λ s. Steps s it.made.world (Collect old.conn) (Collected (Some (outcome_shown it.outcome))) it.made.after)
+          replies.table it.made.makes;
+      id = it.id;
+      reply = sym (ap content it.reply) ∙ replies.is;
+      from = λ words said. subst (λ s. ComesFrom s it.made.world (session_met said) words (outcome_shown it.outcome)) replies.table
+          (it.from words said);
+      above = it.above;
+      seat = it.seat ∙ (λ k. record old { floor = raised it.outcome.stamp old.floor; seen = it.made.steps k });
     }
+found_replied t before after old new (Ok None) replies = tt
+found_replied t before after old new (Err fault) replies = tt
 
-pub replied_of : (before after : HistoryView) (old new : SeatView) (reply : Reply) → cluster_answer.IsReplied before old reply after new
-    → IsLawful after → Replies before old (content reply) after new
-replied_of before after old new reply h lawful = (
-  outcome_shown h.outcome,
-  sym (ap content h.reply),
+-- ---- what was submitted and then collected
+
+-- these words were said behind those steps, in all that begins with the Submit
+said_behind : (old : SeatView) (words : List (List ℕ)) (before steps : List Step) (i : RequestId)
+    → i ≡ record { conn = old.conn; seq = suc (submits_by old.conn.0 before) } → IsPrefix (before ++ Submit old.conn words ∷ []) steps
+    → (said : IsSaid steps i words) × (said.before ≡ before)
+said_behind old words before steps i is begins = (
   record {
-    collected = h.made;
-    lawful = lawful;
-    id = h.id;
-    said = h.said;
-    from = h.from;
-    above = h.above;
-    seat = h.seat;
+    before = before;
+    behind = begins.0;
+    split = sym begins.1 ∙ append_assoc before (Submit old.conn words ∷ []) begins.0
+        ∙ ap (λ c. before ++ Submit c words ∷ begins.0) (sym (ap (λ (x : RequestId). x.conn) is));
+    number = ap (λ (x : RequestId). x.seq) is ∙ ap (λ c. suc (submits_by c before)) (sym (ap (λ (x : RequestId). x.conn.0) is));
   },
+  refl,
 )
 
-pub written_of : {E : Type 0} (h : HistoryView) (r : Result Unit E) (before after : List ℕ) → IsLawful h
-    → OnOk r (after ≡ before ++ trace_text h.max_steps h.steps) → OnOk r (Writes h before after)
-written_of h (Ok done) before after lawful text = record { lawful = lawful; text = text }
-written_of h (Err fault) before after lawful text = tt
+pub replied_of : (t : Layout) (old mid new : SeatView) (words : List (List ℕ)) (reply : Content) → HasSubmitted old words mid
+    → IsCollected t mid reply new → IsReplied t old words reply new
+replied_of t old mid new words reply has collected =
+    let conn : mid.conn ≡ old.conn = ap (λ (s : SeatView). s.conn) has.seat in
+    let id : collected.outcome.id ≡ record { conn = old.conn; seq = suc (submits_by old.conn.0 has.before) } =
+    collected.id ∙ ap last_id has.seat in
+    let behind = subst (λ (s : SeatView). IsPrefix s.seen collected.steps) has.seat collected.behind in
+    let said = said_behind old words has.before collected.steps collected.outcome.id id behind in
+    record {
+      before = has.before;
+      seen = has.behind;
+      steps = collected.steps;
+      behind = behind;
+      world = collected.world;
+      leads = collected.leads;
+      outcome = collected.outcome;
+      after = collected.after;
+      collects = subst (λ c. Steps t collected.world (Collect c) (Collected (Some collected.outcome)) collected.after) conn collected.collects;
+      id = id;
+      reply = collected.reply;
+      from = subst (λ c. ComesFrom t collected.world (Rattle.world_laws.specs.Sessions.sessions_from
+          Rattle.world_laws.specs.Sessions.all_free has.before c) words collected.outcome)
+          (ap (λ (x : RequestId). x.conn.0) id) (collected.from words said.0);
+      above = subst (λ (s : SeatView). Rattle.cluster.specs.Outcomes.IsAbove collected.outcome.stamp s.floor) has.seat collected.above;
+      seat = collected.seat ∙ (λ k. record {
+        conn = conn k;
+        floor = raised collected.outcome.stamp (ap (λ (s : SeatView). s.floor) has.seat k);
+        count = ap (λ (s : SeatView). s.count) has.seat k;
+        last = (ap (λ (s : SeatView). s.last) has.seat ∙ sym (ap (λ (x : RequestId). x.seq) id)) k;
+        seen = collected.steps ++ Collect (conn k) ∷ [];
+      });
+    }
 
-pub sent_of : {E : Type 0} (h : HistoryView) (r : Result Unit E) (before after : Option (List ℕ)) → IsLawful h
-    → OnOk r (Appends before after (trace_text h.max_steps h.steps)) → OnOk r (Sends h before after)
-sent_of h (Ok done) before after lawful text = record { lawful = lawful; text = text }
-sent_of h (Err fault) before after lawful text = tt
+pub asked_replied : {E : Type 0} (t : Layout) (old mid new : SeatView) (words : List (List ℕ)) (r : Result SealedReply E)
+    → HasSubmitted old words mid → IfOk r (λ x. IsCollected t mid (content x.reply) new)
+    → IfOk r (λ x. IsReplied t old words (content x.reply) new)
+asked_replied t old mid new words (Ok x) has collected = replied_of t old mid new words (content x.reply) has collected
+asked_replied t old mid new words (Err fault) has collected = tt
 
--- ---- the same of a shared cluster
+-- what is refused once the request was submitted
+pub waited_fault : {X : Type 0} (old mid : SeatView) (words : List (List ℕ)) (r : Result X AskFault) (new : SeatView)
+    → HasSubmitted old words mid → IfErr r (IsCollectFault mid) → OnErr r (new ≡ mid) → IfErr r (λ fault. IsAskFault old words fault new)
+waited_fault old mid words (Ok x) new has refused same = tt
+waited_fault old mid words (Err fault) new has refused same =
+    inr (subst (HasSubmitted old words) (sym same) has, subst (λ s. IsCollectFault s fault) (sym same) refused)
 
-pub found_replied : {E : Type 0} (before after : HistoryView) (old new : SeatView) (r : Result (Option SealedReply) E)
-    → IfOk r (λ reply. IfSome reply (λ x. Replies before old (content x.reply) after new))
-    → IfOk r (λ reply. IfSome reply (λ x. IsReplied old (content x.reply) new))
-found_replied before after old new (Ok (Some x)) replies =
-    (replies.0, replies.1, record { before = before; after = after; answers = replies.2 })
-found_replied before after old new (Ok None) replies = tt
-found_replied before after old new (Err fault) replies = tt
+-- ---- at the end
 
-pub found_closed : (k : ClusterView) (b : BackState) (r : Result Closing CloseFault) → IfOk r (Closes k b) → IfOk r IsClosed
-found_closed k b (Ok closing) closes = (k, b, closes)
-found_closed k b (Err fault) closes = tt
+pub found_closed : (t : Layout) (k : ClusterView) (b : SerialState) (r : Result Closing CloseFault) → IfOk r (Closes t k b)
+    → IfOk r (IsClosed t)
+found_closed t k b (Ok closing) closes = (k, b, closes)
+found_closed t k b (Err fault) closes = tt
 
-pub found_close_fault : (stopped : Bool) (k : ClusterView) (b : BackState) (r : Result Closing CloseFault)
+pub found_close_fault : (stopped : Bool) (k : ClusterView) (b : SerialState) (r : Result Closing CloseFault)
     → IfErr r (λ fault. RefusesClose stopped k b fault.kind) → IfErr r IsCloseFault
 found_close_fault stopped k b (Ok closing) refused = tt
 found_close_fault stopped k b (Err fault) refused = (stopped, k, b, refused)
 
-pub found_written : {E : Type 0} (h : HistoryView) (r : Result Unit E) (before after : List ℕ) → OnOk r (Writes h before after)
-    → OnOk r (IsWritten before after)
-found_written h (Ok done) before after written = (h, written)
+pub found_written : {E : Type 0} (h : HistoryView) (r : Result Bool E) (before after : List ℕ)
+    → IfOk r (λ kept. Writes h before kept after) → IfOk r (λ kept. IsWritten before kept after)
+found_written h (Ok kept) before after written = (h, written)
 found_written h (Err fault) before after written = tt
 
-pub found_sent : {E : Type 0} (h : HistoryView) (r : Result Unit E) (before after : Option (List ℕ)) → OnOk r (Sends h before after)
-    → OnOk r (IsSent before after)
-found_sent h (Ok done) before after sent = (h, sent)
+pub found_sent : {E : Type 0} (h : HistoryView) (r : Result Bool E) (before after : Option (List ℕ))
+    → IfOk r (λ kept. Sends h before kept after) → IfOk r (λ kept. IsSent before kept after)
+found_sent h (Ok kept) before after sent = (h, sent)
 found_sent h (Err fault) before after sent = tt
-
--- what is refused once the request was submitted
-pub waited_fault : {X : Type 0} (old mid : SeatView) (words : List (List ℕ)) (r : Result X AskFault) (new : SeatView)
-    → mid ≡ submitted old words → IfErr r (IsCollectFault mid) → OnErr r (new ≡ mid) → IfErr r (λ fault. IsAskFault old words fault new)
-waited_fault old mid words (Ok x) new is refused same = tt
-waited_fault old mid words (Err fault) new is refused same = inr (subst (λ s. IsCollectFault s fault) is refused, same ∙ is)

@@ -22,7 +22,7 @@ use Rattle.shared_cluster.specs.Asks.{IsCollectFault, IsStopped, IsAskFault}
 use Rattle.shared_cluster.specs.Desks.{IsUnqueued, IsStarved}
 use Rattle.shared_cluster.specs.declared.fault.FaultKind.{FaultKind}
 use Rattle.shared_cluster.specs.declared.fault.FaultKind.TheVariants.{Closed, Memory, Exhausted, Failed, NoConn, Unlisted}
-use Rattle.layer_results.specs.declared.done.DoneRow.{DoneRow}
+use Rattle.cluster.specs.Sealed.{RanView}
 use Rattle.shared_cluster.specs.Turning.{RefusesSettle}
 use Rattle.shared_cluster.specs.declared.held.AskFault.{AskFault}
 use Rattle.shared_cluster.specs.declared.held.Unsettled.{Unsettled}
@@ -76,7 +76,7 @@ pub found_stopped : {X : Type 0} (r : Result X AskFault) (stopped : Bool) (h : H
 found_stopped (Ok got) stopped h refused = tt
 found_stopped (Err fault) stopped h refused = (stopped, h, refused)
 
-pub found_unsettled : (h : HistoryView) (done : List DoneRow) (u : Unsettled) (fault : AskFault) → RefusesSettle h done u
+pub found_unsettled : (h : HistoryView) (done : RanView) (u : Unsettled RanView) (fault : AskFault) → RefusesSettle h done u
     → u ≡ Foreign fault → IsStopped fault
 found_unsettled h done (Starved given) fault refused is = cc
 found_unsettled h done (Foreign why) fault refused is =
@@ -161,5 +161,5 @@ pub told_of_memory : (old : SeatView) (words : List (List ℕ)) (fault : AskFaul
     → fault.kind ≡ Memory → (new ≡ old) × IsUnqueued old words × IsStarved old words
 told_of_memory old words fault new (inl (why, same)) is =
     (same, unqueued old words why.0 why.1 why.2 fault why.3 is, (fault, is, why))
-told_of_memory old words fault new (inr (inl why, same)) is = absurd (why.2.1 is)
-told_of_memory old words fault new (inr (inr why, same)) is = absurd (why.2.1 is)
+told_of_memory old words fault new (inr (has, inl why)) is = absurd (why.2.1 is)
+told_of_memory old words fault new (inr (has, inr why)) is = absurd (why.2.1 is)

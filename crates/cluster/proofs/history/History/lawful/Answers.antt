@@ -1,13 +1,29 @@
-use Rattle.std.proofs.Common.{◌≡◌, true, subst}
-use Rattle.cluster.specs.Histories.{HistoryView, IsLawful, IsToldTidily}
+use Rattle.std.proofs.Common.{◌≡◌, ◌≤◌, length, ap, sym, subst, arith}
+use Rattle.cluster.proofs.Histories.{history}
+use Rattle.cluster.proofs.Taking.{lawful}
+use Rattle.cluster.proofs.Seats.{cluster}
+use Rattle.cluster.proofs.Collecting.{collect_fault}
+use Rattle.cluster.proofs.Endings.{right}
+use Rattle.cluster.proofs.Counts.{executed_more}
+use Rattle.cluster.proofs.Storing.{is_ran}
+use Rattle.cluster.proofs.Turns.{turn_fault}
+use Rattle.cluster.proofs.Making.{makes_so}
+use Rattle.cluster.proofs.Sizes.{settle_size}
+use Rattle.cluster.specs.Histories.{HistoryView, IsLawful}
+use Rattle.journal.specs.declared.trace.TheConstants.{GREATEST_STEPS}
 use Rattle.cluster.proofs.history.History.lawful.Goals as goal
 
 pub returns-clause-lawful : goal.returns-clause-lawful
-returns-clause-lawful c = subst IsLawful c.self.view_is c.self.invariant.lawful
+returns-clause-lawful g c =
+    let in' = c.self.inside in
+    let is = c.self.invariant.0 in
+    subst IsLawful c.self.view_is (lawful (history in'.front in'.max_steps in'.told in'.ran in'.trace) is.world is.true_in)
 
-pub returns-clause-tidy : goal.returns-clause-tidy
-returns-clause-tidy c =
-    subst IsToldTidily c.self.view_is (record { lawful = c.self.invariant.lawful; tidy = c.self.invariant.tidy })
+pub returns-clause-table : goal.returns-clause-table
+returns-clause-table g c = subst (λ (h : HistoryView). h.front.table ≡ g.T.Tabled.table) c.self.view_is c.self.invariant.0.table
 
-pub returns-clause-whole : goal.returns-clause-whole
-returns-clause-whole c = subst (λ (h : HistoryView). h.front.whole ≡ true) c.self.view_is c.self.invariant.whole
+pub returns-clause-within : goal.returns-clause-within
+returns-clause-within g c = subst (λ (h : HistoryView). length h.steps ≤ h.max_steps) c.self.view_is (omega (arith, c.self.invariant.0.within))
+
+pub returns-clause-few : goal.returns-clause-few
+returns-clause-few g c = subst (λ (h : HistoryView). h.max_steps ≤ GREATEST_STEPS) c.self.view_is c.self.invariant.0.few

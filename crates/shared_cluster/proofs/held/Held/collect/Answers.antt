@@ -1,18 +1,15 @@
 use Rattle.std.proofs.Common.{sym, ◌∙◌, inl, inr}
 use Rattle.cluster.specs.Clusters.{IsCollectFault}
-use Rattle.shared_cluster.proofs.Collecting.{answered_of}
+use Rattle.shared_cluster.proofs.Collecting.{replied_of}
 use Rattle.shared_cluster.proofs.Refusals.{untold}
-use Rattle.shared_cluster.proofs.held.Held.collect.Goals as goal
+use Rattle.shared_cluster.proofs.held.Held.collect_reply.Goals as goal
 
 pub returns-in-Ok-Some-clause-answered : goal.returns-in-Ok-Some-clause-answered
 returns-in-Ok-Some-clause-answered g c =
     let arm = c.in-Ok-Some in
-    let told = arm.ensures in
-    let is = arm.field-0-is in
-    rw arm.answer-is
-    (answered_of c.args.self.now.cluster.history c.collect.new.self.history c.args.seat.now c.collect.new.seat arm.answer
-    (rw is at told.collected) (rw is at told.id) (rw is at told.words) (rw is at told.from) (rw is at told.above) (rw is at told.seat)
-    c.lawful-in-Ok-Some.ensures.lawful)
+    rw arm.reply-is
+    (replied_of c.args.self.now.cluster.history c.collect_reply.new.self.history c.args.seat.now c.collect_reply.new.seat arm.reply.reply
+    (rw arm.field-0-is at arm.ensures.replied) c.lawful-in-Ok-Some.ensures.lawful)
 
 pub returns-in-Ok-None-clause-none : goal.returns-in-Ok-None-clause-none
 returns-in-Ok-None-clause-none g c = (c.lawful.ensures.lawful, inl (rw c.in-Ok-None.field-0-is at c.in-Ok-None.ensures.none))

@@ -5,18 +5,18 @@ use Rattle.shared_cluster.proofs.shared.Shared.look.Goals as goal
 
 pub returns-clause-replied : goal.returns-clause-replied
 returns-clause-replied g c =
-    found_replied c.deref_mut.result.now.cluster.history c.collect_reply.new.self.cluster.history c.args.seat.now
-    c.collect_reply.new.seat c.collect_reply.result c.collect_reply.ensures.answered
+    found_replied _ c.deref_mut.result.now.cluster.history c.collect.new.self.cluster.history c.args.seat.now
+    c.collect.new.seat c.collect.result c.collect.ensures.answered
 
 pub returns-clause-refused : goal.returns-clause-refused
 returns-clause-refused g c =
     let held = c.deref_mut.result.now in
-    found_collect c.collect_reply.result held.stopped held.cluster.history c.args.seat.now c.collect_reply.ensures.refused
+    found_collect c.collect.result held.stopped held.cluster.history c.args.seat.now c.collect.ensures.refused
 
 pub returns-clause-none : goal.returns-clause-none
 returns-clause-none g c =
-    found_uncollected c.deref_mut.result.now.cluster c.collect_reply.new.self.cluster c.args.seat.now c.collect_reply.result
-    c.collect_reply.ensures.none c.collect_reply.ensures.still
+    found_uncollected c.deref_mut.result.now.cluster c.collect.new.self.cluster c.args.seat.now c.collect.result
+    c.collect.ensures.none c.collect.ensures.still
 
 pub returns-then-has_no_outcome-clause-none : goal.returns-then-has_no_outcome-clause-none
 returns-then-has_no_outcome-clause-none g c =
