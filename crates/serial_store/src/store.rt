@@ -12,13 +12,13 @@ use crate::law::{Lent, Serial, Tabled};
 use crate::ran::Ran;
 use crate::running::run_over;
 use groups::SkipId;
+use hashed_texts::TextHasher;
 use history::{Naming, Writer};
 use layer_planner::Layer;
 use layer_results::Done;
 use placement::Table;
 use shard_exec::Store;
 use shard_workers::{Gate, Workers};
-use shards::ShardHasher;
 use std::alloc::{AllocError, Global};
 use std::marker::Model;
 
@@ -49,12 +49,12 @@ impl<T: Tabled, J: Naming> Model for SerialStore<T, J> {
 }
 
 impl<T: Tabled, J: Naming> SerialStore<T, J> {
-    /// A store without keys, placed by this table, that has run nothing. Each shard hashes its keys by a copy of `hasher`. The only
-    /// error is want of memory.
+    /// A store without keys, placed by this table, that has run nothing. Each shard hashes its keys, and the members and fields of
+    /// their values, by a copy of `hasher`. The only error is want of memory.
     pub fn new(
         alloc: Global,
         table: Table,
-        hasher: ShardHasher,
+        hasher: TextHasher,
         runs: Writer<Serial<T>, J>,
     ) -> Result<Self, AllocError>
         requires table { table ≡ T.table }
