@@ -30,7 +30,7 @@ use Rattle.shard_maps.specs.Joined.{joined}
 
 -- ---- nothing was run yet
 
-pub none_serial : (table : Layout) → AreSerial table []
+abbrev pub none_serial : (table : Layout) → AreSerial table []
 none_serial table = record {
   addressed = λ e there. absurd there;
   in_order = tt;
