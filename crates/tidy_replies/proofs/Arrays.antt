@@ -3,7 +3,7 @@ use Rattle.std.proofs.Common.{◌≡◌, ◌&&◌, ℕ, zero, suc, ◌+◌, ◌<
 use Rattle.std.proofs.Common.{refl, sym, ap, ◌∙◌, subst, arith}
 use Rattle.std.proofs.lemmas.List.{take_more}
 use Rattle.resp.proofs.Contents.{content-Array}
-use Rattle.resp.specs.Content.{Content, content, contents}
+use Rattle.resp.specs.Content.{content, contents}
 use Rattle.resp.specs.declared.reply.Reply.{Reply}
 use Rattle.resp.specs.declared.reply.Reply.TheVariants.{Array}
 use Rattle.std.specs.Global.{Vec}

@@ -1,16 +1,15 @@
 -- Tidy replies with the same text say the same of what starved.
-use Rattle.std.proofs.Common.{◌≡◌, ◌&&◌, ℕ, zero, suc, ◌+◌, ◌^◌, ◌<◌, ◌≤◌, ℤ, Bool, true, false, List, [], ◌∷◌, ◌++◌, length}
+use Rattle.std.proofs.Common.{◌≡◌, ◌&&◌, ℕ, zero, suc, ◌^◌, ◌<◌, ◌≤◌, Bool, true, false, List, [], ◌∷◌, ◌++◌, length}
 use Rattle.std.proofs.Common.{refl, sym, ap, ◌∙◌, subst, arith, append_assoc, append-nil, length-append, if◌then◌else◌}
 use Rattle.std.proofs.lemmas.Fmt.{decimal_injective}
 use Rattle.std.specs.Fmt.{decimal, signed_decimal}
-use Rattle.std.specs.Str.{bytes_eq}
 use Rattle.batches.specs.Starved.{is_want, wants_from, wants_in, starved_in}
 use Rattle.resp.specs.Content.{Content, Contents, SimpleText, ErrorLine, Number, BulkText, Nothing, Several, NoMore, Then}
 use Rattle.resp.specs.Text.{text, contents_text, count_of, crlf}
 use Rattle.sessions.specs.declared.batch.Batch.{Batch}
 use Rattle.sessions.specs.declared.batch.Batch.TheVariants.{Plain, Exec}
 use Rattle.tidy_replies.proofs.Lines.{NoEnd, AreHigh, no_end, line_once, high_no_end, decimal_high, signed_no_end, behind_same}
-use Rattle.tidy_replies.specs.Tidy.{IsTidy, tidy, all_tidy, is_line}
+use Rattle.tidy_replies.specs.Tidy.{IsTidy, tidy, all_tidy}
 
 -- the byte that says its kind
 abbrev kind : Content → ℕ

@@ -2,7 +2,7 @@
 use Rattle.std.proofs.Common.{◌≡◌, Bool, true, false, if◌then◌else◌, List, [], ◌∷◌, map, Option, Some, None, refl, ap, ◌∙◌, ◌&&◌}
 use Rattle.command_cases.specs.Replies.{truth}
 use Rattle.resp.specs.Content.{Content, BulkText, contents, text_or_null}
-use Rattle.tidy_replies.specs.Tidy.{IsTidy, tidy, all_tidy}
+use Rattle.tidy_replies.specs.Tidy.{IsTidy, all_tidy}
 
 pub tidy-truth : (so : Bool) → IsTidy (truth so)
 tidy-truth true = refl

@@ -1,7 +1,7 @@
 -- No batch answers by a line that ends within, whichever of its members starved.
 use Rattle.std.proofs.Common.{◌≡◌, ◌&&◌, ℕ, suc, Bool, true, false, List, [], ◌∷◌, refl, ap, ◌∙◌}
 use Rattle.batches.specs.Batch.{members_from, batch_effect}
-use Rattle.batches.specs.Member.{member_case, member_effect}
+use Rattle.batches.specs.Member.{member_effect}
 use Rattle.batches.specs.Starved.{has}
 use Rattle.keyspace.specs.Map.{Map}
 use Rattle.resp.specs.Content.{contents}

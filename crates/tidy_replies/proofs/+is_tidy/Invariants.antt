@@ -1,4 +1,4 @@
-use Rattle.std.proofs.Common.{◌≡◌, ℕ, true, map, take}
+use Rattle.std.proofs.Common.{◌≡◌, true, map, take}
 use Rattle.resp.specs.Content.{content, contents}
 use Rattle.tidy_replies.specs.Tidy.{all_tidy}
 use Rattle.tidy_replies.proofs.+is_tidy.Given as goal
