@@ -25,7 +25,7 @@ ghost use Rattle.world.specs.Steps.{Opened, Submitted, Collected, Made};
 use super::closing::Closing;
 use super::effect::Effect;
 use super::fault::StepFault;
-use super::history::History;
+use super::ordered::History;
 use super::names::{Leading, RunsOf, Server, StepsOf};
 use super::pick::Pick;
 use super::sealed::{Ran, Taken};

@@ -54,6 +54,7 @@ impl<T: Tabled, L: Server> Model for History<T, L> {
     ghost use Rattle.std.specs.Coded.{codes};
     ghost use Rattle.resp.specs.contracts.reply.Reply as reply;
     ghost use Rattle.skeen_core.specs.Kept.{group_code};
+    ghost use Rattle.std.specs.Prelude.{◌≡◌};
     ghost use Rattle.cluster.specs.Counting.{executed, starved, as_word};
     ghost use Rattle.cluster.specs.Histories.{HistoryView, IsHistory};
 

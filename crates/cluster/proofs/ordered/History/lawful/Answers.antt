@@ -11,7 +11,7 @@ use Rattle.cluster.proofs.Making.{makes_so}
 use Rattle.cluster.proofs.Sizes.{settle_size}
 use Rattle.cluster.specs.Histories.{HistoryView, IsLawful}
 use Rattle.journal.specs.declared.trace.TheConstants.{GREATEST_STEPS}
-use Rattle.cluster.proofs.history.History.lawful.Goals as goal
+use Rattle.cluster.proofs.ordered.History.lawful.Goals as goal
 
 pub returns-clause-lawful : goal.returns-clause-lawful
 returns-clause-lawful g c =

@@ -1,6 +1,0 @@
-use Rattle.std.proofs.Common.{ap, subst}
-use Rattle.cluster.specs.Histories.{IsLawful}
-use Rattle.cluster.proofs.cluster.Cluster.lawful.Goals as goal
-
-pub returns-clause-lawful : goal.returns-clause-lawful
-returns-clause-lawful g c = subst IsLawful (ap (λ v. v.history) c.self.view_is) c.lawful.ensures.lawful
