@@ -1,16 +1,16 @@
 -- How much a layer more adds to what is counted.
 use Rattle.std.proofs.Common.{◌≡◌, ℕ, ◌+◌, ◌≤◌, List, [], ◌∷◌, ◌++◌, length, arith}
-use Rattle.cluster.specs.Counting.{one_if, executed_in, executed, starved}
+use Rattle.cluster.specs.Counting.{one_if, executed_in, all_executed, all_starved}
 use Rattle.layer_results.specs.Results.{names_of}
 use Rattle.layer_results.specs.declared.done.DoneRow.{DoneRow}
 use Rattle.resp.specs.declared.reply.Reply.{Reply}
 use Rattle.std.proofs.Common.{Option, Some, None}
 
-pub executed_more : (ran : List (List DoneRow)) (done : List DoneRow) → executed (ran ++ done ∷ []) ≡ executed ran + executed_in done
+pub executed_more : (ran : List (List DoneRow)) (done : List DoneRow) → all_executed (ran ++ done ∷ []) ≡ all_executed ran + executed_in done
 executed_more [] done = omega arith
 executed_more (layer ∷ ran) done = omega (arith, executed_more ran done)
 
-pub starved_more : (ran : List (List DoneRow)) (done : List DoneRow) → starved (ran ++ done ∷ []) ≡ starved ran + length (names_of done)
+pub starved_more : (ran : List (List DoneRow)) (done : List DoneRow) → all_starved (ran ++ done ∷ []) ≡ all_starved ran + length (names_of done)
 starved_more [] done = omega arith
 starved_more (layer ∷ ran) done = omega (arith, starved_more ran done)
 

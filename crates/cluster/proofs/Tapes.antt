@@ -36,3 +36,8 @@ room_less (Some t) few many less is = omega (arith, less, is)
 pub room_kept : (old new : Option TraceView) (step : Step) (kept : ℕ) → LeavesRoom old step new → HasRoom (kept + step_size step) old →
     HasRoom kept new
 room_kept old new step kept leaves is = leaves kept is
+
+-- room for nothing is always there
+pub no_room : (trace : Option TraceView) → HasRoom 0 trace
+no_room None = tt
+no_room (Some t) = omega arith

@@ -13,14 +13,14 @@ abbrev pub executed_in : List DoneRow → ℕ
 executed_in [] = 0
 executed_in (row ∷ rows) = one_if row.reply + executed_in rows
 
-abbrev pub executed : List (List DoneRow) → ℕ
-executed [] = 0
-executed (layer ∷ layers) = executed_in layer + executed layers
+abbrev pub all_executed : List (List DoneRow) → ℕ
+all_executed [] = 0
+all_executed (layer ∷ layers) = executed_in layer + all_executed layers
 
 -- how many requests starved as a whole, and how many members of those that were executed
-abbrev pub starved : List (List DoneRow) → ℕ
-starved [] = 0
-starved (layer ∷ layers) = length (names_of layer) + starved layers
+abbrev pub all_starved : List (List DoneRow) → ℕ
+all_starved [] = 0
+all_starved (layer ∷ layers) = length (names_of layer) + all_starved layers
 
 -- a number, where it is below 2^64, and else the greatest that is
 abbrev pub as_word : ℕ → ℕ

@@ -5,7 +5,7 @@ ghost use Rattle.std.specs.Prelude.{IfOk, IfErr, OnOk, OnErr, IfSome, IfNone, Is
 ghost use mathlib.Core.List.{IsPrefix};
 ghost use Rattle.cluster.specs.Answers.{IsReplied};
 ghost use Rattle.cluster.specs.Clusters.{IsNew, SameBook, last_id, IsCollectFault, CanCollect, StaysOpen};
-ghost use Rattle.cluster.specs.Counting.{executed, starved, as_word};
+ghost use Rattle.cluster.specs.Counting.{all_executed, all_starved, as_word};
 ghost use Rattle.cluster.specs.Endings.{IsCloseFault, IsRight};
 ghost use Rattle.cluster.specs.Histories.{kept_for, IsLawful, IsMade, IsUnchanged, IsFault};
 ghost use Rattle.cluster.specs.Layers.{HandsOut, IsSettled, IsSettleFault};
@@ -399,8 +399,8 @@ impl<T: Tabled, L: Server> Cluster<T, L> {
         ensures store { OnOk result (store.IsLawful T.table store.now.store store.now.runs) }
         ensures right { OnOk result (IsRight self.old.history store.now) }
         ensures requests { IfOk result (λ closing. closing.requests ≡ submits self.old.history.steps) }
-        ensures executed { IfOk result (λ closing. closing.executed ≡ as_word (executed self.old.history.ran)) }
-        ensures starved { IfOk result (λ closing. closing.starved ≡ as_word (starved self.old.history.ran)) }
+        ensures executed { IfOk result (λ closing. closing.executed ≡ as_word (all_executed self.old.history.ran)) }
+        ensures starved { IfOk result (λ closing. closing.starved ≡ as_word (all_starved self.old.history.ran)) }
         ensures refused { IfErr result (IsCloseFault self.old store.now) }
         ensures same { self.new ≡ self.old }
     {
@@ -443,7 +443,7 @@ impl<T: Tabled, L: Server> Cluster<T, L> {
 
     /// How many requests of the layers that were settled starved as a whole, and how many members of those that were executed.
     pub fn starved(&self) -> u64
-        ensures { result ≡ as_word (starved self.now.history.ran) }
+        ensures { result ≡ as_word (all_starved self.now.history.ran) }
     {
         self.history.starved()
     }

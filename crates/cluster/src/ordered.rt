@@ -2,7 +2,7 @@
 
 ghost use Rattle.std.specs.Prelude.{◌≡◌, ◌+◌, ◌≤◌, ◌<◌, true, false, [], length, IfOk, IfErr, OnOk, OnErr, IfSome};
 ghost use mathlib.Core.List.{IsPrefix};
-ghost use Rattle.cluster.specs.Counting.{executed, starved, as_word};
+ghost use Rattle.cluster.specs.Counting.{all_executed, all_starved, as_word};
 ghost use Rattle.cluster.specs.Histories.{kept_for, IsLawful, IsMade, IsUnchanged, IsFault, IsPlain, IsUnanswered};
 ghost use Rattle.cluster.specs.Layers.{HandsOut, IsSettled, IsSettleFault};
 ghost use Rattle.cluster.specs.Making.{effect_shown};
@@ -55,7 +55,7 @@ impl<T: Tabled, L: Server> Model for History<T, L> {
     ghost use Rattle.resp.specs.contracts.reply.Reply as reply;
     ghost use Rattle.skeen_core.specs.Kept.{group_code};
     ghost use Rattle.std.specs.Prelude.{◌≡◌};
-    ghost use Rattle.cluster.specs.Counting.{executed, starved, as_word};
+    ghost use Rattle.cluster.specs.Counting.{all_executed, all_starved, as_word};
     ghost use Rattle.cluster.specs.Histories.{HistoryView, IsHistory};
 
     ghost Value = { HistoryView };
@@ -66,7 +66,7 @@ impl<T: Tabled, L: Server> Model for History<T, L> {
 
     ghost invariant = { λ h. IsHistory T.table
         (record { front = h.front; max_steps = h.max_steps; steps = h.told; ran = h.ran; trace = h.trace })
-        × (h.executed ≡ as_word (executed h.ran)) × (h.starved ≡ as_word (starved h.ran)) };
+        × (h.executed ≡ as_word (all_executed h.ran)) × (h.starved ≡ as_word (all_starved h.ran)) };
 }
 
 impl<T: Tabled, L: Server> History<T, L> {
@@ -137,14 +137,14 @@ impl<T: Tabled, L: Server> History<T, L> {
 
     /// How many requests of the layers that were settled were executed.
     pub fn executed(&self) -> u64
-        ensures { result ≡ as_word (executed self.now.ran) }
+        ensures { result ≡ as_word (all_executed self.now.ran) }
     {
         self.executed
     }
 
     /// How many of them starved as a whole, and how many members of those that were executed.
     pub fn starved(&self) -> u64
-        ensures { result ≡ as_word (starved self.now.ran) }
+        ensures { result ≡ as_word (all_starved self.now.ran) }
     {
         self.starved
     }

@@ -3,7 +3,7 @@ use Rattle.std.specs.Prelude.{◌≡◌, ℕ, Bool, true, false, List, ◌++◌,
 use Rattle.std.specs.Io.KnownBytes.{Appends}
 use Rattle.front.specs.Looking.{IsQuiet}
 use Rattle.cluster.specs.Clusters.{ClusterView}
-use Rattle.cluster.specs.Counting.{executed, starved, as_word}
+use Rattle.cluster.specs.Counting.{all_executed, all_starved, as_word}
 use Rattle.cluster.specs.Endings as cluster
 use Rattle.cluster.specs.Histories.{HistoryView, IsLawful}
 use Rattle.cluster.specs.Submits.{submits}
@@ -33,8 +33,8 @@ pub record Closes (t : Layout) (c : ClusterView) (store : SerialState) (closing 
   pub store : stores.IsLawful t store.store store.runs
   pub right : cluster.IsRight c.history store
   pub requests : closing.requests ≡ submits c.history.steps
-  pub executed : closing.executed ≡ as_word (executed c.history.ran)
-  pub starved : closing.starved ≡ as_word (starved c.history.ran)
+  pub executed : closing.executed ≡ as_word (all_executed c.history.ran)
+  pub starved : closing.starved ≡ as_word (all_starved c.history.ran)
 
 -- why a cluster isn't closed, told of one that no layer stopped
 abbrev pub of_cluster : front.CloseFault → CloseKind
@@ -88,4 +88,4 @@ IsSent before kept after = (h : HistoryView) × Sends h before kept after
 pub record IsSight (h : HistoryView) (sight : Sight) : Type 0 where
   pub requests : sight.requests ≡ submits h.steps
   pub steps : sight.steps ≡ length h.steps
-  pub starved : sight.starved ≡ as_word (starved h.ran)
+  pub starved : sight.starved ≡ as_word (all_starved h.ran)
