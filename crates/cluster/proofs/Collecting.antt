@@ -153,6 +153,9 @@ module _ (h h' : HistoryView) (s : SeatView) (can : CanCollect h s) (lawful : Is
       (some.0, given.1 ∙ ap effect.Collected some.1)
 
   module _ (o : kept.Outcome) (made : IsMade h (Collect s.conn) (world.Collected (Some (outcome_shown o))) h') where
+    abbrev o' : Outcome
+    o' = outcome_shown o
+
     same : outcome_shown o ≡ outcome_shown can.outcome
     same = same_collected (outcome_shown o) (outcome_shown can.outcome) (answered _ made)
 
@@ -188,9 +191,6 @@ module _ (h h' : HistoryView) (s : SeatView) (can : CanCollect h s) (lawful : Is
                 (subst (λ before. test (sessions_from all_free before o'.id.conn.0) was.words) one.1 was.passes);
           })
     ]
-      where
-        abbrev o' : Outcome
-        o' = outcome_shown o
 
 -- ---- why it isn't
 

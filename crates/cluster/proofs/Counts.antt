@@ -1,6 +1,6 @@
 -- How much a layer more adds to what is counted.
 use Rattle.std.proofs.Common.{◌≡◌, ℕ, ◌+◌, ◌≤◌, List, [], ◌∷◌, ◌++◌, length, arith}
-use Rattle.cluster.specs.Counting.{one_if, executed_in, all_executed, all_starved}
+use Rattle.cluster.specs.Counting.{one_if, executed_in, all_executed, all_starved, as_word}
 use Rattle.layer_results.specs.Results.{names_of}
 use Rattle.layer_results.specs.declared.done.DoneRow.{DoneRow}
 use Rattle.resp.specs.declared.reply.Reply.{Reply}
@@ -25,3 +25,7 @@ executed_few (row ∷ rows) = omega (arith, executed_few rows, one_at_most row.r
 pub executed-append : (xs ys : List DoneRow) → executed_in (xs ++ ys) ≡ executed_in xs + executed_in ys
 executed-append [] ys = omega arith
 executed-append (x ∷ xs) ys = omega (arith, executed-append xs ys)
+
+-- a number that was cut and is added to is cut as their sum is
+pub as_word_more : (a b : ℕ) → as_word (as_word a + as_word b) ≡ as_word (a + b)
+as_word_more a b = omega arith

@@ -99,7 +99,7 @@ module _ (t : Layout) (h : HistoryView) (is : IsHistory t h) where
     pub out_stays : new.out ≡ h.front.out
     out_stays =
         let next = stepping.next h is.world is.true_in step plain effect new makes in
-        let keeps = others_leave_layers h.front.table is.world next.world step effect (stepping.leaves step plain) next.makes in
+        let keeps = others_leave_layers h.front.table is.world next.world step effect (stepping.leaves step plain) next.does in
         same_out is.world.layer new.out h.front.out (subst (λ (l : Layer). IsOut l new.out) keeps.0 next.at.shows.out)
         is.true_in.at.shows.out
 

@@ -23,7 +23,7 @@ use Rattle.order_laws.proofs.SerialLaws.{serial_is_true}
 use Rattle.order_laws.proofs.TakeLaws.{takes_agree}
 use Rattle.order_laws.proofs.Yielding.{one_more, leads_of}
 use Rattle.order_laws.specs.Layers.{Yields, run_by}
-use Rattle.order_laws.specs.Serial.{IsSerial}
+use Rattle.execution_order.specs.Serial.{IsSerial}
 use Rattle.order_laws.specs.Takes.{HandsOut}
 use Rattle.order_laws.specs.Truth.{ran_as, AreRunsOf, with_run}
 use Rattle.cluster.proofs.Came.{Tells, tells, names_told, Addressed, layer_told}

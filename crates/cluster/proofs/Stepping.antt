@@ -70,7 +70,7 @@ module _ (h : HistoryView) (w : World) (is : IsTrueIn h w) where
   module _ (step : Step) (plain : IsPlain step) (effect : Effect) (new : FrontView) (makes : Makes h.front step effect new) where
     pub record Next : Type 0 where
       pub world : World
-      pub makes : Steps h.front.table w step effect world
+      pub does : Steps h.front.table w step effect world
       pub at : FrontIsAt new (h.steps ++ step ∷ []) world (truth w)
 
     pub next : Next
@@ -79,7 +79,7 @@ module _ (h : HistoryView) (w : World) (is : IsTrueIn h w) where
         let same = from.3 ∙ true_answer step from.0 from.1 plain from.2 in
         record {
           world = from.1;
-          makes = subst (λ e. Steps h.front.table w step e from.1) (sym same) from.2;
+          does = subst (λ e. Steps h.front.table w step e from.1) (sym same) from.2;
           at = from.4;
         }
 
@@ -94,7 +94,7 @@ module _ (h : HistoryView) (w : World) (is : IsTrueIn h w) where
       goes_on =
           let t = h.front.table in
           let counts = makes.is_step in
-          let keeps = others_leave_layers t w next.world step effect (leaves step plain) next.makes in
+          let keeps = others_leave_layers t w next.world step effect (leaves step plain) next.does in
           record {
             at = subst (λ es. FrontIsAt new (h.steps ++ step ∷ []) next.world (truth_among es)) (sym keeps.1) next.at;
             not_run = subst HasNotRun (sym keeps.0) is.not_run;
@@ -102,7 +102,7 @@ module _ (h : HistoryView) (w : World) (is : IsTrueIn h w) where
               ended = is.ran.ended;
               runs = subst (λ l. Yields run_by t opening (h.steps ++ step ∷ []) l next.world)
                   (ap (λ l. is.ran.ended ++ l) (none_run w next.world step plain) ∙ append-nil is.ran.ended)
-                  (yielding.one_more run_by t opening w next.world h.steps is.ran.ended step effect is.ran.runs next.makes);
+                  (yielding.one_more run_by t opening w next.world h.steps is.ran.ended step effect is.ran.runs next.does);
               each = is.ran.each;
             });
             layers = counts.layers ∙ is.layers;
@@ -119,5 +119,5 @@ module _ (h : HistoryView) (w : World) (is : IsTrueIn h w) where
         world = w;
         leads = is.at.leads;
         after = next.world;
-        makes = next.makes;
+        makes = next.does;
       }

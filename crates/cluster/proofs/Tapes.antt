@@ -1,5 +1,5 @@
 -- A trace that may be kept, or none: it stays that of the steps.
-use Rattle.std.proofs.Common.{◌≡◌, ℕ, ◌+◌, ◌≤◌, List, [], ◌∷◌, ◌++◌, Option, Some, None, refl, sym, ap, ◌∙◌, arith}
+use Rattle.std.proofs.Common.{◌≡◌, ℕ, ◌+◌, ◌≤◌, List, [], ◌∷◌, ◌++◌, Option, Some, None, Result, Ok, Err, OnOk, refl, sym, ap, ◌∙◌, arith}
 use Rattle.cluster.specs.Traces.{IsTraceOf, HasRoom, KeepsRoom, SameTrace, IsPushed, LeavesRoom}
 use Rattle.journal.specs.Codes.{step_size}
 use Rattle.journal.specs.Views.{TraceView}
@@ -15,10 +15,10 @@ trace_pushed (Some old) (Some new) steps step most now pushed same is =
 
 pub trace_still : (old new : Option TraceView) (steps steps' : List Step) (most most' : ℕ) → SameTrace old new → steps' ≡ steps →
     most' ≡ most → IsTraceOf old steps most → IsTraceOf new steps' most'
-trace_still None None steps steps' most most' still same as is = tt
-trace_still None (Some new) steps steps' most most' still same as is = absurd still
-trace_still (Some old) None steps steps' most most' still same as is = absurd still
-trace_still (Some old) (Some new) steps steps' most most' still same as is = (still.1 ∙ is.0 ∙ sym same, still.0 ∙ is.1 ∙ sym as)
+trace_still None None steps steps' most most' still same also is = tt
+trace_still None (Some new) steps steps' most most' still same also is = absurd still
+trace_still (Some old) None steps steps' most most' still same also is = absurd still
+trace_still (Some old) (Some new) steps steps' most most' still same also is = (still.1 ∙ is.0 ∙ sym same, still.0 ∙ is.1 ∙ sym also)
 
 pub same_trace : (trace : Option TraceView) → SameTrace trace trace
 same_trace None = tt
@@ -32,12 +32,19 @@ pub room_less : (trace : Option TraceView) (few many : ℕ) → few ≤ many →
 room_less None few many less is = tt
 room_less (Some t) few many less is = omega (arith, less, is)
 
--- a step that was pushed beyond what is kept leaves what is kept, where there was room for both
-pub room_kept : (old new : Option TraceView) (step : Step) (kept : ℕ) → LeavesRoom old step new → HasRoom (kept + step_size step) old →
-    HasRoom kept new
-room_kept old new step kept leaves is = leaves kept is
-
 -- room for nothing is always there
 pub no_room : (trace : Option TraceView) → HasRoom 0 trace
 no_room None = tt
 no_room (Some t) = omega arith
+
+-- taking the last step back gives its room back
+pub room_back : (t new : TraceView) (step : Step) (before : Option TraceView) → IsPushed before step (Some t) →
+    LeavesRoom before step (Some t) → (bytes : ℕ) → HasRoom bytes before →
+    ((front : List Step) (last : Step) → t.steps ≡ front ++ last ∷ [] → t.room + step_size last ≤ new.room) → bytes ≤ new.room
+room_back t new step None pushed leaves bytes has more = absurd pushed
+room_back t new step (Some old) pushed leaves bytes has more = omega (arith, leaves, has, more old.steps step pushed.1)
+
+pub on_ok : {X E P Q : Type 0} (r : Result X E) → (P → Q) → OnOk r P →
+    OnOk r Q
+on_ok (Ok x) implies holds = implies holds
+on_ok (Err e) implies holds = tt

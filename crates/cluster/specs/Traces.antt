@@ -37,6 +37,8 @@ abbrev pub place_of : Option TraceView → ℕ
 place_of None = 0
 place_of (Some t) = steps_size t.steps
 
--- the bytes of a step were taken from the room, at most
+-- no more than the bytes of a step were taken from the room
 abbrev pub LeavesRoom : Option TraceView → Step → Option TraceView → Type 0
-LeavesRoom old step new = (bytes : ℕ) → HasRoom (bytes + step_size step) old → HasRoom bytes new
+LeavesRoom None step new = Unit {0}
+LeavesRoom (Some old) step None = ⊥
+LeavesRoom (Some old) step (Some new) = old.room ≤ new.room + step_size step

@@ -18,7 +18,7 @@ ghost use Rattle.front.specs.Looking.{IsQuiet};
 ghost use Rattle.journal.specs.declared.step.Step.{Step};
 ghost use Rattle.journal.specs.declared.trace.TheConstants.{GREATEST_STEPS};
 ghost use Rattle.router.specs.Router.{waiting};
-ghost use Rattle.serial_store.specs.Stores as store;
+ghost use Rattle.serial_store.specs.Stores as stores;
 ghost use Rattle.system_view.specs.Connections.{outcome_shown};
 ghost use Rattle.world.specs.Steps.{Opened, Submitted, Collected, Made};
 
@@ -396,7 +396,7 @@ impl<T: Tabled, L: Server> Cluster<T, L> {
         ensures share { OnOk result (self.old.back ≡ self.old.book) }
         ensures quiet { OnOk result (IsQuiet self.old.history.front) }
         ensures lawful { OnOk result (IsLawful self.old.history) }
-        ensures store { OnOk result (store.IsLawful T.table store.now.store store.now.runs) }
+        ensures store { OnOk result (stores.IsLawful T.table store.now.store store.now.runs) }
         ensures right { OnOk result (IsRight self.old.history store.now) }
         ensures requests { IfOk result (λ closing. closing.requests ≡ submits self.old.history.steps) }
         ensures executed { IfOk result (λ closing. closing.executed ≡ as_word (all_executed self.old.history.ran)) }

@@ -6,13 +6,13 @@ ghost use Rattle.layer_results.specs.Results.{names_of};
 
 use layer_results::{Done, DoneRow};
 
-/// How many requests of a layer were executed.
+/// How many requests of a layer were executed; the greatest number of 64 bits where that is more.
 pub(super) fn executed_in(rows: &[DoneRow]) -> u64
-    ensures { result ≡ executed_in rows.now }
+    ensures { result ≡ as_word (executed_in rows.now) }
 {
     let mut count: u64 = 0;
     for row in rows {
-        count += one_if(row);
+        count = count.saturating_add(one_if(row));
     }
     count
 }
