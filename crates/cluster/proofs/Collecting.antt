@@ -204,3 +204,14 @@ collect_fault h s fault.InFlight can why = why
 collect_fault h s fault.NoLayer can why = why
 collect_fault h s fault.Exhausted can why = why
 collect_fault h s fault.Memory can why = can
+
+-- nor is one collected whose Collect has a fault of its own
+pub own_collect_fault : (h : HistoryView) (s : SeatView) (f : StepFault) → IsFault h (Collect s.conn) f → (f ≡ fault.Memory → ⊥) →
+    IsCollectFault h s f
+own_collect_fault h s fault.Busy why ample = why
+own_collect_fault h s fault.NoConn why ample = (why.0, inl why.1)
+own_collect_fault h s fault.NoPacket why ample = why
+own_collect_fault h s fault.InFlight why ample = why
+own_collect_fault h s fault.NoLayer why ample = why
+own_collect_fault h s fault.Exhausted why ample = why
+own_collect_fault h s fault.Memory why ample = absurd (ample refl)

@@ -18,7 +18,7 @@ use Rattle.serial_store.specs.Serial.{layer_of}
 use Rattle.world.specs.Steps.{opening, Effect, Collected, Collects, Steps, Leads}
 use Rattle.world.specs.World.{World, Standing, Closed, Idle, Waiting, Answered}
 
-leaves : (s : Step) → IsPlain s → LeavesLayers s
+pub leaves : (s : Step) → IsPlain s → LeavesLayers s
 leaves Open plain = tt
 leaves (Submit conn words) plain = tt
 leaves (Deliver k) plain = tt

@@ -407,6 +407,7 @@ impl<T: Tabled, L: Server> Cluster<T, L> {
         if self.stood != self.sat {
             return Err(CloseFault::SeatsOut);
         }
+        self.history.lawful();
         let front = self.history.front();
         if !front.quiet() {
             return Err(CloseFault::NotQuiet);
@@ -417,7 +418,6 @@ impl<T: Tabled, L: Server> Cluster<T, L> {
         front.holds();
         self.history.ran().begins(&store.part());
         store.lawful();
-        self.history.lawful();
         let closing = Closing {
             requests: self.requests,
             executed: self.history.executed(),
@@ -530,7 +530,10 @@ fn awaits<T: Tabled, L: Server>(
             None => Ok(false),
         };
     };
-    if outcome.id.seq != seat.last || !is_above(&outcome.stamp, seat.floor) {
+    if outcome.id.seq != seat.last {
+        return Err(StepFault::NoConn);
+    }
+    if !is_above(&outcome.stamp, seat.floor) {
         return Err(StepFault::NoConn);
     }
     Ok(true)
@@ -571,7 +574,10 @@ fn close<T: Tabled, L: Server>(history: &mut History<T, L>, conn: ConnId, kept: 
     ensures room { HasRoom kept history.new.trace }
     ensures closed { IsMade history.old (Step.Close conn) Made history.new ⊎ StaysOpen conn history.old history.new }
 {
-    let _ = history.make_unanswered(Step::Close { conn }, kept);
+    match history.make_unanswered(Step::Close { conn }, kept) {
+        Ok(()) => {}
+        Err(_fault) => return,
+    }
 }
 
 /// Whether a stamp's clock is above the floor.

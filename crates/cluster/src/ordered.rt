@@ -155,6 +155,7 @@ impl<T: Tabled, L: Server> History<T, L> {
         ensures table { self.now.front.table ≡ T.table }
         ensures within { length self.now.steps ≤ self.now.max_steps }
         ensures few { self.now.max_steps ≤ GREATEST_STEPS }
+        ensures layers { self.now.front.layers ≡ length self.now.ran }
     {
         let _ = &self.front;
     }
@@ -201,7 +202,8 @@ impl<T: Tabled, L: Server> History<T, L> {
     pub fn own_fault(&self, step: &Step) -> Option<StepFault>
         requires plain { IsPlain step.now }
         requires left { length self.now.steps + kept_for self.now.front.out < self.now.max_steps }
-        ensures { IfSome result (IsFault self.now step.now) }
+        ensures fault { IfSome result (IsFault self.now step.now) }
+        ensures wants { IfSome result (λ fault. fault ≡ StepFault.Memory → WantsMemory step.now) }
     {
         match own_fault(&self.front, step) {
             Some(fault) => Some(StepFault::from(fault)),
@@ -361,6 +363,7 @@ impl<T: Tabled, L: Server> History<T, L> {
         ensures unchanged { OnErr result (IsUnchanged self.old self.new) }
         ensures room { HasRoom kept self.old.trace → HasRoom kept self.new.trace }
     {
+        self.lawful();
         let packets = self.front.packets();
         if packets == 0 {
             return Ok(false);

@@ -27,3 +27,6 @@ returns-clause-said g c =
     said_now c.args.history.now.steps c.make.new.self.steps c.in-Submitted.id c.args.words
     (made.steps ∙ ap (λ i. c.args.history.now.steps ++ Submit i c.args.words ∷ []) (sym is.0))
     (is.1 ∙ ap (λ i. Rattle.std.proofs.Common.suc (Rattle.cluster.specs.Submits.submits_by i.0 c.args.history.now.steps)) (sym is.0))
+
+pub returns-in-Err-clause-room : goal.returns-in-Err-clause-room
+returns-in-Err-clause-room g c = c.in-Err.ensures.room_back c.args.kept

@@ -4,6 +4,7 @@ use Rattle.cluster.proofs.Effects.{collected_same}
 use Rattle.cluster.specs.Clusters.{SeatView}
 use Rattle.cluster.specs.Histories.{IsMade, IsFault}
 use Rattle.cluster.specs.Making.{effect_shown}
+use Rattle.cluster.specs.Outcomes.{raised}
 use Rattle.cluster.specs.declared.effect.Effect.TheVariants.{Collected}
 use Rattle.journal.specs.declared.step.Step.TheVariants.{Collect}
 use Rattle.cluster.proofs.cluster.take_outcome.Goals as goal
@@ -37,10 +38,19 @@ returns-clause-taken g c =
       behind = subst (λ (s : SeatView). mathlib.Core.List.IsPrefix s.seen c.args.history.now.steps) c.seat.view_is c.in-Ok.ensures.behind;
       from = from _ _ s c.requires c.lawful.ensures.lawful c.in-Some.outcome made;
       above = above _ _ s c.requires c.lawful.ensures.lawful c.in-Some.outcome made;
-      seat = ?;
+      seat = λ k. record {
+        conn = ap (λ (s : SeatView). s.conn) c.seat.view_is k;
+        floor = (c.raise.ensures ∙ ap (λ (s : SeatView). raised c.in-Some.outcome.stamp s.floor) c.seat.view_is) k;
+        count = ap (λ (s : SeatView). s.count) c.seat.view_is k;
+        last = ap (λ (s : SeatView). s.last) c.seat.view_is k;
+        seen = c.part.ensures k;
+      };
     }
 
 pub returns-in-Err-clause-refused : goal.returns-in-Err-clause-refused
 returns-in-Err-clause-refused g c =
     let why = subst (λ (s : SeatView). IsFault c.args.history.now (Collect s.conn) c.in-Err.fault) c.seat.view_is c.in-Err.ensures.fault in
     collect_fault _ c.args.seat.now c.in-Err.fault c.requires why
+
+pub returns-in-Err-clause-room : goal.returns-in-Err-clause-room
+returns-in-Err-clause-room g c = c.in-Err.ensures.room_back c.args.kept

@@ -1,8 +1,7 @@
 use Rattle.std.proofs.Common.{arith}
-use Rattle.std.specs.Prelude.{OnOk}
 use Rattle.cluster.proofs.Sizes.{settle_size}
 use Rattle.cluster.proofs.Tapes.{on_ok}
 use Rattle.cluster.proofs.tape.push_run.Goals as goal
 
 pub returns-clause-room : goal.returns-clause-room
-returns-clause-room c = on_ok c.push_keeping.result (λ few. omega (arith, settle_size, c.in-Some.ensures.1, few)) c.push_keeping.ensures.room
+returns-clause-room c = on_ok c.push_keeping.result (λ few. let size = settle_size in omega arith) c.push_keeping.ensures.room

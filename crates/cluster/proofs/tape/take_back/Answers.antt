@@ -1,9 +1,9 @@
-use Rattle.std.proofs.Common.{Some, subst}
+use Rattle.std.proofs.Common.{subst}
 use Rattle.cluster.proofs.Tapes.{room_back}
 use Rattle.cluster.specs.Traces.{IsPushed, LeavesRoom}
 use Rattle.cluster.proofs.tape.take_back.Goals as goal
 
 pub returns-in-Some-clause-room : goal.returns-in-Some-clause-room
 returns-in-Some-clause-room c = λ before step pushed leaves bytes has.
-    room_back c.in-Some.trace c.take_back.new.self step before (rw c.in-Some.trace-is at pushed) (rw c.in-Some.trace-is at leaves) bytes has
-    c.take_back.ensures.room
+    room_back c.in-Some.trace c.take_back.new.self step before (subst (λ t. IsPushed before step t) c.in-Some.is pushed)
+    (subst (λ t. LeavesRoom before step t) c.in-Some.is leaves) bytes has c.take_back.ensures.room

@@ -4,15 +4,6 @@ use Rattle.cluster.specs.Making.{effect_shown}
 use Rattle.cluster.proofs.Seats.{cluster_sat, cluster_still, room_still, room_sat}
 use Rattle.cluster.proofs.cluster.Cluster.sit.Goals as goal
 
-pub invariant_of-self-in-Err : goal.invariant_of-self-in-Err
-invariant_of-self-in-Err g c =
-    let in' = c.self.inside in (
-      cluster_still g.L.Ledger.parts in'.pool.parts in'.requests in'.history c.make.new.self in'.book.total in'.sat in'.stood
-          in'.pool.amount c.in-Err.ensures.unchanged c.self.invariant.0,
-      room_still in'.kept in'.history c.make.new.self in'.book.total in'.book.total in'.sat in'.stood in'.pool.amount in'.pool.amount
-          (c.in-Err.ensures.room_back in'.kept) c.self.invariant.1,
-    )
-
 pub invariant_of-self-2 : goal.invariant_of-self-2
 invariant_of-self-2 g c =
     let in' = c.self.inside in (

@@ -4,15 +4,6 @@ use Rattle.cluster.specs.Clusters.{IsCluster}
 use Rattle.world.specs.Steps.{Submitted}
 use Rattle.cluster.proofs.cluster.Cluster.submit.Goals as goal
 
-pub invariant_of-self-in-Err : goal.invariant_of-self-in-Err
-invariant_of-self-in-Err g c =
-    let in' = c.self.inside in (
-      cluster_still g.L.Ledger.parts in'.pool.parts in'.requests in'.history c.make_submit.new.history in'.book.total in'.sat in'.stood
-          in'.pool.amount c.in-Err.ensures.unchanged c.self.invariant.0,
-      room_still in'.kept in'.history c.make_submit.new.history in'.book.total in'.book.total in'.sat in'.stood in'.pool.amount
-          in'.pool.amount c.in-Err.ensures.room c.self.invariant.1,
-    )
-
 pub overflow_add-self : goal.overflow_add-self
 overflow_add-self g c =
     let in' = c.self.inside in

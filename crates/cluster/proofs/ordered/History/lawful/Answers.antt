@@ -1,14 +1,6 @@
-use Rattle.std.proofs.Common.{◌≡◌, ◌≤◌, length, ap, sym, subst, arith}
+use Rattle.std.proofs.Common.{◌≡◌, ◌≤◌, length, subst, arith}
 use Rattle.cluster.proofs.Histories.{history}
 use Rattle.cluster.proofs.Taking.{lawful}
-use Rattle.cluster.proofs.Seats.{cluster}
-use Rattle.cluster.proofs.Collecting.{collect_fault}
-use Rattle.cluster.proofs.Endings.{right}
-use Rattle.cluster.proofs.Counts.{executed_more}
-use Rattle.cluster.proofs.Storing.{is_ran}
-use Rattle.cluster.proofs.Turns.{turn_fault}
-use Rattle.cluster.proofs.Making.{makes_so}
-use Rattle.cluster.proofs.Sizes.{settle_size}
 use Rattle.cluster.specs.Histories.{HistoryView, IsLawful}
 use Rattle.journal.specs.declared.trace.TheConstants.{GREATEST_STEPS}
 use Rattle.cluster.proofs.ordered.History.lawful.Goals as goal
@@ -23,7 +15,11 @@ pub returns-clause-table : goal.returns-clause-table
 returns-clause-table g c = subst (λ (h : HistoryView). h.front.table ≡ g.T.Tabled.table) c.self.view_is c.self.invariant.0.table
 
 pub returns-clause-within : goal.returns-clause-within
-returns-clause-within g c = subst (λ (h : HistoryView). length h.steps ≤ h.max_steps) c.self.view_is (omega (arith, c.self.invariant.0.within))
+returns-clause-within g c =
+    subst (λ (h : HistoryView). length h.steps ≤ h.max_steps) c.self.view_is (let within = c.self.invariant.0.within in omega arith)
 
 pub returns-clause-few : goal.returns-clause-few
 returns-clause-few g c = subst (λ (h : HistoryView). h.max_steps ≤ GREATEST_STEPS) c.self.view_is c.self.invariant.0.few
+
+pub returns-clause-layers : goal.returns-clause-layers
+returns-clause-layers g c = subst (λ (h : HistoryView). h.front.layers ≡ length h.ran) c.self.view_is c.self.invariant.0.true_in.layers

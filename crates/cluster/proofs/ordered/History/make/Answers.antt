@@ -22,6 +22,7 @@ invariant_of-self-in-Ok-make g c =
           (history_made g.T.Tabled.table old c.self.invariant.0 c.args.step c.requires (effect_shown c.in-Ok-make.effect) c.make.new.front
           c.in-Ok-make.ensures.made in'.max_steps c.push_keeping.new.trace left refl c.in-Ok.ensures.pushed),
       c.self.invariant.1,
+      c.self.invariant.2,
     )
 
 pub returns-in-Ok-make-clause-made : goal.returns-in-Ok-make-clause-made
@@ -40,16 +41,6 @@ returns-in-Ok-make-clause-made g c =
 
 pub take_back-requires : goal.take_back-requires
 take_back-requires g c = (c.self.inside.trace, c.args.step, c.in-Ok.ensures.pushed, c.place-place.ensures)
-
-pub invariant_of-self-in-Err : goal.invariant_of-self-in-Err
-invariant_of-self-in-Err g c =
-    let in' = c.self.inside in
-    let old = history in'.front in'.max_steps in'.told in'.ran in'.trace in (
-      history_still g.T.Tabled.table old (history c.make.new.front in'.max_steps in'.told in'.ran c.take_back.new.trace) c.self.invariant.0
-          (left_so old c.make.new.front c.take_back.new.trace c.in-Err.ensures.unchanged
-          (c.take_back.ensures.same in'.trace c.args.step c.in-Ok.ensures.pushed)),
-      c.self.invariant.1,
-    )
 
 pub returns-in-Err-clause-fault : goal.returns-in-Err-clause-fault
 returns-in-Err-clause-fault g c =

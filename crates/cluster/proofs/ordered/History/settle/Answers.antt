@@ -1,0 +1,3 @@
+use Rattle.std.proofs.Common.{◌≡◌}
+use Rattle.cluster.proofs.ordered.History.settle.Goals as goal
+
