@@ -29,3 +29,11 @@ executed-append (x ∷ xs) ys = omega (arith, executed-append xs ys)
 -- a number that was cut and is added to is cut as their sum is
 pub as_word_more : (a b : ℕ) → as_word (as_word a + as_word b) ≡ as_word (a + b)
 as_word_more a b = omega arith
+
+-- a count that was cut, to which a number below that limit is added and which is cut again
+pub cut_more : (a b all n m s : ℕ) → n ≡ as_word a → m ≡ b → s ≡ as_word (n + m) → all ≡ a + b → s ≡ as_word all
+cut_more a b all n m s first second sum whole = omega (arith, first, second, sum, whole)
+
+-- both of which were cut
+pub cuts_more : (a b all n m s : ℕ) → n ≡ as_word a → m ≡ as_word b → s ≡ as_word (n + m) → all ≡ a + b → s ≡ as_word all
+cuts_more a b all n m s first second sum whole = omega (arith, first, second, sum, whole)

@@ -291,6 +291,7 @@ impl<T: Tabled, L: Server> Cluster<T, L> {
             Err(fault) => return Err(fault),
         };
         self.book.add(&mut seat.share, 1);
+        self.book.audit(&mut seat.share);
         self.requests += 1;
         seat.count += 1;
         seat.last = id.seq;

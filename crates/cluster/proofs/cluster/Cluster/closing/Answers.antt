@@ -8,4 +8,7 @@ use Rattle.placement.specs.Layout.{IsTable}
 use Rattle.cluster.proofs.cluster.Cluster.closing.Goals as goal
 
 pub returns-clause-lawful : goal.returns-clause-lawful
-returns-clause-lawful g c = subst IsLawful (ap (λ v. v.history) c.self.view_is) c.lawful-2.ensures.lawful
+returns-clause-lawful g c = subst IsLawful (ap (λ v. v.history) c.self.view_is) c.lawful.ensures.lawful
+
+pub returns-clause-right : goal.returns-clause-right
+returns-clause-right g c = ?

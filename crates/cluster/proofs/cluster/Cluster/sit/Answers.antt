@@ -18,3 +18,12 @@ pub unreachable-requires : goal.unreachable-requires
 unreachable-requires g c =
     let some = opens _ _ c.in-Ok.effect c.in-Ok.ensures.made in
     c.in_default-effect.not-Opened some.0 some.1
+
+pub invariant_of-self : goal.invariant_of-self
+invariant_of-self g c =
+    let in' = c.self.inside in (
+      cluster_still g.L.Ledger.parts in'.pool.parts in'.requests in'.history c.make.new.self in'.book.total in'.sat in'.stood
+          in'.pool.amount c.in-Err.ensures.unchanged c.self.invariant.0,
+      room_still in'.kept in'.history c.make.new.self in'.book.total in'.book.total in'.sat in'.stood in'.pool.amount in'.pool.amount
+          (c.in-Err.ensures.room_back in'.kept) c.self.invariant.1,
+    )

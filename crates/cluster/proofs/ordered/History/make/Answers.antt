@@ -51,3 +51,14 @@ returns-in-Err-clause-fault g c =
     subst (λ h. IsFault h c.args.step c.from.result) c.self.view_is
     (told_as g.T.Tabled.table old c.self.invariant.0 c.args.step c.in-Err.fault c.from.result c.from.ensures
     (goes_on old c.args.step c.requires left) c.in-Err.ensures.refused)
+
+pub invariant_of-self-in-Err-make : goal.invariant_of-self-in-Err-make
+invariant_of-self-in-Err-make g c =
+    let in' = c.self.inside in
+    let old = history in'.front in'.max_steps in'.told in'.ran in'.trace in (
+      history_still g.T.Tabled.table old (history c.make.new.front in'.max_steps in'.told in'.ran c.take_back.new.trace) c.self.invariant.0
+          (left_so old c.make.new.front c.take_back.new.trace c.in-Err.ensures.unchanged
+          (c.take_back.ensures.same in'.trace c.args.step c.in-Ok.ensures.pushed)),
+      c.self.invariant.1,
+      c.self.invariant.2,
+    )
