@@ -74,7 +74,7 @@ pub record HasSubmitted (old : SeatView) (words : List (List ℕ)) (new : SeatVi
 
 -- This is the reply of the outcome which the seat's connection collected behind these steps, in the world to which they lead: that of
 -- the seat's last request, whichever words it was submitted with. The steps begin with all that the seat had seen.
-pub record IsCollected (t : Layout) (old : SeatView) (reply : Content) (new : SeatView) : Type 0 where
+pub record IsCollected (t : Layout) (old : SeatView) (answer : Content) (new : SeatView) : Type 0 where
   pub steps : List Step
   pub behind : IsPrefix old.seen steps
   pub world : World
@@ -83,7 +83,7 @@ pub record IsCollected (t : Layout) (old : SeatView) (reply : Content) (new : Se
   pub after : World
   pub collects : Steps t world (Collect old.conn) (Collected (Some outcome)) after
   pub id : outcome.id ≡ last_id old
-  pub reply : outcome.reply ≡ reply
+  pub reply : outcome.reply ≡ answer
   pub from : (words : List (List ℕ)) (said : IsSaid steps outcome.id words) → ComesFrom t world (session_met said) words outcome
   pub above : IsAbove outcome.stamp old.floor
   pub seat : new ≡ record old { floor = raised outcome.stamp old.floor; seen = steps ++ Collect old.conn ∷ [] }
@@ -92,7 +92,7 @@ pub record IsCollected (t : Layout) (old : SeatView) (reply : Content) (new : Se
 -- has seen a part before and has one behind, the Submit lies behind all that the seat had seen; its connection collected the outcome
 -- behind it, in the world to which the steps lead, and it is that request's: what came of it where it was run, or what its words are
 -- answered at once in the session that they met. Its stamp is above the seat's floor, and raises it.
-pub record IsReplied (t : Layout) (old : SeatView) (words : List (List ℕ)) (reply : Content) (new : SeatView) : Type 0 where
+pub record IsReplied (t : Layout) (old : SeatView) (words : List (List ℕ)) (answer : Content) (new : SeatView) : Type 0 where
   pub before : List Step
   pub seen : IsPrefix old.seen before
   pub steps : List Step
@@ -103,7 +103,7 @@ pub record IsReplied (t : Layout) (old : SeatView) (words : List (List ℕ)) (re
   pub after : World
   pub collects : Steps t world (Collect old.conn) (Collected (Some outcome)) after
   pub id : outcome.id ≡ record { conn = old.conn; seq = suc (submits_by old.conn.0 before) }
-  pub reply : outcome.reply ≡ reply
+  pub reply : outcome.reply ≡ answer
   pub from : ComesFrom t world (sessions_from all_free before old.conn.0) words outcome
   pub above : IsAbove outcome.stamp old.floor
   pub seat : new ≡ record {

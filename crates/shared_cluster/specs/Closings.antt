@@ -30,7 +30,7 @@ pub record Closes (t : Layout) (c : ClusterView) (store : SerialState) (closing 
   pub stood : c.stood ≡ c.sat
   pub back : c.back ≡ submits c.history.steps
   pub lives : store.store.failed ≡ false
-  pub store : stores.IsLawful t store.store store.runs
+  pub serial : stores.IsLawful t store.store store.runs
   pub right : cluster.IsRight c.history store
   pub requests : closing.requests ≡ submits c.history.steps
   pub executed : closing.executed ≡ as_word (all_executed c.history.ran)

@@ -1,6 +1,6 @@
 //! What names a cluster, of which one is made.
 
-ghost use Rattle.std.specs.Prelude.{◌≡◌, []};
+ghost use Rattle.std.specs.Prelude.{◌≡◌, ◌+◌, []};
 
 use cluster::{Leading, RunsOf, Server, StepsOf};
 use history::{Itself, Unnamed, Writer};
@@ -36,7 +36,7 @@ impl<T: Tabled> Blanks<T> {
         requires parts { self.blank.parts ≡ L.parts }
         requires steps { self.steps ≡ L.steps }
         requires runs { self.runs ≡ L.runs }
-        ensures blank { result.blank ≡ self.entry.blank }
+        ensures blank { result.blank ≡ self.blank }
         ensures steps { result.steps ≡ [] }
         ensures runs { result.runs ≡ [] }
     {

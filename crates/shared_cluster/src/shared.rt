@@ -21,7 +21,7 @@
 //! Each looks under the front's lock whether he has something to do before he goes to sleep, and each is woken after the change
 //! under that lock, so no call is missed.
 
-ghost use Rattle.std.specs.Prelude.{◌≡◌, ◌≤◌, ◌<◌, ◌⊎◌, true, IfOk, IfErr, IfSome, IfNone, OnOk, OnErr, OnSome};
+ghost use Rattle.std.specs.Prelude.{◌≡◌, ◌≤◌, ◌<◌, ◌⊎◌, [], true, IfOk, IfErr, IfSome, IfNone, OnOk, OnErr, OnSome};
 ghost use Rattle.resp.specs.Content.{content};
 ghost use Rattle.shared_cluster.specs.Asks.{IsNewSeat, HasSubmitted, IsCollected, IsReplied, IsSitFault, IsSubmitFault};
 ghost use Rattle.shared_cluster.specs.Asks.{IsCollectFault, IsAskFault};
