@@ -1,20 +1,18 @@
 //! What goes on beside a layer that is held while it is run: requests come in, and packets come to their groups.
 
-ghost use Rattle.std.specs.Prelude.{◌≡◌, ◌<◌};
-
 use crate::asking::{closes, request};
-use crate::rows::{MOST, shared, syncs};
-use cluster::First;
+use crate::naming::{WithShared, with_shared};
+use crate::rows::{MOST, syncs};
+use cluster::{First, Server};
 use groups::RequestId;
+use serial_store::Tabled;
 use server::shared_syncs;
 use shard_workers::{Gate, InTurn};
 use shared_cluster::{AskFault, AtRest, Shared};
 use std::alloc::Global;
-use std::marker::Brand;
 use std::num::NonZeroUsize;
 use std::sync::Wait;
 use std::sync::atomic::{AtomicBool, Ordering};
-use std::sync::ledger::{Blank, Ledger};
 use std::test::Fail;
 use std::thread::{self, Threads, join};
 use std::time::{Clock, Duration};
@@ -93,14 +91,14 @@ fn shows(trace: &str, awaited: Awaited) -> bool {
 }
 
 /// Whether the trace shows it by now.
-fn is_shown<L: Ledger, R: Wait>(
+fn is_shown<T: Tabled, L: Server, R: Wait>(
     rt: &R,
     alloc: Global,
-    shared: &Shared<L>,
+    shared: &Shared<T, L>,
     awaited: Awaited,
 ) -> bool {
     let mut trace = Vec::new(alloc);
-    if shared.write_trace(rt, &mut trace).is_err() {
+    if !matches!(shared.write_trace(rt, &mut trace), Ok(true)) {
         return false;
     }
     match String::from_utf8(trace) {
@@ -110,10 +108,10 @@ fn is_shown<L: Ledger, R: Wait>(
 }
 
 /// Lets the layer go once the trace shows it.
-fn let_go<L: Ledger, R: Wait + Clock>(
+fn let_go<T: Tabled, L: Server, R: Wait + Clock>(
     rt: &R,
     alloc: Global,
-    shared: &Shared<L>,
+    shared: &Shared<T, L>,
     gate: &Held,
     awaited: Awaited,
 ) {
@@ -128,7 +126,12 @@ fn let_go<L: Ledger, R: Wait + Clock>(
 }
 
 /// Asks at a seat of its own, for whose request another thread makes the turns. Says whether it is answered.
-fn ask<L: Ledger, R: Wait + Clock>(rt: &R, alloc: Global, shared: &Shared<L>, words: &str) -> bool {
+fn ask<T: Tabled, L: Server, R: Wait + Clock>(
+    rt: &R,
+    alloc: Global,
+    shared: &Shared<T, L>,
+    words: &str,
+) -> bool {
     let Ok(mut seat) = shared.sit(rt) else {
         return false;
     };
@@ -142,10 +145,10 @@ fn ask<L: Ledger, R: Wait + Clock>(rt: &R, alloc: Global, shared: &Shared<L>, wo
 }
 
 /// The same once a request is held.
-fn ask_behind<L: Ledger, R: Wait + Clock>(
+fn ask_behind<T: Tabled, L: Server, R: Wait + Clock>(
     rt: &R,
     alloc: Global,
-    shared: &Shared<L>,
+    shared: &Shared<T, L>,
     gate: &Held,
     words: &str,
 ) -> bool {
@@ -154,14 +157,12 @@ fn ask_behind<L: Ledger, R: Wait + Clock>(
 }
 
 /// One asks once a layer is held, which is let go once the trace shows what is wanted. Says whether it was answered.
-fn ask_and_let_go<L: Ledger + Send + Sync, R: Threads + Wait + Clock + Sync>(
-    rt: &R,
-    alloc: Global,
-    shared: &Shared<L>,
-    gate: &Held,
-    awaited: Awaited,
-) -> bool {
-    shared_syncs::<L>();
+fn ask_and_let_go<
+    T: Tabled + Send + Sync,
+    L: Server + Send + Sync,
+    R: Threads + Wait + Clock + Sync,
+>(rt: &R, alloc: Global, shared: &Shared<T, L>, gate: &Held, awaited: Awaited) -> bool {
+    shared_syncs::<T, L>();
     syncs::<R>();
     syncs::<Held>();
     let (is_answered, ()) = join(
@@ -173,14 +174,14 @@ fn ask_and_let_go<L: Ledger + Send + Sync, R: Threads + Wait + Clock + Sync>(
 }
 
 /// One asks, and another while the first's layer is held; then the cluster is shut. Says whether both were answered.
-fn ask_and_shut<L: Ledger + Send + Sync, R: Threads + Wait + Clock + Sync>(
+fn ask_and_shut<T: Tabled + Send + Sync, L: Server + Send + Sync, R: Threads + Wait + Clock + Sync>(
     rt: &R,
     alloc: Global,
-    shared: &Shared<L>,
+    shared: &Shared<T, L>,
     gate: &Held,
     awaited: Awaited,
 ) -> bool {
-    shared_syncs::<L>();
+    shared_syncs::<T, L>();
     syncs::<R>();
     syncs::<Held>();
     let (first, second) = join(
@@ -193,22 +194,21 @@ fn ask_and_shut<L: Ledger + Send + Sync, R: Threads + Wait + Clock + Sync>(
 }
 
 /// Drives the cluster with one worker.
-fn drive<L: Ledger, R: Wait + Clock>(
+fn drive<T: Tabled, L: Server, R: Wait + Clock>(
     rt: &R,
-    shared: &Shared<L>,
+    shared: &Shared<T, L>,
     gate: &(dyn Gate + Sync),
 ) -> Result<AtRest, AskFault> {
     shared.drive(rt, &First, &InTurn(NonZeroUsize::MIN), gate)
 }
 
 /// Two ask beside a thread that drives, and one that brings packets to their groups.
-fn ask_beside_carrier<L: Ledger + Send + Sync, R: Threads + Wait + Clock + Sync>(
-    rt: &R,
-    alloc: Global,
-    shared: &Shared<L>,
-    gate: &Held,
-) -> bool {
-    shared_syncs::<L>();
+fn ask_beside_carrier<
+    T: Tabled + Send + Sync,
+    L: Server + Send + Sync,
+    R: Threads + Wait + Clock + Sync,
+>(rt: &R, alloc: Global, shared: &Shared<T, L>, gate: &Held) -> bool {
+    shared_syncs::<T, L>();
     syncs::<R>();
     syncs::<Held>();
     let (carried, are_answered) = join(
@@ -221,14 +221,14 @@ fn ask_beside_carrier<L: Ledger + Send + Sync, R: Threads + Wait + Clock + Sync>
 
 /// Two ask beside a thread that drives, whose first layer is held until it is shown that packets come to their groups, or
 /// that requests come in.
-fn ask_beside<L: Ledger + Send + Sync, R: Threads + Wait + Clock + Sync>(
+fn ask_beside<T: Tabled + Send + Sync, L: Server + Send + Sync, R: Threads + Wait + Clock + Sync>(
     rt: &R,
     alloc: Global,
-    shared: &Shared<L>,
+    shared: &Shared<T, L>,
     gate: &Held,
     carries: bool,
 ) -> Result<(), Fail> {
-    shared_syncs::<L>();
+    shared_syncs::<T, L>();
     syncs::<R>();
     syncs::<Held>();
     let (driven, are_answered) = join(
@@ -246,39 +246,35 @@ fn ask_beside<L: Ledger + Send + Sync, R: Threads + Wait + Clock + Sync>(
     holds("both were answered", are_answered)
 }
 
-/// The same over a new cluster, which closes with both.
-fn holds_one<L: Ledger + Send + Sync, R: Threads + Wait + Clock + Sync>(
-    rt: &R,
-    alloc: Global,
-    blank: Blank,
+/// Two ask of a new cluster, whose first layer is held, and which closes with both.
+#[derive(Drop)]
+struct HoldsOne {
     carries: bool,
-) -> Result<(), Fail>
-    requires { (blank.name ≡ L.name) × (blank.parts ≡ L.parts) × (1000 < blank.parts) }
-{
-    let shared: Shared<L> = shared(alloc, MOST, blank)?;
-    let gate = Held::new();
-    ask_beside(rt, alloc, &shared, &gate, carries)?;
-    holds("the layer was held", gate.entered.load(Ordering::SeqCst))?;
-    holds("it was let go", !gate.missed.load(Ordering::SeqCst))?;
-    closes(shared.close(rt), (2, 2, 0))
 }
 
-/// The same.
-fn hold_one<R: Threads + Wait + Clock + Sync>(
-    rt: &R,
-    alloc: Global,
-    carries: bool,
-) -> Result<(), Fail> {
-    let blank = Blank::new(MOST + 1);
-    holds_one::<Brand, R>(rt, alloc, blank, carries)
+impl WithShared for HoldsOne {
+    fn go<T, L, R>(self, rt: &R, alloc: Global, shared: &Shared<T, L>) -> Result<(), Fail>
+    where
+        T: Tabled + Send + Sync,
+        L: Server + Send + Sync,
+        R: Threads + Wait + Clock + Sync,
+    {
+        let gate = Held::new();
+        ask_beside(rt, alloc, shared, &gate, self.carries)?;
+        holds("the layer was held", gate.entered.load(Ordering::SeqCst))?;
+        holds("it was let go", !gate.missed.load(Ordering::SeqCst))?;
+        closes(shared.close(rt), (2, 2, 0))
+    }
 }
 
 #[test]
 fn a_request_comes_in_while_a_layer_is_run(rt: HostRuntime) -> Result<(), Fail> {
-    hold_one(&rt, rt.alloc(), false)
+    let what = HoldsOne { carries: false };
+    with_shared(&rt, rt.alloc(), MOST, true, what)
 }
 
 #[test]
 fn a_packet_comes_to_its_group_while_a_layer_is_run(rt: HostRuntime) -> Result<(), Fail> {
-    hold_one(&rt, rt.alloc(), true)
+    let what = HoldsOne { carries: true };
+    with_shared(&rt, rt.alloc(), MOST, true, what)
 }

@@ -1,52 +1,45 @@
-//! How a cluster is closed beside a store whose rows are others than it was told; and the steps that are kept back for a layer
-//! that is out.
+//! How a cluster is closed beside a store that ran what no front handed out; where no layer is handed out; and the steps
+//! that are kept back for one that is out.
 
-ghost use Rattle.std.specs.Prelude.{◌≡◌, ◌≤◌, ◌<◌};
+ghost use Rattle.std.specs.Prelude.{◌≤◌};
 ghost use Rattle.journal.specs.declared.trace.TheConstants.{GREATEST_STEPS};
 
 use crate::asking::{closes, request, stays};
+use crate::naming::{WithCluster, with_cluster};
+use crate::rows::MOST;
 use crate::turns::run;
-use back::Back;
-use cluster::{CloseFault, Cluster, First, Seat, StepFault};
+use cluster::{CloseFault, Cluster, First, Ran, RunsOf, Seat, Server, StepFault, Taken, run_taken};
 use groups::{ConnId, GroupId, Groups, RequestId, Stamp};
-use hashed_texts::TextHasher;
 use layer_planner::{Job, Layer};
-use layer_results::{Done, DoneRow};
-use placement::Table;
-use resp::Reply;
+use serial_store::{SerialStore, Tabled};
+use shard_workers::{InTurn, OpenGate};
 use std::alloc::Global;
-use std::marker::Brand;
-use std::sync::ledger::{Blank, Ledger};
+use std::num::NonZeroUsize;
 use std::test::Fail;
-use test_support::{TWO_SHARDS, holds};
+use test_support::{holds, same_number};
 use worded::Worded;
 
-/// At most how many steps the clusters here make that don't run out of them.
-const MOST: u64 = 1000;
-
-/// What differs of a cluster that settled one layer, and a store.
+/// What is done beside a request whose layer is taken, run and settled.
 #[derive(Clone, Copy)]
 enum Case {
     /// Nothing.
     Nothing,
-    /// The store ran no layer.
-    RanNone,
-    /// The store ran a layer more, which no front handed out.
+    /// The store runs a layer more, which no front handed out.
     RanMore,
-    /// The cluster was told another reply.
-    OtherReply,
-    /// The cluster is told of no layer, and then of the one that is out, twice.
-    OtherLayer,
+    /// The store has run one that no front handed out before it comes to it.
+    RanOther,
+    /// Another layer is to be taken while it is out, and where no request is ready.
+    TakenMore,
     /// No steps are left but those for the layer that is out.
     KeptBack,
 }
 
 /// The seat submits `SET a 1`, whose layer is taken.
-fn take<L: Ledger>(
+fn take<T: Tabled, L: Server>(
     alloc: Global,
-    cluster: &mut Cluster<L>,
-    seat: &mut Seat<L>,
-) -> Result<Layer, Fail> {
+    cluster: &mut Cluster<T, L>,
+    seat: &mut Seat<T, L>,
+) -> Result<Taken<T, L>, Fail> {
     let request = request(alloc, "SET a 1")?;
     cluster.submit(seat, request)?;
     holds("its packet comes", cluster.turn(&First)?)?;
@@ -76,41 +69,59 @@ fn layer_of_no_front(alloc: Global) -> Result<Layer, Fail> {
     }
 }
 
-/// The same row with another reply.
-fn other_row(row: DoneRow) -> DoneRow {
-    DoneRow {
-        id: row.id,
-        stamp: row.stamp,
-        words: row.words,
-        reply: Some(Reply::Int(7)),
-    }
+/// The store runs a layer that no front handed out, as the one of this number.
+fn runs_own<T: Tabled, L: Server>(
+    alloc: Global,
+    store: &mut SerialStore<T, RunsOf<L>>,
+    number: u64,
+) -> Result<(), Fail> {
+    let layer = layer_of_no_front(alloc)?;
+    let ran = store.run(number, layer, &[], &InTurn(NonZeroUsize::MIN), &OpenGate);
+    holds("the layer of no front is run", ran.is_ok())?;
+    same_number(
+        "the layers that were run",
+        store.count(),
+        number.saturating_add(1),
+    )
 }
 
-/// The same of one row with another reply.
-fn other_reply(alloc: Global, done: Done) -> Result<Done, Fail> {
-    let mut others = Vec::new(alloc);
-    if let Some(row) = done.into_rows().pop() {
-        others.push(other_row(row))?;
-    }
-    Ok(Done::new(others))
-}
-
-/// What came of a layer is not settled, since it isn't what came of the one that is out.
-fn is_of_no_layer<L: Ledger>(cluster: &mut Cluster<L>, done: Done) -> Result<Done, Fail> {
-    match cluster.settle(done) {
-        Err((done, StepFault::NoLayer)) => Ok(done),
-        Err(_) => Err("it is another fault".into()),
-        Ok(()) => Err("it is settled".into()),
+/// A layer that was handed out is refused for good: the store has run another one in its place.
+fn is_run_no_more<T: Tabled, L: Server>(
+    store: &mut SerialStore<T, RunsOf<L>>,
+    taken: Taken<T, L>,
+) -> Result<(), Fail> {
+    match run_taken(store, taken, &InTurn(NonZeroUsize::MIN), &OpenGate) {
+        Err(None) => Ok(()),
+        Err(Some(_)) => Err("it is given back".into()),
+        Ok(_) => Err("it is run".into()),
     }
 }
 
 /// What came of the layer is settled.
-fn settles<L: Ledger>(cluster: &mut Cluster<L>, done: Done) -> Result<(), Fail> {
-    holds("the layer is settled", cluster.settle(done).is_ok())
+fn settles<T: Tabled, L: Server>(cluster: &mut Cluster<T, L>, ran: Ran<T, L>) -> Result<(), Fail> {
+    holds("the layer is settled", cluster.settle(ran).is_ok())
+}
+
+/// No layer is handed out, since one is out already.
+fn is_in_flight<T: Tabled, L: Server>(cluster: &mut Cluster<T, L>) -> Result<(), Fail> {
+    match cluster.take() {
+        Err(StepFault::InFlight) => Ok(()),
+        Err(_) => Err("it is another fault".into()),
+        Ok(_) => Err("a second layer is out".into()),
+    }
+}
+
+/// No layer is handed out, since no request is ready.
+fn has_no_layer<T: Tabled, L: Server>(cluster: &mut Cluster<T, L>) -> Result<(), Fail> {
+    match cluster.take() {
+        Err(StepFault::NoLayer) => Ok(()),
+        Err(_) => Err("it is another fault".into()),
+        Ok(_) => Err("a layer of nothing is out".into()),
+    }
 }
 
 /// No seat is given, since no steps are left but those that are kept back.
-fn is_exhausted<L: Ledger>(cluster: &mut Cluster<L>) -> Result<(), Fail> {
+fn is_exhausted<T: Tabled, L: Server>(cluster: &mut Cluster<T, L>) -> Result<(), Fail> {
     match cluster.sit() {
         Err(StepFault::Exhausted) => Ok(()),
         Err(_) => Err("it is another fault".into()),
@@ -121,109 +132,94 @@ fn is_exhausted<L: Ledger>(cluster: &mut Cluster<L>) -> Result<(), Fail> {
     }
 }
 
-/// What came of a layer is settled, as the case says.
-fn settle_as<L: Ledger>(
+/// The layer is run and settled, as the case says.
+fn bring_as<T: Tabled, L: Server>(
     alloc: Global,
-    cluster: &mut Cluster<L>,
-    back: &mut Back,
-    done: Done,
+    cluster: &mut Cluster<T, L>,
+    store: &mut SerialStore<T, RunsOf<L>>,
+    taken: Taken<T, L>,
     case: Case,
 ) -> Result<(), Fail> {
     match case {
-        Case::Nothing | Case::RanNone => settles(cluster, done),
+        Case::Nothing => settles(cluster, run(store, taken)?),
         Case::RanMore => {
-            run(back, layer_of_no_front(alloc)?)?;
-            settles(cluster, done)
+            let ran = run(store, taken)?;
+            runs_own(alloc, store, 1)?;
+            settles(cluster, ran)
         }
-        Case::OtherReply => {
-            let other = other_reply(alloc, done)?;
-            settles(cluster, other)
+        Case::RanOther => {
+            runs_own(alloc, store, 0)?;
+            is_run_no_more(store, taken)
         }
-        Case::OtherLayer => {
-            let none = is_of_no_layer(cluster, Done::none(alloc))?;
-            settles(cluster, done)?;
-            is_of_no_layer(cluster, none)?;
-            Ok(())
+        Case::TakenMore => {
+            is_in_flight(cluster)?;
+            settles(cluster, run(store, taken)?)?;
+            has_no_layer(cluster)
         }
         Case::KeptBack => {
             is_exhausted(cluster)?;
-            settles(cluster, done)
+            settles(cluster, run(store, taken)?)
         }
     }
 }
 
-/// The request is run by this store, and what came of it is settled, as the case says.
-fn bring_through<L: Ledger>(
+/// The seat's request becomes a layer, which is run and settled, as the case says.
+fn bring_through<T: Tabled, L: Server>(
     alloc: Global,
-    cluster: &mut Cluster<L>,
-    back: &mut Back,
-    seat: &mut Seat<L>,
+    cluster: &mut Cluster<T, L>,
+    store: &mut SerialStore<T, RunsOf<L>>,
+    seat: &mut Seat<T, L>,
     case: Case,
 ) -> Result<(), Fail> {
-    let layer = take(alloc, cluster, seat)?;
-    let done = run(back, layer)?;
-    settle_as(alloc, cluster, back, done, case)
+    let taken = take(alloc, cluster, seat)?;
+    bring_as(alloc, cluster, store, taken, case)
 }
 
-/// The cluster is closed beside these stores, of which the first ran the layer, as the case says.
-fn close_as<L: Ledger>(
-    cluster: &mut Cluster<L>,
-    back: &Back,
-    idle: &Back,
+/// The cluster is closed beside its store, as the case says.
+fn close_as<T: Tabled, L: Server>(
+    cluster: &mut Cluster<T, L>,
+    store: &SerialStore<T, RunsOf<L>>,
     case: Case,
 ) -> Result<(), Fail> {
+    let closed = cluster.closing(store);
     match case {
-        Case::Nothing | Case::OtherLayer | Case::KeptBack => closes(
-            cluster.closing(back),
-            (1, 1, 0),
-        ),
-        Case::RanNone => stays(cluster.closing(idle), CloseFault::Disagree),
-        Case::RanMore | Case::OtherReply => stays(cluster.closing(back), CloseFault::Disagree),
+        Case::Nothing | Case::TakenMore | Case::KeptBack => closes(closed, (1, 1, 0)),
+        Case::RanMore => stays(closed, CloseFault::Disagree),
+        Case::RanOther => stays(closed, CloseFault::NotQuiet),
     }
 }
 
 /// A seat asks once, and stands, and the cluster is closed, as the case says.
-fn ask_and_close<L: Ledger>(
-    alloc: Global,
-    cluster: &mut Cluster<L>,
-    back: &mut Back,
-    idle: &Back,
+#[derive(Drop)]
+struct AskAndClose {
     case: Case,
-) -> Result<(), Fail> {
-    let mut seat = cluster.sit()?;
-    let asked = bring_through(alloc, cluster, back, &mut seat, case);
-    cluster.stand(seat);
-    asked?;
-    close_as(cluster, back, idle, case)
 }
 
-/// The same of a new cluster, which makes so many steps at most, and of new stores.
-fn ask_anew<L: Ledger>(alloc: Global, most: u64, blank: Blank, case: Case) -> Result<(), Fail>
-    requires ledger { (blank.name ≡ L.name) × (blank.parts ≡ L.parts) × (most < blank.parts) }
-    requires most { (1 ≤ most) × (most ≤ GREATEST_STEPS) }
-{
-    let table = Table::from_toml(alloc, TWO_SHARDS)?;
-    let mut cluster: Cluster<L> = Cluster::new(alloc, table, most, blank)?;
-    let mut back = Back::new(alloc, table, TextHasher::Fixed)?;
-    let idle = Back::new(alloc, table, TextHasher::Fixed)?;
-    ask_and_close(alloc, &mut cluster, &mut back, &idle, case)
+impl WithCluster for AskAndClose {
+    fn go<T: Tabled, L: Server>(
+        self,
+        alloc: Global,
+        cluster: &mut Cluster<T, L>,
+        store: &mut SerialStore<T, RunsOf<L>>,
+    ) -> Result<(), Fail> {
+        let mut seat = cluster.sit()?;
+        let asked = bring_through(alloc, cluster, store, &mut seat, self.case);
+        cluster.stand(seat);
+        asked?;
+        close_as(cluster, store, self.case)
+    }
 }
 
-/// The same.
+/// The same of a new cluster, which makes so many steps at most.
 fn close_within(alloc: Global, most: u64, case: Case) -> Result<(), Fail>
     requires { (1 ≤ most) × (most ≤ GREATEST_STEPS) }
 {
-    ask_anew::<Brand>(alloc, most, Blank::new(most + 1), case)
+    with_cluster(alloc, most, false, AskAndClose { case })
 }
 
 #[test]
-fn a_store_with_the_same_rows(rt: HostRuntime) -> Result<(), Fail> {
+fn a_store_that_ran_the_same_layer(rt: HostRuntime) -> Result<(), Fail> {
     close_within(rt.alloc(), MOST, Case::Nothing)
-}
-
-#[test]
-fn a_store_that_ran_no_layer(rt: HostRuntime) -> Result<(), Fail> {
-    close_within(rt.alloc(), MOST, Case::RanNone)
 }
 
 #[test]
@@ -232,13 +228,13 @@ fn a_store_that_ran_a_layer_more(rt: HostRuntime) -> Result<(), Fail> {
 }
 
 #[test]
-fn another_reply_is_told(rt: HostRuntime) -> Result<(), Fail> {
-    close_within(rt.alloc(), MOST, Case::OtherReply)
+fn a_store_that_ran_another_layer(rt: HostRuntime) -> Result<(), Fail> {
+    close_within(rt.alloc(), MOST, Case::RanOther)
 }
 
 #[test]
-fn another_layer_is_told(rt: HostRuntime) -> Result<(), Fail> {
-    close_within(rt.alloc(), MOST, Case::OtherLayer)
+fn one_layer_is_out(rt: HostRuntime) -> Result<(), Fail> {
+    close_within(rt.alloc(), MOST, Case::TakenMore)
 }
 
 /// An Open, a Submit, a Deliver, a Take, and the Run and the Settle that are kept back for it.

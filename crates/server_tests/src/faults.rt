@@ -1,17 +1,17 @@
 //! What is written and counted where a read or a write of one connection fails, at a desk of a shared cluster.
 
-ghost use Rattle.std.specs.Prelude.{◌≡◌, ◌<◌};
-
 use crate::asking::{Numbers, closes, discard};
-use crate::rows::{MOST, shared};
+use crate::naming::{WithShared, with_shared};
+use crate::rows::MOST;
+use cluster::Server;
+use serial_store::Tabled;
 use server::serve_desk;
 use serving::{ServeFault, Served};
 use shared_cluster::{AskFault, Desk, Shared, Turns};
 use std::alloc::Global;
-use std::marker::Brand;
 use std::sync::Wait;
-use std::sync::ledger::{Blank, Ledger};
 use std::test::Fail;
+use std::thread::Threads;
 use std::time::Clock;
 use test_support::{
     NEVER, Sink, Source, bytes_of, requests_of, same_bytes, same_number, same_text,
@@ -31,10 +31,10 @@ fn word(ended: &Result<Served, ServeFault<AskFault>>) -> &'static str {
 }
 
 /// Serves a connection at a seat of its own, as the server does. How it ended, and how many requests the seat has.
-fn serve_one<L: Ledger, R: Wait + Clock>(
+fn serve_one<T: Tabled, L: Server, R: Wait + Clock>(
     rt: &R,
     alloc: Global,
-    shared: &Shared<L>,
+    shared: &Shared<T, L>,
     reader: &mut Source<'_>,
     writer: &mut Sink,
 ) -> Result<(&'static str, u64), Fail> {
@@ -65,10 +65,10 @@ fn same_came(came: (&str, u64), replies: &[u8], wanted: &Wanted<'_>) -> Result<(
 }
 
 /// Serves a connection. That comes of it which is wanted, and the cluster closes, since its seat has stood.
-fn comes_over<L: Ledger, R: Wait + Clock>(
+fn comes_over<T: Tabled, L: Server, R: Wait + Clock>(
     rt: &R,
     alloc: Global,
-    shared: &Shared<L>,
+    shared: &Shared<T, L>,
     reader: &mut Source<'_>,
     writer: &mut Sink,
     wanted: &Wanted<'_>,
@@ -78,31 +78,39 @@ fn comes_over<L: Ledger, R: Wait + Clock>(
     closes(shared.close(rt), wanted.numbers)
 }
 
-/// The same over a cluster of this ledger.
-fn comes_of<L: Ledger, R: Wait + Clock>(
-    rt: &R,
-    alloc: Global,
-    blank: Blank,
-    reader: &mut Source<'_>,
-    writer: &mut Sink,
-    wanted: &Wanted<'_>,
-) -> Result<(), Fail>
-    requires { (blank.name ≡ L.name) × (blank.parts ≡ L.parts) × (1000 < blank.parts) }
-{
-    let shared: Shared<L> = shared(alloc, MOST, blank)?;
-    comes_over(rt, alloc, &shared, reader, writer, wanted)
+/// Serves a connection that reads and writes here.
+#[derive(Drop)]
+struct Connects<'a, 'b> {
+    reader: &'a mut Source<'b>,
+    writer: &'a mut Sink,
+    wanted: &'a Wanted<'a>,
 }
 
-/// The same over a new cluster.
-pub(crate) fn comes<R: Wait + Clock>(
+impl WithShared for Connects<'_, '_> {
+    fn go<T, L, R>(self, rt: &R, alloc: Global, shared: &Shared<T, L>) -> Result<(), Fail>
+    where
+        T: Tabled + Send + Sync,
+        L: Server + Send + Sync,
+        R: Threads + Wait + Clock + Sync,
+    {
+        comes_over(rt, alloc, shared, self.reader, self.writer, self.wanted)
+    }
+}
+
+/// Serves a connection over a new cluster, which keeps no trace.
+pub(crate) fn comes<R: Threads + Wait + Clock + Sync>(
     rt: &R,
     alloc: Global,
     reader: &mut Source<'_>,
     writer: &mut Sink,
     wanted: &Wanted<'_>,
 ) -> Result<(), Fail> {
-    let blank = Blank::new(MOST + 1);
-    comes_of::<Brand, R>(rt, alloc, blank, reader, writer, wanted)
+    let connects = Connects {
+        reader,
+        writer,
+        wanted,
+    };
+    with_shared(rt, alloc, MOST, false, connects)
 }
 
 /// What a connection sends, and the replies to it.
@@ -190,7 +198,7 @@ fn wanted_of<'a>(
 }
 
 /// Serves a connection in this way, and what comes is that.
-fn comes_by<R: Wait + Clock>(
+fn comes_by<R: Threads + Wait + Clock + Sync>(
     rt: &R,
     alloc: Global,
     texts: &Texts<'_>,
@@ -206,7 +214,7 @@ fn comes_by<R: Wait + Clock>(
 
 /// The read of this number fails: just the replies to the requests stand that were read whole. Whether there was such a
 /// read.
-fn read_fails<R: Wait + Clock>(
+fn read_fails<R: Threads + Wait + Clock + Sync>(
     rt: &R,
     alloc: Global,
     texts: &Texts<'_>,
@@ -222,7 +230,7 @@ fn read_fails<R: Wait + Clock>(
 }
 
 /// Each read fails, until none does.
-fn each_read_fails<R: Wait + Clock>(
+fn each_read_fails<R: Threads + Wait + Clock + Sync>(
     rt: &R,
     alloc: Global,
     texts: &Texts<'_>,
@@ -244,7 +252,7 @@ fn each_read_fails<R: Wait + Clock>(
 
 /// The write of this number fails: a beginning of the replies stands, and no more was asked than the request whose reply
 /// that write was of, or all that was read with it. Whether there was such a write.
-fn write_fails<R: Wait + Clock>(
+fn write_fails<R: Threads + Wait + Clock + Sync>(
     rt: &R,
     alloc: Global,
     texts: &Texts<'_>,
@@ -264,7 +272,7 @@ fn write_fails<R: Wait + Clock>(
 }
 
 /// Each write fails, until none does.
-fn each_write_fails<R: Wait + Clock>(
+fn each_write_fails<R: Threads + Wait + Clock + Sync>(
     rt: &R,
     alloc: Global,
     texts: &Texts<'_>,
@@ -286,7 +294,11 @@ fn each_write_fails<R: Wait + Clock>(
 }
 
 /// Reads of one byte and of ten fail.
-fn reads_fail<R: Wait + Clock>(rt: &R, alloc: Global, texts: &Texts<'_>) -> Result<(), Fail> {
+fn reads_fail<R: Threads + Wait + Clock + Sync>(
+    rt: &R,
+    alloc: Global,
+    texts: &Texts<'_>,
+) -> Result<(), Fail> {
     each_read_fails(rt, alloc, texts, 1)?;
     each_read_fails(rt, alloc, texts, 10)
 }
@@ -303,7 +315,11 @@ fn whole_replies_stand_behind_a_failing_read(rt: HostRuntime) -> Result<(), Fail
 }
 
 /// Writes of one byte fail where one is read at once, and of three where all is.
-fn writes_fail<R: Wait + Clock>(rt: &R, alloc: Global, texts: &Texts<'_>) -> Result<(), Fail> {
+fn writes_fail<R: Threads + Wait + Clock + Sync>(
+    rt: &R,
+    alloc: Global,
+    texts: &Texts<'_>,
+) -> Result<(), Fail> {
     each_write_fails(rt, alloc, texts, 1, 1)?;
     each_write_fails(rt, alloc, texts, 1000, 3)
 }

@@ -1,27 +1,23 @@
 //! Sizes above which a server could give up: requests of many words, many reads and writes, a layer of many requests, and many
 //! connections.
 
-ghost use Rattle.std.specs.Prelude.{◌≡◌, ◌<◌};
-
 use crate::asking::{Numbers, closes, request, same_reply};
 use crate::faults::{Wanted, comes};
 use crate::hosting::replays;
+use crate::naming::{WithCluster, with_cluster};
 use crate::turns::{ask_rows, run};
-use back::Back;
-use cluster::{Cluster, First, Seat};
-use hashed_texts::TextHasher;
+use cluster::{Cluster, First, RunsOf, Seat, Server};
 use journal::write_trace;
-use placement::Table;
+use serial_store::{SerialStore, Tabled};
 use std::alloc::{AllocError, Global};
-use std::marker::Brand;
 use std::sync::Wait;
-use std::sync::ledger::{Blank, Ledger};
 use std::test::Fail;
+use std::thread::Threads;
 use std::time::Clock;
-use test_support::{Sink, Source, TWO_SHARDS, bytes_of, requests_of, same_count};
+use test_support::{Sink, Source, bytes_of, requests_of, same_count};
 
 /// A connection sends the requests of this row and gets just these replies, in pieces of so many bytes.
-fn comes_of_row<R: Wait + Clock>(
+fn comes_of_row<R: Threads + Wait + Clock + Sync>(
     rt: &R,
     alloc: Global,
     row: &str,
@@ -94,14 +90,14 @@ fn many_reads_and_writes_of_one_byte(rt: HostRuntime) -> Result<(), Fail> {
 /// How many seats ask for a layer of theirs.
 const SEATS: usize = 2000;
 
-/// For each of them an Open, a Submit, a Deliver and a Collect; and a Take, a Run and a Settle.
-const STEPS: u64 = 8003;
+/// For each of them an Open, a Submit, a Deliver, a Collect and a Close; and a Take, a Run and a Settle.
+const STEPS: u64 = 10_003;
 
 /// Seats sit, and each submits an increment of one key.
-fn submit_each<L: Ledger>(
+fn submit_each<T: Tabled, L: Server>(
     alloc: Global,
-    cluster: &mut Cluster<L>,
-    seats: &mut Vec<Seat<L>>,
+    cluster: &mut Cluster<T, L>,
+    seats: &mut Vec<Seat<T, L>>,
 ) -> Result<(), Fail> {
     for _ in 0..SEATS {
         let mut seat = cluster.sit()?;
@@ -113,7 +109,7 @@ fn submit_each<L: Ledger>(
 }
 
 /// All packets come to their groups.
-fn bring_packets<L: Ledger>(cluster: &mut Cluster<L>) -> Result<(), Fail> {
+fn bring_packets<T: Tabled, L: Server>(cluster: &mut Cluster<T, L>) -> Result<(), Fail> {
     for _ in 0..STEPS {
         if !cluster.turn(&First)? {
             return Ok(());
@@ -123,35 +119,43 @@ fn bring_packets<L: Ledger>(cluster: &mut Cluster<L>) -> Result<(), Fail> {
 }
 
 /// All of them are one layer, which is run and settled.
-fn is_one_layer<L: Ledger>(cluster: &mut Cluster<L>, back: &mut Back) -> Result<(), Fail> {
+fn is_one_layer<T: Tabled, L: Server>(
+    cluster: &mut Cluster<T, L>,
+    store: &mut SerialStore<T, RunsOf<L>>,
+) -> Result<(), Fail> {
     bring_packets(cluster)?;
-    let layer = cluster.take()?;
-    same_count("the requests of the layer", layer.jobs().len(), SEATS)?;
-    let done = run(back, layer)?;
-    match cluster.settle(done) {
+    let taken = cluster.take()?;
+    same_count("the requests of the layer", taken.layer().len(), SEATS)?;
+    let ran = run(store, taken)?;
+    same_count(
+        "the rows of what came of it",
+        ran.done().rows().len(),
+        SEATS,
+    )?;
+    match cluster.settle(ran) {
         Ok(()) => Ok(()),
         Err(_) => Err("the layer isn't settled".into()),
     }
 }
 
 /// The seat collects this text.
-fn collects<L: Ledger>(
+fn collects<T: Tabled, L: Server>(
     alloc: Global,
-    cluster: &mut Cluster<L>,
-    seat: &mut Seat<L>,
+    cluster: &mut Cluster<T, L>,
+    seat: &mut Seat<T, L>,
     wanted: &str,
 ) -> Result<(), Fail> {
-    match cluster.collect_reply(seat)? {
+    match cluster.collect(seat)? {
         Some(reply) => same_reply(alloc, "INCR a", &reply.open(), wanted),
         None => Err("no outcome came".into()),
     }
 }
 
 /// The seats collect the numbers from 1 on, in the order in which they have submitted, and stand.
-fn collect_each<L: Ledger>(
+fn collect_each<T: Tabled, L: Server>(
     alloc: Global,
-    cluster: &mut Cluster<L>,
-    seats: Vec<Seat<L>>,
+    cluster: &mut Cluster<T, L>,
+    seats: Vec<Seat<T, L>>,
 ) -> Result<(), Fail> {
     for (place, mut seat) in seats.into_iter().enumerate() {
         let wanted = format!(in alloc; ":{}\r\n", place.saturating_add(1))?;
@@ -161,23 +165,28 @@ fn collect_each<L: Ledger>(
     Ok(())
 }
 
-/// Seats submit, are one layer, and collect, in a new cluster beside a new store.
-fn ask_at_once<L: Ledger>(alloc: Global, blank: Blank) -> Result<(), Fail>
-    requires { (blank.name ≡ L.name) × (blank.parts ≡ L.parts) × (8003 < blank.parts) }
-{
-    let table = Table::from_toml(alloc, TWO_SHARDS)?;
-    let mut cluster: Cluster<L> = Cluster::new(alloc, table, STEPS, blank)?;
-    let mut back = Back::new(alloc, table, TextHasher::Fixed)?;
-    let mut seats = Vec::new(alloc);
-    submit_each(alloc, &mut cluster, &mut seats)?;
-    is_one_layer(&mut cluster, &mut back)?;
-    collect_each(alloc, &mut cluster, seats)?;
-    closes(cluster.closing(&back), (2000, 2000, 0))
+/// Seats submit, are one layer, and collect.
+#[derive(Drop)]
+struct AskAtOnce;
+
+impl WithCluster for AskAtOnce {
+    fn go<T: Tabled, L: Server>(
+        self,
+        alloc: Global,
+        cluster: &mut Cluster<T, L>,
+        store: &mut SerialStore<T, RunsOf<L>>,
+    ) -> Result<(), Fail> {
+        let mut seats = Vec::new(alloc);
+        submit_each(alloc, cluster, &mut seats)?;
+        is_one_layer(cluster, store)?;
+        collect_each(alloc, cluster, seats)?;
+        closes(cluster.closing(store), (2000, 2000, 0))
+    }
 }
 
 #[test]
 fn a_layer_of_2000_requests(rt: HostRuntime) -> Result<(), Fail> {
-    ask_at_once::<Brand>(rt.alloc(), Blank::new(STEPS + 1))
+    with_cluster(rt.alloc(), STEPS, true, AskAtOnce)
 }
 
 /// How many connections are opened and closed before the one that asks.
@@ -187,7 +196,7 @@ const CONNECTIONS: usize = 120_000;
 const MANY_STEPS: u64 = 250_000;
 
 /// So many seats sit and stand.
-fn sit_and_stand<L: Ledger>(cluster: &mut Cluster<L>) -> Result<(), Fail> {
+fn sit_and_stand<T: Tabled, L: Server>(cluster: &mut Cluster<T, L>) -> Result<(), Fail> {
     for _ in 0..CONNECTIONS {
         let seat = cluster.sit()?;
         cluster.stand(seat);
@@ -196,38 +205,44 @@ fn sit_and_stand<L: Ledger>(cluster: &mut Cluster<L>) -> Result<(), Fail> {
 }
 
 /// A seat asks that sits behind them.
-fn ask_behind<L: Ledger>(
+fn ask_behind<T: Tabled, L: Server>(
     alloc: Global,
-    cluster: &mut Cluster<L>,
-    back: &mut Back,
+    cluster: &mut Cluster<T, L>,
+    store: &mut SerialStore<T, RunsOf<L>>,
 ) -> Result<(), Fail> {
     let mut seat = cluster.sit()?;
-    ask_rows(alloc, cluster, back, &mut seat, &[("INCR a", ":1\r\n")])?;
+    ask_rows(alloc, cluster, store, &mut seat, &[("INCR a", ":1\r\n")])?;
     cluster.stand(seat);
-    closes(cluster.closing(back), (1, 1, 0))
+    closes(cluster.closing(store), (1, 1, 0))
 }
 
 /// The trace of a cluster replays.
-fn replays_well<L: Ledger>(alloc: Global, cluster: &Cluster<L>) -> Result<(), Fail> {
-    let mut trace = Vec::new(alloc);
-    write_trace(cluster.trace(), &mut trace)?;
-    replays(alloc, trace.as_slice(), 1, b"key 61 string 31\nagree\n")
+fn replays_well<T: Tabled, L: Server>(alloc: Global, cluster: &Cluster<T, L>) -> Result<(), Fail> {
+    let trace = cluster.trace().ok_or("a trace is kept")?;
+    let mut text = Vec::new(alloc);
+    write_trace(trace, &mut text)?;
+    replays(alloc, text.as_slice(), 1, b"key 61 string 31\nagree\n")
 }
 
-/// The same of a new cluster beside a new store.
-fn ask_late<L: Ledger>(alloc: Global, blank: Blank) -> Result<(), Fail>
-    requires { (blank.name ≡ L.name) × (blank.parts ≡ L.parts) × (250000 < blank.parts) }
-{
-    let table = Table::from_toml(alloc, TWO_SHARDS)?;
-    let mut cluster: Cluster<L> = Cluster::new(alloc, table, MANY_STEPS, blank)?;
-    let mut back = Back::new(alloc, table, TextHasher::Fixed)?;
-    sit_and_stand(&mut cluster)?;
-    ask_behind(alloc, &mut cluster, &mut back)?;
-    replays_well(alloc, &cluster)
+/// Seats sit and stand, one asks behind them, and the trace replays.
+#[derive(Drop)]
+struct AskLate;
+
+impl WithCluster for AskLate {
+    fn go<T: Tabled, L: Server>(
+        self,
+        alloc: Global,
+        cluster: &mut Cluster<T, L>,
+        store: &mut SerialStore<T, RunsOf<L>>,
+    ) -> Result<(), Fail> {
+        sit_and_stand(cluster)?;
+        ask_behind(alloc, cluster, store)?;
+        replays_well(alloc, cluster)
+    }
 }
 
 /// A connection of a number above 100,000 is answered, and a trace of 240,008 steps is written, read and replayed.
 #[test]
 fn many_connections(rt: HostRuntime) -> Result<(), Fail> {
-    ask_late::<Brand>(rt.alloc(), Blank::new(MANY_STEPS + 1))
+    with_cluster(rt.alloc(), MANY_STEPS, true, AskLate)
 }

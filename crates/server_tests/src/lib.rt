@@ -23,9 +23,13 @@ mod large;
 #[cfg(test)]
 mod limits;
 #[cfg(test)]
+mod naming;
+#[cfg(test)]
 mod rows;
 #[cfg(test)]
 mod sockets;
+#[cfg(test)]
+mod traces;
 #[cfg(test)]
 mod transactions;
 #[cfg(test)]

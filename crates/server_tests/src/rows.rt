@@ -1,49 +1,38 @@
 //! Rows through a shared cluster, asked by two threads beside one that drives.
 
-ghost use Rattle.std.specs.Prelude.{◌≡◌, ◌<◌, ◌≤◌};
+ghost use Rattle.std.specs.Prelude.{◌≤◌};
 ghost use Rattle.std.specs.Thread.{IsSync};
 ghost use Rattle.journal.specs.declared.trace.TheConstants.{GREATEST_STEPS};
 
 use crate::asking::{Numbers, closes, request, same_reply, stays, text};
 use crate::hosting::as_wanted;
-use cluster::{Closing, First, Seat};
-use hashed_texts::TextHasher;
-use placement::Table;
+use crate::naming::{WithShared, with_shared};
+use cluster::{Closing, First, Seat, Server};
 use resp::{Reply, Request};
+use serial_store::Tabled;
 use server::shared_syncs;
 use shard_workers::{InTurn, OpenGate};
 use shared_cluster::{AskFault, AtRest, CloseFault, CloseKind, FaultKind, Shared};
 use std::alloc::Global;
-use std::marker::Brand;
 use std::num::NonZeroUsize;
 use std::sync::Wait;
-use std::sync::ledger::{Blank, Ledger};
 use std::test::Fail;
 use std::thread::{Threads, join};
 use std::time::Clock;
-use test_support::{TWO_SHARDS, holds, same_bytes, same_number};
+use test_support::{holds, same_bytes, same_number};
 
 /// At most how many steps the clusters here make.
 pub(crate) const MOST: u64 = 1000;
-
-/// A cluster over two shards that makes so many steps at most.
-pub(crate) fn shared<L: Ledger>(alloc: Global, most: u64, blank: Blank) -> Result<Shared<L>, Fail>
-    requires ledger { (blank.name ≡ L.name) × (blank.parts ≡ L.parts) × (most < blank.parts) }
-    requires most { (1 ≤ most) × (most ≤ GREATEST_STEPS) }
-{
-    let table = Table::from_toml(alloc, TWO_SHARDS)?;
-    Ok(Shared::new(alloc, table, most, TextHasher::Fixed, blank)?)
-}
 
 /// Requests and the replies that are wanted for them.
 pub(crate) type Rows<'a> = &'a [(&'a str, &'a str)];
 
 /// Asks the requests in order at a seat of its own. Gives the first reply that isn't the wanted one. Another thread
 /// drives the cluster.
-fn ask_rows<L: Ledger, R: Wait + Clock>(
+fn ask_rows<T: Tabled, L: Server, R: Wait + Clock>(
     rt: &R,
     alloc: Global,
-    shared: &Shared<L>,
+    shared: &Shared<T, L>,
     rows: Rows<'_>,
 ) -> Option<String> {
     match shared.sit(rt) {
@@ -53,11 +42,11 @@ fn ask_rows<L: Ledger, R: Wait + Clock>(
 }
 
 /// The same at this seat, which stands then.
-fn ask_and_stand<L: Ledger, R: Wait + Clock>(
+fn ask_and_stand<T: Tabled, L: Server, R: Wait + Clock>(
     rt: &R,
     alloc: Global,
-    shared: &Shared<L>,
-    mut seat: Seat<L>,
+    shared: &Shared<T, L>,
+    mut seat: Seat<T, L>,
     rows: Rows<'_>,
 ) -> Option<String> {
     let other = ask_each(rt, alloc, shared, &mut seat, rows);
@@ -66,11 +55,11 @@ fn ask_and_stand<L: Ledger, R: Wait + Clock>(
 }
 
 /// Asks the requests in order at a seat. Gives the first reply that isn't the wanted one.
-fn ask_each<L: Ledger, R: Wait + Clock>(
+fn ask_each<T: Tabled, L: Server, R: Wait + Clock>(
     rt: &R,
     alloc: Global,
-    shared: &Shared<L>,
-    seat: &mut Seat<L>,
+    shared: &Shared<T, L>,
+    seat: &mut Seat<T, L>,
     rows: Rows<'_>,
 ) -> Option<String> {
     for (words, wanted) in rows {
@@ -83,11 +72,11 @@ fn ask_each<L: Ledger, R: Wait + Clock>(
 }
 
 /// The text of the reply to one request, where it isn't the wanted one. It is empty where there is none.
-fn otherwise<L: Ledger, R: Wait + Clock>(
+fn otherwise<T: Tabled, L: Server, R: Wait + Clock>(
     rt: &R,
     alloc: Global,
-    shared: &Shared<L>,
-    seat: &mut Seat<L>,
+    shared: &Shared<T, L>,
+    seat: &mut Seat<T, L>,
     words: &str,
     wanted: &str,
 ) -> Option<String> {
@@ -107,11 +96,11 @@ fn unless_same(text: String, wanted: &str) -> Option<String> {
 }
 
 /// The text of the reply to one request; none where it isn't answered.
-fn ask_row<L: Ledger, R: Wait + Clock>(
+fn ask_row<T: Tabled, L: Server, R: Wait + Clock>(
     rt: &R,
     alloc: Global,
-    shared: &Shared<L>,
-    seat: &mut Seat<L>,
+    shared: &Shared<T, L>,
+    seat: &mut Seat<T, L>,
     words: &str,
 ) -> Option<String> {
     let request = request(alloc, words).ok()?;
@@ -119,28 +108,28 @@ fn ask_row<L: Ledger, R: Wait + Clock>(
 }
 
 /// The same, of a request of these words.
-fn ask_words<L: Ledger, R: Wait + Clock>(
+fn ask_words<T: Tabled, L: Server, R: Wait + Clock>(
     rt: &R,
     alloc: Global,
-    shared: &Shared<L>,
-    seat: &mut Seat<L>,
+    shared: &Shared<T, L>,
+    seat: &mut Seat<T, L>,
     request: Request,
 ) -> Option<String> {
     match shared.ask(rt, seat, request) {
-        Ok(answer) => text(alloc, answer.reply()).ok(),
+        Ok(sealed) => text(alloc, &sealed.open()).ok(),
         Err(_) => None,
     }
 }
 
 /// Two threads ask their rows, and then the cluster is shut. The first replies of each that aren't the wanted ones.
-fn ask_and_shut<L: Ledger + Send + Sync, R: Threads + Wait + Clock + Sync>(
+fn ask_and_shut<T: Tabled + Send + Sync, L: Server + Send + Sync, R: Threads + Wait + Clock + Sync>(
     rt: &R,
     alloc: Global,
-    shared: &Shared<L>,
+    shared: &Shared<T, L>,
     one: Rows<'_>,
     two: Rows<'_>,
 ) -> (Option<String>, Option<String>) {
-    shared_syncs::<L>();
+    shared_syncs::<T, L>();
     syncs::<R>();
     let asked = join(
         rt,
@@ -152,7 +141,10 @@ fn ask_and_shut<L: Ledger + Send + Sync, R: Threads + Wait + Clock + Sync>(
 }
 
 /// Drives the cluster with one worker.
-fn driven<L: Ledger, R: Wait + Clock>(rt: &R, shared: &Shared<L>) -> Result<AtRest, AskFault> {
+fn driven<T: Tabled, L: Server, R: Wait + Clock>(
+    rt: &R,
+    shared: &Shared<T, L>,
+) -> Result<AtRest, AskFault> {
     shared.drive(rt, &First, &InTurn(NonZeroUsize::MIN), &OpenGate)
 }
 
@@ -160,14 +152,14 @@ fn driven<L: Ledger, R: Wait + Clock>(rt: &R, shared: &Shared<L>) -> Result<AtRe
 type Asked = (Result<AtRest, AskFault>, (Option<String>, Option<String>));
 
 /// Two threads ask their rows beside one that drives.
-fn ask_beside<L: Ledger + Send + Sync, R: Threads + Wait + Clock + Sync>(
+fn ask_beside<T: Tabled + Send + Sync, L: Server + Send + Sync, R: Threads + Wait + Clock + Sync>(
     rt: &R,
     alloc: Global,
-    shared: &Shared<L>,
+    shared: &Shared<T, L>,
     one: Rows<'_>,
     two: Rows<'_>,
 ) -> Asked {
-    shared_syncs::<L>();
+    shared_syncs::<T, L>();
     syncs::<R>();
     join(
         rt,
@@ -185,32 +177,24 @@ fn are_as_wanted(asked: &Asked) -> Result<(), Fail> {
 }
 
 /// Two threads ask their rows beside one that drives. The cluster is to close with these numbers.
-fn two_ask<L: Ledger + Send + Sync, R: Threads + Wait + Clock + Sync>(
-    rt: &R,
-    alloc: Global,
-    blank: Blank,
-    one: Rows<'_>,
-    two: Rows<'_>,
+#[derive(Drop)]
+struct TwoAsk<'a> {
+    one: Rows<'a>,
+    two: Rows<'a>,
     numbers: Numbers,
-) -> Result<(), Fail>
-    requires { (blank.name ≡ L.name) × (blank.parts ≡ L.parts) × (1000 < blank.parts) }
-{
-    let shared: Shared<L> = shared(alloc, MOST, blank)?;
-    asks_both(rt, alloc, &shared, one, two, numbers)
 }
 
-/// The same over this cluster.
-fn asks_both<L: Ledger + Send + Sync, R: Threads + Wait + Clock + Sync>(
-    rt: &R,
-    alloc: Global,
-    shared: &Shared<L>,
-    one: Rows<'_>,
-    two: Rows<'_>,
-    numbers: Numbers,
-) -> Result<(), Fail> {
-    let asked = ask_beside(rt, alloc, shared, one, two);
-    are_as_wanted(&asked)?;
-    closes(shared.close(rt), numbers)
+impl WithShared for TwoAsk<'_> {
+    fn go<T, L, R>(self, rt: &R, alloc: Global, shared: &Shared<T, L>) -> Result<(), Fail>
+    where
+        T: Tabled + Send + Sync,
+        L: Server + Send + Sync,
+        R: Threads + Wait + Clock + Sync,
+    {
+        let asked = ask_beside(rt, alloc, shared, self.one, self.two);
+        are_as_wanted(&asked)?;
+        closes(shared.close(rt), self.numbers)
+    }
 }
 
 /// It does nothing: its contract says that a `&` to the type may go to another thread.
@@ -218,7 +202,8 @@ pub(crate) fn syncs<T: Sync>()
     ensures { IsSync T.row }
 {}
 
-/// Two threads ask their rows of a new cluster, which counts so many requests, and so many that were executed.
+/// Two threads ask their rows of a new cluster, which counts so many requests, and so many that were executed: once
+/// without a trace, and once with one.
 pub(crate) fn ask_both<R: Threads + Wait + Clock + Sync>(
     rt: &R,
     alloc: Global,
@@ -227,8 +212,11 @@ pub(crate) fn ask_both<R: Threads + Wait + Clock + Sync>(
     requests: u64,
     executed: u64,
 ) -> Result<(), Fail> {
-    let blank = Blank::new(MOST + 1);
-    two_ask::<Brand, R>(rt, alloc, blank, one, two, (requests, executed, 0))
+    let numbers = (requests, executed, 0);
+    for keeps in [false, true] {
+        with_shared(rt, alloc, MOST, keeps, TwoAsk { one, two, numbers })?;
+    }
+    Ok(())
 }
 
 #[rattlefmt::skip]
@@ -320,21 +308,21 @@ const TURNED: Rows<'static> = &[
 ];
 
 /// The reply to a request, for which the thread that asks makes the turns.
-fn turned<L: Ledger, R: Wait + Clock>(
+fn turned<T: Tabled, L: Server, R: Wait + Clock>(
     rt: &R,
-    shared: &Shared<L>,
-    seat: &mut Seat<L>,
+    shared: &Shared<T, L>,
+    seat: &mut Seat<T, L>,
     request: Request,
 ) -> Result<Reply, Fail> {
     Ok(shared.ask_turning(rt, seat, request)?.open())
 }
 
 /// Asks at a seat and makes the turns: the reply is to have this text.
-fn turn_row<L: Ledger, R: Wait + Clock>(
+fn turn_row<T: Tabled, L: Server, R: Wait + Clock>(
     rt: &R,
     alloc: Global,
-    shared: &Shared<L>,
-    seat: &mut Seat<L>,
+    shared: &Shared<T, L>,
+    seat: &mut Seat<T, L>,
     words: &str,
     wanted: &str,
 ) -> Result<(), Fail> {
@@ -344,11 +332,11 @@ fn turn_row<L: Ledger, R: Wait + Clock>(
 }
 
 /// Asks at a seat and makes the turns: the replies are to have these texts.
-pub(crate) fn turn_rows<L: Ledger, R: Wait + Clock>(
+pub(crate) fn turn_rows<T: Tabled, L: Server, R: Wait + Clock>(
     rt: &R,
     alloc: Global,
-    shared: &Shared<L>,
-    seat: &mut Seat<L>,
+    shared: &Shared<T, L>,
+    seat: &mut Seat<T, L>,
     rows: Rows<'_>,
 ) -> Result<(), Fail> {
     for (words, wanted) in rows {
@@ -358,10 +346,10 @@ pub(crate) fn turn_rows<L: Ledger, R: Wait + Clock>(
 }
 
 /// A request is refused for a fault of this kind, where the thread that asks would make the turns.
-fn turning_is_refused<L: Ledger, R: Wait + Clock>(
+fn turning_is_refused<T: Tabled, L: Server, R: Wait + Clock>(
     rt: &R,
-    shared: &Shared<L>,
-    seat: &mut Seat<L>,
+    shared: &Shared<T, L>,
+    seat: &mut Seat<T, L>,
     request: Request,
     kind: FaultKind,
 ) -> Result<(), Fail> {
@@ -369,11 +357,11 @@ fn turning_is_refused<L: Ledger, R: Wait + Clock>(
 }
 
 /// A request at a seat is refused for a fault of this kind, and then the seat has so many requests.
-fn refuses<L: Ledger, R: Wait + Clock>(
+fn refuses<T: Tabled, L: Server, R: Wait + Clock>(
     rt: &R,
     alloc: Global,
-    shared: &Shared<L>,
-    seat: &mut Seat<L>,
+    shared: &Shared<T, L>,
+    seat: &mut Seat<T, L>,
     words: &str,
     kind: FaultKind,
     count: u64,
@@ -386,7 +374,7 @@ fn refuses<L: Ledger, R: Wait + Clock>(
 /// What was asked is counted: five requests, of which none starved. Of the steps one is the seat's Open; PING and the unknown command
 /// took two each, Submit and Collect; SET and GET six, with Deliver, Take, Run and Settle; and MSET nine, since over two shards there are
 /// four packets.
-fn is_as_far<L: Ledger, R: Wait>(rt: &R, shared: &Shared<L>) -> Result<(), Fail> {
+fn is_as_far<T: Tabled, L: Server, R: Wait>(rt: &R, shared: &Shared<T, L>) -> Result<(), Fail> {
     let sight = shared.sight(rt);
     same_number("the requests", shared.requests(rt), 5)?;
     same_number("the requests that are seen", sight.requests, 5)?;
@@ -395,11 +383,11 @@ fn is_as_far<L: Ledger, R: Wait>(rt: &R, shared: &Shared<L>) -> Result<(), Fail>
 }
 
 /// Asks, and then shuts the cluster, which then takes no request.
-fn turn_and_shut<L: Ledger, R: Wait + Clock>(
+fn turn_and_shut<T: Tabled, L: Server, R: Wait + Clock>(
     rt: &R,
     alloc: Global,
-    shared: &Shared<L>,
-    seat: &mut Seat<L>,
+    shared: &Shared<T, L>,
+    seat: &mut Seat<T, L>,
 ) -> Result<(), Fail> {
     turn_rows(rt, alloc, shared, seat, TURNED)?;
     is_as_far(rt, shared)?;
@@ -409,16 +397,19 @@ fn turn_and_shut<L: Ledger, R: Wait + Clock>(
 }
 
 /// A cluster that is shut gives no seat. It closes when all seats have stood.
-fn closes_shut<L: Ledger, R: Wait + Clock>(rt: &R, shared: &Shared<L>) -> Result<(), Fail> {
+fn closes_shut<T: Tabled, L: Server, R: Wait + Clock>(
+    rt: &R,
+    shared: &Shared<T, L>,
+) -> Result<(), Fail> {
     is_refused(shared.sit(rt), FaultKind::Closed)?;
     closes(shared.close(rt), (5, 3, 0))
 }
 
 /// Asks at a seat of a cluster, which is shut, and closes when the seat has stood.
-fn turn_and_close<L: Ledger, R: Wait + Clock>(
+fn turn_and_close<T: Tabled, L: Server, R: Wait + Clock>(
     rt: &R,
     alloc: Global,
-    shared: &Shared<L>,
+    shared: &Shared<T, L>,
 ) -> Result<(), Fail> {
     let mut seat = shared.sit(rt)?;
     let shut = turn_and_shut(rt, alloc, shared, &mut seat);
@@ -428,25 +419,32 @@ fn turn_and_close<L: Ledger, R: Wait + Clock>(
 }
 
 /// The thread that asks makes the turns.
-fn asks_turning<L: Ledger, R: Wait + Clock>(
+#[derive(Drop)]
+struct AsksTurning;
+
+impl WithShared for AsksTurning {
+    fn go<T, L, R>(self, rt: &R, alloc: Global, shared: &Shared<T, L>) -> Result<(), Fail>
+    where
+        T: Tabled + Send + Sync,
+        L: Server + Send + Sync,
+        R: Threads + Wait + Clock + Sync,
+    {
+        turn_and_close(rt, alloc, shared)
+    }
+}
+
+/// Asks of a new cluster that makes so many steps at most: once without a trace, and once with one.
+fn turn_within<R: Threads + Wait + Clock + Sync>(
     rt: &R,
     alloc: Global,
     most: u64,
-    blank: Blank,
 ) -> Result<(), Fail>
-    requires ledger { (blank.name ≡ L.name) × (blank.parts ≡ L.parts) × (most < blank.parts) }
-    requires most { (1 ≤ most) × (most ≤ GREATEST_STEPS) }
-{
-    let shared: Shared<L> = shared(alloc, most, blank)?;
-    turn_and_close(rt, alloc, &shared)
-}
-
-/// Asks of a new cluster that makes so many steps at most.
-fn turn_within<R: Wait + Clock>(rt: &R, alloc: Global, most: u64) -> Result<(), Fail>
     requires { (1 ≤ most) × (most ≤ GREATEST_STEPS) }
 {
-    let blank = Blank::new(most + 1);
-    asks_turning::<Brand, R>(rt, alloc, most, blank)
+    for keeps in [false, true] {
+        with_shared(rt, alloc, most, keeps, AsksTurning)?;
+    }
+    Ok(())
 }
 
 #[test]
@@ -461,11 +459,11 @@ fn many_steps_take_nothing(rt: HostRuntime) -> Result<(), Fail> {
 }
 
 /// Asks at a seat of a cluster that may make no more steps behind the first request's packet.
-fn exhausts<L: Ledger, R: Wait + Clock>(
+fn exhausts<T: Tabled, L: Server, R: Wait + Clock>(
     rt: &R,
     alloc: Global,
-    shared: &Shared<L>,
-    seat: &mut Seat<L>,
+    shared: &Shared<T, L>,
+    seat: &mut Seat<T, L>,
 ) -> Result<(), Fail> {
     refuses(rt, alloc, shared, seat, "SET a 1", FaultKind::Exhausted, 1)?;
     refuses(rt, alloc, shared, seat, "SET a 1", FaultKind::Exhausted, 1)?;
@@ -473,7 +471,10 @@ fn exhausts<L: Ledger, R: Wait + Clock>(
 }
 
 /// It can't be driven, since no more steps may be made.
-fn drives_no_more<L: Ledger, R: Wait + Clock>(rt: &R, shared: &Shared<L>) -> Result<(), Fail> {
+fn drives_no_more<T: Tabled, L: Server, R: Wait + Clock>(
+    rt: &R,
+    shared: &Shared<T, L>,
+) -> Result<(), Fail> {
     is_refused(driven(rt, shared), FaultKind::Exhausted)
 }
 
@@ -481,17 +482,21 @@ fn drives_no_more<L: Ledger, R: Wait + Clock>(rt: &R, shared: &Shared<L>) -> Res
 const THREE: &[u8] = b"shardkv-trace 3\nmax 3\nopen\nsubmit 1 534554 61 31\ndeliver 0\nend 3\n";
 
 /// The trace of a cluster is that of three steps.
-fn has_three<L: Ledger, R: Wait>(rt: &R, alloc: Global, shared: &Shared<L>) -> Result<(), Fail> {
+fn has_three<T: Tabled, L: Server, R: Wait>(
+    rt: &R,
+    alloc: Global,
+    shared: &Shared<T, L>,
+) -> Result<(), Fail> {
     let mut trace = Vec::new(alloc);
-    shared.write_trace(rt, &mut trace)?;
+    holds("a trace is kept", shared.write_trace(rt, &mut trace)?)?;
     same_bytes("the trace", trace.as_slice(), THREE)
 }
 
 /// The seat is the first of three steps, its request the second, and its packet the third.
-fn exhaust<L: Ledger, R: Wait + Clock>(
+fn exhaust<T: Tabled, L: Server, R: Wait + Clock>(
     rt: &R,
     alloc: Global,
-    shared: &Shared<L>,
+    shared: &Shared<T, L>,
 ) -> Result<(), Fail> {
     let mut seat = shared.sit(rt)?;
     let exhausted = exhausts(rt, alloc, shared, &mut seat);
@@ -501,21 +506,22 @@ fn exhaust<L: Ledger, R: Wait + Clock>(
     has_three(rt, alloc, shared)
 }
 
-/// The same over a new cluster.
-fn three_steps<L: Ledger, R: Wait + Clock>(rt: &R, alloc: Global, blank: Blank) -> Result<(), Fail>
-    requires { (blank.name ≡ L.name) × (blank.parts ≡ L.parts) × (3 < blank.parts) }
-{
-    let shared: Shared<L> = shared(alloc, 3, blank)?;
-    exhaust(rt, alloc, &shared)
-}
+/// Makes three steps, which are all that may be made.
+#[derive(Drop)]
+struct ThreeSteps;
 
-/// Makes three steps of a new cluster.
-fn make_three<R: Wait + Clock>(rt: &R, alloc: Global) -> Result<(), Fail> {
-    let blank = Blank::new(4);
-    three_steps::<Brand, R>(rt, alloc, blank)
+impl WithShared for ThreeSteps {
+    fn go<T, L, R>(self, rt: &R, alloc: Global, shared: &Shared<T, L>) -> Result<(), Fail>
+    where
+        T: Tabled + Send + Sync,
+        L: Server + Send + Sync,
+        R: Threads + Wait + Clock + Sync,
+    {
+        exhaust(rt, alloc, shared)
+    }
 }
 
 #[test]
 fn no_more_steps(rt: HostRuntime) -> Result<(), Fail> {
-    make_three(&rt, rt.alloc())
+    with_shared(&rt, rt.alloc(), 3, true, ThreeSteps)
 }

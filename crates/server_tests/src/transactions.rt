@@ -2,21 +2,21 @@
 //!
 //! Of two shards `a` and `b` lie on the first, and `c` and `d` on the second.
 
-ghost use Rattle.std.specs.Prelude.{◌≡◌, ◌<◌, ◌≤◌};
-
 use crate::asking::{Numbers, closes, request, same_reply};
 use crate::clients::Act;
 use crate::clients::Does::{Asks, Ends, Gets, Leaves};
 use crate::ends::path_of;
 use crate::hosting::{replay_trace, serve_acts};
-use crate::rows::{MOST, Rows, ask_both, shared, turn_rows};
+use crate::naming::{WithShared, with_shared};
+use crate::rows::{MOST, Rows, ask_both, turn_rows};
+use cluster::Server;
+use serial_store::Tabled;
 use serving::Door;
 use shared_cluster::{Desk, Shared, Turns};
 use std::alloc::Global;
-use std::marker::Brand;
 use std::sync::Wait;
-use std::sync::ledger::{Blank, Ledger};
 use std::test::Fail;
+use std::thread::Threads;
 use std::time::Clock;
 use test_support::holds;
 
@@ -83,9 +83,9 @@ fn lists_over_two_shards(rt: HostRuntime) -> Result<(), Fail> {
 type Turn = (usize, &'static str, &'static str);
 
 /// Asks at a desk, which lets others pass then. The reply is to have this text.
-fn ask_at<L: Ledger, R: Wait + Clock>(
+fn ask_at<T: Tabled, L: Server, R: Wait + Clock>(
     alloc: Global,
-    desk: &mut Desk<'_, L, R>,
+    desk: &mut Desk<'_, T, L, R>,
     words: &str,
     wanted: &str,
 ) -> Result<(), Fail> {
@@ -99,10 +99,10 @@ fn ask_at<L: Ledger, R: Wait + Clock>(
 }
 
 /// Asks at two desks, in this order.
-fn ask_each<L: Ledger, R: Wait + Clock>(
+fn ask_each<T: Tabled, L: Server, R: Wait + Clock>(
     alloc: Global,
-    one: &mut Desk<'_, L, R>,
-    two: &mut Desk<'_, L, R>,
+    one: &mut Desk<'_, T, L, R>,
+    two: &mut Desk<'_, T, L, R>,
     turns: &[Turn],
 ) -> Result<(), Fail> {
     for (seat, words, wanted) in turns {
@@ -117,10 +117,10 @@ fn ask_each<L: Ledger, R: Wait + Clock>(
 
 /// Two desks ask in this order, and their seats stand. Then another one asks the others, and the cluster closes with these
 /// numbers.
-fn ask_and_close<L: Ledger, R: Wait + Clock>(
+fn ask_and_close<T: Tabled, L: Server, R: Wait + Clock>(
     rt: &R,
     alloc: Global,
-    shared: &Shared<L>,
+    shared: &Shared<T, L>,
     turns: &[Turn],
     others: Rows<'_>,
     numbers: Numbers,
@@ -136,10 +136,10 @@ fn ask_and_close<L: Ledger, R: Wait + Clock>(
 }
 
 /// A seat asks that sits behind the others.
-fn ask_behind<L: Ledger, R: Wait + Clock>(
+fn ask_behind<T: Tabled, L: Server, R: Wait + Clock>(
     rt: &R,
     alloc: Global,
-    shared: &Shared<L>,
+    shared: &Shared<T, L>,
     rows: Rows<'_>,
 ) -> Result<(), Fail> {
     let mut seat = shared.sit(rt)?;
@@ -148,30 +148,39 @@ fn ask_behind<L: Ledger, R: Wait + Clock>(
     asked
 }
 
-/// The same of a new cluster.
-fn ask_anew<L: Ledger, R: Wait + Clock>(
-    rt: &R,
-    alloc: Global,
-    blank: Blank,
-    turns: &[Turn],
-    others: Rows<'_>,
+/// Two desks ask in this order, another seat asks the others behind them, and the cluster closes with these numbers.
+#[derive(Drop)]
+struct AsksInTurn<'a> {
+    turns: &'a [Turn],
+    others: Rows<'a>,
     numbers: Numbers,
-) -> Result<(), Fail>
-    requires { (blank.name ≡ L.name) × (blank.parts ≡ L.parts) × (1000 < blank.parts) }
-{
-    let shared: Shared<L> = shared(alloc, MOST, blank)?;
-    ask_and_close(rt, alloc, &shared, turns, others, numbers)
 }
 
-/// The same.
-fn ask_in_turn<R: Wait + Clock>(
+impl WithShared for AsksInTurn<'_> {
+    fn go<T, L, R>(self, rt: &R, alloc: Global, shared: &Shared<T, L>) -> Result<(), Fail>
+    where
+        T: Tabled + Send + Sync,
+        L: Server + Send + Sync,
+        R: Threads + Wait + Clock + Sync,
+    {
+        ask_and_close(rt, alloc, shared, self.turns, self.others, self.numbers)
+    }
+}
+
+/// The same of a new cluster, which keeps no trace.
+fn ask_in_turn<R: Threads + Wait + Clock + Sync>(
     rt: &R,
     alloc: Global,
     turns: &[Turn],
     others: Rows<'_>,
     numbers: Numbers,
 ) -> Result<(), Fail> {
-    ask_anew::<Brand, R>(rt, alloc, Blank::new(MOST + 1), turns, others, numbers)
+    let asks = AsksInTurn {
+        turns,
+        others,
+        numbers,
+    };
+    with_shared(rt, alloc, MOST, false, asks)
 }
 
 #[rattlefmt::skip]
@@ -232,34 +241,37 @@ const MISREAD: Rows<'static> = &[
 ];
 
 /// No packet came to a group in this trace.
-fn has_no_packet<L: Ledger, R: Wait>(
+fn has_no_packet<T: Tabled, L: Server, R: Wait>(
     rt: &R,
     alloc: Global,
-    shared: &Shared<L>,
+    shared: &Shared<T, L>,
 ) -> Result<(), Fail> {
     let mut trace = Vec::new(alloc);
-    shared.write_trace(rt, &mut trace)?;
+    holds("a trace is kept", shared.write_trace(rt, &mut trace)?)?;
     let text = str::from_utf8(trace.as_slice()).unwrap_or("\ndeliver");
     holds("no packet", !text.contains("\ndeliver"))
 }
 
 /// What looks at no key is answered with no packet.
-fn ask_misread<L: Ledger, R: Wait + Clock>(rt: &R, alloc: Global, blank: Blank) -> Result<(), Fail>
-    requires { (blank.name ≡ L.name) × (blank.parts ≡ L.parts) × (1000 < blank.parts) }
-{
-    let shared: Shared<L> = shared(alloc, MOST, blank)?;
-    ask_behind(rt, alloc, &shared, MISREAD)?;
-    has_no_packet(rt, alloc, &shared)?;
-    closes(shared.close(rt), (3, 0, 0))
-}
+#[derive(Drop)]
+struct AsksMisread;
 
-fn misread<R: Wait + Clock>(rt: &R, alloc: Global) -> Result<(), Fail> {
-    ask_misread::<Brand, R>(rt, alloc, Blank::new(MOST + 1))
+impl WithShared for AsksMisread {
+    fn go<T, L, R>(self, rt: &R, alloc: Global, shared: &Shared<T, L>) -> Result<(), Fail>
+    where
+        T: Tabled + Send + Sync,
+        L: Server + Send + Sync,
+        R: Threads + Wait + Clock + Sync,
+    {
+        ask_behind(rt, alloc, shared, MISREAD)?;
+        has_no_packet(rt, alloc, shared)?;
+        closes(shared.close(rt), (3, 0, 0))
+    }
 }
 
 #[test]
 fn a_list_without_a_key_takes_no_packet(rt: HostRuntime) -> Result<(), Fail> {
-    misread(&rt, rt.alloc())
+    with_shared(&rt, rt.alloc(), MOST, true, AsksMisread)
 }
 
 /// Three clients: one has a list run whose requests come in pieces, one is answered within, and one leaves with its list

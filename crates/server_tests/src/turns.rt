@@ -1,73 +1,53 @@
 //! A cluster and a store used by one thread.
 
-ghost use Rattle.std.specs.Prelude.{◌≡◌, ◌<◌};
-
 use crate::asking::{closes, request, same_reply, stays};
-use crate::rows::Rows;
-use back::Back;
-use cluster::{Answer, CloseFault, Cluster, First, Seat};
-use hashed_texts::TextHasher;
-use layer_planner::Layer;
-use layer_results::Done;
-use placement::Table;
+use crate::naming::{WithCluster, with_cluster};
+use crate::rows::{MOST, Rows};
+use cluster::{CloseFault, Cluster, First, Ran, RunsOf, Seat, Server, Taken, run_taken};
 use resp::Reply;
+use serial_store::{SerialStore, Tabled};
 use shard_workers::{InTurn, OpenGate};
 use std::alloc::Global;
-use std::marker::Brand;
 use std::num::NonZeroUsize;
-use std::sync::ledger::{Blank, Ledger};
 use std::test::Fail;
-use test_support::{TWO_SHARDS, holds, same_bytes, same_count, same_number};
+use test_support::{holds, same_number};
 
-/// At most how many steps the clusters here make.
-const MOST: u64 = 1000;
-
-/// Runs a layer with one worker, and hands over what came of it.
-pub(crate) fn run(back: &mut Back, layer: Layer) -> Result<Done, Fail> {
-    let ran = back.run(layer, &[], &InTurn(NonZeroUsize::MIN), &OpenGate);
-    holds("the layer is run", ran.is_ok())?;
-    Ok(back.hand_over())
+/// Runs a layer with one worker, and gives what came of it.
+pub(crate) fn run<T: Tabled, L: Server>(
+    store: &mut SerialStore<T, RunsOf<L>>,
+    taken: Taken<T, L>,
+) -> Result<Ran<T, L>, Fail> {
+    match run_taken(store, taken, &InTurn(NonZeroUsize::MIN), &OpenGate) {
+        Ok(ran) => Ok(ran),
+        Err(_) => Err("the layer isn't run".into()),
+    }
 }
 
 /// Brings a layer through, or else a packet to its group. Says whether there was one.
-fn turn<L: Ledger>(cluster: &mut Cluster<L>, back: &mut Back) -> Result<bool, Fail> {
+fn turn<T: Tabled, L: Server>(
+    cluster: &mut Cluster<T, L>,
+    store: &mut SerialStore<T, RunsOf<L>>,
+) -> Result<bool, Fail> {
     if !cluster.front().has_ready() {
         return Ok(cluster.turn(&First)?);
     }
-    let layer = cluster.take()?;
-    let done = run(back, layer)?;
-    holds("the layer is settled", cluster.settle(done).is_ok())?;
+    let taken = cluster.take()?;
+    let ran = run(store, taken)?;
+    holds("the layer is settled", cluster.settle(ran).is_ok())?;
     Ok(true)
 }
 
-/// Makes turns until the seat's outcome is there, and collects it.
-fn answer<L: Ledger>(
-    cluster: &mut Cluster<L>,
-    back: &mut Back,
-    seat: &mut Seat<L>,
-) -> Result<Answer, Fail> {
-    for _ in 0..MOST {
-        if let Some(answer) = cluster.collect(seat)? {
-            return Ok(answer);
-        }
-        if !turn(cluster, back)? {
-            break;
-        }
-    }
-    Err("no outcome came".into())
-}
-
 /// Makes turns until the seat's outcome is there, and collects its reply.
-fn reply<L: Ledger>(
-    cluster: &mut Cluster<L>,
-    back: &mut Back,
-    seat: &mut Seat<L>,
+fn reply<T: Tabled, L: Server>(
+    cluster: &mut Cluster<T, L>,
+    store: &mut SerialStore<T, RunsOf<L>>,
+    seat: &mut Seat<T, L>,
 ) -> Result<Reply, Fail> {
     for _ in 0..MOST {
-        if let Some(reply) = cluster.collect_reply(seat)? {
+        if let Some(reply) = cluster.collect(seat)? {
             return Ok(reply.open());
         }
-        if !turn(cluster, back)? {
+        if !turn(cluster, store)? {
             break;
         }
     }
@@ -75,63 +55,60 @@ fn reply<L: Ledger>(
 }
 
 /// Asks at a seat, and the reply is to have this text.
-fn ask_row<L: Ledger>(
+fn ask_row<T: Tabled, L: Server>(
     alloc: Global,
-    cluster: &mut Cluster<L>,
-    back: &mut Back,
-    seat: &mut Seat<L>,
+    cluster: &mut Cluster<T, L>,
+    store: &mut SerialStore<T, RunsOf<L>>,
+    seat: &mut Seat<T, L>,
     words: &str,
     wanted: &str,
 ) -> Result<(), Fail> {
     let request = request(alloc, words)?;
     cluster.submit(seat, request)?;
-    let reply = reply(cluster, back, seat)?;
+    let reply = reply(cluster, store, seat)?;
     same_reply(alloc, words, &reply, wanted)
 }
 
 /// Asks at a seat, and the replies are to have these texts.
-pub(crate) fn ask_rows<L: Ledger>(
+pub(crate) fn ask_rows<T: Tabled, L: Server>(
     alloc: Global,
-    cluster: &mut Cluster<L>,
-    back: &mut Back,
-    seat: &mut Seat<L>,
+    cluster: &mut Cluster<T, L>,
+    store: &mut SerialStore<T, RunsOf<L>>,
+    seat: &mut Seat<T, L>,
     rows: Rows<'_>,
 ) -> Result<(), Fail> {
     for (words, wanted) in rows {
-        ask_row(alloc, cluster, back, seat, words, wanted)?;
+        ask_row(alloc, cluster, store, seat, words, wanted)?;
     }
     Ok(())
 }
 
 /// Makes turns until nothing is under way.
-fn rest<L: Ledger>(cluster: &mut Cluster<L>, back: &mut Back) -> Result<(), Fail> {
+fn rest<T: Tabled, L: Server>(
+    cluster: &mut Cluster<T, L>,
+    store: &mut SerialStore<T, RunsOf<L>>,
+) -> Result<(), Fail> {
     for _ in 0..MOST {
-        if !turn(cluster, back)? {
+        if !turn(cluster, store)? {
             return Ok(());
         }
     }
     Err("it doesn't come to rest".into())
 }
 
-/// The answer to the fifth request of a seat, `INCR a`, has its words and its id.
-fn is_of_incr(alloc: Global, answer: &Answer) -> Result<(), Fail> {
-    same_number("the number of the request", answer.id().seq, 5)?;
-    same_count("its words", answer.words().len(), 2)?;
-    same_bytes("its second word", answer.words().word(1), b"a")?;
-    same_reply(alloc, "INCR a", answer.reply(), ":3\r\n")
-}
-
-/// Asks `INCR a` as the fifth request of a seat.
-fn has_an_answer<L: Ledger>(
+/// Asks `INCR a` as the fifth request of a seat, which has its number.
+fn ask_fifth<T: Tabled, L: Server>(
     alloc: Global,
-    cluster: &mut Cluster<L>,
-    back: &mut Back,
-    seat: &mut Seat<L>,
+    cluster: &mut Cluster<T, L>,
+    store: &mut SerialStore<T, RunsOf<L>>,
+    seat: &mut Seat<T, L>,
 ) -> Result<(), Fail> {
     let request = request(alloc, "INCR a")?;
-    cluster.submit(seat, request)?;
-    let answer = answer(cluster, back, seat)?;
-    is_of_incr(alloc, &answer)
+    let id = cluster.submit(seat, request)?;
+    same_number("the number of the request", id.seq, 5)?;
+    same_number("the requests of the seat", seat.count(), 5)?;
+    let reply = reply(cluster, store, seat)?;
+    same_reply(alloc, "INCR a", &reply, ":3\r\n")
 }
 
 const FIRST: Rows<'static> = &[("SET a 1", "+OK\r\n")];
@@ -148,26 +125,26 @@ const FOURTH: Rows<'static> = &[
 ];
 
 /// Two seats ask in turn, and the second leaves a request under way.
-fn both_ask<L: Ledger>(
+fn both_ask<T: Tabled, L: Server>(
     alloc: Global,
-    cluster: &mut Cluster<L>,
-    back: &mut Back,
-    one: &mut Seat<L>,
-    two: &mut Seat<L>,
+    cluster: &mut Cluster<T, L>,
+    store: &mut SerialStore<T, RunsOf<L>>,
+    one: &mut Seat<T, L>,
+    two: &mut Seat<T, L>,
 ) -> Result<(), Fail> {
-    ask_rows(alloc, cluster, back, one, FIRST)?;
-    ask_rows(alloc, cluster, back, two, SECOND)?;
-    ask_rows(alloc, cluster, back, one, THIRD)?;
-    ask_rows(alloc, cluster, back, two, FOURTH)?;
-    has_an_answer(alloc, cluster, back, two)?;
-    stays(cluster.closing(back), CloseFault::SeatsOut)
+    ask_rows(alloc, cluster, store, one, FIRST)?;
+    ask_rows(alloc, cluster, store, two, SECOND)?;
+    ask_rows(alloc, cluster, store, one, THIRD)?;
+    ask_rows(alloc, cluster, store, two, FOURTH)?;
+    ask_fifth(alloc, cluster, store, two)?;
+    stays(cluster.closing(store), CloseFault::SeatsOut)
 }
 
 /// The seat submits a request.
-fn leaves_one<L: Ledger>(
+fn leaves_one<T: Tabled, L: Server>(
     alloc: Global,
-    cluster: &mut Cluster<L>,
-    seat: &mut Seat<L>,
+    cluster: &mut Cluster<T, L>,
+    seat: &mut Seat<T, L>,
 ) -> Result<(), Fail> {
     let request = request(alloc, "GET a")?;
     cluster.submit(seat, request)?;
@@ -175,49 +152,51 @@ fn leaves_one<L: Ledger>(
 }
 
 /// Both seats stood, the second with a request under way.
-fn closes_at_rest<L: Ledger>(cluster: &mut Cluster<L>, back: &mut Back) -> Result<(), Fail> {
-    stays(cluster.closing(back), CloseFault::NotQuiet)?;
-    rest(cluster, back)?;
-    closes(cluster.closing(back), (8, 6, 0))
+fn closes_at_rest<T: Tabled, L: Server>(
+    cluster: &mut Cluster<T, L>,
+    store: &mut SerialStore<T, RunsOf<L>>,
+) -> Result<(), Fail> {
+    stays(cluster.closing(store), CloseFault::NotQuiet)?;
+    rest(cluster, store)?;
+    closes(cluster.closing(store), (8, 6, 0))
 }
 
 /// Both seats ask and stand, the second with a request under way.
-fn both_stand<L: Ledger>(
+fn both_stand<T: Tabled, L: Server>(
     alloc: Global,
-    cluster: &mut Cluster<L>,
-    back: &mut Back,
-    mut one: Seat<L>,
-    mut two: Seat<L>,
+    cluster: &mut Cluster<T, L>,
+    store: &mut SerialStore<T, RunsOf<L>>,
+    mut one: Seat<T, L>,
+    mut two: Seat<T, L>,
 ) -> Result<(), Fail> {
-    both_ask(alloc, cluster, back, &mut one, &mut two)?;
+    both_ask(alloc, cluster, store, &mut one, &mut two)?;
     cluster.stand(one);
     leaves_one(alloc, cluster, &mut two)?;
     cluster.stand(two);
-    closes_at_rest(cluster, back)
+    closes_at_rest(cluster, store)
 }
 
-/// The same in this cluster.
-fn two_seats_ask<L: Ledger>(
-    alloc: Global,
-    cluster: &mut Cluster<L>,
-    back: &mut Back,
-) -> Result<(), Fail> {
-    let one = cluster.sit()?;
-    let two = cluster.sit()?;
-    both_stand(alloc, cluster, back, one, two)
-}
+/// Both seats ask and stand in a cluster.
+#[derive(Drop)]
+struct TwoSeats;
 
-/// The same of a new cluster and a new store.
-fn ask_anew<L: Ledger>(alloc: Global, blank: Blank) -> Result<(), Fail>
-    requires { (blank.name ≡ L.name) × (blank.parts ≡ L.parts) × (1000 < blank.parts) }
-{
-    let table = Table::from_toml(alloc, TWO_SHARDS)?;
-    let mut cluster: Cluster<L> = Cluster::new(alloc, table, MOST, blank)?;
-    let mut back = Back::new(alloc, table, TextHasher::Fixed)?;
-    two_seats_ask(alloc, &mut cluster, &mut back)
+impl WithCluster for TwoSeats {
+    fn go<T: Tabled, L: Server>(
+        self,
+        alloc: Global,
+        cluster: &mut Cluster<T, L>,
+        store: &mut SerialStore<T, RunsOf<L>>,
+    ) -> Result<(), Fail> {
+        let one = cluster.sit()?;
+        let two = cluster.sit()?;
+        both_stand(alloc, cluster, store, one, two)
+    }
 }
 
 #[test]
 fn seats_ask_and_stand(rt: HostRuntime) -> Result<(), Fail> {
-    ask_anew::<Brand>(rt.alloc(), Blank::new(MOST + 1))
+    for keeps in [false, true] {
+        with_cluster(rt.alloc(), MOST, keeps, TwoSeats)?;
+    }
+    Ok(())
 }
