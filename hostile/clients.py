@@ -1,4 +1,5 @@
 """What the scripts of this folder share: requests and replies of RESP2, a client, and a server that is started for it."""
+import re
 import signal
 import socket
 import subprocess
@@ -126,6 +127,25 @@ class Client:
 
     def close(self):
         self.stream.close()
+
+
+def ask_sets(port, count):
+    """50 clients ask so many SETs together, 16 in flight each."""
+    clients = [Client(port) for _ in range(50)]
+    for first in range(0, count, 16 * len(clients)):
+        for number, client in enumerate(clients):
+            at = first + 16 * number
+            client.stream.sendall(b"".join(request(b"SET", b"key:%d" % (i % 1000), b"%d" % i) for i in range(at, at + 16)))
+        for client in clients:
+            client.skip_lines(16)
+    for client in clients:
+        client.close()
+
+
+def memory(process, field):
+    """What the system tells of a process's memory, in bytes."""
+    with open(f"/proc/{process}/status") as status:
+        return int(re.search(rf"{field}:\s+(\d+)", status.read())[1]) * 1024
 
 
 class Server:

@@ -50,8 +50,8 @@ TESTS = [
     ("data_tests", "decoder::goes_on_where_memory_was_refused"),
     ("data_tests", "repeats::packets_of_an_open_request_count_once"),
     ("data_tests", "repeats::earlier_requests_of_a_connection_are_past"),
-    ("solo_tests", "connections::replies_are_whole_where_memory_fails"),
-    ("solo_tests", "transactions::transactions_where_memory_fails"),
+    ("shardkv_solo", "tests::connections::replies_are_whole_where_memory_fails"),
+    ("shardkv_solo", "tests::transactions::transactions_where_memory_fails"),
     ("layer_tests", "memory::one_in_turn_where_memory_fails"),
     ("layer_tests", "memory::two_in_turn_where_memory_fails"),
     ("system_tests", "memory::crossing_where_memory_fails"),
@@ -62,11 +62,11 @@ TESTS = [
     ("system_tests", "memory::runs_where_memory_fails"),
     ("system_tests", "memory::runs_by_a_crew_of_one_where_memory_fails"),
     ("system_tests", "memory::runs_by_a_crew_of_two_where_memory_fails"),
-    ("replay_tests", "memory::traces_are_read_and_written_where_memory_fails"),
-    ("replay_tests", "memory::a_system_is_dumped_where_memory_fails"),
-    ("replay_tests", "memory::a_store_on_one_map_is_dumped_where_memory_fails"),
-    ("replay_tests", "memory::reports_come_whole_where_memory_fails"),
-    ("replay_tests", "memory::reports_of_a_crew_come_whole_where_memory_fails"),
+    ("shardkv_replay", "tests::memory::traces_are_read_and_written_where_memory_fails"),
+    ("shardkv_replay", "tests::memory::a_system_is_dumped_where_memory_fails"),
+    ("shardkv_replay", "tests::memory::a_store_on_one_map_is_dumped_where_memory_fails"),
+    ("shardkv_replay", "tests::memory::reports_come_whole_where_memory_fails"),
+    ("shardkv_replay", "tests::memory::reports_of_a_crew_come_whole_where_memory_fails"),
 ]
 
 # How many blocks a server is refused in a row: then there is memory again, and each request that was let in comes to its end.

@@ -27,7 +27,7 @@ WORDS, TABLE, NETWORK = 2, 3, 4
 
 def ended(program, *words):
     """The status by which the program ends, where it says why; else what it said."""
-    ran = subprocess.run([program, *words], stdin=subprocess.DEVNULL, capture_output=True, timeout=10)
+    ran = subprocess.run([program, *words], stdin=subprocess.DEVNULL, capture_output=True, timeout=60)
     told = ran.stderr.decode(errors="replace")
     if ran.returncode == WORDS:
         says_why = told.startswith("error: ")

@@ -1,14 +1,12 @@
 #!/usr/bin/env python3
-"""A server that has too little memory: want_of_memory.py PROGRAM TABLE [long-string]
+"""A server that has too little memory: want_of_memory.py PROGRAM TABLE
 
 Runs PROGRAM, which is shardkv-server, with TABLE under limits of 30, 90 and 140 MiB of address space, by one worker and by
-two. Clients ask for more than there is: replies of up to 16 MB, strings of 16 MB that are taken out again, words of 16 MB from
+two. Clients ask for more than there is: replies of up to 256 MB, strings of 16 MB that are taken out again, words of 16 MB from
 two clients at once, and 400,000 small requests. Four others go on meanwhile: each of their requests is answered within a second,
 rightly or by the error line that there is no memory, or no thread for a connection. Afterwards 100 requests are answered
-rightly, and the server's processor is idle.
-
-Then, with memory enough, a string of 64 MB is set and removed: of what the server took for it only the words stay that the
-trace and the two rows of its request have. With `long-string` this is all that is done, in a second or two.
+rightly, and the server's processor is idle. A case in which nothing but an answer's time was wrong is tried up to three
+times: a machine that has other work is late now and then, a server that waits for memory is late each time.
 
 The last line is `N passed, M failed`, and the status is 1 where one failed.
 """
@@ -22,7 +20,7 @@ import time
 from clients import NO_MEMORY, NO_THREAD, OUT_OF_MEMORY, Client, Ended, Server, request
 
 MIB = 1 << 20
-LATE = 1.0
+LATE, TRIES = 1.0, 3
 # The C library else sets 64 MiB of address space aside for a thread, and tries that again at each request of memory.
 ONE_ARENA = {"MALLOC_ARENA_MAX": "1"}
 REFUSED = (OUT_OF_MEMORY, NO_MEMORY, NO_THREAD)
@@ -38,12 +36,12 @@ def answered(ask):
 
 def long_replies(port):
     client = Client(port)
-    client.ask(b"SET", b"long", b"x" * 1000)
-    times = 4
-    while times <= 16384:
+    client.ask(b"SET", b"long", b"x" * 65536)
+    times = 2
+    while times <= 4096:
         if answered(lambda: client.ask(b"MGET", *[b"long"] * times)) is None:
             client = Client(port)
-        times *= 4
+        times *= 2
     client.close()
 
 
@@ -122,8 +120,6 @@ class Other(threading.Thread):
             else:
                 self.faults.append(f"said {said!r} behind {count}")
             time.sleep(0.005)
-        if self.slowest > LATE:
-            self.faults.append(f"an answer took {self.slowest:.1f} s")
 
 
 def processor_seconds(process):
@@ -133,7 +129,7 @@ def processor_seconds(process):
 
 
 def served(program, table, limit, workers, load):
-    """What goes wrong with a server that has so much memory and is loaded so."""
+    """What goes wrong with a server that has so much memory and is loaded so, and how long its slowest answer took."""
     with Server(program, table, "--workers", str(workers), "--connections", "1000000", "--max-steps", str(1 << 40),
                 env={**os.environ, **ONE_ARENA},
                 preexec_fn=lambda: resource.setrlimit(resource.RLIMIT_AS, (limit * MIB, limit * MIB))) as server:
@@ -152,9 +148,18 @@ def served(program, table, limit, workers, load):
             other.join()
             faults += other.faults
         faults += afterwards(server.process, port)
-        print(f"  {sum(o.right for o in others)} right, {sum(o.starved for o in others)} starved, "
-              f"slowest {max(o.slowest for o in others):.2f} s")
-        return faults
+        slowest = max(other.slowest for other in others)
+        print(f"  {sum(o.right for o in others)} right, {sum(o.starved for o in others)} starved, slowest {slowest:.2f} s")
+        return faults, slowest
+
+
+def in_time(case):
+    """What goes wrong in a case, that each of its tries was late among it."""
+    for _ in range(TRIES):
+        faults, slowest = case()
+        if faults or slowest <= LATE:
+            return faults
+    return [f"an answer took {slowest:.1f} s, in the last of {TRIES} tries that were late"]
 
 
 def let_in(port):
@@ -186,27 +191,6 @@ def afterwards(server, port):
         [f"busy for {busy:.2f} s of a second afterwards"] if busy > 0.1 else [])
 
 
-def resident(process):
-    """How much memory a process has, and at most had, in bytes."""
-    with open(f"/proc/{process}/status") as status:
-        fields = dict(line.split(":", 1) for line in status)
-    return tuple(int(fields[name].split()[0]) * 1024 for name in ("VmRSS", "VmHWM"))
-
-
-def gives_back(program, table):
-    """What goes wrong with the memory of a large request."""
-    size = 64 * MIB
-    with Server(program, table) as server:
-        client = Client(server.port)
-        before, _ = resident(server.process.pid)
-        client.ask(b"SET", b"large", b"x" * size)
-        for _ in range(2):
-            client.ask(b"DEL", b"large")
-        after, most = resident(server.process.pid)
-        print(f"  {before / MIB:.0f} MiB before, {most / MIB:.0f} at most, {after / MIB:.0f} after")
-        return ["memory stays"] if after > before + size * 7 // 2 or after > most - size else []
-
-
 def short_of_memory(program, table):
     """Each limit, number of workers and load, and what goes wrong there."""
     for limit in (30, 90, 140):
@@ -217,12 +201,11 @@ def short_of_memory(program, table):
 
 
 def main():
-    program, table, *part = sys.argv[1:]
-    cases = [] if part == ["long-string"] else list(short_of_memory(program, table))
+    program, table = sys.argv[1:]
     passed = failed = 0
-    for name, case in cases + [("a string of 64 MB", lambda: gives_back(program, table))]:
+    for name, case in short_of_memory(program, table):
         print(name)
-        faults = case()
+        faults = in_time(case)
         for fault in faults:
             print(f"  FAILED: {fault}")
         passed, failed = passed + (not faults), failed + bool(faults)

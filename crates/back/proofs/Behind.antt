@@ -23,7 +23,7 @@ use Rattle.shard_exec.specs.Stamps.{last_of, is_above, AreFresh, raised}
 use Rattle.shard_exec.specs.StoreStates.{StoreState, IsStore}
 use Rattle.shard_exec.specs.Stores.{HasRunLayer}
 use Rattle.shard_exec.specs.declared.done.Ended.{Ended}
-use Rattle.shard_maps.specs.Joined.{joined}
+use Rattle.shards.specs.Joined.{joined}
 use Rattle.tasks.proofs.Groups.{task_groups-below}
 
 -- these requests were executed here, one behind another, as one thread does, and left what the shards hold

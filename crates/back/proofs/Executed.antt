@@ -1,9 +1,9 @@
 -- The requests of a layer that were executed.
 use Rattle.std.proofs.Common.{◌≡◌, true, false, List, [], ◌∷◌, Option, Some, None, inl, inr, refl, ap, ◌∙◌, sym, subst}
 use Rattle.std.specs.List.{AllZip, AllByRecursion}
-use Rattle.batches.specs.Starved.{starved_in}
+use Rattle.tasks.specs.Starved.{starved_in}
 use Rattle.back.specs.Rows.{with_row, rows_of}
-use Rattle.command_bodies.proofs.Turns.{pair}
+use Rattle.tasks.proofs.Turns.{pair}
 use Rattle.execution_order.specs.Entries.{Entry, Row, deeds_of, entries_of, replies_of, Touch, InOrder, IsAddressed, AreAddressed}
 use Rattle.execution_order.specs.Rows.{IsRow}
 use Rattle.groups.proofs.Stamps.{lt_asym}
@@ -20,7 +20,7 @@ use Rattle.resp.specs.declared.answered.Answered.{Answered}
 use Rattle.shard_exec.specs.Layers as layers
 use Rattle.shard_exec.specs.Layers.{AddressTheirGroups, IsOf, outcomes_of_ended}
 use Rattle.shard_exec.specs.declared.done.Ended.{Ended}
-use Rattle.shard_maps.specs.Layer.{AnsweredInTurn}
+use Rattle.shards.specs.Layer.{AnsweredInTurn}
 use Rattle.shard_workers.specs.PlacedJobs.{outcome}
 use Rattle.tasks.specs.Tasks.{task_reading, task_groups, deed_effect, deed_of, deeds_in_turn}
 

@@ -18,10 +18,10 @@ use Rattle.layer_planner.specs.declared.job.Job.{Job}
 use Rattle.placement.specs.Layout.{Layout, IsTable}
 use Rattle.shard_exec.specs.StoreStates.{StoreState, IsStore}
 use Rattle.shard_exec.specs.Stores.{empty_store}
-use Rattle.shard_maps.proofs.Empty.{joined-empty}
+use Rattle.shards.proofs.Empty.{joined-empty}
 use Rattle.shard_exec.specs.declared.done.ExecFault.{ExecFault}
 use Rattle.shard_exec.specs.declared.done.ExecFault.TheVariants.{Stale, Memory, Failed, Foreign}
-use Rattle.shard_maps.specs.Joined.{joined}
+use Rattle.shards.specs.Joined.{joined}
 
 pub zip_append : {A B : Type 0} (R : A → B → Type 0) (as_ cs : List A) (bs ds : List B) → AllZip R as_ bs → AllZip R cs ds
     → AllZip R (as_ ++ cs) (bs ++ ds)

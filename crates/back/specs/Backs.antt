@@ -13,7 +13,7 @@ use Rattle.shard_exec.specs.Reached.{HasReached}
 use Rattle.shard_exec.specs.Stamps.{last_of}
 use Rattle.shard_exec.specs.StoreStates.{StoreState}
 use Rattle.shard_exec.specs.Stores.{empty_store}
-use Rattle.shard_maps.specs.Joined.{joined}
+use Rattle.shards.specs.Joined.{joined}
 
 -- the store, the rows of all that was executed, and what came of the last layer
 pub record BackState : Type 0 where

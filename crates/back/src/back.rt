@@ -6,7 +6,7 @@ ghost use Rattle.back.specs.Runs.{HasRun, IsRefused};
 ghost use Rattle.dumps.specs.Dump.{dump_text};
 ghost use Rattle.layer_results.specs.Results.{AreCopies};
 ghost use Rattle.shard_exec.specs.StoreStates.{IsStore};
-ghost use Rattle.shard_maps.specs.Joined.{joined};
+ghost use Rattle.shards.specs.Joined.{joined};
 
 use crate::room::ResultsRoom;
 use crate::running::run_over;
@@ -111,14 +111,6 @@ impl Back {
         ensures left { self.new ≡ record self.old { last = [] } }
     {
         mem::replace(&mut self.last, Done::none(self.alloc))
-    }
-
-    /// Takes the room for rows ahead, where half of what was taken last is used: then the layers of 256 requests find theirs. The
-    /// only error is want of memory.
-    pub fn take_room_ahead(&mut self) -> Result<(), AllocError>
-        ensures { self.new ≡ self.old }
-    {
-        self.rows.reserve_ahead()
     }
 
     /// The rows of what was executed, in the order of execution.

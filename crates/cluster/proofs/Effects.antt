@@ -1,7 +1,6 @@
 -- What a step answers that was made.
 use Rattle.std.proofs.Common.{◌≡◌, ℕ, suc, List, Option, refl, ap, ◌∙◌}
-use Rattle.front.specs.Fronts.{Told}
-use Rattle.cluster.specs.Histories.{HistoryView, IsIn, IsLawful, retold_effect, IsMade, IsPlain, IsUnanswered}
+use Rattle.cluster.specs.Histories.{HistoryView, IsMade, IsUnanswered, IsPlain}
 use Rattle.cluster.specs.Making.{effect_shown}
 use Rattle.cluster.specs.declared.effect.Effect as ours
 use Rattle.cluster.specs.declared.effect.Effect.TheVariants as effect
@@ -16,25 +15,13 @@ use Rattle.world.specs.World.{World, Outcome}
 
 -- ---- as the world says it
 
-opened_same : (m n : ℕ) → Opened m ≡ Opened n → m ≡ n
-opened_same m n same = let k = same in cc
-
 submitted_same : (i j : RequestId) → Submitted i ≡ Submitted j → i ≡ j
 submitted_same i j same = let k = same in cc
 
--- an Open answers the number of the next connection
-pub opened_so : (h h' : HistoryView) (n : ℕ) (w : World) (told : Told) → IsIn h w told → IsMade h Open (Opened n) h' →
-    n ≡ suc w.opened
-opened_so h h' n w told shown made =
-    let next = made.from_each w told shown in
-    opened_same n (suc w.opened) (next.tells ∙ ap (retold_effect told) next.makes.answers)
-
--- a Submit the id of the connection's next request
-pub submitted_so : (h h' : HistoryView) (conn : ConnId) (words : List (List ℕ)) (id : RequestId) (w : World) (told : Told) → IsIn h w told →
-    IsMade h (Submit conn words) (Submitted id) h' → id ≡ next_id w conn.0
-submitted_so h h' conn words id w told shown made =
-    let next = made.from_each w told shown in
-    submitted_same id (next_id w conn.0) (next.tells ∙ ap (retold_effect told) next.makes.answers)
+-- a Submit answers the id of the connection's next request
+pub submitted_so : (h h' : HistoryView) (conn : ConnId) (words : List (List ℕ)) (id : RequestId)
+    (made : IsMade h (Submit conn words) (Submitted id) h') → id ≡ next_id made.world conn.0
+submitted_so h h' conn words id made = submitted_same id (next_id made.world conn.0) made.makes.answers
 
 -- ---- by its kind
 
@@ -66,17 +53,12 @@ by_made (effect.Submitted id) same = absurd (let k = same in cc)
 by_made (effect.Collected outcome) same = absurd (let k = same in cc)
 by_made effect.Made same = refl
 
-pub opens : (h h' : HistoryView) (e : ours.Effect) → IsLawful h → IsMade h Open (effect_shown e) h' →
-    (conn : ConnId) × (e ≡ effect.Opened conn)
-opens h h' e lawful made =
-    let next = made.from_each lawful.world lawful.told lawful.shows in
-    by_opened e (suc lawful.world.opened) (next.tells ∙ ap (retold_effect lawful.told) next.makes.answers)
+pub opens : (h h' : HistoryView) (e : ours.Effect) → IsMade h Open (effect_shown e) h' → (conn : ConnId) × (e ≡ effect.Opened conn)
+opens h h' e made = by_opened e (suc made.world.opened) made.makes.answers
 
-pub submits_some : (h h' : HistoryView) (conn : ConnId) (words : List (List ℕ)) (e : ours.Effect) → IsLawful h →
+pub submits_some : (h h' : HistoryView) (conn : ConnId) (words : List (List ℕ)) (e : ours.Effect) →
     IsMade h (Submit conn words) (effect_shown e) h' → (id : RequestId) × (e ≡ effect.Submitted id)
-submits_some h h' conn words e lawful made =
-    let next = made.from_each lawful.world lawful.told lawful.shows in
-    by_submitted e (next_id lawful.world conn.0) (next.tells ∙ ap (retold_effect lawful.told) next.makes.answers)
+submits_some h h' conn words e made = by_submitted e (next_id made.world conn.0) made.makes.answers
 
 nothing : (t : Layout) (w w' : World) (s : Step) (a : Effect) → IsUnanswered s → Steps t w s a w' → a ≡ Made
 nothing t w w' Open a kind step = absurd kind
@@ -90,12 +72,9 @@ nothing t w w' (Close conn) a kind step = step.answers
 nothing t w w' (Repeat place) a kind step = absurd kind
 
 -- a step that answers nothing
-pub answers_nothing : (h h' : HistoryView) (s : Step) (e : ours.Effect) → IsUnanswered s → IsLawful h → IsMade h s (effect_shown e) h' →
-    e ≡ effect.Made
-answers_nothing h h' s e kind lawful made =
-    let next = made.from_each lawful.world lawful.told lawful.shows in
-    by_made e (next.tells ∙ ap (retold_effect lawful.told)
-    (nothing h.front.table lawful.world next.after s next.answer kind next.makes))
+pub answers_nothing : (h h' : HistoryView) (s : Step) (e : ours.Effect) → IsUnanswered s → IsMade h s (effect_shown e) h' → e ≡ effect.Made
+answers_nothing h h' s e kind made =
+    by_made e (nothing h.front.table made.world made.after s (effect_shown e) kind made.makes)
 
 pub plain_answer : (s : Step) → IsUnanswered s → IsPlain s
 plain_answer Open kind = absurd kind

@@ -1,32 +1,46 @@
 -- A history stays one, whether a step is made or not.
-use Rattle.std.proofs.Common.{◌≡◌, ◌≢◌, ℕ, ◌+◌, ◌<◌, ◌≤◌, List, [], ◌∷◌, ◌++◌, length, None, refl, sym}
+use Rattle.std.proofs.Common.{◌≡◌, ◌≢◌, ℕ, ◌+◌, ◌<◌, ◌≤◌, List, [], ◌∷◌, ◌++◌, length, Option, None, refl, sym}
 use Rattle.std.proofs.Common.{ap, ◌∙◌, subst, arith, length-append}
-use Rattle.front.proofs.Showing.{NoRun, still_unrun}
-use Rattle.front.specs.Fronts.{FrontView, Told, IsOut, FrontIsAt, HasNotRun}
-use Rattle.front.specs.Fronts as front
-use Rattle.front.specs.Making.{IsStep}
-use Rattle.front.specs.Refusing as refusing
-use Rattle.front.specs.Refusing.{MayStep}
-use Rattle.front.specs.declared.fault.FrontFault.{FrontFault}
-use Rattle.front.specs.declared.fault.FrontFault.TheVariants as front_fault
-use Rattle.sessions.specs.Session.{Answer, Now, Go, asks}
-use Rattle.tasks.specs.Tasks.{Task, task_groups}
-use Rattle.cluster.specs.Histories.{HistoryView, IsIn, IsLawful, kept_for, IsHistory, kept_back, MayGoOn}
+use mathlib.Core.List.{IsPrefix}
+use Rattle.cluster.proofs.Settling as settling
+use Rattle.cluster.proofs.Stepping as stepping
+use Rattle.cluster.proofs.Taking as taking
+use Rattle.cluster.proofs.Taking.{none_true}
+use Rattle.cluster.proofs.Tapes.{trace_still, trace_pushed}
+use Rattle.cluster.specs.Histories.{HistoryView, IsTrueIn, IsLawful, kept_for, IsHistory, kept_back, MayGoOn}
 use Rattle.cluster.specs.Histories.{IsMade, IsUnchanged, IsRefused, HasNoFault, IsFault, IsPlain}
-use Rattle.cluster.specs.Making.{Makes, of_front}
+use Rattle.cluster.specs.Layers.{HandsOut, IsSettled}
+use Rattle.cluster.specs.Making.{of_front}
+use Rattle.cluster.specs.Sealed.{TakenView, IsTaken, RanView, IsRan}
+use Rattle.cluster.specs.Traces.{IsTraceOf, SameTrace, IsPushed}
 use Rattle.cluster.specs.declared.fault.StepFault.{StepFault}
 use Rattle.cluster.specs.declared.fault.StepFault.TheVariants.{Memory}
+use Rattle.front.specs.Fronts.{FrontView, IsOut, HasNotRun}
+use Rattle.front.specs.Fronts as front
+use Rattle.front.specs.Making.{Makes}
+use Rattle.front.specs.Refusing as refusing
+use Rattle.front.specs.Refusing.{MayStep}
+use Rattle.front.specs.Settling.{IsTrueOf, Settles}
+use Rattle.front.specs.Taking.{Takes}
+use Rattle.front.specs.declared.fault.FrontFault.{FrontFault}
+use Rattle.front.specs.declared.fault.FrontFault.TheVariants as front_fault
+use Rattle.cluster.specs.declared.tape.Tape.{Tape}
 use Rattle.journal.specs.declared.step.Step.{Step}
 use Rattle.journal.specs.declared.step.Step.TheVariants.{Open, Submit, Deliver, Take, Run, Settle, Collect, Close, Repeat}
 use Rattle.journal.specs.declared.trace.TheConstants.{GREATEST_STEPS}
+use Rattle.layer_planner.specs.declared.job.Job.{Job}
+use Rattle.layer_results.specs.Results.{names_of}
+use Rattle.layer_results.specs.declared.done.DoneRow.{DoneRow}
+use Rattle.order_laws.proofs.Layers.{others_leave_layers}
 use Rattle.placement.specs.Layout.{Layout}
+use Rattle.serial_store.specs.Serial.{AreSerial}
 use Rattle.skeen_core.specs.declared.packet.Delivered.{Delivered}
-use Rattle.world.specs.Steps.{OwnFault, opening, Effect, Collects, Steps, submitted, submitted_to, in_session}
+use Rattle.world.specs.Steps.{OwnFault, opening, Effect, Leads, taken}
 use Rattle.world.specs.Steps as world
-use Rattle.world.specs.World.{World, Standing, Closed, Idle, Waiting, Answered, Layer, NoneTaken, Taken, HasRun}
+use Rattle.world.specs.World.{World, Layer, NoneTaken, Taken, HasRun}
 
-abbrev pub history : FrontView → ℕ → List Step → ℕ → HistoryView
-history f most steps room = record { front = f; max_steps = most; steps = steps; room = room }
+abbrev pub history : FrontView → ℕ → List Step → List (List DoneRow) → Option Tape → HistoryView
+history f most steps ran trace = record { front = f; max_steps = most; steps = steps; ran = ran; trace = trace }
 
 -- ---- numbers
 
@@ -57,191 +71,261 @@ pub goes_on : (h : HistoryView) (step : Step) → IsPlain step → length h.step
 goes_on h step plain left = let kept = plain_kept step h.front.out plain in omega arith
 
 -- no number of the front has grown too large
-pub may_step : (h : HistoryView) → IsHistory h → length h.steps < h.max_steps → MayStep h.front
-may_step h is left = let few = is.few in let counted = is.counted in omega arith
+pub may_step : (t : Layout) (h : HistoryView) → IsHistory t h → length h.steps < h.max_steps → MayStep h.front
+may_step t h is left = omega (arith, is.few, is.true_in.counted)
 
--- ---- a step that was made
-
-no_run : (step : Step) → IsPlain step → NoRun step
-no_run Open plain = tt
-no_run (Submit conn words) plain = tt
-no_run (Deliver place) plain = tt
-no_run Take plain = absurd plain
-no_run (Run starved) plain = absurd plain
-no_run Settle plain = absurd plain
-no_run (Collect conn) plain = tt
-no_run (Close conn) plain = tt
-no_run (Repeat place) plain = absurd plain
-
-pub made : (old new : HistoryView) (step : Step) (effect : Effect) → NoRun step → MayGoOn old step →
-    Makes old.front step effect new.front → new.max_steps ≡ old.max_steps → new.steps ≡ old.steps ++ step ∷ [] →
-    IsMade old step effect new
-made old new step effect plain left makes most steps = record {
-  left = left;
-  max_steps = most;
-  steps = steps;
-  table = makes.is_step.table;
-  rows = makes.is_step.rows;
-  starved = makes.is_step.starved;
-  from_each = λ w told shown.
-      let next = makes.from_each old.steps w told shown.at in
-      record {
-        answer = next.0;
-        after = next.1;
-        makes = next.2;
-        tells = next.3;
-        shows = record {
-          at = subst (λ h. FrontIsAt new.front h next.1 told) (sym steps) next.4;
-          not_run = still_unrun old.front.table w next.1 step next.0 plain next.2 shown.not_run;
-        };
-      };
-}
-
-pub made_plain : (old new : HistoryView) (step : Step) (effect : Effect) → IsPlain step →
-    length old.steps + kept_for old.front.out < old.max_steps → Makes old.front step effect new.front →
-    new.max_steps ≡ old.max_steps → new.steps ≡ old.steps ++ step ∷ [] → IsMade old step effect new
-made_plain old new step effect plain left makes most steps =
-    made old new step effect (no_run step plain) (goes_on old step plain left) makes most steps
+-- the steps lead to a world
+abbrev pub AreLegal : Layout → List Step → Type 0
+AreLegal t steps = (w : World) × Leads t opening steps w
 
 -- ---- what is out stays out
-
-submitted_to_layer : (w : World) (c : ℕ) (task : Task) (gs : List ℕ) → (submitted_to w c task gs).layer ≡ w.layer
-submitted_to_layer w c task [] = refl
-submitted_to_layer w c task (g ∷ gs) = refl
-
-submitted_layer : (t : Layout) (w : World) (c : ℕ) (a : Answer) → (submitted t w c a).layer ≡ w.layer
-submitted_layer t w c (Now reply) = refl
-submitted_layer t w c (Go task) = submitted_to_layer w c task (task_groups t task)
-
-collects_layer : (w w' : World) (c : ℕ) (standing : Standing) (e : Effect) → Collects standing w c e w' → w'.layer ≡ w.layer
-collects_layer w w' c Closed e step = absurd step
-collects_layer w w' c Idle e step = ap (λ v. v.layer) step.1
-collects_layer w w' c Waiting e step = ap (λ v. v.layer) step.1
-collects_layer w w' c (Answered o) e step = ap (λ v. v.layer) step.1
-
-layer_stays : (t : Layout) (w w' : World) (s : Step) (e : Effect) → IsPlain s → Steps t w s e w' → w'.layer ≡ w.layer
-layer_stays t w w' Open e plain step = ap (λ v. v.layer) step.after
-layer_stays t w w' (Submit conn words) e plain step =
-    let came = asks (w.session conn.0) words in
-    ap (λ v. v.layer) step.after ∙ submitted_layer t (in_session w conn.0 came.0) conn.0 came.1
-layer_stays t w w' (Deliver k) e plain step = ap (λ v. v.layer) step.after
-layer_stays t w w' Take e plain step = absurd plain
-layer_stays t w w' (Run starved) e plain step = absurd plain
-layer_stays t w w' Settle e plain step = absurd plain
-layer_stays t w w' (Collect conn) e plain step = collects_layer w w' conn.0 (w.standing conn.0) e step
-layer_stays t w w' (Close conn) e plain step = ap (λ v. v.layer) step.after
-layer_stays t w w' (Repeat k) e plain step = absurd plain
 
 same_out : (l : Layer) (a b : List Delivered) → IsOut l a → IsOut l b → a ≡ b
 same_out NoneTaken a b here there = here ∙ sym there
 same_out (Taken ds) a b here there = here.0 ∙ sym there.0
 same_out (HasRun es) a b here there = here.0 ∙ sym there.0
 
-pub out_stays : (old new : HistoryView) (step : Step) (effect : Effect) → IsLawful old → IsPlain step → IsMade old step effect new →
-    new.front.out ≡ old.front.out
-out_stays old new step effect lawful plain is =
-    let next = is.from_each lawful.world lawful.told lawful.shows in
-    let same = layer_stays old.front.table lawful.world next.after step next.answer plain next.makes in
-    same_out lawful.world.layer new.front.out old.front.out
-    (subst (λ (l : Layer). IsOut l new.front.out) same next.shows.at.shows.out) lawful.shows.at.shows.out
+module _ (t : Layout) (h : HistoryView) (is : IsHistory t h) where
+  -- ---- a step is made
 
-pub history_made : (old new : HistoryView) (step : Step) (effect : Effect) → IsHistory old → IsPlain step → IsStep old.front new.front →
-    IsMade old step effect new → IsHistory new
-history_made old new step effect is plain counts made =
-    let next = made.from_each is.lawful.world is.lawful.told is.lawful.shows in
-    let out = ap kept_for (out_stays old new step effect is.lawful plain made) in
-    let kept = plain_kept step old.front.out plain in
-    let longer = ap length made.steps in
-    let one = length-append old.steps (step ∷ []) in
-    let left = made.left in
-    let same = made.max_steps in
-    let few = is.few in
-    let counted = is.counted in
-    let steps = counts.steps in
-    let layers = counts.layers in
-    record {
-      few = omega arith;
-      within = omega arith;
-      counted = omega arith;
-      whole = counts.whole ∙ is.whole;
-      lawful = record { world = next.after; told = is.lawful.told; shows = next.shows };
-      tidy = is.tidy;
-    }
+  module _ (step : Step) (plain : IsPlain step) (effect : Effect) (new : FrontView) (makes : Makes h.front step effect new) where
+    pub made_legal : AreLegal t (h.steps ++ step ∷ [])
+    made_legal =
+        let next = stepping.next h is.world is.true_in step plain effect new makes in (
+          next.world,
+          subst (λ s. Leads s opening (h.steps ++ step ∷ []) next.world) is.table
+              (stepping.leads_on h is.world is.true_in step plain effect new makes),
+        )
+
+    pub out_stays : new.out ≡ h.front.out
+    out_stays =
+        let next = stepping.next h is.world is.true_in step plain effect new makes in
+        let keeps = others_leave_layers h.front.table is.world next.world step effect (stepping.leaves step plain) next.does in
+        same_out is.world.layer new.out h.front.out (subst (λ (l : Layer). IsOut l new.out) keeps.0 next.at.shows.out)
+        is.true_in.at.shows.out
+
+    module _ (most : ℕ) (trace : Option Tape) (left : length h.steps + kept_for h.front.out < h.max_steps)
+        (same : most ≡ h.max_steps) (pushed : IsPushed h.trace step trace) where
+      abbrev pub now : HistoryView
+      now = history new most (h.steps ++ step ∷ []) h.ran trace
+
+      pub history_made : IsHistory t now
+      history_made = record {
+        few = omega (arith, is.few, same);
+        within = omega (arith, left, same, length-append h.steps (step ∷ []), ap kept_for out_stays);
+        traced = trace_pushed h.trace trace h.steps step h.max_steps most pushed same is.traced;
+        table = makes.is_step.table ∙ is.table;
+        world = _;
+        true_in = stepping.goes_on h is.world is.true_in step plain effect new makes most trace;
+      }
+
+      pub was_made : IsMade h step effect now
+      was_made = stepping.is_made h is.world is.true_in step plain effect new makes most trace (goes_on h step plain left) same
+
+  -- ---- a layer is taken
+
+  module _ (jobs : List Job) (new : FrontView) (takes : Takes h.front jobs new) where
+    pub take_legal : AreLegal t (h.steps ++ Take ∷ [])
+    take_legal = (
+      taken is.world new.out,
+      subst (λ s. Leads s opening (h.steps ++ Take ∷ []) (taken is.world new.out)) is.table
+          (taking.take_leads h is.world is.true_in jobs new takes h.max_steps h.trace),
+    )
+
+    pub layer_sealed : IsTaken t (record { layer = jobs; number = new.layers; told = h.steps ++ Take ∷ [] })
+    layer_sealed = subst (λ s. IsTaken s (record { layer = jobs; number = new.layers; told = h.steps ++ Take ∷ [] })) is.table
+        (taking.is_taken h is.world is.true_in jobs new takes h.max_steps h.trace)
+
+    module _ (most : ℕ) (trace : Option Tape) (left : length h.steps + 2 < h.max_steps)
+        (same : most ≡ h.max_steps) (pushed : IsPushed h.trace Take trace) where
+      abbrev pub after_take : HistoryView
+      after_take = history new most (h.steps ++ Take ∷ []) h.ran trace
+
+      pub history_taken : IsHistory t after_take
+      history_taken = record {
+        few = omega (arith, is.few, same);
+        within = omega (arith, left, same, length-append h.steps (Take ∷ []), kept_few new.out);
+        traced = trace_pushed h.trace trace h.steps Take h.max_steps most pushed same is.traced;
+        table = takes.is_step.table ∙ is.table;
+        world = taken is.world new.out;
+        true_in = taking.taken_true h is.world is.true_in jobs new takes most trace;
+      }
+
+      pub hands_out : (v : TakenView) → v.layer ≡ jobs → v.number ≡ new.layers → v.told ≡ after_take.steps → HandsOut h v after_take
+      hands_out v layer number told =
+          let from = takes.from_each h.steps is.world is.true_in.at in
+          record {
+            made = record {
+              left = left;
+              max_steps = same;
+              steps = refl;
+              table = takes.is_step.table;
+              ran = refl;
+              world = is.world;
+              leads = is.true_in.at.leads;
+              after = taken is.world new.out;
+              makes = from.0;
+            };
+            number = number ∙ takes.is_step.layers;
+            told = told;
+            after = refl;
+            are_jobs = subst (λ js. Rattle.front.specs.Layers.AreJobs is.world.asked new.out js) (sym layer) from.1;
+          }
+
+  -- ---- what came of a layer is settled
+
+  module _ (v : RanView) (ran : IsRan t v) (some : h.front.out ≢ []) (number : v.number ≡ h.front.layers) (all : List Step)
+      (legal : AreLegal t all) (p : IsPrefix h.steps all) (q : IsPrefix v.told all) (every : List (List DoneRow))
+      (p' : IsPrefix h.ran every) (q' : IsPrefix v.ran every) (serial : AreSerial t v.ran) where
+    abbrev ran' : IsRan h.front.table v
+    ran' = subst (λ s. IsRan s v) (sym is.table) ran
+
+    abbrev leads' : Leads h.front.table opening all legal.0
+    leads' = subst (λ s. Leads s opening all legal.0) (sym is.table) legal.1
+
+    abbrev serial' : AreSerial h.front.table v.ran
+    serial' = subst (λ s. AreSerial s v.ran) (sym is.table) serial
+
+    pub run_legal : AreLegal t (h.steps ++ Run (names_of v.done) ∷ [])
+    run_legal = subst (λ s. AreLegal s (h.steps ++ Run (names_of v.done) ∷ [])) is.table
+        (settling.run_leads h is.world is.true_in v ran' some number all legal.0 leads' p q every p' q' serial')
+
+    pub of_layer : IsTrueOf h.front v.done
+    of_layer = settling.truth h is.world is.true_in v ran' some number all legal.0 leads' p q every p' q' serial'
+
+    pub ran_more : v.ran ≡ h.ran ++ v.done ∷ []
+    ran_more = settling.ran_is h is.world is.true_in v ran' some number all legal.0 leads' p q every p' q' serial'
+
+    -- steps are left for it
+    pub two_left : length h.steps + 2 ≤ h.max_steps
+    two_left = omega (arith, is.within, kept_some h.front.out some)
+
+    module _ (new : FrontView) (settles : Settles h.front v.done new) where
+      abbrev pub settled_steps : List Step
+      settled_steps = (h.steps ++ Run (names_of v.done) ∷ []) ++ Settle ∷ []
+
+      pub settle_legal : AreLegal t settled_steps
+      settle_legal = subst (λ s. AreLegal s settled_steps) is.table (settling.settle_leads h is.world is.true_in v ran' some number all
+          legal.0 leads' p q every p' q' serial' new settles h.max_steps h.trace)
+
+      module _ (most : ℕ) (trace mid : Option Tape) (same : most ≡ h.max_steps)
+          (run : IsPushed h.trace (Run (names_of v.done)) mid) (settle : IsPushed mid Settle trace) where
+        abbrev pub after_settle : HistoryView
+        after_settle = history new most settled_steps v.ran trace
+
+        pub history_settled : IsHistory t after_settle
+        history_settled = record {
+          few = omega (arith, is.few, same);
+          within = omega (
+            arith,
+            two_left,
+            same,
+            length-append (h.steps ++ Run (names_of v.done) ∷ []) (Settle ∷ []),
+            length-append h.steps (Run (names_of v.done) ∷ []),
+            kept_none new.out settles.out,
+          );
+          traced = trace_pushed mid trace (h.steps ++ Run (names_of v.done) ∷ []) Settle h.max_steps most settle same
+              (trace_pushed h.trace mid h.steps (Run (names_of v.done)) h.max_steps h.max_steps run refl is.traced);
+          table = settles.table ∙ is.table;
+          world = _;
+          true_in = settling.settled h is.world is.true_in v ran' some number all legal.0 leads' p q every p' q' serial' new settles most
+              trace;
+        }
+
+        pub was_settled : IsSettled h v.done after_settle
+        was_settled = settling.is_settled h is.world is.true_in v ran' some number all legal.0 leads' p q every p' q' serial' new settles
+            most trace two_left same
 
 -- ---- a step that was not
 
-pub in_still : (old new : HistoryView) → IsUnchanged old new → (w : World) (told : Told) → IsIn old w told → IsIn new w told
-in_still old new still w told shown = record {
-  at = subst (λ f. FrontIsAt f new.steps w told) (sym still.front)
-      (subst (λ h. FrontIsAt old.front h w told) (sym still.steps) shown.at);
-  not_run = shown.not_run;
+pub true_still : (h h' : HistoryView) (w : World) → IsUnchanged h h' → IsTrueIn h w → IsTrueIn h' w
+true_still h h' w still is = record {
+  at = subst (λ f. front.FrontIsAt f h'.steps w) (sym still.front)
+      (subst (λ s. front.FrontIsAt h.front s w) (sym still.steps) is.at);
+  not_run = is.not_run;
+  ran = subst (λ (f : FrontView). Rattle.order_laws.specs.Truth.AreRunsOf f.table h'.steps w
+      (Rattle.std.specs.Prelude.map (Rattle.serial_store.specs.Serial.layer_of f.table) h'.ran)) (sym still.front)
+      (subst (λ s. Rattle.order_laws.specs.Truth.AreRunsOf h.front.table s w
+      (Rattle.std.specs.Prelude.map (Rattle.serial_store.specs.Serial.layer_of h.front.table) h'.ran)) (sym still.steps)
+      (subst (λ l. Rattle.order_laws.specs.Truth.AreRunsOf h.front.table h.steps w
+      (Rattle.std.specs.Prelude.map (Rattle.serial_store.specs.Serial.layer_of h.front.table) l)) (sym still.ran) is.ran));
+  layers = ap (λ (f : FrontView). f.layers) still.front ∙ is.layers ∙ ap length (sym still.ran);
+  counted = omega (
+    arith,
+    is.counted,
+    ap (λ (f : FrontView). f.steps) still.front,
+    ap (λ (f : FrontView). f.layers) still.front,
+    ap length still.steps,
+  );
 }
 
-pub history_still : (old new : HistoryView) → IsHistory old → IsUnchanged old new → IsHistory new
-history_still old new is still =
-    let most = still.max_steps in
-    let few = is.few in
-    let within = is.within in
-    let counted = is.counted in
-    let same = ap length still.steps in
-    let out = ap (λ (f : FrontView). kept_for f.out) still.front in
-    let steps = ap (λ (f : FrontView). f.steps) still.front in
-    let layers = ap (λ (f : FrontView). f.layers) still.front in
-    record {
-      few = omega arith;
-      within = omega arith;
-      counted = omega arith;
-      whole = ap (λ (f : FrontView). f.whole) still.front ∙ is.whole;
-      lawful = record {
-        world = is.lawful.world;
-        told = is.lawful.told;
-        shows = in_still old new still is.lawful.world is.lawful.told is.lawful.shows;
-      };
-      tidy = is.tidy;
-    }
+pub history_still : (t : Layout) (old new : HistoryView) → IsHistory t old → IsUnchanged old new → IsHistory t new
+history_still t old new is still = record {
+  few = omega (arith, is.few, still.max_steps);
+  within = omega (arith, is.within, still.max_steps, ap length still.steps, ap (λ (f : FrontView). kept_for f.out) still.front);
+  traced = trace_still old.trace new.trace old.steps new.steps old.max_steps new.max_steps still.trace still.steps still.max_steps is.traced;
+  table = ap (λ (f : FrontView). f.table) still.front ∙ is.table;
+  world = is.world;
+  true_in = true_still old new is.world still is.true_in;
+}
+
+-- another trace of the same steps
+pub history_traced : (t : Layout) (h : HistoryView) (trace : Option Tape) → IsHistory t h → IsTraceOf trace h.steps h.max_steps →
+    IsHistory t (history h.front h.max_steps h.steps h.ran trace)
+history_traced t h trace is traced = record {
+  few = is.few;
+  within = is.within;
+  traced = traced;
+  table = is.table;
+  world = is.world;
+  true_in = record {
+    at = is.true_in.at;
+    not_run = is.true_in.not_run;
+    ran = is.true_in.ran;
+    layers = is.true_in.layers;
+    counted = is.true_in.counted;
+  };
+}
 
 -- what it leaves, where only room has changed
-pub left_so : (old : HistoryView) (f : FrontView) (most : ℕ) (steps : List Step) (room : ℕ) → f ≡ old.front → most ≡ old.max_steps →
-    steps ≡ old.steps → IsUnchanged old (history f most steps room)
-left_so old f most steps room front same stays = record { front = front; max_steps = same; steps = stays }
+pub left_so : (old : HistoryView) (f : FrontView) (trace : Option Tape) → f ≡ old.front → SameTrace old.trace trace →
+    IsUnchanged old (history f old.max_steps old.steps old.ran trace)
+left_so old f trace front same = record { front = front; max_steps = refl; steps = refl; ran = refl; trace = same }
 
 -- ---- why it was not
 
--- what is refused in each world that the front is at is refused in that of the trace
-there : (h : HistoryView) (step : Step) (fault : OwnFault) → IsLawful h → refusing.Refuses h.front step fault → IsRefused h step fault
-there h step fault lawful refuses = record {
-  world = lawful.world;
-  told = lawful.told;
-  shows = lawful.shows;
-  refused = refuses h.steps lawful.world lawful.told lawful.shows.at;
-}
+module _ (t : Layout) (h : HistoryView) (is : IsHistory t h) where
+  -- what is refused in each world that the front is at is refused in that of the steps
+  there : (step : Step) (fault : OwnFault) → refusing.Refuses h.front step fault → IsRefused h step fault
+  there step fault refuses = record {
+    world = is.world;
+    leads = is.true_in.at.leads;
+    refused = refuses h.steps is.world is.true_in.at;
+  }
 
-free : (h : HistoryView) (step : Step) → IsLawful h → refusing.RefusesNot h.front step → HasNoFault h step
-free h step lawful none = record {
-  world = lawful.world;
-  told = lawful.told;
-  shows = lawful.shows;
-  none = none h.steps lawful.world lawful.told lawful.shows.at;
-}
+  free : (step : Step) → refusing.RefusesNot h.front step → HasNoFault h step
+  free step none = record {
+    world = is.world;
+    leads = is.true_in.at.leads;
+    none = none h.steps is.world is.true_in.at;
+  }
 
-pub fault_of : (h : HistoryView) (step : Step) (fault : FrontFault) → IsHistory h → MayGoOn h step →
-    refusing.IsFault h.front step fault → IsFault h step (of_front fault)
-fault_of h step front_fault.Busy is left why = (left, there h step world.Busy is.lawful why)
-fault_of h step front_fault.NoConn is left why = (left, there h step world.NoConn is.lawful why)
-fault_of h step front_fault.NoPacket is left why = (left, there h step world.NoPacket is.lawful why)
-fault_of h step front_fault.InFlight is left why = (left, there h step world.InFlight is.lawful why)
-fault_of h step front_fault.NoLayer is left why = (left, there h step world.NoLayer is.lawful why)
-fault_of h step front_fault.Memory is left why = (left, free h step is.lawful why.1)
+  fault_of : (step : Step) (fault : FrontFault) → MayGoOn h step → refusing.IsFault h.front step fault → IsFault h step (of_front fault)
+  fault_of step front_fault.Busy left why = (left, there step world.Busy why)
+  fault_of step front_fault.NoConn left why = (left, there step world.NoConn why)
+  fault_of step front_fault.NoPacket left why = (left, there step world.NoPacket why)
+  fault_of step front_fault.InFlight left why = (left, there step world.InFlight why)
+  fault_of step front_fault.NoLayer left why = (left, there step world.NoLayer why)
+  fault_of step front_fault.Memory left why = (left, free step why.1)
 
--- the fault that is answered for it
-pub told_as : (h : HistoryView) (step : Step) (fault : FrontFault) (told : StepFault) → IsHistory h → told ≡ of_front fault →
-    MayGoOn h step → refusing.IsFault h.front step fault → IsFault h step told
-told_as h step fault told is same left why = subst (IsFault h step) (sym same) (fault_of h step fault is left why)
+  -- the fault that is answered for it
+  pub told_as : (step : Step) (fault : FrontFault) (told : StepFault) → told ≡ of_front fault → MayGoOn h step →
+      refusing.IsFault h.front step fault → IsFault h step told
+  told_as step fault told same left why = subst (IsFault h step) (sym same) (fault_of step fault left why)
 
--- want of memory in the trace refuses what nothing else does
-pub memory_of : (h : HistoryView) (step : Step) → IsHistory h → MayGoOn h step → refusing.RefusesNot h.front step →
-    IsFault h step Memory
-memory_of h step is left none = (left, free h step is.lawful none)
+  -- want of memory in the trace refuses what nothing else does
+  pub memory_of : (step : Step) → MayGoOn h step → refusing.RefusesNot h.front step → IsFault h step Memory
+  memory_of step left none = (left, free step none)
 
 -- where there was no memory for a step that wants none, it is not for that
 pub wants_of : (step : Step) (fault : FrontFault) (f : FrontView) (told : StepFault) → told ≡ of_front fault →
@@ -256,24 +340,16 @@ wants_of step front_fault.Memory f told same why memory = why.0
 -- ---- none
 
 -- no step was made
-pub history_new : (t : Layout) (most : ℕ) (f : FrontView) (max : ℕ) (steps : List Step) (room : ℕ) → most ≤ GREATEST_STEPS →
-    front.IsNew t f → max ≡ most → steps ≡ [] → IsHistory (history f max steps room)
-history_new t most f max steps room few is same none =
-    let told : Told = λ i. None in
-    let at' = is.at told in
-    let count = ap length none in
-    let out = kept_none f.out at'.shows.out in
-    let made = is.no_steps in
-    let settled = is.no_layers in
-    record {
-      few = omega arith;
-      within = omega arith;
-      counted = omega arith;
-      whole = is.whole;
-      lawful = record {
-        world = opening;
-        told = told;
-        shows = record { at = subst (λ h. FrontIsAt f h opening told) (sym none) at'; not_run = tt };
-      };
-      tidy = λ i. tt;
-    }
+pub history_new : (t : Layout) (most : ℕ) (f : FrontView) (steps : List Step) (ran : List (List DoneRow)) (trace : Option Tape) →
+    1 ≤ most → most ≤ GREATEST_STEPS → front.IsNew t f → steps ≡ [] → ran ≡ [] → IsTraceOf trace [] most →
+    IsHistory t (history f most steps ran trace)
+history_new t most f steps ran trace some few is none nothing traced =
+    subst (λ s. IsHistory t (history f most s ran trace)) (sym none)
+    (subst (λ l. IsHistory t (history f most [] l trace)) (sym nothing) (record {
+      few = few;
+      within = omega (arith, some, kept_none f.out is.at.shows.out);
+      traced = traced;
+      table = is.table;
+      world = opening;
+      true_in = none_true f t most trace is;
+    }))

@@ -1,46 +1,6 @@
--- The steps of the front, by what they say.
-use Rattle.std.proofs.Common.{◌≡◌, List, Option, Some, None, option_map, refl, ap}
+-- Refusals of a step, by what it says.
+use Rattle.std.proofs.Common.{Option, Some, None}
 use Rattle.std.specs.Prelude.{IfSome, IfNone}
-use Rattle.front.specs.Fronts.{FrontView, Told}
-use Rattle.front.specs.Making as making
-use Rattle.front.specs.Taking.{Takes}
-use Rattle.front.specs.Taking.{Takes}
-use Rattle.cluster.specs.Histories.{retold_effect}
-use Rattle.cluster.specs.Making.{Makes}
-use Rattle.groups.specs.declared.request.ConnId.{ConnId}
-use Rattle.journal.specs.declared.step.Step.{Step}
-use Rattle.journal.specs.declared.step.Step.TheVariants.{Take, Collect}
-use Rattle.layer_planner.specs.declared.job.Job.{Job}
-use Rattle.router.specs.declared.outcome.Outcome as kept
-use Rattle.system_view.specs.Connections.{outcome_shown}
-use Rattle.world.specs.Steps.{Effect, Collected, Made, taken}
-
--- a step that answers the same whatever was told
-pub makes_so : (old new : FrontView) (step : Step) (effect : Effect) → ((told : Told) → effect ≡ retold_effect told effect) →
-    making.Makes old step effect new → Makes old step effect new
-makes_so old new step effect same is = record {
-  is_step = is.is_step;
-  from_each = λ h w told at'. let next = is.from_each h w told at' in (effect, next.0, next.1, same told, next.2);
-}
-
--- a connection is given the outcome there, as it was told
-pub collects_so : (old new : FrontView) (conn : ConnId) (given : Option kept.Outcome) → making.Collects old conn given new →
-    Makes old (Collect conn) (Collected (option_map outcome_shown given)) new
-collects_so old new conn given is = record {
-  is_step = is.is_step;
-  from_each = λ h w told at'.
-      let next = is.from_each h w told at' in
-      (Collected next.0, next.1, next.2, ap Collected next.3, next.4);
-}
-
--- a layer is taken
-pub takes_so : (old new : FrontView) (jobs : List Job) → Takes old jobs new → Makes old Take Made new
-takes_so old new jobs is = record {
-  is_step = is.is_step;
-  from_each = λ h w told at'. let next = is.from_each h w told at' in (Made, taken w new.out, next.0, refl, next.2);
-}
-
--- ---- refusals
 
 pub some_of : {A : Type 0} (P Q : A → Type 0) (o : Option A) → ((a : A) → P a → Q a) → IfSome o P → IfSome o Q
 some_of P Q None implies some = tt

@@ -1,60 +1,56 @@
 -- A layer that is handed out, and what came of it that is settled.
-use Rattle.std.specs.Prelude.{◌≡◌, ◌≢◌, ◌+◌, ◌≤◌, List, [], ◌∷◌, ◌++◌, length}
-use Rattle.front.specs.Fronts.{Told}
-use Rattle.front.specs.Settling.{kept_rows, IsOfLayer, IsToldOf}
-use Rattle.cluster.specs.Histories.{HistoryView, IsIn, IsMade}
-use Rattle.cluster.specs.Tidy.{AreTidy}
+use Rattle.std.specs.List.{AllZip}
+use Rattle.std.specs.Prelude.{◌≡◌, ◌≢◌, ◌+◌, ◌≤◌, List, [], ◌∷◌, ◌++◌, length, ◌⊎◌, option_map, None, Ok}
+use Rattle.cluster.specs.Histories.{HistoryView, IsMade}
+use Rattle.cluster.specs.Sealed.{TakenView, RanView}
 use Rattle.cluster.specs.declared.fault.StepFault.{StepFault}
 use Rattle.cluster.specs.declared.fault.StepFault.TheVariants.{NoLayer, Memory}
 use Rattle.journal.specs.declared.step.Step.TheVariants.{Take, Run, Settle}
-use Rattle.layer_planner.specs.declared.job.Job.{Job}
 use Rattle.layer_results.specs.Results.{names_of}
 use Rattle.layer_results.specs.declared.done.DoneRow.{DoneRow}
-use Rattle.system_view.specs.Layers.{AreJobs}
-use Rattle.world.specs.Steps.{Ran, Made, Steps, taken}
-use Rattle.world.specs.World.{World}
+use Rattle.order_laws.specs.Truth.{with_run}
+use Rattle.resp.specs.Content.{content}
+use Rattle.front.specs.Layers.{AreJobs}
+use Rattle.tasks.specs.Tasks.{task_reading}
+use Rattle.world.specs.Steps.{opening, Ran, Made, Steps, Leads, taken}
+use Rattle.world.specs.World.{World, Ended}
 
--- ---- a layer is handed out
-
--- In this world, told so, what is out now is the layer that a Take takes, and these are its requests, as they were asked.
-pub record IsTakenIn (old : HistoryView) (jobs : List Job) (new : HistoryView) (w : World) (told : Told) : Type 0 where
-  pub takes : Steps old.front.table w Take Made (taken w new.front.out)
-  pub are_jobs : AreJobs w.asked new.front.out jobs
-  pub shows : IsIn new (taken w new.front.out) told
-
--- a Take was made, and these are the requests of its layer
-pub record HandsOut (old : HistoryView) (jobs : List Job) (new : HistoryView) : Type 0 where
+-- A Take was made, and these are the requests of its layer, as they were asked. The layer has the number of those that were settled
+-- before it, and all steps so far.
+pub record HandsOut (old : HistoryView) (v : TakenView) (new : HistoryView) : Type 0 where
   pub made : IsMade old Take Made new
-  pub from_each : (w : World) (told : Told) → IsIn old w told → IsTakenIn old jobs new w told
+  pub number : v.number ≡ old.front.layers
+  pub told : v.told ≡ new.steps
+  pub after : made.after ≡ taken made.world new.front.out
+  pub are_jobs : AreJobs made.world.asked new.front.out v.layer
 
--- ---- what came of it is settled
+-- what came of a request is what the row tells
+pub record IsToldBy (e : Ended) (row : DoneRow) : Type 0 where
+  pub id : row.id ≡ e.id
+  pub stamp : row.stamp ≡ e.stamp
+  pub reply : e.reply ≡ option_map content row.reply
+  pub says : task_reading row.words ≡ Ok e.task
 
--- in this world the layer is run, where this starves, and is settled; and the history is in the world after that, told so
-pub record IsSettledIn (old : HistoryView) (done : List DoneRow) (new : HistoryView) (w : World) (now : Told) : Type 0 where
-  pub mid : World
-  pub after : World
-  pub runs : Steps old.front.table w (Run (names_of done)) (Ran (names_of done)) mid
-  pub settles : Steps old.front.table mid Settle Made after
-  pub shows : IsIn new after now
-
--- A Run, with what starved, and a Settle were made, and are the last two of the trace: so it is in whatever world
--- the history was, whatever it was told before. Now it is told of these requests what came of them, which can be told, and
--- of each other one what it was told before. The replies are tidy.
+-- A Run, with what starved, and a Settle are behind the steps. In the world of the steps the layer is run so, and this is what comes of
+-- it: each request gets there the reply that its row tells.
 pub record IsSettled (old : HistoryView) (done : List DoneRow) (new : HistoryView) : Type 0 where
   pub left : length old.steps + 2 ≤ old.max_steps
-  pub tidy : AreTidy done
   pub max_steps : new.max_steps ≡ old.max_steps
   pub steps : new.steps ≡ old.steps ++ Run (names_of done) ∷ Settle ∷ []
   pub table : new.front.table ≡ old.front.table
   pub out : new.front.out ≡ []
-  pub rows : new.front.rows ≡ old.front.rows ++ kept_rows done
-  pub starved : new.front.starved ≡ old.front.starved ++ names_of done
-  pub told : (before : Told) → (now : Told) × IsToldOf done before now
-  pub from_each : (w : World) (before now : Told) → IsIn old w before → IsToldOf done before now → IsSettledIn old done new w now
+  pub ran : new.ran ≡ old.ran ++ done ∷ []
+  pub world : World
+  pub leads : Leads old.front.table opening old.steps world
+  pub ended : List Ended
+  pub runs : Steps old.front.table world (Run (names_of done)) (Ran (names_of done)) (with_run world ended)
+  pub after : World
+  pub settles : Steps old.front.table (with_run world ended) Settle Made after
+  pub told : AllZip IsToldBy ended done
 
--- Why nothing is settled: it isn't what came of the layer that is out, or a reply isn't tidy; or there was no memory while a
--- layer is out.
-abbrev pub IsSettleFault : HistoryView → List DoneRow → StepFault → Type 0
-IsSettleFault h done NoLayer = ¬ (IsOfLayer h.front done × AreTidy done)
-IsSettleFault h done Memory = h.front.out ≢ []
-IsSettleFault h done fault = ⊥
+-- Why nothing is settled: no layer is out, or another one than that of this number; or it is that one, and there was no memory for the
+-- trace that is kept.
+abbrev pub IsSettleFault : HistoryView → RanView → StepFault → Type 0
+IsSettleFault h v NoLayer = (h.front.out ≡ []) ⊎ (v.number ≢ h.front.layers)
+IsSettleFault h v Memory = (h.front.out ≢ []) × (v.number ≡ h.front.layers) × (h.trace ≢ None)
+IsSettleFault h v fault = ⊥

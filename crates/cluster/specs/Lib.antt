@@ -1,10 +1,14 @@
+pub mod Traces
 pub mod Submits
-pub mod Tidy
 pub mod Histories
 pub mod Making
+pub mod Sealed
 pub mod Layers
 pub mod Turns
 pub mod Outcomes
+pub mod Pieces
+pub mod Counting
 pub mod Clusters
 pub mod Answers
+pub mod Running
 pub mod Endings

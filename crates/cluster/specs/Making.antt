@@ -1,18 +1,13 @@
--- The steps of the front that hand no layer out and tell nothing of one.
-use Rattle.std.specs.Prelude.{◌≡◌, List, [], ◌∷◌, ◌++◌, option_map}
-use Rattle.front.specs.Fronts.{FrontView, Told, FrontIsAt}
-use Rattle.front.specs.Making.{IsStep}
+-- What a step answers, and why the front refuses one.
+use Rattle.std.specs.Prelude.{option_map}
 use Rattle.front.specs.declared.fault.FrontFault.{FrontFault}
 use Rattle.front.specs.declared.fault.FrontFault.TheVariants as front
-use Rattle.cluster.specs.Histories.{retold_effect}
 use Rattle.cluster.specs.declared.effect.Effect as ours
 use Rattle.cluster.specs.declared.effect.Effect.TheVariants as effect
 use Rattle.cluster.specs.declared.fault.StepFault.{StepFault}
 use Rattle.cluster.specs.declared.fault.StepFault.TheVariants.{Busy, NoConn, NoPacket, InFlight, NoLayer, Memory}
-use Rattle.journal.specs.declared.step.Step.{Step}
-use Rattle.system_view.specs.Connections.{outcome_shown}
-use Rattle.world.specs.Steps.{Effect, Opened, Submitted, Collected, Made, Steps}
-use Rattle.world.specs.World.{World}
+use Rattle.front.specs.Connections.{outcome_shown}
+use Rattle.world.specs.Steps.{Effect, Opened, Submitted, Collected, Made}
 
 -- what a step answers, as the world says it
 abbrev pub effect_shown : ours.Effect → Effect
@@ -20,14 +15,6 @@ effect_shown (effect.Opened conn) = Opened conn.0
 effect_shown (effect.Submitted id) = Submitted id
 effect_shown (effect.Collected outcome) = Collected (option_map outcome_shown outcome)
 effect_shown effect.Made = Made
-
--- in each world that the front was at the step is accepted and answers so, as it was told, and the front is at the world
--- after it, told the same
-pub record Makes (old : FrontView) (made : Step) (effect : Effect) (new : FrontView) : Type 0 where
-  pub is_step : IsStep old new
-  pub from_each : (h : List Step) (w : World) (told : Told) → FrontIsAt old h w told →
-      (answer : Effect) × (w' : World) × Steps old.table w made answer w' × (effect ≡ retold_effect told answer)
-      × FrontIsAt new (h ++ made ∷ []) w' told
 
 -- why the front refuses a step, told as a fault of the cluster
 abbrev pub of_front : FrontFault → StepFault

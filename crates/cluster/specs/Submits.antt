@@ -1,6 +1,5 @@
--- The Submits of a trace: how many, and with which words.
-use Rattle.std.specs.Prelude.{◌≡◌, ℕ, suc, ◌+◌, ◌<◌, ◌==◌, cond, List, [], ◌∷◌, ◌++◌}
-use Rattle.journal.specs.Codes.{steps_size}
+-- The Submits among steps: how many, and with which words.
+use Rattle.std.specs.Prelude.{◌≡◌, ℕ, suc, ◌+◌, ◌==◌, cond, List, [], ◌∷◌, ◌++◌}
 use Rattle.journal.specs.declared.step.Step.{Step}
 use Rattle.journal.specs.declared.step.Step.TheVariants.{Open, Submit, Deliver, Take, Run, Settle, Collect, Close, Repeat}
 use Rattle.groups.specs.declared.request.ConnId.{ConnId}
@@ -55,22 +54,3 @@ pub record IsSaid (steps : List Step) (id : RequestId) (words : List (List ℕ))
 -- what its connection remembered then: what its Submits before made of its session
 abbrev pub session_met : {steps : List Step} {id : RequestId} {words : List (List ℕ)} → IsSaid steps id words → Session
 session_met {steps} {id} {words} said = sessions_from all_free said.before id.conn.0
-
--- ---- where the last one of a connection lies
-
-abbrev pub conn_of : ℕ → ConnId
-conn_of c = record { 0 = c }
-
--- the connection's last Submit begins at this place of the trace's bytes
-pub record LiesAt (steps : List Step) (c place : ℕ) : Type 0 where
-  pub before : List Step
-  pub words : List (List ℕ)
-  pub behind : List Step
-  pub split : steps ≡ before ++ Submit (conn_of c) words ∷ behind
-  pub begins : place ≡ steps_size before
-  pub last : submits_by c behind ≡ 0
-
--- so many Submits are the connection's, and if there is one, the last of them begins at this place
-pub record IsLast (steps : List Step) (c count place : ℕ) : Type 0 where
-  pub counted : count ≡ submits_by c steps
-  pub lies : 0 < count → LiesAt steps c place

@@ -1,22 +1,29 @@
-//! A cluster: a front with the trace of its steps, and the seats of those who use it.
+//! A cluster: a front with the history of its steps, and the seats of those who use it.
 //!
-//! It is what a server's first lock guards. Whenever the lock is free the front shows the world of its own trace, as it was told
-//! what came of the layers that it handed out: who runs them is under another lock, and both are compared when they are closed.
-//! What goes out of the lock, layers, seats and answers, has no other maker than the cluster's calls, and is compared with the
-//! trace or with the layer that is out when it comes back. It knows no lock and no thread.
+//! It is what a server's first lock guards. Whenever the lock is free the front shows the world of the history of its steps, which
+//! exists in the proofs alone; the layers that were run there are the first that the store has run, by a history of its own under the
+//! second lock. What goes out of the lock, layers, what came of them, seats and replies, has no other maker than the cluster's calls,
+//! and carries the part of the history that made it. So what is compared when it comes back is one number. It knows no lock and no
+//! thread.
 #![tactic(auto)]
 
-mod agreeing;
 mod closing;
 mod cluster;
+mod counting;
 mod effect;
 mod fault;
-mod history;
+mod names;
+mod ordered;
 mod pick;
+mod running;
+mod sealed;
 mod steps;
-mod tidy;
+mod tape;
 
 pub use closing::Closing;
-pub use cluster::{Answer, CloseFault, Cluster, SealedReply, Seat};
+pub use cluster::{CloseFault, Cluster, SealedReply, Seat};
 pub use fault::StepFault;
+pub use names::{Leading, RunsOf, Server, StepsOf};
 pub use pick::{First, Pick};
+pub use running::run_taken;
+pub use sealed::{Piece, Ran, Taken};

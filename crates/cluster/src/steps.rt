@@ -1,9 +1,10 @@
 //! The steps of the front that hand no layer out and tell nothing of one, made by what they say. A cluster repeats no packet.
 
 ghost use Rattle.std.specs.Prelude.{◌≡◌, IfOk, IfErr, OnErr, IfSome, IfNone};
+ghost use Rattle.front.specs.Making.{Makes};
 ghost use Rattle.front.specs.Refusing.{IsFault, RefusesNot, MayStep};
 ghost use Rattle.cluster.specs.Histories.{IsPlain};
-ghost use Rattle.cluster.specs.Making.{effect_shown, Makes};
+ghost use Rattle.cluster.specs.Making.{effect_shown};
 
 use super::effect::Effect;
 use front::{Front, FrontFault};

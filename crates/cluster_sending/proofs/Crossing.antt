@@ -1,29 +1,28 @@
--- That a front, a store and a cluster can go to another thread, where their parts can.
+-- That a front, a cluster and its store can go to another thread, where their parts can.
 use denote.RattleType.{RattleType}
 use denote.Param.Send.{IsSend, sendable}
 use denote.Param.SendFields.{declared_send, variants_send}
 use Rattle.std.proofs.Crossing.{crosses}
 use Rattle.std.proofs.MapsCrossing as maps
 use Rattle.cluster_sending.proofs.LedgerSending.{book_send, share_send}
-use Rattle.std.specs.declared.sync.ledger.Ledger.{Ghosts}
-use Rattle.back.specs.contracts.back.Back as Back
+use Rattle.std.specs.declared.sync.ledger.Ledger as ledger
 use Rattle.cluster.specs.contracts.cluster.Cluster as Cluster
+use Rattle.cluster.specs.declared.names.Server as server
 use Rattle.front.specs.contracts.front.Front as Front
+use Rattle.history.proofs.part.Part.TheSendSync as part
+use Rattle.history.proofs.writer.Writer.TheSendSync as writer
+use Rattle.history.specs.declared.laws.Naming as naming
 use Rattle.router.specs.contracts.connection.Connection as Connection
-use Rattle.router.specs.contracts.connection.Pending as Pending
 use Rattle.router.specs.contracts.connection.Standing as Standing
 use Rattle.router.specs.contracts.listed.Listed as Listed
 use Rattle.router.specs.contracts.listed.Listed.TheInside as ListedInside
 use Rattle.sessions.specs.contracts.member.Member as Member
 use Rattle.router.specs.contracts.router.Router as Router
 use Rattle.router.specs.contracts.router.Router.TheInside as Inside
+use Rattle.serial_store.specs.contracts.store.SerialStore as SerialStore
+use Rattle.serial_store.specs.declared.law.Tabled as tabled
 use Rattle.shard_exec.specs.contracts.store.Store as Store
 use Rattle.router.specs.contracts.outcome.Outcome as Outcome
-use Rattle.layer_results.specs.contracts.done.Done as Done
-use Rattle.layer_results.specs.contracts.done.DoneRow as DoneRow
-use Rattle.resp.specs.contracts.request.Request as Request
-use Rattle.journal.specs.contracts.rows.Rows as Rows
-use Rattle.packing.specs.contracts.packed_request.PackedRequest as PackedRequest
 use Rattle.worded.specs.contracts.worded.Worded as Worded
 use Rattle.multicast.specs.contracts.multicast.Multicast as Multicast
 
@@ -34,11 +33,8 @@ listed_in m = search (sendable, crosses) depth 40 fits 3000
 listed_send : IsSend Member.the_row → IsSend Listed.the_row
 listed_send m = let inside = listed_in m in search (sendable, inside) depth 40 fits 3000
 
-pending_send : IsSend PackedRequest.the_row → IsSend Worded.the_row → IsSend Pending.the_row
-pending_send p w = declared_send Pending.the_type (w, (p, tt))
-
-standing_send : IsSend Pending.the_row → IsSend PackedRequest.the_row → IsSend Outcome.the_row → IsSend Standing.the_row
-standing_send p w o = variants_send Standing.enum (tt, ((p, tt), ((w, tt), ((o, tt), tt))))
+standing_send : IsSend Worded.the_row → IsSend Outcome.the_row → IsSend Standing.the_row
+standing_send w o = variants_send Standing.enum (tt, ((w, tt), (tt, ((o, tt), tt))))
 
 connection_send : IsSend Standing.the_row → IsSend Connection.the_row
 connection_send s = declared_send Connection.the_type (search sendable, (search sendable, (search sendable, (s, tt))))
@@ -46,18 +42,22 @@ connection_send s = declared_send Connection.the_type (search sendable, (search 
 inside_send : IsSend Connection.the_row → IsSend Listed.the_row → IsSend Inside.the_row
 inside_send c l = search (sendable, crosses, maps.crosses) depth 40 fits 3000
 
-pub router_send : IsSend Member.the_row → IsSend PackedRequest.the_row → IsSend Worded.the_row → IsSend Outcome.the_row
-    → IsSend Router.the_row
-router_send m p w o =
-    let connection = connection_send (standing_send (pending_send p w) p o) in
+pub router_send : IsSend Member.the_row → IsSend Worded.the_row → IsSend Outcome.the_row → IsSend Router.the_row
+router_send m w o =
+    let connection = connection_send (standing_send w o) in
     let inside = inside_send connection (listed_send m) in search (sendable, inside) depth 40 fits 3000
 
-pub front_send : IsSend Router.the_row → IsSend Multicast.the_row → IsSend Rows.the_row → IsSend Outcome.the_row → IsSend Request.the_row
-    → IsSend Front.the_row
-front_send r m w o q = search (sendable, crosses) depth 40 fits 3000
+pub front_send : IsSend Router.the_row → IsSend Multicast.the_row → IsSend Front.the_row
+front_send r m = search (sendable, crosses) depth 40 fits 3000
 
-pub back_send : IsSend Store.the_row → IsSend Rows.the_row → IsSend Done.the_row → IsSend DoneRow.the_row → IsSend Back.the_row
-back_send s w d r = search (sendable, crosses) depth 40 fits 3000
+-- the writer and the part of a history that they hold can, whatever is its law and its name
+pub cluster_send : (T L : RattleType) (t : tabled.Ghosts T.Denot) (s : server.Ghosts L.Denot) (l : ledger.Ghosts L.Denot)
+    → IsSend Front.the_row → IsSend (Cluster.the_row T L t s l)
+cluster_send T L t s l f = search (sendable, crosses, part.the_send, writer.the_send, book_send, share_send) depth 40 fits 3000
 
-pub cluster_send : (L : RattleType) (g : Ghosts L.Denot) → IsSend Front.the_row → IsSend (Cluster.the_row L g)
-cluster_send L g f = search (sendable, crosses, maps.BTreeMap-send, book_send, share_send) depth 40 fits 3000
+abbrev pub StoreSends : Type 0
+StoreSends = IsSend Store.the_row
+
+pub serial_store_send : (T J : RattleType) (t : tabled.Ghosts T.Denot) (n : naming.Ghosts J.Denot) → StoreSends
+    → IsSend (SerialStore.the_row T J t n)
+serial_store_send T J t n b = search (sendable, crosses, writer.the_send) depth 40 fits 3000

@@ -1,4 +1,5 @@
-//! That a front, a store, and a cluster with its ledger, can go to another thread: calls that do nothing, whose contracts say it.
+//! That a front and a store can go to another thread: calls that do nothing, whose contracts say it. Lemmas say the same of a cluster,
+//! with its ledger and what it has of the histories, and of the store beside it.
 #![tactic(auto)]
 
 mod sending;

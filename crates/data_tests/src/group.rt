@@ -306,6 +306,25 @@ fn a_floor_lifts_the_proposal(rt: HostRuntime) -> Result<(), Fail> {
     step_each(rt.alloc(), &mut group, &FLOOR)
 }
 
+/// Requests whose connections and numbers are far from those of others.
+const FAR: Name = (1 << 40, 1 << 41);
+
+const FARTHEST: Name = (u64::MAX, 1);
+
+#[rattlefmt::skip]
+const FAR_APART: [Step; 4] = [
+    ("Start far", Told::Start(0, FAR, 1 << 42, ALONE), (&[], &[(FAR, (1 << 42) + 1, 0, ALONE)], (1 << 42) + 1, 0)),
+    ("Start far again", Told::Start(0, FAR, 1 << 43, ALONE), (&[], &[], (1 << 42) + 1, 0)),
+    ("Start farthest", Told::Start(0, FARTHEST, 0, ALONE), (&[], &[(FARTHEST, (1 << 42) + 2, 0, ALONE)], (1 << 42) + 2, 0)),
+    ("Start a", Told::Start(0, A, 0, ALONE), (&[], &[(A, (1 << 42) + 3, 0, ALONE)], (1 << 42) + 3, 0)),
+];
+
+#[test]
+fn requests_may_be_far_apart(rt: HostRuntime) -> Result<(), Fail> {
+    let mut group = Watched::new(rt.alloc(), GroupId::new(0));
+    step_each(rt.alloc(), &mut group, &FAR_APART)
+}
+
 /// The proposals of group 0 to all others.
 fn told_to_63(alloc: Global) -> Result<Vec<Told>, AllocError> {
     let mut told = Vec::new(alloc);

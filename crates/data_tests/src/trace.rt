@@ -1,15 +1,12 @@
 //! What no clause says: known texts, and that the calls succeed where there is memory.
 
 use groups::{ConnId, GroupId, RequestId, Stamp};
-use journal::{
-    Row, Rows, SendFault, Step, Steps, Trace, TraceFault, read_back, read_trace, send_trace,
-    write_trace,
-};
+use journal::{Row, Rows, Step, Steps, Trace, TraceFault, read_back, read_trace, write_trace};
 use packing::PackedRequest;
 use resp::{Answered, Reply, Request, write_reply};
 use std::alloc::{AllocError, Global};
 use std::test::Fail;
-use test_support::{NEVER, Sink, holds, same, same_bytes, same_count, same_number};
+use test_support::{holds, same, same_bytes, same_count, same_number};
 
 /// Two requests that cross, each of both groups: the lines behind the first.
 const CROSSING: &str = "max 1000\nopen\nopen\nsubmit 1 4d534554 61 31 63 32\n\
@@ -322,58 +319,6 @@ fn are_added_and_kept(alloc: Global, rows: &mut Rows) -> Result<(), Fail> {
 fn rows_are_kept_short_and_long(rt: HostRuntime) -> Result<(), Fail> {
     let mut rows = Rows::new(rt.alloc());
     are_added_and_kept(rt.alloc(), &mut rows)
-}
-
-/// Adds 20,000 Delivers.
-fn deliver_often(trace: &mut Trace) -> Result<(), AllocError> {
-    for place in 0..20_000 {
-        trace.push(&Step::Deliver { place })?;
-    }
-    Ok(())
-}
-
-/// A trace of 20,000 Delivers, whose text is four pieces and a rest.
-fn long_trace(alloc: Global) -> Result<Trace, AllocError> {
-    let mut trace = Trace::new(alloc, 1 << 40);
-    deliver_often(&mut trace)?;
-    Ok(trace)
-}
-
-/// The trace is sent as its text.
-fn is_sent(alloc: Global, trace: &Trace) -> Result<(), Fail> {
-    let mut text = Vec::new(alloc);
-    write_trace(trace, &mut text)?;
-    let mut sink = Sink::new(alloc, 10_000);
-    same("sent", &send_trace(alloc, trace, &mut sink), &Ok(()))?;
-    same_bytes("its text", sink.taken.as_slice(), text.as_slice())
-}
-
-#[test]
-fn a_trace_is_sent_by_pieces(rt: HostRuntime) -> Result<(), Fail> {
-    let trace = long_trace(rt.alloc())?;
-    is_sent(rt.alloc(), &trace)
-}
-
-/// The trace isn't sent where this write fails.
-fn is_not_sent(alloc: Global, trace: &Trace, failing: usize) -> Result<(), Fail> {
-    let mut sink = Sink::new(alloc, NEVER);
-    sink.fails_at = failing;
-    let sent = send_trace(alloc, trace, &mut sink);
-    same("sent", &sent, &Err(SendFault::Write))
-}
-
-/// Each piece is taken by one write, of which one fails.
-fn each_write_fails(alloc: Global, trace: &Trace) -> Result<(), Fail> {
-    for failing in 0..5 {
-        is_not_sent(alloc, trace, failing)?;
-    }
-    Ok(())
-}
-
-#[test]
-fn a_trace_whose_write_fails(rt: HostRuntime) -> Result<(), Fail> {
-    let trace = long_trace(rt.alloc())?;
-    each_write_fails(rt.alloc(), &trace)
 }
 
 /// Adds a Submit and the Deliver of place 1000.

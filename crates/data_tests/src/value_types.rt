@@ -52,19 +52,11 @@ fn list_is(alloc: Global, list: &ListValue, want: &str) -> Result<(), Fail> {
     are(alloc, list.range(0, list.len()), want)
 }
 
-/// What is left of a list whose item at this end was moved to the head of another one, and that one.
-fn moved_apart(
-    alloc: Global,
-    list: ListValue,
-    end: End,
-    target: Option<ListValue>,
-) -> Result<(ListValue, ListValue), Fail> {
-    let Ok(both) = list.move_item(alloc, end, target, End::Head) else {
-        return Err(Fail::from("nothing moved"));
-    };
-    let (left, moved) = both;
-    let left = left.ok_or("nothing left")?;
-    Ok((left, moved))
+/// What is left of a list whose item at this end is this one.
+fn without_end(list: ListValue, end: End, want: &str) -> Result<ListValue, Fail> {
+    let (item, left) = list.pop(end);
+    same_bytes("item", item.as_slice(), want.as_bytes())?;
+    Ok(left.ok_or("nothing left")?)
 }
 
 /// Pushes items at this end.
@@ -94,14 +86,13 @@ fn pushed(alloc: Global) -> Result<ListValue, Fail> {
 }
 
 #[test]
-fn lists_are_pushed_and_moved(rt: HostRuntime) -> Result<(), Fail> {
+fn lists_are_pushed_and_popped(rt: HostRuntime) -> Result<(), Fail> {
     let alloc = rt.alloc();
     let list = pushed(alloc)?;
     list_is(alloc, &list, "y x p c b a d e")?;
-    let (left, moved) = moved_apart(alloc, list, End::Tail, None)?;
-    let (left, moved) = moved_apart(alloc, left, End::Head, Some(moved))?;
-    list_is(alloc, &left, "x p c b a d")?;
-    list_is(alloc, &moved, "y e")
+    let left = without_end(list, End::Tail, "e")?;
+    let left = without_end(left, End::Head, "y")?;
+    list_is(alloc, &left, "x p c b a d")
 }
 
 fn hash_of(alloc: Global, text: &str) -> Result<HashValue, Fail> {

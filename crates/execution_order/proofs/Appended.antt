@@ -1,7 +1,7 @@
 -- More requests executed behind others: their rows stand behind the others' rows, and the whole is in order where the
 -- new ones touch none of the others with a greater stamp.
 use Rattle.std.proofs.Common.{◌≡◌, List, [], ◌∷◌, ◌++◌, false, ◌⊎◌, inl, inr, refl, sym, ap, ◌∙◌}
-use Rattle.command_bodies.proofs.Turns.{in_turn-append}
+use Rattle.tasks.proofs.Turns.{in_turn-append}
 use Rattle.keyspace.specs.Map.{Map}
 use Rattle.placement.specs.Layout.{Layout}
 use Rattle.groups.proofs.Lists.{In-append}

@@ -2,7 +2,7 @@
 -- touch.
 use Rattle.std.proofs.Common.{◌≡◌, List, [], ◌∷◌, Bool, true, false, cond, inl, inr, refl, sym, ap, ◌∙◌}
 use Rattle.std.proofs.lemmas.Bool.{both_ways}
-use Rattle.command_bodies.proofs.Turns.{pair}
+use Rattle.tasks.proofs.Turns.{pair}
 use Rattle.keyspace.specs.Map.{Map}
 use Rattle.placement.specs.Layout.{Layout, IsTable}
 use Rattle.resp.specs.Content.{Content}

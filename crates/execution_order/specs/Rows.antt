@@ -5,7 +5,7 @@ use Rattle.execution_order.specs.Entries.{Row, deeds_of, entries_of, replies_of}
 use Rattle.journal.specs.Views.{RowView}
 use Rattle.keyspace.specs.Map.{Map}
 use Rattle.resp.specs.Text.{text}
-use Rattle.batches.specs.Starved.{starved_in}
+use Rattle.tasks.specs.Starved.{starved_in}
 use Rattle.tasks.specs.Tasks.{task_reading, deeds_in_turn}
 
 -- the row that is kept of an executed request: its id, its final stamp, words that say its task, and its reply's text; the reply

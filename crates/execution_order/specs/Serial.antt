@@ -1,6 +1,6 @@
 -- Layers as a store has run them, one behind another, and the law that each reply is what one thread gets there.
 use Rattle.std.specs.Prelude.{◌≡◌, List, flat_map}
-use Rattle.batches.specs.Starved.{starved_in}
+use Rattle.tasks.specs.Starved.{starved_in}
 use Rattle.execution_order.specs.Entries.{Row, entries_of, InOrder, AreAddressed}
 use Rattle.execution_order.specs.Rows.{IsOneThread}
 use Rattle.groups.specs.Order.{In}

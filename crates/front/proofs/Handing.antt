@@ -1,4 +1,4 @@
--- The outcomes of a layer go to their connections, one after another, as the front was told of them.
+-- The outcomes of a layer go to their connections, one after another.
 use Rattle.std.proofs.Common.{◌≡◌, ℕ, ◌==◌, Bool, true, false, cond, ◌||◌, List, [], ◌∷◌, ◌++◌, inl, inr}
 use Rattle.std.proofs.Common.{Some, None, refl, sym}
 use Rattle.std.proofs.Common.{ap, ◌∙◌, subst, eqb-true, eq-eqb}
@@ -20,9 +20,9 @@ use Rattle.router.specs.Router.{RouterView, connection, session_at, once_settled
 use Rattle.router.specs.declared.connection.Connection.{Connection}
 use Rattle.router.specs.declared.outcome.Outcome as kept
 use Rattle.skeen_core.specs.Group.{EachOnce, has_id}
-use Rattle.system_view.proofs.Connections.{Alike, each_of, kept_else, kept_at, StandsUnderWay, stands_under_way}
-use Rattle.system_view.proofs.Sessions.{sessions_given}
-use Rattle.system_view.specs.Connections.{outcome_shown, id_of, ShowsConnection, ShowsKept, ShowsSessions, IsSettled, IsKeptFor}
+use Rattle.front.proofs.WorldConnections.{Alike, each_of, kept_else, kept_at, StandsUnderWay, stands_under_way}
+use Rattle.front.proofs.Sessions.{sessions_given}
+use Rattle.front.specs.Connections.{outcome_shown, id_of, ShowsConnection, ShowsKept, ShowsSessions, IsSettled, IsKeptFor}
 use Rattle.world.specs.Steps.{at, floor_of, given}
 use Rattle.world.specs.World.{World, Outcome, Standing, Closed, Waiting, Answered, Ended}
 use Rattle.world_laws.proofs.Floors.{floor_is_final, run_is_last}

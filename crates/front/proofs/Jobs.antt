@@ -1,5 +1,5 @@
 -- The requests of a layer, ready to be run.
-use Rattle.std.proofs.Common.{◌≡◌, ℕ, true, List, [], ◌∷◌, ◌++◌, inl, inr, Some, None, option_map, refl, sym}
+use Rattle.std.proofs.Common.{◌≡◌, ℕ, true, List, [], ◌∷◌, ◌++◌, inl, inr, Some, None, refl, sym}
 use Rattle.std.proofs.Common.{ap, ◌∙◌, subst}
 use Rattle.delivery.proofs.Layers.{layers_are_units, taken_somewhere}
 use Rattle.groups.specs.GroupSet.{has}
@@ -9,7 +9,6 @@ use Rattle.layer_planner.specs.Layers.{StandTogether, MayStand}
 use Rattle.layer_planner.specs.declared.job.Job.{Job}
 use Rattle.placement.specs.Layout.{Layout}
 use Rattle.router.specs.Router.{RouterView, connection, pending_at}
-use Rattle.router.specs.declared.connection.Pending.{Pending}
 use Rattle.groups.proofs.Options.{some_same}
 use Rattle.groups.proofs.Lists.{In-right}
 use Rattle.front.proofs.Lists.{zip_append}
@@ -17,13 +16,13 @@ use Rattle.skeen_core.proofs.Lawful.{None≢Some}
 use Rattle.groups.specs.Order.{In}
 use Rattle.groups.specs.Stamp.{final}
 use Rattle.skeen_core.specs.declared.packet.Delivered.{Delivered}
-use Rattle.front.proofs.Taking.{WasTaken, its_words, take_pending, take_next}
-use Rattle.system_view.specs.Connections.{Waits}
-use Rattle.system_view.specs.Layers.{IsJob, AreJobs}
+use Rattle.front.proofs.Taking.{WasTaken, take_pending, take_next}
+use Rattle.front.specs.Connections.{Waits}
+use Rattle.front.specs.Layers.{IsJob, AreJobs}
 use Rattle.front.specs.Taking.{IsTaking}
-use Rattle.system_view.proofs.Jobs.{all_jobs, job_waits, JobOf}
+use Rattle.front.proofs.WorldJobs.{all_jobs, job_waits, JobOf}
 use Rattle.worded.specs.declared.worded.Worded.{Worded}
-use Rattle.world.specs.World.{World, Standing}
+use Rattle.world.specs.World.{World}
 use Rattle.world_laws.proofs.OrderLaws.{final_is_told}
 use Rattle.world_laws.proofs.Worlds.{good_world}
 use Rattle.world_laws.specs.Good.{Asked}
@@ -31,27 +30,22 @@ use Rattle.world_laws.specs.Order.{HasFinal}
 
 -- ---- out of the router
 
-module _ (t : Layout) (w : World) (standing : ℕ → Standing) (front : List Delivered) (d : Delivered) (back : List Delivered)
-    (r : RouterView) (is : IsTaking t w standing front (d ∷ back) r) where
+module _ (t : Layout) (w : World) (front : List Delivered) (d : Delivered) (back : List Delivered) (r : RouterView)
+    (is : IsTaking t w front (d ∷ back) r) where
   -- the router has the next request
-  pub take_some : option_map (λ (p : Pending). p.asked) (pending_at (connection r d.id.conn.0) d.id.seq) ≡ None → ⊥
-  take_some none = None≢Some pending.0.asked (sym none ∙ ap (option_map (λ (p : Pending). p.asked)) pending.1)
-    where
-      pending : (p : Pending) × (pending_at (connection r d.id.conn.0) d.id.seq ≡ Some p) × Waits w d.id p.asked
-      pending = take_pending t w standing front d back r is
+  pub take_some : pending_at (connection r d.id.conn.0) d.id.seq ≡ None → ⊥
+  take_some none = let pending = take_pending t w front d back r is in None≢Some pending.0 (sym none ∙ pending.1)
 
   -- once it gave it out there is one more job
   pub take_one : (r' : RouterView) (asked : Worded) (js : List Job) (j : Job) →
-      option_map (λ (p : Pending). p.asked) (pending_at (connection r d.id.conn.0) d.id.seq) ≡ Some asked →
-      WasTaken r r' d.id.conn.0 asked.words → AreJobs w.asked front js →
+      pending_at (connection r d.id.conn.0) d.id.seq ≡ Some asked → WasTaken r r' d.id.conn.0 → AreJobs w.asked front js →
       j.id ≡ d.id → j.stamp ≡ d.stamp → j.groups ≡ d.groups → j.asked ≡ asked →
-      IsTaking t w standing (front ++ d ∷ []) back r' × AreJobs w.asked (front ++ d ∷ []) (js ++ j ∷ [])
+      IsTaking t w (front ++ d ∷ []) back r' × AreJobs w.asked (front ++ d ∷ []) (js ++ j ∷ [])
   take_one r' asked js j given was are id stamp groups same =
-      let pending = take_pending t w standing front d back r is in
-      let one : pending.0.asked ≡ asked =
-      some_same pending.0.asked asked (sym (ap (option_map (λ (p : Pending). p.asked)) pending.1) ∙ given) in
+      let pending = take_pending t w front d back r is in
+      let one : pending.0 ≡ asked = some_same pending.0 asked (sym pending.1 ∙ given) in
       let waits : Waits w d.id asked = subst (λ a. Waits w d.id a) one pending.2 in (
-        take_next t w standing front d back r is r' was.0 asked.words was.1 (its_words w d.id asked waits) was.2,
+        take_next t w front d back r is r' was.0 was.1 was.2,
         zip_append (IsJob w.asked) front js (d ∷ []) (j ∷ []) are (job_waits w d asked j waits id stamp groups same, tt),
       )
 
@@ -90,8 +84,7 @@ stand asked (d ∷ ds) (j ∷ js) are units = (
   stand asked ds js are.1 units.1,
 )
 
-module _ (t : Layout) (w : World) (standing : ℕ → Standing) (ds : List Delivered) (r : RouterView)
-    (is : IsTaking t w standing [] ds r) where
+module _ (t : Layout) (w : World) (ds : List Delivered) (r : RouterView) (is : IsTaking t w [] ds r) where
   -- the stamp of a request that is ready or lined up is of one of its own groups
   own_stamp : (d : Delivered) → In d ds → has d.groups d.stamp.group ≡ true
   own_stamp d there =

@@ -3,10 +3,8 @@ use Rattle.std.proofs.Common.{◌≡◌, ℕ, zero, suc, Bool, ◌≤◌, true, 
 use Rattle.std.proofs.Common.{refl, sym, ap, ◌∙◌, subst, arith, append-nil}
 use Rattle.delivery.specs.Queues.{queue_of}
 use Rattle.tasks.specs.Tasks.{Task, task_groups}
-use Rattle.front.proofs.Keeping.{keeps_submit}
-use Rattle.front.proofs.Retelling.{was_idle, at_retold, same_standings, alike_retold}
 use Rattle.front.proofs.Showing.{stepped, is_stepped, by_messages, is_after}
-use Rattle.front.specs.Fronts.{FrontView, Told, retold_standing, retold_world, KeepsWords, FrontShows, roomless}
+use Rattle.front.specs.Fronts.{FrontView, FrontShows, roomless}
 use Rattle.front.specs.Making.{Makes}
 use Rattle.groups.specs.GroupSet.{chosen}
 use Rattle.groups.specs.declared.request.ConnId.{ConnId}
@@ -23,11 +21,11 @@ use Rattle.sessions.specs.Session.{Answer, Now, Go, asks}
 use Rattle.sessions.specs.declared.session.Session.{Session}
 use Rattle.skeen_core.specs.declared.packet.Body.TheVariants.{Start}
 use Rattle.skeen_core.specs.declared.packet.Packet.{Packet}
-use Rattle.system_view.proofs.Connections.{Alike, connection_alike}
-use Rattle.system_view.proofs.Delivering.{shows_deliver, shows_repeat}
-use Rattle.system_view.proofs.Submits.{shows_submitted}
-use Rattle.system_view.specs.Connections.{InLayer, IsSettled, IsKeptFor, ShowsSessions, ShowsConnections}
-use Rattle.system_view.specs.Multicast.{ShowsMulticast}
+use Rattle.front.proofs.WorldConnections.{Alike, connection_alike}
+use Rattle.front.proofs.Delivering.{shows_deliver, shows_repeat}
+use Rattle.front.proofs.Submits.{shows_submitted}
+use Rattle.front.specs.Connections.{InLayer, IsSettled, IsKeptFor, ShowsSessions, ShowsConnections}
+use Rattle.front.specs.Multicast.{ShowsMulticast}
 use Rattle.world.specs.Steps.{Made, Submitted, opening, next_id, starts, multicast, answered, in_session, submitted}
 use Rattle.world.specs.Steps.{answer_to, remembered}
 use Rattle.world.specs.Steps.{submitted_to, floor_of, Comes, Leads, Steps}
@@ -102,40 +100,32 @@ in_a_session : (t : Layout) (m : MulticastView) (w : World) (c : ℕ) (session :
 in_a_session t m w c session shows =
     record { count = shows.count; groups = shows.groups; packets = shows.packets; queues = shows.queues }
 
-module _ (told : Told) (old : FrontView) (r : RouterView) (m : MulticastView) (w : World) (c : ℕ) (sent : Submission)
-    (shows : FrontShows told old w) (begins : Begins old.multicast sent.id sent.floor sent.groups m)
-    (id : sent.id ≡ next_id w c) (floor : sent.floor ≡ floor_of w c)
-    (keeps : (i : RequestId) → KeepsWords old.router i → KeepsWords r i) (session : Session) where
+module _ (old : FrontView) (r : RouterView) (m : MulticastView) (w : World) (c : ℕ) (sent : Submission) (shows : FrontShows old w)
+    (begins : Begins old.multicast sent.id sent.floor sent.groups m) (id : sent.id ≡ next_id w c) (floor : sent.floor ≡ floor_of w c)
+    (session : Session) where
   abbrev w' : World
   w' = in_session w c session
 
   packets : ShowsMulticast old.table old.multicast w'
   packets = in_a_session old.table old.multicast w c session shows.multicast
 
-  -- an answer at once is told by no layer
-  shows_reply : (reply : Content) → sent.groups ≡ [] → ShowsConnections r (answered (in_session (retold_world told w) c session) c reply) →
-      FrontShows told (stepped old r m) (answered w' c reply)
+  -- an answer at once goes to no group
+  shows_reply : (reply : Content) → sent.groups ≡ [] → ShowsConnections r (answered w' c reply) →
+      FrontShows (stepped old r m) (answered w' c reply)
   shows_reply reply groups connections =
-      by_messages told old r m w (answered w' c reply) refl refl shows keeps
-      (same_standings r (retold_world told (answered w' c reply)) (answered (in_session (retold_world told w) c session) c reply).standing
-      (retold_world told (answered w' c reply)).standing
-      (at_retold told w.standing c (Answered (record { id = next_id w c; reply = reply; stamp = None }))) connections)
+      by_messages old r m w (answered w' c reply) refl shows connections
       (shows_none old.table old.multicast m w' c packets sent reply begins groups)
 
-  by_groups : (task : Task) (gs : List ℕ) → sent.groups ≡ gs →
-      ShowsConnections r (submitted_to (in_session (retold_world told w) c session) c task gs) →
-      FrontShows told (stepped old r m) (submitted_to w' c task gs)
+  by_groups : (task : Task) (gs : List ℕ) → sent.groups ≡ gs → ShowsConnections r (submitted_to w' c task gs) →
+      FrontShows (stepped old r m) (submitted_to w' c task gs)
   by_groups task [] groups connections = shows_reply _ groups connections
   by_groups task (g ∷ gs) groups connections =
       let q : Request = record { floor = floor_of w c; groups = g ∷ gs; task = task } in
-      by_messages told old r m w (multicast w' c q) refl refl shows keeps
-      (same_standings r (retold_world told (multicast w' c q)) (multicast (in_session (retold_world told w) c session) c q).standing
-      (retold_world told (multicast w' c q)).standing (at_retold told w.standing c Waiting) connections)
+      by_messages old r m w (multicast w' c q) refl shows connections
       (shows_starts old.table old.multicast m w' c packets sent q begins id floor groups)
 
-  by_answer : (answer : Answer) → sent.groups ≡ groups_by old.table answer →
-      ShowsConnections r (submitted old.table (in_session (retold_world told w) c session) c answer) →
-      FrontShows told (stepped old r m) (submitted old.table w' c answer)
+  by_answer : (answer : Answer) → sent.groups ≡ groups_by old.table answer → ShowsConnections r (submitted old.table w' c answer) →
+      FrontShows (stepped old r m) (submitted old.table w' c answer)
   by_answer (Now reply) groups connections = shows_reply reply groups connections
   by_answer (Go task) groups connections = by_groups task (task_groups old.table task) groups connections
 
@@ -145,22 +135,20 @@ pub submit_makes : (old : FrontView) (r : RouterView) (m : MulticastView) (conn 
     Makes old (Submit conn words) (Submitted sent.id) (stepped old r m)
 submit_makes old r m conn words sent table submits begins = record {
   is_step = is_stepped old r m;
-  from_each = λ h w told at'.
+  from_each = λ h w at'.
       let good = good_world old.table h w at'.leads in
-      let as_world = shows_submitted old.table (retold_world told w) conn.0 good.requests words old.router r sent
-      table submits at'.shows.connections in
+      let as_world = shows_submitted old.table w conn.0 good.requests words old.router r sent table submits at'.shows.connections in
       let asked = asks (w.session conn.0) words in
       let after = submitted old.table (remembered w conn.0 words) conn.0 (answer_to w conn.0 words) in
       let made : Steps old.table w (Submit conn words) (Submitted sent.id) after = record {
-        idle = was_idle told (w.standing conn.0) as_world.0;
+        idle = as_world.0;
         answers = ap Submitted as_world.1;
         after = refl;
       } in (
         after,
         made,
-        is_after told old (stepped old r m) h w after (Submit conn words) (Submitted sent.id) refl at' made
-            (by_answer told old r m w conn.0 sent at'.shows begins as_world.1 as_world.2
-            (keeps_submit old.table conn.0 words old.router r sent submits) asked.0 asked.1 as_world.4 as_world.3),
+        is_after old (stepped old r m) h w after (Submit conn words) (Submitted sent.id) refl at' made
+            (by_answer old r m w conn.0 sent at'.shows begins as_world.1 as_world.2 asked.0 asked.1 as_world.4 as_world.3),
       );
 }
 
@@ -181,7 +169,7 @@ delivers_roomless old new place d = record {
 }
 
 -- a packet that comes changes nothing that the router shows
-module _ (t : Layout) (h : List Step) (w w' : World) (k : ℕ) (told : Told) (leads : Leads t opening h w) (comes : Comes w k Made w') where
+module _ (t : Layout) (h : List Step) (w w' : World) (k : ℕ) (leads : Leads t opening h w) (comes : Comes w k Made w') where
   alike_received : (c : ℕ) → Alike w w' c
   alike_received c = record {
     standing = ap (λ (v : World). v.standing c) comes.after;
@@ -192,13 +180,11 @@ module _ (t : Layout) (h : List Step) (w w' : World) (k : ℕ) (told : Told) (le
         (sym (ap (λ (v : World). v.layer) comes.after)) there;
   }
 
-  shows_received : (r : RouterView) → ShowsConnections r (retold_world told w) → ShowsConnections r (retold_world told w')
+  shows_received : (r : RouterView) → ShowsConnections r w → ShowsConnections r w'
   shows_received r shows = record {
     opened = shows.opened ∙ sym (ap (λ (v : World). v.opened) comes.after);
-    sessions = subst (λ (v : World). ShowsSessions (session_at r) (λ c. retold_standing told (v.standing c)) v.session) (sym comes.after)
-        shows.sessions;
-    each = λ c. connection_alike (connection r c) (retold_world told w) (retold_world told w') c
-        (alike_retold told w w' c (alike_received c)) (shows.each c);
+    sessions = subst (λ (v : World). ShowsSessions (session_at r) v.standing v.session) (sym comes.after) shows.sessions;
+    each = λ c. connection_alike (connection r c) w w' c (alike_received c) (shows.each c);
     under_way = λ id q asked. subst (λ (v : World). IsSettled v id ⊎ IsKeptFor r id) (sym comes.after)
         (shows.under_way id q (sym (ap (λ (v : World). v.asked id) comes.after) ∙ asked));
   }
@@ -207,15 +193,14 @@ pub deliver_makes : (old : FrontView) (m : MulticastView) (place : ℕ) → Deli
     Makes old (Deliver place) Made (stepped old old.router m)
 deliver_makes old m place delivers = record {
   is_step = is_stepped old old.router m;
-  from_each = λ h w told at'.
+  from_each = λ h w at'.
       let as_world = shows_deliver old.table old.multicast w at'.shows.multicast m place delivers in
       let comes : Comes w place Made as_world.0 = as_world.1 in (
         as_world.0,
         comes,
-        is_after told old (stepped old old.router m) h w as_world.0 (Deliver place) Made refl at' comes
-            (by_messages told old old.router m w as_world.0 (ap (λ (v : World). v.layer) comes.after)
-            (ap (λ (v : World). v.ended) comes.after) at'.shows (λ i kept. kept)
-            (shows_received old.table h w as_world.0 place told at'.leads comes old.router at'.shows.connections) as_world.2),
+        is_after old (stepped old old.router m) h w as_world.0 (Deliver place) Made refl at' comes
+            (by_messages old old.router m w as_world.0 (ap (λ (v : World). v.layer) comes.after) at'.shows
+            (shows_received old.table h w as_world.0 place at'.leads comes old.router at'.shows.connections) as_world.2),
       );
 }
 
@@ -226,18 +211,16 @@ repeats_roomless old new place d =
     record { packet = d.packet; there = d.there; groups = d.groups; packets = d.packets; queues = d.queues }
 
 -- nor does one that is repeated
-module _ (w w' : World) (k : ℕ) (told : Told) (repeats : world.Repeats w k Made w') where
+module _ (w w' : World) (k : ℕ) (repeats : world.Repeats w k Made w') where
   alike_repeated : (c : ℕ) → Alike w w' c
   alike_repeated c = subst (λ (v : World). Alike w v c) (sym repeats.after)
       (record { standing = refl; seq = refl; floor = λ free. refl; asked = λ seq. refl; layer = λ seq there. there })
 
-  shows_repeated : (r : RouterView) → ShowsConnections r (retold_world told w) → ShowsConnections r (retold_world told w')
+  shows_repeated : (r : RouterView) → ShowsConnections r w → ShowsConnections r w'
   shows_repeated r shows = record {
     opened = shows.opened ∙ sym (ap (λ (v : World). v.opened) repeats.after);
-    sessions = subst (λ (v : World). ShowsSessions (session_at r) (λ c. retold_standing told (v.standing c)) v.session) (sym repeats.after)
-        shows.sessions;
-    each = λ c. connection_alike (connection r c) (retold_world told w) (retold_world told w') c
-        (alike_retold told w w' c (alike_repeated c)) (shows.each c);
+    sessions = subst (λ (v : World). ShowsSessions (session_at r) v.standing v.session) (sym repeats.after) shows.sessions;
+    each = λ c. connection_alike (connection r c) w w' c (alike_repeated c) (shows.each c);
     under_way = λ id q asked. subst (λ (v : World). IsSettled v id ⊎ IsKeptFor r id) (sym repeats.after)
         (shows.under_way id q (sym (ap (λ (v : World). v.asked id) repeats.after) ∙ asked));
   }
@@ -246,14 +229,13 @@ pub repeat_makes : (old : FrontView) (m : MulticastView) (place : ℕ) → Repea
     Makes old (Repeat place) Made (stepped old old.router m)
 repeat_makes old m place repeats = record {
   is_step = is_stepped old old.router m;
-  from_each = λ h w told at'.
+  from_each = λ h w at'.
       let as_world = shows_repeat old.table old.multicast w at'.shows.multicast m place repeats in
       let made : world.Repeats w place Made as_world.0 = as_world.1 in (
         as_world.0,
         made,
-        is_after told old (stepped old old.router m) h w as_world.0 (Repeat place) Made refl at' made
-            (by_messages told old old.router m w as_world.0 (ap (λ (v : World). v.layer) made.after)
-            (ap (λ (v : World). v.ended) made.after) at'.shows (λ i kept. kept)
-            (shows_repeated w as_world.0 place told made old.router at'.shows.connections) as_world.2),
+        is_after old (stepped old old.router m) h w as_world.0 (Repeat place) Made refl at' made
+            (by_messages old old.router m w as_world.0 (ap (λ (v : World). v.layer) made.after) at'.shows
+            (shows_repeated w as_world.0 place made old.router at'.shows.connections) as_world.2),
       );
 }

@@ -1,25 +1,22 @@
--- What a new front shows, whatever it is told.
+-- What a new front shows.
 use Rattle.std.proofs.Common.{◌≡◌, ℕ, [], length, refl, sym, subst}
 use Rattle.std.specs.BTreeMap.{is_at}
 use Rattle.std.specs.Map.{lookup}
 use Rattle.std.specs.Ordering.{nat_cmp}
 use Rattle.delivery.specs.Queues.{queue_of}
-use Rattle.front.specs.Fronts.{FrontView, Told, retold_world, FrontIsAt}
-use Rattle.groups.specs.Order.{In}
+use Rattle.front.specs.Fronts.{FrontView, FrontIsAt}
 use Rattle.multicast.specs.Multicast.{group_of}
 use Rattle.router.specs.Router.{RouterView, session_at}
 use Rattle.sessions.specs.declared.session.Session.TheVariants.{Free}
 use Rattle.skeen_core.specs.Group.{fresh}
-use Rattle.system_view.specs.Connections.{ShowsConnections, ShowsConnection}
-use Rattle.system_view.specs.Layers.{AreRows}
+use Rattle.front.specs.Connections.{ShowsConnections, ShowsConnection}
 use Rattle.world.specs.Steps.{opening}
 
-connections : (told : Told) (r : RouterView) → r.opened ≡ 0 → r.kept ≡ [] → ((c : ℕ) → session_at r c ≡ Free) →
-    ShowsConnections r (retold_world told opening)
-connections told r opened none free = record {
+connections : (r : RouterView) → r.opened ≡ 0 → r.kept ≡ [] → ((c : ℕ) → session_at r c ≡ Free) → ShowsConnections r opening
+connections r opened none free = record {
   opened = opened;
   sessions = record { of_open = λ c live. free c; of_closed = λ c shut. free c };
-  each = λ c. subst (λ kept. ShowsConnection (lookup (is_at (nat_cmp c)) kept) (retold_world told opening) c) (sym none) refl;
+  each = λ c. subst (λ kept. ShowsConnection (lookup (is_at (nat_cmp c)) kept) opening c) (sym none) refl;
   under_way = λ id q asked. absurd (let k = asked in cc);
 }
 
@@ -33,21 +30,13 @@ pub record IsOpening (f : FrontView) : Type 0 where
   pub packets : f.multicast.packets ≡ []
   pub empty : (g : ℕ) → queue_of f.multicast.queues g ≡ []
   pub out : f.out ≡ []
-  pub rows : f.rows ≡ []
-  pub starved : f.starved ≡ []
 
-pub opening_shown : (f : FrontView) → IsOpening f → (told : Told) → FrontIsAt f [] opening told
-opening_shown f is told = record {
+pub opening_shown : (f : FrontView) → IsOpening f → FrontIsAt f [] opening
+opening_shown f is = record {
   leads = ([], (refl, refl));
   shows = record {
-    connections = connections told f.router is.opened is.kept is.sessions;
+    connections = connections f.router is.opened is.kept is.sessions;
     multicast = record { count = is.count; groups = is.fresh; packets = is.packets; queues = is.empty };
     out = is.out;
-    words = λ d there. absurd (subst (λ l. In d l) is.out there);
-    settled = [];
-    split = refl;
-    truly = λ e there. absurd there;
-    rows = λ whole. subst (λ rows. AreRows [] rows) (sym is.rows) tt;
-    starved = λ whole. is.starved;
   };
 }

@@ -1,10 +1,9 @@
 -- What a front refuses the world refuses, and what its parts ask of their numbers holds.
 use Rattle.std.proofs.Common.{◌≡◌, ◌≢◌, ℕ, ◌<◌, ◌≤◌, true, false, List, length, Some, refl, sym}
 use Rattle.std.proofs.Common.{ap, ◌∙◌, subst, arith}
-use Rattle.front.proofs.Retelling.{was_closed, was_idle, was_busy}
 use Rattle.front.proofs.Standings.{shut_stands, shows_live, busy_stands, idle_stands, open_stands}
 use Rattle.front.specs.Faults.{of_submit, of_deliver}
-use Rattle.front.specs.Fronts.{FrontView, Told, retold_standing, retold_world, FrontIsAt, IsFront}
+use Rattle.front.specs.Fronts.{FrontView, FrontIsAt, IsFront}
 use Rattle.front.specs.Refusing.{RefusesNot, IsFault, MayStep}
 use Rattle.groups.specs.declared.request.ConnId.{ConnId}
 use Rattle.journal.specs.declared.step.Step.{Step}
@@ -18,7 +17,7 @@ use Rattle.router.specs.declared.connection.Connection.{Connection}
 use Rattle.router.specs.declared.router.TheConstants.{GREATEST_NUMBER}
 use Rattle.router.specs.declared.submission.SubmitFault.{SubmitFault}
 use Rattle.router.specs.declared.submission.SubmitFault.TheVariants as submit
-use Rattle.system_view.specs.Connections.{ShowsConnection}
+use Rattle.front.specs.Connections.{ShowsConnection}
 use Rattle.world.specs.Steps.{OwnFault, Busy, NoConn, NoPacket, InFlight, NoLayer, Refused, IsBusy}
 use Rattle.world.specs.World.{World, Closed, Idle}
 use Rattle.world_laws.proofs.Bounds.{bounded_world}
@@ -39,18 +38,16 @@ module _ (f : FrontView) (is : IsFront f) (may : MayStep f) where
   pub few_asked : (c : ℕ) (v : Connection) → connection f.router c ≡ Some v → v.seq < GREATEST_NUMBER
   few_asked c v kept =
       let asked = (bounded_world f.table is.history is.world is.at.leads).requests c in
-      let same = (subst (λ x. ShowsConnection x (retold_world is.told is.world) c) kept (is.at.shows.connections.each c)).0 in
+      let same = (subst (λ x. ShowsConnection x is.world c) kept (is.at.shows.connections.each c)).0 in
       let few = few_steps in
       omega arith
 
 -- ---- connections
 
 -- a connection that isn't open stands closed
-pub stands_closed : (f : FrontView) (c : ℕ) → is_open (connection f.router c) ≡ false → (h : List Step) (w : World) (told : Told) →
-    FrontIsAt f h w told → w.standing c ≡ Closed
-stands_closed f c shut h w told at' =
-    was_closed told (w.standing c)
-    (shut_stands (connection f.router c) (retold_world told w) c shut (at'.shows.connections.each c))
+pub stands_closed : (f : FrontView) (c : ℕ) → is_open (connection f.router c) ≡ false → (h : List Step) (w : World) → FrontIsAt f h w →
+    w.standing c ≡ Closed
+stands_closed f c shut h w at' = shut_stands (connection f.router c) w c shut (at'.shows.connections.each c)
 
 -- an idle connection's submit has no fault of its own
 not_refused : (w : World) (conn : ConnId) (words : List (List ℕ)) → w.standing conn.0 ≡ Idle → (fault : OwnFault) →
@@ -64,17 +61,15 @@ not_refused w conn words idle NoLayer refused = refused
 -- why the router refuses a submit is why the world does
 pub submit_refused : (f : FrontView) (conn : ConnId) (words : List (List ℕ)) (fault : SubmitFault) →
     IsRefused (connection f.router conn.0) fault → IsFault f (step.Submit conn words) (of_submit fault)
-submit_refused f conn words submit.Busy refused = λ h w told at'.
-    was_busy told (w.standing conn.0)
-    (busy_stands refused.was.standing refused.was (retold_world told w) conn.0 refused.busy
-    (shows_live _ refused.was (retold_world told w) conn.0 refused.kept refused.live (at'.shows.connections.each conn.0)))
+submit_refused f conn words submit.Busy refused = λ h w at'.
+    busy_stands refused.was.standing refused.was w conn.0 refused.busy
+    (shows_live _ refused.was w conn.0 refused.kept refused.live (at'.shows.connections.each conn.0))
 submit_refused f conn words submit.NoConn refused = stands_closed f conn.0 refused
 submit_refused f conn words submit.Memory refused = (
   tt,
-  λ h w told at'.
-      not_refused w conn words (was_idle told (w.standing conn.0)
-      (idle_stands refused.was.standing refused.was (retold_world told w) conn.0 refused.idle
-      (shows_live _ refused.was (retold_world told w) conn.0 refused.kept refused.live (at'.shows.connections.each conn.0)))),
+  λ h w at'.
+      not_refused w conn words (idle_stands refused.was.standing refused.was w conn.0 refused.idle
+      (shows_live _ refused.was w conn.0 refused.kept refused.live (at'.shows.connections.each conn.0))),
 )
 
 collect_not : (w : World) (conn : ConnId) → w.standing conn.0 ≢ Closed → (fault : OwnFault) → ¬ Refused w (step.Collect conn) fault
@@ -95,15 +90,12 @@ close_not w conn stands NoLayer refused = refused
 pub open_admitted : (f : FrontView) (conn : ConnId) (v : Connection) → connection f.router conn.0 ≡ Some v → v.is_open ≡ true →
     RefusesNot f (step.Collect conn) × RefusesNot f (step.Close conn)
 open_admitted f conn v kept live = (
-  λ h w told at'. collect_not w conn (stands w told (at'.shows.connections.each conn.0)),
-  λ h w told at'. close_not w conn (stands w told (at'.shows.connections.each conn.0)),
+  λ h w at'. collect_not w conn (stands w (at'.shows.connections.each conn.0)),
+  λ h w at'. close_not w conn (stands w (at'.shows.connections.each conn.0)),
 )
   where
-    stands : (w : World) (told : Told) → ShowsConnection (connection f.router conn.0) (retold_world told w) conn.0 →
-        w.standing conn.0 ≢ Closed
-    stands w told shows closed =
-        open_stands v.standing v (retold_world told w) conn.0 (shows_live _ v (retold_world told w) conn.0 kept live shows)
-        (ap (retold_standing told) closed)
+    stands : (w : World) → ShowsConnection (connection f.router conn.0) w conn.0 → w.standing conn.0 ≢ Closed
+    stands w shows = open_stands v.standing v w conn.0 (shows_live _ v w conn.0 kept live shows)
 
 -- ---- Open
 
@@ -115,7 +107,7 @@ open_not w InFlight refused = refused
 open_not w NoLayer refused = refused
 
 pub open_admits : (f : FrontView) → RefusesNot f step.Open
-open_admits f = λ h w told at' fault refused. open_not w fault refused
+open_admits f = λ h w at' fault refused. open_not w fault refused
 
 -- ---- Deliver and Repeat
 
@@ -137,20 +129,20 @@ repeat_not w place there NoLayer refused = refused
 pub deliver_refused : (f : FrontView) (place : ℕ) (fault : DeliverFault) →
     (fault ≡ deliver.NoPacket → length f.multicast.packets ≤ place) →
     (fault ≡ deliver.Memory → place < length f.multicast.packets) → IsFault f (step.Deliver place) (of_deliver fault)
-deliver_refused f place deliver.NoPacket none there = λ h w told at'.
+deliver_refused f place deliver.NoPacket none there = λ h w at'.
     subst (λ ps. length ps ≤ place) at'.shows.multicast.packets (none refl)
 deliver_refused f place deliver.Memory none there = (
   tt,
-  λ h w told at'. deliver_not w place (subst (λ ps. place < length ps) at'.shows.multicast.packets (there refl)),
+  λ h w at'. deliver_not w place (subst (λ ps. place < length ps) at'.shows.multicast.packets (there refl)),
 )
 
 -- and why it repeats none
 pub repeat_refused : (f : FrontView) (place : ℕ) (fault : DeliverFault) →
     (fault ≡ deliver.NoPacket → length f.multicast.packets ≤ place) →
     (fault ≡ deliver.Memory → place < length f.multicast.packets) → IsFault f (step.Repeat place) (of_deliver fault)
-repeat_refused f place deliver.NoPacket none there = λ h w told at'.
+repeat_refused f place deliver.NoPacket none there = λ h w at'.
     subst (λ ps. length ps ≤ place) at'.shows.multicast.packets (none refl)
 repeat_refused f place deliver.Memory none there = (
   tt,
-  λ h w told at'. repeat_not w place (subst (λ ps. place < length ps) at'.shows.multicast.packets (there refl)),
+  λ h w at'. repeat_not w place (subst (λ ps. place < length ps) at'.shows.multicast.packets (there refl)),
 )

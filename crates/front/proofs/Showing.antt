@@ -1,26 +1,21 @@
 -- What a front shows after a step that settles nothing, and that it is then as each front is.
 use Rattle.std.proofs.Common.{◌≡◌, ℕ, ◌+◌, List, [], ◌∷◌, ◌++◌, length, refl, sym, ap, ◌∙◌, subst, arith, length-append}
 use Rattle.front.proofs.Histories.{leads_more}
-use Rattle.front.specs.Fronts.{FrontView, Told, retold_world, IsOut, KeepsWords, FrontShows, FrontIsAt, HasNotRun}
-use Rattle.front.specs.Fronts.{IsFront, roomless}
-use Rattle.front.specs.Making.{IsStep, Makes, Collects}
+use Rattle.front.specs.Fronts.{FrontView, IsOut, FrontShows, FrontIsAt, HasNotRun, IsFront, roomless}
+use Rattle.front.specs.Making.{IsStep, Makes}
 use Rattle.journal.specs.declared.step.Step.{Step}
 use Rattle.journal.specs.declared.step.Step.TheVariants.{Open, Submit, Deliver, Take, Run, Settle, Collect, Close, Repeat}
-use Rattle.groups.specs.declared.request.ConnId.{ConnId}
-use Rattle.groups.specs.declared.request.RequestId.{RequestId}
 use Rattle.multicast.specs.Multicast.{MulticastView, IsSame}
 use Rattle.placement.specs.Layout.{Layout, IsTable}
 use Rattle.router.specs.Router.{RouterView}
 use Rattle.sessions.specs.Session.{Answer, Now, Go, asks}
 use Rattle.sessions.specs.declared.session.Session.{Session}
-use Rattle.std.proofs.Common.{Option}
-use Rattle.system_view.specs.Connections.{ShowsConnections}
-use Rattle.system_view.specs.Multicast.{ShowsMulticast}
+use Rattle.front.specs.Connections.{ShowsConnections}
+use Rattle.front.specs.Multicast.{ShowsMulticast}
 use Rattle.tasks.specs.Tasks.{task_groups}
 use Rattle.world.specs.Steps.{opening, Effect, Steps, Leads, in_session, submitted, submitted_to}
 use Rattle.world.specs.Steps as world
 use Rattle.world.specs.World.{World, Standing, Closed, Idle, Waiting, Answered, Layer}
-use Rattle.world_laws.specs.Good.{run_in}
 
 -- ---- room
 
@@ -47,29 +42,21 @@ abbrev pub stepped : FrontView → RouterView → MulticastView → FrontView
 stepped f r m = record f { router = r; multicast = m; steps = f.steps + 1 }
 
 pub is_stepped : (f : FrontView) (r : RouterView) (m : MulticastView) → IsStep f (stepped f r m)
-is_stepped f r m = record { table = refl; steps = refl; layers = refl; rows = refl; starved = refl; whole = refl }
+is_stepped f r m = record { table = refl; steps = refl; layers = refl }
 
--- a step that leaves the layer and what has ended alone
-pub by_messages : (told : Told) (f : FrontView) (r : RouterView) (m : MulticastView) (w w' : World) → w'.layer ≡ w.layer →
-    w'.ended ≡ w.ended → FrontShows told f w → ((i : RequestId) → KeepsWords f.router i → KeepsWords r i) →
-    ShowsConnections r (retold_world told w') → ShowsMulticast f.table m w' → FrontShows told (stepped f r m) w'
-by_messages told f r m w w' layer ended shows keeps connections packets = record {
+-- a step that leaves the layer alone
+pub by_messages : (f : FrontView) (r : RouterView) (m : MulticastView) (w w' : World) → w'.layer ≡ w.layer → FrontShows f w →
+    ShowsConnections r w' → ShowsMulticast f.table m w' → FrontShows (stepped f r m) w'
+by_messages f r m w w' layer shows connections packets = record {
   connections = connections;
   multicast = packets;
-  words = λ d there. keeps d.id (shows.words d there);
   out = subst (λ (l : Layer). IsOut l f.out) (sym layer) shows.out;
-  settled = shows.settled;
-  split = ended ∙ shows.split ∙ ap (λ (l : Layer). shows.settled ++ run_in l) (sym layer);
-  truly = shows.truly;
-  rows = shows.rows;
-  starved = shows.starved;
 }
 
 -- the front is at the world that the step leads to
-pub is_after : (told : Told) (old new : FrontView) (h : List Step) (w w' : World) (step : Step) (effect : Effect) →
-    new.table ≡ old.table → FrontIsAt old h w told → Steps old.table w step effect w' → FrontShows told new w' →
-    FrontIsAt new (h ++ step ∷ []) w' told
-is_after told old new h w w' step effect table at' made shows = record {
+pub is_after : (old new : FrontView) (h : List Step) (w w' : World) (step : Step) (effect : Effect) → new.table ≡ old.table →
+    FrontIsAt old h w → Steps old.table w step effect w' → FrontShows new w' → FrontIsAt new (h ++ step ∷ []) w'
+is_after old new h w w' step effect table at' made shows = record {
   leads = subst (λ t. Leads t opening (h ++ step ∷ []) w') (sym table)
       (leads_more old.table opening w w' h step effect at'.leads made);
   shows = shows;
@@ -118,12 +105,11 @@ still_unrun t w w' (Repeat k) effect plain made not_run = unrun w w' _ made.afte
 -- the front after a step is as each front is
 module _ (old new : FrontView) (is : IsFront old) (step : Step) (plain : NoRun step) (counts : IsStep old new) where
   pub goes_on : (effect : Effect) (w' : World) → Steps old.table is.world step effect w' →
-      FrontIsAt new (is.history ++ step ∷ []) w' is.told → IsFront new
+      FrontIsAt new (is.history ++ step ∷ []) w' → IsFront new
   goes_on effect w' made at' = record {
     is_table = subst IsTable (sym counts.table) is.is_table;
     history = is.history ++ step ∷ [];
     world = w';
-    told = is.told;
     at = at';
     count = counted;
     not_run = still_unrun old.table is.world w' step effect plain made is.not_run;
@@ -140,11 +126,5 @@ module _ (old new : FrontView) (is : IsFront old) (step : Step) (plain : NoRun s
 pub once_made : (old new : FrontView) → IsFront old → (step : Step) → NoRun step → (effect : Effect) → Makes old step effect new →
     IsFront new
 once_made old new is step plain effect makes =
-    let next = makes.from_each is.history is.world is.told is.at in
+    let next = makes.from_each is.history is.world is.at in
     goes_on old new is step plain makes.is_step effect next.0 next.1 next.2
-
-pub once_collected : (old new : FrontView) → IsFront old → (conn : ConnId) (given : Option _) → Collects old conn given new →
-    IsFront new
-once_collected old new is conn given collects =
-    let next = collects.from_each is.history is.world is.told is.at in
-    goes_on old new is (Collect conn) tt collects.is_step (world.Collected next.0) next.1 next.2 next.4

@@ -5,7 +5,7 @@ use Rattle.router.specs.Router.{is_open}
 use Rattle.router.specs.declared.connection.Connection.{Connection}
 use Rattle.router.specs.declared.connection.Standing.{Standing}
 use Rattle.router.specs.declared.connection.Standing.TheVariants as router
-use Rattle.system_view.specs.Connections.{ShowsOpen, ShowsClosed, ShowsKept, ShowsConnection}
+use Rattle.front.specs.Connections.{ShowsOpen, ShowsClosed, ShowsKept, ShowsConnection}
 use Rattle.world.specs.Steps.{IsBusy}
 use Rattle.world.specs.World.{World, Closed, Idle}
 
@@ -13,8 +13,8 @@ use Rattle.world.specs.World.{World, Closed, Idle}
 
 closed_stands : (s : Standing) (v : Connection) (w : World) (c : ℕ) → ShowsClosed s v w c → w.standing c ≡ Closed
 closed_stands router.Idle v w c shows = absurd shows
-closed_stands (router.Waiting p) v w c shows = shows.0
-closed_stands (router.Taken words) v w c shows = shows.0
+closed_stands (router.Waiting asked) v w c shows = shows.0
+closed_stands router.Taken v w c shows = shows.0
 closed_stands (router.Answered o) v w c shows = absurd shows
 
 kept_closed : (v : Connection) (w : World) (c : ℕ) → v.is_open ≡ false → ShowsKept v w c → w.standing c ≡ Closed
@@ -37,8 +37,8 @@ shows_live o v w c kept live shows = kept_live v w c live (subst (λ x. ShowsCon
 
 pub busy_stands : (s : Standing) (v : Connection) (w : World) (c : ℕ) → s ≢ router.Idle → ShowsOpen s v w c → IsBusy (w.standing c)
 busy_stands router.Idle v w c busy shows = absurd (busy refl)
-busy_stands (router.Waiting p) v w c busy shows = subst IsBusy (sym shows.0) tt
-busy_stands (router.Taken words) v w c busy shows = subst IsBusy (sym shows.0) tt
+busy_stands (router.Waiting asked) v w c busy shows = subst IsBusy (sym shows.0) tt
+busy_stands router.Taken v w c busy shows = subst IsBusy (sym shows.0) tt
 busy_stands (router.Answered o) v w c busy shows = subst IsBusy (sym shows.0) tt
 
 pub idle_stands : (s : Standing) (v : Connection) (w : World) (c : ℕ) → s ≡ router.Idle → ShowsOpen s v w c → w.standing c ≡ Idle
@@ -46,6 +46,6 @@ idle_stands s v w c idle shows = (subst (λ x. ShowsOpen x v w c) idle shows).0
 
 pub open_stands : (s : Standing) (v : Connection) (w : World) (c : ℕ) → ShowsOpen s v w c → w.standing c ≢ Closed
 open_stands router.Idle v w c shows shut = let k = sym shows.0 ∙ shut in cc
-open_stands (router.Waiting p) v w c shows shut = let k = sym shows.0 ∙ shut in cc
-open_stands (router.Taken words) v w c shows shut = let k = sym shows.0 ∙ shut in cc
+open_stands (router.Waiting asked) v w c shows shut = let k = sym shows.0 ∙ shut in cc
+open_stands router.Taken v w c shows shut = let k = sym shows.0 ∙ shut in cc
 open_stands (router.Answered o) v w c shows shut = let k = sym shows.0 ∙ shut in cc

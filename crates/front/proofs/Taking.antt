@@ -1,20 +1,16 @@
 -- Taking a layer out of the router, one request after another, is a step of the world.
-use Rattle.std.proofs.Common.{◌≡◌, ◌≢◌, ℕ, ◌==◌, true, cond, List, [], ◌∷◌, ◌++◌, ◌⊎◌, inl, inr, length, IfSome, Option}
-use Rattle.std.proofs.Common.{Some, None, Ok, option_map, refl, sym, ap, ◌∙◌, subst, eq-eqb, append-nil}
-use Rattle.std.proofs.lemmas.Bool.{both_ways, cond-true}
+use Rattle.std.proofs.Common.{◌≡◌, ◌≢◌, ℕ, ◌==◌, true, cond, List, [], ◌∷◌, ◌++◌, ◌⊎◌, inl, inr, length, Option}
+use Rattle.std.proofs.Common.{OnSome, Some, None, refl, sym, ap, ◌∙◌, subst, eq-eqb, append-nil}
+use Rattle.std.proofs.lemmas.Bool.{both_ways}
 use Rattle.std.proofs.Math.Seq.{append_snoc}
 use Rattle.delivery.proofs.Layers.{taken_somewhere}
 use Rattle.delivery.specs.Ready.{IsLayer, left_in}
-use Rattle.front.proofs.Keeping.{keeps_but}
-use Rattle.front.proofs.Lists.{in_either}
-use Rattle.front.specs.Fronts.{KeepsWords}
 use Rattle.journal.specs.declared.step.Step.{Step}
 use Rattle.multicast.specs.Multicast.{MulticastView, group_of, LosesLayer}
 use Rattle.placement.specs.Layout.{Layout}
 use Rattle.router.specs.Connection.{is_under_way, with_standing}
-use Rattle.router.specs.Router.{RouterView, connection, pending_in, pending_at, taken_in, taken_at, Changes}
+use Rattle.router.specs.Router.{RouterView, connection, pending_in, pending_at, Changes}
 use Rattle.router.specs.declared.connection.Connection.{Connection}
-use Rattle.router.specs.declared.connection.Pending.{Pending}
 use Rattle.router.specs.declared.connection.Standing.{Standing}
 use Rattle.router.specs.declared.connection.Standing.TheVariants as router
 use Rattle.groups.proofs.Options.{some_same}
@@ -26,16 +22,16 @@ use Rattle.groups.specs.Order.{In}
 use Rattle.groups.specs.Stamp.{stamp_lt}
 use Rattle.skeen_core.specs.declared.packet.Delivered.{Delivered}
 use Rattle.groups.specs.declared.request.RequestId.{RequestId}
-use Rattle.system_view.proofs.Connections.{Alike, connection_alike, each_of, kept_here, kept_at, StandsUnderWay}
-use Rattle.system_view.proofs.Connections.{stands_under_way}
-use Rattle.system_view.specs.Connections.{Waits, AreItsWords, InLayer, id_of, ShowsOpen, ShowsClosed}
-use Rattle.system_view.specs.Connections.{ShowsConnection, ShowsKept}
-use Rattle.system_view.specs.Connections.{IsKeptFor, ShowsSessions, ShowsConnections}
-use Rattle.system_view.specs.Multicast.{ShowsMulticast}
+use Rattle.front.proofs.WorldConnections.{Alike, connection_alike, each_of, kept_here, kept_at, StandsUnderWay}
+use Rattle.front.proofs.WorldConnections.{stands_under_way}
+use Rattle.front.specs.Connections.{Waits, InLayer, id_of, ShowsOpen, ShowsClosed}
+use Rattle.front.specs.Connections.{ShowsConnection, ShowsKept}
+use Rattle.front.specs.Connections.{IsKeptFor, ShowsSessions, ShowsConnections}
+use Rattle.front.specs.Multicast.{ShowsMulticast}
 use Rattle.front.specs.Taking.{with_layer, IsTaking}
 use Rattle.worded.specs.declared.worded.Worded.{Worded}
 use Rattle.world.specs.Steps.{opening, Made, taken, Takes, Leads}
-use Rattle.world.specs.World.{Standing as Stand, World, Request, Ended, Layer, NoneTaken, Taken}
+use Rattle.world.specs.World.{World, Request, Ended, Layer, NoneTaken, Taken}
 use Rattle.world_laws.proofs.ConditionLaws.{delivered_same}
 use Rattle.world_laws.proofs.Layers.{ascending_cross, in_delivered, taken_once}
 use Rattle.world_laws.proofs.Values.{same_request}
@@ -68,11 +64,7 @@ takes_layer w ds none layer some = record {
 
 -- a request that waits, and isn't taken
 abbrev IsPending : Standing → World → RequestId → Type 0
-IsPending s w i = (p : Pending) × (s ≡ router.Waiting p) × Waits w i p.asked
-
--- the words of one that waits say the task with which it was submitted
-pub its_words : (w : World) (i : RequestId) (asked : Worded) → Waits w i asked → AreItsWords w i asked.words
-its_words w i asked waits = (waits.0, waits.1, asked.says ∙ ap Ok (sym waits.2))
+IsPending s w i = (asked : Worded) × (s ≡ router.Waiting asked) × Waits w i asked
 
 -- under a request that is under way stands one that waits, or one that was taken
 abbrev IsTakenOr : Standing → World → RequestId → Type 0
@@ -81,15 +73,15 @@ IsTakenOr s w i = IsPending s w i ⊎ InLayer w.layer i
 open_pending : (s : Standing) (v : Connection) (w : World) (c : ℕ) → is_under_way s ≡ true → ShowsOpen s v w c →
     IsTakenOr s w (id_of c v.seq)
 open_pending router.Idle v w c busy shows = absurd (both_ways _ refl busy)
-open_pending (router.Waiting p) v w c busy shows = inl (p, refl, shows.1)
-open_pending (router.Taken words) v w c busy shows = inr shows.1
+open_pending (router.Waiting asked) v w c busy shows = inl (asked, refl, shows.1)
+open_pending router.Taken v w c busy shows = inr shows.1
 open_pending (router.Answered o) v w c busy shows = absurd (both_ways _ refl busy)
 
 closed_pending : (s : Standing) (v : Connection) (w : World) (c : ℕ) → ShowsClosed s v w c →
     IsTakenOr s w (id_of c v.seq)
 closed_pending router.Idle v w c shows = absurd shows
-closed_pending (router.Waiting p) v w c shows = inl (p, refl, shows.1)
-closed_pending (router.Taken words) v w c shows = inr shows.1
+closed_pending (router.Waiting asked) v w c shows = inl (asked, refl, shows.1)
+closed_pending router.Taken v w c shows = inr shows.1
 closed_pending (router.Answered o) v w c shows = absurd shows
 
 kept_pending : (v : Connection) (w : World) (c : ℕ) → is_under_way v.standing ≡ true → ShowsKept v w c →
@@ -97,15 +89,14 @@ kept_pending : (v : Connection) (w : World) (c : ℕ) → is_under_way v.standin
 kept_pending v w c busy (seq, inl live) = open_pending v.standing v w c busy live.1
 kept_pending v w c busy (seq, inr shut) = closed_pending v.standing v w c shut.1
 
--- the connection's request was taken out of the router, and these words stay
-abbrev pub WasTaken : RouterView → RouterView → ℕ → List (List ℕ) → Type 0
-WasTaken r r' c words =
-    (v : Connection) × (connection r c ≡ Some v) × Changes r r' c (Some (with_standing v (router.Taken words)))
+-- the connection's request was taken out of the router
+abbrev pub WasTaken : RouterView → RouterView → ℕ → Type 0
+WasTaken r r' c = (v : Connection) × (connection r c ≡ Some v) × Changes r r' c (Some (with_standing v router.Taken))
 
 -- ---- the next request
 
-module _ (t : Layout) (w : World) (standing : ℕ → Stand) (front : List Delivered) (d : Delivered) (back : List Delivered) (r : RouterView)
-    (is : IsTaking t w standing front (d ∷ back) r) where
+module _ (t : Layout) (w : World) (front : List Delivered) (d : Delivered) (back : List Delivered) (r : RouterView)
+    (is : IsTaking t w front (d ∷ back) r) where
   good : WorldGood t w
   good = good_world t is.steps w is.leads
 
@@ -146,10 +137,10 @@ module _ (t : Layout) (w : World) (standing : ℕ → Stand) (front : List Deliv
       both_ways _ (lt_irrefl d.stamp) (subst (λ (x : Delivered). stamp_lt x.stamp d.stamp ≡ true) same less)
 
   abbrev before : World
-  before = with_layer w standing (Taken front)
+  before = with_layer w (Taken front)
 
   abbrev after : World
-  after = with_layer w standing (Taken (front ++ d ∷ []))
+  after = with_layer w (Taken (front ++ d ∷ []))
 
   -- the router keeps its connection
   kept_for : IsKeptFor r d.id
@@ -172,7 +163,7 @@ module _ (t : Layout) (w : World) (standing : ℕ → Stand) (front : List Deliv
       ]
 
   -- so the router has its task with its words
-  pub take_pending : (p : Pending) × (pending_at (connection r d.id.conn.0) d.id.seq ≡ Some p) × Waits w d.id p.asked
+  pub take_pending : (asked : Worded) × (pending_at (connection r d.id.conn.0) d.id.seq ≡ Some asked) × Waits w d.id asked
   take_pending = (
     is_pending.0,
     ap (λ o. pending_at o d.id.seq) kept_for.kept
@@ -191,53 +182,40 @@ module _ (t : Layout) (w : World) (standing : ℕ → Stand) (front : List Deliv
   }
 
   -- its connection has given it away
-  taken_here : (v : Connection) (words : List (List ℕ)) → AreItsWords w d.id words → v.seq ≡ d.id.seq →
-      v.seq ≡ w.seq d.id.conn.0 → StandsUnderWay v before d.id.conn.0 →
-      ShowsConnection (Some (with_standing v (router.Taken words))) after d.id.conn.0
-  taken_here v words its this seq stands = (
+  taken_here : (v : Connection) → v.seq ≡ d.id.seq → v.seq ≡ w.seq d.id.conn.0 → StandsUnderWay v before d.id.conn.0 →
+      ShowsConnection (Some (with_standing v router.Taken)) after d.id.conn.0
+  taken_here v this seq stands = (
     seq,
     elim stands [
-      | inl waits ↦ inl (waits.0, (waits.1, out, still_its))
-      | inr shut ↦ inr (shut.0, (shut.1, out, still_its))
+      | inl waits ↦ inl (waits.0, (waits.1, out))
+      | inr shut ↦ inr (shut.0, (shut.1, out))
     ],
   )
     where
-      still_its : AreItsWords after (id_of d.id.conn.0 v.seq) words
-      still_its = subst (λ i. AreItsWords w i words) (sym (same_request (id_of d.id.conn.0 v.seq) d.id refl this)) its
-
       out : has_id (front ++ d ∷ []) (id_of d.id.conn.0 v.seq) ≡ true
       out = subst (λ i. has_id (front ++ d ∷ []) i ≡ true)
           (sym (same_request (id_of d.id.conn.0 v.seq) d.id refl this))
           (id_there (front ++ d ∷ []) d (In-right d front (d ∷ []) (inl refl)))
 
-  pub take_next : (r' : RouterView) (v : Connection) (words : List (List ℕ)) → connection r d.id.conn.0 ≡ Some v →
-      AreItsWords w d.id words → Changes r r' d.id.conn.0 (Some (with_standing v (router.Taken words))) →
-      IsTaking t w standing (front ++ d ∷ []) back r'
-  take_next r' v words there its changes = record {
+  pub take_next : (r' : RouterView) (v : Connection) → connection r d.id.conn.0 ≡ Some v →
+      Changes r r' d.id.conn.0 (Some (with_standing v router.Taken)) → IsTaking t w (front ++ d ∷ []) back r'
+  take_next r' v there changes = record {
     steps = is.steps;
     leads = is.leads;
     none = is.none;
     layer = subst (λ ds. IsLayer w.queue ds) (sym (append_snoc front d back)) is.layer;
     shows = record {
       opened = changes.opened ∙ is.shows.opened;
-      sessions = subst (λ kept. ShowsSessions kept standing w.session) (sym changes.sessions) is.shows.sessions;
-      each = each_of r r' before after d.id.conn.0 (Some (with_standing v (router.Taken words))) changes.at
+      sessions = subst (λ kept. ShowsSessions kept w.standing w.session) (sym changes.sessions) is.shows.sessions;
+      each = each_of r r' before after d.id.conn.0 (Some (with_standing v router.Taken)) changes.at
           (λ c other. alike_taken c) is.shows.each
-          (taken_here v words its seq here.0 (stands_under_way v before d.id.conn.0 busy here));
+          (taken_here v seq here.0 (stands_under_way v before d.id.conn.0 busy here));
       under_way = λ i q asked. elim (is.shows.under_way i q asked) [
         | inl done ↦ inl done
-        | inr kept ↦ inr (kept_here r r' d.id.conn.0 v (Some (with_standing v (router.Taken words))) i there changes.at
-            (λ waits. (with_standing v (router.Taken words), refl, refl, refl)) kept)
+        | inr kept ↦ inr (kept_here r r' d.id.conn.0 v (Some (with_standing v router.Taken)) i there changes.at
+            (λ waits. (with_standing v router.Taken, refl, refl, refl)) kept)
       ];
     };
-    words = λ e there. elim (in_either front (d ∷ []) e there) [
-      | inl earlier ↦ keeps_but r r' d.id.conn.0 (Some (with_standing v (router.Taken words))) e.id changes.at kept_for.v kept_for.kept
-          (ap (λ s. taken_in s (kept_for.v.seq == e.id.seq)) is_pending.1) (is.words e earlier)
-      | inr last ↦ elim last [
-        | inl this ↦ subst (λ (x : Delivered). KeepsWords r' x.id) (sym this) (words, now_taken)
-        | inr none ↦ absurd none
-      ]
-    ];
   }
     where
       same : kept_for.v ≡ v
@@ -252,24 +230,15 @@ module _ (t : Layout) (w : World) (standing : ℕ → Stand) (front : List Deliv
       seq : v.seq ≡ d.id.seq
       seq = subst (λ (u : Connection). u.seq ≡ d.id.seq) same kept_for.seq
 
-      now_taken : taken_at (connection r' d.id.conn.0) d.id.seq ≡ Some words
-      now_taken =
-          ap (λ o. taken_at o d.id.seq) (changes.at d.id.conn.0
-          ∙ cond-true (d.id.conn.0 == d.id.conn.0) (Some (with_standing v (router.Taken words))) (connection r d.id.conn.0)
-          (eq-eqb d.id.conn.0 d.id.conn.0 refl))
-          ∙ ap (λ b. cond b (Some words) None) (eq-eqb v.seq d.id.seq seq)
-
   -- so much the router's take gives and does
-  pub take_did : (r' : RouterView) (o : Option Worded) →
-      o ≡ option_map (λ p. p.asked) (pending_at (connection r d.id.conn.0) d.id.seq) →
-      IfSome o (λ asked. WasTaken r r' d.id.conn.0 asked.words) →
-      (asked : Worded) × (o ≡ Some asked) × Waits w d.id asked × IsTaking t w standing (front ++ d ∷ []) back r'
+  pub take_did : (r' : RouterView) (o : Option Worded) → o ≡ pending_at (connection r d.id.conn.0) d.id.seq →
+      OnSome o (WasTaken r r' d.id.conn.0) →
+      (asked : Worded) × (o ≡ Some asked) × Waits w d.id asked × IsTaking t w (front ++ d ∷ []) back r'
   take_did r' o given did =
-      let asked : Worded = take_pending.0.asked in
-      let some : o ≡ Some asked = given ∙ ap (option_map (λ (p : Pending). p.asked)) take_pending.1 in
-      let was : WasTaken r r' d.id.conn.0 asked.words =
-      subst (λ x. IfSome x (λ (a : Worded). WasTaken r r' d.id.conn.0 a.words)) some did in
-      (asked, some, take_pending.2, take_next r' was.0 asked.words was.1 (its_words w d.id asked take_pending.2) was.2)
+      let asked : Worded = take_pending.0 in
+      let some : o ≡ Some asked = given ∙ take_pending.1 in
+      let was : WasTaken r r' d.id.conn.0 = subst (λ x. OnSome x (WasTaken r r' d.id.conn.0)) some did in
+      (asked, some, take_pending.2, take_next r' was.0 was.1 was.2)
 
 -- ---- the first and the last
 
@@ -278,10 +247,9 @@ abbrev SettledUnder : World → Layer → RequestId → Type 0
 SettledUnder w l i = (done : List Ended) × (w.ended ≡ done ++ run_in l) × Named done i
 
 -- a world with no layer, before the first request of the next one is taken
-pub take_starts : (t : Layout) (steps : List Step) (w : World) (standing : ℕ → Stand) (ds : List Delivered) (r : RouterView) →
-    Leads t opening steps w → w.layer ≡ NoneTaken → IsLayer w.queue ds → ShowsConnections r (record w { standing = standing }) →
-    IsTaking t w standing [] ds r
-take_starts t steps w standing ds r leads none layer shows = record {
+pub take_starts : (t : Layout) (steps : List Step) (w : World) (ds : List Delivered) (r : RouterView) → Leads t opening steps w →
+    w.layer ≡ NoneTaken → IsLayer w.queue ds → ShowsConnections r w → IsTaking t w [] ds r
+take_starts t steps w ds r leads none layer shows = record {
   steps = steps;
   leads = leads;
   none = none;
@@ -289,17 +257,15 @@ take_starts t steps w standing ds r leads none layer shows = record {
   shows = record {
     opened = shows.opened;
     sessions = shows.sessions;
-    each = λ c. connection_alike (connection r c) (record w { standing = standing }) (with_layer w standing (Taken [])) c (alike c)
-        (shows.each c);
+    each = λ c. connection_alike (connection r c) w (with_layer w (Taken [])) c (alike c) (shows.each c);
     under_way = λ i q asked. elim (shows.under_way i q asked) [
       | inl done ↦ inl (subst (λ l. SettledUnder w l i) none done)
       | inr kept ↦ inr kept
     ];
   };
-  words = λ d there. absurd there;
 }
   where
-    alike : (c : ℕ) → Alike (record w { standing = standing }) (with_layer w standing (Taken [])) c
+    alike : (c : ℕ) → Alike w (with_layer w (Taken [])) c
     alike c = record {
       standing = refl;
       seq = refl;
@@ -308,21 +274,19 @@ take_starts t steps w standing ds r leads none layer shows = record {
       layer = λ seq there. absurd (subst (λ (l : Layer). InLayer l (id_of c seq)) none there);
     }
 
-pub take_ends : (t : Layout) (w : World) (standing : ℕ → Stand) (ds : List Delivered) (r : RouterView) →
-    IsTaking t w standing ds [] r → ds ≢ [] →
-    Takes w Made (taken w ds) × ShowsConnections r (record (taken w ds) { standing = standing })
-take_ends t w standing ds r is some = (
+pub take_ends : (t : Layout) (w : World) (ds : List Delivered) (r : RouterView) → IsTaking t w ds [] r → ds ≢ [] →
+    Takes w Made (taken w ds) × ShowsConnections r (taken w ds)
+take_ends t w ds r is some = (
   takes_layer w ds is.none (subst (λ l. IsLayer w.queue l) (append-nil ds) is.layer) some,
   record {
     opened = is.shows.opened;
     sessions = is.shows.sessions;
-    each = λ c. connection_alike (connection r c) (with_layer w standing (Taken ds)) (record (taken w ds) { standing = standing }) c
-        (alike c) (is.shows.each c);
+    each = λ c. connection_alike (connection r c) (with_layer w (Taken ds)) (taken w ds) c (alike c) (is.shows.each c);
     under_way = is.shows.under_way;
   },
 )
   where
-    alike : (c : ℕ) → Alike (with_layer w standing (Taken ds)) (record (taken w ds) { standing = standing }) c
+    alike : (c : ℕ) → Alike (with_layer w (Taken ds)) (taken w ds) c
     alike c = record {
       standing = refl;
       seq = refl;

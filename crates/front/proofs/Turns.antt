@@ -1,9 +1,8 @@
 -- Along a list: what stands at a place, what stands before it and what behind.
-use Rattle.std.proofs.Common.{◌≡◌, ◌<◌, ◌+◌, ℕ, zero, suc, List, [], ◌∷◌, ◌++◌, inl, inr, length, take, drop}
+use Rattle.std.proofs.Common.{◌≡◌, ◌<◌, ◌+◌, ℕ, suc, List, [], ◌∷◌, ◌++◌, length, take, drop}
 use Rattle.std.proofs.Common.{slice_index_or, sym, ap, ◌∙◌, subst, arith}
 use Rattle.std.proofs.Math.Seq.{drop-cons}
 use Rattle.std.proofs.lemmas.List.{take_more}
-use Rattle.groups.specs.Order.{In}
 
 -- it heads those behind
 pub turn_at : {X : Type 0} (xs : List X) (i : ℕ) (x : X) → i < length xs → x ≡ slice_index_or xs i x → drop i xs ≡ x ∷ drop (i + 1) xs
@@ -15,9 +14,3 @@ turn_at xs i x within is =
 pub passed_at : {X : Type 0} (xs : List X) (i : ℕ) (x : X) → i < length xs → x ≡ slice_index_or xs i x →
     take (i + 1) xs ≡ take i xs ++ x ∷ []
 passed_at xs i x within is = take_more xs i x within ∙ ap (λ y. take i xs ++ y ∷ []) (sym is)
-
--- it is one of them
-pub is_there : {X : Type 0} (xs : List X) (i : ℕ) (x : X) → i < length xs → x ≡ slice_index_or xs i x → In x xs
-is_there [] i x within is = absurd (omega arith)
-is_there (y ∷ xs) zero x within is = inl is
-is_there (y ∷ xs) (suc i) x within is = inr (is_there xs i x (omega arith) is)

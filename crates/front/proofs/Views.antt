@@ -9,9 +9,6 @@ seen f = record {
   router = f.router;
   multicast = roomless f.multicast;
   out = f.out.items;
-  rows = f.rows.rows;
-  starved = f.starved.items;
-  whole = f.whole;
   steps = f.steps;
   layers = f.layers;
 }

@@ -1,9 +1,11 @@
+pub mod Connections
+pub mod Multicast
+pub mod Layers
 pub mod Faults
 pub mod Fronts
 pub mod Making
 pub mod Refusing
 pub mod Settling
 pub mod Outcomes
-pub mod Room
 pub mod Taking
 pub mod Looking

@@ -1,7 +1,7 @@
 -- The outcomes of a layer go to their connections, one after another.
 use Rattle.std.specs.List.{AllZip}
-use Rattle.std.specs.Prelude.{◌≡◌, ℕ, List, [], ◌++◌, map, Some, option_map}
-use Rattle.front.specs.Fronts.{Told, retold}
+use Rattle.std.specs.Prelude.{◌≡◌, ℕ, List, [], ◌++◌, Some, option_map}
+use Rattle.front.specs.Settling.{IsToldBy}
 use Rattle.groups.specs.Order.{In}
 use Rattle.journal.specs.declared.step.Step.{Step}
 use Rattle.layer_results.specs.declared.done.DoneRow.{DoneRow}
@@ -10,7 +10,7 @@ use Rattle.resp.specs.Content.{content}
 use Rattle.router.specs.Router.{RouterView}
 use Rattle.router.specs.declared.outcome.Outcome as kept
 use Rattle.skeen_core.specs.Group.{EachOnce}
-use Rattle.system_view.specs.Connections.{ShowsConnections}
+use Rattle.front.specs.Connections.{ShowsConnections}
 use Rattle.world.specs.Steps.{opening, reply_of, settled, Leads}
 use Rattle.world.specs.World.{World, Standing, Closed, Ended, HasRun}
 use Rattle.world_laws.specs.Order.{ids_of}
@@ -31,12 +31,6 @@ pub record IsSettling (t : Layout) (w : World) (done back : List Ended) (standin
   pub closed : (c : ℕ) → w.standing c ≡ Closed → standing c ≡ Closed
   pub shows : ShowsConnections r (half_settled w done back standing)
 
--- the row tells what came of the request
-pub record IsToldBy (now : Told) (e : Ended) (row : DoneRow) : Type 0 where
-  pub id : row.id ≡ e.id
-  pub stamp : row.stamp ≡ e.stamp
-  pub reply : now e.id ≡ option_map content row.reply
-
 -- so much the connection of the row's request is given: the reply, or that there was no memory, with the stamp
 pub record Gives (row : DoneRow) (o : kept.Outcome) : Type 0 where
   pub id : o.id ≡ row.id
@@ -44,18 +38,17 @@ pub record Gives (row : DoneRow) (o : kept.Outcome) : Type 0 where
   pub stamp : o.stamp ≡ Some row.stamp
 
 -- these outcomes may go now
-pub record MaySettle (rows : List DoneRow) (r : RouterView) : Type 0 where
+pub record MayGo (rows : List DoneRow) (r : RouterView) : Type 0 where
   pub table : Layout
   pub world : World
-  pub now : Told
   pub done : List Ended
   pub es : List Ended
   pub standing : ℕ → Standing
-  pub told : AllZip (IsToldBy now) es rows
+  pub told : AllZip IsToldBy es rows
   pub settling : IsSettling table world done es standing r
 
 -- and have gone
-abbrev pub AreSettled : List DoneRow → RouterView → RouterView → Type 0
-AreSettled rows old new = (t : Layout) (w : World) (now : Told) (done es : List Ended) (standing : ℕ → Standing) →
-    AllZip (IsToldBy now) es rows → IsSettling t w done es standing old →
-    IsSettling t w (done ++ es) [] (settled (map (retold now) es) standing) new
+abbrev pub HaveGone : List DoneRow → RouterView → RouterView → Type 0
+HaveGone rows old new = (t : Layout) (w : World) (done es : List Ended) (standing : ℕ → Standing) →
+    AllZip IsToldBy es rows → IsSettling t w done es standing old →
+    IsSettling t w (done ++ es) [] (settled es standing) new

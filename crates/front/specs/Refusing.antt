@@ -1,6 +1,6 @@
 -- When a call of a front makes no step.
 use Rattle.std.specs.Prelude.{◌+◌, ◌<◌, List}
-use Rattle.front.specs.Fronts.{FrontView, Told, FrontIsAt}
+use Rattle.front.specs.Fronts.{FrontView, FrontIsAt}
 use Rattle.front.specs.declared.fault.FrontFault.{FrontFault}
 use Rattle.front.specs.declared.fault.FrontFault.TheVariants.{Busy, NoConn, NoPacket, InFlight, NoLayer, Memory}
 use Rattle.journal.specs.declared.step.Step.{Step}
@@ -12,11 +12,11 @@ use Rattle.world.specs.World.{World}
 
 -- in each world that the front is at the step is refused so
 abbrev pub Refuses : FrontView → Step → OwnFault → Type 0
-Refuses f step fault = (h : List Step) (w : World) (told : Told) → FrontIsAt f h w told → Refused w step fault
+Refuses f step fault = (h : List Step) (w : World) → FrontIsAt f h w → Refused w step fault
 
 -- in none of them does the step have a fault of its own
 abbrev pub RefusesNot : FrontView → Step → Type 0
-RefusesNot f step = (h : List Step) (w : World) (told : Told) → FrontIsAt f h w told → (fault : OwnFault) → ¬ Refused w step fault
+RefusesNot f step = (h : List Step) (w : World) → FrontIsAt f h w → (fault : OwnFault) → ¬ Refused w step fault
 
 -- the step may want memory: one that gives back what is there wants none
 abbrev pub WantsMemory : Step → Type 0

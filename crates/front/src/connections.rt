@@ -1,11 +1,12 @@
 //! Connections: opening them, what they collect, and closing them.
 
-ghost use Rattle.std.specs.Prelude.{◌≡◌, ◌<◌, ◌+◌, IfOk, IfErr, OnOk, OnErr};
-ghost use Rattle.front.specs.Making.{Makes, Collects};
+ghost use Rattle.std.specs.Prelude.{◌≡◌, IfOk, IfErr, OnOk, OnErr, option_map};
+ghost use Rattle.front.specs.Making.{Makes};
 ghost use Rattle.front.specs.Refusing.{IsFault, MayStep};
 ghost use Rattle.front.specs.declared.fault.FrontFault.{FrontFault};
 ghost use Rattle.journal.specs.declared.step.Step.{Step};
-ghost use Rattle.world.specs.Steps.{Opened, Made};
+ghost use Rattle.front.specs.Connections.{outcome_shown};
+ghost use Rattle.world.specs.Steps.{Opened, Collected, Made};
 
 use super::fault::FrontFault;
 use super::front::Front;
@@ -25,11 +26,11 @@ impl Front {
         Ok(conn)
     }
 
-    /// A connection takes the outcome of its request, if it is there: the reply is what the front was told of it. The only
-    /// error is `NoConn`, which changes nothing. It takes no memory.
+    /// A connection takes the outcome of its request, if it is there. The only error is `NoConn`, which changes nothing. It takes
+    /// no memory.
     pub fn collect(&mut self, conn: ConnId) -> Result<Option<Outcome>, FrontFault>
         requires { MayStep self.old }
-        ensures made { IfOk result (λ given. Collects self.old conn given self.new) }
+        ensures made { IfOk result (λ given. Makes self.old (Step.Collect conn) (Collected (option_map outcome_shown given)) self.new) }
         ensures refused { IfErr result (λ fault. (fault ≡ FrontFault.NoConn) × IsFault self.old (Step.Collect conn) fault) }
         ensures unchanged { OnErr result (self.new ≡ self.old) }
     {

@@ -29,7 +29,7 @@ pub enum FrontFault {
     #[error("a layer is not settled yet")]
     InFlight,
 
-    /// 5: no request is ready, or what is to be settled isn't what came of the layer that is out.
+    /// 5: no request is ready.
     #[error("there is no such layer")]
     NoLayer,
 

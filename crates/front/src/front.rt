@@ -3,8 +3,6 @@
 ghost use Rattle.std.specs.Prelude.{◌≡◌, IfOk};
 ghost use Rattle.front.specs.Fronts.{IsNew};
 
-use groups::SkipId;
-use journal::Rows;
 use multicast::Multicast;
 use placement::Table;
 use router::Router;
@@ -12,12 +10,11 @@ use skeen_core::Delivered;
 use std::alloc::{AllocError, Global};
 use std::marker::Model;
 
-/// Connections, groups with their packets and queues, the layer that is out, and what was settled.
+/// Connections, groups with their packets and queues, and the layer that is out.
 ///
 /// Contracts see its parts, how many of its calls made a step, and how many layers were settled. For some history of these
-/// steps and of a run of each of these layers it shows the world of that history, with what it was told of the layers in
-/// place of the replies. Its rows and names are those of all that was settled, unless the outcomes of a layer were handed on
-/// alone. How many more packets or rows fit without memory is no part of what contracts see.
+/// steps and of a run of each of these layers it shows the world of that history. How many more packets fit without memory is
+/// no part of what contracts see.
 #[derive(Drop)]
 pub struct Front {
     pub(super) alloc: Global,
@@ -25,9 +22,6 @@ pub struct Front {
     pub(super) router: Router,
     pub(super) multicast: Multicast,
     pub(super) out: Vec<Delivered>,
-    pub(super) rows: Rows,
-    pub(super) starved: Vec<SkipId>,
-    pub(super) whole: bool,
     pub(super) steps: u64,
     pub(super) layers: u64,
 }
@@ -47,9 +41,6 @@ impl Model for Front {
       router = f.router;
       multicast = roomless f.multicast;
       out = f.out.items;
-      rows = f.rows.rows;
-      starved = f.starved.items;
-      whole = f.whole;
       steps = f.steps;
       layers = f.layers;
     } };
@@ -59,9 +50,6 @@ impl Model for Front {
       router = f.router;
       multicast = roomless f.multicast;
       out = f.out.items;
-      rows = f.rows.rows;
-      starved = f.starved.items;
-      whole = f.whole;
       steps = f.steps;
       layers = f.layers;
     }) };
@@ -79,19 +67,8 @@ impl Front {
             router: Router::new(alloc),
             multicast,
             out: Vec::new(alloc),
-            rows: Rows::new(alloc),
-            starved: Vec::new(alloc),
-            whole: true,
             steps: 0,
             layers: 0,
         })
-    }
-
-    /// Takes the room for rows ahead, where half of what was taken last is used: then the requests that are under way find
-    /// theirs without memory, as long as they are no more than 256. The only error is want of memory.
-    pub fn take_room_ahead(&mut self) -> Result<(), AllocError>
-        ensures { self.new ≡ self.old }
-    {
-        self.rows.reserve_ahead()
     }
 }

@@ -1,12 +1,12 @@
 //! A layer is taken: what it asks goes out, and the front remembers which requests these are.
 
-ghost use Rattle.std.specs.Prelude.{◌≡◌, ◌≤◌, ℕ, [], length, vec_capacity, IfOk, IfErr, OnErr};
+ghost use Rattle.std.specs.Prelude.{◌≡◌, ◌≤◌, [], length, vec_capacity, IfOk, IfErr, OnErr};
 ghost use Rattle.front.specs.Refusing.{IsFault, MayStep};
 ghost use Rattle.front.specs.Taking.{IsTaking, Takes};
 ghost use Rattle.journal.specs.declared.step.Step.{Step};
 ghost use Rattle.placement.specs.Layout.{Layout};
-ghost use Rattle.system_view.specs.Layers.{AreJobs};
-ghost use Rattle.world.specs.World.{World, Standing};
+ghost use Rattle.front.specs.Layers.{AreJobs};
+ghost use Rattle.world.specs.World.{World};
 
 use super::fault::FrontFault;
 use super::front::Front;
@@ -52,10 +52,10 @@ impl Front {
 /// Takes the requests of a layer out of the router: what each asks, with its id, its stamp and its groups. There is room
 /// for all of them.
 fn take_all(router: &mut Router, ready: &[Delivered], jobs: &mut Vec<Job>)
-    requires waits { (t : Layout) × (w : World) × (standing : ℕ → Standing) × IsTaking t w standing [] ready.now router.old }
+    requires waits { (t : Layout) × (w : World) × IsTaking t w [] ready.now router.old }
     requires no_jobs { (jobs.old.items ≡ []) × (length ready.now ≤ vec_capacity jobs.old) }
-    ensures taken { (t : Layout) (w : World) (standing : ℕ → Standing) → IsTaking t w standing [] ready.now router.old
-        → IsTaking t w standing ready.now [] router.new × AreJobs w.asked ready.now jobs.new.items }
+    ensures taken { (t : Layout) (w : World) → IsTaking t w [] ready.now router.old
+        → IsTaking t w ready.now [] router.new × AreJobs w.asked ready.now jobs.new.items }
 {
     for request in ready {
         let Some(asked) = router.take(request.id) else {

@@ -4,7 +4,7 @@ ghost use Rattle.std.specs.Prelude.{◌≡◌, ◌≢◌, ◌↔◌, [], length,
 ghost use Rattle.delivery.specs.Queues.{queue_of};
 ghost use Rattle.delivery.specs.Ready.{IsReady};
 ghost use Rattle.front.specs.Fronts.{IsFront};
-ghost use Rattle.front.specs.Making.{SeesNoRun, MayBeRetold};
+ghost use Rattle.front.specs.Making.{SeesNoRun};
 ghost use Rattle.front.specs.Looking.{IsQuiet};
 ghost use Rattle.multicast.specs.Multicast.{group_of};
 ghost use Rattle.router.specs.Lists.{is_listing};
@@ -12,8 +12,7 @@ ghost use Rattle.router.specs.Router.{session_at, waiting};
 ghost use Rattle.skeen_core.specs.declared.packet.Delivered.{Delivered};
 
 use super::front::Front;
-use groups::{ConnId, GroupId, SkipId};
-use journal::Rows;
+use groups::{ConnId, GroupId};
 use placement::Table;
 use router::Outcome;
 use skeen_core::{Delivered, Packet};
@@ -21,13 +20,11 @@ use skeen_core::{Delivered, Packet};
 impl Front {
     /// It does nothing: its contract says what each front is.
     ///
-    /// Some history has led here, of the steps that its calls made and of a Run for each layer that was settled; and the
-    /// front shows the world of that history as it was told. It is at the same where its layer is run. And what it will be
-    /// told of requests that aren't settled yet may be said before.
+    /// Some history has led here, of the steps that its calls made and of a Run for each layer that was settled, and the front
+    /// shows its world. It is at the same where its layer is run.
     pub fn holds(&self)
         ensures is_front { IsFront self.now }
         ensures no_run { SeesNoRun self.now }
-        ensures retold { MayBeRetold self.now }
     {
         let _ = &self.router;
     }
@@ -100,21 +97,6 @@ impl Front {
         ensures { result ≡ is_listing (session_at self.now.router conn.0) }
     {
         self.router.has_list(conn)
-    }
-
-    /// The rows of what was executed and settled, in the order of execution.
-    pub fn rows(&self) -> &Rows
-        ensures { result.now.rows ≡ self.now.rows }
-    {
-        &self.rows
-    }
-
-    /// The names of what starved of the settled requests: of requests as a whole, and of members of those that were executed,
-    /// in the order in which their turns came.
-    pub fn starved(&self) -> &[SkipId]
-        ensures { result.now ≡ self.now.starved }
-    {
-        self.starved.as_slice()
     }
 
     /// Whether nothing is under way: no packet, no layer, and no request that is ready.

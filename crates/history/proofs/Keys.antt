@@ -1,5 +1,6 @@
 -- Which pens are spent, and what the entries of one history are.
-use Rattle.std.proofs.Common.{◌≡◌, ℕ, zero, suc, ◌<◌, ◌≤◌, ◌==◌, Bool, true, false, cond, List, [], ◌∷◌, ◌++◌, length, slice_set, refl, ap, subst, arith, sym, ◌∙◌, append_assoc}
+use Rattle.std.proofs.Common.{◌≡◌, ℕ, zero, suc, ◌<◌, ◌≤◌, ◌==◌, Bool, true, false, cond, List, [], ◌∷◌, ◌++◌, length, slice_set, refl}
+use Rattle.std.proofs.Common.{ap, subst, arith, sym, ◌∙◌, append_assoc}
 use mathlib.Core.List.{IsPrefix}
 use Rattle.logbook.specs.Pages.{Cell, cell}
 use Rattle.history.specs.declared.rule.Marked.{Marked}
@@ -16,7 +17,8 @@ Knows k pen v log = (entries k v ≡ entries k log) × (next_key k pen v ≡ nex
 abbrev pub Unspent : {E : Type 0} → ℕ → List Cell → ℕ → List (Marked E) → Type 0
 Unspent k cs pen v = (cell cs (next_key k pen v)).1 ≡ false
 
-pub all_known : {E : Type 0} (k : ℕ) (cs : List Cell) (pen : ℕ) (v log : List (Marked E)) → IsPrefix v log → Spent k cs pen log → Unspent k cs pen v → Knows k pen v log
+pub all_known : {E : Type 0} (k : ℕ) (cs : List Cell) (pen : ℕ) (v log : List (Marked E)) → IsPrefix v log → Spent k cs pen log
+    → Unspent k cs pen v → Knows k pen v log
 all_known k cs pen [] [] p s away = (refl, refl)
 all_known {E} k cs pen [] (m ∷ log) p s away = by_case (m.of == k) refl (λ rest. all_known k cs pen [] log (log, refl) rest away)
   where
@@ -28,7 +30,8 @@ all_known {E} k cs pen [] (m ∷ log) p s away = by_case (m.of == k) refl (λ re
 all_known k cs pen (x ∷ v) [] p s away = absurd (cc (p.1))
 all_known {E} k cs pen (x ∷ v) (m ∷ log) p s away =
     let heads : x ≡ m = cc (p.1) in
-    let rest = all_known k cs (cond (m.of == k) m.next pen) v log (p.0, cc (p.1)) s.1 (subst (λ (y : Marked E). (cell cs (next_key k (cond (y.of == k) y.next pen) v)).1 ≡ false) heads away) in
+    let rest = all_known k cs (cond (m.of == k) m.next pen) v log (p.0, cc (p.1)) s.1
+    (subst (λ (y : Marked E). (cell cs (next_key k (cond (y.of == k) y.next pen) v)).1 ≡ false) heads away) in
     subst (λ (y : Marked E). Knows k pen (y ∷ v) (m ∷ log)) (sym heads) (ap (λ es. cond (m.of == k) (m.entry ∷ es) es) rest.0, rest.1)
 
 -- ---- What is at home stays there
@@ -59,23 +62,28 @@ more_stays (d ∷ cs) c (suc i) h = more_stays cs c i h
 
 -- ---- One entry more
 
-pub spent_more : {E : Type 0} (k : ℕ) (cs : List Cell) (pen : ℕ) (log : List (Marked E)) (m : Marked E) → Spent k cs pen log → ((m.of == k) ≡ true → (cell cs (next_key k pen log)).1 ≡ true) → Spent k cs pen (log ++ m ∷ [])
+pub spent_more : {E : Type 0} (k : ℕ) (cs : List Cell) (pen : ℕ) (log : List (Marked E)) (m : Marked E) → Spent k cs pen log
+    → ((m.of == k) ≡ true → (cell cs (next_key k pen log)).1 ≡ true) → Spent k cs pen (log ++ m ∷ [])
 spent_more k cs pen [] m s h = (h, tt)
 spent_more k cs pen (x ∷ log) m s h = (s.0, spent_more k cs (cond (x.of == k) x.next pen) log m s.1 h)
 
-pub next_key_more : {E : Type 0} (k pen : ℕ) (log : List (Marked E)) (m : Marked E) → next_key k pen (log ++ m ∷ []) ≡ cond (m.of == k) m.next (next_key k pen log)
+pub next_key_more : {E : Type 0} (k pen : ℕ) (log : List (Marked E)) (m : Marked E)
+    → next_key k pen (log ++ m ∷ []) ≡ cond (m.of == k) m.next (next_key k pen log)
 next_key_more k pen [] m = refl
 next_key_more k pen (x ∷ log) m = next_key_more k (cond (x.of == k) x.next pen) log m
 
-more_or_not : {E : Type 0} (b c : Bool) (x e : E) (es : List E) → cond b (x ∷ cond c (es ++ e ∷ []) es) (cond c (es ++ e ∷ []) es) ≡ cond c (cond b (x ∷ es) es ++ e ∷ []) (cond b (x ∷ es) es)
+more_or_not : {E : Type 0} (b c : Bool) (x e : E) (es : List E) → cond b (x ∷ cond c (es ++ e ∷ []) es)
+    (cond c (es ++ e ∷ []) es) ≡ cond c (cond b (x ∷ es) es ++ e ∷ []) (cond b (x ∷ es) es)
 more_or_not true true x e es = refl
 more_or_not true false x e es = refl
 more_or_not false true x e es = refl
 more_or_not false false x e es = refl
 
-pub entries_more : {E : Type 0} (k : ℕ) (log : List (Marked E)) (m : Marked E) → entries k (log ++ m ∷ []) ≡ cond (m.of == k) (entries k log ++ m.entry ∷ []) (entries k log)
+pub entries_more : {E : Type 0} (k : ℕ) (log : List (Marked E)) (m : Marked E)
+    → entries k (log ++ m ∷ []) ≡ cond (m.of == k) (entries k log ++ m.entry ∷ []) (entries k log)
 entries_more k [] m = refl
-entries_more {E} k (x ∷ log) m = ap (λ (w : List E). cond (x.of == k) (x.entry ∷ w) w) (entries_more k log m) ∙ more_or_not (x.of == k) (m.of == k) x.entry m.entry (entries k log)
+entries_more {E} k (x ∷ log) m = ap (λ (w : List E). cond (x.of == k) (x.entry ∷ w) w) (entries_more k log m)
+    ∙ more_or_not (x.of == k) (m.of == k) x.entry m.entry (entries k log)
 
 -- its own history has the entry behind it
 pub own_more : {E : Type 0} (log : List (Marked E)) (m : Marked E) → entries m.of (log ++ m ∷ []) ≡ entries m.of log ++ m.entry ∷ []
@@ -85,7 +93,8 @@ pub own_next : {E : Type 0} (pen : ℕ) (log : List (Marked E)) (m : Marked E) �
 own_next pen log m = next_key_more m.of pen log m ∙ ap (λ (b : Bool). cond b m.next (next_key m.of pen log)) (same_number m.of)
 
 -- what was written is the entry, behind the entries before
-pub entries_written : {E : Type 0} (k : ℕ) (log longer : List (Marked E)) (m : Marked E) (e : E) → m.of ≡ k → m.entry ≡ e → entries m.of longer ≡ entries m.of log ++ m.entry ∷ [] → entries k log ++ e ∷ [] ≡ entries k longer
+pub entries_written : {E : Type 0} (k : ℕ) (log longer : List (Marked E)) (m : Marked E) (e : E) → m.of ≡ k → m.entry ≡ e
+    → entries m.of longer ≡ entries m.of log ++ m.entry ∷ [] → entries k log ++ e ∷ [] ≡ entries k longer
 entries_written {E} k log longer m e of entry more =
     subst (λ (i : ℕ). entries i log ++ e ∷ [] ≡ entries i longer) of (subst (λ (x : E). entries m.of log ++ x ∷ [] ≡ entries m.of longer) entry (sym more))
 
@@ -106,7 +115,8 @@ entries_prefix {E} k (x ∷ v) (m ∷ log) p =
     let rest = entries_prefix k v log (p.0, cc (p.1)) in
     let heads : x ≡ m = cc (p.1) in (
       rest.0,
-      cond_more (x.of == k) x.entry (entries k v) rest.0 ∙ (ap (λ (w : List E). cond (x.of == k) (x.entry ∷ w) w) rest.1 ∙ ap (λ (y : Marked E). cond (y.of == k) (y.entry ∷ entries k log) (entries k log)) heads),
+      cond_more (x.of == k) x.entry (entries k v) rest.0 ∙ (ap (λ (w : List E). cond (x.of == k) (x.entry ∷ w) w) rest.1
+          ∙ ap (λ (y : Marked E). cond (y.of == k) (y.entry ∷ entries k log) (entries k log)) heads),
     )
 
 pub prefix_trans : {A : Type 0} (xs ys zs : List A) → IsPrefix xs ys → IsPrefix ys zs → IsPrefix xs zs
@@ -123,7 +133,8 @@ prefix_between [] ys (z ∷ zs) p q e = absurd (cc e)
 prefix_between (x ∷ xs) [] zs p q e = absurd (cc (p.1))
 prefix_between (x ∷ xs) (y ∷ ys) [] p q e = absurd (cc e)
 prefix_between (x ∷ xs) (y ∷ ys) (z ∷ zs) p q e =
-    let rest : ys ≡ zs = prefix_between xs ys zs (p.0, cc (p.1)) (q.0, cc (q.1)) (cc e) in let heads : y ≡ z = first_same y z (ys ++ q.0) zs q.1 in cc (heads, rest)
+    let rest : ys ≡ zs = prefix_between xs ys zs (p.0, cc (p.1)) (q.0, cc (q.1)) (cc e) in
+    let heads : y ≡ z = first_same y z (ys ++ q.0) zs q.1 in cc (heads, rest)
 
 -- of two beginnings of a list the shorter one begins the longer one
 pub prefix_shorter : {A : Type 0} (xs ys zs : List A) → IsPrefix xs zs → IsPrefix ys zs → length xs ≤ length ys → IsPrefix xs ys

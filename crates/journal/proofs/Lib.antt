@@ -7,5 +7,4 @@ pub mod Written
 pub mod ReadBack
 pub mod OneReading
 pub mod Places
-pub mod Sending
 pub mod LongRows

@@ -1,7 +1,10 @@
 -- What the definition of a trace's text gives for every text.
-use Rattle.std.specs.Prelude.{◌≡◌, ℕ, List}
+use Rattle.std.specs.List.{AllByRecursion}
+use Rattle.std.specs.Prelude.{◌≡◌, ℕ, ◌<◌, ◌≤◌, ◌^◌, ◌++◌, List, length}
+use Rattle.journal.specs.Codes.{StepFits}
 use Rattle.journal.specs.declared.step.Step.{Step}
-use Rattle.journal.specs.TraceText.{Spells, IsBad}
+use Rattle.journal.specs.TraceText.{Spells, IsBad, head_text, lines_text, ended, end_line}
+use Rattle.journal.specs.declared.trace.TheConstants.{GREATEST_STEPS}
 
 -- a text spells one trace at most, whatever the version
 abbrev pub SpellsOne : Type 0
@@ -20,3 +23,8 @@ OneFault = (text : List ℕ) (line line' : ℕ) → IsBad text line → IsBad te
 -- and none of a text that spells a trace
 abbrev pub NoFaultOfTrace : Type 0
 NoFaultOfTrace = (text : List ℕ) (max line : ℕ) (steps : List Step) → Spells text max steps → IsBad text line → ⊥
+
+-- what stands before the steps, a line for each of them, and the last line spell the trace
+abbrev pub PiecesSpell : Type 0
+PiecesSpell = (max : ℕ) (steps : List Step) → 1 ≤ max → max ≤ GREATEST_STEPS → length steps < 2 ^ 64 → AllByRecursion StepFits steps
+    → Spells (head_text max ++ (lines_text steps ++ ended (end_line (length steps)))) max steps

@@ -80,6 +80,13 @@ end_line count = codes "end " ++ decimal count
 abbrev pub ended : List ℕ → List ℕ
 ended line = line ++ 10 ∷ []
 
+-- what stands before the steps, and a line for each of them
+abbrev pub head_text : ℕ → List ℕ
+head_text max = ended (first_line WRITTEN_VERSION) ++ ended (max_line max)
+
+abbrev pub lines_text : List Step → List ℕ
+lines_text steps = flat_map (λ step. ended (step_line step)) steps
+
 abbrev pub trace_text : ℕ → List Step → List ℕ
 trace_text max steps = flat_map ended (first_line WRITTEN_VERSION ∷ max_line max ∷ (map step_line steps ++ end_line (length steps) ∷ []))
 

@@ -1,13 +1,11 @@
 //! Steps and the heads of rows in bytes: how many they take, and how they are put and taken.
 
-ghost use Rattle.std.specs.Prelude.{◌≡◌, ◌+◌, ◌≤◌, ◌<◌, ◌^◌, ◌++◌, List, length, vec_len, vec_capacity, MatchOption, IfOk, IsOk, OnOk};
-ghost use Rattle.std.specs.Prelude.{OnErr, IfSome};
-ghost use Rattle.journal.specs.Codes.{id_code, id_at, skip_code, skip_at, skips_code, skips_at, submit_at, step_code, step_at, step_size};
+ghost use Rattle.std.specs.Prelude.{◌≡◌, ◌+◌, ◌≤◌, ◌<◌, ◌^◌, ◌++◌, length, vec_len, vec_capacity, MatchOption, IfOk, IsOk, OnOk};
+ghost use Rattle.std.specs.Prelude.{OnErr};
+ghost use Rattle.journal.specs.Codes.{id_code, id_at, skip_code, skip_at, skips_code, skips_at, submit_at, step_code, step_at};
 ghost use Rattle.journal.specs.Codes.{SkipFits, SkipsFit, StepFits, head_code, HeadFits};
 ghost use Rattle.journal.specs.Names.{IsNumbered, AreNumbered};
 ghost use Rattle.packing.specs.Codes.{number_code};
-ghost use Rattle.journal.specs.declared.step.Step.{Step};
-ghost use Rattle.groups.specs.declared.skip_id.SkipId.{SkipId};
 
 use super::skip_ids::SkipIds;
 use super::step::Step;
@@ -140,17 +138,6 @@ fn take_skips(alloc: Global, bytes: &[u8]) -> Result<(Vec<SkipId>, &[u8]), Alloc
         rest = more;
     }
     Ok((names, rest))
-}
-
-/// How many bytes a Run takes at most, at which at most so many requests and members starved; `None` where that may be
-/// 2^64 or more.
-pub fn size_of_run(starved: usize) -> Option<usize>
-    ensures { IfSome result (λ size. (names : List SkipId) → length names ≤ starved → step_size (Step.Run names) ≤ size) }
-{
-    if starved > usize::MAX / 32 {
-        return None;
-    }
-    Some(10 + 27 * starved)
 }
 
 /// How many bytes a step takes; `None` where that is 2^64 or more.

@@ -1,7 +1,6 @@
-//! Why a text is no trace, and why a trace's text wasn't written.
+//! Why a text is no trace.
 
 ghost use Rattle.std.specs.Prelude.{◌≡◌};
-ghost use Rattle.journal.specs.declared.fault.SendFault.TheVariants as send_fault;
 ghost use Rattle.journal.specs.declared.fault.TraceFault.TheVariants.{Memory};
 
 use std::alloc::AllocError;
@@ -25,25 +24,5 @@ impl From<AllocError> for TraceFault {
 
     fn from(_e: AllocError) -> TraceFault {
         TraceFault::Memory
-    }
-}
-
-/// Why a trace's text wasn't written; a part of it may have been. The numbers are 1 and 2.
-#[derive(Clone, Copy, Debug, PartialEq, Eq, Error)]
-pub enum SendFault {
-    /// 1: no memory was left for a piece of it.
-    #[error("out of memory")]
-    Memory,
-
-    /// 2: a write failed, or took nothing.
-    #[error("a write failed")]
-    Write,
-}
-
-impl From<AllocError> for SendFault {
-    ghost from_gives = { λ _ fault. fault ≡ send_fault.Memory };
-
-    fn from(_e: AllocError) -> SendFault {
-        SendFault::Memory
     }
 }

@@ -1,7 +1,7 @@
-//! What the trace's text promises beside its calls: it is read in one way, and what was written is read back.
+//! What the trace's text promises beside its calls: it is read in one way, what was written is read back, and pieces are a whole.
 
 ghost use Rattle.std.specs.Prelude.{◌≡◌, IfOk};
-ghost use Rattle.journal.specs.Laws.{SpellsOne, OneVersion, OneFault, NoFaultOfTrace};
+ghost use Rattle.journal.specs.Laws.{SpellsOne, OneVersion, OneFault, NoFaultOfTrace, PiecesSpell};
 
 use super::fault::TraceFault;
 use super::reader::read_trace;
@@ -16,6 +16,11 @@ pub fn one_reading()
     ensures one_version { OneVersion }
     ensures one_fault { OneFault }
     ensures not_both { NoFaultOfTrace }
+{}
+
+/// What stands before the steps of a trace, a line for each of them, and the last line are a text that spells it.
+pub fn pieces_spell()
+    ensures { PiecesSpell }
 {}
 
 /// Writes the trace's text and reads it. What is read is the trace: the only error is want of memory.

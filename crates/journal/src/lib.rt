@@ -1,8 +1,8 @@
 //! What happens in the system, as data: the steps that are made, and what each executed request came to.
 //!
 //! A run of the system is a list of steps. Whoever has the list can run it again, and gets the same replies and
-//! contents. Both the list of steps and the rows of what was executed grow with each request and are kept for good,
-//! so they lie in few bytes.
+//! contents. Both the list of steps and the rows of what was executed grow with each request, so they lie in few
+//! bytes.
 #![tactic(auto)]
 
 mod codes;
@@ -12,6 +12,7 @@ mod lines;
 mod long_rows;
 mod packed_rows;
 mod parts;
+mod pieces;
 mod reader;
 mod row;
 mod rows;
@@ -21,12 +22,13 @@ mod trace;
 mod version;
 mod writer;
 
-pub use fault::{SendFault, TraceFault};
-pub use laws::{one_reading, read_back};
+pub use fault::TraceFault;
+pub use laws::{one_reading, pieces_spell, read_back};
+pub use pieces::{write_end, write_head, write_lines};
 pub use reader::read_trace;
 pub use row::Row;
 pub use rows::Rows;
 pub use skip_ids::SkipIds;
 pub use step::Step;
 pub use trace::{GREATEST_STEPS, Steps, Trace};
-pub use writer::{send_trace, write_trace};
+pub use writer::write_trace;

@@ -1,6 +1,6 @@
 //! What one executed request came to.
 
-ghost use Rattle.std.specs.Prelude.{◌≡◌, ◌<◌, ◌↔◌, length, slice_get, IsTrue, Some, IfOk};
+ghost use Rattle.std.specs.Prelude.{◌≡◌, ◌<◌, length, slice_get, Some, IfOk};
 ghost use Rattle.journal.specs.Codes.{row_of, RowIsIn};
 ghost use Rattle.journal.specs.LongRows.{text_or, whole};
 
@@ -117,13 +117,6 @@ impl<'a> Row<'a> {
             rest = take_word(rest).1;
         }
         take_word(rest).0
-    }
-
-    /// Whether both have the same words. It looks at each byte of them once.
-    pub fn has_same_words(&self, other: &Row<'_>) -> bool
-        ensures { IsTrue result ↔ (self.now.words ≡ other.now.words) }
-    {
-        self.words == other.words
     }
 
     /// A copy of the request; `AllocError` where there is no memory for it.

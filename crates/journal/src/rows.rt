@@ -4,7 +4,6 @@ ghost use Rattle.std.specs.Prelude.{◌≡◌, ◌+◌, ◌≤◌, ◌<◌, ◌+
 ghost use Rattle.resp.specs.Content.{content};
 ghost use Rattle.resp.specs.Text.{text};
 ghost use Rattle.journal.specs.Views.{row_view};
-ghost use Rattle.journal.specs.declared.rows.TheConstants.{ROWS_AHEAD};
 
 use super::codes::GREATEST_HEAD;
 use super::long_rows::{LONG_WORDS, LongRow, long_at};
@@ -18,9 +17,6 @@ use std::marker::Model;
 
 /// The greatest number of bytes that a row takes among the packed ones: words and texts that are longer lie beside them.
 const GREATEST_ROW: usize = GREATEST_HEAD + LONG_WORDS + LONG;
-
-/// For how many more rows there is room at least, once it was taken ahead.
-const ROWS_AHEAD: usize = 256;
 
 /// The rows of what was executed, in the order in which they were added. Contracts see the list of them, and how many
 /// more fit without memory.
@@ -85,18 +81,6 @@ impl Rows {
         self.packed.reserve(count, size)?;
         self.room = count;
         Ok(())
-    }
-
-    /// Takes the room for 256 more rows, where there is less: then for twice as many, so that it is seldom taken. The only error
-    /// is want of memory, which leaves the rows as they were.
-    pub fn reserve_ahead(&mut self) -> Result<(), AllocError>
-        ensures rows { self.new.rows ≡ self.old.rows }
-        ensures room { OnOk result (ROWS_AHEAD ≤ self.new.room) }
-    {
-        if ROWS_AHEAD <= self.room {
-            return Ok(());
-        }
-        self.reserve(2 * ROWS_AHEAD)
     }
 
     /// Adds a row behind the others, for which there is room: the words, and the reply's text. Where this text lies in a

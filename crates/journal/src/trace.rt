@@ -1,24 +1,21 @@
 //! The steps that were made, in order, to be made again by whoever has them.
 
-ghost use Rattle.std.specs.Prelude.{◌≡◌, ℕ, ◌+◌, ◌≤◌, ◌<◌, ◌^◌, ◌++◌, List, [], ◌∷◌, length, OnOk, OnErr, IfOk, IsOk};
-ghost use Rattle.std.specs.Prelude.{MatchOption, IsTrue, ◌↔◌};
+ghost use Rattle.std.specs.Prelude.{◌≡◌, ◌+◌, ◌≤◌, ◌<◌, ◌^◌, ◌++◌, List, [], ◌∷◌, length, OnOk, OnErr, IfOk, IsOk};
+ghost use Rattle.std.specs.Prelude.{MatchOption};
 ghost use Rattle.std.specs.List.{AllByRecursion};
 ghost use Rattle.journal.specs.Codes.{step_size, steps_size, StepFits};
 ghost use Rattle.journal.specs.declared.step.Step.{Step};
-ghost use Rattle.groups.specs.declared.skip_id.SkipId.{SkipId};
 
-use super::codes::{put_step, reserve_step, size_of_run, take_step};
+use super::codes::{put_step, reserve_step, take_step};
 use super::step::Step;
-use groups::ConnId;
-use packing::{PackedWords, grow, number_size};
+use packing::grow;
 use std::alloc::{AllocError, Global};
 use std::marker::Model;
 
 /// At most so many steps may be made, so that no clock and no number of a connection or a request passes 64 bits.
 pub const GREATEST_STEPS: u64 = 1 << 62;
 
-/// The steps that were made, in order, and at most how many may be made, from 1 to [`GREATEST_STEPS`]. They are kept
-/// for good. Contracts see beside them how many more bytes fit without memory.
+/// The steps that were made, in order, and at most how many may be made, from 1 to [`GREATEST_STEPS`]. Contracts see beside them how many more bytes fit without memory.
 #[derive(Drop)]
 pub struct Trace {
     max: u64,
@@ -117,25 +114,6 @@ impl Trace {
         Ok(())
     }
 
-    /// Takes the room for a Run at which at most so many requests and members starved, and for so many bytes more, so that a
-    /// push that keeps these can't fail. The only error is want of memory, which changes nothing.
-    pub fn reserve_run(&mut self, starved: usize, kept: usize) -> Result<(), AllocError>
-        ensures max { self.new.max ≡ self.old.max }
-        ensures steps { self.new.steps ≡ self.old.steps }
-        ensures room { OnOk result ((names : List SkipId) → length names ≤ starved
-            → step_size (Step.Run names) + kept ≤ self.new.room) }
-        ensures room_kept { self.old.room ≤ self.new.room }
-        ensures unchanged { OnErr result (self.new ≡ self.old) }
-    {
-        let Some(size) = size_of_run(starved) else {
-            return Err(AllocError);
-        };
-        let Some(size) = size.checked_add(kept) else {
-            return Err(AllocError);
-        };
-        grow(&mut self.bytes, size)
-    }
-
     /// How many bytes the steps take, which is the place at which the next one begins.
     pub fn size(&self) -> usize
         ensures { result ≡ steps_size self.now.steps }
@@ -155,22 +133,25 @@ impl Trace {
         self.count -= 1;
     }
 
-    /// Whether the connection's Submit that begins at this place has these words. It takes no memory.
-    pub fn has_words(&self, place: usize, conn: ConnId, words: &PackedWords) -> bool
-        ensures { (front : List Step) (said : List (List ℕ)) (back : List Step)
-            → self.now.steps ≡ front ++ Step.Submit conn said ∷ back → place ≡ steps_size front
-            → IsTrue result ↔ (words.now ≡ said) }
+    /// Takes back all steps, and leaves the room that they took.
+    pub fn clear(&mut self)
+        ensures max { self.new.max ≡ self.old.max }
+        ensures steps { self.new.steps ≡ [] }
+        ensures room { self.old.room ≤ self.new.room }
     {
-        let lies = self.bytes.as_slice();
-        let words = words.as_bytes();
-        if words.is_empty() {
-            return false;
-        }
-        let start = place.saturating_add(1 + number_size(conn.0));
-        if start > lies.len() {
-            return false;
-        }
-        lies[start..].starts_with(words)
+        self.bytes.clear();
+        self.count = 0;
+    }
+
+    /// Takes room for so many bytes. The only error is want of memory, which changes nothing.
+    pub fn reserve_bytes(&mut self, bytes: usize) -> Result<(), AllocError>
+        ensures max { self.new.max ≡ self.old.max }
+        ensures steps { self.new.steps ≡ self.old.steps }
+        ensures room { OnOk result (bytes ≤ self.new.room) }
+        ensures room_kept { self.old.room ≤ self.new.room }
+        ensures unchanged { OnErr result (self.new ≡ self.old) }
+    {
+        grow(&mut self.bytes, bytes)
     }
 
     /// The steps, to be read one after another from the first. A caller learns that their numbers, words and names lie

@@ -1,11 +1,9 @@
 //! Writing a trace's text.
 
 ghost use Rattle.std.specs.Prelude.{◌≡◌, ℕ, [], ◌∷◌, ◌++◌, List, OnOk, OnErr, decimal};
-ghost use Rattle.std.specs.Io.KnownBytes.{Appends, Keeps, append_known};
 ghost use Rattle.std.specs.List.{flat_map};
 ghost use Rattle.journal.specs.TraceText.{word_text, id_text, skip_text, step_line, ended, trace_text, Spells};
 
-use super::fault::SendFault;
 use super::step::Step;
 use super::trace::{Steps, Trace};
 use super::version::WRITTEN_VERSION;
@@ -13,7 +11,6 @@ use groups::{RequestId, SkipId};
 use itoa::Buffer;
 use resp::Request;
 use std::alloc::{AllocError, Global};
-use std::io::Write;
 
 /// Appends the trace's text, which spells the trace. With `AllocError`, where there is no memory for all of it, `out`
 /// is as it was.
@@ -30,65 +27,6 @@ pub fn write_trace(trace: &Trace, out: &mut Vec<u8>) -> Result<(), AllocError>
     written
 }
 
-/// About how many bytes of a trace's text are in memory at once.
-const PIECE: usize = 64 * 1024;
-
-/// Writes the trace's text, which spells the trace, by pieces of some 64 KiB, or of one step where that is longer. With
-/// an error a part of it may have been written.
-pub fn send_trace<W: Write>(alloc: Global, trace: &Trace, writer: &mut W) -> Result<(), SendFault>
-    ensures ok { OnOk result (Appends (W.contents writer.old) (W.contents writer.new)
-        (trace_text trace.now.max trace.now.steps)) }
-    ensures spells { OnOk result (Spells (trace_text trace.now.max trace.now.steps) trace.now.max trace.now.steps) }
-{
-    let mut piece = Vec::with_capacity(alloc, PIECE)?;
-    put_numbered(b"shardkv-trace ", WRITTEN_VERSION, &mut piece)?;
-    put_numbered(b"max ", trace.max(), &mut piece)?;
-    send_steps(alloc, trace.steps(), &mut piece, writer)?;
-    put_numbered(b"end ", trace.len() as u64, &mut piece)?;
-    send(writer, &mut piece)
-}
-
-/// Writes what was put and a line for each step, but for the end of it, which is left put.
-fn send_steps<W: Write>(
-    alloc: Global,
-    mut steps: Steps<'_>,
-    piece: &mut Vec<u8>,
-    writer: &mut W,
-) -> Result<(), SendFault>
-    ensures { OnOk result (Appends (append_known (W.contents writer.old) piece.old.items)
-        (append_known (W.contents writer.new) piece.new.items) (flat_map (λ step. ended (step_line step)) steps.entry)) }
-{
-    while let Some(step) = steps.next(alloc)? {
-        put_step(alloc, &step, piece)?;
-        send_if_full(writer, piece)?;
-    }
-    Ok(())
-}
-
-/// Writes what was put where it is a piece.
-fn send_if_full<W: Write>(writer: &mut W, piece: &mut Vec<u8>) -> Result<(), SendFault>
-    ensures { OnOk result (Keeps (append_known (W.contents writer.old) piece.old.items)
-        (append_known (W.contents writer.new) piece.new.items)) }
-{
-    if piece.len() < PIECE {
-        return Ok(());
-    }
-    send(writer, piece)
-}
-
-/// Writes what was put, of which nothing is left put.
-fn send<W: Write>(writer: &mut W, piece: &mut Vec<u8>) -> Result<(), SendFault>
-    ensures sent { OnOk result (Appends (W.contents writer.old) (W.contents writer.new) piece.old.items) }
-    ensures empty { OnOk result (piece.new.items ≡ []) }
-{
-    let Ok(()) = writer.write_all(piece.as_slice()) else {
-        return Err(SendFault::Write);
-    };
-    piece.clear();
-    piece.shrink_to(PIECE);
-    Ok(())
-}
-
 /// Appends the trace's text, or a part of it where there is no memory for all.
 fn put_trace(trace: &Trace, out: &mut Vec<u8>) -> Result<(), AllocError>
     ensures ok { OnOk result (out.new.items ≡ out.old.items ++ trace_text trace.now.max trace.now.steps) }
@@ -103,7 +41,11 @@ fn put_trace(trace: &Trace, out: &mut Vec<u8>) -> Result<(), AllocError>
 }
 
 /// Appends a line for each step.
-fn put_steps(alloc: Global, mut steps: Steps<'_>, out: &mut Vec<u8>) -> Result<(), AllocError>
+pub(super) fn put_steps(
+    alloc: Global,
+    mut steps: Steps<'_>,
+    out: &mut Vec<u8>,
+) -> Result<(), AllocError>
     ensures ok { OnOk result (out.new.items ≡ out.old.items ++ flat_map (λ step. ended (step_line step)) steps.entry) }
     ensures err { OnErr result ((more : List ℕ) × (out.new.items ≡ out.old.items ++ more)) }
 {
@@ -142,7 +84,7 @@ fn put_step(alloc: Global, step: &Step, out: &mut Vec<u8>) -> Result<(), AllocEr
 }
 
 /// Appends a line of a name, with its space, and a number.
-fn put_numbered(name: &[u8], number: u64, out: &mut Vec<u8>) -> Result<(), AllocError>
+pub(super) fn put_numbered(name: &[u8], number: u64, out: &mut Vec<u8>) -> Result<(), AllocError>
     ensures ok { OnOk result (out.new.items ≡ out.old.items ++ ended (name.now ++ decimal number)) }
     ensures err { OnErr result ((more : List ℕ) × (out.new.items ≡ out.old.items ++ more)) }
 {

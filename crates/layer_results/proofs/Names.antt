@@ -6,7 +6,7 @@ use Rattle.std.specs.Str.{bytes_eq}
 use Rattle.std.proofs.lemmas.List.{append_assoc, append-nil, length-map, length-take-le, map-append, map_push, take-map, take_min, take_more}
 use Rattle.std.proofs.lemmas.List.{take-append-drop}
 use Rattle.std.proofs.lemmas.List.Concat.{flat_map-append}
-use Rattle.batches.specs.Starved.{is_want, wants_from, wants_in, starved_in}
+use Rattle.tasks.specs.Starved.{is_want, wants_from, wants_in, starved_in}
 use Rattle.command_table.specs.Reading.{reading}
 use Rattle.command_table.specs.CommandRow.{Reading}
 use Rattle.command_table.specs.Words.{Word}

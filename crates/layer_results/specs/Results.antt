@@ -2,7 +2,7 @@
 use Rattle.std.specs.Prelude.{◌≡◌, ℕ, List, [], ◌∷◌, length, map, Option, Some, None, option_map, if◌then◌else◌}
 use Rattle.std.specs.List.{AllZip, flat_map}
 use Rattle.std.specs.Str.{bytes_eq}
-use Rattle.batches.specs.Starved.{wants_in}
+use Rattle.tasks.specs.Starved.{wants_in}
 use Rattle.groups.specs.declared.request.RequestId.{RequestId}
 use Rattle.groups.specs.declared.skip_id.SkipId.{SkipId}
 use Rattle.groups.specs.declared.skip_id.SkipId.TheVariants.{Whole, Part}

@@ -1,6 +1,6 @@
 -- Which of some replies say that there was no memory.
 use Rattle.std.specs.Prelude.{ℕ, suc, List, [], ◌∷◌, if◌then◌else◌}
-use Rattle.batches.specs.Starved.{is_want}
+use Rattle.tasks.specs.Starved.{is_want}
 use Rattle.resp.specs.Content.{Content}
 
 -- their numbers, where the first one has the number n

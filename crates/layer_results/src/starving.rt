@@ -1,7 +1,7 @@
 //! What starved of a request.
 
 ghost use Rattle.std.specs.Prelude.{◌≡◌, ◌+◌, ◌≤◌, ◌++◌, length, map, vec_len, vec_capacity};
-ghost use Rattle.batches.specs.Starved.{wants_in};
+ghost use Rattle.tasks.specs.Starved.{wants_in};
 ghost use Rattle.groups.specs.declared.skip_id.SkipId.TheVariants.{Part};
 ghost use Rattle.layer_results.specs.Results.{member_count, row_names};
 ghost use Rattle.layer_results.specs.Wants.{wants_among};
@@ -9,10 +9,10 @@ ghost use Rattle.resp.specs.Content.{content};
 
 use super::done::DoneRow;
 use super::members::member_count;
-use batches::is_want_reply;
 use groups::{RequestId, SkipId};
 use packing::PackedRequest;
 use resp::Reply;
+use tasks::is_want_reply;
 
 /// How many names a row tells.
 // Inlined, as `push_row_names` and `places`: most replies are no arrays.

@@ -8,7 +8,6 @@ ghost use Rattle.list_commands.specs.ListCommand.{item_at, place_in, several};
 ghost use Rattle.integers.specs.Range.{range_items};
 ghost use Rattle.resp.specs.Content.{content, text_or_null};
 
-use crate::lists::item_at;
 use command_cases::{Starved, count_reply, wrong_type_reply};
 use integers::range_of;
 use keyspace::Keyspace;
@@ -127,20 +126,17 @@ fn copies(alloc: Global, list: &ListValue, from: usize, to: usize) -> Result<Bul
     requires within { to ≤ length list.now }
     ensures { IfOk result (λ texts. texts ≡ map Some (slice_range list.now from to)) }
 {
-    let mut texts = BulkTexts::with_room(alloc, texts_size(list, from, to))?;
-    for place in from..to {
-        texts.push(item_at(list, place))?;
-    }
-    Ok(texts)
+    let (head, tail) = list.slices(from, to);
+    let size = texts_size(head).saturating_add(texts_size(tail));
+    let texts = BulkTexts::with_room(alloc, size)?.with_all(head)?;
+    Ok(texts.with_all(tail)?)
 }
 
-/// The number of bytes of the items' texts from one place to before another, or the greatest number.
-fn texts_size(list: &ListValue, from: usize, to: usize) -> usize {
+/// The number of bytes of the texts of these as bulk strings, or the greatest number.
+fn texts_size(items: &[Vec<u8>]) -> usize {
     let mut size: usize = 0;
-    for place in from..to {
-        if let Some(item) = list.item(place) {
-            size = size.saturating_add(bulk_size(item));
-        }
+    for item in items {
+        size = size.saturating_add(bulk_size(item.as_slice()));
     }
     size
 }

@@ -97,10 +97,12 @@ impl Multicast {
         self.links.len()
     }
 
-    /// Takes the room for `count` more packets. The only error is want of memory; nothing but the room changes.
+    /// Takes the room for `count` more packets. The only error is want of memory, which is wanted only where there is less; nothing but
+    /// the room changes.
     pub fn reserve(&mut self, count: usize) -> Result<(), AllocError>
         ensures same { IsSame self.old self.new }
         ensures room { OnOk result (count ≤ self.new.room) }
+        ensures succeeds { count ≤ self.old.room → IsOk result }
     {
         self.links.reserve(count)
     }

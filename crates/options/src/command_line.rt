@@ -9,11 +9,11 @@ ghost use Rattle.options.specs.CommandLine.{SaysOr, IsAddress, IsNoAddress, IsNo
 ghost use Rattle.options.specs.CommandLine.{a_u16, a_u64, app_named, flag_named, needed_named, number_named, option_named};
 ghost use Rattle.options.specs.declared.fault.OptionsFault.TheVariants as options_fault;
 
+use crate::VERSION;
 use crate::fault::OptionsFault;
 use clap::{Arg, ArgAction, ArgMatches, Command, value_parser};
 use std::alloc::Global;
 use std::net::IpAddr;
-use version::VERSION;
 
 /// The workers where the words name none.
 pub(crate) const WORKERS: u64 = 1;

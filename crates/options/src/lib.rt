@@ -9,3 +9,6 @@ pub mod replay;
 pub mod server;
 
 pub use fault::OptionsFault;
+
+/// The project's version, which each of its programs tells by `--version`.
+pub const VERSION: &str = "0.1.0";

@@ -5,7 +5,7 @@ ghost use Rattle.clap.specs.Words.{app_of, fault_of, found_of, rows_of};
 ghost use Rattle.options.specs.Replay.{AreSaid, AreSaidBy, IsRefusal, Lacks, line};
 
 use crate::command_line::{
-    GREATEST_WORKERS, WORKERS, named, needed, number, number_within, value_in,
+    GREATEST_WORKERS, WORKERS, flag, flag_in, named, needed, number, number_within, value_in,
 };
 use crate::fault::OptionsFault;
 use clap::{ArgMatches, Command};
@@ -23,12 +23,16 @@ pub struct Asked<'a> {
 
     /// How many workers: 1 to 64, and 1 where the words say nothing.
     pub workers: u8,
+
+    /// Whether the trace may be cut, as a killed server leaves it.
+    pub part: bool,
 }
 
-/// Reads the words, of which the first is the program's name: `--table FILE --trace FILE`, and `--workers N` from 1 to 64.
+/// Reads the words, of which the first is the program's name: `--table FILE --trace FILE`, `--workers N` from 1 to 64, and
+/// `--part`.
 ///
-/// What they say is what `clap` finds in them by the command line's options, each of which takes a value; where they
-/// name no workers there is one.
+/// What they say is what `clap` finds in them by the command line's options, each of which but `--part` takes a value; where
+/// they name no workers there is one.
 pub fn read_options<'a, S: AsStr>(alloc: Global, words: &'a [S]) -> Result<Asked<'a>, OptionsFault>
     ensures least { IfOk result (λ options. 1 ≤ options.workers) }
     ensures most { IfOk result (λ options. options.workers ≤ 64) }
@@ -52,10 +56,13 @@ fn line<'a>(alloc: Global) -> Result<Command<'a>, AllocError>
     let trace = needed(alloc, "trace", "FILE", "The trace");
     let workers = "How many workers, 1 to 64 [default: 1]";
     let workers = number(alloc, "workers", "N", workers);
+    let part = "The trace may be cut, as a killed server leaves it in FILE.part";
+    let part = flag(alloc, "part", part);
     named(alloc, "shardkv-replay")
         .arg(table)?
         .arg(trace)?
-        .arg(workers)
+        .arg(workers)?
+        .arg(part)
 }
 
 /// What the options that were given ask for.
@@ -76,5 +83,6 @@ fn asked_in<'a>(found: &ArgMatches<'a>) -> Result<Asked<'a>, OptionsFault>
         table,
         trace,
         workers: workers as u8,
+        part: flag_in(found, "part"),
     })
 }

@@ -1,6 +1,6 @@
 -- The layers that a history ran keep the law of a store's layers.
 use Rattle.std.proofs.Common.{◌≡◌, true, false, List, [], ◌∷◌, inl, inr, Option, Some, None, refl, sym, ap, ◌∙◌, subst}
-use Rattle.batches.specs.Starved.{starved_in}
+use Rattle.tasks.specs.Starved.{starved_in}
 use Rattle.execution_order.specs.Entries.{Entry, Row, entries_of, Touch, InOrder, IsAddressed, AreAddressed}
 use Rattle.execution_order.specs.Rows.{IsOneThread}
 use Rattle.groups.proofs.Stamps.{lt_asym}

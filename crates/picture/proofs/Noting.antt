@@ -41,8 +41,8 @@ use Rattle.system.specs.declared.effect.Effect.{Effect}
 use Rattle.system.specs.declared.effect.Effect.TheVariants as effect
 use Rattle.system.specs.declared.stage.Stage.{Stage}
 use Rattle.system.specs.declared.stage.Stage.TheVariants as stage
-use Rattle.system_view.specs.Connections.{ShowsClosed, ShowsConnection, ShowsOpen, outcome_shown}
-use Rattle.system_view.specs.Layers.{AreJobs}
+use Rattle.front.specs.Connections.{ShowsClosed, ShowsConnection, ShowsOpen, outcome_shown}
+use Rattle.front.specs.Layers.{AreJobs}
 use Rattle.world.specs.Steps.{RunInTurn, RunsLayer, Steps, answer_to, map_after, opening, remembered, starved_among}
 use Rattle.world.specs.Steps as world
 use Rattle.world.specs.World.{World, Ended, NoneTaken, Taken, HasRun}
@@ -53,15 +53,15 @@ use Rattle.world_laws.specs.Good.{Asked}
 waits_open : (st : Standing) (v : Connection) (w : World) (c : ℕ) → ShowsOpen st v w c →
     is_some (outcome_in st) ≡ is_answered (w.standing c)
 waits_open router.Idle v w c is = sym (ap is_answered is.0)
-waits_open (router.Waiting p) v w c is = sym (ap is_answered is.0)
-waits_open (router.Taken words) v w c is = sym (ap is_answered is.0)
+waits_open (router.Waiting asked) v w c is = sym (ap is_answered is.0)
+waits_open router.Taken v w c is = sym (ap is_answered is.0)
 waits_open (router.Answered o) v w c is = sym (ap is_answered is.0)
 
 waits_closed : (st : Standing) (v : Connection) (w : World) (c : ℕ) → ShowsClosed st v w c →
     is_some (outcome_in st) ≡ is_answered (w.standing c)
 waits_closed router.Idle v w c is = absurd is
-waits_closed (router.Waiting p) v w c is = sym (ap is_answered is.0)
-waits_closed (router.Taken words) v w c is = sym (ap is_answered is.0)
+waits_closed (router.Waiting asked) v w c is = sym (ap is_answered is.0)
+waits_closed router.Taken v w c is = sym (ap is_answered is.0)
 waits_closed (router.Answered o) v w c is = absurd is
 
 -- an outcome waits where one does in the world

@@ -9,7 +9,7 @@ use Rattle.picture.specs.Layers.{layer_in, layers_by, replied_by, reply_in}
 use Rattle.picture.specs.Run.{AreFlying, InEach, IsPast, Moment, Walks, made_by, steps_of, told_by}
 use Rattle.picture.specs.Words.{word_of}
 use Rattle.picture_shapes.specs.Drawn.{IsPictureOf}
-use Rattle.picture_text.specs.Svg.{svg_text}
+use Rattle.picture_shapes.specs.Svg.{svg_text}
 use Rattle.picture_shapes.specs.declared.drawn.Picture.{Picture}
 use Rattle.picture_shapes.specs.declared.facts.RunFacts.{RunFacts}
 use Rattle.placement.specs.Layout.{Layout, IsTableOf}

@@ -1,7 +1,7 @@
 //! The picture of a run: a trace's steps are made again, what happens at each is put down, and this is drawn.
 //!
 //! `told` reads a table and a trace, and writes the picture of a window of the steps. What the shapes are and how they are
-//! written is `picture_shapes` and `picture_text`.
+//! written is `picture_shapes`.
 #![tactic(auto)]
 
 mod arrivals;

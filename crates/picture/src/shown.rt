@@ -3,16 +3,14 @@
 ghost use Rattle.std.specs.Prelude.{ℕ, false, IfOk, IfErr, OnOk, List, Option};
 ghost use Rattle.std.specs.Io.KnownBytes.{Appends};
 ghost use Rattle.picture.specs.Told.{IsTold};
-ghost use Rattle.picture_text.specs.Svg.{svg_text};
+ghost use Rattle.picture_shapes.specs.Svg.{svg_text};
 ghost use Rattle.replay.specs.Show.{IsShowFault};
 
 use crate::making::facts_of;
 use journal::{TraceFault, read_trace};
-use picture_shapes::{Picture, picture_of};
-use picture_text::{SvgFault, write_svg};
+use picture_shapes::{Picture, SvgFault, picture_of, write_svg};
 use placement::{Table, TableFault};
-use progress::Progress;
-use replay::{ReplayFault, ShowFault};
+use replay::{Progress, ReplayFault, ShowFault};
 use std::alloc::Global;
 use std::io::Write;
 

@@ -6,3 +6,4 @@ pub mod Arrows
 pub mod Bands
 pub mod Marks
 pub mod Drawn
+pub mod Svg

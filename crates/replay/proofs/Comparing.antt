@@ -11,7 +11,7 @@ use Rattle.groups.specs.declared.skip_id.SkipId.{SkipId}
 use Rattle.journal.specs.Views.{RowView}
 use Rattle.keyspace.specs.Map.{Map}
 use Rattle.resp.specs.Text.{text}
-use Rattle.system_view.specs.Layers.{IsRow, AreRows}
+use Rattle.front.specs.Layers.{IsRow, AreRows}
 use Rattle.tasks.specs.Tasks.{deed_effect, deeds_in_turn}
 use Rattle.world_laws.proofs.OrderLaws.{ends_once}
 use Rattle.world_laws.specs.Headline.{IsOneThread, rows_of}

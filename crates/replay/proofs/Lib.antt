@@ -5,3 +5,5 @@ mod Parts
 mod Comparing
 pub mod Making
 mod Writing
+mod Beginnings
+mod Spelling

@@ -4,7 +4,7 @@ use Rattle.std.proofs.Common.{length, take, drop, zero, ◌<◌, inl, inr, Optio
 use Rattle.std.proofs.Common.{refl, sym, ap, ◌∙◌, subst, arith, length-append}
 use Rattle.std.proofs.lemmas.Bool.{and_parts}
 use Rattle.std.specs.List.{AllByRecursion, list_all}
-use Rattle.batches.specs.Starved.{has, starved_in}
+use Rattle.tasks.specs.Starved.{has, starved_in}
 use Rattle.groups.proofs.Options.{some_same}
 use Rattle.groups.specs.Order.{In}
 use Rattle.groups.specs.Skips.{names_whole, parts_of}

@@ -3,9 +3,9 @@ use Rattle.std.proofs.Common.{◌≡◌, ℕ, zero, suc, Bool, true, false, List
 use Rattle.std.proofs.Common.{arith, inl, inr, refl, sym, ap, ◌∙◌, subst, nat_eq, eqb-true}
 use Rattle.std.proofs.lemmas.Bool.{cases_Bool, or_cases}
 use Rattle.std.specs.Prelude.{if◌then◌else◌}
-use Rattle.batches.specs.Batch.{StarvesFrom, members_from}
-use Rattle.batches.specs.Member.{member_effect, MemberTakesMemory}
-use Rattle.batches.specs.Starved.{has, is_want, wants_from, wants_in, starved_in}
+use Rattle.tasks.specs.Batch.{StarvesFrom, members_from}
+use Rattle.tasks.specs.Member.{member_effect, MemberTakesMemory}
+use Rattle.tasks.specs.Starved.{has, is_want, wants_from, wants_in, starved_in}
 use Rattle.keyspace.specs.Map.{Map}
 use Rattle.resp.specs.Content.{Content, Contents, SimpleText, ErrorLine, Number, BulkText, Nothing, Several, NoMore, Then}
 use Rattle.resp.specs.Content.{content, contents}

@@ -2,7 +2,7 @@
 use Rattle.std.proofs.Common.{◌≡◌, ◌++◌, ℕ, Bool, true, false, cond, List, [], ◌∷◌, inl, inr, map, Option, Some, None, refl, sym, ap, ◌∙◌}
 use Rattle.std.proofs.Common.{subst, append-nil}
 use Rattle.std.specs.List.{AllByRecursion}
-use Rattle.batches.specs.Starved.{starved_in}
+use Rattle.tasks.specs.Starved.{starved_in}
 use Rattle.execution_order.specs.Entries.{Row, deeds_of, entries_of, insert_by, sort_by, rows_by_stamp}
 use Rattle.front.proofs.Names.{in_ids}
 use Rattle.groups.proofs.Ids.{same_id-refl, ne-same_id}

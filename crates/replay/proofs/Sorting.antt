@@ -12,7 +12,7 @@ use Rattle.std.specs.declared.cmp.Ordering.TheVariants.{Less, Equal, Greater}
 use Rattle.execution_order.specs.Entries.{Row, insert_by, rows_by_stamp}
 use Rattle.journal.specs.Views.{RowView}
 use Rattle.groups.specs.Stamp.{stamp_lt}
-use Rattle.system_view.specs.Layers.{IsRow}
+use Rattle.front.specs.Layers.{IsRow}
 use Rattle.replay.proofs.Places.{drop_at, zip_at, zip_length}
 use Rattle.replay.specs.Order.{Key, IsPlaced, ArePlaced}
 

@@ -4,3 +4,4 @@ pub mod Running
 pub mod Order
 pub mod Replay
 pub mod Show
+pub mod Beginning

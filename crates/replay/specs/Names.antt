@@ -1,6 +1,6 @@
 -- What is named among requests and their members.
 use Rattle.std.specs.Prelude.{Bool, List}
-use Rattle.batches.specs.Starved.{has}
+use Rattle.tasks.specs.Starved.{has}
 use Rattle.groups.specs.Skips.{names_whole, parts_of}
 use Rattle.groups.specs.declared.skip_id.SkipId.{SkipId}
 use Rattle.groups.specs.declared.skip_id.SkipId.TheVariants.{Whole, Part}

@@ -1,6 +1,6 @@
 -- What the reply of an EXEC tells of its members.
 use Rattle.std.specs.Prelude.{◌≡◌, ℕ, suc, true, List}
-use Rattle.batches.specs.Starved.{has, is_want}
+use Rattle.tasks.specs.Starved.{has, is_want}
 use Rattle.resp.specs.Content.{Content, Contents, SimpleText, ErrorLine, Number, BulkText, Nothing, Several, NoMore, Then}
 
 -- each of these places that says that there was no memory has one of the numbers; the first place has the number n

@@ -4,7 +4,7 @@ ghost use Rattle.std.specs.Prelude.{◌≡◌, ◌++◌, IfOk, List, bytes_eq};
 ghost use Rattle.std.specs.List.{AllZip, flat_map};
 ghost use Rattle.execution_order.specs.Entries.{Row as Executed, rows_by_stamp};
 ghost use Rattle.resp.specs.Text.{text};
-ghost use Rattle.system_view.specs.Layers.{IsRow};
+ghost use Rattle.front.specs.Layers.{IsRow};
 ghost use Rattle.tasks.specs.Tasks.{deed_effect};
 ghost use Rattle.replay.specs.Report.{row_line, deed_by, replies_agree, left_by};
 

@@ -6,8 +6,10 @@
 //! same.
 #![tactic(auto)]
 
+mod beginning;
 mod compare;
 mod fault;
+mod line;
 mod lines;
 mod named;
 mod order;
@@ -15,10 +17,13 @@ mod report;
 mod running;
 mod shown;
 mod steps;
+mod watching;
 
+pub use beginning::{Beginning, beginning_spells, whole_beginning};
 pub use fault::ReplayFault;
+pub use line::Line;
 pub use named::{are_named, is_whole_among, named_in};
-pub use progress::{Line, Progress, Unwatched};
 pub use report::{Report, compared};
 pub use shown::{ShowFault, show, told, told_watched};
 pub use steps::replay;
+pub use watching::{Progress, Unwatched};

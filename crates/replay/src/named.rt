@@ -2,7 +2,7 @@
 
 ghost use Rattle.std.specs.Prelude.{◌≡◌, IfOk};
 ghost use Rattle.std.specs.List.{list_all};
-ghost use Rattle.batches.specs.Starved.{has};
+ghost use Rattle.tasks.specs.Starved.{has};
 ghost use Rattle.groups.specs.Skips.{names_whole, parts_of};
 ghost use Rattle.replay.specs.Names.{is_named};
 ghost use Rattle.replay.specs.Replay.{named_in, starved_at};

@@ -3,7 +3,7 @@
 ghost use Rattle.std.specs.Prelude.{IfOk, List};
 ghost use Rattle.std.specs.List.{AllZip};
 ghost use Rattle.execution_order.specs.Entries.{Row as Executed, rows_by_stamp};
-ghost use Rattle.system_view.specs.Layers.{IsRow};
+ghost use Rattle.front.specs.Layers.{IsRow};
 ghost use Rattle.replay.specs.Order.{ArePlaced};
 
 use journal::Rows;

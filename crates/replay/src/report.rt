@@ -5,7 +5,7 @@ ghost use Rattle.std.specs.List.{AllZip, flat_map};
 ghost use Rattle.execution_order.specs.Entries.{Row as Executed, rows_by_stamp};
 ghost use Rattle.journal.specs.declared.step.Step.{Step};
 ghost use Rattle.system.specs.Halves.{IsAt};
-ghost use Rattle.system_view.specs.Layers.{IsRow};
+ghost use Rattle.front.specs.Layers.{IsRow};
 ghost use Rattle.world.specs.World.{World};
 ghost use Rattle.replay.specs.Report.{row_line, starved_line, agrees, last_line, report_text};
 

@@ -1,7 +1,7 @@
 //! A request run again on one store, where the same members starve.
 
 ghost use Rattle.std.specs.Prelude.{◌≡◌, true, map, IfOk, IsTrue};
-ghost use Rattle.batches.specs.Starved.{has, is_want};
+ghost use Rattle.tasks.specs.Starved.{has, is_want};
 ghost use Rattle.groups.specs.Skips.{parts_of};
 ghost use Rattle.resp.specs.Content.{content, contents};
 ghost use Rattle.sessions.specs.declared.batch.Batch.TheVariants.{Exec};
@@ -9,13 +9,13 @@ ghost use Rattle.tasks.specs.Tasks.{deed_effect};
 ghost use Rattle.replay.specs.Running.{AreToldBy, IsToldBy};
 
 use crate::named::parts_in;
-use batches::is_want_reply;
 use groups::{RequestId, SkipId};
 use resp::Reply;
 use sessions::{Batch, Members};
 use solo::Solo;
 use std::alloc::{AllocError, Global};
 use std::hash::BuildHasher;
+use tasks::is_want_reply;
 
 /// Runs the batch of this request, where those of its members starve that are named, and no others. The only error is want of
 /// memory.

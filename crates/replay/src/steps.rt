@@ -9,9 +9,9 @@ ghost use Rattle.replay.specs.Replay.{IsReport, IsFaultOf, IsRefusalOf, StandsAt
 use crate::fault::ReplayFault;
 use crate::named::{are_named, named_in};
 use crate::report::{Report, report_of};
+use crate::watching::{Progress, Unwatched};
 use journal::{Step, Steps, Trace};
 use placement::Table;
-use progress::{Progress, Unwatched};
 use shard_workers::{OpenGate, Workers};
 use std::alloc::Global;
 use system::{StepFault, System};

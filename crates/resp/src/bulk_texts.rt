@@ -61,6 +61,7 @@ impl BulkTexts {
     }
 
     /// Adds a copy of these bytes as a bulk string. The only error is want of memory, where there is no room for it.
+    #[inline(always)]
     pub fn push(&mut self, bytes: &[u8]) -> Result<(), AllocError>
         ensures ok { OnOk result (self.new ≡ self.old ++ Some bytes.now ∷ []) }
         ensures err { OnErr result (self.new ≡ self.old) }
@@ -68,6 +69,22 @@ impl BulkTexts {
         put_bulk(bytes, &mut self.text)?;
         self.count += 1;
         Ok(())
+    }
+
+    /// These, and copies of the items as bulk strings behind them. The only error is want of memory, where there is no room for them; all
+    /// are then gone.
+    pub fn with_all(self, items: &[Vec<u8>]) -> Result<Self, AllocError>
+        ensures { IfOk result (λ texts. texts ≡ self ++ map (λ item. Some item.items) items.now) }
+    {
+        let BulkTexts {
+            mut count,
+            mut text,
+        } = self;
+        for item in items {
+            put_bulk(item.as_slice(), &mut text)?;
+            count += 1;
+        }
+        Ok(BulkTexts { count, text })
     }
 
     /// Adds a null. The only error is want of memory, where there is no room for it.

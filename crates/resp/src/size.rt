@@ -77,6 +77,15 @@ pub(crate) fn digit_count(number: usize) -> usize
     } else if number < 100 {
         2
     } else {
-        Buffer::new().format(number).len()
+        long_digit_count(number)
     }
+}
+
+/// The same of any number.
+#[inline(never)]
+fn long_digit_count(number: usize) -> usize
+    ensures count { result ≡ length (decimal number) }
+    ensures few { result ≤ 20 }
+{
+    Buffer::new().format(number).len()
 }

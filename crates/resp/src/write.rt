@@ -91,6 +91,8 @@ fn put_line(kind: u8, line: &[u8], out: &mut Vec<u8>) -> Result<(), AllocError>
 
 /// Appends a bulk string: the line that says how long it is, and its bytes on a line of their own. With `AllocError`
 /// nothing is appended.
+// Inlined, since a reply of many is made by as many calls.
+#[inline(always)]
 pub(crate) fn put_bulk(bytes: &[u8], out: &mut Vec<u8>) -> Result<(), AllocError>
     ensures ok { OnOk result (out.new.items ≡ out.old.items ++ dollar ∷ decimal (length bytes.now) ++ crlf ++ bytes.now ++ crlf) }
     ensures err { OnErr result (out.new.items ≡ out.old.items) }
@@ -99,31 +101,44 @@ pub(crate) fn put_bulk(bytes: &[u8], out: &mut Vec<u8>) -> Result<(), AllocError
         < vec_len out.old + length (dollar ∷ decimal (length bytes.now) ++ crlf ++ bytes.now ++ crlf)) }
 {
     out.reserve(digit_count(bytes.len()) + bytes.len() + 5)?;
-    out.push_reserved(b'$');
-    put_digits(bytes.len(), out);
-    put_line_end(out);
+    put_bulk_line(bytes.len(), out);
     put_bytes(bytes, out);
     put_line_end(out);
     Ok(())
 }
 
-/// Appends the digits of a number, for which there is room.
-// Most numbers are lengths of few digits, written without a buffer.
+/// Appends the line that says how long a bulk string is, for which there is room.
+// Most have few bytes: the line of these is put at once, its digits without a buffer.
 #[tactic(auto, using(crate::proofs::Sizes::one_digit, crate::proofs::Sizes::two_digits))]
-fn put_digits(number: usize, out: &mut Vec<u8>)
-    requires { vec_len out.old + length (decimal number) ≤ vec_capacity out.old }
-    ensures items { out.new.items ≡ out.old.items ++ decimal number }
-    ensures len { vec_len out.new ≡ vec_len out.old + length (decimal number) }
+#[inline(always)]
+fn put_bulk_line(number: usize, out: &mut Vec<u8>)
+    requires { vec_len out.old + length (decimal number) + 3 ≤ vec_capacity out.old }
+    ensures items { out.new.items ≡ out.old.items ++ dollar ∷ decimal number ++ crlf }
+    ensures len { vec_len out.new ≡ vec_len out.old + length (decimal number) + 3 }
     ensures capacity { vec_capacity out.old ≤ vec_capacity out.new }
 {
     if number < 10 {
-        out.push_reserved(b'0' + number as u8);
+        put_bytes(&[b'$', b'0' + number as u8, b'\r', b'\n'], out);
     } else if number < 100 {
-        out.push_reserved(b'0' + (number / 10) as u8);
-        out.push_reserved(b'0' + (number % 10) as u8);
+        let tens = b'0' + (number / 10) as u8;
+        let ones = b'0' + (number % 10) as u8;
+        put_bytes(&[b'$', tens, ones, b'\r', b'\n'], out);
     } else {
-        put_bytes(Buffer::new().format(number).as_bytes(), out);
+        put_long_line(number, out);
     }
+}
+
+/// The same of any length.
+#[inline(never)]
+fn put_long_line(number: usize, out: &mut Vec<u8>)
+    requires { vec_len out.old + length (decimal number) + 3 ≤ vec_capacity out.old }
+    ensures items { out.new.items ≡ out.old.items ++ dollar ∷ decimal number ++ crlf }
+    ensures len { vec_len out.new ≡ vec_len out.old + length (decimal number) + 3 }
+    ensures capacity { vec_capacity out.old ≤ vec_capacity out.new }
+{
+    out.push_reserved(b'$');
+    put_bytes(Buffer::new().format(number).as_bytes(), out);
+    put_line_end(out);
 }
 
 /// Appends these bytes, for which there is room.

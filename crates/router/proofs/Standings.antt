@@ -1,19 +1,19 @@
 -- How a connection stands by what came of its words.
 use Rattle.std.proofs.Common.{◌≡◌, ℕ, true, false, cond, List, [], Some, None, refl, ap, sym, subst}
 use Rattle.std.specs.FinMap.{empty}
-use Rattle.batches.specs.Batch.{batch_effect}
-use Rattle.batches.specs.Keys.{looks_at_keys}
+use Rattle.tasks.specs.Batch.{batch_effect}
+use Rattle.tasks.specs.Keys.{looks_at_keys}
 use Rattle.groups.specs.declared.request.RequestId.{RequestId}
 use Rattle.placement.specs.Layout.{Layout, IsTable}
 use Rattle.resp.specs.Content.{content}
 use Rattle.resp.specs.declared.reply.Reply.{Reply}
 use Rattle.router.specs.Submitting.{StandsAs, TellsOf}
-use Rattle.router.specs.declared.connection.Pending.{Pending}
 use Rattle.router.specs.declared.connection.Standing.{Standing}
 use Rattle.router.specs.declared.connection.Standing.TheVariants.{Waiting, Answered}
 use Rattle.sessions.specs.Session.{Answer, Now, Go}
 use Rattle.tasks.proofs.Keyless.{addresses}
 use Rattle.tasks.specs.Tasks.{Task, task_groups, keyless_reply, deed_effect, AddressesBy}
+use Rattle.worded.specs.declared.worded.Worded.{Worded}
 
 -- the standing of a request that was answered at once
 abbrev pub at_once : RequestId → Reply → Standing
@@ -53,10 +53,10 @@ told_at_once t id task reply groups looks is addressed =
       groups = addressed;
     }
 
-pub told_waiting : (t : Layout) (id : RequestId) (task : Task) (pending : Pending) (groups : List ℕ) → keyless_reply task ≡ None
-    → pending.asked.batch ≡ task → groups ≡ task_groups t task → TellsOf t id (Go task) (Waiting pending, groups)
-told_waiting t id task pending groups none is addressed =
+pub told_waiting : (t : Layout) (id : RequestId) (task : Task) (asked : Worded) (groups : List ℕ) → keyless_reply task ≡ None
+    → asked.batch ≡ task → groups ≡ task_groups t task → TellsOf t id (Go task) (Waiting asked, groups)
+told_waiting t id task asked groups none is addressed =
     record {
-      standing = subst (λ o. StandsAs id task o (Waiting pending)) (sym none) is;
+      standing = subst (λ o. StandsAs id task o (Waiting asked)) (sym none) is;
       groups = addressed;
     }

@@ -36,8 +36,8 @@ closed v = record { is_open = false; seq = v.seq; floor = v.floor; standing = v.
 -- a closed connection is kept as long as its request is under way
 abbrev pub is_under_way : Standing → Bool
 is_under_way Idle = false
-is_under_way (Waiting pending) = true
-is_under_way (Taken words) = true
+is_under_way (Waiting asked) = true
+is_under_way Taken = true
 is_under_way (Answered outcome) = false
 
 -- the outcome that waits to be collected

@@ -6,12 +6,12 @@ use Rattle.std.specs.BTreeMap.{is_at}
 use Rattle.std.specs.Map.{lookup}
 use Rattle.std.specs.Ordering.{nat_cmp}
 use Rattle.router.specs.Connection.{outcome_in, is_under_way, with_standing, closed, settled_with}
-use Rattle.router.specs.declared.connection.Pending.{Pending}
 use Rattle.router.specs.declared.connection.Standing.{Standing}
-use Rattle.router.specs.declared.connection.Standing.TheVariants.{Idle, Waiting, Taken}
+use Rattle.router.specs.declared.connection.Standing.TheVariants.{Idle, Waiting}
 use Rattle.router.specs.declared.connection.Connection.{Connection}
 use Rattle.router.specs.Lists.{ListView}
 use Rattle.router.specs.declared.outcome.Outcome.{Outcome}
+use Rattle.worded.specs.declared.worded.Worded.{Worded}
 
 -- how many connections were opened; those that are kept: each that is open, and each closed one whose request is under way;
 -- and the lists that are open, by which each remembers its requests
@@ -58,23 +58,14 @@ outcome_at (Some v) = outcome_in v.standing
 abbrev pub waiting : RouterView → ℕ → Option Outcome
 waiting r c = outcome_at (connection r c)
 
--- the request that waits to be taken, if it is this one
-abbrev pub pending_in : Standing → Bool → Option Pending
-pending_in (Waiting pending) this = cond this (Some pending) None
+-- what the request asks that waits to be taken, if it is this one
+abbrev pub pending_in : Standing → Bool → Option Worded
+pending_in (Waiting asked) this = cond this (Some asked) None
 pending_in standing this = None
 
-abbrev pub pending_at : Option Connection → ℕ → Option Pending
+abbrev pub pending_at : Option Connection → ℕ → Option Worded
 pending_at None seq = None
 pending_at (Some v) seq = pending_in v.standing (v.seq == seq)
-
--- the words of the request that was taken, if it is this one
-abbrev pub taken_in : Standing → Bool → Option (List (List ℕ))
-taken_in (Taken words) this = cond this (Some words) None
-taken_in standing this = None
-
-abbrev pub taken_at : Option Connection → ℕ → Option (List (List ℕ))
-taken_at None seq = None
-taken_at (Some v) seq = taken_in v.standing (v.seq == seq)
 
 -- a connection that is closed is kept as long as its request is under way
 abbrev pub once_closed : Connection → Option Connection

@@ -24,7 +24,7 @@ groups_by table (Go task) = task_groups table task
 -- is answered at once, and any other waits, with words that say it
 abbrev pub StandsAs : RequestId → Task → Option Content → Standing → Type 0
 StandsAs id task (Some reply) (Answered o) = answer_of o ≡ record { id = id; reply = reply; stamp = None }
-StandsAs id task None (Waiting pending) = pending.asked.batch ≡ task
+StandsAs id task None (Waiting asked) = asked.batch ≡ task
 StandsAs id task reply standing = ⊥
 
 -- how it stands by what came of its words: what is answered has its outcome at once

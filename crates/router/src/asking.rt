@@ -1,7 +1,7 @@
 //! What comes of a request: how its connection stands, and the groups that it addresses.
 
 ghost use Rattle.std.specs.Prelude.{◌≡◌, ◌<◌, length, None, Ok, IfOk, IfErr};
-ghost use Rattle.batches.specs.AtOnce.{IsKeyedBatch};
+ghost use Rattle.tasks.specs.AtOnce.{IsKeyedBatch};
 ghost use Rattle.router.specs.Submitting.{TellsOf};
 ghost use Rattle.sessions.specs.declared.batch.Batch.TheVariants.{Exec};
 ghost use Rattle.router.specs.declared.connection.Standing.TheVariants.{Answered};
@@ -10,16 +10,15 @@ ghost use Rattle.sessions.specs.Session.{asks, Go};
 ghost use Rattle.sessions.specs.declared.session.Session.TheVariants.{Free};
 ghost use Rattle.worded.specs.Reading.{members_of};
 
-use super::connection::{Pending, Standing};
+use super::connection::Standing;
 use super::outcome::Outcome;
-use batches::answer_at_once;
 use groups::{Groups, RequestId};
 use packing::{PackedList, PackedRequest};
 use placement::Table;
 use resp::{Reply, Request};
 use sessions::{Batch, Members};
 use std::alloc::{AllocError, Global};
-use tasks::task_groups;
+use tasks::{answer_at_once, task_groups};
 use worded::{Worded, WordedFault};
 
 /// What comes of a request outside a list, which is none of the three names of a list: refused words and commands that look
@@ -66,8 +65,8 @@ pub(super) fn ask_exec(
     }
 }
 
-/// What comes of a batch: one that looks at no key is answered, and any other waits. Where there is no memory for the copy of
-/// its words, or for the array of its replies, it is given back.
+/// What comes of a batch: one that looks at no key is answered, and any other waits. Where there is no memory for the array of
+/// its replies it is given back.
 // Inlined, so that a plain command is moved once.
 #[inline(always)]
 fn ask_task(
@@ -88,10 +87,7 @@ fn ask_task(
         let reply = answer_at_once(alloc, batch)?;
         return Ok((answered(id, reply), groups));
     }
-    match asked.words().try_clone() {
-        Ok(words) => Ok((Standing::Waiting(Pending { asked, words }), groups)),
-        Err(_) => Err(asked.into_parts().1),
-    }
+    Ok((Standing::Waiting(asked), groups))
 }
 
 /// A request that addresses no group has its outcome at once.

@@ -3,16 +3,7 @@
 ghost use Rattle.std.specs.Prelude.{◌≡◌};
 
 use super::outcome::Outcome;
-use packing::PackedRequest;
 use worded::Worded;
-
-/// A request that waits to be taken: what it asks, to be handed out, and its words once more, which stay when it is.
-#[derive(Drop)]
-pub struct Pending {
-    pub asked: Worded,
-    pub words: PackedRequest,
-    ghost same: { words ≡ asked.words },
-}
 
 /// How a connection stands.
 #[derive(Drop)]
@@ -20,11 +11,11 @@ pub enum Standing {
     /// It may submit.
     Idle,
 
-    /// Its request waits to be taken.
-    Waiting(Pending),
+    /// Its request waits to be taken: this is what it asks.
+    Waiting(Worded),
 
-    /// Its request was taken, and has no outcome yet. These are its words.
-    Taken(PackedRequest),
+    /// Its request was taken, and has no outcome yet.
+    Taken,
 
     /// Its request has an outcome.
     Answered(Outcome),
@@ -37,7 +28,7 @@ impl Standing {
     pub fn is_under_way(&self) -> bool
         ensures { result ≡ is_under_way self.now }
     {
-        matches!(self, Standing::Waiting(_) | Standing::Taken(_))
+        matches!(self, Standing::Waiting(_) | Standing::Taken)
     }
 }
 

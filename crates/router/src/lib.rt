@@ -2,8 +2,8 @@
 //!
 //! A connection submits one request at a time and collects its outcome before it submits the next. Words that are
 //! refused and commands that look at no key are answered at once; every other request addresses the groups on which its
-//! keys lie, and what it asks waits here until it is taken to be run. Its words stay until it has its outcome, so that it
-//! can be seen of what it is. The system calls the router at its steps; the router knows no packet.
+//! keys lie, and what it asks waits here until it is taken to be run. The system calls the router at its steps; the
+//! router knows no packet.
 #![tactic(auto)]
 
 mod asking;

@@ -1,10 +1,10 @@
 //! The router.
 
-ghost use Rattle.std.specs.Prelude.{◌≡◌, ℕ, ◌==◌, cond, ◌<◌, ◌+◌, [], Some, None, false, true, IfOk, OnOk, OnErr, IfErr, IsSome, IfSome};
+ghost use Rattle.std.specs.Prelude.{◌≡◌, ℕ, ◌==◌, cond, ◌<◌, ◌+◌, [], Some, None, false, true, IfOk, OnOk, OnErr, IfErr, IsSome, OnSome};
 ghost use Rattle.std.specs.Prelude.{IfNone, ◌≢◌, option_map, option_copied};
 ghost use Rattle.router.specs.Connection.{just_opened, with_standing};
 ghost use Rattle.router.specs.Lists.{is_listing, is_open_list};
-ghost use Rattle.router.specs.Router.{connection, session_at, is_open, waiting, pending_at, taken_at, once_closed, once_settled, Changes, Collects, Closes};
+ghost use Rattle.router.specs.Router.{connection, session_at, is_open, waiting, pending_at, once_closed, once_settled, Changes, Collects, Closes};
 ghost use Rattle.router.specs.declared.connection.Standing.{Standing};
 ghost use Rattle.router.specs.Submitting.{Submits, IsRefused, IsIdle, IsIdleAt, TellsOf};
 ghost use Rattle.router.specs.declared.submission.SubmitFault.{SubmitFault};
@@ -15,12 +15,11 @@ ghost use Rattle.sessions.specs.Session.{asks};
 ghost use Rattle.sessions.specs.declared.session.Session.TheVariants.{Free, Listing};
 
 use super::asking::{answered, ask_plain};
-use super::connection::{Connection, Pending, Standing};
+use super::connection::{Connection, Standing};
 use super::listed::Listed;
 use super::outcome::Outcome;
 use super::submission::{NoConn, Submission, SubmitFault};
 use groups::{ConnId, Groups, RequestId, Stamp};
-use packing::PackedRequest;
 use placement::Table;
 use resp::Request;
 use sessions::{Ask, Batch, Session, is_control};
@@ -159,47 +158,29 @@ impl Router {
 
     /// The batch of a request that waits to be taken; none where this request doesn't. It takes no memory.
     pub fn batch(&self, id: RequestId) -> Option<&Batch>
-        ensures { option_copied result ≡ option_map (λ p. p.asked.batch) (pending_at (connection self.now id.conn.0) id.seq) }
+        ensures { option_copied result ≡ option_map (λ asked. asked.batch) (pending_at (connection self.now id.conn.0) id.seq) }
     {
         let connection = self.kept.get(&id.conn.0)?;
         match &connection.standing {
-            Standing::Waiting(pending) if connection.seq == id.seq => {
-                Some(pending.asked.batch())
-            }
+            Standing::Waiting(asked) if connection.seq == id.seq => Some(asked.batch()),
             _ => None,
         }
     }
 
-    /// Takes out what a request asks that waits to be taken; none where this request doesn't. Its words stay. It takes no
-    /// memory.
+    /// Takes out what a request asks that waits to be taken; none where this request doesn't. It takes no memory.
     pub fn take(&mut self, id: RequestId) -> Option<Worded>
-        ensures taken { result ≡ option_map (λ p. p.asked) (pending_at (connection self.old id.conn.0) id.seq) }
-        ensures changes { IfSome result (λ asked. (v : Connection) × (connection self.old id.conn.0 ≡ Some v)
-            × Changes self.old self.new id.conn.0 (Some (with_standing v (Standing.Taken asked.words)))) }
+        ensures taken { result ≡ pending_at (connection self.old id.conn.0) id.seq }
+        ensures changes { OnSome result ((v : Connection) × (connection self.old id.conn.0 ≡ Some v)
+            × Changes self.old self.new id.conn.0 (Some (with_standing v Standing.Taken))) }
         ensures unchanged { IfNone result (self.new ≡ self.old) }
     {
         self.batch(id)?;
         let connection = self.kept.get_mut(&id.conn.0)?;
-        let Standing::Waiting(Pending { asked, words }) = mem::replace(
-            &mut connection.standing,
-            Standing::Idle,
-        ) else {
+        let Standing::Waiting(asked) = mem::replace(&mut connection.standing, Standing::Taken)
+        else {
             unreachable!()
         };
-        discard(mem::replace(&mut connection.standing, Standing::Taken(words)));
         Some(asked)
-    }
-
-    /// The words of a request that was taken and has no outcome yet, left in place; none where this request isn't so. It
-    /// takes no memory.
-    pub fn taken_words(&self, id: RequestId) -> Option<&PackedRequest>
-        ensures { option_copied result ≡ taken_at (connection self.now id.conn.0) id.seq }
-    {
-        let connection = self.kept.get(&id.conn.0)?;
-        match &connection.standing {
-            Standing::Taken(words) if connection.seq == id.seq => Some(words),
-            _ => None,
-        }
     }
 
     /// A request that was taken has its outcome. It goes to its connection, whose floor is now the clock of the

@@ -3,7 +3,7 @@ use Rattle.std.proofs.Common.{◌≡◌, List, [], ◌∷◌, Option, Some, None
 use Rattle.std.specs.List.{AllZip}
 use Rattle.back.proofs.Executed.{with_executed, executed_in}
 use Rattle.back.specs.Rows.{done_of, results_of}
-use Rattle.batches.specs.Starved.{starved_in}
+use Rattle.tasks.specs.Starved.{starved_in}
 use Rattle.execution_order.specs.Entries.{Row}
 use Rattle.groups.specs.Order.{In}
 use Rattle.layer_planner.specs.declared.job.Job.{Job}

@@ -6,7 +6,7 @@ use Rattle.std.proofs.lemmas.List.{map_push}
 use Rattle.std.specs.FinMap.{empty}
 use Rattle.back.proofs.Behind.{WereExecuted, IsBehind, run_behind}
 use Rattle.back.proofs.Executed.{executed_in}
-use Rattle.batches.specs.Starved.{starved_in}
+use Rattle.tasks.specs.Starved.{starved_in}
 use Rattle.execution_order.specs.Entries.{Row, entries_of, AreAddressed}
 use Rattle.execution_order.specs.Rows.{IsOneThread}
 use Rattle.execution_order.specs.Serial.{RanLayer, all_rows, IsSerial}
@@ -25,8 +25,8 @@ use Rattle.shard_exec.specs.StoreStates.{StoreState, IsStore}
 use Rattle.shard_exec.specs.Stores.{empty_store}
 use Rattle.shard_exec.specs.declared.done.ExecFault.{ExecFault}
 use Rattle.shard_exec.specs.declared.done.ExecFault.TheVariants.{Stale, Memory, Failed, Foreign}
-use Rattle.shard_maps.proofs.Empty.{joined-empty}
-use Rattle.shard_maps.specs.Joined.{joined}
+use Rattle.shards.proofs.Empty.{joined-empty}
+use Rattle.shards.specs.Joined.{joined}
 
 -- ---- nothing was run yet
 
@@ -145,6 +145,6 @@ pub refused_kept : (may_refuse : _) (table : Layout) (old new : StoreState) (run
     (fault : ExecFault) → RefusesLayer may_refuse old layer fault new → IsSerialStore table old runs → IsSerialStore table new runs
 refused_kept may_refuse table old new runs layer Failed (inl still) was = same_kept table old new runs still.1 was
 refused_kept may_refuse table old new runs layer Failed (inr fails) was = failed_kept may_refuse table old new runs layer fails was
-refused_kept may_refuse table old new runs layer (Foreign back) why was = same_kept table old new runs why.3 was
-refused_kept may_refuse table old new runs layer (Stale back) why was = same_kept table old new runs why.4 was
-refused_kept may_refuse table old new runs layer (Memory back) why was = same_kept table old new runs why.5 was
+refused_kept may_refuse table old new runs layer (Foreign back) why was = absurd why
+refused_kept may_refuse table old new runs layer (Stale back) why was = same_kept table old new runs why.3 was
+refused_kept may_refuse table old new runs layer (Memory back) why was = same_kept table old new runs why.4 was

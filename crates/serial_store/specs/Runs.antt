@@ -31,22 +31,20 @@ pub record RunsLayer (old : StoreState) (skip : List SkipId) (layer : List Job) 
 pub record Fails (may_refuse : Bool) (old : StoreState) (layer : List Job) (new : StoreState) : Type 0 where
   pub may : may_refuse ≡ true
   pub lived : old.failed ≡ false
-  pub addressed : AddressTheirGroups old.table layer
   pub fresh : AreFresh old.lasts layer
   pub failed : new.failed ≡ true
   pub table : new.table ≡ old.table
 
--- Why it doesn't: the first that applies of Failed, Foreign, Stale and Memory. All but Failed hand the layer back with nothing
--- changed, and an empty layer needs no memory. Failed comes where the store has failed before, and then changes nothing, or
--- where a start was refused.
+-- Why it doesn't run a layer whose requests address their groups: the first that applies of Failed, Stale and Memory. All but Failed
+-- hand the layer back with nothing changed, and an empty layer needs no memory. Failed comes where the store has failed before, and
+-- then changes nothing, or where a start was refused.
 abbrev pub RefusesLayer : Bool → StoreState → List Job → ExecFault → StoreState → Type 0
 RefusesLayer may_refuse old layer Failed new = ((old.failed ≡ true) × (new ≡ old)) ⊎ Fails may_refuse old layer new
-RefusesLayer may_refuse old layer (Foreign back) new =
-    (old.failed ≡ false) × (AddressTheirGroups old.table layer → ⊥) × (back ≡ layer) × (new ≡ old)
+RefusesLayer may_refuse old layer (Foreign back) new = ⊥
 RefusesLayer may_refuse old layer (Stale back) new =
-    (old.failed ≡ false) × AddressTheirGroups old.table layer × (AreFresh old.lasts layer → ⊥) × (back ≡ layer) × (new ≡ old)
+    (old.failed ≡ false) × (AreFresh old.lasts layer → ⊥) × (back ≡ layer) × (new ≡ old)
 RefusesLayer may_refuse old layer (Memory back) new =
-    (old.failed ≡ false) × AddressTheirGroups old.table layer × AreFresh old.lasts layer × (layer ≡ [] → ⊥) × (back ≡ layer) × (new ≡ old)
+    (old.failed ≡ false) × AreFresh old.lasts layer × (layer ≡ [] → ⊥) × (back ≡ layer) × (new ≡ old)
 
 -- ---- the store and its history
 

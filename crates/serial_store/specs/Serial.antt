@@ -1,6 +1,6 @@
 -- What came of layers, as layers that a store has run, and the law that each reply is what one thread gets there.
 use Rattle.std.specs.Prelude.{List, [], ◌∷◌, map, Option, Some, None, Result, Ok, Err}
-use Rattle.batches.specs.Starved.{starved_in}
+use Rattle.tasks.specs.Starved.{starved_in}
 use Rattle.command_table.specs.declared.refusal.Refusal.{Refusal}
 use Rattle.execution_order.specs.Entries.{Row}
 use Rattle.execution_order.specs.Serial.{RanLayer, IsSerial}

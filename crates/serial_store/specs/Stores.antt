@@ -8,7 +8,7 @@ use Rattle.placement.specs.Layout.{Layout}
 use Rattle.serial_store.specs.Serial.{layer_of, AreSerial}
 use Rattle.shard_exec.specs.StoreStates.{StoreState}
 use Rattle.shard_exec.specs.Stores.{empty_store}
-use Rattle.shard_maps.specs.Joined.{joined}
+use Rattle.shards.specs.Joined.{joined}
 
 -- the store, and what came of each layer that it ran
 pub record SerialState : Type 0 where

@@ -1,7 +1,7 @@
 //! A layer that is run over the store.
 
-ghost use Rattle.std.specs.Prelude.{◌≡◌, false, IfOk, IfErr, OnOk};
-ghost use Rattle.back.specs.Runs.{IsNotAdmitted, WhyUnrun};
+ghost use Rattle.std.specs.Prelude.{IfOk, IfErr};
+ghost use Rattle.back.specs.Runs.{WhyUnrun};
 ghost use Rattle.serial_store.specs.Runs.{RunsLayer, RefusesLayer};
 ghost use Rattle.shard_exec.specs.Layers.{AddressTheirGroups};
 
@@ -13,7 +13,8 @@ use shard_exec::{ExecFault, Store};
 use shard_workers::{Gate, Workers};
 use std::alloc::Global;
 
-/// Runs a layer over the store, and gives what came of it. The room for that is taken before the first request is run.
+/// Runs a layer over the store, whose requests address the groups of its table, and gives what came of it. The room for that is taken
+/// before the first request is run.
 pub fn run_over<W: Workers>(
     alloc: Global,
     store: &mut Store,
@@ -22,13 +23,13 @@ pub fn run_over<W: Workers>(
     workers: &W,
     gate: &(dyn Gate + Sync),
 ) -> Result<Done, ExecFault>
+    requires { AddressTheirGroups store.old.table layer }
     ensures run { IfOk result (λ done. RunsLayer store.old skip.now layer done store.new) }
     ensures fault { IfErr result (λ fault. RefusesLayer (W.may_refuse workers.now) store.old layer fault store.new) }
 {
-    let layer = match admit(store, layer) {
-        Ok(layer) => layer,
-        Err(fault) => return Err(fault),
-    };
+    if store.has_failed() {
+        return Err(ExecFault::Failed);
+    }
     let Ok(room) = Vec::with_capacity(alloc, layer.jobs().len()) else {
         return Err(unrun(store, layer));
     };
@@ -36,22 +37,6 @@ pub fn run_over<W: Workers>(
         Ok(ended) => Ok(results(room, ended)),
         Err(fault) => Err(fault),
     }
-}
-
-/// The layer, if the store has not failed and the layer's requests address the groups of its table; else why it isn't run.
-fn admit(store: &Store, layer: Layer) -> Result<Layer, ExecFault>
-    ensures admitted { IfOk result (λ back. back ≡ layer) }
-    ensures lives { OnOk result (store.now.failed ≡ false) }
-    ensures addressed { OnOk result (AddressTheirGroups store.now.table layer) }
-    ensures refused { IfErr result (IsNotAdmitted store.now layer) }
-{
-    if store.has_failed() {
-        return Err(ExecFault::Failed);
-    }
-    if !store.may_run(&layer) {
-        return Err(ExecFault::Foreign(layer));
-    }
-    Ok(layer)
 }
 
 /// Why a layer isn't run for whose results there is no memory: where it is stale as well, that comes first.

@@ -1,11 +1,14 @@
 //! The store, and the history of what came of its layers.
 
-ghost use Rattle.std.specs.Prelude.{◌≡◌, ◌++◌, [], length, IfOk, IfErr, OnOk, OnErr};
+ghost use Rattle.std.specs.Prelude.{◌≡◌, ◌++◌, [], length, min, pos, sum_by, IfOk, IfErr, OnOk, OnErr};
+ghost use Rattle.std.specs.Bool.{OnTrue, OnFalse};
+ghost use Rattle.std.specs.FinMap as map;
 ghost use Rattle.dumps.specs.Dump.{dump_text};
 ghost use Rattle.serial_store.specs.Runs.{HasRun, IsUnrun};
 ghost use Rattle.serial_store.specs.Stores.{new_state, IsLawful};
+ghost use Rattle.shard_exec.specs.Layers.{AddressTheirGroups};
 ghost use Rattle.shard_exec.specs.StoreStates.{IsStore};
-ghost use Rattle.shard_maps.specs.Joined.{joined};
+ghost use Rattle.shards.specs.Joined.{joined};
 
 use crate::fault::Unrun;
 use crate::law::{Lent, Serial, Tabled};
@@ -71,10 +74,11 @@ impl<T: Tabled, J: Naming> SerialStore<T, J> {
     }
 
     /// Runs the layer of this number by these workers, where so many were run before it, but for the requests and the members that
-    /// `skip` names, which count as starved. The gate is told of each request that is run.
+    /// `skip` names, which count as starved. Its requests address the groups of the store's table. The gate is told of each request that
+    /// is run.
     ///
-    /// `Unrun` says why it is not run: its turn has not come; or the first that applies of Failed, Foreign, Stale and Memory. All but
-    /// Failed hand it back with nothing changed; after Failed no layer is run any more.
+    /// `Unrun` says why it is not run: its turn has not come; or the first that applies of Failed, Stale and Memory. All but Failed hand
+    /// it back with nothing changed; after Failed no layer is run any more.
     pub fn run<W: Workers>(
         &mut self,
         number: u64,
@@ -83,6 +87,7 @@ impl<T: Tabled, J: Naming> SerialStore<T, J> {
         workers: &W,
         gate: &(dyn Gate + Sync),
     ) -> Result<Ran<T, J>, Unrun>
+        requires { AddressTheirGroups T.table layer }
         ensures run { IfOk result (λ ran. HasRun self.old number skip.now layer ran.done self.new) }
         ensures all { IfOk result (λ ran. (ran.runs ≡ self.new.runs) × (ran.number ≡ number)) }
         ensures unrun { IfErr result (λ unrun. IsUnrun (W.may_refuse workers.now) self.old number layer unrun self.new) }
@@ -105,6 +110,15 @@ impl<T: Tabled, J: Naming> SerialStore<T, J> {
         }
     }
 
+    /// Whether each request of the layer addresses the groups that the table gives its batch: the condition of `run`, for callers that
+    /// can't prove it.
+    pub fn may_run(&self, layer: &Layer) -> bool
+        ensures may { OnTrue result (AddressTheirGroups T.table layer.now) }
+        ensures may_not { OnFalse result (AddressTheirGroups T.table layer.now → ⊥) }
+    {
+        self.store.may_run(layer)
+    }
+
     /// The table that places its keys. Each shard has only keys that it places there.
     pub fn table(&self) -> &Table
         ensures table { result.now ≡ self.now.store.table }
@@ -125,6 +139,13 @@ impl<T: Tabled, J: Naming> SerialStore<T, J> {
         ensures { result ≡ length self.now.runs }
     {
         self.count
+    }
+
+    /// How many keys the shards hold together, or 9223372036854775807 where there are more.
+    pub fn size(&self) -> i64
+        ensures { result ≡ pos (min (sum_by map.len self.now.store.maps) 9223372036854775807) }
+    {
+        self.store.size()
     }
 
     /// Whether a worker could not be started once: then no layer is run any more.

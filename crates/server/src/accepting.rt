@@ -4,12 +4,13 @@ use crate::connection::{Service, WITHOUT_MEMORY, say, serve_connection};
 use crate::course::{Course, WAKING};
 use crate::faults::HostFault;
 use crate::streams::Streams;
+use cluster::Server;
 use cluster_sending::{halves_send, syncs};
+use serial_store::Tabled;
 use server_waiting::Endings;
 use std::collections::BTreeMap;
 use std::io::{self, ErrorKind};
 use std::net::{Shutdown, TcpListener, TcpStream};
-use std::sync::ledger::Ledger;
 use std::sync::{Arc, Wait};
 use std::thread::{self, JoinHandle, Threads};
 use std::time::{Clock, Duration, Instant};
@@ -33,11 +34,11 @@ const PATIENCE: u64 = 300;
 /// thread for them. A thread that has ended is joined when the next connection comes, or is waited for.
 ///
 /// Once the server is to end no more connections are taken, and those that are served end.
-pub(crate) fn serve_connections<L: Ledger + Send + Sync, R>(
+pub(crate) fn serve_connections<T: Tabled + Send + Sync, L: Server + Send + Sync, R>(
     rt: &R,
     listener: &TcpListener,
     connections: u64,
-    service: &Service<'_, L>,
+    service: &Service<'_, T, L>,
 ) -> u64
 where
     R: Threads + Wait + AllocGlobal + Eprint + Clock + Sync,

@@ -4,7 +4,9 @@ ghost use Rattle.server.specs.Serving.{ServesDesk};
 
 use crate::course::Course;
 use crate::faults::HostFault;
+use cluster::Server;
 use resp_decoder::Limits;
+use serial_store::Tabled;
 use serving::{Door, ServeFault, Served, serve};
 use shared_cluster::{AskFault, Desk, FaultKind, Shared, Turns};
 use std::alloc::Global;
@@ -12,7 +14,6 @@ use std::fmt::Display;
 use std::io::{ErrorKind, Read, Write};
 use std::net::{Shutdown, TcpStream};
 use std::sync::Wait;
-use std::sync::ledger::Ledger;
 use std::time::{Clock, Duration, Instant};
 
 /// For how many milliseconds at most what a connection still sends is read and dropped, before it is closed.
@@ -30,15 +31,19 @@ const DROPPED: usize = 4096;
 
 /// What a connection is served with: the cluster, who makes its turns, and the course of the server, which is told its faults.
 #[derive(Drop)]
-pub(crate) struct Service<'a, L: Ledger> {
-    pub shared: &'a Shared<L>,
+pub(crate) struct Service<'a, T: Tabled, L: Server> {
+    pub shared: &'a Shared<T, L>,
     pub turns: Turns,
     pub max_steps: u64,
     pub course: &'a Course,
 }
 
 /// Serves one connection, which is counted meanwhile.
-pub(crate) fn serve_connection<L: Ledger, R>(rt: &R, service: &Service<'_, L>, stream: &TcpStream)
+pub(crate) fn serve_connection<T: Tabled, L: Server, R>(
+    rt: &R,
+    service: &Service<'_, T, L>,
+    stream: &TcpStream,
+)
 where
     R: Wait + AllocGlobal + Eprint + Clock,
 {
@@ -49,7 +54,7 @@ where
 }
 
 /// Serves one connection, at a seat of its own.
-fn serve_seat<L: Ledger, R>(rt: &R, service: &Service<'_, L>, stream: &TcpStream)
+fn serve_seat<T: Tabled, L: Server, R>(rt: &R, service: &Service<'_, T, L>, stream: &TcpStream)
 where
     R: Wait + AllocGlobal + Eprint + Clock,
 {
@@ -82,14 +87,14 @@ where
 /// What was read, asked and written with each outcome is said by `Serves`, and what a request is answered by `Asks`: the outcome of
 /// the seat's next request, or that there was no memory for it. With `ServeFault::Door` the desk was refused an ask, by the fault that is
 /// given. The desk lets others pass before each read and write, and at the end.
-pub fn serve_desk<L: Ledger, C: Wait + Clock, R: Read, W: Write>(
+pub fn serve_desk<T: Tabled, L: Server, C: Wait + Clock, R: Read, W: Write>(
     alloc: Global,
     limits: Limits,
-    desk: &mut Desk<'_, L, C>,
+    desk: &mut Desk<'_, T, L, C>,
     reader: &mut R,
     writer: &mut W,
 ) -> Result<Served, ServeFault<AskFault>>
-    ensures { ServesDesk desk.old desk.new (λ d. d.seat) limits
+    ensures { ServesDesk T.table desk.old desk.new (λ d. d.seat) limits
         (R.remaining reader.old) (R.remaining reader.new) (W.contents writer.old) (W.contents writer.new) result }
 {
     let served = serve(alloc, limits, reader, writer, desk);
@@ -98,9 +103,9 @@ pub fn serve_desk<L: Ledger, C: Wait + Clock, R: Read, W: Write>(
 }
 
 /// Ends a connection by the fault with which it was refused, which may be one of the whole server.
-fn end_by<L: Ledger, R: Wait + Eprint + Clock>(
+fn end_by<T: Tabled, L: Server, R: Wait + Eprint + Clock>(
     rt: &R,
-    service: &Service<'_, L>,
+    service: &Service<'_, T, L>,
     stream: &TcpStream,
     fault: AskFault,
 ) {
@@ -108,7 +113,7 @@ fn end_by<L: Ledger, R: Wait + Eprint + Clock>(
     say(rt, stream, fault, LINGERING);
 }
 
-impl<L: Ledger> Service<'_, L> {
+impl<T: Tabled, L: Server> Service<'_, T, L> {
     /// A fault of the whole server is met, where an ask or a drive was refused by one.
     pub(crate) fn meet<R: Wait + Eprint>(&self, rt: &R, refused: &AskFault) {
         let fault = match refused.kind() {

@@ -1,13 +1,11 @@
 //! How far a server is, and whether it is to end.
 
 ghost use Rattle.std.specs.Prelude.{◌≡◌};
+ghost use Rattle.server.specs.Ends.{IsEndStatus};
 
 use crate::faults::HostFault;
-use crate::report::{Report, Seen};
-use shared_cluster::Shared;
-use std::net::{Net, SocketAddr, TcpStream};
+use crate::report::Seen;
 use std::sync::atomic::{AtomicBool, AtomicU64, Ordering};
-use std::sync::ledger::Ledger;
 use std::sync::{Condvar, CondvarTimeouts, Mutex, Wait};
 use std::time::{Clock, Duration};
 
@@ -22,12 +20,22 @@ struct State {
     fault: Option<HostFault>,
     // Someone asked that the server ends.
     is_asked: bool,
+    // The trace couldn't be written, which ends nothing.
+    has_lost_trace: bool,
     // How many connections were refused, once no more are taken.
     refused: Option<u64>,
 }
 
+impl State {
+    /// Whether the server is to end.
+    fn is_over(&self) -> bool {
+        self.is_asked || self.fault.is_some()
+    }
+}
+
 /// The course of a server. It takes no more connections, and ends, once a fault of the whole is met, which is told on
-/// standard error at once and decides the status; or once someone asks that it ends, which is no fault.
+/// standard error at once and decides the status; or once someone asks that it ends, which is no fault. A trace that can't be written
+/// ends nothing; it is told, too, and decides the status where no fault does.
 #[derive(Drop)]
 pub struct Course {
     state: Mutex<State>,
@@ -49,6 +57,7 @@ impl Course {
             state: Mutex::new(State {
                 fault: None,
                 is_asked: false,
+                has_lost_trace: false,
                 refused: None,
             }),
             changed: Condvar::new(),
@@ -71,8 +80,7 @@ impl Course {
 
     /// Whether the server is to end.
     pub(crate) fn is_over<R: Wait>(&self, rt: &R) -> bool {
-        let state = self.state.lock(rt);
-        state.is_asked || state.fault.is_some()
+        self.state.lock(rt).is_over()
     }
 
     /// A fault is met, and told if it is the first.
@@ -83,6 +91,25 @@ impl Course {
             self.clear(rt);
             let _ = eprintln!(rt; "shardkv-server: {fault}");
             self.changed.notify_all();
+        }
+    }
+
+    /// The trace can't be written, which is told. The server goes on without.
+    pub(crate) fn lose_trace<R: Wait + Eprint>(&self, rt: &R) {
+        self.state.lock(rt).has_lost_trace = true;
+        self.clear(rt);
+        let _ = eprintln!(rt; "shardkv-server: {}", HostFault::Trace);
+    }
+
+    /// The program's status: that of the fault that was met, or of a trace that was lost, or 0.
+    pub(crate) fn status<R: Wait>(&self, rt: &R) -> u8
+        ensures { IsEndStatus result }
+    {
+        let state = self.state.lock(rt);
+        match state.fault {
+            Some(fault) => fault.status(),
+            None if state.has_lost_trace => HostFault::Trace.status(),
+            None => 0,
         }
     }
 
@@ -107,45 +134,27 @@ impl Course {
         self.changed.notify_all();
     }
 
-    /// Waits until no more connections are taken, and gives how many were refused. Where the server is to end meanwhile, the
-    /// thread that takes connections at this address is woken: one more comes, which it doesn't serve. Reports are told when
-    /// their time has come.
-    pub(crate) fn wait_for_end<L: Ledger, R: Wait + Net + Clock + Eprint>(
+    /// Waits until something happens, or for so long where it is said; but not where it is to end, and the caller doesn't know. Gives how
+    /// many connections were refused, once no more are taken.
+    pub(crate) fn wait_within<R: Wait + Clock>(
         &self,
         rt: &R,
-        address: &SocketAddr,
-        shared: &Shared<L>,
-        report: &mut Report,
-    ) -> u64 {
-        let again = Duration::from_millis(WAKING);
-        let mut state = self.state.lock(rt);
-        for _ in rt.forever() {
-            if let Some(refused) = state.refused {
-                return refused;
-            }
-            if state.is_asked || state.fault.is_some() {
-                drop(state);
-                let _ = TcpStream::connect_timeout(rt, address, again);
-                let (locked, _) = self.changed.wait_timeout(rt, self.state.lock(rt), again);
-                state = locked;
-                continue;
-            }
-            let Some(left) = report.left(rt) else {
-                state = self.changed.wait(rt, state);
-                continue;
-            };
-            let (locked, _) = self.changed.wait_timeout(rt, state, left);
-            drop(locked);
-            if let Some(seen) = report.due(rt, self.connections(), shared) {
-                self.show(rt, &seen);
-            }
-            state = self.state.lock(rt);
+        is_over: bool,
+        most: Option<Duration>,
+    ) -> Option<u64> {
+        let state = self.state.lock(rt);
+        if state.refused.is_some() || state.is_over() != is_over {
+            return state.refused;
         }
-        unreachable!()
+        let state = match most {
+            Some(most) => self.changed.wait_timeout(rt, state, most).0,
+            None => self.changed.wait(rt, state),
+        };
+        state.refused
     }
 
     /// Shows a report: on a terminal in the place of the one before, and else as a line.
-    fn show<R: Eprint>(&self, rt: &R, seen: &Seen) {
+    pub(crate) fn show<R: Eprint>(&self, rt: &R, seen: &Seen) {
         self.clear(rt);
         if self.on_terminal {
             let _ = eprint!(rt; "shardkv-server: {seen}");

@@ -3,7 +3,6 @@
 ghost use Rattle.std.specs.Prelude.{◌≡◌, ◌≤◌};
 ghost use Rattle.server.specs.declared.faults.HostFault.TheVariants as host_fault;
 
-use journal::SendFault;
 use shared_cluster::CloseKind;
 use std::alloc::AllocError;
 use thiserror::Error;
@@ -47,14 +46,5 @@ impl From<AllocError> for HostFault {
 
     fn from(_error: AllocError) -> HostFault {
         HostFault::Memory
-    }
-}
-
-impl From<SendFault> for HostFault {
-    fn from(fault: SendFault) -> HostFault {
-        match fault {
-            SendFault::Memory => HostFault::Memory,
-            SendFault::Write => HostFault::Trace,
-        }
     }
 }

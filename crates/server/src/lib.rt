@@ -10,6 +10,7 @@ mod report;
 mod sending;
 mod streams;
 mod trace_file;
+mod watching;
 
 pub use connection::serve_desk;
 pub use course::Course;

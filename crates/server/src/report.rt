@@ -1,9 +1,11 @@
 //! Reports of how far a server is.
 
+use crate::course::Course;
+use cluster::Server;
+use serial_store::Tabled;
 use shared_cluster::{Shared, Sight};
 use std::fmt;
 use std::sync::Wait;
-use std::sync::ledger::Ledger;
 use std::time::{Clock, Duration, Instant};
 
 /// How many milliseconds a second has.
@@ -17,6 +19,7 @@ pub(crate) struct Seen {
     rate: u64,
     sight: Sight,
     steps_left: u64,
+    keys: i64,
 }
 
 impl fmt::Display for Seen {
@@ -26,10 +29,11 @@ impl fmt::Display for Seen {
             rate,
             sight,
             steps_left,
+            keys,
         } = self;
         write!(
             f,
-            "{connections} connections, {rate} requests a second, {} requests, {} starved, {steps_left} steps left",
+            "{connections} connections, {rate} requests a second, {} requests, {} starved, {steps_left} steps left, {keys} keys",
             sight.requests, sight.starved
         )
     }
@@ -69,8 +73,28 @@ impl Report {
         }
     }
 
+    /// Tells reports when their time has come, until the server is to end or no more connections are taken.
+    pub(crate) fn tell<T: Tabled, L: Server, R: Wait + Clock + Eprint>(
+        mut self,
+        rt: &R,
+        course: &Course,
+        shared: &Shared<T, L>,
+    ) {
+        for _ in rt.forever() {
+            let Some(left) = self.left(rt) else {
+                return;
+            };
+            if course.wait_within(rt, false, Some(left)).is_some() || course.is_over(rt) {
+                return;
+            }
+            if let Some(seen) = self.due(rt, course.connections(), shared) {
+                course.show(rt, &seen);
+            }
+        }
+    }
+
     /// How long it is until the next one is due, if there is one.
-    pub(crate) fn left<R: Clock>(&self, rt: &R) -> Option<Duration> {
+    fn left<R: Clock>(&self, rt: &R) -> Option<Duration> {
         let (Some(every), Some(last)) = (self.every, self.last) else {
             return None;
         };
@@ -81,11 +105,11 @@ impl Report {
     }
 
     /// The one that is due, if its time has come: of so many connections, and of the cluster.
-    pub(crate) fn due<L: Ledger, R: Wait + Clock>(
+    fn due<T: Tabled, L: Server, R: Wait + Clock>(
         &mut self,
         rt: &R,
         connections: u64,
-        shared: &Shared<L>,
+        shared: &Shared<T, L>,
     ) -> Option<Seen> {
         let (Some(every), Some(last)) = (self.every, self.last) else {
             return None;
@@ -107,6 +131,7 @@ impl Report {
             rate: rate_of(sight.requests.saturating_sub(last.requests), passed),
             sight,
             steps_left: self.max_steps.saturating_sub(sight.steps),
+            keys: shared.keys(rt),
         })
     }
 }

@@ -123,9 +123,7 @@ fn replies_before_a_fault_arrive(rt: HostRuntime) -> Result<(), Fail> {
     is_ended_behind(&rt, first.as_str(), second.as_str(), replies.as_str())
 }
 
-const ASKS_ONCE: [Act<'static>; 2] = [(0, Asks("SET a 1")), (0, Gets("+OK|"))];
-
-/// A server whose trace would be in this file isn't able to write it.
+/// A server whose trace would be in this file isn't able to write it, and serves no one.
 fn writes_no_trace<R>(rt: &R, path: &str) -> Result<(), Fail>
 where
     R: Threads
@@ -139,7 +137,7 @@ where
         + Net<Listener = TcpListener, Stream = TcpStream>,
 {
     let options = options(1, 1, MANY, Some(path))?;
-    serve_by(rt, &options, 1, &ASKS_ONCE, End::By(6))
+    serve_by(rt, &options, 0, &[], End::By(6))
 }
 
 /// A file stands under this name, and a folder under the one that its trace would be written to first.
@@ -181,4 +179,37 @@ where
 fn an_older_trace_stays(rt: HostRuntime) -> Result<(), Fail> {
     let path = path_of(&rt, "older")?;
     leaves(&rt, path.as_str())
+}
+
+const ASKS_ONCE: [Act<'static>; 2] = [(0, Asks("SET a 1")), (0, Gets("+OK|"))];
+
+/// A folder has the name that the trace would get at its end. The client is answered, the end is told, and the status is 6; what was
+/// written stays.
+fn stays_unnamed<R>(rt: &R, path: &str) -> Result<(), Fail>
+where
+    R: Threads
+        + Wait
+        + AllocGlobal
+        + Files
+        + RandomSource
+        + Eprint
+        + Clock
+        + Sync
+        + Net<Listener = TcpListener, Stream = TcpStream>,
+{
+    let part = format!(in rt.alloc(); "{path}.part")?;
+    fs::create_dir(rt, path)?;
+    let options = options(1, 1, MANY, Some(path))?;
+    let closed = "closed requests=1 executed=1 starved=0";
+    let served = serve_by(rt, &options, 1, &ASKS_ONCE, End::Lost(closed));
+    let _ = fs::remove_dir(rt, path);
+    served?;
+    replay_trace(rt, part.as_str(), 1, b"key 61 string 31\nagree\n")
+}
+
+/// A trace that can't get its name stays where it was written.
+#[test]
+fn a_trace_without_its_name_stays(rt: HostRuntime) -> Result<(), Fail> {
+    let path = path_of(&rt, "unnamed")?;
+    stays_unnamed(&rt, path.as_str())
 }

@@ -19,7 +19,9 @@ use std::sync::Wait;
 use std::test::Fail;
 use std::thread::{Threads, join};
 use std::time::Clock;
-use test_support::{TWO_SHARDS, holds, same_bytes, same_count, same_number, same_text};
+use test_support::{
+    TWO_SHARDS, as_wanted, holds, last_line, same_bytes, same_number, same_report, same_text,
+};
 
 /// At most how many steps a server makes where a test has no other number.
 pub(crate) const MANY: u64 = 1_000_000;
@@ -57,10 +59,10 @@ pub(crate) fn options<'a>(
 }
 
 /// How the host ended: its status, and what it printed.
-pub(crate) type Hosted = (u8, Vec<u8>);
+type Hosted = (u8, Vec<u8>);
 
 /// Hosts at a listener on two shards.
-pub(crate) fn hosted<R>(rt: &R, listener: &TcpListener, options: &Options<'_>) -> Hosted
+fn hosted<R>(rt: &R, listener: &TcpListener, options: &Options<'_>) -> Hosted
 where
     R: Threads + Wait + AllocGlobal + Files + RandomSource + Eprint + Net + Clock + Sync,
     requires { InRange options.now }
@@ -116,6 +118,8 @@ where
 pub(crate) enum End<'a> {
     /// By status 0. It told first where it listens, and its last line begins so.
     Well(&'a str),
+    /// By status 6, since its trace was lost, and told the same.
+    Lost(&'a str),
     /// By this status.
     By(u8),
     /// By this status, and it told where it listens and nothing else.
@@ -158,25 +162,10 @@ fn came(
 ) -> Result<(), Fail> {
     as_wanted(otherwise)?;
     match end {
-        End::Well(last) => ended_well(alloc, listener, hosted, last),
+        End::Well(last) => ended_telling(alloc, listener, hosted, 0, last),
+        End::Lost(last) => ended_telling(alloc, listener, hosted, 6, last),
         End::By(status) => same_status(hosted, status),
         End::Bare(status) => ended_by(alloc, listener, hosted, status),
-    }
-}
-
-/// The last line of a text.
-fn last_line(text: &[u8]) -> &str {
-    match str::from_utf8(text) {
-        Ok(text) => text.lines().last().unwrap_or(""),
-        Err(_) => "",
-    }
-}
-
-/// Fails with what came otherwise, if something did.
-pub(crate) fn as_wanted(otherwise: Option<&String>) -> Result<(), Fail> {
-    match otherwise {
-        Some(text) => Err(Fail::new(format_args!("otherwise: {text}"))),
-        None => Ok(()),
     }
 }
 
@@ -191,7 +180,7 @@ fn same_status(hosted: &Hosted, status: u8) -> Result<(), Fail> {
 }
 
 /// A host ended by this status, and told where it listens and nothing else.
-pub(crate) fn ended_by(
+fn ended_by(
     alloc: Global,
     listener: &TcpListener,
     hosted: &Hosted,
@@ -214,14 +203,15 @@ fn tells_address(alloc: Global, listener: &TcpListener, told: &[u8]) -> Result<(
     tells_first(told, first.as_str())
 }
 
-/// A host ended by status 0. It told first where it listens, and its last line begins so.
-fn ended_well(
+/// A host ended by this status. It told first where it listens, and its last line begins so.
+fn ended_telling(
     alloc: Global,
     listener: &TcpListener,
     hosted: &Hosted,
+    status: u8,
     last: &str,
 ) -> Result<(), Fail> {
-    same_status(hosted, 0)?;
+    same_status(hosted, status)?;
     tells_address(alloc, listener, hosted.1.as_slice())?;
     let closed = last_line(hosted.1.as_slice());
     holds(closed, closed.starts_with(last))
@@ -294,32 +284,5 @@ pub(crate) fn replays(alloc: Global, trace: &[u8], rows: usize, ending: &[u8]) -
     let one = InTurn(NonZeroUsize::MIN);
     let status = show(alloc, TWO_SHARDS.as_bytes(), trace, &one, &mut report);
     same_number("the status of the replay", u64::from(status), 0)?;
-    reports(report.as_slice(), rows, ending)
-}
-
-/// A report agrees, has so many rows, and ends so.
-fn reports(report: &[u8], rows: usize, ending: &[u8]) -> Result<(), Fail> {
-    same_text("the last line of the report", last_line(report), "agree")?;
-    same_count("rows", lines_with(report, "row "), rows)?;
-    let ends = report.ends_with(ending);
-    holds("the report ends with the contents", ends)
-}
-
-/// How many lines of a text begin so.
-fn lines_with(text: &[u8], beginning: &str) -> usize {
-    match str::from_utf8(text) {
-        Ok(text) => count_lines(text, beginning),
-        Err(_) => 0,
-    }
-}
-
-/// How many lines of a text begin so.
-fn count_lines(text: &str, beginning: &str) -> usize {
-    let mut count = 0usize;
-    for line in text.lines() {
-        if line.starts_with(beginning) {
-            count = count.saturating_add(1);
-        }
-    }
-    count
+    same_report(report.as_slice(), rows, ending)
 }

@@ -1,19 +1,11 @@
-//! Clients and files that make trouble, and others beside them that are served.
+//! Clients that make trouble, and others beside them that are served.
 
 use crate::clients::Act;
 use crate::clients::Does::{Asks, Ends, Gets, IsEnded, Leaves, Sees, Sends};
 use crate::ends::path_of;
-use crate::hosting::{MANY, ended_by, hosted, options, replay_trace, serve_acts};
+use crate::hosting::{replay_trace, serve_acts};
 use std::alloc::{AllocError, Global};
-use std::io::{Read, Write};
-use std::net::{Net, Shutdown, TcpListener, TcpStream};
-use std::random::RandomSource;
-use std::rt::Files;
-use std::sync::Wait;
 use std::test::Fail;
-use std::thread::Threads;
-use std::time::Clock;
-use test_support::same_bytes;
 
 /// One leaves with half a request sent, one with a request under way; one ends inside a request.
 #[rattlefmt::skip]
@@ -142,45 +134,4 @@ fn a_client_that_never_reads(rt: HostRuntime) -> Result<(), Fail> {
     let acts = acts_of_two(rt.alloc())?;
     serve_acts(&rt, 1, None, 2, acts.as_slice(), "closed requests=")?;
     serve_acts(&rt, 2, None, 2, acts.as_slice(), "closed requests=")
-}
-
-/// Sends a request, and then no more.
-fn ask_once(stream: &mut TcpStream) -> Result<(), Fail> {
-    stream.write_all(b"*1\r\n$4\r\nPING\r\n")?;
-    stream.shutdown(Shutdown::Write)?;
-    Ok(())
-}
-
-/// A server whose trace can't be written ends by 6.
-fn ends_without_trace<R>(rt: &R, listener: &TcpListener) -> Result<(), Fail>
-where
-    R: Threads + Wait + AllocGlobal + Files + RandomSource + Eprint + Net + Clock + Sync,
-{
-    let options = options(1, 1, MANY, Some("/"))?;
-    let hosted = hosted(rt, listener, &options);
-    ended_by(rt.alloc(), listener, &hosted, 6)
-}
-
-/// All that comes are these bytes.
-fn gets_all(alloc: Global, stream: &mut TcpStream, wanted: &[u8]) -> Result<(), Fail> {
-    let mut replies = Vec::new(alloc);
-    stream.read_to_end(&mut replies)?;
-    same_bytes("the replies", replies.as_slice(), wanted)
-}
-
-/// A client connects, and asks.
-fn asking(rt: &HostRuntime, listener: &TcpListener) -> Result<TcpStream, Fail> {
-    let address = listener.local_addr()?;
-    let mut stream = TcpStream::connect(rt, address)?;
-    ask_once(&mut stream)?;
-    Ok(stream)
-}
-
-/// The client is served, the status is 6, and no end is told.
-#[test]
-fn a_trace_that_cannot_be_written(rt: HostRuntime) -> Result<(), Fail> {
-    let listener = TcpListener::bind(&rt, "127.0.0.1:0")?;
-    let mut stream = asking(&rt, &listener)?;
-    ends_without_trace(&rt, &listener)?;
-    gets_all(rt.alloc(), &mut stream, b"+PONG\r\n")
 }

@@ -1,11 +1,10 @@
 //! The words that the server is started with, good and bad.
 
-use options::OptionsFault;
 use options::server::{Options, read_options};
+use options::{OptionsFault, VERSION};
 use std::alloc::{AllocError, Global};
 use std::test::Fail;
 use test_support::{same_number, same_text};
-use version::VERSION;
 
 /// Puts a word behind.
 fn push_word(alloc: Global, words: &mut Vec<String>, word: &str) -> Result<(), AllocError> {

@@ -13,7 +13,7 @@ use std::alloc::Global;
 use std::io::{ErrorKind, Read, Write};
 
 /// How many bytes are read at most at once.
-const PIECE: usize = 64 * 1024;
+const PIECE: usize = 16 * 1024;
 
 /// Serves one connection: reads requests, has the door answer them one after another, and writes the replies in their
 /// order.

@@ -17,11 +17,11 @@ use Rattle.layer_planner.specs.Units.{groups_each, AreUnitsOf}
 use Rattle.layer_planner.specs.declared.job.Job.{Job}
 use Rattle.placement.specs.Layout.{Layout, IsTable}
 use Rattle.resp.specs.Content.{Content}
-use Rattle.shard_maps.proofs.Spans.{numbers-span_at}
-use Rattle.shard_maps.specs.Joined.{joined, HasOwnKeys, Span, numbers, span_at, union, SpanHasOwnKeys}
-use Rattle.shard_maps.specs.Layer as layers
-use Rattle.shard_maps.specs.Laws.{TakenOutAsTheyWere, PartsAreInTurn}
-use Rattle.shard_maps.specs.Rows.{taken_out, emptied, taken_out_each, emptied_each, put_span, put_spans}
+use Rattle.shards.proofs.Spans.{numbers-span_at}
+use Rattle.shards.specs.Joined.{joined, HasOwnKeys, Span, numbers, span_at, union, SpanHasOwnKeys}
+use Rattle.shards.specs.Layer as layers
+use Rattle.shards.specs.Laws.{TakenOutAsTheyWere, PartsAreInTurn}
+use Rattle.shards.specs.Rows.{taken_out, emptied, taken_out_each, emptied_each, put_span, put_spans}
 use Rattle.shard_workers.proofs.Turns.{unit_ran}
 use Rattle.shard_workers.specs.Loads.{IsReadyLoad, HasRunLoad}
 use Rattle.shard_workers.specs.Runs.{IsReady, HasRun, HaveRunOver}

@@ -12,11 +12,11 @@ use Rattle.keyspace.specs.Map.{Map}
 use Rattle.layer_planner.specs.Units.{groups_at, IsUnit, AreUnitsOf}
 use Rattle.layer_planner.specs.declared.job.Job.{Job}
 use Rattle.placement.specs.Layout.{Layout, IsTable}
-use Rattle.shard_maps.proofs.Rows.{at-put_span, at-emptied, length-emptied, picked-put_span, taken_out-picked}
-use Rattle.shard_maps.proofs.Spans.{numbers-span_at}
-use Rattle.shard_maps.specs.Joined.{map_of_shard, HasOwnKeys, Span, numbers, span_at, SpanHasOwnKeys}
-use Rattle.shard_maps.specs.Laws.{WorksAreInTurn}
-use Rattle.shard_maps.specs.Rows.{taken_out, emptied, put_span}
+use Rattle.shards.proofs.Rows.{at-put_span, at-emptied, length-emptied, picked-put_span, taken_out-picked}
+use Rattle.shards.proofs.Spans.{numbers-span_at}
+use Rattle.shards.specs.Joined.{map_of_shard, HasOwnKeys, Span, numbers, span_at, SpanHasOwnKeys}
+use Rattle.shards.specs.Laws.{WorksAreInTurn}
+use Rattle.shards.specs.Rows.{taken_out, emptied, put_span}
 use Rattle.shard_workers.proofs.Turns.{one_over}
 use Rattle.shard_workers.specs.PlacedJobs.{HasRunOn, IsReadyFor, HasRunOver}
 use Rattle.shard_workers.specs.declared.placed_job.PlacedJob.{PlacedJob}

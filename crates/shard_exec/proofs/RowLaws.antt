@@ -13,11 +13,11 @@ use Rattle.layer_planner.specs.Units.{groups_each, IsUnit, AreUnitsOf}
 use Rattle.layer_planner.specs.declared.job.Job.{Job}
 use Rattle.placement.specs.Layout.{Layout, IsTable}
 use Rattle.resp.specs.Content.{Content}
-use Rattle.shard_maps.proofs.Rows.{picked-alike}
-use Rattle.shard_maps.proofs.Spans.{numbers-span_at}
-use Rattle.shard_maps.specs.Joined.{map_of_shard, HasKeysOf, HasOwnKeys, Span, span_at, union, SpanHasOwnKeys}
-use Rattle.shard_maps.specs.Layer as layers
-use Rattle.shard_maps.specs.Laws.{WorksAreInTurn}
+use Rattle.shards.proofs.Rows.{picked-alike}
+use Rattle.shards.proofs.Spans.{numbers-span_at}
+use Rattle.shards.specs.Joined.{map_of_shard, HasKeysOf, HasOwnKeys, Span, span_at, union, SpanHasOwnKeys}
+use Rattle.shards.specs.Layer as layers
+use Rattle.shards.specs.Laws.{WorksAreInTurn}
 use Rattle.shard_workers.proofs.Turns.{unit_ran}
 use Rattle.shard_workers.specs.Runs.{HaveRunOver}
 use Rattle.shard_workers.specs.PlacedJobs.{outcome, HasRunOver}

@@ -14,8 +14,8 @@ use Rattle.layer_planner.specs.Units.{groups_at, IsUnit}
 use Rattle.layer_planner.specs.declared.job.Job.{Job}
 use Rattle.placement.specs.Layout.{Layout, IsTable, shard_of}
 use Rattle.resp.specs.Content.{Content}
-use Rattle.shard_maps.proofs.Spans.{get-union-joined}
-use Rattle.shard_maps.specs.Joined.{joined, HasOwnKeys, union, span_at, Span}
+use Rattle.shards.proofs.Spans.{get-union-joined}
+use Rattle.shards.specs.Joined.{joined, HasOwnKeys, union, span_at, Span}
 use Rattle.shard_workers.specs.Runs.{HaveRunOver}
 use Rattle.shard_workers.specs.PlacedJobs.{outcome, MapRan, HasRunOn}
 use Rattle.shard_workers.specs.declared.placed_job.PlacedJob.{PlacedJob}

@@ -11,8 +11,8 @@ use Rattle.layer_planner.specs.declared.job.Job.{Job}
 use Rattle.placement.specs.Layout.{Layout}
 use Rattle.tasks.proofs.Groups.{task_groups-below}
 use Rattle.shard_exec.specs.Layers.{AddressTheirGroups, IsInside}
-use Rattle.shard_maps.specs.Joined.{map_of_shard, HasKeysOf, HasOwnKeys}
-use Rattle.shard_maps.specs.Rows.{emptied, emptied_each}
+use Rattle.shards.specs.Joined.{map_of_shard, HasKeysOf, HasOwnKeys}
+use Rattle.shards.specs.Rows.{emptied, emptied_each}
 use Rattle.values.specs.declared.Value.{Value}
 
 pub all_inside : (table : Layout) (n : ℕ) (jobs : List Job) → n ≡ table.shards → AddressTheirGroups table jobs

@@ -3,8 +3,8 @@ use Rattle.std.proofs.Common.{◌≡◌, ℕ, List, [], ◌∷◌, ◌++◌, sli
 use Rattle.std.proofs.Math.Seq.{append_snoc}
 use Rattle.std.specs.FinMap.{empty}
 use Rattle.keyspace.specs.Map.{Map}
-use Rattle.shard_maps.specs.Joined.{Span}
-use Rattle.shard_maps.specs.Rows.{taken_out, emptied}
+use Rattle.shards.specs.Joined.{Span}
+use Rattle.shards.specs.Rows.{taken_out, emptied}
 
 pub taken_more : (row row' : List Map) (span span' all : Span) (groups rest : List ℕ) (g : ℕ) (m : Map) → groups ≡ g ∷ rest
     → m ≡ slice_index_or row g empty → row' ≡ slice_set row g empty → span' ≡ span ++ (g, m) ∷ [] → span ++ taken_out empty row groups ≡ all

@@ -17,8 +17,8 @@ use Rattle.layer_planner.specs.Units.{groups_each, groups_at, IsUnit, AreUnitsOf
 use Rattle.layer_planner.specs.declared.job.Job.{Job}
 use Rattle.placement.specs.Layout.{Layout, IsTable}
 use Rattle.resp.specs.Content.{Content}
-use Rattle.shard_maps.specs.Joined.{joined, HasOwnKeys, Span, numbers, span_at, union, SpanHasOwnKeys}
-use Rattle.shard_maps.specs.Layer as layers
+use Rattle.shards.specs.Joined.{joined, HasOwnKeys, Span, numbers, span_at, union, SpanHasOwnKeys}
+use Rattle.shards.specs.Layer as layers
 use Rattle.shard_workers.specs.Runs.{HaveRunOver}
 use Rattle.shard_workers.specs.PlacedJobs.{outcome, IsReadyFor}
 use Rattle.shard_workers.specs.declared.placed_job.PlacedJob.{PlacedJob}

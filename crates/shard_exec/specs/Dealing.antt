@@ -2,7 +2,7 @@
 use Rattle.std.specs.Prelude.{◌≡◌, ℕ, ◌<◌, List, [], ◌∷◌, ◌++◌, Option, Some, None, map, slice_get, slice_set}
 use Rattle.std.specs.Global.{Vec}
 use Rattle.std.specs.List.{AllByRecursion}
-use Rattle.shard_maps.specs.Joined.{Span}
+use Rattle.shards.specs.Joined.{Span}
 use Rattle.shard_workers.specs.declared.load.Load.{Load}
 use Rattle.shard_workers.specs.declared.placed_job.JobRan.{JobRan}
 use Rattle.shard_workers.specs.declared.work.Work.{Work}

@@ -11,7 +11,7 @@ use Rattle.shard_exec.specs.Layers.{TookJobs}
 use Rattle.shard_exec.specs.declared.dealt_room.UnitRoom.{UnitRoom}
 use Rattle.shard_exec.specs.declared.dealt_room.LoadRoom.{LoadRoom}
 use Rattle.shard_exec.specs.declared.dealt_room.DealtRoom.{DealtRoom}
-use Rattle.shard_maps.specs.Rows.{taken_out, emptied}
+use Rattle.shards.specs.Rows.{taken_out, emptied}
 use Rattle.shard_workers.specs.declared.work.Work.{Work}
 
 -- the places of a unit: some, of a layer of so many

@@ -12,8 +12,8 @@ use Rattle.resp.specs.Content.{Content}
 use Rattle.tasks.specs.Tasks.{Task, task_groups, deed_effect, deed_of, task_takes_memory, MembersStarveRightly}
 use Rattle.shard_exec.specs.Dealing.{filled}
 use Rattle.shard_exec.specs.declared.done.Ended.{Ended}
-use Rattle.shard_maps.specs.Joined.{joined, HasOwnKeys}
-use Rattle.shard_maps.specs.Layer.{LayerRan, AnsweredInTurn}
+use Rattle.shards.specs.Joined.{joined, HasOwnKeys}
+use Rattle.shards.specs.Layer.{LayerRan, AnsweredInTurn}
 use Rattle.shard_workers.specs.PlacedJobs.{outcome}
 use Rattle.shard_workers.specs.declared.placed_job.PlacedJob.{PlacedJob}
 use Rattle.shard_workers.specs.declared.placed_job.JobRan.{JobRan}

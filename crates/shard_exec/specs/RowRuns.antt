@@ -10,7 +10,7 @@ use Rattle.placement.specs.Layout.{Layout}
 use Rattle.tasks.specs.Tasks.{task_groups}
 use Rattle.shard_exec.specs.Layers.{IsJobAt}
 use Rattle.shard_exec.specs.Rooms.{FitsAlone}
-use Rattle.shard_maps.specs.Joined.{map_of_shard, span_at}
+use Rattle.shards.specs.Joined.{map_of_shard, span_at}
 use Rattle.shard_workers.specs.PlacedJobs.{HasRunOver}
 use Rattle.shard_workers.specs.declared.placed_job.PlacedJob.{PlacedJob}
 use Rattle.shard_workers.specs.declared.placed_job.JobRan.{JobRan}

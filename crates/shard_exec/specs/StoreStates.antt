@@ -5,7 +5,7 @@ use Rattle.std.specs.FinMap.{code}
 use Rattle.keyspace.specs.Map.{Map}
 use Rattle.placement.specs.contracts.table.Table as table
 use Rattle.placement.specs.Layout.{Layout, IsTable}
-use Rattle.shard_maps.specs.Joined.{HasOwnKeys}
+use Rattle.shards.specs.Joined.{HasOwnKeys}
 use Rattle.groups.specs.contracts.stamp.Stamp as stamp
 use Rattle.groups.specs.declared.stamp.Stamp.{Stamp}
 use Rattle.values.specs.contracts.Value as value

@@ -8,7 +8,7 @@ ghost use Rattle.layer_planner.specs.Parts.{units_in};
 ghost use Rattle.shard_exec.specs.Dealing.{CanTake, left_at, all_works};
 ghost use Rattle.shard_exec.specs.DealtRooms.{HasRoomFor, HaveRoomFor, IsInRow, MadeWorks, all_rooms};
 ghost use Rattle.shard_exec.specs.Layers.{TookJobs};
-ghost use Rattle.shard_maps.specs.Rows.{taken_out, emptied};
+ghost use Rattle.shards.specs.Rows.{taken_out, emptied};
 
 use crate::dealt_room::{LoadRoom, UnitRoom};
 use crate::moves::take_shards;

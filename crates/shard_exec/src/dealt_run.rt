@@ -8,9 +8,9 @@ ghost use Rattle.layer_planner.specs.Units.{AreUnitsOf, groups_each};
 ghost use Rattle.placement.specs.Layout.{IsTable};
 ghost use Rattle.shard_exec.specs.DealtRooms.{FitsDealt};
 ghost use Rattle.shard_exec.specs.Layers.{AddressTheirGroups, HaveGiven};
-ghost use Rattle.shard_maps.specs.Joined.{HasOwnKeys};
+ghost use Rattle.shards.specs.Joined.{HasOwnKeys};
 ghost use Rattle.shard_exec.specs.Dealing.{filled, placed, jobs_of, spans_of, all_jobs, all_spans, AreInside};
-ghost use Rattle.shard_maps.specs.Rows.{put_spans};
+ghost use Rattle.shards.specs.Rows.{put_spans};
 
 use crate::dealing::take_loads;
 use crate::dealt_room::DealtRoom;

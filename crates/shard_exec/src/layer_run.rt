@@ -4,7 +4,7 @@ ghost use Rattle.std.proofs.Math.ListN.{replicate};
 ghost use Rattle.std.specs.Prelude.{◌≡◌, [], ◌∷◌, length, true, None, IfOk, IsSome, OnErr};
 ghost use Rattle.std.specs.List.{AllByRecursion};
 ghost use Rattle.placement.specs.Layout.{IsTable};
-ghost use Rattle.shard_maps.specs.Joined.{HasOwnKeys};
+ghost use Rattle.shards.specs.Joined.{HasOwnKeys};
 ghost use Rattle.tasks.specs.Tasks.{task_groups};
 ghost use Rattle.shard_exec.specs.Dealing.{filled};
 ghost use Rattle.shard_exec.specs.Layers.{AddressTheirGroups, HaveGiven, IsDone};

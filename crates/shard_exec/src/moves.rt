@@ -4,7 +4,7 @@ ghost use Rattle.std.specs.Prelude.{◌≡◌, ℕ, ◌<◌, ◌≤◌, [], leng
 ghost use Rattle.std.specs.FinMap.{empty};
 ghost use Rattle.std.specs.List.{AllByRecursion};
 ghost use Rattle.groups.specs.GroupSet.{has};
-ghost use Rattle.shard_maps.specs.Rows.{taken_out, emptied, put_span};
+ghost use Rattle.shards.specs.Rows.{taken_out, emptied, put_span};
 ghost use Rattle.shard_exec.specs.Stamps.{raise};
 
 use groups::{GroupId, Groups, Stamp};

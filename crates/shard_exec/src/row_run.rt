@@ -3,7 +3,7 @@
 ghost use Rattle.std.specs.Prelude.{◌≡◌, ◌<◌, length, slice_set};
 ghost use Rattle.std.specs.List.{AllByRecursion};
 ghost use Rattle.placement.specs.Layout.{IsTable};
-ghost use Rattle.shard_maps.specs.Joined.{map_of_shard, HasOwnKeys};
+ghost use Rattle.shards.specs.Joined.{map_of_shard, HasOwnKeys};
 ghost use Rattle.tasks.specs.Tasks.{task_groups};
 ghost use Rattle.shard_exec.specs.Dealing.{CanTake};
 ghost use Rattle.shard_exec.specs.Rooms.{FitsAlone};

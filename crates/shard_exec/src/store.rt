@@ -1,13 +1,14 @@
 //! The store: the shards, and the last stamp of each.
 
-ghost use Rattle.std.specs.Prelude.{◌≡◌, ◌++◌, length, true, false, IfOk, IfErr, OnOk, OnErr};
+ghost use Rattle.std.specs.Prelude.{◌≡◌, ◌++◌, length, min, pos, sum_by, true, false, IfOk, IfErr, OnOk, OnErr};
 ghost use Rattle.std.specs.Bool.{OnTrue, OnFalse};
+ghost use Rattle.std.specs.FinMap as map;
 ghost use Rattle.std.specs.FinMap.{empty};
 ghost use Rattle.std.specs.List.{AllByRecursion};
 ghost use Rattle.dumps.specs.Dump.{dump_text};
 ghost use Rattle.tasks.specs.Tasks.{task_groups};
 ghost use Rattle.shard_exec.specs.declared.done.ExecFault.{ExecFault};
-ghost use Rattle.shard_maps.specs.Joined.{joined};
+ghost use Rattle.shards.specs.Joined.{joined};
 ghost use Rattle.shard_exec.specs.Layers.{AddressTheirGroups, IsInside};
 ghost use Rattle.shard_exec.specs.Stamps.{AreFresh, IsFresh, is_above};
 ghost use Rattle.shard_exec.specs.StoreStates.{IsStore};
@@ -19,6 +20,7 @@ use crate::{Ended, ExecFault};
 use dumps::Dump;
 use groups::{SkipId, Stamp};
 use hashed_texts::TextHasher;
+use keyspace::Keyspace;
 use layer_planner::{Job, Layer};
 use placement::Table;
 use shard_workers::{Gate, Workers};
@@ -107,6 +109,13 @@ impl Store {
         let mut dump = Dump::new(alloc);
         add_shards(self.shards.as_slice(), &mut dump)?;
         dump.write(out)
+    }
+
+    /// How many keys the shards hold together, or 9223372036854775807 where there are more.
+    pub fn size(&self) -> i64
+        ensures { result ≡ pos (min (sum_by map.len self.now.maps) 9223372036854775807) }
+    {
+        size_of(self.shards.as_slice())
     }
 
     /// Whether each request of the layer addresses the groups that the table gives its batch: the condition of
@@ -258,6 +267,18 @@ fn add_shards<'a>(shards: &'a [Shard], dump: &mut Dump<'a>) -> Result<(), AllocE
         shards[count - 1 - done].add_to(dump)?;
     }
     Ok(())
+}
+
+/// How many keys the shards hold together, the last shard counted first.
+fn size_of(shards: &[Shard]) -> i64
+    ensures { result ≡ pos (min (sum_by map.len shards.now) 9223372036854775807) }
+{
+    let count = shards.len();
+    let mut size = 0i64;
+    for done in 0..count {
+        size = size.saturating_add(shards[count - 1 - done].size());
+    }
+    size
 }
 
 /// Whether each request addresses the groups that the table gives its batch.

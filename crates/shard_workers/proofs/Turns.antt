@@ -8,7 +8,7 @@ use Rattle.std.specs.Option.{IsSome, option_or}
 use Rattle.std.specs.Ordering.{nat_cmp}
 use Rattle.std.specs.List.{AllByRecursion}
 use Rattle.std.specs.Result.{IfOk, OnErr, result_ok}
-use Rattle.batches.specs.Batch.{DoesBatch}
+use Rattle.tasks.specs.Batch.{DoesBatch}
 use Rattle.groups.specs.GroupSet.{has, IsAscending}
 use Rattle.groups.specs.declared.skip_id.SkipId.{SkipId}
 use Rattle.keyspace.proofs.Gets.{same}
@@ -16,10 +16,10 @@ use Rattle.keyspace.specs.Map.{Map}
 use Rattle.placement.specs.Layout.{Layout, IsTable, shard_of}
 use Rattle.resp.specs.Content.{Content, content}
 use Rattle.resp.specs.declared.answered.Answered.{Answered}
-use Rattle.shard_maps.proofs.Joins.{get-joined-cons, none_elsewhere, or_none}
-use Rattle.shard_maps.proofs.Runs.{SpanRan-answered, SpanRan-starved}
-use Rattle.shard_maps.specs.Joined.{HasKeysOf, Span, joined, numbers, union, SpanHasOwnKeys, SpanRan}
-use Rattle.shard_maps.specs.Layer.{UnitRan}
+use Rattle.shards.proofs.Joins.{get-joined-cons, none_elsewhere, or_none}
+use Rattle.shards.proofs.Runs.{SpanRan-answered, SpanRan-starved}
+use Rattle.shards.specs.Joined.{HasKeysOf, Span, joined, numbers, union, SpanHasOwnKeys, SpanRan}
+use Rattle.shards.specs.Layer.{UnitRan}
 use Rattle.tasks.specs.Tasks.{Task, task_groups, deed_of, task_reply}
 use Rattle.tasks.proofs.Within.{same_elsewhere}
 use Rattle.tasks.proofs.Groups.{IsAscending-task_groups}

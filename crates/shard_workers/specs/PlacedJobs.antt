@@ -7,7 +7,7 @@ use Rattle.keyspace.specs.Map.{Map}
 use Rattle.placement.specs.Layout.{Layout, IsTable}
 use Rattle.resp.specs.Content.{Content, content}
 use Rattle.resp.specs.declared.answered.Answered.{Answered}
-use Rattle.shard_maps.specs.Joined.{Span, numbers, union, SpanHasOwnKeys}
+use Rattle.shards.specs.Joined.{Span, numbers, union, SpanHasOwnKeys}
 use Rattle.tasks.specs.Tasks.{Task, task_groups, deed_effect, deed_of, task_takes_memory, MembersStarveRightly}
 use Rattle.shard_workers.specs.declared.placed_job.PlacedJob.{PlacedJob}
 use Rattle.shard_workers.specs.declared.placed_job.JobRan.{JobRan}

@@ -3,7 +3,7 @@ use Rattle.std.specs.Prelude.{◌≡◌, List, [], ◌∷◌}
 use Rattle.std.specs.List.{AllByRecursion}
 use Rattle.groups.specs.declared.skip_id.SkipId.{SkipId}
 use Rattle.placement.specs.Layout.{Layout}
-use Rattle.shard_maps.specs.Joined.{Span}
+use Rattle.shards.specs.Joined.{Span}
 pub use Rattle.shard_workers.specs.PlacedJobs.{outcome}
 use Rattle.shard_workers.specs.PlacedJobs.{IsReadyFor, HasRunOver}
 use Rattle.shard_workers.specs.declared.placed_job.PlacedJob.{PlacedJob}

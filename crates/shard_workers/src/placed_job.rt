@@ -1,14 +1,13 @@
 //! One request, over whatever keyspace has the keys of its batch.
 
 ghost use Rattle.std.specs.Prelude.{◌≡◌, All, IsTrue, length};
-ghost use Rattle.shard_maps.specs.Joined.{numbers, union};
+ghost use Rattle.shards.specs.Joined.{numbers, union};
 ghost use Rattle.tasks.specs.Tasks.{task_keys};
 ghost use Rattle.shard_workers.specs.PlacedJobs.{HasRunOn, IsReadyFor, HasRunOver, first_map};
 ghost use Rattle.shards.specs.Spans.{IsSpan, lies_on};
 
 use crate::Gate;
 use crate::skipping::names_whole;
-use batches::answer_batch;
 use groups::{GroupId, Groups, RequestId, SkipId, Stamp};
 use keyspace::Keyspace;
 use layer_planner::Job;
@@ -18,6 +17,7 @@ use resp::Answered;
 use shards::{Shard, Span, SpanFrame};
 use std::alloc::Global;
 use std::marker::Brand;
+use tasks::answer_batch;
 
 /// A request that is to be run, or skipped, with its place in the layer.
 #[derive(Drop)]

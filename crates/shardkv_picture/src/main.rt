@@ -9,9 +9,12 @@
 //! is written.
 #![tactic(auto)]
 
+#[cfg(test)]
+mod tests;
+
 use options::picture::read_options;
 use picture::told;
-use progress::Line;
+use replay::Line;
 use std::io::{self, ErrorKind, IsTerminal};
 use std::process::ExitCode;
 use std::{env, fs};

@@ -1,19 +1,26 @@
 //! `shardkv-replay`: the report of a trace.
 //!
-//! `--table FILE --trace FILE [--workers N]` names the table of the shards, the trace of a run over them, and how many
-//! workers run each layer's requests. The report goes to standard output, and what went wrong to standard error. The
+//! `--table FILE --trace FILE [--workers N] [--part]` names the table of the shards, the trace of a run over them, and how
+//! many workers run each layer's requests. The report goes to standard output, and what went wrong to standard error. The
 //! statuses: 0 where the report agrees with one thread on one map, 1 where it differs; 2 for the words; 3 for the
 //! table; 4 for the trace; 5 where a step is refused, or a worker's thread can't be started; 6 where memory was
 //! wanting; 7 where a read or a write failed.
+//!
+//! With `--part` the trace may be cut, as a killed server leaves it: what stands behind its last whole line is left out,
+//! and a line on standard error says so.
 //!
 //! Where standard error is a terminal, a line on it tells how many of the steps are made, and is gone before the report
 //! is written.
 #![tactic(auto)]
 
+#[cfg(test)]
+mod tests;
+
 use options::replay::read_options;
-use replay::{Line, Progress, ShowFault, told_watched};
+use replay::{Line, Progress, ShowFault, told_watched, whole_beginning};
 use shard_crew::Crew;
 use shard_workers::InTurn;
+use std::alloc::AllocError;
 use std::io::{self, ErrorKind, IsTerminal, Write};
 use std::num::NonZeroUsize;
 use std::process::ExitCode;
@@ -53,6 +60,10 @@ fn main(rt: HostRuntime) -> ExitCode {
             return ExitCode::from(status_of_read(&fault, 7));
         }
     };
+    let Ok(trace) = text_of(&rt, trace, asked.part) else {
+        let _ = eprintln!(rt; "{PROGRAM}: {}", ShowFault::Memory);
+        return ExitCode::from(ShowFault::Memory.status());
+    };
     let Some(workers) = NonZeroUsize::new(usize::from(asked.workers)) else {
         return ExitCode::from(2);
     };
@@ -70,6 +81,19 @@ fn main(rt: HostRuntime) -> ExitCode {
 /// The words on the command line.
 fn words<R: env::Env + AllocGlobal>(rt: &R) -> io::Result<Vec<String>> {
     Ok(env::args(rt)?.collect(rt.alloc())?)
+}
+
+/// The text of the trace in this file; of a part of one all whole lines, and how far they go is told on standard error.
+fn text_of<R: Eprint>(rt: &R, file: Vec<u8>, part: bool) -> Result<Vec<u8>, AllocError> {
+    if !part {
+        return Ok(file);
+    }
+    let made = whole_beginning(file)?;
+    let _ = eprintln!(rt;
+        "{PROGRAM}: a beginning of {} steps; {} bytes behind its last whole line were left out",
+        made.steps, made.left_out
+    );
+    Ok(made.text)
 }
 
 /// Writes the report, and answers whether it agrees. One worker needs no thread; of several, each has a thread while a

@@ -7,17 +7,20 @@
 //! queued or for a reply. What cannot be told by an error line is told on standard error.
 #![tactic(auto)]
 
+#[cfg(test)]
+mod tests;
+
 ghost use Rattle.std.specs.Prelude.{◌≡◌, option_map};
 ghost use Rattle.shardkv_solo.specs.Status as spec;
 ghost use Rattle.shardkv_solo.specs.Words.{asked_by};
 
+use options::VERSION;
 use serving::{ServeFault, Served};
 use solo::{ConnectionFault, Solo};
 use std::hash::{BuildHasherDefault, FoldHasher};
 use std::io::{self, ErrorKind, Read, Write};
 use std::process::ExitCode;
 use std::{env, mem};
-use version::VERSION;
 
 /// What help tells.
 const HELP: &str =

@@ -3,7 +3,7 @@ use Rattle.std.proofs.Common.{◌≡◌, ◌∙◌, ◌<◌, ℕ, List, length, 
 use Rattle.std.specs.Option.{OnSome}
 use Rattle.keyspace.specs.Map.{Map}
 use Rattle.placement.specs.Layout.{Layout, shard_of}
-use Rattle.shard_maps.specs.Joined.{Span, numbers}
+use Rattle.shards.specs.Joined.{Span, numbers}
 use Rattle.shards.proofs.Unions.{Spot}
 use Rattle.shards.specs.Spans.{IsSpan}
 use Rattle.values.specs.declared.Value.{Value}

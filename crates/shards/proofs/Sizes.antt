@@ -16,8 +16,8 @@ use Rattle.keyspace.proofs.Changes.{set-set, set-as_it_was, get-remove_here}
 use Rattle.keyspace.proofs.Gets.{same, same_bytes, bytes_eq-refl, get-remove}
 use Rattle.keyspace.specs.Map.{Map}
 use Rattle.placement.specs.Layout.{Layout}
-use Rattle.shard_maps.proofs.Joins.{get-joined-cons}
-use Rattle.shard_maps.specs.Joined.{Span, numbers, union, SpanHasOwnKeys}
+use Rattle.shards.proofs.Joins.{get-joined-cons}
+use Rattle.shards.specs.Joined.{Span, numbers, union, SpanHasOwnKeys}
 use Rattle.shards.proofs.Unions.{none_of, not_first}
 use Rattle.values.specs.declared.Value.{Value}
 

@@ -13,8 +13,8 @@ use Rattle.keyspace.proofs.Changes.{set-get}
 use Rattle.keyspace.proofs.Gets.{same, same_bytes, get-set}
 use Rattle.keyspace.specs.Map.{Map, set}
 use Rattle.placement.specs.Layout.{Layout, shard_of}
-use Rattle.shard_maps.proofs.Joins.{get-joined-cons, none_elsewhere}
-use Rattle.shard_maps.specs.Joined.{HasKeysOf, Span, numbers, union, SpanHasOwnKeys}
+use Rattle.shards.proofs.Joins.{get-joined-cons, none_elsewhere}
+use Rattle.shards.specs.Joined.{HasKeysOf, Span, numbers, union, SpanHasOwnKeys}
 use Rattle.shards.specs.Spans.{IsSpan}
 use Rattle.values.specs.declared.Value.{Value}
 

@@ -2,7 +2,7 @@
 use Rattle.std.specs.Prelude.{◌≡◌, ℕ, Bool, List}
 use Rattle.groups.specs.GroupSet.{has, IsAscending}
 use Rattle.placement.specs.Layout.{Layout, shard_of}
-use Rattle.shard_maps.specs.Joined.{Span, numbers, SpanHasOwnKeys}
+use Rattle.shards.specs.Joined.{Span, numbers, SpanHasOwnKeys}
 
 -- the shards of these groups, in the order of their numbers, each with only keys that the table places there
 pub record IsSpan (table : Layout) (groups : List ℕ) (span : Span) : Type 0 where

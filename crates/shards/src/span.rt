@@ -3,7 +3,7 @@
 ghost use Rattle.std.specs.Prelude.{◌≡◌, ℕ, ◌<◌, IsTrue, List, MatchOption, false, length, slice_index};
 ghost use Rattle.groups.specs.GroupSet.{has};
 ghost use Rattle.placement.specs.Layout.{shard_of};
-ghost use Rattle.shard_maps.specs.Joined.{numbers};
+ghost use Rattle.shards.specs.Joined.{numbers};
 ghost use Rattle.shards.specs.Spans.{IsSpan, lies_on};
 
 use crate::Shard;
@@ -48,7 +48,7 @@ impl<F: SpanFrame> Model for Span<F> {
     ghost use Rattle.std.specs.Prelude.{◌≡◌};
     ghost use Rattle.std.specs.Coded.{coded_list, coded×, coded_ℕ};
     ghost use Rattle.std.specs.FinMap.{code};
-    ghost use Rattle.shard_maps.specs.Joined.{Span};
+    ghost use Rattle.shards.specs.Joined.{Span};
     ghost use Rattle.shards.specs.Spans.{IsSpan};
     ghost use Rattle.values.specs.contracts.Value as value;
 
@@ -131,7 +131,7 @@ impl<F: SpanFrame> Span<F> {
 }
 
 impl<F: SpanFrame> Keyspace for Span<F> {
-    ghost use Rattle.shard_maps.specs.Joined.{union};
+    ghost use Rattle.shards.specs.Joined.{union};
     ghost use Rattle.shards.specs.Spans.{lies_on};
 
     ghost contents = { union };

@@ -1,108 +1,238 @@
--- What was collected is what came of the seat's last request; what a closed cluster tells, and its trace.
-use Rattle.std.proofs.Common.{◌≡◌, ◌∙◌, ap, sym, subst, ℕ, Bool, List, ◌++◌, Option, Some, Result, Ok, Err, OnOk, OnErr, IfOk}
-use Rattle.std.proofs.Common.{IfErr, IfSome, None, inr}
-use Rattle.std.specs.Io.KnownBytes.{Appends}
-use Rattle.back.specs.Backs.{BackState}
-use Rattle.cluster.proofs.Submits.{said_later}
-use Rattle.cluster.specs.Answers.{shown_outcome}
-use Rattle.cluster.specs.Answers as cluster_answer
+-- What was submitted, and what was collected, is what a seat is answered; what a closed cluster tells, and its trace.
+use Rattle.std.proofs.Common.{◌≡◌, ◌∙◌, ap, sym, subst, refl, ℕ, suc, ◌+◌, Bool, true, false, List, [], ◌∷◌, ◌++◌, Option, Some, Result, Ok, Err, OnOk, OnErr, IfOk}
+use Rattle.std.proofs.Common.{IfErr, IfSome, IfNone, None, inl, inr, append_assoc, arith}
+use mathlib.Core.List.{IsPrefix}
+use Rattle.cluster.proofs.Submits.{own_submit, submits_by-append}
+use Rattle.cluster.specs.Answers as cluster
 use Rattle.cluster.specs.Clusters.{SeatView, ClusterView, last_id}
+use Rattle.cluster.proofs.Seats.{submitted_is}
 use Rattle.cluster.specs.Histories.{HistoryView, IsLawful, IsMade}
-use Rattle.cluster.specs.Outcomes.{ComesFrom, IsAbove, raised}
-use Rattle.cluster.specs.Submits.{IsSaid, session_met}
-use Rattle.cluster.specs.declared.cluster.Answer.{Answer}
+use Rattle.cluster.specs.Outcomes.{ComesFrom, raised}
+use Rattle.cluster.specs.Submits.{submits_by, IsSaid, session_met}
 use Rattle.cluster.specs.declared.cluster.SealedReply.{SealedReply}
 use Rattle.cluster.specs.declared.closing.Closing.{Closing}
-use Rattle.journal.specs.TraceText.{trace_text}
-use Rattle.journal.specs.declared.step.Step.TheVariants.{Collect}
-use Rattle.resp.specs.Content.{content}
-use Rattle.resp.specs.declared.reply.Reply.{Reply}
-use Rattle.shared_cluster.specs.Asks.{submitted, Answers, Replies, IsReplied, IsCollectFault, IsAskFault}
-use Rattle.shared_cluster.specs.Closings.{Closes, RefusesClose, Writes, Sends, IsClosed, IsCloseFault, IsWritten, IsSent}
+use Rattle.groups.specs.declared.request.RequestId.{RequestId}
+use Rattle.journal.specs.declared.step.Step.{Step}
+use Rattle.journal.specs.declared.step.Step.TheVariants.{Submit, Collect}
+use Rattle.placement.specs.Layout.{Layout}
+use Rattle.resp.specs.Content.{Content, content}
+use Rattle.serial_store.specs.Stores.{SerialState}
+use Rattle.router.specs.Router.{waiting}
+use Rattle.shared_cluster.proofs.Hands.{stays_by}
+use Rattle.cluster.specs.Sealed.{RanView}
+use Rattle.shared_cluster.proofs.Hands.{turned_settled}
+use Rattle.shared_cluster.specs.Hands.{Hand, Begun, HasBegun, Answers, HasTurned, HasSettled, Gives}
+use Rattle.shared_cluster.specs.declared.asking.Begun.TheVariants as begun
+use Rattle.shared_cluster.specs.declared.asking.Settled.TheVariants as settled
+use Rattle.shared_cluster.specs.declared.hand.Hand.TheVariants as hand
+use Rattle.shared_cluster.specs.Turning.{StaysSo, IsNotThere}
+use Rattle.shared_cluster.specs.Asks.{IsNewSeat, IsSeated}
+use Rattle.shared_cluster.specs.Asks.{Submits, HasSubmitted, Replies, IsCollected, IsReplied, IsCollectFault, IsAskFault}
+use Rattle.shared_cluster.specs.Closings.{Closes, RefusesClose, Writes, IsClosed, IsCloseFault, IsWritten}
 use Rattle.shared_cluster.specs.declared.held.CloseFault.{CloseFault}
 use Rattle.shared_cluster.specs.declared.held.AskFault.{AskFault}
-use Rattle.system_view.specs.Connections.{outcome_shown}
-use Rattle.world.specs.Steps.{Collected}
-use Rattle.world.specs.World.{Outcome}
+use Rattle.front.specs.Connections.{outcome_shown}
+use Rattle.world.specs.Steps.{Submitted, Collected, Steps, Leads, opening}
 
--- where the outcome of these words comes from, by the session that they met
-abbrev HasCome : HistoryView → HistoryView → List (List ℕ) → Outcome → Type 0
-HasCome before after words o = (said : IsSaid before.steps o.id words) × ComesFrom after.front (session_met said) words o
+-- ---- behind the lock
 
-pub answered_of : (before after : HistoryView) (old new : SeatView) (a : Answer)
-    → IsMade before (Collect old.conn) (Collected (Some (shown_outcome a))) after
-    → a.id ≡ last_id old → a.words ≡ old.words → HasCome before after a.words (shown_outcome a)
-    → IsAbove a.stamp old.floor → new ≡ record old { floor = raised a.stamp old.floor } → IsLawful after
-    → Answers before old (shown_outcome a) after new
-answered_of before after old new a collected id words from above seat lawful =
-    let come = subst (λ w. HasCome before after w (shown_outcome a)) words from in
+pub replies_there : (t : Layout) (before after : HistoryView) (old new : SeatView) (o : Option SealedReply) → before.front.table ≡ t
+    → IfSome o (λ x. cluster.IsReplied before old x.reply after new) → IfSome o (λ x. Replies t before old (content x.reply) after new)
+replies_there t before after old new (Some x) table replied =
+    record { table = table; given = x.reply; is = refl; replied = replied }
+replies_there t before after old new None table replied = tt
+
+pub none_there : (h : HistoryView) (s : SeatView) (o : Option SealedReply) → IsLawful h
+    → IfNone o (waiting h.front.router s.conn.0 ≡ None) → IfNone o (IsLawful h × IsNotThere h s)
+none_there h s (Some x) lawful none = tt
+none_there h s None lawful none = (lawful, inl none)
+
+pub still_there : (old new : ClusterView) (s s' : SeatView) (o : Option SealedReply) → IfNone o ((new ≡ old) × (s' ≡ s))
+    → IfNone o (StaysSo old new)
+still_there old new s s' (Some x) same = tt
+still_there old new s s' None same = stays_by old new same.0
+
+pub was_submitted : (before mid after : HistoryView) (old new : SeatView) (words : List (List ℕ)) (id : RequestId) → mid ≡ before
+    → IsMade mid (Submit old.conn words) (Submitted id) after → IsPrefix old.seen mid.steps
+    → new ≡ record old { count = old.count + 1; last = id.seq; seen = after.steps } → Submits before old words after new
+was_submitted before mid after old new words id same made behind seat =
+    let was = subst (λ (h : HistoryView). IsMade h (Submit old.conn words) (Submitted id) after) same made in
+    let is = submitted_is before after old.conn words id was in
     record {
-      collected = collected;
-      lawful = lawful;
       id = id;
-      said = said_later before.steps after.steps (Collect old.conn) a.id old.words collected.steps come.0;
-      from = come.1;
-      above = above;
+      made = was;
+      behind = subst (λ (h : HistoryView). IsPrefix old.seen h.steps) same behind;
+      number = λ k. record { conn = is.0 k; seq = is.1 k };
       seat = seat;
     }
 
-pub replied_of : (before after : HistoryView) (old new : SeatView) (reply : Reply) → cluster_answer.IsReplied before old reply after new
-    → IsLawful after → Replies before old (content reply) after new
-replied_of before after old new reply h lawful = (
-  outcome_shown h.outcome,
-  sym (ap content h.reply),
+-- ---- of a shared cluster
+
+pub found_seated : {E : Type 0} (before after : HistoryView) (r : Result SeatView E) → IfOk r (λ s. IsSeated before s after)
+    → IfOk r IsNewSeat
+found_seated before after (Ok s) seated = (before, after, seated)
+found_seated before after (Err fault) seated = tt
+
+pub has_submitted : (before after : HistoryView) (old new : SeatView) (words : List (List ℕ)) → Submits before old words after new
+    → HasSubmitted old words new
+has_submitted before after old new words submits = record {
+  before = before.steps;
+  behind = submits.behind;
+  seat = submits.seat ∙ (λ k. record {
+    conn = old.conn;
+    floor = old.floor;
+    count = old.count + 1;
+    last = ap (λ (i : RequestId). i.seq) submits.number k;
+    seen = submits.made.steps k;
+  });
+}
+
+pub found_submitted : {E : Type 0} (before after : HistoryView) (old new : SeatView) (words : List (List ℕ)) (r : Result (Unit {0}) E)
+    → OnOk r (Submits before old words after new) → OnOk r (HasSubmitted old words new)
+found_submitted before after old new words (Ok u) submits = has_submitted before after old new words submits
+found_submitted before after old new words (Err fault) submits = tt
+
+pub found_replied : {E : Type 0} (t : Layout) (before after : HistoryView) (old new : SeatView) (r : Result (Option SealedReply) E)
+    → IfOk r (λ reply. IfSome reply (λ x. Replies t before old (content x.reply) after new))
+    → IfOk r (λ reply. IfSome reply (λ x. IsCollected t old (content x.reply) new))
+found_replied t before after old new (Ok (Some x)) replies =
+    let it = replies.replied in
+    record {
+      steps = before.steps;
+      behind = it.behind;
+      world = it.made.world;
+      leads = subst (λ s. Leads s opening before.steps it.made.world) replies.table it.made.leads;
+      outcome = outcome_shown it.outcome;
+      after = it.made.after;
+      collects = subst (λ s. Steps s it.made.world (Collect old.conn) (Collected (Some (outcome_shown it.outcome))) it.made.after)
+          replies.table it.made.makes;
+      id = it.id;
+      reply = sym (ap content it.reply) ∙ replies.is;
+      from = λ words said. subst (λ s. ComesFrom s it.made.world (session_met said) words (outcome_shown it.outcome)) replies.table
+          (it.from words said);
+      above = it.above;
+      seat = it.seat ∙ (λ k. record old { floor = raised it.outcome.stamp old.floor; seen = it.made.steps k });
+    }
+found_replied t before after old new (Ok None) replies = tt
+found_replied t before after old new (Err fault) replies = tt
+
+-- ---- what was submitted and then collected
+
+-- these words were said behind those steps, in all that begins with the Submit
+said_behind : (old : SeatView) (words : List (List ℕ)) (before steps : List Step) (i : RequestId)
+    → i ≡ record { conn = old.conn; seq = suc (submits_by old.conn.0 before) } → IsPrefix (before ++ Submit old.conn words ∷ []) steps
+    → (said : IsSaid steps i words) × (said.before ≡ before)
+said_behind old words before steps i is begins = (
   record {
-    collected = h.made;
-    lawful = lawful;
-    id = h.id;
-    said = h.said;
-    from = h.from;
-    above = h.above;
-    seat = h.seat;
+    before = before;
+    behind = begins.0;
+    split = sym begins.1 ∙ append_assoc before (Submit old.conn words ∷ []) begins.0
+        ∙ ap (λ c. before ++ Submit c words ∷ begins.0) (sym (ap (λ (x : RequestId). x.conn) is));
+    number = ap (λ (x : RequestId). x.seq) is ∙ ap (λ c. suc (submits_by c before)) (sym (ap (λ (x : RequestId). x.conn.0) is));
   },
+  refl,
 )
 
-pub written_of : {E : Type 0} (h : HistoryView) (r : Result Unit E) (before after : List ℕ) → IsLawful h
-    → OnOk r (after ≡ before ++ trace_text h.max_steps h.steps) → OnOk r (Writes h before after)
-written_of h (Ok done) before after lawful text = record { lawful = lawful; text = text }
-written_of h (Err fault) before after lawful text = tt
+pub replied_of : (t : Layout) (old mid new : SeatView) (words : List (List ℕ)) (reply : Content) → HasSubmitted old words mid
+    → IsCollected t mid reply new → IsReplied t old words reply new
+unfolding said_behind
+replied_of t old mid new words reply has collected =
+    let conn : mid.conn ≡ old.conn = ap (λ (s : SeatView). s.conn) has.seat in
+    let id : collected.outcome.id ≡ record { conn = old.conn; seq = suc (submits_by old.conn.0 has.before) } =
+    collected.id ∙ ap last_id has.seat in
+    let behind = subst (λ (s : SeatView). IsPrefix s.seen collected.steps) has.seat collected.behind in
+    let said = said_behind old words has.before collected.steps collected.outcome.id id behind in
+    record {
+      before = has.before;
+      seen = has.behind;
+      steps = collected.steps;
+      behind = behind;
+      world = collected.world;
+      leads = collected.leads;
+      outcome = collected.outcome;
+      after = collected.after;
+      collects = subst (λ c. Steps t collected.world (Collect c) (Collected (Some collected.outcome)) collected.after) conn collected.collects;
+      id = id;
+      reply = collected.reply;
+      from = subst (λ c. ComesFrom t collected.world (Rattle.world_laws.specs.Sessions.sessions_from
+          Rattle.world_laws.specs.Sessions.all_free has.before c) words collected.outcome)
+          (ap (λ (x : RequestId). x.conn.0) id) (collected.from words said.0);
+      above = subst (λ (s : SeatView). Rattle.cluster.specs.Outcomes.IsAbove collected.outcome.stamp s.floor) has.seat collected.above;
+      seat = collected.seat ∙ (λ k. record {
+        conn = conn k;
+        floor = raised collected.outcome.stamp (ap (λ (s : SeatView). s.floor) has.seat k);
+        count = ap (λ (s : SeatView). s.count) has.seat k;
+        last = (ap (λ (s : SeatView). s.last) has.seat ∙ sym (ap (λ (x : RequestId). x.seq) id)) k;
+        seen = collected.steps ++ Collect (conn k) ∷ [];
+      });
+    }
 
-pub sent_of : {E : Type 0} (h : HistoryView) (r : Result Unit E) (before after : Option (List ℕ)) → IsLawful h
-    → OnOk r (Appends before after (trace_text h.max_steps h.steps)) → OnOk r (Sends h before after)
-sent_of h (Ok done) before after lawful text = record { lawful = lawful; text = text }
-sent_of h (Err fault) before after lawful text = tt
+-- what came of a request in the holding in which it was submitted
+pub answers_of : (t : Layout) (old mid new : SeatView) (words : List (List ℕ)) (b : Begun) → HasSubmitted old words mid
+    → HasBegun t mid b new → Answers t old words b new
+answers_of t old mid new words (begun.Replied sealed) has collected =
+    replied_of t old mid new words (content sealed.reply) has collected
+answers_of t old mid new words (begun.Waits held) has waits = (subst (HasSubmitted old words) (sym waits.0) has, waits.1)
 
--- ---- the same of a shared cluster
+pub asked_replied : {E : Type 0} (t : Layout) (old mid new : SeatView) (words : List (List ℕ)) (r : Result SealedReply E)
+    → HasSubmitted old words mid → IfOk r (λ x. IsCollected t mid (content x.reply) new)
+    → IfOk r (λ x. IsReplied t old words (content x.reply) new)
+asked_replied t old mid new words (Ok x) has collected = replied_of t old mid new words (content x.reply) has collected
+asked_replied t old mid new words (Err fault) has collected = tt
 
-pub found_replied : {E : Type 0} (before after : HistoryView) (old new : SeatView) (r : Result (Option SealedReply) E)
-    → IfOk r (λ reply. IfSome reply (λ x. Replies before old (content x.reply) after new))
-    → IfOk r (λ reply. IfSome reply (λ x. IsReplied old (content x.reply) new))
-found_replied before after old new (Ok (Some x)) replies =
-    (replies.0, replies.1, record { before = before; after = after; answers = replies.2 })
-found_replied before after old new (Ok None) replies = tt
-found_replied before after old new (Err fault) replies = tt
+pub collected_there : (t : Layout) (before after : HistoryView) (old new : SeatView) (o : Option SealedReply) (x : SealedReply)
+    → o ≡ Some x → IfSome o (λ y. Replies t before old (content y.reply) after new) → IsCollected t old (content x.reply) new
+collected_there t before after old new o x is replies =
+    found_replied {E = Unit {0}} t before after old new (Ok (Some x))
+    (subst (λ (p : Option SealedReply). IfSome p (λ y. Replies t before old (content y.reply) after new)) is replies)
 
-pub found_closed : (k : ClusterView) (b : BackState) (r : Result Closing CloseFault) → IfOk r (Closes k b) → IfOk r IsClosed
-found_closed k b (Ok closing) closes = (k, b, closes)
-found_closed k b (Err fault) closes = tt
+-- ---- what came of a layer is settled, and what came of the seat's request collected in the same holding
 
-pub found_close_fault : (stopped : Bool) (k : ClusterView) (b : BackState) (r : Result Closing CloseFault)
+pub gives_turned : (t : Layout) (ran : RanView) (s s' : SeatView) (o : Option SealedReply) (old new : Hand) → old ≡ hand.HasRun ran
+    → new ≡ hand.Free → Gives t ran s (settled.Gives o) s' → HasTurned t old new
+gives_turned t ran s s' (Some sealed) old new is free gives =
+    subst (HasTurned t old) (sym free) (turned_settled t old ran is gives.0)
+gives_turned t ran s s' None old new is free gives = subst (HasTurned t old) (sym free) (turned_settled t old ran is gives.0)
+
+pub gives_replied : (t : Layout) (ran : RanView) (s s' : SeatView) (o : Option SealedReply) → Gives t ran s (settled.Gives o) s'
+    → IfSome o (λ sealed. IsCollected t s (content sealed.reply) s')
+gives_replied t ran s s' (Some sealed) gives = gives.1
+gives_replied t ran s s' None gives = tt
+
+pub gives_unasked : (t : Layout) (ran : RanView) (s s' : SeatView) (o : Option SealedReply) → Gives t ran s (settled.Gives o) s'
+    → IfNone o (s' ≡ s)
+gives_unasked t ran s s' (Some sealed) gives = tt
+gives_unasked t ran s s' None gives = gives.1
+
+pub gives_of : (t : Layout) (ran : RanView) (s s' : SeatView) (o : Option SealedReply) → HasSettled ran
+    → IfSome o (λ sealed. IsCollected t s (content sealed.reply) s') → IfNone o (s' ≡ s) → Gives t ran s (settled.Gives o) s'
+gives_of t ran s s' (Some sealed) has replied same = (has, replied)
+gives_of t ran s s' None has replied same = (has, same)
+
+-- what is refused once the request was submitted
+pub begun_fault : (old mid new : SeatView) (words : List (List ℕ)) (fault : AskFault) → HasSubmitted old words mid → new ≡ mid
+    → IsCollectFault mid fault → IsAskFault old words fault new
+begun_fault old mid new words fault has same refused =
+    inr (subst (HasSubmitted old words) (sym same) has, subst (λ s. IsCollectFault s fault) (sym same) refused)
+
+pub waited_fault : {X : Type 0} (old mid : SeatView) (words : List (List ℕ)) (r : Result X AskFault) (new : SeatView)
+    → HasSubmitted old words mid → IfErr r (IsCollectFault mid) → OnErr r (new ≡ mid) → IfErr r (λ fault. IsAskFault old words fault new)
+waited_fault old mid words (Ok x) new has refused same = tt
+waited_fault old mid words (Err fault) new has refused same = begun_fault old mid new words fault has same refused
+
+-- ---- at the end
+
+pub found_closed : (t : Layout) (k : ClusterView) (b : SerialState) (r : Result Closing CloseFault) → IfOk r (Closes t k b)
+    → IfOk r (IsClosed t)
+found_closed t k b (Ok closing) closes = (k, b, closes)
+found_closed t k b (Err fault) closes = tt
+
+pub found_close_fault : (stopped : Bool) (k : ClusterView) (b : SerialState) (r : Result Closing CloseFault)
     → IfErr r (λ fault. RefusesClose stopped k b fault.kind) → IfErr r IsCloseFault
 found_close_fault stopped k b (Ok closing) refused = tt
 found_close_fault stopped k b (Err fault) refused = (stopped, k, b, refused)
 
-pub found_written : {E : Type 0} (h : HistoryView) (r : Result Unit E) (before after : List ℕ) → OnOk r (Writes h before after)
-    → OnOk r (IsWritten before after)
-found_written h (Ok done) before after written = (h, written)
+pub found_written : {E : Type 0} (h : HistoryView) (r : Result Bool E) (before after : List ℕ)
+    → IfOk r (λ kept. Writes h before kept after) → IfOk r (λ kept. IsWritten before kept after)
+found_written h (Ok kept) before after written = (h, written)
 found_written h (Err fault) before after written = tt
-
-pub found_sent : {E : Type 0} (h : HistoryView) (r : Result Unit E) (before after : Option (List ℕ)) → OnOk r (Sends h before after)
-    → OnOk r (IsSent before after)
-found_sent h (Ok done) before after sent = (h, sent)
-found_sent h (Err fault) before after sent = tt
-
--- what is refused once the request was submitted
-pub waited_fault : {X : Type 0} (old mid : SeatView) (words : List (List ℕ)) (r : Result X AskFault) (new : SeatView)
-    → mid ≡ submitted old words → IfErr r (IsCollectFault mid) → OnErr r (new ≡ mid) → IfErr r (λ fault. IsAskFault old words fault new)
-waited_fault old mid words (Ok x) new is refused same = tt
-waited_fault old mid words (Err fault) new is refused same = inr (subst (λ s. IsCollectFault s fault) is refused, same ∙ is)

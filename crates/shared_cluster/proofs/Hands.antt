@@ -1,20 +1,19 @@
 -- What is in a hand behind a turn, and what came of a seat's request.
 use Rattle.std.proofs.Common.{◌≡◌, ◌∙◌, ℕ, Bool, true, false, List, Option, Some, None, Result, Ok, Err, inl, inr, refl, sym, subst}
-use Rattle.std.proofs.Common.{◌⊎◌, IfOk, IfSome, IfNone, OnOk, OnErr}
+use Rattle.std.proofs.Common.{◌⊎◌, IfOk, IfSome, IfNone, OnOk, OnErr, OnSome, ap}
 use Rattle.cluster.specs.Clusters.{SeatView, ClusterView, SameBook}
 use Rattle.cluster.specs.Histories.{HistoryView, IsLawful, IsUnchanged}
 use Rattle.groups.specs.declared.request.ConnId.{ConnId}
-use Rattle.layer_planner.specs.declared.job.Job.{Job}
-use Rattle.layer_results.specs.declared.done.DoneRow.{DoneRow}
+use Rattle.cluster.specs.Sealed.{TakenView, RanView}
+use Rattle.cluster.specs.Traces.{SameTrace}
+use Rattle.cluster.proofs.Tapes.{same_trace}
+use Rattle.placement.specs.Layout.{Layout}
 use Rattle.router.specs.Router.{waiting}
-use Rattle.shared_cluster.specs.Hands.{IsFound, taken_up, turn_of, Begins, IsBrought, Brings, HasSettled, Settles, Advances, HasTurned}
+use Rattle.shared_cluster.specs.Hands.{Hand, Run, Next, IsFound, taken_up, turn_of, Begins, IsBrought, Brings, HasSettled, Settles, Advances, HasTurned}
 use Rattle.shared_cluster.specs.Hands.{IsUncollected, LooksInVain}
 use Rattle.shared_cluster.specs.Turning.{GoesOn, RefusesSettle, StaysSo, IsNotThere}
-use Rattle.shared_cluster.specs.declared.hand.Hand.{Hand}
 use Rattle.shared_cluster.specs.declared.hand.Hand.TheVariants as hand
-use Rattle.shared_cluster.specs.declared.hand.Run.{Run}
 use Rattle.shared_cluster.specs.declared.hand.Run.TheVariants as run
-use Rattle.shared_cluster.specs.declared.held.Next.{Next}
 use Rattle.shared_cluster.specs.declared.held.Next.TheVariants as next
 use Rattle.shared_cluster.specs.declared.held.Unsettled.{Unsettled}
 use Rattle.shared_cluster.specs.declared.held.Unsettled.TheVariants.{Starved, Foreign}
@@ -35,66 +34,66 @@ begins_so pick old found which was is = record { found = which; was = subst (IsF
 -- ---- a layer is in the hand
 
 -- a layer that found no memory is given back, so who runs it again runs the same
-pub brought_again : (may_refuse : Bool) (layer given : List Job) (first came : Run) → IsBrought may_refuse layer first
-    → first ≡ run.Starved given → IsBrought may_refuse given came → IsBrought may_refuse layer came
-brought_again may_refuse layer given first came brought is again =
-    let back : IsBrought may_refuse layer (run.Starved given) = subst (IsBrought may_refuse layer) is brought in
-    subst (λ (l : List Job). IsBrought may_refuse l came) back.brings_on.4 again
+pub brought_again : (t : Layout) (may_refuse : Bool) (layer given : TakenView) (first came : Run) → IsBrought t may_refuse layer first
+    → first ≡ run.Starved given → IsBrought t may_refuse given came → IsBrought t may_refuse layer came
+brought_again t may_refuse layer given first came brought is again =
+    let back : IsBrought t may_refuse layer (run.Starved given) = subst (IsBrought t may_refuse layer) is brought in
+    subst (λ (v : TakenView). IsBrought t may_refuse v came) back.brings_on.0 again
 
-pub brings_done : (may_refuse : Bool) (layer : List Job) (came : Run) (done : List DoneRow) → IsBrought may_refuse layer came
-    → came ≡ run.Handed done → Brings may_refuse layer (turn.Made false) (hand.HasRun done)
-brings_done may_refuse layer came done brought is = (refl, subst (IsBrought may_refuse layer) is brought)
+pub brings_done : (t : Layout) (may_refuse : Bool) (layer : TakenView) (came : Run) (ran : RanView) → IsBrought t may_refuse layer came
+    → came ≡ run.Handed ran → Brings t may_refuse layer (turn.Made false) (hand.HasRun ran)
+brings_done t may_refuse layer came ran brought is = (refl, subst (IsBrought t may_refuse layer) is brought)
 
-pub brings_back : (may_refuse : Bool) (layer given : List Job) (came : Run) → IsBrought may_refuse layer came
-    → came ≡ run.Starved given → Brings may_refuse layer turn.Starved (hand.Taken given)
-brings_back may_refuse layer given came brought is =
-    let back : IsBrought may_refuse layer (run.Starved given) = subst (IsBrought may_refuse layer) is brought in
-    (refl, back.brings_on.4)
+pub brings_back : (t : Layout) (may_refuse : Bool) (layer given : TakenView) (came : Run) → IsBrought t may_refuse layer came
+    → came ≡ run.Starved given → Brings t may_refuse layer turn.Starved (hand.Taken given)
+brings_back t may_refuse layer given came brought is =
+    let back : IsBrought t may_refuse layer (run.Starved given) = subst (IsBrought t may_refuse layer) is brought in
+    (refl, back.brings_on.0)
 
 -- ---- what came of a layer is in the hand
 
 -- what isn't settled is given back
-pub given_back : (h : HistoryView) (done given : List DoneRow) (u : Unsettled) → RefusesSettle h done u → u ≡ Starved given → given ≡ done
+pub given_back : (h : HistoryView) (done given : RanView) (u : Unsettled RanView) → RefusesSettle h done u → u ≡ Starved given → given ≡ done
 given_back h done given (Starved other) refused is = let same : other ≡ given = cc in sym same ∙ refused.0
 given_back h done given (Foreign why) refused is = cc
 
 -- what was left of a settling that gives back what it was given
-pub given_left : (done given : List DoneRow) (left : Option (List DoneRow)) → IfSome left (λ other. other ≡ done) → left ≡ Some given
+pub given_left : (done given : RanView) (left : Option (RanView)) → IfSome left (λ other. other ≡ done) → left ≡ Some given
     → given ≡ done
-given_left done given left same is = subst (λ (l : Option (List DoneRow)). IfSome l (λ other. other ≡ done)) is same
+given_left done given left same is = subst (λ (l : Option (RanView)). IfSome l (λ other. other ≡ done)) is same
 
-pub settled_none : (done : List DoneRow) (left : Option (List DoneRow)) → IfNone left (HasSettled done) → left ≡ None → HasSettled done
-settled_none done left settled is = subst (λ (l : Option (List DoneRow)). IfNone l (HasSettled done)) is settled
+pub settled_none : (done : RanView) (left : Option (RanView)) → IfNone left (HasSettled done) → left ≡ None → HasSettled done
+settled_none done left settled is = subst (λ (l : Option (RanView)). IfNone l (HasSettled done)) is settled
 
-pub settled_again : {E : Type 0} (done given : List DoneRow) (r : Result (Option (List DoneRow)) E) → given ≡ done
+pub settled_again : {E : Type 0} (done given : RanView) (r : Result (Option (RanView)) E) → given ≡ done
     → IfOk r (λ left. IfNone left (HasSettled given)) → IfOk r (λ left. IfNone left (HasSettled done))
-settled_again done given r same settled = subst (λ (d : List DoneRow). IfOk r (λ left. IfNone left (HasSettled d))) same settled
+settled_again done given r same settled = subst (λ (d : RanView). IfOk r (λ left. IfNone left (HasSettled d))) same settled
 
-pub given_again : {E : Type 0} (done given : List DoneRow) (r : Result (Option (List DoneRow)) E) → given ≡ done
+pub given_again : {E : Type 0} (done given : RanView) (r : Result (Option (RanView)) E) → given ≡ done
     → IfOk r (λ left. IfSome left (λ other. other ≡ given)) → IfOk r (λ left. IfSome left (λ other. other ≡ done))
-given_again done given r same back = subst (λ (d : List DoneRow). IfOk r (λ left. IfSome left (λ other. other ≡ d))) same back
+given_again done given r same back = subst (λ (d : RanView). IfOk r (λ left. IfSome left (λ other. other ≡ d))) same back
 
 -- ---- any hand
 
-pub advances_free : {E : Type 0} (pick : ℕ → ℕ) (may_refuse : Bool) (old mid new : Hand) (r : Result Turn E) → old ≡ hand.Free
-    → mid ≡ hand.Free → IfOk r (λ which. Begins pick mid which new) → IfOk r (λ which. Advances pick may_refuse old which new)
-advances_free pick may_refuse old mid new (Ok which) is free begins =
-    subst (λ (o : Hand). Advances pick may_refuse o which new) (sym is) (subst (λ (m : Hand). Begins pick m which new) free begins)
-advances_free pick may_refuse old mid new (Err fault) is free begins = tt
+pub advances_free : {E : Type 0} (t : Layout) (pick : ℕ → ℕ) (may_refuse : Bool) (old mid new : Hand) (r : Result Turn E) → old ≡ hand.Free
+    → mid ≡ hand.Free → IfOk r (λ which. Begins pick mid which new) → IfOk r (λ which. Advances t pick may_refuse old which new)
+advances_free t pick may_refuse old mid new (Ok which) is free begins =
+    subst (λ (o : Hand). Advances t pick may_refuse o which new) (sym is) (subst (λ (m : Hand). Begins pick m which new) free begins)
+advances_free t pick may_refuse old mid new (Err fault) is free begins = tt
 
-pub advances_taken : {E : Type 0} (pick : ℕ → ℕ) (may_refuse : Bool) (old new : Hand) (layer : List Job) (r : Result Turn E)
-    → old ≡ hand.Taken layer → IfOk r (λ which. Brings may_refuse layer which new)
-    → IfOk r (λ which. Advances pick may_refuse old which new)
-advances_taken pick may_refuse old new layer (Ok which) is brings =
-    subst (λ (o : Hand). Advances pick may_refuse o which new) (sym is) brings
-advances_taken pick may_refuse old new layer (Err fault) is brings = tt
+pub advances_taken : {E : Type 0} (t : Layout) (pick : ℕ → ℕ) (may_refuse : Bool) (old new : Hand) (layer : TakenView) (r : Result Turn E)
+    → old ≡ hand.Taken layer → IfOk r (λ which. Brings t may_refuse layer which new)
+    → IfOk r (λ which. Advances t pick may_refuse old which new)
+advances_taken t pick may_refuse old new layer (Ok which) is brings =
+    subst (λ (o : Hand). Advances t pick may_refuse o which new) (sym is) brings
+advances_taken t pick may_refuse old new layer (Err fault) is brings = tt
 
-pub advances_run : {E : Type 0} (pick : ℕ → ℕ) (may_refuse : Bool) (old mid new : Hand) (done : List DoneRow) (r : Result Turn E)
+pub advances_run : {E : Type 0} (t : Layout) (pick : ℕ → ℕ) (may_refuse : Bool) (old mid new : Hand) (done : RanView) (r : Result Turn E)
     → old ≡ hand.HasRun done → mid ≡ hand.Free → IfOk r (λ which. Settles done mid which new)
-    → IfOk r (λ which. Advances pick may_refuse old which new)
-advances_run pick may_refuse old mid new done (Ok which) is free settles =
-    subst (λ (o : Hand). Advances pick may_refuse o which new) (sym is) (subst (λ (m : Hand). Settles done m which new) free settles)
-advances_run pick may_refuse old mid new done (Err fault) is free settles = tt
+    → IfOk r (λ which. Advances t pick may_refuse old which new)
+advances_run t pick may_refuse old mid new done (Ok which) is free settles =
+    subst (λ (o : Hand). Advances t pick may_refuse o which new) (sym is) (subst (λ (m : Hand). Settles done m which new) free settles)
+advances_run t pick may_refuse old mid new done (Err fault) is free settles = tt
 
 -- there is nothing to do only for a hand that is free, and it stays so
 idle_so : (found : Next) (new : Hand) → turn.Quiet ≡ turn_of found → new ≡ taken_up hand.Free found → new ≡ hand.Free
@@ -103,25 +102,25 @@ idle_so next.Delivered new is same = cc
 idle_so next.Starved new is same = cc
 idle_so next.Quiet new is same = same
 
-quiet_is_free : (pick : ℕ → ℕ) (may_refuse : Bool) (old new : Hand) → Advances pick may_refuse old turn.Quiet new
+quiet_is_free : (t : Layout) (pick : ℕ → ℕ) (may_refuse : Bool) (old new : Hand) → Advances t pick may_refuse old turn.Quiet new
     → (old ≡ hand.Free) × (new ≡ hand.Free)
-quiet_is_free pick may_refuse hand.Free new turns = (refl, idle_so turns.found new turns.told turns.holds)
-quiet_is_free pick may_refuse (hand.Taken layer) hand.Free turns = absurd turns
-quiet_is_free pick may_refuse (hand.Taken layer) (hand.Taken given) turns = absurd (let other = turns.0 in cc)
-quiet_is_free pick may_refuse (hand.Taken layer) (hand.HasRun done) turns = absurd (let other = turns.0 in cc)
-quiet_is_free pick may_refuse (hand.HasRun done) new turns = absurd turns
+quiet_is_free t pick may_refuse hand.Free new turns = (refl, idle_so turns.found new turns.told turns.holds)
+quiet_is_free t pick may_refuse (hand.Taken layer) hand.Free turns = absurd turns
+quiet_is_free t pick may_refuse (hand.Taken layer) (hand.Taken given) turns = absurd (let other = turns.0 in cc)
+quiet_is_free t pick may_refuse (hand.Taken layer) (hand.HasRun done) turns = absurd (let other = turns.0 in cc)
+quiet_is_free t pick may_refuse (hand.HasRun done) new turns = absurd turns
 
-pub idle_is_free : (pick : ℕ → ℕ) (may_refuse : Bool) (old new : Hand) (which : Turn) → Advances pick may_refuse old which new
+pub idle_is_free : (t : Layout) (pick : ℕ → ℕ) (may_refuse : Bool) (old new : Hand) (which : Turn) → Advances t pick may_refuse old which new
     → which ≡ turn.Quiet → (old ≡ hand.Free) × (new ≡ hand.Free)
-idle_is_free pick may_refuse old new which turns is =
-    quiet_is_free pick may_refuse old new (subst (λ (t : Turn). Advances pick may_refuse old t new) is turns)
+idle_is_free t pick may_refuse old new which turns is =
+    quiet_is_free t pick may_refuse old new (subst (λ (v : Turn). Advances t pick may_refuse old v new) is turns)
 
 -- ---- what came of a seat's request
 
 -- nothing has changed
 pub stays_so : (k : ClusterView) → StaysSo k k
 stays_so k = record {
-  history = record { front = refl; max_steps = refl; steps = refl };
+  history = record { front = refl; max_steps = refl; steps = refl; ran = refl; trace = same_trace k.history.trace };
   book = record { book = refl; back = refl; stood = refl };
   sat = refl;
 }
@@ -147,18 +146,54 @@ found_uncollected old new s (Ok None) none same =
     record { before = old; after = new; lawful = none.0; none = none.1; stays = same }
 found_uncollected old new s (Err fault) none same = tt
 
--- a hand that is free is so behind a look, which changes none
-pub free_both : {X E : Type 0} (h : Hand) (r : Result (Option X) E) → h ≡ hand.Free
-    → IfOk r (λ reply. IfSome reply (λ x. (h ≡ hand.Free) × (h ≡ hand.Free)))
-free_both h (Ok (Some x)) free = (free, free)
-free_both h (Ok None) free = tt
-free_both h (Err fault) free = tt
+-- a hand that is free is so behind a look
+pub free_there : {X E : Type 0} (h : Hand) (r : Result (Option X) E) → h ≡ hand.Free → IfOk r (λ reply. OnSome reply (h ≡ hand.Free))
+free_there h (Ok (Some x)) free = free
+free_there h (Ok None) free = tt
+free_there h (Err fault) free = tt
 
-pub looked_in_vain : {X E : Type 0} (h : Hand) (s : SeatView) (r : Result (Option X) E) → IfOk r (λ reply. IfNone reply (IsUncollected s))
-    → IfOk r (λ reply. IfNone reply (LooksInVain s h h ⊎ HasTurned h h))
-looked_in_vain h s (Ok (Some x)) none = tt
-looked_in_vain h s (Ok None) none = inl (none, refl)
-looked_in_vain h s (Err fault) none = tt
+pub looked_free : {X E : Type 0} (t : Layout) (h : Hand) (r : Result (Option X) E) → h ≡ hand.Free
+    → IfOk r (λ reply. OnSome reply ((h ≡ hand.Free) ⊎ HasTurned t h h))
+looked_free t h (Ok (Some x)) free = inl free
+looked_free t h (Ok None) free = tt
+looked_free t h (Err fault) free = tt
+
+-- a turn was made
+pub turned_some : {X E : Type 0} (t : Layout) (old new : Hand) (r : Result (Option X) E) → OnOk r (HasTurned t old new)
+    → IfOk r (λ reply. OnSome reply ((old ≡ hand.Free) ⊎ HasTurned t old new))
+turned_some t old new (Ok (Some x)) turned = inr turned
+turned_some t old new (Ok None) turned = tt
+turned_some t old new (Err fault) turned = tt
+
+pub turned_none : {X E : Type 0} (t : Layout) (s : SeatView) (old new : Hand) (r : Result (Option X) E) → OnOk r (HasTurned t old new)
+    → IfOk r (λ reply. IfNone reply (LooksInVain s old new ⊎ HasTurned t old new))
+turned_none t s old new (Ok (Some x)) turned = tt
+turned_none t s old new (Ok None) turned = inr turned
+turned_none t s old new (Err fault) turned = tt
+
+-- what came of the layer in the hand was settled, or is there still
+pub turned_settled : (t : Layout) (old : Hand) (ran : RanView) → old ≡ hand.HasRun ran → HasSettled ran → HasTurned t old hand.Free
+turned_settled t old ran is settled = record {
+  pick = λ n. n;
+  may_refuse = false;
+  which = turn.Made true;
+  turns = subst (λ (o : Hand). Advances t (λ n. n) false o (turn.Made true) hand.Free) (sym is) (refl, refl, settled);
+}
+
+pub turned_starved : (t : Layout) (old : Hand) (ran given : RanView) → old ≡ hand.HasRun ran → given ≡ ran
+    → HasTurned t old (hand.HasRun given)
+turned_starved t old ran given is same = record {
+  pick = λ n. n;
+  may_refuse = false;
+  which = turn.Starved;
+  turns = subst (λ (o : Hand). Advances t (λ n. n) false o turn.Starved (hand.HasRun given)) (sym is) (ap hand.HasRun same);
+}
+
+pub looked_in_vain : {X E : Type 0} (t : Layout) (h : Hand) (s : SeatView) (r : Result (Option X) E) → IfOk r (λ reply. IfNone reply (IsUncollected s))
+    → IfOk r (λ reply. IfNone reply (LooksInVain s h h ⊎ HasTurned t h h))
+looked_in_vain t h s (Ok (Some x)) none = tt
+looked_in_vain t h s (Ok None) none = inl (none, refl)
+looked_in_vain t h s (Err fault) none = tt
 
 -- ---- what holds whatever is answered
 

@@ -17,12 +17,12 @@ use Rattle.cluster.specs.Histories.{HistoryView, IsLawful}
 use Rattle.cluster.specs.declared.fault.StepFault.{StepFault}
 use Rattle.cluster.specs.declared.fault.StepFault.TheVariants as step
 use Rattle.shared_cluster.specs.Asks.{told, unlisted, unless_memory, lasting, Refuses, IsStoppedOr, RefusesAsk, RefusesSubmit}
-use Rattle.shared_cluster.specs.Asks.{RefusesCollect, RefusesTurn}
+use Rattle.shared_cluster.specs.Asks.{RefusesSit, RefusesCollect, RefusesTurn, IsSitFault, IsSubmitFault}
 use Rattle.shared_cluster.specs.Asks.{IsCollectFault, IsStopped, IsAskFault}
 use Rattle.shared_cluster.specs.Desks.{IsUnqueued, IsStarved}
 use Rattle.shared_cluster.specs.declared.fault.FaultKind.{FaultKind}
 use Rattle.shared_cluster.specs.declared.fault.FaultKind.TheVariants.{Closed, Memory, Exhausted, Failed, NoConn, Unlisted}
-use Rattle.layer_results.specs.declared.done.DoneRow.{DoneRow}
+use Rattle.cluster.specs.Sealed.{RanView}
 use Rattle.shared_cluster.specs.Turning.{RefusesSettle}
 use Rattle.shared_cluster.specs.declared.held.AskFault.{AskFault}
 use Rattle.shared_cluster.specs.declared.held.Unsettled.{Unsettled}
@@ -66,6 +66,16 @@ untold IsWhy step.Memory is why = why
 
 -- ---- of a shared cluster
 
+pub found_sit : {X : Type 0} (r : Result X AskFault) (shut stopped : Bool) (h : HistoryView) → IfErr r (RefusesSit shut stopped h)
+    → IfErr r IsSitFault
+found_sit (Ok got) shut stopped h refused = tt
+found_sit (Err fault) shut stopped h refused = (shut, stopped, h, refused)
+
+pub found_submit : {X : Type 0} (r : Result X AskFault) (shut stopped : Bool) (h : HistoryView) (s : SeatView) (words : List (List ℕ))
+    → IfErr r (RefusesSubmit shut stopped h s words) → IfErr r (IsSubmitFault s words)
+found_submit (Ok got) shut stopped h s words refused = tt
+found_submit (Err fault) shut stopped h s words refused = (shut, stopped, h, refused)
+
 pub found_collect : {X : Type 0} (r : Result X AskFault) (stopped : Bool) (h : HistoryView) (s : SeatView)
     → IfErr r (RefusesCollect stopped h s) → IfErr r (IsCollectFault s)
 found_collect (Ok got) stopped h s refused = tt
@@ -76,7 +86,7 @@ pub found_stopped : {X : Type 0} (r : Result X AskFault) (stopped : Bool) (h : H
 found_stopped (Ok got) stopped h refused = tt
 found_stopped (Err fault) stopped h refused = (stopped, h, refused)
 
-pub found_unsettled : (h : HistoryView) (done : List DoneRow) (u : Unsettled) (fault : AskFault) → RefusesSettle h done u
+pub found_unsettled : (h : HistoryView) (done : RanView) (u : Unsettled RanView) (fault : AskFault) → RefusesSettle h done u
     → u ≡ Foreign fault → IsStopped fault
 found_unsettled h done (Starved given) fault refused is = cc
 found_unsettled h done (Foreign why) fault refused is =
@@ -161,5 +171,5 @@ pub told_of_memory : (old : SeatView) (words : List (List ℕ)) (fault : AskFaul
     → fault.kind ≡ Memory → (new ≡ old) × IsUnqueued old words × IsStarved old words
 told_of_memory old words fault new (inl (why, same)) is =
     (same, unqueued old words why.0 why.1 why.2 fault why.3 is, (fault, is, why))
-told_of_memory old words fault new (inr (inl why, same)) is = absurd (why.2.1 is)
-told_of_memory old words fault new (inr (inr why, same)) is = absurd (why.2.1 is)
+told_of_memory old words fault new (inr (has, inl why)) is = absurd (why.2.1 is)
+told_of_memory old words fault new (inr (has, inr why)) is = absurd (why.2.1 is)

@@ -1,17 +1,23 @@
 -- What a seat asks of a shared cluster, and what it is answered. The cluster under the lock is another one each time it
--- is taken, so a clause says that there was such a cluster, and not which.
-use Rattle.std.specs.Prelude.{◌≡◌, ◌≢◌, ℕ, ◌+◌, Bool, true, false, ◌&&◌, List, [], ◌⊎◌, Option, Some, None, is_none}
-use Rattle.cluster.specs.Clusters.{SeatView, last_id, next_id}
-use Rattle.cluster.specs.Clusters as cluster
+-- is taken; but what a seat has seen of its history is a beginning of one list, of which every other seat has seen a beginning too.
+use Rattle.std.specs.Prelude.{◌≡◌, ◌≢◌, ℕ, suc, ◌+◌, Bool, true, false, ◌&&◌, List, [], ◌∷◌, ◌++◌, ◌⊎◌, Option, Some, None, is_none}
+use mathlib.Core.List.{IsPrefix}
+use Rattle.cluster.specs.Answers as cluster
+use Rattle.cluster.specs.Clusters.{SeatView, last_id}
+use Rattle.cluster.specs.Clusters as clusters
 use Rattle.cluster.specs.Histories.{HistoryView, IsLawful, IsMade, IsFault}
 use Rattle.cluster.specs.Outcomes.{ComesFrom, IsAbove, raised}
-use Rattle.cluster.specs.Submits.{IsSaid, session_met}
+use Rattle.cluster.specs.Submits.{submits_by, IsSaid, session_met}
 use Rattle.cluster.specs.Turns.{IsTurnFault}
 use Rattle.cluster.specs.declared.fault.StepFault.{StepFault}
 use Rattle.cluster.specs.declared.fault.StepFault.TheVariants as step
 use Rattle.groups.specs.declared.request.ConnId.{ConnId}
+use Rattle.groups.specs.declared.request.RequestId.{RequestId}
+use Rattle.journal.specs.declared.step.Step.{Step}
 use Rattle.journal.specs.declared.step.Step.TheVariants.{Open, Submit, Take, Collect}
-use Rattle.resp.specs.Content.{Content}
+use Rattle.placement.specs.Layout.{Layout}
+use Rattle.resp.specs.Content.{Content, content}
+use Rattle.resp.specs.declared.reply.Reply.{Reply}
 use Rattle.router.specs.Lists.{is_listing}
 use Rattle.router.specs.Router.{session_at}
 use Rattle.sessions.specs.Control.{control_in}
@@ -19,57 +25,94 @@ use Rattle.shared_cluster.specs.declared.fault.AskStep.TheVariants as asked
 use Rattle.shared_cluster.specs.declared.fault.FaultKind.{FaultKind}
 use Rattle.shared_cluster.specs.declared.fault.FaultKind.TheVariants.{Closed, Memory, Exhausted, Failed, NoConn, Unlisted}
 use Rattle.shared_cluster.specs.declared.held.AskFault.{AskFault}
-use Rattle.world.specs.Steps.{Opened, Submitted, Collected}
-use Rattle.world.specs.World.{Outcome}
+use Rattle.world.specs.Steps.{opening, Opened, Submitted, Collected, Steps, Leads}
+use Rattle.world.specs.World.{World, Outcome}
+use Rattle.world_laws.specs.Sessions.{all_free, sessions_from}
 
--- ---- a seat
+-- ---- a seat behind the lock
 
--- The seat's connection was opened as the step from one history to the other, which is lawful, and the seat has submitted
--- nothing.
+-- The seat's connection was opened as the step from one history to the other, which is lawful. It has submitted nothing, and has seen
+-- all steps.
 pub record IsSeated (before : HistoryView) (s : SeatView) (after : HistoryView) : Type 0 where
   pub opened : IsMade before Open (Opened s.conn.0) after
   pub lawful : IsLawful after
-  pub floor : s.floor ≡ 0
-  pub count : s.count ≡ 0
-  pub words : s.words ≡ []
+  pub seat : s ≡ record { conn = s.conn; floor = 0; count = 0; last = 0; seen = after.steps }
 
--- the seat that has submitted these words as its next request
-abbrev pub submitted : SeatView → List (List ℕ) → SeatView
-submitted s words = record { conn = s.conn; floor = s.floor; count = s.count + 1; words = words }
+-- The seat submitted these words as its next request, by the step from one history to the other. What it had seen lies before.
+pub record Submits (before : HistoryView) (old : SeatView) (words : List (List ℕ)) (after : HistoryView) (new : SeatView) : Type 0 where
+  pub id : RequestId
+  pub made : IsMade before (Submit old.conn words) (Submitted id) after
+  pub behind : IsPrefix old.seen before.steps
+  pub number : id ≡ record { conn = old.conn; seq = suc (submits_by old.conn.0 before.steps) }
+  pub seat : new ≡ record old { count = old.count + 1; last = id.seq; seen = after.steps }
 
--- The seat submitted these words as the step from one history to the other.
-abbrev pub Submits : HistoryView → SeatView → List (List ℕ) → HistoryView → Type 0
-Submits before s words after = IsMade before (Submit s.conn words) (Submitted (next_id s)) after
+-- This is the reply of what came of the seat's last request, which its connection collected by the step from one history to the
+-- other, which is lawful, as was the one before.
+pub record Replies (t : Layout) (before : HistoryView) (old : SeatView) (reply : Content) (after : HistoryView) (new : SeatView)
+    : Type 0 where
+  pub table : before.front.table ≡ t
+  pub given : Reply
+  pub is : content given ≡ reply
+  pub replied : cluster.IsReplied before old given after new
 
--- What came of the seat's last request: the seat's connection collected it as the step from one history to the other, which
--- is lawful. It is the outcome of the seat's last id, which the history has with the seat's words; it is a row of that
--- history, or the request starved, or by the session that the words met it is their reply, which takes no group. Its stamp is
--- above the seat's floor, and becomes it.
-pub record Answers (before : HistoryView) (old : SeatView) (o : Outcome) (after : HistoryView) (new : SeatView) : Type 0 where
-  pub collected : IsMade before (Collect old.conn) (Collected (Some o)) after
-  pub lawful : IsLawful after
-  pub id : o.id ≡ last_id old
-  pub said : IsSaid after.steps o.id old.words
-  pub from : ComesFrom after.front (session_met said) old.words o
-  pub above : IsAbove o.stamp old.floor
-  pub seat : new ≡ record old { floor = raised o.stamp old.floor }
-
--- this is the reply of what came of the seat's last request
-abbrev pub Replies : HistoryView → SeatView → Content → HistoryView → SeatView → Type 0
-Replies before old reply after new = (o : Outcome) × (o.reply ≡ reply) × Answers before old o after new
-
--- ---- the same of a shared cluster, whose history was such a one when it was locked
+-- ---- a seat of a shared cluster
 
 abbrev pub IsNewSeat : SeatView → Type 0
 IsNewSeat s = (before : HistoryView) × (after : HistoryView) × IsSeated before s after
 
-pub record IsAnswered (old : SeatView) (o : Outcome) (new : SeatView) : Type 0 where
-  pub before : HistoryView
-  pub after : HistoryView
-  pub answers : Answers before old o after new
+-- these words were submitted as the seat's next request, behind these steps, which begin with all that it had seen
+pub record HasSubmitted (old : SeatView) (words : List (List ℕ)) (new : SeatView) : Type 0 where
+  pub before : List Step
+  pub behind : IsPrefix old.seen before
+  pub seat : new ≡ record {
+    conn = old.conn;
+    floor = old.floor;
+    count = old.count + 1;
+    last = suc (submits_by old.conn.0 before);
+    seen = before ++ Submit old.conn words ∷ [];
+  }
 
-abbrev pub IsReplied : SeatView → Content → SeatView → Type 0
-IsReplied old reply new = (o : Outcome) × (o.reply ≡ reply) × IsAnswered old o new
+-- This is the reply of the outcome which the seat's connection collected behind these steps, in the world to which they lead: that of
+-- the seat's last request, whichever words it was submitted with. The steps begin with all that the seat had seen.
+pub record IsCollected (t : Layout) (old : SeatView) (answer : Content) (new : SeatView) : Type 0 where
+  pub steps : List Step
+  pub behind : IsPrefix old.seen steps
+  pub world : World
+  pub leads : Leads t opening steps world
+  pub outcome : Outcome
+  pub after : World
+  pub collects : Steps t world (Collect old.conn) (Collected (Some outcome)) after
+  pub id : outcome.id ≡ last_id old
+  pub reply : outcome.reply ≡ answer
+  pub from : (words : List (List ℕ)) (said : IsSaid steps outcome.id words) → ComesFrom t world (session_met said) words outcome
+  pub above : IsAbove outcome.stamp old.floor
+  pub seat : new ≡ record old { floor = raised outcome.stamp old.floor; seen = steps ++ Collect old.conn ∷ [] }
+
+-- The seat submitted these words as its next request, and this is the reply to them. In the history of all steps, of which the seat
+-- has seen a part before and has one behind, the Submit lies behind all that the seat had seen; its connection collected the outcome
+-- behind it, in the world to which the steps lead, and it is that request's: what came of it where it was run, or what its words are
+-- answered at once in the session that they met. Its stamp is above the seat's floor, and raises it.
+pub record IsReplied (t : Layout) (old : SeatView) (words : List (List ℕ)) (answer : Content) (new : SeatView) : Type 0 where
+  pub before : List Step
+  pub seen : IsPrefix old.seen before
+  pub steps : List Step
+  pub behind : IsPrefix (before ++ Submit old.conn words ∷ []) steps
+  pub world : World
+  pub leads : Leads t opening steps world
+  pub outcome : Outcome
+  pub after : World
+  pub collects : Steps t world (Collect old.conn) (Collected (Some outcome)) after
+  pub id : outcome.id ≡ record { conn = old.conn; seq = suc (submits_by old.conn.0 before) }
+  pub reply : outcome.reply ≡ answer
+  pub from : ComesFrom t world (sessions_from all_free before old.conn.0) words outcome
+  pub above : IsAbove outcome.stamp old.floor
+  pub seat : new ≡ record {
+    conn = old.conn;
+    floor = raised outcome.stamp old.floor;
+    count = old.count + 1;
+    last = outcome.id.seq;
+    seen = steps ++ Collect old.conn ∷ [];
+  }
 
 -- ---- refusals
 
@@ -131,13 +174,13 @@ RefusesSit shut stopped h fault = (fault.step ≡ asked.Sit) × RefusesAsk shut 
 abbrev pub RefusesSubmit : Bool → Bool → HistoryView → SeatView → List (List ℕ) → AskFault → Type 0
 RefusesSubmit shut stopped h s words fault =
     (fault.step ≡ asked.Submit s.conn s.count)
-    × RefusesAsk shut stopped h (told_in (is_listed h s.conn words)) (cluster.IsSubmitFault h s words) fault.kind
+    × RefusesAsk shut stopped h (told_in (is_listed h s.conn words)) (IsFault h (Submit s.conn words)) fault.kind
 
 -- want of memory isn't told: it is tried again
 abbrev pub RefusesCollect : Bool → HistoryView → SeatView → AskFault → Type 0
 RefusesCollect stopped h s fault =
     (fault.step ≡ asked.Collect s.conn s.count) × (fault.kind ≢ Memory)
-    × IsStoppedOr stopped (Refuses h told (cluster.IsCollectFault h s) fault.kind) fault.kind
+    × IsStoppedOr stopped (Refuses h told (clusters.IsCollectFault h s) fault.kind) fault.kind
 
 -- why no packet comes to its group, or no layer is taken
 abbrev pub IsOwnTurnFault : HistoryView → StepFault → Type 0
@@ -167,4 +210,4 @@ IsCollectFault s fault = ((stopped : Bool) × (h : HistoryView) × RefusesCollec
 -- was submitted and what came of it isn't given.
 abbrev pub IsAskFault : SeatView → List (List ℕ) → AskFault → SeatView → Type 0
 IsAskFault old words fault new =
-    (IsSubmitFault old words fault × (new ≡ old)) ⊎ (IsCollectFault (submitted old words) fault × (new ≡ submitted old words))
+    (IsSubmitFault old words fault × (new ≡ old)) ⊎ (HasSubmitted old words new × IsCollectFault new fault)

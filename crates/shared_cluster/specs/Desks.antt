@@ -2,7 +2,8 @@
 use Rattle.std.specs.Prelude.{◌≡◌, ◌≢◌, ℕ, List, Ok, Err}
 use Rattle.cluster.specs.Clusters.{SeatView}
 use Rattle.cluster.specs.Histories.{HistoryView, IsLawful}
-use Rattle.shared_cluster.specs.Asks.{submitted, IsReplied, IsSubmitFault, IsAskFault}
+use Rattle.placement.specs.Layout.{Layout}
+use Rattle.shared_cluster.specs.Asks.{IsReplied, IsSubmitFault, IsAskFault}
 use Rattle.shared_cluster.specs.declared.fault.FaultKind.TheVariants as kind
 use Rattle.shared_cluster.specs.declared.held.AskFault.{AskFault}
 use Rattle.router.specs.Router.{session_at}
@@ -21,7 +22,7 @@ IsStarved s words = (fault : AskFault) × (fault.kind ≡ kind.Memory) × IsSubm
 -- The reply is that of what came of these words, which the seat asked as its next request; or the submit of words that no list
 -- was to have was refused for want of memory, and the seat is as before; or the connection ends, for the reason for which the
 -- ask was refused.
-abbrev pub Asks : SeatView → List (List ℕ) → Answer AskFault → SeatView → Type 0
-Asks old words (Ok reply) new = IsReplied (submitted old words) reply new
-Asks old words (Err Memory) new = (new ≡ old) × IsUnqueued old words × IsStarved old words
-Asks old words (Err (Ended reason)) new = (reason.kind ≢ kind.Memory) × IsAskFault old words reason new
+abbrev pub Asks : Layout → SeatView → List (List ℕ) → Answer AskFault → SeatView → Type 0
+Asks t old words (Ok reply) new = IsReplied t old words reply new
+Asks t old words (Err Memory) new = (new ≡ old) × IsUnqueued old words × IsStarved old words
+Asks t old words (Err (Ended reason)) new = (reason.kind ≢ kind.Memory) × IsAskFault old words reason new

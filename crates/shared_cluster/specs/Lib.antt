@@ -3,5 +3,5 @@ pub mod Closings
 pub mod Desks
 pub mod Hands
 pub mod LongWork
-pub mod Running
+pub mod Streams
 pub mod Turning

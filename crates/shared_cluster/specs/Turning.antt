@@ -6,9 +6,9 @@ use Rattle.front.specs.Looking.{IsQuiet}
 use Rattle.cluster.specs.Clusters.{SeatView, ClusterView, SameBook, IsCollectFault}
 use Rattle.cluster.specs.Histories.{HistoryView, IsUnchanged}
 use Rattle.cluster.specs.Layers.{HandsOut, IsSettleFault}
+use Rattle.cluster.specs.Sealed.{TakenView, RanView}
 use Rattle.cluster.specs.Turns.{Delivers}
 use Rattle.cluster.specs.declared.fault.StepFault.TheVariants as fault
-use Rattle.layer_results.specs.declared.done.DoneRow.{DoneRow}
 use Rattle.router.specs.Router.{waiting}
 use Rattle.shared_cluster.specs.Asks.{RefusesTurn}
 use Rattle.shared_cluster.specs.declared.held.Next.{Next}
@@ -24,31 +24,31 @@ pub record MayTake (h : HistoryView) : Type 0 where
   pub ready : IsReady (queue_of h.front.multicast.queues) request
 
 -- A packet was brought to its group, or there was no memory for that, or none is under way; and then nothing has changed.
-abbrev pub Carries : (ℕ → ℕ) → HistoryView → HistoryView → Next → Type 0
+abbrev pub Carries : (ℕ → ℕ) → HistoryView → HistoryView → Next TakenView → Type 0
 Carries pick old new (Taken layer) = ⊥
 Carries pick old new Delivered = Delivers pick old new
 Carries pick old new Starved = (old.front.multicast.packets ≢ []) × IsUnchanged old new
 Carries pick old new Quiet = (old.front.multicast.packets ≡ []) × IsUnchanged old new
 
 -- A layer was taken, and these are its requests; or there was no memory for that, and nothing has changed.
-abbrev pub Takes : HistoryView → HistoryView → Next → Type 0
+abbrev pub Takes : HistoryView → HistoryView → Next TakenView → Type 0
 Takes old new (Taken layer) = HandsOut old layer new
 Takes old new Delivered = ⊥
 Takes old new Starved = IsUnchanged old new
 Takes old new Quiet = ⊥
 
 -- a layer is taken where one may be, else a packet is brought to its group
-abbrev pub GoesOn : (ℕ → ℕ) → HistoryView → HistoryView → Next → Type 0
+abbrev pub GoesOn : (ℕ → ℕ) → HistoryView → HistoryView → Next TakenView → Type 0
 GoesOn pick old new (Taken layer) = MayTake old × HandsOut old layer new
 GoesOn pick old new Delivered = (¬ MayTake old) × Delivers pick old new
 GoesOn pick old new Starved = (MayTake old ⊎ (old.front.multicast.packets ≢ [])) × IsUnchanged old new
 GoesOn pick old new Quiet = (¬ MayTake old) × (old.front.multicast.packets ≡ []) × IsUnchanged old new
 
--- Why what came of a layer isn't settled: there was no memory while a layer is out, and it is given back; or it isn't what came
--- of the layer that is out.
-abbrev pub RefusesSettle : HistoryView → List DoneRow → Unsettled → Type 0
-RefusesSettle h done (unsettled.Starved given) = (given ≡ done) × IsSettleFault h done fault.Memory
-RefusesSettle h done (unsettled.Foreign why) = IsSettleFault h done fault.NoLayer × RefusesTurn true h why
+-- Why what came of a layer isn't settled: it is that of the layer that is out, there was no memory for the trace that is kept, and it is
+-- given back; or it isn't what came of that layer.
+abbrev pub RefusesSettle : HistoryView → RanView → Unsettled RanView → Type 0
+RefusesSettle h ran (unsettled.Starved given) = (given ≡ ran) × IsSettleFault h ran fault.Memory
+RefusesSettle h ran (unsettled.Foreign why) = IsSettleFault h ran fault.NoLayer × RefusesTurn true h why
 
 -- nothing of the cluster has changed but room
 pub record StaysSo (old new : ClusterView) : Type 0 where

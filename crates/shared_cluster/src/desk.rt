@@ -2,17 +2,17 @@
 
 ghost use Rattle.std.specs.Prelude.{◌≡◌, IfOk, IfErr};
 ghost use Rattle.resp.specs.Content.{content};
-ghost use Rattle.shared_cluster.specs.Asks.{submitted, IsReplied, IsAskFault};
+ghost use Rattle.shared_cluster.specs.Asks.{IsReplied, IsAskFault};
 
 use crate::fault::FaultKind;
 use crate::held::AskFault;
 use crate::long_work::Asked;
 use crate::shared::Shared;
-use cluster::{SealedReply, Seat};
+use cluster::{SealedReply, Seat, Server};
 use resp::{Reply, Request};
+use serial_store::Tabled;
 use serving::{Door, DoorFault};
 use std::sync::Wait;
-use std::sync::ledger::Ledger;
 use std::time::Clock;
 
 /// Who makes the turns that a request needs.
@@ -30,17 +30,17 @@ pub enum Turns {
 /// A request for which there is no memory is answered so, and the connection goes on; but where it was to be a member of
 /// an open list, or is refused otherwise, the connection ends.
 #[derive(Drop)]
-pub struct Desk<'a, L: Ledger, R: Wait + Clock> {
+pub struct Desk<'a, T: Tabled, L: Server, R: Wait + Clock> {
     rt: &'a R,
-    shared: &'a Shared<L>,
-    seat: Seat<L>,
+    shared: &'a Shared<T, L>,
+    seat: Seat<T, L>,
     turns: Turns,
     asked: Asked,
 }
 
-impl<'a, L: Ledger, R: Wait + Clock> Desk<'a, L, R> {
+impl<'a, T: Tabled, L: Server, R: Wait + Clock> Desk<'a, T, L, R> {
     /// The desk of this seat, whose requests are brought on by those who make the turns.
-    pub fn new(rt: &'a R, shared: &'a Shared<L>, seat: Seat<L>, turns: Turns) -> Self
+    pub fn new(rt: &'a R, shared: &'a Shared<T, L>, seat: Seat<T, L>, turns: Turns) -> Self
         ensures seat { result.seat ≡ seat }
         ensures turns { result.turns ≡ turns }
     {
@@ -55,15 +55,14 @@ impl<'a, L: Ledger, R: Wait + Clock> Desk<'a, L, R> {
 
     /// Asks, and has those make the turns who are to.
     fn asked(&mut self, request: Request) -> Result<SealedReply, AskFault>
-        ensures replied { IfOk result (λ r. IsReplied (submitted self.old.seat request) (content r.reply) self.new.seat) }
+        ensures replied { IfOk result (λ r. IsReplied T.table self.old.seat request (content r.reply) self.new.seat) }
         ensures refused { IfErr result (λ fault. IsAskFault self.old.seat request fault self.new.seat) }
     {
-        let conn = self.seat.conn();
+        self.shared.wait_for_trace(self.rt);
         if self.is_for_driver(request.word(0)) {
-            self.shared.turnstile().leave(self.rt, conn);
-            return self.shared.ask_driven(self.rt, &mut self.seat, request);
+            self.shared.rest(self.rt, &self.seat);
+            return self.shared.ask(self.rt, &mut self.seat, request);
         }
-        self.shared.turnstile().enter(self.rt, conn);
         self.shared.ask_turning(self.rt, &mut self.seat, request)
     }
 
@@ -75,19 +74,19 @@ impl<'a, L: Ledger, R: Wait + Clock> Desk<'a, L, R> {
     }
 
     /// The seat, given back.
-    pub fn into_seat(self) -> Seat<L>
+    pub fn into_seat(self) -> Seat<T, L>
         ensures { result ≡ self.entry.seat }
     {
         self.seat
     }
 }
 
-impl<'a, L: Ledger, R: Wait + Clock> Door for Desk<'a, L, R> {
+impl<'a, T: Tabled, L: Server, R: Wait + Clock> Door for Desk<'a, T, L, R> {
     ghost use Rattle.shared_cluster.specs.Desks.{Asks};
 
     type Reason = AskFault;
 
-    ghost asks = { λ old words answer new. Asks old.seat words answer new.seat };
+    ghost asks = { λ old words answer new. Asks T.table old.seat words answer new.seat };
 
     fn ask(&mut self, request: Request) -> Result<Reply, DoorFault<AskFault>> {
         match self.asked(request) {
@@ -100,6 +99,6 @@ impl<'a, L: Ledger, R: Wait + Clock> Door for Desk<'a, L, R> {
     }
 
     fn rest(&self) {
-        self.shared.turnstile().leave(self.rt, self.seat.conn());
+        self.shared.rest(self.rt, &self.seat);
     }
 }

@@ -70,8 +70,8 @@ pub enum CloseKind {
     #[error("a request is under way")]
     NotQuiet,
 
-    /// What was told of the layers is not what the store has kept of them.
-    #[error("the rows that were told are not those of the store")]
+    /// As many layers were not settled as the store has run.
+    #[error("the layers that were settled are not those of the store")]
     Disagree,
 }
 

@@ -1,17 +1,19 @@
 //! What the front's lock guards: a cluster, whether it is shut, and whether it is stopped. No other module makes a fault of an
 //! ask or of a close.
 
-ghost use Rattle.std.specs.Prelude.{◌≡◌, ◌+◌, ◌⊎◌, true, None, OnErr, OnOk, IfOk, IfErr, IfSome, IfNone, OnSome, IsTrue, ◌↔◌};
-ghost use Rattle.cluster.specs.Answers.{shown_outcome};
+ghost use Rattle.std.specs.Prelude.{◌≡◌, ◌<◌, ◌+◌, ◌⊎◌, true, [], None, OnErr, OnOk, IfOk, IfErr, IfSome, IfNone, OnSome, IsTrue, ◌↔◌};
 ghost use Rattle.resp.specs.Content.{content};
-ghost use Rattle.shared_cluster.specs.Asks.{submitted, is_listed, IsSeated, Submits, Answers, Replies, RefusesSit, RefusesSubmit, RefusesCollect};
+ghost use Rattle.shared_cluster.specs.Asks.{is_listed, IsSeated, Submits, Replies, RefusesSit, RefusesSubmit, RefusesCollect};
 ghost use Rattle.shared_cluster.specs.Asks.{RefusesTurn};
-ghost use Rattle.shared_cluster.specs.Closings.{Closes, RefusesClose, Writes, Sends, IsSight};
+ghost use Rattle.shared_cluster.specs.Closings.{Closes, RefusesClose, Writes, IsSight};
 ghost use Rattle.shared_cluster.specs.Turning.{GoesOn, Carries, Takes, MayTake, RefusesSettle, StaysSo, IsNotThere, IsAtRest};
 ghost use Rattle.cluster.specs.Clusters.{StaysOpen};
 ghost use Rattle.cluster.specs.Histories.{IsLawful, IsMade};
 ghost use Rattle.cluster.specs.Layers.{IsSettled};
+ghost use Rattle.cluster.specs.Pieces.{HandsOn};
 ghost use Rattle.cluster.specs.Submits.{submits};
+ghost use Rattle.cluster.specs.Traces.{place_of};
+ghost use Rattle.shared_cluster.specs.declared.held.TheConstants.{TRACE_AHEAD};
 ghost use Rattle.journal.specs.declared.step.Step.{Step};
 ghost use Rattle.router.specs.Router.{waiting};
 ghost use Rattle.world.specs.Steps.{Made};
@@ -19,17 +21,16 @@ ghost use Rattle.world.specs.Steps.{Made};
 use crate::fault::{AskStep, CloseKind, FaultKind, lasting, of_cluster, told, told_in};
 use crate::hand::Broken;
 use crate::sight::Sight;
-use back::Back;
-use cluster::{Answer, Closing, Cluster, Pick, SealedReply, Seat, StepFault};
+use crate::streams::TraceStream;
+use cluster::{
+    Closing, Cluster, Pick, Piece, Ran, RunsOf, SealedReply, Seat, Server, StepFault, Taken,
+};
 use groups::ConnId;
-use journal::{SendFault, send_trace, write_trace};
-use layer_planner::Layer;
-use layer_results::Done;
+use journal::write_trace;
 use resp::Request;
+use serial_store::{SerialStore, Tabled};
 use sessions::is_control;
 use std::alloc::AllocError;
-use std::io::Write;
-use std::sync::ledger::Ledger;
 use thiserror::Error;
 
 /// Why a request isn't answered, or a seat isn't given: the kind of fault, and the step that was not made. It can't be
@@ -77,17 +78,19 @@ impl CloseFault {
 /// How much is kept back for turns that find no memory.
 pub(crate) const RESERVE: usize = 256 * 1024;
 
+/// So many bytes of the trace may be kept before whoever asks waits until they were handed on.
+const TRACE_AHEAD: usize = 4 * 1024 * 1024;
+
 /// A cluster, whether it is shut: then no one sits or asks any more; and whether it is stopped, since a layer was refused for
 /// good: then no step is made any more, but for the Closes of connections.
 ///
 /// Beside it memory is kept back. A turn that finds none lets it go, so that what is under way comes to its end; and no
-/// one sits or submits before it is taken again, nor while the store has no room for rows ahead.
+/// one sits or submits before it is taken again.
 #[derive(Drop)]
-pub(crate) struct Held<L: Ledger> {
-    pub cluster: Cluster<L>,
+pub(crate) struct Held<T: Tabled, L: Server> {
+    pub cluster: Cluster<T, L>,
     pub shut: bool,
     pub stopped: bool,
-    pub store_is_short: bool,
     pub reserve: Vec<u8>,
 }
 
@@ -99,9 +102,9 @@ pub struct AtRest {
 
 /// What was found to be done by a hand that is free.
 #[derive(Drop)]
-pub(crate) enum Next {
+pub(crate) enum Next<A> {
     /// The next layer was taken.
-    Taken(Layer),
+    Taken(A),
     /// A packet came to its group.
     Delivered,
     /// Nothing was done for want of memory.
@@ -112,16 +115,16 @@ pub(crate) enum Next {
 
 /// Why what came of a layer isn't settled.
 #[derive(Drop)]
-pub(crate) enum Unsettled {
+pub(crate) enum Unsettled<B> {
     /// There was no memory for it: it is given back.
-    Starved(Done),
+    Starved(B),
     /// It isn't what came of the layer that is out. All stops.
     Foreign(AskFault),
 }
 
-impl<L: Ledger> Held<L> {
+impl<T: Tabled, L: Server> Held<T, L> {
     /// Opens a connection, and gives the seat that has it.
-    pub fn sit(&mut self) -> Result<Seat<L>, AskFault>
+    pub fn sit(&mut self) -> Result<Seat<T, L>, AskFault>
         ensures seat { IfOk result (λ seat. IsSeated self.old.cluster.history seat self.new.cluster.history) }
         ensures refused { IfErr result (RefusesSit self.old.shut self.old.stopped self.old.cluster.history) }
         ensures stays { OnErr result (StaysSo self.old.cluster self.new.cluster) }
@@ -161,9 +164,8 @@ impl<L: Ledger> Held<L> {
     }
 
     /// Submits a request of these words.
-    pub fn submit(&mut self, seat: &mut Seat<L>, words: Request) -> Result<(), AskFault>
-        ensures made { OnOk result (Submits self.old.cluster.history seat.old words self.new.cluster.history) }
-        ensures submitted { OnOk result (seat.new ≡ submitted seat.old words) }
+    pub fn submit(&mut self, seat: &mut Seat<T, L>, words: Request) -> Result<(), AskFault>
+        ensures made { OnOk result (Submits self.old.cluster.history seat.old words self.new.cluster.history seat.new) }
         ensures refused { IfErr result (RefusesSubmit self.old.shut self.old.stopped self.old.cluster.history seat.old words) }
         ensures unchanged { OnErr result (seat.new ≡ seat.old) }
         ensures stays { OnErr result (StaysSo self.old.cluster self.new.cluster) }
@@ -210,58 +212,17 @@ impl<L: Ledger> Held<L> {
         self.cluster.front().has_list(conn) && !is_control(words.word(0))
     }
 
-    /// Takes the memory again that is kept back for turns, where it was let go, and room ahead. Says whether there is none for the
-    /// one or the other, or the store has no room ahead.
+    /// Takes the memory again that is kept back for turns, where it was let go. Says whether there is none.
     fn is_short(&mut self) -> bool
         ensures { (self.new.cluster ≡ self.old.cluster) × (self.new.shut ≡ self.old.shut) × (self.new.stopped ≡ self.old.stopped) }
     {
-        self.store_is_short
-            || (self.reserve.capacity() < RESERVE && self.reserve.reserve(RESERVE).is_err())
-            || self.cluster.take_room_ahead().is_err()
+        self.reserve.capacity() < RESERVE && self.reserve.reserve(RESERVE).is_err()
     }
 
-    /// What came of the seat's last request, with its words, if it is there. A want of memory is no refusal: it is not
-    /// there yet.
-    pub fn collect(&mut self, seat: &mut Seat<L>) -> Result<Option<Answer>, AskFault>
-        ensures answered { IfOk result (λ answer. IfSome answer (λ a.
-            Answers self.old.cluster.history seat.old (shown_outcome a) self.new.cluster.history seat.new)) }
-        ensures words { IfOk result (λ answer. IfSome answer (λ a. a.words ≡ seat.old.words)) }
-        ensures none { IfOk result (λ answer. IfNone answer (IsLawful self.old.cluster.history
-            × IsNotThere self.old.cluster.history seat.old)) }
-        ensures unasked { IfOk result (λ answer. IfNone answer (seat.new ≡ seat.old)) }
-        ensures still { IfOk result (λ answer. IfNone answer (StaysSo self.old.cluster self.new.cluster)) }
-        ensures refused { IfErr result (RefusesCollect self.old.stopped self.old.cluster.history seat.old) }
-        ensures unchanged { OnErr result (seat.new ≡ seat.old) }
-        ensures stays { OnErr result (StaysSo self.old.cluster self.new.cluster) }
-        ensures shut { self.new.shut ≡ self.old.shut }
-        ensures stopped { self.new.stopped ≡ self.old.stopped }
-    {
-        let step = AskStep::Collect(seat.conn(), seat.count());
-        if self.stopped {
-            return Err(AskFault {
-                kind: FaultKind::Failed,
-                step,
-            });
-        }
-        self.cluster.lawful();
-        match self.cluster.collect(seat) {
-            Ok(Some(answer)) => {
-                self.cluster.lawful();
-                Ok(Some(answer))
-            }
-            Ok(None) => Ok(None),
-            Err(fault) => match lasting(fault) {
-                Some(kind) => Err(AskFault { kind, step }),
-                None => Ok(None),
-            },
-        }
-    }
-
-    /// The reply alone of what came of the seat's last request, if it is there. A want of memory is no refusal: it is
-    /// not there yet.
-    pub fn collect_reply(&mut self, seat: &mut Seat<L>) -> Result<Option<SealedReply>, AskFault>
+    /// The reply of the seat's last request, if it is there. A want of memory is no refusal: it is not there yet.
+    pub fn collect(&mut self, seat: &mut Seat<T, L>) -> Result<Option<SealedReply>, AskFault>
         ensures answered { IfOk result (λ reply. IfSome reply (λ r.
-            Replies self.old.cluster.history seat.old (content r.reply) self.new.cluster.history seat.new)) }
+            Replies T.table self.old.cluster.history seat.old (content r.reply) self.new.cluster.history seat.new)) }
         ensures none { IfOk result (λ reply. IfNone reply (IsLawful self.old.cluster.history
             × IsNotThere self.old.cluster.history seat.old)) }
         ensures unasked { IfOk result (λ reply. IfNone reply (seat.new ≡ seat.old)) }
@@ -280,12 +241,8 @@ impl<L: Ledger> Held<L> {
             });
         }
         self.cluster.lawful();
-        match self.cluster.collect_reply(seat) {
-            Ok(Some(reply)) => {
-                self.cluster.lawful();
-                Ok(Some(reply))
-            }
-            Ok(None) => Ok(None),
+        match self.cluster.collect(seat) {
+            Ok(reply) => Ok(reply),
             Err(fault) => match lasting(fault) {
                 Some(kind) => Err(AskFault { kind, step }),
                 None => Ok(None),
@@ -302,7 +259,7 @@ impl<L: Ledger> Held<L> {
     }
 
     /// Takes the next layer, if a request is ready and none is out; else brings a packet to its group, if one is under way.
-    pub fn turn<P: Pick>(&mut self, pick: &P) -> Result<Next, AskFault>
+    pub fn turn<P: Pick>(&mut self, pick: &P) -> Result<Next<Taken<T, L>>, AskFault>
         ensures made { IfOk result (GoesOn (P.picks pick.now) self.old.cluster.history self.new.cluster.history) }
         ensures lawful { OnOk result (IsLawful self.old.cluster.history) }
         ensures refused { IfErr result (RefusesTurn self.old.stopped self.old.cluster.history) }
@@ -328,7 +285,7 @@ impl<L: Ledger> Held<L> {
     }
 
     /// Takes the next layer.
-    fn take(&mut self) -> Result<Next, AskFault>
+    fn take(&mut self) -> Result<Next<Taken<T, L>>, AskFault>
         requires { MayTake self.old.cluster.history }
         ensures made { IfOk result (Takes self.old.cluster.history self.new.cluster.history) }
         ensures lawful { OnOk result (IsLawful self.old.cluster.history) }
@@ -358,7 +315,7 @@ impl<L: Ledger> Held<L> {
     }
 
     /// Brings a packet to its group, if one is under way.
-    pub fn deliver<P: Pick>(&mut self, pick: &P) -> Result<Next, AskFault>
+    pub fn deliver<P: Pick>(&mut self, pick: &P) -> Result<Next<Taken<T, L>>, AskFault>
         ensures made { IfOk result (Carries (P.picks pick.now) self.old.cluster.history self.new.cluster.history) }
         ensures lawful { OnOk result (IsLawful self.old.cluster.history) }
         ensures refused { IfErr result (RefusesTurn self.old.stopped self.old.cluster.history) }
@@ -388,20 +345,20 @@ impl<L: Ledger> Held<L> {
     }
 
     /// Tells what came of the layer that is out. What isn't that stops all.
-    pub fn settle(&mut self, done: Done) -> Result<(), Unsettled>
-        ensures settled { OnOk result (IsSettled self.old.cluster.history done self.new.cluster.history) }
+    pub fn settle(&mut self, ran: Ran<T, L>) -> Result<(), Unsettled<Ran<T, L>>>
+        ensures settled { OnOk result (IsSettled self.old.cluster.history ran.done self.new.cluster.history) }
         ensures lawful { IsLawful self.old.cluster.history }
-        ensures refused { IfErr result (RefusesSettle self.old.cluster.history done) }
+        ensures refused { IfErr result (RefusesSettle self.old.cluster.history ran) }
         ensures stays { OnErr result (StaysSo self.old.cluster self.new.cluster) }
         ensures shut { self.new.shut ≡ self.old.shut }
         ensures stopped { OnOk result (self.new.stopped ≡ self.old.stopped) }
     {
         self.cluster.lawful();
-        match self.cluster.settle(done) {
+        match self.cluster.settle(ran) {
             Ok(()) => Ok(()),
-            Err((done, StepFault::Memory)) => {
+            Err((ran, StepFault::Memory)) => {
                 self.let_reserve_go();
-                Err(Unsettled::Starved(done))
+                Err(Unsettled::Starved(ran))
             }
             Err(_) => {
                 self.stopped = true;
@@ -475,8 +432,8 @@ impl<L: Ledger> Held<L> {
     {
         Sight {
             requests: self.cluster.requests(),
-            steps: self.cluster.trace().len() as u64,
-            starved: self.cluster.front().starved().len() as u64,
+            steps: self.cluster.count(),
+            starved: self.cluster.starved(),
         }
     }
 
@@ -490,7 +447,7 @@ impl<L: Ledger> Held<L> {
     }
 
     /// Takes a seat back, and closes its connection, where a step may be made and there is memory for it.
-    pub fn stand(&mut self, seat: Seat<L>)
+    pub fn stand(&mut self, seat: Seat<T, L>)
         ensures stood { self.new.cluster.stood ≡ self.old.cluster.stood + 1 }
         ensures back { self.new.cluster.back ≡ self.old.cluster.back + seat.count }
         ensures closed { IsMade self.old.cluster.history (Step.Close seat.conn) Made self.new.cluster.history
@@ -502,18 +459,18 @@ impl<L: Ledger> Held<L> {
     }
 
     /// What is told of the cluster when it is closed beside this store.
-    pub fn close(&mut self, back: &Back) -> Result<Closing, CloseFault>
-        ensures closed { IfOk result (Closes self.old.cluster back.now) }
-        ensures refused { IfErr result (λ fault. RefusesClose self.old.stopped self.old.cluster back.now fault.kind) }
+    pub fn close(&mut self, store: &SerialStore<T, RunsOf<L>>) -> Result<Closing, CloseFault>
+        ensures closed { IfOk result (Closes T.table self.old.cluster store.now) }
+        ensures refused { IfErr result (λ fault. RefusesClose self.old.stopped self.old.cluster store.now fault.kind) }
         ensures same { self.new ≡ self.old }
     {
-        if self.stopped || back.has_failed() {
+        if self.stopped || store.has_failed() {
             return Err(CloseFault {
                 kind: CloseKind::Failed,
             });
         }
         self.cluster.lawful();
-        match self.cluster.closing(back) {
+        match self.cluster.closing(store) {
             Ok(closing) => Ok(closing),
             Err(fault) => Err(CloseFault {
                 kind: of_cluster(fault),
@@ -521,20 +478,53 @@ impl<L: Ledger> Held<L> {
         }
     }
 
-    /// Appends the text of the trace.
-    pub fn write_trace(&self, out: &mut Vec<u8>) -> Result<(), AllocError>
-        ensures written { OnOk result (Writes self.now.cluster.history out.old.items out.new.items) }
+    /// Appends the text of the trace, where one is kept of which nothing was handed on, and says whether it is.
+    pub fn write_trace(&self, out: &mut Vec<u8>) -> Result<bool, AllocError>
+        ensures written { IfOk result (λ kept. Writes self.now.cluster.history out.old.items kept out.new.items) }
         ensures unchanged { OnErr result (out.new.items ≡ out.old.items) }
     {
         self.cluster.lawful();
-        write_trace(self.cluster.trace(), out)
+        let Some(trace) = self.cluster.trace() else {
+            return Ok(false);
+        };
+        write_trace(trace, out)?;
+        Ok(true)
     }
 
-    /// Writes the text of the trace, piece by piece.
-    pub fn send_trace<W: Write>(&self, writer: &mut W) -> Result<(), SendFault>
-        ensures { OnOk result (Sends self.now.cluster.history (W.contents writer.old) (W.contents writer.new)) }
+    /// The text of the trace, to be made in pieces, where one is kept.
+    pub fn trace_stream(&self) -> Option<TraceStream<T, L>>
+        ensures max { IfSome result (λ stream. stream.max ≡ self.now.cluster.history.max_steps) }
+        ensures steps { IfSome result (λ stream. stream.steps ≡ []) }
+        ensures none { IfNone result (self.now.cluster.history.trace ≡ None) }
     {
-        self.cluster.lawful();
-        send_trace(*self.reserve.allocator(), self.cluster.trace(), writer)
+        match self.cluster.trace_max() {
+            Some(max) => Some(TraceStream::new(max)),
+            None => None,
+        }
+    }
+
+    /// Hands on a piece of the trace, where one is kept. The only error is want of memory, which changes nothing.
+    pub fn hand_on(&mut self) -> Result<Option<Piece<T, L>>, AllocError>
+        ensures handed { IfOk result (λ piece. IfSome piece (λ p. HandsOn self.old.cluster.history p self.new.cluster.history)) }
+        ensures none { IfOk result (λ piece. IfNone piece (self.old.cluster.history.trace ≡ None)) }
+        ensures unchanged { OnErr result (self.new ≡ self.old) }
+        ensures rest { (self.new.shut ≡ self.old.shut) × (self.new.stopped ≡ self.old.stopped) }
+    {
+        self.cluster.hand_on()
+    }
+
+    /// Keeps no trace any more.
+    pub fn forget_trace(&mut self)
+        ensures none { self.new.cluster.history.trace ≡ None }
+        ensures rest { (self.new.shut ≡ self.old.shut) × (self.new.stopped ≡ self.old.stopped) }
+    {
+        self.cluster.forget_trace();
+    }
+
+    /// Whether so much is kept of the trace that whoever asks waits until it was handed on.
+    pub fn is_behind(&self) -> bool
+        ensures { IsTrue result ↔ (TRACE_AHEAD < place_of self.now.cluster.history.trace) }
+    {
+        self.cluster.trace_size() > TRACE_AHEAD
     }
 }

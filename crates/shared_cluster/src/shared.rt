@@ -1,8 +1,8 @@
-//! A cluster under two locks, for any number of threads: the front with its seats under the one, the store with its rows under
-//! the other.
+//! A cluster under two locks, for any number of threads: the front with its seats under the one, the store under the other.
 //!
-//! What a call does to the cluster no clause can say, since the cluster is another one each time the lock is taken. A
-//! clause says what was true of the cluster that was found: it was lawful, and what a seat was answered came from it.
+//! What a call does to the cluster no clause can say, since the cluster is another one each time the lock is taken. But all that seats
+//! have seen are beginnings of one history of steps. A clause says of an answer that it is the one which the seat's own request gets in
+//! the world of that history.
 //!
 //! Who sleeps, and who wakes him:
 //!
@@ -21,62 +21,58 @@
 //! Each looks under the front's lock whether he has something to do before he goes to sleep, and each is woken after the change
 //! under that lock, so no call is missed.
 
-ghost use Rattle.std.specs.Prelude.{◌≡◌, ◌≤◌, ◌<◌, ◌⊎◌, true, IfOk, IfErr, IfSome, IfNone, OnOk, OnErr, OnSome};
-ghost use Rattle.cluster.specs.Answers.{shown_outcome};
-ghost use Rattle.resp.specs.Content.{content};
-ghost use Rattle.shared_cluster.specs.Asks.{submitted, IsNewSeat, IsAnswered, IsReplied, IsSitFault, IsSubmitFault};
-ghost use Rattle.shared_cluster.specs.Asks.{IsCollectFault, IsAskFault};
-ghost use Rattle.shared_cluster.specs.Asks.{IsStopped};
-ghost use Rattle.shared_cluster.specs.Closings.{IsClosed, IsCloseFault, IsWritten, IsSent};
+ghost use Rattle.std.specs.Prelude.{◌≡◌, ◌≤◌, ◌<◌, [], IfOk, IfErr, IfSome, IfNone, OnErr, OnSome};
+ghost use Rattle.shared_cluster.specs.Asks.{IsNewSeat, IsSitFault, IsStopped};
+ghost use Rattle.shared_cluster.specs.Closings.{IsClosed, IsCloseFault, IsWritten};
 ghost use Rattle.shared_cluster.specs.Hands.{IsFound, IsBrought, Begins, Brings, HasSettled, Settles, Advances, HasTurned};
-ghost use Rattle.shared_cluster.specs.Hands.{IsUncollected, LooksInVain};
 ghost use Rattle.shared_cluster.specs.declared.hand.Hand.{Hand};
 ghost use Rattle.journal.specs.declared.trace.TheConstants.{GREATEST_STEPS};
 
 use crate::fault::FaultKind;
-use crate::hand::{Hand, Run, bring_to};
+use crate::hand::{Hand, HandOf, Run, RunOf, bring_to};
 use crate::held::{AskFault, AtRest, CloseFault, Held, Next, RESERVE, Unsettled};
-use crate::long_work::takes_long;
+use crate::names::Names;
 use crate::sight::Sight;
-use back::Back;
-use cluster::{Answer, Closing, Cluster, First, Pick, SealedReply, Seat};
+use crate::streams::TraceStream;
+use cluster::{Closing, Cluster, Pick, Piece, Ran, RunsOf, Seat, Server, Taken};
 use groups::{ConnId, GroupId};
 use hashed_texts::TextHasher;
-use journal::SendFault;
-use layer_planner::Layer;
 use layer_results::Done;
 use placement::Table;
-use resp::Request;
+use serial_store::{SerialStore, Tabled};
 use server_waiting::{Pause, Turnstile, Waiting};
-use shard_workers::{Gate, InTurn, OpenGate, Workers};
+use shard_workers::{Gate, Workers};
 use std::alloc::{AllocError, Global};
-use std::io::Write;
 use std::mem;
-use std::num::NonZeroUsize;
-use std::sync::ledger::{Blank, Ledger};
+use std::sync::atomic::{AtomicBool, Ordering};
 use std::sync::{Condvar, Mutex, Wait};
 use std::time::Clock;
 
-/// A cluster under two locks. Each accepted step is one holding of the front's, but for a Run, which is one of the store's; and
-/// no one waits for one while he holds the other, but in `close`, which takes the front's first.
+/// How many packets are brought to their groups in one holding of the lock at most.
+const PACKETS: usize = 16;
+
+/// A cluster under two locks. A holding of the front's makes the steps of one call, none or several, one after the other; a Run is one
+/// holding of the store's. No one waits for one while he holds the other, but in `close`, which takes the front's first.
 #[derive(Drop)]
-pub struct Shared<L: Ledger> {
-    front: Mutex<Held<L>>,
-    back: Mutex<Back>,
+pub struct Shared<T: Tabled, L: Server> {
+    pub(crate) front: Mutex<Held<T, L>>,
+    pub(crate) store: Mutex<SerialStore<T, RunsOf<L>>>,
     // A request waits for who drives, or the cluster is shut.
-    work: Condvar,
+    pub(crate) work: Condvar,
     // A packet may be under way for who carries, or the cluster is shut.
-    packets: Condvar,
+    pub(crate) packets: Condvar,
     // Outcomes went to seats that wait for them, or no turn is made any more.
-    done: Waiting,
+    pub(crate) done: Waiting,
     // The same for seats whose threads make their own turns; or a layer may be taken.
-    idle: Waiting,
-    turnstile: Turnstile,
+    pub(crate) idle: Waiting,
+    pub(crate) turnstile: Turnstile,
+    // Whoever asks waits until a piece of the trace was handed on.
+    pub(crate) behind: AtomicBool,
 }
 
 /// How the turns go on.
 #[derive(Clone, Copy, Debug, PartialEq, Eq)]
-enum Turn {
+pub(crate) enum Turn {
     /// One was made; `settled` where outcomes went to their connections.
     Made { settled: bool },
     /// None was made for want of memory.
@@ -85,116 +81,55 @@ enum Turn {
     Quiet,
 }
 
-impl<L: Ledger> Shared<L> {
-    /// A cluster without seats, which has made no step and makes `max_steps` at most. Keys lie as the table
-    /// says, and each shard hashes them, and the members and fields of their values, by a copy of `hasher`. The
-    /// only error is want of memory.
+impl<T: Tabled, L: Server> Shared<T, L> {
+    /// A cluster without seats, which has made no step and makes `max_steps` at most. Keys lie as the table says, and each shard hashes
+    /// them, and what lies at them, by a copy of `hasher`. Its steps are kept as a trace where `keeps` says so. The only error is want of
+    /// memory.
     pub fn new(
         alloc: Global,
         table: Table,
         max_steps: u64,
+        keeps: bool,
         hasher: TextHasher,
-        blank: Blank,
+        names: Names<T, L>,
     ) -> Result<Self, AllocError>
-        requires name { blank.name ≡ L.name }
-        requires parts { blank.parts ≡ L.parts }
-        requires enough { max_steps < blank.parts }
+        requires name { names.blank.name ≡ L.name }
+        requires parts { names.blank.parts ≡ L.parts }
+        requires enough { max_steps < names.blank.parts }
         requires some { 1 ≤ max_steps }
         requires few { max_steps ≤ GREATEST_STEPS }
+        requires table { table ≡ T.table }
+        requires steps { names.steps ≡ [] }
+        requires runs { names.runs ≡ [] }
     {
-        let back = Back::new(alloc, table, hasher)?;
-        let cluster = Cluster::new(alloc, table, max_steps, blank)?;
+        let Names { blank, steps, runs } = names;
+        let ran = runs.part();
+        let store = SerialStore::new(alloc, table, hasher, runs)?;
+        let cluster = Cluster::new(alloc, table, max_steps, keeps, blank, steps, ran)?;
         let reserve = Vec::with_capacity(alloc, RESERVE)?;
         Ok(Shared {
             front: Mutex::new(Held {
                 cluster,
                 shut: false,
                 stopped: false,
-                store_is_short: false,
                 reserve,
             }),
-            back: Mutex::new(back),
+            store: Mutex::new(store),
             work: Condvar::new(),
             packets: Condvar::new(),
             done: Waiting::new(),
             idle: Waiting::new(),
             turnstile: Turnstile::new(),
+            behind: AtomicBool::new(false),
         })
     }
 
     /// Opens a connection, and gives the seat that has it. It may wait for the lock.
-    pub fn sit<R: Wait>(&self, rt: &R) -> Result<Seat<L>, AskFault>
+    pub fn sit<R: Wait>(&self, rt: &R) -> Result<Seat<T, L>, AskFault>
         ensures seat { IfOk result IsNewSeat }
         ensures refused { IfErr result IsSitFault }
     {
-        let mut held = self.front.lock(rt);
-        match held.sit() {
-            Ok(seat) => Ok(seat),
-            Err(fault) => {
-                drop(held);
-                self.look_for_room(rt, fault.kind());
-                Err(fault)
-            }
-        }
-    }
-
-    /// What the connections that make their own turns pass one at a time.
-    pub(crate) fn turnstile(&self) -> &Turnstile {
-        &self.turnstile
-    }
-
-    /// Submits a request of these words, and waits until another thread that drives the cluster has brought what came
-    /// of it.
-    pub fn ask<R: Wait + Clock>(
-        &self,
-        rt: &R,
-        seat: &mut Seat<L>,
-        words: Request,
-    ) -> Result<Answer, AskFault>
-        ensures answered { IfOk result (λ a. IsAnswered (submitted seat.old words) (shown_outcome a) seat.new) }
-        ensures words { IfOk result (λ a. a.words ≡ words) }
-        ensures refused { IfErr result (λ fault. IsAskFault seat.old words fault seat.new) }
-    {
-        match self.submit(rt, seat, words) {
-            Ok(_) => {
-                self.wake_workers();
-                self.wait(rt, seat)
-            }
-            Err(fault) => Err(fault),
-        }
-    }
-
-    /// Submits a request of these words, and makes turns until what came of it is there. It gives the reply alone, as it was
-    /// collected. Each turn brings the oldest packet on, or a layer with one worker.
-    pub fn ask_turning<R: Wait + Clock>(
-        &self,
-        rt: &R,
-        seat: &mut Seat<L>,
-        words: Request,
-    ) -> Result<SealedReply, AskFault>
-        ensures replied { IfOk result (λ r. IsReplied (submitted seat.old words) (content r.reply) seat.new) }
-        ensures refused { IfErr result (λ fault. IsAskFault seat.old words fault seat.new) }
-    {
-        match self.submit(rt, seat, words) {
-            Ok(may_wait) => self.turn_until_replied(rt, seat, may_wait),
-            Err(fault) => Err(fault),
-        }
-    }
-
-    /// What `ask` answers, of which it gives the reply alone.
-    pub fn ask_driven<R: Wait + Clock>(
-        &self,
-        rt: &R,
-        seat: &mut Seat<L>,
-        words: Request,
-    ) -> Result<SealedReply, AskFault>
-        ensures replied { IfOk result (λ r. IsReplied (submitted seat.old words) (content r.reply) seat.new) }
-        ensures refused { IfErr result (λ fault. IsAskFault seat.old words fault seat.new) }
-    {
-        match self.ask(rt, seat, words) {
-            Ok(answer) => Ok(answer.into_sealed()),
-            Err(fault) => Err(fault),
-        }
+        self.front.lock(rt).sit()
     }
 
     /// Makes turns until it is found shut and nothing under way. A turn for which there is no memory is tried again.
@@ -211,7 +146,7 @@ impl<L: Ledger> Shared<L> {
         ensures { IfErr result IsStopped }
     {
         let mut pause = Pause::new();
-        let mut hand = Hand::Free;
+        let mut hand: HandOf<T, L> = Hand::Free;
         for _ in rt.forever() {
             match self.drive_once(rt, &mut hand, pick, workers, gate, &mut pause) {
                 Ok(None) => {}
@@ -252,25 +187,63 @@ impl<L: Ledger> Shared<L> {
         self.wake_workers();
     }
 
-    /// Takes a seat back, and closes its connection. What it has under way still runs, and its outcome is dropped.
-    pub fn stand<R: Wait>(&self, rt: &R, seat: Seat<L>) {
+    /// Lets others make their own turns: after `ask_turning` nobody else does so before this seat rests or stands. To be called
+    /// before its thread waits for anything but this cluster.
+    pub fn rest<R: Wait>(&self, rt: &R, seat: &Seat<T, L>) {
+        self.turnstile.leave(rt, seat.conn());
+    }
+
+    /// Takes a seat back, which rests then, and closes its connection. What it has under way still runs, and its outcome is dropped.
+    pub fn stand<R: Wait>(&self, rt: &R, seat: Seat<T, L>) {
+        self.rest(rt, &seat);
         self.front.lock(rt).stand(seat);
     }
 
-    /// Appends the text of the trace. With `AllocError`, where there is no memory for all of it, `out` is as it was.
-    pub fn write_trace<R: Wait>(&self, rt: &R, out: &mut Vec<u8>) -> Result<(), AllocError>
-        ensures written { OnOk result (IsWritten out.old.items out.new.items) }
+    /// Appends the text of the trace, where one is kept of which nothing was handed on, and says whether it is. With `AllocError`, where there is no memory for all of
+    /// it, `out` is as it was.
+    pub fn write_trace<R: Wait>(&self, rt: &R, out: &mut Vec<u8>) -> Result<bool, AllocError>
+        ensures written { IfOk result (λ kept. IsWritten out.old.items kept out.new.items) }
         ensures unchanged { OnErr result (out.new.items ≡ out.old.items) }
     {
         self.front.lock(rt).write_trace(out)
     }
 
-    /// Writes the text of the trace, by pieces of some 64 KiB, or of one step where that is longer. It holds the lock
-    /// meanwhile. With an error a part of it may have been written.
-    pub fn send_trace<R: Wait, W: Write>(&self, rt: &R, writer: &mut W) -> Result<(), SendFault>
-        ensures { OnOk result (IsSent (W.contents writer.old) (W.contents writer.new)) }
+    /// The text of the trace, to be made in pieces, where one is kept.
+    pub fn trace_stream<R: Wait>(&self, rt: &R) -> Option<TraceStream<T, L>>
+        ensures { IfSome result (λ stream. stream.steps ≡ []) }
     {
-        self.front.lock(rt).send_trace(writer)
+        self.front.lock(rt).trace_stream()
+    }
+
+    /// Keeps no trace any more.
+    pub fn forget_trace<R: Wait>(&self, rt: &R) {
+        self.front.lock(rt).forget_trace();
+        self.behind.store(false, Ordering::Relaxed);
+    }
+
+    /// Hands on a piece of the trace, where one is kept.
+    pub(crate) fn hand_on<R: Wait>(&self, rt: &R) -> Result<Option<Piece<T, L>>, AllocError> {
+        let handed = self.front.lock(rt).hand_on();
+        self.behind.store(false, Ordering::Relaxed);
+        handed
+    }
+
+    /// Has who asks next wait where much is kept of the trace.
+    pub(crate) fn note_trace(&self, held: &Held<T, L>) {
+        if held.is_behind() {
+            self.behind.store(true, Ordering::Relaxed);
+        }
+    }
+
+    /// Waits while so much is kept of the trace that it is to be handed on first.
+    pub(crate) fn wait_for_trace<R: Wait + Clock>(&self, rt: &R) {
+        let mut pause = Pause::new();
+        for _ in rt.forever() {
+            if !self.behind.load(Ordering::Relaxed) {
+                return;
+            }
+            pause.sleep(rt);
+        }
     }
 
     /// How many requests were submitted so far.
@@ -283,193 +256,34 @@ impl<L: Ledger> Shared<L> {
         self.front.lock(rt).sight()
     }
 
-    /// What is told of the cluster when it is closed: all seats have stood, nothing is under way, and what was told of the
-    /// layers is what the store has kept. It changes nothing.
+    /// How many keys its store has, or 9223372036854775807 where there are more. It waits where a layer is run.
+    pub fn keys<R: Wait>(&self, rt: &R) -> i64 {
+        self.store.lock(rt).size()
+    }
+
+    /// What is told of the cluster when it is closed: all seats have stood, nothing is under way, and the store has run the layers that
+    /// were settled. It changes nothing.
     pub fn close<R: Wait>(&self, rt: &R) -> Result<Closing, CloseFault>
-        ensures closed { IfOk result IsClosed }
+        ensures closed { IfOk result (IsClosed T.table) }
         ensures refused { IfErr result IsCloseFault }
     {
         let mut held = self.front.lock(rt);
-        let back = self.back.lock(rt);
-        held.close(&back)
-    }
-
-    /// Submits a request of these words. Says whether what came of it waits at once, as that of a refused one does.
-    fn submit<R: Wait>(&self, rt: &R, seat: &mut Seat<L>, words: Request) -> Result<bool, AskFault>
-        ensures submitted { OnOk result (seat.new ≡ submitted seat.old words) }
-        ensures refused { IfErr result (IsSubmitFault seat.old words) }
-        ensures unchanged { OnErr result (seat.new ≡ seat.old) }
-    {
-        let mut held = self.front.lock(rt);
-        match held.submit(seat, words) {
-            Ok(()) => Ok(held.cluster.front().waits(seat.conn()).is_some()),
-            Err(fault) => {
-                drop(held);
-                self.look_for_room(rt, fault.kind());
-                Err(fault)
-            }
-        }
-    }
-
-    /// Where someone was refused for want of memory: has the store look for room ahead, so that the next one isn't if there is some.
-    fn look_for_room<R: Wait>(&self, rt: &R, refused: FaultKind) {
-        if refused == FaultKind::Memory && self.back.lock(rt).take_room_ahead().is_ok() {
-            self.front.lock(rt).store_is_short = false;
-        }
-    }
-
-    /// Waits until what came of the seat's last request is there.
-    fn wait<R: Wait + Clock>(&self, rt: &R, seat: &mut Seat<L>) -> Result<Answer, AskFault>
-        ensures answered { IfOk result (λ a. IsAnswered seat.old (shown_outcome a) seat.new) }
-        ensures words { IfOk result (λ a. a.words ≡ seat.old.words) }
-        ensures refused { IfErr result (IsCollectFault seat.old) }
-        ensures unchanged { OnErr result (seat.new ≡ seat.old) }
-    {
-        let mut pause = Pause::new();
-        let mut held = self.front.lock(rt);
-        for _ in rt.forever() {
-            match held.collect(seat) {
-                Ok(Some(answer)) => return Ok(answer),
-                Ok(None) => {}
-                Err(fault) => return Err(fault),
-            }
-            if held.cluster.front().waits(seat.conn()).is_none() {
-                held = self.done.wait(rt, seat.conn(), held);
-                continue;
-            }
-            // There was no memory to collect it.
-            drop(held);
-            pause.sleep(rt);
-            held = self.front.lock(rt);
-        }
-        unreachable!()
-    }
-
-    /// Makes turns until what came of the seat's last request is there. It is collected by a hand that is free, and looked for at
-    /// once where it may wait.
-    fn turn_until_replied<R: Wait + Clock>(
-        &self,
-        rt: &R,
-        seat: &mut Seat<L>,
-        may_wait: bool,
-    ) -> Result<SealedReply, AskFault>
-        ensures replied { IfOk result (λ r. IsReplied seat.old (content r.reply) seat.new) }
-        ensures refused { IfErr result (IsCollectFault seat.old) }
-        ensures unchanged { OnErr result (seat.new ≡ seat.old) }
-    {
-        let mut hand = Hand::Free;
-        let mut may_wait = may_wait;
-        let mut pause = Pause::new();
-        for _ in rt.forever() {
-            match self.turn_or_collect(rt, seat, &mut hand, &mut may_wait, &mut pause) {
-                Ok(Some(reply)) => return Ok(reply),
-                Ok(None) => {}
-                Err(fault) => {
-                    self.wake_all();
-                    return Err(fault);
-                }
-            }
-        }
-        unreachable!()
-    }
-
-    /// Collects what came of the seat's last request, or makes a turn where it isn't there or the hand isn't free: one step, or
-    /// none.
-    ///
-    /// It is looked for where it may wait: it is there at once, or comes with a Settle. Where another thread made that
-    /// Settle it is found once there is nothing to do, or after the next one that is made here.
-    fn turn_or_collect<R: Wait + Clock>(
-        &self,
-        rt: &R,
-        seat: &mut Seat<L>,
-        hand: &mut Hand,
-        may_wait: &mut bool,
-        pause: &mut Pause,
-    ) -> Result<Option<SealedReply>, AskFault>
-        ensures replied { IfOk result (λ reply. IfSome reply (λ r. IsReplied seat.old (content r.reply) seat.new)) }
-        ensures free { IfOk result (λ reply. OnSome reply ((hand.old ≡ Hand.Free) × (hand.new ≡ Hand.Free))) }
-        ensures unasked { IfOk result (λ reply. IfNone reply (seat.new ≡ seat.old)) }
-        ensures goes_on { IfOk result (λ reply. IfNone reply (LooksInVain seat.old hand.old hand.new ⊎ HasTurned hand.old hand.new)) }
-        ensures refused { IfErr result (IsCollectFault seat.old) }
-        ensures unchanged { OnErr result (seat.new ≡ seat.old) }
-        ensures let_go { OnErr result (hand.new ≡ Hand.Free) }
-    {
-        if may_look(*may_wait, hand) {
-            *may_wait = false;
-            return self.look(rt, seat);
-        }
-        self.pass(rt, seat.conn(), hand);
-        let turn = match self.advance(rt, hand, &First, &InTurn(NonZeroUsize::MIN), &OpenGate) {
-            Ok(turn) => turn,
-            Err(fault) => return Err(fault),
-        };
-        *may_wait = turn != Turn::Made { settled: false };
-        match turn {
-            Turn::Made { .. } => pause.end(),
-            Turn::Starved => self.let_others_pass(rt, seat.conn(), pause),
-            Turn::Quiet => self.wait_for_layer(rt, seat.conn()),
-        }
-        Ok(None)
-    }
-
-    /// Collects what came of the seat's last request, if it is there.
-    fn look<R: Wait>(&self, rt: &R, seat: &mut Seat<L>) -> Result<Option<SealedReply>, AskFault>
-        ensures replied { IfOk result (λ reply. IfSome reply (λ r. IsReplied seat.old (content r.reply) seat.new)) }
-        ensures none { IfOk result (λ reply. IfNone reply (IsUncollected seat.old)) }
-        ensures unasked { IfOk result (λ reply. IfNone reply (seat.new ≡ seat.old)) }
-        ensures refused { IfErr result (IsCollectFault seat.old) }
-        ensures unchanged { OnErr result (seat.new ≡ seat.old) }
-    {
-        let mut held = self.front.lock(rt);
-        if held.has_no_outcome(seat.conn()) {
-            return Ok(None);
-        }
-        held.collect_reply(seat)
-    }
-
-    /// Passes the turnstile, to take the next layer or bring a packet on; or leaves it before it runs a layer that takes long, so
-    /// that those behind it submit, and the next layer has them all.
-    fn pass<R: Wait>(&self, rt: &R, conn: ConnId, hand: &Hand) {
-        match hand {
-            Hand::Free => self.turnstile.enter(rt, conn),
-            Hand::Taken(layer) if takes_long(layer) => self.turnstile.leave(rt, conn),
-            Hand::Taken(_) | Hand::HasRun(_) => {}
-        }
-    }
-
-    /// Sleeps where there was no memory for a turn, outside the turnstile, so that others are answered and may give
-    /// theirs back.
-    fn let_others_pass<R: Wait + Clock>(&self, rt: &R, conn: ConnId, pause: &mut Pause) {
-        self.turnstile.leave(rt, conn);
-        pause.sleep(rt);
-        self.turnstile.enter(rt, conn);
-    }
-
-    /// Sleeps where there is nothing to do while another hand has the layer, outside the turnstile, so that others submit and
-    /// the next layer has them all. Who settles wakes it.
-    fn wait_for_layer<R: Wait>(&self, rt: &R, conn: ConnId) {
-        self.turnstile.leave(rt, conn);
-        let held = self.front.lock(rt);
-        if held.waits_for_layer(conn) {
-            drop(self.idle.wait(rt, conn, held));
-        } else {
-            drop(held);
-        }
-        self.turnstile.enter(rt, conn);
+        let store = self.store.lock(rt);
+        held.close(&store)
     }
 
     /// Makes a turn, or waits for one to be there to be made; or says that it was found at rest.
     fn drive_once<P: Pick, W: Workers, R: Wait + Clock>(
         &self,
         rt: &R,
-        hand: &mut Hand,
+        hand: &mut HandOf<T, L>,
         pick: &P,
         workers: &W,
         gate: &(dyn Gate + Sync),
         pause: &mut Pause,
     ) -> Result<Option<AtRest>, AskFault>
         ensures free { IfOk result (λ rest. OnSome rest ((hand.old ≡ Hand.Free) × (hand.new ≡ Hand.Free))) }
-        ensures goes_on { IfOk result (λ rest. IfNone rest (HasTurned hand.old hand.new)) }
+        ensures goes_on { IfOk result (λ rest. IfNone rest (HasTurned T.table hand.old hand.new)) }
         ensures refused { IfErr result IsStopped }
         ensures let_go { OnErr result (hand.new ≡ Hand.Free) }
     {
@@ -535,41 +349,46 @@ impl<L: Ledger> Shared<L> {
     /// Makes the first of these that is there to be made, if one is: what came of the hand's layer is settled, the layer is run,
     /// the next one is taken, a packet comes to its group. What is in the hand stays there until it is settled; but where a turn
     /// is refused the hand is free.
-    fn advance<P: Pick, W: Workers, R: Wait>(
+    pub(crate) fn advance<P: Pick, W: Workers, R: Wait>(
         &self,
         rt: &R,
-        hand: &mut Hand,
+        hand: &mut HandOf<T, L>,
         pick: &P,
         workers: &W,
         gate: &(dyn Gate + Sync),
     ) -> Result<Turn, AskFault>
-        ensures made { IfOk result (λ turn. Advances (P.picks pick.now) (W.may_refuse workers.now) hand.old turn hand.new) }
+        ensures made { IfOk result (λ turn. Advances T.table (P.picks pick.now) (W.may_refuse workers.now) hand.old turn hand.new) }
         ensures refused { IfErr result IsStopped }
         ensures free { OnErr result (hand.new ≡ Hand.Free) }
     {
         match mem::replace(hand, Hand::Free) {
-            Hand::HasRun(done) => self.settle(rt, hand, done),
+            Hand::HasRun(ran) => self.settle(rt, hand, ran),
             Hand::Taken(layer) => self.run(rt, hand, layer, workers, gate),
             Hand::Free => self.begin(rt, hand, pick),
         }
     }
 
     /// Tells what came of the layer, which stays in the hand where there is no memory for it.
-    fn settle<R: Wait>(&self, rt: &R, hand: &mut Hand, done: Done) -> Result<Turn, AskFault>
-        ensures made { IfOk result (λ turn. Settles done hand.old turn hand.new) }
+    fn settle<R: Wait>(
+        &self,
+        rt: &R,
+        hand: &mut HandOf<T, L>,
+        ran: Ran<T, L>,
+    ) -> Result<Turn, AskFault>
+        ensures made { IfOk result (λ turn. Settles ran hand.old turn hand.new) }
         ensures refused { IfErr result IsStopped }
         ensures free { OnErr result (hand.new ≡ hand.old) }
     {
         let mut held = self.front.lock(rt);
         // They come to the lock once it is let go.
-        self.wake_outcomes(&done);
-        let left = match self.settle_or_retry(&mut held, done) {
+        self.wake_outcomes(ran.done());
+        let left = match self.settle_or_retry(&mut held, ran) {
             Ok(left) => left,
             Err(fault) => return Err(fault),
         };
         match left {
-            Some(done) => {
-                *hand = Hand::HasRun(done);
+            Some(ran) => {
+                *hand = Hand::HasRun(ran);
                 Ok(Turn::Starved)
             }
             None => Ok(Turn::Made { settled: true }),
@@ -578,58 +397,67 @@ impl<L: Ledger> Shared<L> {
 
     /// Tells what came of the layer. Where there is no memory for that it is tried once more, with what is kept back, and else given
     /// back.
-    fn settle_or_retry(&self, held: &mut Held<L>, done: Done) -> Result<Option<Done>, AskFault>
-        ensures settled { IfOk result (λ left. IfNone left (HasSettled done)) }
-        ensures given { IfOk result (λ left. IfSome left (λ given. given ≡ done)) }
+    pub(crate) fn settle_or_retry(
+        &self,
+        held: &mut Held<T, L>,
+        ran: Ran<T, L>,
+    ) -> Result<Option<Ran<T, L>>, AskFault>
+        ensures settled { IfOk result (λ left. IfNone left (HasSettled ran)) }
+        ensures given { IfOk result (λ left. IfSome left (λ given. given ≡ ran)) }
         ensures refused { IfErr result IsStopped }
     {
-        let left = match self.settle_once(held, done) {
+        let left = match self.settle_once(held, ran) {
             Ok(left) => left,
             Err(fault) => return Err(fault),
         };
         match left {
-            Some(done) => self.settle_once(held, done),
+            Some(ran) => self.settle_once(held, ran),
             None => Ok(None),
         }
     }
 
     /// Tells what came of the layer, and wakes who may bring on what is ready then; or gives it back where there is no memory.
-    fn settle_once(&self, held: &mut Held<L>, done: Done) -> Result<Option<Done>, AskFault>
-        ensures settled { IfOk result (λ left. IfNone left (HasSettled done)) }
-        ensures given { IfOk result (λ left. IfSome left (λ given. given ≡ done)) }
+    fn settle_once(
+        &self,
+        held: &mut Held<T, L>,
+        ran: Ran<T, L>,
+    ) -> Result<Option<Ran<T, L>>, AskFault>
+        ensures settled { IfOk result (λ left. IfNone left (HasSettled ran)) }
+        ensures given { IfOk result (λ left. IfSome left (λ given. given ≡ ran)) }
         ensures refused { IfErr result IsStopped }
     {
-        let unsettled = match held.settle(done) {
+        let unsettled = match held.settle(ran) {
             Ok(()) => {
+                self.note_trace(held);
                 self.wake_next(held);
                 return Ok(None);
             }
             Err(unsettled) => unsettled,
         };
-        let done = match unsettled {
-            Unsettled::Starved(done) => done,
+        let ran = match unsettled {
+            Unsettled::Starved(ran) => ran,
             Unsettled::Foreign(fault) => return Err(fault),
         };
-        Ok(Some(done))
+        Ok(Some(ran))
     }
 
     /// Runs the layer, and has what came of it in the hand. Where there is no memory for that, the layer stays there.
     fn run<W: Workers, R: Wait>(
         &self,
         rt: &R,
-        hand: &mut Hand,
-        layer: Layer,
+        hand: &mut HandOf<T, L>,
+        layer: Taken<T, L>,
         workers: &W,
         gate: &(dyn Gate + Sync),
     ) -> Result<Turn, AskFault>
-        ensures made { IfOk result (λ turn. Brings (W.may_refuse workers.now) layer turn hand.new) }
+        ensures made { IfOk result (λ turn. Brings T.table (W.may_refuse workers.now) layer turn hand.new) }
         ensures refused { IfErr result IsStopped }
         ensures free { OnErr result (hand.new ≡ hand.old) }
     {
         let run = self.run_or_retry(rt, layer, workers, gate);
         match run {
-            Run::Handed(done) => {
-                *hand = Hand::HasRun(done);
+            Run::Handed(ran) => {
+                *hand = Hand::HasRun(ran);
                 Ok(Turn::Made { settled: false })
             }
             Run::Starved(layer) => {
@@ -644,11 +472,11 @@ impl<L: Ledger> Shared<L> {
     fn run_or_retry<W: Workers, R: Wait>(
         &self,
         rt: &R,
-        layer: Layer,
+        layer: Taken<T, L>,
         workers: &W,
         gate: &(dyn Gate + Sync),
-    ) -> Run
-        ensures { IsBrought (W.may_refuse workers.now) layer result }
+    ) -> RunOf<T, L>
+        ensures { IsBrought T.table (W.may_refuse workers.now) layer result }
     {
         let run = self.run_in_store(rt, layer, workers, gate);
         match run {
@@ -657,24 +485,19 @@ impl<L: Ledger> Shared<L> {
         }
     }
 
-    /// Runs the layer, under the store's lock alone, and takes the room for the rows of those behind it. Where there is no memory
-    /// for the one, what is kept back is let go; and where there is none for the other, no one submits before there is some.
+    /// Runs the layer, under the store's lock alone. Where there is no memory for it, what is kept back is let go.
     fn run_in_store<W: Workers, R: Wait>(
         &self,
         rt: &R,
-        layer: Layer,
+        layer: Taken<T, L>,
         workers: &W,
         gate: &(dyn Gate + Sync),
-    ) -> Run
-        ensures { IsBrought (W.may_refuse workers.now) layer result }
+    ) -> RunOf<T, L>
+        ensures { IsBrought T.table (W.may_refuse workers.now) layer result }
     {
-        let mut back = self.back.lock(rt);
-        let run = bring_to(&mut back, layer, workers, gate);
-        let has_room = back.take_room_ahead().is_ok();
-        drop(back);
-        if !has_room {
-            self.front.lock(rt).store_is_short = true;
-        }
+        let mut store = self.store.lock(rt);
+        let run = bring_to(&mut store, layer, workers, gate);
+        drop(store);
         if let Run::Starved(_) = &run {
             self.front.lock(rt).let_reserve_go();
         }
@@ -682,12 +505,17 @@ impl<L: Ledger> Shared<L> {
     }
 
     /// Takes the next layer into the hand, which is free; else brings a packet to its group.
-    fn begin<P: Pick, R: Wait>(&self, rt: &R, hand: &mut Hand, pick: &P) -> Result<Turn, AskFault>
+    fn begin<P: Pick, R: Wait>(
+        &self,
+        rt: &R,
+        hand: &mut HandOf<T, L>,
+        pick: &P,
+    ) -> Result<Turn, AskFault>
         ensures made { IfOk result (λ turn. Begins (P.picks pick.now) hand.old turn hand.new) }
         ensures refused { IfErr result IsStopped }
         ensures free { OnErr result (hand.new ≡ hand.old) }
     {
-        let found = match self.turn_or_retry(rt, pick) {
+        let found = match self.find(rt, pick) {
             Ok(found) => found,
             Err(fault) => return Err(fault),
         };
@@ -702,25 +530,43 @@ impl<L: Ledger> Shared<L> {
         }
     }
 
-    /// Takes the next layer, or brings a packet to its group. Where there is no memory for that it is tried once more, with what is
-    /// kept back.
-    fn turn_or_retry<P: Pick, R: Wait>(&self, rt: &R, pick: &P) -> Result<Next, AskFault>
+    /// Looks for what there is to be done, in one holding of the lock.
+    fn find<P: Pick, R: Wait>(&self, rt: &R, pick: &P) -> Result<Next<Taken<T, L>>, AskFault>
         ensures made { IfOk result (IsFound (P.picks pick.now)) }
         ensures refused { IfErr result IsStopped }
     {
-        let mut held = self.front.lock(rt);
-        let found = match turn_once(&mut held, pick) {
+        self.turn_or_retry(&mut self.front.lock(rt), pick)
+    }
+
+    /// Brings packets to their groups until the next layer is taken, or some were brought and the lock is due. Where there is no
+    /// memory for one it is tried once more, with what is kept back.
+    pub(crate) fn turn_or_retry<P: Pick>(
+        &self,
+        held: &mut Held<T, L>,
+        pick: &P,
+    ) -> Result<Next<Taken<T, L>>, AskFault>
+        ensures made { IfOk result (IsFound (P.picks pick.now)) }
+        ensures refused { IfErr result IsStopped }
+    {
+        let mut found = match turn_once(held, pick) {
             Ok(found) => found,
             Err(fault) => return Err(fault),
         };
-        match found {
-            Next::Starved => turn_once(&mut held, pick),
-            found => Ok(found),
+        for _ in 0..PACKETS {
+            found = match found {
+                Next::Delivered => match turn_once(held, pick) {
+                    Ok(next) => next,
+                    Err(fault) => return Err(fault),
+                },
+                Next::Starved => return turn_once(held, pick),
+                last => return Ok(last),
+            };
         }
+        Ok(found)
     }
 
     /// Wakes the seats of all whose outcomes come with this.
-    fn wake_outcomes(&self, done: &Done) {
+    pub(crate) fn wake_outcomes(&self, done: &Done) {
         if self.done.is_empty() && self.idle.is_empty() {
             return;
         }
@@ -737,7 +583,7 @@ impl<L: Ledger> Shared<L> {
 
     /// Wakes, behind a Settle, those who may bring on what is ready now: who drives, and the seats of the requests at the heads
     /// of the queues, one of which is ready. Where it is shut it may have been the last one.
-    fn wake_next(&self, held: &Held<L>) {
+    fn wake_next(&self, held: &Held<T, L>) {
         let front = held.cluster.front();
         if held.shut {
             self.wake_workers();
@@ -757,28 +603,24 @@ impl<L: Ledger> Shared<L> {
     }
 
     /// Wakes who drives and who carries.
-    fn wake_workers(&self) {
+    pub(crate) fn wake_workers(&self) {
         self.work.notify_all();
         self.packets.notify_all();
     }
 
     /// Wakes all, since no turn is made any more.
-    fn wake_all(&self) {
+    pub(crate) fn wake_all(&self) {
         self.wake_workers();
         self.done.wake_all();
         self.idle.wake_all();
     }
 }
 
-/// Whether it may be looked for what came of a seat's request: it may wait, and nothing is in the hand.
-fn may_look(may_wait: bool, hand: &Hand) -> bool
-    ensures { result ≡ true → hand.now ≡ Hand.Free }
-{
-    may_wait && hand.is_free()
-}
-
 /// Takes the next layer, or brings a packet to its group.
-fn turn_once<L: Ledger, P: Pick>(held: &mut Held<L>, pick: &P) -> Result<Next, AskFault>
+fn turn_once<T: Tabled, L: Server, P: Pick>(
+    held: &mut Held<T, L>,
+    pick: &P,
+) -> Result<Next<Taken<T, L>>, AskFault>
     ensures made { IfOk result (IsFound (P.picks pick.now)) }
     ensures refused { IfErr result IsStopped }
 {

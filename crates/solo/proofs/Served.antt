@@ -1,9 +1,9 @@
 -- A connection that was served: all that was answered is one fold.
 use Rattle.std.proofs.Common.{◌≡◌, ℕ, ◌<◌, ◌^◌, lit<, cond, Option, Result, List, [], ◌∷◌, Ok, Err, ap, sym, ◌∙◌, subst, refl, inl, inr}
 use Rattle.std.specs.Coded.{le_prop}
-use Rattle.batches.specs.Batch.{batch_effect}
-use Rattle.batches.specs.Starved.{is_want, starved_in}
-use Rattle.command_bodies.proofs.Turns.{pair}
+use Rattle.tasks.specs.Batch.{batch_effect}
+use Rattle.tasks.specs.Starved.{is_want, starved_in}
+use Rattle.tasks.proofs.Turns.{pair}
 use Rattle.keyspace.specs.Map.{Map}
 use Rattle.resp.specs.Content.{Content, out_of_memory}
 use Rattle.resp_decoder.specs.declared.limits.Limits.{Limits}

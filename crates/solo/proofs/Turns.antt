@@ -1,6 +1,6 @@
 -- Runs of a store, one thing after another.
 use Rattle.std.proofs.Common.{◌≡◌, List, [], ◌∷◌, ◌++◌, length, ap, sym, ◌∙◌, subst, refl, inl, inr}
-use Rattle.command_bodies.specs.Command.{TakesMemory}
+use Rattle.tasks.specs.Command.{TakesMemory}
 use Rattle.command_table.specs.declared.command.Command.{Command}
 use Rattle.resp.specs.Content.{Content}
 use Rattle.keyspace.specs.Map.{Map}

@@ -1,10 +1,10 @@
 -- What a client's request is answered, and a whole connection.
 use Rattle.std.specs.Prelude.{◌≡◌, ℕ, List, [], ◌∷◌, Option, Result, Ok, Err, if◌then◌else◌}
 use Rattle.std.proofs.Common.{lit<}
-use Rattle.batches.specs.Batch.{batch_effect}
-use Rattle.batches.specs.Starved.{is_want, starved_in}
+use Rattle.tasks.specs.Batch.{batch_effect}
+use Rattle.tasks.specs.Starved.{is_want, starved_in}
 use Rattle.command_cases.specs.Case.{Case}
-use Rattle.command_bodies.specs.Command.{effect_of, TakesMemory}
+use Rattle.tasks.specs.Command.{effect_of, TakesMemory}
 use Rattle.command_table.specs.Reading.{reading}
 use Rattle.command_table.specs.Refusal.{refusal_text}
 use Rattle.command_table.specs.declared.command.Command.{Command}

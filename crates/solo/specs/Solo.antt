@@ -1,10 +1,10 @@
 -- What a store does with a command, and with a list of them. `in_turn` and `solo_from` are handed on from
 -- `command_bodies`.
 use Rattle.std.specs.Prelude.{◌≡◌, ◌⊎◌, ℕ, List, [], ◌∷◌, ◌++◌}
-use Rattle.batches.specs.Batch.{batch_effect, StarvesRightly, BatchTakesMemory}
-use Rattle.batches.specs.Starved.{starved_in}
-use Rattle.command_bodies.specs.Command.{effect_of, TakesMemory}
-pub use Rattle.command_bodies.specs.InTurn.{in_turn, solo_from}
+use Rattle.tasks.specs.Batch.{batch_effect, StarvesRightly, BatchTakesMemory}
+use Rattle.tasks.specs.Starved.{starved_in}
+use Rattle.tasks.specs.Command.{effect_of, TakesMemory}
+pub use Rattle.tasks.specs.InTurn.{in_turn, solo_from}
 use Rattle.command_table.specs.declared.command.Command.{Command}
 use Rattle.keyspace.specs.Map.{Map}
 use Rattle.resp.specs.Content.{Content, out_of_memory}

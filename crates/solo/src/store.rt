@@ -3,7 +3,7 @@
 ghost use Rattle.std.specs.Prelude.{◌≡◌, ◌++◌, map, OnOk, OnErr, IfOk};
 ghost use Rattle.std.specs.FinMap as finite;
 ghost use Rattle.resp.specs.Content.{content};
-ghost use Rattle.command_bodies.specs.Command.{effect_of, TakesMemory};
+ghost use Rattle.tasks.specs.Command.{effect_of, TakesMemory};
 ghost use Rattle.command_cases.specs.Case.{Does};
 ghost use Rattle.dumps.specs.Dump.{dump_text};
 ghost use Rattle.serving.specs.Answers.{answer_of};
@@ -12,8 +12,6 @@ ghost use Rattle.solo.specs.Solo.{solo_from, IsRunOrStarves, IsStepOrStarves, Ru
 
 use crate::fault::ConnectionFault;
 use crate::reading_ahead::Sight;
-use batches::execute_batch;
-use command_bodies::execute;
 use command_cases::Starved;
 use command_table::{Command, read};
 use dumps::Dump;
@@ -26,6 +24,7 @@ use sessions::Batch;
 use std::alloc::{AllocError, Global};
 use std::hash::BuildHasher;
 use std::marker::Model;
+use tasks::{execute, execute_batch};
 
 /// Keys and values in one table, on which commands are run one after another. Contracts see the map.
 #[derive(Drop)]

@@ -2,7 +2,7 @@
 use Rattle.std.proofs.Common.{◌≡◌, Bool, false, List, [], ◌∷◌, length, ◌⊎◌, inl, inr, Option, Some, None, refl, sym, ap, ◌∙◌, subst}
 use Rattle.std.proofs.Common.{arith}
 use Rattle.std.specs.List.{AllZip}
-use Rattle.batches.specs.Starved.{starved_in}
+use Rattle.tasks.specs.Starved.{starved_in}
 use Rattle.delivery.specs.Queues.{queue_of}
 use Rattle.delivery.specs.Ready.{QueueOf, IsReady}
 use Rattle.execution_order.specs.Entries.{Row}
@@ -24,7 +24,6 @@ use Rattle.system.proofs.Names.{whole_starved}
 use Rattle.system.proofs.Submitted.{was_asked}
 use Rattle.system.specs.Endings.{IsExecuted, HasStarved, EachHasEnded, MayBeMade, SomeMayBeMade, TurnsAreFew}
 use Rattle.system.specs.Faults.{own_fault}
-use Rattle.system.specs.Outcomes.{replies_in}
 use Rattle.system.specs.Halves.{IsAt, ShowsStage, progress_of}
 use Rattle.system.specs.Reads.{table_of}
 use Rattle.system.specs.Refusing.{Refuses, RefusesNot}
@@ -34,7 +33,7 @@ use Rattle.system.specs.declared.fault.StepFault.TheVariants.{Busy, NoConn, NoPa
 use Rattle.system.specs.declared.halves.Halves.{Halves}
 use Rattle.system.specs.declared.stage.Stage.{Stage}
 use Rattle.system.specs.declared.stage.Stage.TheVariants as stage
-use Rattle.system_view.specs.Layers.{IsRow}
+use Rattle.front.specs.Layers.{IsRow}
 use Rattle.world.specs.Steps.{opening, OwnFault, NothingToSettle, Refused, starved_among}
 use Rattle.world.specs.Steps as world
 use Rattle.world.specs.World.{World, Ended, Layer, NoneTaken, Taken, HasRun}
@@ -163,8 +162,8 @@ take_not : (p : Halves) → p.stage ≡ stage.Free → (((d : Delivered) → ¬ 
     RefusesNot p steps.Take
 take_not p is_free some = λ h w at' fault refused.
     let free : w.layer ≡ NoneTaken = subst (λ s. ShowsStage s w) is_free at'.shows.stage in
-    let none = subst (λ (l : Layer). IsOut l p.front.out) free at'.shows.front.out in
-    take_memory p.front none some h w (replies_in w.ended) (front_at p h w at') fault refused
+    let none = subst (λ (l : Layer). IsOut l p.front.out) free at'.shows.out in
+    take_memory p.front none some h w (front_at p h w at') fault refused
 
 by_packets : (s : SystemView) (packets : List Packet) → IsSystem s → ¬ IsQuiet s → s.halves.stage ≡ stage.Free →
     s.halves.front.multicast.packets ≡ packets → MayBeMade s steps.Take ⊎ MayBeMade s (steps.Deliver 0)

@@ -1,5 +1,5 @@
 -- The steps that the front makes are steps of the world, and what it refuses the world refuses.
-use Rattle.std.proofs.Common.{◌≡◌, ◌≢◌, ◌+◌, List, [], ◌∷◌, ◌++◌, Option, option_map, refl, sym, ap, ◌∙◌, subst, arith, append-nil}
+use Rattle.std.proofs.Common.{◌≡◌, ◌≢◌, ◌+◌, List, [], ◌∷◌, ◌++◌, Option, refl, sym, ap, ◌∙◌, subst, arith, append-nil}
 use Rattle.std.proofs.Common.{Some, None, Result, Ok, Err}
 use Rattle.std.specs.Prelude.{IfErr, OnErr, IfSome, IfNone}
 use Rattle.front.specs.Fronts.{FrontView, FrontIsAt}
@@ -10,28 +10,23 @@ use Rattle.front.specs.Settling.{MaySettle}
 use Rattle.front.specs.Taking.{Takes}
 use Rattle.front.specs.declared.fault.FrontFault.{FrontFault}
 use Rattle.front.specs.declared.fault.FrontFault.TheVariants as front_fault
-use Rattle.groups.specs.declared.request.ConnId.{ConnId}
 use Rattle.journal.specs.Views.{RowView}
 use Rattle.journal.specs.declared.step.Step.{Step}
-use Rattle.journal.specs.declared.step.Step.TheVariants.{Take, Collect}
+use Rattle.journal.specs.declared.step.Step.TheVariants.{Take}
 use Rattle.layer_planner.specs.declared.job.Job.{Job}
 use Rattle.layer_results.specs.declared.done.DoneRow.{DoneRow}
-use Rattle.router.specs.declared.outcome.Outcome as kept
-use Rattle.system.proofs.Replies.{untold, same_collected}
 use Rattle.system.proofs.Rest.{LeavesLayer, is_rest, keeps_asked, stage_same, store_same}
 use Rattle.system.specs.Faults.{of_front}
-use Rattle.system.specs.Outcomes.{replies_in}
 use Rattle.system.specs.Halves.{IsAt, ShowsStage, Starves, Makes, Keeps, stored, effect_shown, ran_in}
 use Rattle.system.specs.Refusing.{Lives, RefusesNot, WantsMemory, IsFault}
 use Rattle.system.specs.declared.effect.Effect.{Effect}
-use Rattle.system.specs.declared.effect.Effect.TheVariants.{Collected, Made}
+use Rattle.system.specs.declared.effect.Effect.TheVariants.{Made}
 use Rattle.system.specs.declared.fault.StepFault.{StepFault}
 use Rattle.system.specs.declared.fault.StepFault.TheVariants.{Failed}
 use Rattle.system.specs.declared.halves.Halves.{Halves}
 use Rattle.system.specs.declared.stage.Stage.{Stage}
 use Rattle.system.specs.declared.stage.Stage.TheVariants as stage
-use Rattle.system_view.specs.Connections.{outcome_shown}
-use Rattle.system_view.specs.Layers.{AreRows, ShowsStore}
+use Rattle.front.specs.Layers.{AreRows, ShowsStore}
 use Rattle.world.specs.Steps.{opening, Leads, Steps, starved_among, taken}
 use Rattle.world.specs.Steps as world
 use Rattle.world.specs.World.{World, NoneTaken}
@@ -39,23 +34,23 @@ use Rattle.world_laws.proofs.Worlds.{good_world}
 
 -- ---- where the front is
 
--- in a world that the halves show the front is, told of its replies
-pub front_at : (p : Halves) (h : List Step) (w : World) → IsAt p h w → FrontIsAt p.front h w (replies_in w.ended)
+-- in a world that the halves show the front is
+pub front_at : (p : Halves) (h : List Step) (w : World) → IsAt p h w → FrontIsAt p.front h w
 front_at p h w at' = record {
   leads = subst (λ t. Leads t opening h w) (sym at'.shows.table) at'.leads;
-  shows = at'.shows.front;
+  shows = record { connections = at'.shows.connections; multicast = at'.shows.multicast; out = at'.shows.out };
 }
 
--- the halves show a world where the front is, told so, and the others show it
-pub is_at : (p : Halves) (h : List Step) (w : World) → p.front.table ≡ p.back.store.table → FrontIsAt p.front h w (replies_in w.ended) →
+-- the halves show a world where the front is, and the others show it
+pub is_at : (p : Halves) (h : List Step) (w : World) → p.front.table ≡ p.back.store.table → FrontIsAt p.front h w →
     ShowsStore p.back.store.table p.back.store w → ShowsStage p.stage w → AreRows w.ended p.back.rows →
     p.starved.items ≡ starved_among w.ended → IsAt p h w
 is_at p h w table front store stage rows starved = record {
   leads = subst (λ t. Leads t opening h w) table front.leads;
   shows = record {
-    front = front.shows;
-    connections = untold p.front.table h w front.leads p.front.router front.shows.connections;
+    connections = front.shows.connections;
     multicast = front.shows.multicast;
+    out = front.shows.out;
     table = table;
     store = store;
     stage = stage;
@@ -81,10 +76,10 @@ no_more rows = ([], sym (append-nil rows))
 
 -- ---- a step that leaves the layer alone
 
--- the front makes the step where it is, told so
+-- the front makes the step where it is
 abbrev pub FrontSteps : Halves → FrontView → Step → world.Effect → Type 0
 FrontSteps old f step effect = (h : List Step) (w : World) → IsAt old h w →
-    (w' : World) × Steps old.front.table w step effect w' × FrontIsAt f (h ++ step ∷ []) w' (replies_in w.ended)
+    (w' : World) × Steps old.front.table w step effect w' × FrontIsAt f (h ++ step ∷ []) w'
 
 module _ (old : Halves) (f : FrontView) (step : Step) (leaves : LeavesLayer step) (counts : making.IsStep old.front f) where
   abbrev fronted : Halves
@@ -101,7 +96,7 @@ module _ (old : Halves) (f : FrontView) (step : Step) (leaves : LeavesLayer step
         w',
         subst (λ t. Steps t w step effect w') at'.shows.table next.1,
         is_at fronted (h ++ step ∷ []) w' (counts.table ∙ at'.shows.table)
-            (subst (λ es. FrontIsAt f (h ++ step ∷ []) w' (replies_in es)) (sym rest.ended) next.2)
+            next.2
             (store_same old.back.store.table old.back.store w w' rest.ended rest.contents at'.shows.store)
             (stage_same old.stage w w' (keeps_asked old.front.table w w' step effect next.1 good) rest.layer at'.shows.stage)
             (subst (λ es. AreRows es old.back.rows) (sym rest.ended) at'.shows.rows)
@@ -120,22 +115,10 @@ module _ (old : Halves) (f : FrontView) (step : Step) (leaves : LeavesLayer step
     rows = no_more old.back.rows;
   }
 
--- where the front makes it, however it is told
+-- where the front makes it
 pub front_makes : (old : Halves) (f : FrontView) (step : Step) (effect : world.Effect) → making.Makes old.front step effect f →
     FrontSteps old f step effect
-front_makes old f step effect makes h w at' = makes.from_each h w (replies_in w.ended) (front_at old h w at')
-
--- what is collected is the outcome there
-pub front_collects : (old : Halves) (f : FrontView) (conn : ConnId) (given : Option kept.Outcome) → making.Collects old.front conn given f →
-    FrontSteps old f (Collect conn) (world.Collected (option_map outcome_shown given))
-front_collects old f conn given collects h w at' =
-    let is = front_at old h w at' in
-    let next = collects.from_each h w (replies_in w.ended) is in
-    let same = next.3 ∙ same_collected old.front.table h w is.leads conn.0 next.0 next.1 next.2 in (
-      next.1,
-      subst (λ o. Steps old.front.table w (Collect conn) (world.Collected o) next.1) (sym same) next.2,
-      next.4,
-    )
+front_makes old f step effect makes h w at' = makes.from_each h w (front_at old h w at')
 
 -- ---- Take
 
@@ -150,14 +133,13 @@ pub take_makes : (old : Halves) → Lives old → (jobs : List Job) (f : FrontVi
 take_makes old lives jobs f takes = record {
   table = refl;
   counted =
-      let first = takes.from_each lives.history lives.world (replies_in lives.world.ended)
-      (front_at old lives.history lives.world lives.at) in
+      let first = takes.from_each lives.history lives.world (front_at old lives.history lives.world lives.at) in
       let free : ran_in old.stage ≡ 0 = ap ran_in (free_there old.stage lives.world first.0.free lives.at.shows.stage) in
       let steps = takes.is_step.steps in
       let layers = takes.is_step.layers in
       omega arith;
   from_each = λ h w at'.
-      let next = takes.from_each h w (replies_in w.ended) (front_at old h w at') in
+      let next = takes.from_each h w (front_at old h w at') in
       let after = taken w f.out in (
         after,
         next.0,
@@ -191,16 +173,16 @@ front_kept old f same = record { front = same; back = refl; stage = refl; starve
 
 -- what the front has no fault of
 pub admitted : (p : Halves) (step : Step) → refusing.RefusesNot p.front step → RefusesNot p step
-admitted p step none h w at' = none h w (replies_in w.ended) (front_at p h w at')
+admitted p step none h w at' = none h w (front_at p h w at')
 
 -- why the front refuses a step is why the halves do
 pub refused : (p : Halves) (step : Step) (f : FrontFault) → (refusing.WantsMemory step → WantsMemory step) →
     refusing.IsFault p.front step f → IsFault p step (of_front f)
-refused p step front_fault.Busy wants why = λ h w at'. why h w (replies_in w.ended) (front_at p h w at')
-refused p step front_fault.NoConn wants why = λ h w at'. why h w (replies_in w.ended) (front_at p h w at')
-refused p step front_fault.NoPacket wants why = λ h w at'. why h w (replies_in w.ended) (front_at p h w at')
-refused p step front_fault.InFlight wants why = λ h w at'. why h w (replies_in w.ended) (front_at p h w at')
-refused p step front_fault.NoLayer wants why = λ h w at'. why h w (replies_in w.ended) (front_at p h w at')
+refused p step front_fault.Busy wants why = λ h w at'. why h w (front_at p h w at')
+refused p step front_fault.NoConn wants why = λ h w at'. why h w (front_at p h w at')
+refused p step front_fault.NoPacket wants why = λ h w at'. why h w (front_at p h w at')
+refused p step front_fault.InFlight wants why = λ h w at'. why h w (front_at p h w at')
+refused p step front_fault.NoLayer wants why = λ h w at'. why h w (front_at p h w at')
 refused p step front_fault.Memory wants why = (wants why.0, admitted p step why.1)
 
 -- the fault that is answered for it

@@ -4,10 +4,9 @@ use Rattle.std.proofs.Common.{◌∙◌, subst, arith, length-append}
 use Rattle.std.proofs.lemmas.Bool.{both_ways}
 use Rattle.back.specs.Backs.{BackState}
 use Rattle.execution_order.specs.Entries.{rows_by_stamp}
-use Rattle.front.specs.Fronts.{FrontView, FrontShows}
+use Rattle.front.specs.Fronts.{FrontView, IsOut}
 use Rattle.journal.specs.declared.step.Step.{Step}
 use Rattle.placement.specs.Layout.{IsTable}
-use Rattle.system.specs.Outcomes.{replies_in}
 use Rattle.system.specs.Halves.{IsAt, ShowsStage, Makes, Keeps, stored, ran_in, count_of}
 use Rattle.system.specs.Refusing.{Lives, IsFault, MayFail, HasFailed}
 use Rattle.system.specs.System.{SystemView, ShowsHistory, IsSystem, IsStep, MayGoOn, Refuses, IsRefused, ObeysOneThread}
@@ -16,9 +15,9 @@ use Rattle.system.specs.declared.fault.StepFault.{StepFault}
 use Rattle.system.specs.declared.fault.StepFault.TheVariants.{Busy, NoConn, NoPacket, InFlight, NoLayer, Exhausted, Memory, Failed}
 use Rattle.system.specs.declared.halves.Halves.{Halves}
 use Rattle.system.specs.declared.stage.Stage.{Stage}
-use Rattle.system_view.specs.Connections.{ShowsConnections}
-use Rattle.system_view.specs.Layers.{AreRows, ShowsStore}
-use Rattle.system_view.specs.Multicast.{ShowsMulticast}
+use Rattle.front.specs.Connections.{ShowsConnections}
+use Rattle.front.specs.Layers.{AreRows, ShowsStore}
+use Rattle.front.specs.Multicast.{ShowsMulticast}
 use Rattle.world.specs.Steps.{opening, Leads}
 use Rattle.world.specs.World.{World}
 use Rattle.world_laws.proofs.HeadlineLaws.{headline_holds}
@@ -90,9 +89,9 @@ pub still_at : (old new : Halves) → Keeps old new → (h : List Step) (w : Wor
 still_at old new keeps h w at' = record {
   leads = subst (λ (b : BackState). Leads b.store.table opening h w) (sym keeps.back) at'.leads;
   shows = record {
-    front = subst (λ f. FrontShows (replies_in w.ended) f w) (sym keeps.front) at'.shows.front;
     connections = subst (λ (f : FrontView). ShowsConnections f.router w) (sym keeps.front) at'.shows.connections;
     multicast = subst (λ (f : FrontView). ShowsMulticast f.table f.multicast w) (sym keeps.front) at'.shows.multicast;
+    out = subst (λ (f : FrontView). IsOut w.layer f.out) (sym keeps.front) at'.shows.out;
     table = ap (λ (f : FrontView). f.table) keeps.front ∙ at'.shows.table ∙ ap (λ (b : BackState). b.store.table) (sym keeps.back);
     store = subst (λ (b : BackState). ShowsStore b.store.table b.store w) (sym keeps.back) at'.shows.store;
     stage = subst (λ s. ShowsStage s w) (sym keeps.stage) at'.shows.stage;

@@ -1,6 +1,6 @@
 -- Run and Settle of the halves are steps of the world.
 use Rattle.std.proofs.Common.{◌≡◌, ℕ, ◌+◌, ◌≤◌, Bool, length, List, [], ◌∷◌, ◌++◌, inl, inr, map, Option, Some, None}
-use Rattle.std.proofs.Common.{refl, sym, ap, ◌∙◌, subst, arith, length-append, Ok}
+use Rattle.std.proofs.Common.{refl, sym, ap, ◌∙◌, subst, arith, length-append, append_assoc, Ok}
 use Rattle.std.proofs.lemmas.Bool.{both_ways}
 use Rattle.std.proofs.lemmas.List.{length-map}
 use Rattle.std.proofs.lemmas.List.Sums.{sum_by-cons}
@@ -11,15 +11,12 @@ use Rattle.back.specs.Backs.{BackState}
 use Rattle.back.specs.Rows.{done_of, results_of}
 use Rattle.back.specs.Rows as back
 use Rattle.back.specs.Runs.{HasRun, IsRefused}
-use Rattle.batches.specs.Starved.{starved_in}
+use Rattle.tasks.specs.Starved.{starved_in}
 use Rattle.front.proofs.Lists.{zip_append}
-use Rattle.front.proofs.SettleFronts.{IsSaidBy, tells_there}
-use Rattle.front.proofs.Told.{rows_of-append, starved-append}
-use Rattle.front.specs.Fronts.{FrontView, FrontIsAt}
-use Rattle.front.specs.Making.{SeesNoRun, MayBeRetold}
-use Rattle.front.specs.Settling.{IsToldOf, TellsOfLayer, HandsOn}
-use Rattle.groups.proofs.Lists.{In-right}
-use Rattle.groups.specs.Order.{In}
+use Rattle.front.specs.Fronts.{FrontView}
+use Rattle.front.specs.Making.{SeesNoRun}
+use Rattle.front.specs.Settling as settling
+use Rattle.front.specs.Settling.{IsToldBy, IsTrueOf}
 use Rattle.groups.specs.declared.request.RequestId.{RequestId}
 use Rattle.groups.specs.declared.skip_id.SkipId.{SkipId}
 use Rattle.groups.specs.declared.skip_id.SkipId.TheVariants.{Part}
@@ -39,29 +36,40 @@ use Rattle.shard_exec.specs.Stamps.{AreFresh}
 use Rattle.shard_exec.specs.declared.done.Ended as run
 use Rattle.shard_exec.specs.declared.done.ExecFault.TheVariants.{Failed}
 use Rattle.shard_workers.specs.Runs.{outcome}
-use Rattle.skeen_core.specs.Group.{EachOnce}
 use Rattle.system.proofs.Fronting.{front_at, is_at, no_more}
-use Rattle.system.proofs.Replies.{reply_told, told_now}
 use Rattle.system.proofs.Rest.{store_same}
 use Rattle.system.proofs.Starving.{starves_rightly}
-use Rattle.system.specs.Outcomes.{replies_in, most_names, most_of}
+use Rattle.system.specs.Outcomes.{most_names, most_of}
 use Rattle.system.specs.Halves.{IsAt, Makes, ShowsStage, StarvesRightly, ran_in}
 use Rattle.system.specs.Refusing.{Lives, RefusesNot, MayFail, HasFailed}
 use Rattle.system.specs.declared.effect.Effect.TheVariants.{Made, Ran}
 use Rattle.system.specs.declared.halves.Halves.{Halves}
 use Rattle.system.specs.declared.stage.Stage.{Stage}
 use Rattle.system.specs.declared.stage.Stage.TheVariants as stage
-use Rattle.system_view.proofs.Running.{ShowsRun, ran_world, may_be_run, shows_run}
-use Rattle.system_view.specs.Layers.{IsEnded, AreEnded, AreRows, IsRow, ShowsStore, starved_of}
+use Rattle.front.proofs.WorldRunning.{ShowsRun, ran_world, may_be_run, shows_run}
+use Rattle.front.specs.Layers.{IsEnded, AreEnded, AreRows, IsRow, ShowsStore, starved_of}
 use Rattle.tasks.specs.Tasks.{Task, task_reading, starved_names}
 use Rattle.world.specs.Steps.{starved_among, RunsLayer, Settles, OwnFault, NothingToRun, Refused}
 use Rattle.world.specs.Steps as world
-use Rattle.world.specs.World.{World, Ended, Layer}
+use Rattle.world.specs.World.{World, Ended}
 use Rattle.world.specs.World as layer
-use Rattle.world_laws.proofs.OrderLaws.{ends_once}
-use Rattle.world_laws.specs.Good.{run_in}
 use Rattle.world_laws.specs.Headline.{with_row, rows_of}
-use Rattle.world_laws.specs.Order.{ids_of}
+
+-- ---- what has ended, and what ends behind it
+
+with_row-append : (e : Ended) (o : Option Content) (xs ys : List _) → with_row e o (xs ++ ys) ≡ with_row e o xs ++ ys
+with_row-append e None xs ys = refl
+with_row-append e (Some reply) xs ys = refl
+
+rows_of-append : (es fs : List Ended) → rows_of (es ++ fs) ≡ rows_of es ++ rows_of fs
+rows_of-append [] fs = refl
+rows_of-append (e ∷ es) fs = ap (with_row e e.reply) (rows_of-append es fs) ∙ with_row-append e e.reply (rows_of es) (rows_of fs)
+
+starved-append : (es fs : List Ended) → starved_among (es ++ fs) ≡ starved_among es ++ starved_among fs
+starved-append [] fs = refl
+starved-append (e ∷ es) fs =
+    let names = starved_names e.id e.task e.reply in
+    ap (λ l. names ++ l) (starved-append es fs) ∙ sym (append_assoc names (starved_among es) (starved_among fs))
 
 -- ---- what came of a layer
 
@@ -106,28 +114,15 @@ names_same (e ∷ es) (r ∷ rs) are =
     ap (λ names. names ++ names_of (results_of rs)) (row_names_same e r are.0)
     ∙ ap (λ names. starved_names e.id e.task e.reply ++ names) (names_same es rs are.1)
 
--- the rows are those of the layer, one after another, and their words say its tasks
-said_for : (es : List Ended) (rs : List run.Ended) → AreEnded es rs → AllZip IsSaidBy es (results_of rs)
-said_for [] [] are = tt
-said_for [] (r ∷ rs) are = absurd are
-said_for (e ∷ es) [] are = absurd are
-said_for (e ∷ es) (r ∷ rs) are = (record { id = are.0.id; stamp = are.0.stamp; says = are.0.says }, said_for es rs are.1)
-
--- the request whose row it is
-row_is_of : (es : List Ended) (rs : List run.Ended) → AreEnded es rs → (row : DoneRow) → In row (results_of rs) →
-    (e : Ended) × In e es × (row.id ≡ e.id) × (e.reply ≡ option_map content row.reply) × (task_reading row.words ≡ Ok e.task)
-row_is_of [] [] are row there = absurd there
-row_is_of [] (r ∷ rs) are row there = absurd are
-row_is_of (e ∷ es) [] are row there = absurd are
-row_is_of (e ∷ es) (r ∷ rs) are row (inl here) = (
-  e,
-  inl refl,
-  ap (λ (x : DoneRow). x.id) here ∙ are.0.id,
-  sym are.0.reply ∙ sym (content_in r.reply) ∙ ap (λ (x : DoneRow). option_map content x.reply) (sym here),
-  ap (λ (x : DoneRow). task_reading x.words) here ∙ are.0.says,
+-- the rows tell what came of the layer, of each request at its place
+told_for : (es : List Ended) (rs : List run.Ended) → AreEnded es rs → AllZip IsToldBy es (results_of rs)
+told_for [] [] are = tt
+told_for [] (r ∷ rs) are = absurd are
+told_for (e ∷ es) [] are = absurd are
+told_for (e ∷ es) (r ∷ rs) are = (
+  record { id = are.0.id; stamp = are.0.stamp; reply = sym are.0.reply ∙ sym (content_in r.reply) },
+  told_for es rs are.1,
 )
-row_is_of (e ∷ es) (r ∷ rs) are row (inr there) =
-    let it = row_is_of es rs are.1 row there in (it.0, inr it.1, it.2, it.3, it.4)
 
 -- no more names come than there may be
 few_of : (id : RequestId) (task : Task) (reply : Option Content) → length (starved_names id task reply) ≤ most_names task
@@ -165,8 +160,8 @@ few_names old mid skip taken done ran handed =
 -- ---- Run
 
 module _ (old : Halves) (mid : BackState) (taken : List Job) (done : List DoneRow) (starved : Vec SkipId) (skip names : List SkipId)
-    (sees : SeesNoRun old.front) (may : MayBeRetold old.front) (is_taken : old.stage ≡ stage.Taken taken)
-    (ran : HasRun old.back skip taken mid) (handed : done ≡ mid.last) (names_are : names ≡ names_of done)
+    (sees : SeesNoRun old.front) (is_taken : old.stage ≡ stage.Taken taken) (ran : HasRun old.back skip taken mid)
+    (handed : done ≡ mid.last) (names_are : names ≡ names_of done)
     (adds : starved.items ≡ old.starved.items ++ names_of done) where
   abbrev pub ran_halves : Halves
   ran_halves = record old {
@@ -203,8 +198,7 @@ module _ (old : Halves) (mid : BackState) (taken : List Job) (done : List DoneRo
           after,
           steps,
           is_at ran_halves (h ++ step.Run names ∷ []) after (at'.shows.table ∙ sym ran.store.table)
-              (told_now old.front (h ++ step.Run names ∷ []) w after shown.es may refl refl
-              (sees h w (replies_in w.ended) (front_at old h w at') names (world.Ran names) after steps))
+              (sees h w (front_at old h w at') names (world.Ran names) after steps)
               (subst (λ t. ShowsStore t mid.store after) (sym ran.store.table) shown.store)
               (shown.es, refl, record { told = ran.ended; are = shown.ended; same = came })
               (subst (λ rows. AreRows (w.ended ++ shown.es) rows) (sym ran.rows) (rows_more at'.shows.rows))
@@ -266,41 +260,22 @@ same_taken s a b is_a is_b = ap (λ x. taken_or x a) (sym is_b ∙ is_a)
 -- ---- Settle
 
 module _ (old : Halves) (f : FrontView) (done : List DoneRow) (has_run : old.stage ≡ stage.HasRun done)
-    (hands : HandsOn old.front done f) where
+    (settles : settling.Settles old.front done f) where
   abbrev pub settled_halves : Halves
   settled_halves = record old { front = f; stage = stage.Free }
 
   module _ (h : List Step) (w : World) (at' : IsAt old h w) (es : List Ended) (ran : w.layer ≡ layer.HasRun es)
       (rs : List run.Ended) (are : AreEnded es rs) (came : done ≡ results_of rs) where
-    ended_there : (e : Ended) → In e es → In e w.ended
-    ended_there e there =
-        let front = at'.shows.front in
-        subst (λ l. In e l) (sym (front.split ∙ ap (λ (l : Layer). front.settled ++ run_in l) ran))
-        (In-right e front.settled es there)
-
-    once : EachOnce (ids_of w.ended)
-    once = ends_once old.back.store.table h w at'.leads
-
-    -- of the layer the front was told what came of it there
-    told : IsToldOf done (replies_in w.ended) (replies_in w.ended)
-    told = record {
-      rows = λ row there.
-          let it = row_is_of es rs are row (subst (λ (d : List DoneRow). In row d) came there) in
-          ap (replies_in w.ended) it.2 ∙ reply_told w.ended once it.0 (ended_there it.0 it.1) ∙ it.3;
-      others = λ i. inl refl;
-    }
-
     settles_there : (w' : World) × Settles w world.Made w' × IsAt settled_halves (h ++ step.Settle ∷ []) w'
     settles_there =
-        let starve = sym (ap names_of came ∙ names_same es rs are) in
-        let next = hands.from_run h w (replies_in w.ended) (replies_in w.ended) (front_at old h w at') told es ran starve in
+        let next = settles.from_each h w (front_at old h w at') es ran
+        (subst (λ d. AllZip IsToldBy es d) (sym came) (told_for es rs are)) in
         let w' = next.0 in
         let made : Settles w world.Made w' = next.1 in
         let ended = ap (λ (v : World). v.ended) made.after in (
           w',
           made,
-          is_at settled_halves (h ++ step.Settle ∷ []) w' (hands.table ∙ at'.shows.table)
-              (subst (λ l. FrontIsAt f (h ++ step.Settle ∷ []) w' (replies_in l)) (sym ended) next.2)
+          is_at settled_halves (h ++ step.Settle ∷ []) w' (settles.table ∙ at'.shows.table) next.2
               (store_same old.back.store.table old.back.store w w' ended (ap (λ (v : World). v.contents) made.after) at'.shows.store)
               (ap (λ (v : World). v.layer) made.after)
               (subst (λ l. AreRows l old.back.rows) (sym ended) at'.shows.rows)
@@ -312,8 +287,8 @@ module _ (old : Halves) (f : FrontView) (done : List DoneRow) (has_run : old.sta
     table = refl;
     counted =
         let one : ran_in old.stage ≡ 1 = ap ran_in has_run in
-        let steps = hands.steps in
-        let layers = hands.layers in
+        let steps = settles.steps in
+        let layers = settles.layers in
         omega arith;
     from_each = λ h w at'.
         let shows = subst (λ s. ShowsStage s w) has_run at'.shows.stage in
@@ -322,10 +297,16 @@ module _ (old : Halves) (f : FrontView) (done : List DoneRow) (has_run : old.sta
     rows = no_more old.back.rows;
   }
 
--- what came of the layer that was run tells of the requests that are out
-pub settle_may : (p : Halves) → Lives p → (done : List DoneRow) → p.stage ≡ stage.HasRun done → TellsOfLayer p.front done
-settle_may p lives done has_run =
+-- what came of the layer that was run is true of the layer that is out
+pub settle_truth : (p : Halves) → Lives p → (done : List DoneRow) → p.stage ≡ stage.HasRun done → IsTrueOf p.front done
+settle_truth p lives done has_run =
     let shows = subst (λ s. ShowsStage s lives.world) has_run lives.at.shows.stage in
-    tells_there p.front lives.history lives.world (replies_in lives.world.ended) (front_at p lives.history lives.world lives.at)
-    shows.0 shows.1 done
-    (subst (λ d. AllZip IsSaidBy shows.0 d) (sym shows.2.same) (said_for shows.0 shows.2.told shows.2.are))
+    record {
+      history = lives.history;
+      world = lives.world;
+      at = front_at p lives.history lives.world lives.at;
+      count = let counted = lives.counted in let one : ran_in p.stage ≡ 1 = ap ran_in has_run in omega arith;
+      ended = shows.0;
+      has_run = shows.1;
+      told = subst (λ d. AllZip IsToldBy shows.0 d) (sym shows.2.same) (told_for shows.0 shows.2.told shows.2.are);
+    }

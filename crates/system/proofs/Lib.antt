@@ -1,4 +1,3 @@
-pub mod Replies
 pub mod Rest
 pub mod Fronting
 pub mod Opening

@@ -2,7 +2,7 @@
 use Rattle.std.proofs.Common.{◌≡◌, ℕ, Bool, true, false, cond, ◌||◌, List, [], ◌∷◌, ◌⊎◌, inl, inr, map, None, refl, sym, ap, subst}
 use Rattle.std.proofs.Common.{eq-eqb, eqb-true, nat_eq}
 use Rattle.std.proofs.lemmas.Bool.{cases_Bool, or_cases, or_right}
-use Rattle.batches.specs.Starved.{has}
+use Rattle.tasks.specs.Starved.{has}
 use Rattle.groups.proofs.Ids.{same_id-true, eq-same_id}
 use Rattle.groups.proofs.Lists.{In-left, In-right}
 use Rattle.groups.specs.Order.{In}

@@ -5,13 +5,12 @@ use Rattle.back.specs.Backs.{BackState, new_back}
 use Rattle.front.specs.Fronts as front
 use Rattle.placement.specs.Layout.{Layout}
 use Rattle.shard_exec.specs.Stamps.{last_of}
-use Rattle.shard_maps.proofs.Empty.{joined-empty}
+use Rattle.shards.proofs.Empty.{joined-empty}
 use Rattle.system.proofs.Fronting.{is_at}
-use Rattle.system.specs.Outcomes.{replies_in}
 use Rattle.system.specs.Halves.{IsAt, ShowsStage}
 use Rattle.system.specs.declared.halves.Halves.{Halves}
 use Rattle.system.specs.declared.stage.Stage.TheVariants.{Free}
-use Rattle.system_view.specs.Layers.{AreRows, ShowsStore}
+use Rattle.front.specs.Layers.{AreRows, ShowsStore}
 use Rattle.world.specs.Steps.{opening}
 
 none_last : (n shard : ℕ) → last_of (replicate n None) shard ≡ None
@@ -28,7 +27,7 @@ pub record IsOpening (t : Layout) (p : Halves) : Type 0 where
 
 pub opening_shown : (t : Layout) (p : Halves) → IsOpening t p → IsAt p [] opening
 opening_shown t p is =
-    is_at p [] opening (is.front.table ∙ sym (ap (λ (b : BackState). b.store.table) is.back)) (is.front.at (replies_in []))
+    is_at p [] opening (is.front.table ∙ sym (ap (λ (b : BackState). b.store.table) is.back)) is.front.at
     (subst (λ (b : BackState). ShowsStore b.store.table b.store opening) (sym is.back) (record {
       table = refl;
       lives = refl;

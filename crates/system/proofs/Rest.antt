@@ -14,7 +14,7 @@ use Rattle.tasks.specs.Tasks.{task_groups}
 use Rattle.system.specs.Halves.{ShowsStage}
 use Rattle.system.specs.declared.stage.Stage.{Stage}
 use Rattle.system.specs.declared.stage.Stage.TheVariants as stage
-use Rattle.system_view.specs.Layers.{AreJobs, ShowsStore}
+use Rattle.front.specs.Layers.{AreJobs, ShowsStore}
 use Rattle.world.specs.Steps.{Effect, Steps, answer_to, remembered, submitted, submitted_to}
 use Rattle.world.specs.Steps as world
 use Rattle.world.specs.World.{World, Request, Standing, Closed, Idle, Waiting, Answered}

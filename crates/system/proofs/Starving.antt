@@ -19,8 +19,8 @@ use Rattle.tasks.specs.Tasks.{Task, task_reading, task_groups, task_takes_memory
 use Rattle.system.proofs.Names.{whole_in, whole_starved}
 use Rattle.system.specs.Halves.{StarvesSo, StarveInTurn, StarvesRightly, met_by}
 use Rattle.system.specs.declared.halves.Halves.{Halves}
-use Rattle.system_view.proofs.Running.{ShowsRun}
-use Rattle.system_view.specs.Layers.{AreJobs, IsEnded, AreEnded, starved_of}
+use Rattle.front.proofs.WorldRunning.{ShowsRun}
+use Rattle.front.specs.Layers.{AreJobs, IsEnded, AreEnded, starved_of}
 use Rattle.world.specs.Steps.{map_after, starved_among}
 use Rattle.world.specs.World.{World, Ended, Taken}
 use Rattle.world_laws.specs.Good.{Asked, run_in, taken_in}

@@ -1,6 +1,6 @@
 -- What the two halves of the system show, together, of a world.
 use Rattle.std.specs.Prelude.{◌≡◌, ℕ, suc, ◌+◌, true, false, List, [], ◌∷◌, ◌++◌, Some, None, option_map}
-use Rattle.front.specs.Fronts.{FrontShows}
+use Rattle.front.specs.Fronts.{IsOut}
 use Rattle.journal.specs.Views.{RowView}
 use Rattle.journal.specs.declared.step.Step.{Step}
 use Rattle.journal.specs.declared.step.Step.TheVariants.{Run}
@@ -14,7 +14,7 @@ use Rattle.resp.specs.Content.{Content}
 use Rattle.shard_exec.specs.Layers.{on_groups}
 use Rattle.skeen_core.specs.declared.packet.Delivered.{Delivered}
 use Rattle.tasks.specs.Tasks.{Task, task_groups, task_takes_memory, MembersStarveRightly}
-use Rattle.system.specs.Outcomes.{IsWhatCameOf, replies_in}
+use Rattle.system.specs.Outcomes.{IsWhatCameOf}
 use Rattle.system.specs.declared.effect.Effect.{Effect}
 use Rattle.system.specs.declared.effect.Effect.TheVariants.{Opened, Submitted, Ran, Collected, Made}
 use Rattle.system.specs.declared.halves.Halves.{Halves}
@@ -22,9 +22,9 @@ use Rattle.system.specs.declared.stage.Progress.{Progress}
 use Rattle.system.specs.declared.stage.Progress.TheVariants as progress
 use Rattle.system.specs.declared.stage.Stage.{Stage}
 use Rattle.system.specs.declared.stage.Stage.TheVariants.{Free, Taken, HasRun}
-use Rattle.system_view.specs.Connections.{outcome_shown, ShowsConnections}
-use Rattle.system_view.specs.Layers.{AreJobs, AreRows, ShowsStore}
-use Rattle.system_view.specs.Multicast.{ShowsMulticast}
+use Rattle.front.specs.Connections.{outcome_shown, ShowsConnections}
+use Rattle.front.specs.Layers.{AreJobs, AreRows, ShowsStore}
+use Rattle.front.specs.Multicast.{ShowsMulticast}
 use Rattle.world.specs.Steps.{opening, starved_among, map_after, RunInTurn, Leads, Steps}
 use Rattle.world.specs.Steps as world
 use Rattle.world.specs.World.{World, Ended}
@@ -46,11 +46,11 @@ abbrev pub layer_of : Stage → List Job
 layer_of (Taken jobs) = jobs
 layer_of stage = []
 
--- the front was told of each request what came of it there, so that what it shows is the world itself
+-- what the front shows of the world, and the store, the layer, the rows and the names of what starved, which are the world's
 pub record Shows (p : Halves) (w : World) : Type 0 where
-  pub front : FrontShows (replies_in w.ended) p.front w
   pub connections : ShowsConnections p.front.router w
   pub multicast : ShowsMulticast p.front.table p.front.multicast w
+  pub out : IsOut w.layer p.front.out
   pub table : p.front.table ≡ p.back.store.table
   pub store : ShowsStore p.back.store.table p.back.store w
   pub stage : ShowsStage p.stage w

@@ -1,13 +1,11 @@
--- What came of a layer that was run, and what came of each request of a world.
-use Rattle.std.specs.Prelude.{◌≡◌, ℕ, ◌+◌, cond, List, [], ◌∷◌, length, map, sum, None}
+-- What came of a layer that was run, and how many names may come of it.
+use Rattle.std.specs.Prelude.{◌≡◌, ℕ, ◌+◌, List, length, map, sum}
 use Rattle.back.specs.Rows.{results_of}
-use Rattle.front.specs.Fronts.{Told}
-use Rattle.groups.specs.Request.{same_id}
 use Rattle.layer_planner.specs.declared.job.Job.{Job}
 use Rattle.layer_results.specs.declared.done.DoneRow.{DoneRow}
 use Rattle.sessions.specs.declared.batch.Batch.TheVariants.{Plain, Exec}
 use Rattle.shard_exec.specs.declared.done.Ended as run
-use Rattle.system_view.specs.Layers.{AreEnded}
+use Rattle.front.specs.Layers.{AreEnded}
 use Rattle.tasks.specs.Tasks.{Task}
 use Rattle.world.specs.World.{Ended}
 
@@ -16,11 +14,6 @@ pub record IsWhatCameOf (es : List Ended) (done : List DoneRow) : Type 0 where
   pub told : List run.Ended
   pub are : AreEnded es told
   pub same : done ≡ results_of told
-
--- what came of each of these: its reply, or none where it starved as a whole
-abbrev pub replies_in : List Ended → Told
-replies_in [] i = None
-replies_in (e ∷ es) i = cond (same_id e.id i) e.reply (replies_in es i)
 
 -- how many names of what starves may come of a request at most: its own, and those of its members
 abbrev pub most_names : Task → ℕ

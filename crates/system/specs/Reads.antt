@@ -11,7 +11,7 @@ use Rattle.multicast.specs.Multicast.{group_of}
 use Rattle.router.specs.Router as router
 use Rattle.router.specs.declared.connection.Connection.{Connection}
 use Rattle.router.specs.declared.outcome.Outcome.{Outcome}
-use Rattle.shard_maps.specs.Joined.{joined}
+use Rattle.shards.specs.Joined.{joined}
 use Rattle.skeen_core.specs.declared.packet.Packet.{Packet}
 use Rattle.system.specs.Halves as halves
 use Rattle.system.specs.System.{SystemView}

@@ -4,7 +4,7 @@ use Rattle.delivery.specs.Queues.{queue_of}
 use Rattle.delivery.specs.Ready.{IsReady}
 use Rattle.journal.specs.declared.step.Step.{Step}
 use Rattle.placement.specs.Layout.{Layout, IsTable}
-use Rattle.shard_maps.specs.Joined.{joined}
+use Rattle.shards.specs.Joined.{joined}
 use Rattle.skeen_core.specs.declared.packet.Delivered.{Delivered}
 use Rattle.system.specs.Halves.{IsAt, count_of, Makes, Keeps}
 use Rattle.system.specs.Refusing.{IsFault, RefusesNot, MayFail, HasFailed}

@@ -198,10 +198,8 @@ impl Halves {
         let Stage::HasRun(done) = mem::replace(&mut self.stage, Stage::Free) else {
             unreachable!()
         };
-        match self.front.settle_outcomes(done) {
-            Ok(()) => Ok(Effect::Made),
-            Err(_) => unreachable!(),
-        }
+        self.front.settle(done);
+        Ok(Effect::Made)
     }
 
     /// Collects the outcome that waits for a connection, if one does. It takes no memory.

@@ -11,7 +11,7 @@ ghost use Rattle.std.specs.Prelude.{slice_get};
 ghost use Rattle.system.specs.Laws.{ShowsSome, OfItsWorlds, OthersKeepStill, CollectedOnce, CollectsItsOwn};
 ghost use Rattle.world_laws.specs.Order.{FinalsAgree, FinalsDiffer, ConnectionsRise, GroupsAreOfTasks, PacketsAreAddressed};
 ghost use Rattle.world_laws.specs.Order.{LogsAreAddressed, ReadyInWords, LinedUpInWords, EndedOnce, EndedAsSubmitted, TouchingInStampOrder};
-ghost use Rattle.shard_maps.specs.Joined.{HasOwnKeys};
+ghost use Rattle.shards.specs.Joined.{HasOwnKeys};
 ghost use Rattle.system.specs.Runs.{Runs};
 ghost use Rattle.system.specs.Endings.{EachHasEnded, SomeMayBeMade, TurnsAreFew};
 ghost use Rattle.delivery.specs.Ready.{IsReady};

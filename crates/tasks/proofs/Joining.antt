@@ -5,7 +5,7 @@ use Rattle.std.proofs.lemmas.List.{take_more}
 use Rattle.std.proofs.lemmas.List.Concat.{flat_map-append}
 use Rattle.std.proofs.lemmas.List.Folds.{list_any-append}
 use Rattle.std.specs.List.{flat_map, list_any}
-use Rattle.batches.specs.Keys.{member_keys, member_whole}
+use Rattle.tasks.specs.Keys.{member_keys, member_whole}
 use Rattle.groups.specs.GroupSet.{has, IsAscending}
 use Rattle.groups.specs.GroupSetLaws.{has-chosen, IsAscending-chosen, same_sets}
 use Rattle.placement.specs.Groups.{has_key_on}

@@ -3,7 +3,7 @@ use Rattle.std.proofs.Common.{◌≡◌, ℕ, ◌||◌, Bool, true, false, cond,
 use Rattle.std.proofs.Common.{Contains, refl, sym, ap, ◌∙◌, subst, arith, eq-eqb}
 use Rattle.std.proofs.lemmas.Bool.{both_ways, and_parts}
 use Rattle.std.specs.FinMap.{empty}
-use Rattle.batches.specs.Keys.{names_some, looks_at_keys}
+use Rattle.tasks.specs.Keys.{names_some, looks_at_keys}
 use Rattle.groups.specs.GroupSet.{has}
 use Rattle.placement.specs.Groups.{has_key_on}
 use Rattle.placement.specs.Layout.{Layout, IsTable, shard_of}

@@ -6,11 +6,11 @@ use Rattle.std.proofs.lemmas.List.Folds.{list_any-append}
 use Rattle.std.specs.FinMap.{get}
 use Rattle.std.specs.List.{flat_map, list_any}
 use Rattle.std.specs.Str.{bytes_eq}
-use Rattle.batches.specs.Batch.{members_from, batch_effect}
-use Rattle.batches.specs.Keys.{member_keys, member_whole, batch_keys, batch_whole}
-use Rattle.batches.specs.Member.{member_effect}
-use Rattle.batches.specs.Starved.{has}
-use Rattle.command_bodies.specs.Command.{case_of, effect_of}
+use Rattle.tasks.specs.Batch.{members_from, batch_effect}
+use Rattle.tasks.specs.Keys.{member_keys, member_whole, batch_keys, batch_whole}
+use Rattle.tasks.specs.Member.{member_effect}
+use Rattle.tasks.specs.Starved.{has}
+use Rattle.tasks.specs.Command.{case_of, effect_of}
 use Rattle.command_cases.specs.Case.{one}
 use Rattle.command_table.specs.Command.{keys_of, is_whole}
 use Rattle.command_table.specs.declared.command.Command.{Command}

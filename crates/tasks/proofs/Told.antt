@@ -1,7 +1,7 @@
 -- The reply to a task tells which of its members starved.
 use Rattle.std.proofs.Common.{◌≡◌, ℕ, List}
-use Rattle.batches.proofs.Told.{told-again, starved-again}
-use Rattle.batches.specs.Starved.{starved_in}
+use Rattle.tasks.proofs.MembersTold.{told-again, starved-again}
+use Rattle.tasks.specs.Starved.{starved_in}
 use Rattle.keyspace.specs.Map.{Map}
 use Rattle.resp.specs.Content.{Content}
 use Rattle.tasks.specs.Tasks.{Task, deed_effect, deed_of}

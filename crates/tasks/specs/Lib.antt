@@ -1,2 +1,13 @@
+pub mod Command
+pub mod InTurn
+pub mod LocalCommand
+pub mod CommandAnswer
+pub mod Batch
+pub mod Keys
+pub mod Member
+pub mod Skips
+pub mod Starved
+pub mod BatchAnswer
+pub mod AtOnce
 pub mod Addressing
 pub mod Tasks

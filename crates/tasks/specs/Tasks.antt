@@ -1,12 +1,12 @@
 -- What a request executes, as one, and what those above say of it.
 use Rattle.std.specs.Prelude.{◌≡◌, ℕ, Bool, List, [], ◌∷◌, map, Option, Some, None, Result, if◌then◌else◌}
 use Rattle.std.specs.FinMap.{empty}
-use Rattle.batches.specs.Answer.{BatchAnswerTakesMemory, AnswerStarvesRightly}
-use Rattle.batches.specs.Batch.{batch_effect}
-use Rattle.batches.specs.Keys.{batch_keys, batch_whole, looks_at_keys}
-use Rattle.batches.specs.Starved.{starved_in}
-use Rattle.command_bodies.specs.Answer.{reply_of}
-use Rattle.command_bodies.specs.InTurn.{in_turn}
+use Rattle.tasks.specs.BatchAnswer.{BatchAnswerTakesMemory, AnswerStarvesRightly}
+use Rattle.tasks.specs.Batch.{batch_effect}
+use Rattle.tasks.specs.Keys.{batch_keys, batch_whole, looks_at_keys}
+use Rattle.tasks.specs.Starved.{starved_in}
+use Rattle.tasks.specs.CommandAnswer.{reply_of}
+use Rattle.tasks.specs.InTurn.{in_turn}
 use Rattle.command_cases.specs.Case.{Case}
 use Rattle.command_table.specs.Command.{name_of}
 use Rattle.command_table.specs.declared.refusal.Refusal.{Refusal}

@@ -2,7 +2,7 @@
 
 ghost use Rattle.std.specs.Prelude.{◌≡◌, ◌||◌, ℕ};
 ghost use Rattle.std.specs.List.{flat_map, list_any};
-ghost use Rattle.batches.specs.Keys.{member_keys, member_whole};
+ghost use Rattle.tasks.specs.Keys.{member_keys, member_whole};
 ghost use Rattle.groups.specs.GroupSet.{has, IsAscending};
 ghost use Rattle.tasks.specs.Addressing.{groups_told};
 ghost use Rattle.tasks.specs.Tasks as tasks;

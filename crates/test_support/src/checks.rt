@@ -91,3 +91,11 @@ fn shown(bytes: &[u8], from: usize) -> &[u8] {
     let rest = &bytes[from.min(bytes.len())..];
     &rest[..rest.len().min(SHOWN)]
 }
+
+/// Fails with what came otherwise, if something did.
+pub fn as_wanted(otherwise: Option<&String>) -> Result<(), Fail> {
+    match otherwise {
+        Some(text) => Err(Fail::new(format_args!("otherwise: {text}"))),
+        None => Ok(()),
+    }
+}

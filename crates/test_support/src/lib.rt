@@ -6,13 +6,15 @@
 
 mod checks;
 mod dice;
+mod reports;
 mod rows;
 mod sink;
 mod source;
 mod traces;
 
-pub use checks::{holds, same, same_bytes, same_count, same_number, same_text};
+pub use checks::{as_wanted, holds, same, same_bytes, same_count, same_number, same_text};
 pub use dice::Dice;
+pub use reports::{last_line, same_report};
 pub use rows::{bytes_of, requests_of};
 pub use sink::Sink;
 pub use source::Source;

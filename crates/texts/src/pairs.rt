@@ -48,13 +48,6 @@ impl Pairs {
         texts[2 * place].as_slice()
     }
 
-    /// The strings, the first and the second of each pair by turns, to be read one after another.
-    pub fn as_turns(&self) -> &[Vec<u8>]
-        ensures { texts_of result.now ≡ by_turns self.now }
-    {
-        self.texts.as_slice()
-    }
-
     /// The strings, the first and the second of each pair by turns, given back with the memory that they lie in.
     pub fn into_turns(self) -> Vec<Vec<u8>>
         ensures { texts_of result.items ≡ by_turns self }

@@ -1,5 +1,6 @@
 pub mod Mapped
 pub mod Lists
+pub mod Cuts
 pub mod PairsSeen
 pub mod PairsLeft
 pub mod MembersAlike

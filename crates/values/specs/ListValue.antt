@@ -11,11 +11,6 @@ abbrev pub nonempty : {A : Type 0} → List A → Option (List A)
 nonempty [] = None
 nonempty (x ∷ xs) = Some (x ∷ xs)
 
--- the items of a list that may be missing
-abbrev pub items_of : {A : Type 0} → Option (List A) → List A
-items_of None = []
-items_of (Some xs) = xs
-
 -- the list with these items pushed at this end, one after another
 abbrev pub pushed : {A : Type 0} → End → List A → List A → List A
 pushed Head xs items = reverse items ++ xs

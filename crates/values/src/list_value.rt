@@ -1,12 +1,12 @@
 //! The value of a key that is a list.
 
-ghost use Rattle.std.specs.Prelude.{◌≡◌, ◌+◌, ◌<◌, ◌≤◌, [], ◌∷◌, length, insert, position, slice_get, slice_set, slice_range};
-ghost use Rattle.std.specs.Prelude.{IsOk, OnOk, OnErr, IfOk, IfErr};
+ghost use Rattle.std.specs.Prelude.{◌≡◌, ◌+◌, ◌<◌, ◌≤◌, [], ◌∷◌, ◌++◌, length, insert, position, slice_get, slice_set, slice_range};
+ghost use Rattle.std.specs.Prelude.{IsOk, OnOk, OnErr};
 ghost use Rattle.std.specs.Option.{option_map};
 ghost use Rattle.std.specs.Str.{bytes_eq};
 ghost use Rattle.texts.specs.declared.text_list.End.TheVariants.{Head, Tail};
 ghost use Rattle.texts.specs.Texts.{texts_of};
-ghost use Rattle.values.specs.ListValue.{nonempty, items_of, pushed, end_item, popped, joined, without_equal};
+ghost use Rattle.values.specs.ListValue.{nonempty, pushed, end_item, popped, joined, without_equal};
 
 use crate::items::{Items, Rest};
 use std::alloc::{AllocError, Global};
@@ -79,6 +79,21 @@ impl ListValue {
             value: None,
             rest: Rest::Texts(self.texts.range(start..end)),
         }
+    }
+
+    /// The items from `start` to below `end`, in two slices that follow each other. It takes constant time.
+    #[tactic(auto, using(crate::proofs::Mapped::mapped))]
+    pub fn slices(&self, start: usize, end: usize) -> (&[Vec<u8>], &[Vec<u8>])
+        requires ordered { start ≤ end }
+        requires within { end ≤ length self.now }
+        ensures { texts_of (result.0.now ++ result.1.now) ≡ slice_range self.now start end }
+    {
+        let (head, tail) = self.texts.as_slices();
+        let split = head.len();
+        (
+            &head[start.min(split)..end.min(split)],
+            &tail[start.saturating_sub(split)..end.saturating_sub(split)],
+        )
     }
 
     /// Puts an item in the place of the one that is there. It takes constant time and no memory.
@@ -170,36 +185,6 @@ impl ListValue {
             End::Tail => remove_from_tail(&mut texts, item, most),
         }
         (before - texts.len(), at_least_one(texts))
-    }
-
-    /// Moves the item at one end of this list to an end of another, or of a new one where there is no other. It gives
-    /// what is left of this list, if anything, and the other.
-    ///
-    /// Where there is no memory both come back as they were.
-    pub fn move_item(
-        self,
-        alloc: Global,
-        from: End,
-        target: Option<Self>,
-        to: End,
-    ) -> Result<(Option<Self>, Self), (Self, Option<Self>)>
-        ensures left { IfOk result (λ r. r.0 ≡ nonempty (popped from self)) }
-        ensures moved { IfOk result (λ r. r.1 ≡ joined to (items_of target) (end_item from self)) }
-        ensures err { IfErr result (λ back. back ≡ (self, target)) }
-    {
-        let mut texts = match target {
-            Some(list) => list.texts,
-            None => VecDeque::new(alloc),
-        };
-        if texts.reserve(1).is_err() {
-            return Err((self, at_least_one(texts)));
-        }
-        let (item, left) = self.pop(from);
-        match to {
-            End::Head => texts.push_front_reserved(item.into_vec()),
-            End::Tail => texts.push_back_reserved(item.into_vec()),
-        }
-        Ok((left, ListValue { texts }))
     }
 
     /// Moves the item at one end of the list to an end of the same list. It takes no memory.

@@ -1,7 +1,7 @@
 -- The order of execution is carried to the order of stamps.
 use Rattle.std.proofs.Common.{◌≡◌, true, List, [], ◌∷◌, inl, inr, Option, Some, None, refl, sym, ap, ◌∙◌, subst}
 use Rattle.std.specs.FinMap.{empty}
-use Rattle.batches.specs.Starved.{starved_in}
+use Rattle.tasks.specs.Starved.{starved_in}
 use Rattle.execution_order.proofs.Sorted.{replies_in_stamp_order}
 use Rattle.execution_order.specs.Entries.{Entry, deeds_of, entries_of, replies_of, InOrder, IsAddressed, AreAddressed}
 use Rattle.groups.specs.GroupSet.{has}

@@ -11,7 +11,7 @@ use Rattle.groups.specs.declared.skip_id.SkipId.{SkipId}
 use Rattle.groups.specs.declared.skip_id.SkipId.TheVariants.{Whole, Part}
 use Rattle.keyspace.specs.Map.{Map}
 use Rattle.resp.specs.Content.{Content}
-use Rattle.batches.specs.Starved.{starved_in}
+use Rattle.tasks.specs.Starved.{starved_in}
 use Rattle.skeen_core.specs.Group.{EachOnce}
 use Rattle.tasks.specs.Tasks.{Task, deed_effect, starved_names}
 use Rattle.world.specs.Steps.{starved_among}

@@ -1,6 +1,6 @@
 -- What was executed, as one thread on one map does it.
 use Rattle.std.specs.Prelude.{List, [], ◌∷◌, Option, Some, None}
-use Rattle.batches.specs.Starved.{starved_in}
+use Rattle.tasks.specs.Starved.{starved_in}
 use Rattle.execution_order.specs.Entries.{Row, rows_by_stamp}
 pub use Rattle.execution_order.specs.Rows.{IsOneThread}
 use Rattle.journal.specs.declared.step.Step.{Step}

@@ -1,22 +1,18 @@
-use Rattle.std.proofs.Common.{refl, sym, subst}
+use Rattle.std.proofs.Common.{sym, subst}
+use Rattle.front.specs.Making.{Makes}
 use Rattle.front.specs.Refusing.{IsFault}
-use Rattle.cluster.proofs.Making.{makes_so, collects_so}
-use Rattle.cluster.specs.Making.{effect_shown, Makes}
+use Rattle.cluster.specs.Making.{effect_shown}
 use Rattle.cluster.specs.declared.effect.Effect.TheVariants as effect
-use Rattle.journal.specs.declared.step.Step.TheVariants.{Open, Submit, Deliver, Close}
 use Rattle.world.specs.Steps.{Opened, Submitted, Made}
 use Rattle.cluster.proofs.steps.make.Goals as goal
 
 pub returns-in-Ok-clause-made : goal.returns-in-Ok-clause-made
 returns-in-Ok-clause-made c =
-    subst (λ s. Makes c.args.front.now s (Opened c.in-Ok.conn.0) c.open.new.self) (sym c.in-Open.is)
-    (makes_so c.args.front.now c.open.new.self Open (Opened c.in-Ok.conn.0) (λ told. refl) c.in-Ok.ensures.made)
+    subst (λ s. Makes c.args.front.now s (Opened c.in-Ok.conn.0) c.open.new.self) (sym c.in-Open.is) c.in-Ok.ensures.made
 
 pub returns-in-Ok-submit-clause-made : goal.returns-in-Ok-submit-clause-made
 returns-in-Ok-submit-clause-made c =
-    subst (λ s. Makes c.args.front.now s (Submitted c.in-Ok-submit.id) c.submit.new.self) (sym c.in-Submit.is)
-    (makes_so c.args.front.now c.submit.new.self (Submit c.in-Submit.conn c.in-Submit.words) (Submitted c.in-Ok-submit.id) (λ told. refl)
-    c.in-Ok-submit.ensures.made)
+    subst (λ s. Makes c.args.front.now s (Submitted c.in-Ok-submit.id) c.submit.new.self) (sym c.in-Submit.is) c.in-Ok-submit.ensures.made
 
 pub returns-in-Err-submit-clause-refused : goal.returns-in-Err-submit-clause-refused
 returns-in-Err-submit-clause-refused c =
@@ -24,8 +20,7 @@ returns-in-Err-submit-clause-refused c =
 
 pub returns-in-Ok-deliver-clause-made : goal.returns-in-Ok-deliver-clause-made
 returns-in-Ok-deliver-clause-made c =
-    subst (λ s. Makes c.args.front.now s Made c.deliver.new.self) (sym c.in-Deliver.is)
-    (makes_so c.args.front.now c.deliver.new.self (Deliver c.in-Deliver.place) Made (λ told. refl) c.in-Ok-deliver.ensures.made)
+    subst (λ s. Makes c.args.front.now s Made c.deliver.new.self) (sym c.in-Deliver.is) c.in-Ok-deliver.ensures.made
 
 pub returns-in-Err-deliver-clause-refused : goal.returns-in-Err-deliver-clause-refused
 returns-in-Err-deliver-clause-refused c =
@@ -34,7 +29,7 @@ returns-in-Err-deliver-clause-refused c =
 pub returns-in-Ok-collect-clause-made : goal.returns-in-Ok-collect-clause-made
 returns-in-Ok-collect-clause-made c =
     subst (λ s. Makes c.args.front.now s (effect_shown (effect.Collected c.in-Ok-collect.outcome)) c.collect.new.self) (sym c.in-Collect.is)
-    (collects_so c.args.front.now c.collect.new.self c.in-Collect.conn c.in-Ok-collect.outcome c.in-Ok-collect.ensures.made)
+    c.in-Ok-collect.ensures.made
 
 pub returns-in-Err-collect-clause-refused : goal.returns-in-Err-collect-clause-refused
 returns-in-Err-collect-clause-refused c =
@@ -42,8 +37,7 @@ returns-in-Err-collect-clause-refused c =
 
 pub returns-in-Ok-close-clause-made : goal.returns-in-Ok-close-clause-made
 returns-in-Ok-close-clause-made c =
-    subst (λ s. Makes c.args.front.now s Made c.close.new.self) (sym c.in-Close.is)
-    (makes_so c.args.front.now c.close.new.self (Close c.in-Close.conn) Made (λ told. refl) c.in-Ok-close.ensures.made)
+    subst (λ s. Makes c.args.front.now s Made c.close.new.self) (sym c.in-Close.is) c.in-Ok-close.ensures.made
 
 pub returns-in-Err-close-clause-refused : goal.returns-in-Err-close-clause-refused
 returns-in-Err-close-clause-refused c =

@@ -2,4 +2,4 @@ use Rattle.cluster_sending.proofs.Crossing.{router_send}
 use Rattle.cluster_sending.proofs.sending.router_sends.Goals as goal
 
 pub returns : goal.returns
-returns c = router_send c.member_sends.ensures c.packed_request_sends.ensures c.worded_sends.ensures c.outcome_sends.ensures
+returns c = router_send c.member_sends.ensures c.worded_sends.ensures c.outcome_sends.ensures

@@ -3,13 +3,13 @@ use Rattle.std.proofs.lemmas.List.{take_all, drop_all}
 use Rattle.layer_planner.specs.declared.job.Job.{Job}
 use Rattle.front.proofs.Jobs.{take_some, take_one}
 use Rattle.front.proofs.Turns.{turn_at, passed_at}
-use Rattle.system_view.specs.Layers.{AreJobs}
+use Rattle.front.specs.Layers.{AreJobs}
 use Rattle.front.specs.Taking.{IsTaking}
 use Rattle.front.proofs.layers.take_all.Goals as goal
 
 pub loop-request-init : goal.loop-request-init
 loop-request-init c = record {
-  out = λ t w standing is. (is, search rules);
+  out = λ t w is. (is, search rules);
   jobs = search rules;
   room_of_jobs = c.requires.no_jobs.1;
 }
@@ -20,10 +20,10 @@ unreachable-requires c =
     let ready = c.args.ready.now in
     let i = c.loop-request.request-index in
     let d = c.request-item.result in
-    let now = (c.loop-request.invariant.out given.0 given.1 given.2 given.3).0 in
-    let next = subst (λ ds. IsTaking given.0 given.1 given.2 (take i ready) ds c.loop-request.router)
+    let now = (c.loop-request.invariant.out given.0 given.1 given.2).0 in
+    let next = subst (λ ds. IsTaking given.0 given.1 (take i ready) ds c.loop-request.router)
     (turn_at ready i d c.loop-request-test.true c.request-item.is) now in
-    take_some given.0 given.1 given.2 (take i ready) d (drop (i + 1) ready) c.loop-request.router next
+    take_some given.0 given.1 (take i ready) d (drop (i + 1) ready) c.loop-request.router next
     (sym c.take.ensures.taken ∙ c.in_default.is)
 
 pub push_reserved-requires : goal.push_reserved-requires
@@ -43,14 +43,14 @@ loop-request-preserved c =
     let asked = c.in-Some.asked in
     let j : Job = record { id = d.id; stamp = d.stamp; groups = d.groups; asked = asked } in
     record {
-      out = λ t w standing is.
-          let now = inv.out t w standing is in
-          let next = subst (λ ds. IsTaking t w standing (take i ready) ds c.loop-request.router)
+      out = λ t w is.
+          let now = inv.out t w is in
+          let next = subst (λ ds. IsTaking t w (take i ready) ds c.loop-request.router)
           (turn_at ready i d c.loop-request-test.true c.request-item.is) now.0 in
-          let one = take_one t w standing (take i ready) d (drop (i + 1) ready) c.loop-request.router next c.take.new.self asked
+          let one = take_one t w (take i ready) d (drop (i + 1) ready) c.loop-request.router next c.take.new.self asked
           c.loop-request.jobs.items j (sym c.take.ensures.taken ∙ c.in-Some.is) c.in-Some.ensures.changes now.1 refl refl refl refl in
           let front = sym (passed_at ready i d c.loop-request-test.true c.request-item.is) in (
-            subst (λ ds. IsTaking t w standing ds (drop (i + 1) ready) c.take.new.self) front one.0,
+            subst (λ ds. IsTaking t w ds (drop (i + 1) ready) c.take.new.self) front one.0,
             subst (λ ds. AreJobs w.asked ds c.push_reserved.new.self.items) front
                 (subst (AreJobs w.asked (take i ready ++ d ∷ [])) (sym c.push_reserved.ensures.items) one.1),
           );
@@ -60,14 +60,14 @@ loop-request-preserved c =
 
 pub returns : goal.returns
 returns c = record {
-  taken = λ t w standing is.
+  taken = λ t w is.
       let ready = c.args.ready.now in
       let i = c.loop-request.request-index in
-      let now = c.loop-request.invariant.out t w standing is in
+      let now = c.loop-request.invariant.out t w is in
       let front = take_all i ready c.loop-request-test.false in
       let back = drop_all i ready c.loop-request-test.false in (
-        subst (λ ds. IsTaking t w standing ds [] c.loop-request.router) front
-            (subst (λ ds. IsTaking t w standing (take i ready) ds c.loop-request.router) back now.0),
+        subst (λ ds. IsTaking t w ds [] c.loop-request.router) front
+            (subst (λ ds. IsTaking t w (take i ready) ds c.loop-request.router) back now.0),
         subst (λ ds. AreJobs w.asked ds c.loop-request.jobs.items) front now.1,
       );
 }

@@ -1,5 +1,5 @@
 use Rattle.std.proofs.Common.{◌≡◌, ◌∙◌, ap, arith, length, map, min, sym, take}
-use Rattle.batches.specs.Starved.{wants_in}
+use Rattle.tasks.specs.Starved.{wants_in}
 use Rattle.resp.proofs.Contents.{content-Array, content-Bulks}
 use Rattle.resp.specs.Content.{content}
 use Rattle.layer_results.specs.Results.{member_count}

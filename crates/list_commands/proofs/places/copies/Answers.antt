@@ -1,18 +1,15 @@
-use Rattle.std.proofs.Common.{[], ◌∷◌, ◌++◌, Some, map, sym, ap, ◌∙◌, arith}
+use Rattle.std.proofs.Common.{◌++◌, Some, map, sym, ap, ◌∙◌}
 use Rattle.std.proofs.lemmas.List.{map-append}
-use Rattle.std.specs.Prelude.{slice_range}
-use Rattle.list_commands.proofs.ListItems.{slice_range-next}
+use Rattle.std.proofs.lemmas.Simd.{map-map}
 use Rattle.list_commands.proofs.places.copies.Goals as goal
 
-pub loop-place-preserved : goal.loop-place-preserved
-loop-place-preserved c =
-    let xs = c.args.list.now in
-    let i = c.loop-place.place in
-    let t = c.item_at.result.now in
-    let done = slice_range xs c.args.from i in
-    record {
-      behind = omega (arith, c.loop-place.invariant.behind);
-      copied =
-          c.in_ok-push.ensures.ok ∙ ap (λ l. l ++ Some t ∷ []) c.loop-place.invariant.copied ∙ sym (map-append Some done (t ∷ []))
-          ∙ ap (map Some) (sym (slice_range-next xs c.args.from i t c.loop-place.invariant.behind c.item_at.ensures));
-    }
+-- the copies are those of the two slices, which are the items
+pub returns : goal.returns
+returns c =
+    let head = c.slices.result.0.now in
+    let tail = c.slices.result.1.now in
+    c.in_ok-with_all.ensures
+    ∙ ap (λ l. l ++ map (λ item. Some item.items) tail)
+    (c.in_ok-texts.ensures ∙ ap (λ l. l ++ map (λ item. Some item.items) head) c.in_ok-with_room.ensures.none)
+    ∙ sym (map-append (λ item. Some item.items) head tail) ∙ sym (map-map Some (λ item. item.items) (head ++ tail))
+    ∙ ap (map Some) c.slices.ensures

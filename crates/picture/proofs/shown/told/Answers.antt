@@ -1,5 +1,5 @@
 use Rattle.std.proofs.KnownBytes.{Appends-kept}
-use Rattle.picture_text.specs.Svg.{svg_text}
+use Rattle.picture_shapes.specs.Svg.{svg_text}
 use Rattle.picture.proofs.shown.told.Goals as goal
 
 pub returns-clause-told : goal.returns-clause-told

@@ -3,7 +3,7 @@ use Rattle.std.specs.List.{AllZip, flat_map}
 use Rattle.execution_order.specs.Entries.{Row, rows_by_stamp}
 use Rattle.replay.proofs.Comparing.{Whole}
 use Rattle.replay.specs.Report.{row_line, replies_agree, left_by}
-use Rattle.system_view.specs.Layers.{IsRow}
+use Rattle.front.specs.Layers.{IsRow}
 use Rattle.replay.proofs.compare.put_rows.Given as goal
 
 -- what was put, run and compared, and what is left of it, is the whole

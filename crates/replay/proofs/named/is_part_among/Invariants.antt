@@ -1,5 +1,5 @@
 use Rattle.std.proofs.Common.{◌≡◌, drop}
-use Rattle.batches.specs.Starved.{has}
+use Rattle.tasks.specs.Starved.{has}
 use Rattle.groups.specs.Skips.{parts_of}
 use Rattle.replay.proofs.named.is_part_among.Given as goal
 

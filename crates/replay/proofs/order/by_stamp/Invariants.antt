@@ -2,7 +2,7 @@ use Rattle.std.proofs.Common.{◌≤◌, ◌-◌, List, drop}
 use Rattle.std.specs.List.{AllZip, AllByRecursion}
 use Rattle.execution_order.specs.Entries.{Row, rows_by_stamp}
 use Rattle.replay.specs.Order.{Key, ArePlaced}
-use Rattle.system_view.specs.Layers.{IsRow}
+use Rattle.front.specs.Layers.{IsRow}
 use Rattle.replay.proofs.order.by_stamp.Given as goal
 
 -- the last rows are in their order, and each stands behind the others

@@ -2,8 +2,8 @@ use Rattle.std.proofs.Common.{◌≡◌, ◌∙◌, ◌==◌, [], ap, length, re
 use Rattle.std.proofs.lemmas.Bool.{eqb-true}
 use Rattle.std.proofs.lemmas.List.{nil_from_length}
 use Rattle.std.specs.FinMap.{empty}
-use Rattle.batches.specs.Batch.{batch_effect}
-use Rattle.batches.specs.Keys.{looks_at_keys}
+use Rattle.tasks.specs.Batch.{batch_effect}
+use Rattle.tasks.specs.Keys.{looks_at_keys}
 use Rattle.router.specs.Submitting.{TellsOf}
 use Rattle.sessions.specs.Session.{Go}
 use Rattle.tasks.specs.Tasks.{task_groups}
@@ -28,8 +28,8 @@ returns-then-is_empty-clause-told c =
     subst (λ standing. TellsOf table c.args.id (Go task) (standing, groups)) (sym c.answered.ensures)
     (told_at_once table c.args.id task c.in_ok-reply.reply groups looks said addressed)
 
-pub returns-in-Ok-clause-told : goal.returns-in-Ok-clause-told
-returns-in-Ok-clause-told c =
+pub returns-clause-told : goal.returns-clause-told
+returns-clause-told c =
     let table = c.args.table.now in let task = c.args.asked.batch in let groups = c.task_groups-groups.result in
     let addressed : groups ≡ task_groups table task = c.task_groups-groups.ensures ∙ ap (task_groups table) c.batch.ensures in
     let some : task_groups table task ≡ [] → ⊥ =

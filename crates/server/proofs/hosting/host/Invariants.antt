@@ -1,4 +1,4 @@
 use Rattle.server.proofs.hosting.host.Given as goal
 
-abbrev pub ghosts-serve_all : goal.ghosts-serve_all
-ghosts-serve_all g a = record { name = a.blank.name; parts = a.blank.parts }
+abbrev pub ghosts-serve_at : goal.ghosts-serve_at
+ghosts-serve_at g a = record { table = a.table }

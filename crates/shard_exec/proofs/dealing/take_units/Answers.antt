@@ -3,10 +3,10 @@ use Rattle.std.proofs.Math.Seq.{drop-cons, drop-length, append_snoc}
 use Rattle.std.proofs.lemmas.List.{append-nil, nil_from_length}
 use Rattle.std.specs.FinMap.{empty}
 use Rattle.std.specs.List.{AllZip, AllByRecursion, concat}
-use Rattle.shard_maps.proofs.Rows.{length-emptied}
+use Rattle.shards.proofs.Rows.{length-emptied}
 use Rattle.shard_exec.specs.Dealing.{CanTake, left_at}
 use Rattle.shard_exec.specs.DealtRooms.{HasRoomFor, IsInRow, MadeWorks}
-use Rattle.shard_maps.specs.Rows.{emptied}
+use Rattle.shards.specs.Rows.{emptied}
 use Rattle.shard_exec.proofs.Slots.{can_take_first, can_take_rest, left_at-append}
 use Rattle.shard_workers.proofs.Zips.{zip_length}
 use Rattle.shard_exec.proofs.dealing.take_units.Goals as goal

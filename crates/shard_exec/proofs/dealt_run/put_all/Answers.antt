@@ -3,7 +3,7 @@ use Rattle.std.specs.List.{AllByRecursion}
 use Rattle.shard_exec.specs.Dealing.{placed, jobs_of, spans_of, all_jobs, all_spans, all_rans, AreInside}
 use Rattle.shard_exec.proofs.DealtLaws.{all_first, jobs_of-append, spans_of-append, put_spans-append}
 use Rattle.shard_exec.proofs.Slots.{placed-append}
-use Rattle.shard_maps.specs.Rows.{put_spans}
+use Rattle.shards.specs.Rows.{put_spans}
 use Rattle.shard_exec.proofs.dealt_run.put_all.Goals as goal
 
 pub put_load-requires-clause-shards : goal.put_load-requires-clause-shards

@@ -1,7 +1,7 @@
 use Rattle.std.proofs.Common.{◌≡◌, ◌<◌, length}
 use Rattle.std.specs.List.{AllByRecursion}
 use Rattle.shard_exec.specs.Dealing.{placed, all_jobs, all_spans, AreInside}
-use Rattle.shard_maps.specs.Rows.{put_spans}
+use Rattle.shards.specs.Rows.{put_spans}
 use Rattle.shard_exec.proofs.dealt_run.put_all.Given as goal
 
 abbrev pub invariant-loop-rans : goal.invariant-loop-rans

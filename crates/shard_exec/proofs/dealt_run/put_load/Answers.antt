@@ -3,7 +3,7 @@ use Rattle.std.specs.List.{AllByRecursion}
 use Rattle.shard_exec.specs.Dealing.{placed, jobs_of, spans_of, AreInside}
 use Rattle.shard_exec.proofs.DealtLaws.{all_first}
 use Rattle.shard_exec.proofs.Slots.{placed-append}
-use Rattle.shard_maps.specs.Rows.{put_spans}
+use Rattle.shards.specs.Rows.{put_spans}
 use Rattle.shard_exec.proofs.dealt_run.put_load.Goals as goal
 
 pub put_back-requires : goal.put_back-requires

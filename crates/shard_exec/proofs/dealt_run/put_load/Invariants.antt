@@ -1,7 +1,7 @@
 use Rattle.std.proofs.Common.{◌≡◌, ◌<◌, length}
 use Rattle.std.specs.List.{AllByRecursion}
 use Rattle.shard_exec.specs.Dealing.{placed, jobs_of, spans_of, AreInside}
-use Rattle.shard_maps.specs.Rows.{put_spans}
+use Rattle.shards.specs.Rows.{put_spans}
 use Rattle.shard_exec.proofs.dealt_run.put_load.Given as goal
 
 abbrev pub invariant-loop-ran : goal.invariant-loop-ran

@@ -5,9 +5,9 @@ use Rattle.std.specs.FinMap.{empty}
 use Rattle.std.specs.List.{concat}
 use Rattle.layer_planner.specs.Parts.{units_in}
 use Rattle.layer_planner.specs.Units.{groups_each}
-use Rattle.shard_maps.proofs.PutBack.{parts_in_turn, taken_out_as_they_were}
-use Rattle.shard_maps.proofs.Rows.{length-emptied_each}
-use Rattle.shard_maps.specs.Joined.{HasOwnKeys}
+use Rattle.shards.proofs.PutBack.{parts_in_turn, taken_out_as_they_were}
+use Rattle.shards.proofs.Rows.{length-emptied_each}
+use Rattle.shards.specs.Joined.{HasOwnKeys}
 use Rattle.shard_exec.specs.Dealing.{filled, all_works, all_rans}
 use Rattle.shard_exec.specs.DealtRooms.{all_rooms}
 use Rattle.shard_exec.proofs.DealtLaws.{all_ready, dealt_given, have_rooms, made_left, ready_loads, rooms_in, rooms_inside, spans_inside}

@@ -1,5 +1,5 @@
 use Rattle.std.proofs.Common.{◌<◌, [], ◌∷◌, sym, ap, ◌∙◌, subst, refl}
-use Rattle.shard_maps.proofs.PutBack.{works_in_turn}
+use Rattle.shards.proofs.PutBack.{works_in_turn}
 use Rattle.shard_exec.specs.Layers.{IsDone}
 use Rattle.shard_exec.specs.declared.done.Ended.{Ended}
 use Rattle.groups.specs.GroupSet.{has}

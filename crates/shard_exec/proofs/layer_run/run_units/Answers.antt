@@ -3,7 +3,7 @@ use Rattle.std.proofs.Math.ListN.{replicate}
 use Rattle.std.proofs.lemmas.List.{length-map, length-replicate}
 use Rattle.std.specs.List.{AllByRecursion, concat}
 use Rattle.layer_planner.specs.Units.{groups_each}
-use Rattle.shard_maps.proofs.PutBack.{works_in_turn}
+use Rattle.shards.proofs.PutBack.{works_in_turn}
 use Rattle.shard_exec.specs.Dealing.{CanTake, filled}
 use Rattle.shard_exec.specs.RowRuns.{FitAt, HaveRunAt}
 use Rattle.shard_exec.specs.Rooms.{FitsRuns, FitsAt}

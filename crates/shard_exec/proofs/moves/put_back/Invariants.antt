@@ -1,6 +1,6 @@
 use Rattle.std.proofs.Common.{◌≡◌, ◌<◌, length}
 use Rattle.std.specs.List.{AllByRecursion}
-use Rattle.shard_maps.specs.Rows.{put_span}
+use Rattle.shards.specs.Rows.{put_span}
 use Rattle.shard_exec.proofs.moves.put_back.Given as goal
 
 abbrev pub invariant-loop-number : goal.invariant-loop-number

@@ -1,7 +1,7 @@
 use Rattle.std.proofs.Common.{◌≡◌, ℕ, ◌+◌, ◌≤◌, ◌<◌, length, ◌++◌, true, vec_capacity}
 use Rattle.std.specs.FinMap.{empty}
 use Rattle.groups.specs.GroupSet.{has}
-use Rattle.shard_maps.specs.Rows.{taken_out, emptied}
+use Rattle.shards.specs.Rows.{taken_out, emptied}
 use Rattle.shard_exec.proofs.moves.take_shards.Given as goal
 
 abbrev pub invariant-loop-group : goal.invariant-loop-group

@@ -1,8 +1,8 @@
 use Rattle.std.proofs.Common.{length, sym, ap, ◌∙◌}
 use Rattle.groups.specs.GroupSet.{has}
 use Rattle.shard_exec.proofs.InRow.{groups_inside, group_inside, in_place, moved_ready, moved_inside, moved}
-use Rattle.shard_maps.proofs.Rows.{length-emptied}
-use Rattle.shard_maps.specs.Rows.{taken_out, emptied}
+use Rattle.shards.proofs.Rows.{length-emptied}
+use Rattle.shards.specs.Rows.{taken_out, emptied}
 use Rattle.std.specs.FinMap.{empty}
 use Rattle.shard_exec.proofs.row_run.run_in_row.Goals as goal
 

@@ -3,7 +3,7 @@ use Rattle.std.specs.List.{AllByRecursion}
 use Rattle.layer_planner.specs.declared.job.Job.{Job}
 use Rattle.shard_exec.specs.Dealing.{CanTake}
 use Rattle.shard_exec.specs.RowRuns.{FitAt, HaveRunAt}
-use Rattle.shard_maps.specs.Joined.{HasOwnKeys}
+use Rattle.shards.specs.Joined.{HasOwnKeys}
 use Rattle.shard_exec.proofs.row_run.run_places.Given as goal
 
 -- what is run at the rest of the places, behind what was, is what is run at all

@@ -1,5 +1,5 @@
 use Rattle.std.proofs.Common.{sym, ap, ◌∙◌}
-use Rattle.batches.specs.Keys.{member_keys, member_whole}
+use Rattle.tasks.specs.Keys.{member_keys, member_whole}
 use Rattle.placement.proofs.Addressed.{chosen-none}
 use Rattle.tasks.specs.Addressing.{groups_told}
 use Rattle.tasks.proofs.addressing.groups_of_member.Goals as goal

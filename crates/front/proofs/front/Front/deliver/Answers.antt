@@ -7,7 +7,7 @@ use Rattle.front.specs.Fronts.{roomless}
 use Rattle.front.specs.Making.{Makes}
 use Rattle.front.specs.Refusing.{MayStep}
 use Rattle.journal.specs.declared.step.Step.TheVariants.{Deliver}
-use Rattle.system_view.proofs.Delivering.{may_be_delivered}
+use Rattle.front.proofs.Delivering.{may_be_delivered}
 use Rattle.world.specs.Steps.{Made}
 use Rattle.front.proofs.front.Front.deliver.Goals as goal
 

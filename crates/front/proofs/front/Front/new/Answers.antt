@@ -1,25 +1,22 @@
-use Rattle.std.proofs.Common.{true, [], None, refl, ap, ◌∙◌}
+use Rattle.std.proofs.Common.{[], refl, ap, ◌∙◌}
 use Rattle.front.proofs.Opening.{IsOpening, opening_shown}
 use Rattle.front.specs.Fronts.{FrontView, roomless}
 use Rattle.world.specs.Steps.{opening}
-use Rattle.front.proofs.front.Front.new.Goals.{After-new-5}
+use Rattle.front.proofs.front.Front.new.Goals.{After-new-3}
 use Rattle.front.proofs.front.Front.new.Goals as goal
 
-abbrev new_front : After-new-5 → FrontView
+abbrev new_front : After-new-3 → FrontView
 new_front c = record {
   table = c.args.table;
   router = c.new-2.result;
   multicast = roomless c.in_ok-multicast.multicast;
   out = c.new-3.result.items;
-  rows = c.new-4.result.rows;
-  starved = c.new-5.result.items;
-  whole = true;
   steps = 0;
   layers = 0;
 }
 
 -- every part is as it is when nothing has happened
-is_opening : (c : After-new-5) → IsOpening (new_front c)
+is_opening : (c : After-new-3) → IsOpening (new_front c)
 is_opening c = record {
   opened = c.new-2.ensures.opened;
   kept = c.new-2.ensures.none;
@@ -29,8 +26,6 @@ is_opening c = record {
   packets = c.in_ok-multicast.ensures.none;
   empty = c.in_ok-multicast.ensures.empty;
   out = c.new-3.ensures.items;
-  rows = c.new-4.ensures;
-  starved = c.new-5.ensures.items;
 }
 
 pub invariant_of-result : goal.invariant_of-result
@@ -38,11 +33,10 @@ invariant_of-result c = record {
   is_table = c.shards.ensures.is_table;
   history = [];
   world = opening;
-  told = λ i. None;
-  at = opening_shown (new_front c) (is_opening c) (λ i. None);
+  at = opening_shown (new_front c) (is_opening c);
   count = refl;
   not_run = tt;
 }
 
 pub returns : goal.returns
-returns c = record { table = refl; no_steps = refl; no_layers = refl; whole = refl; at = opening_shown (new_front c) (is_opening c) }
+returns c = record { table = refl; no_steps = refl; no_layers = refl; at = opening_shown (new_front c) (is_opening c) }

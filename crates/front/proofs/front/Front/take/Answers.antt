@@ -1,4 +1,4 @@
-use Rattle.std.proofs.Common.{rules, ◌≡◌, ℕ, [], length, sym, ap, subst}
+use Rattle.std.proofs.Common.{rules, ◌≡◌, [], length, sym, ap, subst}
 use Rattle.std.specs.Prelude.{IsOk, IsSome}
 use Rattle.delivery.specs.Queues.{queue_of}
 use Rattle.delivery.specs.Ready.{IsLayer}
@@ -14,7 +14,7 @@ use Rattle.front.specs.declared.fault.FrontFault.TheVariants.{Memory}
 use Rattle.journal.specs.declared.step.Step.TheVariants.{Take}
 use Rattle.placement.specs.Layout.{Layout}
 use Rattle.world.specs.Steps.{NoLayer}
-use Rattle.world.specs.World.{World, Standing}
+use Rattle.world.specs.World.{World}
 use Rattle.front.proofs.front.Front.take.Goals as goal
 
 pub returns-in_default-clause-refused : goal.returns-in_default-clause-refused
@@ -46,7 +46,7 @@ pub take_all-requires-clause-waits : goal.take_all-requires-clause-waits
 take_all-requires-clause-waits c =
     let old = seen c.self.inside in
     let none : old.out ≡ [] = none_listed old.out (search rules) in
-    subst (λ ds. (t : Layout) × (w : World) × (standing : ℕ → Standing) × IsTaking t w standing [] ds old.router)
+    subst (λ ds. (t : Layout) × (w : World) × IsTaking t w [] ds old.router)
     (sym c.as_slice.ensures.value) (take_may_start old none c.in-Ok.ready.items c.in-Ok.ensures.layer c.self.invariant)
 
 pub unreachable-requires : goal.unreachable-requires
@@ -54,9 +54,9 @@ unreachable-requires c =
     let old = seen c.self.inside in
     let none : old.out ≡ [] = none_listed old.out (search rules) in
     let start = take_may_start old none c.in-Ok.ready.items c.in-Ok.ensures.layer c.self.invariant in
-    let first = subst (λ ds. IsTaking start.0 start.1 start.2 [] ds old.router) (sym c.as_slice.ensures.value) start.3 in
-    let jobs = (c.take_all.ensures.taken start.0 start.1 start.2 first).1 in
-    let may = jobs_may_stand start.0 start.1 start.2 c.as_slice.result.now old.router first c.take_all.new.jobs.items jobs in
+    let first = subst (λ ds. IsTaking start.0 start.1 [] ds old.router) (sym c.as_slice.ensures.value) start.2 in
+    let jobs = (c.take_all.ensures.taken start.0 start.1 first).1 in
+    let may = jobs_may_stand start.0 start.1 c.as_slice.result.now old.router first c.take_all.new.jobs.items jobs in
     let k = subst IsSome c.in_default-gather.is (c.gather.ensures.just_where.1 may) in
     cc
 

@@ -19,7 +19,8 @@ compare_exchange-requires g c =
     let book = ap (λ w. w.book) gate in
     let seen = c.learn.ensures.0 ∙ (ap (λ s. s.book) c.again-seen.ensures ∙ c.self.invariant.0) in
     let entry = ap (λ m. m.entry) offer.1 in
-    let wanted = ap (λ w. w ++ (g.M.Says.entry c.args.about) ∷ []) (sym c.self.view_is) ∙ (ap (λ e. entries first log ++ e ∷ []) (sym entry) ∙ ap (λ i. entries i log ++ ask.entry ∷ []) (sym of)) in (
+    let wanted = ap (λ w. w ++ (g.M.Says.entry c.args.about) ∷ []) (sym c.self.view_is)
+    ∙ (ap (λ e. entries first log ++ e ∷ []) (sym entry) ∙ ap (λ i. entries i log ++ ask.entry ∷ []) (sym of)) in (
       ap (λ w. w.tracked) gate,
       seen ∙ sym book,
       c.self.invariant.2 ∙ sym book,
@@ -73,5 +74,6 @@ returns-clause-before g c =
     let of = ap (λ m. m.of) c.plain-offer.ensures.1 in
     let wrote = c.compare_exchange.ensures.7 log begins (ap (λ i. next_key i i log) of ∙ sym (ap (λ n. n.key) c.self.invariant.3)) in
     let all = subst (λ i. entries i log ≡ entries i both) of wrote.all in
-    let seen : IsPrefix (entries first part) (entries first log) = subst (λ l. IsPrefix (entries first part) l) (sym all) (entries_prefix first part both c.learn.ensures.3) in
+    let seen : IsPrefix (entries first part) (entries first log) = subst (λ l. IsPrefix (entries first part) l) (sym all)
+    (entries_prefix first part both c.learn.ensures.3) in
     subst (λ l. IsPrefix l c.args.self.now) c.part.view_is (subst (λ l. IsPrefix (entries first part) l) c.self.view_is seen)

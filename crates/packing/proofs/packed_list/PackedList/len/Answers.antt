@@ -9,4 +9,11 @@ returns-clause-number c = rw (← c.self.view_is) c.self.invariant.counted
 pub returns-clause-small : goal.returns-clause-small
 returns-clause-small c =
     let are = c.self.invariant in
-    omega (arith, are.counted, ap length are.coded, lists-few (lists_in c.self.inside.count c.self.inside.bytes.items), c.self.inside.bytes.ok.0, c.self.inside.bytes.small)
+    omega (
+      arith,
+      are.counted,
+      ap length are.coded,
+      lists-few (lists_in c.self.inside.count c.self.inside.bytes.items),
+      c.self.inside.bytes.ok.0,
+      c.self.inside.bytes.small,
+    )

@@ -9,9 +9,9 @@ pub returns-clause-changes : goal.returns-clause-changes
 returns-clause-changes c =
     let was = c.in_ok-connection.connection.now in let n = c.args.id.conn.0 in
     let kept : connection c.args.self.now n ≡ Some was = search rules in
-    let w = with_standing was c.replace-2.new.dest in
-    let now = with_standing was (Taken c.in-Waiting.field-0.asked.words) in
-    let standing : c.replace-2.new.dest ≡ Taken c.in-Waiting.field-0.asked.words = search rules in
+    let w = with_standing was c.replace.new.dest in
+    let now = with_standing was Taken in
+    let standing : c.replace.new.dest ≡ Taken = search rules in
     let put = (c.get_mut.follows.holds w).3 (search rules) in (
       was,
       kept,

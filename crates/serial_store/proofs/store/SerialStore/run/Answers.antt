@@ -1,7 +1,13 @@
-use Rattle.std.proofs.Common.{◌∙◌}
+use Rattle.std.proofs.Common.{◌∙◌, sym, subst}
 use Rattle.serial_store.proofs.Keeping.{run_serial, all_kept, refused_kept}
 use Rattle.serial_store.proofs.Turns.{one_more, was_run}
+use Rattle.placement.specs.Layout.{Layout}
+use Rattle.shard_exec.specs.Layers.{AddressTheirGroups}
 use Rattle.serial_store.proofs.store.SerialStore.run.Goals as goal
+
+pub run_over-requires : goal.run_over-requires
+run_over-requires g c =
+    subst (λ (t : Layout). AddressTheirGroups t c.args.layer) (sym c.self.invariant.1.lawful.table) c.requires
 
 pub write-requires : goal.write-requires
 write-requires g c =

@@ -1,6 +1,6 @@
 use Rattle.std.proofs.Common.{arith, ◌≡◌, length, sym, ap, ◌∙◌, subst}
 use Rattle.std.proofs.lemmas.List.{length-replicate}
-use Rattle.shard_maps.specs.Joined.{HasOwnKeys}
+use Rattle.shards.specs.Joined.{HasOwnKeys}
 use Rattle.shard_exec.proofs.StoreRows.{own_none}
 use Rattle.shard_exec.proofs.store.Store.with_hasher.Goals as goal
 

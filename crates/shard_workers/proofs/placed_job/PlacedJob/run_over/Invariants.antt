@@ -1,4 +1,4 @@
-use Rattle.shard_maps.specs.Joined.{numbers}
+use Rattle.shards.specs.Joined.{numbers}
 use Rattle.shard_workers.proofs.placed_job.PlacedJob.run_over.Given as goal
 
 -- the shards that the request has, placed by its table

@@ -1,5 +1,5 @@
 use Rattle.std.proofs.Common.{sym, ap, ◌∙◌}
-use Rattle.shard_maps.specs.Joined.{numbers}
+use Rattle.shards.specs.Joined.{numbers}
 use Rattle.shards.proofs.Unions.{found-has}
 use Rattle.shards.proofs.span.Span.has_shard.Goals as goal
 

@@ -1,7 +1,7 @@
 use Rattle.std.proofs.Common.{arith, below_more, sym, ap, ◌∙◌, eq-eqb}
 use Rattle.std.proofs.lemmas.Bool.{both_ways}
 use Rattle.groups.specs.GroupSet.{has}
-use Rattle.shard_maps.specs.Joined.{numbers}
+use Rattle.shards.specs.Joined.{numbers}
 use Rattle.shards.proofs.Unions.{has_not, number_at}
 use Rattle.shards.proofs.span.Span.index_of_shard.Goals as goal
 

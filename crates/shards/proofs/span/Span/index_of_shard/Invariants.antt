@@ -1,5 +1,5 @@
 use Rattle.std.proofs.Common.{◌≡◌, ℕ, ◌<◌, slice_index}
-use Rattle.shard_maps.specs.Joined.{numbers}
+use Rattle.shards.specs.Joined.{numbers}
 use Rattle.shards.proofs.span.Span.index_of_shard.Given as goal
 
 -- the shards passed so far have other numbers

@@ -1,5 +1,5 @@
 use Rattle.std.proofs.Common.{arith, sym, ap, subst, ◌∙◌}
-use Rattle.shard_maps.specs.Joined.{union}
+use Rattle.shards.specs.Joined.{union}
 use Rattle.shards.specs.Spans.{IsSpan}
 use Rattle.shards.proofs.Unions.{cleared_step, span-cleared, union-cleared}
 use Rattle.shards.proofs.span.SpanKeyspace.clear.Goals as goal

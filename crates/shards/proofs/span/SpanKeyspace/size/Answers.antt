@@ -2,7 +2,7 @@ use Rattle.std.proofs.Common.{arith, ◌≡◌, length, min, pos, take, sym, ap,
 use Rattle.std.proofs.Math.Seq.{take-length}
 use Rattle.std.specs.FinMap.{len}
 use Rattle.groups.specs.GroupSet.{IsAscending}
-use Rattle.shard_maps.specs.Joined.{union}
+use Rattle.shards.specs.Joined.{union}
 use Rattle.shards.proofs.Sizes.{total, total-take, most_added, len-union}
 use Rattle.shards.proofs.span.SpanKeyspace.size.Goals as goal
 

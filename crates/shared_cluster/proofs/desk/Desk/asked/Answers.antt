@@ -10,5 +10,5 @@ returns-clause-refused g c =
 
 pub returns-then-is_for_driver-clause-refused : goal.returns-then-is_for_driver-clause-refused
 returns-then-is_for_driver-clause-refused g c =
-    subst (λ (s : SeatView). IfErr c.ask_driven.result (λ fault. IsAskFault s c.args.request fault c.ask_driven.new.seat))
-    c.is_for_driver.ensures c.ask_driven.ensures.refused
+    subst (λ (s : SeatView). IfErr c.ask.result (λ fault. IsAskFault s c.args.request fault c.ask.new.seat))
+    c.is_for_driver.ensures c.ask.ensures.refused

@@ -1,21 +1,21 @@
-use Rattle.std.proofs.Common.{sym, ◌∙◌, inl, inr}
+use Rattle.std.proofs.Common.{sym, ◌∙◌, inr}
 use Rattle.cluster.specs.Clusters.{IsCollectFault}
-use Rattle.shared_cluster.proofs.Collecting.{answered_of}
+use Rattle.shared_cluster.proofs.Collecting.{replies_there, none_there, still_there}
 use Rattle.shared_cluster.proofs.Refusals.{untold}
 use Rattle.shared_cluster.proofs.held.Held.collect.Goals as goal
 
-pub returns-in-Ok-Some-clause-answered : goal.returns-in-Ok-Some-clause-answered
-returns-in-Ok-Some-clause-answered g c =
-    let arm = c.in-Ok-Some in
-    let told = arm.ensures in
-    let is = arm.field-0-is in
-    rw arm.answer-is
-    (answered_of c.args.self.now.cluster.history c.collect.new.self.history c.args.seat.now c.collect.new.seat arm.answer
-    (rw is at told.collected) (rw is at told.id) (rw is at told.words) (rw is at told.from) (rw is at told.above) (rw is at told.seat)
-    c.lawful-in-Ok-Some.ensures.lawful)
+pub returns-in-Ok-clause-answered : goal.returns-in-Ok-clause-answered
+returns-in-Ok-clause-answered g c =
+    replies_there g.T.Tabled.table c.args.self.now.cluster.history c.collect.new.self.history c.args.seat.now c.collect.new.seat
+    c.in-Ok.reply c.lawful.ensures.table c.in-Ok.ensures.replied
 
-pub returns-in-Ok-None-clause-none : goal.returns-in-Ok-None-clause-none
-returns-in-Ok-None-clause-none g c = (c.lawful.ensures.lawful, inl (rw c.in-Ok-None.field-0-is at c.in-Ok-None.ensures.none))
+pub returns-in-Ok-clause-none : goal.returns-in-Ok-clause-none
+returns-in-Ok-clause-none g c =
+    none_there c.args.self.now.cluster.history c.args.seat.now c.in-Ok.reply c.lawful.ensures.lawful c.in-Ok.ensures.none
+
+pub returns-in-Ok-clause-still : goal.returns-in-Ok-clause-still
+returns-in-Ok-clause-still g c =
+    still_there c.args.self.now.cluster c.collect.new.self c.args.seat.now c.collect.new.seat c.in-Ok.reply c.in-Ok.ensures.unasked
 
 pub returns-in-None-clause-none : goal.returns-in-None-clause-none
 returns-in-None-clause-none g c = (

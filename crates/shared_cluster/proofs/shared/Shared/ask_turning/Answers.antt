@@ -1,8 +1,19 @@
-use Rattle.shared_cluster.proofs.Collecting.{waited_fault}
+use Rattle.shared_cluster.proofs.Collecting.{asked_replied, waited_fault}
 use Rattle.shared_cluster.proofs.shared.Shared.ask_turning.Goals as goal
 
-pub returns-in-Ok-clause-refused : goal.returns-in-Ok-clause-refused
-returns-in-Ok-clause-refused g c =
+pub returns-in-Ok-Replied-clause-replied : goal.returns-in-Ok-Replied-clause-replied
+returns-in-Ok-Replied-clause-replied g c = rw c.in-Ok-Replied.field-0-is at c.in-Ok-Replied.ensures.begun
+
+pub returns-in-Ok-Waits-clause-replied : goal.returns-in-Ok-Waits-clause-replied
+returns-in-Ok-Waits-clause-replied g c =
     let made = c.turn_until_replied in
-    waited_fault c.args.seat.now c.submit.new.seat c.args.words made.result made.new.seat c.in-Ok.ensures.submitted made.ensures.refused
+    let begun = rw c.in-Ok-Waits.field-0-is at c.in-Ok-Waits.ensures.begun in
+    asked_replied g.T.Tabled.table c.args.seat.now c.submit_and_begin.new.seat made.new.seat c.args.words made.result begun.0
+    made.ensures.replied
+
+pub returns-in-Ok-Waits-clause-refused : goal.returns-in-Ok-Waits-clause-refused
+returns-in-Ok-Waits-clause-refused g c =
+    let made = c.turn_until_replied in
+    let begun = rw c.in-Ok-Waits.field-0-is at c.in-Ok-Waits.ensures.begun in
+    waited_fault c.args.seat.now c.submit_and_begin.new.seat c.args.words made.result made.new.seat begun.0 made.ensures.refused
     made.ensures.unchanged

@@ -4,7 +4,7 @@ use Rattle.shared_cluster.proofs.shared.Shared.drive_once.Goals as goal
 pub returns-in-Quiet-clause-free : goal.returns-in-Quiet-clause-free
 returns-in-Quiet-clause-free g c =
     if_some c.rest_or_wait.result
-    (idle_is_free _ _ c.args.hand.now c.advance.new.hand c.in-Ok.turn c.in-Ok.ensures.made c.in-Quiet.is)
+    (idle_is_free _ _ _ c.args.hand.now c.advance.new.hand c.in-Ok.turn c.in-Ok.ensures.made c.in-Quiet.is)
 
 pub returns-in-Quiet-clause-goes_on : goal.returns-in-Quiet-clause-goes_on
 returns-in-Quiet-clause-goes_on g c =

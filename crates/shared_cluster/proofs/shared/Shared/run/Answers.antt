@@ -3,8 +3,8 @@ use Rattle.shared_cluster.proofs.shared.Shared.run.Goals as goal
 
 pub returns-in-Handed-clause-made : goal.returns-in-Handed-clause-made
 returns-in-Handed-clause-made g c =
-    brings_done _ c.args.layer c.run_or_retry-run.result c.in-Handed.done c.run_or_retry-run.ensures c.in-Handed.is
+    brings_done _ _ c.args.layer c.run_or_retry-run.result c.in-Handed.ran c.run_or_retry-run.ensures c.in-Handed.is
 
 pub returns-in-Starved-clause-made : goal.returns-in-Starved-clause-made
 returns-in-Starved-clause-made g c =
-    brings_back _ c.args.layer c.in-Starved.layer c.run_or_retry-run.result c.run_or_retry-run.ensures c.in-Starved.is
+    brings_back _ _ c.args.layer c.in-Starved.layer c.run_or_retry-run.result c.run_or_retry-run.ensures c.in-Starved.is

@@ -5,4 +5,4 @@ use Rattle.shared_cluster.proofs.shared.Shared.settle.Goals as goal
 
 pub returns-in-Some-clause-made : goal.returns-in-Some-clause-made
 returns-in-Some-clause-made g c =
-    ap HasRun (given_left c.args.done c.in-Some.done c.in-Ok.left c.in-Ok.ensures.given c.in-Some.is)
+    ap HasRun (given_left c.args.ran c.in-Some.ran c.in-Ok.left c.in-Ok.ensures.given c.in-Some.is)

@@ -4,7 +4,7 @@ use Rattle.shared_cluster.proofs.shared.Shared.settle_once.Goals as goal
 
 pub returns-in-Foreign-clause-refused : goal.returns-in-Foreign-clause-refused
 returns-in-Foreign-clause-refused g c =
-    found_unsettled c.args.held.now.cluster.history c.args.done c.in-Err.unsettled c.in-Foreign.fault c.in-Err.ensures.refused
+    found_unsettled c.args.held.now.cluster.history c.args.ran c.in-Err.unsettled c.in-Foreign.fault c.in-Err.ensures.refused
     c.in-Foreign.is
 
 pub returns-in-Ok-clause-settled : goal.returns-in-Ok-clause-settled
@@ -17,4 +17,4 @@ returns-in-Ok-clause-settled g c = record {
 
 pub returns-clause-given : goal.returns-clause-given
 returns-clause-given g c =
-    given_back c.args.held.now.cluster.history c.args.done c.in-Starved.done c.in-Err.unsettled c.in-Err.ensures.refused c.in-Starved.is
+    given_back c.args.held.now.cluster.history c.args.ran c.in-Starved.ran c.in-Err.unsettled c.in-Err.ensures.refused c.in-Starved.is

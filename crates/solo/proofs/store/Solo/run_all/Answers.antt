@@ -3,9 +3,9 @@ use Rattle.std.proofs.lemmas.List.{map-append}
 use Rattle.std.proofs.lemmas.Bool.{false≢true}
 use Rattle.std.proofs.lemmas.Result.{err_from_is_err_and}
 use Rattle.resp.specs.Content.{content}
-use Rattle.command_bodies.specs.Command.{effect_of}
-use Rattle.command_bodies.proofs.Turns.{in_turn-push}
-use Rattle.batches.proofs.Runs.{taken-push, next_within}
+use Rattle.tasks.specs.Command.{effect_of}
+use Rattle.tasks.proofs.Turns.{in_turn-push}
+use Rattle.tasks.proofs.Runs.{taken-push, next_within}
 use Rattle.solo.proofs.Turns.{none_ran, some_ran}
 use Rattle.solo.proofs.store.Solo.run_all.Goals as goal
 

@@ -1,8 +1,10 @@
-use Rattle.std.proofs.Common.{refl, ap, ◌∙◌}
+use Rattle.std.proofs.Common.{option_map, refl, ap, ◌∙◌}
 use Rattle.journal.specs.declared.step.Step.TheVariants.{Collect}
-use Rattle.system.proofs.Fronting.{may_step, made_by_front, front_collects, front_kept, refused_as}
+use Rattle.system.proofs.Fronting.{may_step, made_by_front, front_makes, front_kept, refused_as}
 use Rattle.system.specs.Faults.{of_front}
 use Rattle.system.specs.declared.effect.Effect.TheVariants.{Collected}
+use Rattle.front.specs.Connections.{outcome_shown}
+use Rattle.world.specs.Steps as world
 use Rattle.system.proofs.halves.Halves.collect.Goals as goal
 
 pub collect-requires : goal.collect-requires
@@ -13,8 +15,9 @@ returns-in-Ok-clause-made c =
     let old = c.args.self.now in
     let f = c.collect.new.self in
     let made = c.in-Ok.ensures.made in
-    made_by_front old f (Collect c.args.conn) tt made.is_step (Collected c.in-Ok.outcome) refl (λ w. tt)
-    (front_collects old f c.args.conn c.in-Ok.outcome made)
+    let step = Collect c.args.conn in
+    made_by_front old f step tt made.is_step (Collected c.in-Ok.outcome) refl (λ w. tt)
+    (front_makes old f step (world.Collected (option_map outcome_shown c.in-Ok.outcome)) made)
 
 pub returns-in-Err-clause-fault : goal.returns-in-Err-clause-fault
 returns-in-Err-clause-fault c =

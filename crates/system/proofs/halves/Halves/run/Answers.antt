@@ -44,7 +44,7 @@ returns-in-Ok-clause-made g c =
     let taken = c.in-Taken-replace.layer in
     let done = c.hand_over-done.result in
     let made = run_makes old c.run.new.self taken done c.note_starved.new.all c.args.skip c.new.result
-    c.holds.ensures.no_run c.holds.ensures.retold (sym c.replace.ensures.value ∙ c.in-Taken-replace.is)
+    c.holds.ensures.no_run (sym c.replace.ensures.value ∙ c.in-Taken-replace.is)
     (subst (λ skip. HasRun old.back skip taken c.run.new.self) c.as_slice.ensures.names c.in-Ok.ensures.run)
     c.hand_over-done.ensures.given
     (c.new.ensures ∙ c.note_starved.ensures.starved)

@@ -1,6 +1,6 @@
 use Rattle.std.proofs.Common.{subst}
 use Rattle.placement.specs.Layout.{Layout}
-use Rattle.shard_maps.specs.Joined.{HasOwnKeys}
+use Rattle.shards.specs.Joined.{HasOwnKeys}
 use Rattle.system.specs.Laws.{ShowsSome, OfItsWorlds, OthersKeepStill, CollectedOnce, CollectsItsOwn}
 use Rattle.system.specs.Reads.{table_of, maps_of}
 use Rattle.system.specs.System.{SystemView}

@@ -1,0 +1,210 @@
+-- What comes of the layer that is out, by its number alone: the world runs it so, and that is what the front is told.
+use Rattle.std.proofs.Common.{◌≡◌, ◌≢◌, ℕ, ◌+◌, ◌≤◌, List, [], ◌∷◌, ◌++◌, map, length, inl, inr, Option, Some, Ok, refl, sym, ap, ◌∙◌, subst}
+use Rattle.std.proofs.Common.{append-nil, append_assoc, length-append, arith}
+use Rattle.std.proofs.lemmas.List.{map-append}
+use Rattle.std.specs.List.{AllZip}
+use mathlib.Core.List.{IsPrefix}
+use Rattle.front.proofs.Running.{sees_no_run}
+use Rattle.front.specs.Fronts.{FrontView, FrontIsAt, HasNotRun}
+use Rattle.front.specs.Settling as settling
+use Rattle.front.specs.Settling.{IsTrueOf, Settles}
+use Rattle.groups.proofs.Options.{some_same}
+use Rattle.groups.specs.Order.{In}
+use Rattle.groups.specs.declared.request.RequestId.{RequestId}
+use Rattle.journal.specs.declared.step.Step.{Step}
+use Rattle.journal.specs.declared.step.Step.TheVariants.{Run, Settle}
+use Rattle.layer_results.specs.Results.{names_of}
+use Rattle.layer_results.specs.declared.done.DoneRow.{DoneRow}
+use Rattle.order_laws.proofs.Asking.{asked_stays}
+use Rattle.order_laws.proofs.SerialLaws.{serial_is_true}
+use Rattle.order_laws.proofs.TakeLaws.{takes_agree}
+use Rattle.order_laws.proofs.Yielding.{one_more, leads_of}
+use Rattle.order_laws.specs.Layers.{Yields, run_by}
+use Rattle.execution_order.specs.Serial.{IsSerial}
+use Rattle.order_laws.specs.Takes.{HandsOut}
+use Rattle.order_laws.specs.Truth.{ran_as, AreRunsOf, with_run}
+use Rattle.cluster.proofs.Came.{Tells, tells, names_told, Addressed, layer_told}
+use Rattle.cluster.proofs.Numbers.{is_taken, out_is_handed, same_begin, begins_more}
+use Rattle.cluster.specs.Histories.{HistoryView, IsTrueIn}
+use Rattle.cluster.specs.Layers.{IsToldBy, IsSettled}
+use Rattle.cluster.specs.declared.tape.Tape.{Tape}
+use Rattle.cluster.specs.Sealed.{RanView, IsRowOf, IsRan}
+use Rattle.serial_store.specs.Serial.{layer_of, AreSerial}
+use Rattle.placement.specs.Layout.{Layout}
+use Rattle.skeen_core.specs.declared.packet.Delivered.{Delivered}
+use Rattle.tasks.specs.Tasks.{task_groups}
+use Rattle.world.specs.Steps.{opening, Ran, Made, Steps, Leads}
+use Rattle.world.specs.World.{World, Request, Ended, Taken}
+use Rattle.world_laws.proofs.ConditionLaws.{layers_are_submitted}
+use Rattle.world_laws.proofs.Layers.{in_delivered}
+use Rattle.world_laws.specs.Good.{delivered_of}
+use Rattle.world_laws.specs.Order.{HasFinal}
+
+-- lists whose places agree so agree otherwise
+zip_in : {X Y : Type 0} (R S : X → Y → Type 0) (xs : List X) (ys : List Y) →
+    ((x : X) (y : Y) → In x xs → In y ys → R x y → S x y) → AllZip R xs ys → AllZip S xs ys
+zip_in R S [] [] holds zip = tt
+zip_in R S [] (y ∷ ys) holds zip = absurd zip
+zip_in R S (x ∷ xs) [] holds zip = absurd zip
+zip_in R S (x ∷ xs) (y ∷ ys) holds zip = (
+  holds x y (inl refl) (inl refl) zip.0,
+  zip_in R S xs ys (λ a b there here. holds a b (inr there) (inr here)) zip.1,
+)
+
+-- so much of it the front is told
+told_so : (es : List Ended) (done : List DoneRow) → AllZip IsToldBy es done → AllZip settling.IsToldBy es done
+told_so es done zip = zip_in IsToldBy settling.IsToldBy es done
+    (λ e row there here told. record { id = told.id; stamp = told.stamp; reply = told.reply }) zip
+
+module _ (h : HistoryView) (w : World) (is : IsTrueIn h w) (v : RanView) (ran : IsRan h.front.table v) (some : h.front.out ≢ [])
+    (number : v.number ≡ h.front.layers) (all : List Step) (x : World) (leads : Leads h.front.table opening all x)
+    (p : IsPrefix h.steps all) (q : IsPrefix v.told all) (every : List (List DoneRow)) (p' : IsPrefix h.ran every)
+    (q' : IsPrefix v.ran every) (serial : AreSerial h.front.table v.ran) where
+  abbrev t : Layout
+  t = h.front.table
+
+  abbrev ds : List Delivered
+  ds = h.front.out
+
+  layer : w.layer ≡ Taken ds
+  layer = is_taken w.layer ds is.not_run is.at.shows.out some
+
+  same_layer : ran.layer ≡ ds
+  same_layer = takes_agree t v.told h.steps all x leads q p v.number ran.layer ds ran.hands_out
+      (subst (λ n. HandsOut t h.steps n ds) (sym number) (out_is_handed h w is some))
+
+  -- what was asked there was asked here
+  asked_same : (i : RequestId) (a b : Request) → ran.world.asked i ≡ Some a → w.asked i ≡ Some b → a ≡ b
+  asked_same i a b there here =
+      let one = asked_stays t v.told q.0 ran.world x ran.leads (subst (λ l. Leads t opening l x) (sym q.1) leads) i a there in
+      let other = asked_stays t h.steps p.0 w x is.at.leads (subst (λ l. Leads t opening l x) (sym p.1) leads) i b here in
+      some_same a b (sym one ∙ other)
+
+  submitted : (d : Delivered) → In d ds → (a : Request) × HasFinal w d.id a d.stamp × (d.groups ≡ task_groups t a.task)
+  submitted d there = layers_are_submitted t h.steps w is.at.leads ds layer d there
+
+  rows : AllZip (IsRowOf w.asked) ds v.done
+  rows = zip_in (IsRowOf ran.world.asked) (IsRowOf w.asked) ds v.done
+      (λ d row there here of. let a = submitted d there in record {
+        id = of.id;
+        stamp = of.stamp;
+        says = (a.0, a.1.submitted, of.says.2 ∙ ap (λ (r : Request). Ok r.task) (asked_same d.id of.says.0 a.0 of.says.1 a.1.submitted));
+      }) (subst (λ l. AllZip (IsRowOf ran.world.asked) l v.done) same_layer ran.rows)
+
+  pub its : Tells w.asked ds v.done
+  its = tells w.asked ds v.done rows
+
+  abbrev pub es : List Ended
+  es = its.es
+
+  of_layer : (e : Ended) → In e es → In (delivered_of e) ds
+  of_layer e there = subst (In (delivered_of e)) its.came.each (in_delivered es e there)
+
+  addressed : Addressed t es
+  addressed e there =
+      let a = its.came.tasks e there in
+      let d = submitted (delivered_of e) (of_layer e there) in
+      d.2 ∙ ap (λ (r : Request). task_groups t r.task) (some_same d.0 a.0 (sym d.1.submitted ∙ a.1)) ∙ ap (task_groups t) (sym a.2)
+
+  -- ---- the store's list is that of before, and this layer
+
+  pub ran_is : v.ran ≡ h.ran ++ v.done ∷ []
+  ran_is =
+      let before : IsPrefix ran.before every =
+      begins_more ran.before (v.done ∷ []) every (subst (λ l. IsPrefix l every) ran.last q') in
+      ran.last ∙ ap (λ l. l ++ v.done ∷ []) (same_begin ran.before h.ran every before p' (sym ran.counted ∙ number ∙ is.layers))
+
+  layers_so : map (layer_of t) v.ran ≡ map (layer_of t) h.ran ++ ran_as es ∷ []
+  layers_so = ap (map (layer_of t)) ran_is ∙ map-append (layer_of t) h.ran (v.done ∷ [])
+      ∙ ap (λ l. map (layer_of t) h.ran ++ l ∷ []) (layer_told t es v.done addressed its.told)
+
+  -- ---- the world runs it so
+
+  pub runs : Steps t w (Run (names_of v.done)) (Ran (names_of v.done)) (with_run w es)
+  runs = subst (λ ns. Steps t w (Run ns) (Ran ns) (with_run w es)) (sym (names_told es v.done its.told))
+      (serial_is_true t h.steps w (map (layer_of t) h.ran) is.ran ds es layer its.came (subst (IsSerial t) layers_so serial))
+
+  at_run : FrontIsAt h.front (h.steps ++ Run (names_of v.done) ∷ []) (with_run w es)
+  at_run = sees_no_run h.front h.steps w is.at (names_of v.done) (Ran (names_of v.done)) (with_run w es) runs
+
+  pub run_leads : (u : World) × Leads t opening (h.steps ++ Run (names_of v.done) ∷ []) u
+  run_leads = (with_run w es, at_run.leads)
+
+  -- ---- so it is true of the layer that is out
+
+  pub truth : IsTrueOf h.front v.done
+  truth = record {
+    history = h.steps ++ Run (names_of v.done) ∷ [];
+    world = with_run w es;
+    at = at_run;
+    count = omega (arith, is.counted, length-append h.steps (Run (names_of v.done) ∷ []));
+    ended = es;
+    has_run = refl;
+    told = told_so es v.done its.told;
+  }
+
+  -- ---- and the front shows it
+
+  module _ (new : FrontView) (does : Settles h.front v.done new) (most : ℕ) (trace : Option Tape) where
+    abbrev pub steps_after : List Step
+    steps_after = (h.steps ++ Run (names_of v.done) ∷ []) ++ Settle ∷ []
+
+    pub record After : Type 0 where
+      pub world : World
+      pub settles : Steps t (with_run w es) Settle Made world
+      pub at : FrontIsAt new steps_after world
+
+    pub after : After
+    after =
+        let next = does.from_each (h.steps ++ Run (names_of v.done) ∷ []) (with_run w es) at_run es refl
+        (told_so es v.done its.told) in
+        record { world = next.0; settles = next.1; at = next.2 }
+
+    pub runs_after : Yields run_by t opening steps_after (is.ran.ended ++ es ∷ []) after.world
+    runs_after = subst (λ l. Yields run_by t opening steps_after l after.world) (append-nil (is.ran.ended ++ es ∷ []))
+        (one_more run_by t opening (with_run w es) after.world (h.steps ++ Run (names_of v.done) ∷ []) (is.ran.ended ++ es ∷ []) Settle Made
+        (one_more run_by t opening w (with_run w es) h.steps is.ran.ended (Run (names_of v.done)) (Ran (names_of v.done)) is.ran.runs runs)
+        after.settles)
+
+    pub settle_leads : (u : World) × Leads t opening steps_after u
+    settle_leads = (after.world, leads_of run_by t opening after.world steps_after (is.ran.ended ++ es ∷ []) runs_after)
+
+    abbrev pub later : HistoryView
+    later = record { front = new; max_steps = most; steps = steps_after; ran = v.ran; trace = trace }
+
+    pub settled : IsTrueIn later after.world
+    settled = record {
+      at = after.at;
+      not_run = subst HasNotRun (sym (ap (λ (u : World). u.layer) after.settles.after)) tt;
+      ran = subst (λ s. AreRunsOf s steps_after after.world (map (layer_of s) v.ran)) (sym does.table) (record {
+        ended = is.ran.ended ++ es ∷ [];
+        runs = runs_after;
+        each = layers_so ∙ ap (λ l. l ++ ran_as es ∷ []) is.ran.each ∙ sym (map-append ran_as is.ran.ended (es ∷ []));
+      });
+      layers = omega (arith, does.layers, is.layers, ap length ran_is, length-append h.ran (v.done ∷ []));
+      counted = omega (
+        arith,
+        does.layers,
+        does.steps,
+        is.counted,
+        length-append (h.steps ++ Run (names_of v.done) ∷ []) (Settle ∷ []),
+        length-append h.steps (Run (names_of v.done) ∷ []),
+      );
+    }
+
+    pub is_settled : length h.steps + 2 ≤ h.max_steps → most ≡ h.max_steps → IsSettled h v.done later
+    is_settled left same = record {
+      left = left;
+      max_steps = same;
+      table = does.table;
+      out = does.out;
+      steps = append_assoc h.steps (Run (names_of v.done) ∷ []) (Settle ∷ []);
+      ran = ran_is;
+      world = w;
+      leads = is.at.leads;
+      ended = es;
+      runs = runs;
+      after = after.world;
+      settles = after.settles;
+      told = its.told;
+    }

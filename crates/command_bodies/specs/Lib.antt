@@ -1,4 +1,0 @@
-pub mod Answer
-pub mod Command
-pub mod InTurn
-pub mod LocalCommand

@@ -1,4 +1,0 @@
-pub mod Joined
-pub mod Layer
-pub mod Laws
-pub mod Rows

@@ -1,3 +1,0 @@
-pub mod Connections
-pub mod Multicast
-pub mod Layers

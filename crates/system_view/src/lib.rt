@@ -1,2 +1,0 @@
-//! What the parts of the system show of a world.
-#![tactic(auto)]
