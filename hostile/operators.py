@@ -133,18 +133,30 @@ def ended_in_work(tries, workers, how):
         tries.holds(f"{name}: what was answered is in the trace", kept and sum(counters.values()) == int(closed[2]), (numbers, counters))
 
 
-def killed(tries):
-    """A client doesn't read what it is sent, so the end takes its 0.3 s; a second signal kills at once."""
+def killed_once(tries):
+    """How a server ends that gets two signals while a client doesn't read what it is sent, so that an end by the first takes its 0.3 s: its
+    status, what it says, and how many bytes still come to the client."""
     with tries.serve() as server:
         client = Client(server.port)
         client.ask(b"SET", b"long", b"x" * (1 << 20))
         client.stream.sendall(request(b"GET", b"long") * 64)
         time.sleep(0.2)
-        for each in (signal.SIGTERM, signal.SIGINT):
-            os.kill(server.process.pid, each)
+        os.kill(server.process.pid, signal.SIGTERM)
+        # Of two signals that come at the same instant bash may see one alone.
+        time.sleep(0.1)
+        os.kill(server.process.pid, signal.SIGINT)
         status, said, _ = server.ended()
-        tries.holds("a second signal kills", status == 128 + signal.SIGKILL and not said, (status, said))
-        tries.holds("the killed server's connections end", len(all_that_comes(client)) < 64 << 20)
+        return status, said, len(all_that_comes(client))
+
+
+def killed(tries):
+    """A second signal kills at once: in one try of three, since a machine that is busy may bring it only once the first has ended the server."""
+    for _ in range(3):
+        status, said, came = killed_once(tries)
+        if status != 0:
+            break
+    tries.holds("a second signal kills", status == 128 + signal.SIGKILL and not said, (status, said))
+    tries.holds("the killed server's connections end", came < 64 << 20)
 
 
 def ended_by_input(tries):
