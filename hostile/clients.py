@@ -151,10 +151,10 @@ def memory(process, field):
 class Server:
     """A server that was started with these options, at a port of its own; it is stopped where it hasn't ended."""
 
-    def __init__(self, program, table, *options, **how):
+    def __init__(self, program, table, *options, has_input=False, **how):
         self.process = subprocess.Popen(
             [program, "--table", table, "--port", "0", *options],
-            stdin=subprocess.DEVNULL, stdout=subprocess.PIPE, stderr=subprocess.PIPE, text=True, **how)
+            stdin=subprocess.PIPE if has_input else subprocess.DEVNULL, stdout=subprocess.PIPE, stderr=subprocess.PIPE, text=True, **how)
         listening = self.process.stdout.readline()
         # There is none where the server ended before it listened.
         self.port = int(listening.rsplit(":", 1)[1]) if listening else None

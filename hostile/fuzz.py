@@ -16,24 +16,11 @@ import tempfile
 import time
 
 from clients import replies, request
+from requests_at_random import request_at_random
 
 TOP = os.path.join(os.path.dirname(os.path.abspath(__file__)), "..")
-KEYS = [b"a", b"b", b"c", b"d", b"", b"{a}1", b"key"]
-WORDS = KEYS + [b"0", b"1", b"-1", b"9223372036854775807", b"-9223372036854775808", b"2x", b"NX", b"LEFT", b"BEFORE", b"\r\n", b"*1"]
-NAMES = """PING ECHO GET SET SETNX GETSET GETDEL MGET STRLEN GETRANGE INCR DECR INCRBY DECRBY APPEND SETRANGE MSET MSETNX RENAME DEL UNLINK
-EXISTS TYPE RENAMENX DBSIZE FLUSHALL HSET HMSET HSETNX HINCRBY HGET HMGET HDEL HEXISTS HLEN HKEYS HVALS HGETALL HSTRLEN LPUSH
-RPUSH LPUSHX RPUSHX LPOP RPOP LLEN LINDEX LSET LRANGE LTRIM LREM LINSERT LMOVE RPOPLPUSH SADD SREM SISMEMBER SMISMEMBER SCARD
-SMEMBERS SMOVE SINTER SUNION SDIFF SINTERSTORE SUNIONSTORE SDIFFSTORE MULTI EXEC DISCARD""".split()
-
 # Requests of both groups of two.
 BOTH = [line.split() for line in b"MSET a 1 c 2;MSET d x b y;MGET a b c d;RENAME b d;SUNIONSTORE c a b;DEL a c;DBSIZE;FLUSHALL".split(b";")]
-
-
-def words_of(dice):
-    name = dice.choice(NAMES)
-    # What opens, runs and drops a list takes no word; with one it spoils the list.
-    most = 1 if name in ("MULTI", "EXEC", "DISCARD") and dice.randrange(8) else 6
-    return [name.encode()] + [dice.choice(WORDS) for _ in range(dice.randrange(most))]
 
 
 def changed(dice, text, most=3):
@@ -50,7 +37,7 @@ def stream(dice):
     """A stream of requests, valid or not."""
     if dice.randrange(8) == 0:
         return bytes(dice.choice(b"*$0123456789\r\nPING\xff") for _ in range(dice.randrange(300)))
-    return changed(dice, b"".join(request(*words_of(dice)) for _ in range(dice.randrange(20))))
+    return changed(dice, b"".join(request(*request_at_random(dice)) for _ in range(dice.randrange(20))))
 
 
 def text_of(version, most, lines):
@@ -71,7 +58,7 @@ def trace(dice):
     for _ in range(dice.randrange(60)):
         conn = dice.randrange(1, connections + 1)
         lines.append(dice.choice([
-            submit(conn, words_of(dice)),
+            submit(conn, request_at_random(dice)),
             "deliver 0", "deliver 0", "deliver 0", "deliver 1", *repeats, *members, "take", "run", "settle", "collect %d" % conn]))
     return changed(dice, text_of(version, dice.choice([1000, 1 << 62, 40]), lines), 1)
 
@@ -112,7 +99,7 @@ def driven(dice):
         if version == 3 and dice.randrange(3) == 0:
             asking, run = asked(dice, conn, numbers)
         else:
-            asking = [submit(conn, dice.choice(BOTH) if dice.randrange(8) else words_of(dice))]
+            asking = [submit(conn, dice.choice(BOTH) if dice.randrange(8) else request_at_random(dice))]
             numbers[conn] += 1
         lines += [*asking, *packets, "take", run, "settle", "collect %d" % conn]
     is_bad = version == 1 and "repeat 0" in lines

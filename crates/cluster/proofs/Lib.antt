@@ -10,6 +10,7 @@ pub mod Stepping
 pub mod Taking
 pub mod Settling
 pub mod Histories
+pub mod Passing
 pub mod Storing
 pub mod Effects
 pub mod Turns

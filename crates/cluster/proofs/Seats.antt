@@ -1,14 +1,16 @@
 -- What a cluster is, it is after each of its steps.
 use Rattle.std.proofs.Common.{◌≡◌, ℕ, suc, ◌+◌, ◌<◌, ◌≤◌, Bool, true, false, List, [], ◌∷◌, ◌++◌, ◌⊎◌}
-use Rattle.std.proofs.Common.{length, Result, Ok, Err, IfOk, OnOk, OnErr}
+use Rattle.std.proofs.Common.{length, Option, Some, None, Result, Ok, Err, IfOk, OnOk, OnErr}
+use mathlib.Core.List.{IsPrefix}
 use Rattle.std.proofs.Common.{refl, sym, ap, ◌∙◌, subst, arith, inl, inr, length-append}
 use Rattle.cluster.proofs.Effects.{submitted_so}
 use Rattle.cluster.proofs.Histories.{kept_few}
-use Rattle.cluster.proofs.Submits.{submits-append, submits-one}
+use Rattle.cluster.proofs.Submits.{submits-append, submits-one, said_now}
 use Rattle.cluster.proofs.Worlds.{counts}
-use Rattle.cluster.specs.Clusters.{ClusterView, IsCluster, StaysOpen, KeepsCloses}
+use Rattle.cluster.specs.Clusters.{ClusterView, SeatView, IsCluster, StaysOpen, KeepsCloses}
 use Rattle.cluster.specs.Histories.{HistoryView, IsMade, IsUnchanged}
 use Rattle.cluster.specs.Layers.{HandsOut, IsSettled}
+use Rattle.cluster.specs.Passing.{GoesOn, HasPassed, Passes}
 use Rattle.cluster.specs.Sealed.{TakenView}
 use Rattle.cluster.specs.Submits.{submit_in, submits, submits_by}
 use Rattle.cluster.specs.Traces.{HasRoom}
@@ -224,6 +226,42 @@ cluster_told all parts requests h h' book sat stood back done (Ok u) settled sti
     cluster_settled all parts requests h h' book sat stood back done settled is
 cluster_told all parts requests h h' book sat stood back done (Err e) settled still is =
     cluster_still all parts requests h h' book sat stood back still is
+
+-- ---- a request that may be handed out at once
+
+gone_on : (all parts requests : ℕ) (h h' : HistoryView) (book sat stood back : ℕ) (taken : Option TakenView) → GoesOn h taken h' →
+    IsCluster all parts requests (cluster h book sat stood back) → IsCluster all parts requests (cluster h' book sat stood back)
+gone_on all parts requests h h' book sat stood back None same is =
+    subst (λ h. IsCluster all parts requests (cluster h book sat stood back)) (sym same) is
+gone_on all parts requests h h' book sat stood back (Some v) more is =
+    cluster_other all parts requests more.come h' book sat stood back Take Made refl more.hands_out.made
+    (cluster_other all parts requests h more.come book sat stood back (Deliver more.delivers.place) Made refl more.delivers.made is)
+
+pub cluster_passed : (all parts requests : ℕ) (h h' : HistoryView) (book sat stood back : ℕ) (conn : ConnId) (words : List (List ℕ))
+    (id : RequestId) (seen : List Step) (taken : Option TakenView) → HasPassed h conn words id seen taken h' →
+    IsCluster all parts requests (cluster h book sat stood back) →
+    IsCluster all parts (requests + 1) (cluster h' (book + 1) sat stood back)
+cluster_passed all parts requests h h' book sat stood back conn words id seen taken passed is =
+    gone_on all parts (requests + 1) passed.begun h' (book + 1) sat stood back taken passed.goes_on
+    (cluster_submitted all parts requests h passed.begun book sat stood back conn words (Submitted id) passed.made is)
+
+-- what the seat is told
+pub seat_passed : (h h' : HistoryView) (s after : SeatView) (words : List (List ℕ)) (id : RequestId) (seen : List Step)
+    (taken : Option TakenView) → HasPassed h s.conn words id seen taken h' → IsPrefix s.seen h.steps →
+    after ≡ record s { count = s.count + 1; last = id.seq; seen = seen } → Passes h s words taken h' after
+seat_passed h h' s after words id seen taken passed behind seat =
+    let is = submitted_is h passed.begun s.conn words id passed.made in
+    record {
+      id = id;
+      begun = passed.begun;
+      made = passed.made;
+      behind = behind;
+      said = said_now h.steps passed.begun.steps id words
+          (passed.made.steps ∙ ap (λ i. h.steps ++ Submit i words ∷ []) (sym is.0))
+          (is.1 ∙ ap (λ (i : ConnId). suc (submits_by i.0 h.steps)) (sym is.0));
+      seat = seat ∙ ap (λ steps. record s { count = s.count + 1; last = id.seq; seen = steps }) passed.up_to;
+      goes_on = passed.goes_on;
+    }
 
 -- ---- none
 

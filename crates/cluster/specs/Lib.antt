@@ -5,6 +5,7 @@ pub mod Making
 pub mod Sealed
 pub mod Layers
 pub mod Turns
+pub mod Passing
 pub mod Outcomes
 pub mod Pieces
 pub mod Counting

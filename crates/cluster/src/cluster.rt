@@ -13,6 +13,7 @@ ghost use Rattle.cluster.specs.Outcomes.{IsAbove, raised};
 ghost use Rattle.cluster.specs.Submits.{submits, IsSaid};
 ghost use Rattle.cluster.specs.Pieces.{HandsOn as HandsPieceOn};
 ghost use Rattle.cluster.specs.Traces.{HasRoom, IsNotWhole, place_of};
+ghost use Rattle.cluster.specs.Passing.{Passes};
 ghost use Rattle.cluster.specs.Turns.{Delivers, IsTurnFault};
 ghost use Rattle.cluster.specs.declared.fault.StepFault.{StepFault};
 ghost use Rattle.front.specs.Looking.{IsQuiet};
@@ -291,13 +292,40 @@ impl<T: Tabled, L: Server> Cluster<T, L> {
             Ok(id) => id,
             Err(fault) => return Err(fault),
         };
-        self.book.add(&mut seat.share, 1);
-        self.book.audit(&mut seat.share);
-        self.requests += 1;
-        seat.count += 1;
-        seat.last = id.seq;
-        seat.seen = self.history.part();
+        let seen = self.history.part();
+        book_request(&mut self.book, &mut self.requests, seat, id, seen);
         Ok(id)
+    }
+
+    /// Submits a request of these words, as `submit` does. Where nothing is under way, and no trace is kept, a request of one group is
+    /// brought to it and taken as a layer of its own, which is handed out, as by `turn` and `take`: the seat has seen its Submit alone.
+    ///
+    /// The errors are those of `submit`, and change nothing but room.
+    pub fn pass(
+        &mut self,
+        seat: &mut Seat<T, L>,
+        words: Request,
+    ) -> Result<Option<Taken<T, L>>, StepFault>
+        ensures passed { IfOk result (λ taken. Passes self.old.history seat.old words taken self.new.history seat.new) }
+        ensures book { OnOk result (self.new.book ≡ self.old.book + 1) }
+        ensures rest { (self.new.sat ≡ self.old.sat) × (self.new.stood ≡ self.old.stood) × (self.new.back ≡ self.old.back) }
+        ensures refused { IfErr result (IsFault self.old.history (Step.Submit seat.old.conn words)) }
+        ensures unchanged { OnErr result (IsUnchanged self.old.history self.new.history × (self.new.book ≡ self.old.book)
+            × (seat.new ≡ seat.old)) }
+    {
+        self.history.lawful();
+        if !self.history.may_pass() {
+            return match self.submit(seat, words) {
+                Ok(_id) => Ok(None),
+                Err(fault) => Err(fault),
+            };
+        }
+        let (id, seen, taken) = match self.history.pass(seat.conn, words, &seat.seen) {
+            Ok(passed) => passed,
+            Err(fault) => return Err(fault),
+        };
+        book_request(&mut self.book, &mut self.requests, seat, id, seen);
+        Ok(taken)
     }
 
     /// Makes a turn: the Deliver of the packet that is picked. Says whether one was made; none is where no packet is under way.
@@ -516,6 +544,29 @@ impl<T: Tabled, L: Server> Cluster<T, L> {
     {
         self.history.lawful();
     }
+}
+
+/// Books a request of the seat, which has this id: the seat has seen the steps up to its Submit.
+#[inline(always)]
+fn book_request<T: Tabled, L: Server>(
+    book: &mut Book<L>,
+    requests: &mut u64,
+    seat: &mut Seat<T, L>,
+    id: RequestId,
+    seen: Part<Leading<T>, StepsOf<L>>,
+)
+    requires counted { requests.old ≡ book.old.total }
+    requires few { requests.old ≤ GREATEST_STEPS }
+    ensures book { book.new.total ≡ book.old.total + 1 }
+    ensures requests { requests.new ≡ requests.old + 1 }
+    ensures seat { seat.new ≡ record seat.old { count = seat.old.count + 1; last = id.seq; seen = seen } }
+{
+    book.add(&mut seat.share, 1);
+    book.audit(&mut seat.share);
+    *requests += 1;
+    seat.count += 1;
+    seat.last = id.seq;
+    seat.seen = seen;
 }
 
 /// Makes the Submit of the connection's next request, behind all that is in the part. Behind it the trace keeps room for so

@@ -6,7 +6,9 @@ ghost use Rattle.cluster.specs.Counting.{all_executed, all_starved, as_word};
 ghost use Rattle.cluster.specs.Histories.{kept_for, IsLawful, IsMade, IsUnchanged, IsFault, IsPlain, IsUnanswered};
 ghost use Rattle.cluster.specs.Layers.{HandsOut, IsSettled, IsSettleFault};
 ghost use Rattle.cluster.specs.Making.{effect_shown};
+ghost use Rattle.cluster.specs.Passing.{HasPassed};
 ghost use Rattle.cluster.specs.Pieces.{HandsOn as HandsPieceOn};
+ghost use Rattle.cluster.specs.declared.ordered.TheConstants.{STEPS_PASSED};
 ghost use Rattle.cluster.specs.Traces.{HasRoom, KeepsRoom, IsNotWhole, place_of};
 ghost use Rattle.cluster.specs.Turns.{Delivers, IsTurnFault};
 ghost use Rattle.cluster.specs.declared.fault.StepFault.{StepFault};
@@ -19,16 +21,18 @@ ghost use Rattle.world.specs.Steps.{Made};
 use super::counting::{executed_in, starved_in};
 use super::effect::Effect;
 use super::fault::StepFault;
-use super::names::{ItsRun, ItsStep, Leading, RunsOf, Server, StepsOf};
+use super::names::{ItsRun, ItsStep, ItsSubmit, Leading, RunsOf, Server, StepsOf};
 use super::pick::Pick;
 use super::sealed::{Piece, Ran, Taken};
 use super::steps::{make, own_fault};
 use super::tape::{Tape, hand_on, place, push_keeping, push_run, take_back};
 use front::Front;
+use groups::{ConnId, RequestId};
 use history::{Itself, Part, Writer};
 use journal::{Step, Trace};
 use layer_results::Done;
 use placement::Table;
+use resp::Request;
 use serial_store::{Serial, Tabled};
 use std::alloc::{AllocError, Global};
 use std::marker::Model;
@@ -36,6 +40,16 @@ use std::snapshot::Snapshot;
 
 /// How many steps are kept back for a layer that is out: its Run and its Settle.
 const KEPT_BACK: u64 = 2;
+
+/// How many steps submit a request and hand it out at once: its Submit, the Deliver of its Start, and its Take.
+const STEPS_PASSED: u64 = 3;
+
+/// What comes of a request that may be handed out at once: its id, the steps up to its Submit, and its layer if it was.
+type PassedOf<T, L> = (
+    RequestId,
+    Part<Leading<T>, StepsOf<L>>,
+    Option<Taken<T, L>>,
+);
 
 /// A front, the history of its steps, and the part of the store's history that it was told; and the trace, where one is kept. Contracts
 /// see all of these: the front shows the world to which its steps lead, and what was run there is what the store ran first.
@@ -303,6 +317,53 @@ impl<T: Tabled, L: Server> History<T, L> {
                 Err(StepFault::from(fault))
             }
         }
+    }
+
+    /// Whether a request may be handed out at once: no trace is kept, and steps are left for that, and for the Run and the Settle of
+    /// its layer.
+    pub fn may_pass(&self) -> bool
+        ensures untraced { result ≡ true → self.now.trace ≡ None }
+        ensures left { result ≡ true → length self.now.steps + STEPS_PASSED + 1 < self.now.max_steps }
+    {
+        self.trace.is_none() && self.count() + STEPS_PASSED + 1 < self.max_steps
+    }
+
+    /// Makes the Submit of a connection, behind all that is in the part; and where nothing is before its request, the steps that hand it
+    /// out as a layer of its own. Gives the request's id, the part that ends with its Submit, and that layer.
+    pub fn pass(
+        &mut self,
+        conn: ConnId,
+        words: Request,
+        behind: &Part<Leading<T>, StepsOf<L>>,
+    ) -> Result<PassedOf<T, L>, StepFault>
+        requires untraced { self.old.trace ≡ None }
+        requires left { length self.old.steps + STEPS_PASSED + 1 < self.old.max_steps }
+        ensures passed { IfOk result (λ it. HasPassed self.old conn words it.0 it.1 it.2 self.new) }
+        ensures behind { OnOk result (IsPrefix behind.now self.old.steps) }
+        ensures untraced { self.new.trace ≡ None }
+        ensures fault { IfErr result (IsFault self.old (Step.Submit conn words)) }
+        ensures unchanged { OnErr result (IsUnchanged self.old self.new) }
+    {
+        let made = (conn, Snapshot::of(&words));
+        let (id, layer) = match self.front.pass(conn, words) {
+            Ok(passed) => passed,
+            Err(fault) => return Err(StepFault::from(fault)),
+        };
+        self.told
+            .write_behind::<(ConnId, Snapshot<Request>), ItsSubmit>(made, behind);
+        let seen = self.told.part();
+        let Some(layer) = layer else {
+            return Ok((id, seen, None));
+        };
+        self.told
+            .write::<Step, Itself>(Step::Deliver { place: 0 });
+        self.told.write::<Step, Itself>(Step::Take);
+        let taken = Taken {
+            layer,
+            number: self.front.layers(),
+            told: self.told.part(),
+        };
+        Ok((id, seen, Some(taken)))
     }
 
     /// Makes a step that answers nothing: a packet comes, or a connection is closed.

@@ -14,6 +14,8 @@ mod large;
 #[cfg(test)]
 mod naming;
 #[cfg(test)]
+mod passing;
+#[cfg(test)]
 mod replaying;
 #[cfg(test)]
 mod rows;

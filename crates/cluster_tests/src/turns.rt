@@ -38,7 +38,7 @@ fn turn<T: Tabled, L: Server>(
 }
 
 /// Makes turns until the seat's outcome is there, and collects its reply.
-fn reply<T: Tabled, L: Server>(
+pub(crate) fn reply<T: Tabled, L: Server>(
     cluster: &mut Cluster<T, L>,
     store: &mut SerialStore<T, RunsOf<L>>,
     seat: &mut Seat<T, L>,
@@ -84,7 +84,7 @@ pub(crate) fn ask_rows<T: Tabled, L: Server>(
 }
 
 /// Makes turns until nothing is under way.
-fn rest<T: Tabled, L: Server>(
+pub(crate) fn rest<T: Tabled, L: Server>(
     cluster: &mut Cluster<T, L>,
     store: &mut SerialStore<T, RunsOf<L>>,
 ) -> Result<(), Fail> {

@@ -13,6 +13,7 @@ pub mod Lists
 pub mod Messages
 pub mod Names
 pub mod Opening
+pub mod PassMakes
 pub mod Refusals
 pub mod Running
 pub mod SettleMakes

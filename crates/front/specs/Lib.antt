@@ -8,4 +8,5 @@ pub mod Refusing
 pub mod Settling
 pub mod Outcomes
 pub mod Taking
+pub mod Passing
 pub mod Looking

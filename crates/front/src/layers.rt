@@ -1,6 +1,6 @@
 //! A layer is taken: what it asks goes out, and the front remembers which requests these are.
 
-ghost use Rattle.std.specs.Prelude.{◌≡◌, ◌≤◌, [], length, vec_capacity, IfOk, IfErr, OnErr};
+ghost use Rattle.std.specs.Prelude.{◌≡◌, ◌≤◌, [], ◌∷◌, length, vec_capacity, IfOk, IfErr, OnErr};
 ghost use Rattle.front.specs.Refusing.{IsFault, MayStep};
 ghost use Rattle.front.specs.Taking.{IsTaking, Takes};
 ghost use Rattle.journal.specs.declared.step.Step.{Step};
@@ -47,6 +47,28 @@ impl Front {
         self.steps += 1;
         Ok(layer)
     }
+}
+
+/// Takes this request as a layer of its own, which is out then. There is room for it.
+pub(super) fn take_one(
+    router: &mut Router,
+    out: &mut Vec<Delivered>,
+    mut jobs: Vec<Job>,
+    request: Delivered,
+) -> Layer
+    requires waits { (t : Layout) × (w : World) × IsTaking t w [] (request ∷ []) router.old }
+    requires none_out { (out.old.items ≡ []) × (1 ≤ vec_capacity out.old) }
+    requires no_jobs { (jobs.items ≡ []) × (1 ≤ vec_capacity jobs) }
+    ensures out { out.new.items ≡ request ∷ [] }
+    ensures taken { (t : Layout) (w : World) → IsTaking t w [] (request ∷ []) router.old
+        → IsTaking t w (request ∷ []) [] router.new × AreJobs w.asked (request ∷ []) result }
+{
+    out.push_reserved(request);
+    take_all(router, out.as_slice(), &mut jobs);
+    let Some(layer) = Layer::gather(jobs) else {
+        unreachable!()
+    };
+    layer
 }
 
 /// Takes the requests of a layer out of the router: what each asks, with its id, its stamp and its groups. There is room

@@ -12,6 +12,7 @@ mod front;
 mod layers;
 mod looks;
 mod outcomes;
+mod passing;
 mod refusing;
 mod requests;
 mod settling;

@@ -1,18 +1,23 @@
 //! Requests that are submitted, and packets that come to their groups or are repeated.
 
-ghost use Rattle.std.specs.Prelude.{◌≡◌, IfOk, IfErr, OnOk, OnErr};
+ghost use Rattle.std.specs.Prelude.{◌≡◌, ◌≤◌, ◌<◌, length, Some, IfOk, IfErr, OnOk, OnErr};
 ghost use Rattle.front.specs.Making.{Makes};
 ghost use Rattle.front.specs.Refusing.{IsFault, MayStep};
 ghost use Rattle.journal.specs.declared.step.Step.{Step};
+ghost use Rattle.multicast.specs.Multicast.{IsSame};
 ghost use Rattle.router.specs.Router.{connection};
-ghost use Rattle.router.specs.Submitting.{IsRefused};
+ghost use Rattle.router.specs.Submitting.{IsRefused, Submits};
+ghost use Rattle.router.specs.declared.connection.Connection.{Connection};
+ghost use Rattle.router.specs.declared.router.TheConstants.{GREATEST_NUMBER};
 ghost use Rattle.world.specs.Steps.{Submitted, Made};
 
 use super::fault::FrontFault;
 use super::front::Front;
 use groups::{ConnId, RequestId};
+use multicast::Multicast;
+use placement::Table;
 use resp::Request;
-use router::{Router, SubmitFault};
+use router::{Router, Submission, SubmitFault};
 
 impl Front {
     /// A connection submits a request of these words, and has its id; a Start goes to each of the request's groups.
@@ -27,14 +32,13 @@ impl Front {
         ensures refused { IfErr result (IsFault self.old (Step.Submit conn words)) }
         ensures unchanged { OnErr result (self.new ≡ self.old) }
     {
-        let groups = usize::from(self.table.shards());
-        let Ok(()) = self.multicast.reserve(groups) else {
-            return Err(FrontFault::from(unsent(&self.router, conn)));
-        };
-        let sent = match self.router.submit(&self.table, conn, words) {
-            Ok(sent) => sent,
-            Err(refused) => return Err(FrontFault::from(refused)),
-        };
+        let sent = submit_with_room(
+            &self.table,
+            &mut self.router,
+            &mut self.multicast,
+            conn,
+            words,
+        )?;
         self.multicast.start(sent.id, sent.floor, sent.groups);
         self.steps += 1;
         Ok(sent.id)
@@ -69,6 +73,29 @@ impl Front {
         self.steps += 1;
         Ok(())
     }
+}
+
+/// The router submits a request of these words, and there is room for a Start to each of its groups. A refusal changes nothing but the
+/// room.
+pub(super) fn submit_with_room(
+    table: &Table,
+    router: &mut Router,
+    multicast: &mut Multicast,
+    conn: ConnId,
+    words: Request,
+) -> Result<Submission, SubmitFault>
+    requires { (v : Connection) → connection router.old conn.0 ≡ Some v → v.seq < GREATEST_NUMBER }
+    ensures submitted { IfOk result (λ sent. Submits table.now conn.0 words router.old sent router.new) }
+    ensures room { IfOk result (λ sent. length sent.groups ≤ multicast.new.room) }
+    ensures same { IsSame multicast.old multicast.new }
+    ensures refused { IfErr result (IsRefused (connection router.old conn.0)) }
+    ensures unchanged { OnErr result (router.new ≡ router.old) }
+{
+    let groups = usize::from(table.shards());
+    let Ok(()) = multicast.reserve(groups) else {
+        return Err(unsent(router, conn));
+    };
+    router.submit(table, conn, words)
 }
 
 /// Why a connection submits nothing where there is no memory: what the connection itself is refused for comes first.

@@ -1,3 +1,4 @@
 pub mod Groups
 pub mod Queues
 pub mod Losing
+pub mod Passing

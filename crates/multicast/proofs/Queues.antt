@@ -1,8 +1,11 @@
 -- One queue changed among many.
 use Rattle.std.proofs.Common.{◌≡◌, ℕ, ◌<◌, ◌==◌, true, false, cond, List, [], ◌∷◌, ◌++◌, length, slice_set, refl, sym, ap, ◌∙◌, subst}
-use Rattle.std.proofs.Common.{arith, eqb-true, eq-eqb, append-nil}
+use Rattle.std.proofs.Common.{arith, eqb-true, eq-eqb, ne_eqb, append-nil}
 use Rattle.std.proofs.Math.Seq.{append_snoc}
-use Rattle.delivery.specs.Queues.{queue_of}
+use Rattle.delivery.proofs.Sound.{sound_appended, sound_popped}
+use Rattle.delivery.specs.Queues.{queue_of, IsSound}
+use Rattle.delivery.specs.Ready.{QueueOf}
+use Rattle.delivery.specs.Taking.{popped, popped_all}
 use Rattle.multicast.proofs.Groups.{index-set}
 use Rattle.multicast.specs.Multicast.{at, MayAppendAll}
 use Rattle.skeen_core.specs.declared.packet.Delivered.{Delivered}
@@ -66,3 +69,24 @@ pub may_append_next : (qs new : List (List Delivered)) (g : ℕ) (d : Delivered)
 may_append_next qs new g d ds low is may =
     subst (λ q. MayAppendAll (queue_of q) g ds) (sym is)
     (may_append_same _ _ g ds (λ k h. sym (queue_of-set qs g (queue_of qs g ++ d ∷ []) low h) k) may.1)
+
+-- ---- what stands in the queues stays sound
+
+-- these are appended to the queue of g
+pub sound_append_all : (ds : List Delivered) (queue queue' : QueueOf) (g : ℕ) → IsSound queue → MayAppendAll queue g ds
+    → ((h : ℕ) → queue' h ≡ at queue g (queue g ++ ds) h) → IsSound queue'
+sound_append_all [] queue queue' g sound may is =
+    subst (λ (q : QueueOf). IsSound q) (λ k h. sym (is h ∙ at_same queue g h (queue g ++ []) (append-nil (queue g))) k) sound
+sound_append_all (d ∷ ds) queue queue' g sound may is =
+    let q = queue g ++ d ∷ [] in
+    let one = sound_appended queue (at queue g q) g d sound may.0 (at_here queue g q)
+    (λ h ne. ap (λ b. cond b q (queue h)) (ne_eqb h g ne)) in
+    sound_append_all ds (at queue g q) queue' g one may.1 (λ h.
+    is h ∙ sym (ap (λ (x : List Delivered). at (at queue g q) g (x ++ ds) h) (at_here queue g q) ∙ at_twice queue g q (q ++ ds) h
+    ∙ ap (λ (x : List Delivered). at queue g x h) (append_snoc (queue g) d ds)))
+
+-- these are popped
+pub sound_popped_all : (ds : List Delivered) (queue : QueueOf) → IsSound queue → IsSound (popped_all ds queue)
+sound_popped_all [] queue sound = sound
+sound_popped_all (d ∷ ds) queue sound =
+    sound_popped_all ds (popped d queue) (sound_popped queue (popped d queue) d sound (λ g. refl))

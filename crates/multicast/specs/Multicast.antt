@@ -1,7 +1,7 @@
 -- All groups with the packets between them and their queues.
 use Rattle.std.specs.Prelude.{◌≡◌, ℕ, ◌==◌, ◌<◌, ◌≤◌, cond, List, [], ◌∷◌, ◌++◌, length, remove, slice_get, slice_index_or, Some}
-use Rattle.delivery.specs.Queues.{queue_of, MayAppend}
-use Rattle.delivery.specs.Ready.{QueueOf, left_in}
+use Rattle.delivery.specs.Queues.{queue_of, MayAppend, IsSound}
+use Rattle.delivery.specs.Ready.{QueueOf, IsLayer, left_in}
 use Rattle.skeen_core.specs.Group.{GroupState, GroupView, new_group, MayCome, Receives}
 use Rattle.skeen_core.specs.declared.packet.Body.{Body}
 use Rattle.skeen_core.specs.declared.packet.Body.TheVariants.{Start, Proposal}
@@ -94,6 +94,19 @@ pub record LosesLayer (old : MulticastView) (layer : List Delivered) (new : Mult
   pub packets : new.packets ≡ old.packets
   pub queue : (g : ℕ) → queue_of new.queues g ≡ left_in layer (queue_of old.queues g)
 
+-- ---- a request passes
+
+-- A request begins, its only Start comes to its group, which delivers it at once, and it is taken as a layer of its own: one after the
+-- other.
+pub record Passes (old : MulticastView) (id : RequestId) (floor : ℕ) (addressed : List ℕ) (d : Delivered) (new : MulticastView) : Type 0
+  where
+    pub begun : MulticastView
+    pub begins : Begins old id floor addressed begun
+    pub come : MulticastView
+    pub delivers : Delivers begun 0 come
+    pub layer : IsLayer (queue_of come.queues) (d ∷ [])
+    pub taken : LosesLayer come (d ∷ []) new
+
 -- ---- what every state is like
 
 -- there is a queue for each group, at most 64, and each group knows its number
@@ -101,3 +114,8 @@ pub record IsWhole (groups : List GroupView) (queues : List (List Delivered)) : 
   pub as_many : length queues ≡ length groups
   pub at_most_64 : length groups ≤ 64
   pub numbered : (g : ℕ) → (d : GroupView) → g < length groups → (slice_index_or groups g d).me ≡ g
+
+-- it is whole, and what stands in the queues is sound
+pub record IsKept (groups : List GroupView) (queues : List (List Delivered)) : Type 0 where
+  pub whole : IsWhole groups queues
+  pub sound : IsSound (queue_of queues)

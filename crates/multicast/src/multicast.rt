@@ -1,7 +1,7 @@
 //! The groups, their packets and their queues, as one.
 
 ghost use Rattle.std.specs.Prelude.{◌≡◌, ℕ, ◌+◌, ◌<◌, ◌≤◌, ◌++◌, [], ◌∷◌, length, slice_get, true, option_copied, Some, IfOk, IfErr, OnOk};
-ghost use Rattle.std.specs.Prelude.{OnErr, IsOk, IsTrue, ◌↔◌};
+ghost use Rattle.std.specs.Prelude.{OnErr, IsOk, IsTrue, ◌↔◌, IfSome, IfNone};
 ghost use Rattle.std.specs.FinMap.{len};
 ghost use Rattle.delivery.specs.Queues.{queue_of, room_of, IsSound};
 ghost use Rattle.delivery.specs.Ready.{IsReady, IsLayer};
@@ -9,7 +9,8 @@ ghost use Rattle.skeen_core.specs.Group.{fresh, new_group};
 ghost use Rattle.skeen_core.specs.declared.packet.Packet.{Packet};
 ghost use Rattle.skeen_core.specs.declared.packet.Delivered.{Delivered};
 ghost use Rattle.multicast.specs.Multicast.{at, group_of, sends_at_most, IsSame, IsWhole, Begins, MayAppendAll, MayBeDelivered, Delivers};
-ghost use Rattle.multicast.specs.Multicast.{Repeats, LosesLayer};
+ghost use Rattle.multicast.specs.Multicast.{Repeats, LosesLayer, Passes};
+ghost use Rattle.skeen_core.specs.declared.packet.Body.{Body};
 
 use delivery::Queues;
 use groups::{GroupId, Groups, RequestId};
@@ -44,7 +45,7 @@ pub struct Multicast {
 impl Model for Multicast {
     ghost use Rattle.std.specs.Coded.{codes};
     ghost use Rattle.skeen_core.specs.Kept.{group_code};
-    ghost use Rattle.multicast.specs.Multicast.{MulticastView, IsWhole};
+    ghost use Rattle.multicast.specs.Multicast.{MulticastView, IsKept};
 
     ghost Value = { MulticastView };
 
@@ -52,7 +53,7 @@ impl Model for Multicast {
 
     ghost view = { λ m. record { groups = m.groups.items; packets = m.links.packets; queues = m.queues.queues; room = m.links.room } };
 
-    ghost invariant = { λ m. IsWhole m.groups.items m.queues.queues };
+    ghost invariant = { λ m. IsKept m.groups.items m.queues.queues };
 }
 
 impl Multicast {
@@ -122,6 +123,28 @@ impl Multicast {
                 unreachable!()
             };
         }
+    }
+
+    /// A request begins. Where it addresses one group alone, and nothing stands before it there, its Start comes to the group, which
+    /// delivers it, and it is taken out as a layer of its own: no packet is sent and nothing is queued for that. None where it isn't
+    /// so simple, or where there is no memory: then nothing changes.
+    ///
+    /// No packet is under way, and no request is ready. The Start of a request of one group may come to that group, and what the group
+    /// delivers then may be appended to its queue.
+    #[inline]
+    pub fn pass(&mut self, id: RequestId, floor: u64, groups: Groups) -> Option<Delivered>
+        requires no_packet { self.old.packets ≡ [] }
+        requires none_ready { (d : Delivered) → ¬ IsReady (queue_of self.old.queues) d }
+        requires comes { (g : ℕ) → groups ≡ g ∷ [] → MayBeDelivered self.old (record { to = g; id = id; body = Body.Start floor groups }) }
+        ensures passed { IfSome result (λ d. Passes self.old id floor groups d self.new) }
+        ensures unchanged { IfNone result (self.new ≡ self.old) }
+    {
+        let group = groups.alone()?;
+        if self.queues.queued(group) != 0 {
+            return None;
+        }
+        let stamp = self.groups[usize::from(group.number())].pass(id, floor, groups)?;
+        Some(Delivered { id, stamp, groups })
     }
 
     /// The packet at this place comes to its group: what the group sends goes behind all packets, and what it delivers

@@ -8,6 +8,7 @@ use Rattle.cluster.specs.Clusters.{SeatView, ClusterView, last_id}
 use Rattle.cluster.proofs.Seats.{submitted_is}
 use Rattle.cluster.specs.Histories.{HistoryView, IsLawful, IsMade}
 use Rattle.cluster.specs.Outcomes.{ComesFrom, raised}
+use Rattle.cluster.specs.Passing.{Passes}
 use Rattle.cluster.specs.Submits.{submits_by, IsSaid, session_met}
 use Rattle.cluster.specs.declared.cluster.SealedReply.{SealedReply}
 use Rattle.cluster.specs.declared.closing.Closing.{Closing}
@@ -19,13 +20,13 @@ use Rattle.resp.specs.Content.{Content, content}
 use Rattle.serial_store.specs.Stores.{SerialState}
 use Rattle.router.specs.Router.{waiting}
 use Rattle.shared_cluster.proofs.Hands.{stays_by}
-use Rattle.cluster.specs.Sealed.{RanView}
+use Rattle.cluster.specs.Sealed.{TakenView, RanView}
 use Rattle.shared_cluster.proofs.Hands.{turned_settled}
 use Rattle.shared_cluster.specs.Hands.{Hand, Begun, HasBegun, Answers, HasTurned, HasSettled, Gives}
 use Rattle.shared_cluster.specs.declared.asking.Begun.TheVariants as begun
 use Rattle.shared_cluster.specs.declared.asking.Settled.TheVariants as settled
 use Rattle.shared_cluster.specs.declared.hand.Hand.TheVariants as hand
-use Rattle.shared_cluster.specs.Turning.{StaysSo, IsNotThere}
+use Rattle.shared_cluster.specs.Turning.{PassesOn, StaysSo, IsNotThere}
 use Rattle.shared_cluster.specs.Asks.{IsNewSeat, IsSeated}
 use Rattle.shared_cluster.specs.Asks.{Submits, HasSubmitted, Replies, IsCollected, IsReplied, IsCollectFault, IsAskFault}
 use Rattle.shared_cluster.specs.Closings.{Closes, RefusesClose, Writes, IsClosed, IsCloseFault, IsWritten}
@@ -65,6 +66,14 @@ was_submitted before mid after old new words id same made behind seat =
       number = λ k. record { conn = is.0 k; seq = is.1 k };
       seat = seat;
     }
+
+pub passed_on : (before mid after : HistoryView) (old new : SeatView) (words : List (List ℕ)) (taken : Option TakenView) → mid ≡ before
+    → Passes mid old words taken after new → PassesOn before old words taken after new
+passed_on before mid after old new words taken same passes = record {
+  begun = passes.begun;
+  submits = was_submitted before mid passes.begun old new words passes.id same passes.made passes.behind passes.seat;
+  goes_on = passes.goes_on;
+}
 
 -- ---- of a shared cluster
 

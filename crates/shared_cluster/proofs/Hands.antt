@@ -4,13 +4,14 @@ use Rattle.std.proofs.Common.{◌⊎◌, IfOk, IfSome, IfNone, OnOk, OnErr, OnSo
 use Rattle.cluster.specs.Clusters.{SeatView, ClusterView, SameBook}
 use Rattle.cluster.specs.Histories.{HistoryView, IsLawful, IsUnchanged}
 use Rattle.groups.specs.declared.request.ConnId.{ConnId}
+use Rattle.cluster.specs.Passing.{TakesAtOnce}
 use Rattle.cluster.specs.Sealed.{TakenView, RanView}
 use Rattle.cluster.specs.Traces.{SameTrace}
 use Rattle.cluster.proofs.Tapes.{same_trace}
 use Rattle.placement.specs.Layout.{Layout}
 use Rattle.router.specs.Router.{waiting}
 use Rattle.shared_cluster.specs.Hands.{Hand, Run, Next, IsFound, taken_up, turn_of, Begins, IsBrought, Brings, HasSettled, Settles, Advances, HasTurned}
-use Rattle.shared_cluster.specs.Hands.{IsUncollected, LooksInVain}
+use Rattle.shared_cluster.specs.Hands.{IsUncollected, LooksInVain, MayHold}
 use Rattle.shared_cluster.specs.Turning.{GoesOn, RefusesSettle, StaysSo, IsNotThere}
 use Rattle.shared_cluster.specs.declared.hand.Hand.TheVariants as hand
 use Rattle.shared_cluster.specs.declared.hand.Run.TheVariants as run
@@ -30,6 +31,18 @@ found_so pick before after (Err fault) lawful goes = tt
 pub begins_so : (pick : ℕ → ℕ) (old : Hand) (found which : Next) → IsFound pick found → found ≡ which
     → Begins pick old (turn_of which) (taken_up old which)
 begins_so pick old found which was is = record { found = which; was = subst (IsFound pick) is was; told = refl; holds = refl }
+
+-- a layer that was taken at once
+pub held_at_once : (begun new : HistoryView) (layer : TakenView) → TakesAtOnce begun layer new → MayHold (hand.Taken layer)
+held_at_once begun new layer takes = (
+  λ n. 0,
+  record {
+    before = takes.come;
+    after = new;
+    lawful = takes.lawful;
+    goes_on = (record { out = takes.free; request = takes.ready.0; ready = takes.ready.1 }, takes.hands_out);
+  },
+)
 
 -- ---- a layer is in the hand
 

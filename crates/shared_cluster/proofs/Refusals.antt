@@ -13,10 +13,11 @@ use Rattle.sessions.specs.declared.member.Member.{Member}
 use Rattle.sessions.specs.declared.session.Session.{Session}
 use Rattle.sessions.specs.declared.session.Session.TheVariants.{Free, Listing, Spoilt}
 use Rattle.cluster.specs.Clusters.{SeatView}
-use Rattle.cluster.specs.Histories.{HistoryView, IsLawful}
+use Rattle.cluster.specs.Histories.{HistoryView, IsLawful, IsFault}
 use Rattle.cluster.specs.declared.fault.StepFault.{StepFault}
 use Rattle.cluster.specs.declared.fault.StepFault.TheVariants as step
-use Rattle.shared_cluster.specs.Asks.{told, unlisted, unless_memory, lasting, Refuses, IsStoppedOr, RefusesAsk, RefusesSubmit}
+use Rattle.journal.specs.declared.step.Step.TheVariants.{Submit}
+use Rattle.shared_cluster.specs.Asks.{is_listed, told, told_in, unlisted, unless_memory, lasting, Refuses, IsStoppedOr, RefusesAsk, RefusesSubmit}
 use Rattle.shared_cluster.specs.Asks.{RefusesSit, RefusesCollect, RefusesTurn, IsSitFault, IsSubmitFault}
 use Rattle.shared_cluster.specs.Asks.{IsCollectFault, IsStopped, IsAskFault}
 use Rattle.shared_cluster.specs.Desks.{IsUnqueued, IsStarved}
@@ -37,6 +38,15 @@ open_refuses true stopped h telling IsWhy own kind shut goes lawful refused is =
 open_refuses false true h telling IsWhy own kind shut goes lawful refused is = cc
 open_refuses false false h telling IsWhy own kind shut goes lawful refused is =
     record { lawful = lawful; own = own; is = sym is; why = refused }
+
+-- a submit that the cluster refuses
+pub submit_refused : (shut stopped : Bool) (h : HistoryView) (s : SeatView) (words : List (List ℕ)) (listed : Bool) (own : StepFault)
+    (kind : FaultKind) → shut ≡ false → stopped ≡ false → IsLawful h → listed ≡ is_listed h s.conn words
+    → IsFault h (Submit s.conn words) own → kind ≡ told_in listed own
+    → RefusesAsk shut stopped h (told_in (is_listed h s.conn words)) (IsFault h (Submit s.conn words)) kind
+submit_refused shut stopped h s words listed own kind unshut goes lawful is refused told_so =
+    open_refuses shut stopped h (told_in (is_listed h s.conn words)) (IsFault h (Submit s.conn words)) own kind unshut goes lawful
+    refused (told_so ∙ ap (λ b. told_in b own) is)
 
 kept_by_lasting : (k kind : FaultKind) → unless_memory k ≡ Some kind → (k ≡ kind) × (kind ≢ Memory)
 kept_by_lasting Closed kind is = (cc, λ same. cc)

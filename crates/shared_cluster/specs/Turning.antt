@@ -1,16 +1,17 @@
 -- How the turns of a locked cluster go on.
-use Rattle.std.specs.Prelude.{◌≡◌, ◌≢◌, ℕ, Bool, true, List, [], ◌⊎◌, None}
+use Rattle.std.specs.Prelude.{◌≡◌, ◌≢◌, ℕ, Bool, true, List, [], ◌⊎◌, Option, None}
 use Rattle.delivery.specs.Queues.{queue_of}
 use Rattle.delivery.specs.Ready.{IsReady}
 use Rattle.front.specs.Looking.{IsQuiet}
 use Rattle.cluster.specs.Clusters.{SeatView, ClusterView, SameBook, IsCollectFault}
 use Rattle.cluster.specs.Histories.{HistoryView, IsUnchanged}
 use Rattle.cluster.specs.Layers.{HandsOut, IsSettleFault}
+use Rattle.cluster.specs.Passing as cluster
 use Rattle.cluster.specs.Sealed.{TakenView, RanView}
 use Rattle.cluster.specs.Turns.{Delivers}
 use Rattle.cluster.specs.declared.fault.StepFault.TheVariants as fault
 use Rattle.router.specs.Router.{waiting}
-use Rattle.shared_cluster.specs.Asks.{RefusesTurn}
+use Rattle.shared_cluster.specs.Asks.{Submits, RefusesTurn}
 use Rattle.shared_cluster.specs.declared.held.Next.{Next}
 use Rattle.shared_cluster.specs.declared.held.Next.TheVariants.{Taken, Delivered, Starved, Quiet}
 use Rattle.shared_cluster.specs.declared.held.Unsettled.{Unsettled}
@@ -43,6 +44,14 @@ GoesOn pick old new (Taken layer) = MayTake old × HandsOut old layer new
 GoesOn pick old new Delivered = (¬ MayTake old) × Delivers pick old new
 GoesOn pick old new Starved = (MayTake old ⊎ (old.front.multicast.packets ≢ [])) × IsUnchanged old new
 GoesOn pick old new Quiet = (¬ MayTake old) × (old.front.multicast.packets ≡ []) × IsUnchanged old new
+
+-- The seat submitted these words as its next request. Nothing more was made; or that request came to its group and was taken at once, and
+-- this is the layer.
+pub record PassesOn (before : HistoryView) (old : SeatView) (words : List (List ℕ)) (taken : Option TakenView) (after : HistoryView)
+    (new : SeatView) : Type 0 where
+  pub begun : HistoryView
+  pub submits : Submits before old words begun new
+  pub goes_on : cluster.GoesOn begun taken after
 
 -- Why what came of a layer isn't settled: it is that of the layer that is out, there was no memory for the trace that is kept, and it is
 -- given back; or it isn't what came of that layer.

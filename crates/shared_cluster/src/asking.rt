@@ -116,8 +116,9 @@ impl<T: Tabled, L: Server> Shared<T, L> {
         ensures begun { IfOk result (λ begun. Answers T.table seat.old words begun seat.new) }
         ensures refused { IfErr result (λ fault. IsAskFault seat.old words fault seat.new) }
     {
-        match held.submit(seat, words) {
-            Ok(()) => self.note_trace(held),
+        match held.pass(seat, words) {
+            Ok(Some(taken)) => return Ok(Begun::Waits(Hand::Taken(taken))),
+            Ok(None) => self.note_trace(held),
             Err(fault) => return Err(fault),
         }
         match self.collect_or_begin(held, seat) {

@@ -1,14 +1,15 @@
 //! What the front's lock guards: a cluster, whether it is shut, and whether it is stopped. No other module makes a fault of an
 //! ask or of a close.
 
-ghost use Rattle.std.specs.Prelude.{◌≡◌, ◌<◌, ◌+◌, ◌⊎◌, true, [], None, OnErr, OnOk, IfOk, IfErr, IfSome, IfNone, OnSome, IsTrue, ◌↔◌};
+ghost use Rattle.std.specs.Prelude.{◌≡◌, ◌<◌, ◌+◌, ◌⊎◌, true, false, [], None, OnErr, OnOk, IfOk, IfErr, IfSome, IfNone, OnSome, IsTrue, ◌↔◌};
 ghost use Rattle.resp.specs.Content.{content};
 ghost use Rattle.shared_cluster.specs.Asks.{is_listed, IsSeated, Submits, Replies, RefusesSit, RefusesSubmit, RefusesCollect};
-ghost use Rattle.shared_cluster.specs.Asks.{RefusesTurn};
+ghost use Rattle.shared_cluster.specs.Asks.{told_in, RefusesAsk, RefusesTurn};
 ghost use Rattle.shared_cluster.specs.Closings.{Closes, RefusesClose, Writes, IsSight};
-ghost use Rattle.shared_cluster.specs.Turning.{GoesOn, Carries, Takes, MayTake, RefusesSettle, StaysSo, IsNotThere, IsAtRest};
+ghost use Rattle.shared_cluster.specs.Turning.{GoesOn, Carries, Takes, MayTake, PassesOn, RefusesSettle, StaysSo, IsNotThere};
+ghost use Rattle.shared_cluster.specs.Turning.{IsAtRest};
 ghost use Rattle.cluster.specs.Clusters.{StaysOpen};
-ghost use Rattle.cluster.specs.Histories.{IsLawful, IsMade};
+ghost use Rattle.cluster.specs.Histories.{IsLawful, IsMade, IsFault};
 ghost use Rattle.cluster.specs.Layers.{IsSettled};
 ghost use Rattle.cluster.specs.Pieces.{HandsOn};
 ghost use Rattle.cluster.specs.Submits.{submits};
@@ -172,35 +173,65 @@ impl<T: Tabled, L: Server> Held<T, L> {
         ensures shut { self.new.shut ≡ self.old.shut }
         ensures stopped { self.new.stopped ≡ self.old.stopped }
     {
-        let conn = seat.conn();
-        let step = AskStep::Submit(conn, seat.count());
-        if self.shut {
-            return Err(AskFault {
-                kind: FaultKind::Closed,
-                step,
-            });
-        }
-        if self.stopped {
-            return Err(AskFault {
-                kind: FaultKind::Failed,
-                step,
-            });
-        }
-        self.cluster.lawful();
-        let listed = self.is_listed(conn, &words);
-        if self.is_short() {
-            return Err(AskFault {
-                kind: told_in(listed, self.cluster.submit_refusal(seat, words)),
-                step,
-            });
-        }
+        let step = AskStep::Submit(seat.conn(), seat.count());
+        let (words, listed) = match self.admit(seat, words) {
+            Ok(admitted) => admitted,
+            Err(kind) => return Err(AskFault { kind, step }),
+        };
         match self.cluster.submit(seat, words) {
             Ok(_) => Ok(()),
-            Err(fault) => Err(AskFault {
-                kind: told_in(listed, fault),
-                step,
-            }),
+            Err(fault) => Err(refused(step, listed, fault)),
         }
+    }
+
+    /// Submits a request of these words. Where it came to its group and was taken at once, the layer that it is is handed out.
+    pub fn pass(
+        &mut self,
+        seat: &mut Seat<T, L>,
+        words: Request,
+    ) -> Result<Option<Taken<T, L>>, AskFault>
+        ensures made { IfOk result (λ taken.
+            PassesOn self.old.cluster.history seat.old words taken self.new.cluster.history seat.new) }
+        ensures refused { IfErr result (RefusesSubmit self.old.shut self.old.stopped self.old.cluster.history seat.old words) }
+        ensures unchanged { OnErr result (seat.new ≡ seat.old) }
+        ensures stays { OnErr result (StaysSo self.old.cluster self.new.cluster) }
+        ensures shut { self.new.shut ≡ self.old.shut }
+        ensures stopped { self.new.stopped ≡ self.old.stopped }
+    {
+        let step = AskStep::Submit(seat.conn(), seat.count());
+        let (words, listed) = match self.admit(seat, words) {
+            Ok(admitted) => admitted,
+            Err(kind) => return Err(AskFault { kind, step }),
+        };
+        match self.cluster.pass(seat, words) {
+            Ok(taken) => Ok(taken),
+            Err(fault) => Err(refused(step, listed, fault)),
+        }
+    }
+
+    /// Gives the words of a request back that may be submitted, with whether an open list is to have them; or says why it isn't
+    /// submitted.
+    fn admit(&mut self, seat: &Seat<T, L>, words: Request) -> Result<(Request, bool), FaultKind>
+        ensures words { IfOk result (λ admitted. admitted.0 ≡ words) }
+        ensures listed { IfOk result (λ admitted. admitted.1 ≡ is_listed self.old.cluster.history seat.now.conn words) }
+        ensures lives { OnOk result ((self.old.shut ≡ false) × (self.old.stopped ≡ false) × IsLawful self.old.cluster.history) }
+        ensures refused { IfErr result (RefusesAsk self.old.shut self.old.stopped self.old.cluster.history
+            (told_in (is_listed self.old.cluster.history seat.now.conn words))
+            (IsFault self.old.cluster.history (Step.Submit seat.now.conn words))) }
+        ensures same { (self.new.cluster ≡ self.old.cluster) × (self.new.shut ≡ self.old.shut) × (self.new.stopped ≡ self.old.stopped) }
+    {
+        if self.shut {
+            return Err(FaultKind::Closed);
+        }
+        if self.stopped {
+            return Err(FaultKind::Failed);
+        }
+        self.cluster.lawful();
+        let listed = self.is_listed(seat.conn(), &words);
+        if self.is_short() {
+            return Err(told_in(listed, self.cluster.submit_refusal(seat, words)));
+        }
+        Ok((words, listed))
     }
 
     /// Whether the connection's list is open, and the request is none of MULTI, EXEC and DISCARD.
@@ -526,5 +557,15 @@ impl<T: Tabled, L: Server> Held<T, L> {
         ensures { IsTrue result ↔ (TRACE_AHEAD < place_of self.now.cluster.history.trace) }
     {
         self.cluster.trace_size() > TRACE_AHEAD
+    }
+}
+
+/// Why a submit isn't made that the cluster refuses, of a request in an open list or of another one.
+fn refused(step: AskStep, listed: bool, fault: StepFault) -> AskFault
+    ensures { (result.step ≡ step) × (result.kind ≡ told_in listed fault) }
+{
+    AskFault {
+        kind: told_in(listed, fault),
+        step,
     }
 }

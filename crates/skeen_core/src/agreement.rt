@@ -1,6 +1,6 @@
 //! How a group agrees with others on the stamps of requests, and what it may deliver then: all of a group but how far it has
 //! got with each connection.
-ghost use Rattle.std.specs.Prelude.{◌≡◌, ◌+◌, ◌≤◌, ◌<◌, ◌⊎◌, [], length, Some, None, IfOk, OnErr, MatchOption};
+ghost use Rattle.std.specs.Prelude.{◌≡◌, ◌+◌, ◌≤◌, ◌<◌, ◌⊎◌, [], ◌∷◌, length, Some, None, IfOk, OnErr, IfSome, IfNone, MatchOption};
 ghost use Rattle.std.specs.FinMap.{len};
 ghost use Rattle.groups.specs.Stamp.{final, place_by};
 ghost use Rattle.skeen_core.specs.Group.{fresh, lift, MayCome, BodyMayCome, Agrees, IsReceipt};
@@ -86,6 +86,28 @@ impl Agreement {
                 Ok((Vec::new(alloc), delivered))
             }
         }
+    }
+
+    /// A request begins that addresses this group alone. Where no request is before it, and nothing of it came before, it is
+    /// delivered at once, at this stamp, and nothing of it is kept. None where it isn't so simple: then nothing changes. It
+    /// takes no memory.
+    #[inline]
+    pub fn pass(&mut self, id: RequestId, floor: u64, groups: Groups) -> Option<Stamp>
+        requires clock { self.old.state.clock ≤ GREATEST_CLOCK }
+        requires body { BodyMayCome self.old.me self.old.state id (Body.Start floor groups) }
+        ensures me { self.new.me ≡ self.old.me }
+        ensures passed { IfSome result (λ stamp. Agrees self.old.me self.old.state id (Body.Start floor groups) []
+            (record { id = id; stamp = stamp; groups = groups } ∷ []) self.new.state) }
+        ensures unchanged { IfNone result (self.new ≡ self.old) }
+    {
+        let group = groups.alone()?;
+        if !self.pending.is_empty() || !self.proposals.of(id).is_empty() {
+            return None;
+        }
+        let clock = floor.max(self.clock) + 1;
+        self.clock = clock;
+        self.looks = 1;
+        Some(Stamp { clock, group })
     }
 
     /// The last receipt looked at no request.

@@ -1,13 +1,14 @@
 //! One group: what it does with the packets that come to it. The system hands it each packet that is for it, sends what
 //! it sends, and puts what it delivers in its queue.
-ghost use Rattle.std.specs.Prelude.{◌≡◌, ◌+◌, ◌≤◌, ◌<◌, ◌^◌, ◌↔◌, IsTrue, length, IfOk, OnErr};
+ghost use Rattle.std.specs.Prelude.{◌≡◌, ◌+◌, ◌≤◌, ◌<◌, ◌^◌, ◌↔◌, [], ◌∷◌, IsTrue, length, IfOk, OnErr, IfSome, IfNone};
+ghost use Rattle.skeen_core.specs.declared.packet.Body.{Body};
 ghost use Rattle.std.specs.FinMap.{len};
 ghost use Rattle.skeen_core.specs.Group.{fresh, MayCome, Receives, CountsKept};
 
 use super::agreement::Agreement;
 use super::packet::{Delivered, Packet};
 use super::reached::Reached;
-use groups::GroupId;
+use groups::{GroupId, Groups, RequestId, Stamp};
 use std::alloc::{AllocError, Global};
 use std::marker::Model;
 
@@ -80,6 +81,27 @@ impl Group {
         let (sent, delivered) = self.agreement.receive(alloc, packet)?;
         self.reached.deliver_all(delivered.as_slice());
         Ok((sent, delivered))
+    }
+
+    /// A request begins that addresses this group alone. Where nothing stands before it, it is delivered at once, at this stamp, as
+    /// `receive` does with its Start. None where it isn't so simple, where the request is past, or where there is no memory: then
+    /// nothing changes.
+    ///
+    /// Its Start may come to this group.
+    #[inline]
+    pub fn pass(&mut self, id: RequestId, floor: u64, groups: Groups) -> Option<Stamp>
+        requires { MayCome self.old.me self.old.state (record { to = self.old.me; id = id; body = Body.Start floor groups }) }
+        ensures me { self.new.me ≡ self.old.me }
+        ensures passed { IfSome result (λ stamp. Receives self.old.me self.old.state id (Body.Start floor groups) []
+            (record { id = id; stamp = stamp; groups = groups } ∷ []) self.new.state) }
+        ensures unchanged { IfNone result (self.new ≡ self.old) }
+    {
+        if self.reached.is_past(id) || self.reached.reserve(1).is_err() {
+            return None;
+        }
+        let stamp = self.agreement.pass(id, floor, groups)?;
+        self.reached.deliver(id);
+        Some(stamp)
     }
 
     /// The group's clock: at least that of every stamp that it proposed or settled.

@@ -64,7 +64,7 @@ impl Reached {
     }
 
     /// The request is delivered. There is room.
-    fn deliver(&mut self, id: RequestId)
+    pub fn deliver(&mut self, id: RequestId)
         requires { 0 < self.old.room }
         ensures numbers { self.new.numbers
             ≡ insert self.old.numbers id.conn.0 (max (or_zero (get self.old.numbers id.conn.0)) id.seq) }

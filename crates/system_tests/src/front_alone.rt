@@ -3,5 +3,6 @@
 mod fronts;
 mod layers;
 mod lists;
+mod passing;
 mod refusals;
 mod trouble;

@@ -1,6 +1,7 @@
 //! Fronts for tests, and their steps.
 
 ghost use Rattle.std.specs.Prelude.{IsTrue};
+ghost use Rattle.front.specs.Passing.{MayPass};
 ghost use Rattle.front.specs.Refusing.{MayStep};
 
 use crate::front_alone::trouble::Trouble;
@@ -15,7 +16,8 @@ use test_support::{TWO_SHARDS, same_bytes};
 
 /// Whether steps may still be made: no test makes more than these.
 fn has_steps(front: &Front) -> bool
-    ensures { IsTrue result → MayStep front.now }
+    ensures one { IsTrue result → MayStep front.now }
+    ensures three { IsTrue result → MayPass front.now }
 {
     front.steps() < 1_000 && front.layers() < 1_000
 }
@@ -33,6 +35,18 @@ pub(crate) fn open(front: &mut Front) -> Result<ConnId, Trouble> {
     Ok(front.open()?)
 }
 
+/// The request of these words, separated by blanks.
+fn request(alloc: Global, words: &str) -> Result<Request, Trouble> {
+    let mut copies = Vec::new(alloc);
+    for word in words.split(' ') {
+        copies.push(Vec::from_slice(alloc, word.as_bytes())?)?;
+    }
+    if copies.is_empty() {
+        return Err(Trouble::Asked);
+    }
+    Ok(Request::from_words(copies))
+}
+
 /// A connection submits these words, separated by blanks.
 pub(crate) fn submit(
     alloc: Global,
@@ -40,14 +54,25 @@ pub(crate) fn submit(
     conn: ConnId,
     words: &str,
 ) -> Result<RequestId, Trouble> {
-    let mut copies = Vec::new(alloc);
-    for word in words.split(' ') {
-        copies.push(Vec::from_slice(alloc, word.as_bytes())?)?;
-    }
-    if copies.is_empty() || !has_steps(front) {
+    let request = request(alloc, words)?;
+    if !has_steps(front) {
         return Err(Trouble::Asked);
     }
-    Ok(front.submit(conn, Request::from_words(copies))?)
+    Ok(front.submit(conn, request)?)
+}
+
+/// A connection passes these words, separated by blanks: the id of its request, and the layer where it is handed out.
+pub(crate) fn pass(
+    alloc: Global,
+    front: &mut Front,
+    conn: ConnId,
+    words: &str,
+) -> Result<(RequestId, Option<Layer>), Trouble> {
+    let request = request(alloc, words)?;
+    if !has_steps(front) {
+        return Err(Trouble::Asked);
+    }
+    Ok(front.pass(conn, request)?)
 }
 
 /// Brings all packets, the oldest first.
@@ -62,7 +87,7 @@ pub(crate) fn deliver_all(front: &mut Front) -> Result<(), Trouble> {
 }
 
 /// Brings the packet at this place.
-fn deliver(front: &mut Front, place: u64) -> Result<(), Trouble> {
+pub(crate) fn deliver(front: &mut Front, place: u64) -> Result<(), Trouble> {
     if !has_steps(front) {
         return Err(Trouble::Asked);
     }

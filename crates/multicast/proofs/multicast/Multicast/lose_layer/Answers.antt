@@ -1,8 +1,9 @@
-use Rattle.std.proofs.Common.{refl, sym, subst}
+use Rattle.std.proofs.Common.{rules, refl, sym, subst}
 use Rattle.delivery.proofs.Layers.{layers_can_be_popped}
 use Rattle.delivery.specs.Queues.{queue_of, IsSound}
-use Rattle.delivery.specs.Ready.{IsLayer}
+use Rattle.delivery.specs.Ready.{QueueOf, IsLayer}
 use Rattle.multicast.proofs.Losing.{once_popped}
+use Rattle.multicast.proofs.Queues.{sound_popped_all}
 use Rattle.multicast.specs.Multicast.{MulticastView, LosesLayer}
 use Rattle.multicast.proofs.multicast.Multicast.lose_layer.Goals as goal
 
@@ -28,3 +29,10 @@ returns c =
       queue = once_popped (queue_of c.self.inside.queues.queues) (queue_of c.pop_all.new.self.queues) c.args.layer.now sound is
           c.pop_all.ensures.popped;
     })
+
+pub invariant_of-self : goal.invariant_of-self
+invariant_of-self c = record {
+  whole = search rules;
+  sound = subst (λ (q : QueueOf). IsSound q) (sym c.pop_all.ensures.popped)
+      (sound_popped_all c.args.layer.now (queue_of c.self.inside.queues.queues) c.self.invariant.sound);
+}

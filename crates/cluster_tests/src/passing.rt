@@ -1,0 +1,277 @@
+//! Requests that are handed out where they are submitted, and those that aren't.
+
+use crate::asking::{Numbers, closes, request, same_reply, stays};
+use crate::naming::{WithCluster, with_cluster};
+use crate::rows::{MOST, Rows};
+use crate::turns::{ask_rows, reply, rest, run};
+use cluster::{CloseFault, Cluster, First, RunsOf, Seat, Server, Taken};
+use groups::{ConnId, GroupId, RequestId, Stamp};
+use layer_planner::Layer;
+use serial_store::{SerialStore, Tabled};
+use std::alloc::Global;
+use std::test::Fail;
+use test_support::{holds, same, same_count, same_number};
+
+/// The seat passes a request of these words. Gives the layer, where it is handed out.
+fn pass<T: Tabled, L: Server>(
+    alloc: Global,
+    cluster: &mut Cluster<T, L>,
+    seat: &mut Seat<T, L>,
+    words: &str,
+) -> Result<Option<Taken<T, L>>, Fail> {
+    let request = request(alloc, words)?;
+    Ok(cluster.pass(seat, request)?)
+}
+
+/// A layer that was handed out, if there is one, is run and settled.
+fn settle<T: Tabled, L: Server>(
+    cluster: &mut Cluster<T, L>,
+    store: &mut SerialStore<T, RunsOf<L>>,
+    taken: Option<Taken<T, L>>,
+) -> Result<(), Fail> {
+    let Some(taken) = taken else {
+        return Ok(());
+    };
+    let ran = run(store, taken)?;
+    holds("the layer is settled", cluster.settle(ran).is_ok())
+}
+
+/// The seat's request becomes a layer: by one call, or by one for each step.
+fn take<T: Tabled, L: Server>(
+    alloc: Global,
+    cluster: &mut Cluster<T, L>,
+    seat: &mut Seat<T, L>,
+    words: &str,
+    in_one: bool,
+) -> Result<Taken<T, L>, Fail> {
+    if in_one {
+        return match pass(alloc, cluster, seat, words)? {
+            Some(taken) => Ok(taken),
+            None => Err("it isn't handed out".into()),
+        };
+    }
+    let request = request(alloc, words)?;
+    cluster.submit(seat, request)?;
+    holds("its packet comes", cluster.turn(&First)?)?;
+    Ok(cluster.take()?)
+}
+
+/// The layer is the first request of the first connection, at the first stamp of this group.
+fn is_first(layer: &Layer, group: GroupId) -> Result<(), Fail> {
+    let Some(job) = layer.jobs().first() else {
+        return Err("a layer of nothing is out".into());
+    };
+    let id = RequestId {
+        conn: ConnId(1),
+        seq: 1,
+    };
+    let stamp = Stamp { clock: 1, group };
+    same("the id", &job.id, &id)?;
+    same("the stamp", &job.stamp, &stamp)?;
+    same_count("jobs", layer.len(), 1)
+}
+
+/// The first seat asks `SET c 1`, by one call or by one for each step.
+fn ask_first<T: Tabled, L: Server>(
+    alloc: Global,
+    cluster: &mut Cluster<T, L>,
+    store: &mut SerialStore<T, RunsOf<L>>,
+    seat: &mut Seat<T, L>,
+    in_one: bool,
+) -> Result<(), Fail> {
+    let group = GroupId::new(1);
+    let taken = take(alloc, cluster, seat, "SET c 1", in_one)?;
+    is_first(taken.layer(), group)?;
+    same_number("the steps with its Take", cluster.count(), 4)?;
+    settle(cluster, store, Some(taken))?;
+    let reply = reply(cluster, store, seat)?;
+    same_reply(alloc, "SET c 1", &reply, "+OK\r\n")?;
+    same_number("the group's clock", cluster.front().clock(group), 1)?;
+    same_number("the seat's floor", seat.floor(), 1)?;
+    same_number("the steps", cluster.count(), 7)
+}
+
+/// The same of a new cluster, which closes then.
+#[derive(Drop)]
+struct AsksFirst {
+    in_one: bool,
+}
+
+impl WithCluster for AsksFirst {
+    fn go<T: Tabled, L: Server>(
+        self,
+        alloc: Global,
+        cluster: &mut Cluster<T, L>,
+        store: &mut SerialStore<T, RunsOf<L>>,
+    ) -> Result<(), Fail> {
+        let mut seat = cluster.sit()?;
+        ask_first(alloc, cluster, store, &mut seat, self.in_one)?;
+        cluster.stand(seat);
+        closes(cluster.closing(store), (1, 1, 0))
+    }
+}
+
+/// With a trace by one call for each step, and without one by one call.
+#[test]
+fn one_call_is_three_steps(rt: HostRuntime) -> Result<(), Fail> {
+    for in_one in [false, true] {
+        with_cluster(rt.alloc(), MOST, !in_one, AsksFirst { in_one })?;
+    }
+    Ok(())
+}
+
+/// A request of a seat, what is before it, and what comes of it.
+#[derive(Clone, Copy, Drop)]
+struct Row {
+    /// What the seat has asked before.
+    before: Rows<'static>,
+    /// What another seat has passed that isn't settled; the empty text where it has nothing.
+    beside: &'static str,
+    words: &'static str,
+    wanted: &'static str,
+    is_out: bool,
+    /// How many packets are under way then.
+    packets: usize,
+    numbers: Numbers,
+}
+
+/// The other seat passes its request, if it has one. Gives the layer, where it is handed out.
+fn pass_beside<T: Tabled, L: Server>(
+    alloc: Global,
+    cluster: &mut Cluster<T, L>,
+    seat: &mut Seat<T, L>,
+    words: &str,
+) -> Result<Option<Taken<T, L>>, Fail> {
+    if words.is_empty() {
+        return Ok(None);
+    }
+    pass(alloc, cluster, seat, words)
+}
+
+/// The row's request is passed. Gives the layer, where it is handed out: then three steps were made, and else one.
+fn pass_row<T: Tabled, L: Server>(
+    alloc: Global,
+    cluster: &mut Cluster<T, L>,
+    seat: &mut Seat<T, L>,
+    row: &Row,
+) -> Result<Option<Taken<T, L>>, Fail> {
+    let steps = cluster.count();
+    let taken = pass(alloc, cluster, seat, row.words)?;
+    let made = if row.is_out { 3 } else { 1 };
+    same(row.words, &taken.is_some(), &row.is_out)?;
+    same_number(row.words, cluster.count(), steps.saturating_add(made))?;
+    same_count(row.words, cluster.front().packets(), row.packets)?;
+    Ok(taken)
+}
+
+/// The row's request comes through, behind what is before it.
+fn ask_row<T: Tabled, L: Server>(
+    alloc: Global,
+    cluster: &mut Cluster<T, L>,
+    store: &mut SerialStore<T, RunsOf<L>>,
+    seat: &mut Seat<T, L>,
+    other: &mut Seat<T, L>,
+    row: &Row,
+) -> Result<(), Fail> {
+    ask_rows(alloc, cluster, store, seat, row.before)?;
+    let held = pass_beside(alloc, cluster, other, row.beside)?;
+    let taken = pass_row(alloc, cluster, seat, row)?;
+    settle(cluster, store, held)?;
+    settle(cluster, store, taken)?;
+    let reply = reply(cluster, store, seat)?;
+    same_reply(alloc, row.words, &reply, row.wanted)?;
+    rest(cluster, store)
+}
+
+impl WithCluster for Row {
+    fn go<T: Tabled, L: Server>(
+        self,
+        alloc: Global,
+        cluster: &mut Cluster<T, L>,
+        store: &mut SerialStore<T, RunsOf<L>>,
+    ) -> Result<(), Fail> {
+        let mut seat = cluster.sit()?;
+        let mut other = cluster.sit()?;
+        ask_row(alloc, cluster, store, &mut seat, &mut other, &self)?;
+        cluster.stand(seat);
+        cluster.stand(other);
+        closes(cluster.closing(store), self.numbers)
+    }
+}
+
+const SET: Rows<'static> = &[("SET a 1", "+OK\r\n")];
+
+const OPENED: Rows<'static> = &[("MULTI", "+OK\r\n")];
+
+const LISTED: Rows<'static> = &[
+    ("MULTI", "+OK\r\n"),
+    ("SET a 1", "+QUEUED\r\n"),
+    ("INCR b", "+QUEUED\r\n"),
+];
+
+/// What is handed out; and what isn't, since it is answered at once, addresses two groups, or comes while something is under way or a
+/// layer is out.
+#[rattlefmt::skip]
+const ROWS: &[Row] = &[
+    Row { before: &[], beside: "", words: "SET a 1", wanted: "+OK\r\n", is_out: true, packets: 0, numbers: (1, 1, 0) },
+    Row { before: SET, beside: "", words: "INCR a", wanted: ":2\r\n", is_out: true, packets: 0, numbers: (2, 2, 0) },
+    Row { before: SET, beside: "PING", words: "MGET a b", wanted: "*2\r\n$1\r\n1\r\n$-1\r\n", is_out: true, packets: 0, numbers: (3, 2, 0) },
+    Row { before: LISTED, beside: "", words: "EXEC", wanted: "*2\r\n+OK\r\n:1\r\n", is_out: true, packets: 0, numbers: (4, 1, 0) },
+    Row { before: OPENED, beside: "", words: "SET a 1", wanted: "+QUEUED\r\n", is_out: false, packets: 0, numbers: (2, 0, 0) },
+    Row { before: &[], beside: "", words: "PING", wanted: "+PONG\r\n", is_out: false, packets: 0, numbers: (1, 0, 0) },
+    Row { before: &[], beside: "", words: "MSET a 1 c 2", wanted: "+OK\r\n", is_out: false, packets: 2, numbers: (1, 1, 0) },
+    Row { before: SET, beside: "MSET a 5 c 2", words: "INCR a", wanted: ":6\r\n", is_out: false, packets: 3, numbers: (3, 3, 0) },
+    Row { before: SET, beside: "INCR a", words: "GET a", wanted: "$1\r\n2\r\n", is_out: false, packets: 1, numbers: (3, 3, 0) },
+    Row { before: &[], beside: "SET c 1", words: "SET a 1", wanted: "+OK\r\n", is_out: false, packets: 1, numbers: (2, 2, 0) },
+];
+
+#[test]
+fn a_request_of_one_group_alone_is_handed_out(rt: HostRuntime) -> Result<(), Fail> {
+    for row in ROWS {
+        with_cluster(rt.alloc(), MOST, false, *row)?;
+    }
+    Ok(())
+}
+
+#[rattlefmt::skip]
+const TRACED: Row =
+    Row { before: &[], beside: "", words: "SET a 1", wanted: "+OK\r\n", is_out: false, packets: 1, numbers: (1, 1, 0) };
+
+#[test]
+fn nothing_is_handed_out_where_a_trace_is_kept(rt: HostRuntime) -> Result<(), Fail> {
+    with_cluster(rt.alloc(), MOST, true, TRACED)
+}
+
+/// A seat passes `SET a 1`, and so many steps are left that it is handed out, or not.
+#[derive(Drop)]
+struct FewSteps {
+    is_out: bool,
+}
+
+impl WithCluster for FewSteps {
+    fn go<T: Tabled, L: Server>(
+        self,
+        alloc: Global,
+        cluster: &mut Cluster<T, L>,
+        store: &mut SerialStore<T, RunsOf<L>>,
+    ) -> Result<(), Fail> {
+        let mut seat = cluster.sit()?;
+        let taken = pass(alloc, cluster, &mut seat, "SET a 1")?;
+        same("it is handed out", &taken.is_some(), &self.is_out)?;
+        settle(cluster, store, taken)?;
+        cluster.stand(seat);
+        if self.is_out {
+            closes(cluster.closing(store), (1, 1, 0))
+        } else {
+            stays(cluster.closing(store), CloseFault::NotQuiet)
+        }
+    }
+}
+
+/// Behind the Open: a Submit, a Deliver and a Take, and the Run and the Settle that are kept back. With one fewer it is submitted and no
+/// more.
+#[test]
+fn five_steps_are_left_where_a_request_is_handed_out(rt: HostRuntime) -> Result<(), Fail> {
+    with_cluster(rt.alloc(), 6, false, FewSteps { is_out: true })?;
+    with_cluster(rt.alloc(), 5, false, FewSteps { is_out: false })
+}
