@@ -22,7 +22,7 @@ mod string_commands;
 mod told;
 mod words;
 
-pub use command::{Command, is_whole, key_at, key_count, keys, name};
+pub use command::{Command, keys_of, name};
 pub use hash_commands::HashCommand;
 pub use key_commands::KeyCommand;
 pub use list_commands::{ListCommand, Side};
@@ -31,3 +31,4 @@ pub use reading::read;
 pub use refusal::{CommandName, Refusal};
 pub use set_commands::SetCommand;
 pub use string_commands::{Condition, StringCommand};
+pub use told::Keys;

@@ -6,21 +6,25 @@ ghost use Rattle.command_table.specs.Telling.{named, is_all};
 
 use texts::{Pairs, Text, Texts};
 
-/// The keys of a command, where it holds them, in order of its words.
+/// The keys of a command, where it holds them, in order of its words. Contracts see by `keys_held` what is told of them.
 #[derive(Clone, Copy)]
-pub(crate) enum Keys<'a> {
+pub enum Keys<'a> {
     /// It has none.
     None,
 
     /// It is for all keys there are, and names none.
     All,
 
+    /// This one.
     One(&'a Text),
 
+    /// These two.
     Two(&'a Text, &'a Text),
 
+    /// Each of these.
     Each(&'a Texts),
 
+    /// This one, and each of these behind it.
     OneAnd(&'a Text, &'a Texts),
 
     /// The first of each pair.
@@ -28,15 +32,15 @@ pub(crate) enum Keys<'a> {
 }
 
 impl<'a> Keys<'a> {
-    /// Whether they are all keys there are.
-    pub(crate) fn is_all(self) -> bool
+    /// Whether they are all keys there are. Then it names none.
+    pub fn is_all(self) -> bool
         ensures { result ≡ is_all (keys_held self.entry) }
     {
         matches!(self, Keys::All)
     }
 
-    /// How many keys the command names.
-    pub(crate) fn len(self) -> usize
+    /// How many keys the command names: one that stands twice counts twice.
+    pub fn len(self) -> usize
         ensures { result ≡ length (named (keys_held self.entry)) }
     {
         match self {
@@ -49,8 +53,8 @@ impl<'a> Keys<'a> {
         }
     }
 
-    /// The key at this place.
-    pub(crate) fn at(self, place: usize) -> &'a [u8]
+    /// The key at this place, from 0.
+    pub fn at(self, place: usize) -> &'a [u8]
         requires { place < length (named (keys_held self)) }
         ensures { slice_get (named (keys_held self.entry)) place ≡ Some result.now }
     {

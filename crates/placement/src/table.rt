@@ -11,7 +11,7 @@ use crate::document::{Document, document_of};
 use crate::fault::TableFault;
 use crate::layout::{all_owned, known_shards, owners_of};
 use crate::slots::{SLOTS, slot_of};
-use command_table::{Command, is_whole, key_at, key_count};
+use command_table::{Command, keys_of};
 use groups::{GroupId, Groups};
 use std::alloc::Global;
 use std::marker::Model;
@@ -102,12 +102,13 @@ impl Table {
             → Any (λ key. shard_of self.now key ≡ group) (keys_of command.now) }
     {
         let shards = self.shards();
-        if is_whole(command) {
+        let keys = keys_of(command);
+        if keys.is_all() {
             return Groups::all(shards);
         }
         let mut groups = Groups::empty();
-        for index in 0..key_count(command) {
-            groups = groups.with(self.shard_of(key_at(command, index)));
+        for index in 0..keys.len() {
+            groups = groups.with(self.shard_of(keys.at(index)));
         }
         groups
     }

@@ -20,6 +20,17 @@ pub fn results(room: Vec<DoneRow>, ended: Vec<Ended>) -> Done
     Done::new(rows)
 }
 
+/// What came of a layer of one request. There is room for it.
+pub fn result(room: Vec<DoneRow>, ended: Ended) -> Done
+    requires empty { room.items ≡ [] }
+    requires room { 1 ≤ vec_capacity room }
+    ensures { result ≡ results_of (ended ∷ []) }
+{
+    let mut rows = room;
+    push_result(&mut rows, ended);
+    Done::new(rows)
+}
+
 /// Moves what came of a request behind the others. There is room for it.
 fn push_result(rows: &mut Vec<DoneRow>, request: Ended)
     requires { length rows.old.items < vec_capacity rows.old }

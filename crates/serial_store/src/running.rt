@@ -5,7 +5,7 @@ ghost use Rattle.back.specs.Runs.{WhyUnrun};
 ghost use Rattle.serial_store.specs.Runs.{RunsLayer, RefusesLayer};
 ghost use Rattle.shard_exec.specs.Layers.{AddressTheirGroups};
 
-use crate::results::results;
+use crate::results::{result, results};
 use groups::SkipId;
 use layer_planner::Layer;
 use layer_results::Done;
@@ -30,9 +30,16 @@ pub fn run_over<W: Workers>(
     if store.has_failed() {
         return Err(ExecFault::Failed);
     }
-    let Ok(room) = Vec::with_capacity(alloc, layer.jobs().len()) else {
+    let count = layer.jobs().len();
+    let Ok(room) = Vec::with_capacity(alloc, count) else {
         return Err(unrun(store, layer));
     };
+    if count == 1 {
+        return match store.run_one(alloc, layer, skip, gate) {
+            Ok(ended) => Ok(result(room, ended)),
+            Err(fault) => Err(fault),
+        };
+    }
     match store.run_layer(alloc, layer, skip, workers, gate) {
         Ok(ended) => Ok(results(room, ended)),
         Err(fault) => Err(fault),

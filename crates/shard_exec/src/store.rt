@@ -1,6 +1,6 @@
 //! The store: the shards, and the last stamp of each.
 
-ghost use Rattle.std.specs.Prelude.{◌≡◌, ◌++◌, length, min, pos, sum_by, true, false, IfOk, IfErr, OnOk, OnErr};
+ghost use Rattle.std.specs.Prelude.{◌≡◌, ◌++◌, [], ◌∷◌, length, min, pos, sum_by, true, false, IfOk, IfErr, OnOk, OnErr};
 ghost use Rattle.std.specs.Bool.{OnTrue, OnFalse};
 ghost use Rattle.std.specs.FinMap as map;
 ghost use Rattle.std.specs.FinMap.{empty};
@@ -163,7 +163,7 @@ impl Store {
         match layer.len() {
             0 => return Ok(Vec::new(alloc)),
             1 => return self
-                .run_lone(alloc, layer, skip, gate)
+                .list_lone(alloc, layer, skip, gate)
                 .map_err(ExecFault::Memory),
             _ => {}
         }
@@ -188,11 +188,31 @@ impl Store {
         }
     }
 
-    /// Runs a layer of one request, which was admitted, on the caller's thread. It is handed back, with nothing changed,
-    /// where there is no memory.
+    /// Runs a layer of one request as `run_layer` does, on the caller's thread, and tells what became of it without a list.
     // Inlined, since most layers are of one request.
     #[inline(always)]
-    fn run_lone(
+    pub fn run_one(
+        &mut self,
+        alloc: Global,
+        layer: Layer,
+        skip: &[SkipId],
+        gate: &(dyn Gate + Sync),
+    ) -> Result<Ended, ExecFault>
+        requires groups { AddressTheirGroups self.old.table layer }
+        requires lone { length layer ≡ 1 }
+        ensures done { IfOk result (λ ended. HasRunLayer self.old skip.now layer (ended ∷ []) self.new) }
+        ensures fault { IfErr result (λ fault. HasFailed false self.old layer fault self.new) }
+    {
+        match admit(self.failed, self.lasts.as_slice(), layer) {
+            Ok(layer) => self
+                .run_lone(alloc, layer, skip, gate)
+                .map_err(ExecFault::Memory),
+            Err(fault) => Err(fault),
+        }
+    }
+
+    /// The same of a layer that was admitted, listed. It is handed back, with nothing changed, where there is no memory.
+    fn list_lone(
         &mut self,
         alloc: Global,
         layer: Layer,
@@ -207,16 +227,43 @@ impl Store {
         ensures back { IfErr result (λ back. back ≡ layer) }
         ensures unchanged { OnErr result (self.new ≡ self.old) }
     {
-        let Ok(span) = reserve_alone(alloc, &layer.jobs()[0]) else {
+        let Ok(mut done) = Vec::with_capacity(alloc, 1) else {
             return Err(layer);
         };
-        let Ok(mut done) = Vec::with_capacity(alloc, 1) else {
+        match self.run_lone(alloc, layer, skip, gate) {
+            Ok(ended) => {
+                done.push_reserved(ended);
+                Ok(done)
+            }
+            Err(layer) => Err(layer),
+        }
+    }
+
+    /// Runs a layer of one request, which was admitted. It is handed back, with nothing changed, where there is no memory.
+    // Inlined, since most layers are of one request.
+    #[inline(always)]
+    fn run_lone(
+        &mut self,
+        alloc: Global,
+        layer: Layer,
+        skip: &[SkipId],
+        gate: &(dyn Gate + Sync),
+    ) -> Result<Ended, Layer>
+        requires lone { length layer ≡ 1 }
+        requires groups { AddressTheirGroups self.old.table layer }
+        requires lives { self.old.failed ≡ false }
+        requires fresh { AreFresh self.old.lasts layer }
+        ensures done { IfOk result (λ ended. HasRunLayer self.old skip.now layer (ended ∷ []) self.new) }
+        ensures back { IfErr result (λ back. back ≡ layer) }
+        ensures unchanged { OnErr result (self.new ≡ self.old) }
+    {
+        let Ok(span) = reserve_alone(alloc, &layer.jobs()[0]) else {
             return Err(layer);
         };
         let Some(job) = layer.into_jobs().pop() else {
             unreachable!()
         };
-        done.push_reserved(run_alone(
+        Ok(run_alone(
             alloc,
             &self.table,
             self.hasher,
@@ -226,8 +273,7 @@ impl Store {
             skip,
             gate,
             span,
-        ));
-        Ok(done)
+        ))
     }
 }
 

@@ -2,12 +2,12 @@
 
 use crate::tests::store::Row;
 use command_table::{
-    Command, Condition, Refusal, StringCommand, is_whole, key_at, key_count, keys, name, read,
+    Command, Condition, Refusal, StringCommand, keys_of, name, read,
 };
 use resp::{Reply, Request, write_reply};
 use std::alloc::{AllocError, Global};
 use std::test::Fail;
-use test_support::{same, same_bytes, same_count, same_text};
+use test_support::{same, same_bytes, same_text};
 
 pub(crate) type Read = Result<Command, Refusal>;
 
@@ -110,21 +110,12 @@ fn takes_no_name_that_is_no_text(rt: HostRuntime) -> Result<(), Fail> {
 /// The name of the command and, behind it, its keys.
 fn told(alloc: Global, command: &Command) -> Result<Vec<u8>, AllocError> {
     let mut told = name(command).as_bytes().to_vec(alloc)?;
-    for key in &keys(alloc, command)? {
+    let keys = keys_of(command);
+    for place in 0..keys.len() {
         told.push(b' ')?;
-        told.extend_from_slice(key)?;
+        told.extend_from_slice(keys.at(place))?;
     }
     Ok(told)
-}
-
-/// So many keys are told as there are, and the first one is the first.
-fn counts_keys(alloc: Global, line: &str, command: &Command) -> Result<(), Fail> {
-    let listed = keys(alloc, command)?;
-    same_count(line, listed.len(), key_count(command))?;
-    match listed.first() {
-        Some(first) => same_bytes(line, key_at(command, 0), first),
-        None => Ok(()),
-    }
 }
 
 /// The line was read as a command with this name and these keys, which is none for all keys.
@@ -132,8 +123,7 @@ fn tells(alloc: Global, line: &str, read: &Read, want: &str) -> Result<(), Fail>
     let Ok(command) = read else {
         return Err("it was refused".into());
     };
-    same(line, &is_whole(command), &false)?;
-    counts_keys(alloc, line, command)?;
+    same(line, &keys_of(command).is_all(), &false)?;
     same_bytes(line, &told(alloc, command)?, want.as_bytes())
 }
 

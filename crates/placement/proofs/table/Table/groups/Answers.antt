@@ -1,4 +1,4 @@
-use Rattle.std.proofs.Common.{◌≡◌, ◌<◌, ◌≤◌, true, false, length, arith, sym, ap, ◌∙◌}
+use Rattle.std.proofs.Common.{◌≡◌, ◌<◌, ◌≤◌, true, false, length, slice_get, Some, arith, sym, ap, ◌∙◌}
 use Rattle.command_table.specs.Command.{keys_of, is_whole}
 use Rattle.std.proofs.lemmas.Bool.{false≢true}
 use Rattle.groups.specs.GroupSet.{chosen}
@@ -12,14 +12,18 @@ loop-index-init c = c.empty-groups.ensures ∙ sym (chosen-none 0 c.args.self.no
 
 pub loop-index-preserved : goal.loop-index-preserved
 loop-index-preserved c =
+    let count : c.len.result ≡ length (keys_of c.args.command.now) = c.len.ensures ∙ ap length c.keys_of.ensures.named in
     let within : c.loop-index.index < length (keys_of c.args.command.now) = omega arith in
+    let here : slice_get (keys_of c.args.command.now) c.loop-index.index ≡ Some c.at.result.now =
+        ap (λ keys. slice_get keys c.loop-index.index) (sym c.keys_of.ensures.named) ∙ c.at.ensures in
     c.with-groups.ensures ∙ rw c.loop-index.invariant
-    (with-key c.args.self.now (keys_of c.args.command.now) c.loop-index.index c.key_at.result.now c.shard_of.result within c.key_at.ensures
+    (with-key c.args.self.now (keys_of c.args.command.now) c.loop-index.index c.at.result.now c.shard_of.result within here
     c.shard_of.ensures.value c.shard_of.ensures.in_range)
 
 exact : (c : After-loop-index) → c.loop-index.groups ≡ groups_of c.args.self.now c.args.command.now
 exact c =
-    let part : is_whole c.args.command.now ≡ false = sym c.is_whole.ensures ∙ c.if-is_whole.false in
+    let part : is_whole c.args.command.now ≡ false = sym c.keys_of.ensures.whole ∙ sym c.is_all.ensures ∙ c.if-is_all.false in
+    let count : c.len.result ≡ length (keys_of c.args.command.now) = c.len.ensures ∙ ap length c.keys_of.ensures.named in
     let all : length (keys_of c.args.command.now) ≤ c.loop-index.index = omega arith in
     groups_of-keys c.args.self.now c.args.command.now c.loop-index.index c.loop-index.groups part all c.loop-index.invariant
 
@@ -36,19 +40,19 @@ returns-clause-no_other c = λ part group has. Any-groups_of c.args.self.now c.a
 -- where the command is whole
 
 whole : (c : After-all) → is_whole c.args.command.now ≡ true
-whole c = sym c.is_whole.ensures ∙ c.if-is_whole.true
+whole c = sym c.keys_of.ensures.whole ∙ sym c.is_all.ensures ∙ c.if-is_all.true
 
 all_groups : (c : After-all) → c.all.result ≡ groups_of c.args.self.now c.args.command.now
 all_groups c =
     c.all.ensures ∙ ap (chosen (λ _. true) 0) c.shards-shards.ensures.value
     ∙ groups_of-whole c.args.self.now c.args.command.now (whole c)
 
-pub returns-then-is_whole-clause-exact : goal.returns-then-is_whole-clause-exact
-returns-then-is_whole-clause-exact c = all_groups c
+pub returns-then-is_all-clause-exact : goal.returns-then-is_all-clause-exact
+returns-then-is_all-clause-exact c = all_groups c
 
-pub returns-then-is_whole-clause-each_key : goal.returns-then-is_whole-clause-each_key
-returns-then-is_whole-clause-each_key c = λ key at.
+pub returns-then-is_all-clause-each_key : goal.returns-then-is_all-clause-each_key
+returns-then-is_all-clause-each_key c = λ key at.
     rw (all_groups c) (has-groups_of-key c.args.self.now c.args.command.now key c.shards-shards.ensures.is_table at)
 
-pub returns-then-is_whole-clause-no_other : goal.returns-then-is_whole-clause-no_other
-returns-then-is_whole-clause-no_other c = λ part. absurd (false≢true (sym part ∙ whole c))
+pub returns-then-is_all-clause-no_other : goal.returns-then-is_all-clause-no_other
+returns-then-is_all-clause-no_other c = λ part. absurd (false≢true (sym part ∙ whole c))
