@@ -12,18 +12,18 @@ loop-index-init c = c.empty-groups.ensures ∙ sym (chosen-none 0 c.args.self.no
 
 pub loop-index-preserved : goal.loop-index-preserved
 loop-index-preserved c =
-    let count : c.len.result ≡ length (keys_of c.args.command.now) = c.len.ensures ∙ ap length c.keys_of.ensures.named in
+    let count : c.len-index-end.result ≡ length (keys_of c.args.command.now) = c.len-index-end.ensures ∙ ap length c.keys_of-keys.ensures.named in
     let within : c.loop-index.index < length (keys_of c.args.command.now) = omega arith in
     let here : slice_get (keys_of c.args.command.now) c.loop-index.index ≡ Some c.at.result.now =
-        ap (λ keys. slice_get keys c.loop-index.index) (sym c.keys_of.ensures.named) ∙ c.at.ensures in
+        ap (λ keys. slice_get keys c.loop-index.index) (sym c.keys_of-keys.ensures.named) ∙ c.at.ensures in
     c.with-groups.ensures ∙ rw c.loop-index.invariant
     (with-key c.args.self.now (keys_of c.args.command.now) c.loop-index.index c.at.result.now c.shard_of.result within here
     c.shard_of.ensures.value c.shard_of.ensures.in_range)
 
 exact : (c : After-loop-index) → c.loop-index.groups ≡ groups_of c.args.self.now c.args.command.now
 exact c =
-    let part : is_whole c.args.command.now ≡ false = sym c.keys_of.ensures.whole ∙ sym c.is_all.ensures ∙ c.if-is_all.false in
-    let count : c.len.result ≡ length (keys_of c.args.command.now) = c.len.ensures ∙ ap length c.keys_of.ensures.named in
+    let part : is_whole c.args.command.now ≡ false = sym c.keys_of-keys.ensures.whole ∙ sym c.is_all.ensures ∙ c.if-is_all.false in
+    let count : c.len-index-end.result ≡ length (keys_of c.args.command.now) = c.len-index-end.ensures ∙ ap length c.keys_of-keys.ensures.named in
     let all : length (keys_of c.args.command.now) ≤ c.loop-index.index = omega arith in
     groups_of-keys c.args.self.now c.args.command.now c.loop-index.index c.loop-index.groups part all c.loop-index.invariant
 
@@ -40,7 +40,7 @@ returns-clause-no_other c = λ part group has. Any-groups_of c.args.self.now c.a
 -- where the command is whole
 
 whole : (c : After-all) → is_whole c.args.command.now ≡ true
-whole c = sym c.keys_of.ensures.whole ∙ sym c.is_all.ensures ∙ c.if-is_all.true
+whole c = sym c.keys_of-keys.ensures.whole ∙ sym c.is_all.ensures ∙ c.if-is_all.true
 
 all_groups : (c : After-all) → c.all.result ≡ groups_of c.args.self.now c.args.command.now
 all_groups c =
