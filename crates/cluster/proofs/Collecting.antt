@@ -6,11 +6,11 @@ use Rattle.cluster.proofs.Submits.{said_once}
 use Rattle.cluster.proofs.Worlds.{step_seq, same_world}
 use Rattle.cluster.specs.Clusters.{SeatView, last_id, CanCollect, IsCollectFault}
 use Rattle.cluster.specs.Histories.{HistoryView, IsLawful, IsMade, IsFault}
-use Rattle.cluster.specs.Making.{effect_shown}
+use Rattle.front.specs.Making.{effect_shown}
 use Rattle.cluster.specs.Outcomes.{ComesFrom, IsAbove}
 use Rattle.cluster.specs.Submits.{submits_by, IsSaid, session_met}
-use Rattle.cluster.specs.declared.effect.Effect as ours
-use Rattle.cluster.specs.declared.effect.Effect.TheVariants as effect
+use Rattle.front.specs.declared.effect.Effect as ours
+use Rattle.front.specs.declared.effect.Effect.TheVariants as effect
 use Rattle.cluster.specs.declared.fault.StepFault.{StepFault}
 use Rattle.cluster.specs.declared.fault.StepFault.TheVariants as fault
 use Rattle.groups.proofs.Options.{some_same}

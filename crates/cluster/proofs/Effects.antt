@@ -1,13 +1,14 @@
 -- What a step answers that was made.
 use Rattle.std.proofs.Common.{◌≡◌, ℕ, suc, List, Option, refl, ap, ◌∙◌}
-use Rattle.cluster.specs.Histories.{HistoryView, IsMade, IsUnanswered, IsPlain}
-use Rattle.cluster.specs.Making.{effect_shown}
-use Rattle.cluster.specs.declared.effect.Effect as ours
-use Rattle.cluster.specs.declared.effect.Effect.TheVariants as effect
+use Rattle.cluster.specs.Histories.{HistoryView, IsMade, IsUnanswered}
+use Rattle.front.specs.Making.{effect_shown}
+use Rattle.front.specs.declared.effect.Effect as ours
+use Rattle.front.specs.declared.effect.Effect.TheVariants as effect
 use Rattle.groups.specs.declared.request.ConnId.{ConnId}
 use Rattle.groups.specs.declared.request.RequestId.{RequestId}
 use Rattle.journal.specs.declared.step.Step.{Step}
 use Rattle.journal.specs.declared.step.Step.TheVariants.{Open, Submit, Deliver, Take, Run, Settle, Collect, Close, Repeat}
+use Rattle.order_laws.specs.Runs.{LeavesLayers}
 use Rattle.placement.specs.Layout.{Layout}
 use Rattle.router.specs.declared.outcome.Outcome as kept
 use Rattle.world.specs.Steps.{Effect, Opened, Submitted, Collected, Made, Steps, next_id}
@@ -76,7 +77,7 @@ pub answers_nothing : (h h' : HistoryView) (s : Step) (e : ours.Effect) → IsUn
 answers_nothing h h' s e kind made =
     by_made e (nothing h.front.table made.world made.after s (effect_shown e) kind made.makes)
 
-pub plain_answer : (s : Step) → IsUnanswered s → IsPlain s
+pub plain_answer : (s : Step) → IsUnanswered s → LeavesLayers s
 plain_answer Open kind = absurd kind
 plain_answer (Submit conn words) kind = absurd kind
 plain_answer (Deliver place) kind = tt

@@ -8,7 +8,7 @@ use Rattle.cluster.proofs.Taking as taking
 use Rattle.cluster.proofs.Taking.{none_true}
 use Rattle.cluster.proofs.Tapes.{trace_still, trace_pushed}
 use Rattle.cluster.specs.Histories.{HistoryView, IsTrueIn, IsLawful, kept_for, IsHistory, kept_back, MayGoOn}
-use Rattle.cluster.specs.Histories.{IsMade, IsUnchanged, IsRefused, HasNoFault, IsFault, IsPlain}
+use Rattle.cluster.specs.Histories.{IsMade, IsUnchanged, IsRefused, HasNoFault, IsFault}
 use Rattle.cluster.specs.Layers.{HandsOut, IsSettled}
 use Rattle.cluster.specs.Making.{of_front}
 use Rattle.cluster.specs.Sealed.{TakenView, IsTaken, RanView, IsRan}
@@ -32,6 +32,7 @@ use Rattle.layer_planner.specs.declared.job.Job.{Job}
 use Rattle.layer_results.specs.Results.{names_of}
 use Rattle.layer_results.specs.declared.done.DoneRow.{DoneRow}
 use Rattle.order_laws.proofs.Layers.{others_leave_layers}
+use Rattle.order_laws.specs.Runs.{LeavesLayers}
 use Rattle.placement.specs.Layout.{Layout}
 use Rattle.serial_store.specs.Serial.{AreSerial}
 use Rattle.skeen_core.specs.declared.packet.Delivered.{Delivered}
@@ -44,7 +45,7 @@ history f most steps ran trace = record { front = f; max_steps = most; steps = s
 
 -- ---- numbers
 
-pub plain_kept : (step : Step) (out : List Delivered) → IsPlain step → kept_back step out ≡ kept_for out
+pub plain_kept : (step : Step) (out : List Delivered) → LeavesLayers step → kept_back step out ≡ kept_for out
 plain_kept Open out plain = refl
 plain_kept (Submit conn words) out plain = refl
 plain_kept (Deliver place) out plain = refl
@@ -53,7 +54,7 @@ plain_kept (Run starved) out plain = absurd plain
 plain_kept Settle out plain = absurd plain
 plain_kept (Collect conn) out plain = refl
 plain_kept (Close conn) out plain = refl
-plain_kept (Repeat place) out plain = absurd plain
+plain_kept (Repeat place) out plain = refl
 
 pub kept_few : (out : List Delivered) → kept_for out ≤ 2
 kept_few [] = omega arith
@@ -67,7 +68,7 @@ pub kept_none : (out : List Delivered) → out ≡ [] → kept_for out ≡ 0
 kept_none out none = ap kept_for none
 
 -- where so many steps are left one more may be made
-pub goes_on : (h : HistoryView) (step : Step) → IsPlain step → length h.steps + kept_for h.front.out < h.max_steps → MayGoOn h step
+pub goes_on : (h : HistoryView) (step : Step) → LeavesLayers step → length h.steps + kept_for h.front.out < h.max_steps → MayGoOn h step
 goes_on h step plain left = let kept = plain_kept step h.front.out plain in omega arith
 
 -- no number of the front has grown too large
@@ -88,7 +89,7 @@ same_out (HasRun es) a b here there = here.0 ∙ sym there.0
 module _ (t : Layout) (h : HistoryView) (is : IsHistory t h) where
   -- ---- a step is made
 
-  module _ (step : Step) (plain : IsPlain step) (effect : Effect) (new : FrontView) (makes : Makes h.front step effect new) where
+  module _ (step : Step) (plain : LeavesLayers step) (effect : Effect) (new : FrontView) (makes : Makes h.front step effect new) where
     pub made_legal : AreLegal t (h.steps ++ step ∷ [])
     made_legal =
         let next = stepping.next h is.world is.true_in step plain effect new makes in (
@@ -100,7 +101,7 @@ module _ (t : Layout) (h : HistoryView) (is : IsHistory t h) where
     pub out_stays : new.out ≡ h.front.out
     out_stays =
         let next = stepping.next h is.world is.true_in step plain effect new makes in
-        let keeps = others_leave_layers h.front.table is.world next.world step effect (stepping.leaves step plain) next.does in
+        let keeps = others_leave_layers h.front.table is.world next.world step effect plain next.does in
         same_out is.world.layer new.out h.front.out (subst (λ (l : Layer). IsOut l new.out) keeps.0 next.at.shows.out)
         is.true_in.at.shows.out
 

@@ -5,7 +5,6 @@ pub mod Tapes
 pub mod Counts
 pub mod Numbers
 pub mod Came
-pub mod Making
 pub mod Stepping
 pub mod Taking
 pub mod Settling

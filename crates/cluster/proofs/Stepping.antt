@@ -1,7 +1,7 @@
 -- A step that takes no layer and settles none: it is the world's own, and the front shows the world after it.
 use Rattle.std.proofs.Common.{◌≡◌, ℕ, ◌+◌, ◌<◌, List, [], ◌∷◌, ◌++◌, map, length, Option, refl, sym, ap, ◌∙◌, subst}
 use Rattle.std.proofs.Common.{append-nil, arith, length-append}
-use Rattle.cluster.specs.Histories.{HistoryView, IsTrueIn, IsMade, MayGoOn, IsPlain}
+use Rattle.cluster.specs.Histories.{HistoryView, IsTrueIn, IsMade, MayGoOn}
 use Rattle.front.specs.Fronts.{FrontView, FrontIsAt, HasNotRun}
 use Rattle.front.specs.Making.{IsStep, Makes}
 use Rattle.cluster.specs.declared.tape.Tape.{Tape}
@@ -16,18 +16,7 @@ use Rattle.serial_store.specs.Serial.{layer_of}
 use Rattle.world.specs.Steps.{opening, Effect, Steps, Leads}
 use Rattle.world.specs.World.{World}
 
-pub leaves : (s : Step) → IsPlain s → LeavesLayers s
-leaves Open plain = tt
-leaves (Submit conn words) plain = tt
-leaves (Deliver k) plain = tt
-leaves Take plain = absurd plain
-leaves (Run starved) plain = absurd plain
-leaves Settle plain = absurd plain
-leaves (Collect conn) plain = tt
-leaves (Close conn) plain = tt
-leaves (Repeat k) plain = absurd plain
-
-none_run : (w w' : World) (s : Step) → IsPlain s → run_by w s w' ≡ []
+none_run : (w w' : World) (s : Step) → LeavesLayers s → run_by w s w' ≡ []
 none_run w w' Open plain = refl
 none_run w w' (Submit conn words) plain = refl
 none_run w w' (Deliver k) plain = refl
@@ -41,7 +30,7 @@ none_run w w' (Repeat k) plain = refl
 module _ (h : HistoryView) (w : World) (is : IsTrueIn h w) where
   -- ---- the world after it
 
-  module _ (step : Step) (plain : IsPlain step) (effect : Effect) (new : FrontView) (makes : Makes h.front step effect new) where
+  module _ (step : Step) (plain : LeavesLayers step) (effect : Effect) (new : FrontView) (makes : Makes h.front step effect new) where
     pub record Next : Type 0 where
       pub world : World
       pub does : Steps h.front.table w step effect world

@@ -126,19 +126,7 @@ IsFault h step Memory = MayGoOn h step × HasNoFault h step
 
 -- ---- kinds of step
 
--- the step hands no layer out and tells nothing of one; and it is no link's, which repeats packets of itself
-abbrev pub IsPlain : Step → Type 0
-IsPlain Open = Unit {0}
-IsPlain (Submit conn words) = Unit {0}
-IsPlain (Deliver place) = Unit {0}
-IsPlain Take = ⊥
-IsPlain (Run starved) = ⊥
-IsPlain Settle = ⊥
-IsPlain (Collect conn) = Unit {0}
-IsPlain (Close conn) = Unit {0}
-IsPlain (Repeat place) = ⊥
-
--- and it answers nothing
+-- the step leaves the layer alone, is no link's, and answers nothing
 abbrev pub IsUnanswered : Step → Type 0
 IsUnanswered Open = ⊥
 IsUnanswered (Submit conn words) = ⊥

@@ -25,13 +25,12 @@ ghost use Rattle.front.specs.Connections.{outcome_shown};
 ghost use Rattle.world.specs.Steps.{Opened, Submitted, Collected, Made};
 
 use super::closing::Closing;
-use super::effect::Effect;
 use super::fault::StepFault;
 use super::names::{Leading, RunsOf, Server, StepsOf};
 use super::ordered::History;
 use super::pick::Pick;
 use super::sealed::{Piece, Ran, Taken};
-use front::Front;
+use front::{Effect, Front};
 use groups::{ConnId, RequestId, Stamp};
 use history::{Part, Writer};
 use journal::{Step, Trace};

@@ -10,14 +10,12 @@
 mod closing;
 mod cluster;
 mod counting;
-mod effect;
 mod fault;
 mod names;
 mod ordered;
 mod pick;
 mod running;
 mod sealed;
-mod steps;
 mod tape;
 
 pub use closing::Closing;

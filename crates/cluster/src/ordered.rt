@@ -3,30 +3,29 @@
 ghost use Rattle.std.specs.Prelude.{◌≡◌, ◌+◌, ◌≤◌, ◌<◌, true, false, [], length, IfOk, IfErr, OnOk, OnErr, IfSome, IfNone, None};
 ghost use mathlib.Core.List.{IsPrefix};
 ghost use Rattle.cluster.specs.Counting.{all_executed, all_starved, as_word};
-ghost use Rattle.cluster.specs.Histories.{kept_for, IsLawful, IsMade, IsUnchanged, IsFault, IsPlain, IsUnanswered};
+ghost use Rattle.cluster.specs.Histories.{kept_for, IsLawful, IsMade, IsUnchanged, IsFault, IsUnanswered};
 ghost use Rattle.cluster.specs.Layers.{HandsOut, IsSettled, IsSettleFault};
-ghost use Rattle.cluster.specs.Making.{effect_shown};
 ghost use Rattle.cluster.specs.Passing.{HasPassed};
 ghost use Rattle.cluster.specs.Pieces.{HandsOn as HandsPieceOn};
 ghost use Rattle.cluster.specs.declared.ordered.TheConstants.{STEPS_PASSED};
 ghost use Rattle.cluster.specs.Traces.{HasRoom, KeepsRoom, IsNotWhole, place_of};
 ghost use Rattle.cluster.specs.Turns.{Delivers, IsTurnFault};
 ghost use Rattle.cluster.specs.declared.fault.StepFault.{StepFault};
+ghost use Rattle.front.specs.Making.{effect_shown};
 ghost use Rattle.front.specs.Refusing.{WantsMemory};
 ghost use Rattle.journal.specs.Codes.{step_size};
 ghost use Rattle.journal.specs.declared.step.Step.{Step};
 ghost use Rattle.journal.specs.declared.trace.TheConstants.{GREATEST_STEPS};
+ghost use Rattle.order_laws.specs.Runs.{LeavesLayers};
 ghost use Rattle.world.specs.Steps.{Made};
 
 use super::counting::{executed_in, starved_in};
-use super::effect::Effect;
 use super::fault::StepFault;
 use super::names::{ItsRun, ItsStep, ItsSubmit, Leading, RunsOf, Server, StepsOf};
 use super::pick::Pick;
 use super::sealed::{Piece, Ran, Taken};
-use super::steps::{make, own_fault};
 use super::tape::{Tape, hand_on, place, push_keeping, push_run, take_back};
-use front::Front;
+use front::{Effect, Front};
 use groups::{ConnId, RequestId};
 use history::{Itself, Part, Writer};
 use journal::{Step, Trace};
@@ -254,13 +253,13 @@ impl<T: Tabled, L: Server> History<T, L> {
     /// Why a step isn't made for which there was no memory: what else refuses it comes first.
     #[cold]
     pub fn refusal(&self, step: &Step) -> StepFault
-        requires { IsPlain step.now }
+        requires { LeavesLayers step.now }
         ensures { IsFault self.now step.now result }
     {
         if self.is_exhausted() {
             return StepFault::Exhausted;
         }
-        match own_fault(&self.front, step) {
+        match self.front.own_fault(step) {
             Some(fault) => StepFault::from(fault),
             None => StepFault::Memory,
         }
@@ -268,12 +267,12 @@ impl<T: Tabled, L: Server> History<T, L> {
 
     /// The fault that a step has of its own, if it has one, where one more may be made.
     pub fn own_fault(&self, step: &Step) -> Option<StepFault>
-        requires plain { IsPlain step.now }
+        requires plain { LeavesLayers step.now }
         requires left { length self.now.steps + kept_for self.now.front.out < self.now.max_steps }
         ensures fault { IfSome result (IsFault self.now step.now) }
         ensures wants { IfSome result (λ fault. fault ≡ StepFault.Memory → WantsMemory step.now) }
     {
-        match own_fault(&self.front, step) {
+        match self.front.own_fault(step) {
             Some(fault) => Some(StepFault::from(fault)),
             None => None,
         }
@@ -289,7 +288,7 @@ impl<T: Tabled, L: Server> History<T, L> {
         kept: usize,
         behind: &Part<Leading<T>, StepsOf<L>>,
     ) -> Result<Effect, StepFault>
-        requires { IsPlain step }
+        requires { LeavesLayers step }
         ensures made { IfOk result (λ effect. IsMade self.old step (effect_shown effect) self.new) }
         ensures behind { OnOk result (IsPrefix behind.now self.old.steps) }
         ensures room { OnOk result (HasRoom kept self.new.trace) }
@@ -306,7 +305,7 @@ impl<T: Tabled, L: Server> History<T, L> {
             return Err(self.refusal(&step));
         };
         let made = Snapshot::of(&step);
-        match make(&mut self.front, step) {
+        match self.front.make(step) {
             Ok(effect) => {
                 self.told
                     .write_behind::<Snapshot<Step>, ItsStep>(made, behind);

@@ -1,6 +1,7 @@
 -- What a front refuses the world refuses, and what its parts ask of their numbers holds.
-use Rattle.std.proofs.Common.{◌≡◌, ◌≢◌, ℕ, ◌<◌, ◌≤◌, true, false, List, length, Some, refl, sym}
+use Rattle.std.proofs.Common.{◌≡◌, ◌≢◌, ℕ, ◌<◌, ◌≤◌, true, false, List, length, Option, Some, None, refl, sym}
 use Rattle.std.proofs.Common.{ap, ◌∙◌, subst, arith}
+use Rattle.std.specs.Prelude.{IfSome, IfNone}
 use Rattle.front.proofs.Standings.{shut_stands, shows_live, busy_stands, idle_stands, open_stands}
 use Rattle.front.specs.Faults.{of_submit, of_deliver}
 use Rattle.front.specs.Fronts.{FrontView, FrontIsAt, IsFront}
@@ -146,3 +147,13 @@ repeat_refused f place deliver.Memory none there = (
   tt,
   λ h w at'. repeat_not w place (subst (λ ps. place < length ps) at'.shows.multicast.packets (there refl)),
 )
+
+-- ---- by what the step says
+
+pub some_of : {A : Type 0} (P Q : A → Type 0) (o : Option A) → ((a : A) → P a → Q a) → IfSome o P → IfSome o Q
+some_of P Q None implies some = tt
+some_of P Q (Some a) implies some = implies a some
+
+pub none_of : {A : Type 0} {P Q : Type 0} (o : Option A) → (P → Q) → IfNone o P → IfNone o Q
+none_of None implies none = implies none
+none_of (Some a) implies none = tt

@@ -7,6 +7,7 @@
 #![tactic(auto)]
 
 mod connections;
+mod effect;
 mod fault;
 mod front;
 mod layers;
@@ -16,6 +17,8 @@ mod passing;
 mod refusing;
 mod requests;
 mod settling;
+mod stepping;
 
+pub use effect::Effect;
 pub use fault::FrontFault;
 pub use front::Front;

@@ -1,22 +1,26 @@
 -- The steps that the front makes are steps of the world, and what it refuses the world refuses.
-use Rattle.std.proofs.Common.{◌≡◌, ◌≢◌, ◌+◌, List, [], ◌∷◌, ◌++◌, Option, refl, sym, ap, ◌∙◌, subst, arith, append-nil}
-use Rattle.std.proofs.Common.{Some, None, Result, Ok, Err}
-use Rattle.std.specs.Prelude.{IfErr, OnErr, IfSome, IfNone}
+use Rattle.std.proofs.Common.{◌≡◌, ◌≢◌, ◌+◌, List, [], ◌∷◌, ◌++◌, refl, sym, ap, ◌∙◌, subst, arith, append-nil}
+use Rattle.std.proofs.Common.{Result, Ok, Err}
+use Rattle.std.specs.Prelude.{IfErr, OnErr}
 use Rattle.front.specs.Fronts.{FrontView, FrontIsAt}
 use Rattle.front.specs.Making as making
 use Rattle.front.specs.Refusing as refusing
 use Rattle.front.specs.Refusing.{MayStep}
 use Rattle.front.specs.Settling.{MaySettle}
 use Rattle.front.specs.Taking.{Takes}
+use Rattle.front.specs.declared.effect.Effect as fronts
+use Rattle.front.specs.declared.effect.Effect.TheVariants as fronts_effect
 use Rattle.front.specs.declared.fault.FrontFault.{FrontFault}
 use Rattle.front.specs.declared.fault.FrontFault.TheVariants as front_fault
+use Rattle.groups.specs.declared.skip_id.SkipId.{SkipId}
 use Rattle.journal.specs.Views.{RowView}
 use Rattle.journal.specs.declared.step.Step.{Step}
-use Rattle.journal.specs.declared.step.Step.TheVariants.{Take}
+use Rattle.journal.specs.declared.step.Step.TheVariants.{Open, Submit, Deliver, Take, Run, Settle, Collect, Close, Repeat}
 use Rattle.layer_planner.specs.declared.job.Job.{Job}
 use Rattle.layer_results.specs.declared.done.DoneRow.{DoneRow}
-use Rattle.system.proofs.Rest.{LeavesLayer, is_rest, keeps_asked, stage_same, store_same}
-use Rattle.system.specs.Faults.{of_front}
+use Rattle.order_laws.specs.Runs.{LeavesLayers}
+use Rattle.system.proofs.Rest.{is_rest, keeps_asked, stage_same, store_same}
+use Rattle.system.specs.Faults.{effect_of, of_front}
 use Rattle.system.specs.Halves.{IsAt, ShowsStage, Starves, Makes, Keeps, stored, effect_shown, ran_in}
 use Rattle.system.specs.Refusing.{Lives, RefusesNot, WantsMemory, IsFault}
 use Rattle.system.specs.declared.effect.Effect.{Effect}
@@ -81,7 +85,7 @@ abbrev pub FrontSteps : Halves → FrontView → Step → world.Effect → Type 
 FrontSteps old f step effect = (h : List Step) (w : World) → IsAt old h w →
     (w' : World) × Steps old.front.table w step effect w' × FrontIsAt f (h ++ step ∷ []) w'
 
-module _ (old : Halves) (f : FrontView) (step : Step) (leaves : LeavesLayer step) (counts : making.IsStep old.front f) where
+module _ (old : Halves) (f : FrontView) (step : Step) (leaves : LeavesLayers step) (counts : making.IsStep old.front f) where
   abbrev fronted : Halves
   fronted = record old { front = f }
 
@@ -114,6 +118,51 @@ module _ (old : Halves) (f : FrontView) (step : Step) (leaves : LeavesLayer step
     starves = λ h w at'. starves w;
     rows = no_more old.back.rows;
   }
+
+-- it is stored as it was given, and starves nothing
+pub stored_same : (s : Step) (e : Effect) → LeavesLayers s → stored s e ≡ s
+stored_same Open e leaves = refl
+stored_same (Submit conn words) e leaves = refl
+stored_same (Deliver place) e leaves = refl
+stored_same Take e leaves = absurd leaves
+stored_same (Run starved) e leaves = absurd leaves
+stored_same Settle e leaves = absurd leaves
+stored_same (Collect conn) e leaves = refl
+stored_same (Close conn) e leaves = refl
+stored_same (Repeat place) e leaves = refl
+
+pub starves_none : (p : Halves) (s : Step) (e : Effect) (w : World) → LeavesLayers s → Starves p s e w
+starves_none p Open e w leaves = tt
+starves_none p (Submit conn words) e w leaves = tt
+starves_none p (Deliver place) e w leaves = tt
+starves_none p Take e w leaves = absurd leaves
+starves_none p (Run starved) e w leaves = absurd leaves
+starves_none p Settle e w leaves = absurd leaves
+starves_none p (Collect conn) e w leaves = tt
+starves_none p (Close conn) e w leaves = tt
+starves_none p (Repeat place) e w leaves = tt
+
+-- a step that is none of the layer's leaves it alone
+pub alone : (s : Step) → s ≢ Take → ((starved : List SkipId) → s ≢ Run starved) → s ≢ Settle → LeavesLayers s
+alone Open takes runs settles = tt
+alone (Submit conn words) takes runs settles = tt
+alone (Deliver place) takes runs settles = tt
+alone Take takes runs settles = absurd (takes refl)
+alone (Run starved) takes runs settles = absurd (runs starved refl)
+alone Settle takes runs settles = absurd (settles refl)
+alone (Collect conn) takes runs settles = tt
+alone (Close conn) takes runs settles = tt
+alone (Repeat place) takes runs settles = tt
+
+-- what the front answers is what the system does, as the world says it
+shown_of : (made : fronts.Effect) → making.effect_shown made ≡ effect_shown (effect_of made)
+shown_of (fronts_effect.Opened conn) = refl
+shown_of (fronts_effect.Submitted id) = refl
+shown_of (fronts_effect.Collected outcome) = refl
+shown_of fronts_effect.Made = refl
+
+pub shown_same : (made : fronts.Effect) (e : Effect) → e ≡ effect_of made → making.effect_shown made ≡ effect_shown e
+shown_same made e same = shown_of made ∙ ap effect_shown (sym same)
 
 -- where the front makes it
 pub front_makes : (old : Halves) (f : FrontView) (step : Step) (effect : world.Effect) → making.Makes old.front step effect f →
@@ -159,14 +208,6 @@ pub told_fault : (old new : Halves) (step called : Step) (r : Result Effect Step
 told_fault old new step called (Ok effect) same fault keeps = tt
 told_fault old new step called (Err e) same fault keeps = λ other. (subst (λ s. IsFault old s e) (sym same) fault, keeps)
 
-pub some_of : {A : Type 0} (P Q : A → Type 0) (o : Option A) → ((a : A) → P a → Q a) → IfSome o P → IfSome o Q
-some_of P Q None implies some = tt
-some_of P Q (Some a) implies some = implies a some
-
-pub none_of : {A : Type 0} {P Q : Type 0} (o : Option A) → (P → Q) → IfNone o P → IfNone o Q
-none_of None implies none = implies none
-none_of (Some a) implies none = tt
-
 -- the halves are as they were where the front is
 pub front_kept : (old : Halves) (f : FrontView) → f ≡ old.front → Keeps old (record old { front = f })
 front_kept old f same = record { front = same; back = refl; stage = refl; starved = refl }
@@ -174,6 +215,18 @@ front_kept old f same = record { front = same; back = refl; stage = refl; starve
 -- what the front has no fault of
 pub admitted : (p : Halves) (step : Step) → refusing.RefusesNot p.front step → RefusesNot p step
 admitted p step none h w at' = none h w (front_at p h w at')
+
+-- such a step wants memory of the halves where it wants it of the front
+pub wants_so : (s : Step) → LeavesLayers s → refusing.WantsMemory s → WantsMemory s
+wants_so Open leaves wants = tt
+wants_so (Submit conn words) leaves wants = tt
+wants_so (Deliver place) leaves wants = tt
+wants_so Take leaves wants = tt
+wants_so (Run starved) leaves wants = tt
+wants_so Settle leaves wants = absurd leaves
+wants_so (Collect conn) leaves wants = wants
+wants_so (Close conn) leaves wants = wants
+wants_so (Repeat place) leaves wants = tt
 
 -- why the front refuses a step is why the halves do
 pub refused : (p : Halves) (step : Step) (f : FrontFault) → (refusing.WantsMemory step → WantsMemory step) →

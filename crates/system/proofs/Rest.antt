@@ -4,6 +4,7 @@ use Rattle.groups.specs.GroupSet.{has}
 use Rattle.journal.specs.declared.step.Step.{Step}
 use Rattle.journal.specs.declared.step.Step.TheVariants.{Open, Submit, Deliver, Take, Run, Settle, Collect, Close, Repeat}
 use Rattle.layer_planner.specs.declared.job.Job.{Job}
+use Rattle.order_laws.specs.Runs.{LeavesLayers}
 use Rattle.placement.specs.Layout.{Layout}
 use Rattle.shard_exec.specs.StoreStates.{StoreState}
 use Rattle.groups.specs.Order.{In}
@@ -46,18 +47,7 @@ collect_rest Idle w w' c effect made = rest_of w w' w made.1 (record { layer = r
 collect_rest Waiting w w' c effect made = rest_of w w' w made.1 (record { layer = refl; ended = refl; contents = refl })
 collect_rest (Answered o) w w' c effect made = rest_of w w' _ made.1 (record { layer = refl; ended = refl; contents = refl })
 
-abbrev pub LeavesLayer : Step → Type 0
-LeavesLayer Take = ⊥
-LeavesLayer (Run starved) = ⊥
-LeavesLayer Settle = ⊥
-LeavesLayer Open = Unit {0}
-LeavesLayer (Submit conn words) = Unit {0}
-LeavesLayer (Deliver place) = Unit {0}
-LeavesLayer (Collect conn) = Unit {0}
-LeavesLayer (Close conn) = Unit {0}
-LeavesLayer (Repeat place) = Unit {0}
-
-pub is_rest : (t : Layout) (w w' : World) (step : Step) (effect : Effect) → LeavesLayer step → Steps t w step effect w' → IsRest w w'
+pub is_rest : (t : Layout) (w w' : World) (step : Step) (effect : Effect) → LeavesLayers step → Steps t w step effect w' → IsRest w w'
 is_rest t w w' Open effect leaves made = rest_of w w' _ made.after (record { layer = refl; ended = refl; contents = refl })
 is_rest t w w' (Submit conn words) effect leaves made =
     let rest = submit_rest t (remembered w conn.0 words) conn.0 (answer_to w conn.0 words) in

@@ -1,5 +1,9 @@
 //! What a step answers.
 
+ghost use Rattle.std.specs.Prelude.{◌≡◌};
+ghost use Rattle.system.specs.Faults.{effect_of};
+
+use front::Effect as FrontEffect;
 use groups::{ConnId, RequestId};
 use journal::SkipIds;
 use router::Outcome;
@@ -22,4 +26,17 @@ pub enum Effect {
 
     /// A packet came, or a layer was taken or settled, or a connection was closed.
     Made,
+}
+
+impl From<FrontEffect> for Effect {
+    ghost from_gives = { λ made effect. effect ≡ effect_of made };
+
+    fn from(made: FrontEffect) -> Effect {
+        match made {
+            FrontEffect::Opened(conn) => Effect::Opened(conn),
+            FrontEffect::Submitted(id) => Effect::Submitted(id),
+            FrontEffect::Collected(outcome) => Effect::Collected(outcome),
+            FrontEffect::Made => Effect::Made,
+        }
+    }
 }

@@ -5,6 +5,7 @@ ghost use Rattle.system.specs.Halves.{Makes, Keeps};
 ghost use Rattle.system.specs.Refusing.{Lives, IsFault, MayFail, HasFailed};
 ghost use Rattle.system.specs.declared.fault.StepFault.{StepFault};
 ghost use Rattle.journal.specs.declared.step.Step.{Step};
+ghost use Rattle.order_laws.specs.Runs.{LeavesLayers};
 
 use super::effect::Effect;
 use super::fault::StepFault;
@@ -12,9 +13,8 @@ use super::outcomes::{most_of, note_starved};
 use super::stage::Stage;
 use back::Back;
 use front::Front;
-use groups::{ConnId, SkipId};
+use groups::SkipId;
 use journal::{SkipIds, Step};
-use resp::Request;
 use shard_exec::ExecFault;
 use shard_workers::{Gate, Workers};
 use std::alloc::Global;
@@ -48,73 +48,25 @@ impl Halves {
             → MayFail (W.may_refuse workers.now) self.old step × HasFailed self.old self.new) }
     {
         match step {
-            Step::Open => self.open(),
-            Step::Submit { conn, words } => self.submit(conn, words),
-            Step::Deliver { place } => self.deliver(place),
             Step::Take => self.take(),
             Step::Run { starved } => self.run(alloc, starved, workers, gate),
             Step::Settle => self.settle(),
-            Step::Collect { conn } => self.collect(conn),
-            Step::Close { conn } => self.close(conn),
-            Step::Repeat { place } => self.repeat(place),
+            alone => self.make_in_front(alone),
         }
     }
 
-    /// Opens the next connection.
-    fn open(&mut self) -> Result<Effect, StepFault>
-        requires { Lives self.old }
-        ensures made { IfOk result (λ effect. Makes self.old Step.Open effect self.new) }
-        ensures fault { IfErr result (IsFault self.old Step.Open) }
-        ensures no_failure { IfErr result (λ fault. fault ≢ StepFault.Failed) }
-        ensures keeps { OnErr result (Keeps self.old self.new) }
-    {
-        match self.front.open() {
-            Ok(conn) => Ok(Effect::Opened(conn)),
-            Err(fault) => Err(StepFault::from(fault)),
-        }
-    }
-
-    /// A connection submits a request of these words; a Start goes to each of its groups.
+    /// The front makes the step alone.
     #[inline(never)]
-    fn submit(&mut self, conn: ConnId, words: Request) -> Result<Effect, StepFault>
-        requires { Lives self.old }
-        ensures made { IfOk result (λ effect. Makes self.old (Step.Submit conn words) effect self.new) }
-        ensures fault { IfErr result (IsFault self.old (Step.Submit conn words)) }
+    fn make_in_front(&mut self, step: Step) -> Result<Effect, StepFault>
+        requires lives { Lives self.old }
+        requires alone { LeavesLayers step }
+        ensures made { IfOk result (λ effect. Makes self.old step effect self.new) }
+        ensures fault { IfErr result (IsFault self.old step) }
         ensures no_failure { IfErr result (λ fault. fault ≢ StepFault.Failed) }
         ensures keeps { OnErr result (Keeps self.old self.new) }
     {
-        match self.front.submit(conn, words) {
-            Ok(id) => Ok(Effect::Submitted(id)),
-            Err(fault) => Err(StepFault::from(fault)),
-        }
-    }
-
-    /// The packet at this place comes to its group.
-    #[inline(never)]
-    fn deliver(&mut self, place: u64) -> Result<Effect, StepFault>
-        requires { Lives self.old }
-        ensures made { IfOk result (λ effect. Makes self.old (Step.Deliver place) effect self.new) }
-        ensures fault { IfErr result (IsFault self.old (Step.Deliver place)) }
-        ensures no_failure { IfErr result (λ fault. fault ≢ StepFault.Failed) }
-        ensures keeps { OnErr result (Keeps self.old self.new) }
-    {
-        match self.front.deliver(place) {
-            Ok(()) => Ok(Effect::Made),
-            Err(fault) => Err(StepFault::from(fault)),
-        }
-    }
-
-    /// A link repeats the packet at this place.
-    #[inline(never)]
-    fn repeat(&mut self, place: u64) -> Result<Effect, StepFault>
-        requires { Lives self.old }
-        ensures made { IfOk result (λ effect. Makes self.old (Step.Repeat place) effect self.new) }
-        ensures fault { IfErr result (IsFault self.old (Step.Repeat place)) }
-        ensures no_failure { IfErr result (λ fault. fault ≢ StepFault.Failed) }
-        ensures keeps { OnErr result (Keeps self.old self.new) }
-    {
-        match self.front.repeat(place) {
-            Ok(()) => Ok(Effect::Made),
+        match self.front.make(step) {
+            Ok(effect) => Ok(Effect::from(effect)),
             Err(fault) => Err(StepFault::from(fault)),
         }
     }
@@ -200,35 +152,6 @@ impl Halves {
         };
         self.front.settle(done);
         Ok(Effect::Made)
-    }
-
-    /// Collects the outcome that waits for a connection, if one does. It takes no memory.
-    #[inline(never)]
-    fn collect(&mut self, conn: ConnId) -> Result<Effect, StepFault>
-        requires { Lives self.old }
-        ensures made { IfOk result (λ effect. Makes self.old (Step.Collect conn) effect self.new) }
-        ensures fault { IfErr result (IsFault self.old (Step.Collect conn)) }
-        ensures no_conn { IfErr result (λ fault. fault ≡ StepFault.NoConn) }
-        ensures keeps { OnErr result (Keeps self.old self.new) }
-    {
-        match self.front.collect(conn) {
-            Ok(outcome) => Ok(Effect::Collected(outcome)),
-            Err(fault) => Err(StepFault::from(fault)),
-        }
-    }
-
-    /// Closes a connection. It takes no memory.
-    fn close(&mut self, conn: ConnId) -> Result<Effect, StepFault>
-        requires { Lives self.old }
-        ensures made { IfOk result (λ effect. Makes self.old (Step.Close conn) effect self.new) }
-        ensures fault { IfErr result (IsFault self.old (Step.Close conn)) }
-        ensures no_conn { IfErr result (λ fault. fault ≡ StepFault.NoConn) }
-        ensures keeps { OnErr result (Keeps self.old self.new) }
-    {
-        match self.front.close(conn) {
-            Ok(()) => Ok(Effect::Made),
-            Err(fault) => Err(StepFault::from(fault)),
-        }
     }
 }
 

@@ -1,4 +1,4 @@
-//! The system: connections, groups, queues and shards as one machine of eight steps.
+//! The system: connections, groups, queues and shards as one machine of nine steps.
 //!
 //! It is two halves in one hand: the front, which makes every step but Run, and the store with its rows, which runs layers.
 //! It knows no thread and no socket. Whoever has it chooses the steps: which connection asks, which packet comes next,

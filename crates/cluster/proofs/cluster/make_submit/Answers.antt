@@ -4,7 +4,7 @@ use Rattle.cluster.proofs.Seats.{submitted_is}
 use Rattle.cluster.proofs.Submits.{said_now}
 use Rattle.cluster.proofs.Tapes.{room_less}
 use Rattle.cluster.specs.Histories.{IsMade}
-use Rattle.cluster.specs.Making.{effect_shown}
+use Rattle.front.specs.Making.{effect_shown}
 use Rattle.journal.specs.declared.step.Step.TheVariants.{Submit}
 use Rattle.cluster.proofs.cluster.make_submit.Goals as goal
 

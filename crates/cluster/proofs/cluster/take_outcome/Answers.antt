@@ -3,9 +3,9 @@ use Rattle.cluster.proofs.Collecting.{some_collected, above, own, from, collect_
 use Rattle.cluster.proofs.Effects.{collected_same}
 use Rattle.cluster.specs.Clusters.{SeatView}
 use Rattle.cluster.specs.Histories.{IsMade, IsFault}
-use Rattle.cluster.specs.Making.{effect_shown}
+use Rattle.front.specs.Making.{effect_shown}
 use Rattle.cluster.specs.Outcomes.{raised}
-use Rattle.cluster.specs.declared.effect.Effect.TheVariants.{Collected}
+use Rattle.front.specs.declared.effect.Effect.TheVariants.{Collected}
 use Rattle.journal.specs.declared.step.Step.TheVariants.{Collect}
 use Rattle.cluster.proofs.cluster.take_outcome.Goals as goal
 

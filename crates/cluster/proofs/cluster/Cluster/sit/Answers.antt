@@ -1,6 +1,6 @@
 use Rattle.std.proofs.Common.{◌+◌, ap, ◌∙◌, subst, arith}
 use Rattle.cluster.proofs.Effects.{opens}
-use Rattle.cluster.specs.Making.{effect_shown}
+use Rattle.front.specs.Making.{effect_shown}
 use Rattle.cluster.proofs.Seats.{cluster_sat, cluster_still, room_still, room_sat}
 use Rattle.cluster.proofs.cluster.Cluster.sit.Goals as goal
 

@@ -1,28 +1,9 @@
 use Rattle.std.proofs.Common.{sym, subst}
 use Rattle.std.specs.Prelude.{IfSome, IfNone}
-use Rattle.system.proofs.Fronting.{some_of, none_of}
+use Rattle.front.proofs.Refusals.{some_of, none_of}
+use Rattle.system.proofs.Fronting.{alone}
 use Rattle.system.specs.Refusing.{IsFault, RefusesNot}
 use Rattle.system.proofs.halves.Halves.own_fault.Goals as goal
-
-pub returns-in-Submit-clause-some : goal.returns-in-Submit-clause-some
-returns-in-Submit-clause-some c =
-    subst (λ s. IfSome c.submit_fault.result (IsFault c.args.self.now s)) (sym c.in-Submit.is)
-    (some_of _ _ c.submit_fault.result (λ fault why. why c.in-Submit.words) c.submit_fault.ensures.some)
-
-pub returns-in-Submit-clause-none : goal.returns-in-Submit-clause-none
-returns-in-Submit-clause-none c =
-    subst (λ s. IfNone c.submit_fault.result (RefusesNot c.args.self.now s)) (sym c.in-Submit.is)
-    (none_of c.submit_fault.result (λ none. none c.in-Submit.words) c.submit_fault.ensures.none)
-
-pub returns-in-Deliver-clause-some : goal.returns-in-Deliver-clause-some
-returns-in-Deliver-clause-some c =
-    subst (λ s. IfSome c.deliver_fault.result (IsFault c.args.self.now s)) (sym c.in-Deliver.is)
-    (some_of _ _ c.deliver_fault.result (λ fault why. why.0) c.deliver_fault.ensures.some)
-
-pub returns-in-Deliver-clause-none : goal.returns-in-Deliver-clause-none
-returns-in-Deliver-clause-none c =
-    subst (λ s. IfNone c.deliver_fault.result (RefusesNot c.args.self.now s)) (sym c.in-Deliver.is)
-    (none_of c.deliver_fault.result (λ none. none.0) c.deliver_fault.ensures.none)
 
 pub returns-in-Take-clause-some : goal.returns-in-Take-clause-some
 returns-in-Take-clause-some c =
@@ -54,32 +35,5 @@ returns-in-Settle-clause-none c =
     subst (λ s. IfNone c.settle_fault.result (RefusesNot c.args.self.now s)) (sym c.in-Settle.is)
     c.settle_fault.ensures.none
 
-pub returns-in-Collect-clause-some : goal.returns-in-Collect-clause-some
-returns-in-Collect-clause-some c =
-    subst (λ s. IfSome c.collect_fault.result (IsFault c.args.self.now s)) (sym c.in-Collect.is)
-    (some_of _ _ c.collect_fault.result (λ fault why. why.0) c.collect_fault.ensures.some)
-
-pub returns-in-Collect-clause-none : goal.returns-in-Collect-clause-none
-returns-in-Collect-clause-none c =
-    subst (λ s. IfNone c.collect_fault.result (RefusesNot c.args.self.now s)) (sym c.in-Collect.is)
-    (none_of c.collect_fault.result (λ none. none.0) c.collect_fault.ensures.none)
-
-pub returns-in-Close-clause-some : goal.returns-in-Close-clause-some
-returns-in-Close-clause-some c =
-    subst (λ s. IfSome c.collect_fault-in-Close.result (IsFault c.args.self.now s)) (sym c.in-Close.is)
-    (some_of _ _ c.collect_fault-in-Close.result (λ fault why. why.1) c.collect_fault-in-Close.ensures.some)
-
-pub returns-in-Close-clause-none : goal.returns-in-Close-clause-none
-returns-in-Close-clause-none c =
-    subst (λ s. IfNone c.collect_fault-in-Close.result (RefusesNot c.args.self.now s)) (sym c.in-Close.is)
-    (none_of c.collect_fault-in-Close.result (λ none. none.1) c.collect_fault-in-Close.ensures.none)
-
-pub returns-in-Repeat-clause-some : goal.returns-in-Repeat-clause-some
-returns-in-Repeat-clause-some c =
-    subst (λ s. IfSome c.deliver_fault-in-Repeat.result (IsFault c.args.self.now s)) (sym c.in-Repeat.is)
-    (some_of _ _ c.deliver_fault-in-Repeat.result (λ fault why. why.1) c.deliver_fault-in-Repeat.ensures.some)
-
-pub returns-in-Repeat-clause-none : goal.returns-in-Repeat-clause-none
-returns-in-Repeat-clause-none c =
-    subst (λ s. IfNone c.deliver_fault-in-Repeat.result (RefusesNot c.args.self.now s)) (sym c.in-Repeat.is)
-    (none_of c.deliver_fault-in-Repeat.result (λ none. none.1) c.deliver_fault-in-Repeat.ensures.none)
+pub front_fault-requires : goal.front_fault-requires
+front_fault-requires c = alone c.args.step.now c.in-default.not-Take c.in-default.not-Run c.in-default.not-Settle

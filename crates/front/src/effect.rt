@@ -1,9 +1,9 @@
-//! What a step answers.
+//! What a step of a front answers.
 
 use groups::{ConnId, RequestId};
 use router::Outcome;
 
-/// What a step that was made answers.
+/// What a step answers that a front made alone.
 #[derive(Drop)]
 pub enum Effect {
     /// The connection that was opened.
@@ -15,6 +15,6 @@ pub enum Effect {
     /// The outcome that waited for the connection, if one did.
     Collected(Option<Outcome>),
 
-    /// A packet came, or a connection was closed.
+    /// A packet came or was repeated, or a connection was closed.
     Made,
 }
