@@ -15,6 +15,8 @@ use router::Outcome;
 
 impl Front {
     /// Opens the next connection and gives its number. The only error is `Memory`, which changes nothing.
+    // A call, so that `make` is small where it is inlined.
+    #[inline(never)]
     pub fn open(&mut self) -> Result<ConnId, FrontFault>
         requires { MayStep self.old }
         ensures made { IfOk result (λ conn. Makes self.old Step.Open (Opened conn.0) self.new) }
@@ -28,6 +30,8 @@ impl Front {
 
     /// A connection takes the outcome of its request, if it is there. The only error is `NoConn`, which changes nothing. It takes
     /// no memory.
+    // A call, so that `make` is small where it is inlined.
+    #[inline(never)]
     pub fn collect(&mut self, conn: ConnId) -> Result<Option<Outcome>, FrontFault>
         requires { MayStep self.old }
         ensures made { IfOk result (λ given. Makes self.old (Step.Collect conn) (Collected (option_map outcome_shown given)) self.new) }
@@ -43,6 +47,8 @@ impl Front {
 
     /// Closes a connection. What it waits for still runs, and its outcome is dropped. The only error is `NoConn`, which
     /// changes nothing. It takes no memory.
+    // A call, so that `make` is small where it is inlined.
+    #[inline(never)]
     pub fn close(&mut self, conn: ConnId) -> Result<(), FrontFault>
         requires { MayStep self.old }
         ensures made { OnOk result (Makes self.old (Step.Close conn) Made self.new) }

@@ -24,8 +24,8 @@ impl Front {
     ///
     /// Errors, with nothing changed: `NoConn`, the connection isn't open; `Busy`, it hasn't collected the outcome of its last
     /// request; `Memory`.
-    // Inlined where its step is made, which is one place in a program.
-    #[inline(always)]
+    // A call, so that `make` is small where it is inlined.
+    #[inline(never)]
     pub fn submit(&mut self, conn: ConnId, words: Request) -> Result<RequestId, FrontFault>
         requires { MayStep self.old }
         ensures made { IfOk result (λ id. Makes self.old (Step.Submit conn words) (Submitted id) self.new) }
@@ -47,8 +47,8 @@ impl Front {
     /// The packet at this place of those under way, counted from 0 in order of sending, comes to its group.
     ///
     /// Errors, with nothing changed: `NoPacket`, no packet is at this place; `Memory`.
-    // Inlined where its step is made, which is one place in a program.
-    #[inline(always)]
+    // A call, so that `make` is small where it is inlined.
+    #[inline(never)]
     pub fn deliver(&mut self, place: u64) -> Result<(), FrontFault>
         requires { MayStep self.old }
         ensures made { OnOk result (Makes self.old (Step.Deliver place) Made self.new) }
@@ -63,6 +63,8 @@ impl Front {
     /// A link repeats the packet at this place of those under way: a copy of it goes behind all of them.
     ///
     /// Errors, with nothing changed: `NoPacket`, no packet is at this place; `Memory`.
+    // A call, so that `make` is small where it is inlined.
+    #[inline(never)]
     pub fn repeat(&mut self, place: u64) -> Result<(), FrontFault>
         requires { MayStep self.old }
         ensures made { OnOk result (Makes self.old (Step.Repeat place) Made self.new) }

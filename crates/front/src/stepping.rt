@@ -12,7 +12,7 @@ use journal::Step;
 
 impl Front {
     /// Makes the step, or says why it isn't made. An error changes nothing.
-    // Whoever makes a step knows which, so only that step's code is left where this is inlined.
+    // Whoever makes a step knows which, so only that step's call is left where this is inlined.
     #[inline(always)]
     pub fn make(&mut self, step: Step) -> Result<Effect, FrontFault>
         requires alone { LeavesLayers step }

@@ -80,7 +80,7 @@ impl CloseFault {
 pub(crate) const RESERVE: usize = 256 * 1024;
 
 /// So many bytes of the trace may be kept before whoever asks waits until they were handed on.
-const TRACE_AHEAD: usize = 512 * 1024;
+const TRACE_AHEAD: usize = 256 * 1024;
 
 /// A cluster, whether it is shut: then no one sits or asks any more; and whether it is stopped, since a layer was refused for
 /// good: then no step is made any more, but for the Closes of connections.
