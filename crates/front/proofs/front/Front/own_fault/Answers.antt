@@ -2,7 +2,7 @@ use Rattle.std.proofs.Common.{sym, subst}
 use Rattle.std.specs.Prelude.{IfSome, IfNone}
 use Rattle.front.specs.Refusing.{IsFault, RefusesNot}
 use Rattle.front.proofs.Refusals.{some_of, none_of}
-use Rattle.front.proofs.stepping.Front.own_fault.Goals as goal
+use Rattle.front.proofs.front.Front.own_fault.Goals as goal
 
 pub returns-in-Submit-clause-some : goal.returns-in-Submit-clause-some
 returns-in-Submit-clause-some c =

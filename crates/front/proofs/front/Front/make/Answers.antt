@@ -3,7 +3,7 @@ use Rattle.front.specs.Refusing.{IsFault}
 use Rattle.front.specs.Making.{Makes, effect_shown}
 use Rattle.front.specs.declared.effect.Effect.TheVariants as effect
 use Rattle.world.specs.Steps.{Opened, Submitted, Made}
-use Rattle.front.proofs.stepping.Front.make.Goals as goal
+use Rattle.front.proofs.front.Front.make.Goals as goal
 
 pub returns-in-Ok-clause-made : goal.returns-in-Ok-clause-made
 returns-in-Ok-clause-made c =
