@@ -51,7 +51,7 @@ module _ (h : HistoryView) (w : World) (is : IsTrueIn h w) where
       goes_on =
           let t = h.front.table in
           let counts = makes.is_step in
-          let keeps = others_leave_layers t w next.world step effect (leaves step plain) next.does in
+          let keeps = others_leave_layers t w next.world step effect plain next.does in
           record {
             at = next.at;
             not_run = subst HasNotRun (sym keeps.0) is.not_run;

@@ -15,10 +15,10 @@ returns-in-Settle-clause-fault g c =
     told_fault c.args.self.now c.settle.new.self c.args.step _ c.settle.result c.in-Settle.is c.settle.ensures.fault c.settle.ensures.keeps
 
 pub make_in_front-requires-clause-alone : goal.make_in_front-requires-clause-alone
-make_in_front-requires-clause-alone g c = alone c.args.step c.in-default.not-Take c.in-default.not-Run c.in-default.not-Settle
+make_in_front-requires-clause-alone g c = alone c.args.step c.in_default.not-Take c.in_default.not-Run c.in_default.not-Settle
 
-pub returns-in-default-clause-fault : goal.returns-in-default-clause-fault
-returns-in-default-clause-fault g c =
+pub returns-in_default-clause-fault : goal.returns-in_default-clause-fault
+returns-in_default-clause-fault g c =
     told_fault c.args.self.now c.make_in_front.new.self c.args.step _ c.make_in_front.result refl c.make_in_front.ensures.fault
     c.make_in_front.ensures.keeps
 

@@ -36,4 +36,4 @@ returns-in-Settle-clause-none c =
     c.settle_fault.ensures.none
 
 pub front_fault-requires : goal.front_fault-requires
-front_fault-requires c = alone c.args.step.now c.in-default.not-Take c.in-default.not-Run c.in-default.not-Settle
+front_fault-requires c = alone c.args.step.now c.in_default.not-Take c.in_default.not-Run c.in_default.not-Settle

@@ -1,7 +1,7 @@
 use Rattle.std.proofs.Common.{false, sym, subst}
 use Rattle.std.specs.Prelude.{IfSome, IfNone}
 use Rattle.system.proofs.Lasting.{refused_still}
-use Rattle.system.proofs.Fronting.{some_of, none_of}
+use Rattle.front.proofs.Refusals.{some_of, none_of}
 use Rattle.system.specs.System.{SystemView, MayGoOn, IsAdmitted, IsRefused}
 use Rattle.system.specs.declared.system.System.TheInside.{Inside}
 use Rattle.system.proofs.system.System.refuses.Goals as goal
