@@ -1,11 +1,11 @@
 -- Command lines, their options and flags, and what the values of these say.
-use Rattle.std.specs.Prelude.{◌≡◌, ◌<◌, ◌^◌, ◌⊎◌, ℕ, Bool, true, false, pos, Option, Some, None, codes}
+use Rattle.std.specs.Prelude.{◌≡◌, ◌<◌, ◌^◌, ◌⊎◌, ℕ, Bool, true, false, pos, List, [], ◌∷◌, Option, Some, None, codes}
 use Rattle.std.specs.Net.Grammar.{IsIpText}
 use Rattle.std.specs.Option.{option_map_or}
 use Rattle.std.specs.Str.{bytes_eq}
 use Rattle.std.specs.Str.Parse.{IsNumeral, digits_value, without_leading_plus}
 use Rattle.std.specs.declared.net.ip_addr.IpAddr.{IpAddr}
-use Rattle.clap.specs.Words.{App, Rule, Text, new_app, new_rule}
+use Rattle.clap.specs.Words.{App, Rule, Text, new_app, new_rule, with_rule}
 use Rattle.clap.specs.declared.builder.action.ArgAction.TheVariants.{SetTrue}
 use Rattle.clap.specs.declared.builder.value_parser.ValueParser.{ValueParser}
 use Rattle.clap.specs.declared.builder.value_parser.ValueParser.TheVariants as parser
@@ -38,6 +38,11 @@ a_u64 = parser.Unsigned 0 18446744073709551615
 -- a flag of this name, which takes none
 abbrev pub flag_named : Text → Rule
 flag_named name = record (new_rule name) { long = Some name; action = Some SetTrue }
+
+-- a command line with these options behind its own
+abbrev pub with_rules : App → List Rule → App
+with_rules line [] = line
+with_rules line (r ∷ rs) = with_rules (with_rule line r) rs
 
 -- ---- what values say
 

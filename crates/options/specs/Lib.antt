@@ -1,4 +1,5 @@
 pub mod CommandLine
+pub mod OptionRows
 pub mod Picture
 pub mod Refusals
 pub mod Replay

@@ -24,9 +24,17 @@ IsRefusalBy line IsOut HasNone words (Range name) = IsOut (matches_of line words
 IsRefusalBy line IsOut HasNone words Address = HasNone (matches_of line words)
 IsRefusalBy line IsOut HasNone words Memory = ⊤
 
+-- no option is out of its bounds
+abbrev pub none_is_out : List Row → Text → Type 0
+none_is_out rows name = ⊥
+
 -- the words of no program but the server's name an address
 abbrev pub names_none : List Row → Type 0
 names_none rows = ⊥
+
+-- clap refuses the words, or there is no memory
+abbrev pub IsRefusalOf : App → List Text → OptionsFault → Type 0
+IsRefusalOf line = IsRefusalBy line none_is_out names_none
 
 -- ---- what is told
 

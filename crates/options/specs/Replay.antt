@@ -1,26 +1,26 @@
 -- What the words of the replayer's command line say.
-use Rattle.std.specs.Prelude.{◌≡◌, ◌⊎◌, List, Some, None, codes}
-use Rattle.clap.specs.Words.{App, Row, Text, first_of, matches_of, with_rule}
-use Rattle.options.specs.CommandLine.{SaysOr, IsOutside, is_given, a_u64, app_named, flag_named, needed_named, number_named}
+use Rattle.std.specs.Prelude.{◌≡◌, ◌⊎◌, List, [], ◌∷◌, Some, None, codes}
+use Rattle.clap.specs.Words.{App, Row, Text, first_of, matches_of}
+use Rattle.options.specs.CommandLine.{SaysOr, IsOutside, is_given, a_u64, app_named, flag_named, needed_named, number_named, with_rules}
 use Rattle.options.specs.Refusals.{IsRefusalBy, LacksBy, names_none}
 use Rattle.options.specs.declared.fault.OptionsFault.{OptionsFault}
 use Rattle.options.specs.declared.replay.Asked.{Asked}
-use Rattle.options.specs.declared.command_line.TheConstants.{WORKERS, GREATEST_WORKERS}
 
 -- the command line's options
 abbrev pub line : App
 line =
-    with_rule (with_rule (with_rule (with_rule (app_named (codes "shardkv-replay"))
-    (needed_named (codes "table")))
-    (needed_named (codes "trace")))
-    (number_named a_u64 (codes "workers")))
-    (flag_named (codes "part"))
+    with_rules (app_named (codes "shardkv-replay"))
+    (needed_named (codes "table")
+    ∷ needed_named (codes "trace")
+    ∷ number_named a_u64 (codes "workers")
+    ∷ flag_named (codes "part")
+    ∷ [])
 
 -- these rows of options and their values say so
 pub record AreSaidBy (rows : List Row) (asked : Asked) : Type 0 where
   pub table : first_of (codes "table") rows ≡ Some asked.table.now
   pub trace : first_of (codes "trace") rows ≡ Some asked.trace.now
-  pub workers : SaysOr WORKERS (first_of (codes "workers") rows) asked.workers
+  pub workers : SaysOr 1 (first_of (codes "workers") rows) asked.workers
   pub part : asked.part ≡ is_given (first_of (codes "part") rows)
 
 -- the words say so, by the values that clap finds in them
@@ -34,7 +34,7 @@ abbrev pub IsOutOfBounds : List Row → Text → Type 0
 IsOutOfBounds rows name =
     ((name ≡ codes "table") × (first_of (codes "table") rows ≡ None))
     ⊎ (((name ≡ codes "trace") × (first_of (codes "trace") rows ≡ None))
-    ⊎ ((name ≡ codes "workers") × IsOutside WORKERS 1 GREATEST_WORKERS (first_of (codes "workers") rows)))
+    ⊎ ((name ≡ codes "workers") × IsOutside 1 1 64 (first_of (codes "workers") rows)))
 
 abbrev pub Lacks : List Row → OptionsFault → Type 0
 Lacks = LacksBy IsOutOfBounds names_none

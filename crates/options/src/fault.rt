@@ -1,11 +1,14 @@
 //! Why the words of a command line say nothing that its program can do.
 
-ghost use Rattle.std.specs.Prelude.{◌≡◌};
+ghost use Rattle.std.specs.IoError.{error_kind};
+ghost use Rattle.std.specs.Prelude.{◌≡◌, ◌≢◌};
+ghost use Rattle.std.specs.declared.io.ErrorKind.TheVariants as io_kind;
 ghost use Rattle.options.specs.Refusals.{HasStatus, TellsRefusal};
 ghost use Rattle.options.specs.declared.fault.OptionsFault.TheVariants as options_fault;
 
 use clap::error::ErrorKind;
 use std::alloc::AllocError;
+use std::io;
 use thiserror::Error;
 
 /// Why words say no options of a program.
@@ -68,5 +71,16 @@ impl OptionsFault {
                 memory
             }
         }
+    }
+}
+
+/// The status of a fault of the system: this one, or the other where memory was wanting.
+pub fn status_of(fault: &io::Error, status: u8, memory: u8) -> u8
+    ensures other { error_kind fault.now ≢ io_kind.OutOfMemory → result ≡ status }
+    ensures memory { error_kind fault.now ≡ io_kind.OutOfMemory → result ≡ memory }
+{
+    match fault.kind() {
+        io::ErrorKind::OutOfMemory => memory,
+        _ => status,
     }
 }

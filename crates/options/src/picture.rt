@@ -1,20 +1,29 @@
 //! The words of the command line of `shardkv-picture`.
 
 ghost use Rattle.std.specs.Prelude.{◌≡◌, [], IfOk, IfErr, OnOk, map};
-ghost use Rattle.clap.specs.Words.{app_of, fault_of, found_of, rows_of};
+ghost use Rattle.clap.specs.Words.{fault_of, found_of, rows_of};
 ghost use Rattle.options.specs.Picture.{AreSaid, AreSaidBy, IsRefusal, Lacks, line};
 
-use crate::command_line::{named, needed, number, number_within, value_in};
+use crate::command_line::{TABLE, TRACE, found_in};
 use crate::fault::OptionsFault;
-use clap::{ArgMatches, Command};
-use std::alloc::{AllocError, Global};
+use crate::option_row::{Kind, OptionRow};
+use clap::ArgMatches;
+use std::alloc::Global;
 use std::convert::AsStr;
 
-/// The first step that is drawn where the words name none.
-const FIRST: u64 = 0;
+/// The options.
+#[rattlefmt::skip]
+const ROWS: [OptionRow; 4] = [
+    TABLE,
+    TRACE,
+    OptionRow { name: "from", kind: Kind::Number("STEP", ALL, 0),
+        help: "The first step that is drawn [default: 0]" },
+    OptionRow { name: "to", kind: Kind::Number("STEP", ALL, u64::MAX),
+        help: "The first step that isn't drawn [default: none]" },
+];
 
-/// The first step that isn't drawn where the words name none.
-const LAST: u64 = u64::MAX;
+/// The least and the greatest number of a step.
+const ALL: (u64, u64) = (0, u64::MAX);
 
 /// What the words ask for.
 #[derive(Clone, Copy, Debug, Drop)]
@@ -42,29 +51,8 @@ pub fn read_options<'a, S: AsStr>(alloc: Global, words: &'a [S]) -> Result<Asked
     ensures taken { OnOk result (fault_of line (map S.text words.now) ≡ []) }
     ensures refused { IfErr result (IsRefusal (map S.text words.now)) }
 {
-    let line = line(alloc)?;
-    let found = match line.try_get_matches_from(words) {
-        Ok(found) => found,
-        Err(error) => return Err(OptionsFault::from(error)),
-    };
+    let found = found_in(alloc, "shardkv-picture", &ROWS, words)?;
     asked_in(&found)
-}
-
-/// The command line.
-fn line<'a>(alloc: Global) -> Result<Command<'a>, AllocError>
-    ensures { IfOk result (λ command. app_of command ≡ line) }
-{
-    let table = needed(alloc, "table", "FILE", "The placement table");
-    let trace = needed(alloc, "trace", "FILE", "The trace");
-    let from = "The first step that is drawn [default: 0]";
-    let from = number(alloc, "from", "STEP", from);
-    let to = "The first step that isn't drawn [default: none]";
-    let to = number(alloc, "to", "STEP", to);
-    named(alloc, "shardkv-picture")
-        .arg(table)?
-        .arg(trace)?
-        .arg(from)?
-        .arg(to)
 }
 
 /// What the options that were given ask for.
@@ -72,18 +60,11 @@ fn asked_in<'a>(found: &ArgMatches<'a>) -> Result<Asked<'a>, OptionsFault>
     ensures said { IfOk result (AreSaidBy (rows_of (found_of found.now))) }
     ensures refused { IfErr result (Lacks (rows_of (found_of found.now))) }
 {
-    let Some(table) = value_in(found, "table") else {
-        return Err(OptionsFault::Range("table"));
-    };
-    let Some(trace) = value_in(found, "trace") else {
-        return Err(OptionsFault::Range("trace"));
-    };
-    let from = number_within(found, "from", FIRST, 0, u64::MAX)?;
-    let to = number_within(found, "to", LAST, 0, u64::MAX)?;
+    let [table, trace, from, to] = &ROWS;
     Ok(Asked {
-        table,
-        trace,
-        from,
-        to,
+        table: table.needed(found)?,
+        trace: trace.needed(found)?,
+        from: from.number(found)?,
+        to: to.number(found)?,
     })
 }

@@ -1,16 +1,25 @@
 //! The words of the command line of `shardkv-replay`.
 
 ghost use Rattle.std.specs.Prelude.{◌≡◌, ◌≤◌, [], IfOk, IfErr, OnOk, map};
-ghost use Rattle.clap.specs.Words.{app_of, fault_of, found_of, rows_of};
+ghost use Rattle.clap.specs.Words.{fault_of, found_of, rows_of};
 ghost use Rattle.options.specs.Replay.{AreSaid, AreSaidBy, IsRefusal, Lacks, line};
 
-use crate::command_line::{
-    GREATEST_WORKERS, WORKERS, flag, flag_in, named, needed, number, number_within, value_in,
-};
+use crate::command_line::{TABLE, TRACE, WORKERS, found_in};
 use crate::fault::OptionsFault;
-use clap::{ArgMatches, Command};
-use std::alloc::{AllocError, Global};
+use crate::option_row::{Kind, OptionRow};
+use clap::ArgMatches;
+use std::alloc::Global;
 use std::convert::AsStr;
+
+/// The options.
+#[rattlefmt::skip]
+const ROWS: [OptionRow; 4] = [
+    TABLE,
+    TRACE,
+    WORKERS,
+    OptionRow { name: "part", kind: Kind::Flag,
+        help: "The trace may be cut, as a killed server leaves it in FILE.part" },
+];
 
 /// What the words ask for.
 #[derive(Clone, Copy, Debug, Drop)]
@@ -40,29 +49,8 @@ pub fn read_options<'a, S: AsStr>(alloc: Global, words: &'a [S]) -> Result<Asked
     ensures taken { OnOk result (fault_of line (map S.text words.now) ≡ []) }
     ensures refused { IfErr result (IsRefusal (map S.text words.now)) }
 {
-    let line = line(alloc)?;
-    let found = match line.try_get_matches_from(words) {
-        Ok(found) => found,
-        Err(error) => return Err(OptionsFault::from(error)),
-    };
+    let found = found_in(alloc, "shardkv-replay", &ROWS, words)?;
     asked_in(&found)
-}
-
-/// The command line.
-fn line<'a>(alloc: Global) -> Result<Command<'a>, AllocError>
-    ensures { IfOk result (λ command. app_of command ≡ line) }
-{
-    let table = needed(alloc, "table", "FILE", "The placement table");
-    let trace = needed(alloc, "trace", "FILE", "The trace");
-    let workers = "How many workers, 1 to 64 [default: 1]";
-    let workers = number(alloc, "workers", "N", workers);
-    let part = "The trace may be cut, as a killed server leaves it in FILE.part";
-    let part = flag(alloc, "part", part);
-    named(alloc, "shardkv-replay")
-        .arg(table)?
-        .arg(trace)?
-        .arg(workers)?
-        .arg(part)
 }
 
 /// What the options that were given ask for.
@@ -72,17 +60,11 @@ fn asked_in<'a>(found: &ArgMatches<'a>) -> Result<Asked<'a>, OptionsFault>
     ensures said { IfOk result (AreSaidBy (rows_of (found_of found.now))) }
     ensures refused { IfErr result (Lacks (rows_of (found_of found.now))) }
 {
-    let Some(table) = value_in(found, "table") else {
-        return Err(OptionsFault::Range("table"));
-    };
-    let Some(trace) = value_in(found, "trace") else {
-        return Err(OptionsFault::Range("trace"));
-    };
-    let workers = number_within(found, "workers", WORKERS, 1, GREATEST_WORKERS)?;
+    let [table, trace, workers, part] = &ROWS;
     Ok(Asked {
-        table,
-        trace,
-        workers: workers as u8,
-        part: flag_in(found, "part"),
+        table: table.needed(found)?,
+        trace: trace.needed(found)?,
+        workers: workers.number(found)? as u8,
+        part: part.is_given(found),
     })
 }

@@ -1,35 +1,39 @@
 //! The words of the command line of `shardkv-server`.
 
 ghost use Rattle.std.specs.Prelude.{◌≡◌, [], IfOk, IfErr, OnOk, map};
-ghost use Rattle.clap.specs.Words.{app_of, fault_of, found_of, rows_of};
+ghost use Rattle.clap.specs.Words.{fault_of, found_of, rows_of};
 ghost use Rattle.options.specs.Server.{InRange, AreSaid, AreSaidBy, IsRefusal, Lacks, line};
 
-use crate::command_line::{
-    GREATEST_WORKERS, WORKERS, address_in, flag, flag_in, named, needed, number, number_within,
-    short_number, value_in, valued,
-};
+use crate::command_line::{TABLE, WORKERS, found_in};
 use crate::fault::OptionsFault;
-use clap::{ArgMatches, Command};
+use crate::option_row::Kind::{Flag, Number, ShortNumber, Valued};
+use crate::option_row::OptionRow;
+use clap::ArgMatches;
 use journal::GREATEST_STEPS;
-use std::alloc::{AllocError, Global};
+use std::alloc::Global;
 use std::convert::AsStr;
 use std::net::IpAddr;
 use std::num::NonZeroUsize;
 
-/// The port where the words name none.
-const PORT: u16 = 7379;
-
-/// The connections where the words name none.
-const CONNECTIONS: u64 = 64;
-
-/// The steps where the words name none.
-const MAX_STEPS: u64 = 1_000_000;
-
-/// The seconds between two reports where the words name none: there is no report.
-const NO_REPORT: u64 = 0;
-
-/// The most seconds between two reports: a day.
-const GREATEST_REPORT: u64 = 86_400;
+/// The options.
+#[rattlefmt::skip]
+const ROWS: [OptionRow; 9] = [
+    TABLE,
+    OptionRow { name: "port", kind: ShortNumber("N", (0, 65_535), 7379),
+        help: "The port, 0 for any free one [default: 7379]" },
+    OptionRow { name: "bind", kind: Valued("ADDRESS"),
+        help: "The address that it listens at [default: 127.0.0.1]" },
+    WORKERS,
+    OptionRow { name: "connections", kind: Number("N", (1, u64::MAX), 64),
+        help: "How many connections are served, at least 1 [default: 64]" },
+    OptionRow { name: "max-steps", kind: Number("N", (1, GREATEST_STEPS), 1_000_000),
+        help: "At most how many steps are made, 1 to 2^62 [default: 1000000]" },
+    OptionRow { name: "trace", kind: Valued("FILE"),
+        help: "The file that the trace is written to" },
+    OptionRow { name: "report", kind: Number("SECONDS", (0, 86_400), 0),
+        help: "Every how many seconds it tells how far it is, at most 86400, 0 for never [default: 0]" },
+    OptionRow { name: "until-input-ends", kind: Flag, help: "End when standard input ends" },
+];
 
 /// What the server is to do.
 #[derive(Clone, Copy, Debug)]
@@ -66,75 +70,42 @@ pub fn read_options<'a, S: AsStr>(
     ensures taken { OnOk result (fault_of line (map S.text words.now) ≡ []) }
     ensures refused { IfErr result (IsRefusal (map S.text words.now)) }
 {
-    let command = command(alloc)?;
-    let matches = match command.try_get_matches_from(words) {
-        Ok(matches) => matches,
-        Err(error) => return Err(OptionsFault::from(error)),
-    };
-    options_of(&matches)
-}
-
-/// The command line.
-fn command<'a>(alloc: Global) -> Result<Command<'a>, AllocError>
-    ensures { IfOk result (λ command. app_of command ≡ line) }
-{
-    let table = needed(alloc, "table", "FILE", "The placement table");
-    let port = "The port, 0 for any free one [default: 7379]";
-    let port = short_number(alloc, "port", "N", port);
-    let bind = "The address that it listens at [default: 127.0.0.1]";
-    let bind = valued(alloc, "bind", "ADDRESS", bind);
-    let workers = "How many workers, 1 to 64 [default: 1]";
-    let workers = number(alloc, "workers", "N", workers);
-    let connections = "How many connections are served, at least 1 [default: 64]";
-    let connections = number(alloc, "connections", "N", connections);
-    let max_steps = "At most how many steps are made, 1 to 2^62 [default: 1000000]";
-    let max_steps = number(alloc, "max-steps", "N", max_steps);
-    let trace = "The file that the trace is written to";
-    let trace = valued(alloc, "trace", "FILE", trace);
-    let report =
-        "Every how many seconds it tells how far it is, at most 86400, 0 for never [default: 0]";
-    let report = number(alloc, "report", "SECONDS", report);
-    let until_input_ends = "End when standard input ends";
-    let until_input_ends = flag(alloc, "until-input-ends", until_input_ends);
-    named(alloc, "shardkv-server")
-        .arg(table)?
-        .arg(port)?
-        .arg(bind)?
-        .arg(workers)?
-        .arg(connections)?
-        .arg(max_steps)?
-        .arg(trace)?
-        .arg(report)?
-        .arg(until_input_ends)
+    let found = found_in(alloc, "shardkv-server", &ROWS, words)?;
+    options_of(&found)
 }
 
 /// The options that were given, and the defaults of those that were not.
-fn options_of<'a>(matches: &ArgMatches<'a>) -> Result<Options<'a>, OptionsFault>
+fn options_of<'a>(found: &ArgMatches<'a>) -> Result<Options<'a>, OptionsFault>
     ensures range { IfOk result InRange }
-    ensures said { IfOk result (AreSaidBy (rows_of (found_of matches.now))) }
-    ensures refused { IfErr result (Lacks (rows_of (found_of matches.now))) }
+    ensures said { IfOk result (AreSaidBy (rows_of (found_of found.now))) }
+    ensures refused { IfErr result (Lacks (rows_of (found_of found.now))) }
 {
-    let Some(table) = value_in(matches, "table") else {
-        return Err(OptionsFault::Range("table"));
-    };
-    let port = number_within(matches, "port", u64::from(PORT), 0, u64::from(u16::MAX))?;
-    let bind = address_in(matches, "bind")?;
-    let workers = number_within(matches, "workers", WORKERS, 1, GREATEST_WORKERS)?;
-    let Some(workers) = NonZeroUsize::new(workers as usize) else {
-        unreachable!()
-    };
-    let connections = number_within(matches, "connections", CONNECTIONS, 1, u64::MAX)?;
-    let max_steps = number_within(matches, "max-steps", MAX_STEPS, 1, GREATEST_STEPS)?;
-    let report = number_within(matches, "report", NO_REPORT, 0, GREATEST_REPORT)?;
-    Ok(Options {
+    let [
         table,
-        port: port as u16,
+        port,
         bind,
         workers,
         connections,
         max_steps,
-        trace: value_in(matches, "trace"),
+        trace,
         report,
-        until_input_ends: flag_in(matches, "until-input-ends"),
+        until_input_ends,
+    ] = &ROWS;
+    let table = table.needed(found)?;
+    let port = port.number(found)? as u16;
+    let bind = bind.address(found)?;
+    let Some(workers) = NonZeroUsize::new(workers.number(found)? as usize) else {
+        unreachable!()
+    };
+    Ok(Options {
+        table,
+        port,
+        bind,
+        workers,
+        connections: connections.number(found)?,
+        max_steps: max_steps.number(found)?,
+        trace: trace.value(found),
+        report: report.number(found)?,
+        until_input_ends: until_input_ends.is_given(found),
     })
 }

@@ -13,47 +13,33 @@
 mod tests;
 
 use options::picture::read_options;
+use options::reading_traces::{MEMORY, files, words};
 use picture::told;
 use replay::Line;
-use std::io::{self, ErrorKind, IsTerminal};
+use std::io::IsTerminal;
 use std::process::ExitCode;
-use std::{env, fs};
 
 /// The program's name.
 const PROGRAM: &str = "shardkv-picture";
 
 fn main(rt: HostRuntime) -> ExitCode {
-    let words = match words(&rt) {
-        Ok(words) => words,
-        Err(fault) => return ExitCode::from(status_of_read(&fault, 2)),
-    };
+    match draw(&rt) {
+        Ok(()) => ExitCode::from(0),
+        Err(status) => ExitCode::from(status),
+    }
+}
+
+/// Draws what the words ask for; else what went wrong is told, and its status given.
+fn draw(rt: &HostRuntime) -> Result<(), u8> {
+    let words = words(rt)?;
     let asked = match read_options(rt.alloc(), words.as_slice()) {
         Ok(asked) => asked,
-        Err(fault) => return ExitCode::from(fault.tell(&rt, PROGRAM, 6)),
+        Err(fault) => return Err(fault.tell(rt, PROGRAM, MEMORY)),
     };
-    let table = match fs::read(&rt, asked.table) {
-        Ok(bytes) => bytes,
-        Err(fault) => {
-            let _ = eprintln!(rt;
-                "{PROGRAM}: the table {} can't be read: {fault}",
-                asked.table
-            );
-            return ExitCode::from(status_of_read(&fault, 3));
-        }
-    };
-    let trace = match fs::read(&rt, asked.trace) {
-        Ok(bytes) => bytes,
-        Err(fault) => {
-            let _ = eprintln!(rt;
-                "{PROGRAM}: the trace {} can't be read: {fault}",
-                asked.trace
-            );
-            return ExitCode::from(status_of_read(&fault, 7));
-        }
-    };
+    let (table, trace) = files(rt, PROGRAM, asked.table, asked.trace)?;
     let window = (asked.from as usize, asked.to as usize);
     let (table, trace) = (table.as_slice(), trace.as_slice());
-    let mut line = Line::new(PROGRAM, &rt, rt.stderr(), rt.stderr().is_terminal());
+    let mut line = Line::new(PROGRAM, rt, rt.stderr(), rt.stderr().is_terminal());
     match told(
         rt.alloc(),
         table,
@@ -62,23 +48,10 @@ fn main(rt: HostRuntime) -> ExitCode {
         &mut line,
         &mut rt.stdout(),
     ) {
-        Ok(()) => ExitCode::from(0),
+        Ok(()) => Ok(()),
         Err(fault) => {
             let _ = eprintln!(rt; "{PROGRAM}: {fault}");
-            ExitCode::from(fault.status())
+            Err(fault.status())
         }
-    }
-}
-
-/// The words on the command line.
-fn words<R: env::Env + AllocGlobal>(rt: &R) -> io::Result<Vec<String>> {
-    Ok(env::args(rt)?.collect(rt.alloc())?)
-}
-
-/// The status where a file couldn't be read, and this one is the file's.
-fn status_of_read(fault: &io::Error, status: u8) -> u8 {
-    match fault.kind() {
-        ErrorKind::OutOfMemory => 6,
-        _ => status,
     }
 }

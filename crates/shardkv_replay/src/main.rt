@@ -16,71 +16,66 @@
 #[cfg(test)]
 mod tests;
 
+use options::reading_traces::{MEMORY, files, words};
 use options::replay::read_options;
 use replay::{Line, Progress, ShowFault, told_watched, whole_beginning};
 use shard_crew::Crew;
 use shard_workers::InTurn;
 use std::alloc::AllocError;
-use std::io::{self, ErrorKind, IsTerminal, Write};
+use std::env::Env;
+use std::fs::Files;
+use std::io::{IsTerminal, Write};
 use std::num::NonZeroUsize;
 use std::process::ExitCode;
 use std::sync::Wait;
 use std::thread::Threads;
-use std::{env, fs};
 
 /// The program's name.
 const PROGRAM: &str = "shardkv-replay";
 
 fn main(rt: HostRuntime) -> ExitCode {
-    let words = match words(&rt) {
-        Ok(words) => words,
-        Err(fault) => return ExitCode::from(status_of_read(&fault, 2)),
-    };
-    let asked = match read_options(rt.alloc(), words.as_slice()) {
-        Ok(asked) => asked,
-        Err(fault) => return ExitCode::from(fault.tell(&rt, PROGRAM, 6)),
-    };
-    let table = match fs::read(&rt, asked.table) {
-        Ok(bytes) => bytes,
-        Err(fault) => {
-            let _ = eprintln!(rt;
-                "{PROGRAM}: the table {} can't be read: {fault}",
-                asked.table
-            );
-            return ExitCode::from(status_of_read(&fault, 3));
-        }
-    };
-    let trace = match fs::read(&rt, asked.trace) {
-        Ok(bytes) => bytes,
-        Err(fault) => {
-            let _ = eprintln!(rt;
-                "{PROGRAM}: the trace {} can't be read: {fault}",
-                asked.trace
-            );
-            return ExitCode::from(status_of_read(&fault, 7));
-        }
-    };
-    let Ok(trace) = text_of(&rt, trace, asked.part) else {
-        let _ = eprintln!(rt; "{PROGRAM}: {}", ShowFault::Memory);
-        return ExitCode::from(ShowFault::Memory.status());
-    };
-    let Some(workers) = NonZeroUsize::new(usize::from(asked.workers)) else {
-        return ExitCode::from(2);
-    };
-    let (table, trace) = (table.as_slice(), trace.as_slice());
     let mut line = Line::new(PROGRAM, &rt, rt.stderr(), rt.stderr().is_terminal());
-    match report(&rt, table, trace, workers, &mut line, &mut rt.stdout()) {
+    match run(&rt, &mut line, &mut rt.stdout()) {
         Ok(agree) => ExitCode::from(u8::from(!agree)),
-        Err(fault) => {
-            let _ = eprintln!(rt; "{PROGRAM}: {fault}");
-            ExitCode::from(fault.status())
-        }
+        Err(status) => ExitCode::from(status),
     }
 }
 
-/// The words on the command line.
-fn words<R: env::Env + AllocGlobal>(rt: &R) -> io::Result<Vec<String>> {
-    Ok(env::args(rt)?.collect(rt.alloc())?)
+/// Writes the report that the words ask for, and answers whether it agrees; else what went wrong is told, and its status
+/// given.
+fn run<R, P: Progress, O: Write>(rt: &R, progress: &mut P, out: &mut O) -> Result<bool, u8>
+where
+    R: Threads + Wait + AllocGlobal + Env + Files + Print + Eprint,
+{
+    let words = words(rt)?;
+    let asked = match read_options(rt.alloc(), words.as_slice()) {
+        Ok(asked) => asked,
+        Err(fault) => return Err(fault.tell(rt, PROGRAM, MEMORY)),
+    };
+    let (table, trace) = files(rt, PROGRAM, asked.table, asked.trace)?;
+    let Ok(trace) = text_of(rt, trace, asked.part) else {
+        return Err(told_fault(rt, &ShowFault::Memory));
+    };
+    let Some(workers) = NonZeroUsize::new(usize::from(asked.workers)) else {
+        return Err(2);
+    };
+    match report(
+        rt,
+        table.as_slice(),
+        trace.as_slice(),
+        workers,
+        progress,
+        out,
+    ) {
+        Ok(agree) => Ok(agree),
+        Err(fault) => Err(told_fault(rt, &fault)),
+    }
+}
+
+/// Tells what went wrong, and gives its status.
+fn told_fault<R: Eprint>(rt: &R, fault: &ShowFault) -> u8 {
+    let _ = eprintln!(rt; "{PROGRAM}: {fault}");
+    fault.status()
 }
 
 /// The text of the trace in this file; of a part of one all whole lines, and how far they go is told on standard error.
@@ -117,12 +112,4 @@ fn report<R: Threads + Wait + AllocGlobal, P: Progress, O: Write>(
         progress,
         out,
     )
-}
-
-/// The status where a file couldn't be read, and this one is the file's.
-fn status_of_read(fault: &io::Error, status: u8) -> u8 {
-    match fault.kind() {
-        ErrorKind::OutOfMemory => 6,
-        _ => status,
-    }
 }

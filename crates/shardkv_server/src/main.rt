@@ -12,10 +12,11 @@ mod table_file;
 use crate::input::end_with_input;
 use crate::table_file::read_table;
 use options::server::{Options, read_options};
+use options::status_of;
 use placement::Table;
 use server::{Course, host, try_trace};
 use std::fs::Files;
-use std::io::{ErrorKind, IsTerminal};
+use std::io::IsTerminal;
 use std::net::{IpAddr, Ipv4Addr, Net, SocketAddr, TcpListener};
 use std::process::ExitCode;
 use std::sync::Arc;
@@ -24,17 +25,20 @@ use std::{env, io};
 /// The program's name.
 pub(crate) const PROGRAM: &str = "shardkv-server";
 
+/// Its status where memory was wanting, or a thread couldn't be started.
+pub(crate) const MEMORY: u8 = 7;
+
 fn main(rt: HostRuntime) -> ExitCode {
     let words = match words(&rt) {
         Ok(words) => words,
         Err(fault) => {
             let _ = eprintln!(rt; "{PROGRAM}: the words can't be read: {fault}");
-            return ExitCode::from(status_of(&fault, 2));
+            return ExitCode::from(status_of(&fault, 2, MEMORY));
         }
     };
     let options = match read_options(rt.alloc(), words.as_slice()) {
         Ok(options) => options,
-        Err(fault) => return ExitCode::from(fault.tell(&rt, PROGRAM, 7)),
+        Err(fault) => return ExitCode::from(fault.tell(&rt, PROGRAM, MEMORY)),
     };
     let (table, listener) = match opened(&rt, &options) {
         Ok(both) => both,
@@ -43,11 +47,11 @@ fn main(rt: HostRuntime) -> ExitCode {
     let course = Arc::new(rt.alloc(), Course::new(rt.stderr().is_terminal()));
     let Ok(course) = course else {
         let _ = eprintln!(rt; "{PROGRAM}: out of memory");
-        return ExitCode::from(7);
+        return ExitCode::from(MEMORY);
     };
     if options.until_input_ends && end_with_input(rt, rt.stdin(), &course).is_err() {
         let _ = eprintln!(rt; "{PROGRAM}: a thread could not be started");
-        return ExitCode::from(7);
+        return ExitCode::from(MEMORY);
     }
     ExitCode::from(host(&rt, &listener, &options, table, &mut rt.stdout(), &course))
 }
@@ -68,7 +72,7 @@ fn opened<R: Net + Files + AllocGlobal + Eprint>(
         && let Err(fault) = try_trace(rt, path)
     {
         let _ = eprintln!(rt; "{PROGRAM}: the trace can't be written to {path}: {fault}");
-        return Err(status_of(&fault, 6));
+        return Err(status_of(&fault, 6, MEMORY));
     }
     let ip = options.bind.unwrap_or(IpAddr::V4(Ipv4Addr::LOCALHOST));
     let address = SocketAddr::new(ip, options.port);
@@ -83,15 +87,7 @@ fn opened<R: Net + Files + AllocGlobal + Eprint>(
         }
         Err(fault) => {
             let _ = eprintln!(rt; "{PROGRAM}: {address} can't be bound: {fault}");
-            Err(status_of(&fault, 4))
+            Err(status_of(&fault, 4, MEMORY))
         }
-    }
-}
-
-/// The status of a fault of the system: 7 where memory was wanting.
-pub(crate) fn status_of(fault: &io::Error, status: u8) -> u8 {
-    match fault.kind() {
-        ErrorKind::OutOfMemory => 7,
-        _ => status,
     }
 }

@@ -1,6 +1,7 @@
 //! The placement table in its file.
 
-use crate::{PROGRAM, status_of};
+use crate::{MEMORY, PROGRAM};
+use options::status_of;
 use placement::{Table, TableFault};
 use std::alloc::Global;
 use std::fs;
@@ -12,14 +13,14 @@ pub(crate) fn read_table<R: Files + AllocGlobal + Eprint>(rt: &R, path: &str) ->
         Ok(text) => text,
         Err(fault) => {
             let _ = eprintln!(rt; "{PROGRAM}: the table {path} can't be read: {fault}");
-            return Err(status_of(&fault, 3));
+            return Err(status_of(&fault, 3, MEMORY));
         }
     };
     match Table::from_toml(rt.alloc(), text.as_str()) {
         Ok(table) => Ok(table),
         Err(TableFault::Memory) => {
             let _ = eprintln!(rt; "{PROGRAM}: out of memory");
-            Err(7)
+            Err(MEMORY)
         }
         Err(fault) => {
             let _ = match faulty_line(rt.alloc(), text.as_str()) {

@@ -4,64 +4,34 @@ use picture::{ShowFault, told};
 use replay::Unwatched;
 use std::alloc::Global;
 use std::test::Fail;
-use test_support::{CROSSING, Sink, TWO_SHARDS, holds, same_count};
+use test_support::{CROSSING, Sink, TWO_SHARDS, holds, same_count, trace};
 
 /// Nothing happens.
 const EMPTY: &str = "shardkv-trace 1\nmax 1\nend 0\n";
 
 /// PING and an unknown command of bytes that mean something to XML, or are no text, or are many.
-const WORDS: &str = "shardkv-trace 1
-max 9
-open
-submit 1 3c26223e 00ff7f5c 2061 - 303132333435363738394142434445
-collect 1
-submit 1 50494e47
-close 1
-end 5
-";
+const WORDS: &str = trace!(
+    {"shardkv-trace 1" "max 9" "open"
+     "submit 1 3c26223e 00ff7f5c 2061 - 303132333435363738394142434445" "collect 1"
+     "submit 1 50494e47" "close 1" "end 5"}
+);
 
 /// A request of one group starves, and another is under way at the end.
-const STARVED: &str = "shardkv-trace 1
-max 50
-open
-submit 1 474554 61
-deliver 0
-take
-run 1.1
-settle
-collect 1
-submit 1 474554 63
-end 8
-";
+const STARVED: &str = trace!(
+    {"shardkv-trace 1" "max 50" "open" "submit 1 474554 61"}
+    deliver 0
+    {"take" "run 1.1" "settle" "collect 1" "submit 1 474554 63" "end 8"}
+);
 
 /// A list of SET a 1, LPUSH a x and INCR c is run, whose third member starves; another one isn't taken.
-const LISTS: &str = "shardkv-trace 3
-max 50
-open
-submit 1 4d554c5449
-collect 1
-submit 1 534554 61 31
-collect 1
-submit 1 4c50555348 61 78
-collect 1
-submit 1 494e4352 63
-collect 1
-submit 1 45584543
-deliver 0
-deliver 0
-deliver 0
-deliver 0
-take
-run 1.5.3
-settle
-collect 1
-submit 1 4d554c5449
-collect 1
-submit 1 474554 61
-collect 1
-submit 1 45584543
-end 23
-";
+const LISTS: &str = trace!(
+    {"shardkv-trace 3" "max 50" "open" "submit 1 4d554c5449" "collect 1" "submit 1 534554 61 31"
+     "collect 1" "submit 1 4c50555348 61 78" "collect 1" "submit 1 494e4352 63" "collect 1"
+     "submit 1 45584543"}
+    deliver 0 0 0 0
+    {"take" "run 1.5.3" "settle" "collect 1" "submit 1 4d554c5449" "collect 1"
+     "submit 1 474554 61" "collect 1" "submit 1 45584543" "end 23"}
+);
 
 /// A trace, the first step that is drawn and the first that isn't, and a text that stands in the picture so many times.
 type Part = (&'static str, usize, usize, &'static str, usize);

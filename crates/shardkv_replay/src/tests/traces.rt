@@ -1,5 +1,7 @@
 //! Traces on two shards, and their reports. `a` (61) lies on shard 0, and `c` (63) on shard 1.
 
+use test_support::trace;
+
 /// A trace's text, with what its test is told by, and the report that it has to have.
 #[derive(Clone, Copy, Drop)]
 pub(crate) struct Row {
@@ -36,36 +38,15 @@ agree
 /// FLUSHALL of all groups, behind SET c 2 at group 1; then DBSIZE.
 pub(crate) const FLUSHED_BEHIND: Row = Row {
     name: "flushed behind",
-    trace: "shardkv-trace 1
-max 1000
-open
-open
-submit 1 464c555348414c4c
-submit 2 534554 63 32
-deliver 2
-deliver 0
-deliver 0
-deliver 0
-deliver 0
-take
-run
-settle
-take
-run
-settle
-collect 1
-collect 2
-submit 1 444253495a45
-deliver 0
-deliver 0
-deliver 0
-deliver 0
-take
-run
-settle
-collect 1
-end 26
-",
+    trace: trace!(
+        {"shardkv-trace 1" "max 1000" "open" "open" "submit 1 464c555348414c4c"
+         "submit 2 534554 63 32"}
+        deliver 2 0 0 0 0
+        {"take" "run" "settle" "take" "run" "settle" "collect 1" "collect 2"
+         "submit 1 444253495a45"}
+        deliver 0 0 0 0
+        {"take" "run" "settle" "collect 1" "end 26"}
+    ),
     report: "row 1.1 2.1 set 2b4f4b0d0a
 row 2.1 1.1 flushall 2b4f4b0d0a
 row 3.1 1.2 dbsize 3a300d0a
@@ -76,36 +57,15 @@ agree
 /// The same, but FLUSHALL comes to group 1 first, and SET c 2 waits behind it.
 pub(crate) const FLUSHED_BEFORE: Row = Row {
     name: "flushed before",
-    trace: "shardkv-trace 1
-max 1000
-open
-open
-submit 1 464c555348414c4c
-submit 2 534554 63 32
-deliver 1
-deliver 1
-deliver 0
-deliver 0
-deliver 0
-take
-run
-settle
-take
-run
-settle
-collect 1
-collect 2
-submit 1 444253495a45
-deliver 0
-deliver 0
-deliver 0
-deliver 0
-take
-run
-settle
-collect 1
-end 26
-",
+    trace: trace!(
+        {"shardkv-trace 1" "max 1000" "open" "open" "submit 1 464c555348414c4c"
+         "submit 2 534554 63 32"}
+        deliver 1 1 0 0 0
+        {"take" "run" "settle" "take" "run" "settle" "collect 1" "collect 2"
+         "submit 1 444253495a45"}
+        deliver 0 0 0 0
+        {"take" "run" "settle" "collect 1" "end 26"}
+    ),
     report: "row 1.1 1.1 flushall 2b4f4b0d0a
 row 2.1 2.1 set 2b4f4b0d0a
 row 3.1 1.2 dbsize 3a310d0a
@@ -117,36 +77,17 @@ agree
 /// SET c 9 is executed last and has the second stamp.
 pub(crate) const LATE_WITH_A_SMALL_STAMP: Row = Row {
     name: "late with a small stamp",
-    trace: "shardkv-trace 1
-max 1000
-open
-open
-submit 1 534554 61 31
-deliver 0
-take
-run
-settle
-collect 1
-submit 1 534554 61 32
-deliver 0
-take
-run
-settle
-collect 1
-submit 1 534554 61 33
-deliver 0
-take
-run
-settle
-collect 1
-submit 2 534554 63 39
-deliver 0
-take
-run
-settle
-collect 2
-end 26
-",
+    trace: trace!(
+        {"shardkv-trace 1" "max 1000" "open" "open" "submit 1 534554 61 31"}
+        deliver 0
+        {"take" "run" "settle" "collect 1" "submit 1 534554 61 32"}
+        deliver 0
+        {"take" "run" "settle" "collect 1" "submit 1 534554 61 33"}
+        deliver 0
+        {"take" "run" "settle" "collect 1" "submit 2 534554 63 39"}
+        deliver 0
+        {"take" "run" "settle" "collect 2" "end 26"}
+    ),
     report: "row 1.0 1.1 set 2b4f4b0d0a
 row 1.1 2.1 set 2b4f4b0d0a
 row 2.0 1.2 set 2b4f4b0d0a
@@ -160,21 +101,12 @@ agree
 /// SET a 1 and SET c 2 are one layer.
 pub(crate) const LAYER_OF_TWO: Row = Row {
     name: "layer of two",
-    trace: "shardkv-trace 1
-max 1000
-open
-open
-submit 1 534554 61 31
-submit 2 534554 63 32
-deliver 0
-deliver 0
-take
-run
-settle
-collect 1
-collect 2
-end 11
-",
+    trace: trace!(
+        {"shardkv-trace 1" "max 1000" "open" "open" "submit 1 534554 61 31"
+         "submit 2 534554 63 32"}
+        deliver 0 0
+        {"take" "run" "settle" "collect 1" "collect 2" "end 11"}
+    ),
     report: "row 1.0 1.1 set 2b4f4b0d0a
 row 1.1 2.1 set 2b4f4b0d0a
 key 61 string 31
@@ -186,21 +118,12 @@ agree
 /// The same; the second starves, and the line `run` names a request of no layer too.
 pub(crate) const SECOND_OF_TWO_STARVES: Row = Row {
     name: "second of two starves",
-    trace: "shardkv-trace 1
-max 1000
-open
-open
-submit 1 534554 61 31
-submit 2 534554 63 32
-deliver 0
-deliver 0
-take
-run 7.1 2.1
-settle
-collect 1
-collect 2
-end 11
-",
+    trace: trace!(
+        {"shardkv-trace 1" "max 1000" "open" "open" "submit 1 534554 61 31"
+         "submit 2 534554 63 32"}
+        deliver 0 0
+        {"take" "run 7.1 2.1" "settle" "collect 1" "collect 2" "end 11"}
+    ),
     report: "row 1.0 1.1 set 2b4f4b0d0a
 starved 2.1
 key 61 string 31
@@ -211,15 +134,11 @@ agree
 /// The last layer was run and isn't settled.
 pub(crate) const UNSETTLED: Row = Row {
     name: "unsettled",
-    trace: "shardkv-trace 1
-max 5
-open
-submit 1 534554 61 31
-deliver 0
-take
-run
-end 5
-",
+    trace: trace!(
+        {"shardkv-trace 1" "max 5" "open" "submit 1 534554 61 31"}
+        deliver 0
+        {"take" "run" "end 5"}
+    ),
     report: "row 1.0 1.1 set 2b4f4b0d0a
 key 61 string 31
 agree
@@ -229,10 +148,9 @@ agree
 /// Nothing happens.
 pub(crate) const NO_STEP: Row = Row {
     name: "no step",
-    trace: "shardkv-trace 1
-max 1
-end 0
-",
+    trace: trace!(
+        {"shardkv-trace 1" "max 1" "end 0"}
+    ),
     report: "agree
 ",
 };
@@ -240,25 +158,13 @@ end 0
 /// SET a 1 is repeated under way, and its copy comes behind SET a 2 of the same connection: it is left out.
 pub(crate) const REPEATED: Row = Row {
     name: "repeated",
-    trace: "shardkv-trace 2
-max 50
-open
-submit 1 534554 61 31
-repeat 0
-deliver 0
-take
-run
-settle
-collect 1
-submit 1 534554 61 32
-deliver 1
-deliver 0
-take
-run
-settle
-collect 1
-end 15
-",
+    trace: trace!(
+        {"shardkv-trace 2" "max 50" "open" "submit 1 534554 61 31" "repeat 0"}
+        deliver 0
+        {"take" "run" "settle" "collect 1" "submit 1 534554 61 32"}
+        deliver 1 0
+        {"take" "run" "settle" "collect 1" "end 15"}
+    ),
     report: "row 1.0 1.1 set 2b4f4b0d0a
 row 2.0 1.2 set 2b4f4b0d0a
 key 61 string 32
@@ -269,66 +175,39 @@ agree
 /// The crossing requests, each of whose packets is repeated before it comes. The copies are under way at the end.
 pub(crate) const CROSSING_BEFORE_COPIES: Row = Row {
     name: "crossing before copies",
-    trace: "shardkv-trace 2
-max 1000
-open
-open
-submit 1 4d534554 61 31 63 32
-submit 2 4d534554 61 33 63 34
-repeat 0
-deliver 0
-repeat 2
-deliver 2
-repeat 1
-deliver 1
-repeat 0
-deliver 0
-repeat 1
-deliver 1
-repeat 2
-deliver 2
-repeat 3
-deliver 3
-repeat 4
-deliver 4
-take
-run
-settle
-take
-run
-settle
-collect 1
-collect 2
-end 28
-",
+    trace: trace!(
+        {"shardkv-trace 2" "max 1000" "open" "open" "submit 1 4d534554 61 31 63 32"
+         "submit 2 4d534554 61 33 63 34" "repeat 0"}
+        deliver 0
+        {"repeat 2"}
+        deliver 2
+        {"repeat 1"}
+        deliver 1
+        {"repeat 0"}
+        deliver 0
+        {"repeat 1"}
+        deliver 1
+        {"repeat 2"}
+        deliver 2
+        {"repeat 3"}
+        deliver 3
+        {"repeat 4"}
+        deliver 4
+        {"take" "run" "settle" "take" "run" "settle" "collect 1" "collect 2" "end 28"}
+    ),
     report: CROSSED,
 };
 
 /// A list of SET a 1, LPUSH a x and INCR c, which is run over both shards; the third member starves.
 pub(crate) const MEMBER_STARVED: Row = Row {
     name: "a member starved",
-    trace: "shardkv-trace 3
-max 1000
-open
-submit 1 4d554c5449
-collect 1
-submit 1 534554 61 31
-collect 1
-submit 1 4c50555348 61 78
-collect 1
-submit 1 494e4352 63
-collect 1
-submit 1 45584543
-deliver 0
-deliver 0
-deliver 0
-deliver 0
-take
-run 1.5.3
-settle
-collect 1
-end 18
-",
+    trace: trace!(
+        {"shardkv-trace 3" "max 1000" "open" "submit 1 4d554c5449" "collect 1"
+         "submit 1 534554 61 31" "collect 1" "submit 1 4c50555348 61 78" "collect 1"
+         "submit 1 494e4352 63" "collect 1" "submit 1 45584543"}
+        deliver 0 0 0 0
+        {"take" "run 1.5.3" "settle" "collect 1" "end 18"}
+    ),
     report: "row 1.1 1.5 exec 2a330d0a2b4f4b0d0a2d57524f4e4754595045204f7065726174696f6e20616761696e73742061206b657920686f6c64696e67207468652077726f6e67206b696e64206f662076616c75650d0a2d455252206f7574206f66206d656d6f72790d0a
 starved 1.5.3
 key 61 string 31
@@ -339,36 +218,13 @@ agree
 /// A list of SET a 1 and INCR c crosses MSET a 3 c 4: each comes to another group first.
 pub(crate) const TRANSACTION: Row = Row {
     name: "transaction",
-    trace: "shardkv-trace 3
-max 1000
-open
-open
-submit 1 4d554c5449
-collect 1
-submit 1 534554 61 31
-collect 1
-submit 1 494e4352 63
-collect 1
-submit 1 45584543
-submit 2 4d534554 61 33 63 34
-deliver 0
-deliver 2
-deliver 1
-deliver 0
-deliver 0
-deliver 0
-deliver 0
-deliver 0
-take
-run
-settle
-take
-run
-settle
-collect 1
-collect 2
-end 26
-",
+    trace: trace!(
+        {"shardkv-trace 3" "max 1000" "open" "open" "submit 1 4d554c5449" "collect 1"
+         "submit 1 534554 61 31" "collect 1" "submit 1 494e4352 63" "collect 1"
+         "submit 1 45584543" "submit 2 4d534554 61 33 63 34"}
+        deliver 0 2 1 0 0 0 0 0
+        {"take" "run" "settle" "take" "run" "settle" "collect 1" "collect 2" "end 26"}
+    ),
     report: "row 2.0 2.1 mset 2b4f4b0d0a
 row 2.1 1.4 exec 2a320d0a2b4f4b0d0a3a350d0a
 key 61 string 31
@@ -380,34 +236,14 @@ agree
 /// SET a 1, DBSIZE and FLUSHALL in a list, of which the last starves; then a list that is spoilt.
 pub(crate) const ALL_KEYS: Row = Row {
     name: "all keys in a list",
-    trace: "shardkv-trace 3
-max 50
-open
-submit 1 4d554c5449
-collect 1
-submit 1 534554 61 31
-collect 1
-submit 1 444253495a45
-collect 1
-submit 1 464c555348414c4c
-collect 1
-submit 1 45584543
-deliver 0
-deliver 0
-deliver 0
-deliver 0
-take
-run 1.5.3
-settle
-collect 1
-submit 1 4d554c5449
-collect 1
-submit 1 464f4f
-collect 1
-submit 1 45584543
-collect 1
-end 24
-",
+    trace: trace!(
+        {"shardkv-trace 3" "max 50" "open" "submit 1 4d554c5449" "collect 1"
+         "submit 1 534554 61 31" "collect 1" "submit 1 444253495a45" "collect 1"
+         "submit 1 464c555348414c4c" "collect 1" "submit 1 45584543"}
+        deliver 0 0 0 0
+        {"take" "run 1.5.3" "settle" "collect 1" "submit 1 4d554c5449" "collect 1"
+         "submit 1 464f4f" "collect 1" "submit 1 45584543" "collect 1" "end 24"}
+    ),
     report: "row 1.1 1.5 exec 2a330d0a2b4f4b0d0a3a310d0a2d455252206f7574206f66206d656d6f72790d0a
 starved 1.5.3
 key 61 string 31
@@ -418,21 +254,12 @@ agree
 /// In a text of version 2 MULTI and EXEC were unknown commands, and are so still.
 pub(crate) const UNKNOWN_IN_TWO: Row = Row {
     name: "unknown in version 2",
-    trace: "shardkv-trace 2
-max 50
-open
-submit 1 4d554c5449
-collect 1
-submit 1 534554 61 31
-deliver 0
-take
-run
-settle
-collect 1
-submit 1 65786563
-collect 1
-end 11
-",
+    trace: trace!(
+        {"shardkv-trace 2" "max 50" "open" "submit 1 4d554c5449" "collect 1"
+         "submit 1 534554 61 31"}
+        deliver 0
+        {"take" "run" "settle" "collect 1" "submit 1 65786563" "collect 1" "end 11"}
+    ),
     report: "row 1.0 1.2 set 2b4f4b0d0a
 key 61 string 31
 agree
