@@ -4,7 +4,7 @@ use crate::backs::Does::{
     Brings, BringsBut, BringsToUnwilling, HandsOver, HasFailed, HasRows, Holds, Tells,
 };
 use crate::held::Unwilling;
-use crate::jobs::{ONE, discard, layer_of, string, table_of, two_shards};
+use crate::jobs::{FILL_X, NAME_X, ONE, discard, layer_of, string, table_of, two_shards};
 use crate::trouble::Trouble;
 use back::Back;
 use groups::{ConnId, RequestId, SkipId};
@@ -270,12 +270,13 @@ fn a_late_layer_comes_back(rt: HostRuntime) -> Result<(), Fail> {
 }
 
 #[rattlefmt::skip]
-const REFUSED: [Does; 5] = [
+const REFUSED: [Does; 6] = [
     Brings((1, &["SET a 1"]), RUN),
-    BringsToUnwilling((2, &["GET a", "GET c"]), FAILED),
+    Brings((1, &[FILL_X]), RUN),
+    BringsToUnwilling((2, &["GET a", NAME_X]), FAILED),
     Brings((3, &["GET c"]), FAILED),
     HasFailed,
-    HasRows(1),
+    HasRows(2),
 ];
 
 #[test]

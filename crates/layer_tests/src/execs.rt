@@ -1,9 +1,12 @@
 //! Transactions in layers: by several workers, over several shards, and with members that are skipped.
 
 use crate::jobs::{
-    Asked, ONE, answers_but, ask_all, ask_anew, ask_rows, layer_of, number_of, two_shards,
+    Asked, NAME_X, ONE, answers_but, ask_all, ask_anew, ask_rows, fill_x, layer_of, number_of,
+    two_shards,
 };
+use crate::trouble::Trouble;
 use groups::{ConnId, RequestId, SkipId};
+use layer_planner::Layer;
 use placement::Table;
 use shard_crew::Crew;
 use shard_exec::Store;
@@ -31,11 +34,16 @@ const OF_ANOTHER: SkipId = SkipId::Part(
     2,
 );
 
-/// Each on its own shard. The last member of the second answers by an error, which keeps none of the others from being run.
-const TWO: [&str; 2] = ["SET a 1; INCR a; GET a", "RPUSH c 1 2; LLEN c; GET c"];
+/// Two EXECs, each on its own shard. A member of the second names the set at `x`, and its last one answers by an error, which
+/// keeps none of the others from being run.
+fn two_execs(alloc: Global, table: &Table) -> Result<Layer, Trouble> {
+    let first = "SET a 1; INCR a; GET a";
+    let second = format!(in alloc; "RPUSH c 1 2; {NAME_X}; LLEN c; GET c")?;
+    layer_of(alloc, table, 1, &[first, second.as_str()])
+}
 
 const TWO_ANSWERED: &str = "*3\r\n+OK\r\n:2\r\n$1\r\n2\r\n \
-    *3\r\n:2\r\n:2\r\n-WRONGTYPE Operation against a key holding the wrong kind of value\r\n ";
+    *4\r\n:2\r\n:100\r\n:2\r\n-WRONGTYPE Operation against a key holding the wrong kind of value\r\n ";
 
 #[rattlefmt::skip]
 const TWO_LEFT: [Asked; 2] = [
@@ -47,7 +55,8 @@ const TWO_LEFT: [Asked; 2] = [
 fn run_two<W: Workers>(rt: &impl Abort, alloc: Global, workers: &W) -> Result<(), Fail> {
     let table = two_shards(alloc)?;
     let mut store = Store::new(alloc, table)?;
-    let two = layer_of(alloc, &table, 1, &TWO)?;
+    fill_x(rt, alloc, &mut store, &table, 0)?;
+    let two = two_execs(alloc, &table)?;
     ask_all(rt, alloc, &mut store, two, workers, &OpenGate, TWO_ANSWERED)?;
     ask_rows(rt, alloc, &mut store, &table, &TWO_LEFT)
 }

@@ -1,6 +1,6 @@
-//! That a crew of two really runs two requests at once, and what a refused start leaves.
+//! That a crew of two really runs two requests at once where they have much to do, and what a refused start leaves.
 
-use crate::jobs::{ONE, ask_all, layer_of, number_of, two_shards};
+use crate::jobs::{NAME_X, ONE, ask_all, fill_x, layer_of, number_of, two_shards};
 use crate::trouble::Trouble;
 use groups::{RequestId, SkipId};
 use layer_planner::Layer;
@@ -53,12 +53,43 @@ fn holding<'r, R>(clock: &'r R, turns: u32) -> Held<'r, R> {
     }
 }
 
-/// The layer of `SET a 1` on the one shard and `SET c 2` on the other.
-fn two_requests(alloc: Global, table: &Table) -> Result<Layer, Trouble> {
-    layer_of(alloc, table, 1, &["SET a 1", "SET c 2"])
+/// The layer at this clock of `SET a 1` on the one shard, and of what names the set at `x` on the other.
+fn two_requests(alloc: Global, table: &Table, clock: u64) -> Result<Layer, Trouble> {
+    layer_of(alloc, table, clock, &["SET a 1", NAME_X])
 }
 
-/// Runs both, of which this gate holds the first.
+/// What they are answered where there is a set at `x`, and where there is none.
+const LARGE: &str = "+OK\r\n :100\r\n ";
+
+const SMALL: &str = "+OK\r\n :0\r\n ";
+
+/// Runs both over this store, of which this gate holds the first.
+fn run_over<W: Workers>(
+    rt: &impl Abort,
+    alloc: Global,
+    store: &mut Store,
+    table: &Table,
+    workers: &W,
+    gate: &(dyn Gate + Sync),
+    wanted: &str,
+) -> Result<(), Fail> {
+    let requests = two_requests(alloc, table, 2)?;
+    ask_all(rt, alloc, store, requests, workers, gate, wanted)
+}
+
+/// Runs both over a new store.
+fn run_small<W: Workers>(
+    rt: &impl Abort,
+    alloc: Global,
+    workers: &W,
+    gate: &(dyn Gate + Sync),
+) -> Result<(), Fail> {
+    let table = two_shards(alloc)?;
+    let mut store = Store::new(alloc, table)?;
+    run_over(rt, alloc, &mut store, &table, workers, gate, SMALL)
+}
+
+/// Runs both over a store that has the set.
 fn run_both<W: Workers>(
     rt: &impl Abort,
     alloc: Global,
@@ -67,16 +98,8 @@ fn run_both<W: Workers>(
 ) -> Result<(), Fail> {
     let table = two_shards(alloc)?;
     let mut store = Store::new(alloc, table)?;
-    let requests = two_requests(alloc, &table)?;
-    ask_all(
-        rt,
-        alloc,
-        &mut store,
-        requests,
-        workers,
-        gate,
-        "+OK\r\n +OK\r\n ",
-    )
+    fill_x(rt, alloc, &mut store, &table, 1)?;
+    run_over(rt, alloc, &mut store, &table, workers, gate, LARGE)
 }
 
 #[test]
@@ -90,6 +113,13 @@ fn a_crew_of_two_runs_both_at_once(rt: HostRuntime) -> Result<(), Fail> {
 fn workers_in_turn_do_not(rt: HostRuntime) -> Result<(), Fail> {
     let gate = holding(&rt, 10);
     run_both(&rt, rt.alloc(), &InTurn(number_of(2)), &gate)?;
+    holds("one thread ran them", gate.missed.load(Ordering::SeqCst))
+}
+
+#[test]
+fn a_crew_of_two_leaves_small_sets_to_the_caller(rt: HostRuntime) -> Result<(), Fail> {
+    let gate = holding(&rt, 10);
+    run_small(&rt, rt.alloc(), &Crew::new(&rt, number_of(2)), &gate)?;
     holds("one thread ran them", gate.missed.load(Ordering::SeqCst))
 }
 
@@ -127,29 +157,33 @@ impl Workers for Unwilling {
     }
 }
 
-/// Runs two requests, which have to be answered Failed.
-fn fails<W: Workers>(
+/// Runs two requests at this clock, which come to this.
+fn comes_to<W: Workers>(
     rt: &impl Abort,
     alloc: Global,
     store: &mut Store,
     table: &Table,
+    clock: u64,
     workers: &W,
+    wanted: &str,
 ) -> Result<(), Fail> {
-    let requests = two_requests(alloc, table)?;
-    ask_all(rt, alloc, store, requests, workers, &OpenGate, "failed")
+    let requests = two_requests(alloc, table, clock)?;
+    ask_all(rt, alloc, store, requests, workers, &OpenGate, wanted)
 }
 
-/// A start is refused, and then no layer is run.
+/// Small sets need no start. Then one is refused, and then no layer is run.
 fn fails_for_good(
     rt: &impl Abort,
     alloc: Global,
     store: &mut Store,
     table: &Table,
 ) -> Result<(), Fail> {
-    fails(rt, alloc, store, table, &Unwilling)?;
+    comes_to(rt, alloc, store, table, 1, &Unwilling, SMALL)?;
+    fill_x(rt, alloc, store, table, 2)?;
+    comes_to(rt, alloc, store, table, 3, &Unwilling, "failed")?;
     holds("it has failed", store.has_failed())?;
-    fails(rt, alloc, store, table, &ONE)?;
-    fails(rt, alloc, store, table, &ONE)
+    comes_to(rt, alloc, store, table, 4, &ONE, "failed")?;
+    comes_to(rt, alloc, store, table, 5, &ONE, "failed")
 }
 
 #[test]

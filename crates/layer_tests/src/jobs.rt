@@ -20,6 +20,20 @@ use worded::{Worded, read_batch};
 /// One worker, and no thread.
 pub(crate) const ONE: InTurn = InTurn(NonZeroUsize::MIN);
 
+/// Makes a set of 100 members at `x`.
+pub(crate) const FILL_X: &str =
+    "SADD x 00 01 02 03 04 05 06 07 08 09 10 11 12 13 14 15 16 17 18 19 20 21 22 23 24 25 26 27 28 29 \
+    30 31 32 33 34 35 36 37 38 39 40 41 42 43 44 45 46 47 48 49 50 51 52 53 54 55 56 57 58 59 60 \
+    61 62 63 64 65 66 67 68 69 70 71 72 73 74 75 76 77 78 79 80 81 82 83 84 85 86 87 88 89 90 91 \
+    92 93 94 95 96 97 98 99";
+
+/// Names that set 100 times, which is 10,000 members: a layer that has this request beside another unit is dealt to several
+/// workers.
+pub(crate) const NAME_X: &str =
+    "EXISTS x x x x x x x x x x x x x x x x x x x x x x x x x x x x x x x x x x x x x x x x x x x x x \
+    x x x x x x x x x x x x x x x x x x x x x x x x x x x x x x x x x x x x x x x x x x x x x x \
+    x x x x x x x x x";
+
 /// So many workers, or one.
 pub(crate) fn number_of(workers: usize) -> NonZeroUsize {
     NonZeroUsize::new(workers).unwrap_or(NonZeroUsize::MIN)
@@ -308,6 +322,17 @@ fn ask_row(
     let (clock, words, wanted) = *row;
     let answered = ask(rt, alloc, store, table, clock, words)?;
     same_text(words, answered.as_str(), wanted)
+}
+
+/// Makes the set at `x`, at this clock.
+pub(crate) fn fill_x(
+    rt: &impl Abort,
+    alloc: Global,
+    store: &mut Store,
+    table: &Table,
+    clock: u64,
+) -> Result<(), Fail> {
+    ask_row(rt, alloc, store, table, &(clock, FILL_X, ":100\r\n "))
 }
 
 /// Runs layers of one request one after another, in a new store of two shards.

@@ -1,6 +1,6 @@
-//! A layer of 64 requests over 64 shards gives the same whoever runs it.
+//! A layer of 64 requests over 64 shards gives the same whoever runs it. One of them names the set at `x`.
 
-use crate::jobs::{ONE, answers, ask, layer, number_of, push_job, table_of};
+use crate::jobs::{FILL_X, NAME_X, ONE, answers, ask, layer, number_of, push_job, table_of};
 use crate::trouble::Trouble;
 use layer_planner::{Job, Layer};
 use placement::Table;
@@ -45,7 +45,7 @@ fn asked_of(alloc: Global, clock: u64, number: u64, key: &str) -> Result<String,
     }
 }
 
-/// Puts the job of the request about the key of this number behind.
+/// Puts the job of the request about the key of this number behind; at the shard of `x` that of naming the set there.
 fn push_asked(
     alloc: Global,
     table: &Table,
@@ -54,6 +54,9 @@ fn push_asked(
     number: u64,
     key: &str,
 ) -> Result<(), Trouble> {
+    if table.shard_of(key.as_bytes()) == table.shard_of(b"x") {
+        return push_job(alloc, table, jobs, number, clock, NAME_X);
+    }
     let words = asked_of(alloc, clock, number, key)?;
     push_job(alloc, table, jobs, number, clock, words.as_str())
 }
@@ -151,7 +154,7 @@ fn push_answers<W: Workers>(
     push_values(rt, alloc, store, table, keys, all)
 }
 
-/// What is answered to two layers of 64 requests, in a new store, and then what is at each key.
+/// What is answered to two layers of 64 requests, in a store with the set alone, and then what is at each key.
 fn answers_of<W: Workers>(
     rt: &impl Abort,
     alloc: Global,
@@ -160,7 +163,7 @@ fn answers_of<W: Workers>(
     workers: &W,
 ) -> Result<String, Trouble> {
     let mut store = Store::new(alloc, *table)?;
-    let mut all = String::new(alloc);
+    let mut all = ask(rt, alloc, &mut store, table, 0, FILL_X)?;
     push_answers(rt, alloc, &mut store, table, keys, workers, &mut all)?;
     Ok(all)
 }
@@ -200,6 +203,8 @@ fn same_of_all<R: Abort + Threads + Wait>(
     keys: &[String],
     first: &str,
 ) -> Result<(), Fail> {
+    holds("there is a set", first.starts_with(":100\r\n "))?;
+    holds("it is named", first.contains(" :100\r\n "))?;
     holds("the last key is gone", first.ends_with("$-1\r\n "))?;
     for number in [1, 2, 8, 64] {
         same_of_number(rt, alloc, table, keys, number, first)?;

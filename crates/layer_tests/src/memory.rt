@@ -3,7 +3,7 @@
 //! Where all succeed these tests say no more than others do. They are meant to be run with each allocation failing in
 //! turn.
 
-use crate::jobs::{ONE, discard, layer_of, number_of, run_or_not, table_of, text};
+use crate::jobs::{FILL_X, NAME_X, ONE, discard, layer_of, number_of, run_or_not, table_of, text};
 use crate::trouble::Trouble;
 use layer_planner::Layer;
 use placement::Table;
@@ -16,19 +16,29 @@ use std::test::Fail;
 
 /// What is there before, `before` shown in hexadecimal below. Of four shards `a` lies on 0, `b` on 1, `z` on 2 and `x`
 /// on 3.
-const SET_BEFORE: [&str; 3] = ["SET a before", "SET z before", "SET x before"];
+const SET_BEFORE: [&str; 3] = ["SET a before", "SET z before", FILL_X];
 
-/// The layer.
-const ASKED: [&str; 3] = ["MSET a 1 b 2", "SET z 3", "GET x"];
+/// The layer, which several workers run, since it names the set at `x` often.
+const ASKED: [&str; 3] = ["MSET a 1 b 2", "SET z 3", NAME_X];
 
 /// What its requests are answered.
-const ANSWERED: [&str; 3] = ["+OK\r\n", "+OK\r\n", "$6\r\nbefore\r\n"];
+const ANSWERED: [&str; 3] = ["+OK\r\n", "+OK\r\n", ":100\r\n"];
+
+/// The line of the set at `x`, whose members are the numbers from 00 to 99.
+fn set_line(alloc: Global) -> Result<String, AllocError> {
+    let mut line = String::from_str(alloc, "key 78 set")?;
+    for number in 0..100u32 {
+        write!(line, " 3{}3{}", number / 10, number % 10)?;
+    }
+    line.push('\n')?;
+    Ok(line)
+}
 
 /// What the shards hold before the layer.
-const BEFORE: &str = "key 61 string 6265666f7265
-key 78 string 6265666f7265
-key 7a string 6265666f7265
-";
+fn before(alloc: Global) -> Result<String, AllocError> {
+    let set = set_line(alloc)?;
+    format!(in alloc; "key 61 string 6265666f7265\n{set}key 7a string 6265666f7265\n")
+}
 
 /// What the shards hold, where the requests whose places are in `starved` left no trace.
 fn left(alloc: Global, starved: &[bool]) -> Result<String, AllocError> {
@@ -42,7 +52,8 @@ fn left(alloc: Global, starved: &[bool]) -> Result<String, AllocError> {
     } else {
         "key 7a string 33\n"
     };
-    format!(in alloc; "{first}key 78 string 6265666f7265\n{last}")
+    let set = set_line(alloc)?;
+    format!(in alloc; "{first}{set}{last}")
 }
 
 /// Each has a reply.
@@ -72,7 +83,8 @@ fn fill(rt: &impl Abort, alloc: Global, store: &mut Store, table: &Table) -> Res
     if !answered {
         return Err(Trouble::Memory);
     }
-    assert_holds(rt, alloc, store, BEFORE)
+    let wanted = before(alloc)?;
+    assert_holds(rt, alloc, store, wanted.as_str())
 }
 
 /// This text came; else the test ends.
@@ -210,7 +222,8 @@ fn attempt_again<W: Workers>(
     back: Layer,
     workers: &W,
 ) -> Result<(), Trouble> {
-    assert_holds(rt, alloc, store, BEFORE)?;
+    let wanted = before(alloc)?;
+    assert_holds(rt, alloc, store, wanted.as_str())?;
     run_again(rt, alloc, store, back, workers)
 }
 

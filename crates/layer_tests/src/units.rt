@@ -1,6 +1,8 @@
 //! Requests of one group in one layer are run in one go, in their order, whoever runs them.
 
-use crate::jobs::{Asked, ONE, ask_all, ask_rows, layer, number_of, push_job, table_of};
+use crate::jobs::{
+    Asked, NAME_X, ONE, ask_all, ask_rows, fill_x, layer, number_of, push_job, table_of,
+};
 use crate::trouble::Trouble;
 use groups::RequestId;
 use layer_planner::{Job, Layer};
@@ -130,10 +132,15 @@ const ASKED: [&str; 6] = [
     "SET a 1",
     "MSET b 1 z 1",
     "GET a",
-    "SET x 1",
-    "GET x",
+    NAME_X,
+    "TYPE x",
     "APPEND a 2",
 ];
+
+/// What they are answered where there is a set at `x`, and where there is none.
+const LARGE: &str = "+OK\r\n +OK\r\n $1\r\n1\r\n :100\r\n +set\r\n :2\r\n ";
+
+const SMALL: &str = "+OK\r\n +OK\r\n $1\r\n1\r\n :0\r\n +none\r\n :2\r\n ";
 
 /// Puts their jobs behind, each at the clock of its number.
 fn push_asked(alloc: Global, table: &Table, jobs: &mut Vec<Job>) -> Result<(), Trouble> {
@@ -152,21 +159,38 @@ fn asked(alloc: Global, table: &Table) -> Result<Layer, Trouble> {
     layer(jobs)
 }
 
-/// These workers run the layer so in a new store, and the gate is told.
-fn run_anew<W: Workers>(
+/// These workers run the layer so over this store, and the gate is told.
+fn run_over<W: Workers>(
     rt: &impl Abort,
     alloc: Global,
+    store: &mut Store,
     table: &Table,
     workers: &W,
     gate: &(dyn Gate + Sync),
+    wanted: &str,
 ) -> Result<(), Fail> {
-    let mut store = Store::new(alloc, *table)?;
     let requests = asked(alloc, table)?;
-    let wanted = "+OK\r\n +OK\r\n $1\r\n1\r\n +OK\r\n $1\r\n1\r\n :2\r\n ";
-    ask_all(rt, alloc, &mut store, requests, workers, gate, wanted)
+    ask_all(rt, alloc, store, requests, workers, gate, wanted)
 }
 
-/// These workers run the layer in this order.
+/// They do so in this order.
+fn runs_over_in<W: Workers>(
+    rt: &impl Abort,
+    alloc: Global,
+    store: &mut Store,
+    table: &Table,
+    workers: &W,
+    wanted: &str,
+    order: u64,
+) -> Result<(), Fail> {
+    let gate = Noted {
+        order: AtomicU64::new(0),
+    };
+    run_over(rt, alloc, store, table, workers, &gate, wanted)?;
+    same_number("the order", gate.order.load(Ordering::SeqCst), order)
+}
+
+/// These workers run the layer in this order over a store that has the set at `x`.
 fn runs_in<W: Workers>(
     rt: &impl Abort,
     alloc: Global,
@@ -174,11 +198,21 @@ fn runs_in<W: Workers>(
     workers: &W,
     order: u64,
 ) -> Result<(), Fail> {
-    let gate = Noted {
-        order: AtomicU64::new(0),
-    };
-    run_anew(rt, alloc, table, workers, &gate)?;
-    same_number("the order", gate.order.load(Ordering::SeqCst), order)
+    let mut store = Store::new(alloc, *table)?;
+    fill_x(rt, alloc, &mut store, table, 0)?;
+    runs_over_in(rt, alloc, &mut store, table, workers, LARGE, order)
+}
+
+/// The same over a new store.
+fn runs_small_in<W: Workers>(
+    rt: &impl Abort,
+    alloc: Global,
+    table: &Table,
+    workers: &W,
+    order: u64,
+) -> Result<(), Fail> {
+    let mut store = Store::new(alloc, *table)?;
+    runs_over_in(rt, alloc, &mut store, table, workers, SMALL, order)
 }
 
 #[test]
@@ -187,4 +221,18 @@ fn units_run_by_their_first_stamps(rt: HostRuntime) -> Result<(), Fail> {
     runs_in(&rt, rt.alloc(), &table, &ONE, 136_245)?;
     runs_in(&rt, rt.alloc(), &table, &InTurn(number_of(2)), 136_452)?;
     runs_in(&rt, rt.alloc(), &table, &InTurn(number_of(8)), 136_245)
+}
+
+#[test]
+fn units_with_little_to_do_are_not_dealt(rt: HostRuntime) -> Result<(), Fail> {
+    let table = table_of(rt.alloc(), 4)?;
+    runs_small_in(&rt, rt.alloc(), &table, &ONE, 136_245)?;
+    runs_small_in(&rt, rt.alloc(), &table, &InTurn(number_of(2)), 136_245)?;
+    runs_small_in(
+        &rt,
+        rt.alloc(),
+        &table,
+        &Crew::new(&rt, number_of(2)),
+        136_245,
+    )
 }

@@ -8,3 +8,4 @@ pub mod DealtLaws
 pub mod InRow
 pub mod Plans
 pub mod LastStamps
+mod OneMore

@@ -1,5 +1,6 @@
 pub mod Dealing
 pub mod Stamps
+pub mod Weights
 pub mod Reached
 pub mod Layers
 pub mod DealtRooms

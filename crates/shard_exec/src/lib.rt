@@ -15,6 +15,7 @@ mod moves;
 mod row_run;
 mod store;
 mod taking;
+mod weighing;
 
 pub use done::{Ended, ExecFault};
 pub use store::Store;

@@ -139,7 +139,8 @@ impl Store {
 
     /// Runs the requests of a layer by these workers, and tells what became of each, in the order of the layer. Those that
     /// address one group alone are run in one go, by one worker, in their order; one worker takes these units, and each
-    /// other request, in the order of their first stamps. The gate is told of each request that is run.
+    /// other request, in the order of their first stamps, and so they are all taken where the sets that they name have
+    /// together less than 10,000 members. The gate is told of each request that is run.
     ///
     /// Those named in `skip` are not run and count as starved. A request for whose execution there is no memory
     /// starves: it changes nothing but the last stamps of its shards. So it is with members of an EXEC, each for itself: its
@@ -167,7 +168,8 @@ impl Store {
                 .map_err(ExecFault::Memory),
             _ => {}
         }
-        let Ok(room) = LayerRoom::reserve(alloc, &layer, workers) else {
+        let row = self.shards.as_slice();
+        let Ok(room) = LayerRoom::reserve(alloc, &self.table, row, &layer, workers) else {
             return Err(ExecFault::Memory(layer));
         };
         let outcome = run_layer_over(

@@ -31,8 +31,11 @@ const CONNECTIONS: u64 = 8;
 const OPENED: &str = "open; open; open; open => opened 1; opened 2; opened 3; opened 4
 open; open; open; open => opened 5; opened 6; opened 7; opened 8";
 
+/// A set, so that layers with a request that names it often have work for several workers.
+const FILLED: &str = "ask 1 SADD x 00..99 => 1.1 at 1.3 :100|";
+
 /// Requests in which `K` stands for one of 12 keys, and `N` for a number below 50.
-const REQUESTS: [&str; 31] = [
+const REQUESTS: [&str; 33] = [
     "SET K N",
     "SET K N NX",
     "GET K",
@@ -43,6 +46,8 @@ const REQUESTS: [&str; 31] = [
     "MGET K K K K",
     "DEL K K",
     "EXISTS K K",
+    "EXISTS x*100",
+    "EXISTS K x*100",
     "RENAME K K",
     "RENAMENX K K",
     "TYPE K",
@@ -77,7 +82,7 @@ const LOOKS: [(&str, &str); 5] = [
 
 /// Adds one of the requests, with its keys and numbers, a blank before each word.
 fn push_request(text: &mut String, dice: &mut Dice) -> Result<(), Trouble> {
-    let place = dice.below(31) as usize;
+    let place = dice.below(33) as usize;
     let pattern = REQUESTS.get(place).ok_or("no such request")?;
     for word in pattern.split(' ') {
         push_word(text, word, dice)?;
@@ -256,6 +261,7 @@ fn play<W: Workers>(
     workers: &W,
 ) -> Result<(), Trouble> {
     follow(rt, alloc, system, OPENED, workers)?;
+    follow(rt, alloc, system, FILLED, workers)?;
     play_steps(rt, alloc, system, workers)?;
     end(rt, alloc, system, workers)?;
     look_at_all(alloc, system, workers)

@@ -190,6 +190,28 @@ row 3 => 3.1 at 3.0 MSET a 5 c 6 +OK|
 row 4 => 4.1 at 4.0 GET a $1|5|
 starved => 0:";
 
+/// A layer of two requests, of which one names 10,000 members of sets: so two workers have one each.
+const LARGE_SETS: &str = "open => opened 1
+open => opened 2
+submit 1 SADD x 00..99 => submitted 1.1
+deliver 0 => made
+take => made
+run => ran
+settle => made
+collect 1 => 1.1 at 1.1 :100|
+submit 1 SET a 1 => submitted 1.2
+submit 2 EXISTS x*100 => submitted 2.1
+deliver 0 => made
+deliver 0 => made
+take => made
+run => ran
+settle => made
+collect 1 => 1.2 at 2.0 +OK|
+collect 2 => 2.1 at 2.1 :100|
+rows => 3
+row 1 => 1.2 at 2.0 SET a 1 +OK|
+starved => 0:";
+
 /// A list of both groups, whose members are run, and then both keys are looked at.
 const LIST: &str = "open => opened 1
 submit 1 MULTI => submitted 1.1
@@ -418,9 +440,9 @@ fn crossing_where_memory_fails(rt: HostRuntime) -> Result<(), Fail> {
 }
 
 #[test]
-fn crossing_by_two_where_memory_fails(rt: HostRuntime) -> Result<(), Fail> {
+fn large_sets_by_two_where_memory_fails(rt: HostRuntime) -> Result<(), Fail> {
     let two = NonZeroUsize::new(2).ok_or("two")?;
-    attempts(&rt, rt.alloc(), 1000, CROSSING, &InTurn(two))?;
+    attempts(&rt, rt.alloc(), 1000, LARGE_SETS, &InTurn(two))?;
     Ok(())
 }
 
@@ -469,8 +491,8 @@ fn runs_by_a_crew_of_one_where_memory_fails(rt: HostRuntime) -> Result<(), Fail>
 }
 
 #[test]
-fn runs_by_a_crew_of_two_where_memory_fails(rt: HostRuntime) -> Result<(), Fail> {
+fn large_sets_by_a_crew_of_two_where_memory_fails(rt: HostRuntime) -> Result<(), Fail> {
     let two = NonZeroUsize::new(2).ok_or("two")?;
-    attempts(&rt, rt.alloc(), 1000, RUNS, &Crew::new(&rt, two))?;
+    attempts(&rt, rt.alloc(), 1000, LARGE_SETS, &Crew::new(&rt, two))?;
     Ok(())
 }

@@ -240,12 +240,16 @@ impl Workers for Unwilling {
     }
 }
 
-/// A layer of one request needs no start; then a layer of two is taken.
+/// A layer of one request needs no start, nor does one of two that name no large sets; then a layer of two is taken of which
+/// one does.
 const BEFORE_THE_START: &str = "open; open => opened 1; opened 2
-ask 1 SET b 0 => 1.1 at 1.0 +OK|
-submit 1 SET a 1; submit 2 SET c 2 => submitted 1.2; submitted 2.1
+ask 1 SADD x 00..99 => 1.1 at 1.1 :100|
+submit 1 SET b 0; submit 2 SET c 2 => submitted 1.2; submitted 2.1
+deliver 0; deliver 0; take; run; settle => made; made; made; ran; made
+collect 1; collect 2 => 1.2 at 2.0 +OK|; 2.1 at 2.1 +OK|
+submit 1 SET a 1; submit 2 EXISTS x*100 => submitted 1.3; submitted 2.2
 deliver 0; deliver 0; take => made; made; made
-steps => 13";
+steps => 22";
 
 /// The rows stay, and no step is made any more, whoever works.
 const AFTER_THE_START: &str = "open => Failed
@@ -259,10 +263,10 @@ collect 1 => Failed
 collect 9 => Failed
 close 1 => Failed
 repeat 0 => Failed
-rows => 1
-row 0 => 1.1 at 1.0 SET b 0 +OK|
+rows => 3
+row 1 => 1.2 at 2.0 SET b 0 +OK|
 starved => 0:
-steps => 13";
+steps => 22";
 
 fn fails_for_good(rt: &impl Abort, alloc: Global, system: &mut System) -> Result<(), Trouble> {
     follow(rt, alloc, system, BEFORE_THE_START, &Unwilling)?;

@@ -300,6 +300,65 @@ collect 1 => 1.1 at 1.0 +OK|
 collect 2 => 2.1 at 1.1 +OK|",
 };
 
+/// The same where one of them names 10,000 members of sets, so that several workers have one each.
+const LAYER_OF_LARGE_SETS: Row = Row {
+    shards: 2,
+    max_steps: 1000,
+    script: "open; open => opened 1; opened 2
+ask 1 SADD x 00..99 => 1.1 at 1.1 :100|
+submit 1 SET a 1; submit 2 EXISTS x*100 => submitted 1.2; submitted 2.1
+deliver 0; deliver 0 => made; made
+take; run; settle => made; ran; made
+take => NoLayer
+rows => 3
+row 1 => 1.2 at 2.0 SET a 1 +OK|
+collect 1 => 1.2 at 2.0 +OK|
+collect 2 => 2.1 at 2.1 :100|
+ask 1 GET a => 1.3 at 3.0 $1|1|
+ask 1 SCARD x => 1.4 at 4.1 :100|",
+};
+
+/// Of such a layer the second starves.
+const LARGE_SETS_STARVE: Row = Row {
+    shards: 2,
+    max_steps: 1000,
+    script: "open; open => opened 1; opened 2
+ask 1 SADD x 00..99 => 1.1 at 1.1 :100|
+submit 1 SET a 1; submit 2 SUNIONSTORE z x*100 => submitted 1.2; submitted 2.1
+deliver 0; deliver 0 => made; made
+take; run 2.1; settle => made; ran, starved 2.1; made
+starved => 1: 2.1
+rows => 2
+collect 1 => 1.2 at 2.0 +OK|
+collect 2 => 2.1 at 2.1 -ERR out of memory|
+ask 1 EXISTS z => 1.3 at 3.1 :0|",
+};
+
+/// Of such a layer one worker has two requests of one group, and the other the one that names sets; then comes one of both
+/// groups.
+const LARGE_RUNS: Row = Row {
+    shards: 2,
+    max_steps: 1000,
+    script: "open; open; open; open => opened 1; opened 2; opened 3; opened 4
+ask 1 SADD x 00..99 => 1.1 at 1.1 :100|
+submit 1 SET a 1; submit 2 INCR a => submitted 1.2; submitted 2.1
+submit 3 SUNIONSTORE z x*100; submit 4 SDIFF z x a => submitted 3.1; submitted 4.1
+packets => 5
+drain => 7
+take; run; settle => made; ran; made
+rows => 4
+row 1 => 1.2 at 2.0 SET a 1 +OK|
+row 3 => 2.1 at 3.0 INCR a :2|
+take; run; settle => made; ran; made
+rows => 5
+quiet => true
+collect 1 => 1.2 at 2.0 +OK|
+collect 2 => 2.1 at 3.0 :2|
+collect 3 => 3.1 at 2.1 :100|
+collect 4 => 4.1 at 4.0 -WRONGTYPE Operation against a key holding the wrong kind of value|
+ask 1 SCARD z => 1.3 at 5.1 :100|",
+};
+
 /// Requests of one group are taken together with the ready one that they stand behind, but not past one of two groups.
 const RUNS: Row = Row {
     shards: 2,
@@ -557,7 +616,7 @@ quiet => true
 rows => 2",
 };
 
-const ROWS: [Row; 23] = [
+const ROWS: [Row; 26] = [
     CROSSING,
     LAYER_BY_LAYER,
     PROPOSAL_FIRST,
@@ -571,6 +630,9 @@ const ROWS: [Row; 23] = [
     ALL_GROUPS_BEHIND,
     ALL_GROUPS_BEFORE,
     LAYER_OF_TWO,
+    LAYER_OF_LARGE_SETS,
+    LARGE_SETS_STARVE,
+    LARGE_RUNS,
     RUNS,
     ONE_OF_TWO_STARVES,
     CLOSED_UNDER_WAY,

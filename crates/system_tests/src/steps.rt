@@ -72,16 +72,51 @@ fn submit_of(alloc: Global, words: &str) -> Result<Step, Trouble> {
     })
 }
 
-/// The request of these words, which are parted by blanks.
+/// The request of these words, which are parted by blanks. `00..99` stands for the numbers of two digits, and `WORD*100` for
+/// a hundred times this word.
 pub(crate) fn request_of(alloc: Global, words: &str) -> Result<Request, Trouble> {
     let mut copies = Vec::new(alloc);
-    for word in words.split(' ') {
-        copies.push(Vec::from_slice(alloc, word.as_bytes())?)?;
+    for said in words.split(' ') {
+        push_said(alloc, &mut copies, said)?;
     }
     if copies.is_empty() {
         return Err("no words".into());
     }
     Ok(Request::from_words(copies))
+}
+
+/// Adds the words that one stands for.
+fn push_said(alloc: Global, copies: &mut Vec<Vec<u8>>, said: &str) -> Result<(), Trouble> {
+    if said == "00..99" {
+        return push_numbers(alloc, copies);
+    }
+    match said.strip_suffix("*100") {
+        Some(word) => push_often(alloc, copies, word),
+        None => push_word(alloc, copies, said),
+    }
+}
+
+/// Adds the numbers of two digits.
+fn push_numbers(alloc: Global, copies: &mut Vec<Vec<u8>>) -> Result<(), Trouble> {
+    for number in 0..100u32 {
+        let word = format!(in alloc; "{}{}", number / 10, number % 10)?;
+        push_word(alloc, copies, word.as_str())?;
+    }
+    Ok(())
+}
+
+/// Adds a word a hundred times.
+fn push_often(alloc: Global, copies: &mut Vec<Vec<u8>>, word: &str) -> Result<(), Trouble> {
+    for _ in 0..100u32 {
+        push_word(alloc, copies, word)?;
+    }
+    Ok(())
+}
+
+/// Adds a word.
+fn push_word(alloc: Global, copies: &mut Vec<Vec<u8>>, word: &str) -> Result<(), Trouble> {
+    copies.push(Vec::from_slice(alloc, word.as_bytes())?)?;
+    Ok(())
 }
 
 fn run_of(alloc: Global, list: &str) -> Result<Step, Trouble> {

@@ -279,7 +279,29 @@ collect 1 => 1.3 at 1.0 *1|+OK|
 ask 1 GET a => 1.4 at 2.0 $1|1|",
 };
 
-const ROWS: [Row; 13] = [
+/// Two lists of one layer, of which one names 10,000 members of sets, so that several workers have one each.
+const TWO_AT_ONCE: Row = Row {
+    shards: 2,
+    max_steps: 1000,
+    script: "open; open => opened 1; opened 2
+ask 1 SADD x 00..99 => 1.1 at 1.1 :100|
+submit 1 MULTI; collect 1 => submitted 1.2; 1.2 +OK|
+submit 1 SET a 1; collect 1 => submitted 1.3; 1.3 +QUEUED|
+submit 1 INCR a; collect 1 => submitted 1.4; 1.4 +QUEUED|
+submit 2 MULTI; collect 2 => submitted 2.1; 2.1 +OK|
+submit 2 EXISTS x*100; collect 2 => submitted 2.2; 2.2 +QUEUED|
+submit 2 SREM x 07; collect 2 => submitted 2.3; 2.3 +QUEUED|
+submit 1 EXEC; submit 2 EXEC => submitted 1.5; submitted 2.4
+deliver 0; deliver 0 => made; made
+take; run 2.4.2; settle => made; ran, starved 2.4.2; made
+take => NoLayer
+rows => 3
+collect 1 => 1.5 at 2.0 *2|+OK|:2|
+collect 2 => 2.4 at 2.1 *2|:100|-ERR out of memory|
+ask 1 SCARD x => 1.6 at 3.1 :100|",
+};
+
+const ROWS: [Row; 14] = [
     RUN,
     THIRD_STARVES,
     SEVERAL_STARVE,
@@ -293,6 +315,7 @@ const ROWS: [Row; 13] = [
     LINED_UP,
     ALL_KEYS,
     ONE_AT_A_TIME,
+    TWO_AT_ONCE,
 ];
 
 #[test]

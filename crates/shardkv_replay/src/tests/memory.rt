@@ -4,7 +4,9 @@
 //! turn: what that call was asked for isn't begun, and the next one does all of it. Where the allocation is the test's
 //! own, the test begins anew.
 
-use crate::tests::traces::{CROSSING, LAYER_OF_TWO, MEMBER_STARVED, REPEATED, Row, STARVED};
+use crate::tests::traces::{
+    CROSSING, LAYER_OF_TWO, MEMBER_STARVED, REPEATED, Row, STARVED, large_report, large_trace,
+};
 use command_table::{Command, read};
 use journal::{Step, Trace, TraceFault, read_trace, write_trace};
 use placement::{Table, TableFault};
@@ -234,15 +236,23 @@ fn a_store_on_one_map_is_dumped_where_memory_fails(rt: HostRuntime) -> Result<()
 fn shown<W: Workers>(
     rt: &impl Abort,
     alloc: Global,
-    row: Row,
+    trace: &str,
+    report: &str,
     workers: &W,
 ) -> Result<(), AllocError> {
     let mut sink = Sink::new(alloc, 100);
-    sink.taken.reserve(row.report.len())?;
-    let ended = told_at_last(rt, alloc, row.trace, workers, &mut sink);
+    sink.taken.reserve(report.len())?;
+    let ended = told_at_last(rt, alloc, trace, workers, &mut sink);
     assert!(rt; matches!(ended, Ok(true)));
-    assert_bytes(rt, sink.taken.as_slice(), row.report.as_bytes());
+    assert_bytes(rt, sink.taken.as_slice(), report.as_bytes());
     Ok(())
+}
+
+/// So the report of a layer that several workers run.
+fn large_shown<W: Workers>(rt: &impl Abort, alloc: Global, workers: &W) -> Result<(), AllocError> {
+    let trace = large_trace(alloc)?;
+    let report = large_report(alloc)?;
+    shown(rt, alloc, trace.as_str(), report.as_str(), workers)
 }
 
 /// What a replay ends with. Where it wants memory, nothing was written, and it is begun again.
@@ -275,8 +285,8 @@ fn is_no_memory(fault: &ShowFault) -> bool {
 #[test]
 fn reports_come_whole_where_memory_fails(rt: HostRuntime) -> Result<(), Fail> {
     for row in [CROSSING, STARVED, LAYER_OF_TWO, REPEATED, MEMBER_STARVED] {
-        if shown(&rt, rt.alloc(), row, &ONE).is_err() {
-            shown(&rt, rt.alloc(), row, &ONE)?;
+        if shown(&rt, rt.alloc(), row.trace, row.report, &ONE).is_err() {
+            shown(&rt, rt.alloc(), row.trace, row.report, &ONE)?;
         }
     }
     Ok(())
@@ -286,8 +296,8 @@ fn reports_come_whole_where_memory_fails(rt: HostRuntime) -> Result<(), Fail> {
 fn reports_of_a_crew_come_whole_where_memory_fails(rt: HostRuntime) -> Result<(), Fail> {
     let two = NonZeroUsize::new(2).ok_or("two")?;
     let crew = Crew::new(&rt, two);
-    if shown(&rt, rt.alloc(), LAYER_OF_TWO, &crew).is_err() {
-        shown(&rt, rt.alloc(), LAYER_OF_TWO, &crew)?;
+    if large_shown(&rt, rt.alloc(), &crew).is_err() {
+        large_shown(&rt, rt.alloc(), &crew)?;
     }
     Ok(())
 }

@@ -1,4 +1,6 @@
-//! Traces on two shards, and their reports. `a` (61) lies on shard 0, and `c` (63) on shard 1.
+//! Traces on two shards, and their reports. `a` (61) lies on shard 0, and `c` (63) and `x` (78) on shard 1.
+
+use std::alloc::{AllocError, Global};
 
 use test_support::trace;
 
@@ -115,7 +117,76 @@ agree
 ",
 };
 
-/// The same; the second starves, and the line `run` names a request of no layer too.
+/// Adds the numbers of two digits, each with a blank before it.
+fn push_numbers(text: &mut String) -> Result<(), AllocError> {
+    for number in 0..100u32 {
+        write!(text, " 3{}3{}", number / 10, number % 10)?;
+    }
+    Ok(())
+}
+
+/// Adds `x` a hundred times, each with a blank before it.
+fn push_names(text: &mut String) -> Result<(), AllocError> {
+    for _ in 0..100u32 {
+        text.push_str(" 78")?;
+    }
+    Ok(())
+}
+
+/// SADD x 00 .. 99. Then SET a 1, and EXISTS with x a hundred times, are one layer, which names 10,000 members of sets: so
+/// several workers have a request each.
+pub(crate) fn large_trace(alloc: Global) -> Result<String, AllocError> {
+    let mut text = String::from_str(
+        alloc,
+        "shardkv-trace 1
+max 1000
+open
+open
+submit 1 53414444 78",
+    )?;
+    push_numbers(&mut text)?;
+    text.push_str(
+        "
+deliver 0
+take
+run
+settle
+collect 1
+submit 1 534554 61 31
+submit 2 455849535453",
+    )?;
+    push_names(&mut text)?;
+    text.push_str(
+        "
+deliver 0
+deliver 0
+take
+run
+settle
+collect 1
+collect 2
+end 17
+",
+    )?;
+    Ok(text)
+}
+
+/// Its report.
+pub(crate) fn large_report(alloc: Global) -> Result<String, AllocError> {
+    let mut text = String::from_str(
+        alloc,
+        "row 1.1 1.1 sadd 3a3130300d0a
+row 2.0 1.2 set 2b4f4b0d0a
+row 2.1 2.1 exists 3a3130300d0a
+key 61 string 31
+key 78 set",
+    )?;
+    push_numbers(&mut text)?;
+    text.push_str("\nagree\n")?;
+    Ok(text)
+}
+
+/// SET a 1 and SET c 2 are one layer; the second starves, and the line `run` names a request of no layer too.
 pub(crate) const SECOND_OF_TWO_STARVES: Row = Row {
     name: "second of two starves",
     trace: trace!(
