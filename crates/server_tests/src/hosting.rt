@@ -23,6 +23,30 @@ use test_support::{
     TWO_SHARDS, as_wanted, holds, last_line, same_bytes, same_number, same_report, same_text,
 };
 
+/// What a host and the clients beside it are run on.
+pub(crate) trait Hosting: Threads
+    + Wait
+    + AllocGlobal
+    + Files
+    + RandomSource
+    + Eprint
+    + Clock
+    + Sync
+    + Net<Listener = TcpListener, Stream = TcpStream> {}
+
+impl<R> Hosting for R
+where
+    R: Threads
+        + Wait
+        + AllocGlobal
+        + Files
+        + RandomSource
+        + Eprint
+        + Clock
+        + Sync
+        + Net<Listener = TcpListener, Stream = TcpStream>,
+{}
+
 /// At most how many steps a server makes where a test has no other number.
 pub(crate) const MANY: u64 = 1_000_000;
 
@@ -62,9 +86,7 @@ pub(crate) fn options<'a>(
 type Hosted = (u8, Vec<u8>);
 
 /// Hosts at a listener on two shards.
-fn hosted<R>(rt: &R, listener: &TcpListener, options: &Options<'_>) -> Hosted
-where
-    R: Threads + Wait + AllocGlobal + Files + RandomSource + Eprint + Net + Clock + Sync,
+fn hosted<R: Hosting>(rt: &R, listener: &TcpListener, options: &Options<'_>) -> Hosted
     requires { InRange options.now }
 {
     let mut printed = Vec::new(rt.alloc());
@@ -84,23 +106,13 @@ where
 
 /// Hosts at a listener on two shards, beside so many clients that act in order. How the host ended, and what `follow`
 /// tells of the clients.
-fn beside<R>(
+fn beside<R: Hosting>(
     rt: &R,
     listener: &TcpListener,
     options: &Options<'_>,
     clients: usize,
     acts: &[Act<'_>],
 ) -> (Hosted, Option<String>)
-where
-    R: Threads
-        + Wait
-        + AllocGlobal
-        + Files
-        + RandomSource
-        + Eprint
-        + Clock
-        + Sync
-        + Net<Listener = TcpListener, Stream = TcpStream>,
     requires { InRange options.now }
 {
     let (otherwise, ended) = join(
@@ -128,7 +140,7 @@ pub(crate) enum End<'a> {
 
 /// Hosts at a listener on two shards, beside so many clients that act in order. All comes out as the acts say, and the
 /// host ends so.
-fn serve_at<R>(
+fn serve_at<R: Hosting>(
     rt: &R,
     listener: &TcpListener,
     options: &Options<'_>,
@@ -136,16 +148,6 @@ fn serve_at<R>(
     acts: &[Act<'_>],
     end: End<'_>,
 ) -> Result<(), Fail>
-where
-    R: Threads
-        + Wait
-        + AllocGlobal
-        + Files
-        + RandomSource
-        + Eprint
-        + Clock
-        + Sync
-        + Net<Listener = TcpListener, Stream = TcpStream>,
     requires { InRange options.now }
 {
     let (hosted, otherwise) = beside(rt, listener, options, clients, acts);
@@ -218,23 +220,13 @@ fn ended_telling(
 }
 
 /// The same at a listener of its own.
-pub(crate) fn serve_by<R>(
+pub(crate) fn serve_by<R: Hosting>(
     rt: &R,
     options: &Options<'_>,
     clients: usize,
     acts: &[Act<'_>],
     end: End<'_>,
 ) -> Result<(), Fail>
-where
-    R: Threads
-        + Wait
-        + AllocGlobal
-        + Files
-        + RandomSource
-        + Eprint
-        + Clock
-        + Sync
-        + Net<Listener = TcpListener, Stream = TcpStream>,
     requires { InRange options.now }
 {
     let listener = TcpListener::bind(rt, "127.0.0.1:0")?;
@@ -243,25 +235,14 @@ where
 
 /// Has so many clients act in order beside a server of so many workers. All comes out as the acts say, and the server
 /// ends by status 0 with a last line that begins so.
-pub(crate) fn serve_acts<R>(
+pub(crate) fn serve_acts<R: Hosting>(
     rt: &R,
     workers: usize,
     trace: Option<&str>,
     clients: usize,
     acts: &[Act<'_>],
     last: &str,
-) -> Result<(), Fail>
-where
-    R: Threads
-        + Wait
-        + AllocGlobal
-        + Files
-        + RandomSource
-        + Eprint
-        + Clock
-        + Sync
-        + Net<Listener = TcpListener, Stream = TcpStream>,
-{
+) -> Result<(), Fail> {
     let options = options(workers, clients as u64, MANY, trace)?;
     serve_by(rt, &options, clients, acts, End::Well(last))
 }
