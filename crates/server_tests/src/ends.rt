@@ -4,6 +4,7 @@ use crate::clients::Act;
 use crate::clients::Does::{Asks, Gets, IsEnded, Sends};
 use crate::hosting::{End, Hosting, MANY, options, replay_trace, serve_by};
 use std::alloc::{AllocError, Global};
+use std::net::{Net, TcpListener, TcpStream};
 use std::rt::Files;
 use std::test::Fail;
 use std::{env, fs, process};
@@ -33,7 +34,10 @@ const RUN_OUT: [Act<'static>; 9] = [
 const LEFT: &[u8] = b"key 61 string 31\nkey 63 string 32\nagree\n";
 
 /// So many steps run out for so many workers.
-fn run_out<R: Hosting>(rt: &R, path: &str, max_steps: u64, workers: usize) -> Result<(), Fail> {
+fn run_out<R>(rt: &R, path: &str, max_steps: u64, workers: usize) -> Result<(), Fail>
+where
+    R: Hosting + Net<Listener = TcpListener, Stream = TcpStream>,
+{
     let options = options(workers, 1000, max_steps, Some(path))?;
     serve_by(rt, &options, 3, &RUN_OUT, End::By(5))?;
     replay_trace(rt, path, 2, LEFT)
@@ -71,12 +75,15 @@ fn often(alloc: Global, text: &str, last: &str) -> Result<String, AllocError> {
 }
 
 /// A client sends the first bytes and then the second ones, and gets these replies and its end.
-fn is_ended_behind<'a, R: Hosting>(
+fn is_ended_behind<'a, R>(
     rt: &R,
     first: &'a str,
     second: &'a str,
     replies: &'a str,
-) -> Result<(), Fail> {
+) -> Result<(), Fail>
+where
+    R: Hosting + Net<Listener = TcpListener, Stream = TcpStream>,
+{
     let acts = [
         (0, Sends(first)),
         (0, Sends(second)),
@@ -97,7 +104,10 @@ fn replies_before_a_fault_arrive(rt: HostRuntime) -> Result<(), Fail> {
 }
 
 /// A server whose trace would be in this file isn't able to write it, and serves no one.
-fn writes_no_trace<R: Hosting>(rt: &R, path: &str) -> Result<(), Fail> {
+fn writes_no_trace<R>(rt: &R, path: &str) -> Result<(), Fail>
+where
+    R: Hosting + Net<Listener = TcpListener, Stream = TcpStream>,
+{
     let options = options(1, 1, MANY, Some(path))?;
     serve_by(rt, &options, 0, &[], End::By(6))
 }
@@ -118,7 +128,10 @@ fn stand_still<R: AllocGlobal + Files>(rt: &R, path: &str, part: &str) -> Result
 }
 
 /// A trace that can't be written in this file leaves what stands there.
-fn leaves<R: Hosting>(rt: &R, path: &str) -> Result<(), Fail> {
+fn leaves<R>(rt: &R, path: &str) -> Result<(), Fail>
+where
+    R: Hosting + Net<Listener = TcpListener, Stream = TcpStream>,
+{
     let part = format!(in rt.alloc(); "{path}.part")?;
     stand_before(rt, path, part.as_str())?;
     writes_no_trace(rt, path)?;
@@ -136,7 +149,10 @@ const ASKS_ONCE: [Act<'static>; 2] = [(0, Asks("SET a 1")), (0, Gets("+OK|"))];
 
 /// A folder has the name that the trace would get at its end. The client is answered, the end is told, and the status is 6; what was
 /// written stays.
-fn stays_unnamed<R: Hosting>(rt: &R, path: &str) -> Result<(), Fail> {
+fn stays_unnamed<R>(rt: &R, path: &str) -> Result<(), Fail>
+where
+    R: Hosting + Net<Listener = TcpListener, Stream = TcpStream>,
+{
     let part = format!(in rt.alloc(); "{path}.part")?;
     fs::create_dir(rt, path)?;
     let options = options(1, 1, MANY, Some(path))?;

@@ -23,7 +23,7 @@ use test_support::{
     TWO_SHARDS, as_wanted, holds, last_line, same_bytes, same_number, same_report, same_text,
 };
 
-/// What a host and the clients beside it are run on.
+/// What a host and the clients beside it are run on, but for the net.
 pub(crate) trait Hosting: Threads
     + Wait
     + AllocGlobal
@@ -31,20 +31,11 @@ pub(crate) trait Hosting: Threads
     + RandomSource
     + Eprint
     + Clock
-    + Sync
-    + Net<Listener = TcpListener, Stream = TcpStream> {}
+    + Sync {}
 
 impl<R> Hosting for R
 where
-    R: Threads
-        + Wait
-        + AllocGlobal
-        + Files
-        + RandomSource
-        + Eprint
-        + Clock
-        + Sync
-        + Net<Listener = TcpListener, Stream = TcpStream>,
+    R: Threads + Wait + AllocGlobal + Files + RandomSource + Eprint + Clock + Sync,
 {}
 
 /// At most how many steps a server makes where a test has no other number.
@@ -86,7 +77,9 @@ pub(crate) fn options<'a>(
 type Hosted = (u8, Vec<u8>);
 
 /// Hosts at a listener on two shards.
-fn hosted<R: Hosting>(rt: &R, listener: &TcpListener, options: &Options<'_>) -> Hosted
+fn hosted<R>(rt: &R, listener: &TcpListener, options: &Options<'_>) -> Hosted
+where
+    R: Hosting + Net,
     requires { InRange options.now }
 {
     let mut printed = Vec::new(rt.alloc());
@@ -106,13 +99,15 @@ fn hosted<R: Hosting>(rt: &R, listener: &TcpListener, options: &Options<'_>) -> 
 
 /// Hosts at a listener on two shards, beside so many clients that act in order. How the host ended, and what `follow`
 /// tells of the clients.
-fn beside<R: Hosting>(
+fn beside<R>(
     rt: &R,
     listener: &TcpListener,
     options: &Options<'_>,
     clients: usize,
     acts: &[Act<'_>],
 ) -> (Hosted, Option<String>)
+where
+    R: Hosting + Net<Listener = TcpListener, Stream = TcpStream>,
     requires { InRange options.now }
 {
     let (otherwise, ended) = join(
@@ -140,7 +135,7 @@ pub(crate) enum End<'a> {
 
 /// Hosts at a listener on two shards, beside so many clients that act in order. All comes out as the acts say, and the
 /// host ends so.
-fn serve_at<R: Hosting>(
+fn serve_at<R>(
     rt: &R,
     listener: &TcpListener,
     options: &Options<'_>,
@@ -148,6 +143,8 @@ fn serve_at<R: Hosting>(
     acts: &[Act<'_>],
     end: End<'_>,
 ) -> Result<(), Fail>
+where
+    R: Hosting + Net<Listener = TcpListener, Stream = TcpStream>,
     requires { InRange options.now }
 {
     let (hosted, otherwise) = beside(rt, listener, options, clients, acts);
@@ -220,13 +217,15 @@ fn ended_telling(
 }
 
 /// The same at a listener of its own.
-pub(crate) fn serve_by<R: Hosting>(
+pub(crate) fn serve_by<R>(
     rt: &R,
     options: &Options<'_>,
     clients: usize,
     acts: &[Act<'_>],
     end: End<'_>,
 ) -> Result<(), Fail>
+where
+    R: Hosting + Net<Listener = TcpListener, Stream = TcpStream>,
     requires { InRange options.now }
 {
     let listener = TcpListener::bind(rt, "127.0.0.1:0")?;
@@ -235,14 +234,17 @@ pub(crate) fn serve_by<R: Hosting>(
 
 /// Has so many clients act in order beside a server of so many workers. All comes out as the acts say, and the server
 /// ends by status 0 with a last line that begins so.
-pub(crate) fn serve_acts<R: Hosting>(
+pub(crate) fn serve_acts<R>(
     rt: &R,
     workers: usize,
     trace: Option<&str>,
     clients: usize,
     acts: &[Act<'_>],
     last: &str,
-) -> Result<(), Fail> {
+) -> Result<(), Fail>
+where
+    R: Hosting + Net<Listener = TcpListener, Stream = TcpStream>,
+{
     let options = options(workers, clients as u64, MANY, trace)?;
     serve_by(rt, &options, clients, acts, End::Well(last))
 }
