@@ -23,24 +23,12 @@ abbrev pub line_of : Text → List OptionRow → App
 line_of program rows = with_rules (app_named program) (map rule_of_row rows)
 
 -- the least and the greatest number that an option takes, and the one where the words give none
-abbrev pub range_by : Kind → ℕ × ℕ × ℕ
-range_by Flag = (0, 18446744073709551615, 0)
-range_by (Valued value) = (0, 18446744073709551615, 0)
-range_by (Needed value) = (0, 18446744073709551615, 0)
-range_by (Number value bounds default) = (bounds.0, bounds.1, default)
-range_by (ShortNumber value bounds default) = (bounds.0, bounds.1, default)
-
-abbrev pub range_of : OptionRow → ℕ × ℕ × ℕ
-range_of row = range_by row.kind
-
-abbrev pub least_of : OptionRow → ℕ
-least_of row = (range_of row).0
-
-abbrev pub most_of : OptionRow → ℕ
-most_of row = (range_of row).1
-
-abbrev pub default_of : OptionRow → ℕ
-default_of row = (range_of row).2
+abbrev pub range_of : Kind → ℕ × ℕ × ℕ
+range_of Flag = (0, 18446744073709551615, 0)
+range_of (Valued value) = (0, 18446744073709551615, 0)
+range_of (Needed value) = (0, 18446744073709551615, 0)
+range_of (Number value bounds default) = (bounds.0, bounds.1, default)
+range_of (ShortNumber value bounds default) = (bounds.0, bounds.1, default)
 
 -- the value that an option was given, if it was
 abbrev pub given : OptionRow → ArgMatches → Option Text

@@ -3,7 +3,7 @@
 ghost use Rattle.std.specs.Prelude.{◌≡◌, ◌≤◌, false, IfOk, IfErr, IfNone, IfSome, Some, None, option_map};
 ghost use Rattle.clap.specs.Words.{rule_of};
 ghost use Rattle.options.specs.CommandLine.{SaysOr, IsAddress, IsNoAddress, IsNoNumber, IsOutside, is_given};
-ghost use Rattle.options.specs.OptionRows.{given, least_of, most_of, default_of, range_of, rule_of_row};
+ghost use Rattle.options.specs.OptionRows.{given, range_of, rule_of_row};
 ghost use Rattle.options.specs.declared.fault.OptionsFault.TheVariants as options_fault;
 
 use crate::fault::OptionsFault;
@@ -87,7 +87,7 @@ impl OptionRow {
     /// The least and the greatest number that it takes, and the one where the words give none; for an option that takes no
     /// number, of all.
     fn range(&self) -> (u64, u64, u64)
-        ensures { result ≡ range_of self.now }
+        ensures { result ≡ range_of self.now.kind }
     {
         match self.kind {
             Kind::Number(_, (least, most), default)
@@ -112,12 +112,12 @@ impl OptionRow {
 
     /// The number that it was given, or its default: one of those that it takes.
     pub(crate) fn number(&self, found: &ArgMatches<'_>) -> Result<u64, OptionsFault>
-        ensures said { IfOk result (SaysOr (default_of self.now) (given self.now found.now)) }
-        ensures least { IfOk result (λ number. least_of self.now ≤ number) }
-        ensures most { IfOk result (λ number. number ≤ most_of self.now) }
+        ensures said { IfOk result (SaysOr (range_of self.now.kind).2 (given self.now found.now)) }
+        ensures least { IfOk result (λ number. (range_of self.now.kind).0 ≤ number) }
+        ensures most { IfOk result (λ number. number ≤ (range_of self.now.kind).1) }
         ensures refused { IfErr result (λ fault. (fault ≡ options_fault.Range self.now.name)
-            × IsOutside (default_of self.now) (least_of self.now) (most_of self.now)
-            (given self.now found.now)) }
+            × IsOutside (range_of self.now.kind).2 (range_of self.now.kind).0
+            (range_of self.now.kind).1 (given self.now found.now)) }
     {
         let (least, most, default) = self.range();
         match self.number_or(default, found) {

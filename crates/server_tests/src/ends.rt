@@ -2,15 +2,11 @@
 
 use crate::clients::Act;
 use crate::clients::Does::{Asks, Gets, IsEnded, Sends};
-use crate::hosting::{End, MANY, options, replay_trace, serve_by};
+use crate::hosting::{End, Hosting, MANY, options, replay_trace, serve_by};
 use std::alloc::{AllocError, Global};
 use std::net::{Net, TcpListener, TcpStream};
-use std::random::RandomSource;
 use std::rt::Files;
-use std::sync::Wait;
 use std::test::Fail;
-use std::thread::Threads;
-use std::time::Clock;
 use std::{env, fs, process};
 use test_support::same_bytes;
 
@@ -40,15 +36,7 @@ const LEFT: &[u8] = b"key 61 string 31\nkey 63 string 32\nagree\n";
 /// So many steps run out for so many workers.
 fn run_out<R>(rt: &R, path: &str, max_steps: u64, workers: usize) -> Result<(), Fail>
 where
-    R: Threads
-        + Wait
-        + AllocGlobal
-        + Files
-        + RandomSource
-        + Eprint
-        + Clock
-        + Sync
-        + Net<Listener = TcpListener, Stream = TcpStream>,
+    R: Hosting + Net<Listener = TcpListener, Stream = TcpStream>,
 {
     let options = options(workers, 1000, max_steps, Some(path))?;
     serve_by(rt, &options, 3, &RUN_OUT, End::By(5))?;
@@ -94,15 +82,7 @@ fn is_ended_behind<'a, R>(
     replies: &'a str,
 ) -> Result<(), Fail>
 where
-    R: Threads
-        + Wait
-        + AllocGlobal
-        + Files
-        + RandomSource
-        + Eprint
-        + Clock
-        + Sync
-        + Net<Listener = TcpListener, Stream = TcpStream>,
+    R: Hosting + Net<Listener = TcpListener, Stream = TcpStream>,
 {
     let acts = [
         (0, Sends(first)),
@@ -126,15 +106,7 @@ fn replies_before_a_fault_arrive(rt: HostRuntime) -> Result<(), Fail> {
 /// A server whose trace would be in this file isn't able to write it, and serves no one.
 fn writes_no_trace<R>(rt: &R, path: &str) -> Result<(), Fail>
 where
-    R: Threads
-        + Wait
-        + AllocGlobal
-        + Files
-        + RandomSource
-        + Eprint
-        + Clock
-        + Sync
-        + Net<Listener = TcpListener, Stream = TcpStream>,
+    R: Hosting + Net<Listener = TcpListener, Stream = TcpStream>,
 {
     let options = options(1, 1, MANY, Some(path))?;
     serve_by(rt, &options, 0, &[], End::By(6))
@@ -158,15 +130,7 @@ fn stand_still<R: AllocGlobal + Files>(rt: &R, path: &str, part: &str) -> Result
 /// A trace that can't be written in this file leaves what stands there.
 fn leaves<R>(rt: &R, path: &str) -> Result<(), Fail>
 where
-    R: Threads
-        + Wait
-        + AllocGlobal
-        + Files
-        + RandomSource
-        + Eprint
-        + Clock
-        + Sync
-        + Net<Listener = TcpListener, Stream = TcpStream>,
+    R: Hosting + Net<Listener = TcpListener, Stream = TcpStream>,
 {
     let part = format!(in rt.alloc(); "{path}.part")?;
     stand_before(rt, path, part.as_str())?;
@@ -187,15 +151,7 @@ const ASKS_ONCE: [Act<'static>; 2] = [(0, Asks("SET a 1")), (0, Gets("+OK|"))];
 /// written stays.
 fn stays_unnamed<R>(rt: &R, path: &str) -> Result<(), Fail>
 where
-    R: Threads
-        + Wait
-        + AllocGlobal
-        + Files
-        + RandomSource
-        + Eprint
-        + Clock
-        + Sync
-        + Net<Listener = TcpListener, Stream = TcpStream>,
+    R: Hosting + Net<Listener = TcpListener, Stream = TcpStream>,
 {
     let part = format!(in rt.alloc(); "{path}.part")?;
     fs::create_dir(rt, path)?;

@@ -23,6 +23,21 @@ use test_support::{
     TWO_SHARDS, as_wanted, holds, last_line, same_bytes, same_number, same_report, same_text,
 };
 
+/// What a host and the clients beside it are run on, but for the net.
+pub(crate) trait Hosting: Threads
+    + Wait
+    + AllocGlobal
+    + Files
+    + RandomSource
+    + Eprint
+    + Clock
+    + Sync {}
+
+impl<R> Hosting for R
+where
+    R: Threads + Wait + AllocGlobal + Files + RandomSource + Eprint + Clock + Sync,
+{}
+
 /// At most how many steps a server makes where a test has no other number.
 pub(crate) const MANY: u64 = 1_000_000;
 
@@ -64,7 +79,7 @@ type Hosted = (u8, Vec<u8>);
 /// Hosts at a listener on two shards.
 fn hosted<R>(rt: &R, listener: &TcpListener, options: &Options<'_>) -> Hosted
 where
-    R: Threads + Wait + AllocGlobal + Files + RandomSource + Eprint + Net + Clock + Sync,
+    R: Hosting + Net,
     requires { InRange options.now }
 {
     let mut printed = Vec::new(rt.alloc());
@@ -92,15 +107,7 @@ fn beside<R>(
     acts: &[Act<'_>],
 ) -> (Hosted, Option<String>)
 where
-    R: Threads
-        + Wait
-        + AllocGlobal
-        + Files
-        + RandomSource
-        + Eprint
-        + Clock
-        + Sync
-        + Net<Listener = TcpListener, Stream = TcpStream>,
+    R: Hosting + Net<Listener = TcpListener, Stream = TcpStream>,
     requires { InRange options.now }
 {
     let (otherwise, ended) = join(
@@ -137,15 +144,7 @@ fn serve_at<R>(
     end: End<'_>,
 ) -> Result<(), Fail>
 where
-    R: Threads
-        + Wait
-        + AllocGlobal
-        + Files
-        + RandomSource
-        + Eprint
-        + Clock
-        + Sync
-        + Net<Listener = TcpListener, Stream = TcpStream>,
+    R: Hosting + Net<Listener = TcpListener, Stream = TcpStream>,
     requires { InRange options.now }
 {
     let (hosted, otherwise) = beside(rt, listener, options, clients, acts);
@@ -226,15 +225,7 @@ pub(crate) fn serve_by<R>(
     end: End<'_>,
 ) -> Result<(), Fail>
 where
-    R: Threads
-        + Wait
-        + AllocGlobal
-        + Files
-        + RandomSource
-        + Eprint
-        + Clock
-        + Sync
-        + Net<Listener = TcpListener, Stream = TcpStream>,
+    R: Hosting + Net<Listener = TcpListener, Stream = TcpStream>,
     requires { InRange options.now }
 {
     let listener = TcpListener::bind(rt, "127.0.0.1:0")?;
@@ -252,15 +243,7 @@ pub(crate) fn serve_acts<R>(
     last: &str,
 ) -> Result<(), Fail>
 where
-    R: Threads
-        + Wait
-        + AllocGlobal
-        + Files
-        + RandomSource
-        + Eprint
-        + Clock
-        + Sync
-        + Net<Listener = TcpListener, Stream = TcpStream>,
+    R: Hosting + Net<Listener = TcpListener, Stream = TcpStream>,
 {
     let options = options(workers, clients as u64, MANY, trace)?;
     serve_by(rt, &options, clients, acts, End::Well(last))

@@ -27,4 +27,5 @@ loop-row-preserved c =
     ap (λ made. behind made (drop (at + 1) rows)) adds ∙ sym (at_drop_more (behind line) rows at _ there) ∙ c.loop-row.invariant
 
 pub returns : goal.returns
-returns c = sym (at_drop_all (behind (app_of c.loop-row.line)) c.args.rows.now c.loop-row.row-index c.loop-row-test.false) ∙ c.loop-row.invariant
+returns c =
+    sym (at_drop_all (behind (app_of c.loop-row.line)) c.args.rows.now c.loop-row.row-index c.loop-row-test.false) ∙ c.loop-row.invariant

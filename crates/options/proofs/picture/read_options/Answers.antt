@@ -18,11 +18,13 @@ returns-in_err-found-clause-refused g c =
     c.in_err-found.ensures.refused
 
 pub returns-clause-said : goal.returns-clause-said
-returns-clause-said g c = subst (λ (rows : List Row). IfOk c.asked_in.result (AreSaidBy rows)) c.in_ok-found.ensures.found c.asked_in.ensures.said
+returns-clause-said g c =
+    subst (λ (rows : List Row). IfOk c.asked_in.result (AreSaidBy rows)) c.in_ok-found.ensures.found c.asked_in.ensures.said
 
 pub returns-clause-taken : goal.returns-clause-taken
 returns-clause-taken g c = on_ok_always c.asked_in.result c.in_ok-found.ensures.taken
 
 pub returns-clause-refused : goal.returns-clause-refused
 returns-clause-refused g c =
-    lacking line (map g.S.AsStr.text c.args.words.now) IsOutOfBounds names_none c.asked_in.result _ c.in_ok-found.ensures.found c.asked_in.ensures.refused
+    lacking line (map g.S.AsStr.text c.args.words.now) IsOutOfBounds names_none c.asked_in.result _
+    c.in_ok-found.ensures.found c.asked_in.ensures.refused

@@ -17,11 +17,13 @@ returns-in_err-found-clause-refused g c =
     c.in_err-found.ensures.refused
 
 pub returns-clause-said : goal.returns-clause-said
-returns-clause-said g c = subst (λ (rows : List Row). IfOk c.options_of.result (AreSaidBy rows)) c.in_ok-found.ensures.found c.options_of.ensures.said
+returns-clause-said g c =
+    subst (λ (rows : List Row). IfOk c.options_of.result (AreSaidBy rows)) c.in_ok-found.ensures.found c.options_of.ensures.said
 
 pub returns-clause-taken : goal.returns-clause-taken
 returns-clause-taken g c = on_ok_always c.options_of.result c.in_ok-found.ensures.taken
 
 pub returns-clause-refused : goal.returns-clause-refused
 returns-clause-refused g c =
-    lacking line (map g.S.AsStr.text c.args.words.now) IsOutOfBounds NamesNoAddress c.options_of.result _ c.in_ok-found.ensures.found c.options_of.ensures.refused
+    lacking line (map g.S.AsStr.text c.args.words.now) IsOutOfBounds NamesNoAddress c.options_of.result _
+    c.in_ok-found.ensures.found c.options_of.ensures.refused
