@@ -44,11 +44,7 @@ const KEPT_BACK: u64 = 2;
 const STEPS_PASSED: u64 = 3;
 
 /// What comes of a request that may be handed out at once: its id, the steps up to its Submit, and its layer if it was.
-type PassedOf<T, L> = (
-    RequestId,
-    Part<Leading<T>, StepsOf<L>>,
-    Option<Taken<T, L>>,
-);
+type PassedOf<T, L> = (RequestId, Part<Leading<T>, StepsOf<L>>, Option<Taken<T, L>>);
 
 /// A front, the history of its steps, and the part of the store's history that it was told; and the trace, where one is kept. Contracts
 /// see all of these: the front shows the world to which its steps lead, and what was run there is what the store ran first.
@@ -354,8 +350,7 @@ impl<T: Tabled, L: Server> History<T, L> {
         let Some(layer) = layer else {
             return Ok((id, seen, None));
         };
-        self.told
-            .write::<Step, Itself>(Step::Deliver { place: 0 });
+        self.told.write::<Step, Itself>(Step::Deliver { place: 0 });
         self.told.write::<Step, Itself>(Step::Take);
         let taken = Taken {
             layer,

@@ -1,7 +1,6 @@
 //! Traces on two shards, and their reports. `a` (61) lies on shard 0, and `c` (63) and `x` (78) on shard 1.
 
 use std::alloc::{AllocError, Global};
-
 use test_support::trace;
 
 /// A trace's text, with what its test is told by, and the report that it has to have.

@@ -1,9 +1,7 @@
 //! Requests as a user writes them, read against the rows of the Redis command reference.
 
 use crate::tests::store::Row;
-use command_table::{
-    Command, Condition, Refusal, StringCommand, keys_of, name, read,
-};
+use command_table::{Command, Condition, Refusal, StringCommand, keys_of, name, read};
 use resp::{Reply, Request, write_reply};
 use std::alloc::{AllocError, Global};
 use std::test::Fail;

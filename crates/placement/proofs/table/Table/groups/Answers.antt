@@ -15,7 +15,7 @@ loop-index-preserved c =
     let count : c.len-index-end.result ≡ length (keys_of c.args.command.now) = c.len-index-end.ensures ∙ ap length c.keys_of-keys.ensures.named in
     let within : c.loop-index.index < length (keys_of c.args.command.now) = omega arith in
     let here : slice_get (keys_of c.args.command.now) c.loop-index.index ≡ Some c.at.result.now =
-        ap (λ keys. slice_get keys c.loop-index.index) (sym c.keys_of-keys.ensures.named) ∙ c.at.ensures in
+    ap (λ keys. slice_get keys c.loop-index.index) (sym c.keys_of-keys.ensures.named) ∙ c.at.ensures in
     c.with-groups.ensures ∙ rw c.loop-index.invariant
     (with-key c.args.self.now (keys_of c.args.command.now) c.loop-index.index c.at.result.now c.shard_of.result within here
     c.shard_of.ensures.value c.shard_of.ensures.in_range)
