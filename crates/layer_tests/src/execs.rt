@@ -6,7 +6,6 @@ use crate::jobs::{
 };
 use crate::trouble::Trouble;
 use groups::{ConnId, RequestId, SkipId};
-use layer_planner::Layer;
 use placement::Table;
 use shard_crew::Crew;
 use shard_exec::Store;
@@ -34,13 +33,9 @@ const OF_ANOTHER: SkipId = SkipId::Part(
     2,
 );
 
-/// Two EXECs, each on its own shard. A member of the second names the set at `x`, and its last one answers by an error, which
-/// keeps none of the others from being run.
-fn two_execs(alloc: Global, table: &Table) -> Result<Layer, Trouble> {
-    let first = "SET a 1; INCR a; GET a";
-    let second = format!(in alloc; "RPUSH c 1 2; {NAME_X}; LLEN c; GET c")?;
-    layer_of(alloc, table, 1, &[first, second.as_str()])
-}
+/// The first of two EXECs, each on its own shard. A member of the second names the set at `x`, and its last one answers by an
+/// error, which keeps none of the others from being run.
+const FIRST_EXEC: &str = "SET a 1; INCR a; GET a";
 
 const TWO_ANSWERED: &str = "*3\r\n+OK\r\n:2\r\n$1\r\n2\r\n \
     *4\r\n:2\r\n:100\r\n:2\r\n-WRONGTYPE Operation against a key holding the wrong kind of value\r\n ";
@@ -56,7 +51,8 @@ fn run_two<W: Workers>(rt: &impl Abort, alloc: Global, workers: &W) -> Result<()
     let table = two_shards(alloc)?;
     let mut store = Store::new(alloc, table)?;
     fill_x(rt, alloc, &mut store, &table, 0)?;
-    let two = two_execs(alloc, &table)?;
+    let second = format!(in alloc; "RPUSH c 1 2; {NAME_X}; LLEN c; GET c")?;
+    let two = layer_of(alloc, &table, 1, &[FIRST_EXEC, second.as_str()])?;
     ask_all(rt, alloc, &mut store, two, workers, &OpenGate, TWO_ANSWERED)?;
     ask_rows(rt, alloc, &mut store, &table, &TWO_LEFT)
 }
