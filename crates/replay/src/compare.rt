@@ -35,25 +35,27 @@ pub(super) fn put_rows<S: BuildHasher>(
 {
     let order = by_stamp(alloc, rows)?;
     let mut keys = order.iter();
+    let mut said = Vec::new(alloc);
     let mut same = true;
     while let Some(key) = keys.next() {
         let (_, _, place) = *key;
         let Some(row) = rows.row(place) else {
             return Ok(false);
         };
-        let as_it_was = put_row(alloc, &row, starved, solo, out)?;
+        let as_it_was = put_row(alloc, &row, starved, solo, &mut said, out)?;
         same = same && as_it_was;
     }
     Ok(same)
 }
 
 /// Appends the line of an executed request, runs it on the store, where those of its members starve that are named, and says
-/// whether it is answered as it was.
+/// whether it is answered as it was. What the store says takes the place of what `said` has.
 fn put_row<S: BuildHasher>(
     alloc: Global,
     row: &Row<'_>,
     starved: &[SkipId],
     solo: &mut Solo<S>,
+    said: &mut Vec<u8>,
     out: &mut Vec<u8>,
 ) -> Result<bool, AllocError>
     ensures { IfOk result (λ same. (executed : Executed) → IsRow executed row.now →
@@ -66,9 +68,9 @@ fn put_row<S: BuildHasher>(
         Err(WordedFault::Memory) => return Err(AllocError),
         Err(WordedFault::Refused(_)) => return Ok(false),
     };
-    put_row_line(alloc, row, &batch, out)?;
+    put_row_line(row, &batch, out)?;
     let reply = run_as(alloc, batch, row.id(), starved, solo)?;
-    let mut said = Vec::new(alloc);
-    write_reply(&reply, &mut said)?;
+    said.clear();
+    write_reply(&reply, said)?;
     Ok(said.as_slice() == row.reply())
 }

@@ -1,7 +1,9 @@
 //! The lines of a report.
 
 ghost use Rattle.std.specs.Prelude.{◌≡◌, ◌++◌, OnOk};
+ghost use Rattle.std.specs.Fmt.{decimal};
 ghost use Rattle.std.specs.List.{flat_map};
+ghost use Rattle.hex.specs.Hex.{encode_lower};
 ghost use Rattle.journal.specs.TraceText.{id_text, skip_text};
 ghost use Rattle.tasks.specs.Tasks.{task_name};
 ghost use Rattle.replay.specs.Report.{line_of, starved_line, stamp_text};
@@ -11,11 +13,12 @@ use groups::{RequestId, SkipId, Stamp};
 use itoa::Buffer;
 use journal::Row;
 use sessions::Batch;
-use std::alloc::{AllocError, Global};
+use std::alloc::AllocError;
 
 /// Appends the line of an executed request, which is this batch.
+// A call, since what it takes for numbers is no one's affair but its own.
+#[inline(never)]
 pub(super) fn put_row_line(
-    alloc: Global,
     row: &Row<'_>,
     batch: &Batch,
     out: &mut Vec<u8>,
@@ -29,8 +32,38 @@ pub(super) fn put_row_line(
     out.extend_from_slice(b" ")?;
     out.extend_from_slice(name_of(batch))?;
     out.extend_from_slice(b" ")?;
-    out.extend_from_slice(hex::encode(alloc, row.reply())?.as_bytes())?;
+    put_hex(row.reply(), out)?;
     out.extend_from_slice(b"\n")
+}
+
+/// Appends these bytes in hexadecimal.
+fn put_hex(bytes: &[u8], out: &mut Vec<u8>) -> Result<(), AllocError>
+    ensures { OnOk result (out.new.items ≡ out.old.items ++ encode_lower bytes.now) }
+{
+    let start = out.len();
+    let Some(size) = bytes.len().checked_mul(2) else {
+        return Err(AllocError);
+    };
+    let Some(end) = start.checked_add(size) else {
+        return Err(AllocError);
+    };
+    out.resize(end, 0)?;
+    let _ = hex::encode_to_slice(bytes, &mut out[start..]);
+    Ok(())
+}
+
+/// Appends a number in decimal.
+// Many are of one digit: it is put without a buffer.
+#[tactic(auto, using(std::proofs::lemmas::Fmt::decimal_digit))]
+#[inline(always)]
+fn put_number(number: u64, out: &mut Vec<u8>) -> Result<(), AllocError>
+    ensures { OnOk result (out.new.items ≡ out.old.items ++ decimal number) }
+{
+    if number < 10 {
+        out.push(b'0' + number as u8)?;
+        return Ok(());
+    }
+    out.extend_from_slice(Buffer::new().format(number).as_bytes())
 }
 
 /// The name of a batch: a command's, or that of what runs a list.
@@ -59,9 +92,9 @@ pub(super) fn put_starved(starved: &[SkipId], out: &mut Vec<u8>) -> Result<(), A
 fn put_stamp(stamp: &Stamp, out: &mut Vec<u8>) -> Result<(), AllocError>
     ensures { OnOk result (out.new.items ≡ out.old.items ++ stamp_text stamp.now) }
 {
-    out.extend_from_slice(Buffer::new().format(stamp.clock).as_bytes())?;
-    out.extend_from_slice(b".")?;
-    out.extend_from_slice(Buffer::new().format(stamp.group.number()).as_bytes())
+    put_number(stamp.clock, out)?;
+    out.push(b'.')?;
+    put_number(u64::from(stamp.group.number()), out)
 }
 
 /// Appends the name of a request, or of a member of one.
@@ -72,8 +105,8 @@ fn put_name(name: &SkipId, out: &mut Vec<u8>) -> Result<(), AllocError>
         SkipId::Whole(id) => put_id(*id, out),
         SkipId::Part(id, number) => {
             put_id(*id, out)?;
-            out.extend_from_slice(b".")?;
-            out.extend_from_slice(Buffer::new().format(*number).as_bytes())
+            out.push(b'.')?;
+            put_number(*number, out)
         }
     }
 }
@@ -82,7 +115,7 @@ fn put_name(name: &SkipId, out: &mut Vec<u8>) -> Result<(), AllocError>
 fn put_id(id: RequestId, out: &mut Vec<u8>) -> Result<(), AllocError>
     ensures { OnOk result (out.new.items ≡ out.old.items ++ id_text id) }
 {
-    out.extend_from_slice(Buffer::new().format(id.conn.0).as_bytes())?;
-    out.extend_from_slice(b".")?;
-    out.extend_from_slice(Buffer::new().format(id.seq).as_bytes())
+    put_number(id.conn.0, out)?;
+    out.push(b'.')?;
+    put_number(id.seq, out)
 }
