@@ -1,6 +1,6 @@
 -- The rows that are put, run and compared one after another; and what the headline says of them.
 use Rattle.std.proofs.Common.{◌≡◌, ℕ, Bool, true, false, ◌&&◌, List, [], ◌∷◌, ◌++◌, Some, Result, Ok, Err}
-use Rattle.std.proofs.Common.{IfOk, slice_get, map, refl, sym, ap, ◌∙◌, subst, bytes_eq}
+use Rattle.std.proofs.Common.{IfOk, IfErr, slice_get, map, refl, sym, ap, ◌∙◌, subst, bytes_eq}
 use Rattle.std.proofs.lemmas.List.{append_assoc}
 use Rattle.std.specs.Cmp.Lexicographic.{bytes_decides}
 use Rattle.std.specs.FinMap.{empty}
@@ -101,6 +101,10 @@ one_thread_agrees names contents rows deeds is =
 pub if_ok : {A E : Type 0} (r : Result A E) (P Q : A → Type 0) → ((a : A) → P a → Q a) → IfOk r P → IfOk r Q
 if_ok (Ok a) P Q by holds = by a holds
 if_ok (Err e) P Q by holds = tt
+
+pub if_err : {A E : Type 0} (r : Result A E) (P Q : E → Type 0) → ((e : E) → P e → Q e) → IfErr r P → IfErr r Q
+if_err (Ok a) P Q by holds = tt
+if_err (Err e) P Q by holds = by e holds
 
 -- what is told of the rows, the names of what starved and the contents of a system is the report of its world
 pub reports : (s : SystemView) (R : List RowView) (names : List SkipId) (dump out : List ℕ) (agree : Bool) → IsTable (system.table_of s) →

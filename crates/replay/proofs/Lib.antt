@@ -7,3 +7,6 @@ pub mod Making
 mod Writing
 mod Beginnings
 mod Spelling
+mod Cuts
+mod StepLines
+mod Readings

@@ -17,13 +17,13 @@ use Rattle.replay.proofs.Beginnings.{all_more, last_tells}
 
 -- ---- the line of an end
 
-abbrev Digits : List ℕ → Type 0
+abbrev pub Digits : List ℕ → Type 0
 Digits text = AllByRecursion (λ b. 47 < b) text
 
 digits_more : (ds : List ℕ) (d : ℕ) → Digits ds → 47 < d → Digits (ds ++ d ∷ [])
 digits_more ds d all high = all_more (λ b. 47 < b) ds d all high
 
-digits : (n : ℕ) → n < 2 ^ 64 → Digits (decimal n)
+pub digits : (n : ℕ) → n < 2 ^ 64 → Digits (decimal n)
 digits n h = decimal_by_steps (λ m ds. Digits ds) (λ m low. (omega arith, tt))
     (λ m ds high all. digits_more ds (48 + m % 10) all (omega arith)) n h
 

@@ -5,3 +5,4 @@ pub mod Order
 pub mod Replay
 pub mod Show
 pub mod Beginning
+pub mod Reading

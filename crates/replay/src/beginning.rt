@@ -1,10 +1,10 @@
 //! A beginning of a trace's text, as a server leaves it that is killed while it writes, made a whole text.
 
-ghost use Rattle.std.specs.Prelude.{◌≡◌, ◌++◌, IfOk, OnOk, MatchOption};
-ghost use Rattle.journal.specs.TraceReading.{IsLine};
-ghost use Rattle.journal.specs.TraceText.{HasNoLf, ended, end_line};
+ghost use Rattle.std.specs.Prelude.{◌≡◌, ◌++◌, IfOk, OnOk};
+ghost use Rattle.journal.specs.TraceText.{ended, end_line};
 ghost use Rattle.replay.specs.Beginning.{IsBeginning, BeginningSpells, AreLinesOf};
 
+use crate::line_parts::next_line;
 use itoa::Buffer;
 use std::alloc::AllocError;
 
@@ -70,18 +70,6 @@ fn lines_of(text: &[u8]) -> (u64, bool, usize)
         rest = behind;
     }
     (lines, has_end, rest.len())
-}
-
-/// The first line, without its LF, and what stands behind it; `None` where there is no LF.
-fn next_line(text: &[u8]) -> Option<(&[u8], &[u8])>
-    ensures { MatchOption result (HasNoLf text.now) (λ r. IsLine text.now r.0.now r.1.now) }
-{
-    for (place, byte) in text.iter().enumerate() {
-        if *byte == b'\n' {
-            return Some((&text[..place], &text[place + 1..]));
-        }
-    }
-    None
 }
 
 /// Appends the last line of a trace of so many steps.

@@ -2,14 +2,16 @@
 
 ghost use Rattle.std.specs.Prelude.{◌≡◌, ◌≢◌, ℕ, true, IfOk, IfErr, OnOk, List, Option};
 ghost use Rattle.std.specs.Io.KnownBytes.{Appends};
+ghost use Rattle.placement.specs.Layout.{IsTableOf};
+ghost use Rattle.replay.specs.Reading.{IsReportOf};
 ghost use Rattle.replay.specs.Show.{IsShown, IsShowFault};
 ghost use Rattle.replay.specs.declared.shown.ShowFault.{ShowFault};
 ghost use Rattle.replay.specs.Show as spec;
 
 use crate::fault::ReplayFault;
 use crate::report::Report;
-use crate::steps::replay_watched;
-use crate::watching::{Progress, Unwatched};
+use crate::steps::{replay_read, replay_watched};
+use crate::watching::{Once, Progress, Unwatched};
 use journal::{TraceFault, read_trace};
 use placement::{Table, TableFault};
 use shard_workers::Workers;
@@ -153,15 +155,50 @@ fn found<W: Workers, P: Progress>(
         Err(TableFault::Memory) => return Err(ShowFault::Memory),
         Err(fault) => return Err(ShowFault::Table(fault)),
     };
+    found_over(alloc, table, trace, workers, progress)
+}
+
+/// The report of this trace over the shards of this table. Its steps are made as they are read, where that goes; if not, it is
+/// read whole first.
+fn found_over<W: Workers, P: Progress>(
+    alloc: Global,
+    table: Table,
+    trace: &[u8],
+    workers: &W,
+    progress: &mut P,
+) -> Result<Report, ShowFault>
+    ensures shown { IfOk result (IsReportOf table trace.now) }
+    ensures fault { IfErr result (λ fault. (text : List ℕ) → IsTableOf text table
+        → IsShowFault (W.may_refuse workers.now) text trace.now fault) }
+{
+    let mut once = Once::new(progress);
+    match replay_read(alloc, trace, table, workers, &mut once) {
+        Ok(Some(report)) => Ok(report),
+        Ok(None) => found_whole(alloc, table, trace, workers, &mut once),
+        Err(_) => Err(ShowFault::Memory),
+    }
+}
+
+/// The report of this trace over the shards of this table. It is read whole before its first step is made.
+fn found_whole<W: Workers, P: Progress>(
+    alloc: Global,
+    table: Table,
+    trace: &[u8],
+    workers: &W,
+    progress: &mut P,
+) -> Result<Report, ShowFault>
+    ensures shown { IfOk result (IsReportOf table trace.now) }
+    ensures fault { IfErr result (λ fault. (text : List ℕ) → IsTableOf text table
+        → IsShowFault (W.may_refuse workers.now) text trace.now fault) }
+{
     let trace = match read_trace(alloc, trace) {
         Ok(trace) => trace,
         Err(TraceFault::Bad { line }) => return Err(ShowFault::Trace { line }),
         Err(TraceFault::Memory) => return Err(ShowFault::Memory),
     };
-    let report = match replay_watched(alloc, trace, table, workers, progress) {
-        Ok(report) => report,
-        Err(ReplayFault::Step { index, fault }) => return Err(ShowFault::Step { index, fault }),
-        Err(ReplayFault::Memory) => return Err(ShowFault::Memory),
-    };
-    Ok(report)
+    match replay_watched(alloc, trace, table, workers, progress) {
+        Ok(report) => Ok(report),
+        Err(ReplayFault::Step { index, fault }) => Err(ShowFault::Step { index, fault }),
+        Err(ReplayFault::Memory) => Err(ShowFault::Memory),
+    }
 }

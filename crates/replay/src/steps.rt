@@ -1,19 +1,22 @@
 //! The steps of a trace, made again.
 
-ghost use Rattle.std.specs.Prelude.{ℕ, ◌++◌, ◌∷◌, List, [], IfOk, IfErr, OnOk};
+ghost use Rattle.std.specs.Prelude.{ℕ, ◌++◌, ◌∷◌, List, [], IfOk, IfErr, IfSome, IsTrue, OnOk};
+ghost use Rattle.journal.specs.TraceReading.{IsRead};
 ghost use Rattle.journal.specs.declared.step.Step.{Step};
 ghost use Rattle.placement.specs.Layout.{Layout};
 ghost use Rattle.system.specs.Reads.{table_of};
+ghost use Rattle.replay.specs.Reading.{IsReportOf, IsWhole};
 ghost use Rattle.replay.specs.Replay.{IsReport, IsFaultOf, IsRefusalOf, StandsAt};
 
 use crate::fault::ReplayFault;
 use crate::named::{are_named, named_in};
+use crate::reading::{Front, all_steps, front_of, read_head};
 use crate::report::{Report, report_of};
 use crate::watching::{Progress, Unwatched};
 use journal::{Step, Steps, Trace};
 use placement::Table;
 use shard_workers::{OpenGate, Workers};
-use std::alloc::Global;
+use std::alloc::{AllocError, Global};
 use system::{StepFault, System};
 
 /// Makes the steps of the trace again in a new system of this table, and reports on the run: the executed requests by
@@ -49,6 +52,65 @@ pub(super) fn replay_watched<W: Workers, P: Progress>(
         return Err(fault);
     }
     Ok(report_of(alloc, system)?)
+}
+
+/// Makes the steps that the text spells, each as soon as it is read, and reports on the run as `replay` does. It gives up, with
+/// `None`, where the text has a line of another kind or is no trace, and where a step isn't accepted: `replay_watched` knows all
+/// kinds, and why. The only error is want of memory.
+pub(super) fn replay_read<W: Workers, P: Progress>(
+    alloc: Global,
+    text: &[u8],
+    table: Table,
+    workers: &W,
+    progress: &mut P,
+) -> Result<Option<Report>, AllocError>
+    ensures { IfOk result (λ found. IfSome found (IsReportOf table text.now)) }
+{
+    let Some((version, max, lines)) = read_head(text) else {
+        return Ok(None);
+    };
+    let mut system = System::new(alloc, table, max)?;
+    let all = all_steps(text);
+    if make_read(alloc, version, lines, all, &mut system, workers, progress)? {
+        let report = report_of(alloc, system)?;
+        return Ok(Some(report));
+    }
+    Ok(None)
+}
+
+/// Makes the steps of these lines in a text of this version, each as soon as it is read, and tells of each that was made, of so
+/// many in all. It answers whether the text ends behind them. The only error is want of memory.
+fn make_read<W: Workers, P: Progress>(
+    alloc: Global,
+    version: u64,
+    text: &[u8],
+    all: u64,
+    system: &mut System,
+    workers: &W,
+    progress: &mut P,
+) -> Result<bool, AllocError>
+    requires { StandsAt (table_of system.old) system.old.max_steps [] system.old }
+    ensures { IfOk result (λ whole. IsTrue whole → (read : List ℕ) (max : ℕ) → IsRead read text.now version max []
+        → IsWhole (table_of system.old) system.old.max_steps read max system.new) }
+{
+    let mut count: u64 = 0;
+    let mut rest = text;
+    loop {
+        match front_of(alloc, version, count, rest)? {
+            Front::Step(step, behind) => {
+                match make(alloc, step, count, system, workers) {
+                    Ok(()) => {}
+                    Err(ReplayFault::Memory) => return Err(AllocError),
+                    Err(ReplayFault::Step { .. }) => return Ok(false),
+                }
+                count += 1;
+                progress.made(count, all);
+                rest = behind;
+            }
+            Front::End => return Ok(true),
+            Front::Other => return Ok(false),
+        }
+    }
 }
 
 /// Makes the steps, up to the first that isn't accepted, and tells of each that was made.

@@ -19,3 +19,30 @@ impl Progress for Unwatched {
 
     fn ended(&mut self) {}
 }
+
+/// Tells another of each number of steps once, though they are made twice.
+#[derive(Drop)]
+pub(super) struct Once<'a, P> {
+    told: u64,
+    progress: &'a mut P,
+}
+
+impl<'a, P: Progress> Once<'a, P> {
+    /// Nothing was told yet.
+    pub(super) fn new(progress: &'a mut P) -> Self {
+        Once { told: 0, progress }
+    }
+}
+
+impl<P: Progress> Progress for Once<'_, P> {
+    fn made(&mut self, steps: u64, all: u64) {
+        if self.told < steps {
+            self.told = steps;
+            self.progress.made(steps, all);
+        }
+    }
+
+    fn ended(&mut self) {
+        self.progress.ended();
+    }
+}

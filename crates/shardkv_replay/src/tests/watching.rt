@@ -79,9 +79,9 @@ fn a_refused_step_is_not_told(rt: HostRuntime) -> Result<(), Fail> {
 }
 
 #[test]
-fn of_a_bad_trace_only_the_end_is_told(rt: HostRuntime) -> Result<(), Fail> {
+fn of_a_bad_trace_the_steps_before_the_bad_line_are_told(rt: HostRuntime) -> Result<(), Fail> {
     let trace = "shardkv-trace 1\nmax 9\nopen\nend 2\n";
-    let fault = watched(rt.alloc(), trace, 0, 0, "")?;
+    let fault = watched(rt.alloc(), trace, 1, 2, "")?;
     holds(
         "a bad trace",
         matches!(fault, Some(ShowFault::Trace { .. })),
