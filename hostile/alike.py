@@ -3,7 +3,7 @@
 
 From a seed that is printed, 10,000 random requests unless told go to both, one after another, by eight connections in any order: all
 kinds of commands, refused ones, lists of MULTI, and now and then a connection that leaves and another that comes. Without a trace a
-request of one shard is handed out at once, and with one its packets are brought; so each request gets the same reply from both, and the
+request that is alone is handed out at once, and with one its packets are brought; so each request gets the same reply from both, and the
 trace replays to `agree`.
 """
 import os

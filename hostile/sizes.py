@@ -2,11 +2,11 @@
 """Sizes that no other script comes to: sizes.py PROGRAMS
 
 PROGRAMS is the folder crates/ of this repository with the programs as the gate leaves them. One connection asks 1,200,000 small requests,
-each tenth an increment; 2,000 connections ask for one increment each while a long request is run, so that theirs are one layer; and
-40,000 keys are set that collide under the fixed seed, as many such members are added to one set and as many such fields set in one hash,
-each beside as many that don't collide. Each reply is the one that Redis's command reference gives, each trace has so many steps or such
-a layer, and replays to `agree`; and what collides takes no longer than the rest. What comes of the machine's haste, how large the layer
-is and how long keys, members and fields take, is tried again, twice at most.
+each tenth an increment; 2,000 connections ask for one increment each while a long request is run, so that theirs are one layer, the last
+of them after 1,200,000 small requests; and 40,000 keys are set that collide under the fixed seed, as many such members are added to one
+set and as many such fields set in one hash, each beside as many that don't collide. Each reply is the one that Redis's command reference
+gives, each trace has so many steps or such a layer, and replays to `agree`; and what collides takes no longer than the rest. What comes
+of the machine's haste, how large the layer is and how long keys, members and fields take, is tried again, twice at most.
 """
 import os
 import re
@@ -22,6 +22,7 @@ from clients import Client, Ended, Server, replies, request
 TOP = os.path.join(os.path.dirname(os.path.abspath(__file__)), "..")
 TABLE = os.path.join(TOP, "examples/four-shards.toml")
 ROUNDS, EACH = 120_000, 10
+REQUESTS = ROUNDS * EACH
 CLIENTS = 2000
 TEXTS = 40_000
 TRIES = 3
@@ -81,10 +82,10 @@ def many_requests(room):
         pongs = b"+PONG\r\n" * (EACH - 1)
         right = came == b"".join(b":%d\r\n%s" % (number, pongs) for number in range(1, ROUNDS + 1))
         faults = [] if right else ["other replies came"]
-        faults += room.ended(server, f"closed requests={ROUNDS * EACH} executed={ROUNDS} starved=0\n")
+        faults += room.ended(server, f"closed requests={REQUESTS} executed={ROUNDS} starved=0\n")
     steps = len(room.steps())
     # Submit and Collect of each, Deliver, Take, Run and Settle of the increments, and the connection's Open and Close.
-    wanted = 2 * ROUNDS * EACH + 4 * ROUNDS + 2
+    wanted = 2 * REQUESTS + 4 * ROUNDS + 2
     return faults + ([] if steps == wanted else [f"{steps} steps, and {wanted} were wanted"]), []
 
 
@@ -110,6 +111,9 @@ def one_layer(room):
         clients = [Client(server.port, timeout=120.0) for _ in range(CLIENTS)]
         for client in clients:
             faults += [] if client.ask(b"PING") == b"+PONG" else ["a client isn't answered"]
+        # Another one's increment is the layer's first: its thread brings the layer on, and the last one's collects.
+        came = asked(clients[-1], request(b"PING") * REQUESTS, len(b"+PONG\r\n") * REQUESTS)
+        faults += [] if came == b"+PONG\r\n" * REQUESTS else ["other replies came"]
         long.send(b"SINTERSTORE", b"{a}set", *[b"{a}set"] * 50_000)
         time.sleep(0.3)
         for client in clients:
@@ -119,7 +123,7 @@ def one_layer(room):
         faults += [] if long.reply() == b":1000" else ["the long request is answered otherwise"]
         for client in [long, *clients]:
             client.close()
-        faults += room.ended(server, f"closed requests={2 * CLIENTS + 2} executed={CLIENTS + 2} starved=0\n")
+        faults += room.ended(server, f"closed requests={REQUESTS + 2 * CLIENTS + 2} executed={CLIENTS + 2} starved=0\n")
     largest = largest_layer(room.steps())
     print(f"  a layer of {largest} requests")
     return faults, [] if largest >= CLIENTS // 2 else [f"the largest layer has {largest} requests"]

@@ -1,8 +1,8 @@
 -- A layer that was run behind others: what held of their requests holds of all.
-use Rattle.std.proofs.Common.{◌≡◌, ℕ, ◌<◌, true, false, List, [], ◌∷◌, ◌++◌, inl, inr, sym, ap, ◌∙◌, subst}
+use Rattle.std.proofs.Common.{◌≡◌, ℕ, ◌<◌, true, false, List, ◌++◌, inl, inr, sym, ap, ◌∙◌, subst}
 use Rattle.std.specs.FinMap.{empty}
 use Rattle.std.specs.Prelude.{length}
-use Rattle.back.proofs.Executed.{executed_in, of_layer, are_addressed, are_in_order, is_in_turn}
+use Rattle.back.proofs.Executed.{executed_in, holds_of, of_layer, are_addressed, are_in_order, is_in_turn}
 use Rattle.back.specs.Backs.{HaveReached}
 use Rattle.execution_order.proofs.Appended.{entries-append, solo-append, InOrder-append, AreAddressed-append}
 use Rattle.execution_order.specs.Entries.{Entry, Row, entries_of, Touch, InOrder, AreAddressed}
@@ -19,12 +19,13 @@ use Rattle.placement.specs.Layout.{Layout}
 use Rattle.shard_exec.proofs.LastStamps.{raised_reaches, raised_rises}
 use Rattle.shard_exec.specs.Layers.{AddressTheirGroups}
 use Rattle.shard_exec.specs.Reached.{HasReached}
-use Rattle.shard_exec.specs.Stamps.{last_of, is_above, AreFresh, raised}
+use Rattle.shard_exec.specs.Stamps.{last_of, is_above, IsFresh, raised}
 use Rattle.shard_exec.specs.StoreStates.{StoreState, IsStore}
 use Rattle.shard_exec.specs.Stores.{HasRunLayer}
 use Rattle.shard_exec.specs.declared.done.Ended.{Ended}
 use Rattle.shards.specs.Joined.{joined}
 use Rattle.tasks.proofs.Groups.{task_groups-below}
+use Rattle.tasks.specs.Tasks.{task_groups}
 
 -- these requests were executed here, one behind another, as one thread does, and left what the shards hold
 pub record WereExecuted (store : StoreState) (rows : List Row) : Type 0 where
@@ -55,15 +56,8 @@ module _ (old new : StoreState) (skip : List SkipId) (layer : List Job) (ended :
       let last = was.reached e touch.0 i touch.1 in
       subst (λ (x : Entry). has x.groups touch.0 ≡ true → stamp_lt x.stamp e.stamp ≡ false) (sym it.2.1)
       (λ member. lt_asym e.stamp it.0.stamp (le_lt e.stamp last.0 it.0.stamp last.2
-      (ap (λ l. is_above l it.0.stamp) (sym last.1) ∙ fresh_of layer it.0 ran.fresh it.1 touch.0 member)))
+      (ap (λ l. is_above l it.0.stamp) (sym last.1) ∙ holds_of (IsFresh old.lasts) layer it.0 ran.fresh it.1 touch.0 member)))
       touch.2
-    where
-      fresh_of : (js : List Job) (j : Job) → AreFresh old.lasts js → In j js → (g : ℕ) → has j.groups g ≡ true
-          → is_above (last_of old.lasts g) j.stamp ≡ true
-      fresh_of [] j fresh there g member = absurd there
-      fresh_of (k ∷ js) j fresh (inl same) g member =
-          subst (λ (x : Job). has x.groups g ≡ true → is_above (last_of old.lasts g) x.stamp ≡ true) (sym same) (fresh.0 g) member
-      fresh_of (k ∷ js) j fresh (inr later) g member = fresh_of js j fresh.1 later g member
 
   in_order : InOrder (entries_of (before ++ more))
   in_order = subst InOrder (sym (entries-append before more))
@@ -85,17 +79,15 @@ module _ (old new : StoreState) (skip : List SkipId) (layer : List Job) (ended :
     | inr i ↦
         let it = of_layer layer ended e i in
         subst (λ (x : Entry). has x.groups g ≡ true → HasReached (last_of (raised old.lasts layer) g) x.stamp) (sym it.2.1)
-        (λ here. raised_reaches old.lasts layer g (inside layer it.0 its it.1 g here) may_stand.together it.0 it.1 here)
+        (λ here. raised_reaches old.lasts layer g (inside it.0 it.1 here) may_stand.together it.0 it.1 here)
         member
   ]
     where
-      inside : (js : List Job) (j : Job) → AddressTheirGroups old.table js → In j js → (g : ℕ) → has j.groups g ≡ true
-          → g < length old.lasts
-      inside [] j its there g here = absurd there
-      inside (k ∷ js) j its (inl same) g here =
-          subst (λ n. g < n) (sym is_store.stamps) (task_groups-below old.table k.asked.batch g
-          (ap (λ gs. has gs g) (sym its.0) ∙ ap (λ (x : Job). has x.groups g) (sym same) ∙ here))
-      inside (k ∷ js) j its (inr later) g here = inside js j its.1 later g here
+      inside : (j : Job) → In j layer → has j.groups g ≡ true → g < length old.lasts
+      inside j there here =
+          let its_own = holds_of (λ (k : Job). k.groups ≡ task_groups old.table k.asked.batch) layer j its there in
+          subst (λ n. g < n) (sym is_store.stamps)
+          (task_groups-below old.table j.asked.batch g (ap (λ gs. has gs g) (sym its_own) ∙ here))
 
   pub run_behind : IsBehind old new before more
   run_behind = record {

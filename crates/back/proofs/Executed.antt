@@ -40,9 +40,8 @@ with_executed j None rows = rows
 with_executed j (Some answered) rows = record { entry = entry_of j (content answered.reply); reply = content answered.reply } ∷ rows
 
 abbrev pub executed_in : List Job → List Ended → List Row
-executed_in [] es = []
-executed_in (j ∷ js) [] = []
 executed_in (j ∷ js) (e ∷ es) = with_executed j e.reply (executed_in js es)
+executed_in js es = []
 
 -- ---- the rows are kept of them
 
@@ -54,9 +53,8 @@ one_kept j e of (Some answered) xs ys z =
 
 pub rows_kept : (js : List Job) (es : List Ended) → AllZip IsOf js es → AllZip IsRow (executed_in js es) (rows_of es)
 rows_kept [] [] told = tt
-rows_kept [] (e ∷ es) told = absurd told
-rows_kept (j ∷ js) [] told = absurd told
 rows_kept (j ∷ js) (e ∷ es) told = one_kept j e told.0 e.reply (executed_in js es) (rows_of es) (rows_kept js es told.1)
+rows_kept js es told = absurd told
 
 -- ---- each is of the layer
 
@@ -73,12 +71,11 @@ of_first j js x rows rest (Some answered) (inl same) = (j, inl refl, (content an
 of_first j js x rows rest (Some answered) (inr there) = of_later j js x (rest there)
 
 pub of_layer : (js : List Job) (es : List Ended) (x : Entry) → In x (entries_of (executed_in js es)) → IsOfLayer js x
-of_layer [] es x there = absurd there
-of_layer (j ∷ js) [] x there = absurd there
 of_layer (j ∷ js) (e ∷ es) x there = of_first j js x (executed_in js es) (of_layer js es x) e.reply there
+of_layer js es x there = absurd there
 
 -- what holds of each request of a list holds of one of them
-holds_of : {X : Type 0} (P : X → Type 0) (xs : List X) (x : X) → AllByRecursion P xs → In x xs → P x
+pub holds_of : {X : Type 0} (P : X → Type 0) (xs : List X) (x : X) → AllByRecursion P xs → In x xs → P x
 holds_of P [] x all there = absurd there
 holds_of P (y ∷ xs) x all (inl same) = subst P (sym same) all.0
 holds_of P (y ∷ xs) x all (inr there) = holds_of P xs x all.1 there
@@ -101,8 +98,6 @@ first_in_order j rows ascends rest None = rest
 first_in_order j rows ascends rest (Some answered) = (ascends (content answered.reply), rest)
 
 pub are_in_order : (js : List Job) (es : List Ended) → StandTogether js → InOrder (entries_of (executed_in js es))
-are_in_order [] es together = tt
-are_in_order (j ∷ js) [] together = tt
 are_in_order (j ∷ js) (e ∷ es) together =
     first_in_order j (executed_in js es) ascends (are_in_order js es together.1) e.reply
   where
@@ -112,6 +107,7 @@ are_in_order (j ∷ js) (e ∷ es) together =
         let it = of_layer js es f there in
         subst (λ (x : Entry). Touch (entry_of j reply) x → stamp_lt x.stamp j.stamp ≡ false) (sym it.2.1)
         (λ t. lt_asym j.stamp it.0.stamp (together.0 it.0 it.1 t.0 t.1 t.2).2) touch
+are_in_order js es together = tt
 
 -- ---- one thread does the same
 
@@ -123,14 +119,13 @@ first_in_turn : (m new : Map) (j : Job) (js : List Job) (es : List Ended) (rows 
 first_in_turn m new j js es rows rest None answered = rest m answered
 first_in_turn m new j js es rows rest (Some answer) answered =
     let behind = rest (deed_effect (deed_of j.asked.batch (content answer.reply)) m).0 answered.1 in
-    pair _ _ _ _ (ap (λ v. v.0) behind)
-    (ap (λ r. r ∷ replies_of rows) answered.0 ∙ ap (λ l. (deed_effect (deed_of j.asked.batch (content answer.reply)) m).1 ∷ l) (ap (λ v. v.1) behind))
+    pair _ _ _ _ (ap (λ v. v.0) behind) (ap (λ r. r ∷ replies_of rows) answered.0
+    ∙ ap (λ v. (deed_effect (deed_of j.asked.batch (content answer.reply)) m).1 ∷ v.1) behind)
 
 pub is_in_turn : (m new : Map) (js : List Job) (es : List Ended)
     → AnsweredInTurn m (layers.tasks_of js) (outcomes_of_ended es) new
     → (new, replies_of (executed_in js es)) ≡ deeds_in_turn m (deeds_of (entries_of (executed_in js es)))
 is_in_turn m new [] [] answered = ap (λ n. (n, [])) answered
-is_in_turn m new [] (e ∷ es) answered = absurd answered
-is_in_turn m new (j ∷ js) [] answered = absurd answered
 is_in_turn m new (j ∷ js) (e ∷ es) answered =
     first_in_turn m new j js es (executed_in js es) (λ n. is_in_turn n new js es) e.reply answered
+is_in_turn m new js es answered = absurd answered

@@ -10,21 +10,18 @@ use Rattle.shard_workers.proofs.Zips.{zip_length}
 
 same_words : (js : List Job) (es : List Ended) → AllZip IsOf js es → map (λ (e : Ended). e.words) es ≡ words_of js
 same_words [] [] told = refl
-same_words [] (e ∷ es) told = absurd told
-same_words (j ∷ js) [] told = absurd told
 same_words (j ∷ js) (e ∷ es) told =
     ap (λ w. w ∷ map (λ (x : Ended). x.words) es) told.0.2 ∙ ap (λ l. j.asked.words ∷ l) (same_words js es told.1)
-
-pub fits_ended : (js layer : List Job) (es : List Ended) (room : ResultsRoom) → js ≡ layer → AllZip IsOf layer es → HasRoomFor js room
-    → FitsEnded es room
-fits_ended js layer es room same told fits =
-    let count : length js ≡ length es = ap (λ (l : List Job). length l) same ∙ sym (zip_length IsOf layer es told) in
-    record {
-      words = fits.words ∙ ap words_of same ∙ sym (same_words layer es told);
-      no_rows = fits.no_rows;
-      rows = subst (λ n. n ≤ vec_capacity room.rows) count fits.rows;
-    }
+same_words js es told = absurd told
 
 pub count_ended : (js layer : List Job) (es : List Ended) (n : ℕ) → js ≡ layer → AllZip IsOf layer es → length js ≤ n → length es ≤ n
 count_ended js layer es n same told fits =
     subst (λ k. k ≤ n) (ap (λ (l : List Job). length l) same ∙ sym (zip_length IsOf layer es told)) fits
+
+pub fits_ended : (js layer : List Job) (es : List Ended) (room : ResultsRoom) → js ≡ layer → AllZip IsOf layer es → HasRoomFor js room
+    → FitsEnded es room
+fits_ended js layer es room same told fits = record {
+  words = fits.words ∙ ap words_of same ∙ sym (same_words layer es told);
+  no_rows = fits.no_rows;
+  rows = count_ended js layer es (vec_capacity room.rows) same told fits.rows;
+}

@@ -26,9 +26,8 @@ use Rattle.shards.specs.Joined.{joined}
 pub zip_append : {A B : Type 0} (R : A → B → Type 0) (as_ cs : List A) (bs ds : List B) → AllZip R as_ bs → AllZip R cs ds
     → AllZip R (as_ ++ cs) (bs ++ ds)
 zip_append R [] cs [] ds z w = w
-zip_append R [] cs (b ∷ bs) ds z w = absurd z
-zip_append R (a ∷ as_) cs [] ds z w = absurd z
 zip_append R (a ∷ as_) cs (b ∷ bs) ds z w = (z.0, zip_append R as_ cs bs ds z.1 w)
+zip_append R as_ cs bs ds z w = absurd z
 
 -- ---- nothing was run yet
 

@@ -4,7 +4,6 @@ ghost use Rattle.std.specs.Prelude.{◌≡◌, ◌++◌, [], IfOk, IfErr, OnOk, 
 ghost use Rattle.back.specs.Backs.{new_back, IsLawful};
 ghost use Rattle.back.specs.Runs.{HasRun, IsRefused};
 ghost use Rattle.dumps.specs.Dump.{dump_text};
-ghost use Rattle.layer_results.specs.Results.{AreCopies};
 ghost use Rattle.shard_exec.specs.StoreStates.{IsStore};
 ghost use Rattle.shards.specs.Joined.{joined};
 
@@ -97,12 +96,11 @@ impl Back {
         )
     }
 
-    /// A copy of what came of the last layer that was run. Nothing did before the first, and after `hand_over`. The only
-    /// error is want of memory.
-    pub fn done(&self) -> Result<Done, AllocError>
-        ensures { IfOk result (AreCopies self.now.last) }
+    /// What came of the last layer that was run. Nothing did before the first, and after `hand_over`.
+    pub fn done(&self) -> &Done
+        ensures { result.now ≡ self.now.last }
     {
-        self.last.try_clone(self.alloc)
+        &self.last
     }
 
     /// Gives what came of the last layer that was run, and keeps nothing of it but its rows. It takes no memory.

@@ -1,7 +1,7 @@
 -- What a seat collects.
-use Rattle.std.proofs.Common.{◌≡◌, ℕ, suc, ◌+◌, List, [], ◌∷◌, ◌++◌, inl, inr, Option, Some, None, option_map}
-use Rattle.std.proofs.Common.{refl, sym, ap, ◌∙◌, subst, arith}
-use Rattle.cluster.proofs.Effects.{by_collected}
+use Rattle.std.proofs.Common.{◌≡◌, ℕ, suc, ◌+◌, List, [], ◌∷◌, ◌++◌, inl, inr, Option, Some, None, option_map, refl, sym, ap, ◌∙◌, subst}
+use Rattle.std.proofs.Common.{arith}
+use Rattle.cluster.proofs.Effects.{by_collected, submitted_same}
 use Rattle.cluster.proofs.Submits.{said_once}
 use Rattle.cluster.proofs.Worlds.{step_seq, same_world}
 use Rattle.cluster.specs.Clusters.{SeatView, last_id, CanCollect, IsCollectFault}
@@ -17,7 +17,7 @@ use Rattle.groups.proofs.Options.{some_same}
 use Rattle.groups.specs.declared.request.ConnId.{ConnId}
 use Rattle.groups.specs.declared.request.RequestId.{RequestId}
 use Rattle.journal.specs.declared.step.Step.{Step}
-use Rattle.journal.specs.declared.step.Step.TheVariants.{Open, Submit, Deliver, Take, Run, Settle, Collect, Close, Repeat}
+use Rattle.journal.specs.declared.step.Step.TheVariants.{Submit, Collect}
 use Rattle.placement.specs.Layout.{Layout}
 use Rattle.router.specs.Connection.{outcome_in}
 use Rattle.router.specs.Router.{RouterView, connection, outcome_at, waiting}
@@ -32,23 +32,20 @@ use Rattle.world.specs.Steps as world
 use Rattle.world.specs.World.{World, Outcome, Answered}
 use Rattle.world_laws.proofs.Telling.{collects_its_own}
 use Rattle.world_laws.proofs.Values.{same_collected}
-use Rattle.world_laws.specs.Collecting.{Submits, WasSubmitted, WasSubmittedFrom, IsRepliedAtOnce, IsItsOwn}
+use Rattle.world_laws.specs.Collecting.{Submits, WasSubmittedFrom, IsRepliedAtOnce, IsItsOwn}
 use Rattle.world_laws.specs.Sessions.{Sessions, all_free, sessions_after, sessions_from}
 
 -- ---- an outcome waits
 
 by_open : (s : router.Standing) (o : kept.Outcome) (v : Connection) (w : World) (c : ℕ) → outcome_in s ≡ Some o → ShowsOpen s v w c →
     w.standing c ≡ Answered (outcome_shown o)
-by_open stand.Idle o v w c is shows = absurd (let k = is in cc)
-by_open (stand.Waiting asked) o v w c is shows = absurd (let k = is in cc)
-by_open stand.Taken o v w c is shows = absurd (let k = is in cc)
 by_open (stand.Answered p) o v w c is shows = shows.0 ∙ ap (λ x. Answered (outcome_shown x)) (some_same p o is)
+by_open s o v w c is shows = absurd (let k = is in cc)
 
 by_closed : (s : router.Standing) (o : kept.Outcome) (v : Connection) (w : World) (c : ℕ) → outcome_in s ≡ Some o → ShowsClosed s v w c → ⊥
-by_closed stand.Idle o v w c is shows = shows
 by_closed (stand.Waiting asked) o v w c is shows = let k = is in cc
 by_closed stand.Taken o v w c is shows = let k = is in cc
-by_closed (stand.Answered p) o v w c is shows = shows
+by_closed s o v w c is shows = shows
 
 by_connection : (x : Option Connection) (o : kept.Outcome) (w : World) (c : ℕ) → outcome_at x ≡ Some o → ShowsConnection x w c →
     w.standing c ≡ Answered (outcome_shown o)
@@ -74,9 +71,8 @@ record IsSaidFrom (test : Session → List (List ℕ) → Type 0) (i : RequestId
 submitted_now : (t : Layout) (test : Session → List (List ℕ) → Type 0) (i : RequestId) (sessions : Sessions) (conn : ConnId)
     (words : List (List ℕ)) (h : List Step) (e : world.Effect) (old mid : World) → world.Submits t old conn.0 words e mid →
     Submits test i sessions (Submit conn words) e → IsSaidFrom test i sessions (Submit conn words ∷ h) (old.seq i.conn.0)
-submitted_now t test i sessions conn words h (world.Opened c) old mid step now = absurd now
 submitted_now t test i sessions conn words h (world.Submitted j) old mid step now =
-    let same : i ≡ world.next_id old conn.0 = sym now.1 ∙ same_submitted j (world.next_id old conn.0) step.answers in
+    let same : i ≡ world.next_id old conn.0 = sym now.1 ∙ submitted_same j (world.next_id old conn.0) step.answers in
     let seq = ap (λ (k : RequestId). k.seq) same in
     let number : i.seq ≡ suc (old.seq i.conn.0) = seq ∙ ap (λ (c : ConnId). suc (old.seq c.0)) now.0 in
     record {
@@ -87,32 +83,18 @@ submitted_now t test i sessions conn words h (world.Submitted j) old mid step no
       number = omega arith;
       passes = subst (λ (c : ConnId). test (sessions c.0) words) now.0 now.2;
     }
-  where
-    same_submitted : (j k : RequestId) → world.Submitted j ≡ world.Submitted k → j ≡ k
-    same_submitted j k same = let e = same in cc
-submitted_now t test i sessions conn words h (world.Ran ids) old mid step now = absurd now
-submitted_now t test i sessions conn words h (world.Collected o) old mid step now = absurd now
-submitted_now t test i sessions conn words h world.Made old mid step now = absurd now
+submitted_now t test i sessions conn words h e old mid step now = absurd now
 
 said_now : (t : Layout) (test : Session → List (List ℕ) → Type 0) (i : RequestId) (sessions : Sessions) (s : Step) (h : List Step)
     (e : world.Effect) (old mid : World) → Steps t old s e mid → Submits test i sessions s e →
     IsSaidFrom test i sessions (s ∷ h) (old.seq i.conn.0)
-said_now t test i sessions Open h e old mid step now = absurd now
 said_now t test i sessions (Submit conn words) h e old mid step now = submitted_now t test i sessions conn words h e old mid step now
-said_now t test i sessions (Deliver k) h e old mid step now = absurd now
-said_now t test i sessions Take h e old mid step now = absurd now
-said_now t test i sessions (Run starved) h e old mid step now = absurd now
-said_now t test i sessions Settle h e old mid step now = absurd now
-said_now t test i sessions (Collect conn) h e old mid step now = absurd now
-said_now t test i sessions (Close conn) h e old mid step now = absurd now
-said_now t test i sessions (Repeat k) h e old mid step now = absurd now
+said_now t test i sessions s h e old mid step now = absurd now
 
 -- the words of a request that was submitted
 said_of : (t : Layout) (test : Session → List (List ℕ) → Type 0) (i : RequestId) (sessions : Sessions) (h : List Step)
     (es : List world.Effect) (old new : World) → Makes t old h es new → WasSubmittedFrom test i sessions h es →
     IsSaidFrom test i sessions h (old.seq i.conn.0)
-said_of t test i sessions [] es old new made was = absurd was
-said_of t test i sessions (s ∷ h) [] old new made was = absurd was
 said_of t test i sessions (s ∷ h) (e ∷ es) old new made (inl now) = said_now t test i sessions s h e old made.0 made.1 now
 said_of t test i sessions (s ∷ h) (e ∷ es) old new made (inr later) =
     let rest = said_of t test i (sessions_after sessions s) h es made.0 new made.2 later in
@@ -126,6 +108,7 @@ said_of t test i sessions (s ∷ h) (e ∷ es) old new made (inr later) =
       number = omega arith;
       passes = rest.passes;
     }
+said_of t test i sessions h es old new made was = absurd was
 
 -- ---- it is collected
 
@@ -197,21 +180,6 @@ module _ (h h' : HistoryView) (s : SeatView) (can : CanCollect h s) (lawful : Is
 -- why the Collect isn't made of what can be collected
 pub collect_fault : (h : HistoryView) (s : SeatView) (f : StepFault) → CanCollect h s → IsFault h (Collect s.conn) f →
     IsCollectFault h s f
-collect_fault h s fault.Busy can why = why
 collect_fault h s fault.NoConn can why = (why.0, inl why.1)
-collect_fault h s fault.NoPacket can why = why
-collect_fault h s fault.InFlight can why = why
-collect_fault h s fault.NoLayer can why = why
-collect_fault h s fault.Exhausted can why = why
 collect_fault h s fault.Memory can why = can
-
--- nor is one collected whose Collect has a fault of its own
-pub own_collect_fault : (h : HistoryView) (s : SeatView) (f : StepFault) → IsFault h (Collect s.conn) f → (f ≡ fault.Memory → ⊥) →
-    IsCollectFault h s f
-own_collect_fault h s fault.Busy why ample = why
-own_collect_fault h s fault.NoConn why ample = (why.0, inl why.1)
-own_collect_fault h s fault.NoPacket why ample = why
-own_collect_fault h s fault.InFlight why ample = why
-own_collect_fault h s fault.NoLayer why ample = why
-own_collect_fault h s fault.Exhausted why ample = why
-own_collect_fault h s fault.Memory why ample = absurd (ample refl)
+collect_fault h s f can why = why

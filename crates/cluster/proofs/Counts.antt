@@ -1,34 +1,22 @@
 -- How much a layer more adds to what is counted.
-use Rattle.std.proofs.Common.{◌≡◌, ℕ, ◌+◌, ◌≤◌, List, [], ◌∷◌, ◌++◌, length, arith}
-use Rattle.cluster.specs.Counting.{one_if, executed_in, all_executed, all_starved, as_word}
+use Rattle.std.proofs.Common.{◌≡◌, ℕ, ◌+◌, List, [], ◌∷◌, ◌++◌, length, arith}
+use Rattle.cluster.specs.Counting.{executed_in, all_executed, all_starved, as_word}
 use Rattle.layer_results.specs.Results.{names_of}
 use Rattle.layer_results.specs.declared.done.DoneRow.{DoneRow}
-use Rattle.resp.specs.declared.reply.Reply.{Reply}
-use Rattle.std.proofs.Common.{Option, Some, None}
 
-pub executed_more : (ran : List (List DoneRow)) (done : List DoneRow) → all_executed (ran ++ done ∷ []) ≡ all_executed ran + executed_in done
+pub executed_more : (ran : List (List DoneRow)) (done : List DoneRow) →
+    all_executed (ran ++ done ∷ []) ≡ all_executed ran + executed_in done
 executed_more [] done = omega arith
 executed_more (layer ∷ ran) done = omega (arith, executed_more ran done)
 
-pub starved_more : (ran : List (List DoneRow)) (done : List DoneRow) → all_starved (ran ++ done ∷ []) ≡ all_starved ran + length (names_of done)
+pub starved_more : (ran : List (List DoneRow)) (done : List DoneRow) →
+    all_starved (ran ++ done ∷ []) ≡ all_starved ran + length (names_of done)
 starved_more [] done = omega arith
 starved_more (layer ∷ ran) done = omega (arith, starved_more ran done)
-
-one_at_most : (reply : Option Reply) → one_if reply ≤ 1
-one_at_most None = omega arith
-one_at_most (Some reply) = omega arith
-
-pub executed_few : (rows : List DoneRow) → executed_in rows ≤ length rows
-executed_few [] = omega arith
-executed_few (row ∷ rows) = omega (arith, executed_few rows, one_at_most row.reply)
 
 pub executed-append : (xs ys : List DoneRow) → executed_in (xs ++ ys) ≡ executed_in xs + executed_in ys
 executed-append [] ys = omega arith
 executed-append (x ∷ xs) ys = omega (arith, executed-append xs ys)
-
--- a number that was cut and is added to is cut as their sum is
-pub as_word_more : (a b : ℕ) → as_word (as_word a + as_word b) ≡ as_word (a + b)
-as_word_more a b = omega arith
 
 -- a count that was cut, to which a number below that limit is added and which is cut again
 pub cut_more : (a b all n m s : ℕ) → n ≡ as_word a → m ≡ b → s ≡ as_word (n + m) → all ≡ a + b → s ≡ as_word all

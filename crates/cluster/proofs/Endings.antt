@@ -1,5 +1,5 @@
 -- A cluster that is closed beside its store: what its requests were told is what one thread answers.
-use Rattle.std.proofs.Common.{◌≡◌, ℕ, List, [], ◌++◌, length, map, refl, sym, ap, ◌∙◌, subst, append-nil}
+use Rattle.std.proofs.Common.{◌≡◌, List, [], length, map, sym, ap, ◌∙◌, subst, append-nil}
 use mathlib.Core.List.{IsPrefix}
 use Rattle.cluster.proofs.Numbers.{same_begin}
 use Rattle.cluster.specs.Endings.{IsRight}
@@ -7,7 +7,6 @@ use Rattle.cluster.specs.Histories.{HistoryView, IsLawful}
 use Rattle.execution_order.specs.Entries.{rows_by_stamp}
 use Rattle.execution_order.specs.Rows.{IsOneThread}
 use Rattle.execution_order.specs.Serial.{all_rows}
-use Rattle.keyspace.specs.Map.{Map}
 use Rattle.layer_results.specs.declared.done.DoneRow.{DoneRow}
 use Rattle.order_laws.proofs.SerialLaws.{rows_are_of_runs}
 use Rattle.placement.specs.Layout.{Layout, IsTable}

@@ -1,32 +1,31 @@
 -- A history stays one, whether a step is made or not.
-use Rattle.std.proofs.Common.{◌≡◌, ◌≢◌, ℕ, ◌+◌, ◌<◌, ◌≤◌, List, [], ◌∷◌, ◌++◌, length, Option, None, refl, sym}
-use Rattle.std.proofs.Common.{ap, ◌∙◌, subst, arith, length-append}
-use mathlib.Core.List.{IsPrefix}
+use Rattle.std.proofs.Common.{◌≡◌, ◌≢◌, ℕ, ◌+◌, ◌<◌, ◌≤◌, List, [], ◌∷◌, ◌++◌, length, Option, refl, sym, ap, ◌∙◌, subst, arith}
+use Rattle.std.proofs.Common.{length-append}
 use Rattle.cluster.proofs.Settling as settling
+use Rattle.cluster.proofs.Settling.{IsBack}
 use Rattle.cluster.proofs.Stepping as stepping
 use Rattle.cluster.proofs.Taking as taking
 use Rattle.cluster.proofs.Taking.{none_true}
 use Rattle.cluster.proofs.Tapes.{trace_still, trace_pushed}
-use Rattle.cluster.specs.Histories.{HistoryView, IsTrueIn, IsLawful, kept_for, IsHistory, kept_back, MayGoOn}
-use Rattle.cluster.specs.Histories.{IsMade, IsUnchanged, IsRefused, HasNoFault, IsFault}
+use Rattle.cluster.specs.Histories.{HistoryView, IsTrueIn, kept_for, IsHistory, kept_back, MayGoOn, IsMade, IsUnchanged, IsRefused}
+use Rattle.cluster.specs.Histories.{HasNoFault, IsFault}
 use Rattle.cluster.specs.Layers.{HandsOut, IsSettled}
 use Rattle.cluster.specs.Making.{of_front}
-use Rattle.cluster.specs.Sealed.{TakenView, IsTaken, RanView, IsRan}
+use Rattle.cluster.specs.Sealed.{TakenView, IsTaken, RanView}
 use Rattle.cluster.specs.Traces.{IsTraceOf, SameTrace, IsPushed}
 use Rattle.cluster.specs.declared.fault.StepFault.{StepFault}
 use Rattle.cluster.specs.declared.fault.StepFault.TheVariants.{Memory}
-use Rattle.front.specs.Fronts.{FrontView, IsOut, HasNotRun}
+use Rattle.front.specs.Fronts.{FrontView, IsOut}
 use Rattle.front.specs.Fronts as front
 use Rattle.front.specs.Making.{Makes}
 use Rattle.front.specs.Refusing as refusing
-use Rattle.front.specs.Refusing.{MayStep}
 use Rattle.front.specs.Settling.{IsTrueOf, Settles}
 use Rattle.front.specs.Taking.{Takes}
 use Rattle.front.specs.declared.fault.FrontFault.{FrontFault}
 use Rattle.front.specs.declared.fault.FrontFault.TheVariants as front_fault
 use Rattle.cluster.specs.declared.tape.Tape.{Tape}
 use Rattle.journal.specs.declared.step.Step.{Step}
-use Rattle.journal.specs.declared.step.Step.TheVariants.{Open, Submit, Deliver, Take, Run, Settle, Collect, Close, Repeat}
+use Rattle.journal.specs.declared.step.Step.TheVariants.{Take, Run, Settle}
 use Rattle.journal.specs.declared.trace.TheConstants.{GREATEST_STEPS}
 use Rattle.layer_planner.specs.declared.job.Job.{Job}
 use Rattle.layer_results.specs.Results.{names_of}
@@ -34,11 +33,9 @@ use Rattle.layer_results.specs.declared.done.DoneRow.{DoneRow}
 use Rattle.order_laws.proofs.Layers.{others_leave_layers}
 use Rattle.order_laws.specs.Runs.{LeavesLayers}
 use Rattle.placement.specs.Layout.{Layout}
-use Rattle.serial_store.specs.Serial.{AreSerial}
 use Rattle.skeen_core.specs.declared.packet.Delivered.{Delivered}
 use Rattle.world.specs.Steps.{OwnFault, opening, Effect, Leads, taken}
-use Rattle.world.specs.Steps as world
-use Rattle.world.specs.World.{World, Layer, NoneTaken, Taken, HasRun}
+use Rattle.world.specs.World.{World, Layer, NoneTaken}
 
 abbrev pub history : FrontView → ℕ → List Step → List (List DoneRow) → Option Tape → HistoryView
 history f most steps ran trace = record { front = f; max_steps = most; steps = steps; ran = ran; trace = trace }
@@ -46,15 +43,10 @@ history f most steps ran trace = record { front = f; max_steps = most; steps = s
 -- ---- numbers
 
 pub plain_kept : (step : Step) (out : List Delivered) → LeavesLayers step → kept_back step out ≡ kept_for out
-plain_kept Open out plain = refl
-plain_kept (Submit conn words) out plain = refl
-plain_kept (Deliver place) out plain = refl
 plain_kept Take out plain = absurd plain
 plain_kept (Run starved) out plain = absurd plain
 plain_kept Settle out plain = absurd plain
-plain_kept (Collect conn) out plain = refl
-plain_kept (Close conn) out plain = refl
-plain_kept (Repeat place) out plain = refl
+plain_kept step out plain = refl
 
 pub kept_few : (out : List Delivered) → kept_for out ≤ 2
 kept_few [] = omega arith
@@ -71,10 +63,6 @@ kept_none out none = ap kept_for none
 pub goes_on : (h : HistoryView) (step : Step) → LeavesLayers step → length h.steps + kept_for h.front.out < h.max_steps → MayGoOn h step
 goes_on h step plain left = let kept = plain_kept step h.front.out plain in omega arith
 
--- no number of the front has grown too large
-pub may_step : (t : Layout) (h : HistoryView) → IsHistory t h → length h.steps < h.max_steps → MayStep h.front
-may_step t h is left = omega (arith, is.few, is.true_in.counted)
-
 -- the steps lead to a world
 abbrev pub AreLegal : Layout → List Step → Type 0
 AreLegal t steps = (w : World) × Leads t opening steps w
@@ -83,8 +71,7 @@ AreLegal t steps = (w : World) × Leads t opening steps w
 
 same_out : (l : Layer) (a b : List Delivered) → IsOut l a → IsOut l b → a ≡ b
 same_out NoneTaken a b here there = here ∙ sym there
-same_out (Taken ds) a b here there = here.0 ∙ sym there.0
-same_out (HasRun es) a b here there = here.0 ∙ sym there.0
+same_out l a b here there = here.0 ∙ sym there.0
 
 module _ (t : Layout) (h : HistoryView) (is : IsHistory t h) where
   -- ---- a step is made
@@ -175,39 +162,31 @@ module _ (t : Layout) (h : HistoryView) (is : IsHistory t h) where
 
   -- ---- what came of a layer is settled
 
-  module _ (v : RanView) (ran : IsRan t v) (some : h.front.out ≢ []) (number : v.number ≡ h.front.layers) (all : List Step)
-      (legal : AreLegal t all) (p : IsPrefix h.steps all) (q : IsPrefix v.told all) (every : List (List DoneRow))
-      (p' : IsPrefix h.ran every) (q' : IsPrefix v.ran every) (serial : AreSerial t v.ran) where
-    abbrev ran' : IsRan h.front.table v
-    ran' = subst (λ s. IsRan s v) (sym is.table) ran
-
-    abbrev leads' : Leads h.front.table opening all legal.0
-    leads' = subst (λ s. Leads s opening all legal.0) (sym is.table) legal.1
-
-    abbrev serial' : AreSerial h.front.table v.ran
-    serial' = subst (λ s. AreSerial s v.ran) (sym is.table) serial
+  module _ (v : RanView) (back : IsBack t h v) where
+    back' : IsBack h.front.table h v
+    back' = subst (λ s. IsBack s h v) (sym is.table) back
 
     pub run_legal : AreLegal t (h.steps ++ Run (names_of v.done) ∷ [])
     run_legal = subst (λ s. AreLegal s (h.steps ++ Run (names_of v.done) ∷ [])) is.table
-        (settling.run_leads h is.world is.true_in v ran' some number all legal.0 leads' p q every p' q' serial')
+        (settling.run_leads h is.world is.true_in v back')
 
     pub of_layer : IsTrueOf h.front v.done
-    of_layer = settling.truth h is.world is.true_in v ran' some number all legal.0 leads' p q every p' q' serial'
+    of_layer = settling.truth h is.world is.true_in v back'
 
     pub ran_more : v.ran ≡ h.ran ++ v.done ∷ []
-    ran_more = settling.ran_is h is.world is.true_in v ran' some number all legal.0 leads' p q every p' q' serial'
+    ran_more = settling.ran_is h is.world is.true_in v back'
 
     -- steps are left for it
-    pub two_left : length h.steps + 2 ≤ h.max_steps
-    two_left = omega (arith, is.within, kept_some h.front.out some)
+    two_left : length h.steps + 2 ≤ h.max_steps
+    two_left = omega (arith, is.within, kept_some h.front.out back.some)
 
     module _ (new : FrontView) (settles : Settles h.front v.done new) where
       abbrev pub settled_steps : List Step
       settled_steps = (h.steps ++ Run (names_of v.done) ∷ []) ++ Settle ∷ []
 
       pub settle_legal : AreLegal t settled_steps
-      settle_legal = subst (λ s. AreLegal s settled_steps) is.table (settling.settle_leads h is.world is.true_in v ran' some number all
-          legal.0 leads' p q every p' q' serial' new settles h.max_steps h.trace)
+      settle_legal = subst (λ s. AreLegal s settled_steps) is.table
+          (settling.settle_leads h is.world is.true_in v back' new settles h.max_steps h.trace)
 
       module _ (most : ℕ) (trace mid : Option Tape) (same : most ≡ h.max_steps)
           (run : IsPushed h.trace (Run (names_of v.done)) mid) (settle : IsPushed mid Settle trace) where
@@ -229,42 +208,32 @@ module _ (t : Layout) (h : HistoryView) (is : IsHistory t h) where
               (trace_pushed h.trace mid h.steps (Run (names_of v.done)) h.max_steps h.max_steps run refl is.traced);
           table = settles.table ∙ is.table;
           world = _;
-          true_in = settling.settled h is.world is.true_in v ran' some number all legal.0 leads' p q every p' q' serial' new settles most
-              trace;
+          true_in = settling.settled h is.world is.true_in v back' new settles most trace;
         }
 
         pub was_settled : IsSettled h v.done after_settle
-        was_settled = settling.is_settled h is.world is.true_in v ran' some number all legal.0 leads' p q every p' q' serial' new settles
-            most trace two_left same
+        was_settled = settling.is_settled h is.world is.true_in v back' new settles most trace two_left same
 
 -- ---- a step that was not
 
-pub true_still : (h h' : HistoryView) (w : World) → IsUnchanged h h' → IsTrueIn h w → IsTrueIn h' w
-true_still h h' w still is = record {
-  at = subst (λ f. front.FrontIsAt f h'.steps w) (sym still.front)
-      (subst (λ s. front.FrontIsAt h.front s w) (sym still.steps) is.at);
-  not_run = is.not_run;
-  ran = subst (λ (f : FrontView). Rattle.order_laws.specs.Truth.AreRunsOf f.table h'.steps w
-      (Rattle.std.specs.Prelude.map (Rattle.serial_store.specs.Serial.layer_of f.table) h'.ran)) (sym still.front)
-      (subst (λ s. Rattle.order_laws.specs.Truth.AreRunsOf h.front.table s w
-      (Rattle.std.specs.Prelude.map (Rattle.serial_store.specs.Serial.layer_of h.front.table) h'.ran)) (sym still.steps)
-      (subst (λ l. Rattle.order_laws.specs.Truth.AreRunsOf h.front.table h.steps w
-      (Rattle.std.specs.Prelude.map (Rattle.serial_store.specs.Serial.layer_of h.front.table) l)) (sym still.ran) is.ran));
-  layers = ap (λ (f : FrontView). f.layers) still.front ∙ is.layers ∙ ap length (sym still.ran);
-  counted = omega (
-    arith,
-    is.counted,
-    ap (λ (f : FrontView). f.steps) still.front,
-    ap (λ (f : FrontView). f.layers) still.front,
-    ap length still.steps,
-  );
-}
+-- neither how many steps there may be nor a trace is part of what is true
+true_beside : (h : HistoryView) (w : World) (most : ℕ) (trace : Option Tape) → IsTrueIn h w →
+    IsTrueIn (history h.front most h.steps h.ran trace) w
+true_beside h w most trace is =
+    record { at = is.at; not_run = is.not_run; ran = is.ran; layers = is.layers; counted = is.counted }
+
+true_still : (h h' : HistoryView) (w : World) → IsUnchanged h h' → IsTrueIn h w → IsTrueIn h' w
+true_still h h' w still is =
+    subst (λ f. IsTrueIn (history f h'.max_steps h'.steps h'.ran h'.trace) w) (sym still.front)
+    (subst (λ s. IsTrueIn (history h.front h'.max_steps s h'.ran h'.trace) w) (sym still.steps)
+    (subst (λ l. IsTrueIn (history h.front h'.max_steps h.steps l h'.trace) w) (sym still.ran) (true_beside h w h'.max_steps h'.trace is)))
 
 pub history_still : (t : Layout) (old new : HistoryView) → IsHistory t old → IsUnchanged old new → IsHistory t new
 history_still t old new is still = record {
   few = omega (arith, is.few, still.max_steps);
   within = omega (arith, is.within, still.max_steps, ap length still.steps, ap (λ (f : FrontView). kept_for f.out) still.front);
-  traced = trace_still old.trace new.trace old.steps new.steps old.max_steps new.max_steps still.trace still.steps still.max_steps is.traced;
+  traced = trace_still old.trace new.trace old.steps new.steps old.max_steps new.max_steps still.trace still.steps still.max_steps
+      is.traced;
   table = ap (λ (f : FrontView). f.table) still.front ∙ is.table;
   world = is.world;
   true_in = true_still old new is.world still is.true_in;
@@ -279,13 +248,7 @@ history_traced t h trace is traced = record {
   traced = traced;
   table = is.table;
   world = is.world;
-  true_in = record {
-    at = is.true_in.at;
-    not_run = is.true_in.not_run;
-    ran = is.true_in.ran;
-    layers = is.true_in.layers;
-    counted = is.true_in.counted;
-  };
+  true_in = true_beside h is.world h.max_steps trace is.true_in;
 }
 
 -- what it leaves, where only room has changed
@@ -312,12 +275,8 @@ module _ (t : Layout) (h : HistoryView) (is : IsHistory t h) where
   }
 
   fault_of : (step : Step) (fault : FrontFault) → MayGoOn h step → refusing.IsFault h.front step fault → IsFault h step (of_front fault)
-  fault_of step front_fault.Busy left why = (left, there step world.Busy why)
-  fault_of step front_fault.NoConn left why = (left, there step world.NoConn why)
-  fault_of step front_fault.NoPacket left why = (left, there step world.NoPacket why)
-  fault_of step front_fault.InFlight left why = (left, there step world.InFlight why)
-  fault_of step front_fault.NoLayer left why = (left, there step world.NoLayer why)
   fault_of step front_fault.Memory left why = (left, free step why.1)
+  fault_of step fault left why = (left, there step _ why)
 
   -- the fault that is answered for it
   pub told_as : (step : Step) (fault : FrontFault) (told : StepFault) → told ≡ of_front fault → MayGoOn h step →
@@ -331,12 +290,8 @@ module _ (t : Layout) (h : HistoryView) (is : IsHistory t h) where
 -- where there was no memory for a step that wants none, it is not for that
 pub wants_of : (step : Step) (fault : FrontFault) (f : FrontView) (told : StepFault) → told ≡ of_front fault →
     refusing.IsFault f step fault → told ≡ Memory → refusing.WantsMemory step
-wants_of step front_fault.Busy f told same why memory = absurd (let k = sym same ∙ memory in cc)
-wants_of step front_fault.NoConn f told same why memory = absurd (let k = sym same ∙ memory in cc)
-wants_of step front_fault.NoPacket f told same why memory = absurd (let k = sym same ∙ memory in cc)
-wants_of step front_fault.InFlight f told same why memory = absurd (let k = sym same ∙ memory in cc)
-wants_of step front_fault.NoLayer f told same why memory = absurd (let k = sym same ∙ memory in cc)
 wants_of step front_fault.Memory f told same why memory = why.0
+wants_of step fault f told same why memory = absurd (let k = sym same ∙ memory in cc)
 
 -- ---- none
 

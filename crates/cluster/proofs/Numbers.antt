@@ -1,10 +1,10 @@
 -- The number of the layer that is out, and lists of which both begin one.
-use Rattle.std.proofs.Common.{◌≡◌, ◌≢◌, ℕ, suc, List, [], ◌∷◌, ◌++◌, map, length, refl, sym, ap, ◌∙◌, subst}
-use Rattle.std.proofs.Common.{append-nil, arith, length-append}
+use Rattle.std.proofs.Common.{◌≡◌, ◌≢◌, List, [], ◌++◌, length, refl, sym, ap, ◌∙◌, subst, append-nil, append_assoc, arith, length-append}
 use mathlib.Core.List.{IsPrefix}
-use Rattle.std.proofs.lemmas.List.{length-map}
+use Rattle.std.proofs.lemmas.List.{length-map, nil_from_length}
 use Rattle.front.specs.Fronts.{IsOut, HasNotRun}
 use Rattle.order_laws.proofs.Layers.{layers_are_in_turn, settles_counted}
+use Rattle.order_laws.proofs.Lists.{shorter_begins}
 use Rattle.order_laws.proofs.TakeLaws.{out_is_of_last_take}
 use Rattle.order_laws.proofs.Yielding.{same_yield}
 use Rattle.order_laws.specs.Layers.{run_by, not_settled, settles}
@@ -14,7 +14,7 @@ use Rattle.cluster.specs.Histories.{HistoryView, IsTrueIn}
 use Rattle.serial_store.specs.Serial.{layer_of}
 use Rattle.skeen_core.specs.declared.packet.Delivered.{Delivered}
 use Rattle.world.specs.Steps.{opening}
-use Rattle.world.specs.World.{World, Ended, Layer, NoneTaken, Taken, HasRun}
+use Rattle.world.specs.World.{World, Layer, NoneTaken, Taken, HasRun}
 
 -- what is out, where no layer has run that isn't settled, was taken
 pub is_taken : (l : Layer) (out : List Delivered) → HasNotRun l → IsOut l out → out ≢ [] → l ≡ Taken out
@@ -23,9 +23,8 @@ is_taken (Taken ds) out not_run is some = ap Taken (sym is.0)
 is_taken (HasRun es) out not_run is some = absurd not_run
 
 none_unsettled : (l : Layer) → HasNotRun l → not_settled l ≡ []
-none_unsettled NoneTaken not_run = refl
-none_unsettled (Taken ds) not_run = refl
 none_unsettled (HasRun es) not_run = absurd not_run
+none_unsettled l not_run = refl
 
 module _ (h : HistoryView) (w : World) (is : IsTrueIn h w) where
   -- as many layers were settled as the steps settle
@@ -45,15 +44,11 @@ module _ (h : HistoryView) (w : World) (is : IsTrueIn h w) where
 
 -- of two lists that begin one, of one length, both are the same
 pub same_begin : {A : Type 0} (xs ys zs : List A) → IsPrefix xs zs → IsPrefix ys zs → length xs ≡ length ys → xs ≡ ys
-same_begin [] [] zs p q len = refl
-same_begin [] (y ∷ ys) zs p q len = absurd (omega (arith, len))
-same_begin (x ∷ xs) [] zs p q len = absurd (omega (arith, len))
-same_begin (x ∷ xs) (y ∷ ys) [] p q len = absurd (cc (p.1))
-same_begin (x ∷ xs) (y ∷ ys) (z ∷ zs) p q len =
-    let heads : x ≡ y = cc (p.1, q.1) in
-    let rest : xs ≡ ys = same_begin xs ys zs (p.0, cc (p.1)) (q.0, cc (q.1)) (omega (arith, len)) in
-    ap (λ a. a ∷ xs) heads ∙ ap (λ l. y ∷ l) rest
+same_begin xs ys zs p q len =
+    let begins = shorter_begins xs ys zs p q (omega (arith, len)) in
+    let none = nil_from_length begins.0 (omega (arith, len, ap length begins.1, length-append xs begins.0)) in
+    sym (append-nil xs) ∙ ap (λ l. xs ++ l) (sym none) ∙ begins.1
 
 -- what begins a beginning begins the list
 pub begins_more : {A : Type 0} (xs ys zs : List A) → IsPrefix (xs ++ ys) zs → IsPrefix xs zs
-begins_more xs ys zs p = (ys ++ p.0, sym (Rattle.std.proofs.Common.append_assoc xs ys p.0) ∙ p.1)
+begins_more xs ys zs p = (ys ++ p.0, sym (append_assoc xs ys p.0) ∙ p.1)

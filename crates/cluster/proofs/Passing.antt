@@ -1,18 +1,20 @@
 -- A request that is submitted and handed out at once: the histories between are such as each is.
-use Rattle.std.proofs.Common.{◌≡◌, ℕ, suc, ◌+◌, ◌<◌, List, [], ◌∷◌, ◌++◌, length, Option, Some, None, refl, sym, ap, ◌∙◌, subst, arith}
-use Rattle.std.proofs.Common.{length-append}
+use Rattle.std.proofs.Common.{◌≡◌, ℕ, zero, suc, ◌+◌, ◌<◌, List, [], ◌∷◌, ◌++◌, length, Option, Some, None, refl, sym, ap, subst, arith}
+use Rattle.std.proofs.Common.{append-nil, length-append}
+use Rattle.std.proofs.Math.Seq.{append_snoc}
 use Rattle.cluster.proofs.Histories.{history, AreLegal, kept_few, history_made, was_made, made_legal, history_taken, hands_out, take_legal}
 use Rattle.cluster.proofs.Histories.{layer_sealed}
 use Rattle.cluster.proofs.Taking.{lawful}
 use Rattle.cluster.specs.Histories.{HistoryView, kept_for, IsHistory, IsMade}
-use Rattle.cluster.specs.Passing.{HasPassed}
+use Rattle.cluster.specs.Passing.{Arrives, arrivals, HasPassed}
 use Rattle.cluster.specs.Sealed.{TakenView, IsTaken}
 use Rattle.cluster.specs.Traces.{IsPushed}
-use Rattle.cluster.specs.Turns.{Delivers}
 use Rattle.cluster.specs.declared.tape.Tape.{Tape}
+use Rattle.cluster.specs.declared.ordered.TheConstants.{STEPS_PASSED}
 use Rattle.front.specs.Fronts.{FrontView}
 use Rattle.front.specs.Making.{Makes}
-use Rattle.front.specs.Passing.{Passes, TakesAtOnce}
+use Rattle.front.specs.Passing.{Passes, TakesAtOnce, packets_in}
+use Rattle.front.specs.Passing as front
 use Rattle.groups.specs.declared.request.ConnId.{ConnId}
 use Rattle.groups.specs.declared.request.RequestId.{RequestId}
 use Rattle.journal.specs.declared.step.Step.{Step}
@@ -25,7 +27,60 @@ use Rattle.world.specs.Steps.{Submitted, Made}
 pub untraced : (trace : Option Tape) (step : Step) → trace ≡ None → IsPushed trace step trace
 untraced trace step none = subst (λ tr. IsPushed tr step tr) (sym none) tt
 
-module _ (t : Layout) (h : HistoryView) (is : IsHistory t h) (none : h.trace ≡ None) (left : length h.steps + 4 < h.max_steps)
+-- as many steps are left as a request wants that is handed out at once
+abbrev pub IsLeft : HistoryView → Type 0
+IsLeft h = length h.steps + STEPS_PASSED + 1 < h.max_steps
+
+-- ---- packets that come one after another
+
+pub one_more_arrival : (n : ℕ) → arrivals n ++ Deliver 0 ∷ [] ≡ arrivals (suc n)
+one_more_arrival zero = refl
+one_more_arrival (suc n) = ap (λ l. Deliver 0 ∷ l) (one_more_arrival n)
+
+length-arrivals : (n : ℕ) → length (arrivals n) ≡ n
+length-arrivals zero = refl
+length-arrivals (suc n) = ap suc (length-arrivals n)
+
+abbrev after : HistoryView → ℕ → FrontView → HistoryView
+after h n f = history f h.max_steps (h.steps ++ arrivals n) h.ran h.trace
+
+-- each history between is such as each is
+pub record HaveArrived (t : Layout) (h : HistoryView) (n : ℕ) (f : FrontView) : Type 0 where
+  pub is : IsHistory t (after h n f)
+  pub arrives : Arrives n h (after h n f)
+  pub legal : (m : ℕ) → m < n → AreLegal t ((h.steps ++ arrivals m) ++ Deliver 0 ∷ [])
+
+arrive : (t : Layout) (n : ℕ) (h : HistoryView) (f : FrontView) → IsHistory t h → h.trace ≡ None → length h.steps + n + 2 < h.max_steps
+    → front.Arrives n h.front f → HaveArrived t h n f
+arrive t zero h f is none few same =
+    let still : after h 0 f ≡ h = λ k. history (same k) h.max_steps (append-nil h.steps k) h.ran h.trace in record {
+      is = subst (IsHistory t) (sym still) is;
+      arrives = still;
+      legal = λ m less. absurd (omega arith);
+    }
+arrive t (suc n) h f is none few (mid, makes, rest) =
+    let left : length h.steps + kept_for h.front.out < h.max_steps = omega (arith, kept_few h.front.out, few) in
+    let one = history mid h.max_steps (h.steps ++ Deliver 0 ∷ []) h.ran h.trace in
+    let is_one = history_made t h is (Deliver 0) tt Made mid makes h.max_steps h.trace left refl (untraced h.trace (Deliver 0) none) in
+    let made = was_made t h is (Deliver 0) tt Made mid makes h.max_steps h.trace left refl (untraced h.trace (Deliver 0) none) in
+    let others = arrive t n one f is_one none (omega (arith, few, length-append h.steps (Deliver 0 ∷ []))) rest in
+    let same : after one n f ≡ after h (suc n) f =
+    ap (λ l. history f h.max_steps l h.ran h.trace) (append_snoc h.steps (Deliver 0) (arrivals n)) in
+    record {
+      is = subst (IsHistory t) same others.is;
+      arrives = (one, record { place = 0; made = made; picked = refl }, subst (Arrives n one) same others.arrives);
+      legal = by_place made others.legal;
+    }
+  where
+    by_place : IsMade h (Deliver 0) Made (history mid h.max_steps (h.steps ++ Deliver 0 ∷ []) h.ran h.trace)
+        → ((m : ℕ) → m < n → AreLegal t (((h.steps ++ Deliver 0 ∷ []) ++ arrivals m) ++ Deliver 0 ∷ []))
+        → (m : ℕ) → m < suc n → AreLegal t ((h.steps ++ arrivals m) ++ Deliver 0 ∷ [])
+    by_place made legal zero less =
+        subst (λ l. AreLegal t (l ++ Deliver 0 ∷ [])) (sym (append-nil h.steps)) (made_legal t h is (Deliver 0) tt Made mid makes)
+    by_place made legal (suc m) less =
+        subst (λ l. AreLegal t (l ++ Deliver 0 ∷ [])) (append_snoc h.steps (Deliver 0) (arrivals m)) (legal m (omega arith))
+
+module _ (t : Layout) (h : HistoryView) (is : IsHistory t h) (none : h.trace ≡ None) (left : IsLeft h)
     (conn : ConnId) (words : List (List ℕ)) (id : RequestId) where
   few : length h.steps + kept_for h.front.out < h.max_steps
   few = omega (arith, kept_few h.front.out, left)
@@ -50,38 +105,32 @@ module _ (t : Layout) (h : HistoryView) (is : IsHistory t h) (none : h.trace ≡
     pub has_begun : (seen : List Step) → seen ≡ begun.steps → HasPassed h conn words id seen None begun
     has_begun seen up_to = record { begun = begun; made = submitted; up_to = up_to; goes_on = refl }
 
-  -- ---- all three
+  -- ---- all of it
 
   module _ (jobs : List Job) (new : FrontView) (passes : TakesAtOnce h.front conn words id jobs new) where
     abbrev pub first : HistoryView
     first = begun passes.begun passes.submits
 
-    first_few : length first.steps + kept_for first.front.out < h.max_steps
-    first_few = omega (arith, kept_few first.front.out, left, length-append h.steps (Submit conn words ∷ []))
+    have_arrived : HaveArrived t first (packets_in jobs) passes.come
+    have_arrived = arrive t (packets_in jobs) first passes.come (is_begun passes.begun passes.submits) none
+        (omega (arith, left, passes.few, length-append h.steps (Submit conn words ∷ []))) passes.arrives
+
+    pub arrivals_legal : (m : ℕ) → m < packets_in jobs → AreLegal t ((first.steps ++ arrivals m) ++ Deliver 0 ∷ [])
+    arrivals_legal = have_arrived.legal
 
     abbrev pub come : HistoryView
-    come = history passes.come h.max_steps (first.steps ++ Deliver 0 ∷ []) h.ran h.trace
-
-    pub come_legal : AreLegal t come.steps
-    come_legal = made_legal t first (is_begun passes.begun passes.submits) (Deliver 0) tt Made passes.come passes.delivers
+    come = after first (packets_in jobs) passes.come
 
     is_come : IsHistory t come
-    is_come = history_made t first (is_begun passes.begun passes.submits) (Deliver 0) tt Made passes.come passes.delivers h.max_steps h.trace
-        first_few refl (untraced h.trace (Deliver 0) none)
-
-    comes : Delivers (λ count. 0) first come
-    comes = record {
-      place = 0;
-      made = was_made t first (is_begun passes.begun passes.submits) (Deliver 0) tt Made passes.come passes.delivers h.max_steps h.trace
-          first_few refl (untraced h.trace (Deliver 0) none);
-      picked = refl;
-    }
+    is_come = have_arrived.is
 
     come_left : length come.steps + 2 < h.max_steps
     come_left = omega (
       arith,
       left,
-      length-append first.steps (Deliver 0 ∷ []),
+      passes.few,
+      length-arrivals (packets_in jobs),
+      length-append first.steps (arrivals (packets_in jobs)),
       length-append h.steps (Submit conn words ∷ []),
     )
 
@@ -105,7 +154,7 @@ module _ (t : Layout) (h : HistoryView) (is : IsHistory t h) (none : h.trace ≡
       up_to = up_to;
       goes_on = record {
         come = come;
-        delivers = comes;
+        arrives = subst (λ (js : List Job). Arrives (packets_in js) first come) (sym layer) have_arrived.arrives;
         lawful = lawful come is_come.world is_come.true_in;
         free = passes.free;
         ready = passes.ready;

@@ -1,16 +1,15 @@
 -- What a cluster is, it is after each of its steps.
-use Rattle.std.proofs.Common.{◌≡◌, ℕ, suc, ◌+◌, ◌<◌, ◌≤◌, Bool, true, false, List, [], ◌∷◌, ◌++◌, ◌⊎◌}
-use Rattle.std.proofs.Common.{length, Option, Some, None, Result, Ok, Err, IfOk, OnOk, OnErr}
+use Rattle.std.proofs.Common.{◌≡◌, ℕ, zero, suc, ◌+◌, ◌<◌, ◌≤◌, Bool, true, false, List, [], ◌∷◌, ◌++◌, ◌⊎◌, length, Option, Some, None}
+use Rattle.std.proofs.Common.{Result, Ok, Err, IfOk, OnOk, OnErr, refl, sym, ap, ◌∙◌, subst, arith, inl, inr, length-append}
 use mathlib.Core.List.{IsPrefix}
-use Rattle.std.proofs.Common.{refl, sym, ap, ◌∙◌, subst, arith, inl, inr, length-append}
 use Rattle.cluster.proofs.Effects.{submitted_so}
-use Rattle.cluster.proofs.Histories.{kept_few}
 use Rattle.cluster.proofs.Submits.{submits-append, submits-one, said_now}
 use Rattle.cluster.proofs.Worlds.{counts}
 use Rattle.cluster.specs.Clusters.{ClusterView, SeatView, IsCluster, StaysOpen, KeepsCloses}
 use Rattle.cluster.specs.Histories.{HistoryView, IsMade, IsUnchanged}
 use Rattle.cluster.specs.Layers.{HandsOut, IsSettled}
-use Rattle.cluster.specs.Passing.{GoesOn, HasPassed, Passes}
+use Rattle.cluster.specs.Passing.{Arrives, GoesOn, HasPassed, Passes}
+use Rattle.front.specs.Passing.{packets_in}
 use Rattle.cluster.specs.Sealed.{TakenView}
 use Rattle.cluster.specs.Submits.{submit_in, submits, submits_by}
 use Rattle.cluster.specs.Traces.{HasRoom}
@@ -19,129 +18,151 @@ use Rattle.cluster.specs.declared.fault.StepFault.{StepFault}
 use Rattle.groups.specs.declared.request.ConnId.{ConnId}
 use Rattle.groups.specs.declared.request.RequestId.{RequestId}
 use Rattle.journal.specs.declared.step.Step.{Step}
-use Rattle.journal.specs.declared.step.Step.TheVariants.{Open, Submit, Deliver, Take, Run, Settle, Collect, Close, Repeat}
+use Rattle.journal.specs.declared.step.Step.TheVariants.{Open, Submit, Run, Settle, Close}
 use Rattle.journal.specs.declared.trace.TheConstants.{GREATEST_STEPS}
 use Rattle.layer_results.specs.Results.{names_of}
 use Rattle.layer_results.specs.declared.done.DoneRow.{DoneRow}
 use Rattle.world.specs.Steps.{Effect, Submitted, Made}
 
-abbrev pub cluster : HistoryView → ℕ → ℕ → ℕ → ℕ → ClusterView
-cluster h book sat stood back = record { history = h; book = book; sat = sat; stood = stood; back = back }
-
 one_more : (h h' : List Step) (s : Step) → h' ≡ h ++ s ∷ [] → length h' ≡ suc (length h)
 one_more h h' s longer = let k = ap length longer in omega (arith, length-append h (s ∷ []))
-
--- ---- the room for Closes
-
-pub room_still : (kept : ℕ) (h h' : HistoryView) (book book' sat stood back back' : ℕ) →
-    (HasRoom kept h.trace → HasRoom kept h'.trace) → KeepsCloses kept (cluster h book sat stood back) →
-    KeepsCloses kept (cluster h' book' sat stood back')
-room_still kept h h' book book' sat stood back back' so is = record { each = is.each; room = so is.room }
-
-pub room_sat : (kept kept' : ℕ) (h h' : HistoryView) (book sat stood back back' : ℕ) → kept' ≡ kept + 10 → HasRoom kept' h'.trace →
-    KeepsCloses kept (cluster h book sat stood back) → KeepsCloses kept' (cluster h' book (sat + 1) stood back')
-room_sat kept kept' h h' book sat stood back back' more room is =
-    record { each = let each = is.each in omega arith; room = room }
-
--- who stands has a part of the ledger, so not all have stood
-pub some_kept : (all parts parts' requests kept : ℕ) (c : ClusterView) → parts' ≡ parts + 1 → parts' ≤ all →
-    IsCluster all parts requests c → KeepsCloses kept c → 10 ≤ kept
-some_kept all parts parts' requests kept c more within is keeps =
-    let seats = is.seats in
-    let each = keeps.each in
-    let out : c.stood + 1 ≤ c.sat = omega arith in
-    omega arith
-
-pub room_stood : (kept kept' : ℕ) (h h' : HistoryView) (book sat stood back back' : ℕ) → kept' + 10 ≡ kept → HasRoom kept' h'.trace →
-    KeepsCloses kept (cluster h book sat stood back) → KeepsCloses kept' (cluster h' book sat (stood + 1) back')
-room_stood kept kept' h h' book sat stood back back' less room is =
-    record { each = let each = is.each in omega arith; room = room }
-
--- ---- no step
-
-pub cluster_same : (all parts requests : ℕ) (h h' : HistoryView) (book sat stood back : ℕ) → h'.steps ≡ h.steps → h'.max_steps ≡ h.max_steps →
-    IsCluster all parts requests (cluster h book sat stood back) → IsCluster all parts requests (cluster h' book sat stood back)
-cluster_same all parts requests h h' book sat stood back steps most is = record {
-  booked = is.booked ∙ sym (ap submits steps);
-  counted = is.counted;
-  seats = is.seats;
-  sits = omega (arith, is.sits, ap length steps);
-  within = omega (arith, is.within, ap length steps, most);
-  most = omega (arith, is.most, most);
-  few = omega (arith, is.few, most);
-}
-
--- ---- a step that submits no request
-
-pub cluster_other : (all parts requests : ℕ) (h h' : HistoryView) (book sat stood back : ℕ) (s : Step) (e : Effect) → submit_in s ≡ 0 →
-    IsMade h s e h' → IsCluster all parts requests (cluster h book sat stood back) →
-    IsCluster all parts requests (cluster h' book sat stood back)
-cluster_other all parts requests h h' book sat stood back s e none made is = record {
-  booked = omega (arith, is.booked, ap submits made.steps, none, submits-one h.steps s);
-  counted = is.counted;
-  seats = is.seats;
-  sits = omega (arith, is.sits, one_more h.steps h'.steps s made.steps);
-  within = omega (arith, made.left, made.max_steps, one_more h.steps h'.steps s made.steps);
-  most = omega (arith, is.most, made.max_steps);
-  few = omega (arith, is.few, made.max_steps);
-}
-
--- ---- no step
-
-pub cluster_still : (all parts requests : ℕ) (h h' : HistoryView) (book sat stood back : ℕ) → IsUnchanged h h' →
-    IsCluster all parts requests (cluster h book sat stood back) → IsCluster all parts requests (cluster h' book sat stood back)
-cluster_still all parts requests h h' book sat stood back still is =
-    cluster_same all parts requests h h' book sat stood back still.steps still.max_steps is
-
--- ---- sit
-
-pub cluster_sat : (all parts rest requests : ℕ) (h h' : HistoryView) (book sat stood back back' : ℕ) (e : Effect) →
-    IsMade h Open e h' → rest + 1 ≡ parts → IsCluster all parts requests (cluster h book sat stood back) →
-    IsCluster all rest requests (cluster h' book (sat + 1) stood back')
-cluster_sat all parts rest requests h h' book sat stood back back' e made one is = record {
-  booked = omega (arith, is.booked, ap submits made.steps, submits-one h.steps Open);
-  counted = is.counted;
-  seats = omega (arith, is.seats, one);
-  sits = omega (arith, is.sits, one_more h.steps h'.steps Open made.steps);
-  within = omega (arith, made.left, made.max_steps, one_more h.steps h'.steps Open made.steps);
-  most = omega (arith, is.most, made.max_steps);
-  few = omega (arith, is.few, made.max_steps);
-}
-
--- ---- submit
 
 submits_few : (steps : List Step) → submits steps ≤ length steps
 submits_few [] = omega arith
 submits_few (s ∷ steps) = omega (arith, submits_few steps, one_at_most s)
   where
     one_at_most : (s : Step) → submit_in s ≤ 1
-    one_at_most Open = omega arith
     one_at_most (Submit conn words) = omega arith
-    one_at_most (Deliver place) = omega arith
-    one_at_most Take = omega arith
-    one_at_most (Run starved) = omega arith
-    one_at_most Settle = omega arith
-    one_at_most (Collect conn) = omega arith
-    one_at_most (Close conn) = omega arith
-    one_at_most (Repeat place) = omega arith
+    one_at_most s = omega arith
 
--- there are fewer requests than any number that is counted in
-pub requests_few : (all parts requests : ℕ) (c : ClusterView) → IsCluster all parts requests c → requests ≤ GREATEST_STEPS
-requests_few all parts requests c is = omega (arith, is.counted, is.booked, is.within, is.few, submits_few c.history.steps)
+-- ---- the room for Closes
 
-pub cluster_submitted : (all parts requests : ℕ) (h h' : HistoryView) (book sat stood back : ℕ) (conn : ConnId)
-    (words : List (List ℕ)) (e : Effect) → IsMade h (Submit conn words) e h' →
-    IsCluster all parts requests (cluster h book sat stood back) →
-    IsCluster all parts (requests + 1) (cluster h' (book + 1) sat stood back)
-cluster_submitted all parts requests h h' book sat stood back conn words e made is = record {
-  booked = omega (arith, is.booked, ap submits made.steps, submits-one h.steps (Submit conn words));
-  counted = omega (arith, is.counted);
-  seats = is.seats;
-  sits = omega (arith, is.sits, one_more h.steps h'.steps (Submit conn words) made.steps);
-  within = omega (arith, made.left, made.max_steps, one_more h.steps h'.steps (Submit conn words) made.steps);
-  most = omega (arith, is.most, made.max_steps);
-  few = omega (arith, is.few, made.max_steps);
-}
+module _ {kept : ℕ} {c : ClusterView} (is : KeepsCloses kept c) (h' : HistoryView) where
+  pub room_still : (book back : ℕ) → (HasRoom kept c.history.trace → HasRoom kept h'.trace) →
+      KeepsCloses kept (record c { history = h'; book = book; back = back })
+  room_still book back so = record { each = is.each; room = so is.room }
+
+  pub room_sat : {kept' : ℕ} (back : ℕ) → kept' ≡ kept + 10 → HasRoom kept' h'.trace →
+      KeepsCloses kept' (record c { history = h'; sat = c.sat + 1; back = back })
+  room_sat back more room = record { each = let each = is.each in omega arith; room = room }
+
+  pub room_stood : {kept' : ℕ} (back : ℕ) → kept' + 10 ≡ kept → HasRoom kept' h'.trace →
+      KeepsCloses kept' (record c { history = h'; stood = c.stood + 1; back = back })
+  room_stood back less room = record { each = let each = is.each in omega arith; room = room }
+
+module _ {all parts requests : ℕ} {c : ClusterView} (is : IsCluster all parts requests c) where
+  -- there are fewer requests than any number that is counted in
+  pub requests_few : requests ≤ GREATEST_STEPS
+  requests_few = omega (arith, is.counted, is.booked, is.within, is.few, submits_few c.history.steps)
+
+  -- who stands has a part of the ledger, so not all have stood
+  pub some_kept : {kept : ℕ} → KeepsCloses kept c → (parts' : ℕ) → parts' ≡ parts + 1 → parts' ≤ all → 10 ≤ kept
+  some_kept keeps parts' more within =
+      let seats = is.seats in
+      let each = keeps.each in
+      let out : c.stood + 1 ≤ c.sat = omega arith in
+      omega arith
+
+  -- a seat's part comes back
+  cluster_merged : (parts' back : ℕ) → parts' ≡ parts + 1 →
+      IsCluster all parts' requests (record c { stood = c.stood + 1; back = back })
+  cluster_merged parts' back more = record {
+    booked = is.booked;
+    counted = is.counted;
+    seats = omega (arith, is.seats, more);
+    sits = is.sits;
+    within = is.within;
+    most = is.most;
+    few = is.few;
+  }
+
+module _ {all parts requests : ℕ} {c : ClusterView} (is : IsCluster all parts requests c) (h' : HistoryView) where
+  -- ---- no step
+
+  pub cluster_same : h'.steps ≡ c.history.steps → h'.max_steps ≡ c.history.max_steps →
+      IsCluster all parts requests (record c { history = h' })
+  cluster_same steps most = record {
+    booked = is.booked ∙ sym (ap submits steps);
+    counted = is.counted;
+    seats = is.seats;
+    sits = omega (arith, is.sits, ap length steps);
+    within = omega (arith, is.within, ap length steps, most);
+    most = omega (arith, is.most, most);
+    few = omega (arith, is.few, most);
+  }
+
+  pub cluster_still : IsUnchanged c.history h' → IsCluster all parts requests (record c { history = h' })
+  cluster_still still = cluster_same still.steps still.max_steps
+
+  -- ---- a step
+
+  cluster_made : (parts' requests' book sat back : ℕ) {s : Step} {e : Effect} → IsMade c.history s e h' → book ≡ c.book + submit_in s →
+      requests' ≡ book → parts' + sat ≡ all + c.stood → sat ≤ suc (length c.history.steps) →
+      IsCluster all parts' requests' (record c { history = h'; book = book; sat = sat; back = back })
+  cluster_made parts' requests' book sat back {s} made booked counted seats sits = record {
+    booked = omega (arith, is.booked, booked, ap submits made.steps, submits-one c.history.steps s);
+    counted = counted;
+    seats = seats;
+    sits = omega (arith, sits, one_more c.history.steps h'.steps s made.steps);
+    within = omega (arith, made.left, made.max_steps, one_more c.history.steps h'.steps s made.steps);
+    most = omega (arith, is.most, made.max_steps);
+    few = omega (arith, is.few, made.max_steps);
+  }
+
+  -- that submits no request
+  pub cluster_other : {s : Step} {e : Effect} → IsMade c.history s e h' → submit_in s ≡ 0 →
+      IsCluster all parts requests (record c { history = h' })
+  cluster_other made none =
+      cluster_made parts requests c.book c.sat c.back made (omega (arith, none)) is.counted is.seats (omega (arith, is.sits))
+
+  pub cluster_sat : (rest back : ℕ) {e : Effect} → IsMade c.history Open e h' → rest + 1 ≡ parts →
+      IsCluster all rest requests (record c { history = h'; sat = c.sat + 1; back = back })
+  cluster_sat rest back made one =
+      cluster_made rest requests c.book (c.sat + 1) back made (omega arith) is.counted (omega (arith, is.seats, one))
+      (omega (arith, is.sits))
+
+  pub cluster_submitted : (requests' book : ℕ) {conn : ConnId} {words : List (List ℕ)} {e : Effect} →
+      IsMade c.history (Submit conn words) e h' → requests' ≡ requests + 1 → book ≡ c.book + 1 →
+      IsCluster all parts requests' (record c { history = h'; book = book })
+  cluster_submitted requests' book made counted booked =
+      cluster_made parts requests' book c.sat c.back made booked (omega (arith, counted, booked, is.counted)) is.seats
+      (omega (arith, is.sits))
+
+  -- ---- whatever is answered
+
+  -- a turn
+  pub cluster_turned : (pick : ℕ → ℕ) (r : Result Bool StepFault) → IfOk r (λ made. made ≡ true → Delivers pick c.history h') →
+      IfOk r (λ made. made ≡ false → h' ≡ c.history) → OnErr r (IsUnchanged c.history h') →
+      IsCluster all parts requests (record c { history = h' })
+  cluster_turned pick (Ok true) made unmade still = cluster_other (made refl).made refl
+  cluster_turned pick (Ok false) made unmade still =
+      subst (λ h. IsCluster all parts requests (record c { history = h })) (sym (unmade refl)) is
+  cluster_turned pick (Err f) made unmade still = cluster_still still
+
+  -- a take
+  pub cluster_taken : (r : Result TakenView StepFault) → IfOk r (λ v. HandsOut c.history v h') → OnErr r (IsUnchanged c.history h') →
+      IsCluster all parts requests (record c { history = h' })
+  cluster_taken (Ok v) out still = cluster_other out.made refl
+  cluster_taken (Err f) out still = cluster_still still
+
+  -- a settle: two steps more, neither of which submits a request
+  cluster_settled : (done : List DoneRow) → IsSettled c.history done h' → IsCluster all parts requests (record c { history = h' })
+  cluster_settled done settled =
+      let two = length-append c.history.steps (Run (names_of done) ∷ Settle ∷ []) in
+      record {
+        booked = omega (arith, is.booked, ap submits settled.steps, submits-append c.history.steps (Run (names_of done) ∷ Settle ∷ []));
+        counted = is.counted;
+        seats = is.seats;
+        sits = omega (arith, is.sits, ap length settled.steps, two);
+        within = omega (arith, settled.left, settled.max_steps, ap length settled.steps, two);
+        most = omega (arith, is.most, settled.max_steps);
+        few = omega (arith, is.few, settled.max_steps);
+      }
+
+  pub cluster_told : (done : List DoneRow) {E : Type 0} (r : Result (Unit {0}) E) → OnOk r (IsSettled c.history done h') →
+      OnErr r (IsUnchanged c.history h') → IsCluster all parts requests (record c { history = h' })
+  cluster_told done (Ok u) settled still = cluster_settled done settled
+  cluster_told done (Err e) settled still = cluster_still still
 
 -- the id of the request
 pub submitted_is : (h h' : HistoryView) (conn : ConnId) (words : List (List ℕ)) (id : RequestId) →
@@ -154,96 +175,31 @@ submitted_is h h' conn words id made =
 
 -- ---- stand
 
--- a seat's part comes back
-cluster_merged : (all parts parts' requests : ℕ) (h : HistoryView) (book sat stood back back' : ℕ) → parts' ≡ parts + 1 →
-    IsCluster all parts requests (cluster h book sat stood back) → IsCluster all parts' requests (cluster h book sat (stood + 1) back')
-cluster_merged all parts parts' requests h book sat stood back back' more is = record {
-  booked = is.booked;
-  counted = is.counted;
-  seats = omega (arith, is.seats, more);
-  sits = is.sits;
-  within = is.within;
-  most = is.most;
-  few = is.few;
-}
-
 -- a seat has stood, whether its connection was closed or not
-pub cluster_stood : (all parts parts' requests : ℕ) (h h' : HistoryView) (book sat stood back back' : ℕ) (conn : ConnId) →
-    IsMade h (Close conn) Made h' ⊎ StaysOpen conn h h' → parts' ≡ parts + 1 →
-    IsCluster all parts requests (cluster h book sat stood back) → IsCluster all parts' requests (cluster h' book sat (stood + 1) back')
-cluster_stood all parts parts' requests h h' book sat stood back back' conn (inl made) more is =
-    cluster_merged all parts parts' requests h' book sat stood back back' more
-    (cluster_other all parts requests h h' book sat stood back (Close conn) Made refl made is)
-cluster_stood all parts parts' requests h h' book sat stood back back' conn (inr still) more is =
-    cluster_merged all parts parts' requests h' book sat stood back back' more
-    (cluster_still all parts requests h h' book sat stood back still.unchanged is)
-
--- ---- turn
-
--- whatever a turn answers it leaves a cluster
-pub cluster_turned : (all parts requests : ℕ) (h h' : HistoryView) (book sat stood back : ℕ) (pick : ℕ → ℕ) (r : Result Bool StepFault) →
-    IfOk r (λ made. made ≡ true → Delivers pick h h') → IfOk r (λ made. made ≡ false → h' ≡ h) → OnErr r (IsUnchanged h h') →
-    IsCluster all parts requests (cluster h book sat stood back) → IsCluster all parts requests (cluster h' book sat stood back)
-cluster_turned all parts requests h h' book sat stood back pick (Ok true) made unmade still is =
-    let came = made refl in
-    cluster_other all parts requests h h' book sat stood back (Deliver came.place) Made refl came.made is
-cluster_turned all parts requests h h' book sat stood back pick (Ok false) made unmade still is =
-    subst (λ h. IsCluster all parts requests (cluster h book sat stood back)) (sym (unmade refl)) is
-cluster_turned all parts requests h h' book sat stood back pick (Err f) made unmade still is =
-    cluster_still all parts requests h h' book sat stood back still is
-
--- ---- layers
-
--- whatever a take answers it leaves a cluster
-pub cluster_taken : (all parts requests : ℕ) (h h' : HistoryView) (book sat stood back : ℕ) (r : Result TakenView StepFault) →
-    IfOk r (λ v. HandsOut h v h') → OnErr r (IsUnchanged h h') → IsCluster all parts requests (cluster h book sat stood back) →
-    IsCluster all parts requests (cluster h' book sat stood back)
-cluster_taken all parts requests h h' book sat stood back (Ok v) out still is =
-    cluster_other all parts requests h h' book sat stood back Take Made refl out.made is
-cluster_taken all parts requests h h' book sat stood back (Err f) out still is =
-    cluster_still all parts requests h h' book sat stood back still is
-
--- two steps more, neither of which submits a request
-cluster_settled : (all parts requests : ℕ) (h h' : HistoryView) (book sat stood back : ℕ) (done : List DoneRow) → IsSettled h done h' →
-    IsCluster all parts requests (cluster h book sat stood back) → IsCluster all parts requests (cluster h' book sat stood back)
-cluster_settled all parts requests h h' book sat stood back done settled is =
-    let two = length-append h.steps (Run (names_of done) ∷ Settle ∷ []) in
-    record {
-      booked = omega (arith, is.booked, ap submits settled.steps, submits-append h.steps (Run (names_of done) ∷ Settle ∷ []));
-      counted = is.counted;
-      seats = is.seats;
-      sits = omega (arith, is.sits, ap length settled.steps, two);
-      within = omega (arith, settled.left, settled.max_steps, ap length settled.steps, two);
-      most = omega (arith, is.most, settled.max_steps);
-      few = omega (arith, is.few, settled.max_steps);
-    }
-
--- whatever a settle answers it leaves a cluster
-pub cluster_told : (all parts requests : ℕ) (h h' : HistoryView) (book sat stood back : ℕ) (done : List DoneRow) {E : Type 0}
-    (r : Result (Unit {0}) E) → OnOk r (IsSettled h done h') → OnErr r (IsUnchanged h h') →
-    IsCluster all parts requests (cluster h book sat stood back) → IsCluster all parts requests (cluster h' book sat stood back)
-cluster_told all parts requests h h' book sat stood back done (Ok u) settled still is =
-    cluster_settled all parts requests h h' book sat stood back done settled is
-cluster_told all parts requests h h' book sat stood back done (Err e) settled still is =
-    cluster_still all parts requests h h' book sat stood back still is
+pub cluster_stood : {all parts requests : ℕ} {c : ClusterView} → IsCluster all parts requests c → (h' : HistoryView) (parts' back : ℕ)
+    (conn : ConnId) → IsMade c.history (Close conn) Made h' ⊎ StaysOpen conn c.history h' → parts' ≡ parts + 1 →
+    IsCluster all parts' requests (record c { history = h'; stood = c.stood + 1; back = back })
+cluster_stood is h' parts' back conn (inl made) more = cluster_merged (cluster_other is h' made refl) parts' back more
+cluster_stood is h' parts' back conn (inr still) more = cluster_merged (cluster_still is h' still.unchanged) parts' back more
 
 -- ---- a request that may be handed out at once
 
-gone_on : (all parts requests : ℕ) (h h' : HistoryView) (book sat stood back : ℕ) (taken : Option TakenView) → GoesOn h taken h' →
-    IsCluster all parts requests (cluster h book sat stood back) → IsCluster all parts requests (cluster h' book sat stood back)
-gone_on all parts requests h h' book sat stood back None same is =
-    subst (λ h. IsCluster all parts requests (cluster h book sat stood back)) (sym same) is
-gone_on all parts requests h h' book sat stood back (Some v) more is =
-    cluster_other all parts requests more.come h' book sat stood back Take Made refl more.hands_out.made
-    (cluster_other all parts requests h more.come book sat stood back (Deliver more.delivers.place) Made refl more.delivers.made is)
+arrived_on : {all parts requests : ℕ} {c : ClusterView} (n : ℕ) → IsCluster all parts requests c → (h' : HistoryView) →
+    Arrives n c.history h' → IsCluster all parts requests (record c { history = h' })
+arrived_on zero is h' same = cluster_same is h' (ap (λ (h : HistoryView). h.steps) same) (ap (λ (h : HistoryView). h.max_steps) same)
+arrived_on (suc n) is h' (mid, first, rest) = arrived_on n (cluster_other is mid first.made refl) h' rest
 
-pub cluster_passed : (all parts requests : ℕ) (h h' : HistoryView) (book sat stood back : ℕ) (conn : ConnId) (words : List (List ℕ))
-    (id : RequestId) (seen : List Step) (taken : Option TakenView) → HasPassed h conn words id seen taken h' →
-    IsCluster all parts requests (cluster h book sat stood back) →
-    IsCluster all parts (requests + 1) (cluster h' (book + 1) sat stood back)
-cluster_passed all parts requests h h' book sat stood back conn words id seen taken passed is =
-    gone_on all parts (requests + 1) passed.begun h' (book + 1) sat stood back taken passed.goes_on
-    (cluster_submitted all parts requests h passed.begun book sat stood back conn words (Submitted id) passed.made is)
+gone_on : {all parts requests : ℕ} {c : ClusterView} → IsCluster all parts requests c → (h' : HistoryView) (taken : Option TakenView) →
+    GoesOn c.history taken h' → IsCluster all parts requests (record c { history = h' })
+gone_on is h' None same = arrived_on 0 is h' same
+gone_on is h' (Some v) more = cluster_other (arrived_on (packets_in v.layer) is more.come more.arrives) h' more.hands_out.made refl
+
+pub cluster_passed : {all parts requests : ℕ} {c : ClusterView} → IsCluster all parts requests c → (h' : HistoryView) (requests' book : ℕ)
+    {conn : ConnId} {words : List (List ℕ)} {id : RequestId} {seen : List Step} {taken : Option TakenView} →
+    HasPassed c.history conn words id seen taken h' → requests' ≡ requests + 1 → book ≡ c.book + 1 →
+    IsCluster all parts requests' (record c { history = h'; book = book })
+cluster_passed is h' requests' book passed counted booked =
+    gone_on (cluster_submitted is passed.begun requests' book passed.made counted booked) h' _ passed.goes_on
 
 -- what the seat is told
 pub seat_passed : (h h' : HistoryView) (s after : SeatView) (words : List (List ℕ)) (id : RequestId) (seen : List Step)
@@ -266,7 +222,7 @@ seat_passed h h' s after words id seen taken passed behind seat =
 -- ---- none
 
 pub cluster_new : (all parts : ℕ) (h : HistoryView) (book most back : ℕ) → parts ≡ all → book ≡ 0 → h.steps ≡ [] → h.max_steps ≡ most →
-    most < all → most ≤ GREATEST_STEPS → IsCluster all parts 0 (cluster h book 0 0 back)
+    most < all → most ≤ GREATEST_STEPS → IsCluster all parts 0 (record { history = h; book = book; sat = 0; stood = 0; back = back })
 cluster_new all parts h book most back whole zero' none same enough few = record {
   booked = zero' ∙ sym (ap submits none);
   counted = sym zero';

@@ -1,6 +1,6 @@
 -- What comes of the layer that is out, by its number alone: the world runs it so, and that is what the front is told.
-use Rattle.std.proofs.Common.{◌≡◌, ◌≢◌, ℕ, ◌+◌, ◌≤◌, List, [], ◌∷◌, ◌++◌, map, length, inl, inr, Option, Some, Ok, refl, sym, ap, ◌∙◌, subst}
-use Rattle.std.proofs.Common.{append-nil, append_assoc, length-append, arith}
+use Rattle.std.proofs.Common.{◌≡◌, ◌≢◌, ℕ, ◌+◌, ◌≤◌, List, [], ◌∷◌, ◌++◌, map, length, inl, inr, Option, Some, Ok, refl, sym, ap, ◌∙◌}
+use Rattle.std.proofs.Common.{subst, append-nil, append_assoc, length-append, arith}
 use Rattle.std.proofs.lemmas.List.{map-append}
 use Rattle.std.specs.List.{AllZip}
 use mathlib.Core.List.{IsPrefix}
@@ -44,40 +44,57 @@ use Rattle.world_laws.specs.Order.{HasFinal}
 zip_in : {X Y : Type 0} (R S : X → Y → Type 0) (xs : List X) (ys : List Y) →
     ((x : X) (y : Y) → In x xs → In y ys → R x y → S x y) → AllZip R xs ys → AllZip S xs ys
 zip_in R S [] [] holds zip = tt
-zip_in R S [] (y ∷ ys) holds zip = absurd zip
-zip_in R S (x ∷ xs) [] holds zip = absurd zip
 zip_in R S (x ∷ xs) (y ∷ ys) holds zip = (
   holds x y (inl refl) (inl refl) zip.0,
   zip_in R S xs ys (λ a b there here. holds a b (inr there) (inr here)) zip.1,
 )
+zip_in R S xs ys holds zip = absurd zip
 
 -- so much of it the front is told
 told_so : (es : List Ended) (done : List DoneRow) → AllZip IsToldBy es done → AllZip settling.IsToldBy es done
 told_so es done zip = zip_in IsToldBy settling.IsToldBy es done
     (λ e row there here told. record { id = told.id; stamp = told.stamp; reply = told.reply }) zip
 
-module _ (h : HistoryView) (w : World) (is : IsTrueIn h w) (v : RanView) (ran : IsRan h.front.table v) (some : h.front.out ≢ [])
-    (number : v.number ≡ h.front.layers) (all : List Step) (x : World) (leads : Leads h.front.table opening all x)
-    (p : IsPrefix h.steps all) (q : IsPrefix v.told all) (every : List (List DoneRow)) (p' : IsPrefix h.ran every)
-    (q' : IsPrefix v.ran every) (serial : AreSerial h.front.table v.ran) where
+-- it comes back of the layer that is out: its steps and the history's begin one list that leads to a world, and what was run by both
+-- begins one list
+pub record IsBack (t : Layout) (h : HistoryView) (v : RanView) : Type 0 where
+  pub came : IsRan t v
+  pub some : h.front.out ≢ []
+  pub number : v.number ≡ h.front.layers
+  pub all : List Step
+  pub legal : (x : World) × Leads t opening all x
+  pub mine : IsPrefix h.steps all
+  pub its : IsPrefix v.told all
+  pub every : List (List DoneRow)
+  pub mine_ran : IsPrefix h.ran every
+  pub its_ran : IsPrefix v.ran every
+  pub serial : AreSerial t v.ran
+
+module _ (h : HistoryView) (w : World) (is : IsTrueIn h w) (v : RanView) (back : IsBack h.front.table h v) where
   abbrev t : Layout
   t = h.front.table
 
   abbrev ds : List Delivered
   ds = h.front.out
 
+  abbrev ran : IsRan t v
+  ran = back.came
+
   layer : w.layer ≡ Taken ds
-  layer = is_taken w.layer ds is.not_run is.at.shows.out some
+  layer = is_taken w.layer ds is.not_run is.at.shows.out back.some
 
   same_layer : ran.layer ≡ ds
-  same_layer = takes_agree t v.told h.steps all x leads q p v.number ran.layer ds ran.hands_out
-      (subst (λ n. HandsOut t h.steps n ds) (sym number) (out_is_handed h w is some))
+  same_layer = takes_agree t v.told h.steps back.all back.legal.0 back.legal.1 back.its back.mine v.number ran.layer ds ran.hands_out
+      (subst (λ n. HandsOut t h.steps n ds) (sym back.number) (out_is_handed h w is back.some))
 
   -- what was asked there was asked here
   asked_same : (i : RequestId) (a b : Request) → ran.world.asked i ≡ Some a → w.asked i ≡ Some b → a ≡ b
   asked_same i a b there here =
-      let one = asked_stays t v.told q.0 ran.world x ran.leads (subst (λ l. Leads t opening l x) (sym q.1) leads) i a there in
-      let other = asked_stays t h.steps p.0 w x is.at.leads (subst (λ l. Leads t opening l x) (sym p.1) leads) i b here in
+      let x = back.legal.0 in
+      let one = asked_stays t v.told back.its.0 ran.world x ran.leads
+      (subst (λ l. Leads t opening l x) (sym back.its.1) back.legal.1) i a there in
+      let other = asked_stays t h.steps back.mine.0 w x is.at.leads
+      (subst (λ l. Leads t opening l x) (sym back.mine.1) back.legal.1) i b here in
       some_same a b (sym one ∙ other)
 
   submitted : (d : Delivered) → In d ds → (a : Request) × HasFinal w d.id a d.stamp × (d.groups ≡ task_groups t a.task)
@@ -110,9 +127,10 @@ module _ (h : HistoryView) (w : World) (is : IsTrueIn h w) (v : RanView) (ran : 
 
   pub ran_is : v.ran ≡ h.ran ++ v.done ∷ []
   ran_is =
-      let before : IsPrefix ran.before every =
-      begins_more ran.before (v.done ∷ []) every (subst (λ l. IsPrefix l every) ran.last q') in
-      ran.last ∙ ap (λ l. l ++ v.done ∷ []) (same_begin ran.before h.ran every before p' (sym ran.counted ∙ number ∙ is.layers))
+      let before : IsPrefix ran.before back.every =
+      begins_more ran.before (v.done ∷ []) back.every (subst (λ l. IsPrefix l back.every) ran.last back.its_ran) in
+      ran.last ∙ ap (λ l. l ++ v.done ∷ [])
+      (same_begin ran.before h.ran back.every before back.mine_ran (sym ran.counted ∙ back.number ∙ is.layers))
 
   layers_so : map (layer_of t) v.ran ≡ map (layer_of t) h.ran ++ ran_as es ∷ []
   layers_so = ap (map (layer_of t)) ran_is ∙ map-append (layer_of t) h.ran (v.done ∷ [])
@@ -122,7 +140,7 @@ module _ (h : HistoryView) (w : World) (is : IsTrueIn h w) (v : RanView) (ran : 
 
   pub runs : Steps t w (Run (names_of v.done)) (Ran (names_of v.done)) (with_run w es)
   runs = subst (λ ns. Steps t w (Run ns) (Ran ns) (with_run w es)) (sym (names_told es v.done its.told))
-      (serial_is_true t h.steps w (map (layer_of t) h.ran) is.ran ds es layer its.came (subst (IsSerial t) layers_so serial))
+      (serial_is_true t h.steps w (map (layer_of t) h.ran) is.ran ds es layer its.came (subst (IsSerial t) layers_so back.serial))
 
   at_run : FrontIsAt h.front (h.steps ++ Run (names_of v.done) ∷ []) (with_run w es)
   at_run = sees_no_run h.front h.steps w is.at (names_of v.done) (Ran (names_of v.done)) (with_run w es) runs

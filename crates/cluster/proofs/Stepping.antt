@@ -1,12 +1,11 @@
 -- A step that takes no layer and settles none: it is the world's own, and the front shows the world after it.
-use Rattle.std.proofs.Common.{◌≡◌, ℕ, ◌+◌, ◌<◌, List, [], ◌∷◌, ◌++◌, map, length, Option, refl, sym, ap, ◌∙◌, subst}
-use Rattle.std.proofs.Common.{append-nil, arith, length-append}
+use Rattle.std.proofs.Common.{◌≡◌, ℕ, [], ◌∷◌, ◌++◌, map, Option, refl, sym, ap, ◌∙◌, subst, append-nil, arith, length-append}
 use Rattle.cluster.specs.Histories.{HistoryView, IsTrueIn, IsMade, MayGoOn}
 use Rattle.front.specs.Fronts.{FrontView, FrontIsAt, HasNotRun}
-use Rattle.front.specs.Making.{IsStep, Makes}
+use Rattle.front.specs.Making.{Makes}
 use Rattle.cluster.specs.declared.tape.Tape.{Tape}
 use Rattle.journal.specs.declared.step.Step.{Step}
-use Rattle.journal.specs.declared.step.Step.TheVariants.{Open, Submit, Deliver, Take, Run, Settle, Collect, Close, Repeat}
+use Rattle.journal.specs.declared.step.Step.TheVariants.{Run}
 use Rattle.order_laws.proofs.Layers.{others_leave_layers}
 use Rattle.order_laws.proofs.Yielding as yielding
 use Rattle.order_laws.specs.Layers.{Yields, run_by}
@@ -17,15 +16,8 @@ use Rattle.world.specs.Steps.{opening, Effect, Steps, Leads}
 use Rattle.world.specs.World.{World}
 
 none_run : (w w' : World) (s : Step) → LeavesLayers s → run_by w s w' ≡ []
-none_run w w' Open plain = refl
-none_run w w' (Submit conn words) plain = refl
-none_run w w' (Deliver k) plain = refl
-none_run w w' Take plain = refl
 none_run w w' (Run starved) plain = absurd plain
-none_run w w' Settle plain = refl
-none_run w w' (Collect conn) plain = refl
-none_run w w' (Close conn) plain = refl
-none_run w w' (Repeat k) plain = refl
+none_run w w' s plain = refl
 
 module _ (h : HistoryView) (w : World) (is : IsTrueIn h w) where
   -- ---- the world after it

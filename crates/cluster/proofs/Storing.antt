@@ -3,7 +3,7 @@ use Rattle.std.proofs.Common.{◌≡◌, ℕ, List, [], ◌∷◌, ◌++◌, len
 use Rattle.std.specs.List.{AllZip}
 use Rattle.layer_planner.specs.declared.job.Job.{Job}
 use Rattle.layer_results.specs.declared.done.DoneRow.{DoneRow}
-use Rattle.cluster.specs.Sealed.{TakenView, IsTaken, RanView, IsRan, IsRowOf}
+use Rattle.cluster.specs.Sealed.{TakenView, IsTaken, IsRan, IsRowOf}
 use Rattle.serial_store.specs.Runs.{IsOfJob}
 use Rattle.placement.specs.Layout.{Layout}
 use Rattle.skeen_core.specs.declared.packet.Delivered.{Delivered}
@@ -15,10 +15,8 @@ use Rattle.world_laws.specs.Good.{Asked}
 rows_of_jobs : (asked : Asked) (ds : List Delivered) (js : List Job) (done : List DoneRow) → AreJobs asked ds js → AllZip IsOfJob js done →
     AllZip (IsRowOf asked) ds done
 rows_of_jobs asked [] [] [] jobs rows = tt
-rows_of_jobs asked [] [] (row ∷ done) jobs rows = absurd rows
 rows_of_jobs asked [] (j ∷ js) done jobs rows = absurd jobs
 rows_of_jobs asked (d ∷ ds) [] done jobs rows = absurd jobs
-rows_of_jobs asked (d ∷ ds) (j ∷ js) [] jobs rows = absurd rows
 rows_of_jobs asked (d ∷ ds) (j ∷ js) (row ∷ done) jobs rows =
     let so = jobs.0.asked_so in (
       record {
@@ -28,6 +26,7 @@ rows_of_jobs asked (d ∷ ds) (j ∷ js) (row ∷ done) jobs rows =
       },
       rows_of_jobs asked ds js done jobs.1 rows.1,
     )
+rows_of_jobs asked ds js done jobs rows = absurd rows
 
 -- it is what came of that layer, and the last that the store has run
 pub is_ran : (t : Layout) (v : TakenView) (done : List DoneRow) (number : ℕ) (ran before : List (List DoneRow)) → IsTaken t v →

@@ -1,11 +1,10 @@
 -- The Submits among steps to which one is added.
-use Rattle.std.proofs.Common.{◌≡◌, ℕ, suc, ◌+◌, ◌==◌, List, [], ◌∷◌, ◌++◌, refl, sym, ap}
-use Rattle.std.proofs.Common.{◌∙◌, arith, eq-eqb}
+use Rattle.std.proofs.Common.{◌≡◌, ℕ, suc, ◌+◌, ◌==◌, List, [], ◌∷◌, ◌++◌, refl, sym, ap, ◌∙◌, arith, eq-eqb}
 use Rattle.std.proofs.lemmas.Bool.{cond-true}
 use Rattle.std.proofs.lemmas.List.{append_assoc}
 use Rattle.cluster.specs.Submits.{submit_in, submits, submit_by, submits_by, IsSaid}
 use Rattle.journal.specs.declared.step.Step.{Step}
-use Rattle.journal.specs.declared.step.Step.TheVariants.{Open, Submit, Deliver, Take, Run, Settle, Collect, Close, Repeat}
+use Rattle.journal.specs.declared.step.Step.TheVariants.{Submit}
 use Rattle.groups.specs.declared.request.ConnId.{ConnId}
 use Rattle.groups.specs.declared.request.RequestId.{RequestId}
 
@@ -21,9 +20,6 @@ submits_by-append c (x ∷ xs) ys = omega (arith, submits_by-append c xs ys)
 
 pub submits-one : (xs : List Step) (s : Step) → submits (xs ++ s ∷ []) ≡ submits xs + submit_in s
 submits-one xs s = omega (arith, submits-append xs (s ∷ []))
-
-pub submits_by-one : (c : ℕ) (xs : List Step) (s : Step) → submits_by c (xs ++ s ∷ []) ≡ submits_by c xs + submit_by c s
-submits_by-one c xs s = omega (arith, submits_by-append c xs (s ∷ []))
 
 -- a Submit is one of its own connection
 pub own_submit : (conn : ConnId) (words : List (List ℕ)) → submit_by conn.0 (Submit conn words) ≡ 1

@@ -1,6 +1,5 @@
 -- A step that hands a layer out, and what a history is at its beginning.
-use Rattle.std.proofs.Common.{◌≡◌, ℕ, ◌+◌, List, [], ◌∷◌, ◌++◌, map, length, Option, refl, sym, ap, ◌∙◌, subst}
-use Rattle.std.proofs.Common.{append-nil, arith, length-append}
+use Rattle.std.proofs.Common.{◌≡◌, ℕ, List, [], ◌∷◌, ◌++◌, map, Option, refl, sym, ap, ◌∙◌, subst, append-nil, arith, length-append}
 use Rattle.front.specs.Fronts.{FrontView, IsNew}
 use Rattle.front.specs.Taking.{Takes}
 use Rattle.journal.specs.declared.step.Step.{Step}
@@ -14,7 +13,7 @@ use Rattle.order_laws.specs.Takes.{HandsOut}
 use Rattle.order_laws.specs.Truth.{AreRunsOf}
 use Rattle.cluster.proofs.Numbers.{number_is}
 use Rattle.cluster.specs.Histories.{HistoryView, IsTrueIn, IsLawful}
-use Rattle.cluster.specs.Sealed.{TakenView, IsTaken}
+use Rattle.cluster.specs.Sealed.{IsTaken}
 use Rattle.serial_store.specs.Serial.{layer_of}
 use Rattle.placement.specs.Layout.{Layout}
 use Rattle.groups.proofs.Options.{some_same}
@@ -23,7 +22,7 @@ use Rattle.skeen_core.specs.declared.packet.Delivered.{Delivered}
 use Rattle.front.proofs.WorldJobs.{all_jobs}
 use Rattle.front.specs.Layers.{AreJobs}
 use Rattle.tasks.specs.Tasks.{task_groups}
-use Rattle.world.specs.Steps.{opening, Made, taken, Steps, Leads}
+use Rattle.world.specs.Steps.{opening, Made, taken, Leads}
 use Rattle.world.specs.World.{World, Request, Taken}
 use Rattle.world_laws.proofs.ConditionLaws.{layer_is_submitted}
 use Rattle.world_laws.proofs.Worlds.{good_world}

@@ -1,11 +1,10 @@
 -- A trace that may be kept, or none: it stays that of the steps.
-use Rattle.std.proofs.Common.{◌≡◌, ℕ, ◌+◌, ◌≤◌, List, [], ◌∷◌, ◌++◌, length, Option, Some, None, Result, Ok, Err, OnOk, refl, sym, ap, ◌∙◌, arith}
-use Rattle.std.proofs.Common.{append_assoc, append-nil}
+use Rattle.std.proofs.Common.{◌≡◌, ℕ, ◌+◌, ◌≤◌, List, [], ◌∷◌, ◌++◌, length, Option, Some, None, refl, sym, ap, ◌∙◌, arith, append_assoc}
+use Rattle.std.proofs.Common.{append-nil, length-append}
 use Rattle.std.proofs.lemmas.List.{nil_from_length}
-use Rattle.std.proofs.Common.{length-append}
 use mathlib.Core.List.{IsPrefix}
 use Rattle.cluster.proofs.Numbers.{same_begin}
-use Rattle.cluster.specs.Traces.{AreBehind, IsTraceOf, HasRoom, KeepsRoom, SameTrace, IsPushed, LeavesRoom, IsHandedOn}
+use Rattle.cluster.specs.Traces.{AreBehind, IsTraceOf, HasRoom, SameTrace, IsPushed, LeavesRoom, IsHandedOn}
 use Rattle.cluster.specs.declared.tape.Tape.{Tape}
 use Rattle.journal.specs.Codes.{step_size}
 use Rattle.journal.specs.Views.{TraceView}
@@ -14,8 +13,6 @@ use Rattle.journal.specs.declared.step.Step.{Step}
 pub trace_pushed : (old new : Option Tape) (steps : List Step) (step : Step) (most now : ℕ) → IsPushed old step new → now ≡ most →
     IsTraceOf old steps most → IsTraceOf new (steps ++ step ∷ []) now
 trace_pushed None None steps step most now pushed same is = tt
-trace_pushed None (Some new) steps step most now pushed same is = absurd pushed
-trace_pushed (Some old) None steps step most now pushed same is = absurd pushed
 trace_pushed (Some old) (Some new) steps step most now pushed same is = (
   record {
     before = is.0.before;
@@ -25,12 +22,11 @@ trace_pushed (Some old) (Some new) steps step most now pushed same is = (
   },
   pushed.0 ∙ is.1 ∙ sym same,
 )
+trace_pushed old new steps step most now pushed same is = absurd pushed
 
 pub trace_still : (old new : Option Tape) (steps steps' : List Step) (most most' : ℕ) → SameTrace old new → steps' ≡ steps →
     most' ≡ most → IsTraceOf old steps most → IsTraceOf new steps' most'
 trace_still None None steps steps' most most' still same also is = tt
-trace_still None (Some new) steps steps' most most' still same also is = absurd still
-trace_still (Some old) None steps steps' most most' still same also is = absurd still
 trace_still (Some old) (Some new) steps steps' most most' still same also is = (
   record {
     before = is.0.before;
@@ -39,12 +35,11 @@ trace_still (Some old) (Some new) steps steps' most most' still same also is = (
   },
   still.0 ∙ is.1 ∙ sym also,
 )
+trace_still old new steps steps' most most' still same also is = absurd still
 
 -- once they are handed on none is kept behind all that were made
 pub trace_handed : (old new : Option Tape) (steps piece : List Step) (most from : ℕ) → IsHandedOn (length steps) old from piece new →
     IsTraceOf old steps most → IsTraceOf new steps most
-trace_handed None new steps piece most from handed is = absurd handed
-trace_handed (Some old) None steps piece most from handed is = absurd handed
 trace_handed (Some old) (Some new) steps piece most from handed is = (
   record {
     before = steps;
@@ -53,24 +48,11 @@ trace_handed (Some old) (Some new) steps piece most from handed is = (
   },
   handed.4 ∙ is.1,
 )
-
--- and those that were handed on are the rest behind so many
-pub handed_behind : (old new : Option Tape) (steps piece : List Step) (most from : ℕ) → IsHandedOn (length steps) old from piece new →
-    IsTraceOf old steps most → AreBehind from piece steps
-handed_behind None new steps piece most from handed is = absurd handed
-handed_behind (Some old) None steps piece most from handed is = absurd handed
-handed_behind (Some old) (Some new) steps piece most from handed is = record {
-  before = is.0.before;
-  split = is.0.split ∙ ap (λ s. is.0.before ++ s) (sym handed.1);
-  counted = handed.0 ∙ is.0.counted;
-}
+trace_handed old new steps piece most from handed is = absurd handed
 
 pub same_trace : (trace : Option Tape) → SameTrace trace trace
 same_trace None = tt
 same_trace (Some t) = (refl, refl, refl)
-
-pub same_if : (old new : Option Tape) → new ≡ old → SameTrace old new
-same_if old new same = Rattle.std.proofs.Common.subst (λ t. SameTrace old t) (sym same) (same_trace old)
 
 -- less room is there where more is
 pub room_less : (trace : Option Tape) (few many : ℕ) → few ≤ many → HasRoom many trace → HasRoom few trace
@@ -88,11 +70,6 @@ pub room_back : (t : Tape) (new : TraceView) (step : Step) (before : Option Tape
     ((front : List Step) (last : Step) → t.rest.steps ≡ front ++ last ∷ [] → t.rest.room + step_size last ≤ new.room) → bytes ≤ new.room
 room_back t new step None pushed leaves bytes has more = absurd pushed
 room_back t new step (Some old) pushed leaves bytes has more = omega (arith, leaves, has, more old.rest.steps step pushed.1)
-
-pub on_ok : {X E P Q : Type 0} (r : Result X E) → (P → Q) → OnOk r P →
-    OnOk r Q
-on_ok (Ok x) implies holds = implies holds
-on_ok (Err e) implies holds = tt
 
 -- what lies behind nothing is all
 pub behind_none : (from : ℕ) (rest steps : List Step) → AreBehind from rest steps → from ≡ 0 → steps ≡ rest

@@ -15,15 +15,12 @@ some_there packets place there none = let k = subst (λ ps. place < length ps) n
 -- of the packet at a place that is there
 pub turn_fault : (h : HistoryView) (place : ℕ) (f : StepFault) → IsLawful h → place < length h.front.multicast.packets →
     IsFault h (Deliver place) f → IsTurnFault h f
-turn_fault h place fault.Busy lawful there why = why.1.refused
-turn_fault h place fault.NoConn lawful there why = why.1.refused
 turn_fault h place fault.NoPacket lawful there why =
     let none = why.1.refused in
     let same = same_world h.front.table h.steps lawful.world why.1.world lawful.leads why.1.leads in
     let shown = subst (λ w. ShowsMulticast h.front.table h.front.multicast w) same lawful.multicast in
     let some = subst (λ ps. place < length ps) shown.packets there in
     omega arith
-turn_fault h place fault.InFlight lawful there why = why.1.refused
-turn_fault h place fault.NoLayer lawful there why = why.1.refused
 turn_fault h place fault.Exhausted lawful there why = why
 turn_fault h place fault.Memory lawful there why = (why.0, some_there h.front.multicast.packets place there)
+turn_fault h place f lawful there why = why.1.refused

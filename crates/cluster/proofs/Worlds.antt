@@ -1,16 +1,14 @@
 -- How many requests a connection has submitted in the world of some steps.
-use Rattle.std.proofs.Common.{◌≡◌, ℕ, suc, ◌+◌, ◌==◌, cond, false, List, [], ◌∷◌, refl}
-use Rattle.std.proofs.Common.{sym, ap, ◌∙◌}
-use Rattle.std.proofs.Common.{arith, inl, inr, eqb-true}
+use Rattle.std.proofs.Common.{◌≡◌, ℕ, suc, ◌+◌, ◌==◌, cond, List, [], ◌∷◌, refl, ap, ◌∙◌, arith, inl, inr, eqb-true}
 use Rattle.std.proofs.lemmas.Bool.{cond-true, cond-false, cases_Bool}
 use Rattle.cluster.specs.Submits.{submit_by, submits_by}
 use Rattle.journal.specs.declared.step.Step.{Step}
-use Rattle.journal.specs.declared.step.Step.TheVariants.{Open, Submit, Deliver, Take, Run, Settle, Collect, Close, Repeat}
+use Rattle.journal.specs.declared.step.Step.TheVariants.{Submit, Collect}
 use Rattle.placement.specs.Layout.{Layout}
 use Rattle.sessions.specs.Session.{Answer, Now, Go, asks}
 use Rattle.tasks.specs.Tasks.{Task, task_groups}
 use Rattle.world.specs.Steps.{at, opening, Effect, Collects, Steps, Makes, Leads, submitted, submitted_to, in_session}
-use Rattle.world.specs.World.{World, Standing, Closed, Idle, Waiting, Answered}
+use Rattle.world.specs.World.{World, Standing, Closed}
 use Rattle.world_laws.proofs.DeterminedLaws.{histories_determine}
 
 -- ---- how many requests a connection has submitted
@@ -35,26 +33,18 @@ one_more_at f c d = elim (cases_Bool (c == d)) [
 
 collects_seq : (w w' : World) (c : ℕ) (standing : Standing) (e : Effect) → Collects standing w c e w' → w'.seq ≡ w.seq
 collects_seq w w' c Closed e step = absurd step
-collects_seq w w' c Idle e step = ap (λ v. v.seq) step.1
-collects_seq w w' c Waiting e step = ap (λ v. v.seq) step.1
-collects_seq w w' c (Answered o) e step = ap (λ v. v.seq) step.1
+collects_seq w w' c standing e step = ap (λ v. v.seq) step.1
 
 none_more : (f g : ℕ → ℕ) (c : ℕ) → f ≡ g → f c ≡ g c + 0
 none_more f g c same = let k = ap (λ (h : ℕ → ℕ). h c) same in omega arith
 
 pub step_seq : (t : Layout) (w w' : World) (s : Step) (e : Effect) (c : ℕ) → Steps t w s e w' → w'.seq c ≡ w.seq c + submit_by c s
-step_seq t w w' Open e c step = none_more w'.seq w.seq c (ap (λ v. v.seq) step.after)
 step_seq t w w' (Submit conn words) e c step =
     let came = asks (w.session conn.0) words in
     ap (λ v. v.seq c) step.after
     ∙ (ap (λ (f : ℕ → ℕ). f c) (submitted_seq t (in_session w conn.0 came.0) conn.0 came.1) ∙ one_more_at w.seq c conn.0)
-step_seq t w w' (Deliver k) e c step = none_more w'.seq w.seq c (ap (λ v. v.seq) step.after)
-step_seq t w w' Take e c step = none_more w'.seq w.seq c (ap (λ v. v.seq) step.after)
-step_seq t w w' (Run starved) e c step = none_more w'.seq w.seq c (ap (λ v. v.seq) step.after)
-step_seq t w w' Settle e c step = none_more w'.seq w.seq c (ap (λ v. v.seq) step.after)
 step_seq t w w' (Collect conn) e c step = none_more w'.seq w.seq c (collects_seq w w' conn.0 (w.standing conn.0) e step)
-step_seq t w w' (Close conn) e c step = none_more w'.seq w.seq c (ap (λ v. v.seq) step.after)
-step_seq t w w' (Repeat k) e c step = none_more w'.seq w.seq c (ap (λ v. v.seq) step.after)
+step_seq t w w' s e c step = none_more w'.seq w.seq c (ap (λ v. v.seq) step.after)
 
 pub makes_seq : (t : Layout) (c : ℕ) (h : List Step) (es : List Effect) (w w' : World) → Makes t w h es w' →
     w'.seq c ≡ w.seq c + submits_by c h

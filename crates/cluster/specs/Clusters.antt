@@ -1,6 +1,6 @@
 -- A cluster and its seats, as contracts see them.
 use Rattle.std.specs.Prelude.{◌≡◌, ◌≢◌, ℕ, ◌+◌, ◌*◌, ◌<◌, ◌≤◌, List, [], length, ◌⊎◌, Some}
-use Rattle.cluster.specs.Histories.{HistoryView, IsMade, IsUnchanged, MayGoOn, IsRefused, IsFault}
+use Rattle.cluster.specs.Histories.{HistoryView, IsUnchanged, MayGoOn, IsRefused, IsFault}
 use Rattle.cluster.specs.Outcomes.{IsAbove}
 use Rattle.cluster.specs.Submits.{submits}
 use Rattle.cluster.specs.Traces.{HasRoom}

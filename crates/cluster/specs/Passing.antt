@@ -1,5 +1,5 @@
 -- A seat's request that is submitted and, where nothing is before it, handed out at once.
-use Rattle.std.specs.Prelude.{◌≡◌, ℕ, ◌+◌, List, [], Option, Some, None}
+use Rattle.std.specs.Prelude.{◌≡◌, ℕ, zero, suc, ◌+◌, List, [], ◌∷◌, Option, Some, None}
 use mathlib.Core.List.{IsPrefix}
 use Rattle.cluster.specs.Clusters.{SeatView}
 use Rattle.cluster.specs.Histories.{HistoryView, IsLawful, IsMade}
@@ -9,29 +9,40 @@ use Rattle.cluster.specs.Submits.{IsSaid}
 use Rattle.cluster.specs.Turns.{Delivers}
 use Rattle.delivery.specs.Queues.{queue_of}
 use Rattle.delivery.specs.Ready.{IsReady}
+use Rattle.front.specs.Passing.{packets_in}
 use Rattle.groups.specs.declared.request.ConnId.{ConnId}
 use Rattle.groups.specs.declared.request.RequestId.{RequestId}
 use Rattle.journal.specs.declared.step.Step.{Step}
-use Rattle.journal.specs.declared.step.Step.TheVariants.{Submit}
+use Rattle.journal.specs.declared.step.Step.TheVariants.{Submit, Deliver}
 use Rattle.skeen_core.specs.declared.packet.Delivered.{Delivered}
 use Rattle.world.specs.Steps.{Submitted}
 
--- The oldest packet came to its group, and then the layer that was there was taken.
+-- so many packets came, each the oldest then
+abbrev pub Arrives : ℕ → HistoryView → HistoryView → Type 0
+Arrives zero old new = new ≡ old
+Arrives (suc n) old new = (mid : HistoryView) × Delivers (λ count. 0) old mid × Arrives n mid new
+
+-- the steps that say so
+abbrev pub arrivals : ℕ → List Step
+arrivals zero = []
+arrivals (suc n) = Deliver 0 ∷ arrivals n
+
+-- All packets of the request came, and then the layer that was there was taken.
 pub record TakesAtOnce (begun : HistoryView) (taken : TakenView) (new : HistoryView) : Type 0 where
   pub come : HistoryView
-  pub delivers : Delivers (λ count. 0) begun come
+  pub arrives : Arrives (packets_in taken.layer) begun come
   pub lawful : IsLawful come
   pub free : come.front.out ≡ []
   pub ready : (d : Delivered) × IsReady (queue_of come.front.multicast.queues) d
   pub hands_out : HandsOut come taken new
 
--- nothing more was made, or both where a layer is handed out
+-- nothing more was made, or all of it where a layer is handed out
 abbrev pub GoesOn : HistoryView → Option TakenView → HistoryView → Type 0
 GoesOn begun None new = new ≡ begun
 GoesOn begun (Some taken) new = TakesAtOnce begun taken new
 
--- The connection's request of these words was submitted, and these are the steps up to its Submit. Then its Start came to its group and
--- it was taken, where a layer is handed out.
+-- The connection's request of these words was submitted, and these are the steps up to its Submit. Then its packets came and it was
+-- taken, where a layer is handed out.
 pub record HasPassed (old : HistoryView) (conn : ConnId) (words : List (List ℕ)) (id : RequestId) (seen : List Step)
     (taken : Option TakenView) (new : HistoryView) : Type 0 where
   pub begun : HistoryView
@@ -39,8 +50,8 @@ pub record HasPassed (old : HistoryView) (conn : ConnId) (words : List (List ℕ
   pub up_to : seen ≡ begun.steps
   pub goes_on : GoesOn begun taken new
 
--- The seat's request of these words was submitted, behind all that it had seen, and it has seen that step. Then its Start came to its
--- group and it was taken, where a layer is handed out.
+-- The seat's request of these words was submitted, behind all that it had seen, and it has seen that step. Then its packets came
+-- and it was taken, where a layer is handed out.
 pub record Passes (old : HistoryView) (s : SeatView) (words : List (List ℕ)) (taken : Option TakenView) (new : HistoryView) (after : SeatView)
     : Type 0 where
   pub id : RequestId

@@ -2,7 +2,6 @@
 use Rattle.std.specs.Prelude.{◌≡◌, ℕ, suc, ◌+◌, ◌==◌, cond, List, [], ◌∷◌, ◌++◌}
 use Rattle.journal.specs.declared.step.Step.{Step}
 use Rattle.journal.specs.declared.step.Step.TheVariants.{Open, Submit, Deliver, Take, Run, Settle, Collect, Close, Repeat}
-use Rattle.groups.specs.declared.request.ConnId.{ConnId}
 use Rattle.groups.specs.declared.request.RequestId.{RequestId}
 use Rattle.sessions.specs.declared.session.Session.{Session}
 use Rattle.world_laws.specs.Sessions.{all_free, sessions_from}

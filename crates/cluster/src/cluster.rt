@@ -296,8 +296,9 @@ impl<T: Tabled, L: Server> Cluster<T, L> {
         Ok(id)
     }
 
-    /// Submits a request of these words, as `submit` does. Where nothing is under way, and no trace is kept, a request of one group is
-    /// brought to it and taken as a layer of its own, which is handed out, as by `turn` and `take`: the seat has seen its Submit alone.
+    /// Submits a request of these words, as `submit` does. Where nothing is under way, and no trace is kept, a request that is alone is
+    /// brought to its groups and taken as a layer of its own, which is handed out, as by `turn` and `take`: the seat has seen its Submit
+    /// alone.
     ///
     /// The errors are those of `submit`, and change nothing but room.
     pub fn pass(

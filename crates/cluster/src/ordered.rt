@@ -1,23 +1,26 @@
 //! A front beside the history of its steps.
 
-ghost use Rattle.std.specs.Prelude.{◌≡◌, ◌+◌, ◌≤◌, ◌<◌, true, false, [], length, IfOk, IfErr, OnOk, OnErr, IfSome, IfNone, None};
+ghost use Rattle.std.specs.Prelude.{◌≡◌, ℕ, ◌+◌, ◌≤◌, ◌<◌, ◌++◌, ◌∷◌, true, false, [], length, IfOk, IfErr, OnOk, OnErr};
+ghost use Rattle.std.specs.Prelude.{IfSome, IfNone, None};
 ghost use mathlib.Core.List.{IsPrefix};
 ghost use Rattle.cluster.specs.Counting.{all_executed, all_starved, as_word};
 ghost use Rattle.cluster.specs.Histories.{kept_for, IsLawful, IsMade, IsUnchanged, IsFault, IsUnanswered};
 ghost use Rattle.cluster.specs.Layers.{HandsOut, IsSettled, IsSettleFault};
-ghost use Rattle.cluster.specs.Passing.{HasPassed};
+ghost use Rattle.cluster.specs.Passing.{HasPassed, arrivals};
 ghost use Rattle.cluster.specs.Pieces.{HandsOn as HandsPieceOn};
 ghost use Rattle.cluster.specs.declared.ordered.TheConstants.{STEPS_PASSED};
 ghost use Rattle.cluster.specs.Traces.{HasRoom, KeepsRoom, IsNotWhole, place_of};
 ghost use Rattle.cluster.specs.Turns.{Delivers, IsTurnFault};
 ghost use Rattle.cluster.specs.declared.fault.StepFault.{StepFault};
 ghost use Rattle.front.specs.Making.{effect_shown};
+ghost use Rattle.front.specs.Passing.{packets_in};
 ghost use Rattle.front.specs.Refusing.{WantsMemory};
 ghost use Rattle.journal.specs.Codes.{step_size};
 ghost use Rattle.journal.specs.declared.step.Step.{Step};
 ghost use Rattle.journal.specs.declared.trace.TheConstants.{GREATEST_STEPS};
 ghost use Rattle.order_laws.specs.Runs.{LeavesLayers};
-ghost use Rattle.world.specs.Steps.{Made};
+ghost use Rattle.world.specs.Steps.{opening, Leads, Made};
+ghost use Rattle.world.specs.World.{World};
 
 use super::counting::{executed_in, starved_in};
 use super::fault::StepFault;
@@ -29,6 +32,7 @@ use front::{Effect, Front};
 use groups::{ConnId, RequestId};
 use history::{Itself, Part, Writer};
 use journal::{Step, Trace};
+use layer_planner::Layer;
 use layer_results::Done;
 use placement::Table;
 use resp::Request;
@@ -40,8 +44,9 @@ use std::snapshot::Snapshot;
 /// How many steps are kept back for a layer that is out: its Run and its Settle.
 const KEPT_BACK: u64 = 2;
 
-/// How many steps submit a request and hand it out at once: its Submit, the Deliver of its Start, and its Take.
-const STEPS_PASSED: u64 = 3;
+/// How many steps submit a request and hand it out at once, at most: its Submit, a Deliver for each of its packets, of which a request of
+/// eight groups has 64, and its Take.
+const STEPS_PASSED: u64 = 66;
 
 /// What comes of a request that may be handed out at once: its id, the steps up to its Submit, and its layer if it was.
 type PassedOf<T, L> = (RequestId, Part<Leading<T>, StepsOf<L>>, Option<Taken<T, L>>);
@@ -350,7 +355,7 @@ impl<T: Tabled, L: Server> History<T, L> {
         let Some(layer) = layer else {
             return Ok((id, seen, None));
         };
-        self.told.write::<Step, Itself>(Step::Deliver { place: 0 });
+        write_arrivals(&mut self.told, packets_of(&layer));
         self.told.write::<Step, Itself>(Step::Take);
         let taken = Taken {
             layer,
@@ -477,5 +482,26 @@ impl<T: Tabled, L: Server> History<T, L> {
             Ok(()) => Ok(true),
             Err(fault) => Err(fault),
         }
+    }
+}
+
+/// How many packets the request of a layer of one has.
+fn packets_of(layer: &Layer) -> usize
+    ensures { result ≡ packets_in layer.now }
+{
+    match layer.jobs().first() {
+        Some(job) => job.groups.len() * job.groups.len(),
+        None => 0,
+    }
+}
+
+/// Writes that so many packets came, each the oldest then.
+fn write_arrivals<T: Tabled, L: Server>(told: &mut Writer<Leading<T>, StepsOf<L>>, packets: usize)
+    requires { (n : ℕ) → n < packets →
+        (w : World) × Leads T.table opening ((told.old ++ arrivals n) ++ Step.Deliver 0 ∷ []) w }
+    ensures { told.new ≡ told.old ++ arrivals packets }
+{
+    for _ in 0..packets {
+        told.write::<Step, Itself>(Step::Deliver { place: 0 });
     }
 }

@@ -1,7 +1,6 @@
 -- Open, Collect and Close of a front are steps of the world.
-use Rattle.std.proofs.Common.{◌≡◌, ℕ, suc, ◌+◌, ◌==◌, cond, Option, Some, option_map}
-use Rattle.std.proofs.Common.{refl, sym, ap, ◌∙◌, arith}
-use Rattle.front.proofs.Showing.{stepped, is_stepped, by_messages, is_after}
+use Rattle.std.proofs.Common.{◌≡◌, ℕ, suc, ◌+◌, ◌==◌, cond, Option, Some, option_map, refl, ap, arith}
+use Rattle.front.proofs.Showing.{stepped, is_stepped, by_messages, is_after, packets_same}
 use Rattle.front.specs.Fronts.{FrontView}
 use Rattle.front.specs.Making.{Makes}
 use Rattle.groups.specs.declared.request.ConnId.{ConnId}
@@ -10,22 +9,11 @@ use Rattle.router.specs.Connection.{just_opened}
 use Rattle.router.specs.Router.{RouterView, connection, session_at}
 use Rattle.router.specs.Router as router
 use Rattle.router.specs.declared.outcome.Outcome as kept
-use Rattle.front.proofs.WorldConnections.{opened_world, standing_world, unopened, shows_opened}
-use Rattle.front.proofs.WorldConnections.{shows_collect, shows_close}
+use Rattle.front.proofs.WorldConnections.{opened_world, standing_world, unopened, shows_opened, shows_collect, shows_close}
 use Rattle.front.specs.Connections.{outcome_shown}
-use Rattle.front.specs.Multicast.{ShowsMulticast}
-use Rattle.world.specs.Steps.{Effect, Opened, Collected, Collects, Made, Steps}
-use Rattle.world.specs.World.{World, Standing, Closed, Idle, Waiting, Answered}
+use Rattle.world.specs.Steps.{at, Effect, Opened, Collected, Collects, Made, Steps}
+use Rattle.world.specs.World.{World, Standing, Closed, Idle, Answered}
 use Rattle.world_laws.proofs.Worlds.{good_world}
-
-packets_same : (f : FrontView) (w w' : World) → w'.group ≡ w.group → w'.packets ≡ w.packets → w'.queue ≡ w.queue →
-    ShowsMulticast f.table f.multicast w → ShowsMulticast f.table f.multicast w'
-packets_same f w w' group packets queue shows = record {
-  count = shows.count;
-  groups = λ g. shows.groups g ∙ sym (ap (λ h. h g) group);
-  packets = shows.packets ∙ sym packets;
-  queues = λ g. shows.queues g ∙ sym (ap (λ h. h g) queue);
-}
 
 -- ---- Open
 
@@ -44,33 +32,18 @@ open_makes old r c number count changes sessions = record {
         made,
         is_after old (stepped old r old.multicast) h w (opened_world w) Open (Opened c.0) refl at' made
             (by_messages old r old.multicast w (opened_world w) refl at'.shows opened
-            (packets_same old w (opened_world w) refl refl refl at'.shows.multicast)),
+            (packets_same old.table old.multicast w (opened_world w) refl refl refl at'.shows.multicast)),
       );
 }
 
 -- ---- Collect
 
--- what a collect leaves as it was
-record Leaves (w w' : World) : Type 0 where
-  pub layer : w'.layer ≡ w.layer
-  pub group : w'.group ≡ w.group
-  pub packets : w'.packets ≡ w.packets
-  pub queue : w'.queue ≡ w.queue
-
-leaves_by : (w w' after : World) → w' ≡ after → Leaves w after → Leaves w w'
-leaves_by w w' after is leaves = record {
-  layer = ap (λ (v : World). v.layer) is ∙ leaves.layer;
-  group = ap (λ (v : World). v.group) is ∙ leaves.group;
-  packets = ap (λ (v : World). v.packets) is ∙ leaves.packets;
-  queue = ap (λ (v : World). v.queue) is ∙ leaves.queue;
-}
-
-collect_leaves : (s : Standing) (w w' : World) (c : ℕ) (effect : Effect) → Collects s w c effect w' → Leaves w w'
+-- a collect changes where connections stand, and nothing else
+collect_leaves : (s : Standing) (w w' : World) (c : ℕ) (effect : Effect) → Collects s w c effect w' →
+    (stands : ℕ → Standing) × (w' ≡ record w { standing = stands })
 collect_leaves Closed w w' c effect made = absurd made
-collect_leaves Idle w w' c effect made = leaves_by w w' w made.1 (record { layer = refl; group = refl; packets = refl; queue = refl })
-collect_leaves Waiting w w' c effect made = leaves_by w w' w made.1 (record { layer = refl; group = refl; packets = refl; queue = refl })
-collect_leaves (Answered o) w w' c effect made =
-    leaves_by w w' (standing_world w c Idle) made.1 (record { layer = refl; group = refl; packets = refl; queue = refl })
+collect_leaves (Answered o) w w' c effect made = (at w.standing c Idle, made.1)
+collect_leaves s w w' c effect made = (w.standing, made.1)
 
 pub collect_makes : (old : FrontView) (r : RouterView) (conn : ConnId) (given : Option kept.Outcome) →
     router.Collects old.router conn.0 given r →
@@ -83,8 +56,9 @@ collect_makes old r conn given collects = record {
         next.0,
         next.1,
         is_after old (stepped old r old.multicast) h w next.0 (Collect conn) (Collected (option_map outcome_shown given)) refl at' next.1
-            (by_messages old r old.multicast w next.0 leaves.layer at'.shows next.2
-            (packets_same old w next.0 leaves.group leaves.packets leaves.queue at'.shows.multicast)),
+            (by_messages old r old.multicast w next.0 (ap (λ (v : World). v.layer) leaves.1) at'.shows next.2
+            (packets_same old.table old.multicast w next.0 (ap (λ (v : World). v.group) leaves.1)
+            (ap (λ (v : World). v.packets) leaves.1) (ap (λ (v : World). v.queue) leaves.1) at'.shows.multicast)),
       );
 }
 
@@ -102,6 +76,6 @@ close_makes old r conn closes = record {
         made,
         is_after old (stepped old r old.multicast) h w after (Close conn) Made refl at' made
             (by_messages old r old.multicast w after refl at'.shows as_world.1
-            (packets_same old w after refl refl refl at'.shows.multicast)),
+            (packets_same old.table old.multicast w after refl refl refl at'.shows.multicast)),
       );
 }

@@ -1,6 +1,5 @@
 -- Along the outcomes of a layer: some have gone, and the others are still to go.
-use Rattle.std.proofs.Common.{◌≡◌, ℕ, List, [], ◌∷◌, ◌++◌, Some, refl, sym, ap, ◌∙◌, subst, append-nil}
-use Rattle.std.proofs.Common.{append_assoc}
+use Rattle.std.proofs.Common.{◌≡◌, ℕ, List, [], ◌∷◌, ◌++◌, Some, refl, sym, ap, ◌∙◌, subst, append-nil, append_assoc}
 use Rattle.std.specs.List.{AllZip}
 use Rattle.front.proofs.Handing.{WasSettled, once_given, settle_may, settle_did}
 use Rattle.front.specs.Outcomes.{IsSettling, Gives}

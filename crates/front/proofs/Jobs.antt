@@ -1,6 +1,5 @@
 -- The requests of a layer, ready to be run.
-use Rattle.std.proofs.Common.{◌≡◌, ℕ, true, List, [], ◌∷◌, ◌++◌, inl, inr, Some, None, refl, sym}
-use Rattle.std.proofs.Common.{ap, ◌∙◌, subst}
+use Rattle.std.proofs.Common.{◌≡◌, true, List, [], ◌∷◌, ◌++◌, inl, inr, Some, None, refl, sym, ap, ◌∙◌, subst}
 use Rattle.delivery.proofs.Layers.{layers_are_units, taken_somewhere}
 use Rattle.groups.specs.GroupSet.{has}
 use Rattle.groups.specs.Units.{MayFollow, AreUnits}
@@ -9,9 +8,9 @@ use Rattle.layer_planner.specs.Layers.{StandTogether, MayStand}
 use Rattle.layer_planner.specs.declared.job.Job.{Job}
 use Rattle.placement.specs.Layout.{Layout}
 use Rattle.router.specs.Router.{RouterView, connection, pending_at}
+use Rattle.shard_workers.proofs.Zips.{zip_push}
 use Rattle.groups.proofs.Options.{some_same}
 use Rattle.groups.proofs.Lists.{In-right}
-use Rattle.front.proofs.Lists.{zip_append}
 use Rattle.skeen_core.proofs.Lawful.{None≢Some}
 use Rattle.groups.specs.Order.{In}
 use Rattle.groups.specs.Stamp.{final}
@@ -46,7 +45,7 @@ module _ (t : Layout) (w : World) (front : List Delivered) (d : Delivered) (back
       let one : pending.0 ≡ asked = some_same pending.0 asked (sym pending.1 ∙ given) in
       let waits : Waits w d.id asked = subst (λ a. Waits w d.id a) one pending.2 in (
         take_next t w front d back r is r' was.0 was.1 was.2,
-        zip_append (IsJob w.asked) front js (d ∷ []) (j ∷ []) are (job_waits w d asked j waits id stamp groups same, tt),
+        zip_push (IsJob w.asked) front js d j are (job_waits w d asked j waits id stamp groups same),
       )
 
 -- ---- their units

@@ -9,7 +9,6 @@ pub mod Half
 pub mod Handing
 pub mod Histories
 pub mod Jobs
-pub mod Lists
 pub mod Messages
 pub mod Names
 pub mod Opening

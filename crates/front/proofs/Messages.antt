@@ -1,9 +1,9 @@
 -- Submit, Deliver and Repeat of a front are steps of the world.
-use Rattle.std.proofs.Common.{◌≡◌, ℕ, zero, suc, Bool, ◌≤◌, true, false, cond, List, [], ◌∷◌, ◌++◌, length, None, ◌⊎◌}
-use Rattle.std.proofs.Common.{refl, sym, ap, ◌∙◌, subst, arith, append-nil}
+use Rattle.std.proofs.Common.{◌≡◌, ℕ, zero, suc, Bool, ◌≤◌, true, false, cond, List, [], ◌∷◌, ◌++◌, length, ◌⊎◌, refl, sym, ap, ◌∙◌, subst}
+use Rattle.std.proofs.Common.{arith, append-nil}
 use Rattle.delivery.specs.Queues.{queue_of}
 use Rattle.tasks.specs.Tasks.{Task, task_groups}
-use Rattle.front.proofs.Showing.{stepped, is_stepped, by_messages, is_after}
+use Rattle.front.proofs.Showing.{stepped, is_stepped, by_messages, is_after, packets_same}
 use Rattle.front.specs.Fronts.{FrontView, FrontShows, roomless}
 use Rattle.front.specs.Making.{Makes}
 use Rattle.groups.specs.GroupSet.{chosen}
@@ -26,11 +26,10 @@ use Rattle.front.proofs.Delivering.{shows_deliver, shows_repeat}
 use Rattle.front.proofs.Submits.{shows_submitted}
 use Rattle.front.specs.Connections.{InLayer, IsSettled, IsKeptFor, ShowsSessions, ShowsConnections}
 use Rattle.front.specs.Multicast.{ShowsMulticast}
-use Rattle.world.specs.Steps.{Made, Submitted, opening, next_id, starts, multicast, answered, in_session, submitted}
-use Rattle.world.specs.Steps.{answer_to, remembered}
+use Rattle.world.specs.Steps.{Made, Submitted, opening, next_id, starts, multicast, answered, in_session, submitted, answer_to, remembered}
 use Rattle.world.specs.Steps.{submitted_to, floor_of, Comes, Leads, Steps}
 use Rattle.world.specs.Steps as world
-use Rattle.world.specs.World.{World, Request, Waiting, Answered}
+use Rattle.world.specs.World.{World, Request}
 use Rattle.world_laws.proofs.Floors.{floors_stay}
 use Rattle.world_laws.proofs.Worlds.{good_world}
 
@@ -94,12 +93,6 @@ module _ (t : Layout) (old m : MulticastView) (w : World) (c : ℕ) (shows : Sho
     queues = λ g. ap (λ qs. queue_of qs g) begins.queues ∙ shows.queues g;
   }
 
--- what the groups show is no session
-in_a_session : (t : Layout) (m : MulticastView) (w : World) (c : ℕ) (session : Session) → ShowsMulticast t m w →
-    ShowsMulticast t m (in_session w c session)
-in_a_session t m w c session shows =
-    record { count = shows.count; groups = shows.groups; packets = shows.packets; queues = shows.queues }
-
 module _ (old : FrontView) (r : RouterView) (m : MulticastView) (w : World) (c : ℕ) (sent : Submission) (shows : FrontShows old w)
     (begins : Begins old.multicast sent.id sent.floor sent.groups m) (id : sent.id ≡ next_id w c) (floor : sent.floor ≡ floor_of w c)
     (session : Session) where
@@ -107,7 +100,7 @@ module _ (old : FrontView) (r : RouterView) (m : MulticastView) (w : World) (c :
   w' = in_session w c session
 
   packets : ShowsMulticast old.table old.multicast w'
-  packets = in_a_session old.table old.multicast w c session shows.multicast
+  packets = packets_same old.table old.multicast w w' refl refl refl shows.multicast
 
   -- an answer at once goes to no group
   shows_reply : (reply : Content) → sent.groups ≡ [] → ShowsConnections r (answered w' c reply) →
@@ -212,18 +205,14 @@ repeats_roomless old new place d =
 
 -- nor does one that is repeated
 module _ (w w' : World) (k : ℕ) (repeats : world.Repeats w k Made w') where
-  alike_repeated : (c : ℕ) → Alike w w' c
-  alike_repeated c = subst (λ (v : World). Alike w v c) (sym repeats.after)
-      (record { standing = refl; seq = refl; floor = λ free. refl; asked = λ seq. refl; layer = λ seq there. there })
-
   shows_repeated : (r : RouterView) → ShowsConnections r w → ShowsConnections r w'
-  shows_repeated r shows = record {
-    opened = shows.opened ∙ sym (ap (λ (v : World). v.opened) repeats.after);
-    sessions = subst (λ (v : World). ShowsSessions (session_at r) v.standing v.session) (sym repeats.after) shows.sessions;
-    each = λ c. connection_alike (connection r c) w w' c (alike_repeated c) (shows.each c);
-    under_way = λ id q asked. subst (λ (v : World). IsSettled v id ⊎ IsKeptFor r id) (sym repeats.after)
-        (shows.under_way id q (sym (ap (λ (v : World). v.asked id) repeats.after) ∙ asked));
-  }
+  shows_repeated r shows = subst (ShowsConnections r) (sym repeats.after) (record {
+    opened = shows.opened;
+    sessions = shows.sessions;
+    each = λ c. connection_alike (connection r c) w _ c
+        (record { standing = refl; seq = refl; floor = λ free. refl; asked = λ seq. refl; layer = λ seq there. there }) (shows.each c);
+    under_way = shows.under_way;
+  })
 
 pub repeat_makes : (old : FrontView) (m : MulticastView) (place : ℕ) → Repeats old.multicast place m →
     Makes old (Repeat place) Made (stepped old old.router m)

@@ -1,17 +1,14 @@
 -- What a front refuses the world refuses, and what its parts ask of their numbers holds.
-use Rattle.std.proofs.Common.{◌≡◌, ◌≢◌, ℕ, ◌<◌, ◌≤◌, true, false, List, length, Option, Some, None, refl, sym}
-use Rattle.std.proofs.Common.{ap, ◌∙◌, subst, arith}
-use Rattle.std.specs.Prelude.{IfSome, IfNone}
+use Rattle.std.proofs.Common.{◌≡◌, ◌≢◌, ℕ, ◌<◌, true, false, List, length, Option, Some, None, sym, ◌∙◌, subst, arith}
+use Rattle.std.specs.Prelude.{IfNone}
 use Rattle.front.proofs.Standings.{shut_stands, shows_live, busy_stands, idle_stands, open_stands}
-use Rattle.front.specs.Faults.{of_submit, of_deliver}
+use Rattle.front.specs.Faults.{of_submit}
 use Rattle.front.specs.Fronts.{FrontView, FrontIsAt, IsFront}
 use Rattle.front.specs.Refusing.{RefusesNot, IsFault, MayStep}
 use Rattle.groups.specs.declared.request.ConnId.{ConnId}
 use Rattle.journal.specs.declared.step.Step.{Step}
 use Rattle.journal.specs.declared.step.Step.TheVariants as step
 use Rattle.journal.specs.declared.trace.TheConstants.{GREATEST_STEPS}
-use Rattle.multicast.specs.declared.multicast.DeliverFault.{DeliverFault}
-use Rattle.multicast.specs.declared.multicast.DeliverFault.TheVariants as deliver
 use Rattle.router.specs.Router.{connection, is_open}
 use Rattle.router.specs.Submitting.{IsRefused}
 use Rattle.router.specs.declared.connection.Connection.{Connection}
@@ -19,7 +16,7 @@ use Rattle.router.specs.declared.router.TheConstants.{GREATEST_NUMBER}
 use Rattle.router.specs.declared.submission.SubmitFault.{SubmitFault}
 use Rattle.router.specs.declared.submission.SubmitFault.TheVariants as submit
 use Rattle.front.specs.Connections.{ShowsConnection}
-use Rattle.world.specs.Steps.{OwnFault, Busy, NoConn, NoPacket, InFlight, NoLayer, Refused, IsBusy}
+use Rattle.world.specs.Steps.{OwnFault, Busy, NoConn, Refused, IsBusy}
 use Rattle.world.specs.World.{World, Closed, Idle}
 use Rattle.world_laws.proofs.Bounds.{bounded_world}
 
@@ -55,9 +52,7 @@ not_refused : (w : World) (conn : ConnId) (words : List (List ℕ)) → w.standi
     ¬ Refused w (step.Submit conn words) fault
 not_refused w conn words idle Busy refused = subst IsBusy idle refused
 not_refused w conn words idle NoConn refused = let k = sym idle ∙ refused in cc
-not_refused w conn words idle NoPacket refused = refused
-not_refused w conn words idle InFlight refused = refused
-not_refused w conn words idle NoLayer refused = refused
+not_refused w conn words idle fault refused = refused
 
 -- why the router refuses a submit is why the world does
 pub submit_refused : (f : FrontView) (conn : ConnId) (words : List (List ℕ)) (fault : SubmitFault) →
@@ -73,86 +68,23 @@ submit_refused f conn words submit.Memory refused = (
       (shows_live _ refused.was w conn.0 refused.kept refused.live (at'.shows.connections.each conn.0))),
 )
 
-collect_not : (w : World) (conn : ConnId) → w.standing conn.0 ≢ Closed → (fault : OwnFault) → ¬ Refused w (step.Collect conn) fault
-collect_not w conn stands Busy refused = refused
-collect_not w conn stands NoConn refused = stands refused
-collect_not w conn stands NoPacket refused = refused
-collect_not w conn stands InFlight refused = refused
-collect_not w conn stands NoLayer refused = refused
-
-close_not : (w : World) (conn : ConnId) → w.standing conn.0 ≢ Closed → (fault : OwnFault) → ¬ Refused w (step.Close conn) fault
-close_not w conn stands Busy refused = refused
-close_not w conn stands NoConn refused = stands refused
-close_not w conn stands NoPacket refused = refused
-close_not w conn stands InFlight refused = refused
-close_not w conn stands NoLayer refused = refused
+admitted : (w : World) (conn : ConnId) → w.standing conn.0 ≢ Closed → (fault : OwnFault) →
+    (¬ Refused w (step.Collect conn) fault) × (¬ Refused w (step.Close conn) fault)
+admitted w conn stands NoConn = (stands, stands)
+admitted w conn stands fault = (λ refused. refused, λ refused. refused)
 
 -- an open connection may collect, and be closed
 pub open_admitted : (f : FrontView) (conn : ConnId) (v : Connection) → connection f.router conn.0 ≡ Some v → v.is_open ≡ true →
     RefusesNot f (step.Collect conn) × RefusesNot f (step.Close conn)
 open_admitted f conn v kept live = (
-  λ h w at'. collect_not w conn (stands w (at'.shows.connections.each conn.0)),
-  λ h w at'. close_not w conn (stands w (at'.shows.connections.each conn.0)),
+  λ h w at' fault. (admitted w conn (stands w (at'.shows.connections.each conn.0)) fault).0,
+  λ h w at' fault. (admitted w conn (stands w (at'.shows.connections.each conn.0)) fault).1,
 )
   where
     stands : (w : World) → ShowsConnection (connection f.router conn.0) w conn.0 → w.standing conn.0 ≢ Closed
     stands w shows = open_stands v.standing v w conn.0 (shows_live _ v w conn.0 kept live shows)
 
--- ---- Open
-
-open_not : (w : World) (fault : OwnFault) → ¬ Refused w step.Open fault
-open_not w Busy refused = refused
-open_not w NoConn refused = refused
-open_not w NoPacket refused = refused
-open_not w InFlight refused = refused
-open_not w NoLayer refused = refused
-
-pub open_admits : (f : FrontView) → RefusesNot f step.Open
-open_admits f = λ h w at' fault refused. open_not w fault refused
-
--- ---- Deliver and Repeat
-
-deliver_not : (w : World) (place : ℕ) → place < length w.packets → (fault : OwnFault) → ¬ Refused w (step.Deliver place) fault
-deliver_not w place there Busy refused = refused
-deliver_not w place there NoConn refused = refused
-deliver_not w place there NoPacket refused = omega arith
-deliver_not w place there InFlight refused = refused
-deliver_not w place there NoLayer refused = refused
-
-repeat_not : (w : World) (place : ℕ) → place < length w.packets → (fault : OwnFault) → ¬ Refused w (step.Repeat place) fault
-repeat_not w place there Busy refused = refused
-repeat_not w place there NoConn refused = refused
-repeat_not w place there NoPacket refused = omega arith
-repeat_not w place there InFlight refused = refused
-repeat_not w place there NoLayer refused = refused
-
--- why the multicast brings no packet is why the world doesn't
-pub deliver_refused : (f : FrontView) (place : ℕ) (fault : DeliverFault) →
-    (fault ≡ deliver.NoPacket → length f.multicast.packets ≤ place) →
-    (fault ≡ deliver.Memory → place < length f.multicast.packets) → IsFault f (step.Deliver place) (of_deliver fault)
-deliver_refused f place deliver.NoPacket none there = λ h w at'.
-    subst (λ ps. length ps ≤ place) at'.shows.multicast.packets (none refl)
-deliver_refused f place deliver.Memory none there = (
-  tt,
-  λ h w at'. deliver_not w place (subst (λ ps. place < length ps) at'.shows.multicast.packets (there refl)),
-)
-
--- and why it repeats none
-pub repeat_refused : (f : FrontView) (place : ℕ) (fault : DeliverFault) →
-    (fault ≡ deliver.NoPacket → length f.multicast.packets ≤ place) →
-    (fault ≡ deliver.Memory → place < length f.multicast.packets) → IsFault f (step.Repeat place) (of_deliver fault)
-repeat_refused f place deliver.NoPacket none there = λ h w at'.
-    subst (λ ps. length ps ≤ place) at'.shows.multicast.packets (none refl)
-repeat_refused f place deliver.Memory none there = (
-  tt,
-  λ h w at'. repeat_not w place (subst (λ ps. place < length ps) at'.shows.multicast.packets (there refl)),
-)
-
 -- ---- by what the step says
-
-pub some_of : {A : Type 0} (P Q : A → Type 0) (o : Option A) → ((a : A) → P a → Q a) → IfSome o P → IfSome o Q
-some_of P Q None implies some = tt
-some_of P Q (Some a) implies some = implies a some
 
 pub none_of : {A : Type 0} {P Q : Type 0} (o : Option A) → (P → Q) → IfNone o P → IfNone o Q
 none_of None implies none = implies none

@@ -1,6 +1,6 @@
 -- A layer that is run: the front shows the world after it as well.
 use Rattle.std.proofs.Common.{◌≡◌, ◌≢◌, List, [], refl, sym, ap, ◌∙◌, subst}
-use Rattle.front.proofs.Showing.{is_after}
+use Rattle.front.proofs.Showing.{is_after, packets_same}
 use Rattle.front.specs.Fronts.{FrontView, IsOut, FrontShows}
 use Rattle.front.specs.Making.{SeesNoRun}
 use Rattle.groups.specs.declared.skip_id.SkipId.{SkipId}
@@ -26,12 +26,7 @@ shows_run : (f : FrontView) (w : World) (starved : List SkipId) (effect : Effect
     FrontShows f w → FrontShows f w'
 shows_run f w starved effect w' runs shows = subst (λ v. FrontShows f v) (sym runs.after) (record {
   connections = connections_run w runs.layer runs.outcomes runs.there same f.router shows.connections;
-  multicast = record {
-    count = shows.multicast.count;
-    groups = shows.multicast.groups;
-    packets = shows.multicast.packets;
-    queues = shows.multicast.queues;
-  };
+  multicast = packets_same f.table f.multicast w _ refl refl refl shows.multicast;
   out = out_ran w.layer runs.layer runs.outcomes f.out runs.there same shows.out;
 })
   where

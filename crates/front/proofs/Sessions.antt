@@ -1,11 +1,11 @@
 -- What the router remembers of connections, beside the world.
-use Rattle.std.proofs.Common.{◌≡◌, ℕ, ◌==◌, cond, List, [], ◌∷◌, inl, inr, sym, ap, ◌∙◌, eqb-true}
+use Rattle.std.proofs.Common.{◌≡◌, ℕ, ◌==◌, cond, inl, inr, sym, ap, ◌∙◌, eqb-true}
 use Rattle.std.proofs.lemmas.Bool.{cases_Bool, cond-true, cond-false}
 use Rattle.sessions.specs.declared.session.Session.{Session}
 use Rattle.sessions.specs.declared.session.Session.TheVariants.{Free}
 use Rattle.front.specs.Connections.{ShowsSessions}
-use Rattle.world.specs.Steps.{at, outcome_of, given, settled}
-use Rattle.world.specs.World.{Standing as Stand, Outcome, Closed, Idle, Waiting, Answered, Ended}
+use Rattle.world.specs.Steps.{at, given}
+use Rattle.world.specs.World.{Standing as Stand, Outcome, Closed, Idle}
 use Rattle.world_laws.proofs.Values.{answered_open, idle_open}
 
 module _ (kept : ℕ → Session) (standing : ℕ → Stand) (session : ℕ → Session) (shows : ShowsSessions kept standing session) where
@@ -52,49 +52,27 @@ module _ (kept : ℕ → Session) (standing : ℕ → Stand) (session : ℕ → 
     ];
   }
 
-  -- the same connections are closed
-  pub sessions_stand : (standing' : ℕ → Stand) → ((d : ℕ) → standing d ≡ Closed → standing' d ≡ Closed) →
-      ((d : ℕ) → standing' d ≡ Closed → standing d ≡ Closed) → ShowsSessions kept standing' session
-  sessions_stand standing' stays was = record {
-    of_open = λ d lively. shows.of_open d (λ is. lively (stays d is));
-    of_closed = λ d is. shows.of_closed d (was d is);
+  -- a connection stands otherwise, and is closed where it was
+  pub sessions_at : (c : ℕ) (x : Stand) → (standing c ≡ Closed → x ≡ Closed) → (x ≡ Closed → standing c ≡ Closed) →
+      ShowsSessions kept (at standing c x) session
+  sessions_at c x stays was = record {
+    of_open = λ d lively. shows.of_open d (λ is. lively (elim (cases_Bool (d == c)) [
+      | inl e ↦ cond-true (d == c) x (standing d) e ∙ stays (ap standing (sym (eqb-true d c e)) ∙ is)
+      | inr e ↦ cond-false (d == c) x (standing d) e ∙ is
+    ]));
+    of_closed = λ d is. shows.of_closed d (elim (cases_Bool (d == c)) [
+      | inl e ↦ ap standing (eqb-true d c e) ∙ was (sym (cond-true (d == c) x (standing d) e) ∙ is)
+      | inr e ↦ sym (cond-false (d == c) x (standing d) e) ∙ is
+    ]);
   }
-
-  -- one that is open stands otherwise, and isn't closed
-  pub sessions_live : (c : ℕ) (x : Stand) → (standing c ≡ Closed → ⊥) → (x ≡ Closed → ⊥) → ShowsSessions kept (at standing c x) session
-  sessions_live c x was live = sessions_stand (at standing c x)
-      (λ d is. elim (cases_Bool (d == c)) [
-        | inl e ↦ absurd (was (ap standing (sym (eqb-true d c e)) ∙ is))
-        | inr e ↦ cond-false (d == c) x (standing d) e ∙ is
-      ])
-      (λ d is. elim (cases_Bool (d == c)) [
-        | inl e ↦ absurd (live (sym (cond-true (d == c) x (standing d) e) ∙ is))
-        | inr e ↦ sym (cond-false (d == c) x (standing d) e) ∙ is
-      ])
 
 -- ---- outcomes are settled
 
 given_closed : (o : Outcome) (s : Stand) → given o s ≡ Closed → s ≡ Closed
 given_closed o Closed e = e
-given_closed o Idle e = absurd (answered_open o e)
-given_closed o Waiting e = absurd (answered_open o e)
-given_closed o (Answered p) e = absurd (answered_open o e)
+given_closed o s e = absurd (answered_open o e)
 
 pub sessions_given : (kept : ℕ → Session) (standing : ℕ → Stand) (session : ℕ → Session) (c : ℕ) (o : Outcome) →
     ShowsSessions kept standing session → ShowsSessions kept (at standing c (given o (standing c))) session
-sessions_given kept standing session c o shows = sessions_stand kept standing session shows (at standing c (given o (standing c)))
-    (λ d is. elim (cases_Bool (d == c)) [
-      | inl e ↦ cond-true (d == c) _ (standing d) e ∙ ap (given o) (ap standing (sym (eqb-true d c e)) ∙ is)
-      | inr e ↦ cond-false (d == c) _ (standing d) e ∙ is
-    ])
-    (λ d is. elim (cases_Bool (d == c)) [
-      | inl e ↦ ap standing (eqb-true d c e) ∙ given_closed o (standing c) (sym (cond-true (d == c) _ (standing d) e) ∙ is)
-      | inr e ↦ sym (cond-false (d == c) _ (standing d) e) ∙ is
-    ])
-
-pub sessions_settled : (es : List Ended) (kept : ℕ → Session) (standing : ℕ → Stand) (session : ℕ → Session) →
-    ShowsSessions kept standing session → ShowsSessions kept (settled es standing) session
-sessions_settled [] kept standing session shows = shows
-sessions_settled (e ∷ es) kept standing session shows =
-    sessions_settled es kept (at standing e.id.conn.0 (given (outcome_of e) (standing e.id.conn.0))) session
-    (sessions_given kept standing session e.id.conn.0 (outcome_of e) shows)
+sessions_given kept standing session c o shows = sessions_at kept standing session shows c (given o (standing c))
+    (λ e. ap (given o) e) (given_closed o (standing c))

@@ -2,7 +2,7 @@
 use Rattle.std.proofs.Common.{◌≡◌, ◌+◌, List, [], ◌∷◌, ◌++◌, length, refl, sym, subst, arith, length-append}
 use Rattle.std.specs.List.{AllZip}
 use Rattle.front.proofs.Settled.{before, all_settled, settle_starts, settle_ends}
-use Rattle.front.proofs.Showing.{is_after}
+use Rattle.front.proofs.Showing.{is_after, packets_same}
 use Rattle.front.specs.Fronts.{FrontView, FrontIsAt, HasNotRun, IsFront}
 use Rattle.front.specs.Outcomes.{MayGo, HaveGone}
 use Rattle.front.specs.Settling.{IsToldBy, IsTrueOf, Settles}
@@ -49,12 +49,7 @@ module _ (old : FrontView) (done : List DoneRow) (r : RouterView) (gone : HaveGo
         connections = settle_ends old.table h w es at'.leads has_run r
             (gone old.table w (before old.table h w es at'.leads has_run) es w.standing told
             (settle_starts old.table h w es at'.leads has_run old.router at'.shows.connections));
-        multicast = record {
-          count = at'.shows.multicast.count;
-          groups = at'.shows.multicast.groups;
-          packets = at'.shows.multicast.packets;
-          queues = at'.shows.multicast.queues;
-        };
+        multicast = packets_same old.table old.multicast w after refl refl refl at'.shows.multicast;
         out = refl;
       }),
     )

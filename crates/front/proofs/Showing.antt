@@ -1,39 +1,24 @@
 -- What a front shows after a step that settles nothing, and that it is then as each front is.
-use Rattle.std.proofs.Common.{◌≡◌, ℕ, ◌+◌, List, [], ◌∷◌, ◌++◌, length, refl, sym, ap, ◌∙◌, subst, arith, length-append}
+use Rattle.std.proofs.Common.{◌≡◌, ◌+◌, List, [], ◌∷◌, ◌++◌, length, refl, sym, ap, ◌∙◌, subst, arith, length-append}
 use Rattle.front.proofs.Histories.{leads_more}
 use Rattle.front.specs.Fronts.{FrontView, IsOut, FrontShows, FrontIsAt, HasNotRun, IsFront, roomless}
 use Rattle.front.specs.Making.{IsStep, Makes}
 use Rattle.journal.specs.declared.step.Step.{Step}
-use Rattle.journal.specs.declared.step.Step.TheVariants.{Open, Submit, Deliver, Take, Run, Settle, Collect, Close, Repeat}
-use Rattle.multicast.specs.Multicast.{MulticastView, IsSame}
+use Rattle.journal.specs.declared.step.Step.TheVariants.{Take, Run, Settle}
+use Rattle.multicast.specs.Multicast.{MulticastView}
+use Rattle.order_laws.proofs.Layers.{others_leave_layers}
 use Rattle.placement.specs.Layout.{Layout, IsTable}
 use Rattle.router.specs.Router.{RouterView}
-use Rattle.sessions.specs.Session.{Answer, Now, Go, asks}
-use Rattle.sessions.specs.declared.session.Session.{Session}
 use Rattle.front.specs.Connections.{ShowsConnections}
 use Rattle.front.specs.Multicast.{ShowsMulticast}
-use Rattle.tasks.specs.Tasks.{task_groups}
-use Rattle.world.specs.Steps.{opening, Effect, Steps, Leads, in_session, submitted, submitted_to}
-use Rattle.world.specs.Steps as world
-use Rattle.world.specs.World.{World, Standing, Closed, Idle, Waiting, Answered, Layer}
+use Rattle.world.specs.Steps.{opening, Effect, Steps, Leads}
+use Rattle.world.specs.World.{World, Layer}
 
 -- ---- room
-
-pub without_room : (t : Layout) (m : MulticastView) (w : World) → ShowsMulticast t m w → ShowsMulticast t (roomless m) w
-without_room t m w shows =
-    record { count = shows.count; groups = shows.groups; packets = shows.packets; queues = shows.queues }
 
 pub with_room : (t : Layout) (m : MulticastView) (w : World) → ShowsMulticast t (roomless m) w → ShowsMulticast t m w
 with_room t m w shows =
     record { count = shows.count; groups = shows.groups; packets = shows.packets; queues = shows.queues }
-
-pub same_but_room : (old new : MulticastView) → IsSame old new → roomless new ≡ roomless old
-same_but_room old new same = λ k. record {
-  groups = same.groups k;
-  packets = same.packets k;
-  queues = same.queues k;
-  room = 0;
-}
 
 -- ---- a step that settles nothing
 
@@ -43,6 +28,16 @@ stepped f r m = record f { router = r; multicast = m; steps = f.steps + 1 }
 
 pub is_stepped : (f : FrontView) (r : RouterView) (m : MulticastView) → IsStep f (stepped f r m)
 is_stepped f r m = record { table = refl; steps = refl; layers = refl }
+
+-- what the groups show is what they and their packets and queues are
+pub packets_same : (t : Layout) (m : MulticastView) (w w' : World) → w'.group ≡ w.group → w'.packets ≡ w.packets → w'.queue ≡ w.queue →
+    ShowsMulticast t m w → ShowsMulticast t m w'
+packets_same t m w w' group packets queue shows = record {
+  count = shows.count;
+  groups = λ g. shows.groups g ∙ sym (ap (λ h. h g) group);
+  packets = shows.packets ∙ sym packets;
+  queues = λ g. shows.queues g ∙ sym (ap (λ h. h g) queue);
+}
 
 -- a step that leaves the layer alone
 pub by_messages : (f : FrontView) (r : RouterView) (m : MulticastView) (w w' : World) → w'.layer ≡ w.layer → FrontShows f w →
@@ -68,39 +63,14 @@ abbrev pub NoRun : Step → Type 0
 NoRun (Run starved) = ⊥
 NoRun step = Unit {0}
 
-unrun : (w w' after : World) → w' ≡ after → HasNotRun after.layer → HasNotRun w'.layer
-unrun w w' after is not_run = subst (λ (v : World). HasNotRun v.layer) (sym is) not_run
-
-submit_unrun : (t : Layout) (w : World) (c : ℕ) (session : Session) (answer : Answer) → HasNotRun w.layer →
-    HasNotRun (submitted t (in_session w c session) c answer).layer
-submit_unrun t w c session (Now reply) not_run = not_run
-submit_unrun t w c session (Go task) not_run = by_groups (task_groups t task)
-  where
-    by_groups : (gs : List ℕ) → HasNotRun (submitted_to (in_session w c session) c task gs).layer
-    by_groups [] = not_run
-    by_groups (g ∷ gs) = not_run
-
-collect_unrun : (s : Standing) (w w' : World) (c : ℕ) (effect : Effect) → world.Collects s w c effect w' → HasNotRun w.layer →
-    HasNotRun w'.layer
-collect_unrun Closed w w' c effect made not_run = absurd made
-collect_unrun Idle w w' c effect made not_run = unrun w w' w made.1 not_run
-collect_unrun Waiting w w' c effect made not_run = unrun w w' w made.1 not_run
-collect_unrun (Answered o) w w' c effect made not_run = unrun w w' _ made.1 not_run
-
 -- only a Run leaves a layer that has run
 pub still_unrun : (t : Layout) (w w' : World) (step : Step) (effect : Effect) → NoRun step → Steps t w step effect w' →
     HasNotRun w.layer → HasNotRun w'.layer
-still_unrun t w w' Open effect plain made not_run = unrun w w' _ made.after not_run
-still_unrun t w w' (Submit conn words) effect plain made not_run =
-    let asked = asks (w.session conn.0) words in
-    unrun w w' _ made.after (submit_unrun t w conn.0 asked.0 asked.1 not_run)
-still_unrun t w w' (Deliver k) effect plain made not_run = unrun w w' _ made.after not_run
-still_unrun t w w' Take effect plain made not_run = unrun w w' _ made.after tt
+still_unrun t w w' Take effect plain made not_run = subst (λ (v : World). HasNotRun v.layer) (sym made.after) tt
 still_unrun t w w' (Run starved) effect plain made not_run = absurd plain
-still_unrun t w w' Settle effect plain made not_run = unrun w w' _ made.after tt
-still_unrun t w w' (Collect conn) effect plain made not_run = collect_unrun (w.standing conn.0) w w' conn.0 effect made not_run
-still_unrun t w w' (Close conn) effect plain made not_run = unrun w w' _ made.after not_run
-still_unrun t w w' (Repeat k) effect plain made not_run = unrun w w' _ made.after not_run
+still_unrun t w w' Settle effect plain made not_run = subst (λ (v : World). HasNotRun v.layer) (sym made.after) tt
+still_unrun t w w' step effect plain made not_run =
+    subst HasNotRun (sym (others_leave_layers t w w' step effect tt made).0) not_run
 
 -- the front after a step is as each front is
 module _ (old new : FrontView) (is : IsFront old) (step : Step) (plain : NoRun step) (counts : IsStep old new) where

@@ -11,11 +11,10 @@ use Rattle.world.specs.World.{World, Closed, Idle}
 
 -- ---- one that isn't open
 
-closed_stands : (s : Standing) (v : Connection) (w : World) (c : ℕ) → ShowsClosed s v w c → w.standing c ≡ Closed
+pub closed_stands : (s : Standing) (v : Connection) (w : World) (c : ℕ) → ShowsClosed s v w c → w.standing c ≡ Closed
 closed_stands router.Idle v w c shows = absurd shows
-closed_stands (router.Waiting asked) v w c shows = shows.0
-closed_stands router.Taken v w c shows = shows.0
 closed_stands (router.Answered o) v w c shows = absurd shows
+closed_stands s v w c shows = shows.0
 
 kept_closed : (v : Connection) (w : World) (c : ℕ) → v.is_open ≡ false → ShowsKept v w c → w.standing c ≡ Closed
 kept_closed v w c shut (seq, inl live) = absurd (both_ways _ shut live.0)
@@ -27,7 +26,7 @@ shut_stands (Some v) w c shut shows = kept_closed v w c shut shows
 
 -- ---- one that is
 
-kept_live : (v : Connection) (w : World) (c : ℕ) → v.is_open ≡ true → ShowsKept v w c → ShowsOpen v.standing v w c
+pub kept_live : (v : Connection) (w : World) (c : ℕ) → v.is_open ≡ true → ShowsKept v w c → ShowsOpen v.standing v w c
 kept_live v w c live (seq, inl shows) = shows.1
 kept_live v w c live (seq, inr gone) = absurd (both_ways _ gone.0 live)
 
@@ -37,15 +36,11 @@ shows_live o v w c kept live shows = kept_live v w c live (subst (λ x. ShowsCon
 
 pub busy_stands : (s : Standing) (v : Connection) (w : World) (c : ℕ) → s ≢ router.Idle → ShowsOpen s v w c → IsBusy (w.standing c)
 busy_stands router.Idle v w c busy shows = absurd (busy refl)
-busy_stands (router.Waiting asked) v w c busy shows = subst IsBusy (sym shows.0) tt
-busy_stands router.Taken v w c busy shows = subst IsBusy (sym shows.0) tt
-busy_stands (router.Answered o) v w c busy shows = subst IsBusy (sym shows.0) tt
+busy_stands s v w c busy shows = subst IsBusy (sym shows.0) tt
 
 pub idle_stands : (s : Standing) (v : Connection) (w : World) (c : ℕ) → s ≡ router.Idle → ShowsOpen s v w c → w.standing c ≡ Idle
 idle_stands s v w c idle shows = (subst (λ x. ShowsOpen x v w c) idle shows).0
 
 pub open_stands : (s : Standing) (v : Connection) (w : World) (c : ℕ) → ShowsOpen s v w c → w.standing c ≢ Closed
 open_stands router.Idle v w c shows shut = let k = sym shows.0 ∙ shut in cc
-open_stands (router.Waiting asked) v w c shows shut = let k = sym shows.0 ∙ shut in cc
-open_stands router.Taken v w c shows shut = let k = sym shows.0 ∙ shut in cc
-open_stands (router.Answered o) v w c shows shut = let k = sym shows.0 ∙ shut in cc
+open_stands s v w c shows shut = let k = sym shows.0 ∙ shut in cc

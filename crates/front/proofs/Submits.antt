@@ -1,7 +1,7 @@
 -- A submit of the router is a step of the world.
-use Rattle.std.proofs.Common.{◌≡◌, ℕ, suc, ◌==◌, true, false, cond, List, [], ◌∷◌, inl, inr, Option, Some, None}
-use Rattle.std.proofs.Common.{refl, sym, ap, ◌∙◌, subst, eq-eqb}
-use Rattle.std.proofs.lemmas.Bool.{both_ways, cases_Bool}
+use Rattle.std.proofs.Common.{◌≡◌, ℕ, suc, ◌==◌, true, false, cond, List, [], ◌∷◌, inl, inr, Option, Some, None, refl, sym, ap, ◌∙◌, subst}
+use Rattle.std.proofs.Common.{eq-eqb}
+use Rattle.std.proofs.lemmas.Bool.{both_ways, cases_Bool, cond-true, cond-false}
 use Rattle.std.specs.FinMap.{empty}
 use Rattle.placement.specs.Layout.{Layout, IsTable}
 use Rattle.resp.specs.Content.{Content}
@@ -23,11 +23,10 @@ use Rattle.tasks.specs.Tasks.{Task, task_groups, deed_effect, keyless_reply, Add
 use Rattle.front.proofs.WorldConnections.{Alike, each_of, kept_here, kept_open}
 use Rattle.front.proofs.Sessions.{sessions_turn}
 use Rattle.front.specs.Connections.{outcome_shown, id_of, ShowsOpen, ShowsConnection, ShowsConnections}
-use Rattle.world.specs.Steps.{next_id as world_id, with_asked, final_clock, final_clock_of, floor_of, answered, multicast}
-use Rattle.world.specs.Steps.{submitted, submitted_to, in_session, answer_to, remembered}
+use Rattle.world.specs.Steps.{next_id as world_id, with_asked, final_clock, final_clock_of, floor_of, answered, multicast, submitted}
+use Rattle.world.specs.Steps.{submitted_to, in_session, answer_to, remembered}
 use Rattle.world.specs.World.{World, Request, Outcome, Closed, Idle, Waiting, Answered}
 use Rattle.worded.specs.declared.worded.Worded.{Worded}
-use Rattle.std.proofs.lemmas.Bool.{cond-true, cond-false}
 use Rattle.world_laws.proofs.Values.{answered_open, idle_open}
 use Rattle.world_laws.specs.Good.{AskedGood}
 
@@ -77,7 +76,8 @@ shows_answered old new w c session was now o reply shows s is says = record {
               (cond-true (c == c) _ (w.standing c) (eq-eqb c c refl) ∙ ap Answered (sym says), s.floor),
         ),
       );
-  sessions = sessions_turn (session_at old) w.standing w.session shows.sessions (session_at new) c _ session (answered_open _) s.changes.sessions;
+  sessions = sessions_turn (session_at old) w.standing w.session shows.sessions (session_at new) c _ session (answered_open _)
+      s.changes.sessions;
   under_way = λ i q asked. elim (shows.under_way i q asked) [
     | inl settled ↦ inl settled
     | inr kept ↦ inr
@@ -143,7 +143,8 @@ module _ (t : Layout) (w : World) (c : ℕ) (session : Session) (r : Request) (g
         ),
       ),
     );
-    sessions = sessions_turn (session_at old) w.standing w.session shows.sessions (session_at new) c Waiting session waiting_open s.changes.sessions;
+    sessions = sessions_turn (session_at old) w.standing w.session shows.sessions (session_at new) c Waiting session waiting_open
+        s.changes.sessions;
     under_way = λ i q asked. elim (cases_Bool (same_id i (id_of c (suc (w.seq c))))) [
       | inl e ↦
           let id = same_id-true _ _ e in
@@ -184,28 +185,21 @@ module _ (t : Layout) (w : World) (c : ℕ) (session : Session) (good : AskedGoo
     where
       by_standing : (x : Standing) → now.standing ≡ x → StandsBy (id_of c (suc (w.seq c))) (Now reply) x →
           ShowsConnections new (answered (in_session w c session) c reply)
-      by_standing router.Idle e says = absurd says
-      by_standing (router.Waiting asked) e says = absurd says
-      by_standing router.Taken e says = absurd says
       by_standing (router.Answered o) e says = shows_answered old new w c session was now o _ shows s e (ap to_outcome says)
+      by_standing x e says = absurd says
   by_answer old new was now (Go task) table shows s stands =
-      by_standing now.standing refl (keyless_reply task) refl (addresses t table task) stands
+      by_standing (keyless_reply task) refl (addresses t table task) now.standing refl stands
     where
-      by_standing : (x : Standing) → now.standing ≡ x → (reply : Option Content) → keyless_reply task ≡ reply →
-          AddressesBy reply (task_groups t task) → StandsAs (id_of c (suc (w.seq c))) task reply x →
+      by_standing : (reply : Option Content) → keyless_reply task ≡ reply → AddressesBy reply (task_groups t task) → (x : Standing) →
+          now.standing ≡ x → StandsAs (id_of c (suc (w.seq c))) task reply x →
           ShowsConnections new (submitted_to (in_session w c session) c task (task_groups t task))
-      by_standing (router.Answered o) e (Some reply) keyless none says =
+      by_standing (Some reply) keyless none (router.Answered o) e says =
           subst (λ gs. ShowsConnections new (submitted_to (in_session w c session) c task gs)) (sym none)
           (shows_answered old new w c session was now o (deed_effect (task, []) empty).1 shows s e
           (ap to_outcome says ∙ ap (λ r. to_outcome (record { id = id_of c (suc (w.seq c)); reply = r; stamp = None }))
           (sym (keyless_effect task reply keyless))))
-      by_standing (router.Waiting asked) e None keyless some says = waits_as old new was now task asked some.0 some.1 some.2 shows s e says
-      by_standing router.Idle e (Some reply) keyless addressed says = absurd says
-      by_standing router.Idle e None keyless addressed says = absurd says
-      by_standing (router.Waiting asked) e (Some reply) keyless addressed says = absurd says
-      by_standing router.Taken e (Some reply) keyless addressed says = absurd says
-      by_standing router.Taken e None keyless addressed says = absurd says
-      by_standing (router.Answered o) e None keyless addressed says = absurd says
+      by_standing None keyless some (router.Waiting asked) e says = waits_as old new was now task asked some.0 some.1 some.2 shows s e says
+      by_standing reply keyless addressed x e says = absurd says
 
 module _ (t : Layout) (w : World) (c : ℕ) (good : AskedGood t w.asked w.proposed w.seq w.last) (words : List (List ℕ)) where
   pub shows_submitted : (old new : RouterView) (sent : Submission) → IsTable t →

@@ -1,5 +1,5 @@
 -- Take of a front is the world's.
-use Rattle.std.proofs.Common.{◌≡◌, ◌≢◌, ◌+◌, List, [], ◌∷◌, ◌++◌, inl, refl, sym, ap, ◌∙◌, subst}
+use Rattle.std.proofs.Common.{◌≡◌, ◌≢◌, ◌+◌, List, [], ◌∷◌, inl, refl, sym, ◌∙◌, subst}
 use Rattle.delivery.specs.Queues.{queue_of}
 use Rattle.delivery.specs.Ready.{QueueOf, IsReady, IsLayer}
 use Rattle.delivery.proofs.Layers.{one_is_ready}

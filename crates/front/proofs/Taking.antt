@@ -1,6 +1,6 @@
 -- Taking a layer out of the router, one request after another, is a step of the world.
-use Rattle.std.proofs.Common.{◌≡◌, ◌≢◌, ℕ, ◌==◌, true, cond, List, [], ◌∷◌, ◌++◌, ◌⊎◌, inl, inr, length, Option}
-use Rattle.std.proofs.Common.{OnSome, Some, None, refl, sym, ap, ◌∙◌, subst, eq-eqb, append-nil}
+use Rattle.std.proofs.Common.{◌≡◌, ◌≢◌, ℕ, ◌==◌, true, cond, List, [], ◌∷◌, ◌++◌, inl, inr, length, Some, None, refl, sym, ap, ◌∙◌, subst}
+use Rattle.std.proofs.Common.{eq-eqb, append-nil}
 use Rattle.std.proofs.lemmas.Bool.{both_ways}
 use Rattle.std.proofs.Math.Seq.{append_snoc}
 use Rattle.delivery.proofs.Layers.{taken_somewhere}
@@ -11,7 +11,6 @@ use Rattle.placement.specs.Layout.{Layout}
 use Rattle.router.specs.Connection.{is_under_way, with_standing}
 use Rattle.router.specs.Router.{RouterView, connection, pending_in, pending_at, Changes}
 use Rattle.router.specs.declared.connection.Connection.{Connection}
-use Rattle.router.specs.declared.connection.Standing.{Standing}
 use Rattle.router.specs.declared.connection.Standing.TheVariants as router
 use Rattle.groups.proofs.Options.{some_same}
 use Rattle.skeen_core.proofs.Lawful.{id_there, named}
@@ -22,11 +21,9 @@ use Rattle.groups.specs.Order.{In}
 use Rattle.groups.specs.Stamp.{stamp_lt}
 use Rattle.skeen_core.specs.declared.packet.Delivered.{Delivered}
 use Rattle.groups.specs.declared.request.RequestId.{RequestId}
-use Rattle.front.proofs.WorldConnections.{Alike, connection_alike, each_of, kept_here, kept_at, StandsUnderWay}
-use Rattle.front.proofs.WorldConnections.{stands_under_way}
-use Rattle.front.specs.Connections.{Waits, InLayer, id_of, ShowsOpen, ShowsClosed}
-use Rattle.front.specs.Connections.{ShowsConnection, ShowsKept}
-use Rattle.front.specs.Connections.{IsKeptFor, ShowsSessions, ShowsConnections}
+use Rattle.front.proofs.WorldConnections.{Alike, connection_alike, each_of, kept_here, kept_at, IsPending, IsTakenOr, kept_waits}
+use Rattle.front.proofs.WorldConnections.{StandsUnderWay, stands_under_way}
+use Rattle.front.specs.Connections.{Waits, InLayer, id_of, ShowsConnection, ShowsKept, IsKeptFor, ShowsSessions, ShowsConnections}
 use Rattle.front.specs.Multicast.{ShowsMulticast}
 use Rattle.front.specs.Taking.{with_layer, IsTaking}
 use Rattle.worded.specs.declared.worded.Worded.{Worded}
@@ -59,35 +56,6 @@ takes_layer w ds none layer some = record {
   answers = refl;
   after = refl;
 }
-
--- ---- how a connection whose request waits stands
-
--- a request that waits, and isn't taken
-abbrev IsPending : Standing → World → RequestId → Type 0
-IsPending s w i = (asked : Worded) × (s ≡ router.Waiting asked) × Waits w i asked
-
--- under a request that is under way stands one that waits, or one that was taken
-abbrev IsTakenOr : Standing → World → RequestId → Type 0
-IsTakenOr s w i = IsPending s w i ⊎ InLayer w.layer i
-
-open_pending : (s : Standing) (v : Connection) (w : World) (c : ℕ) → is_under_way s ≡ true → ShowsOpen s v w c →
-    IsTakenOr s w (id_of c v.seq)
-open_pending router.Idle v w c busy shows = absurd (both_ways _ refl busy)
-open_pending (router.Waiting asked) v w c busy shows = inl (asked, refl, shows.1)
-open_pending router.Taken v w c busy shows = inr shows.1
-open_pending (router.Answered o) v w c busy shows = absurd (both_ways _ refl busy)
-
-closed_pending : (s : Standing) (v : Connection) (w : World) (c : ℕ) → ShowsClosed s v w c →
-    IsTakenOr s w (id_of c v.seq)
-closed_pending router.Idle v w c shows = absurd shows
-closed_pending (router.Waiting asked) v w c shows = inl (asked, refl, shows.1)
-closed_pending router.Taken v w c shows = inr shows.1
-closed_pending (router.Answered o) v w c shows = absurd shows
-
-kept_pending : (v : Connection) (w : World) (c : ℕ) → is_under_way v.standing ≡ true → ShowsKept v w c →
-    IsTakenOr v.standing w (id_of c v.seq)
-kept_pending v w c busy (seq, inl live) = open_pending v.standing v w c busy live.1
-kept_pending v w c busy (seq, inr shut) = closed_pending v.standing v w c shut.1
 
 -- the connection's request was taken out of the router
 abbrev pub WasTaken : RouterView → RouterView → ℕ → Type 0
@@ -157,7 +125,7 @@ module _ (t : Layout) (w : World) (front : List Delivered) (d : Delivered) (back
       let this : id_of d.id.conn.0 kept_for.v.seq ≡ d.id =
       same_request (id_of d.id.conn.0 kept_for.v.seq) d.id refl kept_for.seq in
       elim (subst (λ i. IsTakenOr kept_for.v.standing before i) this
-      (kept_pending kept_for.v before d.id.conn.0 kept_for.under_way shown)) [
+      (kept_waits kept_for.v before d.id.conn.0 kept_for.under_way shown)) [
         | inl waits ↦ waits
         | inr out ↦ absurd (not_in_front out)
       ]
@@ -229,16 +197,6 @@ module _ (t : Layout) (w : World) (front : List Delivered) (d : Delivered) (back
 
       seq : v.seq ≡ d.id.seq
       seq = subst (λ (u : Connection). u.seq ≡ d.id.seq) same kept_for.seq
-
-  -- so much the router's take gives and does
-  pub take_did : (r' : RouterView) (o : Option Worded) → o ≡ pending_at (connection r d.id.conn.0) d.id.seq →
-      OnSome o (WasTaken r r' d.id.conn.0) →
-      (asked : Worded) × (o ≡ Some asked) × Waits w d.id asked × IsTaking t w (front ++ d ∷ []) back r'
-  take_did r' o given did =
-      let asked : Worded = take_pending.0 in
-      let some : o ≡ Some asked = given ∙ take_pending.1 in
-      let was : WasTaken r r' d.id.conn.0 = subst (λ x. OnSome x (WasTaken r r' d.id.conn.0)) some did in
-      (asked, some, take_pending.2, take_next r' was.0 was.1 was.2)
 
 -- ---- the first and the last
 

@@ -1,7 +1,7 @@
 -- The router's calls are steps of the world.
-use Rattle.std.proofs.Common.{◌≡◌, ℕ, suc, ◌+◌, ◌==◌, true, false, cond, List, ◌⊎◌, inl, inr, Option, Some, None, option_map}
-use Rattle.std.proofs.Common.{MatchOption, refl, sym, ap, ◌∙◌, subst, arith, eqb-true, eq-eqb}
-use Rattle.std.proofs.lemmas.Bool.{both_ways, cases_Bool}
+use Rattle.std.proofs.Common.{◌≡◌, ℕ, suc, ◌+◌, ◌==◌, true, false, cond, ◌⊎◌, inl, inr, Option, Some, None, option_map, MatchOption, refl}
+use Rattle.std.proofs.Common.{sym, ap, ◌∙◌, subst, arith, eqb-true, eq-eqb}
+use Rattle.std.proofs.lemmas.Bool.{both_ways, cases_Bool, cond-true, cond-false}
 use Rattle.placement.specs.Layout.{Layout}
 use Rattle.router.specs.Connection.{just_opened, is_under_way, with_standing, closed, outcome_in}
 use Rattle.router.specs.Router.{RouterView, connection, session_at, Changes, Collects, Closes, once_closed}
@@ -12,12 +12,12 @@ use Rattle.router.specs.declared.outcome.Outcome as kept
 use Rattle.groups.proofs.Options.{some_same}
 use Rattle.groups.specs.declared.request.RequestId.{RequestId}
 use Rattle.sessions.specs.declared.session.Session.TheVariants.{Free}
-use Rattle.front.specs.Connections.{outcome_shown, Waits, InLayer, id_of, ShowsOpen, ShowsClosed, ShowsKept}
-use Rattle.front.specs.Connections.{ShowsConnection, IsKeptFor, ShowsSessions, ShowsConnections}
-use Rattle.front.proofs.Sessions.{sessions_close, sessions_open, sessions_live}
+use Rattle.front.specs.Connections.{outcome_shown, Waits, InLayer, id_of, ShowsOpen, ShowsClosed, ShowsKept, ShowsConnection, IsKeptFor}
+use Rattle.front.specs.Connections.{ShowsSessions, ShowsConnections}
+use Rattle.front.proofs.Sessions.{sessions_close, sessions_open, sessions_at}
+use Rattle.front.proofs.Standings.{closed_stands, kept_live, open_stands}
 use Rattle.world.specs.Steps.{Collects as WorldCollects, at, final_clock_of, floor_of, Collected}
 use Rattle.world.specs.World.{Standing as Stand, World, Request, Outcome, Closed, Idle, Waiting, Answered}
-use Rattle.std.proofs.lemmas.Bool.{cond-true, cond-false}
 use Rattle.worded.specs.declared.worded.Worded.{Worded}
 use Rattle.world_laws.proofs.Values.{idle_open, answered_open}
 use Rattle.world_laws.specs.Conditions.{IsFree}
@@ -38,30 +38,22 @@ waits_alike : (old new : World) (c seq : ℕ) (asked : Worded) → Alike old new
     Waits new (id_of c seq) asked
 waits_alike old new c seq asked same w = (w.0, same.asked seq ∙ w.1, w.2)
 
--- who is idle or has an outcome is free
-free_at : (s s' : Stand) → s ≡ s' → IsFree s' → IsFree s
-free_at s s' is free = subst IsFree (sym is) free
-
 open_alike : (s : Standing) (v : Connection) (old new : World) (c : ℕ) → Alike old new c → ShowsOpen s v old c →
     ShowsOpen s v new c
 open_alike router.Idle v old new c same shows =
-    (same.standing ∙ shows.0, shows.1 ∙ sym (same.floor (free_at (old.standing c) Idle shows.0 tt)))
+    (same.standing ∙ shows.0, shows.1 ∙ sym (same.floor (subst IsFree (sym shows.0) tt)))
 open_alike (router.Waiting asked) v old new c same shows =
     (same.standing ∙ shows.0, waits_alike old new c v.seq asked same shows.1)
 open_alike router.Taken v old new c same shows = (same.standing ∙ shows.0, same.layer v.seq shows.1)
-open_alike (router.Answered o) v old new c same shows = (
-  same.standing ∙ shows.0,
-  shows.1
-      ∙ sym (same.floor (free_at (old.standing c) (Answered (outcome_shown o)) shows.0 tt)),
-)
+open_alike (router.Answered o) v old new c same shows =
+    (same.standing ∙ shows.0, shows.1 ∙ sym (same.floor (subst IsFree (sym shows.0) tt)))
 
 closed_alike : (s : Standing) (v : Connection) (old new : World) (c : ℕ) → Alike old new c → ShowsClosed s v old c →
     ShowsClosed s v new c
-closed_alike router.Idle v old new c same shows = absurd shows
 closed_alike (router.Waiting asked) v old new c same shows =
     (same.standing ∙ shows.0, waits_alike old new c v.seq asked same shows.1)
 closed_alike router.Taken v old new c same shows = (same.standing ∙ shows.0, same.layer v.seq shows.1)
-closed_alike (router.Answered o) v old new c same shows = absurd shows
+closed_alike s v old new c same shows = absurd shows
 
 pub connection_alike : (o : Option Connection) (old new : World) (c : ℕ) → Alike old new c → ShowsConnection o old c →
     ShowsConnection o new c
@@ -102,18 +94,28 @@ pub kept_at : (r : RouterView) (w : World) (c : ℕ) (v : Connection) → connec
     ShowsKept v w c
 kept_at r w c v there shows = subst (λ x. ShowsConnection x w c) there (shows.each c)
 
-open_waits : (s : Standing) (v : Connection) (w : World) (c : ℕ) → is_under_way s ≡ true → ShowsOpen s v w c →
-    w.standing c ≡ Waiting
-open_waits router.Idle v w c busy shows = absurd (both_ways _ refl busy)
-open_waits (router.Waiting asked) v w c busy shows = shows.0
-open_waits router.Taken v w c busy shows = shows.0
-open_waits (router.Answered o) v w c busy shows = absurd (both_ways _ refl busy)
+-- under a request that is under way stands one that waits and isn't taken, or one that was taken
+abbrev pub IsPending : Standing → World → RequestId → Type 0
+IsPending s w i = (asked : Worded) × (s ≡ router.Waiting asked) × Waits w i asked
 
-closed_rests : (s : Standing) (v : Connection) (w : World) (c : ℕ) → ShowsClosed s v w c → w.standing c ≡ Closed
-closed_rests router.Idle v w c shows = absurd shows
-closed_rests (router.Waiting asked) v w c shows = shows.0
-closed_rests router.Taken v w c shows = shows.0
-closed_rests (router.Answered o) v w c shows = absurd shows
+abbrev pub IsTakenOr : Standing → World → RequestId → Type 0
+IsTakenOr s w i = IsPending s w i ⊎ InLayer w.layer i
+
+open_waits : (s : Standing) (v : Connection) (w : World) (c : ℕ) → is_under_way s ≡ true → ShowsOpen s v w c →
+    (w.standing c ≡ Waiting) × IsTakenOr s w (id_of c v.seq)
+open_waits (router.Waiting asked) v w c busy shows = (shows.0, inl (asked, refl, shows.1))
+open_waits router.Taken v w c busy shows = (shows.0, inr shows.1)
+open_waits s v w c busy shows = absurd (both_ways _ refl busy)
+
+closed_waits : (s : Standing) (v : Connection) (w : World) (c : ℕ) → ShowsClosed s v w c → IsTakenOr s w (id_of c v.seq)
+closed_waits (router.Waiting asked) v w c shows = inl (asked, refl, shows.1)
+closed_waits router.Taken v w c shows = inr shows.1
+closed_waits s v w c shows = absurd shows
+
+pub kept_waits : (v : Connection) (w : World) (c : ℕ) → is_under_way v.standing ≡ true → ShowsKept v w c →
+    IsTakenOr v.standing w (id_of c v.seq)
+kept_waits v w c busy (seq, inl live) = (open_waits v.standing v w c busy live.1).1
+kept_waits v w c busy (seq, inr shut) = closed_waits v.standing v w c shut.1
 
 -- it waits, or was closed
 abbrev pub StandsUnderWay : Connection → World → ℕ → Type 0
@@ -121,8 +123,8 @@ StandsUnderWay v w c = ((v.is_open ≡ true) × (w.standing c ≡ Waiting)) ⊎ 
 
 pub stands_under_way : (v : Connection) (w : World) (c : ℕ) → is_under_way v.standing ≡ true → ShowsKept v w c →
     StandsUnderWay v w c
-stands_under_way v w c busy (seq, inl live) = inl (live.0, open_waits v.standing v w c busy live.1)
-stands_under_way v w c busy (seq, inr shut) = inr (shut.0, closed_rests v.standing v w c shut.1)
+stands_under_way v w c busy (seq, inl live) = inl (live.0, (open_waits v.standing v w c busy live.1).0)
+stands_under_way v w c busy (seq, inr shut) = inr (shut.0, closed_stands v.standing v w c shut.1)
 
 -- ---- Open
 
@@ -235,8 +237,7 @@ kept_here old new c was now i there changes stays kept = elim (cases_Bool (i.con
 -- an open connection that is kept
 pub kept_open : (v : Connection) (w : World) (c : ℕ) → v.is_open ≡ true → ShowsKept v w c →
     (v.seq ≡ w.seq c) × ShowsOpen v.standing v w c
-kept_open v w c live (seq, inl shows) = (seq, shows.1)
-kept_open v w c live (seq, inr shows) = absurd (both_ways _ shows.0 live)
+kept_open v w c live shows = (shows.0, kept_live v w c live shows)
 
 -- a step of a world, and what the router then shows
 abbrev pub CollectsAs : RouterView → World → ℕ → Option Outcome → Type 0
@@ -258,7 +259,7 @@ collects_some : (old new : RouterView) (w : World) (c : ℕ) (was : Connection) 
     Changes old new c (Some (with_standing was router.Idle)) → ShowsConnections old w →
     CollectsAs new w c (Some (outcome_shown o))
 collects_some old new w c was o there is live changes shows =
-    let here = kept_open was w c live (subst (λ x. ShowsConnection x w c) there (shows.each c)) in
+    let here = kept_open was w c live (kept_at old w c was there shows) in
     let answered : (w.standing c ≡ Answered (outcome_shown o)) × (was.floor ≡ floor_of w c) =
     subst (λ s. ShowsOpen s was w c) is here.1 in (
       standing_world w c Idle,
@@ -270,8 +271,8 @@ collects_some old new w c was o there is live changes shows =
             (alike_standing w c Idle) shows.each
             (here.0, inl (live, (standing_here w c Idle, answered.1)));
         sessions = subst (λ s. ShowsSessions s (standing_world w c Idle).standing w.session) (sym changes.sessions)
-            (sessions_live (session_at old) w.standing w.session shows.sessions c Idle
-            (λ is. answered_open (outcome_shown o) (sym answered.0 ∙ is)) idle_open);
+            (sessions_at (session_at old) w.standing w.session shows.sessions c Idle
+            (λ is. absurd (answered_open (outcome_shown o) (sym answered.0 ∙ is))) (λ is. absurd (idle_open is)));
         under_way = λ i q asked. elim (shows.under_way i q asked) [
           | inl settled ↦ inl settled
           | inr kept ↦ inr
@@ -284,58 +285,36 @@ collects_some old new w c was o there is live changes shows =
 pub shows_collect : (old new : RouterView) (w : World) (c : ℕ) (given : Option kept.Outcome) →
     Collects old c given new → ShowsConnections old w →
     CollectsAs new w c (option_map outcome_shown given)
-shows_collect old new w c given collects shows = by_standing collects.was.standing refl
+shows_collect old new w c given collects shows =
+    subst (λ g. CollectsAs new w c (option_map outcome_shown g)) (sym collects.given)
+    (by_standing collects.was.standing refl (kept_open collects.was w c collects.live (kept_at old w c collects.was collects.kept shows)).1
+    collects.after)
   where
-    here : (collects.was.seq ≡ w.seq c) × ShowsOpen collects.was.standing collects.was w c
-    here = kept_open collects.was w c collects.live (subst (λ x. ShowsConnection x w c) collects.kept (shows.each c))
-
-    by_standing : (s : Standing) → collects.was.standing ≡ s → CollectsAs new w c (option_map outcome_shown given)
-    by_standing router.Idle e =
-        subst (λ g. CollectsAs new w c (option_map outcome_shown g)) (sym (collects.given ∙ ap outcome_in e))
-        (collects_none old new w c Idle (subst (λ s. ShowsOpen s collects.was w c) e here.1).0 (refl, refl)
-        (subst (λ s. MatchOption (outcome_in s) (new ≡ old)
-        (λ o. Changes old new c (Some (with_standing collects.was router.Idle)))) e collects.after) shows)
-    by_standing (router.Waiting asked) e =
-        subst (λ g. CollectsAs new w c (option_map outcome_shown g)) (sym (collects.given ∙ ap outcome_in e))
-        (collects_none old new w c Waiting (subst (λ s. ShowsOpen s collects.was w c) e here.1).0 (refl, refl)
-        (subst (λ s. MatchOption (outcome_in s) (new ≡ old)
-        (λ o. Changes old new c (Some (with_standing collects.was router.Idle)))) e collects.after) shows)
-    by_standing router.Taken e =
-        subst (λ g. CollectsAs new w c (option_map outcome_shown g)) (sym (collects.given ∙ ap outcome_in e))
-        (collects_none old new w c Waiting (subst (λ s. ShowsOpen s collects.was w c) e here.1).0 (refl, refl)
-        (subst (λ s. MatchOption (outcome_in s) (new ≡ old)
-        (λ o. Changes old new c (Some (with_standing collects.was router.Idle)))) e collects.after) shows)
-    by_standing (router.Answered o) e =
-        subst (λ g. CollectsAs new w c (option_map outcome_shown g)) (sym (collects.given ∙ ap outcome_in e))
-        (collects_some old new w c collects.was o collects.kept e collects.live
-        (subst (λ s. MatchOption (outcome_in s) (new ≡ old)
-        (λ o. Changes old new c (Some (with_standing collects.was router.Idle)))) e collects.after) shows)
+    by_standing : (s : Standing) → collects.was.standing ≡ s → ShowsOpen s collects.was w c →
+        MatchOption (outcome_in s) (new ≡ old) (λ o. Changes old new c (Some (with_standing collects.was router.Idle))) →
+        CollectsAs new w c (option_map outcome_shown (outcome_in s))
+    by_standing router.Idle e here same = collects_none old new w c Idle here.0 (refl, refl) same shows
+    by_standing (router.Answered o) e here changes =
+        collects_some old new w c collects.was o collects.kept e collects.live changes shows
+    by_standing s e here same = collects_none old new w c Waiting here.0 (refl, refl) same shows
 
 -- ---- Close
-
--- an open connection doesn't stand closed
-not_closed : (s : Standing) (v : Connection) (w : World) (c : ℕ) → ShowsOpen s v w c → w.standing c ≡ Closed → ⊥
-not_closed router.Idle v w c shows e = let k = sym shows.0 ∙ e in cc
-not_closed (router.Waiting asked) v w c shows e = let k = sym shows.0 ∙ e in cc
-not_closed router.Taken v w c shows e = let k = sym shows.0 ∙ e in cc
-not_closed (router.Answered o) v w c shows e = let k = sym shows.0 ∙ e in cc
 
 -- how it stands once it is closed
 shut : (s : Standing) (v : Connection) (w : World) (c : ℕ) → (v.seq ≡ w.seq c) → ShowsOpen s v w c →
     ShowsConnection
     (cond (is_under_way s) (Some (record { is_open = false; seq = v.seq; floor = v.floor; standing = s })) None)
     (standing_world w c Closed) c
-shut router.Idle v w c seq shows = standing_here w c Closed
 shut (router.Waiting asked) v w c seq shows = (seq, inr (refl, (standing_here w c Closed, shows.1)))
 shut router.Taken v w c seq shows = (seq, inr (refl, (standing_here w c Closed, shows.1)))
-shut (router.Answered o) v w c seq shows = standing_here w c Closed
+shut s v w c seq shows = standing_here w c Closed
 
 pub shows_close : (old new : RouterView) (w : World) (c : ℕ) → Closes old c new → ShowsConnections old w →
     (w.standing c ≡ Closed → ⊥) × ShowsConnections new (standing_world w c Closed)
 shows_close old new w c closes shows =
     let was = closes.was in
-    let here = kept_open was w c closes.live (subst (λ x. ShowsConnection x w c) closes.kept (shows.each c)) in (
-      not_closed was.standing was w c here.1,
+    let here = kept_open was w c closes.live (kept_at old w c was closes.kept shows) in (
+      open_stands was.standing was w c here.1,
       record {
         opened = closes.changes.opened ∙ shows.opened;
         each = each_of old new w (standing_world w c Closed) c (once_closed was) closes.changes.at

@@ -25,12 +25,11 @@ job_waits w d asked j waits id stamp groups same = record {
 pub all_jobs : (P : Job → Type 0) (asked : Asked) (ds : List Delivered) (js : List Job) → AreJobs asked ds js →
     ((d : Delivered) (j : Job) → In d ds → IsJob asked d j → P j) → AllByRecursion P js
 all_jobs P asked [] [] are holds = tt
-all_jobs P asked [] (j ∷ js) are holds = absurd are
-all_jobs P asked (d ∷ ds) [] are holds = absurd are
 all_jobs P asked (d ∷ ds) (j ∷ js) are holds = (
   holds d j (inl refl) are.0,
   all_jobs P asked ds js are.1 (λ e k there is. holds e k (inr there) is),
 )
+all_jobs P asked ds js are holds = absurd are
 
 -- ---- their units
 

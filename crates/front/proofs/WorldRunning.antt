@@ -2,8 +2,7 @@
 use Rattle.std.proofs.Common.{refl, sym, ap, ◌∙◌, subst, inl, inr, append-nil}
 use Rattle.std.proofs.Math.Seq.{append_snoc}
 use Rattle.std.specs.List.{AllZip}
-use Rattle.std.specs.Prelude.{◌≡◌, ℕ, true, cond, List, [], ◌∷◌, ◌++◌, map}
-use Rattle.std.specs.Prelude.{Option, Some, None}
+use Rattle.std.specs.Prelude.{◌≡◌, ℕ, true, cond, List, [], ◌∷◌, ◌++◌, map, Option, Some, None}
 use Rattle.groups.specs.GroupSet.{has}
 use Rattle.keyspace.specs.Map.{Map}
 use Rattle.journal.specs.declared.step.Step.{Step}
@@ -12,9 +11,6 @@ use Rattle.layer_results.proofs.Names.{names_by_task}
 use Rattle.placement.specs.Layout.{Layout}
 use Rattle.resp.specs.Content.{Content}
 use Rattle.router.specs.Router.{RouterView, connection}
-use Rattle.router.specs.declared.connection.Connection.{Connection}
-use Rattle.router.specs.declared.connection.Standing.{Standing}
-use Rattle.router.specs.declared.connection.Standing.TheVariants as router
 use Rattle.shard_exec.proofs.LastStamps.{raised_last}
 use Rattle.shard_exec.specs.Layers.{tasks_of, AddressTheirGroups, outcomes_of_ended, IsOf}
 use Rattle.shard_workers.specs.Runs.{outcome}
@@ -35,9 +31,9 @@ use Rattle.groups.specs.declared.request.RequestId.{RequestId}
 use Rattle.groups.specs.declared.skip_id.SkipId.{SkipId}
 use Rattle.groups.specs.declared.stamp.Stamp.{Stamp}
 use Rattle.tasks.specs.Tasks.{Task, task_reading, task_groups, deed_effect, starved_names}
+use Rattle.front.proofs.WorldConnections.{Alike, connection_alike}
 use Rattle.front.proofs.WorldJobs.{all_jobs}
-use Rattle.front.specs.Connections.{InLayer, id_of, ShowsOpen, ShowsClosed, ShowsConnection}
-use Rattle.front.specs.Connections.{IsSettled, ShowsConnections}
+use Rattle.front.specs.Connections.{InLayer, id_of, IsSettled, ShowsConnections}
 use Rattle.front.specs.Layers.{IsJob, AreJobs, AreEnded, starved_of, ShowsStore}
 use Rattle.world.specs.Steps.{opening, Ran, map_after, after_all, ended_as, RunInTurn, starved_among, RunsLayer, Leads}
 use Rattle.world.specs.World.{World, Request, Ended, Layer, Taken, HasRun}
@@ -92,18 +88,16 @@ ended_by j r = record { id = j.id; stamp = j.stamp; groups = j.groups; task = j.
 
 -- how the requests of a layer ended, as the world tells of them
 abbrev pub ended_in : List Job → List run.Ended → List Ended
-ended_in [] rs = []
-ended_in (j ∷ js) [] = []
 ended_in (j ∷ js) (r ∷ rs) = ended_by j r ∷ ended_in js rs
+ended_in js rs = []
 
 are_ended : (js : List Job) (rs : List run.Ended) → AllZip IsOf js rs → AreEnded (ended_in js rs) rs
 are_ended [] [] told = tt
-are_ended [] (r ∷ rs) told = absurd told
-are_ended (j ∷ js) [] told = absurd told
 are_ended (j ∷ js) (r ∷ rs) told = (
   record { id = told.0.0; stamp = told.0.1; reply = refl; says = ap task_reading told.0.2 ∙ j.asked.says },
   are_ended js rs told.1,
 )
+are_ended js rs told = absurd told
 
 -- ---- who starved
 
@@ -114,12 +108,11 @@ ids_delivered ds = map (λ d. d.id) ds
 pub starved_same : (js : List Job) (rs : List run.Ended) → AllZip IsOf js rs →
     starved_of rs ≡ starved_among (ended_in js rs)
 starved_same [] [] told = refl
-starved_same [] (r ∷ rs) told = absurd told
-starved_same (j ∷ js) [] told = absurd told
 starved_same (j ∷ js) (r ∷ rs) told =
     ap (λ l. l ++ starved_of rs) (names_by_task r.id r.words j.asked.batch (outcome r.reply) (ap task_reading told.0.2 ∙ j.asked.says)
     ∙ ap (λ i. starved_names i j.asked.batch (outcome r.reply)) told.0.0)
     ∙ ap (λ l. starved_names j.id j.asked.batch (outcome r.reply) ++ l) (starved_same js rs told.1)
+starved_same js rs told = absurd told
 
 in_delivered_ids : (ds : List Delivered) (i : RequestId) → In i (ids_delivered ds) →
     (d : Delivered) × In d ds × (i ≡ d.id)
@@ -149,13 +142,12 @@ once_layer t w ds good is_taken = once_taken t w (all_delivered w.ended) ds good
 ids_same : (asked : Asked) (ds : List Delivered) (js : List Job) (rs : List run.Ended) →
     AreJobs asked ds js → AllZip IsOf js rs → ids_delivered ds ≡ ids_of (ended_in js rs)
 ids_same asked [] [] [] are told = refl
-ids_same asked [] [] (r ∷ rs) are told = absurd told
 ids_same asked [] (j ∷ js) rs are told = absurd are
 ids_same asked (d ∷ ds) [] rs are told = absurd are
-ids_same asked (d ∷ ds) (j ∷ js) [] are told = absurd told
 ids_same asked (d ∷ ds) (j ∷ js) (r ∷ rs) are told =
     ap (λ i. i ∷ ids_delivered ds) (sym are.0.id)
     ∙ ap (λ l. j.id ∷ l) (ids_same asked ds js rs are.1 told.1)
+ids_same asked ds js rs are told = absurd told
 
 -- where each id stands once, the names that the store tells name just the requests that starved as a whole, and of each other one
 -- its members that did
@@ -175,10 +167,9 @@ answered_first (Some reply) m new c cs os answered = answered
 contents_after : (m new : Map) (js : List Job) (rs : List run.Ended) →
     AnsweredInTurn m (tasks_of js) (outcomes_of_ended rs) new → new ≡ after_all m (ended_in js rs)
 contents_after m new [] [] answered = answered
-contents_after m new [] (r ∷ rs) answered = absurd answered
-contents_after m new (j ∷ js) [] answered = absurd answered
 contents_after m new (j ∷ js) (r ∷ rs) answered = contents_after (map_after (outcome r.reply) j.asked.batch m) new js rs
     (answered_first (outcome r.reply) m new j.asked.batch (tasks_of js) (outcomes_of_ended rs) answered).1
+contents_after m new js rs answered = absurd answered
 
 -- a request ends as the world says
 ends_as : (asked : Asked) (starved : List SkipId) (m : Map) (d : Delivered) (j : Job)
@@ -206,15 +197,14 @@ run_in_turn : (asked : Asked) (starved : List SkipId) (m new : Map) (ds : List D
     TellsEach starved (ended_in js rs) → AnsweredInTurn m (tasks_of js) (outcomes_of_ended rs) new →
     RunInTurn asked starved m ds (ended_in js rs)
 run_in_turn asked starved m new [] [] [] are told tells answered = refl
-run_in_turn asked starved m new [] [] (r ∷ rs) are told tells answered = absurd told
 run_in_turn asked starved m new [] (j ∷ js) rs are told tells answered = absurd are
 run_in_turn asked starved m new (d ∷ ds) [] rs are told tells answered = absurd are
-run_in_turn asked starved m new (d ∷ ds) (j ∷ js) [] are told tells answered = absurd told
 run_in_turn asked starved m new (d ∷ ds) (j ∷ js) (r ∷ rs) are told tells answered =
     let first = answered_first (outcome r.reply) m new j.asked.batch (tasks_of js) (outcomes_of_ended rs) answered in (
       (are.0.asked_so.0, are.0.asked_so.1, ends_as asked starved m d j r are.0 tells.0 first.0),
       run_in_turn asked starved (map_after (outcome r.reply) j.asked.batch m) new ds js rs are.1 told.1 tells.1 first.1,
     )
+run_in_turn asked starved m new ds js rs are told tells answered = absurd told
 
 -- ---- the last stamps
 
@@ -262,25 +252,15 @@ store_run t old new w skip js rs ran shows = record {
 
 module _ (w : World) (ds : List Delivered) (es : List Ended) (is_taken : w.layer ≡ Taken ds)
     (same : all_delivered es ≡ ds) where
-  in_layer_run : (i : RequestId) → InLayer w.layer i → InLayer (HasRun es) i
-  in_layer_run i there = subst (λ l. has_id l i ≡ true) (sym same) (subst (λ (l : Layer). InLayer l i) is_taken there)
-
-  open_run : (s : Standing) (v : Connection) (c : ℕ) → ShowsOpen s v w c → ShowsOpen s v (ran_world w es) c
-  open_run router.Idle v c shows = shows
-  open_run (router.Waiting asked) v c shows = shows
-  open_run router.Taken v c shows = (shows.0, in_layer_run (id_of c v.seq) shows.1)
-  open_run (router.Answered o) v c shows = shows
-
-  closed_run : (s : Standing) (v : Connection) (c : ℕ) → ShowsClosed s v w c → ShowsClosed s v (ran_world w es) c
-  closed_run router.Idle v c shows = absurd shows
-  closed_run (router.Waiting asked) v c shows = shows
-  closed_run router.Taken v c shows = (shows.0, in_layer_run (id_of c v.seq) shows.1)
-  closed_run (router.Answered o) v c shows = absurd shows
-
-  connection_run : (o : Option Connection) (c : ℕ) → ShowsConnection o w c → ShowsConnection o (ran_world w es) c
-  connection_run None c shows = shows
-  connection_run (Some v) c (seq, inl live) = (seq, inl (live.0, open_run v.standing v c live.1))
-  connection_run (Some v) c (seq, inr shut) = (seq, inr (shut.0, closed_run v.standing v c shut.1))
+  alike_run : (c : ℕ) → Alike w (ran_world w es) c
+  alike_run c = record {
+    standing = refl;
+    seq = refl;
+    floor = λ free. refl;
+    asked = λ seq. refl;
+    layer = λ seq there. subst (λ l. has_id l (id_of c seq) ≡ true) (sym same)
+        (subst (λ (l : Layer). InLayer l (id_of c seq)) is_taken there);
+  }
 
   -- what was settled before is so still
   settled_run : (i : RequestId) → IsSettled w i → IsSettled (ran_world w es) i
@@ -293,7 +273,7 @@ module _ (w : World) (ds : List Delivered) (es : List Ended) (is_taken : w.layer
   pub connections_run : (r : RouterView) → ShowsConnections r w → ShowsConnections r (ran_world w es)
   connections_run r shows = record {
     opened = shows.opened;
-    each = λ c. connection_run (connection r c) c (shows.each c);
+    each = λ c. connection_alike (connection r c) w (ran_world w es) c (alike_run c) (shows.each c);
     sessions = shows.sessions;
     under_way = λ i q asked. elim (shows.under_way i q asked) [
       | inl settled ↦ inl (settled_run i settled)

@@ -1,6 +1,5 @@
 -- What the router shows of a world.
 use Rattle.std.specs.Prelude.{◌≡◌, ℕ, true, false, List, ◌++◌, ◌⊎◌, Option, Some, None}
-use Rattle.placement.specs.Layout.{Layout}
 use Rattle.resp.specs.Content.{content}
 use Rattle.router.specs.Connection.{is_under_way}
 use Rattle.router.specs.Router.{RouterView, connection, session_at}

@@ -22,7 +22,7 @@ use values::{HashValue, Value};
 /// <https://redis.io/docs/latest/commands/hkeys/>
 #[tactic(auto, using(keyspace::proofs::Changes::changes, resp::proofs::Contents::content_of))]
 pub(crate) fn hkeys<K: Keyspace>(alloc: Global, keyspace: &K, key: Text) -> Result<Reply, Starved>
-    requires { IsTrue (K.covered keyspace.now key) }
+    requires { IsTrue (K.covered key) }
     ensures done { Does (at_key key (looks_at_hash hkeys_answer))
         (K.contents keyspace.now) (K.contents keyspace.now) result }
     ensures starves { OnErr result (0 < length (some_pairs (map.get (K.contents keyspace.now) key))) }
@@ -38,7 +38,7 @@ pub(crate) fn hkeys<K: Keyspace>(alloc: Global, keyspace: &K, key: Text) -> Resu
 /// <https://redis.io/docs/latest/commands/hvals/>
 #[tactic(auto, using(keyspace::proofs::Changes::changes, resp::proofs::Contents::content_of))]
 pub(crate) fn hvals<K: Keyspace>(alloc: Global, keyspace: &K, key: Text) -> Result<Reply, Starved>
-    requires { IsTrue (K.covered keyspace.now key) }
+    requires { IsTrue (K.covered key) }
     ensures done { Does (at_key key (looks_at_hash hvals_answer))
         (K.contents keyspace.now) (K.contents keyspace.now) result }
     ensures starves { OnErr result (0 < length (some_pairs (map.get (K.contents keyspace.now) key))) }
@@ -54,7 +54,7 @@ pub(crate) fn hvals<K: Keyspace>(alloc: Global, keyspace: &K, key: Text) -> Resu
 /// another type. <https://redis.io/docs/latest/commands/hgetall/>
 #[tactic(auto, using(keyspace::proofs::Changes::changes, resp::proofs::Contents::content_of))]
 pub(crate) fn hgetall<K: Keyspace>(alloc: Global, keyspace: &K, key: Text) -> Result<Reply, Starved>
-    requires { IsTrue (K.covered keyspace.now key) }
+    requires { IsTrue (K.covered key) }
     ensures done { Does (at_key key (looks_at_hash hgetall_answer))
         (K.contents keyspace.now) (K.contents keyspace.now) result }
     ensures starves { OnErr result (0 < length (some_pairs (map.get (K.contents keyspace.now) key))) }
@@ -75,7 +75,7 @@ pub(crate) fn hmget<K: Keyspace>(
     key: Text,
     fields: Texts,
 ) -> Result<Reply, Starved>
-    requires { IsTrue (K.covered keyspace.now key) }
+    requires { IsTrue (K.covered key) }
     ensures done { Does (at_key key (looks_at_hash (hmget_answer fields)))
         (K.contents keyspace.now) (K.contents keyspace.now) result }
     ensures starves { OnErr result (IsSome (pairs_there (map.get (K.contents keyspace.now) key))) }

@@ -35,11 +35,10 @@ pub(crate) fn hdel<K: Keyspace>(
     key: Text,
     fields: Texts,
 ) -> Result<Reply, Starved>
-    requires { IsTrue (K.covered keyspace.old key) }
+    requires { IsTrue (K.covered key) }
     ensures done { Does (at_key key (changes_hash (hdel_change fields)))
         (K.contents keyspace.old) (K.contents keyspace.new) result }
     ensures answers { IsOk result }
-    ensures covers { K.covered keyspace.new ≡ K.covered keyspace.old }
 {
     match keyspace.look(key.as_slice()) {
         None => return Ok(count_reply(0)),
@@ -73,13 +72,12 @@ pub(crate) fn hsetnx<K: Keyspace>(
     field: Text,
     value: Text,
 ) -> Result<Reply, Starved>
-    requires { IsTrue (K.covered keyspace.old key) }
+    requires { IsTrue (K.covered key) }
     ensures done { Does (at_key key (hsetnx_step field value))
         (K.contents keyspace.old) (K.contents keyspace.new) result }
     ensures starves { OnErr result
         (IsSome (pairs_there (map.get (K.contents keyspace.old) key))
         × (field_value (some_pairs (map.get (K.contents keyspace.old) key)) field ≡ None)) }
-    ensures covers { K.covered keyspace.new ≡ K.covered keyspace.old }
 {
     match keyspace.look(key.as_slice()) {
         None => {}
@@ -104,11 +102,10 @@ pub(crate) fn hset<K: Keyspace>(
     key: Text,
     pairs: Pairs,
 ) -> Result<Reply, Starved>
-    requires { IsTrue (K.covered keyspace.old key) }
+    requires { IsTrue (K.covered key) }
     ensures done { Does (at_key key (hset_step pairs))
         (K.contents keyspace.old) (K.contents keyspace.new) result }
     ensures starves { OnErr result (IsSome (pairs_there (map.get (K.contents keyspace.old) key))) }
-    ensures covers { K.covered keyspace.new ≡ K.covered keyspace.old }
 {
     set_fields(alloc, keyspace, key, pairs, SetAnswer::Added)
 }
@@ -120,11 +117,10 @@ pub(crate) fn hmset<K: Keyspace>(
     key: Text,
     pairs: Pairs,
 ) -> Result<Reply, Starved>
-    requires { IsTrue (K.covered keyspace.old key) }
+    requires { IsTrue (K.covered key) }
     ensures done { Does (at_key key (hmset_step pairs))
         (K.contents keyspace.old) (K.contents keyspace.new) result }
     ensures starves { OnErr result (IsSome (pairs_there (map.get (K.contents keyspace.old) key))) }
-    ensures covers { K.covered keyspace.new ≡ K.covered keyspace.old }
 {
     set_fields(alloc, keyspace, key, pairs, SetAnswer::Done)
 }
@@ -160,11 +156,10 @@ fn set_fields<K: Keyspace>(
     pairs: Pairs,
     answer: SetAnswer,
 ) -> Result<Reply, Starved>
-    requires { IsTrue (K.covered keyspace.old key) }
+    requires { IsTrue (K.covered key) }
     ensures done { Does (at_key key (changes_hash (set_change (set_answer answer) pairs)))
         (K.contents keyspace.old) (K.contents keyspace.new) result }
     ensures starves { OnErr result (IsSome (pairs_there (map.get (K.contents keyspace.old) key))) }
-    ensures covers { K.covered keyspace.new ≡ K.covered keyspace.old }
 {
     match keyspace.look_mut(key.as_slice()) {
         None => set_new_hash(alloc, keyspace, key, pairs, answer),
@@ -193,11 +188,10 @@ fn set_new_hash<K: Keyspace>(
     pairs: Pairs,
     answer: SetAnswer,
 ) -> Result<Reply, Starved>
-    requires covered { IsTrue (K.covered keyspace.old key) }
+    requires covered { IsTrue (K.covered key) }
     requires absent { map.get (K.contents keyspace.old) key ≡ None }
     ensures done { Does (at_key key (changes_hash (set_change (set_answer answer) pairs)))
         (K.contents keyspace.old) (K.contents keyspace.new) result }
-    ensures covers { K.covered keyspace.new ≡ K.covered keyspace.old }
 {
     let Some(hash) = HashValue::from_pairs(alloc, keyspace.hasher(), pairs)? else {
         return Ok(answer.reply(0));
@@ -218,12 +212,11 @@ pub(crate) fn set_field<K: Keyspace>(
     field: Text,
     value: Text,
 ) -> Result<(), Starved>
-    requires covered { IsTrue (K.covered keyspace.old key) }
+    requires covered { IsTrue (K.covered key) }
     requires hash { IsSome (pairs_there (map.get (K.contents keyspace.old) key)) }
     ensures ok { OnOk result (K.contents keyspace.new ≡ set (K.contents keyspace.old) key
         (hash_value (with_field (some_pairs (map.get (K.contents keyspace.old) key)) field value))) }
     ensures err { OnErr result (K.contents keyspace.new ≡ K.contents keyspace.old) }
-    ensures covers { K.covered keyspace.new ≡ K.covered keyspace.old }
 {
     match keyspace.look_mut(key.as_slice()) {
         None => set_first_field(alloc, keyspace, key, field, value),
@@ -253,12 +246,11 @@ fn set_first_field<K: Keyspace>(
     field: Text,
     value: Text,
 ) -> Result<(), Starved>
-    requires covered { IsTrue (K.covered keyspace.old key) }
+    requires covered { IsTrue (K.covered key) }
     requires absent { map.get (K.contents keyspace.old) key ≡ None }
     ensures ok { OnOk result (K.contents keyspace.new ≡ set (K.contents keyspace.old) key
         (hash_value (with_field (some_pairs (map.get (K.contents keyspace.old) key)) field value))) }
     ensures err { OnErr result (K.contents keyspace.new ≡ K.contents keyspace.old) }
-    ensures covers { K.covered keyspace.new ≡ K.covered keyspace.old }
 {
     let hash = hash_of_one(alloc, keyspace.hasher(), field, value)?;
     let Ok(_) = keyspace.put(key.into_vec(), Value::Hash(hash)) else {

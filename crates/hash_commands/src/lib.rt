@@ -32,11 +32,10 @@ pub fn run_hash_command<K: Keyspace>(
     keyspace: &mut K,
     command: HashCommand,
 ) -> Result<Reply, Starved>
-    requires { All (λ key. IsTrue (K.covered keyspace.old key)) (hash_command_keys command) }
+    requires { All (λ key. IsTrue (K.covered key)) (hash_command_keys command) }
     ensures done { Does (hash_command_case command)
         (K.contents keyspace.old) (K.contents keyspace.new) result }
     ensures starves { OnErr result (HashCommandTakesMemory command (K.contents keyspace.old)) }
-    ensures covers { K.covered keyspace.new ≡ K.covered keyspace.old }
 {
     command_rows!(hashes, body_rows, HashCommand, alloc, keyspace, command)
 }

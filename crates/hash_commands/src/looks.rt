@@ -18,7 +18,7 @@ use values::Value;
 /// It takes no memory. <https://redis.io/docs/latest/commands/hlen/>
 #[tactic(auto, using(keyspace::proofs::Changes::changes))]
 pub(crate) fn hlen<K: Keyspace>(_alloc: Global, keyspace: &K, key: Text) -> Result<Reply, Starved>
-    requires { IsTrue (K.covered keyspace.now key) }
+    requires { IsTrue (K.covered key) }
     ensures done { Does (at_key key (looks_at_hash hlen_answer))
         (K.contents keyspace.now) (K.contents keyspace.now) result }
     ensures answers { IsOk result }
@@ -40,7 +40,7 @@ pub(crate) fn hget<K: Keyspace>(
     key: Text,
     field: Text,
 ) -> Result<Reply, Starved>
-    requires { IsTrue (K.covered keyspace.now key) }
+    requires { IsTrue (K.covered key) }
     ensures done { Does (at_key key (looks_at_hash (hget_answer field)))
         (K.contents keyspace.now) (K.contents keyspace.now) result }
     ensures starves { OnErr result (IsSome (field_value (some_pairs (map.get (K.contents keyspace.now) key)) field)) }
@@ -68,7 +68,7 @@ pub(crate) fn hexists<K: Keyspace>(
     key: Text,
     field: Text,
 ) -> Result<Reply, Starved>
-    requires { IsTrue (K.covered keyspace.now key) }
+    requires { IsTrue (K.covered key) }
     ensures done { Does (at_key key (looks_at_hash (hexists_answer field)))
         (K.contents keyspace.now) (K.contents keyspace.now) result }
     ensures answers { IsOk result }
@@ -91,7 +91,7 @@ pub(crate) fn hstrlen<K: Keyspace>(
     key: Text,
     field: Text,
 ) -> Result<Reply, Starved>
-    requires { IsTrue (K.covered keyspace.now key) }
+    requires { IsTrue (K.covered key) }
     ensures done { Does (at_key key (looks_at_hash (hstrlen_answer field)))
         (K.contents keyspace.now) (K.contents keyspace.now) result }
     ensures answers { IsOk result }

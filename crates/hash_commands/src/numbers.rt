@@ -31,13 +31,12 @@ pub(crate) fn hincrby<K: Keyspace>(
     field: Text,
     by: i64,
 ) -> Result<Reply, Starved>
-    requires { IsTrue (K.covered keyspace.old key) }
+    requires { IsTrue (K.covered key) }
     ensures done { Does (at_key key (hincrby_step field by))
         (K.contents keyspace.old) (K.contents keyspace.new) result }
     ensures starves { OnErr result
         (IsSome (pairs_there (map.get (K.contents keyspace.old) key))
         × IsOk (stored_sum (field_value (some_pairs (map.get (K.contents keyspace.old) key)) field) by)) }
-    ensures covers { K.covered keyspace.new ≡ K.covered keyspace.old }
 {
     let sum = match keyspace.look(key.as_slice()) {
         None => by,

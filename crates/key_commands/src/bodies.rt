@@ -22,11 +22,10 @@ pub(crate) fn del<K: Keyspace>(
     keyspace: &mut K,
     keys: Texts,
 ) -> Result<Reply, Starved>
-    requires { All (λ key. IsTrue (K.covered keyspace.old key)) keys }
+    requires { All (λ key. IsTrue (K.covered key)) keys }
     ensures done { Does (del_case keys)
         (K.contents keyspace.old) (K.contents keyspace.new) result }
     ensures answers { IsOk result }
-    ensures covers { K.covered keyspace.new ≡ K.covered keyspace.old }
 {
     let mut removed: usize = 0;
     for key in keys.as_slice() {
@@ -50,13 +49,12 @@ pub(crate) fn rename<K: Keyspace>(
     from: Text,
     to: Text,
 ) -> Result<Reply, Starved>
-    requires from { IsTrue (K.covered keyspace.old from) }
-    requires to { IsTrue (K.covered keyspace.old to) }
+    requires from { IsTrue (K.covered from) }
+    requires to { IsTrue (K.covered to) }
     ensures done { Does (at_two from to (rename_step (bytes_eq from to)))
         (K.contents keyspace.old) (K.contents keyspace.new) result }
     ensures starves { OnErr result
         (IsSome (map.get (K.contents keyspace.old) from) × (map.get (K.contents keyspace.old) to ≡ None)) }
-    ensures covers { K.covered keyspace.new ≡ K.covered keyspace.old }
 {
     if keyspace.look(from.as_slice()).is_none() {
         return Ok(no_such_key_reply());

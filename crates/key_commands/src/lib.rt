@@ -30,11 +30,10 @@ pub fn run_key_command<K: Keyspace>(
     keyspace: &mut K,
     command: KeyCommand,
 ) -> Result<Reply, Starved>
-    requires { All (λ key. IsTrue (K.covered keyspace.old key)) (key_command_keys command) }
+    requires { All (λ key. IsTrue (K.covered key)) (key_command_keys command) }
     ensures done { Does (key_command_case command)
         (K.contents keyspace.old) (K.contents keyspace.new) result }
     ensures starves { OnErr result (KeyCommandTakesMemory command (K.contents keyspace.old)) }
-    ensures covers { K.covered keyspace.new ≡ K.covered keyspace.old }
 {
     command_rows!(keys, body_rows, KeyCommand, alloc, keyspace, command)
 }

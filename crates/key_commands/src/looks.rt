@@ -18,7 +18,7 @@ pub(crate) fn exists<K: Keyspace>(
     keyspace: &K,
     keys: Texts,
 ) -> Result<Reply, Starved>
-    requires { All (λ key. IsTrue (K.covered keyspace.now key)) keys }
+    requires { All (λ key. IsTrue (K.covered key)) keys }
     ensures done { Does (exists_case keys)
         (K.contents keyspace.now) (K.contents keyspace.now) result }
     ensures answers { IsOk result }
@@ -40,7 +40,7 @@ pub(crate) fn type_of<K: Keyspace>(
     keyspace: &K,
     key: Text,
 ) -> Result<Reply, Starved>
-    requires { IsTrue (K.covered keyspace.now key) }
+    requires { IsTrue (K.covered key) }
     ensures done { Does (at_key key type_step)
         (K.contents keyspace.now) (K.contents keyspace.now) result }
     ensures answers { IsOk result }

@@ -26,13 +26,12 @@ pub(crate) fn renamenx<K: Keyspace>(
     from: Text,
     to: Text,
 ) -> Result<Reply, Starved>
-    requires from { IsTrue (K.covered keyspace.old from) }
-    requires to { IsTrue (K.covered keyspace.old to) }
+    requires from { IsTrue (K.covered from) }
+    requires to { IsTrue (K.covered to) }
     ensures done { Does (at_two from to (renamenx_step (bytes_eq from to)))
         (K.contents keyspace.old) (K.contents keyspace.new) result }
     ensures starves { OnErr result
         (IsSome (map.get (K.contents keyspace.old) from) × (map.get (K.contents keyspace.old) to ≡ None)) }
-    ensures covers { K.covered keyspace.new ≡ K.covered keyspace.old }
 {
     if keyspace.look(from.as_slice()).is_none() {
         return Ok(no_such_key_reply());

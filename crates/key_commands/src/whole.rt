@@ -24,7 +24,6 @@ pub(crate) fn flushall<K: Keyspace>(_alloc: Global, keyspace: &mut K) -> Result<
     ensures done { Does flushall_case
         (K.contents keyspace.old) (K.contents keyspace.new) result }
     ensures answers { IsOk result }
-    ensures covers { K.covered keyspace.new ≡ K.covered keyspace.old }
 {
     keyspace.clear();
     Ok(ok_reply())

@@ -61,7 +61,7 @@ impl<S: BuildHasher> Keyspace for Plain<S> {
 
     ghost contents = { λ p. map_of p.entries.entries };
 
-    ghost covered = { λ _ _. true };
+    ghost covered = { λ _. true };
 
     fn covers(&self, _key: &[u8]) -> bool {
         true

@@ -1,6 +1,6 @@
 -- What a row tells of what starved.
 use Rattle.std.proofs.Common.{◌≡◌, ℕ, zero, suc, ◌+◌, ◌-◌, ◌<◌, ◌≤◌, min, List, [], ◌∷◌, ◌++◌, length, map, take, drop, get_or, Bool, true, false, cond}
-use Rattle.std.proofs.Common.{Option, Some, None, Result, Ok, Err, refl, ap, sym, subst, ◌∙◌, arith, length-append}
+use Rattle.std.proofs.Common.{Option, Some, None, Result, Ok, Err, refl, ap, sym, ◌∙◌, arith, length-append}
 use Rattle.std.specs.List.{flat_map, AllByRecursion}
 use Rattle.std.specs.Str.{bytes_eq}
 use Rattle.std.proofs.lemmas.List.{append_assoc, append-nil, length-map, length-take-le, map-append, map_push, take-map, take_min, take_more}
@@ -13,8 +13,8 @@ use Rattle.command_table.specs.Words.{Word}
 use Rattle.command_table.specs.declared.refusal.Refusal.{Refusal}
 use Rattle.groups.specs.declared.request.RequestId.{RequestId}
 use Rattle.groups.specs.declared.skip_id.SkipId.{SkipId}
-use Rattle.groups.specs.declared.skip_id.SkipId.TheVariants.{Whole, Part}
-use Rattle.journal.specs.Names.{IsNumbered, AreNumbered}
+use Rattle.groups.specs.declared.skip_id.SkipId.TheVariants.{Part}
+use Rattle.journal.specs.Names.{AreNumbered}
 use Rattle.layer_results.specs.Results.{member_count, starved_by, names_by, row_names, names_of}
 use Rattle.layer_results.specs.Wants.{wants_among}
 use Rattle.layer_results.specs.declared.done.DoneRow.{DoneRow}

@@ -1,6 +1,6 @@
 -- What comes of a layer, as contracts see it: the rows of its requests, in its order.
-use Rattle.std.specs.Prelude.{◌≡◌, ℕ, List, [], ◌∷◌, length, map, Option, Some, None, option_map, if◌then◌else◌}
-use Rattle.std.specs.List.{AllZip, flat_map}
+use Rattle.std.specs.Prelude.{ℕ, List, [], ◌∷◌, length, map, Option, Some, None, option_map, if◌then◌else◌}
+use Rattle.std.specs.List.{flat_map}
 use Rattle.std.specs.Str.{bytes_eq}
 use Rattle.tasks.specs.Starved.{wants_in}
 use Rattle.groups.specs.declared.request.RequestId.{RequestId}
@@ -9,8 +9,6 @@ use Rattle.groups.specs.declared.skip_id.SkipId.TheVariants.{Whole, Part}
 use Rattle.layer_results.specs.declared.done.DoneRow.{DoneRow}
 use Rattle.resp.specs.Content.{Content, content}
 use Rattle.sessions.specs.Control.{exec_name}
-
--- ---- what starved
 
 -- how many members a request of these words has: an EXEC has one for each word behind its name, a command none
 abbrev pub member_count : List (List ℕ) → ℕ
@@ -33,15 +31,3 @@ row_names row = names_by row.id row.words (option_map content row.reply)
 -- what starved of the layer
 abbrev pub names_of : List DoneRow → List SkipId
 names_of done = flat_map row_names done
-
--- ---- copies
-
--- the same request, with the same words and a reply that says the same
-pub record IsCopy (row copy : DoneRow) : Type 0 where
-  pub id : copy.id ≡ row.id
-  pub stamp : copy.stamp ≡ row.stamp
-  pub words : copy.words ≡ row.words
-  pub reply : option_map content copy.reply ≡ option_map content row.reply
-
-abbrev pub AreCopies : List DoneRow → List DoneRow → Type 0
-AreCopies done copy = AllZip IsCopy done copy

@@ -1,9 +1,8 @@
 //! What comes of a layer.
 
 ghost use Rattle.std.specs.Prelude.{◌≡◌, ◌+◌, ◌≤◌, ◌^◌, ◌++◌, [], length, IfOk, MatchOption, vec_len, vec_capacity};
-ghost use Rattle.layer_results.specs.Results.{names_of, AreCopies};
+ghost use Rattle.layer_results.specs.Results.{names_of};
 
-use crate::copies::copies_of;
 use crate::starving::{push_row_names, row_count};
 use groups::{RequestId, SkipId, Stamp};
 use journal::SkipIds;
@@ -108,13 +107,5 @@ impl Done {
         let mut names = Vec::with_capacity(alloc, count)?;
         self.push_names(&mut names);
         Ok(SkipIds::new(names))
-    }
-
-    /// A copy: the same requests, with the same words and replies that say the same. The only error is want of memory.
-    pub fn try_clone(&self, alloc: Global) -> Result<Self, AllocError>
-        ensures { IfOk result (AreCopies self.now) }
-    {
-        let rows = copies_of(alloc, self.rows.as_slice())?;
-        Ok(Done { rows })
     }
 }

@@ -5,7 +5,6 @@
 //! members.
 #![tactic(auto)]
 
-mod copies;
 mod done;
 mod members;
 mod starving;

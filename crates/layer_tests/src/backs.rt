@@ -141,8 +141,7 @@ fn same_told(alloc: Global, done: &Done, wanted: &str) -> Result<(), Fail> {
 
 /// This came of the last layer.
 fn same_done(alloc: Global, back: &Back, wanted: &str) -> Result<(), Fail> {
-    let done = back.done()?;
-    same_told(alloc, &done, wanted)
+    same_told(alloc, back.done(), wanted)
 }
 
 /// This came of the last layer, and is handed over.

@@ -24,11 +24,10 @@ pub(crate) fn lpop<K: Keyspace>(
     keyspace: &mut K,
     key: Text,
 ) -> Result<Reply, Starved>
-    requires { IsTrue (K.covered keyspace.old key) }
+    requires { IsTrue (K.covered key) }
     ensures done { Does (at_key key (at_list (pop_step Head)))
         (K.contents keyspace.old) (K.contents keyspace.new) result }
     ensures answers { IsOk result }
-    ensures covers { K.covered keyspace.new ≡ K.covered keyspace.old }
 {
     Ok(pop(alloc, keyspace, key.as_slice(), End::Head))
 }
@@ -41,11 +40,10 @@ pub(crate) fn rpop<K: Keyspace>(
     keyspace: &mut K,
     key: Text,
 ) -> Result<Reply, Starved>
-    requires { IsTrue (K.covered keyspace.old key) }
+    requires { IsTrue (K.covered key) }
     ensures done { Does (at_key key (at_list (pop_step Tail)))
         (K.contents keyspace.old) (K.contents keyspace.new) result }
     ensures answers { IsOk result }
-    ensures covers { K.covered keyspace.new ≡ K.covered keyspace.old }
 {
     Ok(pop(alloc, keyspace, key.as_slice(), End::Tail))
 }
@@ -53,10 +51,9 @@ pub(crate) fn rpop<K: Keyspace>(
 /// Takes the item at this end of the list at a key, and answers it; null where the key is missing.
 #[tactic(auto, using(keyspace::proofs::Changes::changes, resp::proofs::Contents::content_of))]
 pub(crate) fn pop<K: Keyspace>(alloc: Global, keyspace: &mut K, key: &[u8], end: End) -> Reply
-    requires { IsTrue (K.covered keyspace.old key.now) }
+    requires { IsTrue (K.covered key.now) }
     ensures done { (K.contents keyspace.new, content result)
         ≡ at_key key.now (at_list (pop_step end)) (K.contents keyspace.old) }
-    ensures covers { K.covered keyspace.new ≡ K.covered keyspace.old }
 {
     match keyspace.look(key) {
         None => return Reply::Null,
@@ -78,11 +75,10 @@ pub(crate) fn lpush<K: Keyspace>(
     key: Text,
     items: Texts,
 ) -> Result<Reply, Starved>
-    requires { IsTrue (K.covered keyspace.old key) }
+    requires { IsTrue (K.covered key) }
     ensures done { Does (at_key key (at_list (push_step Head items)))
         (K.contents keyspace.old) (K.contents keyspace.new) result }
     ensures starves { OnErr result (IsTrue (may_be_list (map.get (K.contents keyspace.old) key))) }
-    ensures covers { K.covered keyspace.new ≡ K.covered keyspace.old }
 {
     push(keyspace, key, End::Head, items)
 }
@@ -96,11 +92,10 @@ pub(crate) fn rpush<K: Keyspace>(
     key: Text,
     items: Texts,
 ) -> Result<Reply, Starved>
-    requires { IsTrue (K.covered keyspace.old key) }
+    requires { IsTrue (K.covered key) }
     ensures done { Does (at_key key (at_list (push_step Tail items)))
         (K.contents keyspace.old) (K.contents keyspace.new) result }
     ensures starves { OnErr result (IsTrue (may_be_list (map.get (K.contents keyspace.old) key))) }
-    ensures covers { K.covered keyspace.new ≡ K.covered keyspace.old }
 {
     push(keyspace, key, End::Tail, items)
 }
@@ -114,11 +109,10 @@ pub(crate) fn lpushx<K: Keyspace>(
     key: Text,
     items: Texts,
 ) -> Result<Reply, Starved>
-    requires { IsTrue (K.covered keyspace.old key) }
+    requires { IsTrue (K.covered key) }
     ensures done { Does (at_key key (at_list (push_there_step Head items)))
         (K.contents keyspace.old) (K.contents keyspace.new) result }
     ensures starves { OnErr result (IsTrue (is_list (map.get (K.contents keyspace.old) key))) }
-    ensures covers { K.covered keyspace.new ≡ K.covered keyspace.old }
 {
     push_there(keyspace, key.as_slice(), End::Head, items)
 }
@@ -132,22 +126,20 @@ pub(crate) fn rpushx<K: Keyspace>(
     key: Text,
     items: Texts,
 ) -> Result<Reply, Starved>
-    requires { IsTrue (K.covered keyspace.old key) }
+    requires { IsTrue (K.covered key) }
     ensures done { Does (at_key key (at_list (push_there_step Tail items)))
         (K.contents keyspace.old) (K.contents keyspace.new) result }
     ensures starves { OnErr result (IsTrue (is_list (map.get (K.contents keyspace.old) key))) }
-    ensures covers { K.covered keyspace.new ≡ K.covered keyspace.old }
 {
     push_there(keyspace, key.as_slice(), End::Tail, items)
 }
 
 /// Pushes the items at this end of the list at a key, all of them or none; a missing key gets a new list.
 fn push<K: Keyspace>(keyspace: &mut K, key: Text, end: End, items: Texts) -> Result<Reply, Starved>
-    requires { IsTrue (K.covered keyspace.old key) }
+    requires { IsTrue (K.covered key) }
     ensures done { Does (at_key key (at_list (push_step end items)))
         (K.contents keyspace.old) (K.contents keyspace.new) result }
     ensures starves { OnErr result (IsTrue (may_be_list (map.get (K.contents keyspace.old) key))) }
-    ensures covers { K.covered keyspace.new ≡ K.covered keyspace.old }
 {
     match keyspace.look_mut(key.as_slice()) {
         None => push_new(keyspace, key, end, items),
@@ -163,11 +155,10 @@ fn push_new<K: Keyspace>(
     end: End,
     items: Texts,
 ) -> Result<Reply, Starved>
-    requires covered { IsTrue (K.covered keyspace.old key) }
+    requires covered { IsTrue (K.covered key) }
     requires absent { map.get (K.contents keyspace.old) key ≡ None }
     ensures done { Does (at_key key (at_list (push_step end items)))
         (K.contents keyspace.old) (K.contents keyspace.new) result }
-    ensures covers { K.covered keyspace.new ≡ K.covered keyspace.old }
 {
     let Some(list) = ListValue::from_pushes(end, items) else {
         return Ok(count_reply(0));
@@ -187,11 +178,10 @@ fn push_there<K: Keyspace>(
     end: End,
     items: Texts,
 ) -> Result<Reply, Starved>
-    requires { IsTrue (K.covered keyspace.old key.now) }
+    requires { IsTrue (K.covered key.now) }
     ensures done { Does (at_key key.now (at_list (push_there_step end items)))
         (K.contents keyspace.old) (K.contents keyspace.new) result }
     ensures starves { OnErr result (IsTrue (is_list (map.get (K.contents keyspace.old) key.now))) }
-    ensures covers { K.covered keyspace.new ≡ K.covered keyspace.old }
 {
     match keyspace.look_mut(key) {
         None => Ok(count_reply(0)),

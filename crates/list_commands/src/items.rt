@@ -33,11 +33,10 @@ pub(crate) fn lset<K: Keyspace>(
     place: i64,
     item: Text,
 ) -> Result<Reply, Starved>
-    requires { IsTrue (K.covered keyspace.old key) }
+    requires { IsTrue (K.covered key) }
     ensures done { Does (at_key key (at_list (set_step place item)))
         (K.contents keyspace.old) (K.contents keyspace.new) result }
     ensures answers { IsOk result }
-    ensures covers { K.covered keyspace.new ≡ K.covered keyspace.old }
 {
     let length = match keyspace.look(key.as_slice()) {
         None => return Ok(no_such_key_reply()),
@@ -72,11 +71,10 @@ pub(crate) fn ltrim<K: Keyspace>(
     start: i64,
     end: i64,
 ) -> Result<Reply, Starved>
-    requires { IsTrue (K.covered keyspace.old key) }
+    requires { IsTrue (K.covered key) }
     ensures done { Does (at_key key (at_list (trim_step start end)))
         (K.contents keyspace.old) (K.contents keyspace.new) result }
     ensures answers { IsOk result }
-    ensures covers { K.covered keyspace.new ≡ K.covered keyspace.old }
 {
     Ok(trim(alloc, keyspace, key.as_slice(), start, end))
 }
@@ -84,10 +82,9 @@ pub(crate) fn ltrim<K: Keyspace>(
 /// Keeps the items from the start to the end of the list at a key.
 #[tactic(auto, using(keyspace::proofs::Changes::changes))]
 fn trim<K: Keyspace>(alloc: Global, keyspace: &mut K, key: &[u8], start: i64, end: i64) -> Reply
-    requires { IsTrue (K.covered keyspace.old key.now) }
+    requires { IsTrue (K.covered key.now) }
     ensures done { (K.contents keyspace.new, content result)
         ≡ at_key key.now (at_list (trim_step start end)) (K.contents keyspace.old) }
-    ensures covers { K.covered keyspace.new ≡ K.covered keyspace.old }
 {
     match keyspace.look(key) {
         None => return ok_reply(),
@@ -119,11 +116,10 @@ pub(crate) fn lrem<K: Keyspace>(
     count: i64,
     item: Text,
 ) -> Result<Reply, Starved>
-    requires { IsTrue (K.covered keyspace.old key) }
+    requires { IsTrue (K.covered key) }
     ensures done { Does (at_key key (at_list (remove_step count item)))
         (K.contents keyspace.old) (K.contents keyspace.new) result }
     ensures answers { IsOk result }
-    ensures covers { K.covered keyspace.new ≡ K.covered keyspace.old }
 {
     match keyspace.look(key.as_slice()) {
         None => return Ok(count_reply(0)),
@@ -165,11 +161,10 @@ pub(crate) fn linsert<K: Keyspace>(
     pivot: Text,
     item: Text,
 ) -> Result<Reply, Starved>
-    requires { IsTrue (K.covered keyspace.old key) }
+    requires { IsTrue (K.covered key) }
     ensures done { Does (at_key key (at_list (insert_step side pivot item)))
         (K.contents keyspace.old) (K.contents keyspace.new) result }
     ensures starves { OnErr result (IsTrue (is_list (map.get (K.contents keyspace.old) key))) }
-    ensures covers { K.covered keyspace.new ≡ K.covered keyspace.old }
 {
     let found = match keyspace.look(key.as_slice()) {
         None => return Ok(count_reply(0)),

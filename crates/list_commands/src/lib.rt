@@ -33,11 +33,10 @@ pub fn run_list_command<K: Keyspace>(
     keyspace: &mut K,
     command: ListCommand,
 ) -> Result<Reply, Starved>
-    requires { All (λ key. IsTrue (K.covered keyspace.old key)) (list_command_keys command) }
+    requires { All (λ key. IsTrue (K.covered key)) (list_command_keys command) }
     ensures done { Does (list_command_case command)
         (K.contents keyspace.old) (K.contents keyspace.new) result }
     ensures starves { OnErr result (ListCommandTakesMemory command (K.contents keyspace.old)) }
-    ensures covers { K.covered keyspace.new ≡ K.covered keyspace.old }
 {
     command_rows!(lists, body_rows, ListCommand, alloc, keyspace, command)
 }

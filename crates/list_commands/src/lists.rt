@@ -15,11 +15,10 @@ use values::{ListValue, Value};
 /// Takes the list at a key out; the key keeps its place, with the empty string. It takes no memory.
 #[tactic(auto, using(keyspace::proofs::Changes::changes))]
 pub(crate) fn take_list<K: Keyspace>(alloc: Global, keyspace: &mut K, key: &[u8]) -> ListValue
-    requires covered { IsTrue (K.covered keyspace.old key.now) }
+    requires covered { IsTrue (K.covered key.now) }
     requires there { IsTrue (is_list (map.get (K.contents keyspace.old) key.now)) }
     ensures list { map.get (K.contents keyspace.old) key.now ≡ Some (kind.List result) }
     ensures held { K.contents keyspace.new ≡ map.insert (K.contents keyspace.old) key.now (kind.Str []) }
-    ensures covers { K.covered keyspace.new ≡ K.covered keyspace.old }
 {
     let Value::List(list) = keyspace.replace(key, Value::Str(Text::empty(alloc))) else {
         unreachable!();
@@ -29,10 +28,9 @@ pub(crate) fn take_list<K: Keyspace>(alloc: Global, keyspace: &mut K, key: &[u8]
 
 /// Puts what is left of a list at a key that is there; the key goes where nothing is left. It takes no memory.
 pub(crate) fn leave_list<K: Keyspace>(keyspace: &mut K, key: &[u8], left: Option<ListValue>)
-    requires covered { IsTrue (K.covered keyspace.old key.now) }
+    requires covered { IsTrue (K.covered key.now) }
     requires there { IsSome (map.get (K.contents keyspace.old) key.now) }
     ensures left { K.contents keyspace.new ≡ set (K.contents keyspace.old) key.now (option_map kind.List left) }
-    ensures covers { K.covered keyspace.new ≡ K.covered keyspace.old }
 {
     match left {
         Some(list) => {

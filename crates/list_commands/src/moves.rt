@@ -31,12 +31,11 @@ pub(crate) fn rpoplpush<K: Keyspace>(
     from: Text,
     to: Text,
 ) -> Result<Reply, Starved>
-    requires from { IsTrue (K.covered keyspace.old from) }
-    requires to { IsTrue (K.covered keyspace.old to) }
+    requires from { IsTrue (K.covered from) }
+    requires to { IsTrue (K.covered to) }
     ensures done { Does (at_two from to (move_step (bytes_eq from to) Tail Head))
         (K.contents keyspace.old) (K.contents keyspace.new) result }
     ensures starves { OnErr result (IsTrue (is_list (map.get (K.contents keyspace.old) from))) }
-    ensures covers { K.covered keyspace.new ≡ K.covered keyspace.old }
 {
     lmove(alloc, keyspace, from, to, End::Tail, End::Head)
 }
@@ -54,12 +53,11 @@ pub(crate) fn lmove<K: Keyspace>(
     taken: End,
     put: End,
 ) -> Result<Reply, Starved>
-    requires from { IsTrue (K.covered keyspace.old from) }
-    requires to { IsTrue (K.covered keyspace.old to) }
+    requires from { IsTrue (K.covered from) }
+    requires to { IsTrue (K.covered to) }
     ensures done { Does (at_two from to (move_step (bytes_eq from to) taken put))
         (K.contents keyspace.old) (K.contents keyspace.new) result }
     ensures starves { OnErr result (IsTrue (is_list (map.get (K.contents keyspace.old) from))) }
-    ensures covers { K.covered keyspace.new ≡ K.covered keyspace.old }
 {
     match keyspace.look(from.as_slice()) {
         None => return Ok(Reply::Null),
@@ -85,11 +83,10 @@ fn turn<K: Keyspace>(
     taken: End,
     put: End,
 ) -> Result<Reply, Starved>
-    requires covered { IsTrue (K.covered keyspace.old key.now) }
+    requires covered { IsTrue (K.covered key.now) }
     requires there { IsTrue (is_list (map.get (K.contents keyspace.old) key.now)) }
     ensures done { Does (at_two key.now key.now (move_step true taken put))
         (K.contents keyspace.old) (K.contents keyspace.new) result }
-    ensures covers { K.covered keyspace.new ≡ K.covered keyspace.old }
 {
     let copy = end_copy(alloc, keyspace, key, taken)?;
     let mut list = take_list(alloc, keyspace, key);
@@ -107,14 +104,13 @@ fn move_apart<K: Keyspace>(
     taken: End,
     put: End,
 ) -> Result<Reply, Starved>
-    requires from { IsTrue (K.covered keyspace.old from.now) }
-    requires to { IsTrue (K.covered keyspace.old to) }
+    requires from { IsTrue (K.covered from.now) }
+    requires to { IsTrue (K.covered to) }
     requires apart { bytes_eq from.now to ≡ false }
     requires there { IsTrue (is_list (map.get (K.contents keyspace.old) from.now)) }
     requires target { IsTrue (may_be_list (map.get (K.contents keyspace.old) to)) }
     ensures done { Does (at_two from.now to (move_step false taken put))
         (K.contents keyspace.old) (K.contents keyspace.new) result }
-    ensures covers { K.covered keyspace.new ≡ K.covered keyspace.old }
 {
     let copy = end_copy(alloc, keyspace, from, taken)?;
     put_item(alloc, keyspace, to, put, copy)?;
@@ -129,7 +125,7 @@ fn end_copy<K: Keyspace>(
     key: &[u8],
     end: End,
 ) -> Result<Text, AllocError>
-    requires covered { IsTrue (K.covered keyspace.now key.now) }
+    requires covered { IsTrue (K.covered key.now) }
     requires there { IsTrue (is_list (map.get (K.contents keyspace.now) key.now)) }
     ensures { IfOk result (λ copy. copy ∷ [] ≡ end_item end (items_there (map.get (K.contents keyspace.now) key.now))) }
 {
@@ -160,13 +156,12 @@ fn put_item<K: Keyspace>(
     end: End,
     item: Text,
 ) -> Result<(), Starved>
-    requires covered { IsTrue (K.covered keyspace.old key) }
+    requires covered { IsTrue (K.covered key) }
     requires target { IsTrue (may_be_list (map.get (K.contents keyspace.old) key)) }
     ensures ok { OnOk result (K.contents keyspace.new
         ≡ map.insert (K.contents keyspace.old) key
         (kind.List (joined end (items_there (map.get (K.contents keyspace.old) key)) (item ∷ [])))) }
     ensures err { OnErr result (K.contents keyspace.new ≡ K.contents keyspace.old) }
-    ensures covers { K.covered keyspace.new ≡ K.covered keyspace.old }
 {
     if keyspace.look(key.as_slice()).is_none() {
         let list = list_of_one(alloc, item)?;

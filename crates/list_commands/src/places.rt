@@ -21,7 +21,7 @@ use values::{ListValue, Value};
 /// It takes no memory. <https://redis.io/docs/latest/commands/llen/>
 #[tactic(auto, using(keyspace::proofs::Changes::changes))]
 pub(crate) fn llen<K: Keyspace>(_alloc: Global, keyspace: &K, key: Text) -> Result<Reply, Starved>
-    requires { IsTrue (K.covered keyspace.now key) }
+    requires { IsTrue (K.covered key) }
     ensures done { Does (at_key key (at_list length_step))
         (K.contents keyspace.now) (K.contents keyspace.now) result }
     ensures answers { IsOk result }
@@ -43,7 +43,7 @@ pub(crate) fn lindex<K: Keyspace>(
     key: Text,
     place: i64,
 ) -> Result<Reply, Starved>
-    requires { IsTrue (K.covered keyspace.now key) }
+    requires { IsTrue (K.covered key) }
     ensures done { Does (at_key key (at_list (index_step place)))
         (K.contents keyspace.now) (K.contents keyspace.now) result }
     ensures starves { OnErr result (IsTrue (is_list (map.get (K.contents keyspace.now) key))) }
@@ -100,7 +100,7 @@ pub(crate) fn lrange<K: Keyspace>(
     start: i64,
     end: i64,
 ) -> Result<Reply, Starved>
-    requires { IsTrue (K.covered keyspace.now key) }
+    requires { IsTrue (K.covered key) }
     ensures done { Does (at_key key (at_list (range_step start end)))
         (K.contents keyspace.now) (K.contents keyspace.now) result }
     ensures starves { OnErr result (IsTrue (is_list (map.get (K.contents keyspace.now) key))) }

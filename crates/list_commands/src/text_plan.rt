@@ -20,7 +20,7 @@ use values::{ListValue, Value};
 
 /// When the memory for the text of this command's reply is taken. The keyspace has to cover each of its keys.
 pub fn list_text_plan<K: Keyspace>(keyspace: &K, command: &ListCommand) -> TextPlan
-    requires { All (λ key. IsTrue (K.covered keyspace.now key)) (list_command_keys command.now) }
+    requires { All (λ key. IsTrue (K.covered key)) (list_command_keys command.now) }
     ensures { IsPlanFor (list_command_case command.now) (K.contents keyspace.now) result }
 {
     match command {
@@ -41,7 +41,7 @@ pub fn list_text_plan<K: Keyspace>(keyspace: &K, command: &ListCommand) -> TextP
 
 /// The plan of a body that changes the keyspace and answers what a pop at this end would.
 fn plan_for_end<K: Keyspace>(keyspace: &K, key: &Text, end: End) -> TextPlan
-    requires { IsTrue (K.covered keyspace.now key.now) }
+    requires { IsTrue (K.covered key.now) }
     ensures { (case : Case) → (case (K.contents keyspace.now)).1 ≡ (at_list (pop_step end) (get (K.contents keyspace.now) key.now)).1
         → IsPlanFor case (K.contents keyspace.now) result }
 {
@@ -53,8 +53,8 @@ fn plan_for_end<K: Keyspace>(keyspace: &K, key: &Text, end: End) -> TextPlan
 
 /// The plan of LMOVE and RPOPLPUSH, which answer the item at this end of the first list.
 fn plan_for_move<K: Keyspace>(keyspace: &K, from: &Text, to: &Text, taken: End) -> TextPlan
-    requires from { IsTrue (K.covered keyspace.now from.now) }
-    requires to { IsTrue (K.covered keyspace.now to.now) }
+    requires from { IsTrue (K.covered from.now) }
+    requires to { IsTrue (K.covered to.now) }
     ensures { (put : End) → IsPlanFor (at_two from.now to.now (move_step (bytes_eq from.now to.now) taken put))
         (K.contents keyspace.now) result }
 {
@@ -67,7 +67,7 @@ fn plan_for_move<K: Keyspace>(keyspace: &K, from: &Text, to: &Text, taken: End) 
 
 /// Whether an item of the first key's list can go to the second key: it is the same one, or has a list or nothing.
 fn receives<K: Keyspace>(keyspace: &K, from: &Text, to: &Text) -> bool
-    requires { IsTrue (K.covered keyspace.now to.now) }
+    requires { IsTrue (K.covered to.now) }
     ensures { result ≡ (bytes_eq from.now to.now || may_be_list (get (K.contents keyspace.now) to.now)) }
 {
     if from.as_slice() == to.as_slice() {

@@ -57,7 +57,7 @@ group_of-set gs g v low h =
     ∙ elim (h == g) as (λ b. (cond b v (slice_index_or gs h (new_group h))).state ≡ cond b v.state (group_of gs h))
     [ true ↦ refl | false ↦ refl ]
 
-length-set : {X : Type 0} (xs : List X) (g : ℕ) (x : X) → length (slice_set xs g x) ≡ length xs
+pub length-set : {X : Type 0} (xs : List X) (g : ℕ) (x : X) → length (slice_set xs g x) ≡ length xs
 length-set [] g x = refl
 length-set (y ∷ ys) zero x = refl
 length-set (y ∷ ys) (suc g) x = ap suc (length-set ys g x)

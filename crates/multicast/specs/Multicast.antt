@@ -1,8 +1,13 @@
 -- All groups with the packets between them and their queues.
-use Rattle.std.specs.Prelude.{◌≡◌, ℕ, ◌==◌, ◌<◌, ◌≤◌, cond, List, [], ◌∷◌, ◌++◌, length, remove, slice_get, slice_index_or, Some}
+use Rattle.std.specs.Prelude.{◌≡◌, ℕ, zero, suc, ◌*◌, ◌==◌, ◌<◌, ◌≤◌, true, false, cond, List, [], ◌∷◌, ◌++◌, length, remove, slice_get}
+use Rattle.std.specs.Prelude.{slice_index_or, Some}
 use Rattle.delivery.specs.Queues.{queue_of, MayAppend, IsSound}
 use Rattle.delivery.specs.Ready.{QueueOf, IsLayer, left_in}
-use Rattle.skeen_core.specs.Group.{GroupState, GroupView, new_group, MayCome, Receives}
+use Rattle.groups.specs.GroupSet.{has}
+use Rattle.groups.specs.Stamp.{final}
+use Rattle.groups.specs.declared.stamp.Stamp.{Stamp}
+use Rattle.skeen_core.specs.Group.{GroupState, GroupView, new_group, next_clock, MayCome, Receives}
+use Rattle.skeen_core.specs.Offers.{Offers, settled}
 use Rattle.skeen_core.specs.declared.packet.Body.{Body}
 use Rattle.skeen_core.specs.declared.packet.Body.TheVariants.{Start, Proposal}
 use Rattle.skeen_core.specs.declared.packet.Delivered.{Delivered}
@@ -96,16 +101,40 @@ pub record LosesLayer (old : MulticastView) (layer : List Delivered) (new : Mult
 
 -- ---- a request passes
 
--- A request begins, its only Start comes to its group, which delivers it at once, and it is taken as a layer of its own: one after the
--- other.
+-- so many packets come, each the oldest then
+abbrev pub Arrives : ℕ → MulticastView → MulticastView → Type 0
+Arrives zero old new = new ≡ old
+Arrives (suc n) old new = (mid : MulticastView) × Delivers old 0 mid × Arrives n mid new
+
+-- so many packets a request of so many groups has: a Start for each, which tells each other one its proposal
+abbrev pub packets_of : List ℕ → ℕ
+packets_of addressed = length addressed * length addressed
+
+-- A request begins, all its packets come, and it is taken as a layer of its own.
 pub record Passes (old : MulticastView) (id : RequestId) (floor : ℕ) (addressed : List ℕ) (d : Delivered) (new : MulticastView) : Type 0
   where
+    pub groups : d.groups ≡ addressed
     pub begun : MulticastView
     pub begins : Begins old id floor addressed begun
     pub come : MulticastView
-    pub delivers : Delivers begun 0 come
+    pub arrives : Arrives (packets_of addressed) begun come
     pub layer : IsLayer (queue_of come.queues) (d ∷ [])
-    pub taken : LosesLayer come (d ∷ []) new
+    pub taken : IsSound (queue_of come.queues) → LosesLayer come (d ∷ []) new
+
+-- A request is alone: each of its groups would propose for it, nothing stands in their queues, and s is the greatest proposal.
+pub record IsAlone (groups : List GroupView) (queues : List (List Delivered)) (id : RequestId) (floor : ℕ) (addressed : List ℕ) (s : Stamp)
+    : Type 0 where
+  pub offers : (g : ℕ) → has addressed g ≡ true → Offers (group_of groups g) id floor (next_clock (group_of groups g) floor)
+  pub empty : (g : ℕ) → has addressed g ≡ true → queue_of queues g ≡ []
+  pub greatest : final (λ g. Some (next_clock (group_of groups g) floor)) addressed ≡ Some s
+
+-- it was delivered by each of its groups at this clock
+pub record AreSettled (old : List GroupView) (id : RequestId) (clock : ℕ) (addressed : List ℕ) (new : List GroupView) : Type 0 where
+  pub count : length new ≡ length old
+  pub inside : (g : ℕ) → has addressed g ≡ true → group_of new g ≡ settled (group_of old g) id clock
+  pub outside : (g : ℕ) → has addressed g ≡ false → group_of new g ≡ group_of old g
+  pub numbered : ((g : ℕ) → (d : GroupView) → g < length old → (slice_index_or old g d).me ≡ g) →
+      (g : ℕ) → (d : GroupView) → g < length new → (slice_index_or new g d).me ≡ g
 
 -- ---- what every state is like
 

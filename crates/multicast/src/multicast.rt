@@ -1,19 +1,21 @@
 //! The groups, their packets and their queues, as one.
 
 ghost use Rattle.std.specs.Prelude.{◌≡◌, ℕ, ◌+◌, ◌<◌, ◌≤◌, ◌++◌, [], ◌∷◌, length, slice_get, true, option_copied, Some, IfOk, IfErr, OnOk};
-ghost use Rattle.std.specs.Prelude.{OnErr, IsOk, IsTrue, ◌↔◌, IfSome, IfNone};
-ghost use Rattle.std.specs.FinMap.{len};
+ghost use Rattle.std.specs.Prelude.{OnErr, IsOk, IsSome, IsTrue, ◌↔◌, IfSome, IfNone, false};
+ghost use Rattle.std.specs.FinMap.{get, len};
+ghost use Rattle.groups.specs.GroupSet.{has};
 ghost use Rattle.delivery.specs.Queues.{queue_of, room_of, IsSound};
 ghost use Rattle.delivery.specs.Ready.{IsReady, IsLayer};
 ghost use Rattle.skeen_core.specs.Group.{fresh, new_group};
 ghost use Rattle.skeen_core.specs.declared.packet.Packet.{Packet};
 ghost use Rattle.skeen_core.specs.declared.packet.Delivered.{Delivered};
 ghost use Rattle.multicast.specs.Multicast.{at, group_of, sends_at_most, IsSame, IsWhole, Begins, MayAppendAll, MayBeDelivered, Delivers};
-ghost use Rattle.multicast.specs.Multicast.{Repeats, LosesLayer, Passes};
+ghost use Rattle.multicast.specs.Multicast.{Repeats, LosesLayer, Passes, IsAlone, AreSettled};
+ghost use Rattle.skeen_core.specs.declared.coming.TheConstants.{GREATEST_CLOCK};
 ghost use Rattle.skeen_core.specs.declared.packet.Body.{Body};
 
 use delivery::Queues;
-use groups::{GroupId, Groups, RequestId};
+use groups::{GroupId, Groups, RequestId, Stamp};
 use skeen_core::{Body, Delivered, Group, Links, Packet};
 use std::alloc::{AllocError, Global};
 use std::marker::Model;
@@ -125,25 +127,27 @@ impl Multicast {
         }
     }
 
-    /// A request begins. Where it addresses one group alone, and nothing stands before it there, its Start comes to the group, which
-    /// delivers it, and it is taken out as a layer of its own: no packet is sent and nothing is queued for that. None where it isn't
-    /// so simple, or where there is no memory: then nothing changes.
+    /// A request begins. Where it is alone at each of its groups, all its packets come, its groups deliver it, and it is taken out as a
+    /// layer of its own: what comes of it is known, and no packet is sent and nothing is queued for that. None where it isn't alone; or
+    /// where it addresses several groups, one of which has delivered none of its connection before, or where there is no memory for the
+    /// first one of a connection: then nothing changes.
     ///
-    /// No packet is under way, and no request is ready. The Start of a request of one group may come to that group, and what the group
-    /// delivers then may be appended to its queue.
+    /// No packet is under way, and no request is ready. The Start of the request may come to each of its groups.
     #[inline]
     pub fn pass(&mut self, id: RequestId, floor: u64, groups: Groups) -> Option<Delivered>
         requires no_packet { self.old.packets ≡ [] }
         requires none_ready { (d : Delivered) → ¬ IsReady (queue_of self.old.queues) d }
-        requires comes { (g : ℕ) → groups ≡ g ∷ [] → MayBeDelivered self.old (record { to = g; id = id; body = Body.Start floor groups }) }
+        requires comes { (g : ℕ) → has groups g ≡ true → MayBeDelivered self.old (record { to = g; id = id; body = Body.Start floor groups }) }
         ensures passed { IfSome result (λ d. Passes self.old id floor groups d self.new) }
         ensures unchanged { IfNone result (self.new ≡ self.old) }
     {
-        let group = groups.alone()?;
-        if self.queues.queued(group) != 0 {
+        if groups.len() == 0 {
             return None;
         }
-        let stamp = self.groups[usize::from(group.number())].pass(id, floor, groups)?;
+        let (stamp, are_known) = greatest_offer(&self.groups, &self.queues, id, floor, groups)?;
+        if !settle(&mut self.groups, id, stamp.clock, groups, are_known) {
+            return None;
+        }
         Some(Delivered { id, stamp, groups })
     }
 
@@ -311,4 +315,96 @@ fn append_all(queues: &mut Queues, group: GroupId, delivered: Vec<Delivered>)
             unreachable!()
         };
     }
+}
+
+/// The greatest stamp that its groups would propose for a request that is alone, if it is; and whether each of them has delivered an
+/// earlier one of its connection.
+#[inline]
+fn greatest_offer(
+    groups: &Vec<Group>,
+    queues: &Queues,
+    id: RequestId,
+    floor: u64,
+    addressed: Groups,
+) -> Option<(Stamp, bool)>
+    requires there { (g : ℕ) → has addressed g ≡ true → g < length groups.now.items }
+    requires clocks { (g : ℕ) → has addressed g ≡ true → (group_of groups.now.items g).clock ≤ GREATEST_CLOCK }
+    requires floor { (g : ℕ) → has addressed g ≡ true → floor ≤ GREATEST_CLOCK }
+    ensures alone { IfSome result (λ it. IsAlone groups.now.items queues.now.queues id floor addressed it.0) }
+    ensures known { IfSome result (λ it. it.1 ≡ true → (g : ℕ) → has addressed g ≡ true
+        → IsSome (get (group_of groups.now.items g).reached id.conn.0)) }
+{
+    let mut greatest = Stamp {
+        clock: 0,
+        group: GroupId::new(0),
+    };
+    let mut are_known = true;
+    for group in addressed.iter() {
+        if queues.queued(group) != 0 {
+            return None;
+        }
+        let (clock, is_known) = groups[usize::from(group.number())].offer(id, floor)?;
+        are_known &= is_known;
+        let proposed = Stamp { clock, group };
+        if greatest < proposed {
+            greatest = proposed;
+        }
+    }
+    Some((greatest, are_known))
+}
+
+/// Each of these groups delivers the request, which is alone there, at a stamp of this clock, where each has delivered an earlier one of
+/// its connection, or where it addresses one alone and there is memory; whether they did. Else nothing changes.
+#[inline]
+fn settle(
+    groups: &mut Vec<Group>,
+    id: RequestId,
+    clock: u64,
+    addressed: Groups,
+    are_known: bool,
+) -> bool
+    requires there { (g : ℕ) → has addressed g ≡ true → g < length groups.old.items }
+    requires known { are_known ≡ true → (g : ℕ) → has addressed g ≡ true → IsSome (get (group_of groups.old.items g).reached id.conn.0) }
+    requires low { (g : ℕ) → has addressed g ≡ true → (group_of groups.old.items g).clock ≤ clock }
+    ensures settled { result ≡ true → AreSettled groups.old.items id clock addressed groups.new.items }
+    ensures unchanged { result ≡ false → groups.new.items ≡ groups.old.items }
+{
+    if are_known {
+        settle_all(groups, id, clock, addressed);
+        return true;
+    }
+    settle_alone(groups, id, clock, addressed)
+}
+
+/// Each of these groups delivers the request, which is alone there, at a stamp of this clock.
+#[inline]
+fn settle_all(groups: &mut Vec<Group>, id: RequestId, clock: u64, addressed: Groups)
+    requires there { (g : ℕ) → has addressed g ≡ true → g < length groups.old.items }
+    requires known { (g : ℕ) → has addressed g ≡ true → IsSome (get (group_of groups.old.items g).reached id.conn.0) }
+    requires low { (g : ℕ) → has addressed g ≡ true → (group_of groups.old.items g).clock ≤ clock }
+    ensures { AreSettled groups.old.items id clock addressed groups.new.items }
+{
+    // `len` is called for its clause that each group is there once.
+    let _ = addressed.len();
+    for group in addressed.iter() {
+        let Ok(()) = groups[usize::from(group.number())].settle(id, clock) else {
+            unreachable!()
+        };
+    }
+}
+
+/// Where it addresses one group alone, this group delivers the request, which is alone there, at a stamp of this clock, if there is
+/// memory for it; whether it did. Else nothing changes.
+fn settle_alone(groups: &mut Vec<Group>, id: RequestId, clock: u64, addressed: Groups) -> bool
+    requires there { (g : ℕ) → has addressed g ≡ true → g < length groups.old.items }
+    requires low { (g : ℕ) → has addressed g ≡ true → (group_of groups.old.items g).clock ≤ clock }
+    ensures settled { result ≡ true → AreSettled groups.old.items id clock addressed groups.new.items }
+    ensures unchanged { result ≡ false → groups.new.items ≡ groups.old.items }
+{
+    let Some(group) = addressed.alone() else {
+        return false;
+    };
+    groups[usize::from(group.number())]
+        .settle(id, clock)
+        .is_ok()
 }

@@ -17,24 +17,20 @@ LacksBy IsOut HasNone rows (Range name) = IsOut rows name.now
 LacksBy IsOut HasNone rows Address = HasNone rows
 LacksBy IsOut HasNone rows Memory = ⊥
 
--- clap refuses the words, by a kind of error that it finds in them, or they lack something, or there is no memory
-abbrev pub IsRefusalBy : App → (List Row → Text → Type 0) → (List Row → Type 0) → List Text → OptionsFault → Type 0
-IsRefusalBy line IsOut HasNone words (Words error) = (takes line words ≡ false) × IsAmong (kind_of error) (fault_of line words)
-IsRefusalBy line IsOut HasNone words (Range name) = IsOut (matches_of line words) name.now
-IsRefusalBy line IsOut HasNone words Address = HasNone (matches_of line words)
-IsRefusalBy line IsOut HasNone words Memory = ⊤
+-- clap refuses the words, by a kind of error that it finds in them, or there is no memory
+abbrev pub IsRefusalOf : App → List Text → OptionsFault → Type 0
+IsRefusalOf line words (Words error) = (takes line words ≡ false) × IsAmong (kind_of error) (fault_of line words)
+IsRefusalOf line words (Range name) = ⊥
+IsRefusalOf line words Address = ⊥
+IsRefusalOf line words Memory = ⊤
 
--- no option is out of its bounds
-abbrev pub none_is_out : List Row → Text → Type 0
-none_is_out rows name = ⊥
+-- or they lack something
+abbrev pub IsRefusalBy : App → (List Row → Text → Type 0) → (List Row → Type 0) → List Text → OptionsFault → Type 0
+IsRefusalBy line IsOut HasNone words fault = IsRefusalOf line words fault ⊎ LacksBy IsOut HasNone (matches_of line words) fault
 
 -- the words of no program but the server's name an address
 abbrev pub names_none : List Row → Type 0
 names_none rows = ⊥
-
--- clap refuses the words, or there is no memory
-abbrev pub IsRefusalOf : App → List Text → OptionsFault → Type 0
-IsRefusalOf line = IsRefusalBy line none_is_out names_none
 
 -- ---- what is told
 

@@ -49,8 +49,10 @@ pub fn read_options<'a, S: AsStr>(alloc: Global, words: &'a [S]) -> Result<Asked
     ensures taken { OnOk result (fault_of line (map S.text words.now) ≡ []) }
     ensures refused { IfErr result (IsRefusal (map S.text words.now)) }
 {
-    let found = found_in(alloc, "shardkv-replay", &ROWS, words)?;
-    asked_in(&found)
+    match found_in(alloc, "shardkv-replay", &ROWS, words) {
+        Ok(found) => asked_in(&found),
+        Err(fault) => Err(fault),
+    }
 }
 
 /// What the options that were given ask for.

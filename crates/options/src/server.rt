@@ -31,7 +31,8 @@ const ROWS: [OptionRow; 9] = [
     OptionRow { name: "trace", kind: Valued("FILE"),
         help: "The file that the trace is written to" },
     OptionRow { name: "report", kind: Number("SECONDS", (0, 86_400), 0),
-        help: "Every how many seconds it tells how far it is, at most 86400, 0 for never [default: 0]" },
+        help: "Every how many seconds it tells how far it is, at most 86400, \
+            0 for never [default: 0]" },
     OptionRow { name: "until-input-ends", kind: Flag, help: "End when standard input ends" },
 ];
 
@@ -61,6 +62,7 @@ pub struct Options<'a> {
 /// Reads the words that the server is started with; the first of them is its name.
 ///
 /// What they say is what `clap` finds in them by the command line's options; one that they don't name has its default.
+#[tactic(auto, using(crate::proofs::Refusals::lacking))]
 pub fn read_options<'a, S: AsStr>(
     alloc: Global,
     words: &'a [S],
@@ -70,8 +72,10 @@ pub fn read_options<'a, S: AsStr>(
     ensures taken { OnOk result (fault_of line (map S.text words.now) ≡ []) }
     ensures refused { IfErr result (IsRefusal (map S.text words.now)) }
 {
-    let found = found_in(alloc, "shardkv-server", &ROWS, words)?;
-    options_of(&found)
+    match found_in(alloc, "shardkv-server", &ROWS, words) {
+        Ok(found) => options_of(&found),
+        Err(fault) => Err(fault),
+    }
 }
 
 /// The options that were given, and the defaults of those that were not.

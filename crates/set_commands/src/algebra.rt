@@ -31,10 +31,9 @@ pub(crate) fn sinter<K: Keyspace>(
     keyspace: &mut K,
     keys: Texts,
 ) -> Result<Reply, Starved>
-    requires { All (λ key. IsTrue (K.covered keyspace.old key)) keys }
+    requires { All (λ key. IsTrue (K.covered key)) keys }
     ensures done { Does (at_each keys (combined_answer Intersection))
         (K.contents keyspace.old) (K.contents keyspace.new) result }
-    ensures covers { K.covered keyspace.new ≡ K.covered keyspace.old }
 {
     answer(alloc, keyspace, Combination::Intersection, &keys)
 }
@@ -46,10 +45,9 @@ pub(crate) fn sunion<K: Keyspace>(
     keyspace: &mut K,
     keys: Texts,
 ) -> Result<Reply, Starved>
-    requires { All (λ key. IsTrue (K.covered keyspace.old key)) keys }
+    requires { All (λ key. IsTrue (K.covered key)) keys }
     ensures done { Does (at_each keys (combined_answer Union))
         (K.contents keyspace.old) (K.contents keyspace.new) result }
-    ensures covers { K.covered keyspace.new ≡ K.covered keyspace.old }
 {
     answer(alloc, keyspace, Combination::Union, &keys)
 }
@@ -61,10 +59,9 @@ pub(crate) fn sdiff<K: Keyspace>(
     keyspace: &mut K,
     keys: Texts,
 ) -> Result<Reply, Starved>
-    requires { All (λ key. IsTrue (K.covered keyspace.old key)) keys }
+    requires { All (λ key. IsTrue (K.covered key)) keys }
     ensures done { Does (at_each keys (combined_answer Difference))
         (K.contents keyspace.old) (K.contents keyspace.new) result }
-    ensures covers { K.covered keyspace.new ≡ K.covered keyspace.old }
 {
     answer(alloc, keyspace, Combination::Difference, &keys)
 }
@@ -78,11 +75,10 @@ pub(crate) fn sinterstore<K: Keyspace>(
     target: Text,
     sources: Texts,
 ) -> Result<Reply, Starved>
-    requires target { IsTrue (K.covered keyspace.old target) }
-    requires sources { All (λ key. IsTrue (K.covered keyspace.old key)) sources }
+    requires target { IsTrue (K.covered target) }
+    requires sources { All (λ key. IsTrue (K.covered key)) sources }
     ensures done { Does (at_target target sources (stored_step Intersection))
         (K.contents keyspace.old) (K.contents keyspace.new) result }
-    ensures covers { K.covered keyspace.new ≡ K.covered keyspace.old }
 {
     store(alloc, keyspace, Combination::Intersection, target, &sources)
 }
@@ -96,11 +92,10 @@ pub(crate) fn sunionstore<K: Keyspace>(
     target: Text,
     sources: Texts,
 ) -> Result<Reply, Starved>
-    requires target { IsTrue (K.covered keyspace.old target) }
-    requires sources { All (λ key. IsTrue (K.covered keyspace.old key)) sources }
+    requires target { IsTrue (K.covered target) }
+    requires sources { All (λ key. IsTrue (K.covered key)) sources }
     ensures done { Does (at_target target sources (stored_step Union))
         (K.contents keyspace.old) (K.contents keyspace.new) result }
-    ensures covers { K.covered keyspace.new ≡ K.covered keyspace.old }
 {
     store(alloc, keyspace, Combination::Union, target, &sources)
 }
@@ -114,11 +109,10 @@ pub(crate) fn sdiffstore<K: Keyspace>(
     target: Text,
     sources: Texts,
 ) -> Result<Reply, Starved>
-    requires target { IsTrue (K.covered keyspace.old target) }
-    requires sources { All (λ key. IsTrue (K.covered keyspace.old key)) sources }
+    requires target { IsTrue (K.covered target) }
+    requires sources { All (λ key. IsTrue (K.covered key)) sources }
     ensures done { Does (at_target target sources (stored_step Difference))
         (K.contents keyspace.old) (K.contents keyspace.new) result }
-    ensures covers { K.covered keyspace.new ≡ K.covered keyspace.old }
 {
     store(alloc, keyspace, Combination::Difference, target, &sources)
 }
@@ -131,10 +125,9 @@ fn answer<K: Keyspace>(
     how: Combination,
     keys: &Texts,
 ) -> Result<Reply, Starved>
-    requires { All (λ key. IsTrue (K.covered keyspace.old key)) keys.now }
+    requires { All (λ key. IsTrue (K.covered key)) keys.now }
     ensures done { Does (at_each keys.now (combined_answer how))
         (K.contents keyspace.old) (K.contents keyspace.new) result }
-    ensures covers { K.covered keyspace.new ≡ K.covered keyspace.old }
 {
     order_walked(alloc, keyspace, how, keys);
     let Some(sets) = find_sets(alloc, keyspace, keys)? else {
@@ -174,11 +167,10 @@ fn store<K: Keyspace>(
     target: Text,
     sources: &Texts,
 ) -> Result<Reply, Starved>
-    requires target { IsTrue (K.covered keyspace.old target) }
-    requires sources { All (λ key. IsTrue (K.covered keyspace.old key)) sources.now }
+    requires target { IsTrue (K.covered target) }
+    requires sources { All (λ key. IsTrue (K.covered key)) sources.now }
     ensures done { Does (at_target target sources.now (stored_step how))
         (K.contents keyspace.old) (K.contents keyspace.new) result }
-    ensures covers { K.covered keyspace.new ≡ K.covered keyspace.old }
 {
     let combined = {
         let Some(sets) = find_sets(alloc, keyspace, sources)? else {
@@ -196,12 +188,11 @@ fn put_set<K: Keyspace>(
     target: Text,
     members: Option<SetValue>,
 ) -> Result<Reply, Starved>
-    requires { IsTrue (K.covered keyspace.old target) }
+    requires { IsTrue (K.covered target) }
     ensures done { MatchResult result
         (λ reply. (K.contents keyspace.new ≡ set (K.contents keyspace.old) target (option_map kind.Set members))
         × (content reply ≡ count (length (found_members members))))
         (λ _. K.contents keyspace.new ≡ K.contents keyspace.old) }
-    ensures covers { K.covered keyspace.new ≡ K.covered keyspace.old }
 {
     let Some(members) = members else {
         keyspace.take(target.as_slice());

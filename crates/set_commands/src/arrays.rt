@@ -27,11 +27,10 @@ pub(crate) fn smembers<K: Keyspace>(
     keyspace: &mut K,
     key: Text,
 ) -> Result<Reply, Starved>
-    requires { IsTrue (K.covered keyspace.old key) }
+    requires { IsTrue (K.covered key) }
     ensures done { Does (at_key key (looks_at_set smembers_answer))
         (K.contents keyspace.old) (K.contents keyspace.new) result }
     ensures starves { OnErr result (0 < length (some_members (map.get (K.contents keyspace.old) key))) }
-    ensures covers { K.covered keyspace.new ≡ K.covered keyspace.old }
 {
     order_set(alloc, keyspace, key.as_slice());
     match keyspace.look(key.as_slice()) {
@@ -50,7 +49,7 @@ pub(crate) fn smismember<K: Keyspace>(
     key: Text,
     members: Texts,
 ) -> Result<Reply, Starved>
-    requires { IsTrue (K.covered keyspace.now key) }
+    requires { IsTrue (K.covered key) }
     ensures done { Does (at_key key (looks_at_set (smismember_answer members)))
         (K.contents keyspace.now) (K.contents keyspace.now) result }
     ensures starves { OnErr result (IsSome (members_there (map.get (K.contents keyspace.now) key))) }

@@ -27,11 +27,10 @@ pub(crate) fn sadd<K: Keyspace>(
     key: Text,
     members: Texts,
 ) -> Result<Reply, Starved>
-    requires { IsTrue (K.covered keyspace.old key) }
+    requires { IsTrue (K.covered key) }
     ensures done { Does (at_key key (changes_set (sadd_change members)))
         (K.contents keyspace.old) (K.contents keyspace.new) result }
     ensures starves { OnErr result (IsSome (members_there (map.get (K.contents keyspace.old) key))) }
-    ensures covers { K.covered keyspace.new ≡ K.covered keyspace.old }
 {
     match keyspace.look_mut(key.as_slice()) {
         None => add_new_set(alloc, keyspace, key, members),
@@ -59,11 +58,10 @@ fn add_new_set<K: Keyspace>(
     key: Text,
     members: Texts,
 ) -> Result<Reply, Starved>
-    requires covered { IsTrue (K.covered keyspace.old key) }
+    requires covered { IsTrue (K.covered key) }
     requires absent { map.get (K.contents keyspace.old) key ≡ None }
     ensures done { Does (at_key key (changes_set (sadd_change members)))
         (K.contents keyspace.old) (K.contents keyspace.new) result }
-    ensures covers { K.covered keyspace.new ≡ K.covered keyspace.old }
 {
     let Some(set) = SetValue::from_members(alloc, keyspace.hasher(), members)? else {
         return Ok(count_reply(0));
@@ -86,11 +84,10 @@ pub(crate) fn srem<K: Keyspace>(
     key: Text,
     members: Texts,
 ) -> Result<Reply, Starved>
-    requires { IsTrue (K.covered keyspace.old key) }
+    requires { IsTrue (K.covered key) }
     ensures done { Does (at_key key (changes_set (srem_change members)))
         (K.contents keyspace.old) (K.contents keyspace.new) result }
     ensures answers { IsOk result }
-    ensures covers { K.covered keyspace.new ≡ K.covered keyspace.old }
 {
     match keyspace.look(key.as_slice()) {
         None => return Ok(count_reply(0)),

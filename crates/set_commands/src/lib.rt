@@ -37,11 +37,10 @@ pub fn run_set_command<K: Keyspace>(
     keyspace: &mut K,
     command: SetCommand,
 ) -> Result<Reply, Starved>
-    requires { All (λ key. IsTrue (K.covered keyspace.old key)) (set_command_keys command) }
+    requires { All (λ key. IsTrue (K.covered key)) (set_command_keys command) }
     ensures done { Does (set_command_case command)
         (K.contents keyspace.old) (K.contents keyspace.new) result }
     ensures starves { OnErr result (SetCommandTakesMemory command (K.contents keyspace.old)) }
-    ensures covers { K.covered keyspace.new ≡ K.covered keyspace.old }
 {
     command_rows!(sets, body_rows, SetCommand, alloc, keyspace, command)
 }

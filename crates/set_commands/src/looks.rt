@@ -16,7 +16,7 @@ use values::Value;
 /// It takes no memory. <https://redis.io/docs/latest/commands/scard/>
 #[tactic(auto, using(keyspace::proofs::Changes::changes))]
 pub(crate) fn scard<K: Keyspace>(_alloc: Global, keyspace: &K, key: Text) -> Result<Reply, Starved>
-    requires { IsTrue (K.covered keyspace.now key) }
+    requires { IsTrue (K.covered key) }
     ensures done { Does (at_key key (looks_at_set scard_answer))
         (K.contents keyspace.now) (K.contents keyspace.now) result }
     ensures answers { IsOk result }
@@ -38,7 +38,7 @@ pub(crate) fn sismember<K: Keyspace>(
     key: Text,
     member: Text,
 ) -> Result<Reply, Starved>
-    requires { IsTrue (K.covered keyspace.now key) }
+    requires { IsTrue (K.covered key) }
     ensures done { Does (at_key key (looks_at_set (sismember_answer member)))
         (K.contents keyspace.now) (K.contents keyspace.now) result }
     ensures answers { IsOk result }

@@ -34,12 +34,11 @@ pub(crate) fn smove<K: Keyspace>(
     to: Text,
     member: Text,
 ) -> Result<Reply, Starved>
-    requires from { IsTrue (K.covered keyspace.old from) }
-    requires to { IsTrue (K.covered keyspace.old to) }
+    requires from { IsTrue (K.covered from) }
+    requires to { IsTrue (K.covered to) }
     ensures done { Does (at_two from to (smove_step (bytes_eq from to) member))
         (K.contents keyspace.old) (K.contents keyspace.new) result }
     ensures starves { OnErr result (IsTrue (is_set (map.get (K.contents keyspace.old) from))) }
-    ensures covers { K.covered keyspace.new ≡ K.covered keyspace.old }
 {
     let there = match keyspace.look(from.as_slice()) {
         None => return Ok(truth_reply(false)),
@@ -68,8 +67,8 @@ fn move_apart<K: Keyspace>(
     to: Text,
     member: Text,
 ) -> Result<(), Starved>
-    requires from { IsTrue (K.covered keyspace.old from.now) }
-    requires to { IsTrue (K.covered keyspace.old to) }
+    requires from { IsTrue (K.covered from.now) }
+    requires to { IsTrue (K.covered to) }
     requires apart { bytes_eq from.now to ≡ false }
     requires there { IsTrue (is_set (map.get (K.contents keyspace.old) from.now)) }
     requires target { IsSome (members_there (map.get (K.contents keyspace.old) to)) }
@@ -78,7 +77,6 @@ fn move_apart<K: Keyspace>(
         (set_value (without_member (some_members (map.get (K.contents keyspace.old) from.now)) member)))
         to (kind.Set (with_member (some_members (map.get (K.contents keyspace.old) to)) member))) }
     ensures err { OnErr result (K.contents keyspace.new ≡ K.contents keyspace.old) }
-    ensures covers { K.covered keyspace.new ≡ K.covered keyspace.old }
 {
     let text = member.as_slice();
     let copy = Text::copy_of(alloc, text)?;
@@ -96,12 +94,11 @@ fn put_member<K: Keyspace>(
     key: Text,
     member: Text,
 ) -> Result<(), Starved>
-    requires covered { IsTrue (K.covered keyspace.old key) }
+    requires covered { IsTrue (K.covered key) }
     requires target { IsSome (members_there (map.get (K.contents keyspace.old) key)) }
     ensures ok { OnOk result (K.contents keyspace.new ≡ map.insert (K.contents keyspace.old) key
         (kind.Set (with_member (some_members (map.get (K.contents keyspace.old) key)) member))) }
     ensures err { OnErr result (K.contents keyspace.new ≡ K.contents keyspace.old) }
-    ensures covers { K.covered keyspace.new ≡ K.covered keyspace.old }
 {
     if keyspace.look(key.as_slice()).is_none() {
         let set = set_of_one(alloc, keyspace.hasher(), member)?;
@@ -135,11 +132,10 @@ fn set_of_one(alloc: Global, hasher: TextHasher, member: Text) -> Result<SetValu
 /// Removes a member of the set at a key; the key goes with the last one. It takes no memory.
 #[tactic(auto, using(keyspace::proofs::Changes::changes))]
 fn remove_member<K: Keyspace>(alloc: Global, keyspace: &mut K, key: &[u8], member: &[u8])
-    requires covered { IsTrue (K.covered keyspace.old key.now) }
+    requires covered { IsTrue (K.covered key.now) }
     requires there { IsTrue (is_set (map.get (K.contents keyspace.old) key.now)) }
     ensures removed { K.contents keyspace.new ≡ set (K.contents keyspace.old) key.now
         (set_value (without_member (some_members (map.get (K.contents keyspace.old) key.now)) member.now)) }
-    ensures covers { K.covered keyspace.new ≡ K.covered keyspace.old }
 {
     let Value::Set(set) = keyspace.replace(key, Value::Str(Text::empty(alloc))) else {
         unreachable!();

@@ -29,7 +29,7 @@ pub(crate) fn find_sets<'a, K: Keyspace>(
     keyspace: &'a K,
     keys: &Texts,
 ) -> Result<Option<Vec<Option<&'a SetValue>>>, AllocError>
-    requires { All (λ key. IsTrue (K.covered keyspace.now key)) keys.now }
+    requires { All (λ key. IsTrue (K.covered key)) keys.now }
     ensures { IfOk result (λ found. option_map (λ sets. found_sets sets.items) found
         ≡ sets_at (values_at (K.contents keyspace.now) keys.now)) }
 {
@@ -45,7 +45,7 @@ pub(crate) fn find_sets<'a, K: Keyspace>(
 
 /// The set at a key, if the key is there.
 fn set_at<'a, K: Keyspace>(keyspace: &'a K, key: &[u8]) -> Result<Option<&'a SetValue>, WrongType>
-    requires { IsTrue (K.covered keyspace.now key.now) }
+    requires { IsTrue (K.covered key.now) }
     ensures { MatchResult result
         (λ set. members_there (map.get (K.contents keyspace.now) key.now) ≡ Some (found_members (option_copied set)))
         (λ wrong. members_there (map.get (K.contents keyspace.now) key.now) ≡ None) }
@@ -61,9 +61,8 @@ fn set_at<'a, K: Keyspace>(keyspace: &'a K, key: &[u8]) -> Result<Option<&'a Set
 /// then, until it changes. Where there is no memory for that it stays as it lies.
 #[tactic(auto, using(keyspace::proofs::Changes::changes))]
 pub(crate) fn order_set<K: Keyspace>(alloc: Global, keyspace: &mut K, key: &[u8])
-    requires { IsTrue (K.covered keyspace.old key.now) }
+    requires { IsTrue (K.covered key.now) }
     ensures same { K.contents keyspace.new ≡ K.contents keyspace.old }
-    ensures covers { K.covered keyspace.new ≡ K.covered keyspace.old }
 {
     match keyspace.look(key) {
         Some(Value::Set(set)) => {
@@ -87,9 +86,8 @@ pub(crate) fn order_walked<K: Keyspace>(
     how: Combination,
     keys: &Texts,
 )
-    requires { All (λ key. IsTrue (K.covered keyspace.old key)) keys.now }
+    requires { All (λ key. IsTrue (K.covered key)) keys.now }
     ensures same { K.contents keyspace.new ≡ K.contents keyspace.old }
-    ensures covers { K.covered keyspace.new ≡ K.covered keyspace.old }
 {
     let smallest = place_of_smallest(alloc, keyspace, keys);
     for i in 0..keys.len() {
@@ -102,7 +100,7 @@ pub(crate) fn order_walked<K: Keyspace>(
 /// The place of the smallest of the sets at these keys; 0 where a key holds a value of another type, or there is no
 /// memory.
 fn place_of_smallest<K: Keyspace>(alloc: Global, keyspace: &K, keys: &Texts) -> usize
-    requires { All (λ key. IsTrue (K.covered keyspace.now key)) keys.now }
+    requires { All (λ key. IsTrue (K.covered key)) keys.now }
 {
     match find_sets(alloc, keyspace, keys) {
         Ok(Some(sets)) => smallest(sets.as_slice()),

@@ -57,9 +57,8 @@ impl PlacedJob {
         skip: &[SkipId],
         gate: &(dyn Gate + Sync),
     ) -> JobRan
-        requires { All (λ key. IsTrue (K.covered keyspace.old key)) (task_keys self.job.asked.batch) }
+        requires { All (λ key. IsTrue (K.covered key)) (task_keys self.job.asked.batch) }
         ensures ran { HasRunOn skip.now self (K.contents keyspace.old) result (K.contents keyspace.new) }
-        ensures covers { K.covered keyspace.new ≡ K.covered keyspace.old }
     {
         let PlacedJob { place, job } = self;
         let Job {

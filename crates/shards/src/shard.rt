@@ -55,7 +55,7 @@ impl Keyspace for Shard {
 
     ghost contents = { λ m. m };
 
-    ghost covered = { λ _ _. true };
+    ghost covered = { λ _. true };
 
     fn covers(&self, key: &[u8]) -> bool {
         self.keys.covers(key)

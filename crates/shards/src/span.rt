@@ -136,7 +136,7 @@ impl<F: SpanFrame> Keyspace for Span<F> {
 
     ghost contents = { union };
 
-    ghost covered = { λ _ key. lies_on F.layout F.groups key };
+    ghost covered = { λ key. lies_on F.layout F.groups key };
 
     fn covers(&self, key: &[u8]) -> bool {
         self.has_shard(self.shard_of(key))

@@ -1,57 +1,33 @@
 -- What was submitted, and what was collected, is what a seat is answered; what a closed cluster tells, and its trace.
-use Rattle.std.proofs.Common.{◌≡◌, ◌∙◌, ap, sym, subst, refl, ℕ, suc, ◌+◌, Bool, true, false, List, [], ◌∷◌, ◌++◌, Option, Some, Result, Ok, Err, OnOk, OnErr, IfOk}
-use Rattle.std.proofs.Common.{IfErr, IfSome, IfNone, None, inl, inr, append_assoc, arith}
+use Rattle.std.proofs.Common.{◌≡◌, ◌∙◌, ap, sym, subst, refl, ℕ, suc, ◌+◌, List, [], ◌∷◌, ◌++◌, Option, Some, Result, Ok, Err, OnErr, IfErr}
+use Rattle.std.proofs.Common.{IfSome, IfNone, None, inr, append_assoc}
 use mathlib.Core.List.{IsPrefix}
-use Rattle.cluster.proofs.Submits.{own_submit, submits_by-append}
-use Rattle.cluster.specs.Answers as cluster
-use Rattle.cluster.specs.Clusters.{SeatView, ClusterView, last_id}
+use Rattle.cluster.specs.Clusters.{SeatView, last_id}
 use Rattle.cluster.proofs.Seats.{submitted_is}
-use Rattle.cluster.specs.Histories.{HistoryView, IsLawful, IsMade}
-use Rattle.cluster.specs.Outcomes.{ComesFrom, raised}
+use Rattle.cluster.specs.Histories.{HistoryView, IsMade}
+use Rattle.cluster.specs.Outcomes.{ComesFrom, IsAbove, raised}
 use Rattle.cluster.specs.Passing.{Passes}
 use Rattle.cluster.specs.Submits.{submits_by, IsSaid, session_met}
 use Rattle.cluster.specs.declared.cluster.SealedReply.{SealedReply}
-use Rattle.cluster.specs.declared.closing.Closing.{Closing}
 use Rattle.groups.specs.declared.request.RequestId.{RequestId}
 use Rattle.journal.specs.declared.step.Step.{Step}
 use Rattle.journal.specs.declared.step.Step.TheVariants.{Submit, Collect}
 use Rattle.placement.specs.Layout.{Layout}
 use Rattle.resp.specs.Content.{Content, content}
-use Rattle.serial_store.specs.Stores.{SerialState}
-use Rattle.router.specs.Router.{waiting}
-use Rattle.shared_cluster.proofs.Hands.{stays_by}
-use Rattle.cluster.specs.Sealed.{TakenView, RanView}
 use Rattle.shared_cluster.proofs.Hands.{turned_settled}
+use Rattle.cluster.specs.Sealed.{TakenView, RanView}
 use Rattle.shared_cluster.specs.Hands.{Hand, Begun, HasBegun, Answers, HasTurned, HasSettled, Gives}
 use Rattle.shared_cluster.specs.declared.asking.Begun.TheVariants as begun
 use Rattle.shared_cluster.specs.declared.asking.Settled.TheVariants as settled
 use Rattle.shared_cluster.specs.declared.hand.Hand.TheVariants as hand
-use Rattle.shared_cluster.specs.Turning.{PassesOn, StaysSo, IsNotThere}
-use Rattle.shared_cluster.specs.Asks.{IsNewSeat, IsSeated}
+use Rattle.shared_cluster.specs.Turning.{PassesOn}
 use Rattle.shared_cluster.specs.Asks.{Submits, HasSubmitted, Replies, IsCollected, IsReplied, IsCollectFault, IsAskFault}
-use Rattle.shared_cluster.specs.Closings.{Closes, RefusesClose, Writes, IsClosed, IsCloseFault, IsWritten}
-use Rattle.shared_cluster.specs.declared.held.CloseFault.{CloseFault}
 use Rattle.shared_cluster.specs.declared.held.AskFault.{AskFault}
 use Rattle.front.specs.Connections.{outcome_shown}
 use Rattle.world.specs.Steps.{Submitted, Collected, Steps, Leads, opening}
+use Rattle.world_laws.specs.Sessions.{sessions_from, all_free}
 
 -- ---- behind the lock
-
-pub replies_there : (t : Layout) (before after : HistoryView) (old new : SeatView) (o : Option SealedReply) → before.front.table ≡ t
-    → IfSome o (λ x. cluster.IsReplied before old x.reply after new) → IfSome o (λ x. Replies t before old (content x.reply) after new)
-replies_there t before after old new (Some x) table replied =
-    record { table = table; given = x.reply; is = refl; replied = replied }
-replies_there t before after old new None table replied = tt
-
-pub none_there : (h : HistoryView) (s : SeatView) (o : Option SealedReply) → IsLawful h
-    → IfNone o (waiting h.front.router s.conn.0 ≡ None) → IfNone o (IsLawful h × IsNotThere h s)
-none_there h s (Some x) lawful none = tt
-none_there h s None lawful none = (lawful, inl none)
-
-pub still_there : (old new : ClusterView) (s s' : SeatView) (o : Option SealedReply) → IfNone o ((new ≡ old) × (s' ≡ s))
-    → IfNone o (StaysSo old new)
-still_there old new s s' (Some x) same = tt
-still_there old new s s' None same = stays_by old new same.0
 
 pub was_submitted : (before mid after : HistoryView) (old new : SeatView) (words : List (List ℕ)) (id : RequestId) → mid ≡ before
     → IsMade mid (Submit old.conn words) (Submitted id) after → IsPrefix old.seen mid.steps
@@ -77,11 +53,6 @@ passed_on before mid after old new words taken same passes = record {
 
 -- ---- of a shared cluster
 
-pub found_seated : {E : Type 0} (before after : HistoryView) (r : Result SeatView E) → IfOk r (λ s. IsSeated before s after)
-    → IfOk r IsNewSeat
-found_seated before after (Ok s) seated = (before, after, seated)
-found_seated before after (Err fault) seated = tt
-
 pub has_submitted : (before after : HistoryView) (old new : SeatView) (words : List (List ℕ)) → Submits before old words after new
     → HasSubmitted old words new
 has_submitted before after old new words submits = record {
@@ -96,15 +67,9 @@ has_submitted before after old new words submits = record {
   });
 }
 
-pub found_submitted : {E : Type 0} (before after : HistoryView) (old new : SeatView) (words : List (List ℕ)) (r : Result (Unit {0}) E)
-    → OnOk r (Submits before old words after new) → OnOk r (HasSubmitted old words new)
-found_submitted before after old new words (Ok u) submits = has_submitted before after old new words submits
-found_submitted before after old new words (Err fault) submits = tt
-
-pub found_replied : {E : Type 0} (t : Layout) (before after : HistoryView) (old new : SeatView) (r : Result (Option SealedReply) E)
-    → IfOk r (λ reply. IfSome reply (λ x. Replies t before old (content x.reply) after new))
-    → IfOk r (λ reply. IfSome reply (λ x. IsCollected t old (content x.reply) new))
-found_replied t before after old new (Ok (Some x)) replies =
+pub has_collected : (t : Layout) (before after : HistoryView) (old new : SeatView) (reply : Content) → Replies t before old reply after new
+    → IsCollected t old reply new
+has_collected t before after old new reply replies =
     let it = replies.replied in
     record {
       steps = before.steps;
@@ -122,8 +87,6 @@ found_replied t before after old new (Ok (Some x)) replies =
       above = it.above;
       seat = it.seat ∙ (λ k. record old { floor = raised it.outcome.stamp old.floor; seen = it.made.steps k });
     }
-found_replied t before after old new (Ok None) replies = tt
-found_replied t before after old new (Err fault) replies = tt
 
 -- ---- what was submitted and then collected
 
@@ -160,13 +123,13 @@ replied_of t old mid new words reply has collected =
       leads = collected.leads;
       outcome = collected.outcome;
       after = collected.after;
-      collects = subst (λ c. Steps t collected.world (Collect c) (Collected (Some collected.outcome)) collected.after) conn collected.collects;
+      collects = subst (λ c. Steps t collected.world (Collect c) (Collected (Some collected.outcome)) collected.after) conn
+          collected.collects;
       id = id;
       reply = collected.reply;
-      from = subst (λ c. ComesFrom t collected.world (Rattle.world_laws.specs.Sessions.sessions_from
-          Rattle.world_laws.specs.Sessions.all_free has.before c) words collected.outcome)
+      from = subst (λ c. ComesFrom t collected.world (sessions_from all_free has.before c) words collected.outcome)
           (ap (λ (x : RequestId). x.conn.0) id) (collected.from words said.0);
-      above = subst (λ (s : SeatView). Rattle.cluster.specs.Outcomes.IsAbove collected.outcome.stamp s.floor) has.seat collected.above;
+      above = subst (λ (s : SeatView). IsAbove collected.outcome.stamp s.floor) has.seat collected.above;
       seat = collected.seat ∙ (λ k. record {
         conn = conn k;
         floor = raised collected.outcome.stamp (ap (λ (s : SeatView). s.floor) has.seat k);
@@ -183,16 +146,10 @@ answers_of t old mid new words (begun.Replied sealed) has collected =
     replied_of t old mid new words (content sealed.reply) has collected
 answers_of t old mid new words (begun.Waits held) has waits = (subst (HasSubmitted old words) (sym waits.0) has, waits.1)
 
-pub asked_replied : {E : Type 0} (t : Layout) (old mid new : SeatView) (words : List (List ℕ)) (r : Result SealedReply E)
-    → HasSubmitted old words mid → IfOk r (λ x. IsCollected t mid (content x.reply) new)
-    → IfOk r (λ x. IsReplied t old words (content x.reply) new)
-asked_replied t old mid new words (Ok x) has collected = replied_of t old mid new words (content x.reply) has collected
-asked_replied t old mid new words (Err fault) has collected = tt
-
 pub collected_there : (t : Layout) (before after : HistoryView) (old new : SeatView) (o : Option SealedReply) (x : SealedReply)
     → o ≡ Some x → IfSome o (λ y. Replies t before old (content y.reply) after new) → IsCollected t old (content x.reply) new
 collected_there t before after old new o x is replies =
-    found_replied {E = Unit {0}} t before after old new (Ok (Some x))
+    has_collected t before after old new (content x.reply)
     (subst (λ (p : Option SealedReply). IfSome p (λ y. Replies t before old (content y.reply) after new)) is replies)
 
 -- ---- what came of a layer is settled, and what came of the seat's request collected in the same holding
@@ -228,20 +185,3 @@ pub waited_fault : {X : Type 0} (old mid : SeatView) (words : List (List ℕ)) (
     → HasSubmitted old words mid → IfErr r (IsCollectFault mid) → OnErr r (new ≡ mid) → IfErr r (λ fault. IsAskFault old words fault new)
 waited_fault old mid words (Ok x) new has refused same = tt
 waited_fault old mid words (Err fault) new has refused same = begun_fault old mid new words fault has same refused
-
--- ---- at the end
-
-pub found_closed : (t : Layout) (k : ClusterView) (b : SerialState) (r : Result Closing CloseFault) → IfOk r (Closes t k b)
-    → IfOk r (IsClosed t)
-found_closed t k b (Ok closing) closes = (k, b, closes)
-found_closed t k b (Err fault) closes = tt
-
-pub found_close_fault : (stopped : Bool) (k : ClusterView) (b : SerialState) (r : Result Closing CloseFault)
-    → IfErr r (λ fault. RefusesClose stopped k b fault.kind) → IfErr r IsCloseFault
-found_close_fault stopped k b (Ok closing) refused = tt
-found_close_fault stopped k b (Err fault) refused = (stopped, k, b, refused)
-
-pub found_written : {E : Type 0} (h : HistoryView) (r : Result Bool E) (before after : List ℕ)
-    → IfOk r (λ kept. Writes h before kept after) → IfOk r (λ kept. IsWritten before kept after)
-found_written h (Ok kept) before after written = (h, written)
-found_written h (Err fault) before after written = tt

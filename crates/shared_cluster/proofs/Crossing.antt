@@ -19,6 +19,6 @@ module _ (T L : RattleType) (t : tabled.Ghosts T.Denot) (s : server.Ghosts L.Den
       → IsSync (Shared.the_row T L t s l)
   held_sync h b = search (sendable, crosses, b) depth 40 fits 3000
 
-  pub shared_sync : IsSend (Cluster.the_row T L t s l) → ((J : RattleType) (n : naming.Ghosts J.Denot) → IsSend (SerialStore.the_row T J t n))
-      → IsSync (Shared.the_row T L t s l)
+  pub shared_sync : IsSend (Cluster.the_row T L t s l)
+      → ((J : RattleType) (n : naming.Ghosts J.Denot) → IsSend (SerialStore.the_row T J t n)) → IsSync (Shared.the_row T L t s l)
   shared_sync c b = held_sync (held_send c) b

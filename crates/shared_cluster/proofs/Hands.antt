@@ -1,17 +1,16 @@
 -- What is in a hand behind a turn, and what came of a seat's request.
-use Rattle.std.proofs.Common.{◌≡◌, ◌∙◌, ℕ, Bool, true, false, List, Option, Some, None, Result, Ok, Err, inl, inr, refl, sym, subst}
-use Rattle.std.proofs.Common.{◌⊎◌, IfOk, IfSome, IfNone, OnOk, OnErr, OnSome, ap}
-use Rattle.cluster.specs.Clusters.{SeatView, ClusterView, SameBook}
-use Rattle.cluster.specs.Histories.{HistoryView, IsLawful, IsUnchanged}
+use Rattle.std.proofs.Common.{◌≡◌, ◌∙◌, ℕ, Bool, true, false, Option, Some, None, Result, Ok, Err, inl, refl, sym, subst, IfOk, IfSome}
+use Rattle.std.proofs.Common.{IfNone, OnOk, OnErr, OnSome, ap}
+use Rattle.cluster.specs.Clusters.{SeatView, ClusterView}
+use Rattle.cluster.specs.Histories.{HistoryView, IsLawful}
 use Rattle.groups.specs.declared.request.ConnId.{ConnId}
 use Rattle.cluster.specs.Passing.{TakesAtOnce}
 use Rattle.cluster.specs.Sealed.{TakenView, RanView}
-use Rattle.cluster.specs.Traces.{SameTrace}
 use Rattle.cluster.proofs.Tapes.{same_trace}
 use Rattle.placement.specs.Layout.{Layout}
 use Rattle.router.specs.Router.{waiting}
-use Rattle.shared_cluster.specs.Hands.{Hand, Run, Next, IsFound, taken_up, turn_of, Begins, IsBrought, Brings, HasSettled, Settles, Advances, HasTurned}
-use Rattle.shared_cluster.specs.Hands.{IsUncollected, LooksInVain, MayHold}
+use Rattle.shared_cluster.specs.Hands.{Hand, Run, Next, IsFound, taken_up, turn_of, Begins, IsBrought, Brings, HasSettled, Settles}
+use Rattle.shared_cluster.specs.Hands.{Advances, HasTurned, IsUncollected, MayHold}
 use Rattle.shared_cluster.specs.Turning.{GoesOn, RefusesSettle, StaysSo, IsNotThere}
 use Rattle.shared_cluster.specs.declared.hand.Hand.TheVariants as hand
 use Rattle.shared_cluster.specs.declared.hand.Run.TheVariants as run
@@ -66,7 +65,8 @@ brings_back t may_refuse layer given came brought is =
 -- ---- what came of a layer is in the hand
 
 -- what isn't settled is given back
-pub given_back : (h : HistoryView) (done given : RanView) (u : Unsettled RanView) → RefusesSettle h done u → u ≡ Starved given → given ≡ done
+pub given_back : (h : HistoryView) (done given : RanView) (u : Unsettled RanView) → RefusesSettle h done u → u ≡ Starved given
+    → given ≡ done
 given_back h done given (Starved other) refused is = let same : other ≡ given = cc in sym same ∙ refused.0
 given_back h done given (Foreign why) refused is = cc
 
@@ -90,41 +90,37 @@ given_again done given r same back = subst (λ (d : RanView). IfOk r (λ left. I
 
 pub advances_free : {E : Type 0} (t : Layout) (pick : ℕ → ℕ) (may_refuse : Bool) (old mid new : Hand) (r : Result Turn E) → old ≡ hand.Free
     → mid ≡ hand.Free → IfOk r (λ which. Begins pick mid which new) → IfOk r (λ which. Advances t pick may_refuse old which new)
-advances_free t pick may_refuse old mid new (Ok which) is free begins =
-    subst (λ (o : Hand). Advances t pick may_refuse o which new) (sym is) (subst (λ (m : Hand). Begins pick m which new) free begins)
-advances_free t pick may_refuse old mid new (Err fault) is free begins = tt
+advances_free t pick may_refuse old mid new r is free begins =
+    subst (λ (o : Hand). IfOk r (λ which. Advances t pick may_refuse o which new)) (sym is)
+    (subst (λ (m : Hand). IfOk r (λ which. Begins pick m which new)) free begins)
 
 pub advances_taken : {E : Type 0} (t : Layout) (pick : ℕ → ℕ) (may_refuse : Bool) (old new : Hand) (layer : TakenView) (r : Result Turn E)
     → old ≡ hand.Taken layer → IfOk r (λ which. Brings t may_refuse layer which new)
     → IfOk r (λ which. Advances t pick may_refuse old which new)
-advances_taken t pick may_refuse old new layer (Ok which) is brings =
-    subst (λ (o : Hand). Advances t pick may_refuse o which new) (sym is) brings
-advances_taken t pick may_refuse old new layer (Err fault) is brings = tt
+advances_taken t pick may_refuse old new layer r is brings =
+    subst (λ (o : Hand). IfOk r (λ which. Advances t pick may_refuse o which new)) (sym is) brings
 
 pub advances_run : {E : Type 0} (t : Layout) (pick : ℕ → ℕ) (may_refuse : Bool) (old mid new : Hand) (done : RanView) (r : Result Turn E)
     → old ≡ hand.HasRun done → mid ≡ hand.Free → IfOk r (λ which. Settles done mid which new)
     → IfOk r (λ which. Advances t pick may_refuse old which new)
-advances_run t pick may_refuse old mid new done (Ok which) is free settles =
-    subst (λ (o : Hand). Advances t pick may_refuse o which new) (sym is) (subst (λ (m : Hand). Settles done m which new) free settles)
-advances_run t pick may_refuse old mid new done (Err fault) is free settles = tt
+advances_run t pick may_refuse old mid new done r is free settles =
+    subst (λ (o : Hand). IfOk r (λ which. Advances t pick may_refuse o which new)) (sym is)
+    (subst (λ (m : Hand). IfOk r (λ which. Settles done m which new)) free settles)
 
 -- there is nothing to do only for a hand that is free, and it stays so
 idle_so : (found : Next) (new : Hand) → turn.Quiet ≡ turn_of found → new ≡ taken_up hand.Free found → new ≡ hand.Free
-idle_so (next.Taken layer) new is same = cc
-idle_so next.Delivered new is same = cc
-idle_so next.Starved new is same = cc
 idle_so next.Quiet new is same = same
+idle_so found new is same = cc
 
 quiet_is_free : (t : Layout) (pick : ℕ → ℕ) (may_refuse : Bool) (old new : Hand) → Advances t pick may_refuse old turn.Quiet new
     → (old ≡ hand.Free) × (new ≡ hand.Free)
 quiet_is_free t pick may_refuse hand.Free new turns = (refl, idle_so turns.found new turns.told turns.holds)
 quiet_is_free t pick may_refuse (hand.Taken layer) hand.Free turns = absurd turns
-quiet_is_free t pick may_refuse (hand.Taken layer) (hand.Taken given) turns = absurd (let other = turns.0 in cc)
-quiet_is_free t pick may_refuse (hand.Taken layer) (hand.HasRun done) turns = absurd (let other = turns.0 in cc)
+quiet_is_free t pick may_refuse (hand.Taken layer) new turns = absurd (let other = turns.0 in cc)
 quiet_is_free t pick may_refuse (hand.HasRun done) new turns = absurd turns
 
-pub idle_is_free : (t : Layout) (pick : ℕ → ℕ) (may_refuse : Bool) (old new : Hand) (which : Turn) → Advances t pick may_refuse old which new
-    → which ≡ turn.Quiet → (old ≡ hand.Free) × (new ≡ hand.Free)
+pub idle_is_free : (t : Layout) (pick : ℕ → ℕ) (may_refuse : Bool) (old new : Hand) (which : Turn)
+    → Advances t pick may_refuse old which new → which ≡ turn.Quiet → (old ≡ hand.Free) × (new ≡ hand.Free)
 idle_is_free t pick may_refuse old new which turns is =
     quiet_is_free t pick may_refuse old new (subst (λ (v : Turn). Advances t pick may_refuse old v new) is turns)
 
@@ -154,35 +150,9 @@ nothing_there k s conn is none = record {
 pub found_uncollected : {X E : Type 0} (old new : ClusterView) (s : SeatView) (r : Result (Option X) E)
     → IfOk r (λ reply. IfNone reply (IsLawful old.history × IsNotThere old.history s))
     → IfOk r (λ reply. IfNone reply (StaysSo old new)) → IfOk r (λ reply. IfNone reply (IsUncollected s))
-found_uncollected old new s (Ok (Some x)) none same = tt
 found_uncollected old new s (Ok None) none same =
     record { before = old; after = new; lawful = none.0; none = none.1; stays = same }
-found_uncollected old new s (Err fault) none same = tt
-
--- a hand that is free is so behind a look
-pub free_there : {X E : Type 0} (h : Hand) (r : Result (Option X) E) → h ≡ hand.Free → IfOk r (λ reply. OnSome reply (h ≡ hand.Free))
-free_there h (Ok (Some x)) free = free
-free_there h (Ok None) free = tt
-free_there h (Err fault) free = tt
-
-pub looked_free : {X E : Type 0} (t : Layout) (h : Hand) (r : Result (Option X) E) → h ≡ hand.Free
-    → IfOk r (λ reply. OnSome reply ((h ≡ hand.Free) ⊎ HasTurned t h h))
-looked_free t h (Ok (Some x)) free = inl free
-looked_free t h (Ok None) free = tt
-looked_free t h (Err fault) free = tt
-
--- a turn was made
-pub turned_some : {X E : Type 0} (t : Layout) (old new : Hand) (r : Result (Option X) E) → OnOk r (HasTurned t old new)
-    → IfOk r (λ reply. OnSome reply ((old ≡ hand.Free) ⊎ HasTurned t old new))
-turned_some t old new (Ok (Some x)) turned = inr turned
-turned_some t old new (Ok None) turned = tt
-turned_some t old new (Err fault) turned = tt
-
-pub turned_none : {X E : Type 0} (t : Layout) (s : SeatView) (old new : Hand) (r : Result (Option X) E) → OnOk r (HasTurned t old new)
-    → IfOk r (λ reply. IfNone reply (LooksInVain s old new ⊎ HasTurned t old new))
-turned_none t s old new (Ok (Some x)) turned = tt
-turned_none t s old new (Ok None) turned = inr turned
-turned_none t s old new (Err fault) turned = tt
+found_uncollected old new s r none same = tt
 
 -- what came of the layer in the hand was settled, or is there still
 pub turned_settled : (t : Layout) (old : Hand) (ran : RanView) → old ≡ hand.HasRun ran → HasSettled ran → HasTurned t old hand.Free
@@ -202,13 +172,19 @@ turned_starved t old ran given is same = record {
   turns = subst (λ (o : Hand). Advances t (λ n. n) false o turn.Starved (hand.HasRun given)) (sym is) (ap hand.HasRun same);
 }
 
-pub looked_in_vain : {X E : Type 0} (t : Layout) (h : Hand) (s : SeatView) (r : Result (Option X) E) → IfOk r (λ reply. IfNone reply (IsUncollected s))
-    → IfOk r (λ reply. IfNone reply (LooksInVain s h h ⊎ HasTurned t h h))
-looked_in_vain t h s (Ok (Some x)) none = tt
-looked_in_vain t h s (Ok None) none = inl (none, refl)
-looked_in_vain t h s (Err fault) none = tt
-
 -- ---- what holds whatever is answered
+
+pub if_ok : {X E : Type 0} {P : X → Type 0} (r : Result X E) → ((x : X) → P x) → IfOk r P
+if_ok (Ok x) holds = holds x
+if_ok (Err fault) holds = tt
+
+pub if_on_ok : {X E P : Type 0} {Q : X → Type 0} (r : Result X E) → OnOk r P → (P → (x : X) → Q x) → IfOk r Q
+if_on_ok (Ok x) holds so = so holds x
+if_on_ok (Err fault) holds so = tt
+
+pub on_some : {X P : Type 0} (o : Option X) → P → OnSome o P
+on_some (Some x) holds = holds
+on_some None holds = tt
 
 pub on_err : {X E P : Type 0} (r : Result X E) → P → OnErr r P
 on_err (Ok x) holds = tt

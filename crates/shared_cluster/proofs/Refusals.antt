@@ -1,6 +1,6 @@
 -- What is told of a step that is refused.
-use Rattle.std.proofs.Common.{◌≡◌, ◌≢◌, ℕ, Bool, true, false, ◌&&◌, ◌==◌, if◌then◌else◌, List, [], ◌∷◌, ◌++◌, length, inl, inr}
-use Rattle.std.proofs.Common.{Some, None, is_none, Result, Ok, Err, IfErr, refl, sym, ap, ◌∙◌, subst}
+use Rattle.std.proofs.Common.{◌≡◌, ℕ, Bool, true, false, ◌&&◌, ◌==◌, if◌then◌else◌, List, [], ◌∷◌, ◌++◌, length, inl, inr, None, is_none}
+use Rattle.std.proofs.Common.{refl, sym, ap, ◌∙◌, subst}
 use Rattle.std.proofs.lemmas.Bool.{both_ways}
 use Rattle.std.specs.Prelude.{codes}
 use Rattle.router.specs.Lists.{is_listing}
@@ -17,12 +17,10 @@ use Rattle.cluster.specs.Histories.{HistoryView, IsLawful, IsFault}
 use Rattle.cluster.specs.declared.fault.StepFault.{StepFault}
 use Rattle.cluster.specs.declared.fault.StepFault.TheVariants as step
 use Rattle.journal.specs.declared.step.Step.TheVariants.{Submit}
-use Rattle.shared_cluster.specs.Asks.{is_listed, told, told_in, unlisted, unless_memory, lasting, Refuses, IsStoppedOr, RefusesAsk, RefusesSubmit}
-use Rattle.shared_cluster.specs.Asks.{RefusesSit, RefusesCollect, RefusesTurn, IsSitFault, IsSubmitFault}
-use Rattle.shared_cluster.specs.Asks.{IsCollectFault, IsStopped, IsAskFault}
+use Rattle.shared_cluster.specs.Asks.{is_listed, told_in, unlisted, lasting, RefusesAsk, RefusesSubmit, RefusesTurn, IsStopped, IsAskFault}
 use Rattle.shared_cluster.specs.Desks.{IsUnqueued, IsStarved}
 use Rattle.shared_cluster.specs.declared.fault.FaultKind.{FaultKind}
-use Rattle.shared_cluster.specs.declared.fault.FaultKind.TheVariants.{Closed, Memory, Exhausted, Failed, NoConn, Unlisted}
+use Rattle.shared_cluster.specs.declared.fault.FaultKind.TheVariants.{Closed, Memory}
 use Rattle.cluster.specs.Sealed.{RanView}
 use Rattle.shared_cluster.specs.Turning.{RefusesSettle}
 use Rattle.shared_cluster.specs.declared.held.AskFault.{AskFault}
@@ -34,10 +32,9 @@ use Rattle.shared_cluster.specs.declared.held.Unsettled.TheVariants.{Starved, Fo
 pub open_refuses : (shut stopped : Bool) (h : HistoryView) (telling : StepFault → FaultKind) (IsWhy : StepFault → Type 0)
     (own : StepFault) (kind : FaultKind) → shut ≡ false → stopped ≡ false → IsLawful h → IsWhy own → kind ≡ telling own
     → RefusesAsk shut stopped h telling IsWhy kind
-open_refuses true stopped h telling IsWhy own kind shut goes lawful refused is = cc
-open_refuses false true h telling IsWhy own kind shut goes lawful refused is = cc
 open_refuses false false h telling IsWhy own kind shut goes lawful refused is =
     record { lawful = lawful; own = own; is = sym is; why = refused }
+open_refuses shut stopped h telling IsWhy own kind unshut goes lawful refused is = cc
 
 -- a submit that the cluster refuses
 pub submit_refused : (shut stopped : Bool) (h : HistoryView) (s : SeatView) (words : List (List ℕ)) (listed : Bool) (own : StepFault)
@@ -48,53 +45,12 @@ submit_refused shut stopped h s words listed own kind unshut goes lawful is refu
     open_refuses shut stopped h (told_in (is_listed h s.conn words)) (IsFault h (Submit s.conn words)) own kind unshut goes lawful
     refused (told_so ∙ ap (λ b. told_in b own) is)
 
-kept_by_lasting : (k kind : FaultKind) → unless_memory k ≡ Some kind → (k ≡ kind) × (kind ≢ Memory)
-kept_by_lasting Closed kind is = (cc, λ same. cc)
-kept_by_lasting Memory kind is = cc
-kept_by_lasting Exhausted kind is = (cc, λ same. cc)
-kept_by_lasting Failed kind is = (cc, λ same. cc)
-kept_by_lasting NoConn kind is = (cc, λ same. cc)
-kept_by_lasting Unlisted kind is = (cc, λ same. cc)
-
-pub refuses_lasting : (stopped : Bool) (h : HistoryView) (IsWhy : StepFault → Type 0) (own : StepFault) (kind : FaultKind)
-    → stopped ≡ false → IsLawful h → IsWhy own → lasting own ≡ Some kind
-    → (kind ≢ Memory) × IsStoppedOr stopped (Refuses h told IsWhy kind) kind
-refuses_lasting true h IsWhy own kind goes lawful refused is = (λ same. cc, cc)
-refuses_lasting false h IsWhy own kind goes lawful refused is =
-    let kept = kept_by_lasting (told own) kind is in
-    (kept.1, record { lawful = lawful; own = own; is = kept.0; why = refused })
-
 -- what isn't told is want of memory
 pub untold : (IsWhy : StepFault → Type 0) (own : StepFault) → lasting own ≡ None → IsWhy own → IsWhy step.Memory
-untold IsWhy step.Busy is why = cc
-untold IsWhy step.NoConn is why = cc
-untold IsWhy step.NoPacket is why = cc
-untold IsWhy step.InFlight is why = cc
-untold IsWhy step.NoLayer is why = cc
-untold IsWhy step.Exhausted is why = cc
 untold IsWhy step.Memory is why = why
+untold IsWhy own is why = cc
 
 -- ---- of a shared cluster
-
-pub found_sit : {X : Type 0} (r : Result X AskFault) (shut stopped : Bool) (h : HistoryView) → IfErr r (RefusesSit shut stopped h)
-    → IfErr r IsSitFault
-found_sit (Ok got) shut stopped h refused = tt
-found_sit (Err fault) shut stopped h refused = (shut, stopped, h, refused)
-
-pub found_submit : {X : Type 0} (r : Result X AskFault) (shut stopped : Bool) (h : HistoryView) (s : SeatView) (words : List (List ℕ))
-    → IfErr r (RefusesSubmit shut stopped h s words) → IfErr r (IsSubmitFault s words)
-found_submit (Ok got) shut stopped h s words refused = tt
-found_submit (Err fault) shut stopped h s words refused = (shut, stopped, h, refused)
-
-pub found_collect : {X : Type 0} (r : Result X AskFault) (stopped : Bool) (h : HistoryView) (s : SeatView)
-    → IfErr r (RefusesCollect stopped h s) → IfErr r (IsCollectFault s)
-found_collect (Ok got) stopped h s refused = tt
-found_collect (Err fault) stopped h s refused = inl (stopped, h, refused)
-
-pub found_stopped : {X : Type 0} (r : Result X AskFault) (stopped : Bool) (h : HistoryView) → IfErr r (RefusesTurn stopped h)
-    → IfErr r IsStopped
-found_stopped (Ok got) stopped h refused = tt
-found_stopped (Err fault) stopped h refused = (stopped, h, refused)
 
 pub found_unsettled : (h : HistoryView) (done : RanView) (u : Unsettled RanView) (fault : AskFault) → RefusesSettle h done u
     → u ≡ Foreign fault → IsStopped fault
@@ -108,11 +64,7 @@ found_unsettled h done (Foreign why) fault refused is =
 memory_unlisted : (listed : Bool) (kind : FaultKind) → unlisted listed kind ≡ Memory → listed ≡ false
 memory_unlisted false kind is = refl
 memory_unlisted true Closed is = cc
-memory_unlisted true Memory is = cc
-memory_unlisted true Exhausted is = cc
-memory_unlisted true Failed is = cc
-memory_unlisted true NoConn is = cc
-memory_unlisted true Unlisted is = cc
+memory_unlisted true kind is = cc
 
 -- whichever of three tests is the first to pass, or none
 of_three : {A : Type 0} (P : A → Type 0) (a b c : Bool) (x y z w : A) → P x → P y → P z → P w
@@ -168,13 +120,12 @@ queued_listed session words queues =
 
 unqueued : (s : SeatView) (words : List (List ℕ)) (shut stopped : Bool) (h : HistoryView) (fault : AskFault)
     → RefusesSubmit shut stopped h s words fault → fault.kind ≡ Memory → IsUnqueued s words
-unqueued s words true stopped h fault refused is = absurd (let k = sym refused.1 ∙ is in cc)
-unqueued s words false true h fault refused is = absurd (let k = sym refused.1 ∙ is in cc)
 unqueued s words false false h fault refused is = (
   h,
   refused.1.lawful,
   λ queues. both_ways _ (memory_unlisted _ _ (refused.1.is ∙ is)) (queued_listed (session_at h.front.router s.conn.0) words queues),
 )
+unqueued s words shut stopped h fault refused is = absurd (let k = sym refused.1 ∙ is in cc)
 
 -- a desk that answers want of memory
 pub told_of_memory : (old : SeatView) (words : List (List ℕ)) (fault : AskFault) (new : SeatView) → IsAskFault old words fault new

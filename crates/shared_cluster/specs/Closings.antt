@@ -1,5 +1,5 @@
 -- What is told of a shared cluster that is closed, and of its trace.
-use Rattle.std.specs.Prelude.{◌≡◌, ℕ, Bool, true, false, List, ◌++◌, length, ◌⊎◌, Option, None}
+use Rattle.std.specs.Prelude.{◌≡◌, ℕ, Bool, true, false, List, ◌++◌, length, ◌⊎◌}
 use Rattle.front.specs.Looking.{IsQuiet}
 use Rattle.cluster.specs.Clusters.{ClusterView}
 use Rattle.cluster.specs.Counting.{all_executed, all_starved, as_word}

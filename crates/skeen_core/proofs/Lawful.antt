@@ -2,17 +2,19 @@
 use Rattle.std.proofs.Common.{◌≡◌, ◌≢◌, ℕ, ◌≤◌, ◌==◌, ◌&&◌, ◌||◌, Bool, true, false, cond, List, [], ◌∷◌, Option, Some, None, IsSome, refl}
 use Rattle.std.proofs.Common.{sym, ap, ◌∙◌, subst, arith, inl, inr, eqb-true, eq-eqb}
 use Rattle.std.proofs.lemmas.Bool.{both_ways, cases_Bool, and_parts, or_cases}
-use Rattle.std.specs.FinMap.{get}
+use Rattle.std.specs.FinMap.{FinMap, get}
 use Rattle.groups.specs.GroupSet.{has}
 use Rattle.groups.specs.declared.stamp.Stamp.{Stamp}
 use Rattle.groups.specs.declared.request.RequestId.{RequestId}
 use Rattle.skeen_core.specs.declared.packet.Delivered.{Delivered}
 use Rattle.groups.specs.Order.{In}
 use Rattle.groups.specs.Stamp.{stamp_lt, final}
-use Rattle.groups.specs.Request.{same_id}
+use Rattle.groups.specs.Request.{same_id, source_cmp}
 use Rattle.skeen_core.specs.Group.{GroupState, fresh, heard, or_zero, next_clock, with_start, with_proposal, final_of, lift, lifted, MayGo}
 use Rattle.skeen_core.specs.Group.{Delivers, has_id, without}
+use Rattle.skeen_core.specs.Kept.{IsKept}
 use Rattle.skeen_core.specs.Lawful.{Sound, Lawful}
+use Rattle.skeen_core.specs.Pending.{Entry}
 use Rattle.groups.proofs.Ids.{same_id-true, eq-same_id}
 use Rattle.groups.proofs.Options.{some_same}
 use Rattle.skeen_core.proofs.Finite.{started-fresh, heard-fresh, started-with_start, heard-with_start, heard-with_proposal, started-without}
@@ -355,3 +357,20 @@ lawful_without me grp ds sound delivers = record {
       } in
       both_ways _ kept.0 (id_there ds d (delivers.all d before));
 }
+
+-- ---- a clock that is raised
+
+pub kept_raised : (me c n : ℕ) (es : List Entry) (ps : FinMap source_cmp ℕ) → c ≤ n → IsKept me c es ps → IsKept me n es ps
+kept_raised me c n es ps more kept =
+    let sound = kept.lawful.sound in record {
+      placed = kept.placed;
+      lawful = record {
+        sound = record {
+          apart = sound.apart;
+          own = λ i m e. let it = sound.own i m e in (omega (arith, more, it.0), it.1);
+          started = sound.started;
+          tops = λ i gs s e f. let it = sound.tops i gs s e f in omega (arith, more, it);
+        };
+        stuck = λ d may. kept.lawful.stuck d (record { started = may.started; stamp = may.stamp; below = may.below });
+      };
+    }

@@ -14,3 +14,4 @@ pub mod Ahead
 pub mod Numbers
 pub mod Reaching
 pub mod RunLaws
+pub mod Alone

@@ -1,27 +1,26 @@
 -- A Start: where the new request stands, and what the group has then.
 use Rattle.std.proofs.Common.{◌≡◌, ℕ, suc, ◌<◌, ◌≤◌, ◌==◌, ◌&&◌, ◌||◌, max, true, false, cond, not, List, [], ◌∷◌, Option, Some, None}
 use Rattle.std.proofs.Common.{IsSome, is_some, ◌+◌, length, refl, sym, ap, ◌∙◌, subst, arith, inl, inr, ◌⊎◌, eq-eqb, eqb-true}
-use Rattle.std.proofs.lemmas.Bool.{both_ways, cases_Bool, or_cases}
+use Rattle.std.proofs.lemmas.Bool.{both_ways, cases_Bool}
 use Rattle.std.specs.BTreeMap.{insert_entry}
 use Rattle.std.specs.FinMap.{FinMap, empty, get, insert, retain_keys, get-retain_keys, same_map}
 use Rattle.std.specs.List.Sorted.{IsStrictlySortedBy}
 use Rattle.std.specs.Map.{keys_of}
-use Rattle.std.specs.Option.{is_none}
 use Rattle.std.specs.Ordering.{match_ordering}
 use Rattle.groups.specs.GroupSet.{has, IsAscending}
 use Rattle.groups.specs.declared.request.RequestId.{RequestId}
 use Rattle.groups.specs.declared.stamp.Stamp.{Stamp}
 use Rattle.groups.specs.Order.{In}
 use Rattle.groups.specs.Request.{same_id, Source, source_cmp}
-use Rattle.groups.specs.Stamp.{stamp_lt, later_of, final, place_by}
-use Rattle.groups.proofs.Ids.{source_total, source_antisym, same_id-refl, same_id-sym, same_id-true}
-use Rattle.groups.proofs.Stamps.{lt_irrefl, lt_from_clocks, clocks_le, lowest_last, final_above}
+use Rattle.groups.specs.Stamp.{stamp_lt, final, place_by}
+use Rattle.groups.proofs.Ids.{source_total, source_antisym, same_id-refl, same_id-sym}
+use Rattle.groups.proofs.Stamps.{lt_irrefl, lt_from_clocks, clocks_le, final_above}
 use Rattle.skeen_core.specs.Group.{GroupView, or_zero, next_clock, with_start, final_of, lift, lifted}
-use Rattle.skeen_core.specs.Group.{tell, ReceivesStart, Agrees, IsReceipt}
+use Rattle.skeen_core.specs.Group.{tell, ReceivesStart, IsReceipt}
 use Rattle.skeen_core.specs.Heard.{with_heard, missing}
 use Rattle.skeen_core.specs.Kept.{state_of, groups_in, StandsAt, ArePlaced, IsKept}
 use Rattle.skeen_core.specs.Pending.{stamp_cmp, Entry, at, delivered, first_is_settled, front, forgotten, Moves}
-use Rattle.skeen_core.specs.declared.packet.Body.TheVariants.{Start, Proposal}
+use Rattle.skeen_core.specs.declared.packet.Body.TheVariants.{Start}
 use Rattle.skeen_core.specs.declared.packet.Delivered.{Delivered}
 use Rattle.skeen_core.specs.declared.packet.Packet.{Packet}
 use Rattle.skeen_core.specs.declared.pending.Pending.{Pending}
@@ -32,7 +31,7 @@ use Rattle.skeen_core.proofs.Fronts.{get_forgotten, finds, none_finds, started-s
 use Rattle.skeen_core.proofs.Lawful.{sound_start}
 use Rattle.skeen_core.proofs.Missing.{none_missing, open_missing}
 use Rattle.skeen_core.proofs.Places.{gt_greater, in_place}
-use Rattle.skeen_core.proofs.Receipts.{Comes, comes_as, comes_front, comes_none, stuck_front, kept_front}
+use Rattle.skeen_core.proofs.Receipts.{Comes, comes_front, comes_none, stuck_front, kept_front}
 
 -- a Start that the group doesn't know yet: o is the final stamp with the own proposal, m what is missing then
 pub record Begun (me c : ℕ) (es : List Entry) (ps : FinMap source_cmp ℕ) (id : RequestId) (floor : ℕ) (groups : List ℕ) (n : ℕ)
@@ -266,73 +265,6 @@ begins_receipt {me} {c} {es} {ps} {id} {floor} {groups} {n} b sent ds c' es' ps'
   least = least;
   most = most;
 }
-
--- ---- it addresses this group alone, and nothing of it came before
-
--- where nothing is known of it, nothing is forgotten of it
-none_to_forget : (ps : FinMap source_cmp ℕ) (id : RequestId) → ((g : ℕ) → clocks ps id g ≡ None)
-    → ps ≡ retain_keys ps (λ s. not (same_id id s.id))
-none_to_forget ps id none = same_map source_total source_antisym ps (retain_keys ps (λ s. not (same_id id s.id))) (λ s.
-    sym (get-retain_keys ps (λ t. not (same_id id t.id)) s
-    (λ t e. ap (λ (u : Source). not (same_id id u.id)) (sym (source_antisym s t e))) ∙ turned (same_id id s.id) (get ps s)
-    ∙ by_id s (cases_Bool (same_id id s.id))))
-  where
-    by_id : (s : Source) → (same_id id s.id ≡ true) ⊎ (same_id id s.id ≡ false) → cond (same_id id s.id) None (get ps s) ≡ get ps s
-    by_id s (inl e) = ap (λ b. cond b None (get ps s)) e ∙ sym (ap (λ i. clocks ps i s.from) (sym (same_id-true id s.id e)) ∙ none s.from)
-    by_id s (inr e) = ap (λ b. cond b None (get ps s)) e
-
-only_group : (me g : ℕ) (groups : List ℕ) → has groups me ≡ true → groups ≡ g ∷ [] → g ≡ me
-only_group me g groups member alone = elim (or_cases (g == me) false (subst (λ l. has l me ≡ true) alone member)) [
-  | inl same ↦ eqb-true g me same
-  | inr none ↦ absurd (both_ways _ refl none)
-]
-
--- its own proposal is the final stamp
-begun_alone : (me c : ℕ) (es : List Entry) (ps : FinMap source_cmp ℕ) (id : RequestId) (floor n : ℕ)
-    → IsKept me c es ps → clocks ps id me ≡ None → n ≡ suc (max c floor) → Begun me c es ps id floor (me ∷ []) n (Some (own me n)) 0
-begun_alone me c es ps id floor n kept none clock =
-    let known : with_heard (record { from = me; clock = n }) (clocks ps id) me ≡ Some n =
-    ap (λ b. cond b (Some n) (clocks ps id me)) (eq-eqb me me refl) in
-    record {
-      kept = kept;
-      none = none;
-      member = ap (λ b. b || false) (eq-eqb me me refl);
-      clock = clock;
-      ascending = ((λ h none. absurd (both_ways _ refl none)), tt);
-      final = sym (ap (λ o. later_of me o (Some (record { clock = 0; group = 0 }))) known ∙ ap Some (lowest_last (own me n)));
-      missing = sym (ap (λ o. cond {A = ℕ} (is_none o) 1 0) known);
-    }
-
-pub record Alone (me c : ℕ) (es : List Entry) (ps : FinMap source_cmp ℕ) (id : RequestId) (floor : ℕ) (groups : List ℕ) (g n : ℕ) : Type 0
-  where
-    pub kept : IsKept me c es ps
-    pub empty : es ≡ []
-    pub none : (h : ℕ) → clocks ps id h ≡ None
-    pub member : has groups me ≡ true
-    pub alone : groups ≡ g ∷ []
-    pub clock : n ≡ suc (max c floor)
-
-abbrev PassesAs : ℕ → ℕ → List Entry → FinMap source_cmp ℕ → RequestId → ℕ → ℕ → ℕ → List ℕ → Type 0
-PassesAs me c es ps id floor n g groups =
-    IsKept me n es ps
-    × Agrees me (state_of c es ps) id (Start floor groups) [] (record { id = id; stamp = own g n; groups = groups } ∷ []) (state_of n es ps)
-
--- it is delivered at once, and nothing of it is kept
-pub passes_alone : {me c : ℕ} {es : List Entry} {ps : FinMap source_cmp ℕ} {id : RequestId} {floor : ℕ} {groups : List ℕ} {g n : ℕ}
-    → Alone me c es ps id floor groups g n → PassesAs me c es ps id floor n g groups
-passes_alone {me} {c} {es} {ps} {id} {floor} {groups} {g} {n} a =
-    let same = only_group me g groups a.member a.alone in
-    let b = begun_alone me c es ps id floor n a.kept (a.none me) a.clock in
-    let ds : List Delivered = record { id = id; stamp = own me n; groups = me ∷ [] } ∷ [] in
-    let high : lift n (Some (own me n)) ≡ n = omega arith in
-    let comes = comes_as refl high refl refl
-    (begins_at_once b (own me n) refl a.empty ps (none_to_forget ps id a.none)) in
-    let told : [] ≡ tell me id n (me ∷ []) =
-    sym (ap (λ t. cond t [] (record { to = me; id = id; body = Proposal me n } ∷ [])) (eq-eqb me me refl)) in
-    let one : PassesAs me c es ps id floor n me (me ∷ []) =
-    (comes.kept, (begins_receipt b [] ds n es ps 0 1 told comes (omega arith) (omega arith) (omega arith)).rule) in
-    subst (λ l. PassesAs me c es ps id floor n g l) (sym a.alone)
-    (subst (λ h. PassesAs me c es ps id floor n h (h ∷ [])) (sym same) one)
 
 started_is : (q : Option (List ℕ)) → IsSome q → (gs : List ℕ) × (q ≡ Some gs)
 started_is None e = absurd (both_ways _ refl e)

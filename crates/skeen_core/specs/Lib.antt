@@ -7,3 +7,4 @@ pub mod Kept
 pub mod Reached
 pub mod Links
 pub mod Runs
+pub mod Offers

@@ -1,9 +1,10 @@
 //! How a group agrees with others on the stamps of requests, and what it may deliver then: all of a group but how far it has
 //! got with each connection.
-ghost use Rattle.std.specs.Prelude.{◌≡◌, ◌+◌, ◌≤◌, ◌<◌, ◌⊎◌, [], ◌∷◌, length, Some, None, IfOk, OnErr, IfSome, IfNone, MatchOption};
-ghost use Rattle.std.specs.FinMap.{len};
+ghost use Rattle.std.specs.Prelude.{◌≡◌, ℕ, ◌+◌, ◌≤◌, ◌<◌, ◌⊎◌, [], length, Some, None, IfOk, OnErr, IfSome, MatchOption};
+ghost use Rattle.std.specs.FinMap.{get, len};
+ghost use Rattle.groups.specs.declared.request.RequestId.{RequestId};
 ghost use Rattle.groups.specs.Stamp.{final, place_by};
-ghost use Rattle.skeen_core.specs.Group.{fresh, lift, MayCome, BodyMayCome, Agrees, IsReceipt};
+ghost use Rattle.skeen_core.specs.Group.{fresh, heard, lift, next_clock, MayCome, BodyMayCome, Agrees, IsReceipt};
 ghost use Rattle.skeen_core.specs.Heard.{clock_of, with_heard};
 ghost use Rattle.skeen_core.specs.declared.coming.TheConstants.{GREATEST_CLOCK};
 
@@ -88,26 +89,30 @@ impl Agreement {
         }
     }
 
-    /// A request begins that addresses this group alone. Where no request is before it, and nothing of it came before, it is
-    /// delivered at once, at this stamp, and nothing of it is kept. None where it isn't so simple: then nothing changes. It
-    /// takes no memory.
+    /// The clock that the group would propose for a request, where no request has started and nothing of this one came before.
     #[inline]
-    pub fn pass(&mut self, id: RequestId, floor: u64, groups: Groups) -> Option<Stamp>
-        requires clock { self.old.state.clock ≤ GREATEST_CLOCK }
-        requires body { BodyMayCome self.old.me self.old.state id (Body.Start floor groups) }
-        ensures me { self.new.me ≡ self.old.me }
-        ensures passed { IfSome result (λ stamp. Agrees self.old.me self.old.state id (Body.Start floor groups) []
-            (record { id = id; stamp = stamp; groups = groups } ∷ []) self.new.state) }
-        ensures unchanged { IfNone result (self.new ≡ self.old) }
+    pub fn offer(&self, id: RequestId, floor: u64) -> Option<u64>
+        requires clock { self.now.state.clock ≤ GREATEST_CLOCK }
+        requires floor { floor ≤ GREATEST_CLOCK }
+        ensures none_started { IfSome result (λ clock. (i : RequestId) → get self.now.state.started i ≡ None) }
+        ensures unheard { IfSome result (λ clock. (g : ℕ) → heard self.now.state id g ≡ None) }
+        ensures clock { IfSome result (λ clock. clock ≡ next_clock self.now.state floor) }
     {
-        let group = groups.alone()?;
         if !self.pending.is_empty() || !self.proposals.of(id).is_empty() {
             return None;
         }
-        let clock = floor.max(self.clock) + 1;
+        Some(floor.max(self.clock) + 1)
+    }
+
+    /// The clock is raised to that of a request that is delivered, the only one that was looked at.
+    #[inline]
+    pub fn raise(&mut self, clock: u64)
+        requires { self.old.state.clock ≤ clock }
+        ensures me { self.new.me ≡ self.old.me }
+        ensures raised { self.new.state ≡ record self.old.state { clock = clock } }
+    {
         self.clock = clock;
         self.looks = 1;
-        Some(Stamp { clock, group })
     }
 
     /// The last receipt looked at no request.

@@ -1,14 +1,15 @@
 //! One group: what it does with the packets that come to it. The system hands it each packet that is for it, sends what
 //! it sends, and puts what it delivers in its queue.
-ghost use Rattle.std.specs.Prelude.{◌≡◌, ◌+◌, ◌≤◌, ◌<◌, ◌^◌, ◌↔◌, [], ◌∷◌, IsTrue, length, IfOk, OnErr, IfSome, IfNone};
-ghost use Rattle.skeen_core.specs.declared.packet.Body.{Body};
-ghost use Rattle.std.specs.FinMap.{len};
+ghost use Rattle.std.specs.Prelude.{◌≡◌, ◌+◌, ◌≤◌, ◌<◌, ◌^◌, ◌↔◌, true, IsOk, IsSome, IsTrue, length, IfOk, OnErr, OnOk, IfSome};
+ghost use Rattle.std.specs.FinMap.{get, len};
 ghost use Rattle.skeen_core.specs.Group.{fresh, MayCome, Receives, CountsKept};
+ghost use Rattle.skeen_core.specs.Offers.{Offers, settled};
+ghost use Rattle.skeen_core.specs.declared.coming.TheConstants.{GREATEST_CLOCK};
 
 use super::agreement::Agreement;
 use super::packet::{Delivered, Packet};
 use super::reached::Reached;
-use groups::{GroupId, Groups, RequestId, Stamp};
+use groups::{GroupId, RequestId};
 use std::alloc::{AllocError, Global};
 use std::marker::Model;
 
@@ -83,25 +84,33 @@ impl Group {
         Ok((sent, delivered))
     }
 
-    /// A request begins that addresses this group alone. Where nothing stands before it, it is delivered at once, at this stamp, as
-    /// `receive` does with its Start. None where it isn't so simple, where the request is past, or where there is no memory: then
-    /// nothing changes.
-    ///
-    /// Its Start may come to this group.
+    /// The clock that the group would propose for a request, where no request has started, and nothing of this one came before; and
+    /// whether an earlier one of its connection was delivered.
     #[inline]
-    pub fn pass(&mut self, id: RequestId, floor: u64, groups: Groups) -> Option<Stamp>
-        requires { MayCome self.old.me self.old.state (record { to = self.old.me; id = id; body = Body.Start floor groups }) }
-        ensures me { self.new.me ≡ self.old.me }
-        ensures passed { IfSome result (λ stamp. Receives self.old.me self.old.state id (Body.Start floor groups) []
-            (record { id = id; stamp = stamp; groups = groups } ∷ []) self.new.state) }
-        ensures unchanged { IfNone result (self.new ≡ self.old) }
+    pub fn offer(&self, id: RequestId, floor: u64) -> Option<(u64, bool)>
+        requires clock { self.now.state.clock ≤ GREATEST_CLOCK }
+        requires floor { floor ≤ GREATEST_CLOCK }
+        ensures offers { IfSome result (λ it. Offers self.now.state id floor it.0) }
+        ensures known { IfSome result (λ it. it.1 ≡ true → IsSome (get self.now.state.reached id.conn.0)) }
     {
-        if self.reached.is_past(id) || self.reached.reserve(1).is_err() {
-            return None;
-        }
-        let stamp = self.agreement.pass(id, floor, groups)?;
-        self.reached.deliver(id);
-        Some(stamp)
+        let is_known = self.reached.is_known(id)?;
+        let clock = self.agreement.offer(id, floor)?;
+        Some((clock, is_known))
+    }
+
+    /// A request that is alone is delivered at a stamp of this clock, which is at least the group's. The only error is want of memory,
+    /// which is wanted only where no earlier one of its connection was delivered, and it changes nothing.
+    #[inline]
+    pub fn settle(&mut self, id: RequestId, clock: u64) -> Result<(), AllocError>
+        requires { self.old.state.clock ≤ clock }
+        ensures me { self.new.me ≡ self.old.me }
+        ensures settled { OnOk result (self.new.state ≡ settled self.old.state id clock) }
+        ensures unchanged { OnErr result (self.new ≡ self.old) }
+        ensures succeeds { IsSome (get self.old.state.reached id.conn.0) → IsOk result }
+    {
+        self.reached.put(id)?;
+        self.agreement.raise(clock);
+        Ok(())
     }
 
     /// The group's clock: at least that of every stamp that it proposed or settled.

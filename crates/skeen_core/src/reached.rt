@@ -1,5 +1,5 @@
 //! How far a group has got with each connection's requests.
-ghost use Rattle.std.specs.Prelude.{◌≡◌, ◌+◌, ◌≤◌, ◌<◌, length, max, OnOk};
+ghost use Rattle.std.specs.Prelude.{◌≡◌, ◌+◌, ◌≤◌, ◌<◌, false, true, length, max, IfSome, IsOk, IsSome, OnErr, OnOk};
 ghost use Rattle.std.specs.FinMap.{empty, get, insert};
 ghost use Rattle.skeen_core.specs.Group.{or_zero, is_up_to, reached_by};
 
@@ -55,6 +55,17 @@ impl Reached {
         }
     }
 
+    /// Whether one of its connection's requests was delivered, where none that is as late was.
+    pub fn is_known(&self, id: RequestId) -> Option<bool>
+        ensures later { IfSome result (λ known. is_up_to (get self.now.numbers id.conn.0) id.seq ≡ false) }
+        ensures known { IfSome result (λ known. known ≡ true → IsSome (get self.now.numbers id.conn.0)) }
+    {
+        match self.number(id.conn) {
+            Some(number) => { if id.seq <= number { None } else { Some(true) } }
+            None => Some(false),
+        }
+    }
+
     /// Takes the room for so many more connections. The only error is want of memory; nothing but the room changes.
     pub fn reserve(&mut self, count: usize) -> Result<(), AllocError>
         ensures numbers { self.new.numbers ≡ self.old.numbers }
@@ -70,13 +81,27 @@ impl Reached {
             ≡ insert self.old.numbers id.conn.0 (max (or_zero (get self.old.numbers id.conn.0)) id.seq) }
         ensures room { self.old.room ≤ self.new.room + 1 }
     {
+        let Ok(()) = self.put(id) else { unreachable!() };
+    }
+
+    /// The request is delivered. The only error is want of memory, which is wanted only where none of its connection was delivered and
+    /// there is no room; nothing but the room changes then.
+    pub fn put(&mut self, id: RequestId) -> Result<(), AllocError>
+        ensures numbers { OnOk result (self.new.numbers
+            ≡ insert self.old.numbers id.conn.0 (max (or_zero (get self.old.numbers id.conn.0)) id.seq)) }
+        ensures room { OnOk result (self.old.room ≤ self.new.room + 1) }
+        ensures unchanged { OnErr result (self.new.numbers ≡ self.old.numbers) }
+        ensures succeeds { 0 < self.old.room → IsOk result }
+        ensures succeeds_again { IsSome (get self.old.numbers id.conn.0) → IsOk result }
+    {
         if let Some(number) = self.numbers.get_mut(&id.conn.0) {
             *number = (*number).max(id.seq);
-            return;
+            return Ok(());
         }
         let Ok(_) = self.numbers.insert(id.conn.0, id.seq) else {
-            unreachable!()
+            return Err(AllocError);
         };
+        Ok(())
     }
 
     /// These requests are delivered. There is room for each.

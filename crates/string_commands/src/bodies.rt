@@ -20,7 +20,7 @@ use values::Value;
 /// The string is copied once, into the reply. <https://redis.io/docs/latest/commands/get/>
 #[tactic(auto, using(keyspace::proofs::Changes::changes, resp::proofs::Contents::content_of))]
 pub(crate) fn get<K: Keyspace>(alloc: Global, keyspace: &K, key: Text) -> Result<Reply, Starved>
-    requires { IsTrue (K.covered keyspace.now key) }
+    requires { IsTrue (K.covered key) }
     ensures done { Does (at_key key get_step)
         (K.contents keyspace.now) (K.contents keyspace.now) result }
     ensures starves { OnErr result (1 < room (map.get (K.contents keyspace.now) key)) }
@@ -48,12 +48,11 @@ pub(crate) fn set<K: Keyspace>(
     value: Text,
     condition: Condition,
 ) -> Result<Reply, Starved>
-    requires { IsTrue (K.covered keyspace.old key) }
+    requires { IsTrue (K.covered key) }
     ensures done { Does (at_key key (set_step value condition))
         (K.contents keyspace.old) (K.contents keyspace.new) result }
     ensures starves { OnErr result
         ((map.get (K.contents keyspace.old) key ≡ None) × IsTrue (is_admitted condition false)) }
-    ensures covers { K.covered keyspace.new ≡ K.covered keyspace.old }
 {
     match keyspace.look_mut(key.as_slice()) {
         Some(there) => Ok(set_there(there, value, condition)),
@@ -117,11 +116,10 @@ pub(crate) fn setnx<K: Keyspace>(
     key: Text,
     value: Text,
 ) -> Result<Reply, Starved>
-    requires { IsTrue (K.covered keyspace.old key) }
+    requires { IsTrue (K.covered key) }
     ensures done { Does (at_key key (setnx_step value))
         (K.contents keyspace.old) (K.contents keyspace.new) result }
     ensures starves { OnErr result (map.get (K.contents keyspace.old) key ≡ None) }
-    ensures covers { K.covered keyspace.new ≡ K.covered keyspace.old }
 {
     if keyspace.look(key.as_slice()).is_some() {
         return Ok(truth_reply(false));

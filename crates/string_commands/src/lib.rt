@@ -38,11 +38,10 @@ pub fn run_string_command<K: Keyspace>(
     keyspace: &mut K,
     command: StringCommand,
 ) -> Result<Reply, Starved>
-    requires { All (λ key. IsTrue (K.covered keyspace.old key)) (string_command_keys command) }
+    requires { All (λ key. IsTrue (K.covered key)) (string_command_keys command) }
     ensures done { Does (string_command_case command)
         (K.contents keyspace.old) (K.contents keyspace.new) result }
     ensures starves { OnErr result (StringCommandTakesMemory command (K.contents keyspace.old)) }
-    ensures covers { K.covered keyspace.new ≡ K.covered keyspace.old }
 {
     command_rows!(strings, body_rows, StringCommand, alloc, keyspace, command)
 }

@@ -19,7 +19,7 @@ use values::Value;
 ///
 /// Each string is copied once, into the reply. <https://redis.io/docs/latest/commands/mget/>
 pub(crate) fn mget<K: Keyspace>(alloc: Global, keyspace: &K, keys: Texts) -> Result<Reply, Starved>
-    requires { All (λ key. IsTrue (K.covered keyspace.now key)) keys }
+    requires { All (λ key. IsTrue (K.covered key)) keys }
     ensures done { Does (at_each keys mget_reply)
         (K.contents keyspace.now) (K.contents keyspace.now) result }
 {
@@ -34,7 +34,7 @@ pub(crate) fn mget<K: Keyspace>(alloc: Global, keyspace: &K, keys: Texts) -> Res
 
 /// The string at the key, if there is one.
 fn string_at<'a, K: Keyspace>(keyspace: &'a K, key: &[u8]) -> Option<&'a [u8]>
-    requires { IsTrue (K.covered keyspace.now key.now) }
+    requires { IsTrue (K.covered key.now) }
     ensures { text_or_null (option_copied result) ≡ string_or_null (map.get (K.contents keyspace.now) key.now) }
 {
     match keyspace.look(key) {

@@ -21,11 +21,10 @@ pub(crate) fn incr<K: Keyspace>(
     keyspace: &mut K,
     key: Text,
 ) -> Result<Reply, Starved>
-    requires { IsTrue (K.covered keyspace.old key) }
+    requires { IsTrue (K.covered key) }
     ensures done { Does (at_key key (incrby_step (pos 1)))
         (K.contents keyspace.old) (K.contents keyspace.new) result }
     ensures starves { OnErr result (Grows (incrby_step (pos 1)) (map.get (K.contents keyspace.old) key)) }
-    ensures covers { K.covered keyspace.new ≡ K.covered keyspace.old }
 {
     incrby(alloc, keyspace, key, 1)
 }
@@ -36,11 +35,10 @@ pub(crate) fn decr<K: Keyspace>(
     keyspace: &mut K,
     key: Text,
 ) -> Result<Reply, Starved>
-    requires { IsTrue (K.covered keyspace.old key) }
+    requires { IsTrue (K.covered key) }
     ensures done { Does (at_key key (incrby_step (negsuc 0)))
         (K.contents keyspace.old) (K.contents keyspace.new) result }
     ensures starves { OnErr result (Grows (incrby_step (negsuc 0)) (map.get (K.contents keyspace.old) key)) }
-    ensures covers { K.covered keyspace.new ≡ K.covered keyspace.old }
 {
     incrby(alloc, keyspace, key, -1)
 }
@@ -58,11 +56,10 @@ pub(crate) fn incrby<K: Keyspace>(
     key: Text,
     by: i64,
 ) -> Result<Reply, Starved>
-    requires { IsTrue (K.covered keyspace.old key) }
+    requires { IsTrue (K.covered key) }
     ensures done { Does (at_key key (incrby_step by))
         (K.contents keyspace.old) (K.contents keyspace.new) result }
     ensures starves { OnErr result (Grows (incrby_step by) (map.get (K.contents keyspace.old) key)) }
-    ensures covers { K.covered keyspace.new ≡ K.covered keyspace.old }
 {
     match keyspace.look_mut(key.as_slice()) {
         None => put_number(alloc, keyspace, key, by),
@@ -79,11 +76,10 @@ pub(crate) fn decrby<K: Keyspace>(
     key: Text,
     by: i64,
 ) -> Result<Reply, Starved>
-    requires { IsTrue (K.covered keyspace.old key) }
+    requires { IsTrue (K.covered key) }
     ensures done { Does (at_key key (decrby_step by))
         (K.contents keyspace.old) (K.contents keyspace.new) result }
     ensures starves { OnErr result (Grows (decrby_step by) (map.get (K.contents keyspace.old) key)) }
-    ensures covers { K.covered keyspace.new ≡ K.covered keyspace.old }
 {
     match by.checked_neg() {
         Some(by) => incrby(alloc, keyspace, key, by),
@@ -112,11 +108,10 @@ fn put_number<K: Keyspace>(
     key: Text,
     number: i64,
 ) -> Result<Reply, Starved>
-    requires covered { IsTrue (K.covered keyspace.old key) }
+    requires covered { IsTrue (K.covered key) }
     requires absent { map.get (K.contents keyspace.old) key ≡ None }
     ensures done { Does (at_key key (incrby_step number))
         (K.contents keyspace.old) (K.contents keyspace.new) result }
-    ensures covers { K.covered keyspace.new ≡ K.covered keyspace.old }
 {
     let text = number_text(alloc, number)?;
     let Ok(_) = keyspace.put(key.into_vec(), Value::Str(text)) else {

@@ -30,11 +30,10 @@ pub(crate) fn mset<K: Keyspace>(
     keyspace: &mut K,
     pairs: Pairs,
 ) -> Result<Reply, Starved>
-    requires { All (λ key. IsTrue (K.covered keyspace.old key)) (firsts pairs) }
+    requires { All (λ key. IsTrue (K.covered key)) (firsts pairs) }
     ensures done { Does (at_pairs pairs mset_step)
         (K.contents keyspace.old) (K.contents keyspace.new) result }
     ensures starves { OnErr result (0 < length (missing_among (K.contents keyspace.old) (firsts pairs))) }
-    ensures covers { K.covered keyspace.new ≡ K.covered keyspace.old }
 {
     set_all(alloc, keyspace, pairs)?;
     Ok(ok_reply())
@@ -47,11 +46,10 @@ pub(crate) fn msetnx<K: Keyspace>(
     keyspace: &mut K,
     pairs: Pairs,
 ) -> Result<Reply, Starved>
-    requires { All (λ key. IsTrue (K.covered keyspace.old key)) (firsts pairs) }
+    requires { All (λ key. IsTrue (K.covered key)) (firsts pairs) }
     ensures done { Does (at_pairs pairs msetnx_step)
         (K.contents keyspace.old) (K.contents keyspace.new) result }
     ensures starves { OnErr result (list_any is_some (values_at (K.contents keyspace.old) (firsts pairs)) ≡ false) }
-    ensures covers { K.covered keyspace.new ≡ K.covered keyspace.old }
 {
     if is_one_there(keyspace, &pairs) {
         return Ok(truth_reply(false));
@@ -62,7 +60,7 @@ pub(crate) fn msetnx<K: Keyspace>(
 
 /// Whether one of the pairs' keys is there.
 fn is_one_there<K: Keyspace>(keyspace: &K, pairs: &Pairs) -> bool
-    requires { All (λ key. IsTrue (K.covered keyspace.now key)) (firsts pairs.now) }
+    requires { All (λ key. IsTrue (K.covered key)) (firsts pairs.now) }
     ensures { result ≡ list_any is_some (values_at (K.contents keyspace.now) (firsts pairs.now)) }
 {
     for place in 0..pairs.len() {
@@ -75,11 +73,10 @@ fn is_one_there<K: Keyspace>(keyspace: &K, pairs: &Pairs) -> bool
 
 /// Puts each value at its key, all or none.
 fn set_all<K: Keyspace>(alloc: Global, keyspace: &mut K, pairs: Pairs) -> Result<(), Starved>
-    requires { All (λ key. IsTrue (K.covered keyspace.old key)) (firsts pairs) }
+    requires { All (λ key. IsTrue (K.covered key)) (firsts pairs) }
     ensures ok { OnOk result (K.contents keyspace.new ≡ with_pairs (K.contents keyspace.old) pairs) }
     ensures err { OnErr result (K.contents keyspace.new ≡ K.contents keyspace.old) }
     ensures starves { OnErr result (0 < length (missing_among (K.contents keyspace.old) (firsts pairs))) }
-    ensures covers { K.covered keyspace.new ≡ K.covered keyspace.old }
 {
     let missing = missing_keys(alloc, keyspace, &pairs)?;
     hold_all(alloc, keyspace, &missing)?;
@@ -93,7 +90,7 @@ fn missing_keys<K: Keyspace>(
     keyspace: &K,
     pairs: &Pairs,
 ) -> Result<Texts, AllocError>
-    requires { All (λ key. IsTrue (K.covered keyspace.now key)) (firsts pairs.now) }
+    requires { All (λ key. IsTrue (K.covered key)) (firsts pairs.now) }
     ensures found { IfOk result (λ missing. missing ≡ missing_among (K.contents keyspace.now) (firsts pairs.now)) }
     ensures starves { OnErr result (0 < length (missing_among (K.contents keyspace.now) (firsts pairs.now))) }
 {
@@ -111,7 +108,7 @@ fn push_missing<K: Keyspace>(
     key: &[u8],
     missing: &mut Vec<Vec<u8>>,
 ) -> Result<(), AllocError>
-    requires { IsTrue (K.covered keyspace.now key.now) }
+    requires { IsTrue (K.covered key.now) }
     ensures ok { OnOk result (texts_of missing.new.items
         ≡ texts_of missing.old.items ++ missing_among (K.contents keyspace.now) (key.now ∷ [])) }
     ensures err { OnErr result (map.get (K.contents keyspace.now) key.now ≡ None) }
@@ -126,13 +123,12 @@ fn push_missing<K: Keyspace>(
 
 /// Puts the empty string at each of these keys, none of which is there; at all or at none.
 fn hold_all<K: Keyspace>(alloc: Global, keyspace: &mut K, missing: &Texts) -> Result<(), Starved>
-    requires covered { (key : List ℕ) → among missing.now key ≡ true → IsTrue (K.covered keyspace.old key) }
+    requires covered { (key : List ℕ) → among missing.now key ≡ true → IsTrue (K.covered key) }
     requires absent { (key : List ℕ) → among missing.now key ≡ true
         → map.get (K.contents keyspace.old) key ≡ None }
     ensures ok { OnOk result (K.contents keyspace.new ≡ with_pairs (K.contents keyspace.old) (held missing.now)) }
     ensures err { OnErr result (K.contents keyspace.new ≡ K.contents keyspace.old) }
     ensures starves { OnErr result (0 < length missing.now) }
-    ensures covers { K.covered keyspace.new ≡ K.covered keyspace.old }
 {
     for key in missing.as_slice() {
         let Ok(()) = hold(alloc, keyspace, key.as_slice()) else {
@@ -145,10 +141,9 @@ fn hold_all<K: Keyspace>(alloc: Global, keyspace: &mut K, missing: &Texts) -> Re
 
 /// Puts the empty string at a key.
 fn hold<K: Keyspace>(alloc: Global, keyspace: &mut K, key: &[u8]) -> Result<(), Starved>
-    requires { IsTrue (K.covered keyspace.old key.now) }
+    requires { IsTrue (K.covered key.now) }
     ensures ok { OnOk result (K.contents keyspace.new ≡ map.insert (K.contents keyspace.old) key.now (kind.Str [])) }
     ensures err { OnErr result (K.contents keyspace.new ≡ K.contents keyspace.old) }
-    ensures covers { K.covered keyspace.new ≡ K.covered keyspace.old }
 {
     let copy = Text::copy_of(alloc, key)?;
     let Ok(_) = keyspace.put(copy.into_vec(), Value::Str(Text::empty(alloc))) else {
@@ -159,9 +154,8 @@ fn hold<K: Keyspace>(alloc: Global, keyspace: &mut K, key: &[u8]) -> Result<(), 
 
 /// Removes these keys.
 fn release_all<K: Keyspace>(keyspace: &mut K, keys: &Texts)
-    requires { (key : List ℕ) → among keys.now key ≡ true → IsTrue (K.covered keyspace.old key) }
+    requires { (key : List ℕ) → among keys.now key ≡ true → IsTrue (K.covered key) }
     ensures released { K.contents keyspace.new ≡ without (K.contents keyspace.old) keys.now }
-    ensures covers { K.covered keyspace.new ≡ K.covered keyspace.old }
 {
     for key in keys.as_slice() {
         keyspace.take(key.as_slice());
@@ -170,11 +164,10 @@ fn release_all<K: Keyspace>(keyspace: &mut K, keys: &Texts)
 
 /// Puts each value at its key, each of which is there.
 fn replace_all<K: Keyspace>(keyspace: &mut K, pairs: Pairs)
-    requires covered { (key : List ℕ) → among (firsts pairs) key ≡ true → IsTrue (K.covered keyspace.old key) }
+    requires covered { (key : List ℕ) → among (firsts pairs) key ≡ true → IsTrue (K.covered key) }
     requires there { (key : List ℕ) → among (firsts pairs) key ≡ true
         → IsSome (map.get (K.contents keyspace.old) key) }
     ensures put { K.contents keyspace.new ≡ with_pairs (K.contents keyspace.old) pairs }
-    ensures covers { K.covered keyspace.new ≡ K.covered keyspace.old }
 {
     let mut turns = pairs.into_turns();
     turns.reverse();

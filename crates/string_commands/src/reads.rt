@@ -18,7 +18,7 @@ use values::Value;
 /// <https://redis.io/docs/latest/commands/strlen/>
 #[tactic(auto, using(keyspace::proofs::Changes::changes, resp::proofs::Contents::content_of))]
 pub(crate) fn strlen<K: Keyspace>(_alloc: Global, keyspace: &K, key: Text) -> Result<Reply, Starved>
-    requires { IsTrue (K.covered keyspace.now key) }
+    requires { IsTrue (K.covered key) }
     ensures done { Does (at_key key (at_string strlen_string))
         (K.contents keyspace.now) (K.contents keyspace.now) result }
     ensures answers { IsOk result }
@@ -42,7 +42,7 @@ pub(crate) fn getrange<K: Keyspace>(
     start: i64,
     end: i64,
 ) -> Result<Reply, Starved>
-    requires { IsTrue (K.covered keyspace.now key) }
+    requires { IsTrue (K.covered key) }
     ensures done { Does (at_key key (at_string (getrange_string start end)))
         (K.contents keyspace.now) (K.contents keyspace.now) result }
     ensures starves { OnErr result (IsSome (map.get (K.contents keyspace.now) key)) }

@@ -24,11 +24,10 @@ pub(crate) fn getset<K: Keyspace>(
     key: Text,
     value: Text,
 ) -> Result<Reply, Starved>
-    requires { IsTrue (K.covered keyspace.old key) }
+    requires { IsTrue (K.covered key) }
     ensures done { Does (at_key key (at_string (getset_string value)))
         (K.contents keyspace.old) (K.contents keyspace.new) result }
     ensures starves { OnErr result (map.get (K.contents keyspace.old) key ≡ None) }
-    ensures covers { K.covered keyspace.new ≡ K.covered keyspace.old }
 {
     match keyspace.look(key.as_slice()) {
         None => {
@@ -57,11 +56,10 @@ pub(crate) fn getdel<K: Keyspace>(
     keyspace: &mut K,
     key: Text,
 ) -> Result<Reply, Starved>
-    requires { IsTrue (K.covered keyspace.old key) }
+    requires { IsTrue (K.covered key) }
     ensures done { Does (at_key key (at_string getdel_string))
         (K.contents keyspace.old) (K.contents keyspace.new) result }
     ensures answers { IsOk result }
-    ensures covers { K.covered keyspace.new ≡ K.covered keyspace.old }
 {
     match keyspace.look(key.as_slice()) {
         None => Ok(Reply::Null),

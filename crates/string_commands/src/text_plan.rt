@@ -15,7 +15,7 @@ use values::Value;
 
 /// When the memory for the text of this command's reply is taken. The keyspace has to cover each of its keys.
 pub fn string_text_plan<K: Keyspace>(keyspace: &K, command: &StringCommand) -> TextPlan
-    requires { All (λ key. IsTrue (K.covered keyspace.now key)) (string_command_keys command.now) }
+    requires { All (λ key. IsTrue (K.covered key)) (string_command_keys command.now) }
     ensures { IsPlanFor (string_command_case command.now) (K.contents keyspace.now) result }
 {
     match command {
@@ -30,7 +30,7 @@ pub fn string_text_plan<K: Keyspace>(keyspace: &K, command: &StringCommand) -> T
 
 /// The plan of a body that changes the keyspace and answers what GET would.
 fn plan_for_string<K: Keyspace>(keyspace: &K, key: &Text) -> TextPlan
-    requires { IsTrue (K.covered keyspace.now key.now) }
+    requires { IsTrue (K.covered key.now) }
     ensures { (case : Case) → (case (K.contents keyspace.now)).1 ≡ (get_step (get (K.contents keyspace.now) key.now)).1
         → IsPlanFor case (K.contents keyspace.now) result }
 {

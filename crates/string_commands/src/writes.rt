@@ -31,11 +31,10 @@ pub(crate) fn append<K: Keyspace>(
     key: Text,
     tail: Text,
 ) -> Result<Reply, Starved>
-    requires { IsTrue (K.covered keyspace.old key) }
+    requires { IsTrue (K.covered key) }
     ensures done { Does (at_key key (at_string (append_string tail)))
         (K.contents keyspace.old) (K.contents keyspace.new) result }
     ensures starves { OnErr result (Grows (at_string (append_string tail)) (map.get (K.contents keyspace.old) key)) }
-    ensures covers { K.covered keyspace.new ≡ K.covered keyspace.old }
 {
     match keyspace.look_mut(key.as_slice()) {
         None => put_tail(keyspace, key, tail),
@@ -58,11 +57,10 @@ pub(crate) fn setrange<K: Keyspace>(
     offset: i64,
     value: Text,
 ) -> Result<Reply, Starved>
-    requires { IsTrue (K.covered keyspace.old key) }
+    requires { IsTrue (K.covered key) }
     ensures done { Does (at_key key (setrange_step offset value))
         (K.contents keyspace.old) (K.contents keyspace.new) result }
     ensures starves { OnErr result (Grows (setrange_step offset value) (map.get (K.contents keyspace.old) key)) }
-    ensures covers { K.covered keyspace.new ≡ K.covered keyspace.old }
 {
     match usize::try_from(offset) {
         Ok(offset) => set_from(alloc, keyspace, key, offset, value),
@@ -79,12 +77,11 @@ fn set_from<K: Keyspace>(
     offset: usize,
     value: Text,
 ) -> Result<Reply, Starved>
-    requires { IsTrue (K.covered keyspace.old key) }
+    requires { IsTrue (K.covered key) }
     ensures done { Does (at_key key (at_string (setrange_string offset value)))
         (K.contents keyspace.old) (K.contents keyspace.new) result }
     ensures starves { OnErr result
         (Grows (at_string (setrange_string offset value)) (map.get (K.contents keyspace.old) key)) }
-    ensures covers { K.covered keyspace.new ≡ K.covered keyspace.old }
 {
     match keyspace.look_mut(key.as_slice()) {
         None => put_padded(alloc, keyspace, key, offset, value.as_slice()),
@@ -118,12 +115,11 @@ fn bad_offset_reply() -> Reply
 /// Puts the tail of an APPEND at a key that isn't there.
 #[tactic(auto, using(keyspace::proofs::Changes::changes, resp::proofs::Contents::content_of))]
 fn put_tail<K: Keyspace>(keyspace: &mut K, key: Text, tail: Text) -> Result<Reply, Starved>
-    requires covered { IsTrue (K.covered keyspace.old key) }
+    requires covered { IsTrue (K.covered key) }
     requires absent { map.get (K.contents keyspace.old) key ≡ None }
     ensures done { Does (at_key key (at_string (append_string tail)))
         (K.contents keyspace.old) (K.contents keyspace.new) result }
     ensures starves { OnErr result (Grows (at_string (append_string tail)) (map.get (K.contents keyspace.old) key)) }
-    ensures covers { K.covered keyspace.new ≡ K.covered keyspace.old }
 {
     let length = tail.len();
     if !is_short(0, length) {
@@ -144,13 +140,12 @@ fn put_padded<K: Keyspace>(
     offset: usize,
     value: &[u8],
 ) -> Result<Reply, Starved>
-    requires covered { IsTrue (K.covered keyspace.old key) }
+    requires covered { IsTrue (K.covered key) }
     requires absent { map.get (K.contents keyspace.old) key ≡ None }
     ensures done { Does (at_key key (at_string (setrange_string offset value.now)))
         (K.contents keyspace.old) (K.contents keyspace.new) result }
     ensures starves { OnErr result
         (Grows (at_string (setrange_string offset value.now)) (map.get (K.contents keyspace.old) key)) }
-    ensures covers { K.covered keyspace.new ≡ K.covered keyspace.old }
 {
     if value.len() == 0 {
         return Ok(count_reply(0));

@@ -1,6 +1,5 @@
 -- That nothing is left behind, that something can be done until then, and that there is an end to it.
-use Rattle.std.proofs.Common.{◌≡◌, Bool, false, List, [], ◌∷◌, length, ◌⊎◌, inl, inr, Option, Some, None, refl, sym, ap, ◌∙◌, subst}
-use Rattle.std.proofs.Common.{arith}
+use Rattle.std.proofs.Common.{◌≡◌, Bool, false, List, [], ◌∷◌, length, ◌⊎◌, inl, inr, Option, Some, None, refl, sym, ap, ◌∙◌, subst, arith}
 use Rattle.std.specs.List.{AllZip}
 use Rattle.tasks.specs.Starved.{starved_in}
 use Rattle.delivery.specs.Queues.{queue_of}
@@ -29,14 +28,14 @@ use Rattle.system.specs.Reads.{table_of}
 use Rattle.system.specs.Refusing.{Refuses, RefusesNot}
 use Rattle.system.specs.System.{SystemView, IsSystem, IsRefused, IsQuiet}
 use Rattle.system.specs.declared.fault.StepFault.{StepFault}
-use Rattle.system.specs.declared.fault.StepFault.TheVariants.{Busy, NoConn, NoPacket, InFlight, NoLayer, Exhausted, Memory, Failed}
+use Rattle.system.specs.declared.fault.StepFault.TheVariants.{Busy, NoConn, NoPacket, InFlight, NoLayer}
 use Rattle.system.specs.declared.halves.Halves.{Halves}
 use Rattle.system.specs.declared.stage.Stage.{Stage}
 use Rattle.system.specs.declared.stage.Stage.TheVariants as stage
 use Rattle.front.specs.Layers.{IsRow}
 use Rattle.world.specs.Steps.{opening, OwnFault, NothingToSettle, Refused, starved_among}
 use Rattle.world.specs.Steps as world
-use Rattle.world.specs.World.{World, Ended, Layer, NoneTaken, Taken, HasRun}
+use Rattle.world.specs.World.{World, Ended, Layer, NoneTaken, HasRun}
 use Rattle.world_laws.proofs.BoundLaws.{turns_are_bounded}
 use Rattle.world_laws.proofs.QuietLaws.{quiet_means_ended}
 use Rattle.world_laws.proofs.Worlds.{good_opening}
@@ -133,9 +132,7 @@ no_own_fault s step is none may NoConn new refused = absurd (not_there s step is
 no_own_fault s step is none may NoPacket new refused = absurd (not_there s step is none world.NoPacket refused.lived refused.why)
 no_own_fault s step is none may InFlight new refused = absurd (not_there s step is none world.InFlight refused.lived refused.why)
 no_own_fault s step is none may NoLayer new refused = absurd (not_there s step is none world.NoLayer refused.lived refused.why)
-no_own_fault s step is none may Exhausted new refused = refl
-no_own_fault s step is none may Memory new refused = refl
-no_own_fault s step is none may Failed new refused = refl
+no_own_fault s step is none may fault new refused = refl
 
 may_be_made : (s : SystemView) (step : Step) → IsSystem s → RefusesNot s.halves step → MayBeMade s step
 may_be_made s step is none = record { not_refused = none; no_own_fault = no_own_fault s step is none }
@@ -143,19 +140,13 @@ may_be_made s step is none = record { not_refused = none; no_own_fault = no_own_
 -- a packet that is there can be brought
 deliver_not : (w : World) (packet : Packet) (rest : List Packet) → w.packets ≡ packet ∷ rest → (fault : OwnFault) →
     ¬ Refused w (steps.Deliver 0) fault
-deliver_not w packet rest some world.Busy refused = refused
-deliver_not w packet rest some world.NoConn refused = refused
 deliver_not w packet rest some world.NoPacket refused = let longer = ap (λ (ps : List Packet). length ps) some in omega arith
-deliver_not w packet rest some world.InFlight refused = refused
-deliver_not w packet rest some world.NoLayer refused = refused
+deliver_not w packet rest some fault refused = refused
 
 -- a layer that was run can be settled
 settle_not : (w : World) (es : List Ended) → w.layer ≡ HasRun es → (fault : OwnFault) → ¬ Refused w steps.Settle fault
-settle_not w es ran world.Busy refused = refused
-settle_not w es ran world.NoConn refused = refused
-settle_not w es ran world.NoPacket refused = refused
-settle_not w es ran world.InFlight refused = refused
 settle_not w es ran world.NoLayer refused = subst NothingToSettle ran refused
+settle_not w es ran fault refused = refused
 
 -- where no layer is there and one could be taken a Take has no fault of its own
 take_not : (p : Halves) → p.stage ≡ stage.Free → (((d : Delivered) → ¬ IsReady (queue_of p.front.multicast.queues) d) → ⊥) →

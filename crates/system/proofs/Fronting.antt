@@ -1,6 +1,5 @@
 -- The steps that the front makes are steps of the world, and what it refuses the world refuses.
-use Rattle.std.proofs.Common.{◌≡◌, ◌≢◌, ◌+◌, List, [], ◌∷◌, ◌++◌, refl, sym, ap, ◌∙◌, subst, arith, append-nil}
-use Rattle.std.proofs.Common.{Result, Ok, Err}
+use Rattle.std.proofs.Common.{◌≡◌, ◌≢◌, List, [], ◌∷◌, ◌++◌, refl, sym, ap, ◌∙◌, subst, arith, append-nil, Result, Ok, Err}
 use Rattle.std.specs.Prelude.{IfErr, OnErr}
 use Rattle.front.specs.Fronts.{FrontView, FrontIsAt}
 use Rattle.front.specs.Making as making
@@ -15,7 +14,7 @@ use Rattle.front.specs.declared.fault.FrontFault.TheVariants as front_fault
 use Rattle.groups.specs.declared.skip_id.SkipId.{SkipId}
 use Rattle.journal.specs.Views.{RowView}
 use Rattle.journal.specs.declared.step.Step.{Step}
-use Rattle.journal.specs.declared.step.Step.TheVariants.{Open, Submit, Deliver, Take, Run, Settle, Collect, Close, Repeat}
+use Rattle.journal.specs.declared.step.Step.TheVariants.{Take, Run, Settle, Collect, Close}
 use Rattle.layer_planner.specs.declared.job.Job.{Job}
 use Rattle.layer_results.specs.declared.done.DoneRow.{DoneRow}
 use Rattle.order_laws.specs.Runs.{LeavesLayers}
@@ -80,6 +79,13 @@ no_more rows = ([], sym (append-nil rows))
 
 -- ---- a step that leaves the layer alone
 
+-- it is stored as it was given, and starves nothing
+stored_same : (p : Halves) (s : Step) (e : Effect) → LeavesLayers s → (stored s e ≡ s) × ((w : World) → Starves p s e w)
+stored_same p Take e leaves = absurd leaves
+stored_same p (Run starved) e leaves = absurd leaves
+stored_same p Settle e leaves = absurd leaves
+stored_same p s e leaves = (refl, λ w. tt)
+
 -- the front makes the step where it is
 abbrev pub FrontSteps : Halves → FrontView → Step → world.Effect → Type 0
 FrontSteps old f step effect = (h : List Step) (w : World) → IsAt old h w →
@@ -107,59 +113,28 @@ module _ (old : Halves) (f : FrontView) (step : Step) (leaves : LeavesLayers ste
             (at'.shows.starved ∙ ap starved_among (sym rest.ended)),
       )
 
-  pub made_by_front : (effect : Effect) → stored step effect ≡ step → ((w : World) → Starves old step effect w) →
-      FrontSteps old f step (effect_shown effect) → Makes old step effect fronted
-  made_by_front effect same starves makes = record {
+  pub made_by_front : (effect : Effect) → FrontSteps old f step (effect_shown effect) → Makes old step effect fronted
+  made_by_front effect makes = record {
     table = refl;
     counted = let steps = counts.steps in let layers = counts.layers in omega arith;
     from_each = λ h w at'.
-        subst (λ s. (w' : World) × Steps old.back.store.table w s (effect_shown effect) w' × IsAt fronted (h ++ s ∷ []) w') (sym same)
-        (steps_so (effect_shown effect) makes h w at');
-    starves = λ h w at'. starves w;
+        subst (λ s. (w' : World) × Steps old.back.store.table w s (effect_shown effect) w' × IsAt fronted (h ++ s ∷ []) w')
+        (sym (stored_same old step effect leaves).0) (steps_so (effect_shown effect) makes h w at');
+    starves = λ h w at'. (stored_same old step effect leaves).1 w;
     rows = no_more old.back.rows;
   }
 
--- it is stored as it was given, and starves nothing
-pub stored_same : (s : Step) (e : Effect) → LeavesLayers s → stored s e ≡ s
-stored_same Open e leaves = refl
-stored_same (Submit conn words) e leaves = refl
-stored_same (Deliver place) e leaves = refl
-stored_same Take e leaves = absurd leaves
-stored_same (Run starved) e leaves = absurd leaves
-stored_same Settle e leaves = absurd leaves
-stored_same (Collect conn) e leaves = refl
-stored_same (Close conn) e leaves = refl
-stored_same (Repeat place) e leaves = refl
-
-pub starves_none : (p : Halves) (s : Step) (e : Effect) (w : World) → LeavesLayers s → Starves p s e w
-starves_none p Open e w leaves = tt
-starves_none p (Submit conn words) e w leaves = tt
-starves_none p (Deliver place) e w leaves = tt
-starves_none p Take e w leaves = absurd leaves
-starves_none p (Run starved) e w leaves = absurd leaves
-starves_none p Settle e w leaves = absurd leaves
-starves_none p (Collect conn) e w leaves = tt
-starves_none p (Close conn) e w leaves = tt
-starves_none p (Repeat place) e w leaves = tt
-
 -- a step that is none of the layer's leaves it alone
 pub alone : (s : Step) → s ≢ Take → ((starved : List SkipId) → s ≢ Run starved) → s ≢ Settle → LeavesLayers s
-alone Open takes runs settles = tt
-alone (Submit conn words) takes runs settles = tt
-alone (Deliver place) takes runs settles = tt
 alone Take takes runs settles = absurd (takes refl)
 alone (Run starved) takes runs settles = absurd (runs starved refl)
 alone Settle takes runs settles = absurd (settles refl)
-alone (Collect conn) takes runs settles = tt
-alone (Close conn) takes runs settles = tt
-alone (Repeat place) takes runs settles = tt
+alone s takes runs settles = tt
 
 -- what the front answers is what the system does, as the world says it
 shown_of : (made : fronts.Effect) → making.effect_shown made ≡ effect_shown (effect_of made)
 shown_of (fronts_effect.Opened conn) = refl
-shown_of (fronts_effect.Submitted id) = refl
-shown_of (fronts_effect.Collected outcome) = refl
-shown_of fronts_effect.Made = refl
+shown_of effect = refl
 
 pub shown_same : (made : fronts.Effect) (e : Effect) → e ≡ effect_of made → making.effect_shown made ≡ effect_shown e
 shown_same made e same = shown_of made ∙ ap effect_shown (sym same)
@@ -174,8 +149,7 @@ front_makes old f step effect makes h w at' = makes.from_each h w (front_at old 
 -- no layer is there where the world has none
 free_there : (s : Stage) (w : World) → w.layer ≡ NoneTaken → ShowsStage s w → s ≡ stage.Free
 free_there stage.Free w none shows = refl
-free_there (stage.Taken jobs) w none shows = absurd (let k = sym none ∙ shows.1 in cc)
-free_there (stage.HasRun done) w none shows = absurd (let k = sym none ∙ shows.1 in cc)
+free_there s w none shows = absurd (let k = sym none ∙ shows.1 in cc)
 
 pub take_makes : (old : Halves) → Lives old → (jobs : List Job) (f : FrontView) → Takes old.front jobs f →
     Makes old Take Made (record old { front = f; stage = stage.Taken jobs })
@@ -218,25 +192,16 @@ admitted p step none h w at' = none h w (front_at p h w at')
 
 -- such a step wants memory of the halves where it wants it of the front
 pub wants_so : (s : Step) → LeavesLayers s → refusing.WantsMemory s → WantsMemory s
-wants_so Open leaves wants = tt
-wants_so (Submit conn words) leaves wants = tt
-wants_so (Deliver place) leaves wants = tt
-wants_so Take leaves wants = tt
-wants_so (Run starved) leaves wants = tt
 wants_so Settle leaves wants = absurd leaves
 wants_so (Collect conn) leaves wants = wants
 wants_so (Close conn) leaves wants = wants
-wants_so (Repeat place) leaves wants = tt
+wants_so s leaves wants = tt
 
 -- why the front refuses a step is why the halves do
 pub refused : (p : Halves) (step : Step) (f : FrontFault) → (refusing.WantsMemory step → WantsMemory step) →
     refusing.IsFault p.front step f → IsFault p step (of_front f)
-refused p step front_fault.Busy wants why = λ h w at'. why h w (front_at p h w at')
-refused p step front_fault.NoConn wants why = λ h w at'. why h w (front_at p h w at')
-refused p step front_fault.NoPacket wants why = λ h w at'. why h w (front_at p h w at')
-refused p step front_fault.InFlight wants why = λ h w at'. why h w (front_at p h w at')
-refused p step front_fault.NoLayer wants why = λ h w at'. why h w (front_at p h w at')
 refused p step front_fault.Memory wants why = (wants why.0, admitted p step why.1)
+refused p step f wants why = λ h w at'. why h w (front_at p h w at')
 
 -- the fault that is answered for it
 pub refused_as : (p : Halves) (step : Step) (f : FrontFault) (told : StepFault) → told ≡ of_front f →
@@ -246,8 +211,4 @@ refused_as p step f told same wants why = subst (IsFault p step) (sym same) (ref
 -- a front never says that a start was refused
 pub not_failed : (f : FrontFault) (told : StepFault) → told ≡ of_front f → told ≢ Failed
 not_failed front_fault.Busy told same failed = let k = sym same ∙ failed in cc
-not_failed front_fault.NoConn told same failed = let k = sym same ∙ failed in cc
-not_failed front_fault.NoPacket told same failed = let k = sym same ∙ failed in cc
-not_failed front_fault.InFlight told same failed = let k = sym same ∙ failed in cc
-not_failed front_fault.NoLayer told same failed = let k = sym same ∙ failed in cc
-not_failed front_fault.Memory told same failed = let k = sym same ∙ failed in cc
+not_failed f told same failed = let k = sym same ∙ failed in cc

@@ -1,6 +1,6 @@
 -- What each system is, it is after every step, made or not.
-use Rattle.std.proofs.Common.{◌≡◌, ◌≢◌, ℕ, suc, ◌+◌, ◌<◌, Bool, false, List, [], ◌∷◌, ◌++◌, length, ◌⊎◌, inl, inr, refl, sym, ap}
-use Rattle.std.proofs.Common.{◌∙◌, subst, arith, length-append}
+use Rattle.std.proofs.Common.{◌≡◌, ◌≢◌, ℕ, suc, ◌+◌, ◌<◌, Bool, false, List, [], ◌∷◌, ◌++◌, length, ◌⊎◌, inl, inr, refl, sym, ap, ◌∙◌}
+use Rattle.std.proofs.Common.{subst, arith, length-append}
 use Rattle.std.proofs.lemmas.Bool.{both_ways}
 use Rattle.back.specs.Backs.{BackState}
 use Rattle.execution_order.specs.Entries.{rows_by_stamp}
@@ -12,9 +12,10 @@ use Rattle.system.specs.Refusing.{Lives, IsFault, MayFail, HasFailed}
 use Rattle.system.specs.System.{SystemView, ShowsHistory, IsSystem, IsStep, MayGoOn, Refuses, IsRefused, ObeysOneThread}
 use Rattle.system.specs.declared.effect.Effect.{Effect}
 use Rattle.system.specs.declared.fault.StepFault.{StepFault}
-use Rattle.system.specs.declared.fault.StepFault.TheVariants.{Busy, NoConn, NoPacket, InFlight, NoLayer, Exhausted, Memory, Failed}
+use Rattle.system.specs.declared.fault.StepFault.TheVariants.{Exhausted, Failed}
 use Rattle.system.specs.declared.halves.Halves.{Halves}
 use Rattle.system.specs.declared.stage.Stage.{Stage}
+use Rattle.system.specs.declared.system.System.TheInside.{Inside}
 use Rattle.front.specs.Connections.{ShowsConnections}
 use Rattle.front.specs.Layers.{AreRows, ShowsStore}
 use Rattle.front.specs.Multicast.{ShowsMulticast}
@@ -22,6 +23,10 @@ use Rattle.world.specs.Steps.{opening, Leads}
 use Rattle.world.specs.World.{World}
 use Rattle.world_laws.proofs.HeadlineLaws.{headline_holds}
 use Rattle.world_laws.specs.Headline.{IsOneThread, rows_of}
+
+-- what contracts see of the system with these fields
+abbrev pub seen : Inside → SystemView
+seen inside = record { max_steps = inside.max_steps; steps = inside.steps; halves = inside.halves }
 
 -- ---- the headline
 
@@ -104,23 +109,6 @@ still_at old new keeps h w at' = record {
 pub same_store : {old new : Halves} → Keeps old new → new.back.store ≡ old.back.store
 same_store keeps = ap (λ (b : BackState). b.store) keeps.back
 
-pub same_rows : {old new : Halves} → Keeps old new → new.back.rows ≡ old.back.rows
-same_rows keeps = ap (λ (b : BackState). b.rows) keeps.back
-
-pub same_packets : {old new : Halves} → Keeps old new → new.front.multicast.packets ≡ old.front.multicast.packets
-same_packets keeps = ap (λ (f : FrontView). f.multicast.packets) keeps.front
-
-pub same_queues : {old new : Halves} → Keeps old new → new.front.multicast.queues ≡ old.front.multicast.queues
-same_queues keeps = ap (λ (f : FrontView). f.multicast.queues) keeps.front
-
-pub same_twice : {old mid new : Halves} → Keeps old mid → Keeps mid new → Keeps old new
-same_twice one two = record {
-  front = two.front ∙ one.front;
-  back = two.back ∙ one.back;
-  stage = two.stage ∙ one.stage;
-  starved = two.starved ∙ one.starved;
-}
-
 -- what a refusal leaves: all as before but for room, or a system that has failed
 abbrev pub Leaves : Halves → Halves → Type 0
 Leaves old new = Keeps old new ⊎ HasFailed old new
@@ -165,24 +153,13 @@ stays old new is steps most leaves =
     }
 
 failed_or_not : (f : StepFault) → (f ≡ Failed) ⊎ (f ≢ Failed)
-failed_or_not Busy = inr (λ e. let k = e in cc)
-failed_or_not NoConn = inr (λ e. let k = e in cc)
-failed_or_not NoPacket = inr (λ e. let k = e in cc)
-failed_or_not InFlight = inr (λ e. let k = e in cc)
-failed_or_not NoLayer = inr (λ e. let k = e in cc)
-failed_or_not Exhausted = inr (λ e. let k = e in cc)
-failed_or_not Memory = inr (λ e. let k = e in cc)
 failed_or_not Failed = inl refl
-
-leaves_by : (fault : StepFault) (old new : Halves) → (fault ≢ Failed → Keeps old new) → (fault ≡ Failed → HasFailed old new) →
-    ((fault ≡ Failed) ⊎ (fault ≢ Failed)) → Leaves old new
-leaves_by fault old new keeps fails (inl failed) = inr (fails failed)
-leaves_by fault old new keeps fails (inr other) = inl (keeps other)
+failed_or_not f = inr (λ e. let k = e in cc)
 
 -- what the halves leave by a fault
 pub leaves : (fault : StepFault) (old new : Halves) → (fault ≢ Failed → Keeps old new) → (fault ≡ Failed → HasFailed old new) →
     Leaves old new
-leaves fault old new keeps fails = leaves_by fault old new keeps fails (failed_or_not fault)
+leaves fault old new keeps fails = elim (failed_or_not fault) [ inl failed ↦ inr (fails failed) | inr other ↦ inl (keeps other) ]
 
 -- ---- why it was not
 
@@ -197,21 +174,11 @@ pub refused_so : (may_refuse : Bool) (old new : SystemView) (step : Step) (fault
     old.steps < old.max_steps → new.steps ≡ old.steps → new.max_steps ≡ old.max_steps →
     (fault ≢ Failed → IsFault old.halves step fault × Keeps old.halves new.halves) →
     (fault ≡ Failed → MayFail may_refuse old.halves step × HasFailed old.halves new.halves) → IsRefused may_refuse old step fault new
-refused_so may old new step Busy alive left steps most keeps fails =
-    refused_by old new step Busy alive left steps most (keeps (λ e. let k = e in cc))
-refused_so may old new step NoConn alive left steps most keeps fails =
-    refused_by old new step NoConn alive left steps most (keeps (λ e. let k = e in cc))
-refused_so may old new step NoPacket alive left steps most keeps fails =
-    refused_by old new step NoPacket alive left steps most (keeps (λ e. let k = e in cc))
-refused_so may old new step InFlight alive left steps most keeps fails =
-    refused_by old new step InFlight alive left steps most (keeps (λ e. let k = e in cc))
-refused_so may old new step NoLayer alive left steps most keeps fails =
-    refused_by old new step NoLayer alive left steps most (keeps (λ e. let k = e in cc))
-refused_so may old new step Memory alive left steps most keeps fails =
-    refused_by old new step Memory alive left steps most (keeps (λ e. let k = e in cc))
 refused_so may old new step Exhausted alive left steps most keeps fails = absurd (keeps (λ e. let k = e in cc)).0
 refused_so may old new step Failed alive left steps most keeps fails =
     let told = fails refl in inr (record { lived = alive; left = left; may_fail = told.0; failed = told.1 })
+refused_so may old new step fault alive left steps most keeps fails =
+    refused_by old new step fault alive left steps most (keeps (λ e. let k = e in cc))
 
 -- ---- a step that is looked at
 

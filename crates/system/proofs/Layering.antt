@@ -1,7 +1,6 @@
 -- Run and Settle of the halves are steps of the world.
-use Rattle.std.proofs.Common.{◌≡◌, ℕ, ◌+◌, ◌≤◌, Bool, length, List, [], ◌∷◌, ◌++◌, inl, inr, map, Option, Some, None}
-use Rattle.std.proofs.Common.{refl, sym, ap, ◌∙◌, subst, arith, length-append, append_assoc, Ok}
-use Rattle.std.proofs.lemmas.Bool.{both_ways}
+use Rattle.std.proofs.Common.{◌≡◌, ℕ, ◌+◌, ◌≤◌, length, List, [], ◌∷◌, ◌++◌, map, Option, Some, None, refl, sym, ap, ◌∙◌, subst, arith}
+use Rattle.std.proofs.Common.{length-append, Ok}
 use Rattle.std.proofs.lemmas.List.{length-map}
 use Rattle.std.proofs.lemmas.List.Sums.{sum_by-cons}
 use Rattle.std.specs.Prelude.{option_map}
@@ -10,9 +9,9 @@ use Rattle.std.specs.List.{AllZip}
 use Rattle.back.specs.Backs.{BackState}
 use Rattle.back.specs.Rows.{done_of, results_of}
 use Rattle.back.specs.Rows as back
-use Rattle.back.specs.Runs.{HasRun, IsRefused}
+use Rattle.back.specs.Runs.{HasRun}
 use Rattle.tasks.specs.Starved.{starved_in}
-use Rattle.front.proofs.Lists.{zip_append}
+use Rattle.back.proofs.Keeping.{zip_append}
 use Rattle.front.specs.Fronts.{FrontView}
 use Rattle.front.specs.Making.{SeesNoRun}
 use Rattle.front.specs.Settling as settling
@@ -27,6 +26,7 @@ use Rattle.layer_planner.specs.declared.job.Job.{Job}
 use Rattle.layer_results.proofs.Names.{names_by_task, wants_in-few}
 use Rattle.layer_results.specs.Results.{row_names, names_of}
 use Rattle.layer_results.specs.declared.done.DoneRow.{DoneRow}
+use Rattle.order_laws.proofs.SerialLaws.{rows_of-append, starved-append}
 use Rattle.resp.specs.Content.{Content, content}
 use Rattle.resp.specs.declared.answered.Answered.{Answered}
 use Rattle.resp.specs.declared.reply.Reply.{Reply}
@@ -34,14 +34,13 @@ use Rattle.sessions.specs.declared.batch.Batch.TheVariants.{Plain, Exec}
 use Rattle.shard_exec.specs.Layers.{AddressTheirGroups, IsOf, MayStarveInTurn}
 use Rattle.shard_exec.specs.Stamps.{AreFresh}
 use Rattle.shard_exec.specs.declared.done.Ended as run
-use Rattle.shard_exec.specs.declared.done.ExecFault.TheVariants.{Failed}
 use Rattle.shard_workers.specs.Runs.{outcome}
 use Rattle.system.proofs.Fronting.{front_at, is_at, no_more}
 use Rattle.system.proofs.Rest.{store_same}
 use Rattle.system.proofs.Starving.{starves_rightly}
 use Rattle.system.specs.Outcomes.{most_names, most_of}
 use Rattle.system.specs.Halves.{IsAt, Makes, ShowsStage, StarvesRightly, ran_in}
-use Rattle.system.specs.Refusing.{Lives, RefusesNot, MayFail, HasFailed}
+use Rattle.system.specs.Refusing.{Lives, RefusesNot}
 use Rattle.system.specs.declared.effect.Effect.TheVariants.{Made, Ran}
 use Rattle.system.specs.declared.halves.Halves.{Halves}
 use Rattle.system.specs.declared.stage.Stage.{Stage}
@@ -54,22 +53,6 @@ use Rattle.world.specs.Steps as world
 use Rattle.world.specs.World.{World, Ended}
 use Rattle.world.specs.World as layer
 use Rattle.world_laws.specs.Headline.{with_row, rows_of}
-
--- ---- what has ended, and what ends behind it
-
-with_row-append : (e : Ended) (o : Option Content) (xs ys : List _) → with_row e o (xs ++ ys) ≡ with_row e o xs ++ ys
-with_row-append e None xs ys = refl
-with_row-append e (Some reply) xs ys = refl
-
-rows_of-append : (es fs : List Ended) → rows_of (es ++ fs) ≡ rows_of es ++ rows_of fs
-rows_of-append [] fs = refl
-rows_of-append (e ∷ es) fs = ap (with_row e e.reply) (rows_of-append es fs) ∙ with_row-append e e.reply (rows_of es) (rows_of fs)
-
-starved-append : (es fs : List Ended) → starved_among (es ++ fs) ≡ starved_among es ++ starved_among fs
-starved-append [] fs = refl
-starved-append (e ∷ es) fs =
-    let names = starved_names e.id e.task e.reply in
-    ap (λ l. names ++ l) (starved-append es fs) ∙ sym (append_assoc names (starved_among es) (starved_among fs))
 
 -- ---- what came of a layer
 
@@ -87,9 +70,8 @@ row_kept e r is (Some answered) same xs ys zip =
 
 rows_kept : (es : List Ended) (rs : List run.Ended) → AreEnded es rs → AreRows es (back.rows_of rs)
 rows_kept [] [] are = tt
-rows_kept [] (r ∷ rs) are = absurd are
-rows_kept (e ∷ es) [] are = absurd are
 rows_kept (e ∷ es) (r ∷ rs) are = row_kept e r are.0 r.reply refl (rows_of es) (back.rows_of rs) (rows_kept es rs are.1)
+rows_kept es rs are = absurd are
 
 -- the row that is handed on of a request
 abbrev reply_in : Option Answered → Option Reply
@@ -108,36 +90,31 @@ row_names_same e r is =
 
 pub names_same : (es : List Ended) (rs : List run.Ended) → AreEnded es rs → names_of (results_of rs) ≡ starved_among es
 names_same [] [] are = refl
-names_same [] (r ∷ rs) are = absurd are
-names_same (e ∷ es) [] are = absurd are
 names_same (e ∷ es) (r ∷ rs) are =
     ap (λ names. names ++ names_of (results_of rs)) (row_names_same e r are.0)
     ∙ ap (λ names. starved_names e.id e.task e.reply ++ names) (names_same es rs are.1)
+names_same es rs are = absurd are
 
 -- the rows tell what came of the layer, of each request at its place
 told_for : (es : List Ended) (rs : List run.Ended) → AreEnded es rs → AllZip IsToldBy es (results_of rs)
 told_for [] [] are = tt
-told_for [] (r ∷ rs) are = absurd are
-told_for (e ∷ es) [] are = absurd are
 told_for (e ∷ es) (r ∷ rs) are = (
   record { id = are.0.id; stamp = are.0.stamp; reply = sym are.0.reply ∙ sym (content_in r.reply) },
   told_for es rs are.1,
 )
+told_for es rs are = absurd are
 
 -- no more names come than there may be
 few_of : (id : RequestId) (task : Task) (reply : Option Content) → length (starved_names id task reply) ≤ most_names task
-few_of id (Plain command) None = omega arith
-few_of id (Plain command) (Some reply) = omega arith
-few_of id (Exec members) None = omega arith
 few_of id (Exec members) (Some reply) =
     let few = wants_in-few (length members) reply in
     let same = length-map (starved_in (Exec members) reply) (Part id) in
     omega arith
+few_of id (Plain command) None = omega arith
+few_of id task reply = omega arith
 
 few_in : (js : List Job) (rs : List run.Ended) → AllZip IsOf js rs → length (names_of (results_of rs)) ≤ most_of js
 few_in [] [] told = omega arith
-few_in [] (r ∷ rs) told = absurd told
-few_in (j ∷ js) [] told = absurd told
 few_in (j ∷ js) (r ∷ rs) told =
     let says : task_reading r.words ≡ Ok j.asked.batch = ap task_reading told.0.2 ∙ j.asked.says in
     let first = ap (λ (l : List SkipId). length l)
@@ -149,10 +126,17 @@ few_in (j ∷ js) (r ∷ rs) told =
     let most : most_of (j ∷ js) ≡ most_names j.asked.batch + most_of js =
     sum_by-cons (λ (n : ℕ). n) (most_names j.asked.batch) (map (λ (i : Job). most_names i.asked.batch) js) in
     omega arith
+few_in js rs told = absurd told
 
-pub few_names : (old mid : BackState) (skip : List SkipId) (taken : List Job) (done : List DoneRow) → HasRun old skip taken mid →
-    done ≡ mid.last → length (names_of done) ≤ most_of taken
-few_names old mid skip taken done ran handed =
+abbrev taken_or : Stage → List Job → List Job
+taken_or (stage.Taken taken) other = taken
+taken_or _ other = other
+
+-- of the layer that was there they are no more than there is room for
+pub few_names : (old mid : BackState) (skip : List SkipId) (s : Stage) (there taken : List Job) (done : List DoneRow) →
+    s ≡ stage.Taken there → s ≡ stage.Taken taken → HasRun old skip taken mid → done ≡ mid.last → length (names_of done) ≤ most_of there
+few_names old mid skip s there taken done is_there is_taken ran handed =
+    let most = ap (λ x. most_of (taken_or x there)) (sym is_there ∙ is_taken) in
     let names = ap (λ (d : List DoneRow). length (names_of d)) (handed ∙ ran.last) in
     let few = few_in taken ran.ended ran.store.done.told in
     omega arith
@@ -187,7 +171,7 @@ module _ (old : Halves) (mid : BackState) (taken : List Job) (done : List DoneRo
     rows_more : AreRows w.ended old.back.rows → AreRows (w.ended ++ shown.es) (old.back.rows ++ back.rows_of ran.ended)
     rows_more rows =
         subst (λ l. AllZip IsRow l (old.back.rows ++ back.rows_of ran.ended)) (sym (rows_of-append w.ended shown.es))
-        (zip_append IsRow (rows_of w.ended) old.back.rows (rows_of shown.es) (back.rows_of ran.ended) rows
+        (zip_append IsRow (rows_of w.ended) (rows_of shown.es) old.back.rows (back.rows_of ran.ended) rows
         (rows_kept shown.es ran.ended shown.ended))
 
     by_stage : (w' : World) × RunsLayer w names (world.Ran names) w' × IsAt ran_halves (h ++ step.Run names ∷ []) w'
@@ -233,29 +217,8 @@ pub run_admitted : (p : Halves) (taken : List Job) → p.stage ≡ stage.Taken t
 run_admitted p taken is_taken skip = λ h w at'. by_fault w (subst (λ s. ShowsStage s w) is_taken at'.shows.stage)
   where
     by_fault : (w : World) → ShowsStage (stage.Taken taken) w → (fault : OwnFault) → ¬ Refused w (step.Run skip) fault
-    by_fault w shows world.Busy refused = refused
-    by_fault w shows world.NoConn refused = refused
-    by_fault w shows world.NoPacket refused = refused
-    by_fault w shows world.InFlight refused = refused
     by_fault w shows world.NoLayer refused = subst NothingToRun shows.1 refused
-
--- and where a worker's start is refused the rows stay
-pub failed_so : (may_refuse : Bool) (p : Halves) → Lives p → (taken : List Job) → p.stage ≡ stage.Taken taken → (skip : List SkipId)
-    (new : Halves) → IsRefused may_refuse p.back taken Failed new.back → MayFail may_refuse p (step.Run skip) × HasFailed p new
-failed_so may_refuse p lives taken is_taken skip new (inl before) = absurd (both_ways _ lives.at.shows.store.lives before.0)
-failed_so may_refuse p lives taken is_taken skip new (inr now) = (
-  record { refusable = now.may; runs = tt; not_refused = run_admitted p taken is_taken skip },
-  record { failed = now.failed; table = now.table; rows = now.rows },
-)
-
--- ---- what is in a stage
-
-abbrev taken_or : Stage → List Job → List Job
-taken_or (stage.Taken taken) other = taken
-taken_or _ other = other
-
-pub same_taken : (s : Stage) (a b : List Job) → s ≡ stage.Taken a → s ≡ stage.Taken b → b ≡ a
-same_taken s a b is_a is_b = ap (λ x. taken_or x a) (sym is_b ∙ is_a)
+    by_fault w shows fault refused = refused
 
 -- ---- Settle
 

@@ -1,13 +1,12 @@
 -- What some names of requests and of their members name, and which of these stand among those of what starved.
-use Rattle.std.proofs.Common.{◌≡◌, ℕ, Bool, true, false, cond, ◌||◌, List, [], ◌∷◌, ◌⊎◌, inl, inr, map, None, refl, sym, ap, subst}
-use Rattle.std.proofs.Common.{eq-eqb, eqb-true, nat_eq}
-use Rattle.std.proofs.lemmas.Bool.{cases_Bool, or_cases, or_right}
+use Rattle.std.proofs.Common.{◌≡◌, ℕ, true, ◌||◌, List, [], ◌∷◌, inl, inr, map, None, refl, sym, ap, subst, eqb-true, nat_eq}
+use Rattle.std.proofs.lemmas.Bool.{or_cases, or_right}
 use Rattle.tasks.specs.Starved.{has}
 use Rattle.groups.proofs.Ids.{same_id-true, eq-same_id}
 use Rattle.groups.proofs.Lists.{In-left, In-right}
 use Rattle.groups.specs.Order.{In}
 use Rattle.groups.specs.Request.{same_id}
-use Rattle.groups.specs.Skips.{names_whole, parts_of}
+use Rattle.groups.specs.Skips.{names_whole}
 use Rattle.groups.specs.declared.request.RequestId.{RequestId}
 use Rattle.groups.specs.declared.skip_id.SkipId.{SkipId}
 use Rattle.groups.specs.declared.skip_id.SkipId.TheVariants.{Whole, Part}
@@ -34,37 +33,6 @@ in_whole (Whole i ∷ names) id named = elim (or_cases (same_id i id) (names_who
 in_whole (Part i n ∷ names) id named = inr (in_whole names id named)
 
 -- ---- members
-
-pub part_in : (names : List SkipId) (id : RequestId) (n : ℕ) → In (Part id n) names → has (parts_of names id) n ≡ true
-part_in [] id n there = absurd there
-part_in (Whole i ∷ names) id n (inl same) = cc
-part_in (Whole i ∷ names) id n (inr there) = part_in names id n there
-part_in (Part i k ∷ names) id n (inl same) =
-    let e : i ≡ id = cc in
-    let number : k ≡ n = cc in
-    subst (λ b. has (cond b (k ∷ parts_of names id) (parts_of names id)) n ≡ true) (sym (eq-same_id i id e))
-    (ap (λ b. b || has (parts_of names id) n) (eq-eqb k n number))
-part_in (Part i k ∷ names) id n (inr there) = behind (same_id i id) (part_in names id n there)
-  where
-    behind : (b : Bool) → has (parts_of names id) n ≡ true → has (cond b (k ∷ parts_of names id) (parts_of names id)) n ≡ true
-    behind true later = or_right (nat_eq k n) (has (parts_of names id) n) later
-    behind false later = later
-
-pub in_part : (names : List SkipId) (id : RequestId) (n : ℕ) → has (parts_of names id) n ≡ true → In (Part id n) names
-in_part [] id n named = cc
-in_part (Whole i ∷ names) id n named = inr (in_part names id n named)
-in_part (Part i k ∷ names) id n named = elim (cases_Bool (same_id i id)) [
-  | inl here ↦ by_number here (in_part names id n) (or_cases (nat_eq k n) (has (parts_of names id) n)
-      (subst (λ b. has (cond b (k ∷ parts_of names id) (parts_of names id)) n ≡ true) here named))
-  | inr other ↦ inr (in_part names id n
-      (subst (λ b. has (cond b (k ∷ parts_of names id) (parts_of names id)) n ≡ true) other named))
-]
-  where
-    by_number : same_id i id ≡ true → (has (parts_of names id) n ≡ true → In (Part id n) names) →
-        (nat_eq k n ≡ true) ⊎ (has (parts_of names id) n ≡ true) → In (Part id n) (Part i k ∷ names)
-    by_number here rest (inl this) =
-        let e = same_id-true i id here in let number = eqb-true k n this in inl (λ j. Part (sym e j) (sym number j))
-    by_number here rest (inr later) = inr (rest later)
 
 pub in_numbers : (id : RequestId) (numbers : List ℕ) (n : ℕ) → has numbers n ≡ true → In (Part id n) (map (Part id) numbers)
 in_numbers id [] n among = cc

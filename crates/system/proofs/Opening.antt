@@ -1,5 +1,5 @@
 -- What a new system shows.
-use Rattle.std.proofs.Common.{◌≡◌, ℕ, zero, suc, [], None, refl, sym, ap, ◌∙◌, subst}
+use Rattle.std.proofs.Common.{◌≡◌, ℕ, suc, [], None, refl, sym, ap, ◌∙◌, subst}
 use Rattle.std.proofs.Math.ListN.{replicate}
 use Rattle.back.specs.Backs.{BackState, new_back}
 use Rattle.front.specs.Fronts as front
@@ -14,9 +14,8 @@ use Rattle.front.specs.Layers.{AreRows, ShowsStore}
 use Rattle.world.specs.Steps.{opening}
 
 none_last : (n shard : ℕ) → last_of (replicate n None) shard ≡ None
-none_last zero shard = refl
-none_last (suc n) zero = refl
 none_last (suc n) (suc shard) = none_last n shard
+none_last n shard = refl
 
 -- both halves are new
 pub record IsOpening (t : Layout) (p : Halves) : Type 0 where

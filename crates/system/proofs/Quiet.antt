@@ -1,16 +1,11 @@
 -- When nothing is under way.
-use Rattle.std.proofs.Common.{◌≡◌, length, List, [], ◌∷◌, Bool, true, false, not, IsTrue, ◌↔◌, refl, arith}
+use Rattle.std.proofs.Common.{◌≡◌, [], Bool, true, false, not, IsTrue, ◌↔◌, refl}
 use Rattle.std.proofs.lemmas.Bool.{both_ways}
 use Rattle.delivery.specs.Queues.{queue_of}
 use Rattle.delivery.specs.Ready.{IsReady}
 use Rattle.skeen_core.specs.declared.packet.Delivered.{Delivered}
-use Rattle.skeen_core.specs.declared.packet.Packet.{Packet}
 use Rattle.system.specs.System.{SystemView, IsQuiet}
 use Rattle.system.specs.declared.stage.Stage.TheVariants.{Free}
-
-pub no_packets : (ps : List Packet) → length ps ≡ 0 → ps ≡ []
-no_packets [] none = refl
-no_packets (p ∷ ps) none = absurd (omega arith)
 
 -- with no packet and no layer it is quiet just where no request is ready
 pub quiet_by : (ready : Bool) (s : SystemView) → s.halves.front.multicast.packets ≡ [] → s.halves.stage ≡ Free →

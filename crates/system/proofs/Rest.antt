@@ -2,7 +2,7 @@
 use Rattle.std.proofs.Common.{◌≡◌, ℕ, true, List, [], ◌∷◌, Some, refl, sym, ◌∙◌, subst}
 use Rattle.groups.specs.GroupSet.{has}
 use Rattle.journal.specs.declared.step.Step.{Step}
-use Rattle.journal.specs.declared.step.Step.TheVariants.{Open, Submit, Deliver, Take, Run, Settle, Collect, Close, Repeat}
+use Rattle.journal.specs.declared.step.Step.TheVariants.{Submit, Take, Run, Settle, Collect}
 use Rattle.layer_planner.specs.declared.job.Job.{Job}
 use Rattle.order_laws.specs.Runs.{LeavesLayers}
 use Rattle.placement.specs.Layout.{Layout}
@@ -10,15 +10,16 @@ use Rattle.shard_exec.specs.StoreStates.{StoreState}
 use Rattle.groups.specs.Order.{In}
 use Rattle.skeen_core.specs.declared.packet.Delivered.{Delivered}
 use Rattle.groups.specs.declared.request.RequestId.{RequestId}
-use Rattle.sessions.specs.Session.{Answer, Now, Go}
+use Rattle.sessions.specs.Session.{Answer, Now, Go, asks}
+use Rattle.sessions.specs.declared.session.Session.{Session}
 use Rattle.tasks.specs.Tasks.{task_groups}
 use Rattle.system.specs.Halves.{ShowsStage}
 use Rattle.system.specs.declared.stage.Stage.{Stage}
 use Rattle.system.specs.declared.stage.Stage.TheVariants as stage
 use Rattle.front.specs.Layers.{AreJobs, ShowsStore}
-use Rattle.world.specs.Steps.{Effect, Steps, answer_to, remembered, submitted, submitted_to}
+use Rattle.world.specs.Steps.{Effect, Steps, in_session, submitted, submitted_to}
 use Rattle.world.specs.Steps as world
-use Rattle.world.specs.World.{World, Request, Standing, Closed, Idle, Waiting, Answered}
+use Rattle.world.specs.World.{World, Request, Standing, Closed}
 use Rattle.world_laws.proofs.Floors.{knows_more}
 use Rattle.world_laws.specs.Good.{Asked, WorldGood}
 
@@ -33,33 +34,28 @@ pub record IsRest (w w' : World) : Type 0 where
 rest_of : (w w' after : World) → w' ≡ after → IsRest w after → IsRest w w'
 rest_of w w' after is rest = subst (λ v. IsRest w v) (sym is) rest
 
-submit_rest : (t : Layout) (w : World) (c : ℕ) (answer : Answer) → IsRest w (submitted t w c answer)
-submit_rest t w c (Now reply) = record { layer = refl; ended = refl; contents = refl }
-submit_rest t w c (Go task) = by_groups (task_groups t task)
+submit_rest : (t : Layout) (w : World) (c : ℕ) (session : Session) (answer : Answer) →
+    IsRest w (submitted t (in_session w c session) c answer)
+submit_rest t w c session (Now reply) = record { layer = refl; ended = refl; contents = refl }
+submit_rest t w c session (Go task) = by_groups (task_groups t task)
   where
-    by_groups : (gs : List ℕ) → IsRest w (submitted_to w c task gs)
+    by_groups : (gs : List ℕ) → IsRest w (submitted_to (in_session w c session) c task gs)
     by_groups [] = record { layer = refl; ended = refl; contents = refl }
     by_groups (g ∷ gs) = record { layer = refl; ended = refl; contents = refl }
 
 collect_rest : (s : Standing) (w w' : World) (c : ℕ) (effect : Effect) → world.Collects s w c effect w' → IsRest w w'
 collect_rest Closed w w' c effect made = absurd made
-collect_rest Idle w w' c effect made = rest_of w w' w made.1 (record { layer = refl; ended = refl; contents = refl })
-collect_rest Waiting w w' c effect made = rest_of w w' w made.1 (record { layer = refl; ended = refl; contents = refl })
-collect_rest (Answered o) w w' c effect made = rest_of w w' _ made.1 (record { layer = refl; ended = refl; contents = refl })
+collect_rest s w w' c effect made = rest_of w w' _ made.1 (record { layer = refl; ended = refl; contents = refl })
 
 pub is_rest : (t : Layout) (w w' : World) (step : Step) (effect : Effect) → LeavesLayers step → Steps t w step effect w' → IsRest w w'
-is_rest t w w' Open effect leaves made = rest_of w w' _ made.after (record { layer = refl; ended = refl; contents = refl })
 is_rest t w w' (Submit conn words) effect leaves made =
-    let rest = submit_rest t (remembered w conn.0 words) conn.0 (answer_to w conn.0 words) in
-    rest_of w w' (submitted t (remembered w conn.0 words) conn.0 (answer_to w conn.0 words)) made.after
-    (record { layer = rest.layer; ended = rest.ended; contents = rest.contents })
-is_rest t w w' (Deliver place) effect leaves made = rest_of w w' _ made.after (record { layer = refl; ended = refl; contents = refl })
+    let asked = asks (w.session conn.0) words in
+    rest_of w w' _ made.after (submit_rest t w conn.0 asked.0 asked.1)
 is_rest t w w' Take effect leaves made = absurd leaves
 is_rest t w w' (Run starved) effect leaves made = absurd leaves
 is_rest t w w' Settle effect leaves made = absurd leaves
 is_rest t w w' (Collect conn) effect leaves made = collect_rest (w.standing conn.0) w w' conn.0 effect made
-is_rest t w w' (Close conn) effect leaves made = rest_of w w' _ made.after (record { layer = refl; ended = refl; contents = refl })
-is_rest t w w' (Repeat place) effect leaves made = rest_of w w' _ made.after (record { layer = refl; ended = refl; contents = refl })
+is_rest t w w' step effect leaves made = rest_of w w' _ made.after (record { layer = refl; ended = refl; contents = refl })
 
 -- ---- what the halves show
 
@@ -83,8 +79,7 @@ jobs_asked asked asked' (d ∷ ds) (j ∷ js) keeps are = (
   },
   jobs_asked asked asked' ds js keeps are.1,
 )
-jobs_asked asked asked' [] (j ∷ js) keeps are = absurd are
-jobs_asked asked asked' (d ∷ ds) [] keeps are = absurd are
+jobs_asked asked asked' ds js keeps are = absurd are
 
 pub stage_same : (s : Stage) (w w' : World) → KeepsAsked w.asked w'.asked → w'.layer ≡ w.layer → ShowsStage s w → ShowsStage s w'
 stage_same stage.Free w w' keeps same shows = same ∙ shows

@@ -19,10 +19,6 @@ made_more old mid new (s ∷ ss) [] step effect made next obeys = absurd made
 made_more old mid new (s ∷ ss) (e ∷ es) step effect made next obeys =
     (made.0, made.1, made.2, made_more made.0 mid new ss es step effect made.3 next obeys)
 
-same_table : (old new : SystemView) (step : Step) (effect : Effect) → IsStep old step effect new →
-    new.halves.back.store.table ≡ old.halves.back.store.table
-same_table old new step effect made = made.makes.table
-
 -- steps that were made lead, in whatever world the system showed, to the world that it shows then
 pub leads_by : (old new : SystemView) (steps : List Step) (effects : List Effect) → AreMade old steps effects new →
     LeadsTo old steps effects new
@@ -38,8 +34,7 @@ leads_by old new (s ∷ ss) (e ∷ es) made h w at' =
       (
         step.0,
         step.1,
-        subst (λ t. Makes t step.0 (all_stored ss es) (map effect_shown es) rest.0)
-            (same_table old mid s e made.1) rest.1,
+        subst (λ t. Makes t step.0 (all_stored ss es) (map effect_shown es) rest.0) made.1.makes.table rest.1,
       ),
       subst (λ l. IsAt new.halves l rest.0) (append_assoc h (stored s e ∷ []) (all_stored ss es)) rest.2,
     )

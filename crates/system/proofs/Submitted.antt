@@ -2,7 +2,7 @@
 use Rattle.std.proofs.Common.{◌≡◌, ◌≢◌, ℕ, List, [], ◌∷◌, inl, inr, Some, refl, sym, ◌∙◌, subst}
 use Rattle.std.proofs.lemmas.Bool.{cond-true}
 use Rattle.journal.specs.declared.step.Step.{Step}
-use Rattle.journal.specs.declared.step.Step.TheVariants.{Open, Submit, Deliver, Take, Run, Settle, Collect, Close, Repeat}
+use Rattle.journal.specs.declared.step.Step.TheVariants.{Submit}
 use Rattle.placement.specs.Layout.{Layout}
 use Rattle.groups.proofs.Ids.{same_id-refl}
 use Rattle.groups.specs.Request.{same_id}
@@ -39,7 +39,6 @@ asked_to old c task (g ∷ gs) some =
 
 asked_submit : (t : Layout) (old new : World) (i : RequestId) (conn : ConnId) (words : List (List ℕ)) (e : Effect) →
     world.Submits t old conn.0 words e new → Submits (AsksGroups t) i old.session (Submit conn words) e → IsAsked new i
-asked_submit t old new i conn words (world.Opened c) step now = absurd now
 asked_submit t old new i conn words (world.Submitted j) step now =
     let mid = remembered old conn.0 words in
     let same : next_id old conn.0 ≡ i = sym (same_submitted j (next_id old conn.0) step.answers) ∙ now.1 in
@@ -50,21 +49,12 @@ asked_submit t old new i conn words (world.Submitted j) step now =
   where
     same_submitted : (j k : RequestId) → world.Submitted j ≡ world.Submitted k → j ≡ k
     same_submitted j k same = let e = same in cc
-asked_submit t old new i conn words (world.Ran names) step now = absurd now
-asked_submit t old new i conn words (world.Collected o) step now = absurd now
-asked_submit t old new i conn words world.Made step now = absurd now
+asked_submit t old new i conn words effect step now = absurd now
 
 asked_now : (t : Layout) (old new : World) (i : RequestId) (s : Step) (e : Effect) → Steps t old s e new →
     Submits (AsksGroups t) i old.session s e → IsAsked new i
-asked_now t old new i Open e step now = absurd now
 asked_now t old new i (Submit conn words) e step now = asked_submit t old new i conn words e step now
-asked_now t old new i (Deliver k) e step now = absurd now
-asked_now t old new i Take e step now = absurd now
-asked_now t old new i (Run starved) e step now = absurd now
-asked_now t old new i Settle e step now = absurd now
-asked_now t old new i (Collect conn) e step now = absurd now
-asked_now t old new i (Close conn) e step now = absurd now
-asked_now t old new i (Repeat k) e step now = absurd now
+asked_now t old new i s e step now = absurd now
 
 -- what was submitted to groups, by what connections remember from the first world on, is asked
 pub was_asked : (t : Layout) (old new : World) (ss : List Step) (es : List Effect) (i : RequestId) → Makes t old ss es new →

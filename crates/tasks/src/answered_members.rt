@@ -31,13 +31,12 @@ pub(crate) fn answer_members<K: Keyspace>(
     room: Vec<Reply>,
     out: &mut Vec<u8>,
 ) -> Vec<Reply>
-    requires covered { All (λ key. IsTrue (K.covered keyspace.old key)) (flat_map member_keys members) }
+    requires covered { All (λ key. IsTrue (K.covered key)) (flat_map member_keys members) }
     requires empty { room.items ≡ [] }
     requires room { length members ≤ vec_capacity room }
     requires texts { vec_len out.old + LONG * length members ≤ vec_capacity out.old }
     ensures run { RunsFrom MemberAnswerTakesMemory (parts_of skip.now id) 1
         (K.contents keyspace.old) members (map content result.items) (K.contents keyspace.new) }
-    ensures covers { K.covered keyspace.new ≡ K.covered keyspace.old }
     ensures texts { out.new.items ≡ out.old.items ++ flat_map reply_text result.items }
 {
     let mut replies = room;
@@ -64,11 +63,10 @@ fn answer_member<K: Keyspace>(
     out: &mut Vec<u8>,
     spare: usize,
 ) -> Reply
-    requires covered { All (λ key. IsTrue (K.covered keyspace.old key)) (member_keys member) }
+    requires covered { All (λ key. IsTrue (K.covered key)) (member_keys member) }
     requires room { vec_len out.old + LONG + spare ≤ vec_capacity out.old }
     ensures fares { Fares MemberAnswerTakesMemory skipped member
         (K.contents keyspace.old) (K.contents keyspace.new) (content result) }
-    ensures covers { K.covered keyspace.new ≡ K.covered keyspace.old }
     ensures text { out.new.items ≡ out.old.items ++ reply_text result }
     ensures spare { vec_len out.new + spare ≤ vec_capacity out.new }
 {

@@ -42,12 +42,11 @@ pub fn answer_batch<K: Keyspace>(
     id: RequestId,
     skip: &[SkipId],
 ) -> Result<Answered, Starved>
-    requires { All (λ key. IsTrue (K.covered keyspace.old key)) (batch_keys batch) }
+    requires { All (λ key. IsTrue (K.covered key)) (batch_keys batch) }
     ensures done { DoesBatch batch (K.contents keyspace.old) (K.contents keyspace.new) (reply_of result) }
     ensures members { IfOk result (λ answered.
         AnswerStarvesRightly (parts_of skip.now id) batch (K.contents keyspace.old) (content answered.reply)) }
     ensures starves { OnErr result (BatchAnswerTakesMemory batch (K.contents keyspace.old)) }
-    ensures covers { K.covered keyspace.new ≡ K.covered keyspace.old }
 {
     match batch {
         Batch::Plain(command) => answer(alloc, keyspace, command),

@@ -30,12 +30,11 @@ pub fn answer_into<K: Keyspace>(
     out: &mut Vec<u8>,
     spare: usize,
 ) -> Result<Reply, Starved>
-    requires covered { All (λ key. IsTrue (K.covered keyspace.old key)) (keys_of command) }
+    requires covered { All (λ key. IsTrue (K.covered key)) (keys_of command) }
     requires room { vec_len out.old + LONG + spare ≤ vec_capacity out.old }
     ensures done { Does (effect_of command)
         (K.contents keyspace.old) (K.contents keyspace.new) result }
     ensures starves { OnErr result (AnswerTakesMemory command (K.contents keyspace.old)) }
-    ensures covers { K.covered keyspace.new ≡ K.covered keyspace.old }
     ensures text { IfOk result (λ reply. out.new.items ≡ out.old.items ++ text (content reply)) }
     ensures spare { OnOk result (vec_len out.new + spare ≤ vec_capacity out.new) }
     ensures err { OnErr result (out.new.items ≡ out.old.items) }

@@ -31,11 +31,10 @@ pub fn execute_batch<K: Keyspace>(
     batch: Batch,
     skip: &[usize],
 ) -> Result<Reply, Starved>
-    requires { All (λ key. IsTrue (K.covered keyspace.old key)) (batch_keys batch) }
+    requires { All (λ key. IsTrue (K.covered key)) (batch_keys batch) }
     ensures done { DoesBatch batch (K.contents keyspace.old) (K.contents keyspace.new) result }
     ensures members { IfOk result (λ reply. StarvesRightly skip.now batch (K.contents keyspace.old) (content reply)) }
     ensures starves { OnErr result (BatchTakesMemory batch (K.contents keyspace.old)) }
-    ensures covers { K.covered keyspace.new ≡ K.covered keyspace.old }
 {
     match batch {
         Batch::Plain(command) => execute(alloc, keyspace, command),

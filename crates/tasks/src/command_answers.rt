@@ -28,11 +28,10 @@ pub fn answer<K: Keyspace>(
     keyspace: &mut K,
     command: Command,
 ) -> Result<Answered, Starved>
-    requires { All (λ key. IsTrue (K.covered keyspace.old key)) (keys_of command) }
+    requires { All (λ key. IsTrue (K.covered key)) (keys_of command) }
     ensures done { Does (effect_of command)
         (K.contents keyspace.old) (K.contents keyspace.new) (reply_of result) }
     ensures starves { OnErr result (AnswerTakesMemory command (K.contents keyspace.old)) }
-    ensures covers { K.covered keyspace.new ≡ K.covered keyspace.old }
 {
     match text_plan(keyspace, &command) {
         TextPlan::Never => {
@@ -60,7 +59,7 @@ pub(crate) fn let_go(_command: Command) -> Starved {
 
 /// When the memory for the text of this command's reply is taken.
 pub(crate) fn text_plan<K: Keyspace>(keyspace: &K, command: &Command) -> TextPlan
-    requires { All (λ key. IsTrue (K.covered keyspace.now key)) (keys_of command.now) }
+    requires { All (λ key. IsTrue (K.covered key)) (keys_of command.now) }
     ensures { IsPlanFor (case_of command.now) (K.contents keyspace.now) result }
 {
     match command {

@@ -31,11 +31,10 @@ pub fn execute<K: Keyspace>(
     keyspace: &mut K,
     command: Command,
 ) -> Result<Reply, Starved>
-    requires { All (λ key. IsTrue (K.covered keyspace.old key)) (keys_of command) }
+    requires { All (λ key. IsTrue (K.covered key)) (keys_of command) }
     ensures done { Does (effect_of command)
         (K.contents keyspace.old) (K.contents keyspace.new) result }
     ensures starves { OnErr result (TakesMemory command (K.contents keyspace.old)) }
-    ensures covers { K.covered keyspace.new ≡ K.covered keyspace.old }
 {
     run(alloc, keyspace, command)
 }
@@ -45,11 +44,10 @@ pub fn execute<K: Keyspace>(
 /// Each family's clause speaks of cases. That a command's effect is its case is one fact on top, which holds of every
 /// body: so here the prover works arm by arm with no help, and `execute` has no arm.
 fn run<K: Keyspace>(alloc: Global, keyspace: &mut K, command: Command) -> Result<Reply, Starved>
-    requires { All (λ key. IsTrue (K.covered keyspace.old key)) (keys_of command) }
+    requires { All (λ key. IsTrue (K.covered key)) (keys_of command) }
     ensures done { Does (case_of command)
         (K.contents keyspace.old) (K.contents keyspace.new) result }
     ensures starves { OnErr result (TakesMemory command (K.contents keyspace.old)) }
-    ensures covers { K.covered keyspace.new ≡ K.covered keyspace.old }
 {
     match command {
         Command::Key(command) => run_key_command(alloc, keyspace, command),

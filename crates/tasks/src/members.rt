@@ -21,12 +21,11 @@ pub(crate) fn run_members<K: Keyspace>(
     skip: &[usize],
     room: Vec<Reply>,
 ) -> Vec<Reply>
-    requires covered { All (λ key. IsTrue (K.covered keyspace.old key)) (flat_map member_keys members) }
+    requires covered { All (λ key. IsTrue (K.covered key)) (flat_map member_keys members) }
     requires empty { room.items ≡ [] }
     requires room { length members ≤ vec_capacity room }
     ensures run { RunsFrom MemberTakesMemory skip.now 1 (K.contents keyspace.old) members (map content result.items)
         (K.contents keyspace.new) }
-    ensures covers { K.covered keyspace.new ≡ K.covered keyspace.old }
 {
     let mut replies = room;
     for member in members.into_vec() {
@@ -39,9 +38,8 @@ pub(crate) fn run_members<K: Keyspace>(
 
 /// Runs a member unless it is to be skipped, and gives its reply, which says where there was no memory for it.
 fn run_member<K: Keyspace>(alloc: Global, keyspace: &mut K, member: Member, skipped: bool) -> Reply
-    requires covered { All (λ key. IsTrue (K.covered keyspace.old key)) (member_keys member) }
+    requires covered { All (λ key. IsTrue (K.covered key)) (member_keys member) }
     ensures fares { Fares MemberTakesMemory skipped member (K.contents keyspace.old) (K.contents keyspace.new) (content result) }
-    ensures covers { K.covered keyspace.new ≡ K.covered keyspace.old }
 {
     if skipped {
         return Reply::out_of_memory();

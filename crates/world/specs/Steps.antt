@@ -1,6 +1,6 @@
 -- The nine kinds of step: when each is accepted, what it answers, and the world after it.
 use Rattle.std.specs.FinMap.{get, empty}
-use Rattle.std.specs.Prelude.{◌≡◌, ◌≢◌, ℕ, suc, ◌≤◌, Bool, false, cond, ◌||◌, ◌&&◌, ◌==◌, List, [], ◌∷◌, ◌++◌, length, remove, slice_get}
+use Rattle.std.specs.Prelude.{◌≡◌, ◌≢◌, ℕ, suc, ◌≤◌, cond, ◌&&◌, ◌==◌, List, [], ◌∷◌, ◌++◌, length, remove, slice_get}
 use Rattle.std.specs.Prelude.{Option, Some, None}
 use Rattle.delivery.specs.Ready.{IsReady, IsLayer, taken_from, left_in}
 use Rattle.journal.specs.declared.step.Step.{Step}

@@ -4,7 +4,8 @@ use Rattle.cluster.proofs.Tapes.{room_less}
 use Rattle.cluster.proofs.cluster.close.Goals as goal
 
 pub returns-in-Err-clause-room : goal.returns-in-Err-clause-room
-returns-in-Err-clause-room g c = room_less _ c.args.kept (c.args.kept + 10) (omega arith) (c.in-Err.ensures.room_back (c.args.kept + 10) c.requires)
+returns-in-Err-clause-room g c =
+    room_less _ c.args.kept (c.args.kept + 10) (omega arith) (c.in-Err.ensures.room_back (c.args.kept + 10) c.requires)
 
 pub returns-in-Err-clause-closed : goal.returns-in-Err-clause-closed
 returns-in-Err-clause-closed g c =

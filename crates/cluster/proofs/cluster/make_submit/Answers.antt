@@ -1,8 +1,7 @@
-use Rattle.std.proofs.Common.{sym, ap, ◌∙◌, subst, ◌≡◌, ◌++◌, ◌∷◌, []}
+use Rattle.std.proofs.Common.{sym, ap, ◌∙◌, subst, ◌++◌, ◌∷◌, []}
 use Rattle.cluster.proofs.Effects.{submits_some}
 use Rattle.cluster.proofs.Seats.{submitted_is}
 use Rattle.cluster.proofs.Submits.{said_now}
-use Rattle.cluster.proofs.Tapes.{room_less}
 use Rattle.cluster.specs.Histories.{IsMade}
 use Rattle.front.specs.Making.{effect_shown}
 use Rattle.journal.specs.declared.step.Step.TheVariants.{Submit}

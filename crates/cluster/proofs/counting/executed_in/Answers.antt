@@ -1,6 +1,6 @@
-use Rattle.std.proofs.Common.{◌≡◌, ◌+◌, ◌∷◌, [], ◌++◌, take, sym, ap, subst, ◌∙◌, arith}
+use Rattle.std.proofs.Common.{◌+◌, ◌∷◌, [], take, ap, ◌∙◌, arith}
 use Rattle.cluster.proofs.Counts.{executed-append, cut_more}
-use Rattle.cluster.specs.Counting.{as_word, one_if, executed_in}
+use Rattle.cluster.specs.Counting.{one_if, executed_in}
 use Rattle.front.proofs.Turns.{passed_at}
 use Rattle.cluster.proofs.counting.executed_in.Goals as goal
 

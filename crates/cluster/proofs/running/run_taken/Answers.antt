@@ -1,6 +1,4 @@
-use Rattle.std.proofs.Common.{sym, subst, ◌∙◌}
 use Rattle.cluster.proofs.Storing.{is_ran}
-use Rattle.cluster.specs.Sealed.{IsRan}
 use Rattle.cluster.proofs.running.run_taken.Goals as goal
 
 pub run-requires : goal.run-requires

@@ -1,7 +1,7 @@
 use Rattle.std.proofs.Common.{rules, ◌≡◌, length, sym, subst}
 use Rattle.std.specs.List.{AllZip}
 use Rattle.front.proofs.Half.{next_outcome, next_may, next_did, half_starts, half_ends}
-use Rattle.front.proofs.Lists.{none_listed}
+use Rattle.std.proofs.lemmas.List.{nil_from_length}
 use Rattle.front.specs.Settling.{IsToldBy}
 use Rattle.front.proofs.outcomes.hand_rows.Goals as goal
 
@@ -34,4 +34,4 @@ pub returns : goal.returns
 returns c = λ t w done es standing told settling.
     let none : length c.loop-row.row-iterator.rest.items ≡ 0 = search rules in
     half_ends t w done es standing c.loop-row.row-iterator.rest.items c.loop-row.router
-    (none_listed c.loop-row.row-iterator.rest.items none) (c.loop-row.invariant t w done es standing told settling)
+    (nil_from_length c.loop-row.row-iterator.rest.items none) (c.loop-row.invariant t w done es standing told settling)

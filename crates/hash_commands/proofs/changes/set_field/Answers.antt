@@ -31,7 +31,7 @@ pub returns-in-Some-clause-ok : goal.returns-in-Some-clause-ok
 returns-in-Some-clause-ok g c =
     let old = g.K.Keyspace.contents c.args.keyspace.now in
     let there = lent_there c.args.key old c.as_slice.ensures c.in-Some.is c.look_mut.ensures.value in
-    let written = (lent c.in-Some.is (c.look_mut.follows.holds c.set_there.new.there)).0 in
+    let written = lent c.in-Some.is (c.look_mut.follows.holds c.set_there.new.there) in
     set_lent old _ _ c.args.key c.args.field c.args.value _ c.set_there.new.there c.set_there.result c.as_slice.ensures there written
     c.set_there.ensures.ok
 
@@ -39,8 +39,5 @@ pub returns-in-Some-clause-err : goal.returns-in-Some-clause-err
 returns-in-Some-clause-err g c =
     let old = g.K.Keyspace.contents c.args.keyspace.now in
     let there = lent_there c.args.key old c.as_slice.ensures c.in-Some.is c.look_mut.ensures.value in
-    let written = (lent c.in-Some.is (c.look_mut.follows.holds c.set_there.new.there)).0 in
+    let written = lent c.in-Some.is (c.look_mut.follows.holds c.set_there.new.there) in
     kept_lent old _ _ c.args.key _ c.set_there.new.there c.set_there.result c.as_slice.ensures there written c.set_there.ensures.err
-
-pub returns-in-Some-clause-covers : goal.returns-in-Some-clause-covers
-returns-in-Some-clause-covers g c = (lent c.in-Some.is (c.look_mut.follows.holds c.set_there.new.there)).1

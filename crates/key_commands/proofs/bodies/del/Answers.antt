@@ -22,10 +22,9 @@ len_turn m n k rest ks taken left =
 pub take-requires : goal.take-requires
 take-requires g c =
     let keys = c.as_slice-key-items.result.now in
-    let here = covered_item (g.K.Keyspace.covered c.args.keyspace.now) c.args.keys keys c.loop-key.key-index c.key-item.result
+    let here = covered_item g.K.Keyspace.covered c.args.keys keys c.loop-key.key-index c.key-item.result
     c.as_slice-key-items.ensures c.loop-key-test.true c.key-item.is c.requires in
-    let same_key = subst (λ key. IsTrue (g.K.Keyspace.covered c.args.keyspace.now key)) (sym c.as_slice.ensures.value) here in
-    subst (λ covered. IsTrue (covered c.as_slice.result.now)) (sym c.loop-key.invariant.covers) same_key
+    subst (λ key. IsTrue (g.K.Keyspace.covered key)) (sym c.as_slice.ensures.value) here
 
 pub loop-key-preserved : goal.loop-key-preserved
 loop-key-preserved g c =
@@ -43,7 +42,6 @@ loop-key-preserved g c =
     ∙ ap (λ b. cond b 1 0 + len (restrict n ks)) {x = is_some (get m k)} (ap is_some {x = get m k} (sym c.take.ensures.before)
     ∙ sym c.is_some.ensures) in
     record {
-      covers = c.take.ensures.covers ∙ c.loop-key.invariant.covers;
       bounded = elim c.if-is_some.branch [ then-is_some w ↦ omega arith | else-is_some w ↦ omega arith ];
       removes = without_turn m n k rest ks c.take.ensures.removed left ∙ c.loop-key.invariant.removes;
       counts = elim c.if-is_some.branch [

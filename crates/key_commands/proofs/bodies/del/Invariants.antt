@@ -10,7 +10,6 @@ invariant-loop-key g l =
     let contents = g.K.Keyspace.contents in
     let rest = texts_of (drop l.key-index l.key-items) in
     record {
-      covers : g.K.Keyspace.covered l.keyspace ≡ g.K.Keyspace.covered l.fn.keyspace;
       bounded : l.removed ≤ l.key-index;
       removes : without (contents l.keyspace) rest ≡ without (contents l.fn.keyspace) l.fn.keys;
       counts : l.removed + len (restrict (contents l.keyspace) rest) ≡ len (restrict (contents l.fn.keyspace) l.fn.keys);

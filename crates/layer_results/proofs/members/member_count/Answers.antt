@@ -1,6 +1,5 @@
-use Rattle.std.proofs.Common.{◌≡◌, ◌∙◌, ap, arith, sym}
+use Rattle.std.proofs.Common.{◌∙◌, ap, arith, sym}
 use Rattle.std.specs.Str.{bytes_eq}
-use Rattle.sessions.specs.Control.{exec_name}
 use Rattle.layer_results.proofs.Names.{head_of, members_at}
 use Rattle.layer_results.proofs.members.member_count.Goals as goal
 

@@ -1,5 +1,4 @@
-use Rattle.std.proofs.Common.{◌∙◌, ◌+◌, [], ◌∷◌, ap, arith, length, length-append, map, sym, take}
-use Rattle.groups.specs.declared.skip_id.SkipId.TheVariants.{Part}
+use Rattle.std.proofs.Common.{◌∙◌, ◌+◌, [], ◌∷◌, ap, arith, length, length-append, map, take}
 use Rattle.resp.specs.Content.{content}
 use Rattle.layer_results.specs.Wants.{wants_among}
 use Rattle.layer_results.proofs.Names.{parts_more, wants_more, wants_same, wants_rest}

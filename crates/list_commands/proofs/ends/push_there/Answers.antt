@@ -10,13 +10,10 @@ returns-in-Some-clause-done g c =
     let old = g.K.Keyspace.contents c.args.keyspace.now in
     done_lent c.args.key.now (at_list (push_there_step c.args.end c.args.items)) old _ changed.new.value changed.result
     refl c.in-Some.is c.look_mut.ensures.value
-    (lent c.in-Some.is (c.look_mut.follows.holds changed.new.value)).0 changed.ensures.there
+    (lent c.in-Some.is (c.look_mut.follows.holds changed.new.value)) changed.ensures.there
 
 pub returns-in-Some-clause-starves : goal.returns-in-Some-clause-starves
 returns-in-Some-clause-starves g c =
     let old = g.K.Keyspace.contents c.args.keyspace.now in
     let there = lent_there c.args.key.now old refl c.in-Some.is c.look_mut.ensures.value in
     subst (λ t. OnErr c.push_on.result (IsTrue (is_list t))) (sym there) c.push_on.ensures.starves
-
-pub returns-in-Some-clause-covers : goal.returns-in-Some-clause-covers
-returns-in-Some-clause-covers g c = (lent c.in-Some.is (c.look_mut.follows.holds c.push_on.new.value)).1

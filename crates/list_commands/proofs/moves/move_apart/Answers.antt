@@ -7,8 +7,8 @@ use Rattle.values.specs.ListValue.{joined}
 use Rattle.values.specs.declared.Value.TheVariants as kind
 use Rattle.list_commands.proofs.moves.move_apart.Goals as goal
 
-pub returns-clause-done : goal.returns-clause-done
-returns-clause-done g c =
+pub returns : goal.returns
+returns g c =
     let m = g.K.Keyspace.contents c.args.keyspace.now in
     let from = c.args.from.now in
     let to = c.args.to in
@@ -16,5 +16,7 @@ returns-clause-done g c =
     ≡ map.insert m to (put_there c.args.taken c.args.put (map.get m from) (map.get m to)) =
     c.in_ok-put_item.ensures.ok
     ∙ ap (λ l. map.insert m to (kind.List (joined c.args.put (items_there (map.get m to)) l))) c.in_ok-copy.ensures in
-    c.pop.ensures.done ∙ ap (at_key from (at_list (pop_step c.args.taken))) both
-    ∙ moved m from to c.args.taken c.args.put c.requires.apart c.requires.there c.requires.target
+    record {
+      done = c.pop.ensures.done ∙ ap (at_key from (at_list (pop_step c.args.taken))) both
+          ∙ moved m from to c.args.taken c.args.put c.requires.apart c.requires.there c.requires.target;
+    }

@@ -1,29 +1,18 @@
-use Rattle.std.proofs.Common.{List, map, refl, subst}
+use Rattle.std.proofs.Common.{List, refl, subst}
 use Rattle.std.specs.Result.{IfOk}
 use Rattle.clap.specs.Words.{Row}
 use Rattle.clap.proofs.BuiltLemmas.{on_ok_always}
 use Rattle.clap.proofs.OnLiterals.{clap_on_literals}
-use Rattle.options.proofs.Refusals.{handed_on, lacking}
-use Rattle.options.specs.Server.{AreSaidBy, IsOutOfBounds, NamesNoAddress, line}
+use Rattle.options.specs.Server.{AreSaidBy}
 use Rattle.options.proofs.server.read_options.Goals as goal
 
 pub found_in-requires : goal.found_in-requires
 unfolding clap_on_literals
 found_in-requires g c = refl
 
-pub returns-in_err-found-clause-refused : goal.returns-in_err-found-clause-refused
-returns-in_err-found-clause-refused g c =
-    handed_on line (map g.S.AsStr.text c.args.words.now) IsOutOfBounds NamesNoAddress c.from_residual.result _ c.from_residual.ensures.1
-    c.in_err-found.ensures.refused
+pub returns-in-Ok-clause-taken : goal.returns-in-Ok-clause-taken
+returns-in-Ok-clause-taken g c = on_ok_always c.options_of.result c.in-Ok.ensures.taken
 
-pub returns-clause-said : goal.returns-clause-said
-returns-clause-said g c =
-    subst (λ (rows : List Row). IfOk c.options_of.result (AreSaidBy rows)) c.in_ok-found.ensures.found c.options_of.ensures.said
-
-pub returns-clause-taken : goal.returns-clause-taken
-returns-clause-taken g c = on_ok_always c.options_of.result c.in_ok-found.ensures.taken
-
-pub returns-clause-refused : goal.returns-clause-refused
-returns-clause-refused g c =
-    lacking line (map g.S.AsStr.text c.args.words.now) IsOutOfBounds NamesNoAddress c.options_of.result _
-    c.in_ok-found.ensures.found c.options_of.ensures.refused
+pub returns-in-Ok-clause-said : goal.returns-in-Ok-clause-said
+returns-in-Ok-clause-said g c =
+    subst (λ (rows : List Row). IfOk c.options_of.result (AreSaidBy rows)) c.in-Ok.ensures.found c.options_of.ensures.said

@@ -11,13 +11,10 @@ returns-in-Some-clause-done g c =
     let old = g.K.Keyspace.contents c.args.keyspace.now in
     done_lent c.args.key (changes_set (sadd_change c.args.members)) old _ changed.new.value changed.result
     c.as_slice.ensures c.in-Some.is c.look_mut.ensures.value
-    (lent c.in-Some.is (c.look_mut.follows.holds changed.new.value)).0 changed.ensures.done
+    (lent c.in-Some.is (c.look_mut.follows.holds changed.new.value)) changed.ensures.done
 
 pub returns-in-Some-clause-starves : goal.returns-in-Some-clause-starves
 returns-in-Some-clause-starves g c =
     let old = g.K.Keyspace.contents c.args.keyspace.now in
     let there = lent_there c.args.key old c.as_slice.ensures c.in-Some.is c.look_mut.ensures.value in
     subst (λ t. OnErr c.add_in_place.result (IsSome (members_there t))) (sym there) c.add_in_place.ensures.starves
-
-pub returns-in-Some-clause-covers : goal.returns-in-Some-clause-covers
-returns-in-Some-clause-covers g c = (lent c.in-Some.is (c.look_mut.follows.holds c.add_in_place.new.value)).1

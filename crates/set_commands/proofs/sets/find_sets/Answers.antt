@@ -11,7 +11,7 @@ use Rattle.set_commands.proofs.sets.find_sets.Goals as goal
 
 pub set_at-requires : goal.set_at-requires
 set_at-requires g c =
-    let covered = g.K.Keyspace.covered c.args.keyspace.now in
+    let covered = g.K.Keyspace.covered in
     let here = covered_item covered c.args.keys.now c.as_slice-key-items.result.now c.loop-key.key-index c.key-item.result
     c.as_slice-key-items.ensures c.loop-key-test.true c.key-item.is c.requires in
     subst (λ key. IsTrue (covered key)) (sym c.as_slice.ensures.value) here

@@ -1,1 +1,0 @@
-use Rattle.shared_cluster.proofs.hand.bring_to.Goals as goal

@@ -1,5 +1,5 @@
+use Rattle.std.proofs.lemmas.Result.{IfErr-weaker}
 use Rattle.shared_cluster.proofs.Hands.{found_so}
-use Rattle.shared_cluster.proofs.Refusals.{found_stopped}
 use Rattle.shared_cluster.proofs.shared.turn_once.Goals as goal
 
 pub returns-clause-made : goal.returns-clause-made
@@ -8,4 +8,4 @@ returns-clause-made g c =
 
 pub returns-clause-refused : goal.returns-clause-refused
 returns-clause-refused g c =
-    found_stopped c.turn.result c.args.held.now.stopped c.args.held.now.cluster.history c.turn.ensures.refused
+    IfErr-weaker c.turn.result _ _ (λ fault why. (c.args.held.now.stopped, c.args.held.now.cluster.history, why)) c.turn.ensures.refused

@@ -9,7 +9,4 @@ returns-in-Some-clause-done g c =
     let old = g.K.Keyspace.contents c.args.keyspace.now in
     let set = c.set_there in
     done_lent {E = Starved} c.args.key (set_step c.args.value c.args.condition) old _ set.new.there (Ok set.result)
-    c.as_slice.ensures c.in-Some.is c.look_mut.ensures.value (lent c.in-Some.is (c.look_mut.follows.holds set.new.there)).0 set.ensures
-
-pub returns-in-Some-clause-covers : goal.returns-in-Some-clause-covers
-returns-in-Some-clause-covers g c = (lent c.in-Some.is (c.look_mut.follows.holds c.set_there.new.there)).1
+    c.as_slice.ensures c.in-Some.is c.look_mut.ensures.value (lent c.in-Some.is (c.look_mut.follows.holds set.new.there)) set.ensures

@@ -26,7 +26,7 @@ one_more m k said done now rest ks all left is grown before =
 
 pub string_at-requires : goal.string_at-requires
 string_at-requires g c =
-    let covered = g.K.Keyspace.covered c.args.keyspace.now in
+    let covered = g.K.Keyspace.covered in
     let here = covered_item covered c.args.keys c.as_slice-key-items.result.now c.loop-key.key-index c.key-item.result
     c.as_slice-key-items.ensures c.loop-key-test.true c.key-item.is c.requires in
     subst (λ key. IsTrue (covered key)) (sym c.as_slice.ensures.value) here

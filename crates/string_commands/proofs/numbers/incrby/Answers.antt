@@ -14,7 +14,7 @@ returns-in-Some-clause-done g c =
     let done = subst (λ by. Changes (incrby_step by) c.in-Some.value.now changed.new.value changed.result)
     same_number changed.ensures.done in
     done_lent c.args.key (incrby_step c.args.by) old _ changed.new.value changed.result
-    c.as_slice.ensures c.in-Some.is c.look_mut.ensures.value (lent c.in-Some.is (c.look_mut.follows.holds changed.new.value)).0 done
+    c.as_slice.ensures c.in-Some.is c.look_mut.ensures.value (lent c.in-Some.is (c.look_mut.follows.holds changed.new.value)) done
 
 pub returns-in-Some-clause-starves : goal.returns-in-Some-clause-starves
 returns-in-Some-clause-starves g c =
@@ -25,6 +25,3 @@ returns-in-Some-clause-starves g c =
     let starves = subst (λ by. OnErr changed.result (Grows (incrby_step by) (Some c.in-Some.value.now)))
     same_number changed.ensures.starves in
     subst (λ t. OnErr changed.result (Grows (incrby_step c.args.by) t)) (sym there) starves
-
-pub returns-in-Some-clause-covers : goal.returns-in-Some-clause-covers
-returns-in-Some-clause-covers g c = (lent c.in-Some.is (c.look_mut.follows.holds c.change_number.new.value)).1

@@ -1,4 +1,4 @@
-use Rattle.std.proofs.Common.{◌≡◌, ◌+◌, [], ◌∷◌, drop, IsTrue, true, refl, sym, ap, subst, ◌∙◌}
+use Rattle.std.proofs.Common.{◌≡◌, ◌+◌, [], ◌∷◌, drop, true, sym, ap, ◌∙◌}
 use Rattle.command_cases.proofs.Items.{rest_item}
 use Rattle.command_cases.specs.Shapes.{with_pairs}
 use Rattle.keyspace.specs.Map.{among, without}
@@ -12,7 +12,6 @@ pub loop-key-init : goal.loop-key-init
 loop-key-init g c =
     let m = g.K.Keyspace.contents c.args.keyspace.now in
     record {
-      covers = refl;
       holds = ap (λ ks. with_pairs m (held ks)) c.as_slice-key-items.ensures;
       undone = without-absent m c.args.missing.now c.requires.absent;
     }
@@ -20,10 +19,9 @@ loop-key-init g c =
 pub hold-requires : goal.hold-requires
 hold-requires g c =
     let key = c.as_slice.result.now in
-    let here = c.requires.covered key
+    c.requires.covered key
     (among_item c.args.missing.now c.as_slice-key-items.result.now c.loop-key.key-index c.key-item.result key
-    c.as_slice-key-items.ensures c.loop-key-test.true c.key-item.is c.as_slice.ensures.value) in
-    subst (λ covered. IsTrue (covered key)) (sym c.loop-key.invariant.covers) here
+    c.as_slice-key-items.ensures c.loop-key-test.true c.key-item.is c.as_slice.ensures.value)
 
 pub loop-key-preserved : goal.loop-key-preserved
 loop-key-preserved g c =
@@ -39,7 +37,6 @@ loop-key-preserved g c =
     let left : texts_of (drop i xs) ≡ key ∷ ks =
     rest_item xs i c.key-item.result c.loop-key-test.true c.key-item.is ∙ ap (λ k. k ∷ ks) (sym c.as_slice.ensures.value) in
     record {
-      covers = c.in-Ok.ensures.covers ∙ c.loop-key.invariant.covers;
       holds =
           ap (λ n. with_pairs n (held ks)) c.in-Ok.ensures.ok ∙ ap (λ l. with_pairs m (held l)) (sym left)
           ∙ c.loop-key.invariant.holds;

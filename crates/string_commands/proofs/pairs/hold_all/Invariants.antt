@@ -11,7 +11,6 @@ abbrev pub invariant-loop-key : goal.invariant-loop-key
 invariant-loop-key g l =
     let contents = g.K.Keyspace.contents in
     record {
-      covers : g.K.Keyspace.covered l.keyspace ≡ g.K.Keyspace.covered l.fn.keyspace;
       holds :
           with_pairs (contents l.keyspace) (held (texts_of (drop l.key-index l.key-items)))
           ≡ with_pairs (contents l.fn.keyspace) (held l.fn.missing);

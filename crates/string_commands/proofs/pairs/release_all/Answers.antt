@@ -1,4 +1,4 @@
-use Rattle.std.proofs.Common.{◌≡◌, ◌+◌, List, [], ◌∷◌, drop, IsTrue, sym, ap, subst, ◌∙◌}
+use Rattle.std.proofs.Common.{◌≡◌, ◌+◌, List, [], ◌∷◌, drop, sym, ap, ◌∙◌}
 use Rattle.std.proofs.lemmas.List.{drop_all}
 use Rattle.std.specs.FinMap.{remove}
 use Rattle.command_cases.proofs.Items.{rest_item}
@@ -15,9 +15,8 @@ without_turn m n k rest ks taken left = ap (λ a. without a ks) taken ∙ sym (w
 pub take-requires : goal.take-requires
 take-requires g c =
     let key = c.as_slice.result.now in
-    let here = c.requires key (among_item c.args.keys.now c.as_slice-key-items.result.now c.loop-key.key-index c.key-item.result key
-    c.as_slice-key-items.ensures c.loop-key-test.true c.key-item.is c.as_slice.ensures.value) in
-    subst (λ covered. IsTrue (covered key)) (sym c.loop-key.invariant.covers) here
+    c.requires key (among_item c.args.keys.now c.as_slice-key-items.result.now c.loop-key.key-index c.key-item.result key
+    c.as_slice-key-items.ensures c.loop-key-test.true c.key-item.is c.as_slice.ensures.value)
 
 pub loop-key-preserved : goal.loop-key-preserved
 loop-key-preserved g c =
@@ -27,17 +26,13 @@ loop-key-preserved g c =
     let key = c.as_slice.result.now in
     let left : texts_of (drop i xs) ≡ key ∷ ks =
     rest_item xs i c.key-item.result c.loop-key-test.true c.key-item.is ∙ ap (λ k. k ∷ ks) (sym c.as_slice.ensures.value) in
-    record {
-      covers = c.take.ensures.covers ∙ c.loop-key.invariant.covers;
-      removes =
-          without_turn (g.K.Keyspace.contents c.loop-key.keyspace) (g.K.Keyspace.contents c.take.new.self) key (texts_of (drop i xs)) ks
-          c.take.ensures.removed left
-          ∙ c.loop-key.invariant.removes;
-    }
+    without_turn (g.K.Keyspace.contents c.loop-key.keyspace) (g.K.Keyspace.contents c.take.new.self) key (texts_of (drop i xs)) ks
+    c.take.ensures.removed left
+    ∙ c.loop-key.invariant
 
-pub returns-clause-released : goal.returns-clause-released
-returns-clause-released g c =
+pub returns : goal.returns
+returns g c =
     let m = g.K.Keyspace.contents c.loop-key.keyspace in
     let xs = c.as_slice-key-items.result.now in
     let none_left : texts_of (drop c.loop-key.key-index xs) ≡ [] = ap texts_of (drop_all c.loop-key.key-index xs c.loop-key-test.false) in
-    sym (without-nil m) ∙ ap (without m) (sym none_left) ∙ c.loop-key.invariant.removes
+    record { released = sym (without-nil m) ∙ ap (without m) (sym none_left) ∙ c.loop-key.invariant }

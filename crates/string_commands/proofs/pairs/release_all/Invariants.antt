@@ -7,7 +7,4 @@ use Rattle.string_commands.proofs.pairs.release_all.Given as goal
 abbrev pub invariant-loop-key : goal.invariant-loop-key
 invariant-loop-key g l =
     let contents = g.K.Keyspace.contents in
-    record {
-      covers : g.K.Keyspace.covered l.keyspace ≡ g.K.Keyspace.covered l.fn.keyspace;
-      removes : without (contents l.keyspace) (texts_of (drop l.key-index l.key-items)) ≡ without (contents l.fn.keyspace) l.fn.keys;
-    }
+    without (contents l.keyspace) (texts_of (drop l.key-index l.key-items)) ≡ without (contents l.fn.keyspace) l.fn.keys

@@ -1,4 +1,4 @@
-use Rattle.std.proofs.Common.{◌≡◌, ◌∷◌, IsSome, IsTrue, reverse, refl, sym, ap, subst, ◌∙◌}
+use Rattle.std.proofs.Common.{◌≡◌, ◌∷◌, IsSome, IsTrue, reverse, sym, ap, subst, ◌∙◌}
 use Rattle.std.proofs.lemmas.List.{reverse-reverse}
 use Rattle.std.specs.FinMap.{get, insert}
 use Rattle.std.specs.Str.{bytes_eq}
@@ -19,7 +19,6 @@ loop-key-init g c =
     ∙ reverse-reverse (texts_of turns) ∙ c.into_turns-turns.ensures)
     ∙ pairs_of-by_turns c.args.pairs in
     record {
-      covers = refl;
       puts = ap (with_pairs (g.K.Keyspace.contents c.args.keyspace.now)) turned;
       covered = λ q h. c.requires.covered q (ap (λ ps. among (firsts ps) q) (sym turned) ∙ h);
       there = λ q h. c.requires.there q (ap (λ ps. among (firsts ps) q) (sym turned) ∙ h);
@@ -36,8 +35,7 @@ replace-requires-clause-covered g c =
     ∙ ap (λ l. key.items ∷ l) (reverse-map_pushed (λ t. t.items) after value)) in
     let here = c.loop-key.invariant.covered key.items
     (ap (λ ps. among (firsts ps) key.items) turn ∙ among-first key.items (firsts (pairs_of (reverse (texts_of after))))) in
-    subst (λ k. IsTrue (g.K.Keyspace.covered c.loop-key.keyspace k)) (sym c.as_slice.ensures.value)
-    (subst (λ covered. IsTrue (covered key.items)) (sym c.loop-key.invariant.covers) here)
+    subst (λ k. IsTrue (g.K.Keyspace.covered k)) (sym c.as_slice.ensures.value) here
 
 pub replace-requires-clause-there : goal.replace-requires-clause-there
 replace-requires-clause-there g c =
@@ -68,7 +66,6 @@ loop-key-preserved g c =
     c.replace.ensures.replaced ∙ ap (λ k. insert m k (Str c.from.result)) c.as_slice.ensures.value
     ∙ ap (λ v. insert m key.items (Str v)) c.from.ensures in
     record {
-      covers = c.replace.ensures.covers ∙ c.loop-key.invariant.covers;
       puts = ap (λ a. with_pairs a rest) replaced ∙ ap (with_pairs m) (sym turn) ∙ c.loop-key.invariant.puts;
       covered = λ q h. c.loop-key.invariant.covered q
           (ap (λ ps. among (firsts ps) q) turn ∙ or_later (bytes_eq q key.items) (among (firsts rest) q) h);

@@ -12,9 +12,8 @@ invariant-loop-key g l =
     let contents = g.K.Keyspace.contents in
     let rest = pairs_of (reverse (texts_of l.turns.items)) in
     record {
-      covers : g.K.Keyspace.covered l.keyspace ≡ g.K.Keyspace.covered l.fn.keyspace;
       puts : with_pairs (contents l.keyspace) rest ≡ with_pairs (contents l.fn.keyspace) l.fn.pairs;
-      covered : (q : List ℕ) → among (firsts rest) q ≡ true → IsTrue (g.K.Keyspace.covered l.fn.keyspace q);
+      covered : (q : List ℕ) → among (firsts rest) q ≡ true → IsTrue (g.K.Keyspace.covered q);
       there : (q : List ℕ) → among (firsts rest) q ≡ true → IsSome (get (contents l.keyspace) q);
     }
 

@@ -1,4 +1,4 @@
-use Rattle.std.proofs.Common.{◌≡◌, IsSome, IsTrue, sym, ap, subst, ◌∙◌}
+use Rattle.std.proofs.Common.{◌≡◌, IsSome, sym, ap, subst, ◌∙◌}
 use Rattle.std.specs.FinMap.{get}
 use Rattle.command_cases.specs.Shapes.{with_pairs}
 use Rattle.keyspace.specs.Map.{among}
@@ -12,7 +12,7 @@ pub hold_all-requires-clause-covered : goal.hold_all-requires-clause-covered
 hold_all-requires-clause-covered g c q h =
     let m = g.K.Keyspace.contents c.args.keyspace.now in
     let keys = firsts c.args.pairs in
-    all-among (g.K.Keyspace.covered c.args.keyspace.now) keys c.requires q
+    all-among g.K.Keyspace.covered keys c.requires q
     (missing-within m keys q (ap (λ ks. among ks q) (sym c.in_ok-missing.ensures.found) ∙ h))
 
 pub hold_all-requires-clause-absent : goal.hold_all-requires-clause-absent
@@ -22,8 +22,7 @@ hold_all-requires-clause-absent g c q h =
 
 pub replace_all-requires-clause-covered : goal.replace_all-requires-clause-covered
 replace_all-requires-clause-covered g c q h =
-    subst (λ covered. IsTrue (covered q)) (sym c.in_ok-hold_all.ensures.covers)
-    (all-among (g.K.Keyspace.covered c.args.keyspace.now) (firsts c.args.pairs) c.requires q h)
+    all-among g.K.Keyspace.covered (firsts c.args.pairs) c.requires q h
 
 pub replace_all-requires-clause-there : goal.replace_all-requires-clause-there
 replace_all-requires-clause-there g c q h =

@@ -14,7 +14,7 @@ returns-in-Some-clause-done g c =
     same_bytes changed.ensures.done in
     let old = g.K.Keyspace.contents c.args.keyspace.now in
     done_lent c.args.key (at_string (append_string c.args.tail)) old _ changed.new.value changed.result
-    c.as_slice.ensures c.in-Some.is c.look_mut.ensures.value (lent c.in-Some.is (c.look_mut.follows.holds changed.new.value)).0 done
+    c.as_slice.ensures c.in-Some.is c.look_mut.ensures.value (lent c.in-Some.is (c.look_mut.follows.holds changed.new.value)) done
 
 pub returns-in-Some-clause-starves : goal.returns-in-Some-clause-starves
 returns-in-Some-clause-starves g c =
@@ -23,6 +23,3 @@ returns-in-Some-clause-starves g c =
     let starves = subst (λ bytes. OnErr c.extend.result (Grows (at_string (append_string bytes)) (Some c.in-Some.value.now)))
     c.as_slice-in-Some.ensures c.extend.ensures.starves in
     subst (λ t. OnErr c.extend.result (Grows (at_string (append_string c.args.tail)) t)) (sym there) starves
-
-pub returns-in-Some-clause-covers : goal.returns-in-Some-clause-covers
-returns-in-Some-clause-covers g c = (lent c.in-Some.is (c.look_mut.follows.holds c.extend.new.value)).1

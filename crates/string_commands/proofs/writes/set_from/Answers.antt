@@ -14,7 +14,7 @@ returns-in-Some-clause-done g c =
     same_bytes changed.ensures.done in
     let old = g.K.Keyspace.contents c.args.keyspace.now in
     done_lent c.args.key (at_string (setrange_string c.args.offset c.args.value)) old _ changed.new.value changed.result
-    c.as_slice.ensures c.in-Some.is c.look_mut.ensures.value (lent c.in-Some.is (c.look_mut.follows.holds changed.new.value)).0 done
+    c.as_slice.ensures c.in-Some.is c.look_mut.ensures.value (lent c.in-Some.is (c.look_mut.follows.holds changed.new.value)) done
 
 pub returns-in-Some-clause-starves : goal.returns-in-Some-clause-starves
 returns-in-Some-clause-starves g c =
@@ -23,6 +23,3 @@ returns-in-Some-clause-starves g c =
     let starves = subst (λ bytes. OnErr c.write_over.result (Grows (at_string (setrange_string c.args.offset bytes))
     (Some c.in-Some.there.now))) c.as_slice-in-Some.ensures c.write_over.ensures.starves in
     subst (λ t. OnErr c.write_over.result (Grows (at_string (setrange_string c.args.offset c.args.value)) t)) (sym there) starves
-
-pub returns-in-Some-clause-covers : goal.returns-in-Some-clause-covers
-returns-in-Some-clause-covers g c = (lent c.in-Some.is (c.look_mut.follows.holds c.write_over.new.value)).1

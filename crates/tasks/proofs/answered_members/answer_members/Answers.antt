@@ -1,8 +1,7 @@
-use Rattle.std.proofs.Common.{◌+◌, [], ◌∷◌, length, map, All, IsTrue, arith, ap, sym, subst, ◌∙◌}
+use Rattle.std.proofs.Common.{◌+◌, [], ◌∷◌, length, map, All, IsTrue, arith, ap, subst}
 use Rattle.std.proofs.Common.{ℕ, List, length-append}
 use Rattle.std.proofs.lemmas.List.{length-map, map-append}
 use Rattle.std.specs.List.{flat_map}
-use Rattle.std.specs.Vec.Iter.{into_iter_items}
 use Rattle.groups.specs.Skips.{parts_of}
 use Rattle.resp.specs.Content.{content}
 use Rattle.tasks.proofs.Runs.{all-left, all-right, runs-push, taken-push, next_within}
@@ -18,7 +17,7 @@ overflow_sub-spare g c = omega (arith, c.loop-member.invariant.rest, ap length c
 
 pub answer_member-reply-requires : goal.answer_member-reply-requires
 answer_member-reply-requires g c =
-    let covered : List ℕ → Type 0 = λ key. IsTrue (g.K.Keyspace.covered c.loop-member.keyspace key) in record {
+    let covered : List ℕ → Type 0 = λ key. IsTrue (g.K.Keyspace.covered key) in record {
       covered = all-left covered (member_keys c.in-Some.member) _
           (subst (λ ms. All covered (flat_map member_keys ms)) c.in-Some.ensures.steps.0 c.loop-member.invariant.left);
       room = omega (
@@ -36,7 +35,7 @@ push_reserved-requires g c =
 
 pub loop-member-preserved : goal.loop-member-preserved
 loop-member-preserved g c =
-    let covered : List ℕ → Type 0 = λ key. IsTrue (g.K.Keyspace.covered c.loop-member.keyspace key) in
+    let covered : List ℕ → Type 0 = λ key. IsTrue (g.K.Keyspace.covered key) in
     let left = subst (λ ms. All covered (flat_map member_keys ms)) c.in-Some.ensures.steps.0 c.loop-member.invariant.left in
     let before = g.K.Keyspace.contents c.loop-member.keyspace in
     let after = g.K.Keyspace.contents c.answer_member-reply.new.keyspace in
@@ -63,7 +62,5 @@ loop-member-preserved g c =
       room = omega (arith, c.loop-member.invariant.room, c.push_reserved.ensures.capacity);
       spare = c.answer_member-reply.ensures.spare;
       rest = omega (arith, c.loop-member.invariant.rest, ap length c.in-Some.ensures.steps.0);
-      covers = c.answer_member-reply.ensures.covers ∙ c.loop-member.invariant.covers;
-      left = subst (λ covered. All (λ key. IsTrue (covered key)) (flat_map member_keys (into_iter_items c.next.new.self)))
-          (sym c.answer_member-reply.ensures.covers) (all-right covered (member_keys c.in-Some.member) _ left);
+      left = all-right covered (member_keys c.in-Some.member) _ left;
     }

@@ -22,6 +22,5 @@ invariant-loop-member g l = record {
   room : length l.fn.members ≤ vec_capacity l.replies;
   spare : vec_len l.out + l.spare ≤ vec_capacity l.out;
   rest : l.spare ≡ LONG * length (into_iter_items l.member-iterator);
-  covers : g.K.Keyspace.covered l.keyspace ≡ g.K.Keyspace.covered l.fn.keyspace;
-  left : All (λ key. IsTrue (g.K.Keyspace.covered l.keyspace key)) (flat_map member_keys (into_iter_items l.member-iterator));
+  left : All (λ key. IsTrue (g.K.Keyspace.covered key)) (flat_map member_keys (into_iter_items l.member-iterator));
 }

@@ -16,6 +16,5 @@ invariant-loop-member g l = record {
   split : l.fn.members ≡ l.yielded ++ into_iter_items l.member-iterator;
   count : length l.replies.items ≡ length l.yielded;
   room : length l.fn.members ≤ vec_capacity l.replies;
-  covers : g.K.Keyspace.covered l.keyspace ≡ g.K.Keyspace.covered l.fn.keyspace;
-  left : All (λ key. IsTrue (g.K.Keyspace.covered l.keyspace key)) (flat_map member_keys (into_iter_items l.member-iterator));
+  left : All (λ key. IsTrue (g.K.Keyspace.covered key)) (flat_map member_keys (into_iter_items l.member-iterator));
 }

@@ -18,8 +18,8 @@ returns-clause-right g c =
     let begins = subst (λ l. IsPrefix l c.args.store.now.runs) c.ran.ensures
     (subst (λ l. IsPrefix c.ran.result.now l) c.part.ensures c.begins-2.ensures) in
     let many : length h.ran ≡ length c.args.store.now.runs =
-    sym c.lawful.ensures.layers ∙ ap (λ (f : FrontView). f.layers) (sym c.front-front.ensures) ∙ sym c.layers.ensures ∙ c.if-layers-count.false
-    ∙ c.count.ensures in
+    sym c.lawful.ensures.layers ∙ ap (λ (f : FrontView). f.layers) (sym c.front-front.ensures) ∙ sym c.layers.ensures
+    ∙ c.if-layers-count.false ∙ c.count.ensures in
     subst (λ h. IsRight h c.args.store.now) (ap (λ (v : ClusterView). v.history) c.self.view_is)
     (right g.T.Tabled.table h c.args.store.now table c.lawful.ensures.table c.lawful.ensures.lawful c.lawful-2.ensures
     (all_of_store h.ran c.args.store.now.runs begins many))

@@ -5,10 +5,8 @@ use Rattle.cluster.proofs.cluster.Cluster.hand_on.Goals as goal
 
 pub invariant_of-self : goal.invariant_of-self
 invariant_of-self g c =
-    let in' = c.self.inside in (
-      cluster_same g.L.Ledger.parts in'.pool.parts in'.requests in'.history c.hand_on.new.history in'.book.total in'.sat in'.stood
-          in'.pool.amount (ap (λ (h : HistoryView). h.steps) c.hand_on.ensures.same)
-          (ap (λ (h : HistoryView). h.max_steps) c.hand_on.ensures.same) c.self.invariant.0,
-      room_still in'.kept in'.history c.hand_on.new.history in'.book.total in'.book.total in'.sat in'.stood in'.pool.amount in'.pool.amount
-          c.hand_on.ensures.room c.self.invariant.1,
+    let same = c.hand_on.ensures.same in (
+      cluster_same c.self.invariant.0 c.hand_on.new.history (ap (λ (h : HistoryView). h.steps) same)
+          (ap (λ (h : HistoryView). h.max_steps) same),
+      room_still c.self.invariant.1 c.hand_on.new.history _ _ c.hand_on.ensures.room,
     )

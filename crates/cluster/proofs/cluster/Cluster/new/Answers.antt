@@ -1,4 +1,4 @@
-use Rattle.std.proofs.Common.{◌<◌, subst, refl, arith}
+use Rattle.std.proofs.Common.{◌<◌, subst, refl}
 use Rattle.cluster.proofs.Seats.{cluster_new}
 use Rattle.cluster.proofs.Tapes.{no_room}
 use Rattle.cluster.proofs.cluster.Cluster.new.Goals as goal

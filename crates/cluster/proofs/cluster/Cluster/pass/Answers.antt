@@ -1,30 +1,20 @@
-use Rattle.std.proofs.Common.{◌+◌, sym, subst}
+use Rattle.std.proofs.Common.{sym, subst}
 use mathlib.Core.List.{IsPrefix}
-use Rattle.cluster.proofs.Seats.{cluster, cluster_passed, requests_few, room_still, seat_passed}
-use Rattle.cluster.specs.Clusters.{ClusterView, SeatView, IsCluster}
+use Rattle.cluster.proofs.Seats.{cluster_passed, requests_few, room_still, seat_passed}
+use Rattle.cluster.specs.Clusters.{ClusterView, SeatView}
 use Rattle.cluster.specs.Passing.{HasPassed, Passes}
 use Rattle.cluster.specs.Traces.{HasRoom}
 use Rattle.cluster.proofs.cluster.Cluster.pass.Goals as goal
 
 pub book_request-requires-clause-few : goal.book_request-requires-clause-few
-book_request-requires-clause-few g c =
-    let in' = c.self.inside in
-    requests_few g.L.Ledger.parts in'.pool.parts in'.requests (cluster in'.history in'.book.total in'.sat in'.stood in'.pool.amount)
-    c.self.invariant.0
+book_request-requires-clause-few g c = requests_few c.self.invariant.0
 
 pub invariant_of-self-2 : goal.invariant_of-self-2
-invariant_of-self-2 g c =
-    let in' = c.self.inside in
-    let it = c.in-Ok-pass.passed in (
-      subst (λ b. IsCluster g.L.Ledger.parts in'.pool.parts c.book_request.new.requests
-          (cluster c.pass.new.self b in'.sat in'.stood in'.pool.amount)) (sym c.book_request.ensures.book)
-          (subst (λ r. IsCluster g.L.Ledger.parts in'.pool.parts r
-          (cluster c.pass.new.self (in'.book.total + 1) in'.sat in'.stood in'.pool.amount)) (sym c.book_request.ensures.requests)
-          (cluster_passed g.L.Ledger.parts in'.pool.parts in'.requests in'.history c.pass.new.self in'.book.total in'.sat in'.stood
-          in'.pool.amount c.seat.inside.conn c.args.words it.0 it.1 it.2 c.in-Ok-pass.ensures.passed c.self.invariant.0)),
-      room_still in'.kept in'.history c.pass.new.self in'.book.total c.book_request.new.book.total in'.sat in'.stood in'.pool.amount
-          in'.pool.amount (λ room. subst (HasRoom in'.kept) (sym c.pass.ensures.untraced) tt) c.self.invariant.1,
-    )
+invariant_of-self-2 g c = (
+  cluster_passed c.self.invariant.0 c.pass.new.self c.book_request.new.requests c.book_request.new.book.total
+      c.in-Ok-pass.ensures.passed c.book_request.ensures.requests c.book_request.ensures.book,
+  room_still c.self.invariant.1 c.pass.new.self _ _ (λ room. subst (HasRoom c.self.inside.kept) (sym c.pass.ensures.untraced) tt),
+)
 
 pub returns-clause-passed : goal.returns-clause-passed
 returns-clause-passed g c =

@@ -2,10 +2,7 @@ use Rattle.cluster.proofs.Seats.{cluster_told, room_still}
 use Rattle.cluster.proofs.cluster.Cluster.settle.Goals as goal
 
 pub invariant_of-self : goal.invariant_of-self
-invariant_of-self g c =
-    let in' = c.self.inside in (
-      cluster_told g.L.Ledger.parts in'.pool.parts in'.requests in'.history c.settle.new.self in'.book.total in'.sat in'.stood in'.pool.amount
-          c.args.ran.done c.settle.result c.settle.ensures.settled c.settle.ensures.unchanged c.self.invariant.0,
-      room_still in'.kept in'.history c.settle.new.self in'.book.total in'.book.total in'.sat in'.stood in'.pool.amount in'.pool.amount
-          c.settle.ensures.room c.self.invariant.1,
-    )
+invariant_of-self g c = (
+  cluster_told c.self.invariant.0 c.settle.new.self c.args.ran.done c.settle.result c.settle.ensures.settled c.settle.ensures.unchanged,
+  room_still c.self.invariant.1 c.settle.new.self _ _ c.settle.ensures.room,
+)

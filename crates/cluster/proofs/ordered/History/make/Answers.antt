@@ -1,5 +1,5 @@
-use Rattle.std.proofs.Common.{◌≡◌, ◌+◌, ◌<◌, ◌++◌, ◌∷◌, [], length, refl, sym, ap, ◌∙◌, subst}
-use Rattle.cluster.proofs.Histories.{history, AreLegal, goes_on, made_legal, history_made, was_made, history_still, left_so, told_as, wants_of}
+use Rattle.std.proofs.Common.{◌+◌, ◌<◌, ◌++◌, ◌∷◌, [], length, refl, sym, ap, ◌∙◌, subst}
+use Rattle.cluster.proofs.Histories.{history, AreLegal, goes_on, made_legal, history_made, was_made, history_still, left_so, told_as}
 use Rattle.cluster.specs.Histories.{HistoryView, kept_for, IsHistory, IsMade, IsFault}
 use Rattle.front.specs.Making.{effect_shown}
 use Rattle.cluster.proofs.ordered.History.make.Goals as goal

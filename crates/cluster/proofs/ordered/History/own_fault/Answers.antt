@@ -13,4 +13,5 @@ returns-in-Some-clause-fault g c =
     (goes_on h c.args.step.now c.requires.plain left) c.in-Some.ensures.some)
 
 pub returns-in-Some-clause-wants : goal.returns-in-Some-clause-wants
-returns-in-Some-clause-wants g c = wants_of c.args.step.now c.in-Some.fault c.self.inside.front c.from.result c.from.ensures c.in-Some.ensures.some
+returns-in-Some-clause-wants g c =
+    wants_of c.args.step.now c.in-Some.fault c.self.inside.front c.from.result c.from.ensures c.in-Some.ensures.some

@@ -1,11 +1,10 @@
-use Rattle.std.proofs.Common.{◌≡◌, ◌+◌, ◌<◌, ◌++◌, ◌∷◌, [], length, Some, None, refl, sym, ap, ◌∙◌, subst, arith}
+use Rattle.std.proofs.Common.{◌+◌, ◌<◌, ◌++◌, ◌∷◌, [], length, Some, None, refl, sym, ap, ◌∙◌, subst, arith}
 use Rattle.cluster.proofs.Histories.{history, AreLegal, goes_on, kept_few, told_as}
-use Rattle.cluster.proofs.Passing.{begun_legal, come_legal, has_begun, has_passed, is_begun, is_taken, sealed, submit_legal, taken_legal}
+use Rattle.cluster.proofs.Passing.{IsLeft, arrivals_legal, has_begun, has_passed, is_begun, is_taken, sealed, submit_legal, taken_legal}
 use Rattle.cluster.specs.Histories.{HistoryView, kept_for, IsHistory, IsFault}
-use Rattle.cluster.specs.Passing.{HasPassed}
+use Rattle.cluster.specs.Passing.{arrivals, HasPassed}
 use Rattle.cluster.specs.Sealed.{TakenView, IsTaken}
-use Rattle.cluster.specs.declared.ordered.TheConstants.{STEPS_PASSED}
-use Rattle.front.specs.Passing.{Passes}
+use Rattle.front.specs.Passing.{Passes, packets_in}
 use Rattle.journal.specs.declared.step.Step.TheVariants.{Submit, Deliver, Take}
 use Rattle.cluster.proofs.ordered.History.pass.Goals as goal
 
@@ -13,7 +12,7 @@ pub returns-in-Err-clause-fault : goal.returns-in-Err-clause-fault
 returns-in-Err-clause-fault g c =
     let in' = c.self.inside in
     let old = history in'.front in'.max_steps in'.told in'.ran in'.trace in
-    let given = subst (λ (h : HistoryView). length h.steps + STEPS_PASSED + 1 < h.max_steps) (sym c.self.view_is) c.requires.left in
+    let given = subst IsLeft (sym c.self.view_is) c.requires.left in
     let left : length in'.told + kept_for in'.front.out < in'.max_steps = omega (arith, given, kept_few in'.front.out) in
     subst (λ h. IsFault h (Submit c.args.conn c.args.words) c.from.result) c.self.view_is
     (told_as g.T.Tabled.table old c.self.invariant.0 (Submit c.args.conn c.args.words) c.in-Err.fault c.from.result c.from.ensures
@@ -24,8 +23,7 @@ write_behind-requires g c =
     let in' = c.self.inside in
     let old = history in'.front in'.max_steps in'.told in'.ran in'.trace in
     let none = ap (λ (h : HistoryView). h.trace) c.self.view_is ∙ c.requires.untraced in
-    let given = subst (λ (h : HistoryView). length h.steps + STEPS_PASSED + 1 < h.max_steps) (sym c.self.view_is) c.requires.left in
-    let left : length in'.told + 4 < in'.max_steps = omega (arith, given) in
+    let left = subst IsLeft (sym c.self.view_is) c.requires.left in
     subst (λ words. AreLegal g.T.Tabled.table (in'.told ++ Submit c.args.conn words ∷ [])) (sym c.of.ensures)
     (submit_legal g.T.Tabled.table old c.self.invariant.0 none left c.args.conn c.args.words c.in-Ok.passed.0 c.in-Ok.passed.1
     c.pass.new.self c.in-Ok.ensures.made)
@@ -35,8 +33,7 @@ invariant_of-self-in_default g c =
     let in' = c.self.inside in
     let old = history in'.front in'.max_steps in'.told in'.ran in'.trace in
     let none = ap (λ (h : HistoryView). h.trace) c.self.view_is ∙ c.requires.untraced in
-    let given = subst (λ (h : HistoryView). length h.steps + STEPS_PASSED + 1 < h.max_steps) (sym c.self.view_is) c.requires.left in
-    let left : length in'.told + 4 < in'.max_steps = omega (arith, given) in
+    let left = subst IsLeft (sym c.self.view_is) c.requires.left in
     let wrote = c.write_behind.ensures.written ∙ ap (λ words. in'.told ++ Submit c.args.conn words ∷ []) c.of.ensures in
     let makes = subst (λ o. Passes in'.front c.args.conn c.args.words c.in-Ok.passed.0 o c.pass.new.self) c.in_default.is c.in-Ok.ensures.made in (
       subst (λ l. IsHistory g.T.Tabled.table (history c.pass.new.self in'.max_steps l in'.ran in'.trace)) (sym wrote)
@@ -50,8 +47,7 @@ returns-in_default-clause-passed g c =
     let in' = c.self.inside in
     let old = history in'.front in'.max_steps in'.told in'.ran in'.trace in
     let none = ap (λ (h : HistoryView). h.trace) c.self.view_is ∙ c.requires.untraced in
-    let given = subst (λ (h : HistoryView). length h.steps + STEPS_PASSED + 1 < h.max_steps) (sym c.self.view_is) c.requires.left in
-    let left : length in'.told + 4 < in'.max_steps = omega (arith, given) in
+    let left = subst IsLeft (sym c.self.view_is) c.requires.left in
     let wrote = c.write_behind.ensures.written ∙ ap (λ words. in'.told ++ Submit c.args.conn words ∷ []) c.of.ensures in
     let makes = subst (λ o. Passes in'.front c.args.conn c.args.words c.in-Ok.passed.0 o c.pass.new.self) c.in_default.is c.in-Ok.ensures.made in
     subst (λ h. HasPassed h c.args.conn c.args.words c.in-Ok.passed.0 c.part-seen.result None
@@ -61,28 +57,27 @@ returns-in_default-clause-passed g c =
     (has_begun g.T.Tabled.table old c.self.invariant.0 none left c.args.conn c.args.words c.in-Ok.passed.0 c.pass.new.self makes
     c.part-seen.result (c.part-seen.ensures ∙ wrote)))
 
+pub write_arrivals-requires : goal.write_arrivals-requires
+write_arrivals-requires g c = λ n less.
+    let in' = c.self.inside in
+    let old = history in'.front in'.max_steps in'.told in'.ran in'.trace in
+    let none = ap (λ (h : HistoryView). h.trace) c.self.view_is ∙ c.requires.untraced in
+    let left = subst IsLeft (sym c.self.view_is) c.requires.left in
+    let wrote = c.write_behind.ensures.written ∙ ap (λ words. in'.told ++ Submit c.args.conn words ∷ []) c.of.ensures in
+    let passes = subst (λ o. Passes in'.front c.args.conn c.args.words c.in-Ok.passed.0 o c.pass.new.self) c.in-Some.is c.in-Ok.ensures.made in
+    subst (λ l. AreLegal g.T.Tabled.table ((l ++ arrivals n) ++ Deliver 0 ∷ [])) (sym wrote)
+    (arrivals_legal g.T.Tabled.table old c.self.invariant.0 none left c.args.conn c.args.words c.in-Ok.passed.0 c.in-Some.layer
+    c.pass.new.self passes n (omega (arith, less, c.packets_of.ensures)))
+
 pub write-requires : goal.write-requires
 write-requires g c =
     let in' = c.self.inside in
     let old = history in'.front in'.max_steps in'.told in'.ran in'.trace in
     let none = ap (λ (h : HistoryView). h.trace) c.self.view_is ∙ c.requires.untraced in
-    let given = subst (λ (h : HistoryView). length h.steps + STEPS_PASSED + 1 < h.max_steps) (sym c.self.view_is) c.requires.left in
-    let left : length in'.told + 4 < in'.max_steps = omega (arith, given) in
+    let left = subst IsLeft (sym c.self.view_is) c.requires.left in
     let wrote = c.write_behind.ensures.written ∙ ap (λ words. in'.told ++ Submit c.args.conn words ∷ []) c.of.ensures in
-    let passes = subst (λ o. Passes in'.front c.args.conn c.args.words c.in-Ok.passed.0 o c.pass.new.self) c.in-Some.is c.in-Ok.ensures.made in
-    subst (λ l. AreLegal g.T.Tabled.table (l ++ Deliver 0 ∷ [])) (sym wrote)
-    (come_legal g.T.Tabled.table old c.self.invariant.0 none left c.args.conn c.args.words c.in-Ok.passed.0 c.in-Some.layer c.pass.new.self
-    passes)
-
-pub write-requires-2 : goal.write-requires-2
-write-requires-2 g c =
-    let in' = c.self.inside in
-    let old = history in'.front in'.max_steps in'.told in'.ran in'.trace in
-    let none = ap (λ (h : HistoryView). h.trace) c.self.view_is ∙ c.requires.untraced in
-    let given = subst (λ (h : HistoryView). length h.steps + STEPS_PASSED + 1 < h.max_steps) (sym c.self.view_is) c.requires.left in
-    let left : length in'.told + 4 < in'.max_steps = omega (arith, given) in
-    let wrote = c.write_behind.ensures.written ∙ ap (λ words. in'.told ++ Submit c.args.conn words ∷ []) c.of.ensures in
-    let came = c.write.ensures ∙ ap (λ l. l ++ Deliver 0 ∷ []) wrote in
+    let came = c.write_arrivals.ensures ∙ ap (λ n. c.write_behind.new.self ++ arrivals n) c.packets_of.ensures
+    ∙ ap (λ l. l ++ arrivals (packets_in c.in-Some.layer)) wrote in
     let passes = subst (λ o. Passes in'.front c.args.conn c.args.words c.in-Ok.passed.0 o c.pass.new.self) c.in-Some.is c.in-Ok.ensures.made in
     subst (λ l. AreLegal g.T.Tabled.table (l ++ Take ∷ [])) (sym came)
     (taken_legal g.T.Tabled.table old c.self.invariant.0 none left c.args.conn c.args.words c.in-Ok.passed.0 c.in-Some.layer c.pass.new.self
@@ -93,11 +88,11 @@ invariant_of-taken g c =
     let in' = c.self.inside in
     let old = history in'.front in'.max_steps in'.told in'.ran in'.trace in
     let none = ap (λ (h : HistoryView). h.trace) c.self.view_is ∙ c.requires.untraced in
-    let given = subst (λ (h : HistoryView). length h.steps + STEPS_PASSED + 1 < h.max_steps) (sym c.self.view_is) c.requires.left in
-    let left : length in'.told + 4 < in'.max_steps = omega (arith, given) in
+    let left = subst IsLeft (sym c.self.view_is) c.requires.left in
     let wrote = c.write_behind.ensures.written ∙ ap (λ words. in'.told ++ Submit c.args.conn words ∷ []) c.of.ensures in
-    let came = c.write.ensures ∙ ap (λ l. l ++ Deliver 0 ∷ []) wrote in
-    let took = c.write-2.ensures ∙ ap (λ l. l ++ Take ∷ []) came in
+    let came = c.write_arrivals.ensures ∙ ap (λ n. c.write_behind.new.self ++ arrivals n) c.packets_of.ensures
+    ∙ ap (λ l. l ++ arrivals (packets_in c.in-Some.layer)) wrote in
+    let took = c.write.ensures ∙ ap (λ l. l ++ Take ∷ []) came in
     let passes = subst (λ o. Passes in'.front c.args.conn c.args.words c.in-Ok.passed.0 o c.pass.new.self) c.in-Some.is c.in-Ok.ensures.made in
     subst (λ n. IsTaken g.T.Tabled.table (record { layer = c.in-Some.layer; number = n; told = c.part.result })) (sym c.layers.ensures)
     (subst (λ l. IsTaken g.T.Tabled.table (record { layer = c.in-Some.layer; number = c.pass.new.self.layers; told = l }))
@@ -110,11 +105,11 @@ invariant_of-self-2 g c =
     let in' = c.self.inside in
     let old = history in'.front in'.max_steps in'.told in'.ran in'.trace in
     let none = ap (λ (h : HistoryView). h.trace) c.self.view_is ∙ c.requires.untraced in
-    let given = subst (λ (h : HistoryView). length h.steps + STEPS_PASSED + 1 < h.max_steps) (sym c.self.view_is) c.requires.left in
-    let left : length in'.told + 4 < in'.max_steps = omega (arith, given) in
+    let left = subst IsLeft (sym c.self.view_is) c.requires.left in
     let wrote = c.write_behind.ensures.written ∙ ap (λ words. in'.told ++ Submit c.args.conn words ∷ []) c.of.ensures in
-    let came = c.write.ensures ∙ ap (λ l. l ++ Deliver 0 ∷ []) wrote in
-    let took = c.write-2.ensures ∙ ap (λ l. l ++ Take ∷ []) came in
+    let came = c.write_arrivals.ensures ∙ ap (λ n. c.write_behind.new.self ++ arrivals n) c.packets_of.ensures
+    ∙ ap (λ l. l ++ arrivals (packets_in c.in-Some.layer)) wrote in
+    let took = c.write.ensures ∙ ap (λ l. l ++ Take ∷ []) came in
     let passes = subst (λ o. Passes in'.front c.args.conn c.args.words c.in-Ok.passed.0 o c.pass.new.self) c.in-Some.is c.in-Ok.ensures.made in (
       subst (λ l. IsHistory g.T.Tabled.table (history c.pass.new.self in'.max_steps l in'.ran in'.trace)) (sym took)
           (is_taken g.T.Tabled.table old c.self.invariant.0 none left c.args.conn c.args.words c.in-Ok.passed.0 c.in-Some.layer
@@ -128,15 +123,15 @@ returns-clause-passed g c =
     let in' = c.self.inside in
     let old = history in'.front in'.max_steps in'.told in'.ran in'.trace in
     let none = ap (λ (h : HistoryView). h.trace) c.self.view_is ∙ c.requires.untraced in
-    let given = subst (λ (h : HistoryView). length h.steps + STEPS_PASSED + 1 < h.max_steps) (sym c.self.view_is) c.requires.left in
-    let left : length in'.told + 4 < in'.max_steps = omega (arith, given) in
+    let left = subst IsLeft (sym c.self.view_is) c.requires.left in
     let wrote = c.write_behind.ensures.written ∙ ap (λ words. in'.told ++ Submit c.args.conn words ∷ []) c.of.ensures in
-    let came = c.write.ensures ∙ ap (λ l. l ++ Deliver 0 ∷ []) wrote in
-    let took = c.write-2.ensures ∙ ap (λ l. l ++ Take ∷ []) came in
+    let came = c.write_arrivals.ensures ∙ ap (λ n. c.write_behind.new.self ++ arrivals n) c.packets_of.ensures
+    ∙ ap (λ l. l ++ arrivals (packets_in c.in-Some.layer)) wrote in
+    let took = c.write.ensures ∙ ap (λ l. l ++ Take ∷ []) came in
     let passes = subst (λ o. Passes in'.front c.args.conn c.args.words c.in-Ok.passed.0 o c.pass.new.self) c.in-Some.is c.in-Ok.ensures.made in
     let v : TakenView = record { layer = c.in-Some.layer; number = c.layers.result; told = c.part.result } in
     subst (λ h. HasPassed h c.args.conn c.args.words c.in-Ok.passed.0 c.part-seen.result (Some v)
-    (history c.pass.new.self in'.max_steps c.write-2.new.self in'.ran in'.trace)) c.self.view_is
+    (history c.pass.new.self in'.max_steps c.write.new.self in'.ran in'.trace)) c.self.view_is
     (subst (λ l. HasPassed old c.args.conn c.args.words c.in-Ok.passed.0 c.part-seen.result (Some v)
     (history c.pass.new.self in'.max_steps l in'.ran in'.trace)) (sym took)
     (has_passed g.T.Tabled.table old c.self.invariant.0 none left c.args.conn c.args.words c.in-Ok.passed.0 c.in-Some.layer c.pass.new.self

@@ -1,5 +1,6 @@
 use Rattle.std.proofs.Common.{◌≡◌, ◌≢◌, ℕ, List, ◌++◌, ◌∷◌, [], length, refl, sym, ap, ◌∙◌, subst}
 use mathlib.Core.List.{IsPrefix}
+use Rattle.cluster.proofs.Settling.{IsBack}
 use Rattle.cluster.proofs.Counts.{executed_more, starved_more, cuts_more}
 use Rattle.cluster.proofs.Histories.{history, AreLegal, run_legal, of_layer, ran_more, settle_legal, history_settled, was_settled}
 use Rattle.cluster.specs.Counting.{all_executed, all_starved, as_word, executed_in}
@@ -12,16 +13,32 @@ use Rattle.journal.specs.declared.step.Step.TheVariants.{Run, Settle}
 use Rattle.layer_results.specs.Results.{names_of}
 use Rattle.layer_results.specs.declared.done.DoneRow.{DoneRow}
 use Rattle.placement.specs.Layout.{Layout}
+use Rattle.serial_store.specs.Serial.{AreSerial}
 use Rattle.cluster.proofs.ordered.History.settle.Goals as goal
 
 abbrev view : List DoneRow → ℕ → List Step → List (List DoneRow) → RanView
 view done number told ran = record { done = done; number = number; told = told; ran = ran }
 
 -- what was sealed is so of its parts
-in_parts : (t : Layout) (done done' : List DoneRow) (ran ran' : List (List DoneRow)) (number : ℕ) (told : List Step)
-    → done' ≡ done → ran' ≡ ran → IsRan t (view done number told ran) → IsRan t (view done' number told ran')
-in_parts t done done' ran ran' number told same_done same_ran is =
-    subst (λ d. IsRan t (view d number told ran')) (sym same_done) (subst (λ l. IsRan t (view done number told l)) (sym same_ran) is)
+is_back : {t : Layout} {h : HistoryView} {done done' : List DoneRow} {number : ℕ} {told : List Step} {ran ran' : List (List DoneRow)} →
+    IsRan t (view done number told ran) → done' ≡ done → ran' ≡ ran → h.front.out ≢ [] → number ≡ h.front.layers → (all : List Step) →
+    AreLegal t all → IsPrefix h.steps all → IsPrefix told all → (every : List (List DoneRow)) → IsPrefix h.ran every →
+    IsPrefix ran' every → AreSerial t ran' → IsBack t h (view done' number told ran')
+is_back {t} {done = done} {number = number} {told = told} {ran' = ran'} is same_done same_ran some same all legal mine its every mine_ran
+    its_ran serial = record {
+      came = subst (λ d. IsRan t (view d number told ran')) (sym same_done)
+          (subst (λ l. IsRan t (view done number told l)) (sym same_ran) is);
+      some = some;
+      number = same;
+      all = all;
+      legal = legal;
+      mine = mine;
+      its = its;
+      every = every;
+      mine_ran = mine_ran;
+      its_ran = its_ran;
+      serial = serial;
+    }
 
 pub write-requires : goal.write-requires
 write-requires g c =
@@ -29,13 +46,11 @@ write-requires g c =
     let h = history in'.front in'.max_steps in'.told in'.ran in'.trace in
     let parts = c.into_parts-done.result in
     let v = view parts.0 c.ran.inside.ran.number c.ran.inside.told parts.1 in
-    let ran = in_parts g.T.Tabled.table c.ran.inside.ran.done parts.0 c.ran.inside.ran.runs parts.1 c.ran.inside.ran.number
-    c.ran.inside.told c.into_parts-done.ensures.done c.into_parts-done.ensures.runs c.ran.invariant in
-    let number = sym c.number.ensures ∙ c.if-number-layers.false ∙ c.layers.ensures in
-    let all = c.with-all_told.result in
-    let mine : IsPrefix in'.told all = subst (λ l. IsPrefix l all) c.part.ensures c.with-all_told.ensures.that in
-    run_legal g.T.Tabled.table h c.self.invariant.0 v ran (c.if-not-is_out.ensures.0 refl) number all c.is_legal.ensures mine
-    c.with-all_told.ensures.this c.with-all_ran.result c.with-all_ran.ensures.that c.with-all_ran.ensures.this c.is_legal-2.ensures
+    let back : IsBack g.T.Tabled.table h v = is_back c.ran.invariant c.into_parts-done.ensures.done c.into_parts-done.ensures.runs
+    (c.if-not-is_out.ensures.0 refl) (sym c.number.ensures ∙ c.if-number-layers.false ∙ c.layers.ensures) c.with-all_told.result
+    c.is_legal.ensures (subst (λ l. IsPrefix l c.with-all_told.result) c.part.ensures c.with-all_told.ensures.that)
+    c.with-all_told.ensures.this c.with-all_ran.result c.with-all_ran.ensures.that c.with-all_ran.ensures.this c.is_legal-2.ensures in
+    run_legal g.T.Tabled.table h c.self.invariant.0 v back
 
 pub settle-requires-clause-truth : goal.settle-requires-clause-truth
 settle-requires-clause-truth g c =
@@ -43,13 +58,11 @@ settle-requires-clause-truth g c =
     let h = history in'.front in'.max_steps in'.told in'.ran in'.trace in
     let parts = c.into_parts-done.result in
     let v = view parts.0 c.ran.inside.ran.number c.ran.inside.told parts.1 in
-    let ran = in_parts g.T.Tabled.table c.ran.inside.ran.done parts.0 c.ran.inside.ran.runs parts.1 c.ran.inside.ran.number
-    c.ran.inside.told c.into_parts-done.ensures.done c.into_parts-done.ensures.runs c.ran.invariant in
-    let number = sym c.number.ensures ∙ c.if-number-layers.false ∙ c.layers.ensures in
-    let all = c.with-all_told.result in
-    let mine : IsPrefix in'.told all = subst (λ l. IsPrefix l all) c.part.ensures c.with-all_told.ensures.that in
-    of_layer g.T.Tabled.table h c.self.invariant.0 v ran (c.if-not-is_out.ensures.0 refl) number all c.is_legal.ensures mine
-    c.with-all_told.ensures.this c.with-all_ran.result c.with-all_ran.ensures.that c.with-all_ran.ensures.this c.is_legal-2.ensures
+    let back : IsBack g.T.Tabled.table h v = is_back c.ran.invariant c.into_parts-done.ensures.done c.into_parts-done.ensures.runs
+    (c.if-not-is_out.ensures.0 refl) (sym c.number.ensures ∙ c.if-number-layers.false ∙ c.layers.ensures) c.with-all_told.result
+    c.is_legal.ensures (subst (λ l. IsPrefix l c.with-all_told.result) c.part.ensures c.with-all_told.ensures.that)
+    c.with-all_told.ensures.this c.with-all_ran.result c.with-all_ran.ensures.that c.with-all_ran.ensures.this c.is_legal-2.ensures in
+    of_layer g.T.Tabled.table h c.self.invariant.0 v back
 
 pub write-requires-2 : goal.write-requires-2
 write-requires-2 g c =
@@ -57,15 +70,12 @@ write-requires-2 g c =
     let h = history in'.front in'.max_steps in'.told in'.ran in'.trace in
     let parts = c.into_parts-done.result in
     let v = view parts.0 c.ran.inside.ran.number c.ran.inside.told parts.1 in
-    let ran = in_parts g.T.Tabled.table c.ran.inside.ran.done parts.0 c.ran.inside.ran.runs parts.1 c.ran.inside.ran.number
-    c.ran.inside.told c.into_parts-done.ensures.done c.into_parts-done.ensures.runs c.ran.invariant in
-    let number = sym c.number.ensures ∙ c.if-number-layers.false ∙ c.layers.ensures in
-    let all = c.with-all_told.result in
-    let mine : IsPrefix in'.told all = subst (λ l. IsPrefix l all) c.part.ensures c.with-all_told.ensures.that in
+    let back : IsBack g.T.Tabled.table h v = is_back c.ran.invariant c.into_parts-done.ensures.done c.into_parts-done.ensures.runs
+    (c.if-not-is_out.ensures.0 refl) (sym c.number.ensures ∙ c.if-number-layers.false ∙ c.layers.ensures) c.with-all_told.result
+    c.is_legal.ensures (subst (λ l. IsPrefix l c.with-all_told.result) c.part.ensures c.with-all_told.ensures.that)
+    c.with-all_told.ensures.this c.with-all_ran.result c.with-all_ran.ensures.that c.with-all_ran.ensures.this c.is_legal-2.ensures in
     subst (λ l. AreLegal g.T.Tabled.table (l ++ Settle ∷ [])) (sym c.write.ensures)
-    (settle_legal g.T.Tabled.table h c.self.invariant.0 v ran (c.if-not-is_out.ensures.0 refl) number all c.is_legal.ensures mine
-    c.with-all_told.ensures.this c.with-all_ran.result c.with-all_ran.ensures.that c.with-all_ran.ensures.this c.is_legal-2.ensures
-    c.settle.new.self c.settle.ensures)
+    (settle_legal g.T.Tabled.table h c.self.invariant.0 v back c.settle.new.self c.settle.ensures)
 
 pub invariant_of-self-2 : goal.invariant_of-self-2
 invariant_of-self-2 g c =
@@ -73,21 +83,17 @@ invariant_of-self-2 g c =
     let h = history in'.front in'.max_steps in'.told in'.ran in'.trace in
     let parts = c.into_parts-done.result in
     let v = view parts.0 c.ran.inside.ran.number c.ran.inside.told parts.1 in
-    let ran = in_parts g.T.Tabled.table c.ran.inside.ran.done parts.0 c.ran.inside.ran.runs parts.1 c.ran.inside.ran.number
-    c.ran.inside.told c.into_parts-done.ensures.done c.into_parts-done.ensures.runs c.ran.invariant in
-    let number = sym c.number.ensures ∙ c.if-number-layers.false ∙ c.layers.ensures in
-    let all = c.with-all_told.result in
-    let mine : IsPrefix in'.told all = subst (λ l. IsPrefix l all) c.part.ensures c.with-all_told.ensures.that in
+    let back : IsBack g.T.Tabled.table h v = is_back c.ran.invariant c.into_parts-done.ensures.done c.into_parts-done.ensures.runs
+    (c.if-not-is_out.ensures.0 refl) (sym c.number.ensures ∙ c.if-number-layers.false ∙ c.layers.ensures) c.with-all_told.result
+    c.is_legal.ensures (subst (λ l. IsPrefix l c.with-all_told.result) c.part.ensures c.with-all_told.ensures.that)
+    c.with-all_told.ensures.this c.with-all_ran.result c.with-all_ran.ensures.that c.with-all_ran.ensures.this c.is_legal-2.ensures in
     let run = subst (λ d. IsPushed in'.trace (Run (names_of d)) c.push_run.new.trace) (c.done.ensures ∙ sym c.into_parts-done.ensures.done)
     c.in-Ok.ensures.pushed in
     let wrote = c.write-2.ensures ∙ ap (λ l. l ++ Settle ∷ []) c.write.ensures in
-    let more = ran_more g.T.Tabled.table h c.self.invariant.0 v ran (c.if-not-is_out.ensures.0 refl) number all c.is_legal.ensures mine
-    c.with-all_told.ensures.this c.with-all_ran.result c.with-all_ran.ensures.that c.with-all_ran.ensures.this c.is_legal-2.ensures in (
+    let more = ran_more g.T.Tabled.table h c.self.invariant.0 v back in (
       subst (λ l. IsHistory g.T.Tabled.table (history c.settle.new.self in'.max_steps l parts.1 c.push_keeping.new.trace))
-          (sym wrote) (history_settled g.T.Tabled.table h c.self.invariant.0 v ran (c.if-not-is_out.ensures.0 refl) number all c.is_legal.ensures mine
-          c.with-all_told.ensures.this c.with-all_ran.result c.with-all_ran.ensures.that c.with-all_ran.ensures.this c.is_legal-2.ensures
-          c.settle.new.self c.settle.ensures in'.max_steps c.push_keeping.new.trace c.push_run.new.trace
-          refl run c.in-Ok-push_keeping.ensures.pushed),
+          (sym wrote) (history_settled g.T.Tabled.table h c.self.invariant.0 v back c.settle.new.self c.settle.ensures in'.max_steps
+          c.push_keeping.new.trace c.push_run.new.trace refl run c.in-Ok-push_keeping.ensures.pushed),
       cuts_more (all_executed in'.ran) (executed_in parts.0) (all_executed parts.1) in'.executed c.executed_in.result _ c.self.invariant.1
           (c.executed_in.ensures ∙ ap (λ l. as_word (executed_in l)) c.rows.ensures) c.saturating_add-self-inside.ensures
           (ap all_executed more ∙ executed_more in'.ran parts.0),
@@ -101,11 +107,10 @@ returns-clause-settled g c =
     let h = history in'.front in'.max_steps in'.told in'.ran in'.trace in
     let parts = c.into_parts-done.result in
     let v = view parts.0 c.ran.inside.ran.number c.ran.inside.told parts.1 in
-    let ran = in_parts g.T.Tabled.table c.ran.inside.ran.done parts.0 c.ran.inside.ran.runs parts.1 c.ran.inside.ran.number
-    c.ran.inside.told c.into_parts-done.ensures.done c.into_parts-done.ensures.runs c.ran.invariant in
-    let number = sym c.number.ensures ∙ c.if-number-layers.false ∙ c.layers.ensures in
-    let all = c.with-all_told.result in
-    let mine : IsPrefix in'.told all = subst (λ l. IsPrefix l all) c.part.ensures c.with-all_told.ensures.that in
+    let back : IsBack g.T.Tabled.table h v = is_back c.ran.invariant c.into_parts-done.ensures.done c.into_parts-done.ensures.runs
+    (c.if-not-is_out.ensures.0 refl) (sym c.number.ensures ∙ c.if-number-layers.false ∙ c.layers.ensures) c.with-all_told.result
+    c.is_legal.ensures (subst (λ l. IsPrefix l c.with-all_told.result) c.part.ensures c.with-all_told.ensures.that)
+    c.with-all_told.ensures.this c.with-all_ran.result c.with-all_ran.ensures.that c.with-all_ran.ensures.this c.is_legal-2.ensures in
     let run = subst (λ d. IsPushed in'.trace (Run (names_of d)) c.push_run.new.trace) (c.done.ensures ∙ sym c.into_parts-done.ensures.done)
     c.in-Ok.ensures.pushed in
     let wrote = c.write-2.ensures ∙ ap (λ l. l ++ Settle ∷ []) c.write.ensures in
@@ -113,7 +118,5 @@ returns-clause-settled g c =
     let done = c.into_parts-done.ensures.done ∙ ap (λ (r : RanView). r.done) c.ran.view_is in
     subst (λ d. IsSettled c.args.self.now d new) done (subst (λ o. IsSettled o parts.0 new) c.self.view_is
     (subst (λ l. IsSettled h parts.0 (history c.settle.new.self in'.max_steps l parts.1 c.push_keeping.new.trace)) (sym wrote)
-    (was_settled g.T.Tabled.table h c.self.invariant.0 v ran (c.if-not-is_out.ensures.0 refl) number all c.is_legal.ensures mine
-    c.with-all_told.ensures.this c.with-all_ran.result c.with-all_ran.ensures.that c.with-all_ran.ensures.this c.is_legal-2.ensures
-    c.settle.new.self c.settle.ensures in'.max_steps c.push_keeping.new.trace c.push_run.new.trace
-    refl run c.in-Ok-push_keeping.ensures.pushed)))
+    (was_settled g.T.Tabled.table h c.self.invariant.0 v back c.settle.new.self c.settle.ensures in'.max_steps c.push_keeping.new.trace
+    c.push_run.new.trace refl run c.in-Ok-push_keeping.ensures.pushed)))

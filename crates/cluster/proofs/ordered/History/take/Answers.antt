@@ -1,4 +1,4 @@
-use Rattle.std.proofs.Common.{◌≡◌, ◌+◌, ◌<◌, ◌++◌, ◌∷◌, [], length, refl, sym, ap, ◌∙◌, subst, arith}
+use Rattle.std.proofs.Common.{◌+◌, ◌<◌, ◌++◌, ◌∷◌, [], length, refl, sym, ap, ◌∙◌, subst, arith}
 use Rattle.cluster.proofs.Histories.{history, take_legal, layer_sealed, history_taken, hands_out, history_still, left_so, told_as}
 use Rattle.cluster.specs.Histories.{HistoryView, IsHistory, IsFault}
 use Rattle.cluster.specs.Layers.{HandsOut}
@@ -42,9 +42,9 @@ invariant_of-self-in-Ok-take g c =
     let old = history in'.front in'.max_steps in'.told in'.ran in'.trace in
     let left : length in'.told + 2 < in'.max_steps =
     omega (arith, c.count.ensures, c.if-self-count.false, ap (λ (h : HistoryView). length h.steps) c.self.view_is) in (
-      subst (λ l. IsHistory g.T.Tabled.table (history c.take.new.self in'.max_steps l in'.ran c.push_keeping.new.trace)) (sym c.write.ensures)
-          (history_taken g.T.Tabled.table old c.self.invariant.0 c.in-Ok-take.layer c.take.new.self c.in-Ok-take.ensures.made in'.max_steps
-          c.push_keeping.new.trace left refl c.in-Ok.ensures.pushed),
+      subst (λ l. IsHistory g.T.Tabled.table (history c.take.new.self in'.max_steps l in'.ran c.push_keeping.new.trace))
+          (sym c.write.ensures) (history_taken g.T.Tabled.table old c.self.invariant.0 c.in-Ok-take.layer c.take.new.self
+          c.in-Ok-take.ensures.made in'.max_steps c.push_keeping.new.trace left refl c.in-Ok.ensures.pushed),
       c.self.invariant.1,
       c.self.invariant.2,
     )

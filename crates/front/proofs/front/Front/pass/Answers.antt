@@ -93,9 +93,10 @@ invariant_of-self-2 c =
     let m = c.deliver_at_once.new.multicast in
     let passes = passes_roomless c.self.inside.multicast c.submit_with_room.new.multicast m sent.id sent.floor sent.groups c.in-Some.request
     c.in_ok-sent.ensures.same c.in-Some.ensures.passed in
-    once_passed old c.self.invariant c.args.conn c.args.words sent c.submit_with_room.new.router c.in_ok-sent.ensures.submitted quiet
+    subst (λ n. IsFront (passed_front old c.take_one-layer.new.router (roomless m) c.take_one-layer.new.out.items n)) (sym c.len-groups.ensures.count)
+    (once_passed old c.self.invariant c.args.conn c.args.words sent c.submit_with_room.new.router c.in_ok-sent.ensures.submitted quiet
     c.in-Some.request (roomless m) passes c.take_one-layer.new.router c.take_one-layer.result c.take_one-layer.new.out.items
-    c.take_one-layer.ensures.out c.take_one-layer.ensures.taken
+    c.take_one-layer.ensures.out c.take_one-layer.ensures.taken)
 
 pub returns-clause-made : goal.returns-clause-made
 returns-clause-made c =
@@ -108,6 +109,7 @@ returns-clause-made c =
     let layer = c.take_one-layer.result in
     let passes = passes_roomless c.self.inside.multicast c.submit_with_room.new.multicast m sent.id sent.floor sent.groups c.in-Some.request
     c.in_ok-sent.ensures.same c.in-Some.ensures.passed in
-    subst (λ v. TakesAtOnce v c.args.conn c.args.words sent.id layer (passed_front old r (roomless m) out)) c.self.view_is
+    subst (λ v. TakesAtOnce v c.args.conn c.args.words sent.id layer (passed_front old r (roomless m) out c.len-groups.result)) c.self.view_is
+    (subst (λ n. TakesAtOnce old c.args.conn c.args.words sent.id layer (passed_front old r (roomless m) out n)) (sym c.len-groups.ensures.count)
     (takes_at_once old c.self.invariant c.args.conn c.args.words sent c.submit_with_room.new.router c.in_ok-sent.ensures.submitted quiet
-    c.in-Some.request (roomless m) passes r layer out c.take_one-layer.ensures.out c.take_one-layer.ensures.taken)
+    c.in-Some.request (roomless m) passes r layer out c.take_one-layer.ensures.out c.take_one-layer.ensures.taken c.in-Some.ensures.few))

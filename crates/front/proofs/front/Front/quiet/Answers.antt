@@ -2,7 +2,7 @@ use Rattle.std.proofs.Common.{rules, ◌≡◌, ◌↔◌, [], Bool, true, false
 use Rattle.std.proofs.lemmas.Bool.{both_ways}
 use Rattle.delivery.specs.Queues.{queue_of}
 use Rattle.delivery.specs.Ready.{IsReady}
-use Rattle.front.proofs.Lists.{none_listed}
+use Rattle.std.proofs.lemmas.List.{nil_from_length}
 use Rattle.front.proofs.Views.{seen}
 use Rattle.front.specs.Fronts.{FrontView}
 use Rattle.front.specs.Looking.{IsQuiet}
@@ -24,7 +24,7 @@ quiet_by false f packets out told = (
 pub returns : goal.returns
 returns c =
     let f = seen c.self.inside in
-    let out : f.out ≡ [] = none_listed f.out (search rules) in
-    let packets : f.multicast.packets ≡ [] = none_listed f.multicast.packets (sym c.packets.ensures ∙ c.if-packets-ne0.false) in
+    let out : f.out ≡ [] = nil_from_length f.out (search rules) in
+    let packets : f.multicast.packets ≡ [] = nil_from_length f.multicast.packets (sym c.packets.ensures ∙ c.if-packets-ne0.false) in
     subst (λ (g : FrontView). IsTrue (not c.has_ready.result) ↔ IsQuiet g) c.self.view_is
     (quiet_by c.has_ready.result f packets out c.has_ready.ensures)

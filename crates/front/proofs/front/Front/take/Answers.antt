@@ -3,9 +3,9 @@ use Rattle.std.specs.Prelude.{IsOk, IsSome}
 use Rattle.delivery.specs.Queues.{queue_of}
 use Rattle.delivery.specs.Ready.{IsLayer}
 use Rattle.front.proofs.Jobs.{jobs_may_stand}
-use Rattle.front.proofs.Lists.{none_listed}
-use Rattle.front.proofs.TakeMakes.{taken_front, take_memory, take_no_layer, some_ready}
-use Rattle.front.proofs.TakeMakes.{take_may_start, take_made, once_taken_out, loses_roomless}
+use Rattle.std.proofs.lemmas.List.{nil_from_length}
+use Rattle.front.proofs.TakeMakes.{taken_front, take_memory, take_no_layer, some_ready, take_may_start, take_made, once_taken_out}
+use Rattle.front.proofs.TakeMakes.{loses_roomless}
 use Rattle.front.proofs.Views.{seen}
 use Rattle.front.specs.Fronts.{roomless}
 use Rattle.front.specs.Refusing.{Refuses, IsFault}
@@ -20,22 +20,22 @@ use Rattle.front.proofs.front.Front.take.Goals as goal
 pub returns-in_default-clause-refused : goal.returns-in_default-clause-refused
 returns-in_default-clause-refused c =
     let old = seen c.self.inside in
-    let none : old.out ≡ [] = none_listed old.out (search rules) in
+    let none : old.out ≡ [] = nil_from_length old.out (search rules) in
     subst (λ f. IsFault f Take Memory) c.self.view_is
     (tt, take_memory old none (λ unready. let k = subst IsOk c.in_default.is (c.ready.ensures.succeeds unready) in cc))
 
 pub returns-then-is_empty-clause-refused : goal.returns-then-is_empty-clause-refused
 returns-then-is_empty-clause-refused c =
     let old = seen c.self.inside in
-    let none : old.out ≡ [] = none_listed old.out (search rules) in
+    let none : old.out ≡ [] = nil_from_length old.out (search rules) in
     subst (λ f. Refuses f Take NoLayer) c.self.view_is
     (take_no_layer old none
-    (subst (IsLayer (queue_of c.self.inside.multicast.queues)) (none_listed c.in-Ok.ready.items (search rules)) c.in-Ok.ensures.layer))
+    (subst (IsLayer (queue_of c.self.inside.multicast.queues)) (nil_from_length c.in-Ok.ready.items (search rules)) c.in-Ok.ensures.layer))
 
 pub returns-in_default-with_capacity-clause-refused : goal.returns-in_default-with_capacity-clause-refused
 returns-in_default-with_capacity-clause-refused c =
     let old = seen c.self.inside in
-    let none : old.out ≡ [] = none_listed old.out (search rules) in
+    let none : old.out ≡ [] = nil_from_length old.out (search rules) in
     subst (λ f. IsFault f Take Memory) c.self.view_is (
       tt,
       take_memory old none (some_ready (queue_of c.self.inside.multicast.queues) c.in-Ok.ready.items c.in-Ok.ensures.layer
@@ -45,14 +45,14 @@ returns-in_default-with_capacity-clause-refused c =
 pub take_all-requires-clause-waits : goal.take_all-requires-clause-waits
 take_all-requires-clause-waits c =
     let old = seen c.self.inside in
-    let none : old.out ≡ [] = none_listed old.out (search rules) in
+    let none : old.out ≡ [] = nil_from_length old.out (search rules) in
     subst (λ ds. (t : Layout) × (w : World) × IsTaking t w [] ds old.router)
     (sym c.as_slice.ensures.value) (take_may_start old none c.in-Ok.ready.items c.in-Ok.ensures.layer c.self.invariant)
 
 pub unreachable-requires : goal.unreachable-requires
 unreachable-requires c =
     let old = seen c.self.inside in
-    let none : old.out ≡ [] = none_listed old.out (search rules) in
+    let none : old.out ≡ [] = nil_from_length old.out (search rules) in
     let start = take_may_start old none c.in-Ok.ready.items c.in-Ok.ensures.layer c.self.invariant in
     let first = subst (λ ds. IsTaking start.0 start.1 [] ds old.router) (sym c.as_slice.ensures.value) start.2 in
     let jobs = (c.take_all.ensures.taken start.0 start.1 first).1 in
@@ -65,7 +65,7 @@ invariant_of-self c =
     let old = seen c.self.inside in
     let ready = c.in-Ok.ready.items in
     let m = c.lose_layer.new.self in
-    let none : old.out ≡ [] = none_listed old.out (search rules) in
+    let none : old.out ≡ [] = nil_from_length old.out (search rules) in
     once_taken_out old (taken_front old c.take_all.new.router (roomless m) ready) c.in-Some.layer c.self.invariant
     (take_made old none ready c.as_slice.result.now c.as_slice-2.result.now c.in-Ok.ensures.layer
     (λ e. let count = ap length e in search rules) c.take_all.new.router (roomless m) c.take_all.new.jobs.items c.in-Some.layer
@@ -77,7 +77,7 @@ returns-clause-made c =
     let old = seen c.self.inside in
     let ready = c.in-Ok.ready.items in
     let m = c.lose_layer.new.self in
-    let none : old.out ≡ [] = none_listed old.out (search rules) in
+    let none : old.out ≡ [] = nil_from_length old.out (search rules) in
     subst (λ f. Takes f c.in-Some.layer (taken_front old c.take_all.new.router (roomless m) ready)) c.self.view_is
     (take_made old none ready c.as_slice.result.now c.as_slice-2.result.now c.in-Ok.ensures.layer
     (λ e. let count = ap length e in search rules) c.take_all.new.router (roomless m) c.take_all.new.jobs.items c.in-Some.layer

@@ -19,8 +19,8 @@ returns g c =
       (
         refl,
         (λ w. where_lent c.get_mut.result _ _ c.get_mut.ensures.value (λ there.
-            let u = (c.get_mut.follows.holds w).3 there in (map_of-inserted c.args.key.now es _ w u.1 u.3, refl))),
-        (kept, refl),
+            let u = (c.get_mut.follows.holds w).3 there in map_of-inserted c.args.key.now es _ w u.1 u.3)),
+        kept,
       ),
       record { writes_back = tt; value = seen },
     )

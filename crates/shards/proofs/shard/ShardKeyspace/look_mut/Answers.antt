@@ -9,8 +9,8 @@ returns c =
     let shown = c.self.view_is in (
       (
         refl,
-        (λ w. where_lent c.look_mut.result (λ told. (told.0 ∙ ap (λ m. insert m key w) shown, refl)) (c.look_mut.follows.holds w)),
-        (c.look_mut.follows.holds-at-none.0 ∙ shown, refl),
+        (λ w. where_lent c.look_mut.result (λ told. told ∙ ap (λ m. insert m key w) shown) (c.look_mut.follows.holds w)),
+        c.look_mut.follows.holds-at-none ∙ shown,
       ),
       record { writes_back = tt; value = c.look_mut.ensures.value ∙ ap (λ m. get m key) shown },
     )

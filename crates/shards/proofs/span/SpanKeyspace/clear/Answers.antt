@@ -18,5 +18,7 @@ invariant_of-self g c = (
       (span-cleared g.F.SpanFrame.layout g.F.SpanFrame.groups c.loop-index.index c.self.inside.shards.items c.self.invariant.1),
 )
 
-pub returns-clause-cleared : goal.returns-clause-cleared
-returns-clause-cleared g c = ap union c.loop-index.invariant.0 ∙ union-cleared c.self.inside.shards.items c.loop-index.index (omega arith)
+pub returns : goal.returns
+returns g c = record {
+  cleared = ap union c.loop-index.invariant.0 ∙ union-cleared c.self.inside.shards.items c.loop-index.index (omega arith);
+}

@@ -11,7 +11,7 @@ invariant_of-self-lent g c =
     c.index_mut-shard.result.now c.args.key.now =
     spot_inside c.self.view_is c.self.invariant.1 c.index_of-index.ensures.inside c.index_of-index.ensures.there
     c.index_mut-shard.ensures.value in
-    λ w. (c.self.invariant.0, changed_span spot (c.look_mut.follows.lender w) (Some w) (lent c.in-Some.is (c.look_mut.follows.holds w)).0)
+    λ w. (c.self.invariant.0, changed_span spot (c.look_mut.follows.lender w) (Some w) (lent c.in-Some.is (c.look_mut.follows.holds w)))
 
 pub returns-in-Some : goal.returns-in-Some
 returns-in-Some g c =
@@ -22,8 +22,8 @@ returns-in-Some g c =
     let value = ap option_copied_mut (sym c.in-Some.is) ∙ c.look_mut.ensures.value ∙ sym (get_here spot) in (
       (
         refl,
-        (λ w. (changed_union spot (c.look_mut.follows.lender w) (Some w) (lent c.in-Some.is (c.look_mut.follows.holds w)).0, refl)),
-        (refl, refl),
+        (λ w. changed_union spot (c.look_mut.follows.lender w) (Some w) (lent c.in-Some.is (c.look_mut.follows.holds w))),
+        refl,
       ),
       record { writes_back = tt; value = value },
     )
@@ -35,6 +35,6 @@ returns-in-None g c =
     spot_inside c.self.view_is c.self.invariant.1 c.index_of-index.ensures.inside c.index_of-index.ensures.there
     c.index_mut-shard.ensures.value in
     let value = ap option_copied_mut (sym c.in-None.is) ∙ c.look_mut.ensures.value ∙ sym (get_here spot) in (
-      (refl, (λ w. tt), (kept_union spot c.look_mut.follows.lender-at-none c.look_mut.follows.holds-at-none.0, refl)),
+      (refl, (λ w. tt), kept_union spot c.look_mut.follows.lender-at-none c.look_mut.follows.holds-at-none),
       record { writes_back = tt; value = value },
     )

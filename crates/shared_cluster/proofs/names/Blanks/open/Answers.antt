@@ -1,4 +1,4 @@
-use Rattle.std.proofs.Common.{refl, [], ◌≡◌}
+use Rattle.std.proofs.Common.{refl, []}
 use Rattle.serial_store.proofs.Keeping.{none_serial}
 use Rattle.world.specs.Steps.{opening}
 use Rattle.shared_cluster.proofs.names.Blanks.open.Goals as goal

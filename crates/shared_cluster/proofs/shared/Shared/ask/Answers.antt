@@ -1,10 +1,12 @@
-use Rattle.shared_cluster.proofs.Collecting.{asked_replied, waited_fault}
+use Rattle.std.proofs.lemmas.Result.{IfOk-weaker}
+use Rattle.resp.specs.Content.{content}
+use Rattle.shared_cluster.proofs.Collecting.{replied_of, waited_fault}
 use Rattle.shared_cluster.proofs.shared.Shared.ask.Goals as goal
 
 pub returns-in-Ok-clause-replied : goal.returns-in-Ok-clause-replied
 returns-in-Ok-clause-replied g c =
-    asked_replied g.T.Tabled.table c.args.seat.now c.submit.new.seat c.wait.new.seat c.args.words c.wait.result c.in-Ok.ensures.submitted
-    c.wait.ensures.replied
+    IfOk-weaker c.wait.result _ _ (λ x. replied_of g.T.Tabled.table c.args.seat.now c.submit.new.seat c.wait.new.seat c.args.words
+    (content x.reply) c.in-Ok.ensures.submitted) c.wait.ensures.replied
 
 pub returns-in-Ok-clause-refused : goal.returns-in-Ok-clause-refused
 returns-in-Ok-clause-refused g c =

@@ -1,4 +1,4 @@
-use Rattle.std.proofs.Common.{◌≡◌, ◌<◌, ◌^◌, ◌++◌, length, subst, arith}
+use Rattle.std.proofs.Common.{◌<◌, ◌^◌, ◌++◌, length, subst, arith}
 use Rattle.journal.specs.TraceText.{head_text, lines_text, ended, end_line, Spells}
 use Rattle.shared_cluster.specs.Streams.{StreamView, steps_of}
 use Rattle.shared_cluster.proofs.streams.TraceStream.write_end.Goals as goal

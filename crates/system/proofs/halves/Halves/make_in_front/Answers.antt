@@ -1,7 +1,6 @@
 use Rattle.std.proofs.Common.{subst}
 use Rattle.front.specs.Making as making
-use Rattle.system.proofs.Fronting.{may_step, made_by_front, front_makes, front_kept, refused_as, not_failed, stored_same, starves_none}
-use Rattle.system.proofs.Fronting.{shown_same, wants_so}
+use Rattle.system.proofs.Fronting.{may_step, made_by_front, front_makes, front_kept, refused_as, not_failed, shown_same, wants_so}
 use Rattle.system.specs.Halves.{effect_shown}
 use Rattle.system.proofs.halves.Halves.make_in_front.Goals as goal
 
@@ -14,8 +13,7 @@ returns-in-Ok-clause-made c =
     let f = c.make.new.self in
     let step = c.args.step in
     let made = c.in-Ok.ensures.made in
-    made_by_front old f step c.requires.alone made.is_step c.from.result (stored_same step c.from.result c.requires.alone)
-    (λ w. starves_none old step c.from.result w c.requires.alone)
+    made_by_front old f step c.requires.alone made.is_step c.from.result
     (front_makes old f step (effect_shown c.from.result)
     (subst (λ e. making.Makes old.front step e f) (shown_same c.in-Ok.effect c.from.result c.from.ensures) made))
 

@@ -1,6 +1,7 @@
 use Rattle.std.proofs.Common.{sym, subst}
 use Rattle.std.specs.Prelude.{IfSome, IfNone}
-use Rattle.front.proofs.Refusals.{some_of, none_of}
+use Rattle.std.proofs.lemmas.Option.{IfSome_then}
+use Rattle.front.proofs.Refusals.{none_of}
 use Rattle.system.proofs.Fronting.{alone}
 use Rattle.system.specs.Refusing.{IsFault, RefusesNot}
 use Rattle.system.proofs.halves.Halves.own_fault.Goals as goal
@@ -18,7 +19,7 @@ returns-in-Take-clause-none c =
 pub returns-in-Run-clause-some : goal.returns-in-Run-clause-some
 returns-in-Run-clause-some c =
     subst (λ s. IfSome c.run_fault.result (IsFault c.args.self.now s)) (sym c.in-Run.is)
-    (some_of _ _ c.run_fault.result (λ fault why. why c.in-Run.starved) c.run_fault.ensures.some)
+    (IfSome_then c.run_fault.result c.run_fault.ensures.some (λ fault why. why c.in-Run.starved))
 
 pub returns-in-Run-clause-none : goal.returns-in-Run-clause-none
 returns-in-Run-clause-none c =

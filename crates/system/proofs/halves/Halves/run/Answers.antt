@@ -4,7 +4,7 @@ use Rattle.journal.specs.Names.{AreNumbered}
 use Rattle.journal.specs.declared.step.Step.TheVariants.{Run}
 use Rattle.layer_results.proofs.Names.{names_numbered}
 use Rattle.layer_results.specs.Results.{names_of}
-use Rattle.system.proofs.Layering.{few_names, same_taken, run_may, run_makes}
+use Rattle.system.proofs.Layering.{few_names, run_may, run_makes}
 use Rattle.system.specs.Halves.{Makes}
 use Rattle.system.specs.Outcomes.{most_of}
 use Rattle.system.specs.declared.effect.Effect.TheVariants.{Ran}
@@ -12,10 +12,8 @@ use Rattle.system.proofs.halves.Halves.run.Goals as goal
 
 pub note_starved-requires-clause-none : goal.note_starved-requires-clause-none
 note_starved-requires-clause-none g c =
-    let same = same_taken c.args.self.now.stage c.in-Taken.taken c.in-Taken-replace.layer c.in-Taken.is
-    (sym c.replace.ensures.value ∙ c.in-Taken-replace.is) in
-    let most = ap most_of same in
-    let few = few_names c.args.self.now.back c.run.new.self c.as_slice.result.now c.in-Taken-replace.layer c.hand_over-done.result
+    let few = few_names c.args.self.now.back c.run.new.self c.as_slice.result.now c.args.self.now.stage c.in-Taken.taken
+    c.in-Taken-replace.layer c.hand_over-done.result c.in-Taken.is (sym c.replace.ensures.value ∙ c.in-Taken-replace.is)
     c.in-Ok.ensures.run c.hand_over-done.ensures.given in
     let count = c.in-Some.ensures in
     let jobs = ap most_of c.jobs.ensures.jobs in
@@ -24,10 +22,8 @@ note_starved-requires-clause-none g c =
 
 pub note_starved-requires-clause-room : goal.note_starved-requires-clause-room
 note_starved-requires-clause-room g c =
-    let same = same_taken c.args.self.now.stage c.in-Taken.taken c.in-Taken-replace.layer c.in-Taken.is
-    (sym c.replace.ensures.value ∙ c.in-Taken-replace.is) in
-    let most = ap most_of same in
-    let few = few_names c.args.self.now.back c.run.new.self c.as_slice.result.now c.in-Taken-replace.layer c.hand_over-done.result
+    let few = few_names c.args.self.now.back c.run.new.self c.as_slice.result.now c.args.self.now.stage c.in-Taken.taken
+    c.in-Taken-replace.layer c.hand_over-done.result c.in-Taken.is (sym c.replace.ensures.value ∙ c.in-Taken-replace.is)
     c.in-Ok.ensures.run c.hand_over-done.ensures.given in
     let count = c.in-Some.ensures in
     let jobs = ap most_of c.jobs.ensures.jobs in

@@ -1,18 +1,14 @@
 use Rattle.std.proofs.Common.{subst}
 use Rattle.placement.specs.Layout.{Layout}
 use Rattle.shards.specs.Joined.{HasOwnKeys}
+use Rattle.system.proofs.Lasting.{seen}
 use Rattle.system.specs.Laws.{ShowsSome, OfItsWorlds, OthersKeepStill, CollectedOnce, CollectsItsOwn}
 use Rattle.system.specs.Reads.{table_of, maps_of}
 use Rattle.system.specs.System.{SystemView}
-use Rattle.system.specs.declared.system.System.TheInside.{Inside}
 use Rattle.world.specs.World.{World}
-use Rattle.world_laws.specs.Order.{OfEveryWorld, FinalsAgree, FinalsDiffer, ConnectionsRise, GroupsAreOfTasks}
-use Rattle.world_laws.specs.Order.{PacketsAreAddressed, LogsAreAddressed, ReadyInWords, LinedUpInWords, EndedOnce, EndedAsSubmitted}
-use Rattle.world_laws.specs.Order.{TouchingInStampOrder}
+use Rattle.world_laws.specs.Order.{OfEveryWorld, FinalsAgree, FinalsDiffer, ConnectionsRise, GroupsAreOfTasks, PacketsAreAddressed}
+use Rattle.world_laws.specs.Order.{LogsAreAddressed, ReadyInWords, LinedUpInWords, EndedOnce, EndedAsSubmitted, TouchingInStampOrder}
 use Rattle.system.proofs.system.System.order.Goals as goal
-
-abbrev was : Inside → SystemView
-was inside = record { max_steps = inside.max_steps; steps = inside.steps; halves = inside.halves }
 
 -- what holds of every world holds of those that a system shows
 of_its : (P : Layout → World → Type 0) (s : SystemView) → OfEveryWorld P → OfItsWorlds P s
@@ -20,7 +16,7 @@ of_its P s law h w at' = law (table_of s) h w at'.leads
 
 pub returns : goal.returns
 returns c =
-    let s = was c.self.inside in
+    let s = seen c.self.inside in
     let law = c.order_of_requests.ensures in
     let told = c.collecting_of_outcomes.ensures in record {
       shows = subst ShowsSome c.self.view_is c.self.invariant.shows;

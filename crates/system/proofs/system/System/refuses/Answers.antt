@@ -1,19 +1,17 @@
 use Rattle.std.proofs.Common.{false, sym, subst}
 use Rattle.std.specs.Prelude.{IfSome, IfNone}
-use Rattle.system.proofs.Lasting.{refused_still}
-use Rattle.front.proofs.Refusals.{some_of, none_of}
-use Rattle.system.specs.System.{SystemView, MayGoOn, IsAdmitted, IsRefused}
-use Rattle.system.specs.declared.system.System.TheInside.{Inside}
+use Rattle.system.proofs.Lasting.{refused_still, seen}
+use Rattle.std.proofs.lemmas.Option.{IfSome_then}
+use Rattle.front.proofs.Refusals.{none_of}
+use Rattle.system.specs.System.{MayGoOn, IsAdmitted, IsRefused}
 use Rattle.system.proofs.system.System.refuses.Goals as goal
-
-abbrev was : Inside → SystemView
-was inside = record { max_steps = inside.max_steps; steps = inside.steps; halves = inside.halves }
 
 pub returns-in-None-clause-some : goal.returns-in-None-clause-some
 returns-in-None-clause-some c =
     let may = subst MayGoOn (sym c.self.view_is) c.in-None.ensures.none in
     subst (λ s. IfSome c.own_fault.result (λ fault. IsRefused false s c.args.step.now fault s)) c.self.view_is
-    (some_of _ _ c.own_fault.result (λ fault why. refused_still (was c.self.inside) c.args.step.now fault may why) c.own_fault.ensures.some)
+    (IfSome_then c.own_fault.result c.own_fault.ensures.some
+    (λ fault why. refused_still (seen c.self.inside) c.args.step.now fault may why))
 
 pub returns-in-None-clause-none : goal.returns-in-None-clause-none
 returns-in-None-clause-none c =

@@ -1,17 +1,9 @@
-use Rattle.std.proofs.Common.{rules, ◌≡◌, List, [], ◌∷◌, length, inl, inr, refl, sym, ap, ◌∙◌, subst, arith}
-use Rattle.journal.specs.declared.step.Step.{Step}
-use Rattle.system.proofs.Lasting.{obeys}
+use Rattle.std.proofs.Common.{rules, [], length, inl, inr, refl, sym, ap, ◌∙◌, subst}
+use Rattle.std.proofs.lemmas.List.{nil_from_length}
+use Rattle.system.proofs.Lasting.{obeys, seen}
 use Rattle.system.proofs.Runs.{IsUpTo, up_to_next, runs_all, runs_to, refused_at_once}
-use Rattle.system.specs.System.{SystemView, ObeysOneThread}
-use Rattle.system.specs.declared.system.System.TheInside.{Inside}
+use Rattle.system.specs.System.{ObeysOneThread}
 use Rattle.system.proofs.system.System.run.Goals as goal
-
-abbrev was : Inside → SystemView
-was inside = record { max_steps = inside.max_steps; steps = inside.steps; halves = inside.halves }
-
-none_left : (steps : List Step) → length steps ≡ 0 → steps ≡ []
-none_left [] none = refl
-none_left (step ∷ steps) none = absurd (omega arith)
 
 pub returns-in_default-clause-runs : goal.returns-in_default-clause-runs
 returns-in_default-clause-runs g c = inr (record {
@@ -25,7 +17,7 @@ returns-in_default-clause-runs g c = inr (record {
 
 pub returns-in_default-clause-one_thread : goal.returns-in_default-clause-one_thread
 returns-in_default-clause-one_thread g c =
-    subst ObeysOneThread c.self.view_is (obeys (was c.self.inside) c.self.invariant.is_table)
+    subst ObeysOneThread c.self.view_is (obeys (seen c.self.inside) c.self.invariant.is_table)
 
 pub returns-then-is_err-clause-runs : goal.returns-then-is_err-clause-runs
 returns-then-is_err-clause-runs g c =
@@ -35,13 +27,13 @@ returns-then-is_err-clause-runs g c =
 
 pub returns-then-is_err-clause-one_thread : goal.returns-then-is_err-clause-one_thread
 returns-then-is_err-clause-one_thread g c =
-    subst ObeysOneThread c.self.view_is (obeys (was c.self.inside) c.self.invariant.is_table)
+    subst ObeysOneThread c.self.view_is (obeys (seen c.self.inside) c.self.invariant.is_table)
 
 pub loop-step-init : goal.loop-step-init
 loop-step-init g c = (
   record { made = []; split = search rules; are_made = (c.reserve.ensures.items ∙ c.new-effects.ensures.items, refl) },
   search rules,
-  subst ObeysOneThread c.self.view_is (obeys (was c.self.inside) c.self.invariant.is_table),
+  subst ObeysOneThread c.self.view_is (obeys (seen c.self.inside) c.self.invariant.is_table),
 )
 
 pub loop-step-preserved : goal.loop-step-preserved
@@ -69,7 +61,7 @@ returns-in-Err-clause-runs g c =
 
 pub returns-clause-runs : goal.returns-clause-runs
 returns-clause-runs g c =
-    let none = none_left c.loop-step.step-iterator.rest.items (search rules) in
+    let none = nil_from_length c.loop-step.step-iterator.rest.items (search rules) in
     inl (runs_all (g.W.Workers.may_refuse c.args.workers.now) c.args.self.now c.loop-step.self c.args.steps.items c.loop-step.effects.items
     (subst (λ rest. IsUpTo c.args.self.now c.args.steps.items c.loop-step.effects.items rest c.loop-step.self) none
     c.loop-step.invariant.0))

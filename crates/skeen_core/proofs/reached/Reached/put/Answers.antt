@@ -4,7 +4,7 @@ use Rattle.std.specs.FinMap.{get, insert}
 use Rattle.skeen_core.specs.Group.{or_zero}
 use Rattle.skeen_core.specs.Reached.{ReachedView}
 use Rattle.skeen_core.proofs.Numbers.{get_shown, put_shown}
-use Rattle.skeen_core.proofs.reached.Reached.deliver.Goals as goal
+use Rattle.skeen_core.proofs.reached.Reached.put.Goals as goal
 
 pub returns-in-Some-clause-numbers : goal.returns-in-Some-clause-numbers
 returns-in-Some-clause-numbers c =
@@ -32,3 +32,12 @@ returns-clause-numbers c =
     ∙ ap (λ m. cond (conn == q) (Some c.args.id.seq) (lookup (λ k. q == k) m.entries)) c.get_mut.follows.holds-at-none)
     ∙ ap (λ (r : ReachedView). insert r.numbers conn c.args.id.seq) c.self.view_is
     ∙ ap (insert numbers conn) (first ∙ ap (λ o. max (or_zero o) c.args.id.seq) (sym was))
+
+-- where a number was there it was found
+pub returns-in_default-insert-clause-succeeds_again : goal.returns-in_default-insert-clause-succeeds_again
+returns-in_default-insert-clause-succeeds_again c = λ known.
+    let conn = c.args.id.conn.0 in
+    let was : get c.args.self.now.numbers conn ≡ None =
+    sym (ap (λ (r : ReachedView). get r.numbers conn) c.self.view_is) ∙ get_shown c.self.inside.numbers.entries conn
+    ∙ sym c.in_default.ensures.value in
+    absurd (let some = subst IsSome was known in cc)
