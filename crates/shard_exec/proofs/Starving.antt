@@ -221,7 +221,7 @@ items_later n j js e es (i ∷ is) (t ∷ ts) (r ∷ rs) above z =
 
 -- what a request left
 left_is : (skip : List SkipId) (t : PlacedJob) (u : Map) (r : JobRan) (mid : Map) → HasRunOn skip t u r mid →
-  mid ≡ left_by t.job.asked.batch u (outcome r.reply)
+    mid ≡ left_by t.job.asked.batch u (outcome r.reply)
 left_is skip t u r mid run = by_outcome (outcome r.reply) run.ran
   where
     by_outcome : (o : Option Content) → MapRan t.job.asked.batch u o mid → mid ≡ left_by t.job.asked.batch u o

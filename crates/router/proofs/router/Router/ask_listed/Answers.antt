@@ -18,7 +18,7 @@ returns-in_err-told-clause-unchanged c =
     let there : lookup (is_at (nat_cmp n)) lists ≡ Some c.ask.new.self = search rules in
     let same = (c.get_mut.follows.holds c.ask.new.self).0 ∙ set_value_same (is_at (nat_cmp n)) lists c.ask.new.self there in
     let view = λ (ls : List (ℕ × ListView)).
-      let v : RouterView = record { opened = c.self.inside.opened; kept = c.self.inside.kept.entries; lists = ls } in v in
+    let v : RouterView = record { opened = c.self.inside.opened; kept = c.self.inside.kept.entries; lists = ls } in v in
     rw e.1 (ap view same ∙ c.self.view_is)
 
 pub returns-clause-sessions : goal.returns-clause-sessions
