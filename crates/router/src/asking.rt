@@ -1,6 +1,9 @@
 //! What comes of a request: how its connection stands, and the groups that it addresses.
 
-ghost use Rattle.std.specs.Prelude.{◌≡◌, ◌<◌, length, None, Ok, IfOk, IfErr};
+ghost use Rattle.std.specs.Prelude.{◌≡◌, ◌<◌, length, true, None, Ok, IfOk, IfErr};
+ghost use Rattle.command_table.specs.Reading.{reading};
+ghost use Rattle.command_table.specs.declared.command.Command.TheVariants.{Local};
+ghost use Rattle.command_table.specs.declared.local_commands.LocalCommand.TheVariants.{Ping};
 ghost use Rattle.tasks.specs.AtOnce.{IsKeyedBatch};
 ghost use Rattle.router.specs.Submitting.{TellsOf};
 ghost use Rattle.sessions.specs.declared.batch.Batch.TheVariants.{Exec};
@@ -12,13 +15,14 @@ ghost use Rattle.worded.specs.Reading.{members_of};
 
 use super::connection::Standing;
 use super::outcome::Outcome;
+use command_table::LocalCommand;
 use groups::{Groups, RequestId};
 use packing::{PackedList, PackedRequest};
 use placement::Table;
 use resp::{Reply, Request};
 use sessions::{Batch, Members};
 use std::alloc::{AllocError, Global};
-use tasks::{answer_at_once, task_groups};
+use tasks::{answer_at_once, local, task_groups};
 use worded::{Worded, WordedFault};
 
 /// What comes of a request outside a list, which is none of the three names of a list: refused words and commands that look
@@ -32,6 +36,10 @@ pub(super) fn ask_plain(
     requires { control_in words ≡ None }
     ensures { IfOk result (TellsOf table.now id (asks Free words).1) }
 {
+    if is_ping(&words) {
+        let reply = local(LocalCommand::Ping { word: None });
+        return Ok((answered(id, reply), Groups::empty()));
+    }
     match Worded::read(alloc, words) {
         Ok(asked) => match ask_task(alloc, table, id, asked) {
             Ok(told) => Ok(told),
@@ -43,6 +51,13 @@ pub(super) fn ask_plain(
         }
         Err(WordedFault::Memory) => Err(AllocError),
     }
+}
+
+/// Whether these words are PING alone, by which clients see that a server is there: neither a copy of them nor a command is made for it.
+fn is_ping(words: &Request) -> bool
+    ensures { result ≡ true → reading words.now ≡ Ok (Local (Ping None)) }
+{
+    words.len() == 1 && words.word(0).eq_ignore_ascii_case(b"ping")
 }
 
 /// What comes of an EXEC whose members have these words: members that look at no key are answered, and others wait. Where
