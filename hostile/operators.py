@@ -111,7 +111,7 @@ def ended_in_work(tries, workers, how):
     last one whole unless the connection ended there; the store has them all; the trace agrees; the status is 0."""
     trace = tries.file("work.trace")
     with tries.serve("--workers", workers, "--trace", trace) as server:
-        clients = [Client(server.port) for _ in range(CLIENTS)]
+        clients = [Client(server.port, timeout=60.0) for _ in range(CLIENTS)]
         for number, client in enumerate(clients):
             client.stream.sendall(request(b"INCR", b"counter%d" % number) * EACH)
         os.kill(server.process.pid, how)

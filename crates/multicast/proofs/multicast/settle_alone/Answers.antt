@@ -2,7 +2,6 @@ use Rattle.std.proofs.Common.{rules, ◌≡◌, ◌<◌, ◌≤◌, ◌==◌, tr
 use Rattle.std.proofs.lemmas.Bool.{or_left}
 use Rattle.groups.specs.GroupSet.{has}
 use Rattle.multicast.proofs.Groups.{state_at}
-use Rattle.multicast.specs.Multicast.{group_of}
 use Rattle.skeen_core.specs.Group.{GroupState}
 use Rattle.multicast.proofs.multicast.settle_alone.Goals as goal
 use Rattle.multicast.proofs.multicast.settle_alone.Goals.{After-from}

@@ -5,7 +5,6 @@ use Rattle.placement.proofs.Addressed.{chosen-none}
 use Rattle.router.specs.Submitting.{TellsOf}
 use Rattle.sessions.specs.Session.{Answer, plain}
 use Rattle.sessions.specs.declared.batch.Batch.TheVariants.{Plain}
-use Rattle.sessions.specs.declared.session.Session.TheVariants.{Free}
 use Rattle.router.proofs.Queuing.{plain_asked}
 use Rattle.router.proofs.Standings.{at_once, told_at_once}
 use Rattle.router.proofs.asking.ask_plain.Goals as goal
