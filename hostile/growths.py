@@ -9,8 +9,9 @@ that block and all behind it, or, of a server, those of a streak.
 - `solo`: each reply is the error line for want of memory, or what a store answers that is asked the other requests alone; so too each
   place of EXEC's array.
   Where the store ends for want of memory, its replies are the beginning of such a list.
-- `server`, with one worker and with two: so too, over two connections, one of which may be refused or ended, with its list; and where a
-  trace was written, a replay of it agrees, and has a row for each request that was answered by its shards.
+- `server`, with one worker and with two, and without a trace, where a request that is alone is handed out at once: so too, over two
+  connections, one of which may be refused or ended, with its list; and where a trace was written, a replay of it agrees, and has a row
+  for each request that was answered by its shards.
 - `replay` and `picture`: the whole output and its status, or the status for want of memory (or for a thread).
 
 The line of each says how far N went and how many runs met a refusal; the last one is `N passed, M failed`.
@@ -268,15 +269,16 @@ def replayed(programs, trace, workers):
     return [] if ran.returncode == 0 and ran.stdout.endswith(b"agree\n") else [f"the replay ended by {ran.returncode}: {ran.stderr}"]
 
 
-def server(programs, plain, workers):
+def server(programs, plain, workers, traced=True):
     trace = programs.file("run.trace")
+    tracing = ["--trace", trace] if traced else []
     asked = [(who, requests(line)[0]) for who, line in SERVER]
 
     def run(which):
         for left in (trace, trace + ".part"):
             if os.path.exists(left):
                 os.remove(left)
-        with Server(programs.path("server"), TABLE, "--workers", str(workers), "--connections", "5", "--trace", trace,
+        with Server(programs.path("server"), TABLE, "--workers", str(workers), "--connections", "5", *tracing,
                     env=programs.refusing(which)) as begun:
             asking = Asking(begun.port)
             if begun.port is not None:
@@ -288,7 +290,7 @@ def server(programs, plain, workers):
         wrong = min((plain.faults(*without_starved_members(*zip(*pairs))) for pairs in may_be if pairs), key=len, default=[])
         if status not in (0, *STATUSES["server"]):
             wrong.append(f"status {status}: {said}{told}")
-        if status == 0 or os.path.exists(trace):
+        if traced and (status == 0 or os.path.exists(trace)):
             wrong += replayed(programs, trace, workers)
         return wrong
     return each_refusal(programs, run, ALONE, STREAKS)
@@ -309,6 +311,7 @@ def cases(programs):
         yield f"picture {name}", lambda trace=trace: whole_or_refused(programs, "picture", trace)
     for workers in (1, 2):
         yield f"server {workers}", lambda workers=workers: server(programs, plain, workers)
+    yield "server untraced", lambda: server(programs, plain, 1, traced=False)
 
 
 def main():
