@@ -1,9 +1,14 @@
 -- A trace's text as it is put, piece by piece.
-use Rattle.std.proofs.Common.{◌≡◌, ℕ, List, [], ◌∷◌, ◌++◌, length, map, refl, ap, ◌∙◌, codes}
+use Rattle.std.proofs.Common.{◌≡◌, ◌≢◌, ℕ, ◌+◌, ◌-◌, ◌<◌, List, [], ◌∷◌, ◌++◌, length, map, take, refl, sym, ap, ◌∙◌, codes}
+use Rattle.std.specs.Prelude.{◌/◌, ◌%◌, slice_index}
 use Rattle.std.specs.Fmt.{decimal}
 use Rattle.std.specs.List.{flat_map}
-use Rattle.std.proofs.lemmas.List.{append_assoc, append-nil}
+use Rattle.std.proofs.lemmas.List.{append_assoc, append-nil, take_more}
 use Rattle.std.proofs.lemmas.List.Concat.{flat_map-append}
+use Rattle.hex.specs.Hex.{encode_lower, encode_with, lower_digits}
+use Rattle.packing.specs.Codes.{many, number_at, word_at, words_at}
+use Rattle.journal.specs.Codes.{run_at, skip_at, skips_at, submit_at, submit_of}
+use Rattle.packing.specs.CodeLaws.{many_one, length-many}
 use Rattle.groups.specs.declared.request.ConnId.{ConnId}
 use Rattle.groups.specs.declared.skip_id.SkipId.{SkipId}
 use Rattle.journal.specs.declared.step.Step.{Step}
@@ -33,6 +38,62 @@ trace-written max steps =
     (flat_map-append ended (map step_line steps) (end_line (length steps) ∷ [])
     ∙ ap (λ c. c ++ (ended (end_line (length steps)) ++ [])) (flat_map-map ended step_line steps)
     ∙ ap (λ c. flat_map (λ step. ended (step_line step)) steps ++ c) (append-nil (ended (end_line (length steps)))))
+
+-- what is read of bytes is put, one behind another: what was put, and what is left, stay all
+pub put_more : {A : Type 0} (text : A → List ℕ) (at : List ℕ → A × List ℕ) (n i : ℕ) (rest before all : List ℕ) → i < n
+    → before ++ flat_map text (many at (n - i) rest).0 ≡ all
+    → (before ++ text (at rest).0) ++ flat_map text (many at (n - (i + 1)) (at rest).1).0 ≡ all
+put_more text at n i rest before all less is =
+    append_assoc before (text (at rest).0) (flat_map text (many at (n - (i + 1)) (at rest).1).0)
+    ∙ ap (λ l. before ++ l) (sym (ap (flat_map text) (many_one at n i rest less).0)) ∙ is
+
+pub run_at-is : (bytes : List ℕ) → run_at bytes ≡
+    (Run (many skip_at (number_at bytes).0 (number_at bytes).1).0, (many skip_at (number_at bytes).0 (number_at bytes).1).1)
+unfolding run_at skips_at
+run_at-is bytes = refl
+
+-- what so many bytes say that count no word, and what those say that count some
+module _ (bytes : List ℕ) where
+  abbrev conn : ℕ
+  conn = (number_at bytes).0
+
+  abbrev count : ℕ
+  count = (number_at (number_at bytes).1).0
+
+  abbrev words : List (List ℕ) × List ℕ
+  words = many word_at count (number_at (number_at bytes).1).1
+
+  pub submit_at-rest : (submit_at bytes).1 ≡ words.1
+  unfolding submit_at words_at
+  submit_at-rest = refl
+
+  pub submit_at-none : count ≡ 0 → ended (step_line (submit_at bytes).0) ≡ codes "open\n"
+  unfolding submit_at words_at
+  submit_at-none none = rw none refl
+
+  pub submit_at-some : count ≢ 0 → ended (step_line (submit_at bytes).0) ≡ codes "submit " ++
+      (decimal conn ++ (flat_map (λ word. 32 ∷ word_text word) words.0 ++ 10 ∷ []))
+  unfolding submit_at words_at
+  submit_at-some some = by_words words.0 (λ none. some (sym (length-many word_at count (number_at (number_at bytes).1).1) ∙ ap length none))
+    where
+      by_words : (ws : List (List ℕ)) → ws ≢ [] → ended (step_line (submit_of conn ws)) ≡ codes "submit " ++
+          (decimal conn ++ (flat_map (λ word. 32 ∷ word_text word) ws ++ 10 ∷ []))
+      by_words [] some = absurd (some refl)
+      by_words (w ∷ ws) some = submit-written (record { 0 = conn }) (w ∷ ws)
+
+pub encode-none : encode_lower [] ≡ []
+unfolding encode_with
+encode-none = refl
+
+encode-append : (front : List ℕ) (byte : ℕ) → encode_lower (front ++ byte ∷ []) ≡ encode_lower front ++ encode_lower (byte ∷ [])
+unfolding encode_with
+encode-append [] byte = refl
+encode-append (b ∷ bs) byte = ap (λ l. slice_index lower_digits (b / 16) ∷ slice_index lower_digits (b % 16) ∷ l) (encode-append bs byte)
+
+-- bytes in hexadecimal, one more
+pub encode_more : (bytes : List ℕ) (i : ℕ) → i < length bytes
+    → encode_lower (take (i + 1) bytes) ≡ encode_lower (take i bytes) ++ encode_lower (slice_index bytes i ∷ [])
+encode_more bytes i less = rw (take_more bytes i 0 less) (encode-append (take i bytes) (slice_index bytes i))
 
 -- texts that were put one behind another
 pub in-turn : (before first second third last : List ℕ)

@@ -17,21 +17,21 @@ use std::alloc::{AllocError, Global};
 /// The byte that begins a step of each kind.
 const OPEN: u8 = 0;
 
-const SUBMIT: u8 = 1;
+pub(super) const SUBMIT: u8 = 1;
 
-const DELIVER: u8 = 2;
+pub(super) const DELIVER: u8 = 2;
 
-const TAKE: u8 = 3;
+pub(super) const TAKE: u8 = 3;
 
-const RUN: u8 = 4;
+pub(super) const RUN: u8 = 4;
 
-const SETTLE: u8 = 5;
+pub(super) const SETTLE: u8 = 5;
 
-const COLLECT: u8 = 6;
+pub(super) const COLLECT: u8 = 6;
 
-const CLOSE: u8 = 7;
+pub(super) const CLOSE: u8 = 7;
 
-const REPEAT: u8 = 8;
+pub(super) const REPEAT: u8 = 8;
 
 /// The greatest number of bytes of a row's numbers.
 pub const GREATEST_HEAD: usize = 45;
@@ -110,7 +110,7 @@ pub fn take_id(bytes: &[u8]) -> (RequestId, &[u8])
 
 /// The name at the front of the bytes, and the bytes behind it.
 #[tactic(auto, unfolding(crate::specs::Codes::skip_at))]
-fn take_skip(bytes: &[u8]) -> (SkipId, &[u8])
+pub(super) fn take_skip(bytes: &[u8]) -> (SkipId, &[u8])
     ensures name { result.0 ≡ (skip_at bytes.now).0 }
     ensures rest { result.1.now ≡ (skip_at bytes.now).1 }
 {

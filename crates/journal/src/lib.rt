@@ -6,6 +6,7 @@
 #![tactic(auto)]
 
 mod codes;
+mod digits;
 mod fault;
 mod laws;
 mod lines;

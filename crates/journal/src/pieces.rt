@@ -5,7 +5,7 @@ ghost use Rattle.journal.specs.TraceText.{head_text, lines_text, ended, end_line
 
 use super::trace::Steps;
 use super::version::WRITTEN_VERSION;
-use super::writer::{put_numbered, put_steps};
+use super::writer::put_numbered;
 use std::alloc::AllocError;
 
 /// Appends what stands before the steps of a trace: the version of its text, and at most how many steps may be made.
@@ -27,7 +27,7 @@ pub fn write_lines(steps: Steps<'_>, out: &mut Vec<u8>) -> Result<(), AllocError
     ensures err { OnErr result (out.new.items ≡ out.old.items) }
 {
     let start = out.len();
-    let written = put_steps(*out.allocator(), steps, out);
+    let written = steps.put_lines(out);
     if written.is_err() {
         out.truncate(start);
     }

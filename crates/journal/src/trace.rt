@@ -1,13 +1,15 @@
 //! The steps that were made, in order, to be made again by whoever has them.
 
-ghost use Rattle.std.specs.Prelude.{◌≡◌, ◌+◌, ◌≤◌, ◌<◌, ◌^◌, ◌++◌, List, [], ◌∷◌, length, OnOk, OnErr, IfOk, IsOk};
+ghost use Rattle.std.specs.Prelude.{◌≡◌, ◌+◌, ◌≤◌, ◌<◌, ◌^◌, ◌++◌, ℕ, List, [], ◌∷◌, length, OnOk, OnErr, IfOk, IsOk};
 ghost use Rattle.std.specs.Prelude.{MatchOption};
 ghost use Rattle.std.specs.List.{AllByRecursion};
 ghost use Rattle.journal.specs.Codes.{step_size, steps_size, StepFits};
+ghost use Rattle.journal.specs.TraceText.{lines_text};
 ghost use Rattle.journal.specs.declared.step.Step.{Step};
 
 use super::codes::{put_step, reserve_step, take_step};
 use super::step::Step;
+use super::writer::put_line;
 use packing::grow;
 use std::alloc::{AllocError, Global};
 use std::marker::Model;
@@ -208,5 +210,18 @@ impl<'a> Steps<'a> {
         self.left -= 1;
         self.bytes = rest;
         Ok(Some(step))
+    }
+
+    /// Appends a line for each step that is left, or some of that where there is no memory for all.
+    pub(super) fn put_lines(self, out: &mut Vec<u8>) -> Result<(), AllocError>
+        ensures ok { OnOk result (out.new.items ≡ out.old.items ++ lines_text self.entry) }
+        ensures err { OnErr result ((more : List ℕ) × (out.new.items ≡ out.old.items ++ more)) }
+    {
+        let Steps { left, bytes } = self;
+        let mut rest = bytes;
+        for _ in 0..left {
+            rest = put_line(rest, out)?;
+        }
+        Ok(())
     }
 }

@@ -1,16 +1,19 @@
 //! Writing a trace's text.
 
-ghost use Rattle.std.specs.Prelude.{◌≡◌, ℕ, [], ◌∷◌, ◌++◌, List, OnOk, OnErr, decimal};
+ghost use Rattle.std.specs.Prelude.{◌≡◌, ℕ, [], ◌∷◌, ◌++◌, List, IfOk, OnOk, OnErr, decimal};
 ghost use Rattle.std.specs.List.{flat_map};
+ghost use Rattle.packing.specs.Codes.{many, number_at, word_at};
+ghost use Rattle.journal.specs.Codes.{run_at, skip_at, step_at, submit_at};
 ghost use Rattle.journal.specs.TraceText.{word_text, id_text, skip_text, step_line, ended, trace_text, Spells};
 
-use super::step::Step;
-use super::trace::{Steps, Trace};
+use super::codes::{CLOSE, COLLECT, DELIVER, REPEAT, RUN, SETTLE, SUBMIT, TAKE, take_skip};
+use super::digits::put_hex;
+use super::trace::Trace;
 use super::version::WRITTEN_VERSION;
 use groups::{RequestId, SkipId};
 use itoa::Buffer;
-use resp::Request;
-use std::alloc::{AllocError, Global};
+use packing::{take_number, take_word};
+use std::alloc::AllocError;
 
 /// Appends the trace's text, which spells the trace. With `AllocError`, where there is no memory for all of it, `out`
 /// is as it was.
@@ -33,54 +36,87 @@ fn put_trace(trace: &Trace, out: &mut Vec<u8>) -> Result<(), AllocError>
     ensures spells { OnOk result (Spells (trace_text trace.now.max trace.now.steps) trace.now.max trace.now.steps) }
     ensures err { OnErr result ((more : List ℕ) × (out.new.items ≡ out.old.items ++ more)) }
 {
-    let alloc = *out.allocator();
     put_numbered(b"shardkv-trace ", WRITTEN_VERSION, out)?;
     put_numbered(b"max ", trace.max(), out)?;
-    put_steps(alloc, trace.steps(), out)?;
+    trace.steps().put_lines(out)?;
     put_numbered(b"end ", trace.len() as u64, out)
 }
 
-/// Appends a line for each step.
-pub(super) fn put_steps(
-    alloc: Global,
-    mut steps: Steps<'_>,
-    out: &mut Vec<u8>,
-) -> Result<(), AllocError>
-    ensures ok { OnOk result (out.new.items ≡ out.old.items ++ flat_map (λ step. ended (step_line step)) steps.entry) }
+/// Appends the line of the step at the front of the bytes, and gives the bytes behind it.
+#[tactic(auto, unfolding(crate::specs::Codes::step_at, crate::specs::Codes::step_of, crate::specs::Codes::deliver_at, crate::specs::Codes::collect_at, crate::specs::Codes::close_at, crate::specs::Codes::repeat_at))]
+pub(super) fn put_line<'a>(bytes: &'a [u8], out: &mut Vec<u8>) -> Result<&'a [u8], AllocError>
+    ensures ok { OnOk result (out.new.items ≡ out.old.items ++ ended (step_line (step_at bytes.now).0)) }
+    ensures rest { IfOk result (λ rest. rest.now ≡ (step_at bytes.now).1) }
     ensures err { OnErr result ((more : List ℕ) × (out.new.items ≡ out.old.items ++ more)) }
 {
-    while let Some(step) = steps.next(alloc)? {
-        put_step(alloc, &step, out)?;
+    match bytes {
+        [SUBMIT, rest @ ..] => put_submit(rest, out),
+        [DELIVER, rest @ ..] => put_number_at(b"deliver ", rest, out),
+        [TAKE, rest @ ..] => put_name(b"take\n", rest, out),
+        [RUN, rest @ ..] => put_run(rest, out),
+        [SETTLE, rest @ ..] => put_name(b"settle\n", rest, out),
+        [COLLECT, rest @ ..] => put_number_at(b"collect ", rest, out),
+        [CLOSE, rest @ ..] => put_number_at(b"close ", rest, out),
+        [REPEAT, rest @ ..] => put_number_at(b"repeat ", rest, out),
+        [_, rest @ ..] => put_name(b"open\n", rest, out),
+        [] => put_name(b"open\n", bytes, out),
     }
-    Ok(())
 }
 
-/// Appends a step's line.
-fn put_step(alloc: Global, step: &Step, out: &mut Vec<u8>) -> Result<(), AllocError>
-    ensures ok { OnOk result (out.new.items ≡ out.old.items ++ ended (step_line step.now)) }
+/// Appends a line that is a name alone, of a step behind which these bytes stand.
+fn put_name<'a>(line: &[u8], rest: &'a [u8], out: &mut Vec<u8>) -> Result<&'a [u8], AllocError>
+    ensures ok { OnOk result (out.new.items ≡ out.old.items ++ line.now) }
+    ensures rest { IfOk result (λ left. left.now ≡ rest.now) }
+    ensures err { OnErr result (out.new.items ≡ out.old.items) }
+{
+    out.extend_from_slice(line)?;
+    Ok(rest)
+}
+
+/// Appends a line of a name, with its space, and the number at the front of the bytes, and gives the bytes behind it.
+fn put_number_at<'a>(
+    name: &[u8],
+    bytes: &'a [u8],
+    out: &mut Vec<u8>,
+) -> Result<&'a [u8], AllocError>
+    ensures ok { OnOk result (out.new.items ≡ out.old.items ++ ended (name.now ++ decimal (number_at bytes.now).0)) }
+    ensures rest { IfOk result (λ rest. rest.now ≡ (number_at bytes.now).1) }
     ensures err { OnErr result ((more : List ℕ) × (out.new.items ≡ out.old.items ++ more)) }
 {
-    match step {
-        Step::Open => out.extend_from_slice(b"open\n")?,
-        Step::Submit { conn, words } => {
-            out.extend_from_slice(b"submit ")?;
-            out.extend_from_slice(Buffer::new().format(conn.0).as_bytes())?;
-            put_words(alloc, words, out)?;
-            out.extend_from_slice(b"\n")?;
-        }
-        Step::Deliver { place } => put_numbered(b"deliver ", *place, out)?,
-        Step::Take => out.extend_from_slice(b"take\n")?,
-        Step::Run { starved } => {
-            out.extend_from_slice(b"run")?;
-            put_skips(starved.as_slice(), out)?;
-            out.extend_from_slice(b"\n")?;
-        }
-        Step::Settle => out.extend_from_slice(b"settle\n")?,
-        Step::Collect { conn } => put_numbered(b"collect ", conn.0, out)?,
-        Step::Close { conn } => put_numbered(b"close ", conn.0, out)?,
-        Step::Repeat { place } => put_numbered(b"repeat ", *place, out)?,
+    let (number, rest) = take_number(bytes);
+    put_numbered(name, number, out)?;
+    Ok(rest)
+}
+
+/// Appends the line of the Submit behind whose kind these bytes stand, and gives the bytes behind it.
+fn put_submit<'a>(bytes: &'a [u8], out: &mut Vec<u8>) -> Result<&'a [u8], AllocError>
+    ensures ok { OnOk result (out.new.items ≡ out.old.items ++ ended (step_line (submit_at bytes.now).0)) }
+    ensures rest { IfOk result (λ rest. rest.now ≡ (submit_at bytes.now).1) }
+    ensures err { OnErr result ((more : List ℕ) × (out.new.items ≡ out.old.items ++ more)) }
+{
+    let (conn, rest) = take_number(bytes);
+    let (count, rest) = take_number(rest);
+    if count == 0 {
+        return put_name(b"open\n", rest, out);
     }
-    Ok(())
+    out.extend_from_slice(b"submit ")?;
+    out.extend_from_slice(Buffer::new().format(conn).as_bytes())?;
+    let rest = put_words(count, rest, out)?;
+    out.push(b'\n')?;
+    Ok(rest)
+}
+
+/// Appends the line of the Run behind whose kind these bytes stand, and gives the bytes behind it.
+fn put_run<'a>(bytes: &'a [u8], out: &mut Vec<u8>) -> Result<&'a [u8], AllocError>
+    ensures ok { OnOk result (out.new.items ≡ out.old.items ++ ended (step_line (run_at bytes.now).0)) }
+    ensures rest { IfOk result (λ rest. rest.now ≡ (run_at bytes.now).1) }
+    ensures err { OnErr result ((more : List ℕ) × (out.new.items ≡ out.old.items ++ more)) }
+{
+    out.extend_from_slice(b"run")?;
+    let (count, rest) = take_number(bytes);
+    let rest = put_skips(count, rest, out)?;
+    out.push(b'\n')?;
+    Ok(rest)
 }
 
 /// Appends a line of a name, with its space, and a number.
@@ -94,19 +130,24 @@ pub(super) fn put_numbered(name: &[u8], number: u64, out: &mut Vec<u8>) -> Resul
     Ok(())
 }
 
-/// Appends the words, each behind a space.
-fn put_words(alloc: Global, words: &Request, out: &mut Vec<u8>) -> Result<(), AllocError>
-    ensures ok { OnOk result (out.new.items ≡ out.old.items ++ flat_map (λ word. 32 ∷ word_text word) words.now) }
+/// Appends so many words at the front of the bytes, each behind a space, and gives the bytes behind them.
+fn put_words<'a>(count: u64, bytes: &'a [u8], out: &mut Vec<u8>) -> Result<&'a [u8], AllocError>
+    ensures ok { OnOk result (out.new.items
+        ≡ out.old.items ++ flat_map (λ word. 32 ∷ word_text word) (many word_at count bytes.now).0) }
+    ensures rest { IfOk result (λ rest. rest.now ≡ (many word_at count bytes.now).1) }
     ensures err { OnErr result ((more : List ℕ) × (out.new.items ≡ out.old.items ++ more)) }
 {
-    for place in 0..words.len() {
-        put_word(alloc, words.word(place), out)?;
+    let mut rest = bytes;
+    for _ in 0..count {
+        let (word, more) = take_word(rest);
+        put_word(word, out)?;
+        rest = more;
     }
-    Ok(())
+    Ok(rest)
 }
 
 /// Appends a space and a word in hexadecimal.
-fn put_word(alloc: Global, word: &[u8], out: &mut Vec<u8>) -> Result<(), AllocError>
+fn put_word(word: &[u8], out: &mut Vec<u8>) -> Result<(), AllocError>
     ensures ok { OnOk result (out.new.items ≡ out.old.items ++ 32 ∷ word_text word.now) }
     ensures err { OnErr result ((more : List ℕ) × (out.new.items ≡ out.old.items ++ more)) }
 {
@@ -115,19 +156,23 @@ fn put_word(alloc: Global, word: &[u8], out: &mut Vec<u8>) -> Result<(), AllocEr
         return Ok(());
     }
     out.push(b' ')?;
-    out.extend_from_slice(hex::encode(alloc, word)?.as_bytes())?;
-    Ok(())
+    put_hex(word, out)
 }
 
-/// Appends the names, each behind a space.
-fn put_skips(names: &[SkipId], out: &mut Vec<u8>) -> Result<(), AllocError>
-    ensures ok { OnOk result (out.new.items ≡ out.old.items ++ flat_map (λ name. 32 ∷ skip_text name) names.now) }
+/// Appends so many names at the front of the bytes, each behind a space, and gives the bytes behind them.
+fn put_skips<'a>(count: u64, bytes: &'a [u8], out: &mut Vec<u8>) -> Result<&'a [u8], AllocError>
+    ensures ok { OnOk result (out.new.items
+        ≡ out.old.items ++ flat_map (λ name. 32 ∷ skip_text name) (many skip_at count bytes.now).0) }
+    ensures rest { IfOk result (λ rest. rest.now ≡ (many skip_at count bytes.now).1) }
     ensures err { OnErr result ((more : List ℕ) × (out.new.items ≡ out.old.items ++ more)) }
 {
-    for name in names {
-        put_skip(*name, out)?;
+    let mut rest = bytes;
+    for _ in 0..count {
+        let (name, more) = take_skip(rest);
+        put_skip(name, out)?;
+        rest = more;
     }
-    Ok(())
+    Ok(rest)
 }
 
 /// Appends a space and a name: a request's id, and of a member another dot and its number.

@@ -11,7 +11,7 @@ pub returns-clause-ok : goal.returns-clause-ok
 returns-clause-ok c =
     IfOk-equal c.put_numbered-3.result _ _ _ c.put_numbered-3.ensures.ok
     (rw (
-      c.in_ok-put_steps.ensures.ok,
+      c.in_ok-put_lines.ensures.ok,
       c.in_ok-put_numbered-2.ensures.ok,
       c.in_ok-put_numbered.ensures.ok,
       c.max.ensures.max,
