@@ -1,6 +1,6 @@
 -- Members that are kept ascend as before, what it is to be a member of what is kept or joined, and what is gathered in
 -- any order.
-use Rattle.std.proofs.Common.{◌≡◌, ℕ, Bool, true, false, cond, not, ◌&&◌, ◌||◌, List, [], ◌∷◌, ◌++◌}
+use Rattle.std.proofs.Common.{◌≡◌, Bool, true, false, cond, not, ◌&&◌, ◌||◌, List, [], ◌∷◌, ◌++◌}
 use Rattle.std.proofs.Common.{refl, sym, ap, subst, ◌∙◌}
 use Rattle.std.proofs.lemmas.Cmp.{nat_list_cmp_total, nat_list_eq_equiv}
 use Rattle.std.proofs.lemmas.List.Folds.{list_any-append}
@@ -9,16 +9,17 @@ use Rattle.std.proofs.lemmas.List.Sorted.{IsPermutation-map, list_any-IsPermutat
 use Rattle.std.proofs.lemmas.Map.Made.{is_member-filter}
 use Rattle.std.proofs.lemmas.Map.Text.{is_eq-slice_cmp}
 use Rattle.std.proofs.lemmas.Slice.Eq.{bytes_eq-Decides}
+use Rattle.std.specs.Borrow.{Bor}
 use Rattle.std.specs.Cmp.{on_total}
 use Rattle.std.specs.Cmp.Lexicographic.{slice_cmp}
-use Rattle.std.specs.Global.{Vec}
 use Rattle.std.specs.List.{AllByRecursion, dedup, dedup_from, filter, flat_map}
 use Rattle.std.specs.List.Sorted.{IsPermutation, IsSorted}
 use Rattle.std.specs.Ordering.{nat_cmp}
 use Rattle.std.specs.Str.{bytes_eq}
 use Rattle.set_commands.specs.Combination.{Members, intersection, is_in_all, is_in_each, is_in_some}
 use Rattle.set_commands.specs.Combination.{IntersectionMembers, UnionMembers, DifferenceMembers}
-use Rattle.texts.specs.Texts.{Bytes, texts_of}
+use Rattle.set_commands.specs.Lent.{lent_texts}
+use Rattle.texts.specs.Texts.{Bytes}
 use Rattle.values.proofs.MembersAlike.{all-alike, ascending-all, ascending-alike, member-of_all, nothing-ascends, strictly-mapped}
 use Rattle.values.specs.SetValue.{IsAscending, is_member, with_members}
 
@@ -112,13 +113,15 @@ joined-in_order done more rest set e = all-alike ((done ++ more) ++ rest) (done 
         ∙ sym (list_any-append (bytes_eq q) done (set ++ rest))
 
 -- two texts are the same
-abbrev pub same_text : Vec ℕ → Vec ℕ → Bool
-same_text x y = bytes_eq x.items y.items
+abbrev pub same_text : Bor Bytes → Bor Bytes → Bool
+same_text x y = bytes_eq x.now y.now
+
+-- a text is one of these
+abbrev is_among : Bytes → List (Bor Bytes) → Bool
+is_among q texts = is_member (lent_texts texts) q
 
 -- what stands twice in a row is there as when it stands once
-any-dedup_from :
-    (q : Bytes) (k : Vec ℕ) (xs : List (Vec ℕ)) →
-    is_member (texts_of (dedup_from same_text k xs)) q ≡ is_member (texts_of (k ∷ xs)) q
+any-dedup_from : (q : Bytes) (k : Bor Bytes) (xs : List (Bor Bytes)) → is_among q (dedup_from same_text k xs) ≡ is_among q (k ∷ xs)
 any-dedup_from q k [] = refl
 any-dedup_from q k (x ∷ xs) = by (same_text x k) refl (any-dedup_from q k xs) (any-dedup_from q x xs)
   where
@@ -126,31 +129,31 @@ any-dedup_from q k (x ∷ xs) = by (same_text x k) refl (any-dedup_from q k xs) 
     twice true c = refl
     twice false c = refl
 
-    by : (b : Bool) → same_text x k ≡ b → is_member (texts_of (dedup_from same_text k xs)) q ≡ is_member (texts_of (k ∷ xs)) q
-        → is_member (texts_of (dedup_from same_text x xs)) q ≡ is_member (texts_of (x ∷ xs)) q
-        → is_member (texts_of (cond b (dedup_from same_text k xs) (k ∷ dedup_from same_text x xs))) q ≡ is_member (texts_of (k ∷ x ∷ xs)) q
+    by : (b : Bool) → same_text x k ≡ b → is_among q (dedup_from same_text k xs) ≡ is_among q (k ∷ xs)
+        → is_among q (dedup_from same_text x xs) ≡ is_among q (x ∷ xs)
+        → is_among q (cond b (dedup_from same_text k xs) (k ∷ dedup_from same_text x xs)) ≡ is_among q (k ∷ x ∷ xs)
     by true e old new =
-        old ∙ twice (bytes_eq q k.items) (is_member (texts_of xs) q)
-        ∙ ap (λ t. bytes_eq q k.items || (bytes_eq q t || is_member (texts_of xs) q)) (sym ((bytes_eq-Decides x.items k.items).0 e))
-    by false e old new = ap (λ b. bytes_eq q k.items || b) new
+        old ∙ twice (bytes_eq q k.now) (is_among q xs)
+        ∙ ap (λ t. bytes_eq q k.now || (bytes_eq q t || is_among q xs)) (sym ((bytes_eq-Decides x.now k.now).0 e))
+    by false e old new = ap (λ b. bytes_eq q k.now || b) new
 
-any-dedup : (q : Bytes) (xs : List (Vec ℕ)) → is_member (texts_of (dedup same_text xs)) q ≡ is_member (texts_of xs) q
+any-dedup : (q : Bytes) (xs : List (Bor Bytes)) → is_among q (dedup same_text xs) ≡ is_among q xs
 any-dedup q [] = refl
 any-dedup q (x ∷ xs) = any-dedup_from q x xs
 
 -- texts that are sorted, and of which each is kept once
-pub sorted-once : (texts sorted once : List (Vec ℕ)) → IsPermutation texts sorted
-    → IsSorted (λ x y. slice_cmp nat_cmp x.items y.items) sorted → once ≡ dedup same_text sorted
-    → texts_of once ≡ with_members [] (texts_of texts)
+pub sorted-once : (texts sorted once : List (Bor Bytes)) → IsPermutation texts sorted
+    → IsSorted (λ x y. slice_cmp nat_cmp x.now y.now) sorted → once ≡ dedup same_text sorted
+    → lent_texts once ≡ with_members [] (lent_texts texts)
 sorted-once texts sorted once p up is =
-    ap texts_of is
-    ∙ ascending-alike (texts_of (dedup same_text sorted)) (with_members [] (texts_of texts))
-    (strictly-mapped (λ t. t.items) (dedup same_text sorted)
-    (IsStrictlySortedBy-dedup (on_total (λ t. t.items) nat_list_cmp_total) (λ x y. sym (is_eq-slice_cmp x.items y.items)) sorted up))
-    (ascending-all (texts_of texts))
+    ap lent_texts is
+    ∙ ascending-alike (lent_texts (dedup same_text sorted)) (with_members [] (lent_texts texts))
+    (strictly-mapped (λ t. t.now) (dedup same_text sorted)
+    (IsStrictlySortedBy-dedup (on_total (λ t. t.now) nat_list_cmp_total) (λ x y. sym (is_eq-slice_cmp x.now y.now)) sorted up))
+    (ascending-all (lent_texts texts))
     (λ q.
     any-dedup q sorted
-    ∙ sym (list_any-IsPermutation (bytes_eq q) (texts_of texts) (texts_of sorted) (IsPermutation-map (λ t. t.items) texts sorted p))
-    ∙ sym (member-of_all (texts_of texts) q))
+    ∙ sym (list_any-IsPermutation (bytes_eq q) (lent_texts texts) (lent_texts sorted) (IsPermutation-map (λ t. t.now) texts sorted p))
+    ∙ sym (member-of_all (lent_texts texts) q))
 
 pub ruleset kept = (ascending-kept, nothing-ascends)

@@ -1,7 +1,7 @@
 //! SINTER, SUNION and SDIFF, and the commands that store what these answer.
 //!
-//! All sets are read before anything changes, and the result is made once: its members are copied to the reply, or moved
-//! to a set, which is moved to the target.
+//! All sets are read before anything changes, and the result is a list of members that the sets lend. Each is copied
+//! once: to the reply, or to a set, which is moved to the target.
 
 ghost use Rattle.std.specs.Prelude.{◌≡◌, All, IsTrue, IfOk, MatchResult, length};
 ghost use Rattle.std.specs.Option.{option_map};
@@ -11,6 +11,7 @@ ghost use Rattle.command_cases.specs.Shapes.{at_each, at_target};
 ghost use Rattle.keyspace.specs.Map.{set};
 ghost use Rattle.resp.specs.Content.{content};
 ghost use Rattle.set_commands.specs.Combination.{found_members};
+ghost use Rattle.set_commands.specs.Lent.{lent_texts};
 ghost use Rattle.set_commands.specs.SetCommand.{bulk_texts, combined_answer, stored_step};
 ghost use Rattle.set_commands.specs.declared.combine.Combination.TheVariants.{Intersection, Union, Difference};
 ghost use Rattle.values.specs.declared.Value.TheVariants as kind;
@@ -134,26 +135,26 @@ fn answer<K: Keyspace>(
         return Ok(wrong_type_reply());
     };
     let combined = combine(alloc, how, sets.as_slice())?;
-    Ok(members_reply(alloc, &combined)?)
+    Ok(members_reply(alloc, combined.as_slice())?)
 }
 
 /// The members of a combination, copied to the reply.
 #[tactic(auto, using(resp::proofs::Contents::content_of))]
-fn members_reply(alloc: Global, combined: &Texts) -> Result<Reply, AllocError>
-    ensures { IfOk result (λ reply. content reply ≡ bulk_texts combined.now) }
+fn members_reply(alloc: Global, combined: &[&[u8]]) -> Result<Reply, AllocError>
+    ensures { IfOk result (λ reply. content reply ≡ bulk_texts (lent_texts combined.now)) }
 {
     let mut texts = BulkTexts::with_room(alloc, texts_size(combined))?;
-    for member in combined.as_slice() {
-        texts.push(member.as_slice())?;
+    for member in combined {
+        texts.push(*member)?;
     }
     Ok(Reply::Bulks(texts))
 }
 
 /// The number of bytes of the members' texts, or the greatest number.
-fn texts_size(members: &Texts) -> usize {
+fn texts_size(members: &[&[u8]]) -> usize {
     let mut size: usize = 0;
-    for member in members.as_slice() {
-        size = size.saturating_add(bulk_size(member.as_slice()));
+    for member in members {
+        size = size.saturating_add(bulk_size(*member));
     }
     size
 }

@@ -1,11 +1,13 @@
-//! Intersection, union and difference of sets. Each member of the result is copied once.
+//! Intersection, union and difference of sets. The members of the result are lent by the sets; where they become a set
+//! of their own, each is copied once.
 
 ghost use Rattle.std.specs.Prelude.{◌≡◌, ◌-◌, ◌≤◌, [], ◌∷◌, ◌++◌, List, length, not, IfOk, OnOk};
 ghost use Rattle.std.specs.List.{AllByRecursion, filter};
 ghost use Rattle.std.specs.Option.{option_copied};
 ghost use Rattle.set_commands.specs.Combination.{combined, difference, intersection, union};
 ghost use Rattle.set_commands.specs.Combination.{found_members, found_sets, is_in_all, is_in_each, is_in_some};
-ghost use Rattle.texts.specs.Texts.{Bytes, texts_of};
+ghost use Rattle.set_commands.specs.Lent.{lent_texts};
+ghost use Rattle.texts.specs.Texts.{Bytes};
 ghost use Rattle.values.specs.ListValue.{nonempty};
 ghost use Rattle.values.specs.SetValue.{IsAscending, is_member, with_members};
 
@@ -27,13 +29,13 @@ pub(crate) enum Combination {
     Difference,
 }
 
-/// The members of the combination of these sets, ascending; a set that is missing has none.
-pub(crate) fn combine(
+/// The members of the combination of these sets, lent by them, ascending; a set that is missing has none.
+pub(crate) fn combine<'a>(
     alloc: Global,
     how: Combination,
-    sets: &[Option<&SetValue>],
-) -> Result<Texts, AllocError>
-    ensures { IfOk result (λ members. members ≡ combined how (found_sets sets.now)) }
+    sets: &[Option<&'a SetValue>],
+) -> Result<Vec<&'a [u8]>, AllocError>
+    ensures { IfOk result (λ members. lent_texts members.items ≡ combined how (found_sets sets.now)) }
 {
     in_order(gather(alloc, how, sets)?)
 }
@@ -48,25 +50,37 @@ pub(crate) fn combine_as_set(
     ensures { IfOk result (λ set. set ≡ nonempty (combined how (found_sets sets.now))) }
 {
     let members = gather(alloc, how, sets)?;
-    SetValue::from_members(alloc, hasher, Texts::from(members))
+    SetValue::from_members(alloc, hasher, copies(alloc, members.as_slice())?)
 }
 
 /// These texts in ascending order, each once.
-fn in_order(mut texts: Vec<Vec<u8>>) -> Result<Texts, AllocError>
-    ensures { IfOk result (λ ordered. ordered ≡ with_members [] (texts_of texts.items)) }
+fn in_order(mut texts: Vec<&[u8]>) -> Result<Vec<&[u8]>, AllocError>
+    ensures { IfOk result (λ ordered. lent_texts ordered.items ≡ with_members [] (lent_texts texts.entry.items)) }
 {
     texts.sort()?;
     texts.dedup();
-    Ok(Texts::from(texts))
+    Ok(texts)
 }
 
-/// The members of the combination of these sets, in any order; those of a union may come more than once.
-fn gather(
+/// Copies of these texts.
+fn copies(alloc: Global, texts: &[&[u8]]) -> Result<Texts, AllocError>
+    ensures { IfOk result (λ copies. copies ≡ lent_texts texts.now) }
+{
+    let mut copies = Vec::with_capacity(alloc, texts.len())?;
+    for text in texts {
+        let copy = Text::copy_of(alloc, *text)?;
+        copies.push(copy.into_vec())?;
+    }
+    Ok(Texts::from(copies))
+}
+
+/// The members of the combination of these sets, lent by them, in any order; those of a union may come more than once.
+fn gather<'a>(
     alloc: Global,
     how: Combination,
-    sets: &[Option<&SetValue>],
-) -> Result<Vec<Vec<u8>>, AllocError>
-    ensures { IfOk result (λ members. with_members [] (texts_of members.items) ≡ combined how (found_sets sets.now)) }
+    sets: &[Option<&'a SetValue>],
+) -> Result<Vec<&'a [u8]>, AllocError>
+    ensures { IfOk result (λ members. with_members [] (lent_texts members.items) ≡ combined how (found_sets sets.now)) }
 {
     match how {
         Combination::Intersection => intersection(alloc, sets),
@@ -75,9 +89,12 @@ fn gather(
     }
 }
 
-/// The members that are in each of these sets, in any order: those of the smallest that the others have.
-fn intersection(alloc: Global, sets: &[Option<&SetValue>]) -> Result<Vec<Vec<u8>>, AllocError>
-    ensures { IfOk result (λ members. with_members [] (texts_of members.items) ≡ intersection (found_sets sets.now)) }
+/// The members that are in each of these sets, in any order: those of the smallest, lent by it, that the others have.
+fn intersection<'a>(
+    alloc: Global,
+    sets: &[Option<&'a SetValue>],
+) -> Result<Vec<&'a [u8]>, AllocError>
+    ensures { IfOk result (λ members. with_members [] (lent_texts members.items) ≡ intersection (found_sets sets.now)) }
 {
     let (before, rest) = sets.split_at(smallest(sets));
     let Some((set, after)) = rest.split_first() else {
@@ -117,44 +134,40 @@ fn size(set: Option<&SetValue>) -> usize
     }
 }
 
-/// The members of the set that are in each of the others, those before it and those after it, copied, in any order.
-fn kept_in_each(
+/// The members of the set that are in each of the others, those before it and those after it, lent by it, in any order.
+fn kept_in_each<'a>(
     alloc: Global,
-    set: &SetValue,
+    set: &'a SetValue,
     before: &[Option<&SetValue>],
     after: &[Option<&SetValue>],
-) -> Result<Vec<Vec<u8>>, AllocError>
-    ensures { IfOk result (λ kept. with_members [] (texts_of kept.items)
+) -> Result<Vec<&'a [u8]>, AllocError>
+    ensures { IfOk result (λ kept. with_members [] (lent_texts kept.items)
         ≡ filter (is_in_all (found_sets before.now) (found_sets after.now)) set.now) }
 {
     let mut kept = Vec::new(alloc);
     let mut members = set.in_any_order();
     while let Some(member) = members.next() {
         if is_in_each(before, member) && is_in_each(after, member) {
-            push_copy(alloc, &mut kept, member)?;
+            kept.push(member)?;
         }
     }
     Ok(kept)
 }
 
-/// The members of all sets, copied, one set after another.
-fn union(alloc: Global, sets: &[Option<&SetValue>]) -> Result<Vec<Vec<u8>>, AllocError>
-    ensures { IfOk result (λ members. with_members [] (texts_of members.items) ≡ union (found_sets sets.now)) }
+/// The members of all sets, lent by them, one set after another.
+fn union<'a>(alloc: Global, sets: &[Option<&'a SetValue>]) -> Result<Vec<&'a [u8]>, AllocError>
+    ensures { IfOk result (λ members. with_members [] (lent_texts members.items) ≡ union (found_sets sets.now)) }
 {
     let mut all = Vec::new(alloc);
     for set in sets {
-        push_members(alloc, &mut all, *set)?;
+        push_members(&mut all, *set)?;
     }
     Ok(all)
 }
 
-/// Pushes copies of the members of a set, in any order; one that is missing has none.
-fn push_members(
-    alloc: Global,
-    all: &mut Vec<Vec<u8>>,
-    set: Option<&SetValue>,
-) -> Result<(), AllocError>
-    ensures { OnOk result ((more : List Bytes) × (texts_of all.new.items ≡ texts_of all.old.items ++ more)
+/// Pushes the members of a set, lent by it, in any order; one that is missing has none.
+fn push_members<'a>(all: &mut Vec<&'a [u8]>, set: Option<&'a SetValue>) -> Result<(), AllocError>
+    ensures { OnOk result ((more : List Bytes) × (lent_texts all.new.items ≡ lent_texts all.old.items ++ more)
         × (with_members [] more ≡ found_members (option_copied set.entry))) }
 {
     let Some(set) = set else {
@@ -162,17 +175,8 @@ fn push_members(
     };
     let mut members = set.in_any_order();
     while let Some(member) = members.next() {
-        push_copy(alloc, all, member)?;
+        all.push(member)?;
     }
-    Ok(())
-}
-
-/// Pushes a copy of this member.
-fn push_copy(alloc: Global, all: &mut Vec<Vec<u8>>, member: &[u8]) -> Result<(), AllocError>
-    ensures { OnOk result (texts_of all.new.items ≡ texts_of all.old.items ++ member.now ∷ []) }
-{
-    let copy = Text::copy_of(alloc, member)?;
-    all.push(copy.into_vec())?;
     Ok(())
 }
 
@@ -198,9 +202,9 @@ pub(crate) fn has(set: Option<&SetValue>, member: &[u8]) -> bool
     }
 }
 
-/// The members of the first set that are in none of the others, in any order.
-fn difference(alloc: Global, sets: &[Option<&SetValue>]) -> Result<Vec<Vec<u8>>, AllocError>
-    ensures { IfOk result (λ members. with_members [] (texts_of members.items) ≡ difference (found_sets sets.now)) }
+/// The members of the first set that are in none of the others, lent by it, in any order.
+fn difference<'a>(alloc: Global, sets: &[Option<&'a SetValue>]) -> Result<Vec<&'a [u8]>, AllocError>
+    ensures { IfOk result (λ members. with_members [] (lent_texts members.items) ≡ difference (found_sets sets.now)) }
 {
     let Some((first, others)) = sets.split_first() else {
         return Ok(Vec::new(alloc));
@@ -211,20 +215,20 @@ fn difference(alloc: Global, sets: &[Option<&SetValue>]) -> Result<Vec<Vec<u8>>,
     kept_in_none(alloc, first, others)
 }
 
-/// The members of the set that are in none of the others, copied, in any order.
-fn kept_in_none(
+/// The members of the set that are in none of the others, lent by it, in any order.
+fn kept_in_none<'a>(
     alloc: Global,
-    set: &SetValue,
+    set: &'a SetValue,
     others: &[Option<&SetValue>],
-) -> Result<Vec<Vec<u8>>, AllocError>
-    ensures { IfOk result (λ kept. with_members [] (texts_of kept.items)
+) -> Result<Vec<&'a [u8]>, AllocError>
+    ensures { IfOk result (λ kept. with_members [] (lent_texts kept.items)
         ≡ filter (λ member. not (is_in_some (found_sets others.now) member)) set.now) }
 {
     let mut kept = Vec::new(alloc);
     let mut members = set.in_any_order();
     while let Some(member) = members.next() {
         if !is_in_some(others, member) {
-            push_copy(alloc, &mut kept, member)?;
+            kept.push(member)?;
         }
     }
     Ok(kept)

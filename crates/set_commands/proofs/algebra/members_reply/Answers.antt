@@ -3,11 +3,11 @@ use Rattle.std.proofs.lemmas.List.{take_all}
 use Rattle.resp.proofs.Contents.{content-texts}
 use Rattle.resp.specs.Content.{content}
 use Rattle.resp.specs.declared.reply.Reply.TheVariants.{Bulks}
-use Rattle.texts.specs.Texts.{texts_of}
+use Rattle.set_commands.specs.Lent.{lent_texts}
 use Rattle.set_commands.proofs.algebra.members_reply.Goals as goal
 
 pub returns : goal.returns
 returns c =
-    let read = take_all c.loop-member.member-index c.as_slice-member-items.result.now c.loop-member-test.false in
-    let texts = c.loop-member.invariant ∙ ap (λ xs. map Some (texts_of xs)) read ∙ ap (map Some) c.as_slice-member-items.ensures in
-    ap (λ ts. content (Bulks ts)) texts ∙ content-texts c.args.combined.now
+    let read = take_all c.loop-member.member-index c.args.combined.now c.loop-member-test.false in
+    let texts = c.loop-member.invariant ∙ ap (λ xs. map Some (lent_texts xs)) read in
+    ap (λ ts. content (Bulks ts)) texts ∙ content-texts (lent_texts c.args.combined.now)

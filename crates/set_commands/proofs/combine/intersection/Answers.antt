@@ -4,7 +4,7 @@ use Rattle.std.specs.Option.{option_copied}
 use Rattle.set_commands.proofs.Found.{found-apart}
 use Rattle.set_commands.proofs.Kept.{intersection-kept}
 use Rattle.set_commands.specs.Combination.{found_members, found_sets, intersection}
-use Rattle.texts.specs.Texts.{texts_of}
+use Rattle.set_commands.specs.Lent.{lent_texts}
 use Rattle.values.specs.SetValue.{IsAscending, with_members}
 use Rattle.set_commands.proofs.combine.intersection.Goals as goal
 
@@ -19,7 +19,7 @@ returns-in_default-set c =
     c.split_at.ensures.back
     c.in-Some.ensures.cases.0
     ∙ ap (λ s. found_sets before ++ found_members (option_copied s) ∷ found_sets after) missing in
-    ap (λ l. with_members [] (texts_of l)) c.new-in_default-set.ensures.items
+    ap (λ l. with_members [] (lent_texts l)) c.new-in_default-set.ensures.items
     ∙ intersection-kept (found_sets before) (found_sets after) []
     (subst (AllByRecursion IsAscending) whole c.smallest.ensures.ascending)
     ∙ sym (ap intersection whole)
@@ -36,7 +36,7 @@ returns c =
     c.split_at.ensures.back
     c.in-Some.ensures.cases.0
     ∙ ap (λ s. found_sets before ++ found_members (option_copied s) ∷ found_sets after) there in
-    subst (λ members. IfOk c.kept_in_each.result (λ kept. with_members [] (texts_of kept.items) ≡ members))
+    subst (λ members. IfOk c.kept_in_each.result (λ kept. with_members [] (lent_texts kept.items) ≡ members))
     (intersection-kept (found_sets before) (found_sets after) set
     (subst (AllByRecursion IsAscending) whole c.smallest.ensures.ascending)
     ∙ sym (ap intersection whole))

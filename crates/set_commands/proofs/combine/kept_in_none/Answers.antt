@@ -2,14 +2,14 @@ use Rattle.std.proofs.Common.{◌≡◌, [], ap, not, ◌∙◌, rules}
 use Rattle.std.specs.List.{filter}
 use Rattle.set_commands.proofs.Kept.{kept-in_order}
 use Rattle.set_commands.specs.Combination.{found_sets, is_in_some}
-use Rattle.texts.specs.Texts.{texts_of}
+use Rattle.set_commands.specs.Lent.{lent_texts}
 use Rattle.values.specs.SetValue.{with_members}
 use Rattle.set_commands.proofs.combine.kept_in_none.Goals as goal
 
 pub returns : goal.returns
 returns c =
     let read = c.in_any_order-members.result in
-    let kept : texts_of c.loop-member.kept.items
+    let kept : lent_texts c.loop-member.kept.items
     ≡ filter (λ member. not (is_in_some (found_sets c.args.others.now) member)) read =
     search rules in
     ap (with_members []) kept
